@@ -1,0 +1,18 @@
+-- Numbers as bytes, the highest first (RFC 1035, 2.3.2).
+use Rattle.std.specs.Prelude.{ℕ, ◌+◌, ◌*◌, ◌/◌, ◌%◌, List, [], ◌∷◌, slice_index}
+
+-- the number in the two bytes at a place
+abbrev pub u16_at : List ℕ → ℕ → ℕ
+u16_at bytes place = slice_index bytes place * 256 + slice_index bytes (place + 1)
+
+-- the number in the four bytes at a place
+abbrev pub u32_at : List ℕ → ℕ → ℕ
+u32_at bytes place = u16_at bytes place * 65536 + u16_at bytes (place + 2)
+
+-- a number below 2^16 as two bytes
+abbrev pub u16_bytes : ℕ → List ℕ
+u16_bytes n = n / 256 ∷ n % 256 ∷ []
+
+-- a number below 2^32 as four bytes
+abbrev pub u32_bytes : ℕ → List ℕ
+u32_bytes n = n / 16777216 ∷ n / 65536 % 256 ∷ n / 256 % 256 ∷ n % 256 ∷ []

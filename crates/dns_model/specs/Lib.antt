@@ -1,0 +1,14 @@
+pub mod Gives
+pub mod Bytes
+pub mod Names
+pub mod NameForm
+pub mod Types
+pub mod Shapes
+pub mod Views
+pub mod Records
+pub mod Sections
+pub mod Serial
+pub mod Signing
+pub mod Keys
+pub mod Chains
+pub mod Answers

@@ -1,0 +1,155 @@
+-- What an rdata of each type is made of, names spelled out (RFC 1035, 3.3; RFC 4034; RFC 5155, 3).
+use Rattle.std.specs.Prelude.{ℕ, ◌+◌, ◌*◌, ◌/◌, ◌%◌, ◌-◌, ◌^◌, Bool, true, false, ◌==◌, ◌&&◌, ◌||◌, nat_le, nat_lt, List, [], ◌∷◌, ◌++◌, length, take, drop, map, if◌then◌else◌, Option, None, Some, slice_index}
+use Rattle.std.specs.Option.{is_some}
+use Rattle.std.specs.List.{list_any, concat}
+use Rattle.dns_model.specs.Names.{Labels, folded, wire}
+use Rattle.dns_model.specs.NameForm.{name_in}
+use Rattle.dns_model.specs.Types.{type_ds, type_rrsig, type_nsec, type_dnskey, type_nsec3, type_soa}
+
+-- one field of an rdata
+pub data Field : Type 0 where
+  Octets : ℕ → Field
+  DomainName : Field
+  CharacterString : Field
+  TypeBitmap : Field
+  Remainder : Field
+
+-- one window of a type bitmap: its number and its bits (RFC 4034, 4.1.2)
+pub record Window : Type 0 where
+  pub number : ℕ
+  pub bits : List ℕ
+
+-- the bytes that a length byte counts, and the bytes after them
+unfoldable pub counted_in : List ℕ → Option (List ℕ × List ℕ)
+counted_in [] = None
+counted_in (size ∷ rest) = if nat_le size (length rest) then Some (take size rest, drop size rest) else None
+
+-- the window at the front, of 1 to 32 bytes, and the bytes after it
+unfoldable pub window_in : List ℕ → Option (Window × List ℕ)
+window_in [] = None
+window_in (number ∷ []) = None
+window_in (number ∷ size ∷ rest) =
+    if nat_lt 0 size && nat_le size 32 && nat_le size (length rest)
+    then Some (record { number = number; bits = take size rest }, drop size rest)
+    else None
+
+abbrev pub with_window : Window → Option (List Window) → Option (List Window)
+with_window window None = None
+with_window window (Some windows) = Some (window ∷ windows)
+
+abbrev pub after_window : Option (Window × List ℕ) → (List ℕ → Option (List Window)) → Option (List Window)
+after_window None more = None
+after_window (Some (window, rest)) more = with_window window (more rest)
+
+-- the row of windows that the bytes are; the first list only bounds how many are read
+unfoldable pub windows_in : List ℕ → List ℕ → Option (List Window)
+windows_in bound [] = Some []
+windows_in [] (byte ∷ bytes) = None
+windows_in (_ ∷ bound) (byte ∷ bytes) = after_window (window_in (byte ∷ bytes)) (windows_in bound)
+
+-- the windows' numbers rise
+abbrev pub are_rising : List Window → Bool
+are_rising [] = true
+are_rising (a ∷ []) = true
+are_rising (a ∷ b ∷ windows) = nat_lt a.number b.number && are_rising (b ∷ windows)
+
+abbrev pub are_rising_windows : Option (List Window) → Bool
+are_rising_windows None = false
+are_rising_windows (Some windows) = are_rising windows
+
+-- the bytes are a type bitmap
+unfoldable pub is_bitmap : List ℕ → Bool
+is_bitmap bytes = are_rising_windows (windows_in bytes bytes)
+
+-- bit 0 is the highest of the first byte
+abbrev pub has_bit : List ℕ → ℕ → Bool
+has_bit bits place = (slice_index bits (place / 8) / 2 ^ (7 - place % 8)) % 2 == 1
+
+abbrev pub window_has : ℕ → Window → Bool
+window_has kind window = (window.number == kind / 256) && has_bit window.bits (kind % 256)
+
+abbrev pub windows_have : ℕ → Option (List Window) → Bool
+windows_have kind None = false
+windows_have kind (Some windows) = list_any (window_has kind) windows
+
+-- a bitmap holds a type's bit
+unfoldable pub bitmap_has : List ℕ → ℕ → Bool
+bitmap_has bytes kind = windows_have kind (windows_in bytes bytes)
+
+-- a field as it is read: bytes as they stand, or a name
+pub data Part : Type 0 where
+  Plain : List ℕ → Part
+  Named : Labels → Part
+
+abbrev pub plain_front : ℕ → List ℕ → Option (Part × List ℕ)
+plain_front n bytes = if nat_le n (length bytes) then Some (Plain (take n bytes), drop n bytes) else None
+
+abbrev pub named_front : Option (Labels × List ℕ) → Option (Part × List ℕ)
+named_front None = None
+named_front (Some (name, rest)) = Some (Named name, rest)
+
+abbrev pub counted_front : Option (List ℕ × List ℕ) → Option (Part × List ℕ)
+counted_front None = None
+counted_front (Some (text, rest)) = Some (Plain (length text ∷ text), rest)
+
+-- the part at the front that is a field, and the bytes after it
+abbrev pub part_in : Field → List ℕ → Option (Part × List ℕ)
+part_in (Octets n) bytes = plain_front n bytes
+part_in DomainName bytes = named_front (name_in bytes)
+part_in CharacterString bytes = counted_front (counted_in bytes)
+part_in TypeBitmap bytes = if is_bitmap bytes then Some (Plain bytes, []) else None
+part_in Remainder bytes = Some (Plain bytes, [])
+
+abbrev pub with_part : Part → Option (List Part) → Option (List Part)
+with_part part None = None
+with_part part (Some parts) = Some (part ∷ parts)
+
+abbrev pub after_part : Option (Part × List ℕ) → (List ℕ → Option (List Part)) → Option (List Part)
+after_part None more = None
+after_part (Some (part, rest)) more = with_part part (more rest)
+
+-- the parts of an rdata that is exactly these fields
+unfoldable pub parts_in : List Field → List ℕ → Option (List Part)
+parts_in [] [] = Some []
+parts_in [] (byte ∷ bytes) = None
+parts_in (field ∷ fields) bytes = after_part (part_in field bytes) (parts_in fields)
+
+-- the fields of each type's rdata; a type that isn't here is opaque
+unfoldable pub shape_of : ℕ → List Field
+shape_of kind =
+    if kind == 1 then Octets 4 ∷ []
+    else if (kind == 2) || (kind == 5) || (kind == 12) || (kind == 39) then DomainName ∷ []
+    else if kind == type_soa then DomainName ∷ DomainName ∷ Octets 20 ∷ []
+    else if (kind == 15) || (kind == 18) || (kind == 21) || (kind == 36) then Octets 2 ∷ DomainName ∷ []
+    else if kind == 17 then DomainName ∷ DomainName ∷ []
+    else if kind == 26 then Octets 2 ∷ DomainName ∷ DomainName ∷ []
+    else if kind == 28 then Octets 16 ∷ []
+    else if kind == 33 then Octets 6 ∷ DomainName ∷ []
+    else if kind == 35 then Octets 4 ∷ CharacterString ∷ CharacterString ∷ CharacterString ∷ DomainName ∷ []
+    else if kind == type_ds then Octets 4 ∷ Remainder ∷ []
+    else if kind == type_rrsig then Octets 18 ∷ DomainName ∷ Remainder ∷ []
+    else if kind == type_nsec then DomainName ∷ TypeBitmap ∷ []
+    else if kind == type_dnskey then Octets 4 ∷ Remainder ∷ []
+    else if kind == type_nsec3 then Octets 4 ∷ CharacterString ∷ CharacterString ∷ TypeBitmap ∷ []
+    else Remainder ∷ []
+
+-- the rdata has its type's shape, names spelled out
+abbrev pub has_shape : ℕ → List ℕ → Bool
+has_shape kind rdata = is_some (parts_in (shape_of kind) rdata)
+
+-- the types whose names are lower-cased in canonical form (RFC 4034, 6.2; RFC 6840, 5.1 takes NSEC out)
+unfoldable pub is_lowered_type : ℕ → Bool
+is_lowered_type kind =
+    list_any (λ lowered. kind == lowered) (2 ∷ 5 ∷ 6 ∷ 12 ∷ 15 ∷ 17 ∷ 18 ∷ 21 ∷ 26 ∷ 33 ∷ 35 ∷ 36 ∷ 39 ∷ 46 ∷ [])
+
+abbrev pub canonical_part : Part → List ℕ
+canonical_part (Plain bytes) = bytes
+canonical_part (Named name) = wire (folded name)
+
+abbrev pub canonical_parts : List ℕ → Option (List Part) → List ℕ
+canonical_parts rdata None = rdata
+canonical_parts rdata (Some parts) = concat (map canonical_part parts)
+
+-- an rdata with the names in it lower-cased where its type asks it; one that hasn't its type's shape stays (RFC 4034, 6.2)
+unfoldable pub canonical_form : ℕ → List ℕ → List ℕ
+canonical_form kind rdata = if is_lowered_type kind then canonical_parts rdata (parts_in (shape_of kind) rdata) else rdata

@@ -1,0 +1,49 @@
+-- Numbers of types and classes (RFC 1035, 3.2; RFC 4034; RFC 5155; the IANA registry of DNS parameters).
+use Rattle.std.specs.Prelude.{ℕ, Bool, ◌==◌, ◌||◌, List, [], ◌∷◌}
+use Rattle.std.specs.List.{list_any}
+
+abbrev pub type_a : ℕ
+type_a = 1
+
+abbrev pub type_ns : ℕ
+type_ns = 2
+
+abbrev pub type_cname : ℕ
+type_cname = 5
+
+abbrev pub type_soa : ℕ
+type_soa = 6
+
+abbrev pub type_opt : ℕ
+type_opt = 41
+
+abbrev pub type_ds : ℕ
+type_ds = 43
+
+abbrev pub type_rrsig : ℕ
+type_rrsig = 46
+
+abbrev pub type_nsec : ℕ
+type_nsec = 47
+
+abbrev pub type_dnskey : ℕ
+type_dnskey = 48
+
+abbrev pub type_nsec3 : ℕ
+type_nsec3 = 50
+
+abbrev pub type_any : ℕ
+type_any = 255
+
+abbrev pub class_in : ℕ
+class_in = 1
+
+abbrev pub class_none : ℕ
+class_none = 254
+
+abbrev pub class_any : ℕ
+class_any = 255
+
+-- the classes in which rdata has its type's shape
+abbrev pub has_shapes : ℕ → Bool
+has_shapes class = (class == class_in) || (class == class_none) || (class == class_any)

@@ -1,0 +1,138 @@
+-- What an rdata says where it has its type's shape (RFC 1035, 3.3; RFC 4034, 2 to 5; RFC 5155, 3).
+use Rattle.std.specs.Prelude.{ℕ, ◌+◌, Bool, ◌==◌, nat_lt, nat_le, ◌/◌, ◌%◌, List, [], ◌∷◌, length, take, drop, if◌then◌else◌, Option, None, Some, slice_index}
+use Rattle.dns_model.specs.Bytes.{u16_at, u32_at}
+use Rattle.dns_model.specs.Names.{Labels}
+use Rattle.dns_model.specs.NameForm.{name_in}
+use Rattle.dns_model.specs.Shapes.{counted_in, is_bitmap}
+
+pub record SigText : Type 0 where
+  pub covered : ℕ
+  pub algorithm : ℕ
+  pub labels : ℕ
+  pub original_ttl : ℕ
+  pub expiration : ℕ
+  pub inception : ℕ
+  pub key_tag : ℕ
+  pub signer : Labels
+  pub signature : List ℕ
+
+pub record KeyText : Type 0 where
+  pub flags : ℕ
+  pub protocol : ℕ
+  pub algorithm : ℕ
+  pub key : List ℕ
+
+pub record DsText : Type 0 where
+  pub key_tag : ℕ
+  pub algorithm : ℕ
+  pub digest_type : ℕ
+  pub digest : List ℕ
+
+pub record NsecText : Type 0 where
+  pub next : Labels
+  pub types : List ℕ
+
+pub record Nsec3Text : Type 0 where
+  pub hash_algorithm : ℕ
+  pub flags : ℕ
+  pub iterations : ℕ
+  pub salt : List ℕ
+  pub next : List ℕ
+  pub types : List ℕ
+
+pub record SoaText : Type 0 where
+  pub mname : Labels
+  pub rname : Labels
+  pub serial : ℕ
+  pub refresh : ℕ
+  pub retry : ℕ
+  pub expire : ℕ
+  pub minimum : ℕ
+
+abbrev pub sig_from : List ℕ → Option (Labels × List ℕ) → Option SigText
+sig_from rdata None = None
+sig_from rdata (Some (signer, signature)) = Some (record {
+  covered = u16_at rdata 0;
+  algorithm = slice_index rdata 2;
+  labels = slice_index rdata 3;
+  original_ttl = u32_at rdata 4;
+  expiration = u32_at rdata 8;
+  inception = u32_at rdata 12;
+  key_tag = u16_at rdata 16;
+  signer = signer;
+  signature = signature;
+})
+
+-- RRSIG (RFC 4034, 3.1)
+unfoldable pub sig_in : List ℕ → Option SigText
+sig_in rdata = if nat_lt (length rdata) 18 then None else sig_from rdata (name_in (drop 18 rdata))
+
+-- DNSKEY (RFC 4034, 2.1)
+unfoldable pub key_in : List ℕ → Option KeyText
+key_in rdata =
+    if nat_lt (length rdata) 4 then None
+    else Some (record { flags = u16_at rdata 0; protocol = slice_index rdata 2; algorithm = slice_index rdata 3; key = drop 4 rdata })
+
+-- DS (RFC 4034, 5.1)
+unfoldable pub ds_in : List ℕ → Option DsText
+ds_in rdata =
+    if nat_lt (length rdata) 4 then None
+    else Some (record { key_tag = u16_at rdata 0; algorithm = slice_index rdata 2; digest_type = slice_index rdata 3; digest = drop 4 rdata })
+
+abbrev pub nsec_from : Option (Labels × List ℕ) → Option NsecText
+nsec_from None = None
+nsec_from (Some (next, types)) = if is_bitmap types then Some (record { next = next; types = types }) else None
+
+-- NSEC (RFC 4034, 4.1)
+unfoldable pub nsec_in : List ℕ → Option NsecText
+nsec_in rdata = nsec_from (name_in rdata)
+
+abbrev pub nsec3_from : List ℕ → List ℕ → Option (List ℕ × List ℕ) → Option Nsec3Text
+nsec3_from rdata salt None = None
+nsec3_from rdata salt (Some (next, types)) =
+    if is_bitmap types
+    then Some (record { hash_algorithm = slice_index rdata 0; flags = slice_index rdata 1; iterations = u16_at rdata 2; salt = salt; next = next; types = types })
+    else None
+
+abbrev pub nsec3_after_salt : List ℕ → Option (List ℕ × List ℕ) → Option Nsec3Text
+nsec3_after_salt rdata None = None
+nsec3_after_salt rdata (Some (salt, rest)) = nsec3_from rdata salt (counted_in rest)
+
+-- NSEC3 (RFC 5155, 3.2)
+unfoldable pub nsec3_in : List ℕ → Option Nsec3Text
+nsec3_in rdata = if nat_lt (length rdata) 4 then None else nsec3_after_salt rdata (counted_in (drop 4 rdata))
+
+abbrev pub soa_numbers : Labels → Labels → List ℕ → Option SoaText
+soa_numbers mname rname rest =
+    if length rest == 20
+    then Some (record { mname = mname; rname = rname; serial = u32_at rest 0; refresh = u32_at rest 4; retry = u32_at rest 8; expire = u32_at rest 12; minimum = u32_at rest 16 })
+    else None
+
+abbrev pub soa_after_mname : Labels → Option (Labels × List ℕ) → Option SoaText
+soa_after_mname mname None = None
+soa_after_mname mname (Some (rname, rest)) = soa_numbers mname rname rest
+
+abbrev pub soa_from : Option (Labels × List ℕ) → Option SoaText
+soa_from None = None
+soa_from (Some (mname, rest)) = soa_after_mname mname (name_in rest)
+
+-- SOA (RFC 1035, 3.3.13)
+unfoldable pub soa_in : List ℕ → Option SoaText
+soa_in rdata = soa_from (name_in rdata)
+
+abbrev pub whole_name : Option (Labels × List ℕ) → Option Labels
+whole_name None = None
+whole_name (Some (name, [])) = Some name
+whole_name (Some (name, byte ∷ rest)) = None
+
+-- NS (RFC 1035, 3.3.11)
+unfoldable pub ns_in : List ℕ → Option Labels
+ns_in rdata = whole_name (name_in rdata)
+
+-- a DNSKEY's flag for a zone's keys (RFC 4034, 2.1.1)
+abbrev pub is_zone_key : KeyText → Bool
+is_zone_key key = key.flags / 256 % 2 == 1
+
+-- a DNSKEY's flag for a revoked key (RFC 5011, 2.1)
+abbrev pub is_revoked : KeyText → Bool
+is_revoked key = key.flags / 128 % 2 == 1

@@ -1,0 +1,11 @@
+//! The definitions that the contracts of more than one crate speak of, in `specs/`, and their lemmas.
+//! In code there are only the enums without owned parts that those definitions name.
+#![tactic(auto)]
+
+mod denial;
+mod proof;
+mod section;
+
+pub use denial::Denial;
+pub use proof::Proof;
+pub use section::Section;
