@@ -1,0 +1,139 @@
+ghost use Rattle.std.specs.Prelude.{◌≡◌, IfOk};
+
+use dns_name::{NoMemory, Octets};
+use dns_record::{OpCode, Query, Record, ResponseCode, clone_records};
+use std::marker::Model;
+
+/// What an OPT record says beside its part of the code (RFC 6891, 6.1).
+#[derive(Debug, Drop)]
+pub struct Edns {
+    /// The most bytes that the sender takes in a datagram.
+    pub max_payload: u16,
+    pub version: u8,
+    /// The sender wants DNSSEC records (RFC 3225).
+    pub dnssec_ok: bool,
+    /// The lower 15 bits of the flags.
+    pub flags: u16,
+    pub options: Octets,
+}
+
+impl Model for Edns {
+    ghost use Rattle.dns_model.specs.Records.{EdnsText};
+
+    ghost Value = { EdnsText };
+
+    ghost view = { λ e. record { max_payload = e.max_payload; version = e.version; dnssec_ok = e.dnssec_ok; flags = e.flags; options = e.options } };
+}
+
+impl Edns {
+    /// An equal value in memory of its own.
+    pub fn try_clone(&self) -> Result<Edns, NoMemory>
+        ensures { IfOk result (λ e. e ≡ self.now) }
+    {
+        let options = self.options.try_clone()?;
+        Ok(Edns {
+            max_payload: self.max_payload,
+            version: self.version,
+            dnssec_ok: self.dnssec_ok,
+            flags: self.flags,
+            options,
+        })
+    }
+}
+
+/// A message (RFC 1035, 4.1; RFC 6891 for the OPT record, which is `edns`).
+#[derive(Drop)]
+pub struct Message {
+    pub id: u16,
+    pub response: bool,
+    pub op_code: OpCode,
+    pub authoritative: bool,
+    pub truncated: bool,
+    pub recursion_desired: bool,
+    pub recursion_available: bool,
+    pub authentic_data: bool,
+    pub checking_disabled: bool,
+    pub response_code: ResponseCode,
+    pub queries: Vec<Query>,
+    pub answers: Vec<Record>,
+    pub authorities: Vec<Record>,
+    pub additionals: Vec<Record>,
+    pub edns: Option<Edns>,
+}
+
+impl Model for Message {
+    ghost use Rattle.dns_model.specs.Records.{MessageText};
+
+    ghost Value = { MessageText };
+
+    ghost view = { λ m. record {
+      id = m.id;
+      response = m.response;
+      op_code = m.op_code.0;
+      authoritative = m.authoritative;
+      truncated = m.truncated;
+      recursion_desired = m.recursion_desired;
+      recursion_available = m.recursion_available;
+      authentic_data = m.authentic_data;
+      checking_disabled = m.checking_disabled;
+      response_code = m.response_code.0;
+      queries = m.queries.items;
+      answers = m.answers.items;
+      authorities = m.authorities.items;
+      additionals = m.additionals.items;
+      edns = m.edns;
+    } };
+}
+
+fn clone_queries(queries: &Vec<Query>) -> Result<Vec<Query>, NoMemory>
+    ensures { IfOk result (λ v. v.items ≡ queries.now.items) }
+{
+    let mut all = Vec::new(*queries.allocator());
+    for query in queries {
+        let next = query.try_clone()?;
+        all.push(next)?;
+    }
+    Ok(all)
+}
+
+fn clone_edns(edns: &Option<Edns>) -> Result<Option<Edns>, NoMemory>
+    ensures { IfOk result (λ e. e ≡ edns.now) }
+{
+    match edns {
+        None => Ok(None),
+        Some(edns) => {
+            let edns = edns.try_clone()?;
+            Ok(Some(edns))
+        }
+    }
+}
+
+impl Message {
+    /// An equal value in memory of its own.
+    pub fn try_clone(&self) -> Result<Message, NoMemory>
+        ensures { IfOk result (λ m. m ≡ self.now) }
+    {
+        let queries = clone_queries(&self.queries)?;
+        let answers = clone_records(&self.answers)?;
+        let authorities = clone_records(&self.authorities)?;
+        let additionals = clone_records(&self.additionals)?;
+        let edns = clone_edns(&self.edns)?;
+        Ok(Message {
+            id: self.id,
+            response: self.response,
+            op_code: self.op_code,
+            authoritative: self.authoritative,
+            truncated: self.truncated,
+            recursion_desired: self.recursion_desired,
+            recursion_available: self.recursion_available,
+            authentic_data: self.authentic_data,
+            checking_disabled: self.checking_disabled,
+            response_code: self.response_code,
+            queries,
+            answers,
+            authorities,
+            additionals,
+            edns,
+        })
+    }
+}

@@ -1,0 +1,11 @@
+//! Domain names and the small types over bytes that the crates above are made of. The layer above may use `Name` and
+//! `NameRef` as lists of labels, `Octets`, `Rdata` and `Text` as lists of bytes, and the reading of a wire form.
+#![tactic(auto)]
+
+mod name;
+mod no_memory;
+mod octets;
+
+pub use name::Name;
+pub use no_memory::NoMemory;
+pub use octets::Octets;

@@ -1,0 +1,103 @@
+/// The type of a record (RFC 1035, 3.2.2; the IANA registry of DNS parameters).
+#[derive(Clone, Copy, Debug, PartialEq, Eq, PartialOrd, Ord, Hash)]
+pub struct RecordType(pub u16);
+
+/// The class of a record (RFC 1035, 3.2.4).
+#[derive(Clone, Copy, Debug, PartialEq, Eq, PartialOrd, Ord, Hash)]
+pub struct DNSClass(pub u16);
+
+/// What a message asks to be done (RFC 1035, 4.1.1). The lower four bits are written.
+#[derive(Clone, Copy, Debug, PartialEq, Eq, PartialOrd, Ord, Hash)]
+pub struct OpCode(pub u8);
+
+/// How a message was answered: twelve bits, of which an OPT holds the upper eight (RFC 6891, 6.1.3).
+#[derive(Clone, Copy, Debug, PartialEq, Eq, PartialOrd, Ord, Hash)]
+pub struct ResponseCode(pub u16);
+
+impl RecordType {
+    pub const A: RecordType = RecordType(1);
+
+    pub const NS: RecordType = RecordType(2);
+
+    pub const CNAME: RecordType = RecordType(5);
+
+    pub const SOA: RecordType = RecordType(6);
+
+    pub const PTR: RecordType = RecordType(12);
+
+    pub const MX: RecordType = RecordType(15);
+
+    pub const TXT: RecordType = RecordType(16);
+
+    pub const RP: RecordType = RecordType(17);
+
+    pub const AFSDB: RecordType = RecordType(18);
+
+    pub const RT: RecordType = RecordType(21);
+
+    pub const PX: RecordType = RecordType(26);
+
+    pub const AAAA: RecordType = RecordType(28);
+
+    pub const SRV: RecordType = RecordType(33);
+
+    pub const NAPTR: RecordType = RecordType(35);
+
+    pub const KX: RecordType = RecordType(36);
+
+    pub const DNAME: RecordType = RecordType(39);
+
+    pub const OPT: RecordType = RecordType(41);
+
+    pub const DS: RecordType = RecordType(43);
+
+    pub const RRSIG: RecordType = RecordType(46);
+
+    pub const NSEC: RecordType = RecordType(47);
+
+    pub const DNSKEY: RecordType = RecordType(48);
+
+    pub const NSEC3: RecordType = RecordType(50);
+
+    pub const NSEC3PARAM: RecordType = RecordType(51);
+
+    pub const IXFR: RecordType = RecordType(251);
+
+    pub const AXFR: RecordType = RecordType(252);
+
+    pub const ANY: RecordType = RecordType(255);
+}
+
+impl DNSClass {
+    pub const IN: DNSClass = DNSClass(1);
+
+    pub const CH: DNSClass = DNSClass(3);
+
+    pub const HS: DNSClass = DNSClass(4);
+
+    pub const NONE: DNSClass = DNSClass(254);
+
+    pub const ANY: DNSClass = DNSClass(255);
+}
+
+impl OpCode {
+    pub const QUERY: OpCode = OpCode(0);
+
+    pub const NOTIFY: OpCode = OpCode(4);
+
+    pub const UPDATE: OpCode = OpCode(5);
+}
+
+impl ResponseCode {
+    pub const NO_ERROR: ResponseCode = ResponseCode(0);
+
+    pub const FORM_ERR: ResponseCode = ResponseCode(1);
+
+    pub const SERV_FAIL: ResponseCode = ResponseCode(2);
+
+    pub const NX_DOMAIN: ResponseCode = ResponseCode(3);
+
+    pub const NOT_IMP: ResponseCode = ResponseCode(4);
+
+    pub const REFUSED: ResponseCode = ResponseCode(5);
+}

@@ -1,0 +1,16 @@
+//! Records, sets and queries. The layer above sees each as the plain value of `dns_model` that has its name.
+#![tactic(auto)]
+
+mod codes;
+mod query;
+mod rdata;
+mod record;
+mod record_set;
+
+pub use codes::{DNSClass, OpCode, RecordType, ResponseCode};
+pub use dns_model::{Denial, Proof, Section};
+pub use dns_name::{Name, NoMemory, Octets};
+pub use query::Query;
+pub use rdata::Rdata;
+pub use record::{Record, clone_records};
+pub use record_set::RecordSet;

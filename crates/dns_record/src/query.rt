@@ -1,0 +1,37 @@
+ghost use Rattle.std.specs.Prelude.{◌≡◌, IfOk};
+
+use crate::{DNSClass, RecordType};
+use dns_name::{Name, NoMemory};
+use std::marker::Model;
+
+/// A question (RFC 1035, 4.1.2). Equality and hash fold the name.
+#[derive(Drop)]
+pub struct Query {
+    pub name: Name,
+    pub query_type: RecordType,
+    pub query_class: DNSClass,
+}
+
+impl Model for Query {
+    ghost use Rattle.dns_model.specs.Records.{Question};
+
+    ghost Value = { Question };
+
+    ghost view = { λ q. record { owner = q.name; kind = q.query_type.0; class = q.query_class.0 } };
+
+    ghost inverse = { λ q. record { name = q.owner; query_type = record { 0 = q.kind }; query_class = record { 0 = q.class } } };
+}
+
+impl Query {
+    /// An equal value in memory of its own.
+    pub fn try_clone(&self) -> Result<Query, NoMemory>
+        ensures { IfOk result (λ q. q ≡ self.now) }
+    {
+        let name = self.name.try_clone()?;
+        Ok(Query {
+            name,
+            query_type: self.query_type,
+            query_class: self.query_class,
+        })
+    }
+}

@@ -1,0 +1,67 @@
+ghost use Rattle.std.specs.Prelude.{◌≡◌, ◌≤◌, IfOk, length};
+
+use dns_name::{NoMemory, Octets};
+use std::alloc::Global;
+use std::marker::Model;
+
+/// The data of a record, names spelled out (RFC 1035, 3.2.1): at most 65,535 bytes.
+#[derive(Debug, Drop)]
+pub struct Rdata {
+    bytes: Octets,
+}
+
+impl Model for Rdata {
+    ghost use Rattle.std.specs.Prelude.{List, ℕ, length, ◌≤◌};
+
+    ghost Value = { List ℕ };
+
+    ghost view = { λ r. r.bytes };
+
+    ghost invariant = { λ r. length r.bytes ≤ 65535 };
+}
+
+impl Rdata {
+    /// The most bytes that an rdata has.
+    pub const MAX_LEN: usize = 65535;
+
+    /// An rdata of these bytes, which takes no memory.
+    pub fn from_octets(bytes: Octets) -> Rdata
+        requires { length bytes ≤ 65535 }
+        ensures { result ≡ bytes }
+    {
+        Rdata { bytes }
+    }
+
+    /// An rdata with a copy of these bytes.
+    pub fn from_slice(alloc: Global, bytes: &[u8]) -> Result<Rdata, NoMemory>
+        requires { length bytes.now ≤ 65535 }
+        ensures { IfOk result (λ r. r ≡ bytes.now) }
+    {
+        let bytes = Octets::from_slice(alloc, bytes)?;
+        Ok(Rdata { bytes })
+    }
+
+    /// The bytes, lent; at most 65,535.
+    pub fn as_slice(&self) -> &[u8]
+        ensures bytes { result.now ≡ self.now }
+        ensures short { length result.now ≤ 65535 }
+    {
+        self.bytes.as_slice()
+    }
+
+    /// The bytes themselves.
+    pub fn into_octets(self) -> Octets
+        ensures bytes { result ≡ self }
+        ensures short { length result ≤ 65535 }
+    {
+        self.bytes
+    }
+
+    /// An equal value in memory of its own.
+    pub fn try_clone(&self) -> Result<Rdata, NoMemory>
+        ensures { IfOk result (λ r. r ≡ self.now) }
+    {
+        let bytes = self.bytes.try_clone()?;
+        Ok(Rdata { bytes })
+    }
+}

@@ -1,0 +1,57 @@
+ghost use Rattle.std.specs.Prelude.{◌≡◌, IfOk};
+
+use crate::{DNSClass, Rdata, RecordType};
+use dns_model::Proof;
+use dns_name::{Name, NoMemory};
+use std::marker::Model;
+
+/// A resource record (RFC 1035, 3.2.1), with what validation found out of it.
+#[derive(Drop)]
+pub struct Record {
+    /// The owner.
+    pub name: Name,
+    pub record_type: RecordType,
+    pub dns_class: DNSClass,
+    /// Seconds for which the record may be kept.
+    pub ttl: u32,
+    pub rdata: Rdata,
+    pub proof: Proof,
+}
+
+impl Model for Record {
+    ghost use Rattle.dns_model.specs.Records.{Rr};
+
+    ghost Value = { Rr };
+
+    ghost view = { λ r. record { owner = r.name; kind = r.record_type.0; class = r.dns_class.0; ttl = r.ttl; rdata = r.rdata; mark = r.proof } };
+}
+
+impl Record {
+    /// An equal value in memory of its own.
+    pub fn try_clone(&self) -> Result<Record, NoMemory>
+        ensures { IfOk result (λ r. r ≡ self.now) }
+    {
+        let name = self.name.try_clone()?;
+        let rdata = self.rdata.try_clone()?;
+        Ok(Record {
+            name,
+            record_type: self.record_type,
+            dns_class: self.dns_class,
+            ttl: self.ttl,
+            rdata,
+            proof: self.proof,
+        })
+    }
+}
+
+/// Equal records in memory of their own, in order.
+pub fn clone_records(records: &Vec<Record>) -> Result<Vec<Record>, NoMemory>
+    ensures { IfOk result (λ v. v.items ≡ records.now.items) }
+{
+    let mut all = Vec::new(*records.allocator());
+    for record in records {
+        let next = record.try_clone()?;
+        all.push(next)?;
+    }
+    Ok(all)
+}
