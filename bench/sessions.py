@@ -65,7 +65,7 @@ def program():
     """The program that is measured: the argument, or the one that the repository has built."""
     words = argparse.ArgumentParser()
     words.add_argument("program", nargs="?", default=PROGRAM, help="the built program dns_check")
-    path = words.parse_args().program
+    path = os.path.abspath(words.parse_args().program)
     if not os.access(path, os.X_OK):
         sys.exit(f"no program at {path}: `rt run` in crates/dns_check builds it")
     return path
