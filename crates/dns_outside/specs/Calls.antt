@@ -21,7 +21,7 @@ next_fails log = list_any (λ n. n == log.made) log.fails
 abbrev pub with_call : CallLog → CallLog
 with_call log = record log {
   made = one_more log.made;
-  faults = if next_fails log then one_more log.faults else log.faults
+  faults = if next_fails log then one_more log.faults else log.faults;
 }
 
 -- a source in memory: the bytes left, and its calls

@@ -20,6 +20,5 @@ pub use standard::{InputSource, OutputSink};
 pub use text_sink::{SureSink, TextSink};
 pub use text_source::{SureSource, TextSource};
 
-
 #[cfg(test)]
 mod tests;

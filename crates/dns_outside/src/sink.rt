@@ -6,7 +6,7 @@ ghost use Rattle.dns_outside.specs.Faults.{Rose};
 ghost use Rattle.dns_outside.specs.Writing.{TakesPrefix};
 ghost use Rattle.dns_outside.specs.declared.sink.SinkFault.TheVariants.{NoMemory};
 
-use std::alloc::AllocError;
+use std::alloc::{AllocError, AllocFailed};
 
 /// Why a sink took nothing.
 #[derive(Clone, Copy, Debug, PartialEq, Eq)]
@@ -21,6 +21,14 @@ impl From<AllocError> for SinkFault {
     ghost from_gives = { λ _ e. e ≡ NoMemory };
 
     fn from(_: AllocError) -> Self {
+        SinkFault::NoMemory
+    }
+}
+
+impl<T: Drop> From<AllocFailed<T>> for SinkFault {
+    ghost from_gives = { λ _ e. e ≡ NoMemory };
+
+    fn from(_: AllocFailed<T>) -> Self {
         SinkFault::NoMemory
     }
 }

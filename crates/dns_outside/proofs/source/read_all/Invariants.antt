@@ -8,7 +8,7 @@ invariant-loop-all g l = record {
   piece : vec_len l.piece ≡ 65536;
   bound : vec_len l.all ≤ 16777217;
   later : g.S.Source.faults l.fn.source ≤ g.S.Source.faults l.source;
-  read : Consumes (g.S.Source.left l.fn.source) (g.S.Source.left l.source) l.all.items
+  read : Consumes (g.S.Source.left l.fn.source) (g.S.Source.left l.source) l.all.items;
 }
 
 -- the bytes that may still be read
