@@ -3,7 +3,7 @@ ghost use Rattle.std.specs.Prelude.{◌≡◌, ◌≢◌, ℕ, ◌+◌, ◌<◌,
 ghost use Rattle.std.specs.Io.{ReadsAtMost};
 ghost use Rattle.std.specs.Io.KnownBytes.{IsAtEnd, ReadConsumes};
 ghost use Rattle.dns_outside.specs.Faults.{Rose};
-ghost use Rattle.dns_outside.specs.Reading.{IsEnded, ReadsFront, ReadsOnto};
+ghost use Rattle.dns_outside.specs.Reading.{input_limit, IsEnded, ReadsFront, ReadsOnto};
 ghost use Rattle.dns_outside.specs.declared.source.ReadStop.TheVariants.{NoMemory};
 
 use std::alloc::{AllocError, Global};
@@ -59,15 +59,15 @@ pub trait Source {
 pub fn read_all<S: Source>(alloc: Global, source: &mut S) -> Result<Vec<u8>, ReadStop>
     ensures bytes { IfOk result (λ all. IfSome (S.left source.old) (λ left. all.items ≡ left)) }
     ensures ended { OnOk result (IsEnded (S.left source.old) (S.left source.new)) }
-    ensures fits { IfOk result (λ all. vec_len all ≤ INPUT_LIMIT) }
+    ensures fits { IfOk result (λ all. vec_len all ≤ input_limit) }
 
     // Too long is answered only for such an input, and such an input is never Ok.
-    ensures too_long { result ≡ Err ReadStop.TooLong → IfSome (S.left source.old) (λ left. INPUT_LIMIT < length left) }
-    ensures long { IfSome (S.left source.old) (λ left. INPUT_LIMIT < length left → IsErr result) }
+    ensures too_long { result ≡ Err ReadStop.TooLong → IfSome (S.left source.old) (λ left. input_limit < length left) }
+    ensures long { IfSome (S.left source.old) (λ left. input_limit < length left → IsErr result) }
 
     ensures failed { result ≡ Err ReadStop.Failed → Rose (S.faults source.old) (S.faults source.new) }
     ensures later { S.faults source.old ≤ S.faults source.new }
-    ensures read { ReadsFront (INPUT_LIMIT + 1) (S.left source.old) (S.left source.new) }
+    ensures read { ReadsFront (input_limit + 1) (S.left source.old) (S.left source.new) }
 {
     let mut piece = zeros(alloc)?;
     let mut all = Vec::new(alloc);
