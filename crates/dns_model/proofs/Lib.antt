@@ -1,1 +1,5 @@
 pub mod Worked
+pub mod Lists
+pub mod WireLemmas
+pub mod NameSteps
+pub mod NameLemmas
