@@ -2,8 +2,13 @@
 //! may use each view as the text of `dns_model` that has its name, and each call as the definition that its clause names.
 #![tactic(auto)]
 
+mod bytes;
+mod dnskey;
+mod ds;
 mod key_tags;
 mod serial;
 
+pub use dnskey::Dnskey;
+pub use ds::Ds;
 pub use key_tags::key_tag;
 pub use serial::SerialNumber;
