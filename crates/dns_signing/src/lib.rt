@@ -1,2 +1,14 @@
-//! Views of rdata, serial numbers, canonical forms, and the bytes that signatures and digests are over.
+//! Views of rdata, serial numbers, canonical forms, and the bytes that signatures and digests are over. The layer above
+//! may use each view as the text of `dns_model` that has its name, and each call as the definition that its clause names.
 #![tactic(auto)]
+
+mod bytes;
+mod dnskey;
+mod ds;
+mod key_tags;
+mod serial;
+
+pub use dnskey::Dnskey;
+pub use ds::Ds;
+pub use key_tags::key_tag;
+pub use serial::SerialNumber;
