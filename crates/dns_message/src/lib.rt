@@ -1,6 +1,11 @@
 //! Messages: their parts, how they are read from bytes and written. The layer above sees a message as a `MessageText`.
 #![tactic(auto)]
 
+mod decode_error;
+mod item;
 mod message;
+mod number_reader;
+mod step;
 
+pub use decode_error::{DecodeError, DecodeKind};
 pub use message::{Edns, Message};
