@@ -1,3 +1,4 @@
+pub mod ChainLaws
 pub mod Worked
 pub mod Lists
 pub mod WireLemmas
