@@ -4,3 +4,5 @@ pub mod Lists
 pub mod WireLemmas
 pub mod NameSteps
 pub mod NameLemmas
+pub mod Edges
+pub mod Delegation
