@@ -23,7 +23,7 @@ links_hold-append j earlier (x ∷ xs) ys =
         ∙ ap (λ e. links_hold j (earlier ++ x ∷ []) xs && links_hold j e ys) (append_assoc earlier (x ∷ []) xs))
     ∙ and_assoc (link_holds j earlier x) (links_hold j (earlier ++ x ∷ []) xs) (links_hold j (earlier ++ x ∷ xs) ys)
 
--- every prefix of a justified chain that has a link is justified
+-- a justified chain that is cut after any of its links stays justified
 pub justified-prefix : (j : Judge) (x : Fact) (xs ys : List Fact) → justified j ((x ∷ xs) ++ ys) ≡ true → justified j (x ∷ xs) ≡ true
 justified-prefix j x xs ys e =
     first_of_both (links_hold j [] (x ∷ xs)) (links_hold j (x ∷ xs) ys) (sym (links_hold-append j [] (x ∷ xs) ys) ∙ e)
