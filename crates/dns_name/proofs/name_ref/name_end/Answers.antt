@@ -5,8 +5,8 @@ use Rattle.dns_name.proofs.name_ref.name_end.Goals as goal
 pub returns-in-Some : goal.returns-in-Some
 returns-in-Some c = front_found _ _ (sym c.in-Some.ensures) c.if-end-le255.true
 
-pub returns-in_default : goal.returns-in_default
-returns-in_default c = front_too_long _ _ (sym c.in-Some.ensures) c.if-end-le255.false
+pub returns-in-Some-2 : goal.returns-in-Some-2
+returns-in-Some-2 c = front_too_long _ _ (sym c.in-Some.ensures) c.if-end-le255.false
 
-pub returns-in_default-2 : goal.returns-in_default-2
-returns-in_default-2 c = front_none _ (sym c.in_default.ensures)
+pub returns-in-None : goal.returns-in-None
+returns-in-None c = front_none _ (sym c.in-None.ensures)
