@@ -1,0 +1,4 @@
+pub mod Lists
+pub mod WireLemmas
+pub mod NameSteps
+pub mod NameLemmas
