@@ -1,1 +1,2 @@
 pub mod ReadAs
+pub mod Windows

@@ -7,8 +7,11 @@ mod dnskey;
 mod ds;
 mod key_tags;
 mod serial;
+mod type_set;
+mod window;
 
 pub use dnskey::Dnskey;
 pub use ds::Ds;
 pub use key_tags::key_tag;
 pub use serial::SerialNumber;
+pub use type_set::TypeSet;
