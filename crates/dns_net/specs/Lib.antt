@@ -1,5 +1,7 @@
 pub mod Link
 pub mod Verifiers
 pub mod Requests
+pub mod Errors
+pub mod Replies
 pub mod Causes
 pub mod Handles

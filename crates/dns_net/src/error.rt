@@ -1,5 +1,9 @@
+ghost use Rattle.std.specs.Prelude.{◌≡◌, IfOk};
+ghost use Rattle.dns_net.specs.Replies.{dns_error_of, error_of};
+ghost use Rattle.dns_net.specs.declared.error.NetError.TheVariants.{NoMemory};
+
 use crate::{DnsResponse, IoKind, Notice};
-use dns_name::Name;
+use dns_name::{Name, NoMemory};
 use dns_record::{DNSClass, Proof, Query, RecordType, ResponseCode};
 
 /// What DNS itself answers in place of the records.
@@ -44,4 +48,72 @@ pub enum NetError {
     Truncated,
     /// Memory ran out.
     NoMemory,
+}
+
+impl From<NoMemory> for NetError {
+    ghost from_gives = { λ _ e. e ≡ NoMemory };
+
+    fn from(_error: NoMemory) -> Self {
+        NetError::NoMemory
+    }
+}
+
+impl DnsError {
+    /// An equal error in memory of its own.
+    pub fn try_clone(&self) -> Result<DnsError, NoMemory>
+        ensures { IfOk result (λ e. dns_error_of e ≡ dns_error_of self.now) }
+    {
+        match self {
+            DnsError::ResponseCode(code) => Ok(DnsError::ResponseCode(*code)),
+            DnsError::Nsec {
+                query,
+                response,
+                proof,
+            } => {
+                let query = query.try_clone()?;
+                let content = response.try_clone()?;
+                let response = Box::new(*Box::allocator(response), content)?;
+                Ok(DnsError::Nsec {
+                    query,
+                    response,
+                    proof: *proof,
+                })
+            }
+            DnsError::DnssecBogus => Ok(DnsError::DnssecBogus),
+        }
+    }
+}
+
+impl NetError {
+    /// An equal error in memory of its own.
+    pub fn try_clone(&self) -> Result<NetError, NoMemory>
+        ensures { IfOk result (λ e. error_of e ≡ error_of self.now) }
+    {
+        match self {
+            NetError::Busy => Ok(NetError::Busy),
+            NetError::Dns(error) => {
+                let error = error.try_clone()?;
+                Ok(NetError::Dns(error))
+            }
+            NetError::Message(notice) => Ok(NetError::Message(*notice)),
+            NetError::NoConnections => Ok(NetError::NoConnections),
+            NetError::Io(kind) => Ok(NetError::Io(*kind)),
+            NetError::Timeout => Ok(NetError::Timeout),
+            NetError::QueryCaseMismatch => Ok(NetError::QueryCaseMismatch),
+            NetError::ForeignClassRecord {
+                record_name,
+                record_class,
+                record_type,
+            } => {
+                let record_name = record_name.try_clone()?;
+                Ok(NetError::ForeignClassRecord {
+                    record_name,
+                    record_class: *record_class,
+                    record_type: *record_type,
+                })
+            }
+            NetError::Truncated => Ok(NetError::Truncated),
+            NetError::NoMemory => Ok(NetError::NoMemory),
+        }
+    }
 }
