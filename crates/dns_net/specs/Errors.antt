@@ -5,6 +5,7 @@ use Rattle.dns_model.specs.Names.{Labels}
 use Rattle.dns_model.specs.Records.{Question}
 use Rattle.dns_model.specs.Answers.{ResponseText}
 use Rattle.dns_net.specs.declared.io_kind.IoKind.{IoKind}
+use Rattle.dns_net.specs.declared.error.ProtoError.{ProtoError}
 use Rattle.dns_net.specs.declared.notice.Notice.{Notice}
 
 -- what DNS itself answers in place of the records
@@ -18,6 +19,7 @@ pub data ErrorText : Type 0 where
   Dns : (error : DnsErrorText) → ErrorText
   Message : (notice : Notice) → ErrorText
   NoConnections : ErrorText
+  Proto : (error : ProtoError) → ErrorText
   Io : (kind : IoKind) → ErrorText
   Timeout : ErrorText
   QueryCaseMismatch : ErrorText

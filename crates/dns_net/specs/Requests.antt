@@ -1,5 +1,5 @@
 -- Requests (RFC 1035, 4.1; RFC 6891, 6.1).
-use Rattle.std.specs.Prelude.{ℕ, Bool, true, false, List, [], ◌∷◌, Option, None, Some, if◌then◌else◌}
+use Rattle.std.specs.Prelude.{true, false, List, [], ◌∷◌, Option, None, Some, if◌then◌else◌}
 use Rattle.dns_model.specs.Records.{Question, EdnsText, MessageText}
 use Rattle.dns_net.specs.declared.request.DnsRequestOptions.{DnsRequestOptions}
 

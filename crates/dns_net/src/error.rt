@@ -1,10 +1,13 @@
 ghost use Rattle.std.specs.Prelude.{◌≡◌, IfOk};
 ghost use Rattle.dns_net.specs.Replies.{dns_error_of, error_of};
-ghost use Rattle.dns_net.specs.declared.error.NetError.TheVariants.{NoMemory};
+ghost use Rattle.dns_net.specs.Conversions.{decode_failed, outside_failed};
+ghost use Rattle.dns_net.specs.declared.error.NetError.TheVariants.{NoMemory, Dns, Message, Proto};
 
 use crate::{DnsResponse, IoKind, Notice};
+use dns_message::{DecodeError, DecodeKind};
 use dns_name::{Name, NoMemory};
 use dns_record::{DNSClass, Proof, Query, RecordType, ResponseCode};
+use std::alloc::{AllocError, AllocFailed};
 
 /// What DNS itself answers in place of the records.
 #[derive(Drop)]
@@ -21,6 +24,15 @@ pub enum DnsError {
     DnssecBogus,
 }
 
+/// What is wrong with bytes that came, or with a message that was to be written.
+#[derive(Clone, Copy, Debug, PartialEq, Eq, Drop)]
+pub enum ProtoError {
+    /// The bytes are no message.
+    Decode(DecodeError),
+    /// The message has more than 65,535 bytes.
+    TooLong,
+}
+
 /// Why a send or a lookup has no response.
 #[derive(Drop)]
 pub enum NetError {
@@ -32,6 +44,8 @@ pub enum NetError {
     Message(Notice),
     /// No connection can be made.
     NoConnections,
+    /// Bytes that aren't a message came, or a message can't be written.
+    Proto(ProtoError),
     /// The outside failed.
     Io(IoKind),
     /// Nothing came in time.
@@ -55,6 +69,70 @@ impl From<NoMemory> for NetError {
 
     fn from(_error: NoMemory) -> Self {
         NetError::NoMemory
+    }
+}
+
+impl From<AllocError> for NetError {
+    ghost from_gives = { λ _ e. e ≡ NoMemory };
+
+    fn from(_error: AllocError) -> Self {
+        NetError::NoMemory
+    }
+}
+
+impl<T: Drop> From<AllocFailed<T>> for NetError {
+    ghost from_gives = { λ _ e. e ≡ NoMemory };
+
+    fn from(_failed: AllocFailed<T>) -> Self {
+        NetError::NoMemory
+    }
+}
+
+impl From<DnsError> for NetError {
+    ghost from_gives = { λ error e. e ≡ Dns error };
+
+    fn from(error: DnsError) -> Self {
+        NetError::Dns(error)
+    }
+}
+
+impl From<Notice> for NetError {
+    ghost from_gives = { λ notice e. e ≡ Message notice };
+
+    fn from(notice: Notice) -> Self {
+        NetError::Message(notice)
+    }
+}
+
+impl From<ProtoError> for NetError {
+    ghost from_gives = { λ error e. e ≡ Proto error };
+
+    fn from(error: ProtoError) -> Self {
+        NetError::Proto(error)
+    }
+}
+
+/// Want of memory stays want of memory.
+impl From<DecodeError> for NetError {
+    ghost from_gives = { λ error e. e ≡ decode_failed error };
+
+    fn from(error: DecodeError) -> Self {
+        match error.kind {
+            DecodeKind::NoMemory => NetError::NoMemory,
+            _ => NetError::Proto(ProtoError::Decode(error)),
+        }
+    }
+}
+
+/// What came too late is `Timeout`.
+impl From<IoKind> for NetError {
+    ghost from_gives = { λ kind e. e ≡ outside_failed kind };
+
+    fn from(kind: IoKind) -> Self {
+        match kind {
+            IoKind::TimedOut => NetError::Timeout,
+            _ => NetError::Io(kind),
+        }
     }
 }
 
@@ -97,6 +175,7 @@ impl NetError {
             }
             NetError::Message(notice) => Ok(NetError::Message(*notice)),
             NetError::NoConnections => Ok(NetError::NoConnections),
+            NetError::Proto(error) => Ok(NetError::Proto(*error)),
             NetError::Io(kind) => Ok(NetError::Io(*kind)),
             NetError::Timeout => Ok(NetError::Timeout),
             NetError::QueryCaseMismatch => Ok(NetError::QueryCaseMismatch),
