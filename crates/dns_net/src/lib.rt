@@ -12,7 +12,7 @@ mod request;
 mod response;
 mod verifier;
 
-pub use error::{DnsError, NetError};
+pub use error::{DnsError, NetError, ProtoError};
 pub use handle::DnsHandle;
 pub use io_kind::IoKind;
 pub use link::{Chain, Link};
