@@ -6,3 +6,4 @@ pub mod NameSteps
 pub mod NameLemmas
 pub mod Edges
 pub mod Delegation
+pub mod ChainLemmas
