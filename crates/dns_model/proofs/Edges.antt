@@ -214,10 +214,15 @@ record_at owner kind rdata = record { owner = owner; kind = kind; class = 1; ttl
 -- two letter cases are one owner; a signature that can't be read, or covers another type, isn't the set's; a signature makes no set
 pub one_set_in_two_cases :
     sets_of (record_at [] 46 signature ∷ record_at (example ∷ []) 16 [] ∷ record_at [] 2 name_a ∷ record_at (upper_example ∷ []) 16 (1 ∷ [])
-        ∷ record_at (example ∷ []) 46 signature ∷ record_at [] 46 [] ∷ [])
-      ≡ record { owner = example ∷ []; kind = 16; class = 1; signatures = [];
-          records = record_at (example ∷ []) 16 [] ∷ record_at (upper_example ∷ []) 16 (1 ∷ []) ∷ [] }
-        ∷ record { owner = []; kind = 2; class = 1; signatures = record_at [] 46 signature ∷ []; records = record_at [] 2 name_a ∷ [] } ∷ []
+    ∷ record_at (example ∷ []) 46 signature ∷ record_at [] 46 [] ∷ [])
+    ≡ record {
+      owner = example ∷ [];
+      kind = 16;
+      class = 1;
+      signatures = [];
+      records = record_at (example ∷ []) 16 [] ∷ record_at (upper_example ∷ []) 16 (1 ∷ []) ∷ [];
+    }
+    ∷ record { owner = []; kind = 2; class = 1; signatures = record_at [] 46 signature ∷ []; records = record_at [] 2 name_a ∷ [] } ∷ []
 unfolding sets_of leaders sig_in name_in labels_in label_in
 one_set_in_two_cases = refl
 

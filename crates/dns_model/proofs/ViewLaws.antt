@@ -42,7 +42,7 @@ pub sig_has_shape : (rdata : List ℕ) → is_some (sig_in rdata) ≡ has_shape 
 unfolding sig_in parts_in shape_of
 sig_has_shape rdata =
     front _ _ (Plain (take 18 rdata)) (drop 18 rdata) _ (parts_in (DomainName ∷ Remainder ∷ [])) (short_or_long (length rdata) 18)
-      (signed_by rdata (name_in (drop 18 rdata)))
+    (signed_by rdata (name_in (drop 18 rdata)))
 
 -- a bitmap at the end
 tested : {X : Type 0} (b : Bool) (x : X) (p : Part) → is_some (if b then Some x else None) ≡ is_some (after_part (if b then Some (p, []) else None) (parts_in []))
@@ -79,7 +79,7 @@ pub nsec3_has_shape : (rdata : List ℕ) → is_some (nsec3_in rdata) ≡ has_sh
 unfolding nsec3_in parts_in shape_of
 nsec3_has_shape rdata =
     front _ _ (Plain (take 4 rdata)) (drop 4 rdata) _ (parts_in (CharacterString ∷ CharacterString ∷ TypeBitmap ∷ []))
-      (short_or_long (length rdata) 4) (salted_after rdata (counted_in (drop 4 rdata)))
+    (short_or_long (length rdata) 4) (salted_after rdata (counted_in (drop 4 rdata)))
 
 -- no field is left exactly where no byte is
 ended : (rest : List ℕ) → (length rest == 0) ≡ is_some (parts_in [] rest)

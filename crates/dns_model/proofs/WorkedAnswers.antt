@@ -110,8 +110,8 @@ sound_answer = record {
         plain = λ no. absurd (true≢false no);
         secure = λ yes. (λ signs. refl, refl);
       },
-      tt
-    )
+      tt,
+    ),
   );
   authorities = tt;
   additionals = tt;
@@ -127,7 +127,7 @@ unfolding sets_of leaders sig_in name_in labels_in label_in last_link
 sound_alone = record {
   answers = (
     (λ yes. (λ signs. absurd (true≢false (sym signs)), refl, lit≤ tt)),
-    ((λ yes. (λ signs. refl, refl, lit≤ tt)), tt)
+    ((λ yes. (λ signs. refl, refl, lit≤ tt)), tt),
   );
   authorities = tt;
   additionals = tt;
@@ -142,7 +142,7 @@ sound_alone = record {
 -- a signature's ttl is its set's, also where nothing is told
 pub not_with_two_ttls :
     SoundAlone (judge verifier anchors 1000) 1000
-      (answer_of (record_of 2 1000 name_a Secure ∷ record_of 46 999 signature Secure ∷ []) (chain_by key ∷ [])) → ⊥
+    (answer_of (record_of 2 1000 name_a Secure ∷ record_of 46 999 signature Secure ∷ []) (chain_by key ∷ [])) → ⊥
 unfolding sets_of leaders sig_in name_in labels_in label_in last_link
 not_with_two_ttls s = absurd (true≢false (sym (ap (λ n. n == 1000) (s.answers.1.0 refl).1)))
 
@@ -153,7 +153,7 @@ not_without_a_chain s = s.chains
 
 pub not_with_two_chains :
     Sound (judge verifier anchors 1000) 1000 told_records
-      (answer_of (record_of 2 1000 name_a Secure ∷ record_of 46 1000 signature Secure ∷ []) (chain_by key ∷ chain_by key ∷ [])) → ⊥
+    (answer_of (record_of 2 1000 name_a Secure ∷ record_of 46 1000 signature Secure ∷ []) (chain_by key ∷ chain_by key ∷ [])) → ⊥
 unfolding sets_of leaders
 not_with_two_chains s = s.chains.1
 
@@ -163,7 +163,7 @@ not_after_its_end s = absurd (true≢false (sym s.chains.0.holds ∙ not_justifi
 
 pub not_with_a_longer_ttl :
     Sound (judge verifier anchors 1000) 1000 told_records
-      (answer_of (record_of 2 1001 name_a Secure ∷ record_of 46 1000 signature Secure ∷ []) (chain_by key ∷ [])) → ⊥
+    (answer_of (record_of 2 1001 name_a Secure ∷ record_of 46 1000 signature Secure ∷ []) (chain_by key ∷ [])) → ⊥
 unfolding sets_of leaders sig_in name_in labels_in label_in last_link
 not_with_a_longer_ttl s = absurd (true≢false (sym (ap (λ n. n == 1000) (s.answers.0.secure refl).1)))
 
@@ -173,7 +173,7 @@ not_with_a_record_left_out s = s.answers.1
 
 pub not_with_another_rdata :
     Sound (judge verifier anchors 1000) 1000 told_records
-      (answer_of (record_of 2 1000 (1 ∷ 98 ∷ 0 ∷ []) Secure ∷ record_of 46 1000 signature Secure ∷ []) (chain_by key ∷ [])) → ⊥
+    (answer_of (record_of 2 1000 (1 ∷ 98 ∷ 0 ∷ []) Secure ∷ record_of 46 1000 signature Secure ∷ []) (chain_by key ∷ [])) → ⊥
 not_with_another_rdata s = absurd (true≢false (sym (ap (bytes_eq name_a) s.answers.0.rdata)))
 
 -- a Bogus set keeps its ttl, and has no chain
@@ -184,7 +184,7 @@ sound_bogus = record {
   code = refl;
   answers = (
     record { owner = refl; kind = refl; class = refl; rdata = refl; plain = λ no. refl; secure = λ yes. absurd (true≢false (sym yes)) },
-    (record { owner = refl; kind = refl; class = refl; rdata = refl; plain = λ no. refl; secure = λ yes. absurd (true≢false (sym yes)) }, tt)
+    (record { owner = refl; kind = refl; class = refl; rdata = refl; plain = λ no. refl; secure = λ yes. absurd (true≢false (sym yes)) }, tt),
   );
   authorities = tt;
   additionals = tt;
