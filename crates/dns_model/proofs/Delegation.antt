@@ -1,5 +1,5 @@
 -- A chain through a delegation, worked out: a key, its DS in the zone above, and what may not stand for it.
-use Rattle.std.specs.Prelude.{◌≡◌, ℕ, Bool, true, false, ◌==◌, List, [], ◌∷◌, ◌++◌, refl}
+use Rattle.std.specs.Prelude.{◌≡◌, ℕ, true, false, ◌==◌, List, [], ◌∷◌, ◌++◌, refl}
 use Rattle.sha2.specs.Sha256.{sha256, first_words, schedule, rounds, compress, hash_after, digest_bytes}
 use Rattle.dns_model.specs.Bytes.{u16_bytes, u32_bytes}
 use Rattle.dns_model.specs.Names.{Labels, wire}

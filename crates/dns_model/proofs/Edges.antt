@@ -1,11 +1,11 @@
 -- The definitions at their edges: the root, wildcards, cut bytes, letters in either case.
-use Rattle.std.specs.Prelude.{◌≡◌, ℕ, Bool, true, false, not, List, [], ◌∷◌, ◌++◌, map, length, replicate, Option, None, Some, is_some, refl}
-use Rattle.dns_model.specs.Names.{Labels, name_eq, at_or_above, strictly_above, parent, num_labels, last_labels, star, wire, is_name}
-use Rattle.dns_model.specs.NameForm.{label_in, labels_in, name_in, labels_of}
-use Rattle.dns_model.specs.Shapes.{counted_in, window_in, windows_in, is_bitmap, bitmap_has, parts_in, shape_of, has_shape, is_lowered_type, canonical_form}
+use Rattle.std.specs.Prelude.{◌≡◌, ℕ, true, false, List, [], ◌∷◌, ◌++◌, map, replicate, None, Some, is_some, refl}
+use Rattle.dns_model.specs.Names.{Labels, at_or_above, strictly_above, parent, num_labels, last_labels, star, wire}
+use Rattle.dns_model.specs.NameForm.{label_in, labels_in, name_in}
+use Rattle.dns_model.specs.Shapes.{counted_in, window_in, windows_in, is_bitmap, bitmap_has, parts_in, shape_of, is_lowered_type, canonical_form}
 use Rattle.dns_model.specs.Signing.{signed_owner, key_tag}
-use Rattle.dns_model.specs.Views.{sig_in, key_in, ds_in, nsec_in, nsec3_in, soa_in, ns_in}
-use Rattle.dns_model.specs.Records.{Rr, RrSet}
+use Rattle.dns_model.specs.Views.{sig_in, key_in, ns_in}
+use Rattle.dns_model.specs.Records.{Rr}
 use Rattle.dns_model.specs.Sections.{leaders, sets_of}
 use Rattle.dns_model.specs.Keys.{usable}
 use Rattle.dns_model.specs.Chains.{signer_fits, labels_fit, parent_fits}
@@ -214,10 +214,15 @@ record_at owner kind rdata = record { owner = owner; kind = kind; class = 1; ttl
 -- two letter cases are one owner; a signature that can't be read, or covers another type, isn't the set's; a signature makes no set
 pub one_set_in_two_cases :
     sets_of (record_at [] 46 signature ∷ record_at (example ∷ []) 16 [] ∷ record_at [] 2 name_a ∷ record_at (upper_example ∷ []) 16 (1 ∷ [])
-        ∷ record_at (example ∷ []) 46 signature ∷ record_at [] 46 [] ∷ [])
-      ≡ record { owner = example ∷ []; kind = 16; class = 1; signatures = [];
-          records = record_at (example ∷ []) 16 [] ∷ record_at (upper_example ∷ []) 16 (1 ∷ []) ∷ [] }
-        ∷ record { owner = []; kind = 2; class = 1; signatures = record_at [] 46 signature ∷ []; records = record_at [] 2 name_a ∷ [] } ∷ []
+    ∷ record_at (example ∷ []) 46 signature ∷ record_at [] 46 [] ∷ [])
+    ≡ record {
+      owner = example ∷ [];
+      kind = 16;
+      class = 1;
+      signatures = [];
+      records = record_at (example ∷ []) 16 [] ∷ record_at (upper_example ∷ []) 16 (1 ∷ []) ∷ [];
+    }
+    ∷ record { owner = []; kind = 2; class = 1; signatures = record_at [] 46 signature ∷ []; records = record_at [] 2 name_a ∷ [] } ∷ []
 unfolding sets_of leaders sig_in name_in labels_in label_in
 one_set_in_two_cases = refl
 

@@ -1,5 +1,6 @@
-pub mod ChainLaws
 pub mod Worked
+pub mod WorkedAnswers
+pub mod ViewLaws
 pub mod Lists
 pub mod WireLemmas
 pub mod NameSteps
