@@ -6,12 +6,18 @@ mod bytes;
 mod dnskey;
 mod ds;
 mod key_tags;
+mod ns;
+mod rrsig;
 mod serial;
+mod soa;
 mod type_set;
 mod window;
 
 pub use dnskey::Dnskey;
 pub use ds::Ds;
 pub use key_tags::key_tag;
+pub use ns::Ns;
+pub use rrsig::Rrsig;
 pub use serial::SerialNumber;
+pub use soa::Soa;
 pub use type_set::TypeSet;
