@@ -12,6 +12,7 @@ mod nsec;
 mod nsec3;
 mod rrsig;
 mod serial;
+mod shape;
 mod soa;
 mod type_set;
 mod window;
