@@ -28,6 +28,13 @@ impl<'a> TypeSet<'a> {
         TypeSet { bytes }
     }
 
+    /// The bitmap's bytes, lent.
+    pub fn as_slice(&self) -> &'a [u8]
+        ensures { result.now ≡ self.now }
+    {
+        self.bytes
+    }
+
     /// Whether the bitmap has the type's bit.
     pub fn contains(&self, record_type: RecordType) -> bool
         ensures { result ≡ row_has self.now record_type.0 }
