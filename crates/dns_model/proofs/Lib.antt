@@ -1,2 +1,4 @@
 pub mod Worked
 pub mod ChainLemmas
+pub mod EachLemmas
+pub mod SetLemmas
