@@ -8,3 +8,5 @@ pub mod NameLemmas
 pub mod Edges
 pub mod Delegation
 pub mod ChainLemmas
+pub mod EachLemmas
+pub mod SetLemmas
