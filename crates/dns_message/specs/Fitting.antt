@@ -1,5 +1,7 @@
--- What lies where, after a step in a name.
-use Rattle.std.specs.Prelude.{ℕ, ◌+◌, ◌<◌, ◌≤◌}
+-- What lies where, and what is spelled, after a step in a name or a name.
+use Rattle.std.specs.Prelude.{◌≡◌, ℕ, ◌+◌, ◌<◌, ◌≤◌, true, List, Option, None, Some, Result, Ok}
+use Rattle.dns_model.specs.Names.{Labels, wire, is_name}
+use Rattle.dns_message.specs.declared.decode_error.DecodeError.{DecodeError}
 use Rattle.dns_message.specs.declared.step.Step.{Step}
 use Rattle.dns_message.specs.declared.step.Step.TheVariants as step
 
@@ -8,3 +10,15 @@ abbrev pub FitsStep : ℕ → ℕ → ℕ → ℕ → Step → Type 0
 FitsStep end start pos size step.Root = pos + 1 ≤ end
 FitsStep end start pos size (step.Label n) = (0 < n) × (n ≤ 63) × (pos + 1 + n ≤ end) × (size + 1 + n ≤ 254)
 FitsStep end start pos size (step.Jump target) = (target < start) × (pos + 2 ≤ end)
+
+-- the bytes are the wire form of the name that was read
+pub record IsSpelled (read : Result (Labels × ℕ) DecodeError) (bytes : List ℕ) (next : ℕ) : Type 0 where
+  pub labels : Labels
+  pub told : read ≡ Ok (labels, next)
+  pub spelled : bytes ≡ wire labels
+  pub good : is_name labels ≡ true
+
+-- where the name's bytes end: after its first pointer, or at this place
+abbrev pub ending_or : Option ℕ → ℕ → ℕ
+ending_or None place = place
+ending_or (Some first) place = first

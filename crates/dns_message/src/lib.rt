@@ -4,6 +4,7 @@
 mod decode_error;
 mod item;
 mod message;
+mod name_reader;
 mod number_reader;
 mod step;
 

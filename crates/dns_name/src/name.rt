@@ -1,4 +1,5 @@
 ghost use Rattle.std.specs.Prelude.{◌≡◌, [], IfOk};
+ghost use Rattle.dns_model.specs.NameForm.{labels_of, IsWire};
 
 use crate::{NoMemory, Octets};
 use std::alloc::Global;
@@ -8,6 +9,16 @@ use std::marker::Model;
 #[derive(Drop)]
 pub struct Name {
     wire: Octets,
+}
+
+impl Name {
+    /// The name whose wire form the bytes are (RFC 1035, 3.1), which takes no memory.
+    pub fn from_octets(wire: Octets) -> Name
+        requires { IsWire wire }
+        ensures { result ≡ labels_of wire }
+    {
+        Name { wire }
+    }
 }
 
 impl Model for Name {
