@@ -7,6 +7,8 @@ use Rattle.std.proofs.lemmas.Bool.{and_from}
 use Rattle.std.proofs.lemmas.List.Folds.{list_all-append}
 use Rattle.std.proofs.lemmas.List.{append-nil, length-take-le}
 use Rattle.dns_model.specs.Names.{Label, Labels, wire, is_label, is_name}
+use Rattle.dns_model.specs.NameForm.{labels_of, IsWire}
+use Rattle.dns_model.proofs.WireLemmas.{IsWire-wire, labels_of-wire}
 use Rattle.dns_message.specs.declared.decode_error.DecodeError.{DecodeError}
 use Rattle.dns_message.specs.declared.decode_error.DecodeKind.TheVariants.{Short, BadName}
 use Rattle.dns_message.specs.declared.step.Step.{Step}
@@ -253,3 +255,13 @@ step_fails kind place bytes at start pos ending read size len w a b =
     let told : (e : DecodeError) → step_of bytes start pos size ≡ Err e → spelled_at bytes at ≡ Err e =
       λ e h. not_spelled bytes at e (walked_fault bytes at start pos ending read e w (step_is bytes start pos size read len (Err e) (Err e) a b h refl)) in
     fails_on kind place (step_of bytes start pos size) (spelled_at bytes at) told
+
+-- the bytes of a name that was spelled are its wire form
+pub wire_form : (read : Result (Labels × ℕ) DecodeError) (written : List ℕ) (next : ℕ) → IsSpelled read written next → IsWire written
+wire_form read written next s = rw s.spelled (IsWire-wire s.labels s.good)
+
+pub named : (read : Result (Labels × ℕ) DecodeError) (written : List ℕ) (next : ℕ) → IsSpelled read written next → read ≡ Ok (labels_of written, next)
+named read written next s = s.told ∙ ap (λ (n : Labels). Ok (n, next)) (sym (ap labels_of s.spelled ∙ labels_of-wire s.labels s.good))
+
+pub name_fails : (kind : DecodeKind) (place : ℕ) (bytes : List ℕ) (at : ℕ) → FailsWith kind place (spelled_at bytes at) → FailsWith kind place (name_at bytes at)
+name_fails kind place bytes at h = fails_on kind place (spelled_at bytes at) (name_at bytes at) (λ e k. not_named bytes at e k) h
