@@ -2,3 +2,5 @@ pub mod Lists
 pub mod WireLemmas
 pub mod NameSteps
 pub mod NameLemmas
+pub mod OrderLemmas
+pub mod LabelSteps
