@@ -68,7 +68,7 @@ name_eq-wire a b r p q same =
     let good_two : is_name (folded (labels_of b)) ≡ true = is_name-folded (labels_of b) ∙ is_name-labels_of b q in
     let by_wire : Decides r P = (
       λ h. wire_injective (folded (labels_of a)) (folded (labels_of b)) good good_two (sym one ∙ same.0 h ∙ two),
-      λ h. same.1 (one ∙ ap wire h ∙ sym two)
+      λ h. same.1 (one ∙ ap wire h ∙ sym two),
     ) in
     same_from_decides r (name_eq (labels_of a) (labels_of b)) by_wire (name_eq-Decides (labels_of a) (labels_of b))
 

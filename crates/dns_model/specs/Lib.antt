@@ -5,6 +5,7 @@ pub mod NameForm
 pub mod Types
 pub mod Shapes
 pub mod Views
+pub mod Owned
 pub mod Records
 pub mod Sections
 pub mod Serial

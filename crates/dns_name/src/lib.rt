@@ -3,9 +3,11 @@
 #![tactic(auto)]
 
 mod name;
+mod name_ref;
 mod no_memory;
 mod octets;
 
 pub use name::Name;
+pub use name_ref::NameRef;
 pub use no_memory::NoMemory;
 pub use octets::Octets;

@@ -1,0 +1,9 @@
+pub mod Link
+pub mod Verifiers
+pub mod Requests
+pub mod Errors
+pub mod Replies
+pub mod Conversions
+pub mod Causes
+pub mod Handles
+pub mod Walks

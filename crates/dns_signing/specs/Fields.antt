@@ -1,0 +1,12 @@
+-- The fields and parts of the code, as those of the definitions.
+use Rattle.std.specs.Prelude.{List, ℕ}
+use Rattle.dns_model.specs.Shapes as shape
+use Rattle.dns_signing.specs.declared.shape.Field.{Field}
+use Rattle.dns_signing.specs.declared.shape.Field.TheVariants.{Octets, DomainName, CharacterString, TypeBitmap, Remainder}
+
+abbrev pub field_of : Field → shape.Field
+field_of (Octets n) = shape.Octets n
+field_of DomainName = shape.DomainName
+field_of CharacterString = shape.CharacterString
+field_of TypeBitmap = shape.TypeBitmap
+field_of Remainder = shape.Remainder

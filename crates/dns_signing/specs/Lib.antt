@@ -1,0 +1,3 @@
+pub mod ReadAs
+pub mod Windows
+pub mod Fields

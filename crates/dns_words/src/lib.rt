@@ -1,0 +1,5 @@
+//! The words that sessions and reports are made of: types, classes, numbers and bytes, each with its printing and its reading.
+//! The layer above may use the words of `specs/` and the calls that are exactly those.
+#![tactic(auto)]
+
+mod codes;
