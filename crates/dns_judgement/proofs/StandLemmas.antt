@@ -204,3 +204,64 @@ proof_is_chain j set asked r answer chain proper other asked_for stand is =
       ends = ap (λ c. ends_at c set) p.chain_is ∙ ap (link_is_for set) ended ∙ signed_is_for set r.rdata last p.key.rdata;
       named = ap (λ c. names_decider (last_link c) (Some r)) p.chain_is ∙ ap (λ l. names_decider l (Some r)) ended ∙ bytes_refl r.rdata
     }
+
+-- ---- a set by the verdicts of its signatures
+
+-- a verdict that proves is by a chain for the set
+abbrev pub IsGoodVerdict : Judge → RrSet → Rr → Verdict → Type 0
+IsGoodVerdict j set r (Proved chain) = IsChainFor j set chain (Some r)
+IsGoodVerdict j set r Excused = Unit {0}
+IsGoodVerdict j set r Failed = Unit {0}
+
+-- each verdict that was found is good for its signature
+abbrev pub AreGood : Judge → RrSet → List Rr → List Verdict → Type 0
+AreGood j set rs [] = Unit {0}
+AreGood j set [] (v ∷ vs) = ⊥
+AreGood j set (r ∷ rs) (v ∷ vs) = IsGoodVerdict j set r v × AreGood j set rs vs
+
+-- the signature whose verdict decided, and its chain
+pub record IsDecided (j : Judge) (set : RrSet) (rs : List Rr) (vs : List Verdict) (n : ℕ) : Type 0 where
+  pub signature : Rr
+  pub at : slice_get rs n ≡ Some signature
+  pub by : IsChainFor j set (proved_chain vs) (Some signature)
+
+decided : (j : Judge) (set : RrSet) (rs : List Rr) (vs : List Verdict) (n : ℕ) → AreGood j set rs vs → n < length vs
+    → is_proved (get_or vs n Failed) ≡ true → ((k : ℕ) → k < n → is_proved (get_or vs k Failed) ≡ false) → IsDecided j set rs vs n
+decided j set rs [] n good within passes none = absurd (omega arith)
+decided j set [] (v ∷ vs) n good within passes none = elim good [ ]
+decided j set (r ∷ rs) (Proved chain ∷ vs) zero good within passes none = record { signature = r; at = refl; by = good.0 }
+decided j set (r ∷ rs) (Excused ∷ vs) zero good within passes none = cc
+decided j set (r ∷ rs) (Failed ∷ vs) zero good within passes none = cc
+decided j set (r ∷ rs) (Proved chain ∷ vs) (suc n) good within passes none = cc (none 0 (omega arith))
+decided j set (r ∷ rs) (Excused ∷ vs) (suc n) good within passes none =
+    let d = decided j set rs vs n good.1 (omega arith) passes (λ k lt. none (suc k) (omega arith)) in
+    record { signature = d.signature; at = d.at; by = d.by }
+decided j set (r ∷ rs) (Failed ∷ vs) (suc n) good within passes none =
+    let d = decided j set rs vs n good.1 (omega arith) passes (λ k lt. none (suc k) (omega arith)) in
+    record { signature = d.signature; at = d.at; by = d.by }
+
+pub slice_get-take : (n : ℕ) (xs : List Rr) (k : ℕ) (x : Rr) → slice_get (take n xs) k ≡ Some x → slice_get xs k ≡ Some x
+slice_get-take zero xs k x h = cc
+slice_get-take (suc n) [] k x h = h
+slice_get-take (suc n) (y ∷ ys) zero x h = h
+slice_get-take (suc n) (y ∷ ys) (suc k) x h = slice_get-take n ys k x h
+
+marked_stands : (j : Judge) (placed : Placed) (chain : List Fact) (o e : Option ℕ)
+    → ((n : ℕ) → o ≡ Some n → IsChainFor j placed.set chain (slice_get placed.set.signatures n))
+    → stands j (record { section = placed.section; set = placed.set; mark = (mark_at o e).mark; sig = (mark_at o e).sig; chain = chain }) ≡ true
+marked_stands j placed chain (Some n) e h =
+    stands_from j (record { section = placed.section; set = placed.set; mark = Secure; sig = Some n; chain = chain }) (h n refl)
+marked_stands j placed chain None (Some n) h = refl
+marked_stands j placed chain None None h = refl
+
+-- a set that is judged by good verdicts of its first signatures stands
+pub judged_by-stands : (j : Judge) (placed : Placed) (n : ℕ) (vs : List Verdict) → AreGood j placed.set (take n placed.set.signatures) vs
+    → stands j (judged_by placed vs) ≡ true
+unfolding judged_by
+judged_by-stands j placed n [] good = refl
+judged_by-stands j placed n (v ∷ vs) good =
+    marked_stands j placed (proved_chain (v ∷ vs)) (position is_proved (v ∷ vs)) (position is_excused (v ∷ vs)) (λ k is.
+    let p = position-Some is_proved (v ∷ vs) k Failed is in
+    let d = decided j placed.set (take n placed.set.signatures) (v ∷ vs) k good p.0 p.1 p.2 in
+    let at : slice_get placed.set.signatures k ≡ Some d.signature = slice_get-take n placed.set.signatures k d.signature d.at in
+    rw at d.by)
