@@ -1,0 +1,3 @@
+pub mod GoodLemmas
+pub mod StandLemmas
+pub mod KeySetLemmas
