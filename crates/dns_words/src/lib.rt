@@ -3,3 +3,8 @@
 #![tactic(auto)]
 
 mod codes;
+mod decimals;
+mod octets;
+
+pub use octets::octets_in;
+pub use decimals::{decimal_in, push_decimal, u8_in, u16_in};
