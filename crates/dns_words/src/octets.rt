@@ -22,3 +22,18 @@ pub fn octets_in(alloc: Global, word: &[u8]) -> Result<Option<Octets>, NoMemory>
         Err(_) => Ok(None),
     }
 }
+
+/// Puts the word of bytes, in lower case, behind a text; the text stays where memory runs out.
+#[tactic(auto, unfolding(crate::specs::OctetWords::octets_word))]
+pub fn push_octets(text: &mut Vec<u8>, bytes: &[u8]) -> Result<(), NoMemory>
+    ensures ok { OnOk result (text.new.items ≡ text.old.items ++ octets_word bytes.now) }
+    ensures err { OnErr result (text.new.items ≡ text.old.items) }
+{
+    if bytes.is_empty() {
+        text.extend_from_slice(b"-")?;
+        return Ok(());
+    }
+    let digits = hex::encode(*text.allocator(), bytes)?;
+    text.extend_from_slice(digits.as_bytes())?;
+    Ok(())
+}
