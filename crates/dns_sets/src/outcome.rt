@@ -2,13 +2,15 @@ ghost use Rattle.std.specs.Prelude.{◌≡◌};
 ghost use Rattle.std.specs.List.{list_any};
 ghost use Rattle.std.specs.Option.{option_copied};
 ghost use Rattle.dns_model.specs.Answers.{told_by};
+ghost use Rattle.dns_model.specs.Views.{sig_in};
 ghost use Rattle.dns_judgement.specs.Judged.{decider as decider_of};
-ghost use Rattle.dns_judgement.specs.Outcome.{outcome_of as told_outcome, foreign_record as foreign_in, answers_query as answers_asked, is_wildcard_signature as is_expanded_signature, needs_denial as wants_denial, is_expanded_by as expands};
+ghost use Rattle.dns_judgement.specs.Outcome.{outcome_of as told_outcome, foreign_record as foreign_in, answers_query as answers_asked, is_wildcard_signature as is_expanded_signature, needs_denial as wants_denial, is_expanded_by, is_expanded_text};
 ghost use Rattle.dns_sets.specs.Outcome.{outcome_text};
 
 use crate::JudgedSet;
 use dns_message::Message;
 use dns_record::{Denial, Proof, Query, Record, RecordType};
+use dns_signing::Rrsig;
 
 /// How a judged step ends.
 #[derive(Clone, Copy, Debug, PartialEq, Eq)]
@@ -76,11 +78,21 @@ fn needs_denial(set: &JudgedSet) -> bool
         return false;
     }
     let kind = set.set.record_type;
-    kind == RecordType::NSEC || kind == RecordType::NSEC3 || is_expanded_by(decider(set))
+    kind == RecordType::NSEC || kind == RecordType::NSEC3 || is_decided_by_wildcard(set)
+}
+
+// Whether the signature that decided has fewer labels than its owner.
+fn is_decided_by_wildcard(set: &JudgedSet) -> bool
+    ensures { result ≡ is_expanded_by (decider_of set.now) }
+{
+    match decider(set) {
+        Some(signature) => is_expanded(signature),
+        None => false,
+    }
 }
 
 // The signature that decided.
-fn decider<'a>(set: &'a JudgedSet) -> Option<&'a Record>
+pub(crate) fn decider<'a>(set: &'a JudgedSet) -> Option<&'a Record>
     ensures { option_copied result ≡ decider_of set.now }
 {
     match set.sig {
@@ -89,18 +101,21 @@ fn decider<'a>(set: &'a JudgedSet) -> Option<&'a Record>
     }
 }
 
-// Whether a signature has fewer labels than its owner.
-fn is_expanded_by(signature: Option<&Record>) -> bool
-    ensures { result ≡ expands (option_copied signature) }
+// Whether a signature can be read and has fewer labels than its owner.
+fn is_expanded(signature: &Record) -> bool
+    ensures { result ≡ is_expanded_text signature.now.owner (sig_in signature.now.rdata) }
 {
-    let _ = signature;
-    false
+    match Rrsig::read(signature.rdata.as_slice()) {
+        Some(sig) => sig.labels < signature.name.borrowed().num_labels(),
+        None => false,
+    }
 }
 
 // Whether a readable signature among the records has fewer labels than its owner.
 fn has_wildcard_signature(records: &[Record]) -> bool
     ensures { result ≡ list_any is_expanded_signature records.now }
 {
-    let _ = records;
-    false
+    records
+        .iter()
+        .any(|record| record.record_type == RecordType::RRSIG && is_expanded(record))
 }
