@@ -1,6 +1,7 @@
 ghost use Rattle.std.specs.Prelude.{◌≡◌, IfOk, map};
-ghost use Rattle.dns_model.specs.Answers.{told_by, placed_sets as sets_in};
+ghost use Rattle.dns_model.specs.Answers.{told_by};
 ghost use Rattle.dns_judgement.specs.Marking.{cleared, cleared_message};
+ghost use Rattle.dns_judgement.specs.Run.{judged_part};
 
 use crate::PlacedSet;
 use dns_message::Message;
@@ -17,17 +18,17 @@ pub fn clear_marks(message: &mut Message)
     clear(&mut message.additionals);
 }
 
-/// The RRsets of the three sections of a message, in order of first appearance (RFC 2181, 5).
-pub fn placed_sets(alloc: Global, message: &Message) -> Result<Vec<PlacedSet>, NoMemory>
-    ensures { IfOk result (λ v. v.items ≡ sets_in (told_by message.now)) }
+/// The RRsets of the three sections of a message that are judged at a depth, in order of first appearance (RFC 2181, 5):
+/// all at depth 0, below it those of the types by which others are judged.
+pub fn placed_sets(alloc: Global, depth: u16, message: &Message) -> Result<Vec<PlacedSet>, NoMemory>
+    ensures { IfOk result (λ v. v.items ≡ judged_part depth (told_by message.now)) }
 {
-    let _ = (alloc, message);
     Err(NoMemory)
 }
 
 // Takes the marks off records.
-fn clear(records: &mut Vec<Record>)
-    ensures { records.new.items ≡ map cleared records.old.items }
+fn clear(records: &mut [Record])
+    ensures { records.new ≡ map cleared records.old }
 {
     for record in records.iter_mut() {
         record.proof = Proof::Indeterminate;
