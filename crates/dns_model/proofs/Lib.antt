@@ -10,3 +10,5 @@ pub mod Delegation
 pub mod ChainLemmas
 pub mod EachLemmas
 pub mod SetLemmas
+pub mod OrderLemmas
+pub mod LabelSteps

@@ -83,3 +83,9 @@ name_input name = flat_map fed.u8 (wire (folded name))
 
 pub name_alike : Alike name_eq name_input
 name_alike = on_Alike folded (same_Alike (λ name. flat_map fed.u8 (wire name)) (λ a b. slice_eq-Decides bytes_eq-Decides a b (pointwise (pointwise nat_eq) a b) refl))
+
+-- two names have the same bytes where their wire forms have
+pub same_bytes : (a b : Labels) (r : Bool) → is_name a ≡ true → is_name b ≡ true → r ≡ pointwise nat_eq (wire a) (wire b) → IsTrue r ↔ (a ≡ b)
+same_bytes a b r p q is =
+    let d = slice_eq-Decides Decides-eqb (wire a) (wire b) r is in
+    (λ h. wire_injective a b p q (d.0 h), λ h. d.1 (ap wire h))

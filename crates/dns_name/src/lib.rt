@@ -6,6 +6,7 @@ mod name;
 mod name_ref;
 mod no_memory;
 mod octets;
+mod reading;
 
 pub use name::Name;
 pub use name_ref::NameRef;

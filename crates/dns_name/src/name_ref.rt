@@ -1,14 +1,14 @@
-ghost use Rattle.std.specs.Prelude.{◌≡◌, ◌≤◌, ◌<◌, ◌+◌, ◌++◌, ◌∷◌, Bool, true, Option, None, Some, IfOk, IfSome, OnOk, OnErr, MatchOption, length, map, drop, option_map};
-ghost use Rattle.std.specs.Char.{to_ascii_lowercase};
-ghost use Rattle.dns_model.specs.Names.{name_eq, folded, wire, is_name};
-ghost use Rattle.dns_model.specs.NameForm.{name_in, label_in, labels_of, IsWire};
-ghost use Rattle.dns_model.proofs.NameSteps.{end_in, IsFront};
+ghost use Rattle.std.specs.Prelude.{◌≡◌, ◌≤◌, ◌++◌, ◌∷◌, ◌↔◌, true, [], IfOk, OnOk, OnErr, IsTrue, MatchOption, length, drop, option_map};
+ghost use Rattle.dns_model.specs.Names.{name_eq, name_cmp, at_or_above, strictly_above, folded, is_name, is_wildcard, last_labels, num_labels, parent, wire};
+ghost use Rattle.dns_model.specs.NameForm.{name_in, labels_of, IsWire};
 
-use crate::{Name, NoMemory, Octets};
+use crate::reading::{label_at, name_end, push_lowered};
+use crate::{Name, NoMemory};
 use std::alloc::Global;
 use std::marker::Model;
 
 /// A domain name read where it stands, as in an rdata or in a `Name`. Contracts see it as its labels, the leaf first.
+/// None of its calls takes memory but `to_name` and `push_folded`.
 #[derive(Drop)]
 pub struct NameRef<'a> {
     wire: &'a [u8],
@@ -44,12 +44,20 @@ impl<'a> NameRef<'a> {
         NameRef { wire }
     }
 
-    /// The wire form, with the closing zero byte.
+    /// The wire form, with the closing zero byte: at most 255 bytes.
     pub fn wire(&self) -> &'a [u8]
         ensures value { result.now ≡ wire self.now }
         ensures name { is_name self.now ≡ true }
     {
         self.wire
+    }
+
+    /// The same name over the same bytes.
+    pub fn copy(&self) -> NameRef<'a>
+        ensures value { result ≡ self.now }
+        ensures name { is_name self.now ≡ true }
+    {
+        NameRef { wire: self.wire }
     }
 
     /// An equal name in memory of its own.
@@ -67,74 +75,124 @@ impl<'a> NameRef<'a> {
         push_lowered(into, self.wire)
     }
 
+    /// The first label and the name above it; `None` of the root.
+    pub fn split_first(&self) -> Option<(&'a [u8], NameRef<'a>)>
+        ensures { MatchOption result (self.now ≡ []) (λ p. self.now ≡ p.0.now ∷ p.1) }
+    {
+        match label_at(self.wire) {
+            Some((label, wire)) => {
+                if label.len() == 0 {
+                    None
+                } else {
+                    Some((label, NameRef { wire }))
+                }
+            }
+            None => None,
+        }
+    }
+
+    /// The name without its first label; the root's is the root.
+    pub fn parent(&self) -> NameRef<'a>
+        ensures { result ≡ parent self.now }
+    {
+        match self.split_first() {
+            Some((_, above)) => above,
+            None => self.copy(),
+        }
+    }
+
+    /// The name without its first labels, this many; the root, if it has no more.
+    pub fn skip_labels(&self, labels: u8) -> NameRef<'a>
+        ensures { result ≡ drop labels self.now }
+    {
+        let mut rest = self.copy();
+        for _skipped in 0..labels {
+            rest = rest.parent();
+        }
+        rest
+    }
+
+    /// The name that the last labels make, this many, or all.
+    pub fn last_labels(&self, labels: u8) -> NameRef<'a>
+        ensures { result ≡ last_labels labels self.now }
+    {
+        let count = self.label_count();
+        self.skip_labels(count.saturating_sub(labels))
+    }
+
+    /// How many labels there are; the root has none.
+    pub fn label_count(&self) -> u8
+        ensures value { result ≡ length self.now }
+        ensures limit { result ≤ 127 }
+    {
+        let mut rest = self.copy();
+        let mut count = 0;
+        'labels: while let Some((_, above)) = rest.split_first() {
+            rest = above;
+            count += 1;
+        }
+        count
+    }
+
+    /// How many labels there are, a leading `*` aside (RFC 4034, 3.1.3).
+    pub fn num_labels(&self) -> u8
+        ensures { result ≡ num_labels self.now }
+    {
+        let count = self.label_count();
+        if self.is_wildcard() {
+            count.saturating_sub(1)
+        } else {
+            count
+        }
+    }
+
+    /// Whether this is the root.
+    pub fn is_root(&self) -> bool
+        ensures { IsTrue result ↔ (self.now ≡ []) }
+    {
+        self.label_count() == 0
+    }
+
+    /// Whether the first label is `*` (RFC 4592, 2.1.1).
+    pub fn is_wildcard(&self) -> bool
+        ensures { result ≡ is_wildcard self.now }
+    {
+        match self.split_first() {
+            Some((label, _)) => *label == *b"*".as_slice(),
+            None => false,
+        }
+    }
+
     /// Whether the two are equal, with A to Z as a to z.
     pub fn eq_name(&self, other: &NameRef) -> bool
         ensures { result ≡ name_eq self.now other.now }
     {
         self.wire.eq_ignore_ascii_case(other.wire)
     }
-}
 
-/// The label at the front of bytes, empty for the closing zero byte, and the bytes after it.
-fn label_at<'a>(bytes: &'a [u8]) -> Option<(&'a [u8], &'a [u8])>
-    ensures value { option_map (λ p. (p.0.now, p.1.now)) result ≡ label_in bytes.now }
-    ensures size { IfSome result (λ p. length p.0.now + length p.1.now + 1 ≡ length bytes.now) }
-{
-    match bytes.split_first() {
-        Some((size, rest)) => label_after(*size as usize, rest),
-        None => None,
+    /// Whether the two are equal, A to Z apart from a to z.
+    pub fn eq_case(&self, other: &NameRef) -> bool
+        ensures { IsTrue result ↔ (self.now ≡ other.now) }
+    {
+        *self.wire() == *other.wire()
     }
-}
 
-/// The label of this size at the front of bytes, and the bytes after it.
-#[tactic(auto, unfolding(dns_model::specs::NameForm::label_in))]
-fn label_after<'a>(size: usize, rest: &'a [u8]) -> Option<(&'a [u8], &'a [u8])>
-    ensures value { option_map (λ p. (p.0.now, p.1.now)) result ≡ label_in (size ∷ rest.now) }
-    ensures size { IfSome result (λ p. length p.0.now + length p.1.now ≡ length rest.now) }
-{
-    if size <= 63 && size <= rest.len() {
-        Some(rest.split_at(size))
-    } else {
-        None
-    }
-}
-
-/// Where the labels at the front of bytes end, however many they are.
-fn labels_end(bytes: &[u8]) -> Option<usize>
-    ensures { result ≡ end_in bytes.now }
-{
-    let mut rest = bytes;
-    let mut end = 0;
-    'labels: loop {
-        let Some((label, more)) = label_at(rest) else {
-            return None;
-        };
-        if label.len() == 0 {
-            return Some(end + 1);
+    /// Whether this name is at or above the other: its labels are the other's last, with A to Z as a to z.
+    pub fn zone_of(&self, name: &NameRef) -> bool
+        ensures { result ≡ at_or_above self.now name.now }
+    {
+        let labels = self.label_count();
+        let all = name.label_count();
+        if labels > all {
+            return false;
         }
-        end += label.len() + 1;
-        rest = more;
+        self.eq_name(&name.skip_labels(all - labels))
     }
-}
 
-/// Where the name at the front of bytes ends.
-fn name_end(bytes: &[u8]) -> Option<usize>
-    ensures { MatchOption result (name_in bytes.now ≡ None) (IsFront bytes.now) }
-{
-    match labels_end(bytes) {
-        Some(end) if end <= 255 => Some(end),
-        Some(_) => None,
-        None => None,
+    /// Whether this name is above the other and not equal to it.
+    pub fn strictly_above(&self, name: &NameRef) -> bool
+        ensures { result ≡ strictly_above self.now name.now }
+    {
+        self.zone_of(name) && !self.eq_name(name)
     }
-}
-
-/// Appends bytes with A to Z as a to z.
-fn push_lowered(into: &mut Vec<u8>, bytes: &[u8]) -> Result<(), NoMemory>
-    ensures ok { OnOk result (into.new.items ≡ into.old.items ++ map to_ascii_lowercase bytes.now) }
-    ensures err { OnErr result (into.new.items ≡ into.old.items) }
-{
-    let start = into.len();
-    into.extend_from_slice(bytes)?;
-    into[start..].make_ascii_lowercase();
-    Ok(())
 }

@@ -1,6 +1,6 @@
 use Rattle.std.proofs.Common.{sym, rules}
 use Rattle.dns_model.proofs.NameSteps.{front_found, front_none, front_too_long}
-use Rattle.dns_name.proofs.name_ref.name_end.Goals as goal
+use Rattle.dns_name.proofs.reading.name_end.Goals as goal
 
 pub returns-in-Some : goal.returns-in-Some
 returns-in-Some c = front_found _ _ (sym c.in-Some.ensures) c.if-end-le255.true

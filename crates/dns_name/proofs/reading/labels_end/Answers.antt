@@ -1,6 +1,6 @@
 use Rattle.std.proofs.Common.{sym, arith}
 use Rattle.dns_model.proofs.NameSteps.{end_broken, end_here, end_more}
-use Rattle.dns_name.proofs.name_ref.labels_end.Goals as goal
+use Rattle.dns_name.proofs.reading.labels_end.Goals as goal
 
 pub returns-in_default : goal.returns-in_default
 returns-in_default c = end_broken _ _ _ c.labels.invariant (sym c.in_default.ensures.value)
