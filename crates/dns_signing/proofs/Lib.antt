@@ -1,2 +1,4 @@
 pub mod TagLemmas
+pub mod Through
 pub mod WindowLemmas
+pub mod PartLemmas

@@ -10,6 +10,7 @@ mod key_tags;
 mod ns;
 mod nsec;
 mod nsec3;
+mod part;
 mod rrsig;
 mod serial;
 mod shape;
