@@ -4,3 +4,4 @@ pub mod NameSteps
 pub mod NameLemmas
 pub mod OrderLemmas
 pub mod LabelSteps
+pub mod TextLemmas

@@ -64,13 +64,17 @@ byte_in byte rest = if byte == backslash then escape_in rest else (if is_printab
 abbrev pub Read : Type 0
 Read = Result (Labels × Bool) NameError
 
-abbrev pub with_front : Label → Read → Read
-with_front label (Ok (name, dotted)) = Ok (label ∷ name, dotted)
-with_front label (Err fault) = Err fault
+-- go on where there is no fault
+abbrev pub and_then : {X Y : Type 0} → Result X NameError → (X → Result Y NameError) → Result Y NameError
+and_then (Ok x) more = more x
+and_then (Err fault) more = Err fault
+
+abbrev pub label_checked : Label → Result Label NameError
+label_checked label = if length label == 0 then Err EmptyLabel else (if nat_lt 63 (length label) then Err LongLabel else Ok label)
 
 -- a label is checked where it ends
 abbrev pub ended : Label → Read → Read
-ended label more = if length label == 0 then Err EmptyLabel else (if nat_lt 63 (length label) then Err LongLabel else with_front label more)
+ended label more = and_then (label_checked label) (λ first. and_then more (λ read. Ok (first ∷ read.0, read.1)))
 
 abbrev pub after_dot : (Label → List ℕ → Read) → List ℕ → Read
 after_dot more [] = Ok ([], true)
@@ -97,35 +101,30 @@ text_read text = if pointwise nat_eq text (dot ∷ []) then Ok ([], true) else l
 abbrev pub within : Labels → Result Labels NameError
 within name = if nat_le (length (wire name)) 255 then Ok name else Err LongName
 
-abbrev pub named : Read → Result Labels NameError
-named (Ok (name, dotted)) = within name
-named (Err fault) = Err fault
-
 -- the name that a text gives
 abbrev pub read_name : List ℕ → Result Labels NameError
-read_name text = named (text_read text)
+read_name text = and_then (text_read text) (λ read. within read.0)
 
-abbrev pub joined : Option Labels → Labels × Bool → Labels
-joined None read = read.0
-joined (Some origin) (name, true) = name
-joined (Some origin) (name, false) = name ++ origin
+-- the labels of an origin follow where there was no last dot
+abbrev pub joined : Option Labels → Labels → Bool → Labels
+joined None name dotted = name
+joined (Some origin) name dotted = if dotted then name else name ++ origin
 
-abbrev pub named_below : Option Labels → Read → Result Labels NameError
-named_below origin (Ok read) = within (joined origin read)
-named_below origin (Err fault) = Err fault
-
--- the same below an origin: its labels follow where the text has no last dot
+-- the name that a text gives below an origin
 abbrev pub read_below : Option Labels → List ℕ → Result Labels NameError
-read_below origin text = named_below origin (text_read text)
+read_below origin text = and_then (text_read text) (λ read. within (joined origin read.0 read.1))
 
 -- ---- from labels
 
--- the first label that is none
-abbrev pub labels_checked : Labels → Result Labels NameError → Result Labels NameError
-labels_checked [] whole = whole
-labels_checked (label ∷ name) whole =
-    if length label == 0 then Err EmptyLabel else (if nat_lt 63 (length label) then Err LongLabel else labels_checked name whole)
+-- each label in order
+abbrev pub labels_checked : Labels → Result Labels NameError
+labels_checked [] = Ok []
+labels_checked (label ∷ name) = and_then (label_checked label) (λ first. and_then (labels_checked name) (λ more. Ok (first ∷ more)))
 
--- the name of these labels, each of them checked in order, and the limit last
+-- the name of these labels
 abbrev pub name_from : Labels → Result Labels NameError
-name_from labels = labels_checked labels (within labels)
+name_from labels = and_then (labels_checked labels) within
+
+-- the name with one more label in front
+abbrev pub name_with : Label → Labels → Result Labels NameError
+name_with label name = and_then (label_checked label) (λ first. within (first ∷ name))
