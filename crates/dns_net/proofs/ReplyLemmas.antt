@@ -1,6 +1,6 @@
 -- The first reply to a question, found by its place.
-use Rattle.std.proofs.Common.{◌≡◌, ◌≤◌, ◌<◌, ℕ, ◌+◌, Bool, true, false, cond, List, [], ◌∷◌, ◌++◌, length, Option, None, Some, refl, sym, ap, ◌∙◌, subst, arith, length-append, append_assoc, zero-add, add-zero, cond}
-use Rattle.std.specs.Prelude.{slice_get, nat_eq, IsSome}
+use Rattle.std.proofs.Common.{◌≡◌, ◌<◌, ℕ, ◌+◌, Bool, true, false, cond, List, [], ◌∷◌, ◌++◌, length, Option, None, Some, refl, sym, ap, ◌∙◌, subst, arith, length-append, append_assoc, zero-add, add-zero, cond}
+use Rattle.std.specs.Prelude.{slice_get, IsSome}
 use Rattle.std.specs.Ordering.{is_eq}
 use Rattle.std.specs.declared.cmp.Ordering.{Ordering}
 use Rattle.std.specs.declared.cmp.Ordering.TheVariants.{Less, Equal, Greater}
@@ -32,8 +32,8 @@ position-push : {X : Type 0} (p : X → Bool) (n : ℕ) (xs : List X) (x : X)
 position-push p n [] x = rw add-zero refl
 position-push p n (y ∷ ys) x =
     elim (p y) as (λ b. cond b (Some n) (position_from p (n + 1) (ys ++ x ∷ [])) ≡ place_or (cond b (Some n) (position_from p (n + 1) ys)) (p x) (n + length (y ∷ ys))) [
-      true ↦ refl
-    | false ↦ let e : (n + 1) + length ys ≡ n + length (y ∷ ys) = omega arith in position-push p (n + 1) ys x ∙ ap (place_or (position_from p (n + 1) ys) (p x)) e
+      | true ↦ refl
+      | false ↦ let e : (n + 1) + length ys ≡ n + length (y ∷ ys) = omega arith in position-push p (n + 1) ys x ∙ ap (place_or (position_from p (n + 1) ys) (p x)) e
     ]
 
 -- two tests that agree have one place
@@ -54,8 +54,8 @@ unfolding reply_to
 reply_to-from pre [] q = refl
 reply_to-from pre (t ∷ told) q =
     elim (question_eq t.0 q) as (λ b. cond b t.1 (reply_to told q) ≡ reply_at (pre ++ t ∷ told) (cond b (Some (length pre)) (position_from (λ t. question_eq t.0 q) (length pre + 1) told))) [
-      true ↦ ap reply_of_place (sym (slice_get-behind pre t told))
-    | false ↦ let ih = reply_to-from (pre ++ t ∷ []) told q in rw (append_assoc, length-append) at ih
+      | true ↦ ap reply_of_place (sym (slice_get-behind pre t told))
+      | false ↦ let ih = reply_to-from (pre ++ t ∷ []) told q in rw (append_assoc, length-append) at ih
     ]
 
 -- the reply to a question stands at the first place with that question
