@@ -1,3 +1,4 @@
 pub mod GoodLemmas
 pub mod StandLemmas
 pub mod KeySetLemmas
+pub mod RunLemmas
