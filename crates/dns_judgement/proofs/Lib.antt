@@ -2,3 +2,4 @@ pub mod GoodLemmas
 pub mod StandLemmas
 pub mod KeySetLemmas
 pub mod RunLemmas
+pub mod MarkedLemmas
