@@ -49,34 +49,32 @@ end_of read = option_map (λ (p : Labels × List ℕ). length (wire p.0)) read
 unfoldable pub end_in : List ℕ → Option ℕ
 end_in bytes = end_of (labels_at bytes)
 
-pub end_in-nil : end_in [] ≡ None
-unfolding end_in labels_in
-end_in-nil = refl
-
-pub end_in-root : (bytes : List ℕ) → end_in (0 ∷ bytes) ≡ Some 1
-unfolding end_in label_in
-end_in-root bytes = rw (labels_at-cons 0 bytes) (grind (arith, nat_tests))
-
-pub end_in-broken : (size : ℕ) (bytes : List ℕ) → (nat_le size 63 && nat_le size (length bytes)) ≡ false → end_in (size ∷ bytes) ≡ None
-unfolding end_in label_in
-end_in-broken size bytes h = rw (labels_at-cons size bytes, h) refl
-
 end_of-with : (label : Label) (read : Option (Labels × List ℕ)) → end_of (with_label label read) ≡ option_map (λ (n : ℕ). length label + 1 + n) (end_of read)
 end_of-with label None = refl
 end_of-with label (Some (name, rest)) = ap Some (omega (arith, length-append label (wire name)))
 
-pub end_in-label : (size : ℕ) (bytes : List ℕ) → 0 < size → size ≤ 63 → size ≤ length bytes
-    → end_in (size ∷ bytes) ≡ option_map (λ (n : ℕ). size + 1 + n) (end_in (drop size bytes))
-unfolding end_in label_in
-end_in-label zero bytes some small inside = absurd (omega arith)
-end_in-label (suc size) [] some small inside = absurd (omega arith)
-end_in-label (suc size) (b ∷ bytes) some small inside =
-    let one : nat_le (suc size) 63 ≡ true = grind (arith, nat_tests) in
-    let two : nat_le (suc size) (length (b ∷ bytes)) ≡ true = grind (arith, nat_tests) in
-    let long : length (b ∷ take size bytes) ≡ suc size = omega (arith, length-take-le size bytes (omega arith)) in
-    rw (labels_at-cons (suc size) (b ∷ bytes), one, two)
-    (end_of-with (b ∷ take size bytes) (labels_at (drop size bytes))
-    ∙ ap (λ (k : ℕ). option_map (λ (n : ℕ). k + 1 + n) (end_of (labels_at (drop size bytes)))) long)
+-- there is no label where there are no bytes
+pub label_in-nil : (bytes : List ℕ) → length bytes ≡ 0 → None ≡ label_in bytes
+unfolding label_in
+label_in-nil [] h = refl
+label_in-nil (b ∷ bytes) h = absurd (omega arith)
+
+-- where the labels end, by what the first of them is
+abbrev pub end_after : Option (Label × List ℕ) → Option ℕ
+end_after None = None
+end_after (Some ([], rest)) = Some 1
+end_after (Some (byte ∷ label, rest)) = option_map (λ (n : ℕ). length (byte ∷ label) + 1 + n) (end_in rest)
+
+end_of-after : (front : Option (Label × List ℕ)) → end_of (after_label front labels_at) ≡ end_after front
+unfolding end_in
+end_of-after None = refl
+end_of-after (Some ([], rest)) = refl
+end_of-after (Some (c ∷ label, rest)) = end_of-with (c ∷ label) (labels_at rest)
+
+pub end_in-step : (bytes : List ℕ) → end_in bytes ≡ end_after (label_in bytes)
+unfolding end_in labels_in label_in
+end_in-step [] = refl
+end_in-step (size ∷ bytes) = ap end_of (labels_at-cons size bytes) ∙ end_of-after (label_in (size ∷ bytes))
 
 -- ---- the name in front, by where it ends
 
@@ -94,7 +92,7 @@ front_at bytes rest name n long whole good =
     record {
       fits = rw whole (omega (arith, length-append (wire name) rest));
       form = rw front (IsWire-wire name good);
-      read = read ∙ rw (front, back, labels_of-wire name good) refl
+      read = read ∙ rw (front, back, labels_of-wire name good) refl;
     }
 
 found : (bytes : List ℕ) (read : Option (Labels × List ℕ)) (n : ℕ) → read ≡ labels_at bytes → end_of read ≡ Some n → n ≤ 255 → IsFront bytes n
@@ -127,3 +125,38 @@ too_long (Some (name, rest)) n h long =
 pub front_too_long : (bytes : List ℕ) (n : ℕ) → end_in bytes ≡ Some n → 255 < n → name_in bytes ≡ None
 unfolding end_in name_in
 front_too_long bytes n h long = too_long (labels_at bytes) n h long
+
+-- how far a loop over labels has come, and what the labels at the rest make of it
+pub record IsEnd (bytes rest : List ℕ) (end : ℕ) : Type 0 where
+  pub so_far : option_map (λ (n : ℕ). end + n) (end_in rest) ≡ end_in bytes
+  pub room : end + length rest ≡ length bytes
+
+none_yet : (read : Option ℕ) → option_map (λ (n : ℕ). 0 + n) read ≡ read
+none_yet None = refl
+none_yet (Some n) = ap Some (omega arith)
+
+pub no_end : (bytes : List ℕ) → IsEnd bytes bytes 0
+no_end bytes = record { so_far = none_yet (end_in bytes); room = omega arith }
+
+pub end_broken : (bytes rest : List ℕ) (end : ℕ) → IsEnd bytes rest end → label_in rest ≡ None → None ≡ end_in bytes
+end_broken bytes rest end e is = rw (end_in-step rest, is) at e.so_far
+
+pub end_here : (bytes rest label more : List ℕ) (end : ℕ) → IsEnd bytes rest end → label_in rest ≡ Some (label, more) → length label ≡ 0
+    → Some (end + 1) ≡ end_in bytes
+end_here bytes rest [] more end e is nil = rw (end_in-step rest, is) at e.so_far
+end_here bytes rest (c ∷ label) more end e is nil = absurd (omega arith)
+
+sum_twice : (a b : ℕ) (read : Option ℕ) → option_map (λ (n : ℕ). a + b + n) read ≡ option_map (λ (n : ℕ). a + n) (option_map (λ (n : ℕ). b + n) read)
+sum_twice a b None = refl
+sum_twice a b (Some n) = ap Some (omega arith)
+
+pub end_more : (bytes rest label more : List ℕ) (end : ℕ) → IsEnd bytes rest end → label_in rest ≡ Some (label, more) → 0 < length label
+    → IsEnd bytes more (end + (length label + 1))
+end_more bytes rest [] more end e is some = absurd (omega arith)
+end_more bytes rest (c ∷ label) more end e is some =
+    let stood = label_in_inverse rest (c ∷ label) more is in
+    let whole : length rest ≡ suc (length ((c ∷ label) ++ more)) = ap length stood.whole in
+    record {
+      so_far = sum_twice end (length (c ∷ label) + 1) (end_in more) ∙ rw (end_in-step rest, is) at e.so_far;
+      room = omega (arith, e.room, whole, length-append (c ∷ label) more);
+    }

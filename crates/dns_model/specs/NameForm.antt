@@ -37,3 +37,13 @@ labels_of bytes = option_map_or (λ n. n.0) (name_in bytes) []
 -- the bytes are the wire form of a name, and nothing else
 abbrev pub IsWire : List ℕ → Type 0
 IsWire bytes = name_in bytes ≡ Some (labels_of bytes, [])
+
+-- what was read, where no bytes are left
+abbrev pub whole_name : Option (Labels × List ℕ) → Option Labels
+whole_name None = None
+whole_name (Some (name, [])) = Some name
+whole_name (Some (name, byte ∷ rest)) = None
+
+-- the name whose wire form the bytes are
+abbrev pub name_of : List ℕ → Option Labels
+name_of bytes = whole_name (name_in bytes)

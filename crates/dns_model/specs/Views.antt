@@ -2,7 +2,7 @@
 use Rattle.std.specs.Prelude.{ℕ, ◌+◌, Bool, ◌==◌, nat_lt, nat_le, ◌/◌, ◌%◌, List, [], ◌∷◌, length, take, drop, if◌then◌else◌, Option, None, Some, slice_index}
 use Rattle.dns_model.specs.Bytes.{u16_at, u32_at}
 use Rattle.dns_model.specs.Names.{Labels}
-use Rattle.dns_model.specs.NameForm.{name_in}
+use Rattle.dns_model.specs.NameForm.{name_in, whole_name}
 use Rattle.dns_model.specs.Shapes.{counted_in, is_bitmap}
 
 pub record SigText : Type 0 where
@@ -119,11 +119,6 @@ soa_from (Some (mname, rest)) = soa_after_mname mname (name_in rest)
 -- SOA (RFC 1035, 3.3.13)
 unfoldable pub soa_in : List ℕ → Option SoaText
 soa_in rdata = soa_from (name_in rdata)
-
-abbrev pub whole_name : Option (Labels × List ℕ) → Option Labels
-whole_name None = None
-whole_name (Some (name, [])) = Some name
-whole_name (Some (name, byte ∷ rest)) = None
 
 -- NS (RFC 1035, 3.3.11)
 unfoldable pub ns_in : List ℕ → Option Labels

@@ -2,10 +2,14 @@
 //! `NameRef` as lists of labels, `Octets`, `Rdata` and `Text` as lists of bytes, and the reading of a wire form.
 #![tactic(auto)]
 
+mod comparing;
 mod name;
+mod name_ref;
 mod no_memory;
 mod octets;
+mod reading;
 
 pub use name::Name;
+pub use name_ref::NameRef;
 pub use no_memory::NoMemory;
 pub use octets::Octets;
