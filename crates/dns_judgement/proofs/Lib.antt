@@ -3,3 +3,4 @@ pub mod StandLemmas
 pub mod KeySetLemmas
 pub mod RunLemmas
 pub mod MarkedLemmas
+pub mod SoundLemmas
