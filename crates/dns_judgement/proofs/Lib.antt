@@ -4,3 +4,4 @@ pub mod KeySetLemmas
 pub mod RunLemmas
 pub mod MarkedLemmas
 pub mod SoundLemmas
+pub mod AloneLemmas

@@ -28,7 +28,7 @@ first_is_head : (records : List Rr) → first_of records ≡ head_of records
 first_is_head [] = refl
 first_is_head (r ∷ rs) = refl
 
-test_agrees : (set : RrSet) (owner : Labels) (kind : ℕ) → name_eq set.owner owner ≡ true → set.kind ≡ kind → (r : Rr)
+pub test_agrees : (set : RrSet) (owner : Labels) (kind : ℕ) → name_eq set.owner owner ≡ true → set.kind ≡ kind → (r : Rr)
     → is_of set r ≡ (name_eq owner r.owner && (kind == r.kind))
 test_agrees set owner kind named kind_is r =
     ap (λ b. b && (set.kind == r.kind)) (name_left set.owner owner r.owner named) ∙ ap (λ k. name_eq owner r.owner && (k == r.kind)) kind_is
@@ -55,7 +55,7 @@ section_of-cleared m Additional = refl
 
 -- ---- the ttl of Secure records
 
-plain_from : (b : Bool) → (b && true) ≡ false → b ≡ false
+pub plain_from : (b : Bool) → (b && true) ≡ false → b ≡ false
 plain_from true h = h
 plain_from false h = refl
 
@@ -65,7 +65,7 @@ decides_from true false h s = cc
 decides_from false e h s = cc
 
 -- a Secure signature is the one that the link names
-signature_is : (r d : Rr) (sig : List ℕ) → names_decider (Some (Signed r.owner 0 0 [] sig 0 [])) (Some d) ≡ true
+pub signature_is : (r d : Rr) (sig : List ℕ) → names_decider (Some (Signed r.owner 0 0 [] sig 0 [])) (Some d) ≡ true
     → (is_signature r && not (is_record r (Some d))) ≡ false → is_signature r ≡ true → r.rdata ≡ sig
 signature_is r d sig named decides is =
     sym (bytes_same d.rdata r.rdata (decides_from (is_signature r) (is_record r (Some d)) decides is)) ∙ sym (bytes_same sig d.rdata named)
@@ -133,7 +133,7 @@ kept j now m ss section known =
 
 -- ---- the marks of sets
 
-own_marks : (j : Judge) (now : ℕ) (told : Told) (ss : List Judged) (s : Judged) → IsKnown j told ss s
+pub own_marks : (j : Judge) (now : ℕ) (told : Told) (ss : List Judged) (s : Judged) → IsKnown j told ss s
     → AllByRecursion (λ r. marked now ss s.section r ≡ record r { mark = s.mark; ttl = adjusted_ttl now s r }) s.set.records
 own_marks j now told ss s known =
     each_more (λ r. is_of s.set r ≡ true) (λ r. marked now ss s.section r ≡ record r { mark = s.mark; ttl = adjusted_ttl now s r })
@@ -152,7 +152,7 @@ set_has_one j now told ss s known =
     (each_more (λ r. f r ≡ record r { mark = s.mark; ttl = adjusted_ttl now s r }) (λ r. (f r).mark ≡ s.mark) (λ r e. ap (λ x. x.mark) e) s.set.records
     (own_marks j now told ss s known))
 
-have_one : (j : Judge) (now : ℕ) (told : Told) (ss : List Judged) (section : Section) → AreJudged j (placed_sets told) ss
+pub have_one : (j : Judge) (now : ℕ) (told : Told) (ss : List Judged) (section : Section) → AreJudged j (placed_sets told) ss
     → AllByRecursion (IsKnown j told ss) ss → HaveOneMark (map (marked now ss section) (section_of told section))
 have_one j now told ss section judged known =
     let f = marked now ss section in
@@ -227,7 +227,7 @@ chains_hold j now told ss (s ∷ ts) known =
     })
     (chains_hold j now told ss ts known.1)
 
-chains : (j : Judge) (now : ℕ) (m : MessageText) (ss : List Judged) → AreJudged j (placed_sets (told_by m)) ss → AllByRecursion (IsKnown j (told_by m) ss) ss
+pub chains : (j : Judge) (now : ℕ) (m : MessageText) (ss : List Judged) → AreJudged j (placed_sets (told_by m)) ss → AllByRecursion (IsKnown j (told_by m) ss) ss
     → AreChainsOf j (chains_of ss) (secure_sets (told_by (marked_message now ss m)))
 chains j now m ss judged known =
     subst (λ ps. AreChainsOf j (chains_of ss) (filter (λ p. is_secure_set p.set) ps))
