@@ -14,8 +14,9 @@ use Rattle.dns_model.specs.Sections.{is_signature}
 use Rattle.dns_model.specs.Chains.{Fact, Anchored, Matched, KeySet, Signed, Judge, last_link, ends_at, link_is_for, same_rdatas, rdatas_of}
 use Rattle.dns_model.specs.Answers.{Told, Placed, placed_sets, section_of, section_eq, is_secure, set_kind, covered_kind, ChainText, chain_is_of, link_is_of, last_of, deciding_link}
 use Rattle.dns_model.specs.Views.{sig_in}
+use Rattle.dns_model.proofs.NameLemmas.{name_equiv}
 use Rattle.dns_model.proofs.EachLemmas.{each_more, each_both, each_filter, each_passes, each_unmap, find_agree_each, find-map, find-filter, IsFound, find_known, Apart, apart_unmap}
-use Rattle.dns_model.proofs.SetLemmas.{name_equiv, name_back, name_trans, name_left, number_refl, number_same, number_back, section_refl, section_same, section_back, is_of, IsProper, BeginsIn, same_key, same_place, placed_apart, proper_placed, begins_placed, KeepsKey}
+use Rattle.dns_model.proofs.SetLemmas.{name_back, name_trans, name_left, number_refl, number_same, number_back, section_refl, section_same, section_back, is_of, IsProper, BeginsIn, same_key, same_place, placed_apart, proper_placed, begins_placed, KeepsKey}
 use Rattle.dns_judgement.specs.Judged.{Judged, placed_of, decider, stands, names_decider}
 use Rattle.dns_judgement.specs.Marking.{cleared, is_about, is_record, adjusted_by, adjusted_ttl, marked_by, marked, chain_text, chains_of}
 use Rattle.dns_judgement.proofs.StandLemmas.{IsChainFor, stands_parts}
