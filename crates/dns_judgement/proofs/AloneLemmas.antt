@@ -1,25 +1,26 @@
 -- An answer that is marked by judged sets is sound by itself, where nothing tells what the upstream said.
-use Rattle.std.proofs.Common.{◌≡◌, ℕ, ◌≤◌, min, Bool, true, false, not, ◌==◌, ◌&&◌, cond, List, [], ◌∷◌, map, Option, None, Some, refl, sym, ap, ◌∙◌, subst, arith}
+use Rattle.std.proofs.Common.{◌≡◌, ℕ, ◌≤◌, min, true, false, not, ◌==◌, ◌&&◌, cond, List, [], ◌∷◌, map, Option, None, Some, refl, sym, ap, ◌∙◌, subst, arith}
 use Rattle.std.specs.Option.{option_map}
-use Rattle.std.specs.List.{find, AllByRecursion}
+use Rattle.std.specs.List.{AllByRecursion}
 use Rattle.dns_model.specs.declared.proof.Proof.{Proof}
 use Rattle.dns_model.specs.declared.section.Section.{Section}
 use Rattle.dns_model.specs.declared.section.Section.TheVariants.{Answer, Authority, Additional}
 use Rattle.dns_model.specs.declared.denial.Denial.{Denial}
 use Rattle.dns_model.specs.Names.{Labels, name_eq}
 use Rattle.dns_model.specs.Views.{sig_in}
-use Rattle.dns_model.specs.Records.{Rr, RrSet, MessageText}
+use Rattle.dns_model.specs.Records.{Rr, Question, MessageText}
 use Rattle.dns_model.specs.Sections.{is_signature}
 use Rattle.dns_model.specs.Chains.{Fact, Anchored, Matched, KeySet, Signed, Judge, last_link, is_listed, rdatas_of}
 use Rattle.dns_model.specs.Answers.{Told, told_by, placed_sets, section_of, is_secure, set_kind, ttl_of, first_ttl, signed_ttl, deciding_link, IsBoundedTtl, AreBounded, SoundAlone}
-use Rattle.dns_model.proofs.EachLemmas.{each_more, each_of, each_map, find_agree, find-map, IsFound, find_known}
-use Rattle.dns_model.proofs.SetLemmas.{is_of, head_of, BeginsIn, KeepsKey}
+use Rattle.dns_model.proofs.EachLemmas.{each_more, each_of, each_map, find_agree, find-map, find_known}
+use Rattle.dns_model.proofs.SetLemmas.{is_of, head_of}
 use Rattle.dns_model.proofs.ChainLemmas.{bytes_same}
 use Rattle.dns_judgement.specs.Judged.{Judged, decider, names_decider}
-use Rattle.dns_judgement.specs.Marking.{is_about, is_record, first_of, adjusted_by, adjusted_ttl, marked, marked_message, chains_of, finished}
-use Rattle.dns_judgement.proofs.StandLemmas.{IsChainFor, stands_parts}
-use Rattle.dns_judgement.proofs.RunLemmas.{AreJudged}
-use Rattle.dns_judgement.proofs.MarkedLemmas.{marked-keeps, IsAbout, about_parts, IsKnown, each_known, IsMadeSecure, made_secure, decided_link}
+use Rattle.dns_judgement.specs.Marking.{is_about, is_record, first_of, adjusted_by, adjusted_ttl, marked, chains_of, finished}
+use Rattle.dns_judgement.specs.Run.{judged_part, Sets, Run}
+use Rattle.dns_judgement.proofs.StandLemmas.{stands_parts}
+use Rattle.dns_judgement.proofs.RunLemmas.{AreJudged, run_stands}
+use Rattle.dns_judgement.proofs.MarkedLemmas.{marked-keeps, about_parts, IsKnown, each_known, made_secure, decided_link}
 use Rattle.dns_judgement.proofs.SoundLemmas.{test_agrees, plain_from, signature_is, own_marks, have_one, chains}
 
 head_ttl : (f : Rr → Rr) (n : ℕ) (records : List Rr) → is_listed (rdatas_of records) ≡ true → AllByRecursion (λ r. (f r).ttl ≡ n) records
@@ -112,3 +113,9 @@ sound_alone_of_review j now m ss denial judged =
       marks_of_additionals = have_one j now told ss Additional judged known;
       chains = chains j now m ss judged known
     }
+
+-- a step at the top that was judged by a walk makes an answer that is sound by itself
+pub sound_alone_of_walk : (j : Judge) (limit now : ℕ) (says : Question → Option Told → Type 0) (q : Question) (before after : ℕ) (m : MessageText) (ss : List Judged) (denial : Denial)
+    → Run j limit says before (Sets q 0 (judged_part 0 (told_by m)) ss) after → SoundAlone j now (finished now ss m denial)
+sound_alone_of_walk j limit now says q before after m ss denial run =
+    sound_alone_of_review j now m ss denial (run_stands j limit says q 0 before after (told_by m) ss run)

@@ -1,11 +1,11 @@
 -- A good signature of a set makes a link that holds.
-use Rattle.std.proofs.Common.{◌≡◌, ℕ, Bool, true, false, not, ◌==◌, ◌&&◌, List, [], ◌∷◌, Option, None, Some, refl, sym, ap, ◌∙◌}
+use Rattle.std.proofs.Common.{◌≡◌, ℕ, Bool, true, false, not, ◌==◌, ◌&&◌, List, Option, None, Some, refl, sym, ap, ◌∙◌}
 use Rattle.std.specs.Prelude.{nat_le, if◌then◌else◌}
 use Rattle.std.proofs.lemmas.Bool.{and_parts, and_from}
 use Rattle.dns_judgement.specs.declared.rrsig_validity.RrsigValidity.{RrsigValidity}
 use Rattle.dns_judgement.specs.declared.rrsig_validity.RrsigValidity.TheVariants.{ValidRrsig, ExpiredRrsig, WrongDnskey, WrongRrsig}
-use Rattle.dns_model.specs.Names.{Labels, name_eq, at_or_above, num_labels, parent}
-use Rattle.dns_model.specs.Types.{type_rrsig, type_ds, type_nsec, type_nsec3, type_dnskey}
+use Rattle.dns_model.specs.Names.{name_eq, at_or_above, num_labels, parent}
+use Rattle.dns_model.specs.Types.{type_rrsig, type_nsec, type_nsec3, type_dnskey}
 use Rattle.dns_model.specs.Views.{SigText, KeyText, sig_in, key_in, is_zone_key, is_revoked}
 use Rattle.dns_model.specs.Signing.{signed_bytes, key_tag_of}
 use Rattle.dns_model.specs.Records.{Rr, RrSet}

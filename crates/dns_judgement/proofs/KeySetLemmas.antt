@@ -1,22 +1,22 @@
 -- A key set that the tables mark Secure stands: signed by an anchored key of it, or wholly anchored.
-use Rattle.std.proofs.Common.{◌≡◌, ℕ, zero, suc, ◌+◌, Bool, true, false, not, ◌==◌, ◌&&◌, List, [], ◌∷◌, ◌++◌, map, length, take, Option, None, Some, refl, sym, ap, ◌∙◌, arith, length-append}
+use Rattle.std.proofs.Common.{◌≡◌, ℕ, suc, ◌+◌, Bool, true, false, ◌==◌, ◌&&◌, List, [], ◌∷◌, ◌++◌, map, length, take, Option, None, Some, refl, sym, ap, ◌∙◌, arith, length-append}
 use Rattle.std.specs.Prelude.{if◌then◌else◌}
-use Rattle.std.specs.List.{find, list_all, slice_get, AllByRecursion}
+use Rattle.std.specs.List.{list_all, slice_get}
 use Rattle.std.proofs.lemmas.Bool.{and_parts, and_from}
 use Rattle.std.proofs.lemmas.List.{append_assoc}
 use Rattle.dns_model.specs.declared.proof.Proof.TheVariants.{Secure, Bogus}
 use Rattle.dns_model.specs.Names.{Labels, name_eq, at_or_above}
-use Rattle.dns_model.specs.Types.{type_ds, type_dnskey}
+use Rattle.dns_model.specs.Types.{type_dnskey}
 use Rattle.dns_model.specs.Views.{SigText, sig_in, key_in}
 use Rattle.dns_model.specs.Records.{Rr, RrSet}
-use Rattle.dns_model.specs.Chains.{Fact, Anchored, KeySet, Signed, Judge, all_shown, is_listed, has_bytes, rdatas_of, signer_fits, key_comes, shows_key, link_holds, links_hold, is_chain, justified, last_link, link_is_for}
+use Rattle.dns_model.specs.Chains.{Fact, Anchored, KeySet, Signed, Judge, all_shown, is_listed, has_bytes, rdatas_of, signer_fits, key_comes, shows_key, link_holds, links_hold, is_chain, justified, link_is_for}
 use Rattle.dns_model.specs.Answers.{Placed}
-use Rattle.dns_model.proofs.EachLemmas.{each_both, IsFound, find_known}
+use Rattle.dns_model.proofs.EachLemmas.{each_both, find_known}
 use Rattle.dns_model.proofs.SetLemmas.{name_back, name_trans, number_same, is_of, IsProper}
 use Rattle.dns_model.proofs.ChainLemmas.{links_hold-append, is_chain-append, last_link-append, justified_extends, bytes_refl, each_member, signed_is_for, keys_are_for, anchor_shown, slice_get_at}
 use Rattle.dns_judgement.specs.Validity.{sig_validity, validity, is_valid, is_accepted, is_good_by}
-use Rattle.dns_judgement.specs.Judged.{Judged, names_decider, stands}
-use Rattle.dns_judgement.specs.Marks.{most_signatures, is_anchored_key, anchored_signer, SignedKeys, signed_keys_or, first_signed, numbers_from, anchored_chain, self_signed_chain, keys_unsigned, keys_by, judged_keys}
+use Rattle.dns_judgement.specs.Judged.{names_decider, stands}
+use Rattle.dns_judgement.specs.Marks.{most_signatures, is_anchored_key, anchored_signer, SignedKeys, signed_keys_or, first_signed, numbers_from, anchored_chain, self_signed_chain, keys_by, judged_keys}
 use Rattle.dns_judgement.proofs.GoodLemmas.{good_parts, signer_is_owner, of_set_parts, keys_kept_whole, Fits, signed_holds}
 use Rattle.dns_judgement.proofs.StandLemmas.{IsChainFor, stands_from, slice_get-take}
 

@@ -1,26 +1,25 @@
 -- Marking gives each record of a set, and the signature that decided, the set's own mark, and keeps the rest.
-use Rattle.std.proofs.Common.{◌≡◌, ℕ, Bool, true, false, not, ◌==◌, ◌&&◌, cond, List, [], ◌∷◌, map, Option, None, Some, refl, sym, ap, ◌∙◌, subst, arith}
+use Rattle.std.proofs.Common.{◌≡◌, ℕ, Bool, true, false, not, ◌==◌, ◌&&◌, cond, List, [], ◌∷◌, Option, None, Some, refl, sym, ap, ◌∙◌, subst}
 use Rattle.std.specs.Prelude.{if◌then◌else◌}
 use Rattle.std.specs.Option.{option_map}
 use Rattle.std.specs.List.{filter, find, AllByRecursion}
-use Rattle.std.proofs.lemmas.Bool.{and_parts, and_from, and_left, false_from_ne_true}
+use Rattle.std.proofs.lemmas.Bool.{and_parts, and_from, false_from_ne_true}
 use Rattle.dns_model.specs.declared.proof.Proof.{Proof}
-use Rattle.dns_model.specs.declared.proof.Proof.TheVariants.{Secure, Insecure, Bogus, Indeterminate}
 use Rattle.dns_model.specs.declared.section.Section.{Section}
 use Rattle.dns_model.specs.Names.{Labels, name_eq}
 use Rattle.dns_model.specs.Types.{type_rrsig, type_dnskey}
 use Rattle.dns_model.specs.Records.{Rr, RrSet}
 use Rattle.dns_model.specs.Sections.{is_signature}
-use Rattle.dns_model.specs.Chains.{Fact, Anchored, Matched, KeySet, Signed, Judge, last_link, ends_at, link_is_for, same_rdatas, rdatas_of}
-use Rattle.dns_model.specs.Answers.{Told, Placed, placed_sets, section_of, section_eq, is_secure, set_kind, covered_kind, ChainText, chain_is_of, link_is_of, last_of, deciding_link}
+use Rattle.dns_model.specs.Chains.{Fact, Anchored, Matched, KeySet, Signed, Judge, last_link, link_is_for, same_rdatas, rdatas_of}
+use Rattle.dns_model.specs.Answers.{Told, placed_sets, section_of, section_eq, is_secure, set_kind, covered_kind, chain_is_of, link_is_of, last_of, deciding_link}
 use Rattle.dns_model.specs.Views.{sig_in}
 use Rattle.dns_model.proofs.NameLemmas.{name_equiv}
-use Rattle.dns_model.proofs.EachLemmas.{each_more, each_both, each_filter, each_passes, each_unmap, find_agree_each, find-map, find-filter, IsFound, find_known, Apart, apart_unmap}
+use Rattle.dns_model.proofs.EachLemmas.{each_more, each_both, each_filter, each_passes, each_unmap, find_agree_each, find-map, find-filter, Apart, apart_unmap}
 use Rattle.dns_model.proofs.SetLemmas.{name_back, name_trans, name_left, number_refl, number_same, number_back, section_refl, section_same, section_back, is_of, IsProper, BeginsIn, same_key, same_place, placed_apart, proper_placed, begins_placed, KeepsKey}
-use Rattle.dns_judgement.specs.Judged.{Judged, placed_of, decider, stands, names_decider}
+use Rattle.dns_judgement.specs.Judged.{Judged, placed_of, decider, stands}
 use Rattle.dns_judgement.specs.Marking.{cleared, is_about, is_record, adjusted_by, adjusted_ttl, marked_by, marked, chain_text, chains_of}
-use Rattle.dns_judgement.proofs.StandLemmas.{IsChainFor, stands_parts}
-use Rattle.dns_judgement.proofs.RunLemmas.{AllStand, AreJudged}
+use Rattle.dns_judgement.proofs.StandLemmas.{stands_parts}
+use Rattle.dns_judgement.proofs.RunLemmas.{AreJudged}
 
 -- ---- what marking keeps
 

@@ -1,5 +1,5 @@
 -- What a walk came to stands, whatever the upstream said, and its sends only rise.
-use Rattle.std.proofs.Common.{◌≡◌, ℕ, ◌+◌, ◌≤◌, ◌<◌, Bool, true, false, ◌==◌, List, [], ◌∷◌, map, take, Option, None, Some, refl, sym, ap, ◌∙◌, arith}
+use Rattle.std.proofs.Common.{◌≡◌, ℕ, ◌≤◌, Bool, true, false, ◌==◌, List, [], ◌∷◌, map, take, Option, None, Some, refl, sym, ap, ◌∙◌, arith}
 use Rattle.std.specs.Prelude.{if◌then◌else◌}
 use Rattle.std.specs.List.{filter, list_all, AllByRecursion}
 use Rattle.dns_model.specs.declared.proof.Proof.TheVariants.{Secure, Bogus}
@@ -10,7 +10,7 @@ use Rattle.dns_model.specs.Answers.{Told, Placed, placed_sets}
 use Rattle.dns_model.proofs.EachLemmas.{each_filter}
 use Rattle.dns_model.proofs.SetLemmas.{IsProper, proper_placed}
 use Rattle.dns_judgement.specs.Judged.{Judged, placed_of, stands}
-use Rattle.dns_judgement.specs.Marks.{Verdict, Proved, Excused, Failed, is_proved, is_skipped, verdict_of, judged_by, most_signatures, is_anchored_key, SignedKeys, first_signed, anchored_chain, keys_by, judged_keys}
+use Rattle.dns_judgement.specs.Marks.{Verdict, Proved, Excused, Failed, is_skipped, verdict_of, judged_by, most_signatures, is_anchored_key, SignedKeys, first_signed, anchored_chain, keys_by, judged_keys}
 use Rattle.dns_judgement.specs.Outcome.{Outcome, Unjudged, Accepted, Denied, outcome_of}
 use Rattle.dns_judgement.specs.Run.{is_judged_below, judged_part, accepted_sets, Aim, Sets, Signatures, Ask, Run, NoSet, Keys, Others, NoSignature, Skips, Asks, Proves, Refused, Fault, Foreign, Answers}
 use Rattle.dns_judgement.proofs.StandLemmas.{IsGoodVerdict, AreGood, proof_is_chain, judged_by-stands}

@@ -1,5 +1,5 @@
 -- An answer that is marked by judged sets is sound where the sets stand.
-use Rattle.std.proofs.Common.{◌≡◌, ℕ, ◌≤◌, min, Bool, true, false, not, ◌==◌, ◌&&◌, cond, List, [], ◌∷◌, ◌++◌, map, Option, None, Some, refl, sym, ap, ◌∙◌, subst, arith}
+use Rattle.std.proofs.Common.{◌≡◌, ℕ, min, Bool, true, false, not, ◌==◌, ◌&&◌, cond, List, [], ◌∷◌, ◌++◌, map, Option, None, Some, refl, sym, ap, ◌∙◌, subst}
 use Rattle.std.specs.Option.{option_map}
 use Rattle.std.specs.List.{filter, find, AllByRecursion}
 use Rattle.std.proofs.lemmas.List.{map-append}
@@ -9,18 +9,19 @@ use Rattle.dns_model.specs.declared.section.Section.TheVariants.{Answer, Authori
 use Rattle.dns_model.specs.declared.denial.Denial.{Denial}
 use Rattle.dns_model.specs.Names.{Labels, name_eq}
 use Rattle.dns_model.specs.Views.{sig_in}
-use Rattle.dns_model.specs.Records.{Rr, RrSet, MessageText}
+use Rattle.dns_model.specs.Records.{Rr, RrSet, Question, MessageText}
 use Rattle.dns_model.specs.Sections.{is_signature, sets_of}
-use Rattle.dns_model.specs.Chains.{Fact, Anchored, Matched, KeySet, Signed, Judge, justified, last_link, is_listed, rdatas_of, same_rdatas, link_is_for, ends_at}
-use Rattle.dns_model.specs.Answers.{Told, told_by, Placed, place, placed_sets, section_of, section_eq, is_secure, set_kind, first_mark, is_secure_set, HasOneMark, HaveOneMark, secure_sets, ChainText, IsChainOf, AreChainsOf, deciding_link, ttl_of, first_ttl, signed_ttl, IsSecureTtl, IsKept, AreKept, Sound, IsBoundedTtl, AreBounded, SoundAlone}
-use Rattle.dns_model.proofs.EachLemmas.{each_more, each_of, each_both, each_map, find_agree, find-map, IsFound, find_known, map-map}
-use Rattle.dns_model.proofs.SetLemmas.{name_left, is_of, IsProper, head_of, BeginsIn, KeepsKey, on_set, sets_of-map, rdatas_of-map, placed_each}
+use Rattle.dns_model.specs.Chains.{Fact, Anchored, Matched, KeySet, Signed, Judge, last_link, is_listed, rdatas_of, link_is_for}
+use Rattle.dns_model.specs.Answers.{Told, told_by, Placed, place, placed_sets, section_of, is_secure, set_kind, first_mark, is_secure_set, HasOneMark, HaveOneMark, secure_sets, IsChainOf, AreChainsOf, deciding_link, ttl_of, first_ttl, signed_ttl, IsSecureTtl, IsKept, AreKept, Sound}
+use Rattle.dns_model.proofs.EachLemmas.{each_more, each_map, find_agree, find-map, find_known, map-map}
+use Rattle.dns_model.proofs.SetLemmas.{name_left, is_of, head_of, BeginsIn, KeepsKey, on_set, sets_of-map, rdatas_of-map, placed_each}
 use Rattle.dns_model.proofs.ChainLemmas.{bytes_same}
-use Rattle.dns_judgement.specs.Judged.{Judged, placed_of, decider, names_decider, stands}
+use Rattle.dns_judgement.specs.Judged.{Judged, placed_of, decider, names_decider}
 use Rattle.dns_judgement.specs.Marking.{cleared, cleared_message, is_about, is_record, first_of, adjusted_by, adjusted_ttl, marked, marked_message, chain_text, chains_of, finished}
-use Rattle.dns_judgement.proofs.StandLemmas.{IsChainFor, stands_parts}
-use Rattle.dns_judgement.proofs.RunLemmas.{AreJudged}
-use Rattle.dns_judgement.proofs.MarkedLemmas.{marked-keeps, IsAbout, about_parts, IsKnown, each_known, IsOwn, own_from, own_marked, IsMadeSecure, made_secure, plain_ttl, decided_link}
+use Rattle.dns_judgement.specs.Run.{judged_part, Sets, Run}
+use Rattle.dns_judgement.proofs.StandLemmas.{stands_parts}
+use Rattle.dns_judgement.proofs.RunLemmas.{AreJudged, run_stands}
+use Rattle.dns_judgement.proofs.MarkedLemmas.{marked-keeps, about_parts, IsKnown, each_known, own_from, own_marked, made_secure, plain_ttl, decided_link}
 
 -- ---- the first record of a set
 
@@ -251,3 +252,10 @@ sound_of_review j now m ss denial judged =
       marks_of_additionals = have_one j now told ss Additional judged known;
       chains = chains j now (cleared_message m) ss judged known
     }
+
+-- a step at the top that was judged by a walk makes a sound answer
+pub sound_of_walk : (j : Judge) (limit now : ℕ) (says : Question → Option Told → Type 0) (q : Question) (before after : ℕ) (m : MessageText) (ss : List Judged) (denial : Denial)
+    → Run j limit says before (Sets q 0 (judged_part 0 (told_by (cleared_message m))) ss) after
+    → Sound j now (told_by m) (finished now ss (cleared_message m) denial)
+sound_of_walk j limit now says q before after m ss denial run =
+    sound_of_review j now m ss denial (run_stands j limit says q 0 before after (told_by (cleared_message m)) ss run)

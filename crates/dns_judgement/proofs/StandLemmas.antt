@@ -1,27 +1,25 @@
 -- A set that the tables mark Secure stands: its chain is justified, ends at it, and names the signature that decided.
-use Rattle.std.proofs.Common.{◌≡◌, ℕ, zero, suc, ◌+◌, ◌-◌, ◌<◌, Bool, true, false, not, ◌==◌, ◌&&◌, ◌||◌, List, [], ◌∷◌, ◌++◌, map, length, take, get_or, Option, None, Some, refl, sym, ap, ◌∙◌, arith, length-append}
+use Rattle.std.proofs.Common.{◌≡◌, ℕ, zero, suc, ◌-◌, ◌<◌, Bool, true, false, not, ◌==◌, ◌&&◌, List, [], ◌∷◌, ◌++◌, length, take, get_or, Option, None, Some, refl, sym, ap, ◌∙◌, arith}
 use Rattle.std.specs.Prelude.{nat_lt, if◌then◌else◌}
-use Rattle.std.specs.List.{filter, find, list_all, position, count_by, slice_get, AllByRecursion}
-use Rattle.std.proofs.lemmas.Bool.{and_parts, and_from, or_parts, not-false}
-use Rattle.std.proofs.lemmas.List.{append_assoc, get_or_default}
+use Rattle.std.specs.List.{filter, find, position, count_by, slice_get, AllByRecursion}
+use Rattle.std.proofs.lemmas.Bool.{and_parts, or_parts, not-false}
 use Rattle.std.proofs.lemmas.List.Quantifiers.{position-Some}
 use Rattle.dns_model.specs.declared.proof.Proof.{Proof}
 use Rattle.dns_model.specs.declared.proof.Proof.TheVariants.{Secure, Insecure, Bogus, Indeterminate}
 use Rattle.dns_model.specs.declared.section.Section.TheVariants.{Answer}
-use Rattle.dns_model.specs.Names.{Labels, name_eq, at_or_above}
-use Rattle.dns_model.specs.Types.{type_ds, type_dnskey}
+use Rattle.dns_model.specs.Names.{Labels, name_eq}
+use Rattle.dns_model.specs.Types.{type_dnskey}
 use Rattle.dns_model.specs.Views.{SigText, sig_in}
 use Rattle.dns_model.specs.Records.{Rr, RrSet, Question, question_eq}
-use Rattle.dns_model.specs.Chains.{Fact, Anchored, KeySet, Signed, Judge, all_shown, is_listed, has_bytes, rdatas_of, signer_fits, key_comes, shows_key, shows_member, link_holds, links_hold, is_chain, justified, last_link, ends_at, link_is_for}
+use Rattle.dns_model.specs.Chains.{Fact, Signed, Judge, has_bytes, rdatas_of, signer_fits, key_comes, shows_key, shows_member, justified, last_link, ends_at, link_is_for}
 use Rattle.dns_model.specs.Answers.{Placed, is_secure, section_eq}
-use Rattle.dns_model.proofs.EachLemmas.{each_more, each_both, each_filter, IsFound, find_known}
-use Rattle.dns_model.proofs.SetLemmas.{name_refl, name_back, name_trans, number_refl, number_same, is_of, IsProper}
-use Rattle.dns_model.proofs.ChainLemmas.{links_hold-join, last_link-append, slice_get-last, justified_extends, bytes_refl, each_member, member_shown, signed_is_for, keys_are_for, anchor_shown, slice_get_at}
+use Rattle.dns_model.proofs.EachLemmas.{each_filter, find_known}
+use Rattle.dns_model.proofs.SetLemmas.{IsProper}
+use Rattle.dns_model.proofs.ChainLemmas.{last_link-append, slice_get-last, justified_extends, bytes_refl, each_member, member_shown, signed_is_for}
 use Rattle.dns_judgement.specs.Validity.{is_good_by}
-use Rattle.dns_judgement.specs.Judged.{Judged, signature_at, decider, names_decider, stands}
-use Rattle.dns_judgement.specs.Marks as marks
-use Rattle.dns_judgement.specs.Marks.{is_skipped, is_skipped_text, key_question, first_two, counted_keys, is_readable_key, same_tag, is_key_set_of, Verdict, Proved, Excused, Failed, is_proved, is_excused, signed_chain, by_secure_key, by_insecure_key, by_keys, by_key_set, is_kept_whole, verdict_by, verdict_of, mark_at, proved_chain, judged_by, most_signatures, is_anchored_key, anchored_signer, SignedKeys, signed_keys_or, first_signed, numbers_from, anchored_chain, self_signed_chain, keys_unsigned, keys_by, judged_keys}
-use Rattle.dns_judgement.proofs.GoodLemmas.{IsGoodText, good_parts, signer_is_owner, of_set_parts, keys_kept_whole, Fits, signed_holds}
+use Rattle.dns_judgement.specs.Judged.{Judged, decider, names_decider, stands}
+use Rattle.dns_judgement.specs.Marks.{is_skipped, is_skipped_text, key_question, first_two, counted_keys, is_readable_key, same_tag, is_key_set_of, Verdict, Proved, Excused, Failed, is_proved, is_excused, signed_chain, by_secure_key, by_insecure_key, by_keys, by_key_set, is_kept_whole, verdict_by, verdict_of, mark_at, proved_chain, judged_by}
+use Rattle.dns_judgement.proofs.GoodLemmas.{Fits, signed_holds}
 
 -- ---- a chain for a set
 
