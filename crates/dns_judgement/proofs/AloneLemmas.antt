@@ -45,11 +45,11 @@ alone_first j now told ss s d owner kind known secure is named kind_is =
     let section = section_of told s.section in
     let test = λ (r : Rr). name_eq owner r.owner && (kind == r.kind) in
     let agree : (r : Rr) → test (f r) ≡ is_of s.set r =
-      λ r. ap (λ o. name_eq owner o && (kind == (f r).kind)) (keeps.owner r) ∙ ap (λ k. name_eq owner r.owner && (kind == k)) (keeps.kind r)
-      ∙ sym (test_agrees s.set owner kind named kind_is r) in
+    λ r. ap (λ o. name_eq owner o && (kind == (f r).kind)) (keeps.owner r) ∙ ap (λ k. name_eq owner r.owner && (kind == k)) (keeps.kind r)
+    ∙ sym (test_agrees s.set owner kind named kind_is r) in
     let ttls : AllByRecursion (λ r. (f r).ttl ≡ set_ttl now s d) s.set.records =
-      each_more (λ r. f r ≡ record r { mark = s.mark; ttl = adjusted_ttl now s r }) (λ r. (f r).ttl ≡ set_ttl now s d)
-      (λ r e. ap (λ x. x.ttl) e ∙ own_ttl now s d secure is r) s.set.records (own_marks j now told ss s known) in
+    each_more (λ r. f r ≡ record r { mark = s.mark; ttl = adjusted_ttl now s r }) (λ r. (f r).ttl ≡ set_ttl now s d)
+    (λ r e. ap (λ x. x.ttl) e ∙ own_ttl now s d secure is r) s.set.records (own_marks j now told ss s known) in
     ap ttl_of (find-map test f section ∙ ap (option_map f) (find_agree (λ r. test (f r)) (is_of s.set) agree section ∙ sym known.begins.head))
     ∙ head_ttl f (set_ttl now s d) s.set.records known.proper.listed ttls
 
@@ -65,15 +65,17 @@ bounded_by_link now section r mark s (Some (Matched owner class key ds_link ds))
 bounded_by_link now section r mark s (Some (KeySet owner class keys links)) None named decides first = plain_from (is_signature r) decides
 bounded_by_link now section r mark s (Some (KeySet owner class keys links)) (Some d) named decides first = cc
 bounded_by_link now section r mark s (Some (Signed owner class kind rdatas sig key_link key)) None named decides first = cc
-bounded_by_link now section r mark s (Some (Signed owner class kind rdatas sig key_link key)) (Some d) named decides first =
-    (signature_is r d sig named decides, sym (first d refl),
-    least_right (ttl_of (first_of s.set.records)) (signed_ttl (sig_in d.rdata) now) (signed_ttl (sig_in sig) now)
-    (ap (λ bytes. signed_ttl (sig_in bytes) now) (sym (bytes_same sig d.rdata named))))
+bounded_by_link now section r mark s (Some (Signed owner class kind rdatas sig key_link key)) (Some d) named decides first = (
+  signature_is r d sig named decides,
+  sym (first d refl),
+  least_right (ttl_of (first_of s.set.records)) (signed_ttl (sig_in d.rdata) now) (signed_ttl (sig_in sig) now)
+      (ap (λ bytes. signed_ttl (sig_in bytes) now) (sym (bytes_same sig d.rdata named))),
+)
 
 bounded_one : (j : Judge) (now : ℕ) (told : Told) (ss : List Judged) (section : Section) → AllByRecursion (IsKnown j told ss) ss → (r : Rr)
     → is_secure ((marked now ss section r).mark) ≡ true
     → IsBoundedTtl now (map (marked now ss section) (section_of told section)) (marked now ss section r)
-      (deciding_link (chains_of ss) section (marked now ss section r))
+    (deciding_link (chains_of ss) section (marked now ss section r))
 bounded_one j now told ss section known r h =
     let made = made_secure now ss section r h in
     let s = made.set in
@@ -82,8 +84,8 @@ bounded_one j now told ss section known r h =
     let chain = stands_parts j s found.known.stand made.secure in
     let records = map (marked now ss section) (section_of told section) in
     let first : (x : Rr) → decider s ≡ Some x → first_ttl records r.owner (set_kind r) ≡ set_ttl now s x =
-      λ x is. ap (λ at. first_ttl (map (marked now ss at) (section_of told at)) r.owner (set_kind r)) (sym about.section_is)
-      ∙ alone_first j now told ss s x r.owner (set_kind r) found.known made.secure is about.owner about.kind in
+    λ x is. ap (λ at. first_ttl (map (marked now ss at) (section_of told at)) r.owner (set_kind r)) (sym about.section_is)
+    ∙ alone_first j now told ss s x r.owner (set_kind r) found.known made.secure is about.owner about.kind in
     let by_link = bounded_by_link now records r s.mark s (last_link s.chain) (decider s) chain.named made.decides first in
     let decided = decided_link j told ss section r s known made.found made.secure in
     let made_record : Rr = record r { mark = s.mark; ttl = adjusted_by now s r (decider s) } in
@@ -111,7 +113,7 @@ sound_alone_of_review j now m ss denial judged =
       marks_of_answers = have_one j now told ss Answer judged known;
       marks_of_authorities = have_one j now told ss Authority judged known;
       marks_of_additionals = have_one j now told ss Additional judged known;
-      chains = chains j now m ss judged known
+      chains = chains j now m ss judged known;
     }
 
 -- a step at the top that was judged by a walk makes an answer that is sound by itself

@@ -66,7 +66,7 @@ judged_more : (j : Judge) (p : Placed) (ps : List Placed) (s made : Judged) (ss 
     → AreJudged j ps ss → AreJudged j (p ∷ ps) (s ∷ ss)
 judged_more j p ps s made ss is placed stand rest = record {
   grouped = ap (λ x. placed_of x ∷ map placed_of ss) is ∙ ap (λ x. x ∷ map placed_of ss) placed ∙ ap (λ xs. p ∷ xs) rest.grouped;
-  stand = (ap (stands j) is ∙ stand, rest.stand)
+  stand = (ap (stands j) is ∙ stand, rest.stand);
 }
 
 good_verdict : (j : Judge) (set : RrSet) (q : Question) (r : Rr) (answer : Option (List Judged)) (v : Verdict)

@@ -80,10 +80,11 @@ secure_by_link now section t r mark s (Some (Matched owner class key ds_link ds)
 secure_by_link now section t r mark s (Some (KeySet owner class keys links)) None named decides kept first = (plain_from (is_signature r) decides, kept)
 secure_by_link now section t r mark s (Some (KeySet owner class keys links)) (Some d) named decides kept first = cc
 secure_by_link now section t r mark s (Some (Signed owner class kind rdatas sig key_link key)) None named decides kept first = cc
-secure_by_link now section t r mark s (Some (Signed owner class kind rdatas sig key_link key)) (Some d) named decides kept first =
-    (signature_is r d sig named decides,
-    ap (λ n. min n (signed_ttl (sig_in d.rdata) now)) first
-    ∙ ap (λ bytes. min (first_ttl section r.owner (set_kind r)) (signed_ttl (sig_in bytes) now)) (sym (bytes_same sig d.rdata named)))
+secure_by_link now section t r mark s (Some (Signed owner class kind rdatas sig key_link key)) (Some d) named decides kept first = (
+  signature_is r d sig named decides,
+  ap (λ n. min n (signed_ttl (sig_in d.rdata) now)) first
+      ∙ ap (λ bytes. min (first_ttl section r.owner (set_kind r)) (signed_ttl (sig_in bytes) now)) (sym (bytes_same sig d.rdata named)),
+)
 
 -- ---- the records that were told
 
@@ -102,20 +103,20 @@ kept_one j now m ss section known t =
       rdata = keeps.rdata r;
       plain = plain_ttl now ss section r;
       secure = λ h.
-      let made = made_secure now ss section r h in
-      let s = made.set in
-      let found = find_known (is_about section r) (IsKnown j told ss) ss s known made.found in
-      let about = about_parts section r s found.passes in
-      let chain = stands_parts j s found.known.stand made.secure in
-      let begins : BeginsIn (map cleared section_told) s.set =
-        subst (λ xs. BeginsIn xs s.set) (ap (section_of told) about.section_is ∙ section_of-cleared m section) found.known.begins in
-      let first : ttl_of (first_of s.set.records) ≡ first_ttl section_told r.owner (set_kind r) =
-        first_is s.set (map cleared section_told) r.owner (set_kind r) begins about.owner about.kind ∙ first_ttl-cleared section_told r.owner (set_kind r) in
-      let by_link = secure_by_link now section_told t r s.mark s (last_link s.chain) (decider s) chain.named made.decides refl first in
-      let decided = decided_link j told ss section r s known made.found made.secure in
-      let made_record : Rr = record r { mark = s.mark; ttl = adjusted_by now s r (decider s) } in
-      subst (λ x. IsSecureTtl now section_told t x (deciding_link (chains_of ss) section x)) (sym made.form)
-      (subst (λ l. IsSecureTtl now section_told t made_record l) (sym decided) by_link)
+          let made = made_secure now ss section r h in
+          let s = made.set in
+          let found = find_known (is_about section r) (IsKnown j told ss) ss s known made.found in
+          let about = about_parts section r s found.passes in
+          let chain = stands_parts j s found.known.stand made.secure in
+          let begins : BeginsIn (map cleared section_told) s.set =
+          subst (λ xs. BeginsIn xs s.set) (ap (section_of told) about.section_is ∙ section_of-cleared m section) found.known.begins in
+          let first : ttl_of (first_of s.set.records) ≡ first_ttl section_told r.owner (set_kind r) =
+          first_is s.set (map cleared section_told) r.owner (set_kind r) begins about.owner about.kind ∙ first_ttl-cleared section_told r.owner (set_kind r) in
+          let by_link = secure_by_link now section_told t r s.mark s (last_link s.chain) (decider s) chain.named made.decides refl first in
+          let decided = decided_link j told ss section r s known made.found made.secure in
+          let made_record : Rr = record r { mark = s.mark; ttl = adjusted_by now s r (decider s) } in
+          subst (λ x. IsSecureTtl now section_told t x (deciding_link (chains_of ss) section x)) (sym made.form)
+          (subst (λ l. IsSecureTtl now section_told t made_record l) (sym decided) by_link);
     }
 
 kept_all : (Kept : Rr → Rr → Type 0) (f : Rr → Rr) (ts : List Rr) → ((t : Rr) → Kept t (f t)) → AreKept Kept ts (map f ts)
@@ -125,7 +126,7 @@ kept_all Kept f (t ∷ ts) h = (h t, kept_all Kept f ts h)
 kept : (j : Judge) (now : ℕ) (m : MessageText) (ss : List Judged) (section : Section)
     → AllByRecursion (IsKnown j (told_by (cleared_message m)) ss) ss
     → AreKept (IsKept now (chains_of ss) section (section_of (told_by m) section)) (section_of (told_by m) section)
-      (map (marked now ss section) (map cleared (section_of (told_by m) section)))
+    (map (marked now ss section) (map cleared (section_of (told_by m) section)))
 kept j now m ss section known =
     let Kept = IsKept now (chains_of ss) section (section_of (told_by m) section) in
     let records = section_of (told_by m) section in
@@ -159,8 +160,8 @@ have_one j now told ss section judged known =
     let f = marked now ss section in
     let P = λ (p : Placed). HasOneMark (on_set (marked now ss p.section) p.set) in
     let placed : AllByRecursion P (placed_sets told) =
-      subst (λ ps. AllByRecursion P ps) judged.grouped
-      (each_map P placed_of ss (each_more (IsKnown j told ss) (λ s. P (placed_of s)) (set_has_one j now told ss) ss known)) in
+    subst (λ ps. AllByRecursion P ps) judged.grouped
+    (each_map P placed_of ss (each_more (IsKnown j told ss) (λ s. P (placed_of s)) (set_has_one j now told ss) ss known)) in
     subst (λ sets. AllByRecursion HasOneMark sets) (sym (sets_of-map f (marked-keeps now ss section) (section_of told section)))
     (each_map HasOneMark (on_set f) (sets_of (section_of told section)) (placed_each P told section placed))
 
@@ -214,8 +215,8 @@ chains_hold j now told ss [] known = tt
 chains_hold j now told ss (s ∷ ts) known =
     let f = marked now ss s.section in
     let marks : AllByRecursion (λ r. (f r).mark ≡ s.mark) s.set.records =
-      each_more (λ r. f r ≡ record r { mark = s.mark; ttl = adjusted_ttl now s r }) (λ r. (f r).mark ≡ s.mark) (λ r e. ap (λ x. x.mark) e) s.set.records
-      (own_marks j now told ss s known.0) in
+    each_more (λ r. f r ≡ record r { mark = s.mark; ttl = adjusted_ttl now s r }) (λ r. (f r).mark ≡ s.mark) (λ r e. ap (λ x. x.mark) e) s.set.records
+    (own_marks j now told ss s known.0) in
     let p = on_placed now ss (placed_of s) in
     let same : is_secure_set p.set ≡ is_secure s.mark = ap is_secure (first_marked f s.mark s.set.records known.0.proper.listed marks) in
     chain_step j (is_secure s.mark) (is_secure_set p.set) s (filter (λ t. is_secure t.mark) ts) p (filter (λ q. is_secure_set q.set) (map (on_placed now ss) (map placed_of ts))) same
@@ -224,7 +225,7 @@ chains_hold j now told ss (s ∷ ts) known =
     record {
       named = refl;
       ends = link_is_for-kept f (marked-keeps now ss s.section) s.set (last_link s.chain) ∙ chain.ends;
-      holds = chain.held
+      holds = chain.held;
     })
     (chains_hold j now told ss ts known.1)
 
@@ -250,7 +251,7 @@ sound_of_review j now m ss denial judged =
       marks_of_answers = have_one j now told ss Answer judged known;
       marks_of_authorities = have_one j now told ss Authority judged known;
       marks_of_additionals = have_one j now told ss Additional judged known;
-      chains = chains j now (cleared_message m) ss judged known
+      chains = chains j now (cleared_message m) ss judged known;
     }
 
 -- a step at the top that was judged by a walk makes a sound answer

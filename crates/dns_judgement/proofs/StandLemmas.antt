@@ -99,7 +99,7 @@ proved_set j set r None chain h = cc
 proved_set j set r (Some keys) chain h = record {
   keys = keys;
   is = refl;
-  by = proved_mark j set r keys.chain keys.mark (counted_keys keys.set.records) chain h
+  by = proved_mark j set r keys.chain keys.mark (counted_keys keys.set.records) chain h;
 }
 
 whole_step : (whole : Bool) (v : Verdict) (chain : List Fact) → (if whole then v else Failed) ≡ Proved chain → (whole ≡ true) × (v ≡ Proved chain)
@@ -122,7 +122,7 @@ proved_text j set r answer (Some sig) chain is h =
       found = by.is;
       secure = by.by.secure;
       good = by.by.by.is;
-      chain_is = by.by.by.chain_is
+      chain_is = by.by.by.chain_is;
     }
 
 pub proved_parts : (j : Judge) (set : RrSet) (r : Rr) (answer : List Judged) (chain : List Fact) → verdict_of j set r (Some answer) ≡ Proved chain
@@ -188,19 +188,19 @@ proof_is_chain j set asked r answer chain proper other asked_for stand is =
     let last = length p.keys.chain - 1 in
     let link = Signed set.owner set.class set.kind (rdatas_of set.records) r.rdata last p.key.rdata in
     let shown : shows_member p.sig.signer set.class p.key.rdata (slice_get p.keys.chain last) ≡ true =
-      ap (shows_member p.sig.signer set.class p.key.rdata) (slice_get-last p.keys.chain)
-      ∙ member_shown p.keys.set (last_link p.keys.chain) p.sig.signer set.class p.key.rdata below.ends key_set.kind key_set.owner key_set.class_is key.known in
+    ap (shows_member p.sig.signer set.class p.key.rdata) (slice_get-last p.keys.chain)
+    ∙ member_shown p.keys.set (last_link p.keys.chain) p.sig.signer set.class p.key.rdata below.ends key_set.kind key_set.owner key_set.class_is key.known in
     let comes : key_comes p.keys.chain set.owner set.class set.kind (rdatas_of set.records) p.sig.signer last p.key.rdata ≡ true =
-      comes_step (set.kind == type_dnskey) (shows_member p.sig.signer set.class p.key.rdata (slice_get p.keys.chain last))
-      (name_eq set.owner p.sig.signer && (has_bytes (rdatas_of set.records) p.key.rdata && shows_key set.owner set.class p.key.rdata (slice_get p.keys.chain last)))
-      other shown in
+    comes_step (set.kind == type_dnskey) (shows_member p.sig.signer set.class p.key.rdata (slice_get p.keys.chain last))
+    (name_eq set.owner p.sig.signer && (has_bytes (rdatas_of set.records) p.key.rdata && shows_key set.owner set.class p.key.rdata (slice_get p.keys.chain last)))
+    other shown in
     let fits : Fits p.keys.chain set p.sig last p.key.rdata = record { whole = p.whole; signer = asked_fits set asked r p.sig p.read asked_for; comes = comes } in
     let holds = signed_holds j p.keys.chain set r p.key p.sig last proper p.read key.passes fits in
     let ended = last_link-append p.keys.chain link in
     record {
       held = ap (justified j) p.chain_is ∙ justified_extends j p.keys.chain link below.held holds;
       ends = ap (λ c. ends_at c set) p.chain_is ∙ ap (link_is_for set) ended ∙ signed_is_for set r.rdata last p.key.rdata;
-      named = ap (λ c. names_decider (last_link c) (Some r)) p.chain_is ∙ ap (λ l. names_decider l (Some r)) ended ∙ bytes_refl r.rdata
+      named = ap (λ c. names_decider (last_link c) (Some r)) p.chain_is ∙ ap (λ l. names_decider l (Some r)) ended ∙ bytes_refl r.rdata;
     }
 
 -- ---- a set by the verdicts of its signatures
