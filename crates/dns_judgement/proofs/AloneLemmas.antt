@@ -17,7 +17,7 @@ use Rattle.dns_model.proofs.SetLemmas.{is_of, head_of}
 use Rattle.dns_model.proofs.ChainLemmas.{bytes_same}
 use Rattle.dns_judgement.specs.Judged.{Judged, decider, names_decider}
 use Rattle.dns_judgement.specs.Marking.{is_about, is_record, first_of, adjusted_by, adjusted_ttl, marked, chains_of, finished}
-use Rattle.dns_judgement.specs.Run.{judged_part, Sets, Run}
+use Rattle.dns_judgement.specs.Run.{Sets, Run}
 use Rattle.dns_judgement.proofs.StandLemmas.{stands_parts}
 use Rattle.dns_judgement.proofs.RunLemmas.{AreJudged, run_stands}
 use Rattle.dns_judgement.proofs.MarkedLemmas.{marked-keeps, about_parts, IsKnown, each_known, made_secure, decided_link}
@@ -116,8 +116,8 @@ sound_alone_of_review j now m ss denial judged =
       chains = chains j now m ss judged known;
     }
 
--- a step at the top that was judged by a walk makes an answer that is sound by itself
-pub sound_alone_of_walk : (j : Judge) (limit now : ℕ) (says : Question → Option Told → Type 0) (q : Question) (before after : ℕ) (m : MessageText) (ss : List Judged) (denial : Denial)
-    → Run j limit says before (Sets q 0 (judged_part 0 (told_by m)) ss) after → SoundAlone j now (finished now ss m denial)
-sound_alone_of_walk j limit now says q before after m ss denial run =
-    sound_alone_of_review j now m ss denial (run_stands j limit says q 0 before after (told_by m) ss run)
+-- a walk over all the sets of a message makes its answer sound by itself
+pub sound_alone_of_walk : (j : Judge) (limit now : ℕ) (says : Question → Option Told → Type 0) (q : Question) (depth before after : ℕ) (m : MessageText) (ss : List Judged) (denial : Denial)
+    → Run j limit says before (Sets q depth (placed_sets (told_by m)) ss) after → SoundAlone j now (finished now ss m denial)
+sound_alone_of_walk j limit now says q depth before after m ss denial run =
+    sound_alone_of_review j now m ss denial (run_stands j limit says q depth before after (told_by m) ss run)

@@ -116,10 +116,14 @@ run_good j limit says (Foreign q d n m told shallow few next said foreign) = tt
 run_good j limit says (Answers q d n k m told ss answer shallow few next said own sets is) =
     ended j ss (outcome_of q told ss) answer ((run_good j limit says sets (proper_part d told)).stand) is
 
--- the sets of a step are judged, and stand
+-- the sets of a message, all or those that are judged at a depth, are judged in order, and stand
 pub run_stands : (j : Judge) (limit : ℕ) (says : Question → Option Told → Type 0) (q : Question) (d n m : ℕ) (told : Told) (ss : List Judged)
+    → Run j limit says n (Sets q d (placed_sets told) ss) m → AreJudged j (placed_sets told) ss
+run_stands j limit says q d n m told ss run = run_good j limit says run (proper_placed told)
+
+pub run_stands_at : (j : Judge) (limit : ℕ) (says : Question → Option Told → Type 0) (q : Question) (d n m : ℕ) (told : Told) (ss : List Judged)
     → Run j limit says n (Sets q d (judged_part d told) ss) m → AreJudged j (judged_part d told) ss
-run_stands j limit says q d n m told ss run = run_good j limit says run (proper_part d told)
+run_stands_at j limit says q d n m told ss run = run_good j limit says run (proper_part d told)
 
 -- a walk's sends only rise
 pub run_counts : (j : Judge) (limit : ℕ) (says : Question → Option Told → Type 0) {n m : ℕ} {aim : Aim} → Run j limit says n aim m → n ≤ m

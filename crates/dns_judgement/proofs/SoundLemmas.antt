@@ -18,7 +18,7 @@ use Rattle.dns_model.proofs.SetLemmas.{name_left, is_of, head_of, BeginsIn, Keep
 use Rattle.dns_model.proofs.ChainLemmas.{bytes_same}
 use Rattle.dns_judgement.specs.Judged.{Judged, placed_of, decider, names_decider}
 use Rattle.dns_judgement.specs.Marking.{cleared, cleared_message, is_about, is_record, first_of, adjusted_by, adjusted_ttl, marked, marked_message, chain_text, chains_of, finished}
-use Rattle.dns_judgement.specs.Run.{judged_part, Sets, Run}
+use Rattle.dns_judgement.specs.Run.{Sets, Run}
 use Rattle.dns_judgement.proofs.StandLemmas.{stands_parts}
 use Rattle.dns_judgement.proofs.RunLemmas.{AreJudged, run_stands}
 use Rattle.dns_judgement.proofs.MarkedLemmas.{marked-keeps, about_parts, IsKnown, each_known, own_from, own_marked, made_secure, plain_ttl, decided_link}
@@ -254,9 +254,9 @@ sound_of_review j now m ss denial judged =
       chains = chains j now (cleared_message m) ss judged known;
     }
 
--- a step at the top that was judged by a walk makes a sound answer
-pub sound_of_walk : (j : Judge) (limit now : ℕ) (says : Question → Option Told → Type 0) (q : Question) (before after : ℕ) (m : MessageText) (ss : List Judged) (denial : Denial)
-    → Run j limit says before (Sets q 0 (judged_part 0 (told_by (cleared_message m))) ss) after
+-- a walk over all the sets of a message makes its answer sound
+pub sound_of_walk : (j : Judge) (limit now : ℕ) (says : Question → Option Told → Type 0) (q : Question) (depth before after : ℕ) (m : MessageText) (ss : List Judged) (denial : Denial)
+    → Run j limit says before (Sets q depth (placed_sets (told_by (cleared_message m))) ss) after
     → Sound j now (told_by m) (finished now ss (cleared_message m) denial)
-sound_of_walk j limit now says q before after m ss denial run =
-    sound_of_review j now m ss denial (run_stands j limit says q 0 before after (told_by (cleared_message m)) ss run)
+sound_of_walk j limit now says q depth before after m ss denial run =
+    sound_of_review j now m ss denial (run_stands j limit says q depth before after (told_by (cleared_message m)) ss run)
