@@ -5,3 +5,4 @@ pub mod NameLemmas
 pub mod OrderLemmas
 pub mod LabelSteps
 pub mod TextLemmas
+pub mod ReadSteps

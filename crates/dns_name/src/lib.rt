@@ -7,9 +7,13 @@ mod name;
 mod name_ref;
 mod no_memory;
 mod octets;
+mod printing;
 mod reading;
+mod text;
 
 pub use name::Name;
 pub use name_ref::NameRef;
+pub use dns_model::NameError;
 pub use no_memory::NoMemory;
 pub use octets::Octets;
+pub use text::Text;
