@@ -1,6 +1,7 @@
 -- The steps of a reader of a name's text, and of the calls that put a name together label by label.
 use Rattle.std.proofs.Common.{◌≡◌, ℕ, zero, suc, ◌+◌, ◌≤◌, ◌<◌, ◌≢◌, Bool, true, false, ◌&&◌, ◌==◌, cond, List, [], ◌∷◌, ◌++◌, length, get_or, Option, None, Some, Result, Ok, Err, refl, sym, ap, ◌∙◌, subst, arith, length-append, inl, inr, ◌⊎◌}
-use Rattle.std.specs.Prelude.{nat_le, nat_lt}
+use Rattle.std.specs.Prelude.{nat_eq, nat_le, nat_lt}
+use Rattle.std.specs.Cmp.Lexicographic.{pointwise}
 use Rattle.std.specs.List.{list_all}
 use Rattle.std.proofs.lemmas.Bool.{and_parts}
 use Rattle.std.proofs.lemmas.Bool.Decides.{nat_tests}
@@ -182,3 +183,13 @@ is_bytes-labels (label ∷ name) h =
     let both : (is_bytes label && is_bytes (wire name)) ≡ true = sym (list_all-append (λ (b : ℕ). nat_lt b 256) label (wire name)) ∙ tail.1 in
     let parts = and_parts (is_bytes label) (is_bytes (wire name)) both in
     rw (parts.0, is_bytes-labels name parts.1) refl
+
+-- ---- a whole text
+
+pub text_root : (text : List ℕ) → pointwise nat_eq text (dot ∷ []) ≡ true → text_read text ≡ Ok ([], true)
+unfolding text_read
+text_root text h = rw h refl
+
+pub text_labels : (text : List ℕ) → pointwise nat_eq text (dot ∷ []) ≡ false → text_read text ≡ read_at [] text
+unfolding text_read read_at
+text_labels text h = rw h refl

@@ -35,7 +35,7 @@ escape_shorter (byte ∷ left) rest value h = escape_cut byte left rest value (i
     escape_cut byte left rest value false true h = let same : left ≡ rest = second_of_some h in rw (← same) (omega arith)
     escape_cut byte left rest value false false h = cc
 
-byte_shorter : (byte : ℕ) (text rest : List ℕ) (value : ℕ) → byte_in byte text ≡ Some (value, rest) → length rest ≤ length text
+pub byte_shorter : (byte : ℕ) (text rest : List ℕ) (value : ℕ) → byte_in byte text ≡ Some (value, rest) → length rest ≤ length text
 unfolding byte_in
 byte_shorter byte text rest value h = byte_cut (byte == backslash) (is_printable byte) h
   where

@@ -10,10 +10,11 @@ mod octets;
 mod printing;
 mod reading;
 mod text;
+mod text_reading;
 
+pub use dns_model::NameError;
 pub use name::Name;
 pub use name_ref::NameRef;
-pub use dns_model::NameError;
 pub use no_memory::NoMemory;
 pub use octets::Octets;
 pub use text::Text;
