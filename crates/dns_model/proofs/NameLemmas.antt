@@ -102,8 +102,8 @@ pub fed_more : {S : Type 0} (write : S → List ℕ → S) (s t : S) (bytes : Li
 fed_more write s t bytes i byte lt is so_far =
     let front = take i bytes in
     let fed_one : flat_map fed.u8 (map to_ascii_lowercase (take (i + 1) bytes)) ≡ flat_map fed.u8 (map to_ascii_lowercase (take i bytes)) ++ fed.u8 (to_ascii_lowercase byte) =
-      ap (λ (l : List ℕ). flat_map fed.u8 (map to_ascii_lowercase l)) (take_more bytes i byte lt)
-      ∙ ap (λ (b : ℕ). flat_map fed.u8 (map to_ascii_lowercase (take i bytes ++ b ∷ []))) (sym is)
-      ∙ ap (flat_map fed.u8) (map-append to_ascii_lowercase (take i bytes) (byte ∷ []))
-      ∙ flat_map-append fed.u8 (map to_ascii_lowercase (take i bytes)) (to_ascii_lowercase byte ∷ []) in
+    ap (λ (l : List ℕ). flat_map fed.u8 (map to_ascii_lowercase l)) (take_more bytes i byte lt)
+    ∙ ap (λ (b : ℕ). flat_map fed.u8 (map to_ascii_lowercase (take i bytes ++ b ∷ []))) (sym is)
+    ∙ ap (flat_map fed.u8) (map-append to_ascii_lowercase (take i bytes) (byte ∷ []))
+    ∙ flat_map-append fed.u8 (map to_ascii_lowercase (take i bytes)) (to_ascii_lowercase byte ∷ []) in
     rw (fed_one, fold-append write s (flat_map fed.u8 (map to_ascii_lowercase (take i bytes))) (fed.u8 (to_ascii_lowercase byte)), ← so_far) refl

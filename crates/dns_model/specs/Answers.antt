@@ -186,18 +186,21 @@ pub record Sound (j : Judge) (now : ℕ) (told : Told) (a : ResponseText) : Type
   pub marks_of_additionals : HaveOneMark a.message.additionals
   pub chains : AreChainsOf j a.chains (secure_sets (told_by a.message))
 
--- a Secure record's ttl where nothing tells what the upstream said
-abbrev pub IsBoundedTtl : ℕ → Rr → Option Fact → Type 0
-IsBoundedTtl now r None = ⊥
-IsBoundedTtl now r (Some (Anchored owner class key)) = ⊥
-IsBoundedTtl now r (Some (Matched owner class key ds_link ds)) = ⊥
-IsBoundedTtl now r (Some (KeySet owner class keys links)) = is_signature r ≡ false
-IsBoundedTtl now r (Some (Signed owner class kind rdatas sig key_link key)) =
-    (is_signature r ≡ true → r.rdata ≡ sig) × (r.ttl ≤ signed_ttl (sig_in sig) now)
+-- a Secure record's ttl where nothing tells what the upstream said: under a signature that of its set, and no more than the
+-- signature leaves
+abbrev pub IsBoundedTtl : ℕ → List Rr → Rr → Option Fact → Type 0
+IsBoundedTtl now section r None = ⊥
+IsBoundedTtl now section r (Some (Anchored owner class key)) = ⊥
+IsBoundedTtl now section r (Some (Matched owner class key ds_link ds)) = ⊥
+IsBoundedTtl now section r (Some (KeySet owner class keys links)) = is_signature r ≡ false
+IsBoundedTtl now section r (Some (Signed owner class kind rdatas sig key_link key)) =
+    (is_signature r ≡ true → r.rdata ≡ sig)
+    × (r.ttl ≡ first_ttl section r.owner (set_kind r))
+    × (r.ttl ≤ signed_ttl (sig_in sig) now)
 
 abbrev pub AreBounded : ℕ → List ChainText → Section → List Rr → Type 0
 AreBounded now chains section records =
-    AllByRecursion (λ r. is_secure r.mark ≡ true → IsBoundedTtl now r (deciding_link chains section r)) records
+    AllByRecursion (λ r. is_secure r.mark ≡ true → IsBoundedTtl now records r (deciding_link chains section r)) records
 
 -- the part of `Sound` that speaks of the answer alone, for an upstream that doesn't tell
 pub record SoundAlone (j : Judge) (now : ℕ) (a : ResponseText) : Type 0 where

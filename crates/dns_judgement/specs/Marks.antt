@@ -1,0 +1,206 @@
+-- The marks of sets, from the finished answers of their asks (RFC 4035, 4.3, 5.2 and 5.3).
+use Rattle.std.specs.Prelude.{ℕ, ◌+◌, ◌-◌, Bool, true, false, not, ◌==◌, ◌&&◌, ◌||◌, nat_lt, List, [], ◌∷◌, ◌++◌, map, length, take, Option, None, Some, is_some, if◌then◌else◌}
+use Rattle.std.specs.List.{filter, find, list_all, list_any, count_by, position}
+use Rattle.dns_model.specs.declared.proof.Proof.{Proof}
+use Rattle.dns_model.specs.declared.proof.Proof.TheVariants.{Secure, Insecure, Bogus, Indeterminate}
+use Rattle.dns_model.specs.declared.section.Section.{Section}
+use Rattle.dns_model.specs.declared.section.Section.TheVariants.{Answer}
+use Rattle.dns_model.specs.Names.{Labels, name_eq, at_or_above, num_labels, parent}
+use Rattle.dns_model.specs.Types.{type_ds, type_nsec, type_nsec3, type_dnskey}
+use Rattle.dns_model.specs.Views.{SigText, KeyText, sig_in, key_in}
+use Rattle.dns_model.specs.Records.{Rr, RrSet, Question, question_eq}
+use Rattle.dns_model.specs.Signing.{key_tag_of}
+use Rattle.dns_model.specs.Chains.{Fact, Anchored, KeySet, Signed, Judge, signer_fits, rdatas_of}
+use Rattle.dns_model.specs.Answers.{Placed, section_eq}
+use Rattle.dns_judgement.specs.Validity.{is_good_by}
+use Rattle.dns_judgement.specs.Judged.{Judged}
+
+-- how many signatures of a set are tried
+abbrev pub most_signatures : ℕ
+most_signatures = 8
+
+-- the question for a signer's keys
+abbrev pub key_question : ℕ → Labels → Question
+key_question class signer = record { owner = signer; kind = type_dnskey; class = class }
+
+abbrev pub is_skipped_text : Question → RrSet → Option SigText → Bool
+is_skipped_text asked set None = true
+is_skipped_text asked set (Some sig) =
+    not (signer_fits set.kind sig.signer set.owner) || question_eq (key_question set.class sig.signer) asked
+
+-- a signature isn't asked for: it can't be read, its signer doesn't fit, or it asks what is being asked
+abbrev pub is_skipped : Question → RrSet → Rr → Bool
+is_skipped asked set r = is_skipped_text asked set (sig_in r.rdata)
+
+abbrev pub is_readable_key : Rr → Bool
+is_readable_key r = is_some (key_in r.rdata)
+
+abbrev pub same_tag : Rr → Rr → Bool
+same_tag a b = key_tag_of a.rdata == key_tag_of b.rdata
+
+-- the first two of each tag; the first list are those before
+unfoldable pub first_two : List Rr → List Rr → List Rr
+first_two earlier [] = []
+first_two earlier (r ∷ rs) =
+    if nat_lt (count_by (same_tag r) earlier) 2
+    then r ∷ first_two (earlier ++ r ∷ []) rs
+    else first_two (earlier ++ r ∷ []) rs
+
+-- the keys of a key set that may sign other sets
+abbrev pub counted_keys : List Rr → List Rr
+counted_keys records = first_two [] (filter is_readable_key records)
+
+-- the key set of a question in the answer section of a finished ask
+abbrev pub is_key_set_of : ℕ → Labels → Judged → Bool
+is_key_set_of class signer judged =
+    section_eq Answer judged.section && (name_eq signer judged.set.owner && ((judged.set.kind == type_dnskey) && (class == judged.set.class)))
+
+-- what one signature does for its set: it proves it by a chain, it excuses it, or neither
+pub data Verdict : Type 0 where
+  Proved : List Fact → Verdict
+  Excused : Verdict
+  Failed : Verdict
+
+abbrev pub is_proved : Verdict → Bool
+is_proved (Proved chain) = true
+is_proved Excused = false
+is_proved Failed = false
+
+abbrev pub is_excused : Verdict → Bool
+is_excused (Proved chain) = false
+is_excused Excused = true
+is_excused Failed = false
+
+-- the chain of a key set, and the link that a signature by one of its keys adds
+abbrev pub signed_chain : RrSet → Rr → List Fact → Rr → List Fact
+signed_chain set r chain key =
+    chain ++ Signed set.owner set.class set.kind (rdatas_of set.records) r.rdata (length chain - 1) key.rdata ∷ []
+
+abbrev pub by_secure_key : RrSet → Rr → List Fact → Option Rr → Verdict
+by_secure_key set r chain None = Failed
+by_secure_key set r chain (Some key) = Proved (signed_chain set r chain key)
+
+abbrev pub by_insecure_key : List Rr → Verdict
+by_insecure_key [] = Failed
+by_insecure_key (key ∷ keys) = Excused
+
+-- by the mark of the key set that was asked for
+abbrev pub by_keys : Judge → RrSet → Rr → List Fact → Proof → List Rr → Verdict
+by_keys j set r chain Secure keys = by_secure_key set r chain (find (is_good_by j set r) keys)
+by_keys j set r chain Insecure keys = by_insecure_key keys
+by_keys j set r chain Bogus keys = Failed
+by_keys j set r chain Indeterminate keys = Failed
+
+abbrev pub by_key_set : Judge → RrSet → Rr → Option Judged → Verdict
+by_key_set j set r None = Failed
+by_key_set j set r (Some keys) = by_keys j set r keys.chain keys.mark (counted_keys keys.set.records)
+
+-- an NSEC or NSEC3 is never expanded, and an NSEC3 stands right below its signer
+abbrev pub is_kept_whole : RrSet → SigText → Bool
+is_kept_whole set sig =
+    if set.kind == type_nsec then sig.labels == num_labels set.owner
+    else if set.kind == type_nsec3 then (sig.labels == num_labels set.owner) && name_eq (parent set.owner) sig.signer
+    else true
+
+abbrev pub verdict_by : Judge → RrSet → Rr → List Judged → Option SigText → Verdict
+verdict_by j set r answer None = Failed
+verdict_by j set r answer (Some sig) =
+    if is_kept_whole set sig then by_key_set j set r (find (is_key_set_of set.class sig.signer) answer) else Failed
+
+-- the verdict of one signature, with the sets of the answer to its ask; none where the ask failed or was refused
+unfoldable pub verdict_of : Judge → RrSet → Rr → Option (List Judged) → Verdict
+verdict_of j set r None = Failed
+verdict_of j set r (Some answer) = verdict_by j set r answer (sig_in r.rdata)
+
+-- a mark, and the place of the signature that decided
+pub record Mark : Type 0 where
+  pub mark : Proof
+  pub sig : Option ℕ
+
+-- an unsigned set: until zones are searched, none is excused
+abbrev pub unsigned_mark : Mark
+unsigned_mark = record { mark = Bogus; sig = None }
+
+abbrev pub mark_at : Option ℕ → Option ℕ → Mark
+mark_at (Some n) excused = record { mark = Secure; sig = Some n }
+mark_at None (Some n) = record { mark = Insecure; sig = Some n }
+mark_at None None = record { mark = Bogus; sig = None }
+
+-- the mark of a set that isn't DNSKEY: the first Secure signature decides, else the first Insecure one
+abbrev pub set_mark : List Verdict → Mark
+set_mark [] = unsigned_mark
+set_mark (v ∷ vs) = mark_at (position is_proved (v ∷ vs)) (position is_excused (v ∷ vs))
+
+abbrev pub proved_chain : List Verdict → List Fact
+proved_chain [] = []
+proved_chain (Proved chain ∷ vs) = chain
+proved_chain (Excused ∷ vs) = proved_chain vs
+proved_chain (Failed ∷ vs) = proved_chain vs
+
+-- a set that isn't DNSKEY, judged by the verdicts of its signatures
+unfoldable pub judged_by : Placed → List Verdict → Judged
+judged_by placed verdicts = record {
+  section = placed.section;
+  set = placed.set;
+  mark = (set_mark verdicts).mark;
+  sig = (set_mark verdicts).sig;
+  chain = proved_chain verdicts;
+}
+
+abbrev pub is_anchored_key : Judge → RrSet → Rr → Bool
+is_anchored_key j set key = j.is_anchored set.owner key.rdata
+
+-- an anchored key of a key set by which a signature of that set is good
+abbrev pub anchored_signer : Judge → RrSet → Rr → Option Rr
+anchored_signer j set r = find (λ key. is_anchored_key j set key && is_good_by j set r key) set.records
+
+-- the first signature of a list that is good by an anchored key: its place, itself and the key
+pub record SignedKeys : Type 0 where
+  pub place : ℕ
+  pub signature : Rr
+  pub key : Rr
+
+abbrev pub signed_keys_or : ℕ → Rr → Option Rr → Option SignedKeys → Option SignedKeys
+signed_keys_or n signature None rest = rest
+signed_keys_or n signature (Some key) rest = Some (record { place = n; signature = signature; key = key })
+
+unfoldable pub first_signed : Judge → RrSet → ℕ → List Rr → Option SignedKeys
+first_signed j set n [] = None
+first_signed j set n (signature ∷ signatures) =
+    signed_keys_or n signature (anchored_signer j set signature) (first_signed j set (n + 1) signatures)
+
+-- n, n + 1 and so on, one for each
+abbrev pub numbers_from : ℕ → List (List ℕ) → List ℕ
+numbers_from n [] = []
+numbers_from n (key ∷ keys) = n ∷ numbers_from (n + 1) keys
+
+-- a link for each anchored key, and then their set
+abbrev pub anchored_chain : RrSet → List Fact
+anchored_chain set =
+    map (Anchored set.owner set.class) (rdatas_of set.records)
+    ++ KeySet set.owner set.class (rdatas_of set.records) (numbers_from 0 (rdatas_of set.records)) ∷ []
+
+abbrev pub self_signed_chain : RrSet → SignedKeys → List Fact
+self_signed_chain set signed =
+    Anchored set.owner set.class signed.key.rdata
+    ∷ Signed set.owner set.class set.kind (rdatas_of set.records) signed.signature.rdata 0 signed.key.rdata ∷ []
+
+abbrev pub keys_unsigned : Judge → Placed → Judged
+keys_unsigned j placed =
+    if list_all (is_anchored_key j placed.set) placed.set.records
+    then record { section = placed.section; set = placed.set; mark = Secure; sig = None; chain = anchored_chain placed.set }
+    else record { section = placed.section; set = placed.set; mark = Bogus; sig = None; chain = [] }
+
+abbrev pub keys_by : Judge → Placed → Option SignedKeys → Judged
+keys_by j placed (Some signed) = record {
+  section = placed.section;
+  set = placed.set;
+  mark = Secure;
+  sig = Some signed.place;
+  chain = self_signed_chain placed.set signed;
+}
+keys_by j placed None = keys_unsigned j placed
+
+-- a DNSKEY set: signed by an anchored key of it, or wholly anchored; until DS sets are asked for, else Bogus
+unfoldable pub judged_keys : Judge → Placed → Judged
+judged_keys j placed = keys_by j placed (first_signed j placed.set 0 (take most_signatures placed.set.signatures))

@@ -1,0 +1,57 @@
+-- What a judged step answers (RFC 4035, 5.3.4 and 5.4).
+use Rattle.std.specs.Prelude.{ℕ, Bool, true, false, not, ◌==◌, ◌&&◌, ◌||◌, nat_lt, List, [], ◌∷◌, ◌++◌, Option, None, Some, if◌then◌else◌}
+use Rattle.std.specs.List.{list_any, find}
+use Rattle.dns_model.specs.declared.proof.Proof.{Proof}
+use Rattle.dns_model.specs.declared.proof.Proof.TheVariants.{Bogus}
+use Rattle.dns_model.specs.declared.denial.Denial as denial
+use Rattle.dns_model.specs.declared.denial.Denial.TheVariants as denied
+use Rattle.dns_model.specs.Names.{Labels, name_eq, num_labels}
+use Rattle.dns_model.specs.Types.{type_cname, type_nsec, type_nsec3}
+use Rattle.dns_model.specs.Views.{SigText, sig_in}
+use Rattle.dns_model.specs.Records.{Rr, Question}
+use Rattle.dns_model.specs.Sections.{is_signature}
+use Rattle.dns_model.specs.Answers.{Told, is_secure}
+use Rattle.dns_judgement.specs.Judged.{Judged, decider}
+
+-- a record at the query name of the query's type or CNAME
+abbrev pub answers_query : Question → Rr → Bool
+answers_query q r = name_eq q.owner r.owner && ((r.kind == q.kind) || (r.kind == type_cname))
+
+abbrev pub has_answer : Question → Told → Bool
+has_answer q told = list_any (answers_query q) told.answers
+
+abbrev pub is_expanded_text : Labels → Option SigText → Bool
+is_expanded_text owner None = false
+is_expanded_text owner (Some sig) = nat_lt sig.labels (num_labels owner)
+
+-- a readable RRSIG whose Labels is below its owner's count
+abbrev pub is_wildcard_signature : Rr → Bool
+is_wildcard_signature r = is_signature r && is_expanded_text r.owner (sig_in r.rdata)
+
+abbrev pub is_expanded_by : Option Rr → Bool
+is_expanded_by None = false
+is_expanded_by (Some r) = is_expanded_text r.owner (sig_in r.rdata)
+
+-- a Secure set that can only be judged with denial of existence: NSEC, NSEC3, or expanded from a wildcard
+abbrev pub needs_denial : Judged → Bool
+needs_denial judged =
+    is_secure judged.mark && ((judged.set.kind == type_nsec) || (judged.set.kind == type_nsec3) || is_expanded_by (decider judged))
+
+-- how a judged step ends
+pub data Outcome : Type 0 where
+  Unjudged : Outcome
+  Accepted : denial.Denial → Outcome
+  Denied : Proof → Outcome
+
+-- until denial of existence is judged, a step without an answer, or with sets that need denial, isn't judged yet;
+-- an answer without a wildcard signature is accepted; what is left is Bogus
+unfoldable pub outcome_of : Question → Told → List Judged → Outcome
+outcome_of q told sets =
+    if not (has_answer q told) then Unjudged
+    else if list_any needs_denial sets then Unjudged
+    else if not (list_any is_wildcard_signature told.answers) then Accepted denied.None
+    else Denied Bogus
+
+-- the first record of another class, in section order (RFC 1035, 3.2.4)
+abbrev pub foreign_record : Question → Told → Option Rr
+foreign_record q told = find (λ r. not (r.class == q.class)) (told.answers ++ told.authorities ++ told.additionals)

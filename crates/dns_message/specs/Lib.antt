@@ -1,0 +1,6 @@
+pub mod Reading
+pub mod NameAt
+pub mod Fitting
+pub mod RdataAt
+pub mod RecordAt
+pub mod MessageAt

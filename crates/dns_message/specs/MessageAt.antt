@@ -1,0 +1,83 @@
+-- A whole message: header, questions, answers, authorities and additional records (RFC 1035, 4.1; RFC 6891, 6.1).
+use Rattle.std.specs.Prelude.{ℕ, zero, suc, ◌+◌, ◌*◌, ◌/◌, ◌%◌, ◌==◌, Bool, true, false, List, [], ◌∷◌, length, Option, None, Some, Result, Ok, Err, nat_lt, if◌then◌else◌}
+use Rattle.dns_model.specs.Records.{Rr, Question, EdnsText, MessageText}
+use Rattle.dns_message.specs.declared.decode_error.DecodeKind.TheVariants.{Trailing}
+use Rattle.dns_message.specs.declared.decode_error.DecodeError.{DecodeError}
+use Rattle.dns_message.specs.Reading.{fault, ◌>>=◌, u16_field}
+use Rattle.dns_message.specs.NameAt.{name_at}
+use Rattle.dns_message.specs.RecordAt.{section_at}
+
+-- the six numbers of the first twelve bytes
+pub record HeaderText : Type 0 where
+  pub id : ℕ
+  pub flags : ℕ
+  pub questions : ℕ
+  pub answers : ℕ
+  pub authorities : ℕ
+  pub additionals : ℕ
+
+unfoldable pub header_at : List ℕ → Result HeaderText DecodeError
+header_at bytes = do
+  id ← u16_field bytes 0
+  flags ← u16_field bytes 2
+  questions ← u16_field bytes 4
+  answers ← u16_field bytes 6
+  authorities ← u16_field bytes 8
+  additionals ← u16_field bytes 10
+  Ok (record { id = id.0; flags = flags.0; questions = questions.0; answers = answers.0; authorities = authorities.0; additionals = additionals.0 })
+
+unfoldable pub question_at : List ℕ → ℕ → Result (Question × ℕ) DecodeError
+question_at bytes pos = do
+  name ← name_at bytes pos
+  kind ← u16_field bytes name.1
+  class ← u16_field bytes kind.1
+  Ok (record { owner = name.0; kind = kind.0; class = class.0 }, class.1)
+
+-- so many questions, and the place after them
+unfoldable pub questions_at : ℕ → List ℕ → ℕ → Result (List Question × ℕ) DecodeError
+questions_at zero bytes pos = Ok ([], pos)
+questions_at (suc count) bytes pos = do
+  first ← question_at bytes pos
+  others ← questions_at count bytes first.1
+  Ok (first.0 ∷ others.0, others.1)
+
+abbrev pub edns_in : Option (EdnsText × ℕ) → Option EdnsText
+edns_in None = None
+edns_in (Some opt) = Some opt.0
+
+-- the upper eight bits of the code
+abbrev pub upper_code_in : Option (EdnsText × ℕ) → ℕ
+upper_code_in None = 0
+upper_code_in (Some opt) = opt.1
+
+-- the bits of the second number from the top: QR, four of the opcode, AA, TC, RD, RA, one that is ignored, AD, CD, four of the code
+abbrev pub message_of : HeaderText → List Question → List Rr → List Rr → List Rr → Option (EdnsText × ℕ) → MessageText
+message_of header queries answers authorities additionals opt = record {
+  id = header.id;
+  response = header.flags / 32768 % 2 == 1;
+  op_code = header.flags / 2048 % 16;
+  authoritative = header.flags / 1024 % 2 == 1;
+  truncated = header.flags / 512 % 2 == 1;
+  recursion_desired = header.flags / 256 % 2 == 1;
+  recursion_available = header.flags / 128 % 2 == 1;
+  authentic_data = header.flags / 32 % 2 == 1;
+  checking_disabled = header.flags / 16 % 2 == 1;
+  response_code = upper_code_in opt * 16 + header.flags % 16;
+  queries = queries;
+  answers = answers;
+  authorities = authorities;
+  additionals = additionals;
+  edns = edns_in opt
+}
+
+-- the message that bytes are, all of them
+unfoldable pub message_at : List ℕ → Result MessageText DecodeError
+message_at bytes = do
+  header ← header_at bytes
+  queries ← questions_at header.questions bytes 12
+  answers ← section_at header.answers false bytes queries.1
+  authorities ← section_at header.authorities false bytes answers.2
+  additionals ← section_at header.additionals true bytes authorities.2
+  if nat_lt additionals.2 (length bytes)
+    then Err (fault Trailing additionals.2)
+    else Ok (message_of header queries.0 answers.0 authorities.0 additionals.0 additionals.1)

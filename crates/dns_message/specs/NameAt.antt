@@ -1,0 +1,74 @@
+-- Names in a message, where a pointer may end a row of labels (RFC 1035, 4.1.4).
+use Rattle.std.specs.Prelude.{ℕ, zero, suc, ◌+◌, ◌-◌, ◌%◌, ◌==◌, ◌&&◌, List, [], ◌∷◌, length, Result, Ok, Err, nat_le, nat_lt, if◌then◌else◌, slice_index, slice_range}
+use Rattle.dns_model.specs.Names.{Label, Labels, wire}
+use Rattle.dns_model.specs.Bytes.{u16_at}
+use Rattle.dns_message.specs.declared.decode_error.DecodeKind.TheVariants.{Short, BadName}
+use Rattle.dns_message.specs.declared.decode_error.DecodeError.{DecodeError}
+use Rattle.dns_message.specs.declared.step.Step.{Step}
+use Rattle.dns_message.specs.declared.step.Step.TheVariants as step
+use Rattle.dns_message.specs.Reading.{fault, ◌>>=◌}
+
+-- the place that a pointer names: the lower 14 bits of its two bytes
+abbrev pub target_at : List ℕ → ℕ → ℕ
+target_at bytes pos = u16_at bytes pos % 16384
+
+-- what stands at a place of a name, one row a rule. The row of labels began at `start`; `size` bytes of labels were read before
+unfoldable pub step_of : List ℕ → ℕ → ℕ → ℕ → Result Step DecodeError
+step_of bytes start pos size =
+    -- the length byte reaches past the end
+    if nat_le (length bytes) pos then Err (fault Short pos)
+    -- the root ends the name
+    else if slice_index bytes pos == 0 then Ok step.Root
+    -- the top bits are 01 or 10
+    else if nat_lt 63 (slice_index bytes pos) && nat_lt (slice_index bytes pos) 192 then Err (fault BadName pos)
+    -- a pointer that reaches past the end
+    else if nat_le 192 (slice_index bytes pos) && nat_le (length bytes) (pos + 1) then Err (fault Short pos)
+    -- a pointer whose target isn't before its row of labels
+    else if nat_le 192 (slice_index bytes pos) && nat_le start (target_at bytes pos) then Err (fault BadName pos)
+    -- a pointer, whose target begins a row of its own
+    else if nat_le 192 (slice_index bytes pos) then Ok (step.Jump (target_at bytes pos))
+    -- a label that reaches past the end
+    else if nat_lt (length bytes) (pos + 1 + slice_index bytes pos) then Err (fault Short pos)
+    -- a label with which the name, its closing zero byte too, passes 255 bytes
+    else if nat_lt 255 (size + 1 + slice_index bytes pos + 1) then Err (fault BadName pos)
+    else Ok (step.Label (slice_index bytes pos))
+
+-- a label before what is read after it
+abbrev pub with_label : Label → Result (Labels × ℕ) DecodeError → Result (Labels × ℕ) DecodeError
+with_label label (Ok (name, next)) = Ok (label ∷ name, next)
+with_label label (Err e) = Err e
+
+-- what a pointer leads to; the name's bytes end after the pointer
+abbrev pub ending_at : ℕ → Result (Labels × ℕ) DecodeError → Result (Labels × ℕ) DecodeError
+ending_at place (Ok (name, next)) = Ok (name, place)
+ending_at place (Err e) = Err e
+
+abbrev pub after_step : Result Step DecodeError → List ℕ → ℕ → ℕ → ℕ → (ℕ → ℕ → ℕ → Result (Labels × ℕ) DecodeError) → Result (Labels × ℕ) DecodeError
+after_step (Err e) bytes start pos size more = Err e
+after_step (Ok step.Root) bytes start pos size more = Ok ([], pos + 1)
+after_step (Ok (step.Label n)) bytes start pos size more =
+    with_label (slice_range bytes (pos + 1) (pos + 1 + n)) (more start (pos + 1 + n) (size + 1 + n))
+after_step (Ok (step.Jump target)) bytes start pos size more = ending_at (pos + 2) (more target target size)
+
+-- the labels from a place on. The first number only bounds the steps
+unfoldable pub labels_from : ℕ → List ℕ → ℕ → ℕ → ℕ → Result (Labels × ℕ) DecodeError
+labels_from zero bytes start pos size = Err (fault Short pos)
+labels_from (suc bound) bytes start pos size = after_step (step_of bytes start pos size) bytes start pos size (labels_from bound bytes)
+
+-- each step lessens this: a pointer goes before its row, a label takes room
+abbrev pub steps_left : ℕ → ℕ → ℕ
+steps_left start size = start + (255 - size)
+
+-- the labels from a place on, with steps enough
+unfoldable pub labels_at : List ℕ → ℕ → ℕ → ℕ → Result (Labels × ℕ) DecodeError
+labels_at bytes start pos size = labels_from (suc (steps_left start size)) bytes start pos size
+
+-- the name at a place, and the place after its bytes
+unfoldable pub name_at : List ℕ → ℕ → Result (Labels × ℕ) DecodeError
+name_at bytes pos = labels_at bytes pos pos 0
+
+-- the same name in wire form, spelled out
+unfoldable pub spelled_at : List ℕ → ℕ → Result (List ℕ × ℕ) DecodeError
+spelled_at bytes pos = do
+  name ← name_at bytes pos
+  Ok (wire name.0, name.1)

@@ -1,0 +1,75 @@
+-- Records in a message, and the sections that they make up (RFC 1035, 4.1.3; RFC 6891, 6.1).
+use Rattle.std.specs.Prelude.{ℕ, zero, suc, ◌+◌, ◌/◌, ◌%◌, ◌==◌, Bool, true, false, ◌&&◌, List, [], ◌∷◌, Option, None, Some, Result, Ok, Err, if◌then◌else◌}
+use Rattle.dns_model.specs.Names.{Labels}
+use Rattle.dns_model.specs.Types.{type_opt}
+use Rattle.dns_model.specs.Records.{Rr, EdnsText}
+use Rattle.dns_model.specs.declared.proof.Proof.TheVariants.{Indeterminate}
+use Rattle.dns_message.specs.declared.decode_error.DecodeKind.TheVariants.{BadOpt}
+use Rattle.dns_message.specs.declared.decode_error.DecodeError.{DecodeError}
+use Rattle.dns_message.specs.declared.item.Item.{Item}
+use Rattle.dns_message.specs.declared.item.Item.TheVariants as item
+use Rattle.dns_message.specs.Reading.{fault, ◌>>=◌, u16_field, u32_field}
+use Rattle.dns_message.specs.NameAt.{name_at}
+use Rattle.dns_message.specs.RdataAt.{rdata_at, opaque_at}
+
+-- a record after its owner and type, which is no OPT
+unfoldable pub record_at : Labels → ℕ → List ℕ → ℕ → Result (Item × ℕ) DecodeError
+record_at owner kind bytes pos = do
+  class ← u16_field bytes pos
+  ttl ← u32_field bytes class.1
+  size ← u16_field bytes ttl.1
+  rdata ← rdata_at kind class.0 bytes size.0 size.1
+  Ok (item.Kept (record { owner = owner; kind = kind; class = class.0; ttl = ttl.0; rdata = rdata; mark = Indeterminate }), size.1 + size.0)
+
+-- what an OPT's class, ttl and rdata say
+abbrev pub edns_of : ℕ → ℕ → List ℕ → EdnsText
+edns_of payload ttl options = record {
+  max_payload = payload;
+  version = ttl / 65536 % 256;
+  dnssec_ok = ttl / 32768 % 2 == 1;
+  flags = ttl % 32768;
+  options = options
+}
+
+-- an OPT after its owner and type; the upper eight bits of its ttl are the upper bits of the code
+unfoldable pub opt_at : List ℕ → ℕ → Result (Item × ℕ) DecodeError
+opt_at bytes pos = do
+  payload ← u16_field bytes pos
+  ttl ← u32_field bytes payload.1
+  size ← u16_field bytes ttl.1
+  options ← opaque_at bytes size.0 size.1
+  Ok (item.Opt (edns_of payload.0 ttl.0 options) (ttl.0 / 16777216), size.1 + size.0)
+
+abbrev pub is_root : Labels → Bool
+is_root [] = true
+is_root (label ∷ name) = false
+
+-- an OPT where one may stand and at the root, or another record
+unfoldable pub item_at : Bool → List ℕ → ℕ → Result (Item × ℕ) DecodeError
+item_at may bytes pos = do
+  owner ← name_at bytes pos
+  kind ← u16_field bytes owner.1
+  if kind.0 == type_opt
+    then if may && is_root owner.0 then opt_at bytes kind.1 else Err (fault BadOpt pos)
+    else record_at owner.0 kind.0 bytes kind.1
+
+-- the records of a section, its OPT with the code's upper bits, and the place after the section
+abbrev pub Listed : Type 0
+Listed = List Rr × Option (EdnsText × ℕ) × ℕ
+
+abbrev pub with_item : Item → Result Listed DecodeError → Result Listed DecodeError
+with_item item (Err e) = Err e
+with_item (item.Kept kept) (Ok (records, opt, next)) = Ok (kept ∷ records, opt, next)
+with_item (item.Opt edns code) (Ok (records, opt, next)) = Ok (records, Some (edns, code), next)
+
+-- after an OPT no other may stand
+abbrev pub may_after : Item → Bool → Bool
+may_after (item.Kept kept) may = may
+may_after (item.Opt edns code) may = false
+
+-- so many records
+unfoldable pub section_at : ℕ → Bool → List ℕ → ℕ → Result Listed DecodeError
+section_at zero may bytes pos = Ok ([], None, pos)
+section_at (suc count) may bytes pos = do
+  first ← item_at may bytes pos
+  with_item first.0 (section_at count (may_after first.0 may) bytes first.1)

@@ -1,0 +1,60 @@
+ghost use Rattle.std.specs.Prelude.{◌≡◌, ◌+◌, ◌<◌, ◌≤◌, ◌^◌, length, slice_index, IfOk};
+ghost use Rattle.dns_message.specs.Reading.{Reads};
+ghost use Rattle.dns_message.specs.NameAt.{step_of};
+ghost use Rattle.dns_message.specs.Fitting.{FitsStep};
+
+use crate::decode_error::{DecodeError, DecodeKind, fault};
+
+/// What stands at a place of a name.
+#[derive(Clone, Copy, Debug, Drop)]
+pub(crate) enum Step {
+    /// The closing zero byte.
+    Root,
+    /// A label of so many bytes.
+    Label(u8),
+    /// A pointer to a place.
+    Jump(u16),
+}
+
+/// The step at `pos` in a row of labels that began at `start`, with `size` bytes of labels before.
+#[tactic(auto, unfolding(crate::specs::NameAt::step_of))]
+pub(crate) fn step_at(
+    bytes: &[u8],
+    start: usize,
+    pos: usize,
+    size: usize,
+) -> Result<Step, DecodeError>
+    requires short { length bytes.now < 2 ^ 32 }
+    requires pos { pos ≤ length bytes.now }
+    requires size { size ≤ 254 }
+    ensures reads { Reads (λ s. s) result (step_of bytes.now start pos size) }
+    ensures fits { IfOk result (λ s. FitsStep (length bytes.now) start pos size s) }
+{
+    if bytes.len() <= pos {
+        return Err(fault(DecodeKind::Short, pos));
+    }
+    let byte = bytes[pos];
+    if byte == 0 {
+        return Ok(Step::Root);
+    }
+    if 63 < byte && byte < 192 {
+        return Err(fault(DecodeKind::BadName, pos));
+    }
+    if 192 <= byte {
+        if bytes.len() <= pos + 1 {
+            return Err(fault(DecodeKind::Short, pos));
+        }
+        let target = (u16::from(byte) * 256 + u16::from(bytes[pos + 1])) % 16384;
+        if start <= usize::from(target) {
+            return Err(fault(DecodeKind::BadName, pos));
+        }
+        return Ok(Step::Jump(target));
+    }
+    if bytes.len() < pos + 1 + usize::from(byte) {
+        return Err(fault(DecodeKind::Short, pos));
+    }
+    if 255 < size + 1 + usize::from(byte) + 1 {
+        return Err(fault(DecodeKind::BadName, pos));
+    }
+    Ok(Step::Label(byte))
+}

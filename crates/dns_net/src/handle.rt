@@ -1,0 +1,70 @@
+ghost use Rattle.std.specs.Prelude.{◌≡◌, ◌≤◌, ℕ, List, Option, Some};
+ghost use Rattle.dns_model.specs.Records.{Question};
+ghost use Rattle.dns_net.specs.Errors.{Reply};
+ghost use Rattle.dns_net.specs.Replies.{reply_of};
+ghost use Rattle.dns_net.specs.Requests.{first_question};
+ghost use Rattle.dns_net.specs.Causes.{Rose, HasCause};
+ghost use Rattle.dns_net.specs.Handles.{ReplyIsTold, OrUnsent};
+
+use crate::{DnsRequest, DnsRequestOptions, DnsResponse, NetError};
+use dns_record::Query;
+use std::alloc::Global;
+
+/// What sends a request and waits for its response.
+pub trait DnsHandle {
+    /// How often `send` was called; it stops at the greatest `u64`.
+    ghost sends: { Self → ℕ };
+
+    /// How many errors were met; it never falls.
+    ghost faults: { Self → ℕ };
+
+    /// The handle before a `send`, the request's first question, the handle after, the reply.
+    ghost sent: { Self → Option Question → Self → Reply → Type 0 };
+
+    /// The replies in order, where the handle tells them: the reply to a question is the first with that question.
+    ghost told: { Self → Option (List (Question × Reply)) };
+
+    /// Sends the request at a moment, in seconds, and waits. An error other than want of memory comes only where
+    /// `faults` rises.
+    fn send(
+        &mut self,
+        alloc: Global,
+        request: DnsRequest,
+        now: u64,
+    ) -> Result<DnsResponse, NetError>
+        ensures sends { Rose (sends self.old) (sends self.new) }
+        ensures sent { sent self.old (first_question request) self.new (reply_of result) }
+        ensures later { faults self.old ≤ faults self.new }
+        ensures cause { HasCause (faults self.old) (faults self.new) result }
+        ensures told { told self.new ≡ told self.old }
+        ensures reply { ReplyIsTold (told self.old) (first_question request) (reply_of result) };
+
+    /// Sends the request for one question. Where memory runs out before the send, nothing is sent and nothing changes.
+    fn lookup(
+        &mut self,
+        alloc: Global,
+        query: Query,
+        options: DnsRequestOptions,
+        now: u64,
+    ) -> Result<DnsResponse, NetError>
+        ensures sends { OrUnsent self.old self.new result (Rose (sends self.old) (sends self.new)) }
+        ensures sent { OrUnsent self.old self.new result (sent self.old (Some query) self.new (reply_of result)) }
+        ensures later { faults self.old ≤ faults self.new }
+        ensures cause { HasCause (faults self.old) (faults self.new) result }
+        ensures told { told self.new ≡ told self.old }
+        ensures reply { ReplyIsTold (told self.old) (Some query) (reply_of result) }
+    {
+        let request = DnsRequest::from_query(alloc, query, options)?;
+        self.send(alloc, request, now)
+    }
+
+    /// The handle's answers are validated.
+    fn is_verifying_dnssec(&self) -> bool {
+        false
+    }
+
+    /// Requests are to have an OPT record.
+    fn is_using_edns(&self) -> bool {
+        true
+    }
+}

@@ -1,0 +1,24 @@
+//! What a lookup is made of: errors, requests, answers with their chains, verifiers and handles.
+//! The layer above may use `DnsHandle` and `Verifier` as bounds, `Recorded` as a handle that tells its replies,
+//! and each type as the plain value of `dns_model` that has its name.
+#![tactic(auto)]
+
+mod error;
+mod handle;
+mod io_kind;
+mod link;
+mod link_tests;
+mod notice;
+mod request;
+mod response;
+mod verifier;
+
+pub use error::{DnsError, NetError, ProtoError};
+pub use handle::DnsHandle;
+pub use io_kind::IoKind;
+pub use link::{Chain, Link};
+pub use link_tests::{all_shown, has_rdata, shows_ds, shows_key, shows_member};
+pub use notice::Notice;
+pub use request::{DnsRequest, DnsRequestOptions};
+pub use response::DnsResponse;
+pub use verifier::Verifier;

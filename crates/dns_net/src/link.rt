@@ -1,0 +1,170 @@
+ghost use Rattle.std.specs.Prelude.{◌≡◌, IfOk, map};
+ghost use Rattle.dns_net.specs.Link.{fact_of};
+
+use dns_name::{Name, NoMemory};
+use dns_record::{DNSClass, Rdata, RecordType, Section};
+use std::marker::Model;
+
+/// A step of a chain of trust (RFC 4035, 5.2 and 5.3). Numbers are those of earlier links, from 0.
+#[derive(Drop)]
+pub enum Link {
+    /// A key that a trust anchor names.
+    Anchored {
+        owner: Name,
+        class: DNSClass,
+        key: Rdata,
+    },
+    /// A key that matches a DS record of an earlier link.
+    Matched {
+        owner: Name,
+        class: DNSClass,
+        key: Rdata,
+        ds_link: u32,
+        ds: Rdata,
+    },
+    /// A key set, each of whose keys an earlier link shows.
+    KeySet {
+        owner: Name,
+        class: DNSClass,
+        keys: Vec<Rdata>,
+        links: Vec<u32>,
+    },
+    /// A set that a key of an earlier link signed.
+    Signed {
+        owner: Name,
+        class: DNSClass,
+        record_type: RecordType,
+        rdatas: Vec<Rdata>,
+        sig: Rdata,
+        key_link: u32,
+        key: Rdata,
+    },
+}
+
+/// The chain of a Secure set, whose last link is that set.
+#[derive(Drop)]
+pub struct Chain {
+    /// Where the set stands.
+    pub section: Section,
+    pub links: Vec<Link>,
+}
+
+impl Model for Chain {
+    ghost use Rattle.std.specs.Prelude.{map};
+    ghost use Rattle.dns_model.specs.Answers.{ChainText};
+    ghost use Rattle.dns_net.specs.Link.{fact_of};
+
+    ghost Value = { ChainText };
+
+    ghost view = { λ c. record { section = c.section; links = map fact_of c.links.items } };
+}
+
+/// Equal rdatas in memory of their own, in order.
+pub fn clone_rdatas(rdatas: &Vec<Rdata>) -> Result<Vec<Rdata>, NoMemory>
+    ensures { IfOk result (λ v. v.items ≡ rdatas.now.items) }
+{
+    let mut all = Vec::new(*rdatas.allocator());
+    for rdata in rdatas {
+        let next = rdata.try_clone()?;
+        all.push(next)?;
+    }
+    Ok(all)
+}
+
+/// Equal links in memory of their own, in order.
+pub fn clone_links(links: &Vec<Link>) -> Result<Vec<Link>, NoMemory>
+    ensures { IfOk result (λ v. map fact_of v.items ≡ map fact_of links.now.items) }
+{
+    let mut all = Vec::new(*links.allocator());
+    for link in links {
+        let next = link.try_clone()?;
+        all.push(next)?;
+    }
+    Ok(all)
+}
+
+impl Link {
+    /// A link that says the same, in memory of its own.
+    pub fn try_clone(&self) -> Result<Link, NoMemory>
+        ensures { IfOk result (λ l. fact_of l ≡ fact_of self.now) }
+    {
+        match self {
+            Link::Anchored { owner, class, key } => {
+                let owner = owner.try_clone()?;
+                let key = key.try_clone()?;
+                let class = *class;
+                Ok(Link::Anchored { owner, class, key })
+            }
+            Link::Matched {
+                owner,
+                class,
+                key,
+                ds_link,
+                ds,
+            } => {
+                let owner = owner.try_clone()?;
+                let key = key.try_clone()?;
+                let ds = ds.try_clone()?;
+                Ok(Link::Matched {
+                    owner,
+                    class: *class,
+                    key,
+                    ds_link: *ds_link,
+                    ds,
+                })
+            }
+            Link::KeySet {
+                owner,
+                class,
+                keys,
+                links,
+            } => {
+                let owner = owner.try_clone()?;
+                let keys = clone_rdatas(keys)?;
+                let links = links.clone()?;
+                Ok(Link::KeySet {
+                    owner,
+                    class: *class,
+                    keys,
+                    links,
+                })
+            }
+            Link::Signed {
+                owner,
+                class,
+                record_type,
+                rdatas,
+                sig,
+                key_link,
+                key,
+            } => {
+                let owner = owner.try_clone()?;
+                let rdatas = clone_rdatas(rdatas)?;
+                let sig = sig.try_clone()?;
+                let key = key.try_clone()?;
+                Ok(Link::Signed {
+                    owner,
+                    class: *class,
+                    record_type: *record_type,
+                    rdatas,
+                    sig,
+                    key_link: *key_link,
+                    key,
+                })
+            }
+        }
+    }
+}
+
+impl Chain {
+    /// An equal value in memory of its own.
+    pub fn try_clone(&self) -> Result<Chain, NoMemory>
+        ensures { IfOk result (λ c. c ≡ self.now) }
+    {
+        let links = clone_links(&self.links)?;
+        Ok(Chain {
+            section: self.section,
+            links,
+        })
+    }
+}

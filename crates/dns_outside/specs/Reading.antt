@@ -1,0 +1,24 @@
+-- What a reading to the end leaves of a source, where the source tells its bytes.
+use Rattle.std.specs.Prelude.{◌≡◌, ℕ, ◌^◌, ◌≤◌, List, [], ◌++◌, length, ⊤, Option, None, Some}
+use Rattle.std.specs.Io.KnownBytes.{Consumes}
+
+-- the most bytes that an input may have
+abbrev pub input_limit : ℕ
+input_limit = 2 ^ 24
+
+-- nothing is left of bytes that were told
+abbrev pub IsEnded : Option (List ℕ) → Option (List ℕ) → Type 0
+IsEnded None now = ⊤
+IsEnded (Some bytes) now = now ≡ Some []
+
+-- bytes were read from the front, at most so many
+pub record ReadsFront (most : ℕ) (before now : Option (List ℕ)) : Type 0 where
+  pub bytes : List ℕ
+  pub bound : length bytes ≤ most
+  pub read : Consumes before now bytes
+
+-- bytes were read, and stand in new behind those of old
+pub record ReadsOnto (before now : Option (List ℕ)) (old new : List ℕ) : Type 0 where
+  pub bytes : List ℕ
+  pub read : Consumes before now bytes
+  pub appended : new ≡ old ++ bytes

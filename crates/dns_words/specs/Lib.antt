@@ -1,0 +1,4 @@
+pub mod Steps
+pub mod Decimals
+pub mod Codes
+pub mod OctetWords
