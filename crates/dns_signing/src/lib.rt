@@ -37,3 +37,6 @@ pub use serial::SerialNumber;
 pub use signed::{signed_data, signed_data_of};
 pub use soa::Soa;
 pub use type_set::TypeSet;
+
+#[cfg(test)]
+mod tests;
