@@ -5,7 +5,7 @@ use dns_name::{Name, NoMemory};
 use std::marker::Model;
 
 /// A question (RFC 1035, 4.1.2). Equality and hash fold the name.
-#[derive(Drop)]
+#[derive(PartialEq, Eq, Hash, Drop)]
 pub struct Query {
     pub name: Name,
     pub query_type: RecordType,
