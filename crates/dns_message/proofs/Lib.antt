@@ -1,5 +1,6 @@
 pub mod BitmapReading
 pub mod Faults
 pub mod NameReading
+pub mod HopReading
 pub mod RdataReading
 pub mod RecordReading

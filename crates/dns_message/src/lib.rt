@@ -3,6 +3,7 @@
 
 mod bitmap;
 mod decode_error;
+mod hops;
 mod item;
 mod message;
 mod message_reader;
