@@ -18,3 +18,6 @@ mod step;
 
 pub use decode_error::{DecodeError, DecodeKind};
 pub use message::{Edns, Message};
+
+#[cfg(test)]
+mod tests;
