@@ -4,3 +4,5 @@ pub mod NameReading
 pub mod HopReading
 pub mod RdataReading
 pub mod RecordReading
+pub mod Writing
+pub mod Standing

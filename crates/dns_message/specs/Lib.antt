@@ -5,3 +5,4 @@ pub mod Fitting
 pub mod RdataAt
 pub mod RecordAt
 pub mod MessageAt
+pub mod WrittenAs
