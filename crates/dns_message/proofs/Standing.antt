@@ -21,7 +21,7 @@ stands_front bytes pos a b s = record {
   before = s.before;
   after = b ++ s.after;
   whole = s.whole ∙ ap (λ (x : List ℕ). s.before ++ x) (append_assoc a b s.after);
-  long = s.long
+  long = s.long;
 }
 
 pub stands_back : (bytes : List ℕ) (pos : ℕ) (a b : List ℕ) → Stands bytes pos (a ++ b) → Stands bytes (pos + length a) b
@@ -29,7 +29,7 @@ stands_back bytes pos a b s = record {
   before = s.before ++ a;
   after = s.after;
   whole = s.whole ∙ ap (λ (x : List ℕ). s.before ++ x) (append_assoc a b s.after) ∙ sym (append_assoc s.before a (b ++ s.after));
-  long = length-append s.before a ∙ ap (λ (n : ℕ). n + length a) s.long
+  long = length-append s.before a ∙ ap (λ (n : ℕ). n + length a) s.long;
 }
 
 pub stands_inside : (bytes : List ℕ) (pos : ℕ) (part : List ℕ) → Stands bytes pos part → pos + length part ≤ length bytes

@@ -20,8 +20,11 @@ some_question : (q : Question) → 0 < length (question_bytes q)
 some_question q = omega (arith, length-wire q.owner, length-append (wire q.owner ++ u16_bytes q.kind) (u16_bytes q.class))
 
 some_record : (r : Rr) → 0 < length (record_bytes r)
-some_record r = omega (arith, length-append (wire r.owner ++ u16_bytes r.kind ++ u16_bytes r.class ++ u32_bytes r.ttl ++ u16_bytes (length r.rdata)) r.rdata,
-    length-append (wire r.owner ++ u16_bytes r.kind ++ u16_bytes r.class ++ u32_bytes r.ttl) (u16_bytes (length r.rdata)))
+some_record r = omega (
+  arith,
+  length-append (wire r.owner ++ u16_bytes r.kind ++ u16_bytes r.class ++ u32_bytes r.ttl ++ u16_bytes (length r.rdata)) r.rdata,
+  length-append (wire r.owner ++ u16_bytes r.kind ++ u16_bytes r.class ++ u32_bytes r.ttl) (u16_bytes (length r.rdata)),
+)
 
 -- the parts of a written message
 pub record IsLong (m : MessageText) : Type 0 where
@@ -64,13 +67,13 @@ has_many_long m h =
     let w = (written_length m).whole in
     let e = long_edns m.response_code m.edns in
     one_of_five (nat_lt 65535 (length m.queries)) (nat_lt 65535 (length m.answers)) (nat_lt 65535 (length m.authorities))
-      (nat_lt 65535 (length m.additionals + edns_count m.edns)) (has_long_options m.edns)
-      (λ k. let many = above (length m.queries) k in omega (arith, w, many))
-      (λ k. let many = above (length m.answers) k in omega (arith, w, many))
-      (λ k. let many = above (length m.authorities) k in omega (arith, w, many))
-      (λ k. let many = above (length m.additionals + edns_count m.edns) k in omega (arith, w, e, many))
-      (λ k. let many = long_options m.response_code m.edns k in omega (arith, w, many))
-      h
+    (nat_lt 65535 (length m.additionals + edns_count m.edns)) (has_long_options m.edns)
+    (λ k. let many = above (length m.queries) k in omega (arith, w, many))
+    (λ k. let many = above (length m.answers) k in omega (arith, w, many))
+    (λ k. let many = above (length m.authorities) k in omega (arith, w, many))
+    (λ k. let many = above (length m.additionals + edns_count m.edns) k in omega (arith, w, e, many))
+    (λ k. let many = long_options m.response_code m.edns k in omega (arith, w, many))
+    h
 
 pub too_many : (m : MessageText) → has_many m ≡ true → encoded m ≡ Err TooLong
 unfolding encoded

@@ -71,7 +71,7 @@ empty_query = record {
   answers = [];
   authorities = [];
   additionals = [];
-  edns = None
+  edns = None;
 }
 
 abbrev pub has_long_options : Option EdnsText → Bool

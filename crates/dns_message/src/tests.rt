@@ -37,6 +37,12 @@ fn error_of(alloc: Global, bytes: &[u8]) -> Option<DecodeError> {
     }
 }
 
+/// The fault of hex text, if it is no message.
+fn fault_of(alloc: Global, text: &str) -> Result<Option<DecodeError>, AllocError> {
+    let bytes = bytes_of(alloc, text)?;
+    Ok(error_of(alloc, &bytes))
+}
+
 #[test]
 fn first_fault_with_its_place(rt: HostRuntime) -> Result<(), Fail> {
     let cases = [
@@ -126,10 +132,8 @@ fn first_fault_with_its_place(rt: HostRuntime) -> Result<(), Fail> {
         ),
     ];
     for (text, kind, offset) in cases {
-        let bytes = bytes_of(rt.alloc(), text)?;
-        let error = error_of(rt.alloc(), &bytes).ok_or("no message")?;
-        assert!(rt; error.kind == kind, "{text}");
-        assert_eq!(rt; error.offset, offset, "{text}");
+        let fault = fault_of(rt.alloc(), text)?;
+        assert!(rt; fault == Some(DecodeError { kind, offset }), "{text}");
     }
     Ok(())
 }
@@ -144,6 +148,51 @@ fn with_rdata(alloc: Global, kind: u8, class: u8, rdata: &[u8]) -> Result<Vec<u8
     bytes.push((rdata.len() % 256) as u8)?;
     bytes.extend_from_slice(rdata)?;
     Ok(bytes)
+}
+
+/// The only answer has this type and rdata.
+fn answers(message: &Message, kind: u8, rdata: &[u8]) -> bool {
+    match message.answers.as_slice() {
+        [answer] => {
+            answer.record_type == RecordType(u16::from(kind))
+                && answer.rdata.as_slice() == rdata
+                && answer.proof == Proof::Indeterminate
+        }
+        _ => false,
+    }
+}
+
+fn is_taken(alloc: Global, kind: u8, class: u8, rdata: &[u8]) -> Result<bool, AllocError> {
+    let bytes = with_rdata(alloc, kind, class, rdata)?;
+    match Message::from_vec(alloc, &bytes) {
+        Ok(message) => Ok(answers(&message, kind, rdata)),
+        Err(_) => Ok(false),
+    }
+}
+
+/// The rdata is refused at its first byte.
+fn is_bad(alloc: Global, kind: u8, rdata: &[u8]) -> Result<bool, AllocError> {
+    let bytes = with_rdata(alloc, kind, 1, rdata)?;
+    let bad = DecodeError {
+        kind: DecodeKind::BadRdata,
+        offset: 23,
+    };
+    Ok(error_of(alloc, &bytes) == Some(bad))
+}
+
+/// Taken as it is, refused one byte short, and one byte long taken only where the shape ends in any bytes. In a class of another
+/// kind, and where it is empty, any rdata is taken.
+fn has_its_shape(alloc: Global, kind: u8, text: &str, long: bool) -> Result<bool, AllocError> {
+    let mut rdata = bytes_of(alloc, text)?;
+    rdata.push(0)?;
+    let size = rdata.len();
+    let exact = &rdata[..size.saturating_sub(1)];
+    let short = &rdata[..size.saturating_sub(2)];
+    let taken = is_taken(alloc, kind, 1, exact)?
+        && is_taken(alloc, kind, 3, short)?
+        && is_taken(alloc, kind, 1, &[])?;
+    let refused = is_bad(alloc, kind, short)? && is_bad(alloc, kind, &rdata)? != long;
+    Ok(taken && refused)
 }
 
 #[test]
@@ -176,76 +225,128 @@ fn each_type_in_its_shape(rt: HostRuntime) -> Result<(), Fail> {
         (50, "01000001 02aabb 01cc 000140", false),
     ];
     for (kind, text, long) in cases {
-        let rdata = bytes_of(rt.alloc(), text)?;
-        let bytes = with_rdata(rt.alloc(), kind, 1, &rdata)?;
-        let message = Message::from_vec(rt.alloc(), &bytes)
-            .ok()
-            .ok_or("of its shape")?;
-        for answer in &message.answers {
-            assert!(rt; answer.record_type == RecordType(u16::from(kind)), "{text}");
-            assert!(rt; answer.rdata.as_slice() == rdata.as_slice(), "{text}");
-            assert!(rt; answer.proof == Proof::Indeterminate, "{text}");
-        }
-        let short = &rdata[..rdata.len().saturating_sub(1)];
-        let error = error_of(rt.alloc(), &with_rdata(rt.alloc(), kind, 1, short)?);
-        assert!(rt;
-            error.is_some_and(|e| e.kind == DecodeKind::BadRdata && e.offset == 23),
-            "{text}"
-        );
-        // in a class of another kind, and where it is empty, any rdata is taken
-        assert!(rt;
-            error_of(rt.alloc(), &with_rdata(rt.alloc(), kind, 3, short)?).is_none(),
-            "{text}"
-        );
-        assert!(rt;
-            error_of(rt.alloc(), &with_rdata(rt.alloc(), kind, 1, &[])?).is_none(),
-            "{text}"
-        );
-        let mut more = rdata;
-        more.push(0)?;
-        let error = error_of(rt.alloc(), &with_rdata(rt.alloc(), kind, 1, &more)?);
-        assert!(rt; error.is_none() == long, "{text}");
+        let shaped = has_its_shape(rt.alloc(), kind, text, long)?;
+        assert!(rt; shaped, "{text}");
     }
     Ok(())
 }
 
+/// The message of hex text.
+fn message_of(alloc: Global, text: &str) -> Result<Option<Message>, AllocError> {
+    let bytes = bytes_of(alloc, text)?;
+    Ok(Message::from_vec(alloc, &bytes).ok())
+}
+
+/// An A record of `a.` and an NS record of `a.` whose rdata is `b.a.`.
+fn has_pointers(message: &Message) -> bool {
+    match message.answers.as_slice() {
+        [a, ns] => {
+            a.name.wire() == [1, 97, 0].as_slice()
+                && ns.name.wire() == [1, 97, 0].as_slice()
+                && a.rdata.as_slice() == [192, 0, 2, 1].as_slice()
+                && ns.rdata.as_slice() == [1, 98, 1, 97, 0].as_slice()
+                && a.ttl == 3600
+                && a.dns_class == DNSClass::IN
+        }
+        _ => false,
+    }
+}
+
+fn has_flags(message: &Message) -> bool {
+    message.id == 0xabcd
+        && message.response
+        && message.op_code.0 == 4
+        && message.authoritative
+        && !message.truncated
+        && message.recursion_desired
+        && !message.recursion_available
+        && !message.authentic_data
+        && message.checking_disabled
+}
+
+fn has_edns(message: &Message) -> bool {
+    match &message.edns {
+        None => false,
+        Some(edns) => {
+            edns.max_payload == 1232
+                && edns.version == 5
+                && edns.dnssec_ok
+                && edns.flags == 3
+                && edns.options.as_slice() == [0xaa, 0xbb].as_slice()
+        }
+    }
+}
+
 #[test]
 fn header_names_and_opt(rt: HostRuntime) -> Result<(), Fail> {
-    // a name by a pointer, and in an rdata a name with a pointer spelled out
-    let bytes = bytes_of(
-        rt.alloc(),
-        "abcd80000001000200000000 01610000010001 c00c0001000100000e100004c0000201 c00c0002000100000e1000040162c00c",
-    )?;
-    let message = Message::from_vec(rt.alloc(), &bytes)
-        .ok()
-        .ok_or("pointers")?;
-    assert_eq!(rt; message.id, 0xabcd);
-    assert_eq!(rt; message.answers.len(), 2);
-    for answer in &message.answers {
-        assert_eq!(rt; answer.name.wire(), [1, 97, 0].as_slice());
-        assert_eq!(rt; answer.ttl, 3600);
-        assert!(rt; answer.dns_class == DNSClass::IN);
-        let rdata = answer.rdata.as_slice();
-        assert!(rt; rdata == [192, 0, 2, 1].as_slice() || rdata == [1, 98, 1, 97, 0].as_slice());
+    let text =
+        "000080000001000200000000 01610000010001 c00c0001000100000e100004c0000201 c00c0002000100000e1000040162c00c";
+    let message = message_of(rt.alloc(), text)?.ok_or("pointers")?;
+    assert!(rt; has_pointers(&message));
+    // each bit of the header apart, the code's bits from both places, and what an OPT says
+    let text = "abcda51f0000000000000001 00002904d0 12058003 0002aabb";
+    let message = message_of(rt.alloc(), text)?.ok_or("an OPT")?;
+    assert!(rt; has_flags(&message) && has_edns(&message));
+    assert!(rt; message.response_code.0 == 0x12f && message.additionals.is_empty());
+    Ok(())
+}
+
+/// Written and read again, a message gives the bytes that it gave.
+fn is_written_again(alloc: Global, text: &str, written: &str) -> Result<bool, AllocError> {
+    let want = bytes_of(alloc, written)?;
+    match message_of(alloc, text)? {
+        None => Ok(false),
+        Some(message) => match message.to_vec(alloc) {
+            Err(_) => Ok(false),
+            Ok(bytes) => Ok(bytes.as_slice() == want.as_slice()),
+        },
     }
-    // each bit of the header apart, and what an OPT says
-    let bytes = bytes_of(
-        rt.alloc(),
-        "0000a51f0000000000000001 00002904d0 12058003 0002aabb",
-    )?;
-    let message = Message::from_vec(rt.alloc(), &bytes).ok().ok_or("an OPT")?;
-    assert!(rt; message.response && message.authoritative && message.recursion_desired);
-    assert!(rt; !message.truncated && !message.recursion_available);
-    assert!(rt; !message.authentic_data && message.checking_disabled);
-    assert_eq!(rt; message.op_code.0, 4);
-    assert_eq!(rt; message.response_code.0, 0x12f);
-    assert_eq!(rt; message.additionals.len(), 0);
-    let edns = message.edns.ok_or("the OPT")?;
-    assert_eq!(rt; edns.max_payload, 1232);
-    assert_eq!(rt; edns.version, 5);
-    assert!(rt; edns.dnssec_ok);
-    assert_eq!(rt; edns.flags, 3);
-    assert_eq!(rt; edns.options.as_slice(), [0xaa, 0xbb].as_slice());
+}
+
+#[test]
+fn written_forms(rt: HostRuntime) -> Result<(), Fail> {
+    let cases = [
+        // pointers are spelled out
+        (
+            "000080000001000200000000 01610000010001 c00c0001000100000e100004c0000201 c00c0002000100000e1000040162c00c",
+            "000080000001000200000000 01610000010001 01610000010001 00000e100004c0000201 01610000020001 00000e10000501620161 00",
+        ),
+        // the bit Z is 0, and the OPT stands last
+        (
+            "abcdffff0000000000000002 00002904d0 12058003 0002aabb 00 ff00 0003 00000000 0001 01",
+            "abcdffbf0000000000000002 00 ff00 0003 00000000 0001 01 00002904d0 12058003 0002aabb",
+        ),
+    ];
+    for (text, written) in cases {
+        assert!(rt; is_written_again(rt.alloc(), text, written)?, "{text}");
+    }
+    let query = Message::query(rt.alloc());
+    let bytes = query.to_vec(rt.alloc()).ok().ok_or("a query")?;
+    assert_eq!(rt; bytes.as_slice(), [0; 12].as_slice());
+    Ok(())
+}
+
+/// A message with one root record of an opaque type and so many bytes of rdata.
+fn with_size(alloc: Global, size: u16) -> Result<Option<Message>, AllocError> {
+    let mut bytes = bytes_of(alloc, "000000000000000100000000 00 ff00 0001 00000000")?;
+    bytes.extend_from_slice(&size.to_be_bytes())?;
+    for _ in 0..size {
+        bytes.push(7)?;
+    }
+    if bytes.len() < 1_000_000 {
+        Ok(Message::from_vec(alloc, &bytes).ok())
+    } else {
+        Ok(None)
+    }
+}
+
+#[test]
+fn longest_message(rt: HostRuntime) -> Result<(), Fail> {
+    let message = with_size(rt.alloc(), 65512)?.ok_or("65,535 bytes")?;
+    let bytes = message.to_vec(rt.alloc()).ok().ok_or("not too long")?;
+    assert_eq!(rt; bytes.as_slice().len(), 65535);
+    let message = with_size(rt.alloc(), 65513)?.ok_or("65,536 bytes")?;
+    assert!(rt; message.to_vec(rt.alloc()).err() == Some(EncodeError::TooLong));
     Ok(())
 }
 
@@ -264,14 +365,40 @@ fn long_name(alloc: Global, last: u8) -> Result<Vec<u8>, AllocError> {
 
 #[test]
 fn long_names(rt: HostRuntime) -> Result<(), Fail> {
-    assert!(rt; error_of(rt.alloc(), &long_name(rt.alloc(), 61)?).is_none());
-    let error = error_of(rt.alloc(), &long_name(rt.alloc(), 62)?).ok_or("256 bytes")?;
-    assert!(rt; error.kind == DecodeKind::BadName && error.offset == 204);
+    let longest = long_name(rt.alloc(), 61)?;
+    assert!(rt; error_of(rt.alloc(), &longest).is_none());
+    let longer = long_name(rt.alloc(), 62)?;
+    let offset = 204;
+    let kind = DecodeKind::BadName;
+    assert!(rt; error_of(rt.alloc(), &longer) == Some(DecodeError { kind, offset }));
     // the label that passes the limit also reaches past the end
-    let bytes = long_name(rt.alloc(), 62)?;
-    let error = error_of(rt.alloc(), &bytes[..bytes.len().min(250)]).ok_or("cut")?;
-    assert!(rt; error.kind == DecodeKind::Short && error.offset == 204);
+    let cut = &longer[..longer.len().min(250)];
+    let kind = DecodeKind::Short;
+    assert!(rt; error_of(rt.alloc(), cut) == Some(DecodeError { kind, offset }));
     Ok(())
+}
+
+/// Some answer, other than want of memory, to the bytes with a pointer at a place.
+fn has_answer(
+    alloc: Global,
+    plain: &Vec<u8>,
+    place: usize,
+    upper: u8,
+    lower: u8,
+) -> Result<bool, AllocError> {
+    let mut bytes = plain.clone()?;
+    if place < bytes.len() {
+        bytes[place] = upper;
+    }
+    if place < bytes.len().saturating_sub(1) {
+        bytes[place + 1] = lower;
+    }
+    match error_of(alloc, &bytes) {
+        None => Ok(true),
+        Some(error) => Ok(
+            error.kind != DecodeKind::NoMemory && error.offset as usize <= bytes.len(),
+        ),
+    }
 }
 
 #[test]
@@ -280,49 +407,45 @@ fn a_pointer_of_each_value_at_each_place(rt: HostRuntime) -> Result<(), Fail> {
         rt.alloc(),
         "000080000001000100000000 01610000010001 c00c0002000100000e1000040162c00c",
     )?;
-    let mut answers: u64 = 0;
-    for place in 0..plain.len().min(100) {
+    for place in 0..plain.len() {
         for upper in [192, 255] {
             for lower in 0..=255u8 {
-                let mut bytes = plain.clone()?;
-                if place + 1 < bytes.len() {
-                    bytes[place] = upper;
-                    bytes[place + 1] = lower;
-                }
-                match error_of(rt.alloc(), &bytes) {
-                    None => answers = answers.saturating_add(1),
-                    Some(error) => {
-                        assert!(rt; error.kind != DecodeKind::NoMemory);
-                        assert!(rt; error.offset as usize <= bytes.len());
-                    }
-                }
+                assert!(rt; has_answer(rt.alloc(), &plain, place, upper, lower)?);
             }
         }
     }
-    assert!(rt; 0 < answers);
     Ok(())
+}
+
+/// An opaque rdata with the name `a.` and 1,000 pointers, each to the one before, the first to that name; then a record whose
+/// owner is a pointer to the last.
+fn row_of_pointers(alloc: Global) -> Result<Vec<u8>, AllocError> {
+    let mut bytes = bytes_of(
+        alloc,
+        "000080000000000200000000 00 ff00 0003 00000000 07d3 016100",
+    )?;
+    let mut target: u16 = 23;
+    for i in 0..1000u16 {
+        bytes.extend_from_slice(&(49152 + target).to_be_bytes())?;
+        target = 26 + 2 * i;
+    }
+    bytes.extend_from_slice(&(49152 + target).to_be_bytes())?;
+    bytes.extend_from_slice(&[255, 0, 0, 3, 0, 0, 0, 0, 0, 0])?;
+    Ok(bytes)
+}
+
+fn last_owner_is_a(message: &Message) -> bool {
+    match message.answers.as_slice() {
+        [_, last] => last.name.wire() == [1, 97, 0].as_slice(),
+        _ => false,
+    }
 }
 
 #[test]
 fn a_row_of_pointers(rt: HostRuntime) -> Result<(), Fail> {
-    // an opaque rdata with the name `a.` and 1,000 pointers, each to the one before, the first to that name
-    let mut bytes = bytes_of(
-        rt.alloc(),
-        "000080000000000200000000 00 ff00 0003 00000000 07d3 016100",
-    )?;
-    let mut target: u16 = 23;
-    for _ in 0..1000 {
-        let here = bytes.len();
-        bytes.push(192 | (target >> 8) as u8)?;
-        bytes.push((target % 256) as u8)?;
-        target = (here % 16384) as u16;
-    }
-    bytes.push(192 | (target >> 8) as u8)?;
-    bytes.push((target % 256) as u8)?;
-    bytes.extend_from_slice(&[255, 0, 0, 3, 0, 0, 0, 0, 0, 0])?;
+    let bytes = row_of_pointers(rt.alloc())?;
     assert!(rt; bytes.len() < 10000);
     let message = Message::from_vec(rt.alloc(), &bytes).ok().ok_or("a row")?;
-    let last = message.answers.iter().last().ok_or("two answers")?;
-    assert_eq!(rt; last.name.wire(), [1, 97, 0].as_slice());
+    assert!(rt; last_owner_is_a(&message));
     Ok(())
 }

@@ -6,4 +6,4 @@ pub returns : goal.returns
 returns c =
     let id : c.message.inside.id ≡ c.args.message.now.id = ap (λ (m : MessageText). m.id) c.message.view_is in
     rw (c.in_ok-push_u16-6.ensures, c.in_ok-push_u16-5.ensures, c.in_ok-push_u16-4.ensures, c.in_ok-push_u16-3.ensures, c.in_ok-push_u16-2.ensures, c.in_ok-push_u16.ensures)
-      (rw (id, c.flags_of.ensures, c.counts_of-counts.ensures.queries, c.counts_of-counts.ensures.answers, c.counts_of-counts.ensures.authorities, c.counts_of-counts.ensures.additionals) (simp append_assoc))
+    (rw (id, c.flags_of.ensures, c.counts_of-counts.ensures.queries, c.counts_of-counts.ensures.answers, c.counts_of-counts.ensures.authorities, c.counts_of-counts.ensures.additionals) (simp append_assoc))
