@@ -8,6 +8,7 @@ mod name_ref;
 mod no_memory;
 mod octets;
 mod reading;
+mod shown;
 
 pub use name::Name;
 pub use name_ref::NameRef;
