@@ -1,2 +1,2 @@
 pub mod Outcome
-pub mod Grouping
+pub mod Joining

@@ -10,7 +10,7 @@ use Rattle.dns_model.specs.Records.{Rr, RrSet}
 use Rattle.dns_model.specs.Sections.{same_set, is_signature, covers, leaders, unsigned_part, set_of, sets_of}
 use Rattle.dns_model.proofs.EachLemmas.{Apart, map_agree}
 use Rattle.dns_model.proofs.SetLemmas.{same_set_left, same_set_refl, leaders_apart}
-use Rattle.dns_sets.specs.Grouping.{joined_by, takes, bare_set, bare_sets}
+use Rattle.dns_sets.specs.Joining.{joined_by, takes, bare_set, bare_sets}
 
 -- ---- leaders of a section with one more record
 
