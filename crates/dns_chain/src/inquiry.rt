@@ -11,6 +11,7 @@ use std::alloc::Global;
 pub(crate) const MOST_SENDS: u32 = 1024;
 
 /// What stays the same over all asks of one lookup.
+#[derive(Drop)]
 pub(crate) struct Inquiry<'a, V> {
     pub(crate) verifier: &'a V,
     pub(crate) anchors: &'a TrustAnchors,

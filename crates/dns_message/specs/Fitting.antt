@@ -1,5 +1,7 @@
 -- What lies where, and what is spelled, after a step in a name or a name.
 use Rattle.std.specs.Prelude.{◌≡◌, ℕ, ◌+◌, ◌<◌, ◌≤◌, true, ◌++◌, List, Option, None, Some, Result, Ok}
+use Rattle.std.specs.Borrow.{Bor}
+use Rattle.std.specs.Global.{Vec}
 use Rattle.dns_model.specs.Names.{Labels, wire, is_name}
 use Rattle.dns_message.specs.declared.decode_error.DecodeError.{DecodeError}
 use Rattle.dns_model.specs.Shapes as shapes
@@ -44,3 +46,13 @@ pub record IsAppended (read : Option (List ℕ × ℕ)) (old new : List ℕ) (ne
 abbrev pub FieldRead : Option (List ℕ × ℕ) → List ℕ → List ℕ → Option ℕ → Type 0
 FieldRead read old new (Some next) = IsAppended read old new next
 FieldRead read old new None = read ≡ None
+
+-- a window at the front of a bitmap as one of the definitions
+abbrev pub window_text : Option (ℕ × Bor (List ℕ) × Bor (List ℕ)) → Option (shapes.Window × List ℕ)
+window_text None = None
+window_text (Some x) = Some (record { number = x.0; bits = x.1.now }, x.2.now)
+
+-- the bytes that a vector holds
+abbrev pub items_in : Option (Vec ℕ) → Option (List ℕ)
+items_in None = None
+items_in (Some v) = Some v.items

@@ -7,7 +7,9 @@ mod item;
 mod message;
 mod name_reader;
 mod number_reader;
+mod rdata;
 mod rdata_reader;
+mod record_reader;
 mod shape;
 mod step;
 

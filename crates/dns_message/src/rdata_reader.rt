@@ -37,7 +37,7 @@ fn push_octets(
 /// Appends a field that stands at `pos` in an rdata which ends at `stop`, a name spelled out. Answers the place after the field,
 /// or `None` where the field doesn't stand there.
 #[tactic(auto, unfolding(crate::specs::RdataAt::field_at))]
-fn push_field(
+pub(crate) fn push_field(
     alloc: Global,
     field: Field,
     bytes: &[u8],

@@ -54,7 +54,7 @@ slice_get-last (x ∷ y ∷ chain) =
     let here : length (x ∷ y ∷ chain) - 1 ≡ suc (length (y ∷ chain) - 1) = omega arith in
     ap (slice_get (x ∷ y ∷ chain)) here ∙ slice_get-last (y ∷ chain)
 
-is_chain-append : (chain : List Fact) (link : Fact) → is_chain (chain ++ link ∷ []) ≡ true
+pub is_chain-append : (chain : List Fact) (link : Fact) → is_chain (chain ++ link ∷ []) ≡ true
 is_chain-append [] link = refl
 is_chain-append (x ∷ chain) link = refl
 

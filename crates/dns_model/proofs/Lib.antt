@@ -12,3 +12,4 @@ pub mod EachLemmas
 pub mod SetLemmas
 pub mod OrderLemmas
 pub mod LabelSteps
+pub mod TextLemmas

@@ -1,5 +1,5 @@
 -- Names with A to Z folded: their wire forms, their equality and what is fed to a hasher.
-use Rattle.std.proofs.Common.{◌≡◌, ℕ, zero, suc, ◌+◌, ◌≤◌, ◌<◌, Bool, true, false, ◌&&◌, cond, List, [], ◌∷◌, ◌++◌, map, length, refl, sym, ap, ◌∙◌, subst, arith, length-append, Decides, IsTrue}
+use Rattle.std.proofs.Common.{◌≡◌, ℕ, zero, suc, ◌+◌, ◌≤◌, ◌<◌, Bool, true, false, ◌&&◌, cond, List, [], ◌∷◌, ◌++◌, map, length, take, fold, get_or, refl, sym, ap, ◌∙◌, subst, arith, length-append, Decides, IsTrue}
 use Rattle.std.specs.Prelude.{nat_le, nat_lt, nat_eq, ◌↔◌}
 use Rattle.std.specs.Char.{to_ascii_lowercase}
 use Rattle.std.specs.Ordering.{on}
@@ -11,7 +11,8 @@ use Rattle.std.specs.Hash.{HashWrites, Alike, same_Alike, on_Alike}
 use Rattle.std.proofs.lemmas.Bool.{and_parts}
 use Rattle.std.proofs.lemmas.Bool.Decides.{nat_tests, same_from_decides, Decides-eqb}
 use Rattle.std.proofs.lemmas.Cmp.{on_equiv, lists_equiv, nat_list_eq_equiv}
-use Rattle.std.proofs.lemmas.List.{map-append, length-map}
+use Rattle.std.proofs.lemmas.List.{map-append, length-map, take_more}
+use Rattle.std.proofs.lemmas.Grind.{fold-append, flat_map-append}
 use Rattle.std.proofs.lemmas.Slice.Eq.{slice_eq-Decides, bytes_eq-Decides}
 use Rattle.dns_model.specs.Names.{Label, Labels, lowered, folded, name_eq, wire, is_label, is_name}
 use Rattle.dns_model.specs.NameForm.{labels_of, IsWire}
@@ -45,11 +46,15 @@ length-wire-folded (label ∷ name) =
 pub is_name-folded : (name : Labels) → is_name (folded name) ≡ is_name name
 is_name-folded name = rw (list_all-folded name, length-wire-folded name) refl
 
+pub lower-wire_of : (name : Labels) → is_name name ≡ true → map to_ascii_lowercase (wire name) ≡ wire (folded name)
+lower-wire_of name good =
+    let parts = and_parts (list_all is_label name) (nat_le (length (wire name)) 255) good in
+    map-wire name parts.0
+
 -- the folded wire form of a name that stands in wire form
 pub lower-wire : (bytes : List ℕ) → IsWire bytes → map to_ascii_lowercase bytes ≡ wire (folded (labels_of bytes))
 lower-wire bytes form =
-    let parts = and_parts (list_all is_label (labels_of bytes)) (nat_le (length (wire (labels_of bytes))) 255) (is_name-labels_of bytes form) in
-    ap (map to_ascii_lowercase) (sym (wire-labels_of bytes form)) ∙ map-wire (labels_of bytes) parts.0
+    ap (map to_ascii_lowercase) (sym (wire-labels_of bytes form)) ∙ lower-wire_of (labels_of bytes) (is_name-labels_of bytes form)
 
 -- ---- equality
 
@@ -89,3 +94,16 @@ pub same_bytes : (a b : Labels) (r : Bool) → is_name a ≡ true → is_name b 
 same_bytes a b r p q is =
     let d = slice_eq-Decides Decides-eqb (wire a) (wire b) r is in
     (λ h. wire_injective a b p q (d.0 h), λ h. d.1 (ap wire h))
+
+-- one byte more is fed, in lower case
+pub fed_more : {S : Type 0} (write : S → List ℕ → S) (s t : S) (bytes : List ℕ) (i byte : ℕ) → i < length bytes → byte ≡ get_or bytes i byte
+    → t ≡ fold write s (flat_map fed.u8 (map to_ascii_lowercase (take i bytes)))
+    → write t (to_ascii_lowercase byte ∷ []) ≡ fold write s (flat_map fed.u8 (map to_ascii_lowercase (take (i + 1) bytes)))
+fed_more write s t bytes i byte lt is so_far =
+    let front = take i bytes in
+    let fed_one : flat_map fed.u8 (map to_ascii_lowercase (take (i + 1) bytes)) ≡ flat_map fed.u8 (map to_ascii_lowercase (take i bytes)) ++ fed.u8 (to_ascii_lowercase byte) =
+    ap (λ (l : List ℕ). flat_map fed.u8 (map to_ascii_lowercase l)) (take_more bytes i byte lt)
+    ∙ ap (λ (b : ℕ). flat_map fed.u8 (map to_ascii_lowercase (take i bytes ++ b ∷ []))) (sym is)
+    ∙ ap (flat_map fed.u8) (map-append to_ascii_lowercase (take i bytes) (byte ∷ []))
+    ∙ flat_map-append fed.u8 (map to_ascii_lowercase (take i bytes)) (to_ascii_lowercase byte ∷ []) in
+    rw (fed_one, fold-append write s (flat_map fed.u8 (map to_ascii_lowercase (take i bytes))) (fed.u8 (to_ascii_lowercase byte)), ← so_far) refl

@@ -62,7 +62,7 @@ name_cmp-cons x y a b same =
     let left : reverse (folded (x ∷ a)) ≡ reverse (folded a) ++ lowered x ∷ [] = reverse-append (lowered x ∷ []) (folded a) in
     let right : reverse (folded (y ∷ b)) ≡ reverse (folded b) ++ lowered y ∷ [] = reverse-append (lowered y ∷ []) (folded b) in
     let long : length (reverse (folded a)) ≡ length (reverse (folded b)) =
-      rw (length-reverse (folded a), length-reverse (folded b), length-map a lowered, length-map b lowered) same in
+    rw (length-reverse (folded a), length-reverse (folded b), length-map a lowered, length-map b lowered) same in
     let whole = cmp-append (slice_cmp nat_cmp) (reverse (folded a)) (reverse (folded b)) (lowered x ∷ []) (lowered y ∷ []) long in
     let last : slice_cmp (slice_cmp nat_cmp) (lowered x ∷ []) (lowered y ∷ []) ≡ slice_cmp nat_cmp (lowered x) (lowered y) = then_Equal (slice_cmp nat_cmp (lowered x) (lowered y)) in
     ap (λ (n : Labels). slice_cmp (slice_cmp nat_cmp) n (reverse (folded (y ∷ b)))) left

@@ -5,7 +5,7 @@ use Rattle.std.specs.Cmp.{IsEquivalence}
 use Rattle.std.specs.List.{filter, find, AllByRecursion}
 use Rattle.std.proofs.lemmas.Bool.{and_parts, and_from, not-true}
 use Rattle.std.proofs.lemmas.Bool.Decides.{Decides-eqb}
-use Rattle.std.proofs.lemmas.Cmp.{on_equiv, lists_equiv, nat_list_eq_equiv}
+use Rattle.std.proofs.lemmas.Cmp.{on_equiv, lists_equiv, nat_eq_equiv, nat_list_eq_equiv}
 use Rattle.std.proofs.lemmas.List.Elements.{filter_agree}
 use Rattle.dns_model.specs.declared.section.Section.{Section}
 use Rattle.dns_model.specs.declared.section.Section.TheVariants.{Answer, Authority, Additional}
@@ -15,7 +15,7 @@ use Rattle.dns_model.specs.Records.{Rr, RrSet}
 use Rattle.dns_model.specs.Sections.{same_set, is_signature, covers, leaders, unsigned_part, set_of, sets_of}
 use Rattle.dns_model.specs.Chains.{is_listed, rdatas_of}
 use Rattle.dns_model.specs.Answers.{Told, Placed, place, placed_sets, section_of, section_eq, ttl_of, first_ttl}
-use Rattle.dns_model.proofs.EachLemmas.{each_more, each_of, each_both, each_append, each_map, each_filter, each_passes, filter-map, map_agree, map-map, Apart, apart_filter, apart_map, apart_agree, apart_append}
+use Rattle.dns_model.proofs.EachLemmas.{each_more, each_of, each_both, each_append, each_front, each_back, each_map, each_unmap, each_filter, each_passes, filter-map, map_agree, map-map, Apart, apart_filter, apart_map, apart_agree, apart_append}
 
 -- ---- equality of names and of numbers
 
@@ -40,6 +40,36 @@ number_refl n = (Decides-eqb n n).1 refl
 
 pub number_same : (m n : ℕ) → (m == n) ≡ true → m ≡ n
 number_same m n h = (Decides-eqb m n).0 h
+
+pub number_back : (m n : ℕ) → (m == n) ≡ (n == m)
+number_back m n = nat_eq_equiv.symm m n
+
+pub section_refl : (a : Section) → section_eq a a ≡ true
+section_refl Answer = refl
+section_refl Authority = refl
+section_refl Additional = refl
+
+pub section_same : (a b : Section) → section_eq a b ≡ true → a ≡ b
+section_same Answer Answer h = refl
+section_same Answer Authority h = cc
+section_same Answer Additional h = cc
+section_same Authority Answer h = cc
+section_same Authority Authority h = refl
+section_same Authority Additional h = cc
+section_same Additional Answer h = cc
+section_same Additional Authority h = cc
+section_same Additional Additional h = refl
+
+pub section_back : (a b : Section) → section_eq a b ≡ section_eq b a
+section_back Answer Answer = refl
+section_back Answer Authority = refl
+section_back Answer Additional = refl
+section_back Authority Answer = refl
+section_back Authority Authority = refl
+section_back Authority Additional = refl
+section_back Additional Answer = refl
+section_back Additional Authority = refl
+section_back Additional Additional = refl
 
 -- ---- records of one set
 
@@ -134,6 +164,21 @@ each_placed P told h =
     (each_append P one two (each_map P (place Answer) (sets_of told.answers) (h Answer)) (each_map P (place Authority) (sets_of told.authorities) (h Authority)))
     (each_map P (place Additional) (sets_of told.additionals) (h Additional))
 
+-- what is shown of each set of a message is shown of those of a section
+pub placed_each : (P : Placed → Type 0) (told : Told) (section : Section) → AllByRecursion P (placed_sets told)
+    → AllByRecursion (λ set. P (place section set)) (sets_of (section_of told section))
+placed_each P told Answer h =
+    each_unmap P (place Answer) (sets_of told.answers)
+    (each_front P (map (place Answer) (sets_of told.answers)) (map (place Authority) (sets_of told.authorities))
+    (each_front P (map (place Answer) (sets_of told.answers) ++ map (place Authority) (sets_of told.authorities)) (map (place Additional) (sets_of told.additionals)) h))
+placed_each P told Authority h =
+    each_unmap P (place Authority) (sets_of told.authorities)
+    (each_back P (map (place Answer) (sets_of told.answers)) (map (place Authority) (sets_of told.authorities))
+    (each_front P (map (place Answer) (sets_of told.answers) ++ map (place Authority) (sets_of told.authorities)) (map (place Additional) (sets_of told.additionals)) h))
+placed_each P told Additional h =
+    each_unmap P (place Additional) (sets_of told.additionals)
+    (each_back P (map (place Answer) (sets_of told.answers) ++ map (place Authority) (sets_of told.authorities)) (map (place Additional) (sets_of told.additionals)) h)
+
 pub proper_placed : (told : Told) → AllByRecursion (λ p. IsProper p.set) (placed_sets told)
 proper_placed told = each_placed (λ p. IsProper p.set) told (λ section. proper_sets (section_of told section))
 
@@ -160,6 +205,9 @@ unfolding sets_of
 begins section =
     each_map (BeginsIn section) (set_of section) (leaders (unsigned_part section))
     (each_of (λ r. BeginsIn section (set_of section r)) (λ r. record { head = head-filter (same_set r) section }) (leaders (unsigned_part section)))
+
+pub begins_placed : (told : Told) → AllByRecursion (λ p. BeginsIn (section_of told p.section) p.set) (placed_sets told)
+begins_placed told = each_placed (λ p. BeginsIn (section_of told p.section) p.set) told (λ section. begins (section_of told section))
 
 -- ---- no two sets of a message are one
 

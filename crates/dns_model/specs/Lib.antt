@@ -2,6 +2,7 @@ pub mod Gives
 pub mod Bytes
 pub mod Names
 pub mod NameForm
+pub mod NameText
 pub mod Types
 pub mod Shapes
 pub mod Views

@@ -3,9 +3,11 @@
 #![tactic(auto)]
 
 mod denial;
+mod name_error;
 mod proof;
 mod section;
 
 pub use denial::Denial;
+pub use name_error::NameError;
 pub use proof::Proof;
 pub use section::Section;

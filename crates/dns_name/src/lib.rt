@@ -2,6 +2,7 @@
 //! `NameRef` as lists of labels, `Octets`, `Rdata` and `Text` as lists of bytes, and the reading of a wire form.
 #![tactic(auto)]
 
+mod comparing;
 mod name;
 mod name_ref;
 mod no_memory;

@@ -1,5 +1,5 @@
-ghost use Rattle.std.specs.Prelude.{◌≡◌, ◌++◌, true, [], IfOk, OnOk, OnErr};
-ghost use Rattle.dns_model.specs.Names.{folded, wire, is_name};
+ghost use Rattle.std.specs.Prelude.{◌≡◌, ◌≤◌, ◌++◌, ◌↔◌, true, [], IfOk, OnOk, OnErr, IsTrue, length};
+ghost use Rattle.dns_model.specs.Names.{at_or_above, folded, is_name, is_wildcard, last_labels, num_labels, parent, wire};
 ghost use Rattle.dns_model.specs.NameForm.{name_of, labels_of, IsWire};
 
 use crate::{NameRef, NoMemory, Octets};
@@ -73,11 +73,76 @@ impl Name {
         self.borrowed().push_folded(into)
     }
 
+    /// The root, which has no label.
+    pub fn root(alloc: Global) -> Result<Name, NoMemory>
+        ensures { IfOk result (λ n. n ≡ []) }
+    {
+        let wire = Octets::from_slice(alloc, &[0])?;
+        Ok(Name { wire })
+    }
+
     /// An equal value in memory of its own.
     pub fn try_clone(&self) -> Result<Name, NoMemory>
         ensures { IfOk result (λ n. n ≡ self.now) }
     {
         let wire = self.wire.try_clone()?;
         Ok(Name { wire })
+    }
+
+    /// How many labels there are, a leading `*` aside (RFC 4034, 3.1.3).
+    pub fn num_labels(&self) -> u8
+        ensures { result ≡ num_labels self.now }
+    {
+        self.borrowed().num_labels()
+    }
+
+    /// How many labels there are; the root has none.
+    pub fn label_count(&self) -> u8
+        ensures value { result ≡ length self.now }
+        ensures limit { result ≤ 127 }
+    {
+        self.borrowed().label_count()
+    }
+
+    /// Whether this is the root.
+    pub fn is_root(&self) -> bool
+        ensures { IsTrue result ↔ (self.now ≡ []) }
+    {
+        self.borrowed().is_root()
+    }
+
+    /// Whether the first label is `*` (RFC 4592, 2.1.1).
+    pub fn is_wildcard(&self) -> bool
+        ensures { result ≡ is_wildcard self.now }
+    {
+        self.borrowed().is_wildcard()
+    }
+
+    /// The name without its first label; the root's is the root.
+    pub fn base_name(&self, alloc: Global) -> Result<Name, NoMemory>
+        ensures { IfOk result (λ n. n ≡ parent self.now) }
+    {
+        self.borrowed().parent().to_name(alloc)
+    }
+
+    /// The name that the last labels make, this many, or all.
+    pub fn trim_to(&self, alloc: Global, labels: u8) -> Result<Name, NoMemory>
+        ensures { IfOk result (λ n. n ≡ last_labels labels self.now) }
+    {
+        self.borrowed().last_labels(labels).to_name(alloc)
+    }
+
+    /// Whether this name is at or above the other: its labels are the other's last, with A to Z as a to z.
+    pub fn zone_of(&self, name: &Name) -> bool
+        ensures { result ≡ at_or_above self.now name.now }
+    {
+        self.borrowed().zone_of(&name.borrowed())
+    }
+
+    /// Whether the two are equal, A to Z apart from a to z.
+    pub fn eq_case(&self, other: &Name) -> bool
+        ensures { IsTrue result ↔ (self.now ≡ other.now) }
+    {
+        self.borrowed().eq_case(&other.borrowed())
     }
 }

@@ -6,4 +6,5 @@ pub mod Replies
 pub mod Conversions
 pub mod Causes
 pub mod Handles
+pub mod Recording
 pub mod Walks

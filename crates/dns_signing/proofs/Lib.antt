@@ -2,3 +2,4 @@ pub mod TagLemmas
 pub mod Through
 pub mod WindowLemmas
 pub mod PartLemmas
+pub mod CanonicalLemmas

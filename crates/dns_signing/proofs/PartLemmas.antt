@@ -1,6 +1,7 @@
 -- Parts of an rdata.
 use Rattle.std.proofs.Common.{◌≡◌, ℕ, ◌+◌, ◌-◌, ◌≤◌, ◌<◌, Bool, true, false, nat_le, cond, List, [], ◌∷◌, length, take, drop, Option, None, Some, refl, sym, ap, ◌∙◌, arith, subst}
 use Rattle.std.proofs.lemmas.Grind.{common_steps}
+use Rattle.std.proofs.lemmas.Bool.{leb-true}
 use Rattle.std.proofs.lemmas.Bool.Decides.{nat_tests}
 use Rattle.dns_signing.proofs.Through.{let_through, test_through}
 use Rattle.dns_model.specs.Shapes.{Part, Plain, counted_in, plain_front}
@@ -15,8 +16,8 @@ pub counted_plain : (bytes text rest : List ℕ) → counted_in bytes ≡ Some (
 unfolding counted_in
 counted_plain [] text rest h = cc
 counted_plain (size ∷ xs) text rest h =
-    let p : (take size xs, drop size xs) ≡ (text, rest) = let_through _ _ _ h in
     let t : nat_le size (length xs) ≡ true = test_through _ _ _ h in
-    let l : size ≤ length xs = grind (arith, nat_tests) in
+    let l : size ≤ length xs = leb-true _ _ t in
+    let p = let_through _ _ _ h in
     let P : List ℕ × List ℕ → Type 0 = λ p. plain_front (length p.0 + 1) (size ∷ xs) ≡ Some (Plain (length p.0 ∷ p.0), p.1) in
     subst P p (counted_whole size xs l)

@@ -3,6 +3,7 @@
 #![tactic(auto)]
 
 mod bytes;
+mod canonical;
 mod counted;
 mod dnskey;
 mod ds;
@@ -18,6 +19,7 @@ mod soa;
 mod type_set;
 mod window;
 
+pub use canonical::{canonical_rdata, has_shape};
 pub use dnskey::Dnskey;
 pub use ds::Ds;
 pub use key_tags::key_tag;

@@ -1,7 +1,8 @@
-ghost use Rattle.std.specs.Prelude.{◌≡◌, IfOk, Bool};
+ghost use Rattle.std.specs.Prelude.{◌≡◌, IfOk};
 ghost use Rattle.std.specs.Option.{option_map};
 ghost use Rattle.dns_model.specs.Chains.{judge};
-ghost use Rattle.dns_judgement.specs.Marks.{verdict_of as verdict_in, is_skipped as is_skipped_by};
+ghost use Rattle.dns_judgement.specs.Judged.{Judged};
+ghost use Rattle.dns_judgement.specs.Marks.{verdict_of as verdict_in, is_skipped as is_skipped_by, is_proved as is_proof};
 ghost use Rattle.dns_judgement.specs.Run.{ask_of as asked_by};
 ghost use Rattle.dns_trust.specs.Verdicts.{verdict_text};
 
@@ -21,6 +22,18 @@ pub enum Verdict {
     Excused,
     /// Neither.
     Failed,
+}
+
+impl Verdict {
+    /// Whether it makes the set Secure.
+    pub fn is_proved(&self) -> bool
+        ensures { result ≡ is_proof (verdict_text self.now) }
+    {
+        match self {
+            Verdict::Proved(_) => true,
+            _ => false,
+        }
+    }
 }
 
 /// The verdict of a signature of a set that isn't DNSKEY, with the judged sets of the answer to its ask; None where the ask

@@ -1,7 +1,6 @@
 -- Words for the numbers of types and classes (RFC 1035, 3.2; RFC 3597, 5; the IANA registry of DNS parameters).
-use Rattle.std.specs.Prelude.{ℕ, ◌==◌, List, [], ◌∷◌, ◌++◌, length, drop, codes, Option, None, Some, is_some, unwrap_or, if◌then◌else◌, nat_eq}
+use Rattle.std.specs.Prelude.{ℕ, ◌==◌, List, [], ◌∷◌, ◌++◌, length, take, drop, codes, Option, None, Some, is_some, unwrap_or, if◌then◌else◌}
 use Rattle.std.specs.Fmt.{decimal}
-use Rattle.std.specs.List.{starts_with}
 use Rattle.std.specs.Option.{option_or}
 use Rattle.dns_model.specs.Keys.{bytes_eq}
 use Rattle.dns_words.specs.Steps.{◌>>=◌}
@@ -36,7 +35,7 @@ code_word rows prefix n = unwrap_or (own_word rows n) (prefix ++ decimal n)
 
 -- what follows the prefix
 abbrev pub after_prefix : List ℕ → List ℕ → Option (List ℕ)
-after_prefix prefix word = if starts_with nat_eq word prefix then Some (drop (length prefix) word) else None
+after_prefix prefix word = if bytes_eq (take (length prefix) word) prefix then Some (drop (length prefix) word) else None
 
 -- a number of 16 bits that has no own word
 abbrev pub if_unnamed : List (ℕ × List ℕ) → ℕ → Option ℕ

@@ -1,0 +1,4 @@
+pub mod SessionText
+pub mod Places
+pub mod Lines
+pub mod Grammar

@@ -1,0 +1,80 @@
+-- The forms of a session's lines: words with one space between each two.
+use Rattle.std.specs.Prelude.{ℕ, List, [], ◌∷◌, codes, Option, None, Some, Result, if◌then◌else◌, ◌^◌, ◌-◌}
+use Rattle.dns_model.specs.Names.{Labels}
+use Rattle.dns_model.specs.Keys.{Anchor, bytes_eq}
+use Rattle.dns_model.specs.Records.{Question, MessageText}
+use Rattle.dns_words.specs.Steps.{◌>>=◌}
+use Rattle.dns_words.specs.Decimals.{decimal_in}
+use Rattle.dns_words.specs.Codes.{type_in}
+use Rattle.dns_words.specs.OctetWords.{octets_in}
+use Rattle.dns_session.specs.SessionText.{AcceptText, ReplyText}
+use Rattle.dns_session.specs.Places.{pieces}
+
+abbrev pub Words : Type 0
+Words = List (List ℕ)
+
+abbrev pub words : List ℕ → Words
+words line = pieces 32 line
+
+-- the words after the first, where that is this word
+abbrev pub after : List ℕ → Words → Option Words
+after word [] = None
+after word (first ∷ rest) = if bytes_eq first word then Some rest else None
+
+-- this line and no other
+abbrev pub fixed : List ℕ → List ℕ → Option (Unit {0})
+fixed text line = if bytes_eq line text then Some tt else None
+
+-- one word
+abbrev pub single : Words → Option (List ℕ)
+single [] = None
+single (a ∷ []) = Some a
+single (a ∷ b ∷ ws) = None
+
+-- three words
+abbrev pub triple : Words → Option (List ℕ × List ℕ × List ℕ)
+triple (a ∷ b ∷ c ∷ []) = Some (a, b, c)
+triple _ = None
+
+-- four words
+abbrev pub quadruple : Words → Option (List ℕ × List ℕ × List ℕ × List ℕ)
+quadruple (a ∷ b ∷ c ∷ d ∷ []) = Some (a, b, c, d)
+quadruple _ = None
+
+-- numbers of eight bits
+unfoldable pub bytes_in : Words → Option (List ℕ)
+bytes_in [] = Some []
+bytes_in (w ∷ ws) = do
+  first ← decimal_in 255 w
+  others ← bytes_in ws
+  Some (first ∷ others)
+
+-- `dns-session 1`
+abbrev pub header_line : List ℕ → Option (Unit {0})
+header_line = fixed (codes "dns-session 1")
+
+-- `moment N`, a number of 64 bits
+abbrev pub moment_line : List ℕ → Option ℕ
+moment_line line = do
+  rest ← after (codes "moment") (words line)
+  number ← single rest
+  decimal_in (2 ^ 64 - 1) number
+
+-- `algorithms` and any number of numbers of eight bits
+abbrev pub algorithms_line : List ℕ → Option (List ℕ)
+algorithms_line line = after (codes "algorithms") (words line) >>= bytes_in
+
+-- `accept ALGORITHM KEY BYTES SIGNATURE`
+abbrev pub accept_line : List ℕ → Option AcceptText
+accept_line line = do
+  rest ← after (codes "accept") (words line)
+  fields ← quadruple rest
+  algorithm ← decimal_in 255 fields.0
+  key ← octets_in fields.1
+  bytes ← octets_in fields.2
+  signature ← octets_in fields.3
+  Some (record { algorithm = algorithm; key = key; bytes = bytes; signature = signature })
+
+-- `end`
+abbrev pub end_line : List ℕ → Option (Unit {0})
+end_line = fixed (codes "end")

@@ -1,0 +1,82 @@
+ghost use Rattle.std.specs.Prelude.{◌≡◌, ◌∷◌, ◌+◌, ◌<◌, ◌==◌, [], length, position, MatchOption, IfSome};
+ghost use Rattle.std.specs.Option.{option_map};
+ghost use Rattle.dns_session.specs.Places.{pieces, next_line, start_of, is_ended};
+
+use std::marker::Model;
+
+/// Where a byte of this value stands first.
+fn place_of(text: &[u8], byte: u8) -> Option<usize>
+    ensures value { result ≡ position (λ b. b == byte) text.now }
+    ensures within { IfSome result (λ at. at < length text.now) }
+{
+    text.iter().position(|b| *b == byte)
+}
+
+/// The bytes before the first byte of a value, and those after it.
+pub(crate) fn cut_at(text: &[u8], byte: u8) -> Option<(&[u8], &[u8])>
+    ensures cut { MatchOption result (pieces byte text.now ≡ text.now ∷ []) (λ x. pieces byte text.now ≡ x.0.now ∷ pieces byte x.1.now) }
+    ensures shorter { IfSome result (λ x. length x.0.now + 1 + length x.1.now ≡ length text.now) }
+{
+    match place_of(text, byte) {
+        Some(at) => Some((&text[..at], &text[at + 1..])),
+        None => None,
+    }
+}
+
+/// The lines of a text from a place on.
+#[derive(Drop)]
+pub(crate) struct Lines<'a> {
+    /// The number of the next line, from 1.
+    number: u64,
+    rest: &'a [u8],
+}
+
+impl<'a> Model for Lines<'a> {
+    ghost use Rattle.std.specs.Prelude.{length, ◌+◌, ◌≤◌, ◌^◌};
+    ghost use Rattle.dns_session.specs.Places.{Place, place, pieces};
+
+    ghost Value = { Place };
+
+    ghost view = { λ l. place l.number (pieces 10 l.rest.now) };
+
+    ghost invariant = { λ l. l.number + length l.rest.now ≤ 2 ^ 63 };
+}
+
+impl<'a> Lines<'a> {
+    /// All lines of a text.
+    pub(crate) fn of(text: &'a [u8]) -> Lines<'a>
+        ensures { result ≡ start_of text.now }
+    {
+        Lines {
+            number: 1,
+            rest: text,
+        }
+    }
+
+    /// The number of the next line.
+    pub(crate) fn number(&self) -> u64
+        ensures { result ≡ self.now.number }
+    {
+        self.number
+    }
+
+    /// The next line, and those after it; none where no LF is left.
+    pub(crate) fn next(&self) -> Option<(&'a [u8], Lines<'a>)>
+        ensures { option_map (λ x. (x.0.now, x.1)) result ≡ next_line self.now }
+    {
+        match cut_at(self.rest, b'\n') {
+            Some((line, rest)) => {
+                let number = self.number + 1;
+                Some((line, Lines { number, rest }))
+            }
+            None => None,
+        }
+    }
+
+    /// No bytes are left.
+    pub(crate) fn is_ended(&self) -> bool
+        ensures { result ≡ is_ended self.now }
+    {
+        self.rest.is_empty()
+    }
+}
