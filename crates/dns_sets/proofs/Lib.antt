@@ -1,3 +1,5 @@
 pub mod Positions
 pub mod PlaceLemmas
 pub mod Joining
+pub mod Signing
+pub mod JoinSteps

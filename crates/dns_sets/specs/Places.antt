@@ -2,6 +2,7 @@
 use Rattle.std.specs.Prelude.{◌≡◌, ℕ, suc, Bool, ◌==◌, ◌&&◌, List, [], ◌∷◌, Option, None, Some, if◌then◌else◌}
 use Rattle.indexmap.specs.IndexMap.{get_by}
 use Rattle.dns_model.specs.Names.{Labels, name_eq}
+use Rattle.dns_model.specs.Views.{SigText}
 use Rattle.dns_model.specs.Records.{RrSet}
 use Rattle.dns_sets.specs.declared.places.Places.{Places}
 use Rattle.dns_sets.specs.Joining.{is_at}
@@ -9,6 +10,11 @@ use Rattle.dns_sets.specs.Joining.{is_at}
 -- the place that an owner and type have
 abbrev pub place_of : Places → Labels → ℕ → Option ℕ
 place_of p owner kind = get_by (λ k. name_eq owner k.0.now && (kind == k.1.0)) p.places
+
+-- the place of the set of an owner that a signature covers
+abbrev pub place_covered : (Labels → ℕ → Option ℕ) → Labels → Option SigText → Option ℕ
+place_covered places owner None = None
+place_covered places owner (Some sig) = places owner sig.covered
 
 abbrev pub or_place : Option ℕ → Option ℕ → Option ℕ
 or_place None place = place
