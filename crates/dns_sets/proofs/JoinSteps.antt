@@ -4,8 +4,9 @@ use Rattle.std.specs.List.{list_any}
 use Rattle.dns_model.specs.Names.{Labels, name_eq}
 use Rattle.dns_model.specs.Views.{SigText}
 use Rattle.dns_model.specs.Records.{Rr, RrSet}
+use Rattle.dns_model.specs.Sections.{leaders}
 use Rattle.dns_sets.specs.declared.places.Places.{Places}
-use Rattle.dns_sets.specs.Joining.{is_at, touched, with_record, with_signature, single, joined_by, signed_by}
+use Rattle.dns_sets.specs.Joining.{is_at, touched, with_record, with_signature, single, joined_by, signed_by, bare_sets}
 use Rattle.dns_sets.specs.Places.{place_of, or_place, with_place, place_in, place_covered, ArePlaces}
 use Rattle.dns_sets.proofs.PlaceLemmas.{IsPlace, is_place, is_absent, place-touched, place-push}
 
@@ -80,3 +81,13 @@ given_places p sets owner s None n x y are is read made = cc
 given_places p sets owner s (Some sig) n x y are is read made =
     subst (ArePlaces p) ((place_at p sets owner sig.covered n are is).changed (with_signature s) x read ∙ ap (set sets n) (sym made))
     (places_kept p sets (is_at owner sig.covered) (with_signature s) (λ q k z. refl) are)
+
+-- ---- before the first record
+
+pub no_places : (p : Places) → ((o : Labels) (k : ℕ) → place_of p o k ≡ None) → ArePlaces p []
+unfolding place_in
+no_places p is = record { each = is }
+
+pub no_sets : bare_sets [] ≡ []
+unfolding leaders
+no_sets = refl

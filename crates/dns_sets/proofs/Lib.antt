@@ -3,3 +3,4 @@ pub mod PlaceLemmas
 pub mod Joining
 pub mod Signing
 pub mod JoinSteps
+pub mod DepthLemmas

@@ -13,7 +13,7 @@ use Rattle.dns_model.specs.Records.{Rr, RrSet}
 use Rattle.dns_model.specs.Sections.{same_set, is_signature, covers, covers_kind, leaders, unsigned_part, set_of, sets_of}
 use Rattle.dns_model.proofs.EachLemmas.{Apart, each_more, each_of, each_passes, map_agree, map-map, apart_map}
 use Rattle.dns_model.proofs.SetLemmas.{leaders_apart, same_key, each_leader, number_same}
-use Rattle.dns_sets.specs.Joining.{is_at, touched, with_signature, signed_by, given, bare_set, bare_sets, part_set}
+use Rattle.dns_sets.specs.Joining.{is_at, touched, with_signature, signed_by, given, bare_set, bare_sets, part_set, part_sets}
 use Rattle.dns_sets.proofs.Joining.{touched_map, at_single}
 
 -- ---- one more signature
@@ -71,10 +71,6 @@ part-push section front r ls apart =
     map_agree (part_set section (front ++ r ∷ [])) one ls
     (each_of (λ l. part_set section (front ++ r ∷ []) l ≡ one l) (λ l. ap (set_with section l) (filter-append (covers l) front (r ∷ []))) ls)
     ∙ give_step section front r ls (is_signature r) (sig_in r.rdata) apart
-
--- the sets of a section, with the signatures of a front part
-abbrev pub part_sets : List Rr → List Rr → List RrSet
-part_sets section front = map (part_set section front) (leaders (unsigned_part section))
 
 -- the signatures that were given, with one more
 pub part_more : (section : List Rr) (i : ℕ) (r : Rr) → i < length section → r ≡ get_or section i r
