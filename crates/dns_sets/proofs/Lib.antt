@@ -4,3 +4,4 @@ pub mod Joining
 pub mod Signing
 pub mod JoinSteps
 pub mod DepthLemmas
+pub mod MarkSteps

@@ -21,7 +21,7 @@ alike_place p owner o kind k h =
     (λ s. ap (λ b. b && (kind == s.1.0)) (name_left owner o s.0.now parts.0) ∙ ap (λ n. name_eq o s.0.now && (n == s.1.0)) (number_same kind k parts.1))
     p.places.entries)
 
-or_none : (o : Option ℕ) → o ≡ or_place o None
+pub or_none : (o : Option ℕ) → o ≡ or_place o None
 or_none None = refl
 or_none (Some n) = refl
 

@@ -49,7 +49,7 @@ fn clear(records: &mut [Record])
     }
 }
 
-fn clear_one(record: &mut Record)
+pub(crate) fn clear_one(record: &mut Record)
     ensures { record.new ≡ cleared record.old }
 {
     record.proof = Proof::Indeterminate;

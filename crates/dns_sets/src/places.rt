@@ -24,7 +24,7 @@ impl<'a> Places<'a> {
     }
 
     /// The place of the set of an owner and type.
-    pub(crate) fn get(&self, owner: &'a Name, record_type: RecordType) -> Option<usize>
+    pub(crate) fn get(&self, owner: &Name, record_type: RecordType) -> Option<usize>
         ensures { result ≡ place_of self.now owner.now record_type.0 }
     {
         self.places.get(&(owner, record_type)).copied()
@@ -44,7 +44,7 @@ impl<'a> Places<'a> {
     }
 
     /// The place of a record's set.
-    pub(crate) fn of_record(&self, met: &'a Record) -> Option<usize>
+    pub(crate) fn of_record(&self, met: &Record) -> Option<usize>
         ensures { result ≡ place_of self.now met.now.owner met.now.kind }
     {
         self.get(&met.name, met.record_type)
