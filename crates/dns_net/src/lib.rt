@@ -16,7 +16,7 @@ mod verifier;
 pub use error::{DnsError, NetError, ProtoError};
 pub use handle::DnsHandle;
 pub use io_kind::IoKind;
-pub use link::{Chain, Link};
+pub use link::{Chain, Link, clone_links};
 pub use link_tests::{all_shown, has_rdata, shows_ds, shows_key, shows_member};
 pub use notice::Notice;
 pub use request::{DnsRequest, DnsRequestOptions};
