@@ -3,6 +3,9 @@ use Rattle.std.specs.Prelude.{ℕ, List, [], ◌∷◌, codes, Option, None, Som
 use Rattle.dns_model.specs.Names.{Labels}
 use Rattle.dns_model.specs.Keys.{Anchor, bytes_eq}
 use Rattle.dns_model.specs.Records.{Question, MessageText}
+use Rattle.dns_model.specs.Types.{class_in}
+use Rattle.dns_message.specs.MessageAt.{message_at}
+use Rattle.dns_words.specs.NameWords.{name_word_in}
 use Rattle.dns_words.specs.Steps.{◌>>=◌}
 use Rattle.dns_words.specs.Decimals.{decimal_in}
 use Rattle.dns_words.specs.Codes.{type_in}
@@ -30,6 +33,11 @@ abbrev pub single : Words → Option (List ℕ)
 single [] = None
 single (a ∷ []) = Some a
 single (a ∷ b ∷ ws) = None
+
+-- two words
+abbrev pub double : Words → Option (List ℕ × List ℕ)
+double (a ∷ b ∷ []) = Some (a, b)
+double _ = None
 
 -- three words
 abbrev pub triple : Words → Option (List ℕ × List ℕ × List ℕ)
@@ -75,6 +83,39 @@ accept_line line = do
   signature ← octets_in fields.3
   Some (record { algorithm = algorithm; key = key; bytes = bytes; signature = signature })
 
+-- `anchor NAME ALGORITHM KEY`
+abbrev pub anchor_line : List ℕ → Option Anchor
+anchor_line line = do
+  rest ← after (codes "anchor") (words line)
+  fields ← triple rest
+  owner ← name_word_in fields.0
+  algorithm ← decimal_in 255 fields.1
+  key ← octets_in fields.2
+  Some (record { owner = owner; algorithm = algorithm; key = key })
+
 -- `end`
 abbrev pub end_line : List ℕ → Option (Unit {0})
 end_line = fixed (codes "end")
+
+-- a question of class IN, by its words
+abbrev pub question_in : List ℕ → List ℕ → Option Question
+question_in name kind = do
+  owner ← name_word_in name
+  number ← type_in kind
+  Some (record { owner = owner; kind = number; class = class_in })
+
+-- `query NAME TYPE`
+abbrev pub query_line : List ℕ → Option Question
+query_line line = do
+  rest ← after (codes "query") (words line)
+  fields ← double rest
+  question_in fields.0 fields.1
+
+-- `reply NAME TYPE MESSAGE`, a message or bytes that are none
+abbrev pub reply_line : List ℕ → Option ReplyText
+reply_line line = do
+  rest ← after (codes "reply") (words line)
+  fields ← triple rest
+  question ← question_in fields.0 fields.1
+  bytes ← octets_in fields.2
+  Some (record { question = question; message = message_at bytes })
