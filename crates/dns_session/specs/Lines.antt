@@ -19,6 +19,11 @@ Words = List (List ℕ)
 abbrev pub words : List ℕ → Words
 words line = pieces 32 line
 
+-- the words of what is left of a line, if something is
+abbrev pub words_left : Option (List ℕ) → Words
+words_left None = []
+words_left (Some rest) = words rest
+
 -- the words after the first, where that is this word
 abbrev pub after : List ℕ → Words → Option Words
 after word [] = None
@@ -36,18 +41,18 @@ single (a ∷ b ∷ ws) = None
 
 -- two words
 abbrev pub double : Words → Option (List ℕ × List ℕ)
-double (a ∷ b ∷ []) = Some (a, b)
-double _ = None
+double [] = None
+double (a ∷ ws) = single ws >>= λ b. Some (a, b)
 
 -- three words
 abbrev pub triple : Words → Option (List ℕ × List ℕ × List ℕ)
-triple (a ∷ b ∷ c ∷ []) = Some (a, b, c)
-triple _ = None
+triple [] = None
+triple (a ∷ ws) = double ws >>= λ more. Some (a, more.0, more.1)
 
 -- four words
 abbrev pub quadruple : Words → Option (List ℕ × List ℕ × List ℕ × List ℕ)
-quadruple (a ∷ b ∷ c ∷ d ∷ []) = Some (a, b, c, d)
-quadruple _ = None
+quadruple [] = None
+quadruple (a ∷ ws) = triple ws >>= λ more. Some (a, more.0, more.1, more.2)
 
 -- numbers of eight bits
 unfoldable pub bytes_in : Words → Option (List ℕ)
@@ -72,26 +77,36 @@ moment_line line = do
 abbrev pub algorithms_line : List ℕ → Option (List ℕ)
 algorithms_line line = after (codes "algorithms") (words line) >>= bytes_in
 
+-- an accepted signature, by its words
+abbrev pub accept_in : List ℕ → List ℕ → List ℕ → List ℕ → Option AcceptText
+accept_in number key bytes signature = do
+  algorithm ← decimal_in 255 number
+  key ← octets_in key
+  bytes ← octets_in bytes
+  signature ← octets_in signature
+  Some (record { algorithm = algorithm; key = key; bytes = bytes; signature = signature })
+
 -- `accept ALGORITHM KEY BYTES SIGNATURE`
 abbrev pub accept_line : List ℕ → Option AcceptText
 accept_line line = do
   rest ← after (codes "accept") (words line)
   fields ← quadruple rest
-  algorithm ← decimal_in 255 fields.0
-  key ← octets_in fields.1
-  bytes ← octets_in fields.2
-  signature ← octets_in fields.3
-  Some (record { algorithm = algorithm; key = key; bytes = bytes; signature = signature })
+  accept_in fields.0 fields.1 fields.2 fields.3
+
+-- a trusted key, by its words
+abbrev pub anchor_in : List ℕ → List ℕ → List ℕ → Option Anchor
+anchor_in name number key = do
+  owner ← name_word_in name
+  algorithm ← decimal_in 255 number
+  key ← octets_in key
+  Some (record { owner = owner; algorithm = algorithm; key = key })
 
 -- `anchor NAME ALGORITHM KEY`
 abbrev pub anchor_line : List ℕ → Option Anchor
 anchor_line line = do
   rest ← after (codes "anchor") (words line)
   fields ← triple rest
-  owner ← name_word_in fields.0
-  algorithm ← decimal_in 255 fields.1
-  key ← octets_in fields.2
-  Some (record { owner = owner; algorithm = algorithm; key = key })
+  anchor_in fields.0 fields.1 fields.2
 
 -- `end`
 abbrev pub end_line : List ℕ → Option (Unit {0})
@@ -111,11 +126,16 @@ query_line line = do
   fields ← double rest
   question_in fields.0 fields.1
 
--- `reply NAME TYPE MESSAGE`, a message or bytes that are none
+-- a reply, by its words: a message or bytes that are none
+abbrev pub reply_in : List ℕ → List ℕ → List ℕ → Option ReplyText
+reply_in name kind message = do
+  question ← question_in name kind
+  bytes ← octets_in message
+  Some (record { question = question; message = message_at bytes })
+
+-- `reply NAME TYPE MESSAGE`
 abbrev pub reply_line : List ℕ → Option ReplyText
 reply_line line = do
   rest ← after (codes "reply") (words line)
   fields ← triple rest
-  question ← question_in fields.0 fields.1
-  bytes ← octets_in fields.2
-  Some (record { question = question; message = message_at bytes })
+  reply_in fields.0 fields.1 fields.2
