@@ -1,5 +1,12 @@
--- What lies where, after a step in a name.
-use Rattle.std.specs.Prelude.{ℕ, ◌+◌, ◌<◌, ◌≤◌}
+-- What lies where, and what is spelled, after a step in a name or a name.
+use Rattle.std.specs.Prelude.{◌≡◌, ℕ, ◌+◌, ◌<◌, ◌≤◌, true, ◌++◌, List, Option, None, Some, Result, Ok}
+use Rattle.std.specs.Borrow.{Bor}
+use Rattle.std.specs.Global.{Vec}
+use Rattle.dns_model.specs.Names.{Labels, wire, is_name}
+use Rattle.dns_message.specs.declared.decode_error.DecodeError.{DecodeError}
+use Rattle.dns_model.specs.Shapes as shapes
+use Rattle.dns_message.specs.declared.shape.Field.{Field}
+use Rattle.dns_message.specs.declared.shape.Field.TheVariants as field
 use Rattle.dns_message.specs.declared.step.Step.{Step}
 use Rattle.dns_message.specs.declared.step.Step.TheVariants as step
 
@@ -8,3 +15,44 @@ abbrev pub FitsStep : ℕ → ℕ → ℕ → ℕ → Step → Type 0
 FitsStep end start pos size step.Root = pos + 1 ≤ end
 FitsStep end start pos size (step.Label n) = (0 < n) × (n ≤ 63) × (pos + 1 + n ≤ end) × (size + 1 + n ≤ 254)
 FitsStep end start pos size (step.Jump target) = (target < start) × (pos + 2 ≤ end)
+
+-- the bytes are the wire form of the name that was read
+pub record IsSpelled (read : Result (Labels × ℕ) DecodeError) (bytes : List ℕ) (next : ℕ) : Type 0 where
+  pub labels : Labels
+  pub told : read ≡ Ok (labels, next)
+  pub spelled : bytes ≡ wire labels
+  pub good : is_name labels ≡ true
+
+-- where the name's bytes end: after its first pointer, or at this place
+abbrev pub ending_or : Option ℕ → ℕ → ℕ
+ending_or None place = place
+ending_or (Some first) place = first
+
+-- a field of the code as one of the definitions
+abbrev pub field_text : Field → shapes.Field
+field_text (field.Octets n) = shapes.Octets n
+field_text field.DomainName = shapes.DomainName
+field_text field.CharacterString = shapes.CharacterString
+field_text field.TypeBitmap = shapes.TypeBitmap
+field_text field.Remainder = shapes.Remainder
+
+-- bytes were appended that were read with the place after them
+pub record IsAppended (read : Option (List ℕ × ℕ)) (old new : List ℕ) (next : ℕ) : Type 0 where
+  pub front : List ℕ
+  pub told : read ≡ Some (front, next)
+  pub grown : new ≡ old ++ front
+
+-- what was read was appended, or there was nothing to read
+abbrev pub FieldRead : Option (List ℕ × ℕ) → List ℕ → List ℕ → Option ℕ → Type 0
+FieldRead read old new (Some next) = IsAppended read old new next
+FieldRead read old new None = read ≡ None
+
+-- a window at the front of a bitmap as one of the definitions
+abbrev pub window_text : Option (ℕ × Bor (List ℕ) × Bor (List ℕ)) → Option (shapes.Window × List ℕ)
+window_text None = None
+window_text (Some x) = Some (record { number = x.0; bits = x.1.now }, x.2.now)
+
+-- the bytes that a vector holds
+abbrev pub items_in : Option (Vec ℕ) → Option (List ℕ)
+items_in None = None
+items_in (Some v) = Some v.items

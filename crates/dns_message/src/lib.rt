@@ -1,10 +1,16 @@
 //! Messages: their parts, how they are read from bytes and written. The layer above sees a message as a `MessageText`.
 #![tactic(auto)]
 
+mod bitmap;
 mod decode_error;
 mod item;
 mod message;
+mod name_reader;
 mod number_reader;
+mod rdata;
+mod rdata_reader;
+mod record_reader;
+mod shape;
 mod step;
 
 pub use decode_error::{DecodeError, DecodeKind};

@@ -1,8 +1,15 @@
 pub mod Worked
+pub mod WorkedAnswers
+pub mod ViewLaws
 pub mod Lists
 pub mod WireLemmas
 pub mod NameSteps
 pub mod NameLemmas
+pub mod Edges
+pub mod Delegation
+pub mod ChainLemmas
+pub mod EachLemmas
+pub mod SetLemmas
 pub mod OrderLemmas
 pub mod LabelSteps
 pub mod TextLemmas

@@ -1,19 +1,17 @@
 -- The definitions on worked rows: what each says of small values, shown by computing it.
-use Rattle.std.specs.Prelude.{◌≡◌, ℕ, Bool, true, false, ◌==◌, ◌&&◌, List, [], ◌∷◌, ◌++◌, Option, None, Some, refl}
-use Rattle.std.specs.Option.{option_map}
+use Rattle.std.specs.Prelude.{◌≡◌, ℕ, Bool, true, false, ◌==◌, ◌&&◌, List, [], ◌∷◌, None, Some, refl}
 use Rattle.std.specs.List.{list_all}
 use Rattle.std.specs.Ordering.{is_lt, is_gt}
-use Rattle.std.specs.declared.cmp.Ordering.TheVariants.{Less, Equal, Greater}
+use Rattle.std.specs.declared.cmp.Ordering.TheVariants.{Less}
 use Rattle.dns_model.specs.Bytes.{u16_bytes, u32_bytes}
-use Rattle.dns_model.specs.Names.{Labels, Label, name_cmp, name_eq, num_labels}
-use Rattle.dns_model.specs.NameForm.{label_in, labels_in, name_in, labels_of}
-use Rattle.dns_model.specs.Serial.{at_or_before, serial_cmp, timely, seconds_left}
-use Rattle.dns_model.specs.Shapes.{counted_in, parts_in, shape_of, is_lowered_type, canonical_form}
-use Rattle.dns_model.specs.Signing.{key_tag_of, tag_sum, insert_once, rising_once, signed_owner, signed_bytes}
+use Rattle.dns_model.specs.Names.{Labels, Label, name_cmp}
+use Rattle.dns_model.specs.NameForm.{label_in, labels_in, name_in}
+use Rattle.dns_model.specs.Serial.{serial_cmp, timely, seconds_left}
+use Rattle.dns_model.specs.Shapes.{parts_in, shape_of, is_lowered_type, canonical_form}
+use Rattle.dns_model.specs.Signing.{key_tag_of, tag_sum, insert_once, rising_once, signed_bytes}
 use Rattle.dns_model.specs.Keys.{Answers, Anchor, bytes_eq}
-use Rattle.dns_model.specs.Chains.{Fact, Judge, judge, Anchored, KeySet, Signed, all_shown, link_holds, links_hold, justified, accepted, last_link, ends_at}
+use Rattle.dns_model.specs.Chains.{Fact, judge, Anchored, KeySet, Signed, all_shown, link_holds, links_hold, justified, accepted}
 use Rattle.dns_model.specs.Views.{SigText, sig_in, key_in}
-use Rattle.dns_model.specs.Records.{RrSet}
 
 -- ---- numbers as bytes
 

@@ -6,6 +6,7 @@ pub mod NameText
 pub mod Types
 pub mod Shapes
 pub mod Views
+pub mod Owned
 pub mod Records
 pub mod Sections
 pub mod Serial

@@ -1,5 +1,10 @@
 pub mod Link
 pub mod Verifiers
 pub mod Requests
+pub mod Errors
+pub mod Replies
+pub mod Conversions
 pub mod Causes
 pub mod Handles
+pub mod Recording
+pub mod Walks

@@ -1,5 +1,4 @@
 -- Links as the facts of a chain of trust.
-use Rattle.std.specs.Prelude.{map}
 use Rattle.dns_model.specs.Chains as chains
 use Rattle.dns_model.specs.Chains.{Fact}
 use Rattle.dns_net.specs.declared.link.Link.{Link}

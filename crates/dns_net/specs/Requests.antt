@@ -1,6 +1,6 @@
 -- Requests (RFC 1035, 4.1; RFC 6891, 6.1).
-use Rattle.std.specs.Prelude.{ℕ, Bool, List, [], ◌∷◌, Option, None, Some}
-use Rattle.dns_model.specs.Records.{Question, MessageText}
+use Rattle.std.specs.Prelude.{true, false, List, [], ◌∷◌, Option, None, Some, if◌then◌else◌}
+use Rattle.dns_model.specs.Records.{Question, EdnsText, MessageText}
 use Rattle.dns_net.specs.declared.request.DnsRequestOptions.{DnsRequestOptions}
 
 -- a message to send, how, and its question as it was first
@@ -9,6 +9,18 @@ pub record RequestText : Type 0 where
   pub options : DnsRequestOptions
   pub original : Option Question
 
+-- the options where nothing is asked for but recursion
+abbrev pub plain_options : DnsRequestOptions
+plain_options = record {
+  use_edns = false;
+  edns_payload_len = 1232;
+  edns_set_dnssec_ok = false;
+  recursion_desired = true;
+  case_randomization = false;
+  max_request_depth = 26;
+  retry_interval_ms = 0;
+}
+
 abbrev pub first_of : List Question → Option Question
 first_of [] = None
 first_of (q ∷ qs) = Some q
@@ -16,3 +28,34 @@ first_of (q ∷ qs) = Some q
 -- the question that a request asks
 abbrev pub first_question : RequestText → Option Question
 first_question request = first_of request.message.queries
+
+-- the OPT record that options ask for
+abbrev pub edns_of : DnsRequestOptions → Option EdnsText
+edns_of options =
+    if options.use_edns
+    then Some (record { max_payload = options.edns_payload_len; version = 0; dnssec_ok = options.edns_set_dnssec_ok; flags = 0; options = [] })
+    else None
+
+-- a query with one question and nothing else but RD and the OPT record
+abbrev pub query_message : Question → DnsRequestOptions → MessageText
+query_message query options = record {
+  id = 0;
+  response = false;
+  op_code = 0;
+  authoritative = false;
+  truncated = false;
+  recursion_desired = options.recursion_desired;
+  recursion_available = false;
+  authentic_data = false;
+  checking_disabled = false;
+  response_code = 0;
+  queries = query ∷ [];
+  answers = [];
+  authorities = [];
+  additionals = [];
+  edns = edns_of options;
+}
+
+-- the request for one question
+abbrev pub request_of : Question → DnsRequestOptions → RequestText
+request_of query options = record { message = query_message query options; options = options; original = None }

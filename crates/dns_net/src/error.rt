@@ -1,6 +1,13 @@
+ghost use Rattle.std.specs.Prelude.{◌≡◌, IfOk};
+ghost use Rattle.dns_net.specs.Replies.{dns_error_of, error_of};
+ghost use Rattle.dns_net.specs.Conversions.{decode_failed, outside_failed};
+ghost use Rattle.dns_net.specs.declared.error.NetError.TheVariants.{NoMemory, Dns, Message, Proto};
+
 use crate::{DnsResponse, IoKind, Notice};
-use dns_name::Name;
+use dns_message::{DecodeError, DecodeKind};
+use dns_name::{Name, NoMemory};
 use dns_record::{DNSClass, Proof, Query, RecordType, ResponseCode};
+use std::alloc::{AllocError, AllocFailed};
 
 /// What DNS itself answers in place of the records.
 #[derive(Drop)]
@@ -17,6 +24,15 @@ pub enum DnsError {
     DnssecBogus,
 }
 
+/// What is wrong with bytes that came, or with a message that was to be written.
+#[derive(Clone, Copy, Debug, PartialEq, Eq, Drop)]
+pub enum ProtoError {
+    /// The bytes are no message.
+    Decode(DecodeError),
+    /// The message has more than 65,535 bytes.
+    TooLong,
+}
+
 /// Why a send or a lookup has no response.
 #[derive(Drop)]
 pub enum NetError {
@@ -28,6 +44,8 @@ pub enum NetError {
     Message(Notice),
     /// No connection can be made.
     NoConnections,
+    /// Bytes that aren't a message came, or a message can't be written.
+    Proto(ProtoError),
     /// The outside failed.
     Io(IoKind),
     /// Nothing came in time.
@@ -44,4 +62,137 @@ pub enum NetError {
     Truncated,
     /// Memory ran out.
     NoMemory,
+}
+
+impl From<NoMemory> for NetError {
+    ghost from_gives = { λ _ e. e ≡ NoMemory };
+
+    fn from(_error: NoMemory) -> Self {
+        NetError::NoMemory
+    }
+}
+
+impl From<AllocError> for NetError {
+    ghost from_gives = { λ _ e. e ≡ NoMemory };
+
+    fn from(_error: AllocError) -> Self {
+        NetError::NoMemory
+    }
+}
+
+impl<T: Drop> From<AllocFailed<T>> for NetError {
+    ghost from_gives = { λ _ e. e ≡ NoMemory };
+
+    fn from(_failed: AllocFailed<T>) -> Self {
+        NetError::NoMemory
+    }
+}
+
+impl From<DnsError> for NetError {
+    ghost from_gives = { λ error e. e ≡ Dns error };
+
+    fn from(error: DnsError) -> Self {
+        NetError::Dns(error)
+    }
+}
+
+impl From<Notice> for NetError {
+    ghost from_gives = { λ notice e. e ≡ Message notice };
+
+    fn from(notice: Notice) -> Self {
+        NetError::Message(notice)
+    }
+}
+
+impl From<ProtoError> for NetError {
+    ghost from_gives = { λ error e. e ≡ Proto error };
+
+    fn from(error: ProtoError) -> Self {
+        NetError::Proto(error)
+    }
+}
+
+/// Want of memory stays want of memory.
+impl From<DecodeError> for NetError {
+    ghost from_gives = { λ error e. e ≡ decode_failed error };
+
+    fn from(error: DecodeError) -> Self {
+        match error.kind {
+            DecodeKind::NoMemory => NetError::NoMemory,
+            _ => NetError::Proto(ProtoError::Decode(error)),
+        }
+    }
+}
+
+/// What came too late is `Timeout`.
+impl From<IoKind> for NetError {
+    ghost from_gives = { λ kind e. e ≡ outside_failed kind };
+
+    fn from(kind: IoKind) -> Self {
+        match kind {
+            IoKind::TimedOut => NetError::Timeout,
+            _ => NetError::Io(kind),
+        }
+    }
+}
+
+impl DnsError {
+    /// An equal error in memory of its own.
+    pub fn try_clone(&self) -> Result<DnsError, NoMemory>
+        ensures { IfOk result (λ e. dns_error_of e ≡ dns_error_of self.now) }
+    {
+        match self {
+            DnsError::ResponseCode(code) => Ok(DnsError::ResponseCode(*code)),
+            DnsError::Nsec {
+                query,
+                response,
+                proof,
+            } => {
+                let query = query.try_clone()?;
+                let content = response.try_clone()?;
+                let response = Box::new(*Box::allocator(response), content)?;
+                Ok(DnsError::Nsec {
+                    query,
+                    response,
+                    proof: *proof,
+                })
+            }
+            DnsError::DnssecBogus => Ok(DnsError::DnssecBogus),
+        }
+    }
+}
+
+impl NetError {
+    /// An equal error in memory of its own.
+    pub fn try_clone(&self) -> Result<NetError, NoMemory>
+        ensures { IfOk result (λ e. error_of e ≡ error_of self.now) }
+    {
+        match self {
+            NetError::Busy => Ok(NetError::Busy),
+            NetError::Dns(error) => {
+                let error = error.try_clone()?;
+                Ok(NetError::Dns(error))
+            }
+            NetError::Message(notice) => Ok(NetError::Message(*notice)),
+            NetError::NoConnections => Ok(NetError::NoConnections),
+            NetError::Proto(error) => Ok(NetError::Proto(*error)),
+            NetError::Io(kind) => Ok(NetError::Io(*kind)),
+            NetError::Timeout => Ok(NetError::Timeout),
+            NetError::QueryCaseMismatch => Ok(NetError::QueryCaseMismatch),
+            NetError::ForeignClassRecord {
+                record_name,
+                record_class,
+                record_type,
+            } => {
+                let record_name = record_name.try_clone()?;
+                Ok(NetError::ForeignClassRecord {
+                    record_name,
+                    record_class: *record_class,
+                    record_type: *record_type,
+                })
+            }
+            NetError::Truncated => Ok(NetError::Truncated),
+            NetError::NoMemory => Ok(NetError::NoMemory),
+        }
+    }
 }

@@ -1,12 +1,13 @@
-ghost use Rattle.std.specs.Prelude.{◌≡◌, ◌≤◌, ℕ, List, Option, Result};
-ghost use Rattle.dns_model.specs.Answers.{ResponseText};
+ghost use Rattle.std.specs.Prelude.{◌≡◌, ◌≤◌, ℕ, List, Option, Some};
 ghost use Rattle.dns_model.specs.Records.{Question};
-ghost use Rattle.dns_net.specs.declared.error.NetError.{NetError};
+ghost use Rattle.dns_net.specs.Errors.{Reply};
+ghost use Rattle.dns_net.specs.Replies.{reply_of};
 ghost use Rattle.dns_net.specs.Requests.{first_question};
 ghost use Rattle.dns_net.specs.Causes.{Rose, HasCause};
-ghost use Rattle.dns_net.specs.Handles.{ReplyIsTold};
+ghost use Rattle.dns_net.specs.Handles.{ReplyIsTold, OrUnsent};
 
-use crate::{DnsRequest, DnsResponse, NetError};
+use crate::{DnsRequest, DnsRequestOptions, DnsResponse, NetError};
+use dns_record::Query;
 use std::alloc::Global;
 
 /// What sends a request and waits for its response.
@@ -18,10 +19,10 @@ pub trait DnsHandle {
     ghost faults: { Self → ℕ };
 
     /// The handle before a `send`, the request's first question, the handle after, the reply.
-    ghost sent: { Self → Option Question → Self → Result ResponseText NetError → Type 0 };
+    ghost sent: { Self → Option Question → Self → Reply → Type 0 };
 
     /// The replies in order, where the handle tells them: the reply to a question is the first with that question.
-    ghost told: { Self → Option (List (Question × Result ResponseText NetError)) };
+    ghost told: { Self → Option (List (Question × Reply)) };
 
     /// Sends the request at a moment, in seconds, and waits. An error other than want of memory comes only where
     /// `faults` rises.
@@ -32,11 +33,30 @@ pub trait DnsHandle {
         now: u64,
     ) -> Result<DnsResponse, NetError>
         ensures sends { Rose (sends self.old) (sends self.new) }
-        ensures sent { sent self.old (first_question request) self.new result }
+        ensures sent { sent self.old (first_question request) self.new (reply_of result) }
         ensures later { faults self.old ≤ faults self.new }
         ensures cause { HasCause (faults self.old) (faults self.new) result }
         ensures told { told self.new ≡ told self.old }
-        ensures reply { ReplyIsTold (told self.old) (first_question request) result };
+        ensures reply { ReplyIsTold (told self.old) (first_question request) (reply_of result) };
+
+    /// Sends the request for one question. Where memory runs out before the send, nothing is sent and nothing changes.
+    fn lookup(
+        &mut self,
+        alloc: Global,
+        query: Query,
+        options: DnsRequestOptions,
+        now: u64,
+    ) -> Result<DnsResponse, NetError>
+        ensures sends { OrUnsent self.old self.new result (Rose (sends self.old) (sends self.new)) }
+        ensures sent { OrUnsent self.old self.new result (sent self.old (Some query) self.new (reply_of result)) }
+        ensures later { faults self.old ≤ faults self.new }
+        ensures cause { HasCause (faults self.old) (faults self.new) result }
+        ensures told { told self.new ≡ told self.old }
+        ensures reply { ReplyIsTold (told self.old) (Some query) (reply_of result) }
+    {
+        let request = DnsRequest::from_query(alloc, query, options)?;
+        self.send(alloc, request, now)
+    }
 
     /// The handle's answers are validated.
     fn is_verifying_dnssec(&self) -> bool {

@@ -7,15 +7,17 @@ mod error;
 mod handle;
 mod io_kind;
 mod link;
+mod link_tests;
 mod notice;
 mod request;
 mod response;
 mod verifier;
 
-pub use error::{DnsError, NetError};
+pub use error::{DnsError, NetError, ProtoError};
 pub use handle::DnsHandle;
 pub use io_kind::IoKind;
 pub use link::{Chain, Link};
+pub use link_tests::{all_shown, has_rdata, shows_ds, shows_key, shows_member};
 pub use notice::Notice;
 pub use request::{DnsRequest, DnsRequestOptions};
 pub use response::DnsResponse;

@@ -1,4 +1,7 @@
-use dns_name::Name;
+ghost use Rattle.std.specs.Prelude.{◌≡◌, IfOk, map};
+ghost use Rattle.dns_net.specs.Link.{fact_of};
+
+use dns_name::{Name, NoMemory};
 use dns_record::{DNSClass, Rdata, RecordType, Section};
 use std::marker::Model;
 
@@ -54,4 +57,114 @@ impl Model for Chain {
     ghost Value = { ChainText };
 
     ghost view = { λ c. record { section = c.section; links = map fact_of c.links.items } };
+}
+
+/// Equal rdatas in memory of their own, in order.
+pub fn clone_rdatas(rdatas: &Vec<Rdata>) -> Result<Vec<Rdata>, NoMemory>
+    ensures { IfOk result (λ v. v.items ≡ rdatas.now.items) }
+{
+    let mut all = Vec::new(*rdatas.allocator());
+    for rdata in rdatas {
+        let next = rdata.try_clone()?;
+        all.push(next)?;
+    }
+    Ok(all)
+}
+
+/// Equal links in memory of their own, in order.
+pub fn clone_links(links: &Vec<Link>) -> Result<Vec<Link>, NoMemory>
+    ensures { IfOk result (λ v. map fact_of v.items ≡ map fact_of links.now.items) }
+{
+    let mut all = Vec::new(*links.allocator());
+    for link in links {
+        let next = link.try_clone()?;
+        all.push(next)?;
+    }
+    Ok(all)
+}
+
+impl Link {
+    /// A link that says the same, in memory of its own.
+    pub fn try_clone(&self) -> Result<Link, NoMemory>
+        ensures { IfOk result (λ l. fact_of l ≡ fact_of self.now) }
+    {
+        match self {
+            Link::Anchored { owner, class, key } => {
+                let owner = owner.try_clone()?;
+                let key = key.try_clone()?;
+                let class = *class;
+                Ok(Link::Anchored { owner, class, key })
+            }
+            Link::Matched {
+                owner,
+                class,
+                key,
+                ds_link,
+                ds,
+            } => {
+                let owner = owner.try_clone()?;
+                let key = key.try_clone()?;
+                let ds = ds.try_clone()?;
+                Ok(Link::Matched {
+                    owner,
+                    class: *class,
+                    key,
+                    ds_link: *ds_link,
+                    ds,
+                })
+            }
+            Link::KeySet {
+                owner,
+                class,
+                keys,
+                links,
+            } => {
+                let owner = owner.try_clone()?;
+                let keys = clone_rdatas(keys)?;
+                let links = links.clone()?;
+                Ok(Link::KeySet {
+                    owner,
+                    class: *class,
+                    keys,
+                    links,
+                })
+            }
+            Link::Signed {
+                owner,
+                class,
+                record_type,
+                rdatas,
+                sig,
+                key_link,
+                key,
+            } => {
+                let owner = owner.try_clone()?;
+                let rdatas = clone_rdatas(rdatas)?;
+                let sig = sig.try_clone()?;
+                let key = key.try_clone()?;
+                Ok(Link::Signed {
+                    owner,
+                    class: *class,
+                    record_type: *record_type,
+                    rdatas,
+                    sig,
+                    key_link: *key_link,
+                    key,
+                })
+            }
+        }
+    }
+}
+
+impl Chain {
+    /// An equal value in memory of its own.
+    pub fn try_clone(&self) -> Result<Chain, NoMemory>
+        ensures { IfOk result (λ c. c ≡ self.now) }
+    {
+        let links = clone_links(&self.links)?;
+        Ok(Chain {
+            section: self.section,
+            links,
+        })
+    }
 }

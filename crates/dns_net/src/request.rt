@@ -1,5 +1,10 @@
-use dns_message::Message;
-use dns_record::Query;
+ghost use Rattle.std.specs.Prelude.{◌≡◌, IfOk};
+ghost use Rattle.dns_net.specs.Requests.{edns_of, plain_options, request_of};
+
+use dns_message::{Edns, Message};
+use dns_name::{NoMemory, Octets};
+use dns_record::{OpCode, Query, ResponseCode};
+use std::alloc::Global;
 use std::marker::Model;
 
 /// How a request is made and sent.
@@ -21,6 +26,23 @@ pub struct DnsRequestOptions {
     pub retry_interval_ms: u64,
 }
 
+/// No EDNS, recursion desired, letters as they are, at most 26 nested asks, sent again at once.
+impl Default for DnsRequestOptions {
+    ghost is_default = { λ options. options ≡ plain_options };
+
+    fn default() -> Self {
+        DnsRequestOptions {
+            use_edns: false,
+            edns_payload_len: 1232,
+            edns_set_dnssec_ok: false,
+            recursion_desired: true,
+            case_randomization: false,
+            max_request_depth: 26,
+            retry_interval_ms: 0,
+        }
+    }
+}
+
 /// A message to send, and how.
 #[derive(Drop)]
 pub struct DnsRequest {
@@ -36,4 +58,77 @@ impl Model for DnsRequest {
     ghost Value = { RequestText };
 
     ghost view = { λ r. record { message = r.message; options = r.options; original = r.original } };
+}
+
+/// The OPT record that the options ask for: version 0, no flag but DO, no option.
+fn make_edns(alloc: Global, options: &DnsRequestOptions) -> Option<Edns>
+    ensures { result ≡ edns_of options.now }
+{
+    if options.use_edns {
+        Some(Edns {
+            max_payload: options.edns_payload_len,
+            version: 0,
+            dnssec_ok: options.edns_set_dnssec_ok,
+            flags: 0,
+            options: Octets::from_vec(Vec::new(alloc)),
+        })
+    } else {
+        None
+    }
+}
+
+impl DnsRequest {
+    /// A request that asks one question: a query of id 0 with RD and an OPT record as the options say (RFC 1035, 4.1.1;
+    /// RFC 6891, 6.1.3). Whoever sends it gives it an id. The only error is want of memory.
+    pub fn from_query(
+        alloc: Global,
+        query: Query,
+        options: DnsRequestOptions,
+    ) -> Result<DnsRequest, NoMemory>
+        ensures { IfOk result (λ r. r ≡ request_of query options) }
+    {
+        let mut queries = Vec::new(alloc);
+        queries.push(query)?;
+        let edns = make_edns(alloc, &options);
+        Ok(DnsRequest {
+            message: Message {
+                id: 0,
+                response: false,
+                op_code: OpCode::QUERY,
+                authoritative: false,
+                truncated: false,
+                recursion_desired: options.recursion_desired,
+                recursion_available: false,
+                authentic_data: false,
+                checking_disabled: false,
+                response_code: ResponseCode::NO_ERROR,
+                queries,
+                answers: Vec::new(alloc),
+                authorities: Vec::new(alloc),
+                additionals: Vec::new(alloc),
+                edns,
+            },
+            options,
+            original: None,
+        })
+    }
+
+    /// An equal value in memory of its own.
+    pub fn try_clone(&self) -> Result<DnsRequest, NoMemory>
+        ensures { IfOk result (λ r. r ≡ self.now) }
+    {
+        let message = self.message.try_clone()?;
+        let original = match &self.original {
+            None => None,
+            Some(query) => {
+                let query = query.try_clone()?;
+                Some(query)
+            }
+        };
+        Ok(DnsRequest {
+            message,
+            options: self.options,
+            original,
+        })
+    }
 }

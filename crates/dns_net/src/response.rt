@@ -1,5 +1,8 @@
+ghost use Rattle.std.specs.Prelude.{◌≡◌, IfOk};
+
 use crate::Chain;
 use dns_message::Message;
+use dns_name::NoMemory;
 use dns_record::Denial;
 use std::marker::Model;
 
@@ -18,4 +21,30 @@ impl Model for DnsResponse {
     ghost Value = { ResponseText };
 
     ghost view = { λ r. record { message = r.message; chains = r.chains.items; denial = r.denial } };
+}
+
+fn clone_chains(chains: &Vec<Chain>) -> Result<Vec<Chain>, NoMemory>
+    ensures { IfOk result (λ v. v.items ≡ chains.now.items) }
+{
+    let mut all = Vec::new(*chains.allocator());
+    for chain in chains {
+        let next = chain.try_clone()?;
+        all.push(next)?;
+    }
+    Ok(all)
+}
+
+impl DnsResponse {
+    /// An equal value in memory of its own.
+    pub fn try_clone(&self) -> Result<DnsResponse, NoMemory>
+        ensures { IfOk result (λ r. r ≡ self.now) }
+    {
+        let message = self.message.try_clone()?;
+        let chains = clone_chains(&self.chains)?;
+        Ok(DnsResponse {
+            message,
+            chains,
+            denial: self.denial,
+        })
+    }
 }

@@ -1,7 +1,11 @@
-ghost use Rattle.std.specs.Prelude.{◌≡◌, ◌≤◌, IfOk, length};
+ghost use Rattle.std.specs.Prelude.{◌≡◌, ◌≤◌, IfOk, length, nat_eq, refl};
+ghost use Rattle.std.specs.Ordering.{nat_cmp, as_partial_cmp};
+ghost use Rattle.std.specs.Cmp.{partial_equiv_from_equiv, partial_order_from_agreeing_total};
+ghost use Rattle.std.specs.Cmp.Lexicographic.{pointwise, slice_cmp, nat_list_eq_equiv, nat_list_cmp_total, texts_ties};
 
 use dns_name::{NoMemory, Octets};
 use std::alloc::Global;
+use std::cmp::Ordering;
 use std::marker::Model;
 
 /// The data of a record, names spelled out (RFC 1035, 3.2.1): at most 65,535 bytes.
@@ -63,5 +67,44 @@ impl Rdata {
     {
         let bytes = self.bytes.try_clone()?;
         Ok(Rdata { bytes })
+    }
+}
+
+impl PartialEq for Rdata {
+    ghost eq = { pointwise nat_eq };
+
+    ghost laws = { partial_equiv_from_equiv nat_list_eq_equiv };
+
+    fn eq(&self, other: &Rdata) -> bool {
+        self.as_slice() == other.as_slice()
+    }
+}
+
+impl Eq for Rdata {
+    ghost laws = { nat_list_eq_equiv };
+}
+
+// The order of the bytes, in which records are signed (RFC 4034, 6.3).
+impl PartialOrd for Rdata {
+    ghost partial_cmp = { as_partial_cmp (slice_cmp nat_cmp) };
+
+    ghost laws = { partial_order_from_agreeing_total (slice_cmp nat_cmp) nat_list_cmp_total (λ x y. refl) texts_ties };
+
+    fn partial_cmp(&self, other: &Rdata) -> Option<Ordering> {
+        Some(self.cmp(other))
+    }
+}
+
+impl Ord for Rdata {
+    ghost cmp = { slice_cmp nat_cmp };
+
+    ghost total = { nat_list_cmp_total };
+
+    ghost matches_partial_cmp = { λ x y. refl };
+
+    ghost matches_eq = { texts_ties };
+
+    fn cmp(&self, other: &Rdata) -> Ordering {
+        self.as_slice().cmp(other.as_slice())
     }
 }

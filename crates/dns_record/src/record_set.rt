@@ -1,8 +1,10 @@
-ghost use Rattle.std.specs.Prelude.{◌≡◌, ◌∷◌, ◌++◌, IfOk};
+ghost use Rattle.std.specs.Prelude.{◌≡◌, ◌∷◌, ◌++◌, [], IsTrue, IfOk, IfErr, OnOk, OnErr};
+ghost use Rattle.dns_model.specs.Names.{name_eq};
 
 use crate::record::clone_records;
 use crate::{DNSClass, Record, RecordType};
 use dns_name::{Name, NoMemory};
+use std::alloc::Global;
 use std::marker::Model;
 
 /// The records of one name, type and class, with the signatures that cover them (RFC 2181, 5).
@@ -24,6 +26,39 @@ impl Model for RecordSet {
 }
 
 impl RecordSet {
+    /// The set of one record: its name, type and class, and no signatures.
+    pub fn of(alloc: Global, first: Record) -> Result<RecordSet, NoMemory>
+        ensures { IfOk result (λ s. s ≡ record { owner = first.owner; kind = first.kind; class = first.class; records = first ∷ []; signatures = [] }) }
+    {
+        let name = first.name.try_clone()?;
+        let record_type = first.record_type;
+        let dns_class = first.dns_class;
+        let mut records = Vec::new(alloc);
+        records.push(first)?;
+        Ok(RecordSet {
+            name,
+            record_type,
+            dns_class,
+            records,
+            rrsigs: Vec::new(alloc),
+        })
+    }
+
+    /// Adds a record of the same name, type and class. For want of memory it hands the record back, and the set stays.
+    pub fn push(&mut self, next: Record) -> Result<(), Record>
+        requires name { IsTrue (name_eq self.old.owner next.owner) }
+        requires kind { self.old.kind ≡ next.kind }
+        requires class { self.old.class ≡ next.class }
+        ensures ok { OnOk result (self.new ≡ record self.old { records = self.old.records ++ next ∷ [] }) }
+        ensures err { OnErr result (self.new ≡ self.old) }
+        ensures back { IfErr result (λ r. r ≡ next) }
+    {
+        match self.records.push(next) {
+            Ok(()) => Ok(()),
+            Err(refused) => Err(refused.value),
+        }
+    }
+
     /// An equal value in memory of its own.
     pub fn try_clone(&self) -> Result<RecordSet, NoMemory>
         ensures { IfOk result (λ s. s ≡ self.now) }

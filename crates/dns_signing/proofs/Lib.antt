@@ -1,1 +1,5 @@
 pub mod TagLemmas
+pub mod Through
+pub mod WindowLemmas
+pub mod PartLemmas
+pub mod CanonicalLemmas

@@ -1,1 +1,4 @@
 pub mod ReadAs
+pub mod Windows
+pub mod Fields
+pub mod Lowered

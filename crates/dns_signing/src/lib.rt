@@ -3,12 +3,30 @@
 #![tactic(auto)]
 
 mod bytes;
+mod canonical;
+mod counted;
 mod dnskey;
 mod ds;
 mod key_tags;
+mod ns;
+mod nsec;
+mod nsec3;
+mod part;
+mod rrsig;
 mod serial;
+mod shape;
+mod soa;
+mod type_set;
+mod window;
 
+pub use canonical::{canonical_rdata, has_shape};
 pub use dnskey::Dnskey;
 pub use ds::Ds;
 pub use key_tags::key_tag;
+pub use ns::Ns;
+pub use nsec::{Nsec, NsecRecord};
+pub use nsec3::{Nsec3, Nsec3Record};
+pub use rrsig::Rrsig;
 pub use serial::SerialNumber;
+pub use soa::Soa;
+pub use type_set::TypeSet;

@@ -1,0 +1,4 @@
+pub mod Heard
+pub mod Inquiries
+pub mod Steps
+pub mod Looked

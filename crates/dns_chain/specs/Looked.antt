@@ -1,0 +1,84 @@
+-- What a lookup answers, and why (RFC 4035, 5).
+use Rattle.std.specs.Prelude.{ℕ, ◌≡◌, ◌⊎◌, ◌≤◌, ◌+◌, List, [], ◌∷◌, Option, None, Some, Result, Ok, Err}
+use Rattle.dns_model.specs.declared.proof.Proof.{Proof}
+use Rattle.dns_model.specs.declared.denial.Denial.TheVariants as denied
+use Rattle.dns_model.specs.Records.{Rr, Question, MessageText}
+use Rattle.dns_model.specs.Chains.{Judge}
+use Rattle.dns_model.specs.Answers.{Told, told_by, placed_sets, ResponseText}
+use Rattle.dns_judgement.specs.Judged.{Judged}
+use Rattle.dns_judgement.specs.Outcome.{Outcome, Unjudged, Accepted, Denied, outcome_of, foreign_record}
+use Rattle.dns_judgement.specs.Marking.{cleared_message, finished}
+use Rattle.dns_judgement.specs.Run.{Run, Sets, most_sends}
+use Rattle.dns_net.specs.Errors as seen
+use Rattle.dns_net.specs.Errors.{Reply, ErrorText}
+use Rattle.dns_net.specs.Walks.{Walked}
+use Rattle.dns_net.specs.declared.notice.Notice.TheVariants.{NotJudgedYet}
+use Rattle.dns_net.specs.Handles.{ReplyIsTold}
+use Rattle.dns_net.specs.Replies.{error_of}
+use Rattle.dns_net.specs.declared.error.NetError.{NetError}
+use Rattle.dns_net.specs.declared.error.NetError.TheVariants.{NoMemory}
+use Rattle.dns_chain.specs.Heard.{heard_message, says_of}
+
+-- the answer of the top step, by its outcome
+abbrev pub answer_by : ℕ → Question → MessageText → List Judged → Outcome → Reply
+answer_by now q message sets Unjudged = Err (seen.Message NotJudgedYet)
+answer_by now q message sets (Accepted denial) = Ok (finished now sets message denial)
+answer_by now q message sets (Denied proof) = Err (seen.Dns (seen.Nsec q (finished now sets message denied.None) proof))
+
+-- the answer that the judged sets of a message make
+abbrev pub judged_answer : ℕ → Question → MessageText → List Judged → Reply
+judged_answer now q message sets = answer_by now q message sets (outcome_of q (told_by message) sets)
+
+-- why a lookup answers as it does (second) after the reply to its own send (first), and how many sends were made
+pub data Looked (j : Judge) (now limit : ℕ) (says : Question → Option Told → Type 0) (q : Question) : Reply → Reply → ℕ → Type 0 where
+  -- an error without a message is passed on
+  Passed : (e : ErrorText) → heard_message (Err e) ≡ None → Looked j now limit says q (Err e) (Err e) 1
+  -- a record of another class is named
+  Foreign : (reply answer : Reply) (m : MessageText) (r : Rr)
+    → heard_message reply ≡ Some m → foreign_record q (told_by (cleared_message m)) ≡ Some r
+    → answer ≡ Err (seen.ForeignClassRecord r.owner r.class r.kind) → Looked j now limit says q reply answer 1
+  -- the sets of the message are judged, and make the answer
+  Judged : (reply answer : Reply) (m : MessageText) (sets : List Judged) (n : ℕ)
+    → heard_message reply ≡ Some m → foreign_record q (told_by (cleared_message m)) ≡ None
+    → Run j limit says 1 (Sets q 0 (placed_sets (told_by (cleared_message m))) sets) n
+    → answer ≡ judged_answer now q (cleared_message m) sets → Looked j now limit says q reply answer n
+
+-- the message of a reply, without its marks
+pub record Heard (reply : Reply) (message : MessageText) : Type 0 where
+  pub from : MessageText
+  pub is : heard_message reply ≡ Some from
+  pub cleared : message ≡ cleared_message from
+
+-- the reply has no message, and is this error
+pub record Unheard (reply : Reply) (error : NetError) : Type 0 where
+  pub none : heard_message reply ≡ None
+  pub is : reply ≡ Err (error_of error)
+
+abbrev pub HeardAs : Reply → Result MessageText NetError → Type 0
+HeardAs reply (Ok message) = Heard reply message
+HeardAs reply (Err error) = Unheard reply error
+
+-- a fact, unless memory ran out
+abbrev pub UnlessNoMemory : {X : Type 0} → Result X NetError → Type 0 → Type 0
+UnlessNoMemory (Ok x) Fact = Fact
+UnlessNoMemory (Err e) Fact = (e ≡ NoMemory) ⊎ Fact
+
+-- one send of a query, its reply, and what was heard of it
+pub record Asked {H : Type 0} (sent : H → Option Question → H → Reply → Type 0) (old new : H)
+  (tells : Option (List (Question × Reply))) (q : Question) (result : Result MessageText NetError) : Type 0 where
+  pub reply : Reply
+  pub step : sent old (Some q) new reply
+  pub told : ReplyIsTold tells (Some q) reply
+  pub heard : HeardAs reply result
+
+-- a whole lookup: the first send, the walk of the asks after it, and why it answers as it does
+pub record IsLookup {H : Type 0} (sent : H → Option Question → H → Reply → Type 0) (old new : H)
+  (tells : Option (List (Question × Reply))) (j : Judge) (now limit : ℕ) (q : Question) (answer : Reply) : Type 0 where
+  pub middle : H
+  pub reply : Reply
+  pub sends : ℕ
+  pub step : sent old (Some q) middle reply
+  pub told : ReplyIsTold tells (Some q) reply
+  pub walk : Walked sent middle new 1 sends
+  pub few : sends ≤ most_sends
+  pub looked : Looked j now limit (says_of tells) q reply answer sends

@@ -1,0 +1,13 @@
+//! The validator: a lookup over any handle that asks for the keys of signers up to a trust anchor, marks each set and gives
+//! the chain of each Secure one (RFC 4035, 5). The layer above may use `DnssecDnsHandle::lookup` by its clauses.
+#![tactic(auto)]
+
+mod asking;
+mod handle;
+mod inquiry;
+mod looking;
+mod walk;
+
+pub use dns_net::Verifier;
+pub use dns_trust::TrustAnchors;
+pub use handle::DnssecDnsHandle;

@@ -1,0 +1,76 @@
+ghost use Rattle.std.specs.Prelude.{◌≡◌, ◌≤◌};
+ghost use Rattle.dns_model.specs.Chains.{judge};
+ghost use Rattle.dns_net.specs.Causes.{HasCause};
+ghost use Rattle.dns_net.specs.Replies.{reply_of};
+ghost use Rattle.dns_chain.specs.Looked.{UnlessNoMemory, IsLookup, judged_answer};
+
+use crate::asking::hear;
+use crate::inquiry::Inquiry;
+use crate::walk::judge_sets;
+use dns_message::Message;
+use dns_name::NoMemory;
+use dns_net::{DnsError, DnsHandle, DnsResponse, NetError, Notice, Verifier};
+use dns_record::{Denial, Query, Record};
+use dns_sets::{finished, foreign_record, judged_part, outcome_of, JudgedSet, Outcome};
+use std::alloc::Global;
+
+/// One lookup: a send for the query, the asks for what its sets need, and the answer.
+pub(crate) fn look<H: DnsHandle, V: Verifier>(
+    alloc: Global,
+    inquiry: &Inquiry<'_, V>,
+    handle: &mut H,
+    query: Query,
+) -> Result<DnsResponse, NetError>
+    ensures later { H.faults handle.old ≤ H.faults handle.new }
+    ensures told { H.told handle.new ≡ H.told handle.old }
+    ensures lookup {
+        UnlessNoMemory result (IsLookup H.sent handle.old handle.new (H.told handle.old)
+            (judge (V.answers inquiry.now.verifier.now) inquiry.now.anchors.now inquiry.now.now) inquiry.now.now inquiry.now.limit query (reply_of result))
+    }
+{
+    let mut sends: u32 = 0;
+    let message = hear(alloc, inquiry, handle, &mut sends, &query)?;
+    if let Some(record) = foreign_record(&query, &message) {
+        return Err(foreign_error(record));
+    }
+    let placed = judged_part(alloc, 0, &message)?;
+    let judged = judge_sets(alloc, inquiry, handle, &mut sends, &query, 0, placed)?;
+    answer(alloc, inquiry.now, query, message, judged)
+}
+
+// The error that names a record of another class.
+fn foreign_error(record: &Record) -> NetError {
+    match record.name.try_clone() {
+        Ok(record_name) => NetError::ForeignClassRecord {
+            record_name,
+            record_class: record.dns_class,
+            record_type: record.record_type,
+        },
+        Err(_) => NetError::NoMemory,
+    }
+}
+
+// The answer that the judged sets of a message make.
+fn answer(
+    alloc: Global,
+    now: u64,
+    query: Query,
+    message: Message,
+    judged: Vec<JudgedSet>,
+) -> Result<DnsResponse, NetError>
+    ensures { UnlessNoMemory result (reply_of result ≡ judged_answer now query message judged.items) }
+{
+    match outcome_of(&query, &message, &judged) {
+        Outcome::Unjudged => Err(NetError::Message(Notice::NotJudgedYet)),
+        Outcome::Accepted(denial) => Ok(finished(alloc, now, judged, message, denial)?),
+        Outcome::Denied(proof) => {
+            let response = finished(alloc, now, judged, message, Denial::None)?;
+            let response = Box::new(alloc, response)?;
+            Err(NetError::Dns(DnsError::Nsec {
+                query,
+                response,
+                proof,
+            }))
+        }
+    }
+}

@@ -1,0 +1,201 @@
+ghost use Rattle.std.specs.Prelude.{◌≡◌, ◌≤◌, ◌<◌, ◌+◌, IfOk, map, take};
+ghost use Rattle.std.specs.Option.{option_map};
+ghost use Rattle.dns_model.specs.Chains.{judge};
+ghost use Rattle.dns_judgement.specs.Judged.{Judged};
+ghost use Rattle.dns_judgement.specs.Marks.{most_signatures};
+ghost use Rattle.dns_judgement.specs.Run.{Run, Sets, Signatures, Ask, most_sends};
+ghost use Rattle.dns_net.specs.Walks.{Walked};
+ghost use Rattle.dns_trust.specs.Verdicts.{verdict_text};
+ghost use Rattle.dns_chain.specs.Heard.{says_of};
+ghost use Rattle.dns_chain.specs.Steps.{SetStep, SignatureStep};
+
+use crate::asking::hear;
+use crate::inquiry::{Inquiry, MOST_SENDS};
+use dns_name::NoMemory;
+use dns_net::{DnsHandle, NetError, Verifier};
+use dns_record::{Query, Record, RecordSet, RecordType};
+use dns_sets::{foreign_record, judged_part, outcome_of, JudgedSet, Outcome, PlacedSet};
+use dns_trust::{ask_of, is_skipped, judged_by, judged_keys, verdict_of, Verdict};
+use std::alloc::Global;
+
+// How many signatures of a set are tried.
+const MOST_SIGNATURES: usize = 8;
+
+/// Judges the sets of a step at a depth, in order.
+#[cycle(walk)]
+pub(crate) fn judge_sets<H: DnsHandle, V: Verifier>(
+    alloc: Global,
+    inquiry: &Inquiry<'_, V>,
+    handle: &mut H,
+    sends: &mut u32,
+    query: &Query,
+    depth: u16,
+    placed: Vec<PlacedSet>,
+) -> Result<Vec<JudgedSet>, NoMemory>
+    requires few { sends.old ≤ most_sends }
+    requires shallow { depth ≤ 256 }
+    ensures few { sends.new ≤ most_sends }
+    ensures walk { Walked H.sent handle.old handle.new sends.old sends.new }
+    ensures later { H.faults handle.old ≤ H.faults handle.new }
+    ensures told { H.told handle.new ≡ H.told handle.old }
+    ensures run {
+        IfOk result (λ v. Run (judge (V.answers inquiry.now.verifier.now) inquiry.now.anchors.now inquiry.now.now) inquiry.now.limit (says_of (H.told handle.old))
+            sends.old (Sets query.now depth placed.items v.items) sends.new)
+    }
+{
+    let mut judged = Vec::new(alloc);
+    for next in placed {
+        let one = judge_set(alloc, inquiry, handle, sends, query, depth, next)?;
+        judged.push(one)?;
+    }
+    Ok(judged)
+}
+
+/// Judges one set: a key set by the anchors, another by its first signatures.
+#[cycle(walk)]
+fn judge_set<H: DnsHandle, V: Verifier>(
+    alloc: Global,
+    inquiry: &Inquiry<'_, V>,
+    handle: &mut H,
+    sends: &mut u32,
+    query: &Query,
+    depth: u16,
+    placed: PlacedSet,
+) -> Result<JudgedSet, NoMemory>
+    requires few { sends.old ≤ most_sends }
+    requires shallow { depth ≤ 256 }
+    ensures few { sends.new ≤ most_sends }
+    ensures walk { Walked H.sent handle.old handle.new sends.old sends.new }
+    ensures later { H.faults handle.old ≤ H.faults handle.new }
+    ensures told { H.told handle.new ≡ H.told handle.old }
+    ensures step {
+        IfOk result (λ s. SetStep (judge (V.answers inquiry.now.verifier.now) inquiry.now.anchors.now inquiry.now.now) inquiry.now.limit (says_of (H.told handle.old))
+            query.now depth placed sends.old s sends.new)
+    }
+{
+    if placed.set.record_type == RecordType::DNSKEY {
+        judged_keys(alloc, inquiry.verifier, inquiry.anchors, inquiry.now, placed)
+    } else {
+        let verdicts = judge_signatures(alloc, inquiry, handle, sends, query, depth, &placed.set)?;
+        judged_by(placed, verdicts)
+    }
+}
+
+/// The verdicts of a set's first signatures, up to the first that proves the set.
+#[cycle(walk)]
+fn judge_signatures<H: DnsHandle, V: Verifier>(
+    alloc: Global,
+    inquiry: &Inquiry<'_, V>,
+    handle: &mut H,
+    sends: &mut u32,
+    query: &Query,
+    depth: u16,
+    set: &RecordSet,
+) -> Result<Vec<Verdict>, NoMemory>
+    requires few { sends.old ≤ most_sends }
+    requires shallow { depth ≤ 256 }
+    ensures few { sends.new ≤ most_sends }
+    ensures walk { Walked H.sent handle.old handle.new sends.old sends.new }
+    ensures later { H.faults handle.old ≤ H.faults handle.new }
+    ensures told { H.told handle.new ≡ H.told handle.old }
+    ensures run {
+        IfOk result (λ v. Run (judge (V.answers inquiry.now.verifier.now) inquiry.now.anchors.now inquiry.now.now) inquiry.now.limit (says_of (H.told handle.old))
+            sends.old (Signatures query.now depth set.now (take most_signatures set.now.signatures) (map verdict_text v.items)) sends.new)
+    }
+{
+    let mut verdicts = Vec::new(alloc);
+    for sig in first_signatures(set) {
+        let verdict = judge_signature(alloc, inquiry, handle, sends, query, depth, set, sig)?;
+        let proved = verdict.is_proved();
+        verdicts.push(verdict)?;
+        if proved {
+            break;
+        }
+    }
+    Ok(verdicts)
+}
+
+// The signatures of a set that are tried.
+fn first_signatures(set: &RecordSet) -> &[Record]
+    ensures { result.now ≡ take most_signatures set.now.signatures }
+{
+    let signatures = set.rrsigs.as_slice();
+    &signatures[..signatures.len().min(MOST_SIGNATURES)]
+}
+
+/// The verdict of one signature, after the ask for its signer's keys.
+#[cycle(walk)]
+fn judge_signature<H: DnsHandle, V: Verifier>(
+    alloc: Global,
+    inquiry: &Inquiry<'_, V>,
+    handle: &mut H,
+    sends: &mut u32,
+    query: &Query,
+    depth: u16,
+    set: &RecordSet,
+    sig: &Record,
+) -> Result<Verdict, NoMemory>
+    requires few { sends.old ≤ most_sends }
+    requires shallow { depth ≤ 256 }
+    ensures few { sends.new ≤ most_sends }
+    ensures walk { Walked H.sent handle.old handle.new sends.old sends.new }
+    ensures later { H.faults handle.old ≤ H.faults handle.new }
+    ensures told { H.told handle.new ≡ H.told handle.old }
+    ensures step {
+        IfOk result (λ v. SignatureStep (judge (V.answers inquiry.now.verifier.now) inquiry.now.anchors.now inquiry.now.now) inquiry.now.limit (says_of (H.told handle.old))
+            query.now depth set.now sig.now sends.old (verdict_text v) sends.new)
+    }
+{
+    if is_skipped(query, set, sig)? {
+        return Ok(Verdict::Failed);
+    }
+    let Some(question) = ask_of(alloc, set, sig)? else {
+        return Ok(Verdict::Failed);
+    };
+    let answer = ask(alloc, inquiry, handle, sends, &question, depth + 1)?;
+    verdict_of(alloc, inquiry.verifier, inquiry.anchors, inquiry.now, set, sig, &answer)
+}
+
+/// Asks a question at a depth: the judged sets of its answer, or None where the ask is refused, fails or isn't answered.
+#[cycle(walk)]
+fn ask<H: DnsHandle, V: Verifier>(
+    alloc: Global,
+    inquiry: &Inquiry<'_, V>,
+    handle: &mut H,
+    sends: &mut u32,
+    query: &Query,
+    depth: u16,
+) -> Result<Option<Vec<JudgedSet>>, NoMemory>
+    requires few { sends.old ≤ most_sends }
+    requires shallow { depth ≤ 257 }
+    ensures few { sends.new ≤ most_sends }
+    ensures walk { Walked H.sent handle.old handle.new sends.old sends.new }
+    ensures later { H.faults handle.old ≤ H.faults handle.new }
+    ensures told { H.told handle.new ≡ H.told handle.old }
+    ensures run {
+        IfOk result (λ a. Run (judge (V.answers inquiry.now.verifier.now) inquiry.now.anchors.now inquiry.now.now) inquiry.now.limit (says_of (H.told handle.old))
+            sends.old (Ask query.now depth (option_map (λ (sets : Vec Judged). sets.items) a)) sends.new)
+    }
+{
+    if depth > inquiry.limit || *sends >= MOST_SENDS {
+        return Ok(None);
+    }
+    let message = match hear(alloc, inquiry, handle, sends, query) {
+        Ok(message) => message,
+        Err(error) => {
+            return match error {
+                NetError::NoMemory => Err(NoMemory),
+                _ => Ok(None),
+            };
+        }
+    };
+    if foreign_record(query, &message).is_some() {
+        return Ok(None);
+    }
+    let placed = judged_part(alloc, depth, &message)?;
+    let judged = judge_sets(alloc, inquiry, handle, sends, query, depth, placed)?;
+    match outcome_of(query, &message, &judged) {
+        Outcome::Accepted(_) => Ok(Some(judged)),
+        _ => Ok(None),
+    }
+}

@@ -1,0 +1,5 @@
+pub mod GoodLemmas
+pub mod StandLemmas
+pub mod KeySetLemmas
+pub mod RunLemmas
+pub mod MarkedLemmas

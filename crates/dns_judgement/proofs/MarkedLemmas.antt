@@ -1,0 +1,248 @@
+-- Marking gives each record of a set, and the signature that decided, the set's own mark, and keeps the rest.
+use Rattle.std.proofs.Common.{◌≡◌, ℕ, Bool, true, false, not, ◌==◌, ◌&&◌, cond, List, [], ◌∷◌, map, Option, None, Some, refl, sym, ap, ◌∙◌, subst, arith}
+use Rattle.std.specs.Prelude.{if◌then◌else◌}
+use Rattle.std.specs.Option.{option_map}
+use Rattle.std.specs.List.{filter, find, AllByRecursion}
+use Rattle.std.proofs.lemmas.Bool.{and_parts, and_from, and_left, false_from_ne_true}
+use Rattle.dns_model.specs.declared.proof.Proof.{Proof}
+use Rattle.dns_model.specs.declared.proof.Proof.TheVariants.{Secure, Insecure, Bogus, Indeterminate}
+use Rattle.dns_model.specs.declared.section.Section.{Section}
+use Rattle.dns_model.specs.Names.{Labels, name_eq}
+use Rattle.dns_model.specs.Types.{type_rrsig, type_dnskey}
+use Rattle.dns_model.specs.Records.{Rr, RrSet}
+use Rattle.dns_model.specs.Sections.{is_signature}
+use Rattle.dns_model.specs.Chains.{Fact, Anchored, Matched, KeySet, Signed, Judge, last_link, ends_at, link_is_for, same_rdatas, rdatas_of}
+use Rattle.dns_model.specs.Answers.{Told, Placed, placed_sets, section_of, section_eq, is_secure, set_kind, covered_kind, ChainText, chain_is_of, link_is_of, last_of, deciding_link}
+use Rattle.dns_model.specs.Views.{sig_in}
+use Rattle.dns_model.proofs.EachLemmas.{each_more, each_both, each_filter, each_passes, each_unmap, find_agree_each, find-map, find-filter, IsFound, find_known, Apart, apart_unmap}
+use Rattle.dns_model.proofs.SetLemmas.{name_equiv, name_back, name_trans, name_left, number_refl, number_same, number_back, section_refl, section_same, section_back, is_of, IsProper, BeginsIn, same_key, same_place, placed_apart, proper_placed, begins_placed, KeepsKey}
+use Rattle.dns_judgement.specs.Judged.{Judged, placed_of, decider, stands, names_decider}
+use Rattle.dns_judgement.specs.Marking.{cleared, is_about, is_record, adjusted_by, adjusted_ttl, marked_by, marked, chain_text, chains_of}
+use Rattle.dns_judgement.proofs.StandLemmas.{IsChainFor, stands_parts}
+use Rattle.dns_judgement.proofs.RunLemmas.{AllStand, AreJudged}
+
+-- ---- what marking keeps
+
+-- the parts of a record that marking keeps
+record IsAlike (t r : Rr) : Type 0 where
+  owner : r.owner ≡ t.owner
+  kind : r.kind ≡ t.kind
+  class : r.class ≡ t.class
+  rdata : r.rdata ≡ t.rdata
+
+alike_step : (b : Bool) (r : Rr) (mark : Proof) (ttl : ℕ) → IsAlike r (if b then cleared r else record r { mark = mark; ttl = ttl })
+alike_step true r mark ttl = record { owner = refl; kind = refl; class = refl; rdata = refl }
+alike_step false r mark ttl = record { owner = refl; kind = refl; class = refl; rdata = refl }
+
+alike_by : (now : ℕ) (r : Rr) (o : Option Judged) → IsAlike r (marked_by now r o)
+alike_by now r None = record { owner = refl; kind = refl; class = refl; rdata = refl }
+alike_by now r (Some s) = alike_step (is_signature r && not (is_record r (decider s))) r s.mark (adjusted_ttl now s r)
+
+pub marked-keeps : (now : ℕ) (ss : List Judged) (section : Section) → KeepsKey (marked now ss section)
+unfolding marked
+marked-keeps now ss section = record {
+  owner = λ r. (alike_by now r (find (is_about section r) ss)).owner;
+  kind = λ r. (alike_by now r (find (is_about section r) ss)).kind;
+  class = λ r. (alike_by now r (find (is_about section r) ss)).class;
+  rdata = λ r. (alike_by now r (find (is_about section r) ss)).rdata
+}
+
+pub cleared-keeps : KeepsKey cleared
+cleared-keeps = record { owner = λ r. refl; kind = λ r. refl; class = λ r. refl; rdata = λ r. refl }
+
+-- ---- the set that a record is about
+
+pub record IsAbout (section : Section) (r : Rr) (s : Judged) : Type 0 where
+  pub section_is : s.section ≡ section
+  pub owner : name_eq s.set.owner r.owner ≡ true
+  pub kind : s.set.kind ≡ set_kind r
+
+pub about_parts : (section : Section) (r : Rr) (s : Judged) → is_about section r s ≡ true → IsAbout section r s
+about_parts section r s h =
+    let one = and_parts (section_eq s.section section) (name_eq s.set.owner r.owner && (s.set.kind == set_kind r)) h in
+    let two = and_parts (name_eq s.set.owner r.owner) (s.set.kind == set_kind r) one.1 in
+    record { section_is = section_same s.section section one.0; owner = two.0; kind = number_same s.set.kind (set_kind r) two.1 }
+
+same_place_from : (section : Section) (r : Rr) (a b : Judged) → IsAbout section r a → IsAbout section r b → same_place (placed_of a) (placed_of b) ≡ true
+same_place_from section r a b p q =
+    let sections : section_eq a.section b.section ≡ true = rw (p.section_is, q.section_is) (section_refl section) in
+    let owners : name_eq a.set.owner b.set.owner ≡ true = name_trans a.set.owner r.owner b.set.owner p.owner (name_back b.set.owner r.owner q.owner) in
+    let kinds : (a.set.kind == b.set.kind) ≡ true = rw (p.kind, q.kind) (number_refl (set_kind r)) in
+    and_from (section_eq a.section b.section) (same_key a.set b.set) sections
+    (and_from (name_eq a.set.owner b.set.owner) (a.set.kind == b.set.kind) owners kinds)
+
+not_about : (section : Section) (r : Rr) (a b : Judged) → same_place (placed_of a) (placed_of b) ≡ false → is_about section r b ≡ true
+    → is_about section r a ≡ false
+not_about section r a b differ h =
+    false_from_ne_true (is_about section r a) (λ k.
+    let same = same_place_from section r a b (about_parts section r a k) (about_parts section r b h) in
+    cc (differ, same))
+
+-- a set is found by each record that is about it
+pub record IsFoundBy (ss : List Judged) (s : Judged) : Type 0 where
+  pub found : (section : Section) (r : Rr) → is_about section r s ≡ true → find (is_about section r) ss ≡ Some s
+
+found_later : (a : Judged) (ss : List Judged) (s : Judged) → (same_place (placed_of a) (placed_of s) ≡ false) × IsFoundBy ss s → IsFoundBy (a ∷ ss) s
+found_later a ss s h = record {
+  found = λ section r is. ap (λ b. cond b (Some a) (find (is_about section r) ss)) (not_about section r a s h.0 is) ∙ h.1.found section r is
+}
+
+pub each_found : (ss : List Judged) → Apart (λ a b. same_place (placed_of a) (placed_of b)) ss → AllByRecursion (IsFoundBy ss) ss
+each_found [] apart = tt
+each_found (a ∷ ss) apart =
+    let Differs = λ (s : Judged). same_place (placed_of a) (placed_of s) ≡ false in
+    (record { found = λ section r is. ap (λ b. cond b (Some a) (find (is_about section r) ss)) is },
+    each_more (λ s. Differs s × IsFoundBy ss s) (IsFoundBy (a ∷ ss)) (found_later a ss) ss (each_both Differs (IsFoundBy ss) ss apart.0 (each_found ss apart.1)))
+
+-- ---- what is known of each judged set of a message
+
+pub record IsKnown (j : Judge) (told : Told) (ss : List Judged) (s : Judged) : Type 0 where
+  pub proper : IsProper s.set
+  pub begins : BeginsIn (section_of told s.section) s.set
+  pub stand : stands j s ≡ true
+  pub found : IsFoundBy ss s
+
+pub each_known : (j : Judge) (told : Told) (ss : List Judged) → AreJudged j (placed_sets told) ss → AllByRecursion (IsKnown j told ss) ss
+each_known j told ss judged =
+    let back = sym judged.grouped in
+    let Proper = λ (s : Judged). IsProper s.set in
+    let Begins = λ (s : Judged). BeginsIn (section_of told s.section) s.set in
+    let Stands = λ (s : Judged). stands j s ≡ true in
+    let proper : AllByRecursion Proper ss =
+      each_unmap (λ p. IsProper p.set) placed_of ss (subst (λ ps. AllByRecursion (λ p. IsProper p.set) ps) back (proper_placed told)) in
+    let begins : AllByRecursion Begins ss =
+      each_unmap (λ p. BeginsIn (section_of told p.section) p.set) placed_of ss
+      (subst (λ ps. AllByRecursion (λ p. BeginsIn (section_of told p.section) p.set) ps) back (begins_placed told)) in
+    let apart : Apart (λ a b. same_place (placed_of a) (placed_of b)) ss =
+      apart_unmap same_place placed_of ss (subst (λ ps. Apart same_place ps) back (placed_apart told)) in
+    each_more (λ s. Proper s × (Begins s × (Stands s × IsFoundBy ss s))) (IsKnown j told ss)
+    (λ s h. record { proper = h.0; begins = h.1.0; stand = h.1.1.0; found = h.1.1.1 }) ss
+    (each_both Proper (λ s. Begins s × (Stands s × IsFoundBy ss s)) ss proper
+    (each_both Begins (λ s. Stands s × IsFoundBy ss s) ss begins (each_both Stands (IsFoundBy ss) ss judged.stand (each_found ss apart))))
+
+-- ---- the records of a set
+
+-- the kind of a record that isn't a signature
+pub plain_kind : (r : Rr) → is_signature r ≡ false → set_kind r ≡ r.kind
+plain_kind r h = ap (λ b. cond b (covered_kind (sig_in r.rdata) r.kind) r.kind) h
+
+pub record IsOwn (set : RrSet) (r : Rr) : Type 0 where
+  pub owner : name_eq set.owner r.owner ≡ true
+  pub kind : set.kind ≡ r.kind
+  pub plain : is_signature r ≡ false
+
+pub own_from : (set : RrSet) (r : Rr) → IsProper set → is_of set r ≡ true → IsOwn set r
+own_from set r proper h =
+    let parts = and_parts (name_eq set.owner r.owner) (set.kind == r.kind) h in
+    let kind = number_same set.kind r.kind parts.1 in
+    record { owner = parts.0; kind = kind; plain = ap (λ n. n == type_rrsig) (sym kind) ∙ proper.plain }
+
+-- a set's own record is about it
+pub own_about : (s : Judged) (r : Rr) → IsOwn s.set r → is_about s.section r s ≡ true
+own_about s r own =
+    let kind : (s.set.kind == set_kind r) ≡ true =
+      ap (λ n. s.set.kind == n) (plain_kind r own.plain) ∙ ap (λ n. n == r.kind) own.kind ∙ number_refl r.kind in
+    and_from (section_eq s.section s.section) (name_eq s.set.owner r.owner && (s.set.kind == set_kind r)) (section_refl s.section)
+    (and_from (name_eq s.set.owner r.owner) (s.set.kind == set_kind r) own.owner kind)
+
+-- a set's own record as it is marked
+pub own_marked : (now : ℕ) (ss : List Judged) (s : Judged) (r : Rr) → IsFoundBy ss s → IsOwn s.set r
+    → marked now ss s.section r ≡ record r { mark = s.mark; ttl = adjusted_ttl now s r }
+unfolding marked
+own_marked now ss s r found own =
+    ap (marked_by now r) (found.found s.section r (own_about s r own))
+    ∙ ap (λ b. if b && not (is_record r (decider s)) then cleared r else record r { mark = s.mark; ttl = adjusted_ttl now s r }) own.plain
+
+-- ---- Secure records
+
+-- a record that is marked Secure, with the set that it is about
+pub record IsMadeSecure (now : ℕ) (ss : List Judged) (section : Section) (r : Rr) : Type 0 where
+  pub set : Judged
+  pub found : find (is_about section r) ss ≡ Some set
+  pub secure : is_secure set.mark ≡ true
+  pub decides : (is_signature r && not (is_record r (decider set))) ≡ false
+  pub form : marked now ss section r ≡ record r { mark = set.mark; ttl = adjusted_by now set r (decider set) }
+
+record IsSecureForm (r : Rr) (b secure : Bool) (mark : Proof) (ttl : ℕ) : Type 0 where
+  is_kept : b ≡ false
+  is_secure_mark : secure ≡ true
+  form : (if b then cleared r else record r { mark = mark; ttl = if secure then ttl else r.ttl }) ≡ record r { mark = mark; ttl = ttl }
+
+secure_form : (r : Rr) (b secure : Bool) (mark : Proof) (ttl : ℕ) → is_secure mark ≡ secure
+    → is_secure ((if b then cleared r else record r { mark = mark; ttl = if secure then ttl else r.ttl }).mark) ≡ true → IsSecureForm r b secure mark ttl
+secure_form r true secure mark ttl is h = cc
+secure_form r false true mark ttl is h = record { is_kept = refl; is_secure_mark = refl; form = refl }
+secure_form r false false mark ttl is h = cc
+
+made_by : (now : ℕ) (ss : List Judged) (section : Section) (r : Rr) (o : Option Judged) → find (is_about section r) ss ≡ o
+    → marked now ss section r ≡ marked_by now r o → is_secure ((marked_by now r o).mark) ≡ true → IsMadeSecure now ss section r
+made_by now ss section r None is form h = cc
+made_by now ss section r (Some s) is form h =
+    let f = secure_form r (is_signature r && not (is_record r (decider s))) (is_secure s.mark) s.mark (adjusted_by now s r (decider s)) refl h in
+    record { set = s; found = is; secure = f.is_secure_mark; decides = f.is_kept; form = form ∙ f.form }
+
+pub made_secure : (now : ℕ) (ss : List Judged) (section : Section) (r : Rr) → is_secure ((marked now ss section r).mark) ≡ true → IsMadeSecure now ss section r
+unfolding marked
+made_secure now ss section r h = made_by now ss section r (find (is_about section r) ss) refl refl h
+
+plain_form : (r : Rr) (b secure : Bool) (mark : Proof) (ttl : ℕ) → is_secure mark ≡ secure
+    → is_secure ((if b then cleared r else record r { mark = mark; ttl = if secure then ttl else r.ttl }).mark) ≡ false
+    → (if b then cleared r else record r { mark = mark; ttl = if secure then ttl else r.ttl }).ttl ≡ r.ttl
+plain_form r true secure mark ttl is h = refl
+plain_form r false true mark ttl is h = cc
+plain_form r false false mark ttl is h = refl
+
+plain_by : (now : ℕ) (r : Rr) (o : Option Judged) → is_secure ((marked_by now r o).mark) ≡ false → (marked_by now r o).ttl ≡ r.ttl
+plain_by now r None h = refl
+plain_by now r (Some s) h =
+    plain_form r (is_signature r && not (is_record r (decider s))) (is_secure s.mark) s.mark (adjusted_by now s r (decider s)) refl h
+
+-- the ttl of a record that isn't Secure stays
+pub plain_ttl : (now : ℕ) (ss : List Judged) (section : Section) (r : Rr) → is_secure ((marked now ss section r).mark) ≡ false
+    → (marked now ss section r).ttl ≡ r.ttl
+unfolding marked
+plain_ttl now ss section r h = plain_by now r (find (is_about section r) ss) h
+
+-- ---- the chain of the set that a record is about
+
+agrees : (set : RrSet) (o owner : Labels) (k kind : ℕ) (rest : Bool) → ((set.kind == k) && (name_eq set.owner o && rest)) ≡ true
+    → (name_eq owner o && (kind == k)) ≡ (name_eq set.owner owner && (set.kind == kind))
+agrees set o owner k kind rest h =
+    let one = and_parts (set.kind == k) (name_eq set.owner o && rest) h in
+    let two = and_parts (name_eq set.owner o) rest one.1 in
+    let names : name_eq owner o ≡ name_eq set.owner owner = name_equiv.symm owner o ∙ sym (name_left set.owner o owner two.0) in
+    let kinds : (kind == k) ≡ (set.kind == kind) = number_back kind k ∙ ap (λ n. n == kind) (sym (number_same set.kind k one.0)) in
+    ap (λ b. b && (kind == k)) names ∙ ap (λ b. name_eq set.owner owner && b) kinds
+
+-- a link for a set is of the names and types that the set is of
+link_agrees : (set : RrSet) (link : Option Fact) (owner : Labels) (kind : ℕ) → link_is_for set link ≡ true
+    → link_is_of owner kind link ≡ (name_eq set.owner owner && (set.kind == kind))
+link_agrees set None owner kind h = cc
+link_agrees set (Some (Anchored o c key)) owner kind h = cc
+link_agrees set (Some (Matched o c key ds_link ds)) owner kind h = cc
+link_agrees set (Some (KeySet o c keys links)) owner kind h =
+    agrees set o owner type_dnskey kind ((set.class == c) && same_rdatas (rdatas_of set.records) keys) h
+link_agrees set (Some (Signed o c k rdatas sig key_link key)) owner kind h =
+    agrees set o owner k kind ((set.class == c) && same_rdatas (rdatas_of set.records) rdatas) h
+
+-- a Secure set's chain is of a record exactly where the set is
+chain_agrees : (j : Judge) (told : Told) (ss : List Judged) (section : Section) (r : Rr) (s : Judged)
+    → (is_secure s.mark ≡ true) × IsKnown j told ss s → chain_is_of section r.owner (set_kind r) (chain_text s) ≡ is_about section r s
+chain_agrees j told ss section r s h =
+    let chain = stands_parts j s h.1.stand h.0 in
+    ap (λ b. b && link_is_of r.owner (set_kind r) (last_link s.chain)) (section_back section s.section)
+    ∙ ap (λ b. section_eq s.section section && b) (link_agrees s.set (last_link s.chain) r.owner (set_kind r) chain.ends)
+
+-- the deciding link of a record that is about a Secure set is the last of that set's chain
+pub decided_link : (j : Judge) (told : Told) (ss : List Judged) (section : Section) (r : Rr) (s : Judged) → AllByRecursion (IsKnown j told ss) ss
+    → find (is_about section r) ss ≡ Some s → is_secure s.mark ≡ true → deciding_link (chains_of ss) section r ≡ last_link s.chain
+decided_link j told ss section r s known found secure =
+    let secures = λ (t : Judged). is_secure t.mark in
+    let test = chain_is_of section r.owner (set_kind r) in
+    let Secures = λ (t : Judged). secures t ≡ true in
+    let each : AllByRecursion (λ t. test (chain_text t) ≡ is_about section r t) (filter secures ss) =
+      each_more (λ t. Secures t × IsKnown j told ss t) (λ t. test (chain_text t) ≡ is_about section r t) (chain_agrees j told ss section r) (filter secures ss)
+      (each_both Secures (IsKnown j told ss) (filter secures ss) (each_passes secures ss) (each_filter (IsKnown j told ss) secures ss known)) in
+    ap last_of (find-map test chain_text (filter secures ss)
+    ∙ ap (option_map chain_text) (find_agree_each (λ t. test (chain_text t)) (is_about section r) (filter secures ss) each
+    ∙ find-filter (is_about section r) secures ss s found secure))

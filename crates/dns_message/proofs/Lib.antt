@@ -1,0 +1,4 @@
+pub mod BitmapReading
+pub mod Faults
+pub mod NameReading
+pub mod RdataReading

@@ -1,0 +1,120 @@
+ghost use Rattle.std.specs.Prelude.{◌≡◌, ◌+◌, ◌<◌, ◌≤◌, ◌^◌, length, map, IfOk};
+ghost use Rattle.dns_model.specs.Types.{has_shapes};
+ghost use Rattle.dns_message.specs.Reading.{Reads};
+ghost use Rattle.dns_message.specs.RdataAt.{fields_at, shaped_at, opaque_at, rdata_at};
+ghost use Rattle.dns_message.specs.Fitting.{field_text, items_in};
+
+use crate::decode_error::{DecodeError, DecodeKind, fault};
+use crate::rdata_reader::push_field;
+use crate::shape::{Field, shape_of};
+use dns_name::{NoMemory, Octets};
+use dns_record::Rdata;
+use std::alloc::Global;
+
+/// The bytes of the rdata from `at` up to `stop`, names spelled out, or `None` where they aren't exactly these fields.
+fn fields_of(
+    alloc: Global,
+    shape: &[Field],
+    bytes: &[u8],
+    at: usize,
+    stop: usize,
+) -> Result<Option<Vec<u8>>, NoMemory>
+    requires short { length bytes.now < 2 ^ 32 }
+    requires at { at ≤ length bytes.now }
+    requires stop { stop ≤ length bytes.now }
+    ensures { IfOk result (λ o. items_in o ≡ fields_at (map field_text shape.now) bytes.now at stop) }
+{
+    let mut into = Vec::new(alloc);
+    let mut pos = at;
+    for field in shape {
+        match push_field(alloc, *field, bytes, pos, stop, &mut into)? {
+            None => return Ok(None),
+            Some(next) => pos = next,
+        }
+    }
+    if pos == stop { Ok(Some(into)) } else { Ok(None) }
+}
+
+/// The rdata from `at` up to `stop` in the shape of its type, names spelled out, or `None` where it hasn't that shape.
+#[tactic(auto, unfolding(crate::specs::RdataAt::shaped_at))]
+fn shaped_of(
+    alloc: Global,
+    kind: u16,
+    bytes: &[u8],
+    at: usize,
+    stop: usize,
+) -> Result<Option<Rdata>, NoMemory>
+    requires short { length bytes.now < 2 ^ 32 }
+    requires at { at ≤ length bytes.now }
+    requires stop { stop ≤ length bytes.now }
+    ensures { IfOk result (λ o. o ≡ shaped_at kind bytes.now at stop) }
+{
+    match fields_of(alloc, shape_of(kind), bytes, at, stop)? {
+        None => Ok(None),
+        Some(spelled) => {
+            if spelled.len() <= Rdata::MAX_LEN {
+                Ok(Some(Rdata::from_octets(Octets::from_vec(spelled))))
+            } else {
+                Ok(None)
+            }
+        }
+    }
+}
+
+/// Whether rdata has its type's shape in a class.
+fn has_shapes(class: u16) -> bool
+    ensures { result ≡ has_shapes class }
+{
+    class == 1 || class == 254 || class == 255
+}
+
+/// So many bytes as they stand.
+#[tactic(auto, unfolding(crate::specs::RdataAt::opaque_at))]
+pub(crate) fn opaque_of(
+    alloc: Global,
+    bytes: &[u8],
+    size: u16,
+    at: usize,
+) -> Result<Octets, DecodeError>
+    requires short { length bytes.now < 2 ^ 32 }
+    requires at { at ≤ length bytes.now }
+    ensures reads { Reads (λ o. o) result (opaque_at bytes.now size at) }
+    ensures fits { IfOk result (λ o. at + size ≤ length bytes.now) }
+{
+    let stop = at + usize::from(size);
+    if bytes.len() < stop {
+        return Err(fault(DecodeKind::Short, at));
+    }
+    Ok(Octets::from_slice(alloc, &bytes[at..stop])?)
+}
+
+/// The rdata of so many bytes at a place, by its type and class.
+#[tactic(auto, unfolding(crate::specs::RdataAt::rdata_at))]
+pub(crate) fn rdata_of(
+    alloc: Global,
+    kind: u16,
+    class: u16,
+    bytes: &[u8],
+    size: u16,
+    at: usize,
+) -> Result<Rdata, DecodeError>
+    requires short { length bytes.now < 2 ^ 32 }
+    requires at { at ≤ length bytes.now }
+    ensures reads { Reads (λ r. r) result (rdata_at kind class bytes.now size at) }
+    ensures fits { IfOk result (λ r. at + size ≤ length bytes.now) }
+{
+    let stop = at + usize::from(size);
+    if bytes.len() < stop {
+        return Err(fault(DecodeKind::Short, at));
+    }
+    if size == 0 {
+        return Ok(Rdata::from_octets(Octets::from_vec(Vec::new(alloc))));
+    }
+    if !has_shapes(class) {
+        return Ok(Rdata::from_slice(alloc, &bytes[at..stop])?);
+    }
+    match shaped_of(alloc, kind, bytes, at, stop)? {
+        Some(rdata) => Ok(rdata),
+        None => Err(fault(DecodeKind::BadRdata, at)),
+    }
+}

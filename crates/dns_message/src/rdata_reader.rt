@@ -1,0 +1,148 @@
+ghost use Rattle.std.specs.Prelude.{◌≡◌, ◌+◌, ◌<◌, ◌≤◌, ◌^◌, length, IfOk, IfSome};
+ghost use Rattle.dns_message.specs.NameAt.{spelled_at};
+ghost use Rattle.dns_message.specs.RdataAt.{octets_at, counted_at, rest_at, bitmap_at, without_fault, field_at};
+ghost use Rattle.dns_message.specs.Fitting.{field_text, FieldRead};
+
+use crate::bitmap::is_bitmap;
+use crate::decode_error::DecodeKind;
+use crate::name_reader::spelled_of;
+use crate::shape::Field;
+use dns_name::NoMemory;
+use std::alloc::Global;
+
+/// Appends the bytes from `pos` up to `next`, where they stand before `stop`.
+#[tactic(auto, unfolding(crate::specs::RdataAt::octets_at))]
+fn push_octets(
+    bytes: &[u8],
+    size: usize,
+    pos: usize,
+    stop: usize,
+    into: &mut Vec<u8>,
+) -> Result<Option<usize>, NoMemory>
+    requires short { length bytes.now < 2 ^ 32 }
+    requires stop { stop ≤ length bytes.now }
+    requires pos { pos ≤ length bytes.now }
+    requires size { size < 2 ^ 32 }
+    ensures reads { IfOk result (λ next. FieldRead (octets_at size bytes.now pos stop) into.old.items into.new.items next) }
+    ensures fits { IfOk result (λ next. IfSome next (λ n. n ≤ length bytes.now)) }
+{
+    let next = pos + size;
+    if stop < next {
+        return Ok(None);
+    }
+    into.extend_from_slice(&bytes[pos..next])?;
+    Ok(Some(next))
+}
+
+/// Appends a field that stands at `pos` in an rdata which ends at `stop`, a name spelled out. Answers the place after the field,
+/// or `None` where the field doesn't stand there.
+#[tactic(auto, unfolding(crate::specs::RdataAt::field_at))]
+pub(crate) fn push_field(
+    alloc: Global,
+    field: Field,
+    bytes: &[u8],
+    pos: usize,
+    stop: usize,
+    into: &mut Vec<u8>,
+) -> Result<Option<usize>, NoMemory>
+    requires short { length bytes.now < 2 ^ 32 }
+    requires stop { stop ≤ length bytes.now }
+    requires pos { pos ≤ length bytes.now }
+    ensures reads { IfOk result (λ next. FieldRead (field_at (field_text field) bytes.now pos stop) into.old.items into.new.items next) }
+    ensures fits { IfOk result (λ next. IfSome next (λ n. n ≤ length bytes.now)) }
+{
+    match field {
+        Field::Octets(size) => push_octets(bytes, usize::from(size), pos, stop, into),
+        Field::DomainName => push_name(alloc, bytes, pos, into),
+        Field::CharacterString => push_counted(bytes, pos, stop, into),
+        Field::TypeBitmap => push_bitmap(bytes, pos, stop, into),
+        Field::Remainder => push_rest(bytes, pos, stop, into),
+    }
+}
+
+fn push_name(
+    alloc: Global,
+    bytes: &[u8],
+    pos: usize,
+    into: &mut Vec<u8>,
+) -> Result<Option<usize>, NoMemory>
+    requires short { length bytes.now < 2 ^ 32 }
+    requires pos { pos ≤ length bytes.now }
+    ensures reads { IfOk result (λ next. FieldRead (without_fault (spelled_at bytes.now pos)) into.old.items into.new.items next) }
+    ensures fits { IfOk result (λ next. IfSome next (λ n. n ≤ length bytes.now)) }
+{
+    match spelled_of(alloc, bytes, pos) {
+        Ok((wire, next)) => {
+            into.extend_from_slice(&wire)?;
+            Ok(Some(next))
+        }
+        Err(error) => {
+            if error.kind == DecodeKind::NoMemory {
+                Err(NoMemory)
+            } else {
+                Ok(None)
+            }
+        }
+    }
+}
+
+#[tactic(auto, unfolding(crate::specs::RdataAt::counted_at))]
+fn push_counted(
+    bytes: &[u8],
+    pos: usize,
+    stop: usize,
+    into: &mut Vec<u8>,
+) -> Result<Option<usize>, NoMemory>
+    requires short { length bytes.now < 2 ^ 32 }
+    requires stop { stop ≤ length bytes.now }
+    requires pos { pos ≤ length bytes.now }
+    ensures reads { IfOk result (λ next. FieldRead (counted_at bytes.now pos stop) into.old.items into.new.items next) }
+    ensures fits { IfOk result (λ next. IfSome next (λ n. n ≤ length bytes.now)) }
+{
+    if stop <= pos {
+        return Ok(None);
+    }
+    push_octets(bytes, 1 + usize::from(bytes[pos]), pos, stop, into)
+}
+
+#[tactic(auto, unfolding(crate::specs::RdataAt::rest_at))]
+fn push_rest(
+    bytes: &[u8],
+    pos: usize,
+    stop: usize,
+    into: &mut Vec<u8>,
+) -> Result<Option<usize>, NoMemory>
+    requires short { length bytes.now < 2 ^ 32 }
+    requires stop { stop ≤ length bytes.now }
+    ensures reads { IfOk result (λ next. FieldRead (rest_at bytes.now pos stop) into.old.items into.new.items next) }
+    ensures fits { IfOk result (λ next. IfSome next (λ n. n ≤ length bytes.now)) }
+{
+    if stop < pos {
+        return Ok(None);
+    }
+    into.extend_from_slice(&bytes[pos..stop])?;
+    Ok(Some(stop))
+}
+
+#[tactic(auto, unfolding(crate::specs::RdataAt::bitmap_at))]
+fn push_bitmap(
+    bytes: &[u8],
+    pos: usize,
+    stop: usize,
+    into: &mut Vec<u8>,
+) -> Result<Option<usize>, NoMemory>
+    requires short { length bytes.now < 2 ^ 32 }
+    requires stop { stop ≤ length bytes.now }
+    ensures reads { IfOk result (λ next. FieldRead (bitmap_at bytes.now pos stop) into.old.items into.new.items next) }
+    ensures fits { IfOk result (λ next. IfSome next (λ n. n ≤ length bytes.now)) }
+{
+    if stop < pos {
+        return Ok(None);
+    }
+    let bitmap = &bytes[pos..stop];
+    if !is_bitmap(bitmap) {
+        return Ok(None);
+    }
+    into.extend_from_slice(bitmap)?;
+    Ok(Some(stop))
+}

@@ -1,0 +1,74 @@
+ghost use Rattle.std.specs.Prelude.{◌≡◌, ◌+◌, ◌<◌, ◌≤◌, ◌^◌, length, IfOk};
+ghost use Rattle.dns_message.specs.Reading.{Reads};
+ghost use Rattle.dns_message.specs.RecordAt.{record_at, opt_at, item_at, edns_of, is_root};
+
+use crate::decode_error::{DecodeError, DecodeKind, fault};
+use crate::item::Item;
+use crate::message::Edns;
+use crate::name_reader::name_of;
+use crate::number_reader::{u16_of, u32_of};
+use crate::rdata::{opaque_of, rdata_of};
+use dns_name::{Name, Octets};
+use dns_record::{DNSClass, Proof, Record, RecordType};
+use std::alloc::Global;
+
+/// A record from its class on, and the place after it.
+#[tactic(auto, unfolding(crate::specs::RecordAt::record_at))]
+fn record_of(
+    alloc: Global,
+    owner: Name,
+    kind: u16,
+    bytes: &[u8],
+    at: usize,
+) -> Result<(Item, usize), DecodeError>
+    requires short { length bytes.now < 2 ^ 32 }
+    requires at { at ≤ length bytes.now }
+    ensures reads { Reads (λ x. (x.0, x.1)) result (record_at owner kind bytes.now at) }
+    ensures fits { IfOk result (λ x. x.1 ≤ length bytes.now) }
+{
+    let (class, next) = u16_of(bytes, at)?;
+    let (ttl, next) = u32_of(bytes, next)?;
+    let (size, next) = u16_of(bytes, next)?;
+    let rdata = rdata_of(alloc, kind, class, bytes, size, next)?;
+    let record = Record {
+        name: owner,
+        record_type: RecordType(kind),
+        dns_class: DNSClass(class),
+        ttl,
+        rdata,
+        proof: Proof::Indeterminate,
+    };
+    Ok((Item::Kept(record), next + usize::from(size)))
+}
+
+/// What an OPT's class, ttl and rdata say (RFC 6891, 6.1.2 and 6.1.3).
+fn edns_of(payload: u16, ttl: u32, options: Octets) -> Edns
+    ensures { result ≡ edns_of payload ttl options }
+{
+    Edns {
+        max_payload: payload,
+        version: (ttl / 65536 % 256) as u8,
+        dnssec_ok: ttl / 32768 % 2 == 1,
+        flags: (ttl % 32768) as u16,
+        options,
+    }
+}
+
+/// An OPT from its class on, and the place after it.
+#[tactic(auto, unfolding(crate::specs::RecordAt::opt_at))]
+fn opt_of(alloc: Global, bytes: &[u8], at: usize) -> Result<(Item, usize), DecodeError>
+    requires short { length bytes.now < 2 ^ 32 }
+    requires at { at ≤ length bytes.now }
+    ensures reads { Reads (λ x. (x.0, x.1)) result (opt_at bytes.now at) }
+    ensures fits { IfOk result (λ x. x.1 ≤ length bytes.now) }
+{
+    let (payload, next) = u16_of(bytes, at)?;
+    let (ttl, next) = u32_of(bytes, next)?;
+    let (size, next) = u16_of(bytes, next)?;
+    let options = opaque_of(alloc, bytes, size, next)?;
+    let edns = edns_of(payload, ttl, options);
+    Ok((
+        Item::Opt(edns, (ttl / 16777216) as u8),
+        next + usize::from(size),
+    ))
+}

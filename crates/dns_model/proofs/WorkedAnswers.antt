@@ -1,0 +1,195 @@
+-- Answers on worked rows: the set that a chain ends at, answers that are sound, and answers that aren't.
+use Rattle.std.specs.Prelude.{◌≡◌, ℕ, true, false, ◌==◌, List, [], ◌∷◌, map, None, refl}
+use Rattle.dns_model.specs.NameForm.{label_in, labels_in, name_in}
+use Rattle.dns_model.specs.Keys.{bytes_eq}
+use Rattle.dns_model.specs.Chains.{Fact, judge, last_link, ends_at}
+use Rattle.dns_model.specs.Answers.{Told, ResponseText, Sound, SoundAlone}
+use Rattle.dns_model.specs.declared.proof.Proof.{Proof}
+use Rattle.dns_model.specs.declared.proof.Proof.TheVariants.{Secure, Bogus, Indeterminate}
+use Rattle.dns_model.specs.declared.section.Section.TheVariants.{Answer}
+use Rattle.dns_model.specs.declared.denial.Denial.TheVariants.{None as Nothing}
+use Rattle.std.proofs.Common.{sym, ◌∙◌, ap, true≢false, lit≤}
+use Rattle.dns_model.specs.Views.{sig_in}
+use Rattle.dns_model.specs.Records.{Rr, RrSet}
+use Rattle.dns_model.specs.Sections.{leaders, sets_of}
+use Rattle.dns_model.proofs.Worked.{key, name_a, signature, verifier, anchors, chain_by, justified_at_1000, not_justified_after_its_end}
+
+-- ---- the set that the chain ends at, and a sound answer
+
+abbrev pub record_of : ℕ → ℕ → List ℕ → Proof → Rr
+record_of kind ttl rdata mark = record { owner = []; kind = kind; class = 1; ttl = ttl; rdata = rdata; mark = mark }
+
+abbrev pub told_records : Told
+told_records = record {
+  code = 0;
+  answers = record_of 2 3600 name_a Indeterminate ∷ record_of 46 3600 signature Indeterminate ∷ [];
+  authorities = [];
+  additionals = [];
+}
+
+abbrev pub set_of_root : RrSet
+set_of_root = record {
+  owner = [];
+  kind = 2;
+  class = 1;
+  records = record_of 2 1000 name_a Secure ∷ [];
+  signatures = record_of 46 1000 signature Secure ∷ [];
+}
+
+pub ends_at_the_set : ends_at (chain_by key) set_of_root ≡ true
+unfolding last_link
+ends_at_the_set = refl
+
+pub ends_at_no_other_type : ends_at (chain_by key) (record set_of_root { kind = 48 }) ≡ false
+unfolding last_link
+ends_at_no_other_type = refl
+
+pub ends_at_no_other_class : ends_at (chain_by key) (record set_of_root { class = 3 }) ≡ false
+unfolding last_link
+ends_at_no_other_class = refl
+
+pub ends_at_no_longer_set : ends_at (chain_by key) (record set_of_root { records = record_of 2 1000 name_a Secure ∷ record_of 2 1000 name_a Secure ∷ [] }) ≡ false
+unfolding last_link
+ends_at_no_longer_set = refl
+
+pub ends_nowhere : ends_at [] set_of_root ≡ false
+unfolding last_link
+ends_nowhere = refl
+
+-- an answer to the question for the root's NS set, with these records and chains
+abbrev pub answer_of : List Rr → List (List Fact) → ResponseText
+answer_of records chains = record {
+  message = record {
+    id = 0;
+    response = true;
+    op_code = 0;
+    authoritative = true;
+    truncated = false;
+    recursion_desired = false;
+    recursion_available = false;
+    authentic_data = false;
+    checking_disabled = false;
+    response_code = 0;
+    queries = record { owner = []; kind = 2; class = 1 } ∷ [];
+    answers = records;
+    authorities = [];
+    additionals = [];
+    edns = None;
+  };
+  chains = map (λ links. record { section = Answer; links = links }) chains;
+  denial = Nothing;
+}
+
+-- the root's NS set Secure until 2000, seen at 1000
+abbrev pub answer : ResponseText
+answer = answer_of (record_of 2 1000 name_a Secure ∷ record_of 46 1000 signature Secure ∷ []) (chain_by key ∷ [])
+
+pub one_set : sets_of answer.message.answers ≡ set_of_root ∷ []
+unfolding sets_of leaders sig_in name_in labels_in label_in
+one_set = refl
+
+pub sound_answer : Sound (judge verifier anchors 1000) 1000 told_records answer
+unfolding sets_of leaders sig_in name_in labels_in label_in last_link
+sound_answer = record {
+  code = refl;
+  answers = (
+    record {
+      owner = refl;
+      kind = refl;
+      class = refl;
+      rdata = refl;
+      plain = λ no. absurd (true≢false no);
+      secure = λ yes. (λ signs. absurd (true≢false (sym signs)), refl);
+    },
+    (
+      record {
+        owner = refl;
+        kind = refl;
+        class = refl;
+        rdata = refl;
+        plain = λ no. absurd (true≢false no);
+        secure = λ yes. (λ signs. refl, refl);
+      },
+      tt,
+    ),
+  );
+  authorities = tt;
+  additionals = tt;
+  marks_of_answers = ((refl, tt), tt);
+  marks_of_authorities = tt;
+  marks_of_additionals = tt;
+  chains = (record { named = refl; ends = refl; holds = justified_at_1000 }, tt);
+}
+
+-- the same answer, where nothing tells what the upstream said
+pub sound_alone : SoundAlone (judge verifier anchors 1000) 1000 answer
+unfolding sets_of leaders sig_in name_in labels_in label_in last_link
+sound_alone = record {
+  answers = (
+    (λ yes. (λ signs. absurd (true≢false (sym signs)), refl, lit≤ tt)),
+    ((λ yes. (λ signs. refl, refl, lit≤ tt)), tt),
+  );
+  authorities = tt;
+  additionals = tt;
+  marks_of_answers = ((refl, tt), tt);
+  marks_of_authorities = tt;
+  marks_of_additionals = tt;
+  chains = (record { named = refl; ends = refl; holds = justified_at_1000 }, tt);
+}
+
+-- ---- what no answer to these records may be
+
+-- a signature's ttl is its set's, also where nothing is told
+pub not_with_two_ttls :
+    SoundAlone (judge verifier anchors 1000) 1000
+    (answer_of (record_of 2 1000 name_a Secure ∷ record_of 46 999 signature Secure ∷ []) (chain_by key ∷ [])) → ⊥
+unfolding sets_of leaders sig_in name_in labels_in label_in last_link
+not_with_two_ttls s = absurd (true≢false (sym (ap (λ n. n == 1000) (s.answers.1.0 refl).1)))
+
+pub not_without_a_chain :
+    Sound (judge verifier anchors 1000) 1000 told_records (answer_of (record_of 2 1000 name_a Secure ∷ record_of 46 1000 signature Secure ∷ []) []) → ⊥
+unfolding sets_of leaders
+not_without_a_chain s = s.chains
+
+pub not_with_two_chains :
+    Sound (judge verifier anchors 1000) 1000 told_records
+    (answer_of (record_of 2 1000 name_a Secure ∷ record_of 46 1000 signature Secure ∷ []) (chain_by key ∷ chain_by key ∷ [])) → ⊥
+unfolding sets_of leaders
+not_with_two_chains s = s.chains.1
+
+pub not_after_its_end : Sound (judge verifier anchors 2001) 2001 told_records answer → ⊥
+unfolding sets_of leaders
+not_after_its_end s = absurd (true≢false (sym s.chains.0.holds ∙ not_justified_after_its_end))
+
+pub not_with_a_longer_ttl :
+    Sound (judge verifier anchors 1000) 1000 told_records
+    (answer_of (record_of 2 1001 name_a Secure ∷ record_of 46 1000 signature Secure ∷ []) (chain_by key ∷ [])) → ⊥
+unfolding sets_of leaders sig_in name_in labels_in label_in last_link
+not_with_a_longer_ttl s = absurd (true≢false (sym (ap (λ n. n == 1000) (s.answers.0.secure refl).1)))
+
+pub not_with_a_record_left_out :
+    Sound (judge verifier anchors 1000) 1000 told_records (answer_of (record_of 2 1000 name_a Secure ∷ []) (chain_by key ∷ [])) → ⊥
+not_with_a_record_left_out s = s.answers.1
+
+pub not_with_another_rdata :
+    Sound (judge verifier anchors 1000) 1000 told_records
+    (answer_of (record_of 2 1000 (1 ∷ 98 ∷ 0 ∷ []) Secure ∷ record_of 46 1000 signature Secure ∷ []) (chain_by key ∷ [])) → ⊥
+not_with_another_rdata s = absurd (true≢false (sym (ap (bytes_eq name_a) s.answers.0.rdata)))
+
+-- a Bogus set keeps its ttl, and has no chain
+pub sound_bogus :
+    Sound (judge verifier anchors 2001) 2001 told_records (answer_of (record_of 2 3600 name_a Bogus ∷ record_of 46 3600 signature Indeterminate ∷ []) [])
+unfolding sets_of leaders sig_in name_in labels_in label_in
+sound_bogus = record {
+  code = refl;
+  answers = (
+    record { owner = refl; kind = refl; class = refl; rdata = refl; plain = λ no. refl; secure = λ yes. absurd (true≢false (sym yes)) },
+    (record { owner = refl; kind = refl; class = refl; rdata = refl; plain = λ no. refl; secure = λ yes. absurd (true≢false (sym yes)) }, tt),
+  );
+  authorities = tt;
+  additionals = tt;
+  marks_of_answers = ((refl, tt), tt);
+  marks_of_authorities = tt;
+  marks_of_additionals = tt;
+  chains = tt;
+}

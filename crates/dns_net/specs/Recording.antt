@@ -1,0 +1,62 @@
+-- The handle that answers from recorded replies, and how it finds them.
+use Rattle.std.specs.Prelude.{ℕ, ◌≡◌, ◌⊎◌, ◌+◌, ◌-◌, ◌^◌, min, Bool, List, Option, None, Some, Ok, Err, slice_get, if◌then◌else◌}
+use Rattle.std.specs.List.{position_from}
+use Rattle.std.specs.declared.cmp.Ordering.{Ordering}
+use Rattle.std.specs.BTreeMap as tree
+use Rattle.std.specs.BTreeMap.{BTreeMap}
+use Rattle.dns_model.specs.Records.{Question, question_eq}
+use Rattle.dns_net.specs.Errors as seen
+use Rattle.dns_net.specs.Errors.{Reply}
+use Rattle.dns_net.specs.Handles.{reply_to}
+
+-- the counts, and the replies in the order in which they were put in
+pub record RecordedText : Type 0 where
+  pub sends : ℕ
+  pub faults : ℕ
+  pub replies : List (Question × Reply)
+
+-- one more, or the greatest u64
+abbrev pub one_more : ℕ → ℕ
+one_more count = min (count + 1) (2 ^ 64 - 1)
+
+abbrev pub faults_after : ℕ → Reply → ℕ
+faults_after count (Ok response) = count
+faults_after count (Err error) = one_more count
+
+-- the reply to what is asked; without a question it is Timeout
+abbrev pub reply_for : List (Question × Reply) → Option Question → Reply
+reply_for replies None = Err seen.Timeout
+reply_for replies (Some q) = reply_to replies q
+
+-- a send: the first reply to the question, or want of memory; the send is counted, and so is an error
+pub record AnswersFrom (old : RecordedText) (q : Option Question) (new : RecordedText) (reply : Reply) : Type 0 where
+  pub answered : (reply ≡ Err seen.NoMemory) ⊎ (reply ≡ reply_for old.replies q)
+  pub counted : new.sends ≡ one_more old.sends
+  pub faulted : new.faults ≡ faults_after old.faults reply
+  pub kept : new.replies ≡ old.replies
+
+-- the reply at a place of the list; none is Timeout
+abbrev pub reply_of_place : Option (Question × Reply) → Reply
+reply_of_place None = Err seen.Timeout
+reply_of_place (Some told) = told.1
+
+abbrev pub reply_at : List (Question × Reply) → Option ℕ → Reply
+reply_at told None = Err seen.Timeout
+reply_at told (Some place) = reply_of_place (slice_get told place)
+
+-- the place of the first reply to a question
+abbrev pub first_place : List (Question × Reply) → Question → Option ℕ
+first_place told q = position_from (λ t. question_eq t.0 q) 0 told
+
+-- the places with one more reply at the end of a list of this length
+abbrev pub place_or : Option ℕ → Bool → ℕ → Option ℕ
+place_or (Some place) same end = Some place
+place_or None same end = if same then Some end else None
+
+-- a map from questions to places has one more place, where it had none for that question
+abbrev pub Noted : (Question → Question → Ordering) → BTreeMap Question ℕ → BTreeMap Question ℕ → Question → ℕ → Type 0
+Noted C old new k place = (q : Question) → tree.get C new q ≡ place_or (tree.get C old q) (question_eq k q) place
+
+-- the map finds the first reply to each question
+abbrev pub IndexesFirst : (Question → Question → Ordering) → BTreeMap Question ℕ → List (Question × Reply) → Type 0
+IndexesFirst C first told = (q : Question) → tree.get C first q ≡ first_place told q

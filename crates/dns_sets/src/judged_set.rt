@@ -1,0 +1,42 @@
+use dns_net::Link;
+use dns_record::{Proof, RecordSet, Section};
+use std::marker::Model;
+
+/// A set, and the section that it stands in.
+#[derive(Drop)]
+pub struct PlacedSet {
+    pub section: Section,
+    pub set: RecordSet,
+}
+
+impl Model for PlacedSet {
+    ghost use Rattle.dns_model.specs.Answers.{Placed};
+
+    ghost Value = { Placed };
+
+    ghost view = { λ p. record { section = p.section; set = p.set } };
+}
+
+/// A set with what was found out of it.
+#[derive(Drop)]
+pub struct JudgedSet {
+    pub section: Section,
+    pub set: RecordSet,
+    pub mark: Proof,
+    /// The place, among the set's signatures, of the one that decided.
+    pub sig: Option<u32>,
+    /// The links to the set, where it is Secure.
+    pub chain: Vec<Link>,
+}
+
+impl Model for JudgedSet {
+    ghost use Rattle.std.specs.Prelude.{map};
+    ghost use Rattle.dns_net.specs.Link.{fact_of};
+    ghost use Rattle.dns_judgement.specs.Judged.{Judged};
+
+    ghost Value = { Judged };
+
+    ghost view = {
+        λ j. record { section = j.section; set = j.set; mark = j.mark; sig = j.sig; chain = map fact_of j.chain.items }
+    };
+}

@@ -1,0 +1,13 @@
+//! The sets of a message: how they are grouped, what a judged step comes to, and the answer that it makes. The layer above
+//! may use each call as the definition that its clause names.
+#![tactic(auto)]
+
+mod grouping;
+mod judged_set;
+mod marking;
+mod outcome;
+
+pub use grouping::{clear_marks, placed_sets};
+pub use judged_set::{JudgedSet, PlacedSet};
+pub use marking::finished;
+pub use outcome::{foreign_record, outcome_of, Outcome};

@@ -1,0 +1,121 @@
+ghost use Rattle.std.specs.Prelude.{◌≡◌};
+ghost use Rattle.std.specs.List.{list_any};
+ghost use Rattle.std.specs.Option.{option_copied};
+ghost use Rattle.dns_model.specs.Answers.{told_by};
+ghost use Rattle.dns_model.specs.Views.{sig_in};
+ghost use Rattle.dns_judgement.specs.Judged.{decider as decider_of};
+ghost use Rattle.dns_judgement.specs.Outcome.{outcome_of as told_outcome, foreign_record as foreign_in, answers_query as answers_asked, is_wildcard_signature as is_expanded_signature, needs_denial as wants_denial, is_expanded_by, is_expanded_text};
+ghost use Rattle.dns_sets.specs.Outcome.{outcome_text};
+
+use crate::JudgedSet;
+use dns_message::Message;
+use dns_record::{Denial, Proof, Query, Record, RecordType};
+use dns_signing::Rrsig;
+
+/// How a judged step ends.
+#[derive(Clone, Copy, Debug, PartialEq, Eq)]
+pub enum Outcome {
+    /// It can't be judged yet, since denial of existence isn't.
+    Unjudged,
+    /// Its response is an answer.
+    Accepted(Denial),
+    /// Its response is refused, with this proof.
+    Denied(Proof),
+}
+
+/// How a step ends whose sets are judged (RFC 4035, 5.3.4 and 5.4).
+#[tactic(auto, unfolding(dns_judgement::specs::Outcome::outcome_of))]
+pub fn outcome_of(query: &Query, message: &Message, sets: &[JudgedSet]) -> Outcome
+    ensures { outcome_text result ≡ told_outcome query.now (told_by message.now) sets.now }
+{
+    if !has_answer(query, &message.answers) || has_unjudged(sets) {
+        Outcome::Unjudged
+    } else if !has_wildcard_signature(&message.answers) {
+        Outcome::Accepted(Denial::None)
+    } else {
+        Outcome::Denied(Proof::Bogus)
+    }
+}
+
+/// The first record, in the order of the sections, whose class isn't the query's (RFC 1035, 3.2.4).
+pub fn foreign_record<'a>(query: &Query, message: &'a Message) -> Option<&'a Record>
+    ensures { option_copied result ≡ foreign_in query.now (told_by message.now) }
+{
+    let class = query.query_class;
+    message
+        .answers
+        .iter()
+        .chain(message.authorities.iter())
+        .chain(message.additionals.iter())
+        .find(|record| record.dns_class != class)
+}
+
+// A record at the query name has the query's type, or is a CNAME.
+fn has_answer(query: &Query, answers: &[Record]) -> bool
+    ensures { result ≡ list_any (answers_asked query.now) answers.now }
+{
+    answers.iter().any(|record| answers_query(query, record))
+}
+
+fn answers_query(query: &Query, record: &Record) -> bool
+    ensures { result ≡ answers_asked query.now record.now }
+{
+    query.name.borrowed().eq_name(&record.name.borrowed())
+        && (record.record_type == query.query_type || record.record_type == RecordType::CNAME)
+}
+
+fn has_unjudged(sets: &[JudgedSet]) -> bool
+    ensures { result ≡ list_any wants_denial sets.now }
+{
+    sets.iter().any(needs_denial)
+}
+
+// Whether a set is Secure and can only be judged with denial of existence.
+fn needs_denial(set: &JudgedSet) -> bool
+    ensures { result ≡ wants_denial set.now }
+{
+    if set.mark != Proof::Secure {
+        return false;
+    }
+    let kind = set.set.record_type;
+    kind == RecordType::NSEC || kind == RecordType::NSEC3 || is_decided_by_wildcard(set)
+}
+
+// Whether the signature that decided has fewer labels than its owner.
+fn is_decided_by_wildcard(set: &JudgedSet) -> bool
+    ensures { result ≡ is_expanded_by (decider_of set.now) }
+{
+    match decider(set) {
+        Some(signature) => is_expanded(signature),
+        None => false,
+    }
+}
+
+// The signature that decided.
+pub(crate) fn decider<'a>(set: &'a JudgedSet) -> Option<&'a Record>
+    ensures { option_copied result ≡ decider_of set.now }
+{
+    match set.sig {
+        Some(place) => set.set.rrsigs.get(place as usize),
+        None => None,
+    }
+}
+
+// Whether a signature can be read and has fewer labels than its owner.
+fn is_expanded(signature: &Record) -> bool
+    ensures { result ≡ is_expanded_text signature.now.owner (sig_in signature.now.rdata) }
+{
+    match Rrsig::read(signature.rdata.as_slice()) {
+        Some(sig) => sig.labels < signature.name.borrowed().num_labels(),
+        None => false,
+    }
+}
+
+// Whether a readable signature among the records has fewer labels than its owner.
+fn has_wildcard_signature(records: &[Record]) -> bool
+    ensures { result ≡ list_any is_expanded_signature records.now }
+{
+    records
+        .iter()
+        .any(|record| record.record_type == RecordType::RRSIG && is_expanded(record))
+}
