@@ -1,6 +1,6 @@
 ghost use Rattle.std.specs.Prelude.{◌≡◌, ◌≤◌, ◌++◌, ◌↔◌, true, [], IfOk, OnOk, OnErr, IsTrue, length};
 ghost use Rattle.dns_model.specs.Names.{at_or_above, folded, is_name, is_wildcard, last_labels, num_labels, parent, wire};
-ghost use Rattle.dns_model.specs.NameForm.{name_of, labels_of, IsWire};
+ghost use Rattle.dns_model.specs.NameForm.{labels_of, name_of, IsWire};
 
 use crate::{NameRef, NoMemory, Octets};
 use std::alloc::Global;
@@ -24,14 +24,6 @@ impl Model for Name {
 }
 
 impl Name {
-    /// The name whose wire form the bytes are (RFC 1035, 3.1), which takes no memory.
-    pub fn from_octets(wire: Octets) -> Name
-        requires { IsWire wire }
-        ensures { result ≡ labels_of wire }
-    {
-        Name { wire }
-    }
-
     /// The name whose wire form the bytes are, with nothing after it (RFC 1035, 3.1), or `None`.
     pub fn from_wire(alloc: Global, bytes: &[u8]) -> Result<Option<Name>, NoMemory>
         ensures { IfOk result (λ n. n ≡ name_of bytes.now) }
@@ -40,6 +32,14 @@ impl Name {
             Some((name, [])) => Ok(Some(name.to_name(alloc)?)),
             _ => Ok(None),
         }
+    }
+
+    /// The name whose wire form these bytes are.
+    pub(crate) fn of_wire(wire: Octets) -> Name
+        requires { IsWire wire }
+        ensures { result ≡ labels_of wire }
+    {
+        Name { wire }
     }
 
     /// A copy of a name that stands elsewhere.
