@@ -24,6 +24,14 @@ impl Model for Name {
 }
 
 impl Name {
+    /// The name whose wire form the bytes are (RFC 1035, 3.1), which takes no memory.
+    pub fn from_octets(wire: Octets) -> Name
+        requires { IsWire wire }
+        ensures { result ≡ labels_of wire }
+    {
+        Name { wire }
+    }
+
     /// The name whose wire form the bytes are, with nothing after it (RFC 1035, 3.1), or `None`.
     pub fn from_wire(alloc: Global, bytes: &[u8]) -> Result<Option<Name>, NoMemory>
         ensures { IfOk result (λ n. n ≡ name_of bytes.now) }
