@@ -1,5 +1,5 @@
 -- What is printed is read as the same value, and a word that is read is the one that its value has.
-use Rattle.std.proofs.Common.{◌≡◌, ℕ, zero, suc, ◌+◌, ◌-◌, ◌*◌, ◌^◌, ◌<◌, ◌≤◌, Bool, true, false, not, ◌==◌, ◌&&◌, nat_lt, nat_le, nat_eq, List, [], ◌∷◌, ◌++◌, length, take, drop, get_or, codes, Option, None, Some, is_some, unwrap_or, Result, Ok, Err, if◌then◌else◌, refl, sym, ap, rules, ◌∙◌, arith, inl, inr, ◌⊎◌, cond}
+use Rattle.std.proofs.Common.{◌≡◌, ℕ, zero, suc, ◌+◌, ◌-◌, ◌*◌, ◌^◌, ◌<◌, ◌≤◌, Bool, true, false, not, ◌==◌, ◌&&◌, nat_lt, nat_le, nat_eq, List, [], ◌∷◌, ◌++◌, length, take, drop, get_or, codes, Option, None, Some, is_some, unwrap_or, Result, Ok, Err, if◌then◌else◌, refl, sym, ap, subst, rules, ◌∙◌, arith, inl, inr, ◌⊎◌, cond}
 use Rattle.std.specs.Fmt.{decimal}
 use Rattle.std.specs.Option.{option_or}
 use Rattle.std.specs.Str.{all_ascii_digits}
@@ -137,7 +137,8 @@ prefix_from prefix word rest h =
     elim (cases_Bool (bytes_eq (take (length prefix) word) prefix)) [
       | inl is ↦
           let back : drop (length prefix) word ≡ rest = some_same _ _ (rw is at h) in
-          rw (← back, ← same_bytes _ _ is) (sym (take-append-drop (length prefix) word))
+          sym (take-append-drop (length prefix) word) ∙ ap (λ front. front ++ drop (length prefix) word) (same_bytes _ _ is)
+          ∙ ap (λ end. prefix ++ end) back
       | inr isnt ↦ let none : None ≡ Some rest = rw isnt at h in cc
     ]
 
@@ -152,7 +153,8 @@ prefixed_unnamed prefix rest [] apart = refl
 prefixed_unnamed prefix rest (row ∷ rows) apart =
     elim (cases_Bool (bytes_eq (prefix ++ rest) row.1)) [
       | inl is ↦
-          let some : after_prefix prefix row.1 ≡ Some rest = rw (← same_bytes _ _ is) (prefix_back prefix rest) in
+          let P : List ℕ → Type 0 = λ word. after_prefix prefix word ≡ Some rest in
+          let some : after_prefix prefix row.1 ≡ Some rest = subst P (same_bytes _ _ is) (prefix_back prefix rest) in
           absurd (none_some rest (sym apart.0 ∙ some))
       | inr isnt ↦ rw isnt (prefixed_unnamed prefix rest rows apart.1)
     ]
@@ -178,7 +180,8 @@ decimal_unnamed rows prefix word rest n h None d e = absurd (none_some n e)
 decimal_unnamed rows prefix word rest n h (Some m) d e =
     let facts = unnamed_from rows m n (own_word rows m) refl e in
     let digits : rest ≡ decimal m = decimal_from 65535 m rest (omega arith) d in
-    rw (← facts.0, facts.1, ← digits) (prefix_from prefix word rest h)
+    prefix_from prefix word rest h ∙ ap (λ ds. prefix ++ ds) (digits ∙ ap decimal facts.0)
+    ∙ sym (ap (λ own. unwrap_or own (prefix ++ decimal n)) (sym (ap (own_word rows) facts.0) ∙ facts.1))
 
 prefixed_from : (rows : List (ℕ × List ℕ)) (prefix word : List ℕ) (n : ℕ) (rest : Option (List ℕ)) → after_prefix prefix word ≡ rest
     → (rest >>= λ digits. decimal_in 65535 digits >>= if_unnamed rows) ≡ Some n → word ≡ code_word rows prefix n
