@@ -10,6 +10,8 @@ mod no_memory;
 mod octets;
 mod printing;
 mod reading;
+#[cfg(test)]
+mod tests;
 mod text;
 mod text_reading;
 
