@@ -11,12 +11,9 @@ mod no_memory;
 mod octets;
 mod printing;
 mod reading;
-<<<<<<< HEAD
 mod shown;
-=======
 #[cfg(test)]
 mod tests;
->>>>>>> dea4c7e3c83a3dcd4467fcfb7c09fdb5d3055353
 mod text;
 mod text_reading;
 
