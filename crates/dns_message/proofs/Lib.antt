@@ -6,3 +6,5 @@ pub mod RdataReading
 pub mod RecordReading
 pub mod Writing
 pub mod Standing
+pub mod NameWriting
+pub mod RdataWriting
