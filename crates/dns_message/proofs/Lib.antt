@@ -8,3 +8,4 @@ pub mod Writing
 pub mod Standing
 pub mod NameWriting
 pub mod RdataWriting
+pub mod RecordWriting
