@@ -9,3 +9,4 @@ pub mod Standing
 pub mod NameWriting
 pub mod RdataWriting
 pub mod RecordWriting
+pub mod MessageWriting

@@ -120,7 +120,7 @@ labels_again (label ∷ name) bytes start pos size s good room =
     let rest : Stands bytes (pos + 1 + length label) (wire name) = stands_back bytes (pos + 1) label (wire name) behind in
     let is : step_of bytes start pos size ≡ Ok (step.Label (length label)) = label_here bytes start pos size (length label) byte some small (omega (arith, whole)) (omega (arith, whole)) in
     let more : labels_at bytes start (pos + 1 + length label) (size + 1 + length label) ≡ Ok (name, pos + 1 + length label + length (wire name)) =
-      labels_again name bytes start (pos + 1 + length label) (size + 1 + length label) rest parts.1 (omega (arith, whole)) in
+    labels_again name bytes start (pos + 1 + length label) (size + 1 + length label) rest parts.1 (omega (arith, whole)) in
     let end : pos + 1 + length label + length (wire name) ≡ pos + length (wire (label ∷ name)) = omega (arith, whole) in
     one_step (Ok (step.Label (length label))) bytes start pos size is
     ∙ ap (with_label (slice_range bytes (pos + 1) (pos + 1 + length label))) more

@@ -190,7 +190,7 @@ fields_again (f ∷ g ∷ fields) bytes pos stop all right inside h other at end
     let behind = stands_back other at r.front r.rest both in
     let long : at + length r.front + length r.rest ≡ end = omega (arith, ap length r.whole, length-append r.front r.rest) in
     let one : field_at f other at end ≡ Some (r.front, at + length r.front) =
-      (field_again f bytes pos stop r.front r.next inside r.first).again other at end here (omega (arith, long)) (λ last. never (is_last f) parts.0 last) in
+    (field_again f bytes pos stop r.front r.next inside r.first).again other at end here (omega (arith, long)) (λ last. never (is_last f) parts.0 last) in
     let rest : fields_at (g ∷ fields) other (at + length r.front) end ≡ Some r.rest = fields_again (g ∷ fields) bytes r.next stop r.rest parts.1 inside r.others other (at + length r.front) end behind long in
     rw (one, rest) (ap Some (sym r.whole))
 

@@ -156,10 +156,10 @@ section_good zero may bytes pos records opt next fits h =
 section_good (suc count) may bytes pos records opt next fits h =
     let a = bind_ok (item_at may bytes pos) (λ first. with_item first.0 (section_at count (may_after first.0 may) bytes first.1)) (records, opt, next) h in
     section_more a.0.0 (section_at count (may_after a.0.0 may) bytes a.0.1) records opt next
-      (λ k e. item_record may bytes pos k a.0.1 (a.1 ∙ ap (λ (i : Item). Ok (i, a.0.1)) e))
-      (λ e c f. item_opt may bytes pos e c a.0.1 fits (a.1 ∙ ap (λ (i : Item). Ok (i, a.0.1)) f))
-      (λ rs o n e. section_good count (may_after a.0.0 may) bytes a.0.1 rs o n fits e)
-      a.2
+    (λ k e. item_record may bytes pos k a.0.1 (a.1 ∙ ap (λ (i : Item). Ok (i, a.0.1)) e))
+    (λ e c f. item_opt may bytes pos e c a.0.1 fits (a.1 ∙ ap (λ (i : Item). Ok (i, a.0.1)) f))
+    (λ rs o n e. section_good count (may_after a.0.0 may) bytes a.0.1 rs o n fits e)
+    a.2
 
 -- ---- what is written
 
@@ -187,25 +187,29 @@ record_stands bytes pos owner kind class ttl rdata s =
     let l2 : length (wire owner ++ u16_bytes kind) ≡ length (wire owner) + 2 = length-append (wire owner) (u16_bytes kind) in
     let l3 : length (wire owner ++ u16_bytes kind ++ u16_bytes class) ≡ length (wire owner ++ u16_bytes kind) + 2 = length-append (wire owner ++ u16_bytes kind) (u16_bytes class) in
     let l4 : length (wire owner ++ u16_bytes kind ++ u16_bytes class ++ u32_bytes ttl) ≡ length (wire owner ++ u16_bytes kind ++ u16_bytes class) + 4 =
-      length-append (wire owner ++ u16_bytes kind ++ u16_bytes class) (u32_bytes ttl) in
+    length-append (wire owner ++ u16_bytes kind ++ u16_bytes class) (u32_bytes ttl) in
     let l5 : length (wire owner ++ u16_bytes kind ++ u16_bytes class ++ u32_bytes ttl ++ u16_bytes (length rdata)) ≡ length (wire owner ++ u16_bytes kind ++ u16_bytes class ++ u32_bytes ttl) + 2 =
-      length-append (wire owner ++ u16_bytes kind ++ u16_bytes class ++ u32_bytes ttl) (u16_bytes (length rdata)) in
+    length-append (wire owner ++ u16_bytes kind ++ u16_bytes class ++ u32_bytes ttl) (u16_bytes (length rdata)) in
     record {
       name_stands = stands_front bytes pos (wire owner) (u16_bytes kind) s2;
       kind_stands = stands_back bytes pos (wire owner) (u16_bytes kind) s2;
       class_stands = stands_at bytes _ _ (u16_bytes class) (omega (arith, l2)) (stands_back bytes pos (wire owner ++ u16_bytes kind) (u16_bytes class) s3);
       ttl_stands = stands_at bytes _ _ (u32_bytes ttl) (omega (arith, l2, l3)) (stands_back bytes pos (wire owner ++ u16_bytes kind ++ u16_bytes class) (u32_bytes ttl) s4);
       size_stands = stands_at bytes _ _ (u16_bytes (length rdata)) (omega (arith, l2, l3, l4)) (stands_back bytes pos (wire owner ++ u16_bytes kind ++ u16_bytes class ++ u32_bytes ttl) (u16_bytes (length rdata)) s5);
-      rdata_stands = stands_at bytes _ _ rdata (omega (arith, l2, l3, l4, l5)) (stands_back bytes pos (wire owner ++ u16_bytes kind ++ u16_bytes class ++ u32_bytes ttl ++ u16_bytes (length rdata)) rdata s)
+      rdata_stands = stands_at bytes _ _ rdata (omega (arith, l2, l3, l4, l5)) (stands_back bytes pos (wire owner ++ u16_bytes kind ++ u16_bytes class ++ u32_bytes ttl ++ u16_bytes (length rdata)) rdata s);
     }
 
 record_length : (owner : Labels) (kind class ttl : ℕ) (rdata : List ℕ)
     → length (wire owner ++ u16_bytes kind ++ u16_bytes class ++ u32_bytes ttl ++ u16_bytes (length rdata) ++ rdata) ≡ length (wire owner) + 2 + 2 + 4 + 2 + length rdata
 record_length owner kind class ttl rdata =
-    omega (arith, length-append (wire owner) (u16_bytes kind), length-append (wire owner ++ u16_bytes kind) (u16_bytes class),
+    omega (
+      arith,
+      length-append (wire owner) (u16_bytes kind),
+      length-append (wire owner ++ u16_bytes kind) (u16_bytes class),
       length-append (wire owner ++ u16_bytes kind ++ u16_bytes class) (u32_bytes ttl),
       length-append (wire owner ++ u16_bytes kind ++ u16_bytes class ++ u32_bytes ttl) (u16_bytes (length rdata)),
-      length-append (wire owner ++ u16_bytes kind ++ u16_bytes class ++ u32_bytes ttl ++ u16_bytes (length rdata)) rdata)
+      length-append (wire owner ++ u16_bytes kind ++ u16_bytes class ++ u32_bytes ttl ++ u16_bytes (length rdata)) rdata,
+    )
 
 -- a record that is written is read
 record_again : (r : Rr) (may : Bool) (bytes : List ℕ) (pos : ℕ) → IsRecordAgain r → Stands bytes pos (record_bytes r) → item_at may bytes pos ≡ Ok (item.Kept r, pos + length (record_bytes r))
@@ -268,8 +272,8 @@ opt_again code e bytes pos g s =
     let t = ttl_parts (code / 16 % 256) e.version (number_of e.dnssec_ok) e.flags g.upper g.version (number_small e.dnssec_ok) g.flags in
     let end : pos + 1 + 2 + 2 + 4 + 2 + length e.options ≡ pos + length (opt_bytes code e) = omega (arith, record_length [] type_opt e.max_payload (opt_ttl code e) e.options) in
     rw (name, kind, payload, ttl, size, options, end)
-      (ap (λ (x : EdnsText). Ok (item.Opt x (opt_ttl code e / 16777216), pos + length (opt_bytes code e))) (edns_same code e g)
-      ∙ ap (λ (u : ℕ). Ok (item.Opt e u, pos + length (opt_bytes code e))) t.upper_is)
+    (ap (λ (x : EdnsText). Ok (item.Opt x (opt_ttl code e / 16777216), pos + length (opt_bytes code e))) (edns_same code e g)
+    ∙ ap (λ (u : ℕ). Ok (item.Opt e u, pos + length (opt_bytes code e))) t.upper_is)
 
 -- ---- sections that are written
 
@@ -290,7 +294,7 @@ records_again (r ∷ rs) more may bytes pos g s =
     let rest = records_again rs more may bytes (pos + length (record_bytes r)) g.1 (stands_back bytes pos (record_bytes r) (flat_map record_bytes rs) all) in
     let count : length (r ∷ rs) + more ≡ suc (length rs + more) = omega arith in
     let end : pos + length (record_bytes r) + length (flat_map record_bytes rs) ≡ pos + length (flat_map record_bytes (r ∷ rs)) =
-      omega (arith, ap length (flat_map-cons record_bytes r rs), length-append (record_bytes r) (flat_map record_bytes rs)) in
+    omega (arith, ap length (flat_map-cons record_bytes r rs), length-append (record_bytes r) (flat_map record_bytes rs)) in
     ap (λ (k : ℕ). section_at k may bytes pos) count
     ∙ rw (first, rest) (front_kept r rs (section_at more may bytes (pos + length (record_bytes r) + length (flat_map record_bytes rs))))
     ∙ ap (λ (k : ℕ). with_front (r ∷ rs) None (section_at more may bytes k)) end

@@ -29,6 +29,15 @@ fn bytes_of(alloc: Global, text: &str) -> Result<Vec<u8>, AllocError> {
     Ok(bytes)
 }
 
+/// The message that the bytes are, if they are one.
+fn read(alloc: Global, bytes: &[u8]) -> Option<Message> {
+    if bytes.len() < 1_000_000 {
+        Message::from_vec(alloc, bytes).ok()
+    } else {
+        None
+    }
+}
+
 fn error_of(alloc: Global, bytes: &[u8]) -> Option<DecodeError> {
     if bytes.len() < 1_000_000 {
         Message::from_vec(alloc, bytes).err()
@@ -164,9 +173,9 @@ fn answers(message: &Message, kind: u8, rdata: &[u8]) -> bool {
 
 fn is_taken(alloc: Global, kind: u8, class: u8, rdata: &[u8]) -> Result<bool, AllocError> {
     let bytes = with_rdata(alloc, kind, class, rdata)?;
-    match Message::from_vec(alloc, &bytes) {
-        Ok(message) => Ok(answers(&message, kind, rdata)),
-        Err(_) => Ok(false),
+    match read(alloc, &bytes) {
+        Some(message) => Ok(answers(&message, kind, rdata)),
+        None => Ok(false),
     }
 }
 
@@ -234,7 +243,7 @@ fn each_type_in_its_shape(rt: HostRuntime) -> Result<(), Fail> {
 /// The message of hex text.
 fn message_of(alloc: Global, text: &str) -> Result<Option<Message>, AllocError> {
     let bytes = bytes_of(alloc, text)?;
-    Ok(Message::from_vec(alloc, &bytes).ok())
+    Ok(read(alloc, &bytes))
 }
 
 /// An A record of `a.` and an NS record of `a.` whose rdata is `b.a.`.
@@ -333,11 +342,7 @@ fn with_size(alloc: Global, size: u16) -> Result<Option<Message>, AllocError> {
     for _ in 0..size {
         bytes.push(7)?;
     }
-    if bytes.len() < 1_000_000 {
-        Ok(Message::from_vec(alloc, &bytes).ok())
-    } else {
-        Ok(None)
-    }
+    Ok(read(alloc, &bytes))
 }
 
 #[test]
@@ -426,10 +431,10 @@ fn row_of_pointers(alloc: Global) -> Result<Vec<u8>, AllocError> {
     )?;
     let mut target: u16 = 23;
     for i in 0..1000u16 {
-        bytes.extend_from_slice(&(49152 + target).to_be_bytes())?;
+        bytes.extend_from_slice(&(49152 + target % 16384).to_be_bytes())?;
         target = 26 + 2 * i;
     }
-    bytes.extend_from_slice(&(49152 + target).to_be_bytes())?;
+    bytes.extend_from_slice(&(49152 + target % 16384).to_be_bytes())?;
     bytes.extend_from_slice(&[255, 0, 0, 3, 0, 0, 0, 0, 0, 0])?;
     Ok(bytes)
 }
@@ -444,8 +449,7 @@ fn last_owner_is_a(message: &Message) -> bool {
 #[test]
 fn a_row_of_pointers(rt: HostRuntime) -> Result<(), Fail> {
     let bytes = row_of_pointers(rt.alloc())?;
-    assert!(rt; bytes.len() < 10000);
-    let message = Message::from_vec(rt.alloc(), &bytes).ok().ok_or("a row")?;
+    let message = read(rt.alloc(), &bytes).ok_or("a row")?;
     assert!(rt; last_owner_is_a(&message));
     Ok(())
 }
