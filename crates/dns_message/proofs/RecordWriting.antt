@@ -20,14 +20,11 @@ use Rattle.dns_message.specs.NameAt.{name_at}
 use Rattle.dns_message.specs.RdataAt.{rdata_at, opaque_at}
 use Rattle.dns_message.specs.RecordAt.{record_at, edns_of, opt_at, is_root, item_at, Listed, with_item, may_after, section_at}
 use Rattle.dns_message.specs.MessageAt.{question_at, questions_at}
-use Rattle.dns_message.specs.WrittenAs.{number_of, question_bytes, record_bytes, opt_ttl, opt_bytes, edns_bytes, edns_count}
+use Rattle.dns_message.specs.WrittenAs.{AreBytes, number_of, question_bytes, record_bytes, opt_ttl, opt_bytes, edns_bytes, edns_count}
 use Rattle.dns_message.proofs.RecordReading.{bind_ok, is_kept, record_kept, with_front, section_start, with_questions, questions_start}
 use Rattle.dns_message.proofs.NameWriting.{name_good, name_again, first_of_ok}
 use Rattle.dns_message.proofs.RdataWriting.{IsRdataAgain, rdata_again}
 use Rattle.dns_message.proofs.Standing.{Stands, stands_front, stands_back, stands_inside, stands_range, stands_u16, stands_u32}
-
-abbrev pub IsBytes : List ℕ → Type 0
-IsBytes bytes = (i : ℕ) → get_or bytes i 0 < 256
 
 -- a record that is read again
 pub record IsRecordAgain (r : Rr) : Type 0 where
@@ -81,20 +78,20 @@ item_record may bytes pos r next e =
     let b = bind_ok (u16_field bytes a.0.1) _ (item.Kept r, next) a.2 in
     item_cases (b.0.0 == type_opt) (may && is_root a.0.0) bytes pos a.0.0 b.0.0 b.0.1 r next (name_good bytes pos a.0.0 a.0.1 a.1) refl b.2
 
-u32_below_at : (short : Bool) (bytes : List ℕ) (pos : ℕ) (x : ℕ × ℕ) → IsBytes bytes → cond {A = Result (ℕ × ℕ) DecodeError} short (Err (fault Short pos)) (Ok (u32_at bytes pos, pos + 4)) ≡ Ok x → x.0 < 4294967296
+u32_below_at : (short : Bool) (bytes : List ℕ) (pos : ℕ) (x : ℕ × ℕ) → AreBytes bytes → cond {A = Result (ℕ × ℕ) DecodeError} short (Err (fault Short pos)) (Ok (u32_at bytes pos, pos + 4)) ≡ Ok x → x.0 < 4294967296
 u32_below_at true bytes pos x fits e = absurd cc
 u32_below_at false bytes pos x fits e =
     let same : u32_at bytes pos ≡ x.0 = first_of_ok e in
     omega (arith, same, fits pos, fits (pos + 1), fits (pos + 2), fits (pos + 2 + 1))
 
-u32_below : (bytes : List ℕ) (pos : ℕ) (x : ℕ × ℕ) → IsBytes bytes → u32_field bytes pos ≡ Ok x → x.0 < 4294967296
+u32_below : (bytes : List ℕ) (pos : ℕ) (x : ℕ × ℕ) → AreBytes bytes → u32_field bytes pos ≡ Ok x → x.0 < 4294967296
 unfolding u32_field
 u32_below bytes pos x fits e = u32_below_at (nat_lt (length bytes) (pos + 4)) bytes pos x fits e
 
 same_opt : (a b : EdnsText) (c d m n : ℕ) → (let r : Result (Item × ℕ) DecodeError = Ok (item.Opt a c, m) in r) ≡ Ok (item.Opt b d, n) → (a ≡ b) × (c ≡ d)
 same_opt a b c d m n h = let e : item.Opt a c ≡ item.Opt b d = first_of_ok h in (cc, cc)
 
-opt_good : (bytes : List ℕ) (pos : ℕ) (e : EdnsText) (code next : ℕ) → IsBytes bytes → opt_at bytes pos ≡ Ok (item.Opt e code, next) → IsOptAgain e code
+opt_good : (bytes : List ℕ) (pos : ℕ) (e : EdnsText) (code next : ℕ) → AreBytes bytes → opt_at bytes pos ≡ Ok (item.Opt e code, next) → IsOptAgain e code
 unfolding opt_at
 opt_good bytes pos e code next fits h =
     let a = bind_ok (u16_field bytes pos) _ (item.Opt e code, next) h in
@@ -106,13 +103,13 @@ opt_good bytes pos e code next fits h =
     let made : IsOptAgain (edns_of a.0.0 b.0.0 d.0) (b.0.0 / 16777216) = record { version = omega arith; flags = omega arith; upper = omega (arith, below) } in
     subst (λ (x : EdnsText). IsOptAgain x code) same.0 (subst (IsOptAgain (edns_of a.0.0 b.0.0 d.0)) same.1 made)
 
-opt_cases : (opt may : Bool) (bytes : List ℕ) (pos : ℕ) (owner : Labels) (kind at : ℕ) (e : EdnsText) (code next : ℕ) → IsBytes bytes
+opt_cases : (opt may : Bool) (bytes : List ℕ) (pos : ℕ) (owner : Labels) (kind at : ℕ) (e : EdnsText) (code next : ℕ) → AreBytes bytes
     → cond {A = Result (Item × ℕ) DecodeError} opt (cond may (opt_at bytes at) (Err (fault BadOpt pos))) (record_at owner kind bytes at) ≡ Ok (item.Opt e code, next) → IsOptAgain e code
 opt_cases false may bytes pos owner kind at e code next fits h = let no = record_kept owner kind bytes at (item.Opt e code, next) h in absurd cc
 opt_cases true false bytes pos owner kind at e code next fits h = absurd cc
 opt_cases true true bytes pos owner kind at e code next fits h = opt_good bytes at e code next fits h
 
-item_opt : (may : Bool) (bytes : List ℕ) (pos : ℕ) (e : EdnsText) (code next : ℕ) → IsBytes bytes → item_at may bytes pos ≡ Ok (item.Opt e code, next) → IsOptAgain e code
+item_opt : (may : Bool) (bytes : List ℕ) (pos : ℕ) (e : EdnsText) (code next : ℕ) → AreBytes bytes → item_at may bytes pos ≡ Ok (item.Opt e code, next) → IsOptAgain e code
 unfolding item_at
 item_opt may bytes pos e code next fits h =
     let a = bind_ok (name_at bytes pos) _ (item.Opt e code, next) h in
@@ -145,7 +142,7 @@ section_more (item.Opt e c) (Ok x) records opt next one two more h =
     let b : Some (e, c) ≡ opt = ap (λ (y : Listed). y.1) (same_listed _ _ h) in
     record { each = subst (AllByRecursion IsRecordAgain) a rest.each; taken = subst (λ (o : Option (EdnsText × ℕ)). IfSome o (λ p. IsOptAgain p.0 p.1)) b (two e c refl) }
 
-pub section_good : (count : ℕ) (may : Bool) (bytes : List ℕ) (pos : ℕ) (records : List Rr) (opt : Option (EdnsText × ℕ)) (next : ℕ) → IsBytes bytes
+pub section_good : (count : ℕ) (may : Bool) (bytes : List ℕ) (pos : ℕ) (records : List Rr) (opt : Option (EdnsText × ℕ)) (next : ℕ) → AreBytes bytes
     → section_at count may bytes pos ≡ Ok (records, opt, next) → IsSectionAgain records opt
 unfolding section_at
 section_good zero may bytes pos records opt next fits h =
@@ -232,11 +229,11 @@ opaque_again bytes pos part s =
     let test : nat_lt (length bytes) (pos + length part) ≡ false = grind (arith, nat_tests, inside) in
     rw (test, stands_range bytes pos part s) refl
 
-do_bit : (flag : Bool) (n : ℕ) → n ≡ number_of flag → (n == 1) ≡ flag
+pub do_bit : (flag : Bool) (n : ℕ) → n ≡ number_of flag → (n == 1) ≡ flag
 do_bit true n is = grind (arith, nat_tests)
 do_bit false n is = grind (arith, nat_tests)
 
-number_small : (flag : Bool) → number_of flag ≤ 1
+pub number_small : (flag : Bool) → number_of flag ≤ 1
 number_small true = omega arith
 number_small false = omega arith
 
