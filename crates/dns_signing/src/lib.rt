@@ -5,8 +5,10 @@
 mod bytes;
 mod canonical;
 mod counted;
+mod digest;
 mod dnskey;
 mod ds;
+mod folded_wire;
 mod key_tags;
 mod ns;
 mod nsec;
@@ -15,18 +17,26 @@ mod part;
 mod rrsig;
 mod serial;
 mod shape;
+mod signed;
 mod soa;
 mod type_set;
 mod window;
+mod write;
 
 pub use canonical::{canonical_rdata, has_shape};
+pub use digest::ds_covers;
 pub use dnskey::Dnskey;
 pub use ds::Ds;
+pub use folded_wire::FoldedWire;
 pub use key_tags::key_tag;
 pub use ns::Ns;
 pub use nsec::{Nsec, NsecRecord};
 pub use nsec3::{Nsec3, Nsec3Record};
 pub use rrsig::Rrsig;
 pub use serial::SerialNumber;
+pub use signed::{signed_data, signed_data_of};
 pub use soa::Soa;
 pub use type_set::TypeSet;
+
+#[cfg(test)]
+mod tests;
