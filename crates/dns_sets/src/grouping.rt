@@ -34,8 +34,20 @@ pub fn placed_sets(alloc: Global, depth: u16, message: &Message) -> Result<Vec<P
 {
     let mut placed = Vec::new(alloc);
     place_section(alloc, &mut placed, depth, Section::Answer, &message.answers)?;
-    place_section(alloc, &mut placed, depth, Section::Authority, &message.authorities)?;
-    place_section(alloc, &mut placed, depth, Section::Additional, &message.additionals)?;
+    place_section(
+        alloc,
+        &mut placed,
+        depth,
+        Section::Authority,
+        &message.authorities,
+    )?;
+    place_section(
+        alloc,
+        &mut placed,
+        depth,
+        Section::Additional,
+        &message.additionals,
+    )?;
     Ok(placed)
 }
 
@@ -44,15 +56,15 @@ pub fn placed_sets(alloc: Global, depth: u16, message: &Message) -> Result<Vec<P
 fn clear(records: &mut [Record])
     ensures { records.new ≡ map cleared records.old }
 {
-    for record in records.iter_mut() {
-        clear_one(record);
+    for next in records.iter_mut() {
+        clear_one(next);
     }
 }
 
-pub(crate) fn clear_one(record: &mut Record)
-    ensures { record.new ≡ cleared record.old }
+pub(crate) fn clear_one(next: &mut Record)
+    ensures { next.new ≡ cleared next.old }
 {
-    record.proof = Proof::Indeterminate;
+    next.proof = Proof::Indeterminate;
 }
 
 // Adds a record to the set.
@@ -115,11 +127,7 @@ fn meet<'a>(
 }
 
 // Gives a signature that can be read to the set that it covers.
-fn give<'a>(
-    sets: &mut Vec<RecordSet>,
-    places: &Places<'a>,
-    met: &'a Record,
-) -> Result<(), NoMemory>
+fn give<'a>(sets: &mut Vec<RecordSet>, places: &Places<'a>, met: &'a Record) -> Result<(), NoMemory>
     requires { ArePlaces places.now sets.old.items }
     ensures sets { OnOk result (sets.new.items ≡ given met.now sets.old.items) }
     ensures places { OnOk result (ArePlaces places.now sets.new.items) }

@@ -7,8 +7,10 @@ mod judged_set;
 mod marking;
 mod outcome;
 mod places;
+#[cfg(test)]
+mod tests;
 
 pub use grouping::{clear_marks, placed_sets};
 pub use judged_set::{JudgedSet, PlacedSet};
 pub use marking::finished;
-pub use outcome::{foreign_record, outcome_of, Outcome};
+pub use outcome::{Outcome, foreign_record, outcome_of};
