@@ -1,5 +1,5 @@
 -- Which keys of a key set are tried, as the tags are counted.
-use Rattle.std.proofs.Common.{◌≡◌, ℕ, zero, suc, ◌+◌, ◌<◌, ◌≤◌, Bool, true, false, ◌&&◌, ◌||◌, cond, List, [], ◌∷◌, ◌++◌, length, take, drop, refl, sym, ap, ◌∙◌, arith, add-zero}
+use Rattle.std.proofs.Common.{◌≡◌, ℕ, zero, suc, ◌+◌, ◌<◌, ◌≤◌, Bool, true, false, ◌&&◌, ◌||◌, cond, List, [], ◌∷◌, ◌++◌, length, take, drop, refl, sym, ap, ◌∙◌, arith, zero-add}
 use Rattle.std.specs.Prelude.{nat_lt, ◌==◌, min, Option, None, Some, slice_index_or}
 use Rattle.std.specs.List.{filter, find, count_by, list_any}
 use Rattle.std.specs.Ordering.{nat_cmp}
@@ -104,7 +104,7 @@ pub tried_end : (p : Rr → Bool) (keys : List Rr) (i : ℕ) (m : BTreeMap ℕ �
 tried_end p keys i m h t = sym t.searched ∙ ap (λ rest. find p (first_two (readable (take i keys)) (readable rest))) (drop_all i keys h) ∙ none_left p (readable (take i keys))
 
 count_push : (p : Rr → Bool) (rs : List Rr) (key : Rr) → count_by p (rs ++ key ∷ []) ≡ count_by p rs + cond (p key) 1 0
-count_push p rs key = sum_by-append (λ r. cond (p r) 1 0) rs (key ∷ []) ∙ ap (λ n. count_by p rs + n) (add-zero (cond (p key) 1 0))
+count_push p rs key = sum_by-append (λ r. cond (p r) 1 0) rs (key ∷ []) ∙ ap (λ n. count_by p rs + n) (zero-add (cond (p key) 1 0))
 
 same_number : (a b : ℕ) → (a == b) ≡ true → a ≡ b
 same_number a b h = grind (arith, nat_tests)

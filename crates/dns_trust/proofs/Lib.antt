@@ -1,3 +1,5 @@
 pub mod ChainOf
 pub mod Searching
 pub mod Counts
+pub mod Found
+pub mod Alike

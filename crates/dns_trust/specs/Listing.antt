@@ -22,6 +22,10 @@ is_entry algorithm key bytes signature entry =
 abbrev pub is_listed : ListedText → ℕ → Bool
 is_listed listed algorithm = list_any (λ a. algorithm == a) listed.algorithms
 
+-- an entry of another list is listed
+abbrev pub holds_entry : ListedText → AcceptedText → Bool
+holds_entry listed entry = list_any (is_entry entry.algorithm entry.key entry.bytes entry.signature) listed.accepted
+
 -- what is listed is supported and accepted, but never algorithm 1 (RFC 8624, 3.1)
 abbrev pub answers_of : ListedText → Answers
 answers_of listed = record {
