@@ -3,3 +3,4 @@ pub mod Searching
 pub mod Counts
 pub mod Found
 pub mod Alike
+pub mod Within

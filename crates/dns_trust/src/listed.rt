@@ -2,7 +2,7 @@ ghost use Rattle.std.specs.Prelude.{◌≡◌, ◌↔◌, ◌==◌, ◌||◌, []
 ghost use Rattle.std.specs.List.{list_all, list_any};
 ghost use Rattle.dns_net.specs.Verifiers.{AnswerAlike};
 ghost use Rattle.dns_trust.specs.Finding.{passes_at};
-ghost use Rattle.dns_trust.specs.Listing.{Within, answers_of, holds_entry as holds_entry_in, is_entry as is_entry_of, is_listed, number_of as number_in, with_accepted, with_algorithm};
+ghost use Rattle.dns_trust.specs.Listing.{SameAnswers, answers_of, holds_entry as holds_entry_in, is_entry as is_entry_of, is_listed, is_within as is_within_of, number_of as number_in, with_accepted, with_algorithm};
 
 use crate::finding::{Places, add_place, mix, places_of};
 use dns_name::{NoMemory, Octets};
@@ -110,7 +110,8 @@ impl Verifier for Listed {
 
     /// Both hold the same, in whatever order and however often.
     fn same(&self, other: &Listed) -> bool
-        ensures { IsTrue result ↔ AnswerAlike (answers_of self.now) (answers_of other.now) }
+        ensures alike { IsTrue result → AnswerAlike (answers_of self.now) (answers_of other.now) }
+        ensures exact { IsTrue result ↔ SameAnswers (answers_of self.now) (answers_of other.now) }
     {
         self.is_within(other) && other.is_within(self)
     }
@@ -127,7 +128,7 @@ impl Listed {
 
     // The other supports and accepts what this does.
     fn is_within(&self, other: &Listed) -> bool
-        ensures { IsTrue result ↔ Within (answers_of self.now) (answers_of other.now) }
+        ensures { result ≡ is_within_of self.now other.now }
     {
         supports_all(other, &self.algorithms) && accepts_all(other, &self.accepted)
     }
