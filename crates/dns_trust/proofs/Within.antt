@@ -31,7 +31,7 @@ supports_from one other within n h =
     let same : n ≡ some.1 = eqb-true n some.1 some.4 in
     let test : ((n == 1) || is_listed other n) ≡ true =
       ap (λ a. (a == 1) || is_listed other a) (same ∙ sym some.3) ∙ AllPass-from_list_all (λ a. (a == 1) || is_listed other a) one.algorithms halves.0 some.0 some.1 some.2 in
-    both_true parts.0 (⊎_elim (untrue (n == 1) _ (not-true (n == 1) parts.0)) (λ (x : is_listed other n ≡ true). x) (or_cases (n == 1) (is_listed other n) test))
+    both_true parts.0 (⊎_elim (λ (x : (n == 1) ≡ true). untrue {P = is_listed other n ≡ true} (n == 1) x (not-true (n == 1) parts.0)) (λ (x : is_listed other n ≡ true). x) (or_cases (n == 1) (is_listed other n) test))
 
 -- a test for an entry that is equal
 entry_test : (n : ℕ) (key bytes signature : List ℕ) (e : AcceptedText) → is_entry n key bytes signature e ≡ true

@@ -1,4 +1,4 @@
-ghost use Rattle.std.specs.Prelude.{◌≡◌, ◌↔◌, ◌==◌, ◌||◌, [], IsTrue, IfOk, OnOk, OnErr};
+ghost use Rattle.std.specs.Prelude.{◌≡◌, ◌↔◌, ◌==◌, ◌&&◌, ◌||◌, [], IsTrue, IfOk, OnOk, OnErr};
 ghost use Rattle.std.specs.List.{list_all, list_any};
 ghost use Rattle.dns_net.specs.Verifiers.{AnswerAlike};
 ghost use Rattle.dns_trust.specs.Finding.{passes_at};
@@ -113,7 +113,7 @@ impl Verifier for Listed {
         ensures alike { IsTrue result → AnswerAlike (answers_of self.now) (answers_of other.now) }
         ensures exact { IsTrue result ↔ SameAnswers (answers_of self.now) (answers_of other.now) }
     {
-        self.is_within(other) && other.is_within(self)
+        holds_same(self, other)
     }
 }
 
@@ -151,6 +151,13 @@ impl Listed {
             entry.signature.as_slice(),
         )
     }
+}
+
+// Each holds what the other holds.
+fn holds_same(one: &Listed, other: &Listed) -> bool
+    ensures { result ≡ (is_within_of one.now other.now && is_within_of other.now one.now) }
+{
+    one.is_within(other) && other.is_within(one)
 }
 
 // All these algorithms but 1 are supported.
