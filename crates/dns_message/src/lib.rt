@@ -3,15 +3,24 @@
 
 mod bitmap;
 mod decode_error;
+mod encode_error;
+mod hops;
 mod item;
 mod message;
+mod message_reader;
+mod message_writer;
 mod name_reader;
 mod number_reader;
 mod rdata;
 mod rdata_reader;
 mod record_reader;
+mod section_reader;
 mod shape;
 mod step;
 
 pub use decode_error::{DecodeError, DecodeKind};
+pub use encode_error::EncodeError;
 pub use message::{Edns, Message};
+
+#[cfg(test)]
+mod tests;

@@ -4,12 +4,20 @@
 
 mod comparing;
 mod name;
+mod name_bytes;
 mod name_ref;
+mod name_text;
 mod no_memory;
 mod octets;
+mod printing;
 mod reading;
+mod shown;
+mod text;
+mod text_reading;
 
+pub use dns_model::NameError;
 pub use name::Name;
 pub use name_ref::NameRef;
 pub use no_memory::NoMemory;
 pub use octets::Octets;
+pub use text::Text;

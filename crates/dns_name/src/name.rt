@@ -1,6 +1,6 @@
 ghost use Rattle.std.specs.Prelude.{◌≡◌, ◌≤◌, ◌++◌, ◌↔◌, true, [], IfOk, OnOk, OnErr, IsTrue, length};
 ghost use Rattle.dns_model.specs.Names.{at_or_above, folded, is_name, is_wildcard, last_labels, num_labels, parent, wire};
-ghost use Rattle.dns_model.specs.NameForm.{name_of, labels_of, IsWire};
+ghost use Rattle.dns_model.specs.NameForm.{labels_of, name_of, IsWire};
 
 use crate::{NameRef, NoMemory, Octets};
 use std::alloc::Global;
