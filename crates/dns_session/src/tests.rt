@@ -183,7 +183,7 @@ fn the_signed_root_is_read(rt: HostRuntime) -> Result<(), Fail> {
     assert_eq!(rt; session.accepts.len(), 1);
     assert_eq!(rt; session.accepts[0].algorithm, 13);
     assert!(rt; session.accepts[0].key.as_slice() == b"\xaa\xbb".as_slice());
-    assert_eq!(rt; session.accepts[0].bytes.as_slice().len(), 32);
+    assert_eq!(rt; session.accepts[0].bytes.as_slice().len(), 33);
     assert!(rt; session.accepts[0].signature.as_slice() == b"\xc0\xde".as_slice());
     assert_eq!(rt; session.query.query_type.0, 2);
     assert_eq!(rt; session.query.query_class.0, 1);
