@@ -1,3 +1,6 @@
 pub mod PieceLemmas
 pub mod ManyLemmas
 pub mod ByteWords
+pub mod WordLengths
+pub mod SpelledLaws
+pub mod ReadLaws
