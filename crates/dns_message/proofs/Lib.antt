@@ -2,3 +2,4 @@ pub mod BitmapReading
 pub mod Faults
 pub mod NameReading
 pub mod RdataReading
+pub mod RecordReading

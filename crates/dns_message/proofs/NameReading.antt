@@ -34,7 +34,7 @@ label_step bytes start pos size n h = record {
   some = grind (arith, nat_tests);
   small = grind (arith, nat_tests);
   inside = grind (arith, nat_tests);
-  room = grind (arith, nat_tests)
+  room = grind (arith, nat_tests);
 }
 
 -- what a pointer says
@@ -79,7 +79,7 @@ one_step (Ok step.Root) bytes start pos size is = rw is refl
 one_step (Ok (step.Label k)) bytes start pos size is =
     let s = label_step bytes start pos size k is in
     rw is (ap (with_label (slice_range bytes (pos + 1) (pos + 1 + k)))
-      (enough (steps_left start size) (suc (steps_left start (size + 1 + k))) bytes start (pos + 1 + k) (size + 1 + k) (omega (arith, s.room, s.some)) (omega arith)))
+    (enough (steps_left start size) (suc (steps_left start (size + 1 + k))) bytes start (pos + 1 + k) (size + 1 + k) (omega (arith, s.room, s.some)) (omega arith)))
 one_step (Ok (step.Jump target)) bytes start pos size is =
     let before = (jump_step bytes start pos size target is).before in
     rw is (ap (ending_at (pos + 2)) (enough (steps_left start size) (suc (steps_left target size)) bytes target target size (omega (arith, before)) (omega arith)))
@@ -141,7 +141,7 @@ label_at bytes pos n byte inside =
     let d : drop pos bytes ≡ n ∷ drop (pos + 1) bytes = drop-cons bytes pos 0 lt ∙ ap (λ (x : ℕ). x ∷ drop (suc pos) bytes) byte ∙ ap (λ (k : ℕ). n ∷ drop k bytes) (sym (add-one pos)) in
     record {
       parts = rw (k1, k2, d) refl;
-      long = rw k2 (length-take-le n (drop (pos + 1) bytes) (omega (arith, length-drop (pos + 1) bytes)))
+      long = rw k2 (length-take-le n (drop (pos + 1) bytes) (omega (arith, length-drop (pos + 1) bytes)));
     }
 
 pub walked_label : (bytes : List ℕ) (at start pos : ℕ) (ending : Option ℕ) (read : List ℕ) (n : ℕ) → Walked bytes at start pos ending read
@@ -156,22 +156,22 @@ walked_label bytes at start pos ending read n w is =
     let small : nat_le (length label) 63 ≡ true = grind (arith, nat_tests, long, s.small) in
     let is_one : is_label label ≡ true = and_from (nat_lt 0 (length label)) (nat_le (length label) 63) some small in
     let grown : length (read ++ slice_range bytes pos (pos + 1 + n)) ≡ length read + 1 + n =
-      length-append read (slice_range bytes pos (pos + 1 + n)) ∙ ap (λ (x : List ℕ). length read + length x) l.parts ∙ omega (arith, l.long) in
+    length-append read (slice_range bytes pos (pos + 1 + n)) ∙ ap (λ (x : List ℕ). length read + length x) l.parts ∙ omega (arith, l.long) in
     let row : read ++ slice_range bytes pos (pos + 1 + n) ≡ row_wire (w.labels ++ label ∷ []) =
-      ap (λ (x : List ℕ). x ++ slice_range bytes pos (pos + 1 + n)) w.spelled
-      ∙ ap (λ (x : List ℕ). row_wire w.labels ++ x) (l.parts ∙ ap (λ (x : List ℕ). n ∷ x) (sym (append-nil label)) ∙ ap (λ (k : ℕ). k ∷ (label ++ [])) (sym long))
-      ∙ sym (row_wire-append w.labels (label ∷ [])) in
+    ap (λ (x : List ℕ). x ++ slice_range bytes pos (pos + 1 + n)) w.spelled
+    ∙ ap (λ (x : List ℕ). row_wire w.labels ++ x) (l.parts ∙ ap (λ (x : List ℕ). n ∷ x) (sym (append-nil label)) ∙ ap (λ (k : ℕ). k ∷ (label ++ [])) (sym long))
+    ∙ sym (row_wire-append w.labels (label ∷ [])) in
     let all : list_all is_label (w.labels ++ label ∷ []) ≡ true = list_all-append is_label w.labels (label ∷ []) ∙ rw (w.good, is_one) refl in
     let rest : labels_at bytes start pos (length read) ≡ with_label label (labels_at bytes start (pos + 1 + n) (length read + 1 + n)) =
-      one_step (Ok (step.Label n)) bytes start pos (length read) is in
+    one_step (Ok (step.Label n)) bytes start pos (length read) is in
     record {
       labels = w.labels ++ label ∷ [];
       spelled = row;
       good = all;
       so_far = ap (λ (z : ℕ). finish ending (with_labels (w.labels ++ label ∷ []) (labels_at bytes start (pos + 1 + n) z))) grown
-        ∙ ap (finish ending) (sym (one_more w.labels label (labels_at bytes start (pos + 1 + n) (length read + 1 + n))))
-        ∙ ap (λ (r : Result (Labels × ℕ) DecodeError). finish ending (with_labels w.labels r)) (sym rest)
-        ∙ w.so_far
+          ∙ ap (finish ending) (sym (one_more w.labels label (labels_at bytes start (pos + 1 + n) (length read + 1 + n))))
+          ∙ ap (λ (r : Result (Labels × ℕ) DecodeError). finish ending (with_labels w.labels r)) (sym rest)
+          ∙ w.so_far;
     }
 
 jumped : (ending : Option ℕ) (labels : Labels) (place : ℕ) (r : Result (Labels × ℕ) DecodeError)
@@ -186,14 +186,14 @@ pub walked_jump : (bytes : List ℕ) (at start pos : ℕ) (ending : Option ℕ) 
     → Walked bytes at target target (Some (ending_or ending (pos + 2))) read
 walked_jump bytes at start pos ending read target w is =
     let rest : labels_at bytes start pos (length read) ≡ ending_at (pos + 2) (labels_at bytes target target (length read)) =
-      one_step (Ok (step.Jump target)) bytes start pos (length read) is in
+    one_step (Ok (step.Jump target)) bytes start pos (length read) is in
     record {
       labels = w.labels;
       spelled = w.spelled;
       good = w.good;
       so_far = jumped ending w.labels (pos + 2) (labels_at bytes target target (length read))
-        ∙ ap (λ (r : Result (Labels × ℕ) DecodeError). finish ending (with_labels w.labels r)) (sym rest)
-        ∙ w.so_far
+          ∙ ap (λ (r : Result (Labels × ℕ) DecodeError). finish ending (with_labels w.labels r)) (sym rest)
+          ∙ w.so_far;
     }
 
 ended : (ending : Option ℕ) (labels : Labels) (place : ℕ) → finish ending (with_labels labels (Ok ([], place))) ≡ Ok (labels, ending_or ending place)
@@ -212,7 +212,7 @@ walked_root bytes at start pos ending read w room is =
       labels = w.labels;
       told = sym w.so_far ∙ ap (λ (r : Result (Labels × ℕ) DecodeError). finish ending (with_labels w.labels r)) rest ∙ ended ending w.labels (pos + 1);
       spelled = written;
-      good = and_from (list_all is_label w.labels) (nat_le (length (wire w.labels)) 255) w.good short
+      good = and_from (list_all is_label w.labels) (nat_le (length (wire w.labels)) 255) w.good short;
     }
 
 failed : (ending : Option ℕ) (labels : Labels) (e : DecodeError) → finish ending (with_labels labels (Err e)) ≡ Err e
@@ -253,7 +253,7 @@ pub step_fails : (kind : DecodeKind) (place : ℕ) (bytes : List ℕ) (at start 
     → FailsWith kind place (step_of bytes start pos size) → FailsWith kind place (spelled_at bytes at)
 step_fails kind place bytes at start pos ending read size len w a b =
     let told : (e : DecodeError) → step_of bytes start pos size ≡ Err e → spelled_at bytes at ≡ Err e =
-      λ e h. not_spelled bytes at e (walked_fault bytes at start pos ending read e w (step_is bytes start pos size read len (Err e) (Err e) a b h refl)) in
+    λ e h. not_spelled bytes at e (walked_fault bytes at start pos ending read e w (step_is bytes start pos size read len (Err e) (Err e) a b h refl)) in
     fails_on kind place (step_of bytes start pos size) (spelled_at bytes at) told
 
 -- the bytes of a name that was spelled are its wire form

@@ -36,8 +36,8 @@ unfolding fields_at
 fields_more shape i field bytes old new pos stop next total n a so_far =
     let rest : Option (List ℕ) = fields_at (map field_text (drop (i + 1) shape)) bytes next stop in
     let one : fields_at (map field_text (drop i shape)) bytes pos stop ≡ with_bytes a.front rest =
-      ap (λ (fields : List shapes.Field). fields_at fields bytes pos stop) n.parts
-      ∙ ap (λ (o : Option (List ℕ × ℕ)). after_field o (λ k. fields_at (map field_text (drop (i + 1) shape)) bytes k stop)) a.told in
+    ap (λ (fields : List shapes.Field). fields_at fields bytes pos stop) n.parts
+    ∙ ap (λ (o : Option (List ℕ × ℕ)). after_field o (λ k. fields_at (map field_text (drop (i + 1) shape)) bytes k stop)) a.told in
     ap (λ (b : List ℕ). with_bytes b rest) a.grown ∙ joined old a.front rest ∙ ap (with_bytes old) (sym one) ∙ so_far
 
 pub fields_none : (shape : List Field) (i : ℕ) (field : Field) (bytes old : List ℕ) (pos stop : ℕ) (total : Option (List ℕ)) → IsNext shape i field
@@ -47,8 +47,8 @@ pub fields_none : (shape : List Field) (i : ℕ) (field : Field) (bytes old : Li
 unfolding fields_at
 fields_none shape i field bytes old pos stop total n none so_far =
     let one : fields_at (map field_text (drop i shape)) bytes pos stop ≡ None =
-      ap (λ (fields : List shapes.Field). fields_at fields bytes pos stop) n.parts
-      ∙ ap (λ (o : Option (List ℕ × ℕ)). after_field o (λ k. fields_at (map field_text (drop (i + 1) shape)) bytes k stop)) none in
+    ap (λ (fields : List shapes.Field). fields_at fields bytes pos stop) n.parts
+    ∙ ap (λ (o : Option (List ℕ × ℕ)). after_field o (λ k. fields_at (map field_text (drop (i + 1) shape)) bytes k stop)) none in
     sym (ap (with_bytes old) one) ∙ so_far
 
 drop_past : (shape : List Field) (i : ℕ) → length shape ≤ i → drop i shape ≡ []
@@ -68,5 +68,5 @@ pub fields_done : (shape : List Field) (i : ℕ) (bytes old : List ℕ) (pos sto
 unfolding fields_at
 fields_done shape i bytes old pos stop total past so_far =
     let one : fields_at (map field_text (drop i shape)) bytes pos stop ≡ cond (pos == stop) (Some []) None =
-      ap (λ (fields : List Field). fields_at (map field_text fields) bytes pos stop) (drop_past shape i past) in
+    ap (λ (fields : List Field). fields_at (map field_text fields) bytes pos stop) (drop_past shape i past) in
     sym (ended (pos == stop) old) ∙ ap (with_bytes old) (sym one) ∙ so_far

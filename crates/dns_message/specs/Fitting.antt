@@ -5,6 +5,8 @@ use Rattle.std.specs.Global.{Vec}
 use Rattle.dns_model.specs.Names.{Labels, wire, is_name}
 use Rattle.dns_message.specs.declared.decode_error.DecodeError.{DecodeError}
 use Rattle.dns_model.specs.Shapes as shapes
+use Rattle.dns_message.specs.declared.message_reader.Header.{Header}
+use Rattle.dns_message.specs.MessageAt.{HeaderText}
 use Rattle.dns_message.specs.declared.shape.Field.{Field}
 use Rattle.dns_message.specs.declared.shape.Field.TheVariants as field
 use Rattle.dns_message.specs.declared.step.Step.{Step}
@@ -56,3 +58,7 @@ window_text (Some x) = Some (record { number = x.0; bits = x.1.now }, x.2.now)
 abbrev pub items_in : Option (Vec ℕ) → Option (List ℕ)
 items_in None = None
 items_in (Some v) = Some v.items
+
+-- the header of the code as one of the definitions
+abbrev pub header_text : Header → HeaderText
+header_text h = record { id = h.id; flags = h.flags; questions = h.questions; answers = h.answers; authorities = h.authorities; additionals = h.additionals }

@@ -67,7 +67,7 @@ message_of header queries answers authorities additionals opt = record {
   answers = answers;
   authorities = authorities;
   additionals = additionals;
-  edns = edns_in opt
+  edns = edns_in opt;
 }
 
 -- the message that bytes are, all of them
@@ -79,5 +79,5 @@ message_at bytes = do
   authorities ← section_at header.authorities false bytes answers.2
   additionals ← section_at header.additionals true bytes authorities.2
   if nat_lt additionals.2 (length bytes)
-    then Err (fault Trailing additionals.2)
-    else Ok (message_of header queries.0 answers.0 authorities.0 additionals.0 additionals.1)
+      then Err (fault Trailing additionals.2)
+      else Ok (message_of header queries.0 answers.0 authorities.0 additionals.0 additionals.1)

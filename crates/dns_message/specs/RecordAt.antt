@@ -28,7 +28,7 @@ edns_of payload ttl options = record {
   version = ttl / 65536 % 256;
   dnssec_ok = ttl / 32768 % 2 == 1;
   flags = ttl % 32768;
-  options = options
+  options = options;
 }
 
 -- an OPT after its owner and type; the upper eight bits of its ttl are the upper bits of the code
@@ -50,8 +50,8 @@ item_at may bytes pos = do
   owner ← name_at bytes pos
   kind ← u16_field bytes owner.1
   if kind.0 == type_opt
-    then if may && is_root owner.0 then opt_at bytes kind.1 else Err (fault BadOpt pos)
-    else record_at owner.0 kind.0 bytes kind.1
+      then if may && is_root owner.0 then opt_at bytes kind.1 else Err (fault BadOpt pos)
+      else record_at owner.0 kind.0 bytes kind.1
 
 -- the records of a section, its OPT with the code's upper bits, and the place after the section
 abbrev pub Listed : Type 0

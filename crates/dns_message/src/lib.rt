@@ -5,11 +5,13 @@ mod bitmap;
 mod decode_error;
 mod item;
 mod message;
+mod message_reader;
 mod name_reader;
 mod number_reader;
 mod rdata;
 mod rdata_reader;
 mod record_reader;
+mod section_reader;
 mod shape;
 mod step;
 

@@ -55,11 +55,7 @@ pub(crate) fn spelled_of(
 }
 
 /// The name at a place, and the place after its bytes.
-pub(crate) fn name_of(
-    alloc: Global,
-    bytes: &[u8],
-    at: usize,
-) -> Result<(Name, usize), DecodeError>
+pub(crate) fn name_of(alloc: Global, bytes: &[u8], at: usize) -> Result<(Name, usize), DecodeError>
     requires short { length bytes.now < 2 ^ 32 }
     requires at { at ≤ length bytes.now }
     ensures reads { Reads (λ x. (x.0, x.1)) result (name_at bytes.now at) }

@@ -32,7 +32,11 @@ fn fields_of(
             Some(next) => pos = next,
         }
     }
-    if pos == stop { Ok(Some(into)) } else { Ok(None) }
+    if pos == stop {
+        Ok(Some(into))
+    } else {
+        Ok(None)
+    }
 }
 
 /// The rdata from `at` up to `stop` in the shape of its type, names spelled out, or `None` where it hasn't that shape.

@@ -72,3 +72,33 @@ fn opt_of(alloc: Global, bytes: &[u8], at: usize) -> Result<(Item, usize), Decod
         next + usize::from(size),
     ))
 }
+
+/// A record of a section and the place after it. An OPT is taken where one may stand, and at the root.
+#[tactic(auto, unfolding(crate::specs::RecordAt::item_at))]
+pub(crate) fn item_of(
+    alloc: Global,
+    may: bool,
+    bytes: &[u8],
+    at: usize,
+) -> Result<(Item, usize), DecodeError>
+    requires short { length bytes.now < 2 ^ 32 }
+    requires at { at ≤ length bytes.now }
+    ensures reads { Reads (λ x. (x.0, x.1)) result (item_at may bytes.now at) }
+    ensures fits { IfOk result (λ x. x.1 ≤ length bytes.now) }
+{
+    let (owner, next) = name_of(alloc, bytes, at)?;
+    let (kind, next) = u16_of(bytes, next)?;
+    if kind != 41 {
+        return record_of(alloc, owner, kind, bytes, next);
+    }
+    if may && stands_at_root(&owner) {
+        return opt_of(alloc, bytes, next);
+    }
+    Err(fault(DecodeKind::BadOpt, at))
+}
+
+fn stands_at_root(owner: &Name) -> bool
+    ensures { result ≡ is_root owner.now }
+{
+    owner.wire().len() == 1
+}

@@ -13,3 +13,4 @@ pub mod SetLemmas
 pub mod OrderLemmas
 pub mod LabelSteps
 pub mod TextLemmas
+pub mod ReadSteps

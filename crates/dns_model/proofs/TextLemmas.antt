@@ -6,6 +6,7 @@ use Rattle.std.specs.List.{list_all, flat_map}
 use Rattle.std.proofs.lemmas.Bool.{and_parts}
 use Rattle.std.proofs.lemmas.Bool.Decides.{nat_tests}
 use Rattle.std.proofs.lemmas.List.{append_assoc, append-nil}
+use Rattle.dns_model.specs.Bytes.{is_bytes}
 use Rattle.dns_model.specs.Names.{Label, Labels, wire, is_label, is_name}
 use Rattle.dns_model.specs.NameText.{dot, backslash, is_special, is_printable, is_digit, three_digits, printed_byte, printed_label, printed, number_of, number_in, escape_in, byte_in, Read, and_then, label_checked, ended, after_dot, after_byte, step_in, labels_read, text_read, within, read_name}
 use Rattle.dns_model.specs.declared.name_error.NameError.{NameError}
@@ -34,7 +35,7 @@ escape_shorter (byte ∷ left) rest value h = escape_cut byte left rest value (i
     escape_cut byte left rest value false true h = let same : left ≡ rest = second_of_some h in rw (← same) (omega arith)
     escape_cut byte left rest value false false h = cc
 
-byte_shorter : (byte : ℕ) (text rest : List ℕ) (value : ℕ) → byte_in byte text ≡ Some (value, rest) → length rest ≤ length text
+pub byte_shorter : (byte : ℕ) (text rest : List ℕ) (value : ℕ) → byte_in byte text ≡ Some (value, rest) → length rest ≤ length text
 unfolding byte_in
 byte_shorter byte text rest value h = byte_cut (byte == backslash) (is_printable byte) h
   where
@@ -116,10 +117,6 @@ byte_read label byte rest small = byte_cases (is_special byte) (is_printable byt
     byte_cases true p is shown = special_read label byte rest (sym is)
     byte_cases false true is shown = plain_read label byte rest (sym is) (sym shown)
     byte_cases false false is shown = escaped_read label byte (three_digits byte ++ rest) rest (digits_read byte rest small)
-
--- numbers below 256
-abbrev pub is_bytes : List ℕ → Bool
-is_bytes bytes = list_all (λ (b : ℕ). nat_lt b 256) bytes
 
 bytes_read : (before label : Label) (rest : List ℕ) → is_bytes label ≡ true → read_at before (flat_map printed_byte label ++ rest) ≡ read_at (before ++ label) rest
 bytes_read before [] rest good = ap (λ (l : Label). read_at l rest) (sym (append-nil before))

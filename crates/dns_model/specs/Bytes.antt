@@ -1,5 +1,10 @@
 -- Numbers as bytes, the highest first (RFC 1035, 2.3.2).
-use Rattle.std.specs.Prelude.{ℕ, ◌+◌, ◌*◌, ◌/◌, ◌%◌, List, [], ◌∷◌, slice_index}
+use Rattle.std.specs.Prelude.{ℕ, Bool, nat_lt, ◌+◌, ◌*◌, ◌/◌, ◌%◌, List, [], ◌∷◌, slice_index}
+use Rattle.std.specs.List.{list_all}
+
+-- numbers below 256
+abbrev pub is_bytes : List ℕ → Bool
+is_bytes bytes = list_all (λ b. nat_lt b 256) bytes
 
 -- the number in the two bytes at a place
 abbrev pub u16_at : List ℕ → ℕ → ℕ

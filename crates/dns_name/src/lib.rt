@@ -7,9 +7,14 @@ mod name;
 mod name_ref;
 mod no_memory;
 mod octets;
+mod printing;
 mod reading;
+mod text;
+mod text_reading;
 
+pub use dns_model::NameError;
 pub use name::Name;
 pub use name_ref::NameRef;
 pub use no_memory::NoMemory;
 pub use octets::Octets;
+pub use text::Text;

@@ -1,6 +1,6 @@
 ghost use Rattle.std.specs.Prelude.{◌≡◌, ◌≤◌, ◌++◌, ◌↔◌, true, [], IfOk, OnOk, OnErr, IsTrue, length};
 ghost use Rattle.dns_model.specs.Names.{at_or_above, folded, is_name, is_wildcard, last_labels, num_labels, parent, wire};
-ghost use Rattle.dns_model.specs.NameForm.{name_of, labels_of, IsWire};
+ghost use Rattle.dns_model.specs.NameForm.{labels_of, name_of, IsWire};
 
 use crate::{NameRef, NoMemory, Octets};
 use std::alloc::Global;
@@ -40,6 +40,14 @@ impl Name {
             Some((name, [])) => Ok(Some(name.to_name(alloc)?)),
             _ => Ok(None),
         }
+    }
+
+    /// The name whose wire form these bytes are.
+    pub(crate) fn of_wire(wire: Octets) -> Name
+        requires { IsWire wire }
+        ensures { result ≡ labels_of wire }
+    {
+        Name { wire }
     }
 
     /// A copy of a name that stands elsewhere.

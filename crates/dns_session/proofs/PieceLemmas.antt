@@ -6,6 +6,7 @@ use Rattle.std.proofs.lemmas.List.{take_rest}
 use Rattle.std.proofs.lemmas.List.Splits.{slice_split_first}
 use Rattle.std.proofs.lemmas.Bool.Decides.{nat_tests}
 use Rattle.dns_session.specs.Places.{pieces, is_nothing, next_in, place}
+use Rattle.dns_session.specs.Lines.{words, single}
 
 -- where nothing passes there is one piece
 split_uncut : (p : ℕ → Bool) (xs : List ℕ) → length xs ≤ position_or_len p xs → slice_split p xs ≡ xs ∷ []
@@ -73,3 +74,7 @@ next_some number byte text line rest h = let more = pieces_listed byte rest in r
 
 pub next_none : (number byte : ℕ) (text : List ℕ) → pieces byte text ≡ text ∷ [] → next_in number (pieces byte text) ≡ None
 next_none number byte text h = rw h refl
+
+-- a word with more behind it isn't the only one
+pub single_long : (text word rest : List ℕ) → words text ≡ word ∷ words rest → None ≡ single (words text)
+single_long text word rest h = let more = pieces_listed 32 rest in rw (h, more.2) refl

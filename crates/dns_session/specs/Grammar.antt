@@ -1,1 +1,33 @@
+-- The grammar of sessions: lines of these forms in this order, and nothing after the last. Each ends with LF.
+use Rattle.std.specs.Prelude.{ℕ, Bool, true, false, List, Result, Ok, Err, if◌then◌else◌}
+use Rattle.dns_session.specs.SessionText.{SessionText}
+use Rattle.dns_session.specs.Places.{Place, start_of, one, many, is_ended, ◌>>=◌}
+use Rattle.dns_session.specs.Lines.{header_line, moment_line, algorithms_line, anchor_line, accept_line, query_line, reply_line, end_line}
 
+-- the value, where nothing follows; else the next line is bad
+abbrev pub if_ended : {X : Type 0} → Place → X → Result X ℕ
+if_ended at x = if is_ended at then Ok x else Err at.number
+
+-- the session from a place on, or the number of the first bad line
+unfoldable pub session_at : Place → Result SessionText ℕ
+session_at start = do
+  head ← one header_line start
+  moment ← one moment_line head.1
+  algorithms ← one algorithms_line moment.1
+  let anchors = many anchor_line algorithms.1
+  let accepts = many accept_line anchors.1
+  query ← one query_line accepts.1
+  let replies = many reply_line query.1
+  last ← one end_line replies.1
+  if_ended last.1 (record {
+    moment = moment.0;
+    algorithms = algorithms.0;
+    anchors = anchors.0;
+    accepts = accepts.0;
+    query = query.0;
+    replies = replies.0;
+  })
+
+-- the session that bytes are, or the number of the first line, from 1, that can't stand at its place
+abbrev pub session_of : List ℕ → Result SessionText ℕ
+session_of bytes = session_at (start_of bytes)

@@ -3,6 +3,9 @@ use Rattle.std.specs.Prelude.{ℕ, List, [], ◌∷◌, codes, Option, None, Som
 use Rattle.dns_model.specs.Names.{Labels}
 use Rattle.dns_model.specs.Keys.{Anchor, bytes_eq}
 use Rattle.dns_model.specs.Records.{Question, MessageText}
+use Rattle.dns_model.specs.Types.{class_in}
+use Rattle.dns_message.specs.MessageAt.{message_at}
+use Rattle.dns_words.specs.NameWords.{name_word_in}
 use Rattle.dns_words.specs.Steps.{◌>>=◌}
 use Rattle.dns_words.specs.Decimals.{decimal_in}
 use Rattle.dns_words.specs.Codes.{type_in}
@@ -15,6 +18,11 @@ Words = List (List ℕ)
 
 abbrev pub words : List ℕ → Words
 words line = pieces 32 line
+
+-- the words of what is left of a line, if something is
+abbrev pub words_left : Option (List ℕ) → Words
+words_left None = []
+words_left (Some rest) = words rest
 
 -- the words after the first, where that is this word
 abbrev pub after : List ℕ → Words → Option Words
@@ -31,15 +39,20 @@ single [] = None
 single (a ∷ []) = Some a
 single (a ∷ b ∷ ws) = None
 
+-- two words
+abbrev pub double : Words → Option (List ℕ × List ℕ)
+double [] = None
+double (a ∷ ws) = single ws >>= λ b. Some (a, b)
+
 -- three words
 abbrev pub triple : Words → Option (List ℕ × List ℕ × List ℕ)
-triple (a ∷ b ∷ c ∷ []) = Some (a, b, c)
-triple _ = None
+triple [] = None
+triple (a ∷ ws) = double ws >>= λ more. Some (a, more.0, more.1)
 
 -- four words
 abbrev pub quadruple : Words → Option (List ℕ × List ℕ × List ℕ × List ℕ)
-quadruple (a ∷ b ∷ c ∷ d ∷ []) = Some (a, b, c, d)
-quadruple _ = None
+quadruple [] = None
+quadruple (a ∷ ws) = triple ws >>= λ more. Some (a, more.0, more.1, more.2)
 
 -- numbers of eight bits
 unfoldable pub bytes_in : Words → Option (List ℕ)
@@ -64,17 +77,65 @@ moment_line line = do
 abbrev pub algorithms_line : List ℕ → Option (List ℕ)
 algorithms_line line = after (codes "algorithms") (words line) >>= bytes_in
 
+-- an accepted signature, by its words
+abbrev pub accept_in : List ℕ → List ℕ → List ℕ → List ℕ → Option AcceptText
+accept_in number key bytes signature = do
+  algorithm ← decimal_in 255 number
+  key ← octets_in key
+  bytes ← octets_in bytes
+  signature ← octets_in signature
+  Some (record { algorithm = algorithm; key = key; bytes = bytes; signature = signature })
+
 -- `accept ALGORITHM KEY BYTES SIGNATURE`
 abbrev pub accept_line : List ℕ → Option AcceptText
 accept_line line = do
   rest ← after (codes "accept") (words line)
   fields ← quadruple rest
-  algorithm ← decimal_in 255 fields.0
-  key ← octets_in fields.1
-  bytes ← octets_in fields.2
-  signature ← octets_in fields.3
-  Some (record { algorithm = algorithm; key = key; bytes = bytes; signature = signature })
+  accept_in fields.0 fields.1 fields.2 fields.3
+
+-- a trusted key, by its words
+abbrev pub anchor_in : List ℕ → List ℕ → List ℕ → Option Anchor
+anchor_in name number key = do
+  owner ← name_word_in name
+  algorithm ← decimal_in 255 number
+  key ← octets_in key
+  Some (record { owner = owner; algorithm = algorithm; key = key })
+
+-- `anchor NAME ALGORITHM KEY`
+abbrev pub anchor_line : List ℕ → Option Anchor
+anchor_line line = do
+  rest ← after (codes "anchor") (words line)
+  fields ← triple rest
+  anchor_in fields.0 fields.1 fields.2
 
 -- `end`
 abbrev pub end_line : List ℕ → Option (Unit {0})
 end_line = fixed (codes "end")
+
+-- a question of class IN, by its words
+abbrev pub question_in : List ℕ → List ℕ → Option Question
+question_in name kind = do
+  owner ← name_word_in name
+  number ← type_in kind
+  Some (record { owner = owner; kind = number; class = class_in })
+
+-- `query NAME TYPE`
+abbrev pub query_line : List ℕ → Option Question
+query_line line = do
+  rest ← after (codes "query") (words line)
+  fields ← double rest
+  question_in fields.0 fields.1
+
+-- a reply, by its words: a message or bytes that are none
+abbrev pub reply_in : List ℕ → List ℕ → List ℕ → Option ReplyText
+reply_in name kind message = do
+  question ← question_in name kind
+  bytes ← octets_in message
+  Some (record { question = question; message = message_at bytes })
+
+-- `reply NAME TYPE MESSAGE`
+abbrev pub reply_line : List ℕ → Option ReplyText
+reply_line line = do
+  rest ← after (codes "reply") (words line)
+  fields ← triple rest
+  reply_in fields.0 fields.1 fields.2

@@ -1,5 +1,10 @@
 //! Session texts: what a lookup is asked for, what it may trust, and what an upstream replies, in lines.
 #![tactic(auto)]
 
-mod lines;
 mod form;
+mod forms;
+mod lines;
+mod session;
+mod words;
+
+pub use session::{Accept, Anchor, Reply, Session};

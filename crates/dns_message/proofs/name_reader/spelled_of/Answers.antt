@@ -13,13 +13,13 @@ steps-init c = record {
   room = search rules;
   start_fits = search rules;
   pos_fits = search rules;
-  ending_fits = tt
+  ending_fits = tt;
 }
 
 pub returns-in-Root-clause-name : goal.returns-in-Root-clause-name
 returns-in-Root-clause-name c =
     let is : step_of c.args.bytes.now c.steps.start c.steps.pos (length c.steps.wire.items) ≡ Ok step.Root =
-      step_is _ _ _ _ _ _ _ _ (c.steps.wire.ok.0) c.len.ensures c.in_ok-step_at.ensures.reads (ap Ok c.in-Root.is) in
+    step_is _ _ _ _ _ _ _ _ (c.steps.wire.ok.0) c.len.ensures c.in_ok-step_at.ensures.reads (ap Ok c.in-Root.is) in
     let room : length c.steps.wire.items ≤ 254 = omega (arith, c.steps.wire.ok.0, c.steps.invariant.room) in
     rw (c.in_ok-push-in-Root.ensures.items, c.ending_or.ensures) (walked_root c.args.bytes.now c.args.at c.steps.start c.steps.pos c.steps.ending c.steps.wire.items c.steps.invariant.walk room is)
 
@@ -30,30 +30,30 @@ pub returns-in_err-step_at-clause-reads : goal.returns-in_err-step_at-clause-rea
 returns-in_err-step_at-clause-reads c =
     let p = err_from_is_err_and c.from_residual.result c.from_residual.ensures.1 in
     rw (p.1, p.2) (step_fails c.in_err-step_at.field-0.0.kind c.in_err-step_at.field-0.0.offset c.args.bytes.now c.args.at c.steps.start c.steps.pos c.steps.ending c.steps.wire.items c.len.result
-      c.steps.wire.len c.steps.invariant.walk c.steps.wire.ok.0 c.len.ensures c.in_err-step_at.ensures.reads)
+    c.steps.wire.len c.steps.invariant.walk c.steps.wire.ok.0 c.len.ensures c.in_err-step_at.ensures.reads)
 
 pub steps-preserved-in-Label : goal.steps-preserved-in-Label
 steps-preserved-in-Label c =
     let is : step_of c.args.bytes.now c.steps.start c.steps.pos (length c.steps.wire.items) ≡ Ok (step.Label c.in-Label.size) =
-      step_is _ _ _ _ _ _ _ _ (c.steps.wire.ok.0) c.len.ensures c.in_ok-step_at.ensures.reads (ap Ok c.in-Label.is) in
+    step_is _ _ _ _ _ _ _ _ (c.steps.wire.ok.0) c.len.ensures c.in_ok-step_at.ensures.reads (ap Ok c.in-Label.is) in
     let s = label_step c.args.bytes.now c.steps.start c.steps.pos (length c.steps.wire.items) c.in-Label.size is in
     record {
       walk = rw (c.in_ok-extend_from_slice-in-Label.ensures.items, c.from.ensures) (walked_label c.args.bytes.now c.args.at c.steps.start c.steps.pos c.steps.ending c.steps.wire.items c.in-Label.size c.steps.invariant.walk is);
       room = omega (arith, c.in_ok-extend_from_slice-in-Label.ensures.len, length-take {A = ℕ}, length-drop {A = ℕ}, s.room, c.steps.wire.ok.0, c.from.ensures);
       start_fits = search rules;
       pos_fits = omega (arith, s.inside, c.from.ensures);
-      ending_fits = c.steps.invariant.ending_fits
+      ending_fits = c.steps.invariant.ending_fits;
     }
 
 pub steps-preserved : goal.steps-preserved
 steps-preserved c =
     let is : step_of c.args.bytes.now c.steps.start c.steps.pos (length c.steps.wire.items) ≡ Ok (step.Jump c.in-Jump.target) =
-      step_is _ _ _ _ _ _ _ _ (c.steps.wire.ok.0) c.len.ensures c.in_ok-step_at.ensures.reads (ap Ok c.in-Jump.is) in
+    step_is _ _ _ _ _ _ _ _ (c.steps.wire.ok.0) c.len.ensures c.in_ok-step_at.ensures.reads (ap Ok c.in-Jump.is) in
     let s = jump_step c.args.bytes.now c.steps.start c.steps.pos (length c.steps.wire.items) c.in-Jump.target is in
     record {
       walk = rw (c.from-start.ensures, c.from-pos.ensures, c.ending_or-in-Jump.ensures) (walked_jump c.args.bytes.now c.args.at c.steps.start c.steps.pos c.steps.ending c.steps.wire.items c.in-Jump.target c.steps.invariant.walk is);
       room = search rules;
       start_fits = omega (arith, s.before, c.from-start.ensures, c.steps.invariant.start_fits);
       pos_fits = omega (arith, s.before, c.from-pos.ensures, c.steps.invariant.start_fits);
-      ending_fits = rw c.ending_or-in-Jump.ensures (ending_fits c.steps.ending (c.steps.pos + 2) (length c.args.bytes.now) c.steps.invariant.ending_fits s.inside)
+      ending_fits = rw c.ending_or-in-Jump.ensures (ending_fits c.steps.ending (c.steps.pos + 2) (length c.args.bytes.now) c.steps.invariant.ending_fits s.inside);
     }

@@ -10,7 +10,7 @@ invariant-steps l = record {
   room : vec_len l.wire ≤ 254;
   start_fits : l.start ≤ length l.bytes;
   pos_fits : l.pos ≤ length l.bytes;
-  ending_fits : IfSome l.ending (λ e. e ≤ length l.bytes)
+  ending_fits : IfSome l.ending (λ e. e ≤ length l.bytes);
 }
 
 abbrev pub decreases-steps : goal.decreases-steps

@@ -16,7 +16,7 @@ loop-field-preserved c =
     let a = rw c.in-Some.is at c.in_ok-push_field.ensures.reads in
     record {
       so_far = fields_more c.args.shape.now c.loop-field.field-index _ c.args.bytes.now c.loop-field.into.items c.push_field.new.into.items c.loop-field.pos c.args.stop c.in-Some.next _ (next_field _ _ _ c.loop-field-test.true) a c.loop-field.invariant.so_far;
-      fits = rw c.in-Some.is at c.in_ok-push_field.ensures.fits
+      fits = rw c.in-Some.is at c.in_ok-push_field.ensures.fits;
     }
 
 pub returns-then-pos-stop : goal.returns-then-pos-stop

@@ -6,5 +6,5 @@ use Rattle.dns_message.proofs.rdata.fields_of.Given as goal
 abbrev pub invariant-loop-field : goal.invariant-loop-field
 invariant-loop-field l = record {
   so_far : with_bytes l.into.items (fields_at (map field_text (drop l.field-index l.shape)) l.bytes l.pos l.stop) ≡ fields_at (map field_text l.shape) l.bytes l.at l.stop;
-  fits : l.pos ≤ length l.bytes
+  fits : l.pos ≤ length l.bytes;
 }

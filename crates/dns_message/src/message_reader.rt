@@ -1,0 +1,143 @@
+ghost use Rattle.std.specs.Prelude.{◌≡◌, ◌+◌, ◌<◌, ◌≤◌, ◌^◌, length, IfOk};
+ghost use Rattle.dns_message.specs.Reading.{Reads};
+ghost use Rattle.dns_message.specs.MessageAt.{header_at, question_at, questions_at, message_of, message_at};
+ghost use Rattle.dns_message.specs.Fitting.{header_text};
+
+use crate::decode_error::{DecodeError, DecodeKind, fault};
+use crate::message::{Edns, Message};
+use crate::name_reader::name_of;
+use crate::number_reader::u16_of;
+use crate::section_reader::section_of;
+use dns_record::{DNSClass, OpCode, Query, Record, RecordType, ResponseCode};
+use std::alloc::Global;
+
+/// The six numbers that a message begins with (RFC 1035, 4.1.1).
+#[derive(Clone, Copy, Debug, Drop)]
+pub(crate) struct Header {
+    pub id: u16,
+    pub flags: u16,
+    pub questions: u16,
+    pub answers: u16,
+    pub authorities: u16,
+    pub additionals: u16,
+}
+
+#[tactic(auto, unfolding(crate::specs::MessageAt::header_at))]
+fn header_of(bytes: &[u8]) -> Result<Header, DecodeError>
+    requires short { length bytes.now < 2 ^ 32 }
+    ensures reads { Reads header_text result (header_at bytes.now) }
+    ensures fits { IfOk result (λ h. 12 ≤ length bytes.now) }
+{
+    let (id, next) = u16_of(bytes, 0)?;
+    let (flags, next) = u16_of(bytes, next)?;
+    let (questions, next) = u16_of(bytes, next)?;
+    let (answers, next) = u16_of(bytes, next)?;
+    let (authorities, next) = u16_of(bytes, next)?;
+    let (additionals, _next) = u16_of(bytes, next)?;
+    Ok(Header {
+        id,
+        flags,
+        questions,
+        answers,
+        authorities,
+        additionals,
+    })
+}
+
+/// A question and the place after it (RFC 1035, 4.1.2).
+#[tactic(auto, unfolding(crate::specs::MessageAt::question_at))]
+fn question_of(alloc: Global, bytes: &[u8], at: usize) -> Result<(Query, usize), DecodeError>
+    requires short { length bytes.now < 2 ^ 32 }
+    requires at { at ≤ length bytes.now }
+    ensures reads { Reads (λ x. (x.0, x.1)) result (question_at bytes.now at) }
+    ensures fits { IfOk result (λ x. x.1 ≤ length bytes.now) }
+{
+    let (name, next) = name_of(alloc, bytes, at)?;
+    let (kind, next) = u16_of(bytes, next)?;
+    let (class, next) = u16_of(bytes, next)?;
+    let query = Query {
+        name,
+        query_type: RecordType(kind),
+        query_class: DNSClass(class),
+    };
+    Ok((query, next))
+}
+
+/// So many questions, and the place after them.
+fn questions_of(
+    alloc: Global,
+    count: u16,
+    bytes: &[u8],
+    at: usize,
+) -> Result<(Vec<Query>, usize), DecodeError>
+    requires short { length bytes.now < 2 ^ 32 }
+    requires at { at ≤ length bytes.now }
+    ensures reads { Reads (λ x. (x.0.items, x.1)) result (questions_at count bytes.now at) }
+    ensures fits { IfOk result (λ x. x.1 ≤ length bytes.now) }
+{
+    let mut queries = Vec::new(alloc);
+    let mut pos = at;
+    'questions: for _ in 0..count {
+        let (query, next) = question_of(alloc, bytes, pos)?;
+        queries.push(query)?;
+        pos = next;
+    }
+    Ok((queries, pos))
+}
+
+/// The message of these parts (RFC 1035, 4.1.1; RFC 6891, 6.1.3).
+fn message_of(
+    header: Header,
+    queries: Vec<Query>,
+    answers: Vec<Record>,
+    authorities: Vec<Record>,
+    additionals: Vec<Record>,
+    opt: Option<(Edns, u8)>,
+) -> Message
+    ensures { result ≡ message_of (header_text header) queries.items answers.items authorities.items additionals.items opt }
+{
+    let flags = header.flags;
+    let (edns, upper) = match opt {
+        None => (None, 0),
+        Some((edns, code)) => (Some(edns), u16::from(code)),
+    };
+    Message {
+        id: header.id,
+        response: flags / 32768 % 2 == 1,
+        op_code: OpCode((flags / 2048 % 16) as u8),
+        authoritative: flags / 1024 % 2 == 1,
+        truncated: flags / 512 % 2 == 1,
+        recursion_desired: flags / 256 % 2 == 1,
+        recursion_available: flags / 128 % 2 == 1,
+        authentic_data: flags / 32 % 2 == 1,
+        checking_disabled: flags / 16 % 2 == 1,
+        response_code: ResponseCode(upper * 16 + flags % 16),
+        queries,
+        answers,
+        authorities,
+        additionals,
+        edns,
+    }
+}
+
+impl Message {
+    /// The message that the bytes are, all of them (RFC 1035, 4.1; RFC 6891). Names may end in pointers, and are spelled out,
+    /// also those inside an rdata in the classes IN, NONE and ANY. The records are marked `Indeterminate`.
+    ///
+    /// `DecodeError` is the first fault from the left with its place in bytes, or want of memory.
+    #[tactic(auto, unfolding(crate::specs::MessageAt::message_at))]
+    pub fn from_vec(alloc: Global, bytes: &[u8]) -> Result<Message, DecodeError>
+        requires { length bytes.now < 2 ^ 32 }
+        ensures { Reads (λ m. m) result (message_at bytes.now) }
+    {
+        let header = header_of(bytes)?;
+        let (queries, next) = questions_of(alloc, header.questions, bytes, 12)?;
+        let (answers, _none, next) = section_of(alloc, header.answers, false, bytes, next)?;
+        let (authorities, _none, next) = section_of(alloc, header.authorities, false, bytes, next)?;
+        let (additionals, opt, next) = section_of(alloc, header.additionals, true, bytes, next)?;
+        if next < bytes.len() {
+            return Err(fault(DecodeKind::Trailing, next));
+        }
+        Ok(message_of(header, queries, answers, authorities, additionals, opt))
+    }
+}

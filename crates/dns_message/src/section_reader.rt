@@ -1,0 +1,42 @@
+ghost use Rattle.std.specs.Prelude.{◌≡◌, ◌+◌, ◌<◌, ◌≤◌, ◌^◌, length, IfOk};
+ghost use Rattle.dns_message.specs.Reading.{Reads};
+ghost use Rattle.dns_message.specs.RecordAt.{section_at};
+
+use crate::decode_error::DecodeError;
+use crate::item::Item;
+use crate::message::Edns;
+use crate::record_reader::item_of;
+use dns_record::Record;
+use std::alloc::Global;
+
+/// So many records of a section, its OPT with the upper bits of the code, and the place after the section. An OPT is taken
+/// where `may` is set, and once.
+pub(crate) fn section_of(
+    alloc: Global,
+    count: u16,
+    may: bool,
+    bytes: &[u8],
+    at: usize,
+) -> Result<(Vec<Record>, Option<(Edns, u8)>, usize), DecodeError>
+    requires short { length bytes.now < 2 ^ 32 }
+    requires at { at ≤ length bytes.now }
+    ensures reads { Reads (λ x. (x.0.items, x.1, x.2)) result (section_at count may bytes.now at) }
+    ensures fits { IfOk result (λ x. x.2 ≤ length bytes.now) }
+{
+    let mut records = Vec::new(alloc);
+    let mut opt = None;
+    let mut allowed = may;
+    let mut pos = at;
+    'records: for _ in 0..count {
+        let (item, next) = item_of(alloc, allowed, bytes, pos)?;
+        pos = next;
+        match item {
+            Item::Kept(record) => records.push(record)?,
+            Item::Opt(edns, code) => {
+                opt = Some((edns, code));
+                allowed = false;
+            }
+        }
+    }
+    Ok((records, opt, pos))
+}

@@ -1,0 +1,110 @@
+ghost use Rattle.std.specs.Prelude.{◌≡◌, IfOk, is_some};
+ghost use Rattle.std.specs.Option.{option_map, option_copied};
+ghost use Rattle.dns_session.specs.Lines.{header_line, moment_line, algorithms_line, accept_in, accept_line, end_line, words_left, bytes_in};
+
+use crate::form::LineForm;
+use crate::session::Accept;
+use crate::words::{after, next_word, quadruple, single};
+use dns_name::NoMemory;
+use dns_words::{decimal_in, octets_in, u8_in};
+use std::alloc::Global;
+
+/// The first line.
+pub(crate) fn is_header(line: &[u8]) -> bool
+    ensures { result ≡ is_some (header_line line.now) }
+{
+    line == b"dns-session 1".as_slice()
+}
+
+/// The last line.
+pub(crate) fn is_end(line: &[u8]) -> bool
+    ensures { result ≡ is_some (end_line line.now) }
+{
+    line == b"end".as_slice()
+}
+
+/// The moment of a `moment` line.
+pub(crate) fn moment_of(line: &[u8]) -> Option<u64>
+    ensures { result ≡ moment_line line.now }
+{
+    match after(line, b"moment") {
+        Some(rest) => match single(rest) {
+            Some(number) => decimal_in(number, u64::MAX),
+            None => None,
+        },
+        None => None,
+    }
+}
+
+/// Numbers of eight bits, as words.
+fn bytes_of(alloc: Global, rest: Option<&[u8]>) -> Result<Option<Vec<u8>>, NoMemory>
+    ensures { IfOk result (λ all. option_map (λ v. v.items) all ≡ bytes_in (words_left (option_copied rest.entry))) }
+{
+    let mut all = Vec::new(alloc);
+    let mut left = rest;
+    while let Some(text) = left {
+        let (word, more) = next_word(text);
+        match u8_in(word) {
+            Some(number) => all.push(number)?,
+            None => return Ok(None),
+        }
+        left = more;
+    }
+    Ok(Some(all))
+}
+
+/// The numbers of an `algorithms` line.
+pub(crate) fn algorithms_of(alloc: Global, line: &[u8]) -> Result<Option<Vec<u8>>, NoMemory>
+    ensures { IfOk result (λ all. option_map (λ v. v.items) all ≡ algorithms_line line.now) }
+{
+    match after(line, b"algorithms") {
+        Some(rest) => bytes_of(alloc, rest),
+        None => Ok(None),
+    }
+}
+
+/// An accepted signature of its words.
+fn accept_of(
+    alloc: Global,
+    algorithm: &[u8],
+    key: &[u8],
+    bytes: &[u8],
+    signature: &[u8],
+) -> Result<Option<Accept>, NoMemory>
+    ensures { IfOk result (λ x. x ≡ accept_in algorithm.now key.now bytes.now signature.now) }
+{
+    let Some(algorithm) = u8_in(algorithm) else {
+        return Ok(None);
+    };
+    let Some(key) = octets_in(alloc, key)? else {
+        return Ok(None);
+    };
+    let Some(bytes) = octets_in(alloc, bytes)? else {
+        return Ok(None);
+    };
+    let Some(signature) = octets_in(alloc, signature)? else {
+        return Ok(None);
+    };
+    Ok(Some(Accept {
+        algorithm,
+        key,
+        bytes,
+        signature,
+    }))
+}
+
+impl LineForm for Accept {
+    ghost form = { accept_line };
+
+    fn read(alloc: Global, line: &[u8]) -> Result<Option<Accept>, NoMemory> {
+        match after(line, b"accept") {
+            Some(rest) => match quadruple(rest) {
+                Some((algorithm, key, bytes, signature)) => {
+                    accept_of(alloc, algorithm, key, bytes, signature)
+                }
+                None => Ok(None),
+            },
+            None => Ok(None),
+        }
+    }
+}

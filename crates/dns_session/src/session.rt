@@ -1,0 +1,86 @@
+use dns_message::{DecodeError, Message};
+use dns_name::{Name, Octets};
+use dns_record::Query;
+use std::marker::Model;
+
+/// A key that is trusted without a proof, for the keys of its owner.
+#[derive(Drop)]
+pub struct Anchor {
+    pub owner: Name,
+    /// The key's algorithm (RFC 4034, A.1).
+    pub algorithm: u8,
+    /// The public key alone, without flags and protocol.
+    pub key: Octets,
+}
+
+impl Model for Anchor {
+    ghost use Rattle.dns_model.specs.Keys as keys;
+
+    ghost Value = { keys.Anchor };
+
+    ghost view = { λ a. record { owner = a.owner; algorithm = a.algorithm; key = a.key } };
+}
+
+/// A signature that a verifier accepts.
+#[derive(Drop)]
+pub struct Accept {
+    pub algorithm: u8,
+    /// The public key alone.
+    pub key: Octets,
+    /// The bytes that are signed.
+    pub bytes: Octets,
+    pub signature: Octets,
+}
+
+impl Model for Accept {
+    ghost use Rattle.dns_session.specs.SessionText.{AcceptText};
+
+    ghost Value = { AcceptText };
+
+    ghost view = { λ a. record { algorithm = a.algorithm; key = a.key; bytes = a.bytes; signature = a.signature } };
+}
+
+/// What an upstream says to a question.
+#[derive(Drop)]
+pub struct Reply {
+    pub query: Query,
+    /// The message, or why the bytes are none. It is never want of memory.
+    pub message: Result<Message, DecodeError>,
+}
+
+impl Model for Reply {
+    ghost use Rattle.dns_session.specs.SessionText.{ReplyText};
+
+    ghost Value = { ReplyText };
+
+    ghost view = { λ r. record { question = r.query; message = r.message } };
+}
+
+/// What a session says.
+#[derive(Drop)]
+pub struct Session {
+    /// Seconds.
+    pub moment: u64,
+    /// The algorithms that the verifier supports.
+    pub algorithms: Vec<u8>,
+    pub anchors: Vec<Anchor>,
+    pub accepts: Vec<Accept>,
+    pub query: Query,
+    /// The first reply to a question serves it.
+    pub replies: Vec<Reply>,
+}
+
+impl Model for Session {
+    ghost use Rattle.dns_session.specs.SessionText.{SessionText};
+
+    ghost Value = { SessionText };
+
+    ghost view = { λ s. record {
+      moment = s.moment;
+      algorithms = s.algorithms.items;
+      anchors = s.anchors.items;
+      accepts = s.accepts.items;
+      query = s.query;
+      replies = s.replies.items;
+    } };
+}
