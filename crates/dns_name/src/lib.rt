@@ -9,6 +9,7 @@ mod no_memory;
 mod octets;
 mod printing;
 mod reading;
+mod shown;
 mod text;
 mod text_reading;
 

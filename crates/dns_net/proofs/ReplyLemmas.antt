@@ -1,6 +1,6 @@
 -- The first reply to a question, found by its place.
 use Rattle.std.proofs.Common.{◌≡◌, ◌<◌, ℕ, ◌+◌, Bool, true, false, cond, List, [], ◌∷◌, ◌++◌, length, Option, None, Some, refl, sym, ap, ◌∙◌, subst, arith, length-append, append_assoc, zero-add, add-zero, cond}
-use Rattle.std.specs.Prelude.{slice_get, IsSome}
+use Rattle.std.specs.Prelude.{slice_get, nat_eq, ◌&&◌, IsSome, is_some}
 use Rattle.std.specs.Ordering.{is_eq}
 use Rattle.std.specs.declared.cmp.Ordering.{Ordering}
 use Rattle.std.specs.declared.cmp.Ordering.TheVariants.{Less, Equal, Greater}
@@ -9,14 +9,19 @@ use Rattle.std.specs.Cmp.{IsEquivalence, IsTotalOrder}
 use Rattle.std.specs.Map.{lookup}
 use Rattle.std.specs.BTreeMap as tree
 use Rattle.std.specs.BTreeMap.{BTreeMap}
-use Rattle.std.proofs.lemmas.Cmp.{and_equiv, on_equiv, nat_eq_equiv}
+use Rattle.std.specs.Cmp.{tied_then}
+use Rattle.std.specs.Ordering.{nat_cmp, ordering_then}
+use Rattle.std.proofs.lemmas.Bool.Decides.{nat_tests}
+use Rattle.dns_model.proofs.OrderLemmas.{name_total, name_ties}
+use Rattle.std.proofs.lemmas.Cmp.{then_total, on_total, nat_cmp_total, and_equiv, on_equiv, nat_eq_equiv}
 use Rattle.std.proofs.lemmas.Option.{slice_get-get_or}
 use Rattle.std.proofs.Math.Seq.{get_or-append_seam}
 use Rattle.dns_model.specs.Records.{Question, question_eq}
+use Rattle.dns_model.specs.Names.{name_cmp}
 use Rattle.dns_model.proofs.NameLemmas.{name_equiv}
 use Rattle.dns_net.specs.Errors.{Reply}
 use Rattle.dns_net.specs.Handles.{reply_to}
-use Rattle.dns_net.specs.Recording.{reply_at, reply_of_place, first_place, place_or, Noted, IndexesFirst}
+use Rattle.dns_net.specs.Recording.{reply_at, reply_of_place, first_place, place_or, Noted, IndexesFirst, question_cmp}
 
 -- ---- places in a list
 
@@ -126,8 +131,37 @@ noted_present C laws m k place some q =
     present-case C laws m k q place some (is_eq (C k q)) refl
     ∙ ap (λ b. place_or (tree.get C m q) b place) (sym (laws.tied k q))
 
--- a reply at the end of the list, noted in the map
-pub index_more : (C : Question → Question → Ordering) (old new : BTreeMap Question ℕ) (told : List (Question × Reply)) (k : Question) (r : Reply)
-    → IndexesFirst C old told → Noted C old new k (length told) → IndexesFirst C new (told ++ (k, r) ∷ [])
-index_more C old new told k r before noted q =
-    noted q ∙ ap (λ o. place_or o (question_eq k q) (length told)) (before q) ∙ sym (first_place-push told k r q)
+-- a reply at the end of the list, noted in the map under an equal key
+pub index_more : (C : Question → Question → Ordering) (old new : BTreeMap Question ℕ) (told : List (Question × Reply)) (k key : Question) (place : ℕ) (r : Reply)
+    → IndexesFirst C old told → key ≡ k → place ≡ length told → Noted C old new key place → IndexesFirst C new (told ++ (k, r) ∷ [])
+index_more C old new told k key place r before same end noted q =
+    noted q ∙ ap (λ o. place_or o (question_eq key q) place) (before q)
+    ∙ ap (λ x. place_or (first_place told q) (question_eq x q) place) same
+    ∙ ap (place_or (first_place told q) (question_eq k q)) end ∙ sym (first_place-push told k r q)
+
+nat_ties : (x y : ℕ) → nat_eq x y ≡ is_eq (nat_cmp x y)
+nat_ties x y = grind (arith, nat_tests)
+
+pub question_orders : Orders question_cmp
+question_orders = record {
+  total = then_total (on_total (λ q. q.owner) name_total) (then_total (on_total (λ q. q.kind) nat_cmp_total) (on_total (λ q. q.class) nat_cmp_total));
+  tied = λ a b.
+      let n = name_ties a.owner b.owner in
+      let k = nat_ties a.kind b.kind in
+      let l = nat_ties a.class b.class in
+      ap (λ x. x && (nat_eq a.kind b.kind && nat_eq a.class b.class)) n
+      ∙ ap (λ x. is_eq (name_cmp a.owner b.owner) && (x && nat_eq a.class b.class)) k
+      ∙ ap (λ x. is_eq (name_cmp a.owner b.owner) && (is_eq (nat_cmp a.kind b.kind) && x)) l
+      ∙ ap (λ x. is_eq (name_cmp a.owner b.owner) && x) (tied_then (nat_cmp a.kind b.kind) (nat_cmp a.class b.class))
+      ∙ tied_then (name_cmp a.owner b.owner) (ordering_then (nat_cmp a.kind b.kind) (nat_cmp a.class b.class));
+}
+
+-- what isn't there is None
+pub none_found : {X : Type 0} (o : Option X) → is_some o ≡ false → o ≡ None
+none_found None h = refl
+none_found (Some x) h = cc
+
+-- the reply to a question, by what the map finds
+pub reply_found : (first : BTreeMap Question ℕ) (told : List (Question × Reply)) (q : Question) (o : Option ℕ)
+    → IndexesFirst question_cmp first told → tree.get question_cmp first q ≡ o → reply_to told q ≡ reply_at told o
+reply_found first told q o index found = reply_to-place told q ∙ ap (reply_at told) (sym (index q) ∙ found)

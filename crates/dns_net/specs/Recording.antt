@@ -2,6 +2,8 @@
 use Rattle.std.specs.Prelude.{ℕ, ◌≡◌, ◌⊎◌, ◌+◌, ◌-◌, ◌^◌, min, Bool, List, Option, None, Some, Ok, Err, slice_get, if◌then◌else◌}
 use Rattle.std.specs.List.{position_from}
 use Rattle.std.specs.declared.cmp.Ordering.{Ordering}
+use Rattle.std.specs.Ordering.{nat_cmp, ordering_then}
+use Rattle.dns_model.specs.Names.{name_cmp}
 use Rattle.std.specs.BTreeMap as tree
 use Rattle.std.specs.BTreeMap.{BTreeMap}
 use Rattle.dns_model.specs.Records.{Question, question_eq}
@@ -34,6 +36,10 @@ pub record AnswersFrom (old : RecordedText) (q : Option Question) (new : Recorde
   pub counted : new.sends ≡ one_more old.sends
   pub faulted : new.faults ≡ faults_after old.faults reply
   pub kept : new.replies ≡ old.replies
+
+-- questions in order: by name in canonical order, then by type and class
+abbrev pub question_cmp : Question → Question → Ordering
+question_cmp a b = ordering_then (name_cmp a.owner b.owner) (ordering_then (nat_cmp a.kind b.kind) (nat_cmp a.class b.class))
 
 -- the reply at a place of the list; none is Timeout
 abbrev pub reply_of_place : Option (Question × Reply) → Reply

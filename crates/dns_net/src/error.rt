@@ -8,60 +8,92 @@ use dns_message::{DecodeError, DecodeKind};
 use dns_name::{Name, NoMemory};
 use dns_record::{DNSClass, Proof, Query, RecordType, ResponseCode};
 use std::alloc::{AllocError, AllocFailed};
+use std::fmt;
+use thiserror::Error;
 
 /// What DNS itself answers in place of the records.
-#[derive(Drop)]
+#[derive(Drop, Error)]
 pub enum DnsError {
     /// The response has a code that stands for a failure.
+    #[error("error response: {}", .0.0)]
     ResponseCode(ResponseCode),
     /// The records are denied, or should be and aren't (RFC 4035, 5.4): the judged response, and how far the denial is proved.
+    #[error("DNSSEC Negative Record Response for {query}, {proof:?}")]
     Nsec {
         query: Query,
         response: Box<DnsResponse>,
         proof: Proof,
     },
     /// Validation failed.
+    #[error("DNSSEC validation failed")]
     DnssecBogus,
 }
 
 /// What is wrong with bytes that came, or with a message that was to be written.
-#[derive(Clone, Copy, Debug, PartialEq, Eq, Drop)]
+#[derive(Clone, Copy, Debug, PartialEq, Eq, Drop, Error)]
 pub enum ProtoError {
     /// The bytes are no message.
+    #[error("{kind:?} {offset}", kind = .0.kind, offset = .0.offset)]
     Decode(DecodeError),
     /// The message has more than 65,535 bytes.
+    #[error("TooLong")]
     TooLong,
 }
 
 /// Why a send or a lookup has no response.
-#[derive(Drop)]
+#[derive(Drop, Error)]
 pub enum NetError {
     /// The handle has too much to do; later it may answer.
+    #[error("resource too busy")]
     Busy,
     /// An answer of DNS itself.
+    #[error("DNS error: {0}")]
     Dns(DnsError),
     /// A fixed text.
+    #[error("{0}")]
     Message(Notice),
     /// No connection can be made.
+    #[error("no connections available")]
     NoConnections,
     /// Bytes that aren't a message came, or a message can't be written.
+    #[error("protocol error: {0}")]
     Proto(ProtoError),
     /// The outside failed.
+    #[error("io error: {0:?}")]
     Io(IoKind),
     /// Nothing came in time.
+    #[error("request timed out")]
     Timeout,
     /// The response spells the query's name in another case.
+    #[error("case of query name in response did not match")]
     QueryCaseMismatch,
     /// The response holds a record of another class than the query's: the first such.
+    #[error("foreign class record in response: {record_name} {record_class} {record_type}")]
     ForeignClassRecord {
         record_name: Name,
         record_class: DNSClass,
         record_type: RecordType,
     },
     /// The response was cut, and nothing else can be tried.
+    #[error("response was truncated; TCP already tried or no other transport available")]
     Truncated,
     /// Memory ran out.
+    #[error("out of memory")]
     NoMemory,
+}
+
+/// The text of Display.
+impl fmt::Debug for DnsError {
+    fn fmt<W: fmt::Write>(&self, f: &mut fmt::Formatter<W>) -> fmt::Result {
+        write!(f, "{self}")
+    }
+}
+
+/// The text of Display.
+impl fmt::Debug for NetError {
+    fn fmt<W: fmt::Write>(&self, f: &mut fmt::Formatter<W>) -> fmt::Result {
+        write!(f, "{self}")
+    }
 }
 
 impl From<NoMemory> for NetError {

@@ -9,16 +9,20 @@ mod io_kind;
 mod link;
 mod link_tests;
 mod notice;
+mod recorded;
 mod request;
 mod response;
+#[cfg(test)]
+mod tests;
 mod verifier;
 
 pub use error::{DnsError, NetError, ProtoError};
 pub use handle::DnsHandle;
 pub use io_kind::IoKind;
-pub use link::{Chain, Link};
+pub use link::{Chain, Link, clone_links, clone_rdatas};
 pub use link_tests::{all_shown, has_rdata, shows_ds, shows_key, shows_member};
 pub use notice::Notice;
+pub use recorded::Recorded;
 pub use request::{DnsRequest, DnsRequestOptions};
 pub use response::DnsResponse;
 pub use verifier::Verifier;

@@ -6,6 +6,7 @@ mod query;
 mod rdata;
 mod record;
 mod record_set;
+mod texts;
 
 pub use codes::{DNSClass, OpCode, RecordType, ResponseCode};
 pub use dns_model::{Denial, Proof, Section};

@@ -4,8 +4,8 @@ use crate::{DNSClass, RecordType};
 use dns_name::{Name, NoMemory};
 use std::marker::Model;
 
-/// A question (RFC 1035, 4.1.2). Equality and hash fold the name.
-#[derive(Drop)]
+/// A question (RFC 1035, 4.1.2). Equality, order and hash fold the name.
+#[derive(PartialEq, Eq, PartialOrd, Ord, Hash, Drop)]
 pub struct Query {
     pub name: Name,
     pub query_type: RecordType,
