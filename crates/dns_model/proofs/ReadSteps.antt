@@ -1,11 +1,11 @@
 -- The steps of a reader of a name's text, and of the calls that put a name together label by label.
-use Rattle.std.proofs.Common.{◌≡◌, ℕ, zero, suc, ◌+◌, ◌≤◌, ◌<◌, ◌≢◌, Bool, true, false, ◌&&◌, ◌==◌, cond, List, [], ◌∷◌, ◌++◌, length, get_or, Option, None, Some, Result, Ok, Err, refl, sym, ap, ◌∙◌, subst, arith, length-append, inl, inr, ◌⊎◌}
+use Rattle.std.proofs.Common.{◌≡◌, ℕ, zero, suc, ◌+◌, ◌≤◌, ◌<◌, ◌≢◌, Bool, true, false, ◌&&◌, ◌==◌, cond, List, [], ◌∷◌, ◌++◌, length, get_or, take, drop, Option, None, Some, Result, Ok, Err, refl, sym, ap, ◌∙◌, subst, arith, length-append, inl, inr, ◌⊎◌}
 use Rattle.std.specs.Prelude.{nat_eq, nat_le, nat_lt}
 use Rattle.std.specs.Cmp.Lexicographic.{pointwise}
 use Rattle.std.specs.List.{list_all}
 use Rattle.std.proofs.lemmas.Bool.{and_parts}
 use Rattle.std.proofs.lemmas.Bool.Decides.{nat_tests}
-use Rattle.std.proofs.lemmas.List.{append_assoc, append-nil}
+use Rattle.std.proofs.lemmas.List.{append_assoc, append-nil, take-append-drop, drop_more, take_more}
 use Rattle.std.proofs.lemmas.List.Folds.{list_all-append}
 use Rattle.dns_model.specs.Bytes.{is_bytes}
 use Rattle.dns_model.specs.Names.{Label, Labels, wire, is_label, is_name}
@@ -193,3 +193,43 @@ text_root text h = rw h refl
 pub text_labels : (text : List ℕ) → pointwise nat_eq text (dot ∷ []) ≡ false → text_read text ≡ read_at [] text
 unfolding text_read read_at
 text_labels text h = rw h refl
+
+-- ---- labels in order
+
+label_passes : (label : Label) → is_label label ≡ true → label_checked label ≡ Ok label
+label_passes label good =
+    let parts = and_parts (nat_lt 0 (length label)) (nat_le (length label) 63) good in
+    let some : (length label == 0) ≡ false = grind (arith, nat_tests, parts.0) in
+    let small : nat_lt 63 (length label) ≡ false = grind (arith, nat_tests, parts.1) in
+    rw (some, small) refl
+
+labels_pass : (name : Labels) → list_all is_label name ≡ true → labels_checked name ≡ Ok name
+labels_pass [] good = refl
+labels_pass (label ∷ name) good =
+    let parts = and_parts (is_label label) (list_all is_label name) good in
+    rw (label_passes label parts.0, labels_pass name parts.1) refl
+
+labels_fail : (front : Labels) (label : Label) (rest : Labels) (fault : NameError) → list_all is_label front ≡ true → label_checked label ≡ Err fault
+    → labels_checked (front ++ label ∷ rest) ≡ Err fault
+labels_fail [] label rest fault good h = rw h refl
+labels_fail (first ∷ front) label rest fault good h =
+    let parts = and_parts (is_label first) (list_all is_label front) good in
+    rw (label_passes first parts.0, labels_fail front label rest fault parts.1 h) refl
+
+-- the labels so far were fine, and the next isn't
+pub label_at_fails : (labels : Labels) (i : ℕ) (bytes : List ℕ) (label : Label) (fault : NameError) → IsRun (take i labels) bytes → i < length labels
+    → label ≡ get_or labels i label → FailsAs fault (label_checked label) → FailsAs fault (and_then (labels_checked labels) within)
+label_at_fails labels i bytes label fault run lt is (inl e) = inl e
+label_at_fails labels i bytes label fault run lt is (inr e) =
+    let cut : labels ≡ take i labels ++ label ∷ drop (i + 1) labels = sym (take-append-drop i labels) ∙ ap (λ (l : Labels). take i labels ++ l) (drop_more labels i label lt ∙ ap (λ (l : Label). l ∷ drop (i + 1) labels) (sym is)) in
+    let read : labels_checked labels ≡ Err fault = ap labels_checked cut ∙ labels_fail (take i labels) label (drop (i + 1) labels) fault run.good e in
+    inr (ap (λ (r : Result Labels NameError). and_then r within) read)
+
+pub label_at_more : (labels : Labels) (i : ℕ) (bytes : List ℕ) (label : Label) → IsRun (take i labels) bytes → i < length labels
+    → label ≡ get_or labels i label → label_checked label ≡ Ok label → IsRun (take (i + 1) labels) (bytes ++ length label ∷ [] ++ label)
+label_at_more labels i bytes label run lt is ok =
+    let more : take (i + 1) labels ≡ take i labels ++ label ∷ [] = take_more labels i label lt ∙ ap (λ (l : Label). take i labels ++ l ∷ []) (sym is) in
+    rw more (run_more (take i labels) bytes label run ok)
+
+pub name_from_run : (labels : Labels) (bytes : List ℕ) → IsRun labels bytes → and_then (labels_checked labels) within ≡ within (labels ++ [])
+name_from_run labels bytes run = rw (labels_pass labels run.good, append-nil labels) refl

@@ -1,11 +1,14 @@
 -- Reading a name's text step by step, and that a printed name is read as it was.
-use Rattle.std.proofs.Common.{◌≡◌, ℕ, zero, suc, ◌+◌, ◌-◌, ◌*◌, ◌/◌, ◌%◌, ◌≤◌, ◌<◌, ◌≢◌, Bool, true, false, ◌&&◌, ◌||◌, ◌==◌, cond, List, [], ◌∷◌, ◌++◌, length, Option, None, Some, Result, Ok, Err, refl, sym, ap, ◌∙◌, subst, arith, length-append, ⊎_elim, inl, inr, ◌⊎◌}
+use Rattle.std.proofs.Common.{◌≡◌, ℕ, zero, suc, ◌+◌, ◌-◌, ◌*◌, ◌/◌, ◌%◌, ◌≤◌, ◌<◌, ◌≢◌, Bool, true, false, ◌&&◌, ◌||◌, ◌==◌, cond, List, [], ◌∷◌, ◌++◌, length, Option, None, Some, Result, Ok, Err, refl, sym, ap, ◌∙◌, subst, arith, length-append, ⊎_elim, inl, inr, ◌⊎◌, lit<}
 use Rattle.std.specs.Prelude.{nat_eq, nat_le, nat_lt}
 use Rattle.std.specs.Cmp.Lexicographic.{pointwise}
 use Rattle.std.specs.List.{list_all, flat_map}
 use Rattle.std.proofs.lemmas.Bool.{and_parts}
 use Rattle.std.proofs.lemmas.Bool.Decides.{nat_tests}
 use Rattle.std.proofs.lemmas.List.{append_assoc, append-nil}
+use Rattle.std.specs.Str.{IsAscii}
+use Rattle.std.proofs.lemmas.Str.{IsAscii-append}
+use Rattle.std.proofs.lemmas.Str.Ascii.{IsAscii-nil, IsAscii-cons}
 use Rattle.dns_model.specs.Bytes.{is_bytes}
 use Rattle.dns_model.specs.Names.{Label, Labels, wire, is_label, is_name}
 use Rattle.dns_model.specs.NameText.{dot, backslash, is_special, is_printable, is_digit, three_digits, printed_byte, printed_label, printed, number_of, number_in, escape_in, byte_in, Read, and_then, label_checked, ended, after_dot, after_byte, step_in, labels_read, text_read, within, read_name}
@@ -195,3 +198,50 @@ read_printed (label ∷ name) good bytes =
     let back : labels_read (0 ∷ flat_map printed_label (label ∷ name)) [] (flat_map printed_label (label ∷ name)) ≡ Ok (label ∷ name, true) = whole _ _ (labels_read_back label name parts.0 bytes) in
     let read : text_read (flat_map printed_label (label ∷ name)) ≡ Ok (label ∷ name, true) = rw (alone, back) refl in
     ap (λ (r : Read). and_then r (λ (p : Labels × Bool). within p.0)) read ∙ rw parts.1 refl
+
+-- ---- what is printed is ASCII
+
+digits_ascii : (byte : ℕ) → byte < 256 → IsAscii (three_digits byte)
+digits_ascii byte small =
+    let a : 48 + byte / 100 < 128 = omega arith in
+    let b : 48 + byte / 10 % 10 < 128 = omega arith in
+    let c : 48 + byte % 10 < 128 = omega arith in
+    IsAscii-cons (48 + byte / 100) ((48 + byte / 10 % 10) ∷ (48 + byte % 10) ∷ []) a
+    (IsAscii-cons (48 + byte / 10 % 10) ((48 + byte % 10) ∷ []) b (IsAscii-cons (48 + byte % 10) [] c IsAscii-nil))
+
+byte_ascii : (byte : ℕ) → byte < 128 → IsAscii (byte ∷ [])
+byte_ascii byte small = IsAscii-cons byte [] small IsAscii-nil
+
+escape_ascii : (bytes : List ℕ) → IsAscii bytes → IsAscii (backslash ∷ bytes)
+escape_ascii bytes h = let lt : backslash < 128 = lit< tt in IsAscii-cons backslash bytes lt h
+
+printed_byte_ascii : (byte : ℕ) → byte < 256 → IsAscii (printed_byte byte)
+unfolding printed_byte
+printed_byte_ascii byte small = ascii_cases (is_special byte) (is_printable byte) refl refl
+  where
+    ascii_cases : (s p : Bool) → s ≡ is_special byte → p ≡ is_printable byte → IsAscii (cond s (backslash ∷ byte ∷ []) (cond p (byte ∷ []) (backslash ∷ three_digits byte)))
+    ascii_cases true p is shown = let lt : byte < 128 = grind (arith, nat_tests) in escape_ascii (byte ∷ []) (byte_ascii byte lt)
+    ascii_cases false true is shown = let lt : byte < 128 = grind (arith, nat_tests) in byte_ascii byte lt
+    ascii_cases false false is shown = escape_ascii (three_digits byte) (digits_ascii byte small)
+
+printed_bytes_ascii : (label : Label) → is_bytes label ≡ true → IsAscii (flat_map printed_byte label)
+printed_bytes_ascii [] good = IsAscii-nil
+printed_bytes_ascii (byte ∷ label) good =
+    let parts = and_parts (nat_lt byte 256) (is_bytes label) good in
+    let small : byte < 256 = grind (arith, nat_tests, parts.0) in
+    IsAscii-append (printed_byte byte) (flat_map printed_byte label) (printed_byte_ascii byte small) (printed_bytes_ascii label parts.1)
+
+dot_ascii : IsAscii (dot ∷ [])
+dot_ascii = let lt : dot < 128 = lit< tt in byte_ascii dot lt
+
+printed_labels_ascii : (name : Labels) → list_all is_bytes name ≡ true → IsAscii (flat_map printed_label name)
+printed_labels_ascii [] good = IsAscii-nil
+printed_labels_ascii (label ∷ name) good =
+    let parts = and_parts (is_bytes label) (list_all is_bytes name) good in
+    IsAscii-append (printed_label label) (flat_map printed_label name)
+    (IsAscii-append (flat_map printed_byte label) (dot ∷ []) (printed_bytes_ascii label parts.0) dot_ascii)
+    (printed_labels_ascii name parts.1)
+
+pub printed_ascii : (name : Labels) → list_all is_bytes name ≡ true → IsAscii (printed name)
+printed_ascii [] good = dot_ascii
+printed_ascii (label ∷ name) good = printed_labels_ascii (label ∷ name) good

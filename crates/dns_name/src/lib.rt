@@ -5,6 +5,7 @@
 mod comparing;
 mod name;
 mod name_ref;
+mod name_text;
 mod no_memory;
 mod octets;
 mod printing;

@@ -1,8 +1,10 @@
 ghost use Rattle.std.specs.Prelude.{◌≡◌, ◌≤◌, ◌++◌, ◌∷◌, ◌↔◌, true, [], IfOk, OnOk, OnErr, IsTrue, MatchOption, length, drop, option_map};
+ghost use Rattle.std.specs.List.{list_all};
+ghost use Rattle.dns_model.specs.Bytes.{is_bytes};
 ghost use Rattle.dns_model.specs.Names.{name_eq, name_cmp, at_or_above, strictly_above, folded, is_name, is_wildcard, last_labels, num_labels, parent, wire};
 ghost use Rattle.dns_model.specs.NameForm.{name_in, labels_of, IsWire};
 
-use crate::reading::{label_at, name_end, push_lowered};
+use crate::reading::{known_bytes, label_at, name_end, push_lowered};
 use crate::{Name, NoMemory};
 use std::alloc::Global;
 use std::marker::Model;
@@ -56,8 +58,10 @@ impl<'a> NameRef<'a> {
     pub fn copy(&self) -> NameRef<'a>
         ensures value { result ≡ self.now }
         ensures name { is_name self.now ≡ true }
+        ensures bytes { list_all is_bytes self.now ≡ true }
     {
-        NameRef { wire: self.wire }
+        let wire = known_bytes(self.wire);
+        NameRef { wire }
     }
 
     /// An equal name in memory of its own.

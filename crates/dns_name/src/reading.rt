@@ -1,5 +1,6 @@
-ghost use Rattle.std.specs.Prelude.{◌≡◌, ◌≤◌, ◌<◌, ◌+◌, ◌++◌, ◌∷◌, Option, None, Some, IfSome, OnOk, OnErr, MatchOption, length, map, option_map};
+ghost use Rattle.std.specs.Prelude.{◌≡◌, ◌≤◌, ◌<◌, ◌+◌, ◌++◌, ◌∷◌, true, Option, None, Some, IfSome, OnOk, OnErr, MatchOption, length, map, option_map};
 ghost use Rattle.std.specs.Char.{to_ascii_lowercase};
+ghost use Rattle.dns_model.specs.Bytes.{is_bytes};
 ghost use Rattle.dns_model.specs.NameForm.{name_in, label_in};
 ghost use Rattle.dns_model.proofs.NameSteps.{end_in, IsFront};
 
@@ -67,4 +68,12 @@ pub(crate) fn push_lowered(into: &mut Vec<u8>, bytes: &[u8]) -> Result<(), NoMem
     into.extend_from_slice(bytes)?;
     into[start..].make_ascii_lowercase();
     Ok(())
+}
+
+/// The same bytes, known to be below 256.
+pub(crate) fn known_bytes<'a>(bytes: &'a [u8]) -> &'a [u8]
+    ensures same { result.now ≡ bytes.now }
+    ensures bytes { is_bytes bytes.now ≡ true }
+{
+    bytes
 }

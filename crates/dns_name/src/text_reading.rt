@@ -130,7 +130,7 @@ fn labels_of_text(alloc: Global, text: &[u8]) -> Result<(Vec<u8>, bool), NameErr
 }
 
 /// The same, where a dot alone is the root.
-fn read_text(alloc: Global, text: &[u8]) -> Result<(Vec<u8>, bool), NameError>
+pub(crate) fn read_text(alloc: Global, text: &[u8]) -> Result<(Vec<u8>, bool), NameError>
     ensures { MatchResult result (λ r. IsLabels (text_read text.now) r.0.items r.1) (λ fault. FailsAs fault (text_read text.now)) }
 {
     if *text == *b".".as_slice() {

@@ -1,0 +1,16 @@
+use Rattle.std.proofs.Common.{sym, ap, ◌∙◌, arith}
+use Rattle.std.proofs.lemmas.List.{take_all}
+use Rattle.dns_model.proofs.ReadSteps.{IsRun, label_at_fails, name_from_run}
+use Rattle.dns_name.proofs.name.Name.from_labels.Goals as goal
+
+pub returns-in-Err : goal.returns-in-Err
+returns-in-Err c =
+    let refused = rw c.as_slice.ensures at c.in-Err.ensures.value in
+    label_at_fails c.args.labels.now c.loop-label.label-index c.loop-label.wire.items c.label-item.result c.in-Err.fault c.loop-label.invariant c.loop-label-test.true c.label-item.is refused
+
+pub returns : goal.returns
+returns c =
+    let whole = take_all c.loop-label.label-index c.args.labels.now (omega arith) in
+    let run : IsRun c.args.labels.now c.loop-label.wire.items = rw whole at c.loop-label.invariant in
+    let named = rw c.root.ensures at (c.name_of_run.ensures c.args.labels.now run) in
+    rw (name_from_run c.args.labels.now c.loop-label.wire.items run) named

@@ -1,0 +1,6 @@
+use Rattle.std.proofs.Common.{take}
+use Rattle.dns_model.proofs.ReadSteps.{IsRun}
+use Rattle.dns_name.proofs.name.Name.from_labels.Given as goal
+
+abbrev pub invariant-loop-label : goal.invariant-loop-label
+invariant-loop-label l = IsRun (take l.label-index l.labels) l.wire.items
