@@ -1,11 +1,11 @@
 -- A good signature of a set makes a link that holds.
-use Rattle.std.proofs.Common.{◌≡◌, ℕ, Bool, true, false, not, ◌==◌, ◌&&◌, List, [], ◌∷◌, Option, None, Some, refl, sym, ap, ◌∙◌}
+use Rattle.std.proofs.Common.{◌≡◌, ℕ, Bool, true, false, not, ◌==◌, ◌&&◌, List, Option, None, Some, refl, sym, ap, ◌∙◌}
 use Rattle.std.specs.Prelude.{nat_le, if◌then◌else◌}
 use Rattle.std.proofs.lemmas.Bool.{and_parts, and_from}
 use Rattle.dns_judgement.specs.declared.rrsig_validity.RrsigValidity.{RrsigValidity}
 use Rattle.dns_judgement.specs.declared.rrsig_validity.RrsigValidity.TheVariants.{ValidRrsig, ExpiredRrsig, WrongDnskey, WrongRrsig}
-use Rattle.dns_model.specs.Names.{Labels, name_eq, at_or_above, num_labels, parent}
-use Rattle.dns_model.specs.Types.{type_rrsig, type_ds, type_nsec, type_nsec3, type_dnskey}
+use Rattle.dns_model.specs.Names.{name_eq, at_or_above, num_labels, parent}
+use Rattle.dns_model.specs.Types.{type_rrsig, type_nsec, type_nsec3, type_dnskey}
 use Rattle.dns_model.specs.Views.{SigText, KeyText, sig_in, key_in, is_zone_key, is_revoked}
 use Rattle.dns_model.specs.Signing.{signed_bytes, key_tag_of}
 use Rattle.dns_model.specs.Records.{Rr, RrSet}
@@ -46,7 +46,7 @@ good_by_key j set r key sig (Some text) is fits timely valid accepted = record {
   of_set = fits;
   timely = timely;
   by_key = by_key_is (is_by_key sig key text) valid;
-  accepted = accepted
+  accepted = accepted;
 }
 
 pub good_parts : (j : Judge) (set : RrSet) (r key : Rr) (sig : SigText) → sig_in r.rdata ≡ Some sig → is_good_by j set r key ≡ true
@@ -150,12 +150,12 @@ signed_holds j earlier set r key sig key_link proper is good fits =
     let of_set = of_set_parts set r sig text.of_set in
     let fit = labels_and_parent set sig fits.whole of_set.labels in
     let signed : is_signed j earlier set.owner set.class set.kind rdatas key_link key.rdata (Some sig) ≡ true =
-      and_six (sig.covered == set.kind) (signer_fits set.kind sig.signer set.owner) (labels_fit set.kind sig.labels set.owner)
-      (parent_fits set.kind sig.signer set.owner) (is_good j set.owner set.class set.kind rdatas sig key.rdata (key_in key.rdata))
-      (key_comes earlier set.owner set.class set.kind rdatas sig.signer key_link key.rdata)
-      of_set.covered fits.signer fit.0 fit.1 (good_in_link j set r key sig text) fits.comes in
+    and_six (sig.covered == set.kind) (signer_fits set.kind sig.signer set.owner) (labels_fit set.kind sig.labels set.owner)
+    (parent_fits set.kind sig.signer set.owner) (is_good j set.owner set.class set.kind rdatas sig key.rdata (key_in key.rdata))
+    (key_comes earlier set.owner set.class set.kind rdatas sig.signer key_link key.rdata)
+    of_set.covered fits.signer fit.0 fit.1 (good_in_link j set r key sig text) fits.comes in
     let read : is_signed j earlier set.owner set.class set.kind rdatas key_link key.rdata (sig_in r.rdata) ≡ true =
-      ap (is_signed j earlier set.owner set.class set.kind rdatas key_link key.rdata) is ∙ signed in
+    ap (is_signed j earlier set.owner set.class set.kind rdatas key_link key.rdata) is ∙ signed in
     and_from (not (set.kind == type_rrsig)) (is_listed rdatas && is_signed j earlier set.owner set.class set.kind rdatas key_link key.rdata (sig_in r.rdata))
     (ap not proper.plain)
     (and_from (is_listed rdatas) (is_signed j earlier set.owner set.class set.kind rdatas key_link key.rdata (sig_in r.rdata)) proper.listed read)

@@ -1,22 +1,22 @@
 -- A key set that the tables mark Secure stands: signed by an anchored key of it, or wholly anchored.
-use Rattle.std.proofs.Common.{◌≡◌, ℕ, zero, suc, ◌+◌, Bool, true, false, not, ◌==◌, ◌&&◌, List, [], ◌∷◌, ◌++◌, map, length, take, Option, None, Some, refl, sym, ap, ◌∙◌, arith, length-append}
+use Rattle.std.proofs.Common.{◌≡◌, ℕ, suc, ◌+◌, Bool, true, false, ◌==◌, ◌&&◌, List, [], ◌∷◌, ◌++◌, map, length, take, Option, None, Some, refl, sym, ap, ◌∙◌, arith, length-append}
 use Rattle.std.specs.Prelude.{if◌then◌else◌}
-use Rattle.std.specs.List.{find, list_all, slice_get, AllByRecursion}
+use Rattle.std.specs.List.{list_all, slice_get}
 use Rattle.std.proofs.lemmas.Bool.{and_parts, and_from}
 use Rattle.std.proofs.lemmas.List.{append_assoc}
 use Rattle.dns_model.specs.declared.proof.Proof.TheVariants.{Secure, Bogus}
 use Rattle.dns_model.specs.Names.{Labels, name_eq, at_or_above}
-use Rattle.dns_model.specs.Types.{type_ds, type_dnskey}
+use Rattle.dns_model.specs.Types.{type_dnskey}
 use Rattle.dns_model.specs.Views.{SigText, sig_in, key_in}
 use Rattle.dns_model.specs.Records.{Rr, RrSet}
-use Rattle.dns_model.specs.Chains.{Fact, Anchored, KeySet, Signed, Judge, all_shown, is_listed, has_bytes, rdatas_of, signer_fits, key_comes, shows_key, link_holds, links_hold, is_chain, justified, last_link, link_is_for}
+use Rattle.dns_model.specs.Chains.{Fact, Anchored, KeySet, Signed, Judge, all_shown, is_listed, has_bytes, rdatas_of, signer_fits, key_comes, shows_key, link_holds, links_hold, is_chain, justified, link_is_for}
 use Rattle.dns_model.specs.Answers.{Placed}
-use Rattle.dns_model.proofs.EachLemmas.{each_both, IsFound, find_known}
+use Rattle.dns_model.proofs.EachLemmas.{each_both, find_known}
 use Rattle.dns_model.proofs.SetLemmas.{name_back, name_trans, number_same, is_of, IsProper}
 use Rattle.dns_model.proofs.ChainLemmas.{links_hold-append, is_chain-append, last_link-append, justified_extends, bytes_refl, each_member, signed_is_for, keys_are_for, anchor_shown, slice_get_at}
 use Rattle.dns_judgement.specs.Validity.{sig_validity, validity, is_valid, is_accepted, is_good_by}
-use Rattle.dns_judgement.specs.Judged.{Judged, names_decider, stands}
-use Rattle.dns_judgement.specs.Marks.{most_signatures, is_anchored_key, anchored_signer, SignedKeys, signed_keys_or, first_signed, numbers_from, anchored_chain, self_signed_chain, keys_unsigned, keys_by, judged_keys}
+use Rattle.dns_judgement.specs.Judged.{names_decider, stands}
+use Rattle.dns_judgement.specs.Marks.{most_signatures, is_anchored_key, anchored_signer, SignedKeys, signed_keys_or, first_signed, numbers_from, anchored_chain, self_signed_chain, keys_by, judged_keys}
 use Rattle.dns_judgement.proofs.GoodLemmas.{good_parts, signer_is_owner, of_set_parts, keys_kept_whole, Fits, signed_holds}
 use Rattle.dns_judgement.proofs.StandLemmas.{IsChainFor, stands_from, slice_get-take}
 
@@ -42,7 +42,7 @@ signed_step j set n r rs (Some key) rest s is later h =
       k = 0;
       place_is = ap (λ x. x.place) (sym same) ∙ omega arith;
       at = ap (λ x. Some x.signature) same;
-      by = ap (λ x. anchored_signer j set x.signature) (sym same) ∙ is ∙ ap (λ x. Some x.key) same
+      by = ap (λ x. anchored_signer j set x.signature) (sym same) ∙ is ∙ ap (λ x. Some x.key) same;
     }
 
 first_signed_at : (j : Judge) (set : RrSet) (n : ℕ) (rs : List Rr) (s : SignedKeys) → first_signed j set n rs ≡ Some s → IsSignedAt j set rs n s
@@ -94,23 +94,23 @@ self_signed j set rs s proper keys at =
     let above = (of_set_parts set s.signature read.sig good.of_set).above in
     let own = and_parts (name_eq set.owner s.key.owner) (set.kind == s.key.kind) found.known.1 in
     let owner : name_eq set.owner read.sig.signer ≡ true =
-      name_trans set.owner s.key.owner read.sig.signer own.0 (name_back read.sig.signer s.key.owner (signer_is_owner j set s.signature s.key read.sig good)) in
+    name_trans set.owner s.key.owner read.sig.signer own.0 (name_back read.sig.signer s.key.owner (signer_is_owner j set s.signature s.key read.sig good)) in
     let anchor = Anchored set.owner set.class s.key.rdata in
     let link = Signed set.owner set.class set.kind rdatas s.signature.rdata 0 s.key.rdata in
     let comes : key_comes (anchor ∷ []) set.owner set.class set.kind rdatas read.sig.signer 0 s.key.rdata ≡ true =
-      comes_of_keys (set.kind == type_dnskey) (name_eq set.owner read.sig.signer) (has_bytes rdatas s.key.rdata)
-      (shows_key set.owner set.class s.key.rdata (Some anchor)) false keys owner found.known.0 (anchor_shown set.owner set.class s.key.rdata) in
+    comes_of_keys (set.kind == type_dnskey) (name_eq set.owner read.sig.signer) (has_bytes rdatas s.key.rdata)
+    (shows_key set.owner set.class s.key.rdata (Some anchor)) false keys owner found.known.0 (anchor_shown set.owner set.class s.key.rdata) in
     let fits : Fits (anchor ∷ []) set read.sig 0 s.key.rdata = record {
       whole = keys_kept_whole set read.sig keys;
       signer = signer_of_keys set.kind read.sig.signer set.owner keys above;
-      comes = comes
+      comes = comes;
     } in
     let holds = signed_holds j (anchor ∷ []) set s.signature s.key read.sig 0 proper read.is passes.1 fits in
     let ended = last_link-append (anchor ∷ []) link in
     record {
       held = justified_extends j (anchor ∷ []) link (one_anchor j set.owner set.class s.key.rdata passes.0) holds;
       ends = ap (link_is_for set) ended ∙ signed_is_for set s.signature.rdata 0 s.key.rdata;
-      named = ap (λ l. names_decider l (Some s.signature)) ended ∙ bytes_refl s.signature.rdata
+      named = ap (λ l. names_decider l (Some s.signature)) ended ∙ bytes_refl s.signature.rdata;
     }
 
 -- ---- a wholly anchored key set
@@ -133,12 +133,12 @@ keys_shown owner class front (key ∷ keys) n is =
     let anchor = Anchored owner class key in
     let rest = map (Anchored owner class) keys in
     let here : shows_key owner class key (slice_get (front ++ anchor ∷ rest) n) ≡ true =
-      ap (λ k. shows_key owner class key (slice_get (front ++ anchor ∷ rest) k)) is
-      ∙ ap (shows_key owner class key) (slice_get_at front anchor rest) ∙ anchor_shown owner class key in
+    ap (λ k. shows_key owner class key (slice_get (front ++ anchor ∷ rest) k)) is
+    ∙ ap (shows_key owner class key) (slice_get_at front anchor rest) ∙ anchor_shown owner class key in
     let longer : n + 1 ≡ length (front ++ anchor ∷ []) = omega (arith, length-append front (anchor ∷ [])) in
     let later : all_shown (front ++ anchor ∷ rest) owner class keys (numbers_from (n + 1) keys) ≡ true =
-      ap (λ e. all_shown e owner class keys (numbers_from (n + 1) keys)) (sym (append_assoc front (anchor ∷ []) rest))
-      ∙ keys_shown owner class (front ++ anchor ∷ []) keys (n + 1) longer in
+    ap (λ e. all_shown e owner class keys (numbers_from (n + 1) keys)) (sym (append_assoc front (anchor ∷ []) rest))
+    ∙ keys_shown owner class (front ++ anchor ∷ []) keys (n + 1) longer in
     and_from (shows_key owner class key (slice_get (front ++ anchor ∷ rest) n)) (all_shown (front ++ anchor ∷ rest) owner class keys (numbers_from (n + 1) keys)) here later
 
 anchored : (j : Judge) (set : RrSet) → IsProper set → (set.kind == type_dnskey) ≡ true → list_all (is_anchored_key j set) set.records ≡ true
@@ -150,15 +150,15 @@ anchored j set proper keys all =
     let numbers = numbers_from 0 rdatas in
     let link = KeySet set.owner set.class rdatas numbers in
     let holds : link_holds j anchors link ≡ true =
-      and_from (is_listed rdatas) (all_shown anchors set.owner set.class rdatas numbers) proper.listed (keys_shown set.owner set.class [] rdatas 0 refl) in
+    and_from (is_listed rdatas) (all_shown anchors set.owner set.class rdatas numbers) proper.listed (keys_shown set.owner set.class [] rdatas 0 refl) in
     let front = anchors_hold j set [] set.records all in
     let both : links_hold j [] (anchors ++ link ∷ []) ≡ true =
-      links_hold-append j [] anchors link ∙ and_from (links_hold j [] anchors) (link_holds j anchors link) front holds in
+    links_hold-append j [] anchors link ∙ and_from (links_hold j [] anchors) (link_holds j anchors link) front holds in
     let ended = last_link-append anchors link in
     record {
       held = and_from (is_chain (anchors ++ link ∷ [])) (links_hold j [] (anchors ++ link ∷ [])) (is_chain-append anchors link) both;
       ends = ap (link_is_for set) ended ∙ keys_are_for set numbers keys;
-      named = ap (λ l. names_decider l None) ended
+      named = ap (λ l. names_decider l None) ended;
     }
 
 -- ---- the table
@@ -180,7 +180,7 @@ keys_step j placed n (Some s) proper keys is =
     let chain = self_signed j placed.set (take n placed.set.signatures) s proper keys found in
     let place_is : s.place ≡ found.k = found.place_is ∙ omega arith in
     let at : slice_get placed.set.signatures s.place ≡ Some s.signature =
-      ap (slice_get placed.set.signatures) place_is ∙ slice_get-take n placed.set.signatures found.k s.signature found.at in
+    ap (slice_get placed.set.signatures) place_is ∙ slice_get-take n placed.set.signatures found.k s.signature found.at in
     stands_from j (record { section = placed.section; set = placed.set; mark = Secure; sig = Some s.place; chain = self_signed_chain placed.set s }) (rw at chain)
 
 -- a proper key set that is judged stands

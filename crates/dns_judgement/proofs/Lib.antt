@@ -3,3 +3,5 @@ pub mod StandLemmas
 pub mod KeySetLemmas
 pub mod RunLemmas
 pub mod MarkedLemmas
+pub mod SoundLemmas
+pub mod AloneLemmas

@@ -1,25 +1,25 @@
 -- Marking gives each record of a set, and the signature that decided, the set's own mark, and keeps the rest.
-use Rattle.std.proofs.Common.{◌≡◌, ℕ, Bool, true, false, not, ◌==◌, ◌&&◌, cond, List, [], ◌∷◌, map, Option, None, Some, refl, sym, ap, ◌∙◌, subst, arith}
+use Rattle.std.proofs.Common.{◌≡◌, ℕ, Bool, true, false, not, ◌==◌, ◌&&◌, cond, List, [], ◌∷◌, Option, None, Some, refl, sym, ap, ◌∙◌, subst}
 use Rattle.std.specs.Prelude.{if◌then◌else◌}
 use Rattle.std.specs.Option.{option_map}
 use Rattle.std.specs.List.{filter, find, AllByRecursion}
-use Rattle.std.proofs.lemmas.Bool.{and_parts, and_from, and_left, false_from_ne_true}
+use Rattle.std.proofs.lemmas.Bool.{and_parts, and_from, false_from_ne_true}
 use Rattle.dns_model.specs.declared.proof.Proof.{Proof}
-use Rattle.dns_model.specs.declared.proof.Proof.TheVariants.{Secure, Insecure, Bogus, Indeterminate}
 use Rattle.dns_model.specs.declared.section.Section.{Section}
 use Rattle.dns_model.specs.Names.{Labels, name_eq}
 use Rattle.dns_model.specs.Types.{type_rrsig, type_dnskey}
 use Rattle.dns_model.specs.Records.{Rr, RrSet}
 use Rattle.dns_model.specs.Sections.{is_signature}
-use Rattle.dns_model.specs.Chains.{Fact, Anchored, Matched, KeySet, Signed, Judge, last_link, ends_at, link_is_for, same_rdatas, rdatas_of}
-use Rattle.dns_model.specs.Answers.{Told, Placed, placed_sets, section_of, section_eq, is_secure, set_kind, covered_kind, ChainText, chain_is_of, link_is_of, last_of, deciding_link}
+use Rattle.dns_model.specs.Chains.{Fact, Anchored, Matched, KeySet, Signed, Judge, last_link, link_is_for, same_rdatas, rdatas_of}
+use Rattle.dns_model.specs.Answers.{Told, placed_sets, section_of, section_eq, is_secure, set_kind, covered_kind, chain_is_of, link_is_of, last_of, deciding_link}
 use Rattle.dns_model.specs.Views.{sig_in}
-use Rattle.dns_model.proofs.EachLemmas.{each_more, each_both, each_filter, each_passes, each_unmap, find_agree_each, find-map, find-filter, IsFound, find_known, Apart, apart_unmap}
-use Rattle.dns_model.proofs.SetLemmas.{name_equiv, name_back, name_trans, name_left, number_refl, number_same, number_back, section_refl, section_same, section_back, is_of, IsProper, BeginsIn, same_key, same_place, placed_apart, proper_placed, begins_placed, KeepsKey}
-use Rattle.dns_judgement.specs.Judged.{Judged, placed_of, decider, stands, names_decider}
+use Rattle.dns_model.proofs.NameLemmas.{name_equiv}
+use Rattle.dns_model.proofs.EachLemmas.{each_more, each_both, each_filter, each_passes, each_unmap, find_agree_each, find-map, find-filter, Apart, apart_unmap}
+use Rattle.dns_model.proofs.SetLemmas.{name_back, name_trans, name_left, number_refl, number_same, number_back, section_refl, section_same, section_back, is_of, IsProper, BeginsIn, same_key, same_place, placed_apart, proper_placed, begins_placed, KeepsKey}
+use Rattle.dns_judgement.specs.Judged.{Judged, placed_of, decider, stands}
 use Rattle.dns_judgement.specs.Marking.{cleared, is_about, is_record, adjusted_by, adjusted_ttl, marked_by, marked, chain_text, chains_of}
-use Rattle.dns_judgement.proofs.StandLemmas.{IsChainFor, stands_parts}
-use Rattle.dns_judgement.proofs.RunLemmas.{AllStand, AreJudged}
+use Rattle.dns_judgement.proofs.StandLemmas.{stands_parts}
+use Rattle.dns_judgement.proofs.RunLemmas.{AreJudged}
 
 -- ---- what marking keeps
 
@@ -44,7 +44,7 @@ marked-keeps now ss section = record {
   owner = λ r. (alike_by now r (find (is_about section r) ss)).owner;
   kind = λ r. (alike_by now r (find (is_about section r) ss)).kind;
   class = λ r. (alike_by now r (find (is_about section r) ss)).class;
-  rdata = λ r. (alike_by now r (find (is_about section r) ss)).rdata
+  rdata = λ r. (alike_by now r (find (is_about section r) ss)).rdata;
 }
 
 pub cleared-keeps : KeepsKey cleared
@@ -84,15 +84,16 @@ pub record IsFoundBy (ss : List Judged) (s : Judged) : Type 0 where
 
 found_later : (a : Judged) (ss : List Judged) (s : Judged) → (same_place (placed_of a) (placed_of s) ≡ false) × IsFoundBy ss s → IsFoundBy (a ∷ ss) s
 found_later a ss s h = record {
-  found = λ section r is. ap (λ b. cond b (Some a) (find (is_about section r) ss)) (not_about section r a s h.0 is) ∙ h.1.found section r is
+  found = λ section r is. ap (λ b. cond b (Some a) (find (is_about section r) ss)) (not_about section r a s h.0 is) ∙ h.1.found section r is;
 }
 
 pub each_found : (ss : List Judged) → Apart (λ a b. same_place (placed_of a) (placed_of b)) ss → AllByRecursion (IsFoundBy ss) ss
 each_found [] apart = tt
 each_found (a ∷ ss) apart =
-    let Differs = λ (s : Judged). same_place (placed_of a) (placed_of s) ≡ false in
-    (record { found = λ section r is. ap (λ b. cond b (Some a) (find (is_about section r) ss)) is },
-    each_more (λ s. Differs s × IsFoundBy ss s) (IsFoundBy (a ∷ ss)) (found_later a ss) ss (each_both Differs (IsFoundBy ss) ss apart.0 (each_found ss apart.1)))
+    let Differs = λ (s : Judged). same_place (placed_of a) (placed_of s) ≡ false in (
+      record { found = λ section r is. ap (λ b. cond b (Some a) (find (is_about section r) ss)) is },
+      each_more (λ s. Differs s × IsFoundBy ss s) (IsFoundBy (a ∷ ss)) (found_later a ss) ss (each_both Differs (IsFoundBy ss) ss apart.0 (each_found ss apart.1)),
+    )
 
 -- ---- what is known of each judged set of a message
 
@@ -109,12 +110,12 @@ each_known j told ss judged =
     let Begins = λ (s : Judged). BeginsIn (section_of told s.section) s.set in
     let Stands = λ (s : Judged). stands j s ≡ true in
     let proper : AllByRecursion Proper ss =
-      each_unmap (λ p. IsProper p.set) placed_of ss (subst (λ ps. AllByRecursion (λ p. IsProper p.set) ps) back (proper_placed told)) in
+    each_unmap (λ p. IsProper p.set) placed_of ss (subst (λ ps. AllByRecursion (λ p. IsProper p.set) ps) back (proper_placed told)) in
     let begins : AllByRecursion Begins ss =
-      each_unmap (λ p. BeginsIn (section_of told p.section) p.set) placed_of ss
-      (subst (λ ps. AllByRecursion (λ p. BeginsIn (section_of told p.section) p.set) ps) back (begins_placed told)) in
+    each_unmap (λ p. BeginsIn (section_of told p.section) p.set) placed_of ss
+    (subst (λ ps. AllByRecursion (λ p. BeginsIn (section_of told p.section) p.set) ps) back (begins_placed told)) in
     let apart : Apart (λ a b. same_place (placed_of a) (placed_of b)) ss =
-      apart_unmap same_place placed_of ss (subst (λ ps. Apart same_place ps) back (placed_apart told)) in
+    apart_unmap same_place placed_of ss (subst (λ ps. Apart same_place ps) back (placed_apart told)) in
     each_more (λ s. Proper s × (Begins s × (Stands s × IsFoundBy ss s))) (IsKnown j told ss)
     (λ s h. record { proper = h.0; begins = h.1.0; stand = h.1.1.0; found = h.1.1.1 }) ss
     (each_both Proper (λ s. Begins s × (Stands s × IsFoundBy ss s)) ss proper
@@ -141,7 +142,7 @@ own_from set r proper h =
 pub own_about : (s : Judged) (r : Rr) → IsOwn s.set r → is_about s.section r s ≡ true
 own_about s r own =
     let kind : (s.set.kind == set_kind r) ≡ true =
-      ap (λ n. s.set.kind == n) (plain_kind r own.plain) ∙ ap (λ n. n == r.kind) own.kind ∙ number_refl r.kind in
+    ap (λ n. s.set.kind == n) (plain_kind r own.plain) ∙ ap (λ n. n == r.kind) own.kind ∙ number_refl r.kind in
     and_from (section_eq s.section s.section) (name_eq s.set.owner r.owner && (s.set.kind == set_kind r)) (section_refl s.section)
     (and_from (name_eq s.set.owner r.owner) (s.set.kind == set_kind r) own.owner kind)
 
@@ -241,8 +242,8 @@ decided_link j told ss section r s known found secure =
     let test = chain_is_of section r.owner (set_kind r) in
     let Secures = λ (t : Judged). secures t ≡ true in
     let each : AllByRecursion (λ t. test (chain_text t) ≡ is_about section r t) (filter secures ss) =
-      each_more (λ t. Secures t × IsKnown j told ss t) (λ t. test (chain_text t) ≡ is_about section r t) (chain_agrees j told ss section r) (filter secures ss)
-      (each_both Secures (IsKnown j told ss) (filter secures ss) (each_passes secures ss) (each_filter (IsKnown j told ss) secures ss known)) in
+    each_more (λ t. Secures t × IsKnown j told ss t) (λ t. test (chain_text t) ≡ is_about section r t) (chain_agrees j told ss section r) (filter secures ss)
+    (each_both Secures (IsKnown j told ss) (filter secures ss) (each_passes secures ss) (each_filter (IsKnown j told ss) secures ss known)) in
     ap last_of (find-map test chain_text (filter secures ss)
     ∙ ap (option_map chain_text) (find_agree_each (λ t. test (chain_text t)) (is_about section r) (filter secures ss) each
     ∙ find-filter (is_about section r) secures ss s found secure))

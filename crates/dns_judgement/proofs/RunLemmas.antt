@@ -1,5 +1,5 @@
 -- What a walk came to stands, whatever the upstream said, and its sends only rise.
-use Rattle.std.proofs.Common.{◌≡◌, ℕ, ◌+◌, ◌≤◌, ◌<◌, Bool, true, false, ◌==◌, List, [], ◌∷◌, map, take, Option, None, Some, refl, sym, ap, ◌∙◌, arith}
+use Rattle.std.proofs.Common.{◌≡◌, ℕ, ◌≤◌, Bool, true, false, ◌==◌, List, [], ◌∷◌, map, take, Option, None, Some, refl, sym, ap, ◌∙◌, arith}
 use Rattle.std.specs.Prelude.{if◌then◌else◌}
 use Rattle.std.specs.List.{filter, list_all, AllByRecursion}
 use Rattle.dns_model.specs.declared.proof.Proof.TheVariants.{Secure, Bogus}
@@ -10,7 +10,7 @@ use Rattle.dns_model.specs.Answers.{Told, Placed, placed_sets}
 use Rattle.dns_model.proofs.EachLemmas.{each_filter}
 use Rattle.dns_model.proofs.SetLemmas.{IsProper, proper_placed}
 use Rattle.dns_judgement.specs.Judged.{Judged, placed_of, stands}
-use Rattle.dns_judgement.specs.Marks.{Verdict, Proved, Excused, Failed, is_proved, is_skipped, verdict_of, judged_by, most_signatures, is_anchored_key, SignedKeys, first_signed, anchored_chain, keys_by, judged_keys}
+use Rattle.dns_judgement.specs.Marks.{Verdict, Proved, Excused, Failed, is_skipped, verdict_of, judged_by, most_signatures, is_anchored_key, SignedKeys, first_signed, anchored_chain, keys_by, judged_keys}
 use Rattle.dns_judgement.specs.Outcome.{Outcome, Unjudged, Accepted, Denied, outcome_of}
 use Rattle.dns_judgement.specs.Run.{is_judged_below, judged_part, accepted_sets, Aim, Sets, Signatures, Ask, Run, NoSet, Keys, Others, NoSignature, Skips, Asks, Proves, Refused, Fault, Foreign, Answers}
 use Rattle.dns_judgement.proofs.StandLemmas.{IsGoodVerdict, AreGood, proof_is_chain, judged_by-stands}
@@ -66,7 +66,7 @@ judged_more : (j : Judge) (p : Placed) (ps : List Placed) (s made : Judged) (ss 
     → AreJudged j ps ss → AreJudged j (p ∷ ps) (s ∷ ss)
 judged_more j p ps s made ss is placed stand rest = record {
   grouped = ap (λ x. placed_of x ∷ map placed_of ss) is ∙ ap (λ x. x ∷ map placed_of ss) placed ∙ ap (λ xs. p ∷ xs) rest.grouped;
-  stand = (ap (stands j) is ∙ stand, rest.stand)
+  stand = (ap (stands j) is ∙ stand, rest.stand);
 }
 
 good_verdict : (j : Judge) (set : RrSet) (q : Question) (r : Rr) (answer : Option (List Judged)) (v : Verdict)
@@ -116,10 +116,14 @@ run_good j limit says (Foreign q d n m told shallow few next said foreign) = tt
 run_good j limit says (Answers q d n k m told ss answer shallow few next said own sets is) =
     ended j ss (outcome_of q told ss) answer ((run_good j limit says sets (proper_part d told)).stand) is
 
--- the sets of a step are judged, and stand
+-- the sets of a message, all or those that are judged at a depth, are judged in order, and stand
 pub run_stands : (j : Judge) (limit : ℕ) (says : Question → Option Told → Type 0) (q : Question) (d n m : ℕ) (told : Told) (ss : List Judged)
+    → Run j limit says n (Sets q d (placed_sets told) ss) m → AreJudged j (placed_sets told) ss
+run_stands j limit says q d n m told ss run = run_good j limit says run (proper_placed told)
+
+pub run_stands_at : (j : Judge) (limit : ℕ) (says : Question → Option Told → Type 0) (q : Question) (d n m : ℕ) (told : Told) (ss : List Judged)
     → Run j limit says n (Sets q d (judged_part d told) ss) m → AreJudged j (judged_part d told) ss
-run_stands j limit says q d n m told ss run = run_good j limit says run (proper_part d told)
+run_stands_at j limit says q d n m told ss run = run_good j limit says run (proper_part d told)
 
 -- a walk's sends only rise
 pub run_counts : (j : Judge) (limit : ℕ) (says : Question → Option Told → Type 0) {n m : ℕ} {aim : Aim} → Run j limit says n aim m → n ≤ m

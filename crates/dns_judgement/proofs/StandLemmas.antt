@@ -1,27 +1,25 @@
 -- A set that the tables mark Secure stands: its chain is justified, ends at it, and names the signature that decided.
-use Rattle.std.proofs.Common.{◌≡◌, ℕ, zero, suc, ◌+◌, ◌-◌, ◌<◌, Bool, true, false, not, ◌==◌, ◌&&◌, ◌||◌, List, [], ◌∷◌, ◌++◌, map, length, take, get_or, Option, None, Some, refl, sym, ap, ◌∙◌, arith, length-append}
+use Rattle.std.proofs.Common.{◌≡◌, ℕ, zero, suc, ◌-◌, ◌<◌, Bool, true, false, not, ◌==◌, ◌&&◌, List, [], ◌∷◌, ◌++◌, length, take, get_or, Option, None, Some, refl, sym, ap, ◌∙◌, arith}
 use Rattle.std.specs.Prelude.{nat_lt, if◌then◌else◌}
-use Rattle.std.specs.List.{filter, find, list_all, position, count_by, slice_get, AllByRecursion}
-use Rattle.std.proofs.lemmas.Bool.{and_parts, and_from, or_parts, not-false}
-use Rattle.std.proofs.lemmas.List.{append_assoc, get_or_default}
+use Rattle.std.specs.List.{filter, find, position, count_by, slice_get, AllByRecursion}
+use Rattle.std.proofs.lemmas.Bool.{and_parts, or_parts, not-false}
 use Rattle.std.proofs.lemmas.List.Quantifiers.{position-Some}
 use Rattle.dns_model.specs.declared.proof.Proof.{Proof}
 use Rattle.dns_model.specs.declared.proof.Proof.TheVariants.{Secure, Insecure, Bogus, Indeterminate}
 use Rattle.dns_model.specs.declared.section.Section.TheVariants.{Answer}
-use Rattle.dns_model.specs.Names.{Labels, name_eq, at_or_above}
-use Rattle.dns_model.specs.Types.{type_ds, type_dnskey}
+use Rattle.dns_model.specs.Names.{Labels, name_eq}
+use Rattle.dns_model.specs.Types.{type_dnskey}
 use Rattle.dns_model.specs.Views.{SigText, sig_in}
 use Rattle.dns_model.specs.Records.{Rr, RrSet, Question, question_eq}
-use Rattle.dns_model.specs.Chains.{Fact, Anchored, KeySet, Signed, Judge, all_shown, is_listed, has_bytes, rdatas_of, signer_fits, key_comes, shows_key, shows_member, link_holds, links_hold, is_chain, justified, last_link, ends_at, link_is_for}
+use Rattle.dns_model.specs.Chains.{Fact, Signed, Judge, has_bytes, rdatas_of, signer_fits, key_comes, shows_key, shows_member, justified, last_link, ends_at, link_is_for}
 use Rattle.dns_model.specs.Answers.{Placed, is_secure, section_eq}
-use Rattle.dns_model.proofs.EachLemmas.{each_more, each_both, each_filter, IsFound, find_known}
-use Rattle.dns_model.proofs.SetLemmas.{name_refl, name_back, name_trans, number_refl, number_same, is_of, IsProper}
-use Rattle.dns_model.proofs.ChainLemmas.{links_hold-join, last_link-append, slice_get-last, justified_extends, bytes_refl, each_member, member_shown, signed_is_for, keys_are_for, anchor_shown, slice_get_at}
+use Rattle.dns_model.proofs.EachLemmas.{each_filter, find_known}
+use Rattle.dns_model.proofs.SetLemmas.{IsProper}
+use Rattle.dns_model.proofs.ChainLemmas.{last_link-append, slice_get-last, justified_extends, bytes_refl, each_member, member_shown, signed_is_for}
 use Rattle.dns_judgement.specs.Validity.{is_good_by}
-use Rattle.dns_judgement.specs.Judged.{Judged, signature_at, decider, names_decider, stands}
-use Rattle.dns_judgement.specs.Marks as marks
-use Rattle.dns_judgement.specs.Marks.{is_skipped, is_skipped_text, key_question, first_two, counted_keys, is_readable_key, same_tag, is_key_set_of, Verdict, Proved, Excused, Failed, is_proved, is_excused, signed_chain, by_secure_key, by_insecure_key, by_keys, by_key_set, is_kept_whole, verdict_by, verdict_of, mark_at, proved_chain, judged_by, most_signatures, is_anchored_key, anchored_signer, SignedKeys, signed_keys_or, first_signed, numbers_from, anchored_chain, self_signed_chain, keys_unsigned, keys_by, judged_keys}
-use Rattle.dns_judgement.proofs.GoodLemmas.{IsGoodText, good_parts, signer_is_owner, of_set_parts, keys_kept_whole, Fits, signed_holds}
+use Rattle.dns_judgement.specs.Judged.{Judged, decider, names_decider, stands}
+use Rattle.dns_judgement.specs.Marks.{is_skipped, is_skipped_text, key_question, first_two, counted_keys, is_readable_key, same_tag, is_key_set_of, Verdict, Proved, Excused, Failed, is_proved, is_excused, signed_chain, by_secure_key, by_insecure_key, by_keys, by_key_set, is_kept_whole, verdict_by, verdict_of, mark_at, proved_chain, judged_by}
+use Rattle.dns_judgement.proofs.GoodLemmas.{Fits, signed_holds}
 
 -- ---- a chain for a set
 
@@ -101,7 +99,7 @@ proved_set j set r None chain h = cc
 proved_set j set r (Some keys) chain h = record {
   keys = keys;
   is = refl;
-  by = proved_mark j set r keys.chain keys.mark (counted_keys keys.set.records) chain h
+  by = proved_mark j set r keys.chain keys.mark (counted_keys keys.set.records) chain h;
 }
 
 whole_step : (whole : Bool) (v : Verdict) (chain : List Fact) → (if whole then v else Failed) ≡ Proved chain → (whole ≡ true) × (v ≡ Proved chain)
@@ -124,7 +122,7 @@ proved_text j set r answer (Some sig) chain is h =
       found = by.is;
       secure = by.by.secure;
       good = by.by.by.is;
-      chain_is = by.by.by.chain_is
+      chain_is = by.by.by.chain_is;
     }
 
 pub proved_parts : (j : Judge) (set : RrSet) (r : Rr) (answer : List Judged) (chain : List Fact) → verdict_of j set r (Some answer) ≡ Proved chain
@@ -190,19 +188,19 @@ proof_is_chain j set asked r answer chain proper other asked_for stand is =
     let last = length p.keys.chain - 1 in
     let link = Signed set.owner set.class set.kind (rdatas_of set.records) r.rdata last p.key.rdata in
     let shown : shows_member p.sig.signer set.class p.key.rdata (slice_get p.keys.chain last) ≡ true =
-      ap (shows_member p.sig.signer set.class p.key.rdata) (slice_get-last p.keys.chain)
-      ∙ member_shown p.keys.set (last_link p.keys.chain) p.sig.signer set.class p.key.rdata below.ends key_set.kind key_set.owner key_set.class_is key.known in
+    ap (shows_member p.sig.signer set.class p.key.rdata) (slice_get-last p.keys.chain)
+    ∙ member_shown p.keys.set (last_link p.keys.chain) p.sig.signer set.class p.key.rdata below.ends key_set.kind key_set.owner key_set.class_is key.known in
     let comes : key_comes p.keys.chain set.owner set.class set.kind (rdatas_of set.records) p.sig.signer last p.key.rdata ≡ true =
-      comes_step (set.kind == type_dnskey) (shows_member p.sig.signer set.class p.key.rdata (slice_get p.keys.chain last))
-      (name_eq set.owner p.sig.signer && (has_bytes (rdatas_of set.records) p.key.rdata && shows_key set.owner set.class p.key.rdata (slice_get p.keys.chain last)))
-      other shown in
+    comes_step (set.kind == type_dnskey) (shows_member p.sig.signer set.class p.key.rdata (slice_get p.keys.chain last))
+    (name_eq set.owner p.sig.signer && (has_bytes (rdatas_of set.records) p.key.rdata && shows_key set.owner set.class p.key.rdata (slice_get p.keys.chain last)))
+    other shown in
     let fits : Fits p.keys.chain set p.sig last p.key.rdata = record { whole = p.whole; signer = asked_fits set asked r p.sig p.read asked_for; comes = comes } in
     let holds = signed_holds j p.keys.chain set r p.key p.sig last proper p.read key.passes fits in
     let ended = last_link-append p.keys.chain link in
     record {
       held = ap (justified j) p.chain_is ∙ justified_extends j p.keys.chain link below.held holds;
       ends = ap (λ c. ends_at c set) p.chain_is ∙ ap (link_is_for set) ended ∙ signed_is_for set r.rdata last p.key.rdata;
-      named = ap (λ c. names_decider (last_link c) (Some r)) p.chain_is ∙ ap (λ l. names_decider l (Some r)) ended ∙ bytes_refl r.rdata
+      named = ap (λ c. names_decider (last_link c) (Some r)) p.chain_is ∙ ap (λ l. names_decider l (Some r)) ended ∙ bytes_refl r.rdata;
     }
 
 -- ---- a set by the verdicts of its signatures

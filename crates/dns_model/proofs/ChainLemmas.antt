@@ -1,5 +1,5 @@
 -- Chains of trust: links that hold in parts, one more link, prefixes and the last link.
-use Rattle.std.proofs.Common.{◌≡◌, ℕ, zero, suc, ◌-◌, ◌<◌, Bool, true, false, ◌==◌, ◌&&◌, ◌||◌, List, [], ◌∷◌, ◌++◌, length, take, drop, Option, None, Some, refl, sym, ap, ◌∙◌, arith}
+use Rattle.std.proofs.Common.{◌≡◌, ℕ, zero, suc, ◌-◌, ◌<◌, Bool, true, false, ◌==◌, ◌&&◌, List, [], ◌∷◌, ◌++◌, length, take, drop, Option, None, Some, refl, sym, ap, ◌∙◌, arith}
 use Rattle.std.specs.List.{slice_get}
 use Rattle.std.proofs.lemmas.Bool.{and_parts, and_from, or_left, or_right}
 use Rattle.std.proofs.lemmas.List.{append-nil, append_assoc, take-append-drop}
@@ -76,7 +76,7 @@ pub justified-take : (j : Judge) (n : ℕ) (chain : List Fact) → 0 < n → jus
 justified-take j n chain some held =
     let parts = and_parts (is_chain chain) (links_hold j [] chain) held in
     let cut : (links_hold j [] (take n chain) && links_hold j (take n chain) (drop n chain)) ≡ true =
-      sym (links_hold-join j [] (take n chain) (drop n chain)) ∙ ap (links_hold j []) (take-append-drop n chain) ∙ parts.1 in
+    sym (links_hold-join j [] (take n chain) (drop n chain)) ∙ ap (links_hold j []) (take-append-drop n chain) ∙ parts.1 in
     let front = and_parts (links_hold j [] (take n chain)) (links_hold j (take n chain) (drop n chain)) cut in
     and_from (is_chain (take n chain)) (links_hold j [] (take n chain)) (is_chain-take n chain some parts.0) front.0
 
@@ -103,10 +103,11 @@ rdatas_same (x ∷ xs) (y ∷ ys) h =
 -- the rdata of each record is one of the rdatas
 pub each_member : (records : List Rr) → AllByRecursion (λ r. has_bytes (rdatas_of records) r.rdata ≡ true) records
 each_member [] = tt
-each_member (x ∷ xs) =
-    (or_left (bytes_eq x.rdata x.rdata) (has_bytes (rdatas_of xs) x.rdata) (bytes_refl x.rdata),
-    each_more (λ r. has_bytes (rdatas_of xs) r.rdata ≡ true) (λ r. has_bytes (rdatas_of (x ∷ xs)) r.rdata ≡ true)
-    (λ r. or_right (bytes_eq r.rdata x.rdata) (has_bytes (rdatas_of xs) r.rdata)) xs (each_member xs))
+each_member (x ∷ xs) = (
+  or_left (bytes_eq x.rdata x.rdata) (has_bytes (rdatas_of xs) x.rdata) (bytes_refl x.rdata),
+  each_more (λ r. has_bytes (rdatas_of xs) r.rdata ≡ true) (λ r. has_bytes (rdatas_of (x ∷ xs)) r.rdata ≡ true)
+      (λ r. or_right (bytes_eq r.rdata x.rdata) (has_bytes (rdatas_of xs) r.rdata)) xs (each_member xs),
+)
 
 -- ---- what a link shows
 
@@ -120,9 +121,11 @@ about kind_is set owner class rdatas h name number key is_owner is_class member 
     let two = and_parts (name_eq set.owner owner) ((set.class == class) && same_rdatas (rdatas_of set.records) rdatas) one.1 in
     let three = and_parts (set.class == class) (same_rdatas (rdatas_of set.records) rdatas) two.1 in
     let within : has_bytes rdatas key ≡ true = ap (λ xs. has_bytes xs key) (sym (rdatas_same (rdatas_of set.records) rdatas three.1)) ∙ member in
-    let class_is : (number == class) ≡ true = ap (λ n. n == class) (number_same number set.class is_class) ∙ three.0 in
-    (one.0, and_from (name_eq name owner) ((number == class) && has_bytes rdatas key) (name_trans name set.owner owner is_owner two.0)
-    (and_from (number == class) (has_bytes rdatas key) class_is within))
+    let class_is : (number == class) ≡ true = ap (λ n. n == class) (number_same number set.class is_class) ∙ three.0 in (
+      one.0,
+      and_from (name_eq name owner) ((number == class) && has_bytes rdatas key) (name_trans name set.owner owner is_owner two.0)
+          (and_from (number == class) (has_bytes rdatas key) class_is within),
+    )
 
 -- a link for a key set shows each key of it
 pub member_shown : (set : RrSet) (link : Option Fact) (name : Labels) (number : ℕ) (key : List ℕ)

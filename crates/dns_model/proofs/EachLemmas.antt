@@ -1,5 +1,5 @@
 -- Facts on each element of a list, on filters, and on the first element that passes a test.
-use Rattle.std.proofs.Common.{◌≡◌, ℕ, Bool, true, false, not, cond, List, [], ◌∷◌, ◌++◌, map, Option, None, Some, refl, sym, ap, ◌∙◌}
+use Rattle.std.proofs.Common.{◌≡◌, Bool, true, false, cond, List, [], ◌∷◌, ◌++◌, map, Option, Some, refl, sym, ap, ◌∙◌}
 use Rattle.std.specs.List.{filter, find, AllByRecursion}
 use Rattle.std.specs.Option.{option_map}
 

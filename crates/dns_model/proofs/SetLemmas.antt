@@ -1,26 +1,23 @@
 -- The sets of a section: they are proper, no two are one, and they change as their records do.
-use Rattle.std.proofs.Common.{◌≡◌, ℕ, Bool, true, false, not, ◌==◌, ◌&&◌, cond, List, [], ◌∷◌, ◌++◌, map, Option, None, Some, refl, sym, ap, ◌∙◌, arith}
-use Rattle.std.specs.Ordering.{on}
-use Rattle.std.specs.Cmp.{IsEquivalence}
+use Rattle.std.proofs.Common.{◌≡◌, ℕ, Bool, true, false, not, ◌==◌, ◌&&◌, cond, List, [], ◌∷◌, ◌++◌, map, length, Option, None, Some, refl, sym, ap, ◌∙◌}
 use Rattle.std.specs.List.{filter, find, AllByRecursion}
-use Rattle.std.proofs.lemmas.Bool.{and_parts, and_from, not-true}
+use Rattle.std.proofs.lemmas.Bool.{and_parts, and_from, not-true, not-false, false_from_ne_true}
 use Rattle.std.proofs.lemmas.Bool.Decides.{Decides-eqb}
-use Rattle.std.proofs.lemmas.Cmp.{on_equiv, lists_equiv, nat_eq_equiv, nat_list_eq_equiv}
+use Rattle.std.proofs.lemmas.Cmp.{nat_eq_equiv}
+use Rattle.std.proofs.lemmas.List.{length-map}
 use Rattle.std.proofs.lemmas.List.Elements.{filter_agree}
 use Rattle.dns_model.specs.declared.section.Section.{Section}
 use Rattle.dns_model.specs.declared.section.Section.TheVariants.{Answer, Authority, Additional}
-use Rattle.dns_model.specs.Names.{Labels, name_eq, folded}
+use Rattle.dns_model.specs.Names.{Labels, name_eq}
 use Rattle.dns_model.specs.Types.{type_rrsig}
 use Rattle.dns_model.specs.Records.{Rr, RrSet}
 use Rattle.dns_model.specs.Sections.{same_set, is_signature, covers, leaders, unsigned_part, set_of, sets_of}
 use Rattle.dns_model.specs.Chains.{is_listed, rdatas_of}
-use Rattle.dns_model.specs.Answers.{Told, Placed, place, placed_sets, section_of, section_eq, ttl_of, first_ttl}
+use Rattle.dns_model.specs.Answers.{Told, Placed, place, placed_sets, section_of, section_eq}
+use Rattle.dns_model.proofs.NameLemmas.{name_equiv}
 use Rattle.dns_model.proofs.EachLemmas.{each_more, each_of, each_both, each_append, each_front, each_back, each_map, each_unmap, each_filter, each_passes, filter-map, map_agree, map-map, Apart, apart_filter, apart_map, apart_agree, apart_append}
 
 -- ---- equality of names and of numbers
-
-pub name_equiv : IsEquivalence name_eq
-name_equiv = on_equiv folded (lists_equiv nat_list_eq_equiv)
 
 pub name_refl : (a : Labels) → name_eq a a ≡ true
 name_refl a = name_equiv.refl a
@@ -99,9 +96,10 @@ unfolding leaders
 leaders_apart [] = tt
 leaders_apart (r ∷ rs) =
     let others = λ (s : Rr). not (same_set r s) in
-    let passes = each_passes others (leaders rs) in
-    (each_more (λ s. others s ≡ true) (λ s. same_set r s ≡ false) (λ s. not-true (same_set r s)) (filter others (leaders rs)) passes,
-    apart_filter same_set others (leaders rs) (leaders_apart rs))
+    let passes = each_passes others (leaders rs) in (
+      each_more (λ s. others s ≡ true) (λ s. same_set r s ≡ false) (λ s. not-true (same_set r s)) (filter others (leaders rs)) passes,
+      apart_filter same_set others (leaders rs) (leaders_apart rs),
+    )
 
 -- ---- proper sets
 
@@ -126,16 +124,17 @@ listed_later false x xs h = h
 -- each record is in its own set
 each_listed : (section : List Rr) → AllByRecursion (λ r. is_listed (rdatas_of (filter (same_set r) section)) ≡ true) section
 each_listed [] = tt
-each_listed (x ∷ xs) =
-    (listed_step (same_set x x) x (filter (same_set x) xs) (same_set_refl x),
-    each_more (λ r. is_listed (rdatas_of (filter (same_set r) xs)) ≡ true) (λ r. is_listed (rdatas_of (filter (same_set r) (x ∷ xs))) ≡ true)
-    (λ r. listed_later (same_set r x) x (filter (same_set r) xs)) xs (each_listed xs))
+each_listed (x ∷ xs) = (
+  listed_step (same_set x x) x (filter (same_set x) xs) (same_set_refl x),
+  each_more (λ r. is_listed (rdatas_of (filter (same_set r) xs)) ≡ true) (λ r. is_listed (rdatas_of (filter (same_set r) (x ∷ xs))) ≡ true)
+      (λ r. listed_later (same_set r x) x (filter (same_set r) xs)) xs (each_listed xs),
+)
 
 proper : (section : List Rr) (r : Rr) → (not (is_signature r) ≡ true) × (is_listed (rdatas_of (filter (same_set r) section)) ≡ true) → IsProper (set_of section r)
 proper section r h = record {
   plain = not-true (is_signature r) h.0;
   listed = h.1;
-  own = each_passes (same_set r) section
+  own = each_passes (same_set r) section;
 }
 
 -- the leaders of a section's sets, each with what is shown of every record that isn't a signature
@@ -249,6 +248,73 @@ placed_apart told =
     (within Answer (sets_of told.answers) refl (sets_apart told.answers)) (within Authority (sets_of told.authorities) refl (sets_apart told.authorities)))
     (within Additional (sets_of told.additionals) refl (sets_apart told.additionals))
 
+-- ---- each record in one set
+
+same_set_back : (a b : Rr) → same_set a b ≡ same_set b a
+same_set_back a b = ap (λ x. x && (a.kind == b.kind)) (name_equiv.symm a.owner b.owner) ∙ ap (λ x. name_eq b.owner a.owner && x) (number_back a.kind b.kind)
+
+filter_none : {X : Type 0} (p : X → Bool) (xs : List X) → AllByRecursion (λ x. p x ≡ false) xs → filter p xs ≡ []
+filter_none p [] h = refl
+filter_none p (x ∷ xs) h = ap (λ b. cond b (x ∷ filter p xs) (filter p xs)) h.0 ∙ filter_none p xs h.1
+
+left_out : (x r : Rr) → same_set x r ≡ true → (l : Rr) → not (same_set x l) ≡ true → same_set l r ≡ false
+left_out x r h l out =
+    false_from_ne_true (same_set l r) (λ k.
+    let both : same_set x l ≡ true = same_set_left x r l h ∙ same_set_back r l ∙ k in
+    let not_both : same_set x l ≡ false = not-true (same_set x l) out in
+    cc (both, not_both))
+
+kept_step : (r x : Rr) (b : Bool) (ls ks : List Rr) → (b ≡ false → same_set x r ≡ false) → filter (λ l. same_set l r) ks ≡ filter (λ l. same_set l r) ls
+    → filter (λ l. same_set l r) (cond b (x ∷ ks) ks) ≡ filter (λ l. same_set l r) (x ∷ ls)
+kept_step r x true ls ks out e = ap (λ ys. cond (same_set x r) (x ∷ ys) ys) e
+kept_step r x false ls ks out e = e ∙ sym (ap (λ b. cond b (x ∷ filter (λ l. same_set l r) ls) (filter (λ l. same_set l r) ls)) (out refl))
+
+-- leaving out those of one set leaves those of another
+filter_kept : (x r : Rr) → same_set x r ≡ false → (ls : List Rr)
+    → filter (λ l. same_set l r) (filter (λ s. not (same_set x s)) ls) ≡ filter (λ l. same_set l r) ls
+filter_kept x r h [] = refl
+filter_kept x r h (l ∷ ls) =
+    kept_step r l (not (same_set x l)) ls (filter (λ s. not (same_set x s)) ls)
+    (λ e. sym (same_set_left x l r (not-false (same_set x l) e)) ∙ h) (filter_kept x r h ls)
+
+-- the leaders of a record's set
+abbrev leading : Rr → List Rr → List Rr
+leading r ls = filter (λ l. same_set l r) ls
+
+-- a leader's set holds what no later leader's does
+first_one : (x r : Rr) (ls : List Rr) → same_set x r ≡ true → length (leading r (x ∷ filter (λ s. not (same_set x s)) ls)) ≡ 1
+first_one x r ls h =
+    let others = λ (s : Rr). not (same_set x s) in
+    let none : leading r (filter others ls) ≡ [] =
+    filter_none (λ l. same_set l r) (filter others ls)
+    (each_more (λ l. others l ≡ true) (λ l. same_set l r ≡ false) (left_out x r h) (filter others ls) (each_passes others ls)) in
+    ap (λ b. length (cond b (x ∷ leading r (filter others ls)) (leading r (filter others ls)))) h ∙ ap (λ ys. length (x ∷ ys)) none
+
+later_one : (x r : Rr) (b : Bool) (ls : List Rr) → same_set x r ≡ b → length (leading r ls) ≡ 1
+    → length (leading r (x ∷ filter (λ s. not (same_set x s)) ls)) ≡ 1
+later_one x r true ls is one = first_one x r ls is
+later_one x r false ls is one =
+    let rest = leading r (filter (λ s. not (same_set x s)) ls) in
+    ap (λ b. length (cond b (x ∷ rest) rest)) is ∙ ap length (filter_kept x r is ls) ∙ one
+
+each_one_leader : (section : List Rr) → AllByRecursion (λ r. length (leading r (leaders section)) ≡ 1) section
+unfolding leaders
+each_one_leader [] = tt
+each_one_leader (x ∷ xs) = (
+  first_one x x (leaders xs) (same_set_refl x),
+  each_more (λ r. length (leading r (leaders xs)) ≡ 1) (λ r. length (leading r (leaders (x ∷ xs))) ≡ 1)
+      (λ r. later_one x r (same_set x r) (leaders xs) refl) xs (each_one_leader xs),
+)
+
+-- each record that isn't a signature is of exactly one set of its section
+pub each_one_set : (section : List Rr) → AllByRecursion (λ r. length (filter (λ set. is_of set r) (sets_of section)) ≡ 1) (unsigned_part section)
+unfolding sets_of
+each_one_set section =
+    let ls = leaders (unsigned_part section) in
+    each_more (λ r. length (leading r ls) ≡ 1) (λ r. length (filter (λ set. is_of set r) (map (set_of section) ls)) ≡ 1)
+    (λ r e. ap length (filter-map (λ set. is_of set r) (set_of section) ls) ∙ length-map (leading r ls) (set_of section) ∙ e)
+    (unsigned_part section) (each_one_leader (unsigned_part section))
+
 -- ---- sets of changed records
 
 -- what a change of records keeps
@@ -288,9 +354,9 @@ leaders-map f k (r ∷ rs) =
 set_of-map : (f : Rr → Rr) → KeepsKey f → (section : List Rr) (r : Rr) → set_of (map f section) (f r) ≡ on_set f (set_of section r)
 set_of-map f k section r =
     let records : filter (same_set (f r)) (map f section) ≡ map f (filter (same_set r) section) =
-      filter-map (same_set (f r)) f section ∙ ap (map f) (filter_agree (λ s. same_set (f r) (f s)) (same_set r) (same_set-kept f k r) section) in
+    filter-map (same_set (f r)) f section ∙ ap (map f) (filter_agree (λ s. same_set (f r) (f s)) (same_set r) (same_set-kept f k r) section) in
     let signatures : filter (covers (f r)) (map f section) ≡ map f (filter (covers r) section) =
-      filter-map (covers (f r)) f section ∙ ap (map f) (filter_agree (λ s. covers (f r) (f s)) (covers r) (covers-kept f k r) section) in
+    filter-map (covers (f r)) f section ∙ ap (map f) (filter_agree (λ s. covers (f r) (f s)) (covers r) (covers-kept f k r) section) in
     rw (records, signatures, k.owner r, k.kind r, k.class r) refl
 
 -- the sets of changed records are the sets, changed
