@@ -11,7 +11,7 @@ use dns_message::Message;
 use dns_name::NoMemory;
 use dns_net::{DnsError, DnsHandle, DnsResponse, NetError, Notice, Verifier};
 use dns_record::{Denial, Query, Record};
-use dns_sets::{finished, foreign_record, judged_part, outcome_of, JudgedSet, Outcome};
+use dns_sets::{finished, foreign_record, outcome_of, placed_sets, JudgedSet, Outcome};
 use std::alloc::Global;
 
 /// One lookup: a send for the query, the asks for what its sets need, and the answer.
@@ -33,7 +33,7 @@ pub(crate) fn look<H: DnsHandle, V: Verifier>(
     if let Some(record) = foreign_record(&query, &message) {
         return Err(foreign_error(record));
     }
-    let placed = judged_part(alloc, 0, &message)?;
+    let placed = placed_sets(alloc, 0, &message)?;
     let judged = judge_sets(alloc, inquiry, handle, &mut sends, &query, 0, placed)?;
     answer(alloc, inquiry.now, query, message, judged)
 }

@@ -14,7 +14,7 @@ use crate::inquiry::{Inquiry, MOST_SENDS};
 use dns_name::NoMemory;
 use dns_net::{DnsHandle, NetError, Verifier};
 use dns_record::{Query, Record, RecordSet, RecordType};
-use dns_sets::{foreign_record, judged_part, outcome_of, JudgedSet, Outcome, PlacedSet};
+use dns_sets::{foreign_record, outcome_of, placed_sets, JudgedSet, Outcome, PlacedSet};
 use dns_trust::{ask_of, is_skipped, judged_by, judged_keys, verdict_of, Verdict};
 use std::alloc::Global;
 
@@ -192,7 +192,7 @@ fn ask<H: DnsHandle, V: Verifier>(
     if foreign_record(query, &message).is_some() {
         return Ok(None);
     }
-    let placed = judged_part(alloc, depth, &message)?;
+    let placed = placed_sets(alloc, depth, &message)?;
     let judged = judge_sets(alloc, inquiry, handle, sends, query, depth, placed)?;
     match outcome_of(query, &message, &judged) {
         Outcome::Accepted(_) => Ok(Some(judged)),

@@ -27,10 +27,17 @@ pub fn placed_sets(alloc: Global, depth: u16, message: &Message) -> Result<Vec<P
 }
 
 // Takes the marks off records.
+#[tactic(auto, using(std::proofs::lemmas::List::Edits::map_over_more))]
 fn clear(records: &mut [Record])
     ensures { records.new ≡ map cleared records.old }
 {
     for record in records.iter_mut() {
-        record.proof = Proof::Indeterminate;
+        clear_one(record);
     }
+}
+
+fn clear_one(record: &mut Record)
+    ensures { record.new ≡ cleared record.old }
+{
+    record.proof = Proof::Indeterminate;
 }

@@ -3,3 +3,5 @@ pub mod Through
 pub mod WindowLemmas
 pub mod PartLemmas
 pub mod CanonicalLemmas
+pub mod SizeLemmas
+pub mod RisingLemmas

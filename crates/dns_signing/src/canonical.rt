@@ -27,7 +27,11 @@ pub fn has_shape(record_type: RecordType, rdata: &[u8]) -> bool
 /// An rdata in canonical form: the names in it lower-cased where its type asks it (RFC 4034, 6.2; RFC 6840, 5.1). One
 /// that has not its type's shape stays as it is.
 #[tactic(auto, using(crate::proofs::CanonicalLemmas::canonical_as))]
-pub fn canonical_rdata(alloc: Global, record_type: RecordType, rdata: &[u8]) -> Result<Octets, NoMemory>
+pub fn canonical_rdata(
+    alloc: Global,
+    record_type: RecordType,
+    rdata: &[u8],
+) -> Result<Octets, NoMemory>
     ensures { IfOk result (λ o. o ≡ canonical_form record_type.0 rdata.now) }
 {
     if !is_lowered(record_type) {
@@ -40,7 +44,11 @@ pub fn canonical_rdata(alloc: Global, record_type: RecordType, rdata: &[u8]) -> 
 }
 
 // The rdata with the names in it lower-cased, or None where it has not its type's shape.
-fn lowered_rdata(alloc: Global, record_type: RecordType, rdata: &[u8]) -> Result<Option<Vec<u8>>, NoMemory>
+fn lowered_rdata(
+    alloc: Global,
+    record_type: RecordType,
+    rdata: &[u8],
+) -> Result<Option<Vec<u8>>, NoMemory>
     ensures { IfOk result (λ o. option_map (λ v. v.items) o ≡ lowered_form record_type.0 rdata.now) }
 {
     let fields = fields_of(record_type);
@@ -53,7 +61,11 @@ fn lowered_rdata(alloc: Global, record_type: RecordType, rdata: &[u8]) -> Result
         part.push_canonical(&mut lowered)?;
         rest = after;
     }
-    if rest.is_empty() { Ok(Some(lowered)) } else { Ok(None) }
+    if rest.is_empty() {
+        Ok(Some(lowered))
+    } else {
+        Ok(None)
+    }
 }
 
 // Whether the names in an rdata of this type are lower-cased in canonical form.

@@ -15,9 +15,11 @@ mod part;
 mod rrsig;
 mod serial;
 mod shape;
+mod signed;
 mod soa;
 mod type_set;
 mod window;
+mod write;
 
 pub use canonical::{canonical_rdata, has_shape};
 pub use dnskey::Dnskey;
@@ -28,5 +30,6 @@ pub use nsec::{Nsec, NsecRecord};
 pub use nsec3::{Nsec3, Nsec3Record};
 pub use rrsig::Rrsig;
 pub use serial::SerialNumber;
+pub use signed::{signed_data, signed_data_of};
 pub use soa::Soa;
 pub use type_set::TypeSet;

@@ -44,13 +44,11 @@ pub fn at_or_before_both_ways_is_equal(a: SerialNumber, b: SerialNumber)
     requires there { IsTrue (at_or_before a.0 b.0) }
     requires back { IsTrue (at_or_before b.0 a.0) }
     ensures { a.0 ≡ b.0 }
-{
-}
+{}
 
 /// Numbers that lie 2^31 apart have no order (RFC 1982, 3.2).
 pub fn opposite_numbers_have_no_order(a: SerialNumber, b: SerialNumber)
     requires { a.0 + 2 ^ 31 ≡ b.0 }
     ensures there { serial_cmp a.0 b.0 ≡ None }
     ensures back { serial_cmp b.0 a.0 ≡ None }
-{
-}
+{}

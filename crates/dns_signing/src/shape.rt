@@ -24,7 +24,9 @@ pub(crate) fn fields_of(record_type: RecordType) -> &'static [Field]
 {
     match record_type {
         RecordType::A => &[Field::Octets(4)],
-        RecordType::NS | RecordType::CNAME | RecordType::PTR | RecordType::DNAME => &[Field::DomainName],
+        RecordType::NS | RecordType::CNAME | RecordType::PTR | RecordType::DNAME => &[
+            Field::DomainName,
+        ],
         RecordType::SOA => &[Field::DomainName, Field::DomainName, Field::Octets(20)],
         RecordType::MX | RecordType::AFSDB | RecordType::RT | RecordType::KX => {
             &[Field::Octets(2), Field::DomainName]
