@@ -45,4 +45,13 @@ impl TrustAnchors {
             anchors: Vec::new(alloc),
         }
     }
+
+    /// Whether a key is trusted.
+    pub fn contains_with_name(&self, owner: &Name, algorithm: u8, key: &[u8]) -> bool
+        ensures { result ≡ holds_anchor self.now owner.now algorithm key.now }
+    {
+        self.anchors.iter().any(|anchor| {
+            *owner == anchor.owner && algorithm == anchor.algorithm && key == anchor.key.as_slice()
+        })
+    }
 }

@@ -1,24 +1,85 @@
-ghost use Rattle.std.specs.Prelude.{◌≡◌, ◌≤◌, IfOk, map, vec_len};
+ghost use Rattle.std.specs.Prelude.{◌≡◌, ℕ, IfOk, map};
+ghost use Rattle.std.specs.List.{position};
+ghost use Rattle.dns_model.specs.Keys.{Answers};
 ghost use Rattle.dns_model.specs.Chains.{judge};
-ghost use Rattle.dns_judgement.specs.Marks.{judged_by as judged_by_verdicts, judged_keys as judged_key_set};
+ghost use Rattle.dns_net.specs.Link.{fact_of};
+ghost use Rattle.dns_judgement.specs.Marks.{is_proved, is_excused, proved_chain, judged_by as judged_by_verdicts, judged_keys as judged_key_set, keys_unsigned as unsigned_keys};
 ghost use Rattle.dns_trust.specs.Verdicts.{verdict_text};
 
+use crate::chains::{anchored_chain, self_signed_chain};
+use crate::keys::{first_signed, is_wholly_anchored};
 use crate::{TrustAnchors, Verdict};
 use dns_name::NoMemory;
-use dns_net::Verifier;
+use dns_net::{Link, Verifier};
+use dns_record::Proof;
 use dns_sets::{JudgedSet, PlacedSet};
 use std::alloc::Global;
 
 /// A set that isn't DNSKEY, judged by the verdicts of its signatures: the first that proves it decides, else the first that
 /// excuses it (RFC 4035, 5.3.3).
+#[tactic(auto, unfolding(dns_judgement::specs::Marks::judged_by))]
 pub fn judged_by(placed: PlacedSet, verdicts: Vec<Verdict>) -> Result<JudgedSet, NoMemory>
     ensures { IfOk result (λ j. j ≡ judged_by_verdicts placed (map verdict_text verdicts.items)) }
 {
-    let _ = (placed, verdicts);
-    Err(NoMemory)
+    let proved = place_of_proof(&verdicts)?;
+    let excused = place_of_excuse(&verdicts)?;
+    let mark = match (proved, excused) {
+        (Some(_), _) => Proof::Secure,
+        (None, Some(_)) => Proof::Insecure,
+        (None, None) => Proof::Bogus,
+    };
+    let PlacedSet { section, set } = placed;
+    Ok(JudgedSet {
+        section,
+        set,
+        mark,
+        sig: proved.or(excused),
+        chain: chain_of(verdicts),
+    })
+}
+
+// The place of the first verdict that proves the set.
+fn place_of_proof(verdicts: &[Verdict]) -> Result<Option<u32>, NoMemory>
+    ensures { IfOk result (λ p. p ≡ position is_proved (map verdict_text verdicts.now)) }
+{
+    numbered(verdicts.iter().position(|verdict| verdict.is_proved()))
+}
+
+// The place of the first verdict that excuses the set.
+fn place_of_excuse(verdicts: &[Verdict]) -> Result<Option<u32>, NoMemory>
+    ensures { IfOk result (λ p. p ≡ position is_excused (map verdict_text verdicts.now)) }
+{
+    numbered(verdicts.iter().position(|verdict| verdict.is_excused()))
+}
+
+// A place in fewer bits, where it fits.
+fn numbered(place: Option<usize>) -> Result<Option<u32>, NoMemory>
+    ensures { IfOk result (λ p. p ≡ place) }
+{
+    let Some(place) = place else {
+        return Ok(None);
+    };
+    match u32::try_from(place) {
+        Ok(number) => Ok(Some(number)),
+        Err(_) => Err(NoMemory),
+    }
+}
+
+// The links of the first verdict that proves the set.
+fn chain_of(verdicts: Vec<Verdict>) -> Vec<Link>
+    ensures { map fact_of result.items ≡ proved_chain (map verdict_text verdicts.items) }
+{
+    let alloc = *verdicts.allocator();
+    for verdict in verdicts {
+        if let Verdict::Proved(links) = verdict {
+            return links;
+        }
+    }
+    Vec::new(alloc)
 }
 
 /// A DNSKEY set, judged: signed by an anchored key of it, or wholly anchored (RFC 4035, 5.2).
+#[tactic(auto, unfolding(dns_judgement::specs::Marks::judged_keys))]
 pub fn judged_keys<V: Verifier>(
     alloc: Global,
     verifier: &V,
@@ -28,6 +89,40 @@ pub fn judged_keys<V: Verifier>(
 ) -> Result<JudgedSet, NoMemory>
     ensures { IfOk result (λ j. j ≡ judged_key_set (judge (V.answers verifier.now) anchors.now now) placed) }
 {
-    let _ = (alloc, verifier, anchors, now, placed);
-    Err(NoMemory)
+    let Some(by) = first_signed(alloc, verifier, anchors, now, &placed.set)? else {
+        return unsigned_key_set(alloc, anchors, placed);
+    };
+    let chain = self_signed_chain(alloc, &placed.set, &by)?;
+    let sig = Some(by.place);
+    let PlacedSet { section, set } = placed;
+    Ok(JudgedSet {
+        section,
+        set,
+        mark: Proof::Secure,
+        sig,
+        chain,
+    })
+}
+
+// A DNSKEY set that no anchored key of it signed: Secure where it is wholly anchored.
+fn unsigned_key_set(
+    alloc: Global,
+    anchors: &TrustAnchors,
+    placed: PlacedSet,
+) -> Result<JudgedSet, NoMemory>
+    ensures { IfOk result (λ j. (answers : Answers) (now : ℕ) → j ≡ unsigned_keys (judge answers anchors.now now) placed) }
+{
+    let (mark, chain) = if is_wholly_anchored(anchors, &placed.set) {
+        (Proof::Secure, anchored_chain(alloc, &placed.set)?)
+    } else {
+        (Proof::Bogus, Vec::new(alloc))
+    };
+    let PlacedSet { section, set } = placed;
+    Ok(JudgedSet {
+        section,
+        set,
+        mark,
+        sig: None,
+        chain,
+    })
 }

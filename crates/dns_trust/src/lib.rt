@@ -3,9 +3,17 @@
 #![tactic(auto)]
 
 mod anchors;
+mod chains;
+mod counted;
+mod good;
 mod judged;
+mod keys;
+mod validity;
 mod verdict;
 
 pub use anchors::TrustAnchors;
+pub use dns_judgement::RrsigValidity;
+pub use good::is_good_by;
 pub use judged::{judged_by, judged_keys};
-pub use verdict::{ask_of, is_skipped, verdict_of, Verdict};
+pub use validity::check;
+pub use verdict::{Verdict, ask_of, is_skipped, verdict_of};

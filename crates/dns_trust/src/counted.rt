@@ -1,0 +1,63 @@
+ghost use Rattle.std.specs.Prelude.{◌≡◌, ℕ, ◌+◌, IfOk, OnOk, min, nat_lt, is_some, drop, take, if◌then◌else◌};
+ghost use Rattle.std.specs.List.{find, list_any, count_by};
+ghost use Rattle.std.specs.Option.{option_copied};
+ghost use Rattle.dns_model.specs.Chains.{judge};
+ghost use Rattle.dns_judgement.specs.Validity.{is_good_by as is_good_in};
+ghost use Rattle.dns_judgement.specs.Marks.{counted_keys, is_readable_key};
+ghost use Rattle.dns_trust.specs.Counting.{counted_so_far};
+
+use crate::{TrustAnchors, is_good_by};
+use dns_name::NoMemory;
+use dns_net::Verifier;
+use dns_record::{Record, RecordSet};
+use dns_signing::{Dnskey, key_tag};
+use std::alloc::Global;
+use std::collections::BTreeMap;
+
+// The first counted key of a key set by which a signature of another set is good; the first two keys of a tag count.
+pub(crate) fn first_good<'a, V: Verifier>(
+    alloc: Global,
+    verifier: &V,
+    anchors: &TrustAnchors,
+    now: u64,
+    set: &RecordSet,
+    sig: &Record,
+    keys: &'a [Record],
+) -> Result<Option<&'a Record>, NoMemory>
+    ensures { IfOk result (λ k. option_copied k ≡ find (is_good_in (judge (V.answers verifier.now) anchors.now now) set.now sig.now) (counted_keys keys.now)) }
+{
+    let mut counts = BTreeMap::new(alloc);
+    for key in keys {
+        let Some(tag) = key_tag(key.rdata.as_slice()) else {
+            continue;
+        };
+        if count(&mut counts, tag)? && is_good_by(alloc, verifier, now, set, sig, key)? {
+            return Ok(Some(key));
+        }
+    }
+    Ok(None)
+}
+
+// Counts a tag, to two at the most; whether it was counted.
+fn count(counts: &mut BTreeMap<u16, u8>, tag: u16) -> Result<bool, NoMemory>
+    ensures counted { IfOk result (λ b. b ≡ nat_lt (counted_so_far counts.old tag) 2) }
+    ensures next { OnOk result ((t : ℕ) → counted_so_far counts.new t ≡ min 2 (counted_so_far counts.old t + (if t == tag then 1 else 0))) }
+{
+    let before = match counts.get(&tag) {
+        Some(number) => *number,
+        None => 0,
+    };
+    if before >= 2 {
+        return Ok(false);
+    }
+    counts.insert(tag, before + 1)?;
+    Ok(true)
+}
+
+// A key set has a key that can be read.
+pub(crate) fn has_readable_key(keys: &[Record]) -> bool
+    ensures { result ≡ list_any is_readable_key keys.now }
+{
+    keys.iter()
+        .any(|key| Dnskey::read(key.rdata.as_slice()).is_some())
+}

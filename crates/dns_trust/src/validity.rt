@@ -1,0 +1,67 @@
+ghost use Rattle.std.specs.Prelude.{◌≡◌};
+ghost use Rattle.dns_model.specs.Serial.{timely};
+ghost use Rattle.dns_model.specs.Views.{key_in};
+ghost use Rattle.dns_judgement.specs.Validity.{validity, is_of_set as is_set_signature, key_validity as key_fits};
+
+use dns_judgement::RrsigValidity;
+use dns_record::{Record, RecordSet};
+use dns_signing::{Dnskey, Rrsig, SerialNumber, key_tag};
+
+/// Whether a signature fits a set, a key and a moment in seconds since 1970, before any arithmetic on it: the first test
+/// that fails, of the signature, of the moment and of the key (RFC 4035, 5.3.1).
+#[tactic(auto, unfolding(dns_judgement::specs::Validity::validity))]
+pub fn check(sig: &Record, set: &RecordSet, key: &Record, now: u64) -> RrsigValidity
+    ensures { result ≡ validity (λ s. timely s now) set.now sig.now key.now }
+{
+    let Some(read) = Rrsig::read(sig.rdata.as_slice()) else {
+        return RrsigValidity::WrongRrsig;
+    };
+    if !is_of_set(set, sig, &read) {
+        return RrsigValidity::WrongRrsig;
+    }
+    if !is_timely(&read, now) {
+        return RrsigValidity::ExpiredRrsig;
+    }
+    key_validity(&read, key)
+}
+
+// The signature stands at the set's owner and class, under a signer at or above it, over the set's type and no more labels.
+fn is_of_set(set: &RecordSet, sig: &Record, read: &Rrsig<'_>) -> bool
+    ensures { result ≡ is_set_signature set.now sig.now read.now }
+{
+    set.name == sig.name
+        && set.dns_class == sig.dns_class
+        && read.signer.zone_of(&set.name.borrowed())
+        && read.type_covered == set.record_type
+        && read.labels <= set.name.borrowed().num_labels()
+}
+
+// The moment lies in the signature's validity, on the circle of 2^32 seconds (RFC 4034, 3.1.5).
+fn is_timely(read: &Rrsig<'_>, now: u64) -> bool
+    ensures { result ≡ timely read.now now }
+{
+    let moment = SerialNumber((now % 0x1_0000_0000) as u32);
+    read.inception.at_or_before(moment) && moment.at_or_before(read.expiration)
+}
+
+// The key is the signer's, has the signature's algorithm and tag, and is a zone key.
+#[tactic(auto, unfolding(dns_model::specs::Views::key_in))]
+fn key_validity(read: &Rrsig<'_>, key: &Record) -> RrsigValidity
+    ensures { result ≡ key_fits read.now key.now (key_in key.now.rdata) }
+{
+    let Some(dnskey) = Dnskey::read(key.rdata.as_slice()) else {
+        return RrsigValidity::WrongDnskey;
+    };
+    let Some(tag) = key_tag(key.rdata.as_slice()) else {
+        return RrsigValidity::WrongDnskey;
+    };
+    let is_named = read.signer.eq_name(&key.name.borrowed())
+        && dnskey.algorithm == read.algorithm
+        && tag == read.key_tag
+        && dnskey.is_zone_key();
+    if is_named {
+        RrsigValidity::ValidRrsig
+    } else {
+        RrsigValidity::WrongDnskey
+    }
+}
