@@ -1,2 +1,3 @@
-pub mod Places
+pub mod Positions
+pub mod PlaceLemmas
 pub mod Joining

@@ -1,23 +1,63 @@
--- The sets of records met so far, and what one more record changes.
-use Rattle.std.specs.Prelude.{ℕ, Bool, ◌==◌, ◌&&◌, List, [], ◌∷◌, ◌++◌, map, if◌then◌else◌}
-use Rattle.std.specs.List.{filter}
-use Rattle.dns_model.specs.Names.{name_eq}
+-- The sets of the records met so far, and what one more record changes.
+use Rattle.std.specs.Prelude.{ℕ, ◌+◌, Bool, ◌==◌, ◌&&◌, List, [], ◌∷◌, ◌++◌, map, Option, None, Some, if◌then◌else◌}
+use Rattle.std.specs.List.{filter, list_any}
+use Rattle.dns_model.specs.Names.{Labels, name_eq}
+use Rattle.dns_model.specs.Types.{type_rrsig}
+use Rattle.dns_model.specs.Views.{SigText, sig_in}
 use Rattle.dns_model.specs.Records.{Rr, RrSet}
-use Rattle.dns_model.specs.Sections.{same_set, leaders}
+use Rattle.dns_model.specs.Sections.{is_signature, same_set, covers, leaders}
+use Rattle.dns_signing.specs.ReadAs.{read_as}
 
--- the set has the record's owner and type
-abbrev pub takes : Rr → RrSet → Bool
-takes r set = name_eq set.owner r.owner && (set.kind == r.kind)
+-- a set of this owner and type
+abbrev pub is_at : Labels → ℕ → RrSet → Bool
+is_at owner kind set = name_eq set.owner owner && (set.kind == kind)
+
+-- the first that passes is changed
+unfoldable pub touched : {X : Type 0} → (X → Bool) → (X → X) → List X → List X
+touched p f [] = []
+touched p f (x ∷ xs) = if p x then f x ∷ xs else x ∷ touched p f xs
+
+abbrev pub with_record : Rr → RrSet → RrSet
+with_record r set = record set { records = set.records ++ r ∷ [] }
+
+abbrev pub with_signature : Rr → RrSet → RrSet
+with_signature r set = record set { signatures = set.signatures ++ r ∷ [] }
+
+-- the set of one record
+abbrev pub single : Rr → RrSet
+single r = record { owner = r.owner; kind = r.kind; class = r.class; records = r ∷ []; signatures = [] }
+
+-- the record joins the first set of its owner and type, or stands in a set of its own
+abbrev pub joined_by : Rr → List RrSet → List RrSet
+joined_by r sets =
+    if list_any (is_at r.owner r.kind) sets then touched (is_at r.owner r.kind) (with_record r) sets else sets ++ single r ∷ []
+
+-- a signature joins no set
+abbrev pub met_by : Rr → List RrSet → List RrSet
+met_by r sets = if is_signature r then sets else joined_by r sets
+
+abbrev pub signed_by : Rr → Option SigText → List RrSet → List RrSet
+signed_by r None sets = sets
+signed_by r (Some sig) sets = touched (is_at r.owner sig.covered) (with_signature r) sets
+
+-- a signature that can be read is given to the first set that it covers
+abbrev pub given : Rr → List RrSet → List RrSet
+given r sets = signed_by r (read_as type_rrsig sig_in r) sets
 
 -- the set of the first record of an owner and type, without signatures
 abbrev pub bare_set : List Rr → Rr → RrSet
 bare_set records r = record { owner = r.owner; kind = r.kind; class = r.class; records = filter (same_set r) records; signatures = [] }
 
+-- the sets of records that are no signatures
 abbrev pub bare_sets : List Rr → List RrSet
 bare_sets records = map (bare_set records) (leaders records)
 
--- the sets with one more record, which joins the first set of its owner and type, or stands in a set of its own
-unfoldable pub joined_by : Rr → List RrSet → List RrSet
-joined_by r [] = record { owner = r.owner; kind = r.kind; class = r.class; records = r ∷ []; signatures = [] } ∷ []
-joined_by r (set ∷ sets) =
-    if takes r set then record set { records = set.records ++ r ∷ [] } ∷ sets else set ∷ joined_by r sets
+-- the set of a record, with those signatures that stand in a front part
+abbrev pub part_set : List Rr → List Rr → Rr → RrSet
+part_set section front r = record {
+  owner = r.owner;
+  kind = r.kind;
+  class = r.class;
+  records = filter (same_set r) section;
+  signatures = filter (covers r) front;
+}

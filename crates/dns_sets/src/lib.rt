@@ -6,6 +6,7 @@ mod grouping;
 mod judged_set;
 mod marking;
 mod outcome;
+mod places;
 
 pub use grouping::{clear_marks, placed_sets};
 pub use judged_set::{JudgedSet, PlacedSet};

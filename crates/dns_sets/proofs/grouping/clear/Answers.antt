@@ -1,5 +1,5 @@
 use Rattle.dns_judgement.specs.Marking.{cleared}
-use Rattle.dns_sets.proofs.Places.{map_over_at}
+use Rattle.dns_sets.proofs.Positions.{map_over_at}
 use Rattle.dns_sets.proofs.grouping.clear.Goals as goal
 
 pub loop-record-preserved : goal.loop-record-preserved

@@ -1,0 +1,32 @@
+-- Places of sets by owner and type.
+use Rattle.std.specs.Prelude.{◌≡◌, ℕ, suc, Bool, ◌==◌, ◌&&◌, List, [], ◌∷◌, Option, None, Some, if◌then◌else◌}
+use Rattle.indexmap.specs.IndexMap.{get_by}
+use Rattle.dns_model.specs.Names.{Labels, name_eq}
+use Rattle.dns_model.specs.Records.{RrSet}
+use Rattle.dns_sets.specs.declared.places.Places.{Places}
+use Rattle.dns_sets.specs.Joining.{is_at}
+
+-- the place that an owner and type have
+abbrev pub place_of : Places → Labels → ℕ → Option ℕ
+place_of p owner kind = get_by (λ k. name_eq owner k.0.now && (kind == k.1.0)) p.places
+
+abbrev pub or_place : Option ℕ → Option ℕ → Option ℕ
+or_place None place = place
+or_place (Some n) place = Some n
+
+-- the places with one more set, where none of its owner and type had a place
+abbrev pub with_place : (Labels → ℕ → Option ℕ) → Labels → ℕ → ℕ → Labels → ℕ → Option ℕ
+with_place places owner kind n o k = or_place (places o k) (if name_eq owner o && (kind == k) then Some n else None)
+
+abbrev pub next_place : Option ℕ → Option ℕ
+next_place None = None
+next_place (Some n) = Some (suc n)
+
+-- the place of the first that passes
+unfoldable pub place_in : {X : Type 0} → (X → Bool) → List X → Option ℕ
+place_in p [] = None
+place_in p (x ∷ xs) = if p x then Some 0 else next_place (place_in p xs)
+
+-- the place of each owner and type is that of the first such set
+pub record ArePlaces (p : Places) (sets : List RrSet) : Type 0 where
+  pub each : (owner : Labels) (kind : ℕ) → place_of p owner kind ≡ place_in (is_at owner kind) sets
