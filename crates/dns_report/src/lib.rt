@@ -1,13 +1,13 @@
-// A library with one function.
+//! Report texts: what a lookup answered, in lines. The layer above may use `write_report` and `write_fault` as exactly the
+//! texts of `specs/`.
 #![tactic(auto)]
 
-ghost use Rattle.std.specs.Prelude.{◌≡◌};
-ghost use Rattle.dns_report.specs.Echo.{echo_of};
+mod fault;
+mod link;
+mod marks;
+mod record;
+mod report;
+mod words;
 
-// The `ensures` clause is the contract: what `echo` returns is `echo_of` of its argument, a definition
-// in `specs/Echo.antt`, which a caller's clause can cite too.
-pub fn echo(x: usize) -> usize
-    ensures { result ≡ echo_of x }
-{
-    x
-}
+pub use fault::write_fault;
+pub use report::write_report;
