@@ -61,21 +61,24 @@ abbrev pub chain_text : ChainText → List ℕ
 chain_text chain = chain_line chain ++ flat_map link_line chain.links
 
 -- the lines of all sections' records, in order
-abbrev pub records_text : MessageText → List ℕ
+unfoldable pub records_text : MessageText → List ℕ
 records_text message =
     section_text Answer message.answers ++ section_text Authority message.authorities
     ++ section_text Additional message.additionals
 
+-- the lines before the records
+unfoldable pub head_text : ℕ → Denial → List ℕ
+head_text code denial = header_line ++ code_line code ++ denial_line denial
+
 -- a report without its last line
-abbrev pub report_body : ResponseText → List ℕ
+unfoldable pub report_body : ResponseText → List ℕ
 report_body answer =
-    header_line ++ code_line answer.message.response_code ++ denial_line answer.denial
-    ++ records_text answer.message ++ flat_map chain_text answer.chains
+    head_text answer.message.response_code answer.denial ++ records_text answer.message ++ flat_map chain_text answer.chains
 
 -- `end`
 abbrev pub end_line : List ℕ
 end_line = line (codes "end") []
 
 -- the report on an answer
-abbrev pub report_text : ResponseText → List ℕ
+unfoldable pub report_text : ResponseText → List ℕ
 report_text answer = report_body answer ++ end_line

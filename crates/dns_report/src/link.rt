@@ -11,12 +11,11 @@ ghost use Rattle.dns_report.specs.Report.{key_words, link_line, chain_line, chai
 
 use crate::marks::section_word;
 use crate::words::{
-    end_line, push_class_word, push_name, push_number, push_octets_word, push_text, push_type_word,
-    push_word,
+    end_line, push_front, push_number, push_octets_word, push_text, push_type_word, push_word,
 };
-use dns_name::{Name, NoMemory};
+use dns_name::NoMemory;
 use dns_net::{Chain, Link};
-use dns_record::{DNSClass, Rdata, RecordType};
+use dns_record::{Rdata, RecordType};
 
 /// Appends the words of numbered keys, and ends the line.
 #[tactic(auto, unfolding(crate::specs::Report::key_words))]
@@ -47,20 +46,6 @@ fn push_rdatas(into: &mut Vec<u8>, rdatas: &[Rdata]) -> Result<(), NoMemory>
         left = more;
     }
     end_line(into)
-}
-
-/// Appends the first words of a link's line.
-fn push_front(
-    into: &mut Vec<u8>,
-    kind: &[u8],
-    owner: &Name,
-    class: DNSClass,
-) -> Result<(), NoMemory>
-    ensures { OnOk result (into.new.items ≡ into.old.items ++ (kind.now ++ (32 ∷ (printed owner.now ++ (32 ∷ class_word class.0))))) }
-{
-    push_text(into, kind)?;
-    push_name(into, owner)?;
-    push_class_word(into, class)
 }
 
 /// Appends the line of a signed set.

@@ -82,3 +82,17 @@ pub(crate) fn push_mark(into: &mut Vec<u8>, mark: Proof) -> Result<(), NoMemory>
 {
     push_word(into, mark_word(mark))
 }
+
+/// Appends the first words of a line that is about an owner.
+pub(crate) fn push_front(
+    into: &mut Vec<u8>,
+    kind: &[u8],
+    owner: &Name,
+    class: DNSClass,
+) -> Result<(), NoMemory>
+    ensures { OnOk result (into.new.items ≡ into.old.items ++ (kind.now ++ (32 ∷ (printed owner.now ++ (32 ∷ class_word class.0))))) }
+{
+    push_text(into, kind)?;
+    push_name(into, owner)?;
+    push_class_word(into, class)
+}
