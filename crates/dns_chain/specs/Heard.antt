@@ -37,7 +37,11 @@ told_of (Some message) = Some (told_by (cleared_message message))
 abbrev pub heard : Reply → Option Told
 heard reply = told_of (heard_message reply)
 
+-- what an upstream tells: its replies, or nothing
+abbrev pub Tells : Type 0
+Tells = Option (List (Question × Reply))
+
 -- what an upstream that tells its replies says to a question; one that doesn't tell may say anything
-abbrev pub says_of : Option (List (Question × Reply)) → Question → Option Told → Type 0
+abbrev pub says_of : Tells → Question → Option Told → Type 0
 says_of None q told = Unit {0}
 says_of (Some replies) q told = told ≡ heard (reply_to replies q)

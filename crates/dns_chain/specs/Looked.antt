@@ -32,13 +32,13 @@ judged_answer now q message sets = answer_by now q message sets (outcome_of q (t
 -- why a lookup answers as it does (second) after the reply to its own send (first), and how many sends were made
 pub data Looked (j : Judge) (now limit : ℕ) (says : Question → Option Told → Type 0) (q : Question) : Reply → Reply → ℕ → Type 0 where
   -- an error without a message is passed on
-  Passed : (e : ErrorText) → heard_message (Err e) ≡ None → Looked j now limit says q (Err e) (Err e) 1
+  PassedOn : (e : ErrorText) → heard_message (Err e) ≡ None → Looked j now limit says q (Err e) (Err e) 1
   -- a record of another class is named
-  Foreign : (reply answer : Reply) (m : MessageText) (r : Rr)
+  NamesForeign : (reply answer : Reply) (m : MessageText) (r : Rr)
     → heard_message reply ≡ Some m → foreign_record q (told_by (cleared_message m)) ≡ Some r
     → answer ≡ Err (seen.ForeignClassRecord r.owner r.class r.kind) → Looked j now limit says q reply answer 1
   -- the sets of the message are judged, and make the answer
-  Judged : (reply answer : Reply) (m : MessageText) (sets : List Judged) (n : ℕ)
+  Answered : (reply answer : Reply) (m : MessageText) (sets : List Judged) (n : ℕ)
     → heard_message reply ≡ Some m → foreign_record q (told_by (cleared_message m)) ≡ None
     → Run j limit says 1 (Sets q 0 (placed_sets (told_by (cleared_message m))) sets) n
     → answer ≡ judged_answer now q (cleared_message m) sets → Looked j now limit says q reply answer n

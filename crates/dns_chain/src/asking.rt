@@ -3,7 +3,7 @@ ghost use Rattle.dns_net.specs.Replies.{reply_of};
 ghost use Rattle.dns_net.specs.Causes.{HasCause};
 ghost use Rattle.dns_judgement.specs.Marking.{cleared_message};
 ghost use Rattle.dns_judgement.specs.Run.{most_sends};
-ghost use Rattle.dns_net.specs.Walks.{Walked};
+ghost use Rattle.dns_chain.specs.Steps.{Went};
 ghost use Rattle.dns_chain.specs.Looked.{HeardAs, UnlessNoMemory, Asked};
 
 use crate::inquiry::{asking_request_of, Inquiry, MOST_SENDS};
@@ -14,18 +14,16 @@ use dns_sets::clear_marks;
 use std::alloc::Global;
 
 /// Sends a query and hears the message of the reply, also of a denial, without the marks that came with it.
-pub(crate) fn hear<H: DnsHandle, V>(
+pub(crate) fn hear<H: DnsHandle>(
     alloc: Global,
-    inquiry: &Inquiry<'_, V>,
+    inquiry: Inquiry,
     handle: &mut H,
     sends: &mut u32,
     query: &Query,
 ) -> Result<Message, NetError>
     requires few { sends.old < most_sends }
     ensures count { sends.new ≡ sends.old + 1 }
-    ensures walk { Walked H.sent handle.old handle.new sends.old sends.new }
-    ensures later { H.faults handle.old ≤ H.faults handle.new }
-    ensures told { H.told handle.new ≡ H.told handle.old }
+    ensures went { Went H.sent H.faults H.told handle.old handle.new sends.old sends.new }
     ensures cause { HasCause (H.faults handle.old) (H.faults handle.new) result }
     ensures asked { UnlessNoMemory result (Asked H.sent handle.old handle.new (H.told handle.old) query.now result) }
 {

@@ -46,13 +46,11 @@ impl<H: DnsHandle + Drop, V: Verifier + Drop> DnssecDnsHandle<H, V> {
         }
     {
         let inquiry = Inquiry {
-            verifier: &self.verifier,
-            anchors: &self.anchors,
             options,
             now,
             limit: depth_limit_of(&options),
         };
-        look(alloc, &inquiry, &mut self.handle, query)
+        look(alloc, &self.verifier, &self.anchors, inquiry, &mut self.handle, query)
     }
 
     /// The handle that is asked.

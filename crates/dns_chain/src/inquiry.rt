@@ -4,17 +4,14 @@ ghost use Rattle.dns_chain.specs.Inquiries.{asking_options, asking_request, dept
 use dns_name::NoMemory;
 use dns_net::{DnsRequest, DnsRequestOptions};
 use dns_record::Query;
-use dns_trust::TrustAnchors;
 use std::alloc::Global;
 
 /// How many sends one lookup makes at the most.
 pub(crate) const MOST_SENDS: u32 = 1024;
 
 /// What stays the same over all asks of one lookup.
-#[derive(Drop)]
-pub(crate) struct Inquiry<'a, V> {
-    pub(crate) verifier: &'a V,
-    pub(crate) anchors: &'a TrustAnchors,
+#[derive(Clone, Copy)]
+pub(crate) struct Inquiry {
     pub(crate) options: DnsRequestOptions,
     /// Seconds.
     pub(crate) now: u64,

@@ -12,12 +12,15 @@ use dns_name::NoMemory;
 use dns_net::{DnsError, DnsHandle, DnsResponse, NetError, Notice, Verifier};
 use dns_record::{Denial, Query, Record};
 use dns_sets::{finished, foreign_record, outcome_of, placed_sets, JudgedSet, Outcome};
+use dns_trust::TrustAnchors;
 use std::alloc::Global;
 
 /// One lookup: a send for the query, the asks for what its sets need, and the answer.
 pub(crate) fn look<H: DnsHandle, V: Verifier>(
     alloc: Global,
-    inquiry: &Inquiry<'_, V>,
+    verifier: &V,
+    anchors: &TrustAnchors,
+    inquiry: Inquiry,
     handle: &mut H,
     query: Query,
 ) -> Result<DnsResponse, NetError>
@@ -25,7 +28,7 @@ pub(crate) fn look<H: DnsHandle, V: Verifier>(
     ensures told { H.told handle.new ≡ H.told handle.old }
     ensures lookup {
         UnlessNoMemory result (IsLookup H.sent handle.old handle.new (H.told handle.old)
-            (judge (V.answers inquiry.now.verifier.now) inquiry.now.anchors.now inquiry.now.now) inquiry.now.now inquiry.now.limit query (reply_of result))
+            (judge (V.answers verifier.now) anchors.now inquiry.now) inquiry.now inquiry.limit query (reply_of result))
     }
 {
     let mut sends: u32 = 0;
@@ -34,7 +37,7 @@ pub(crate) fn look<H: DnsHandle, V: Verifier>(
         return Err(foreign_error(record));
     }
     let placed = placed_sets(alloc, 0, &message)?;
-    let judged = judge_sets(alloc, inquiry, handle, &mut sends, &query, 0, placed)?;
+    let judged = judge_sets(alloc, verifier, anchors, inquiry, handle, &mut sends, &query, 0, placed)?;
     answer(alloc, inquiry.now, query, message, judged)
 }
 

@@ -1,13 +1,10 @@
 ghost use Rattle.std.specs.Prelude.{◌≡◌, ◌≤◌, ◌<◌, ◌+◌, IfOk, map, take};
-ghost use Rattle.std.specs.Option.{option_map};
 ghost use Rattle.dns_model.specs.Chains.{judge};
-ghost use Rattle.dns_judgement.specs.Judged.{Judged};
 ghost use Rattle.dns_judgement.specs.Marks.{most_signatures};
 ghost use Rattle.dns_judgement.specs.Run.{Run, Sets, Signatures, Ask, most_sends};
-ghost use Rattle.dns_net.specs.Walks.{Walked};
-ghost use Rattle.dns_trust.specs.Verdicts.{verdict_text};
-ghost use Rattle.dns_chain.specs.Heard.{says_of};
-ghost use Rattle.dns_chain.specs.Steps.{SetStep, SignatureStep};
+ghost use Rattle.dns_trust.specs.Verdicts.{verdict_text, listed};
+ghost use Rattle.dns_chain.specs.Heard.{says_of, Tells};
+ghost use Rattle.dns_chain.specs.Steps.{SetStep, SignatureStep, Went};
 
 use crate::asking::hear;
 use crate::inquiry::{Inquiry, MOST_SENDS};
@@ -15,7 +12,7 @@ use dns_name::NoMemory;
 use dns_net::{DnsHandle, NetError, Verifier};
 use dns_record::{Query, Record, RecordSet, RecordType};
 use dns_sets::{foreign_record, outcome_of, placed_sets, JudgedSet, Outcome, PlacedSet};
-use dns_trust::{ask_of, is_skipped, judged_by, judged_keys, verdict_of, Verdict};
+use dns_trust::{ask_of, is_skipped, judged_by, judged_keys, verdict_of, TrustAnchors, Verdict};
 use std::alloc::Global;
 
 // How many signatures of a set are tried.
@@ -25,7 +22,9 @@ const MOST_SIGNATURES: usize = 8;
 #[cycle(walk)]
 pub(crate) fn judge_sets<H: DnsHandle, V: Verifier>(
     alloc: Global,
-    inquiry: &Inquiry<'_, V>,
+    verifier: &V,
+    anchors: &TrustAnchors,
+    inquiry: Inquiry,
     handle: &mut H,
     sends: &mut u32,
     query: &Query,
@@ -33,19 +32,17 @@ pub(crate) fn judge_sets<H: DnsHandle, V: Verifier>(
     placed: Vec<PlacedSet>,
 ) -> Result<Vec<JudgedSet>, NoMemory>
     requires few { sends.old ≤ most_sends }
-    requires shallow { depth ≤ 256 }
-    ensures few { sends.new ≤ most_sends }
-    ensures walk { Walked H.sent handle.old handle.new sends.old sends.new }
-    ensures later { H.faults handle.old ≤ H.faults handle.new }
-    ensures told { H.told handle.new ≡ H.told handle.old }
+    requires limit { inquiry.limit ≤ 255 }
+    requires shallow { depth ≤ 255 }
+    ensures went { Went H.sent H.faults H.told handle.old handle.new sends.old sends.new }
     ensures run {
-        IfOk result (λ v. Run (judge (V.answers inquiry.now.verifier.now) inquiry.now.anchors.now inquiry.now.now) inquiry.now.limit (says_of (H.told handle.old))
+        IfOk result (λ v. (tells : Tells) → H.told handle.old ≡ tells → Run (judge (V.answers verifier.now) anchors.now inquiry.now) inquiry.limit (says_of tells)
             sends.old (Sets query.now depth placed.items v.items) sends.new)
     }
 {
     let mut judged = Vec::new(alloc);
     for next in placed {
-        let one = judge_set(alloc, inquiry, handle, sends, query, depth, next)?;
+        let one = judge_set(alloc, verifier, anchors, inquiry, handle, sends, query, depth, next)?;
         judged.push(one)?;
     }
     Ok(judged)
@@ -55,7 +52,9 @@ pub(crate) fn judge_sets<H: DnsHandle, V: Verifier>(
 #[cycle(walk)]
 fn judge_set<H: DnsHandle, V: Verifier>(
     alloc: Global,
-    inquiry: &Inquiry<'_, V>,
+    verifier: &V,
+    anchors: &TrustAnchors,
+    inquiry: Inquiry,
     handle: &mut H,
     sends: &mut u32,
     query: &Query,
@@ -63,20 +62,18 @@ fn judge_set<H: DnsHandle, V: Verifier>(
     placed: PlacedSet,
 ) -> Result<JudgedSet, NoMemory>
     requires few { sends.old ≤ most_sends }
-    requires shallow { depth ≤ 256 }
-    ensures few { sends.new ≤ most_sends }
-    ensures walk { Walked H.sent handle.old handle.new sends.old sends.new }
-    ensures later { H.faults handle.old ≤ H.faults handle.new }
-    ensures told { H.told handle.new ≡ H.told handle.old }
+    requires limit { inquiry.limit ≤ 255 }
+    requires shallow { depth ≤ 255 }
+    ensures went { Went H.sent H.faults H.told handle.old handle.new sends.old sends.new }
     ensures step {
-        IfOk result (λ s. SetStep (judge (V.answers inquiry.now.verifier.now) inquiry.now.anchors.now inquiry.now.now) inquiry.now.limit (says_of (H.told handle.old))
+        IfOk result (λ s. (tells : Tells) → H.told handle.old ≡ tells → SetStep (judge (V.answers verifier.now) anchors.now inquiry.now) inquiry.limit (says_of tells)
             query.now depth placed sends.old s sends.new)
     }
 {
     if placed.set.record_type == RecordType::DNSKEY {
-        judged_keys(alloc, inquiry.verifier, inquiry.anchors, inquiry.now, placed)
+        judged_keys(alloc, verifier, anchors, inquiry.now, placed)
     } else {
-        let verdicts = judge_signatures(alloc, inquiry, handle, sends, query, depth, &placed.set)?;
+        let verdicts = judge_signatures(alloc, verifier, anchors, inquiry, handle, sends, query, depth, &placed.set)?;
         judged_by(placed, verdicts)
     }
 }
@@ -85,7 +82,9 @@ fn judge_set<H: DnsHandle, V: Verifier>(
 #[cycle(walk)]
 fn judge_signatures<H: DnsHandle, V: Verifier>(
     alloc: Global,
-    inquiry: &Inquiry<'_, V>,
+    verifier: &V,
+    anchors: &TrustAnchors,
+    inquiry: Inquiry,
     handle: &mut H,
     sends: &mut u32,
     query: &Query,
@@ -93,23 +92,22 @@ fn judge_signatures<H: DnsHandle, V: Verifier>(
     set: &RecordSet,
 ) -> Result<Vec<Verdict>, NoMemory>
     requires few { sends.old ≤ most_sends }
-    requires shallow { depth ≤ 256 }
-    ensures few { sends.new ≤ most_sends }
-    ensures walk { Walked H.sent handle.old handle.new sends.old sends.new }
-    ensures later { H.faults handle.old ≤ H.faults handle.new }
-    ensures told { H.told handle.new ≡ H.told handle.old }
+    requires limit { inquiry.limit ≤ 255 }
+    requires shallow { depth ≤ 255 }
+    ensures went { Went H.sent H.faults H.told handle.old handle.new sends.old sends.new }
     ensures run {
-        IfOk result (λ v. Run (judge (V.answers inquiry.now.verifier.now) inquiry.now.anchors.now inquiry.now.now) inquiry.now.limit (says_of (H.told handle.old))
+        IfOk result (λ v. (tells : Tells) → H.told handle.old ≡ tells → Run (judge (V.answers verifier.now) anchors.now inquiry.now) inquiry.limit (says_of tells)
             sends.old (Signatures query.now depth set.now (take most_signatures set.now.signatures) (map verdict_text v.items)) sends.new)
     }
 {
     let mut verdicts = Vec::new(alloc);
-    for sig in first_signatures(set) {
-        let verdict = judge_signature(alloc, inquiry, handle, sends, query, depth, set, sig)?;
+    let tried = first_signatures(set);
+    for sig in tried {
+        let verdict = judge_signature(alloc, verifier, anchors, inquiry, handle, sends, query, depth, set, sig)?;
         let proved = verdict.is_proved();
         verdicts.push(verdict)?;
         if proved {
-            break;
+            return Ok(verdicts);
         }
     }
     Ok(verdicts)
@@ -127,7 +125,9 @@ fn first_signatures(set: &RecordSet) -> &[Record]
 #[cycle(walk)]
 fn judge_signature<H: DnsHandle, V: Verifier>(
     alloc: Global,
-    inquiry: &Inquiry<'_, V>,
+    verifier: &V,
+    anchors: &TrustAnchors,
+    inquiry: Inquiry,
     handle: &mut H,
     sends: &mut u32,
     query: &Query,
@@ -136,13 +136,11 @@ fn judge_signature<H: DnsHandle, V: Verifier>(
     sig: &Record,
 ) -> Result<Verdict, NoMemory>
     requires few { sends.old ≤ most_sends }
-    requires shallow { depth ≤ 256 }
-    ensures few { sends.new ≤ most_sends }
-    ensures walk { Walked H.sent handle.old handle.new sends.old sends.new }
-    ensures later { H.faults handle.old ≤ H.faults handle.new }
-    ensures told { H.told handle.new ≡ H.told handle.old }
+    requires limit { inquiry.limit ≤ 255 }
+    requires shallow { depth ≤ 255 }
+    ensures went { Went H.sent H.faults H.told handle.old handle.new sends.old sends.new }
     ensures step {
-        IfOk result (λ v. SignatureStep (judge (V.answers inquiry.now.verifier.now) inquiry.now.anchors.now inquiry.now.now) inquiry.now.limit (says_of (H.told handle.old))
+        IfOk result (λ v. (tells : Tells) → H.told handle.old ≡ tells → SignatureStep (judge (V.answers verifier.now) anchors.now inquiry.now) inquiry.limit (says_of tells)
             query.now depth set.now sig.now sends.old (verdict_text v) sends.new)
     }
 {
@@ -152,29 +150,29 @@ fn judge_signature<H: DnsHandle, V: Verifier>(
     let Some(question) = ask_of(alloc, set, sig)? else {
         return Ok(Verdict::Failed);
     };
-    let answer = ask(alloc, inquiry, handle, sends, &question, depth + 1)?;
-    verdict_of(alloc, inquiry.verifier, inquiry.anchors, inquiry.now, set, sig, &answer)
+    let answer = ask(alloc, verifier, anchors, inquiry, handle, sends, &question, depth + 1)?;
+    verdict_of(alloc, verifier, anchors, inquiry.now, set, sig, &answer)
 }
 
 /// Asks a question at a depth: the judged sets of its answer, or None where the ask is refused, fails or isn't answered.
 #[cycle(walk)]
 fn ask<H: DnsHandle, V: Verifier>(
     alloc: Global,
-    inquiry: &Inquiry<'_, V>,
+    verifier: &V,
+    anchors: &TrustAnchors,
+    inquiry: Inquiry,
     handle: &mut H,
     sends: &mut u32,
     query: &Query,
     depth: u16,
 ) -> Result<Option<Vec<JudgedSet>>, NoMemory>
     requires few { sends.old ≤ most_sends }
-    requires shallow { depth ≤ 257 }
-    ensures few { sends.new ≤ most_sends }
-    ensures walk { Walked H.sent handle.old handle.new sends.old sends.new }
-    ensures later { H.faults handle.old ≤ H.faults handle.new }
-    ensures told { H.told handle.new ≡ H.told handle.old }
+    requires limit { inquiry.limit ≤ 255 }
+    requires shallow { depth ≤ 256 }
+    ensures went { Went H.sent H.faults H.told handle.old handle.new sends.old sends.new }
     ensures run {
-        IfOk result (λ a. Run (judge (V.answers inquiry.now.verifier.now) inquiry.now.anchors.now inquiry.now.now) inquiry.now.limit (says_of (H.told handle.old))
-            sends.old (Ask query.now depth (option_map (λ (sets : Vec Judged). sets.items) a)) sends.new)
+        IfOk result (λ a. (tells : Tells) → H.told handle.old ≡ tells → Run (judge (V.answers verifier.now) anchors.now inquiry.now) inquiry.limit (says_of tells)
+            sends.old (Ask query.now depth (listed a)) sends.new)
     }
 {
     if depth > inquiry.limit || *sends >= MOST_SENDS {
@@ -193,7 +191,7 @@ fn ask<H: DnsHandle, V: Verifier>(
         return Ok(None);
     }
     let placed = placed_sets(alloc, depth, &message)?;
-    let judged = judge_sets(alloc, inquiry, handle, sends, query, depth, placed)?;
+    let judged = judge_sets(alloc, verifier, anchors, inquiry, handle, sends, query, depth, placed)?;
     match outcome_of(query, &message, &judged) {
         Outcome::Accepted(_) => Ok(Some(judged)),
         _ => Ok(None),

@@ -17,6 +17,7 @@ use Rattle.dns_message.specs.declared.decode_error.DecodeKind.{DecodeKind}
 use Rattle.dns_message.specs.Reading.{◌>>=◌, fault, FailsWith}
 use Rattle.dns_message.proofs.Faults.{fails_on}
 use Rattle.dns_message.specs.NameAt.{step_of, target_at, with_label, ending_at, after_step, labels_from, steps_left, labels_at, name_at, spelled_at}
+use Rattle.dns_message.specs.Hops.{IsHop}
 use Rattle.dns_message.specs.Fitting.{FitsStep, IsSpelled, ending_or}
 
 -- what a label step says
@@ -181,17 +182,23 @@ jumped None labels place (Err e) = refl
 jumped (Some first) labels place (Ok x) = refl
 jumped (Some first) labels place (Err e) = refl
 
-pub walked_jump : (bytes : List ℕ) (at start pos : ℕ) (ending : Option ℕ) (read : List ℕ) (target : ℕ) → Walked bytes at start pos ending read
-    → step_of bytes start pos (length read) ≡ Ok (step.Jump target)
-    → Walked bytes at target target (Some (ending_or ending (pos + 2))) read
-walked_jump bytes at start pos ending read target w is =
+-- a pointer's target reads as the place where it lands
+landed : (ending : Option ℕ) (labels : Labels) (place : ℕ) (r s : Result (Labels × ℕ) DecodeError) → ending_at place r ≡ ending_at place s
+    → finish ending (with_labels labels (ending_at place r)) ≡ finish ending (with_labels labels (ending_at place s))
+landed ending labels place r s same = ap (λ (x : Result (Labels × ℕ) DecodeError). finish ending (with_labels labels x)) same
+
+pub walked_jump : (bytes : List ℕ) (at start pos : ℕ) (ending : Option ℕ) (read : List ℕ) (target to : ℕ) → Walked bytes at start pos ending read
+    → step_of bytes start pos (length read) ≡ Ok (step.Jump target) → IsHop bytes target to
+    → Walked bytes at to to (Some (ending_or ending (pos + 2))) read
+walked_jump bytes at start pos ending read target to w is hop =
     let rest : labels_at bytes start pos (length read) ≡ ending_at (pos + 2) (labels_at bytes target target (length read)) =
     one_step (Ok (step.Jump target)) bytes start pos (length read) is in
     record {
       labels = w.labels;
       spelled = w.spelled;
       good = w.good;
-      so_far = jumped ending w.labels (pos + 2) (labels_at bytes target target (length read))
+      so_far = jumped ending w.labels (pos + 2) (labels_at bytes to to (length read))
+          ∙ sym (landed ending w.labels (pos + 2) (labels_at bytes target target (length read)) (labels_at bytes to to (length read)) (hop.alike (length read) (pos + 2)))
           ∙ ap (λ (r : Result (Labels × ℕ) DecodeError). finish ending (with_labels w.labels r)) (sym rest)
           ∙ w.so_far;
     }

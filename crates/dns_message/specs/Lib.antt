@@ -1,6 +1,8 @@
 pub mod Reading
 pub mod NameAt
+pub mod Hops
 pub mod Fitting
 pub mod RdataAt
 pub mod RecordAt
 pub mod MessageAt
+pub mod WrittenAs

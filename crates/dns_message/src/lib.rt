@@ -3,9 +3,12 @@
 
 mod bitmap;
 mod decode_error;
+mod encode_error;
+mod hops;
 mod item;
 mod message;
 mod message_reader;
+mod message_writer;
 mod name_reader;
 mod number_reader;
 mod rdata;
@@ -16,4 +19,8 @@ mod shape;
 mod step;
 
 pub use decode_error::{DecodeError, DecodeKind};
+pub use encode_error::EncodeError;
 pub use message::{Edns, Message};
+
+#[cfg(test)]
+mod tests;

@@ -1,9 +1,11 @@
 ghost use Rattle.std.specs.Prelude.{◌≡◌, ◌+◌, ◌<◌, ◌≤◌, ◌^◌, length, IfOk};
 ghost use Rattle.dns_message.specs.Reading.{Reads};
 ghost use Rattle.dns_message.specs.MessageAt.{header_at, question_at, questions_at, message_of, message_at};
+ghost use Rattle.dns_message.specs.Hops.{AreHops};
 ghost use Rattle.dns_message.specs.Fitting.{header_text};
 
 use crate::decode_error::{DecodeError, DecodeKind, fault};
+use crate::hops::hops_of;
 use crate::message::{Edns, Message};
 use crate::name_reader::name_of;
 use crate::number_reader::u16_of;
@@ -46,13 +48,19 @@ fn header_of(bytes: &[u8]) -> Result<Header, DecodeError>
 
 /// A question and the place after it (RFC 1035, 4.1.2).
 #[tactic(auto, unfolding(crate::specs::MessageAt::question_at))]
-fn question_of(alloc: Global, bytes: &[u8], at: usize) -> Result<(Query, usize), DecodeError>
+fn question_of(
+    alloc: Global,
+    bytes: &[u8],
+    hops: &[u16],
+    at: usize,
+) -> Result<(Query, usize), DecodeError>
+    requires hops { AreHops bytes.now hops.now }
     requires short { length bytes.now < 2 ^ 32 }
     requires at { at ≤ length bytes.now }
     ensures reads { Reads (λ x. (x.0, x.1)) result (question_at bytes.now at) }
     ensures fits { IfOk result (λ x. x.1 ≤ length bytes.now) }
 {
-    let (name, next) = name_of(alloc, bytes, at)?;
+    let (name, next) = name_of(alloc, bytes, hops, at)?;
     let (kind, next) = u16_of(bytes, next)?;
     let (class, next) = u16_of(bytes, next)?;
     let query = Query {
@@ -68,8 +76,10 @@ fn questions_of(
     alloc: Global,
     count: u16,
     bytes: &[u8],
+    hops: &[u16],
     at: usize,
 ) -> Result<(Vec<Query>, usize), DecodeError>
+    requires hops { AreHops bytes.now hops.now }
     requires short { length bytes.now < 2 ^ 32 }
     requires at { at ≤ length bytes.now }
     ensures reads { Reads (λ x. (x.0.items, x.1)) result (questions_at count bytes.now at) }
@@ -78,7 +88,7 @@ fn questions_of(
     let mut queries = Vec::new(alloc);
     let mut pos = at;
     'questions: for _ in 0..count {
-        let (query, next) = question_of(alloc, bytes, pos)?;
+        let (query, next) = question_of(alloc, bytes, hops, pos)?;
         queries.push(query)?;
         pos = next;
     }
@@ -131,10 +141,26 @@ impl Message {
         ensures { Reads (λ m. m) result (message_at bytes.now) }
     {
         let header = header_of(bytes)?;
-        let (queries, next) = questions_of(alloc, header.questions, bytes, 12)?;
-        let (answers, _none, next) = section_of(alloc, header.answers, false, bytes, next)?;
-        let (authorities, _none, next) = section_of(alloc, header.authorities, false, bytes, next)?;
-        let (additionals, opt, next) = section_of(alloc, header.additionals, true, bytes, next)?;
+        let hops = hops_of(alloc, bytes)?;
+        let hops = hops.as_slice();
+        let (queries, next) = questions_of(alloc, header.questions, bytes, hops, 12)?;
+        let (answers, _none, next) = section_of(alloc, header.answers, false, bytes, hops, next)?;
+        let (authorities, _none, next) = section_of(
+            alloc,
+            header.authorities,
+            false,
+            bytes,
+            hops,
+            next,
+        )?;
+        let (additionals, opt, next) = section_of(
+            alloc,
+            header.additionals,
+            true,
+            bytes,
+            hops,
+            next,
+        )?;
         if next < bytes.len() {
             return Err(fault(DecodeKind::Trailing, next));
         }

@@ -1,9 +1,11 @@
 ghost use Rattle.std.specs.Prelude.{◌≡◌, ◌+◌, ◌<◌, ◌≤◌, ◌^◌, length, IfOk};
 ghost use Rattle.dns_message.specs.Reading.{Reads};
 ghost use Rattle.dns_message.specs.NameAt.{name_at, spelled_at};
+ghost use Rattle.dns_message.specs.Hops.{AreHops};
 ghost use Rattle.dns_message.specs.Fitting.{IsSpelled, ending_or};
 
 use crate::decode_error::DecodeError;
+use crate::hops::hop_in;
 use crate::step::{Step, step_at};
 use dns_name::{Name, Octets};
 use std::alloc::Global;
@@ -22,8 +24,10 @@ fn ending_or(ending: Option<usize>, place: usize) -> usize
 pub(crate) fn spelled_of(
     alloc: Global,
     bytes: &[u8],
+    hops: &[u16],
     at: usize,
 ) -> Result<(Vec<u8>, usize), DecodeError>
+    requires hops { AreHops bytes.now hops.now }
     requires short { length bytes.now < 2 ^ 32 }
     requires at { at ≤ length bytes.now }
     ensures reads { Reads (λ x. (x.0.items, x.1)) result (spelled_at bytes.now at) }
@@ -47,21 +51,27 @@ pub(crate) fn spelled_of(
             }
             Step::Jump(target) => {
                 ending = Some(ending_or(ending, pos + 2));
-                start = usize::from(target);
-                pos = usize::from(target);
+                start = hop_in(hops, target);
+                pos = start;
             }
         }
     }
 }
 
 /// The name at a place, and the place after its bytes.
-pub(crate) fn name_of(alloc: Global, bytes: &[u8], at: usize) -> Result<(Name, usize), DecodeError>
+pub(crate) fn name_of(
+    alloc: Global,
+    bytes: &[u8],
+    hops: &[u16],
+    at: usize,
+) -> Result<(Name, usize), DecodeError>
+    requires hops { AreHops bytes.now hops.now }
     requires short { length bytes.now < 2 ^ 32 }
     requires at { at ≤ length bytes.now }
     ensures reads { Reads (λ x. (x.0, x.1)) result (name_at bytes.now at) }
     ensures fits { IfOk result (λ x. x.1 ≤ length bytes.now) }
 {
-    let (wire, next) = spelled_of(alloc, bytes, at)?;
+    let (wire, next) = spelled_of(alloc, bytes, hops, at)?;
     let name = Name::from_octets(Octets::from_vec(wire));
     Ok((name, next))
 }

@@ -2,6 +2,7 @@ ghost use Rattle.std.specs.Prelude.{◌≡◌, ◌+◌, ◌<◌, ◌≤◌, ◌^
 ghost use Rattle.dns_model.specs.Types.{has_shapes};
 ghost use Rattle.dns_message.specs.Reading.{Reads};
 ghost use Rattle.dns_message.specs.RdataAt.{fields_at, shaped_at, opaque_at, rdata_at};
+ghost use Rattle.dns_message.specs.Hops.{AreHops};
 ghost use Rattle.dns_message.specs.Fitting.{field_text, items_in};
 
 use crate::decode_error::{DecodeError, DecodeKind, fault};
@@ -16,9 +17,11 @@ fn fields_of(
     alloc: Global,
     shape: &[Field],
     bytes: &[u8],
+    hops: &[u16],
     at: usize,
     stop: usize,
 ) -> Result<Option<Vec<u8>>, NoMemory>
+    requires hops { AreHops bytes.now hops.now }
     requires short { length bytes.now < 2 ^ 32 }
     requires at { at ≤ length bytes.now }
     requires stop { stop ≤ length bytes.now }
@@ -27,7 +30,7 @@ fn fields_of(
     let mut into = Vec::new(alloc);
     let mut pos = at;
     for field in shape {
-        match push_field(alloc, *field, bytes, pos, stop, &mut into)? {
+        match push_field(alloc, *field, bytes, hops, pos, stop, &mut into)? {
             None => return Ok(None),
             Some(next) => pos = next,
         }
@@ -45,15 +48,17 @@ fn shaped_of(
     alloc: Global,
     kind: u16,
     bytes: &[u8],
+    hops: &[u16],
     at: usize,
     stop: usize,
 ) -> Result<Option<Rdata>, NoMemory>
+    requires hops { AreHops bytes.now hops.now }
     requires short { length bytes.now < 2 ^ 32 }
     requires at { at ≤ length bytes.now }
     requires stop { stop ≤ length bytes.now }
     ensures { IfOk result (λ o. o ≡ shaped_at kind bytes.now at stop) }
 {
-    match fields_of(alloc, shape_of(kind), bytes, at, stop)? {
+    match fields_of(alloc, shape_of(kind), bytes, hops, at, stop)? {
         None => Ok(None),
         Some(spelled) => {
             if spelled.len() <= Rdata::MAX_LEN {
@@ -99,9 +104,11 @@ pub(crate) fn rdata_of(
     kind: u16,
     class: u16,
     bytes: &[u8],
+    hops: &[u16],
     size: u16,
     at: usize,
 ) -> Result<Rdata, DecodeError>
+    requires hops { AreHops bytes.now hops.now }
     requires short { length bytes.now < 2 ^ 32 }
     requires at { at ≤ length bytes.now }
     ensures reads { Reads (λ r. r) result (rdata_at kind class bytes.now size at) }
@@ -117,7 +124,7 @@ pub(crate) fn rdata_of(
     if !has_shapes(class) {
         return Ok(Rdata::from_slice(alloc, &bytes[at..stop])?);
     }
-    match shaped_of(alloc, kind, bytes, at, stop)? {
+    match shaped_of(alloc, kind, bytes, hops, at, stop)? {
         Some(rdata) => Ok(rdata),
         None => Err(fault(DecodeKind::BadRdata, at)),
     }

@@ -1,5 +1,6 @@
 ghost use Rattle.std.specs.Prelude.{◌≡◌, ◌+◌, ◌<◌, ◌≤◌, ◌^◌, length, IfOk};
 ghost use Rattle.dns_message.specs.Reading.{Reads};
+ghost use Rattle.dns_message.specs.Hops.{AreHops};
 ghost use Rattle.dns_message.specs.RecordAt.{record_at, opt_at, item_at, edns_of, is_root};
 
 use crate::decode_error::{DecodeError, DecodeKind, fault};
@@ -19,8 +20,10 @@ fn record_of(
     owner: Name,
     kind: u16,
     bytes: &[u8],
+    hops: &[u16],
     at: usize,
 ) -> Result<(Item, usize), DecodeError>
+    requires hops { AreHops bytes.now hops.now }
     requires short { length bytes.now < 2 ^ 32 }
     requires at { at ≤ length bytes.now }
     ensures reads { Reads (λ x. (x.0, x.1)) result (record_at owner kind bytes.now at) }
@@ -29,7 +32,7 @@ fn record_of(
     let (class, next) = u16_of(bytes, at)?;
     let (ttl, next) = u32_of(bytes, next)?;
     let (size, next) = u16_of(bytes, next)?;
-    let rdata = rdata_of(alloc, kind, class, bytes, size, next)?;
+    let rdata = rdata_of(alloc, kind, class, bytes, hops, size, next)?;
     let record = Record {
         name: owner,
         record_type: RecordType(kind),
@@ -79,17 +82,19 @@ pub(crate) fn item_of(
     alloc: Global,
     may: bool,
     bytes: &[u8],
+    hops: &[u16],
     at: usize,
 ) -> Result<(Item, usize), DecodeError>
+    requires hops { AreHops bytes.now hops.now }
     requires short { length bytes.now < 2 ^ 32 }
     requires at { at ≤ length bytes.now }
     ensures reads { Reads (λ x. (x.0, x.1)) result (item_at may bytes.now at) }
     ensures fits { IfOk result (λ x. x.1 ≤ length bytes.now) }
 {
-    let (owner, next) = name_of(alloc, bytes, at)?;
+    let (owner, next) = name_of(alloc, bytes, hops, at)?;
     let (kind, next) = u16_of(bytes, next)?;
     if kind != 41 {
-        return record_of(alloc, owner, kind, bytes, next);
+        return record_of(alloc, owner, kind, bytes, hops, next);
     }
     if may && stands_at_root(&owner) {
         return opt_of(alloc, bytes, next);

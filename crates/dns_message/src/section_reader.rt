@@ -1,5 +1,6 @@
 ghost use Rattle.std.specs.Prelude.{◌≡◌, ◌+◌, ◌<◌, ◌≤◌, ◌^◌, length, IfOk};
 ghost use Rattle.dns_message.specs.Reading.{Reads};
+ghost use Rattle.dns_message.specs.Hops.{AreHops};
 ghost use Rattle.dns_message.specs.RecordAt.{section_at};
 
 use crate::decode_error::DecodeError;
@@ -16,8 +17,10 @@ pub(crate) fn section_of(
     count: u16,
     may: bool,
     bytes: &[u8],
+    hops: &[u16],
     at: usize,
 ) -> Result<(Vec<Record>, Option<(Edns, u8)>, usize), DecodeError>
+    requires hops { AreHops bytes.now hops.now }
     requires short { length bytes.now < 2 ^ 32 }
     requires at { at ≤ length bytes.now }
     ensures reads { Reads (λ x. (x.0.items, x.1, x.2)) result (section_at count may bytes.now at) }
@@ -28,7 +31,7 @@ pub(crate) fn section_of(
     let mut allowed = may;
     let mut pos = at;
     'records: for _ in 0..count {
-        let (item, next) = item_of(alloc, allowed, bytes, pos)?;
+        let (item, next) = item_of(alloc, allowed, bytes, hops, pos)?;
         pos = next;
         match item {
             Item::Kept(record) => records.push(record)?,

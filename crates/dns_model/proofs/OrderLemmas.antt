@@ -18,6 +18,10 @@ name_total = on_total (λ (n : Labels). reverse (folded n)) (lists_total nat_lis
 nat_ties : (x y : ℕ) → nat_eq x y ≡ eq_by_cmp nat_cmp x y
 nat_ties x y = grind (arith, nat_tests)
 
+-- byte strings are equal exactly where their order does not tell them apart
+pub bytes_ties : (a b : List ℕ) → pointwise nat_eq a b ≡ eq_by_cmp (slice_cmp nat_cmp) a b
+bytes_ties a b = lists_ties nat_cmp nat_ties a b
+
 lists_Decides : (a b : Labels) → Decides (pointwise (pointwise nat_eq) a b) (a ≡ b)
 lists_Decides a b = slice_eq-Decides bytes_eq-Decides a b (pointwise (pointwise nat_eq) a b) refl
 

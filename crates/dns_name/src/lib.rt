@@ -4,6 +4,7 @@
 
 mod comparing;
 mod name;
+mod name_bytes;
 mod name_ref;
 mod name_text;
 mod no_memory;

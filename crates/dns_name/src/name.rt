@@ -42,14 +42,6 @@ impl Name {
         }
     }
 
-    /// The name whose wire form these bytes are.
-    pub(crate) fn of_wire(wire: Octets) -> Name
-        requires { IsWire wire }
-        ensures { result ≡ labels_of wire }
-    {
-        Name { wire }
-    }
-
     /// A copy of a name that stands elsewhere.
     pub(crate) fn of_ref(alloc: Global, name: &NameRef) -> Result<Name, NoMemory>
         ensures { IfOk result (λ n. n ≡ name.now) }

@@ -149,5 +149,5 @@ pub(crate) fn name_of_run(mut wire: Vec<u8>, above: &NameRef) -> Result<Name, Na
         return Err(NameError::LongName);
     }
     wire.extend_from_slice(above)?;
-    Ok(Name::of_wire(Octets::from_vec(wire)))
+    Ok(Name::from_octets(Octets::from_vec(wire)))
 }

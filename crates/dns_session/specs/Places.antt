@@ -42,7 +42,7 @@ form_or_bad form number None = Err number
 form_or_bad form number (Some (line, after)) = or_bad number after (form line)
 
 -- one line of a form, and the place after it; a line that is missing or of another form is bad
-abbrev pub one : {X : Type 0} → (List ℕ → Option X) → Place → Result (X × Place) ℕ
+unfoldable pub one : {X : Type 0} → (List ℕ → Option X) → Place → Result (X × Place) ℕ
 one form at = form_or_bad form at.number (next_line at)
 
 -- a line that has the form goes before those after it; one that hasn't is left

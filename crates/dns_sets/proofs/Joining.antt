@@ -42,7 +42,7 @@ touched_map same p f one [] h = refl
 touched_map same p f one (x ∷ xs) h = touched_step same p f (p x) x xs one refl h.0 (touched_map same p f one xs h.1)
 
 -- two sets of one owner and type are alike
-at_single : (owner : Labels) (kind : ℕ) → Single same_key (is_at owner kind)
+pub at_single : (owner : Labels) (kind : ℕ) → Single same_key (is_at owner kind)
 at_single owner kind x y h k =
     let a = and_parts (name_eq x.owner owner) (x.kind == kind) h in
     let b = and_parts (name_eq y.owner owner) (y.kind == kind) k in

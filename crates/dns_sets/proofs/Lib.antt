@@ -1,3 +1,7 @@
 pub mod Positions
 pub mod PlaceLemmas
 pub mod Joining
+pub mod Signing
+pub mod JoinSteps
+pub mod DepthLemmas
+pub mod MarkSteps

@@ -5,7 +5,7 @@ use Rattle.dns_model.specs.Names.{Labels, name_eq}
 use Rattle.dns_model.specs.Types.{type_rrsig}
 use Rattle.dns_model.specs.Views.{SigText, sig_in}
 use Rattle.dns_model.specs.Records.{Rr, RrSet}
-use Rattle.dns_model.specs.Sections.{is_signature, same_set, covers, leaders}
+use Rattle.dns_model.specs.Sections.{is_signature, same_set, covers, leaders, unsigned_part}
 use Rattle.dns_signing.specs.ReadAs.{read_as}
 
 -- a set of this owner and type
@@ -61,3 +61,7 @@ part_set section front r = record {
   records = filter (same_set r) section;
   signatures = filter (covers r) front;
 }
+
+-- the sets of a section, with those signatures that stand in a front part
+abbrev pub part_sets : List Rr → List Rr → List RrSet
+part_sets section front = map (part_set section front) (leaders (unsigned_part section))

@@ -1,3 +1,4 @@
 pub mod Outcome
 pub mod Joining
 pub mod Places
+pub mod Depth

@@ -1,12 +1,21 @@
-ghost use Rattle.std.specs.Prelude.{◌≡◌, IfOk, map};
-ghost use Rattle.dns_model.specs.Answers.{told_by};
+ghost use Rattle.std.specs.Prelude.{◌≡◌, ◌++◌, IfOk, OnOk, map};
+ghost use Rattle.dns_model.specs.Sections.{sets_of};
+ghost use Rattle.dns_model.specs.Answers.{told_by, place};
 ghost use Rattle.dns_judgement.specs.Marking.{cleared, cleared_message};
 ghost use Rattle.dns_judgement.specs.Run.{judged_part};
+ghost use Rattle.dns_sets.specs.Depth.{is_judged_at as is_judged_at_depth, judged_at};
+ghost use Rattle.dns_sets.specs.Joining.{joined_by, met_by, given, with_record as record_added, with_signature as signature_added};
+ghost use Rattle.dns_model.specs.Types.{type_rrsig};
+ghost use Rattle.dns_model.specs.Views.{sig_in};
+ghost use Rattle.dns_signing.specs.ReadAs.{read_as};
+ghost use Rattle.dns_sets.specs.Places.{ArePlaces, place_of, place_covered};
 
 use crate::PlacedSet;
+use crate::places::Places;
 use dns_message::Message;
 use dns_name::NoMemory;
-use dns_record::{Proof, Record};
+use dns_record::{Proof, Record, RecordSet, RecordType, Section};
+use dns_signing::Rrsig;
 use std::alloc::Global;
 
 /// Takes every mark off the records of a message, so that none from outside is believed.
@@ -23,7 +32,11 @@ pub fn clear_marks(message: &mut Message)
 pub fn placed_sets(alloc: Global, depth: u16, message: &Message) -> Result<Vec<PlacedSet>, NoMemory>
     ensures { IfOk result (λ v. v.items ≡ judged_part depth (told_by message.now)) }
 {
-    Err(NoMemory)
+    let mut placed = Vec::new(alloc);
+    place_section(alloc, &mut placed, depth, Section::Answer, &message.answers)?;
+    place_section(alloc, &mut placed, depth, Section::Authority, &message.authorities)?;
+    place_section(alloc, &mut placed, depth, Section::Additional, &message.additionals)?;
+    Ok(placed)
 }
 
 // Takes the marks off records.
@@ -36,8 +49,153 @@ fn clear(records: &mut [Record])
     }
 }
 
-fn clear_one(record: &mut Record)
+pub(crate) fn clear_one(record: &mut Record)
     ensures { record.new ≡ cleared record.old }
 {
     record.proof = Proof::Indeterminate;
+}
+
+// Adds a record to the set.
+fn add_record(set: &mut RecordSet, next: Record) -> Result<(), NoMemory>
+    ensures { OnOk result (set.new ≡ record_added next set.old) }
+{
+    set.records.push(next)?;
+    Ok(())
+}
+
+// Adds a signature to the set.
+fn add_signature(set: &mut RecordSet, next: Record) -> Result<(), NoMemory>
+    ensures { OnOk result (set.new ≡ signature_added next set.old) }
+{
+    set.rrsigs.push(next)?;
+    Ok(())
+}
+
+// Puts a record that is no signature into the set of its owner and type, or into a set of its own.
+fn join<'a>(
+    alloc: Global,
+    sets: &mut Vec<RecordSet>,
+    places: &mut Places<'a>,
+    met: &'a Record,
+) -> Result<(), NoMemory>
+    requires { ArePlaces places.old sets.old.items }
+    ensures sets { OnOk result (sets.new.items ≡ joined_by met.now sets.old.items) }
+    ensures places { OnOk result (ArePlaces places.new sets.new.items) }
+{
+    let next = met.try_clone()?;
+    match places.of_record(met) {
+        Some(place) => {
+            add_record(&mut sets[place], next)?;
+            Ok(())
+        }
+        None => {
+            places.add_record(met, sets.len())?;
+            let own = RecordSet::of(alloc, next)?;
+            sets.push(own)?;
+            Ok(())
+        }
+    }
+}
+
+// Meets the next record of a section: a signature joins no set.
+fn meet<'a>(
+    alloc: Global,
+    sets: &mut Vec<RecordSet>,
+    places: &mut Places<'a>,
+    met: &'a Record,
+) -> Result<(), NoMemory>
+    requires { ArePlaces places.old sets.old.items }
+    ensures sets { OnOk result (sets.new.items ≡ met_by met.now sets.old.items) }
+    ensures places { OnOk result (ArePlaces places.new sets.new.items) }
+{
+    if met.record_type == RecordType::RRSIG {
+        return Ok(());
+    }
+    join(alloc, sets, places, met)
+}
+
+// Gives a signature that can be read to the set that it covers.
+fn give<'a>(
+    sets: &mut Vec<RecordSet>,
+    places: &Places<'a>,
+    met: &'a Record,
+) -> Result<(), NoMemory>
+    requires { ArePlaces places.now sets.old.items }
+    ensures sets { OnOk result (sets.new.items ≡ given met.now sets.old.items) }
+    ensures places { OnOk result (ArePlaces places.now sets.new.items) }
+{
+    match covered_place(places, met) {
+        Some(place) => {
+            let next = met.try_clone()?;
+            add_signature(&mut sets[place], next)?;
+            Ok(())
+        }
+        None => Ok(()),
+    }
+}
+
+// The place of the set that a signature covers.
+fn covered_place<'a>(places: &Places<'a>, met: &'a Record) -> Option<usize>
+    ensures { result ≡ place_covered (place_of places.now) met.now.owner (read_as type_rrsig sig_in met.now) }
+{
+    let sig = Rrsig::of(met)?;
+    places.get(&met.name, sig.type_covered)
+}
+
+// The RRsets of a section. Signatures come second, since one may stand before its set.
+fn sets_in<'a>(alloc: Global, section: &'a [Record]) -> Result<Vec<RecordSet>, NoMemory>
+    ensures { IfOk result (λ v. v.items ≡ sets_of section.now) }
+{
+    let mut sets = Vec::new(alloc);
+    let mut places = Places::new(alloc);
+    'records: for met in section {
+        meet(alloc, &mut sets, &mut places, met)?;
+    }
+    'signatures: for met in section {
+        give(&mut sets, &places, met)?;
+    }
+    Ok(sets)
+}
+
+// Whether a type's sets are judged at a depth.
+fn is_judged_at(depth: u16, kind: RecordType) -> bool
+    ensures { result ≡ is_judged_at_depth depth kind.0 }
+{
+    depth == 0
+        || kind == RecordType::DNSKEY
+        || kind == RecordType::DS
+        || kind == RecordType::NSEC
+        || kind == RecordType::NSEC3
+        || kind == RecordType::SOA
+}
+
+// Adds the sets of a section that are judged at a depth.
+fn place_all(
+    into: &mut Vec<PlacedSet>,
+    depth: u16,
+    section: Section,
+    sets: Vec<RecordSet>,
+) -> Result<(), NoMemory>
+    ensures { OnOk result (into.new.items ≡ into.old.items ++ judged_at depth (map (place section) sets.items)) }
+{
+    for set in sets {
+        if is_judged_at(depth, set.record_type) {
+            into.push(PlacedSet { section, set })?;
+        }
+    }
+    Ok(())
+}
+
+// Adds the sets of a section's records that are judged at a depth.
+fn place_section(
+    alloc: Global,
+    into: &mut Vec<PlacedSet>,
+    depth: u16,
+    section: Section,
+    records: &[Record],
+) -> Result<(), NoMemory>
+    ensures { OnOk result (into.new.items ≡ into.old.items ++ judged_at depth (map (place section) (sets_of records.now))) }
+{
+    let sets = sets_in(alloc, records)?;
+    place_all(into, depth, section, sets)
 }

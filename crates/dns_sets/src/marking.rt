@@ -1,15 +1,26 @@
-ghost use Rattle.std.specs.Prelude.{◌≡◌, IfOk};
-ghost use Rattle.dns_judgement.specs.Marking.{finished as finished_text};
+ghost use Rattle.std.specs.Prelude.{◌≡◌, ℕ, IfOk, OnOk, map, Some};
+ghost use Rattle.std.specs.Option.{option_copied};
+ghost use Rattle.dns_model.specs.Names.{Labels};
+ghost use Rattle.dns_model.specs.Views.{sig_in};
+ghost use Rattle.dns_model.specs.Serial.{distance, moment_number};
+ghost use Rattle.dns_model.specs.Answers.{section_eq, ttl_of, set_kind as set_kind_of, signed_ttl as signed_ttl_of};
+ghost use Rattle.dns_judgement.specs.Judged.{decider as decider_of};
+ghost use Rattle.dns_judgement.specs.Marking.{finished as finished_text, marked, marked_by, is_record, first_of, adjusted_ttl as adjusted_ttl_of, chains_of as chains_in};
+ghost use Rattle.dns_sets.specs.Places.{ArePlacedIn, place_of, with_judged};
 
 use crate::JudgedSet;
+use crate::grouping::clear_one;
+use crate::outcome::decider;
+use crate::places::Places;
 use dns_message::Message;
 use dns_name::NoMemory;
-use dns_net::DnsResponse;
-use dns_record::Denial;
+use dns_net::{Chain, DnsResponse};
+use dns_record::{Denial, Proof, Record, RecordType, Section};
+use dns_signing::Rrsig;
 use std::alloc::Global;
 
 /// The answer of a judged step: its message with the marks and ttls that its sets leave to each record, and the chains of
-/// its Secure sets in their order (RFC 4035, 4.3 and 5.3.3).
+/// its Secure sets in their order (RFC 4035, 4.3 and 5.3.3). `now` is in seconds.
 pub fn finished(
     alloc: Global,
     now: u64,
@@ -19,6 +30,183 @@ pub fn finished(
 ) -> Result<DnsResponse, NoMemory>
     ensures { IfOk result (λ r. r ≡ finished_text now sets.items message denial) }
 {
-    let _ = (alloc, now, sets, message, denial);
-    Err(NoMemory)
+    let mut message = message;
+    mark_section(alloc, now, &sets, Section::Answer, &mut message.answers)?;
+    mark_section(alloc, now, &sets, Section::Authority, &mut message.authorities)?;
+    mark_section(alloc, now, &sets, Section::Additional, &mut message.additionals)?;
+    let chains = chains_of(alloc, sets)?;
+    Ok(DnsResponse {
+        message,
+        chains,
+        denial,
+    })
+}
+
+// The chains of the Secure sets, in order.
+fn chains_of(alloc: Global, sets: Vec<JudgedSet>) -> Result<Vec<Chain>, NoMemory>
+    ensures { IfOk result (λ v. v.items ≡ chains_in sets.items) }
+{
+    let mut chains = Vec::new(alloc);
+    for judged in sets {
+        if judged.mark == Proof::Secure {
+            chains.push(Chain {
+                section: judged.section,
+                links: judged.chain,
+            })?;
+        }
+    }
+    Ok(chains)
+}
+
+// Marks the records of a section by the sets.
+fn mark_section(
+    alloc: Global,
+    now: u64,
+    sets: &[JudgedSet],
+    section: Section,
+    records: &mut [Record],
+) -> Result<(), NoMemory>
+    ensures { OnOk result (records.new ≡ map (marked now sets.now section) records.old) }
+{
+    let places = judged_places(alloc, sets, section)?;
+    for next in records.iter_mut() {
+        mark(now, sets, &places, section, next);
+    }
+    Ok(())
+}
+
+// The places of the sets of a section.
+fn judged_places<'a>(
+    alloc: Global,
+    sets: &'a [JudgedSet],
+    section: Section,
+) -> Result<Places<'a>, NoMemory>
+    ensures { IfOk result (λ p. ArePlacedIn p section sets.now) }
+{
+    let mut places = Places::new(alloc);
+    for (place, judged) in sets.iter().enumerate() {
+        add_judged(&mut places, section, judged, place)?;
+    }
+    Ok(places)
+}
+
+// Gives a set of the section its place.
+fn add_judged<'a>(
+    places: &mut Places<'a>,
+    section: Section,
+    judged: &'a JudgedSet,
+    place: usize,
+) -> Result<(), NoMemory>
+    ensures { OnOk result ((o : Labels) (k : ℕ) → place_of places.new o k ≡ with_judged (place_of places.old) section judged.now place o k) }
+{
+    if !is_section(judged.section, section) {
+        return Ok(());
+    }
+    places.add(&judged.set.name, judged.set.record_type, place)
+}
+
+fn is_section(one: Section, other: Section) -> bool
+    ensures { result ≡ section_eq one other }
+{
+    one == other
+}
+
+// The type of the set that a record belongs to, or that it covers as a signature.
+fn set_kind(of: &Record) -> RecordType
+    ensures { result.0 ≡ set_kind_of of.now }
+{
+    match Rrsig::of(of) {
+        Some(sig) => sig.type_covered,
+        None => of.record_type,
+    }
+}
+
+// Gives a record the mark of its set, by the place of the set.
+fn mark(now: u64, sets: &[JudgedSet], places: &Places, section: Section, next: &mut Record)
+    requires { ArePlacedIn places.now section sets.now }
+    ensures { next.new ≡ marked now sets.now section next.old }
+{
+    match place_of_set(places, next) {
+        Some(place) => mark_by(now, &sets[place], next),
+        None => clear_one(next),
+    }
+}
+
+// The place of the set that a record belongs to, or that it covers.
+fn place_of_set(places: &Places, next: &Record) -> Option<usize>
+    ensures { result ≡ place_of places.now next.now.owner (set_kind_of next.now) }
+{
+    places.get(&next.name, set_kind(next))
+}
+
+// Gives a record the mark of this set; a signature only where it decided.
+fn mark_by(now: u64, judged: &JudgedSet, next: &mut Record)
+    ensures { next.new ≡ marked_by now next.old (Some judged.now) }
+{
+    if next.record_type == RecordType::RRSIG && !is_decider(judged, next) {
+        clear_one(next);
+    } else {
+        next.ttl = adjusted_ttl(now, judged, next);
+        next.proof = judged.mark;
+    }
+}
+
+// Whether a signature is the one that decided.
+fn is_decider(judged: &JudgedSet, next: &Record) -> bool
+    ensures { result ≡ is_record next.now (decider_of judged.now) }
+{
+    match decider(judged) {
+        Some(signature) => signature.rdata == next.rdata,
+        None => false,
+    }
+}
+
+// The ttl of a record of this set: under the signature that decided a Secure set no more than it leaves.
+fn adjusted_ttl(now: u64, judged: &JudgedSet, next: &Record) -> u32
+    ensures { result ≡ adjusted_ttl_of now judged.now next.now }
+{
+    if judged.mark != Proof::Secure {
+        return next.ttl;
+    }
+    match decider(judged) {
+        Some(signature) => first_ttl(&judged.set.records).min(signed_ttl(signature, now)),
+        None => next.ttl,
+    }
+}
+
+// The ttl of the first record.
+fn first_ttl(records: &[Record]) -> u32
+    ensures { result ≡ ttl_of (first_of records.now) }
+{
+    match records {
+        [first, ..] => first.ttl,
+        [] => 0,
+    }
+}
+
+// The ttl that a signature leaves to records, in seconds.
+fn signed_ttl(signature: &Record, now: u64) -> u32
+    ensures { result ≡ signed_ttl_of (sig_in signature.now.rdata) now }
+{
+    match Rrsig::read(signature.rdata.as_slice()) {
+        Some(sig) => {
+            let left = seconds_between(moment(now), sig.expiration.0);
+            sig.original_ttl.min(left)
+        }
+        None => 0,
+    }
+}
+
+// A moment as the times of signatures count (RFC 4034, 3.1.5).
+fn moment(now: u64) -> u32
+    ensures { result ≡ moment_number now }
+{
+    (now % 0x1_0000_0000) as u32
+}
+
+// How far the second number lies after the first on the circle of 2^32.
+fn seconds_between(from: u32, to: u32) -> u32
+    ensures { result ≡ distance from to }
+{
+    to.wrapping_sub(from)
 }

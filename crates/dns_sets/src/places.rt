@@ -3,7 +3,7 @@ ghost use Rattle.dns_model.specs.Names.{Labels};
 ghost use Rattle.dns_sets.specs.Places.{place_of, with_place};
 
 use dns_name::{Name, NoMemory};
-use dns_record::RecordType;
+use dns_record::{Record, RecordType};
 use indexmap::IndexMap;
 use std::alloc::Global;
 
@@ -24,7 +24,7 @@ impl<'a> Places<'a> {
     }
 
     /// The place of the set of an owner and type.
-    pub(crate) fn get(&self, owner: &'a Name, record_type: RecordType) -> Option<usize>
+    pub(crate) fn get(&self, owner: &Name, record_type: RecordType) -> Option<usize>
         ensures { result ≡ place_of self.now owner.now record_type.0 }
     {
         self.places.get(&(owner, record_type)).copied()
@@ -41,5 +41,19 @@ impl<'a> Places<'a> {
                 Ok(())
             }
         }
+    }
+
+    /// The place of a record's set.
+    pub(crate) fn of_record(&self, met: &Record) -> Option<usize>
+        ensures { result ≡ place_of self.now met.now.owner met.now.kind }
+    {
+        self.get(&met.name, met.record_type)
+    }
+
+    /// Gives a record's set a place, unless it has one.
+    pub(crate) fn add_record(&mut self, met: &'a Record, place: usize) -> Result<(), NoMemory>
+        ensures { OnOk result ((o : Labels) (k : ℕ) → place_of self.new o k ≡ with_place (place_of self.old) met.now.owner met.now.kind place o k) }
+    {
+        self.add(&met.name, met.record_type, place)
     }
 }

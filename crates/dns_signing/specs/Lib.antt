@@ -2,3 +2,4 @@ pub mod ReadAs
 pub mod Windows
 pub mod Fields
 pub mod Lowered
+pub mod Covers

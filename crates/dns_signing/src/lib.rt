@@ -5,8 +5,10 @@
 mod bytes;
 mod canonical;
 mod counted;
+mod digest;
 mod dnskey;
 mod ds;
+mod folded_wire;
 mod key_tags;
 mod ns;
 mod nsec;
@@ -22,8 +24,10 @@ mod window;
 mod write;
 
 pub use canonical::{canonical_rdata, has_shape};
+pub use digest::ds_covers;
 pub use dnskey::Dnskey;
 pub use ds::Ds;
+pub use folded_wire::FoldedWire;
 pub use key_tags::key_tag;
 pub use ns::Ns;
 pub use nsec::{Nsec, NsecRecord};
@@ -33,3 +37,6 @@ pub use serial::SerialNumber;
 pub use signed::{signed_data, signed_data_of};
 pub use soa::Soa;
 pub use type_set::TypeSet;
+
+#[cfg(test)]
+mod tests;

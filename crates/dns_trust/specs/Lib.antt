@@ -1,2 +1,4 @@
 pub mod Verdicts
 pub mod Counting
+pub mod Finding
+pub mod Listing

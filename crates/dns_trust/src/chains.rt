@@ -5,9 +5,9 @@ ghost use Rattle.dns_judgement.specs.Marks.{numbers_from, signed_chain as signed
 ghost use Rattle.dns_trust.specs.Verdicts.{signed_text};
 
 use crate::keys::SignedBy;
-use dns_name::NoMemory;
+use dns_name::{Name, NoMemory};
 use dns_net::{Link, clone_links};
-use dns_record::{Rdata, Record, RecordSet};
+use dns_record::{DNSClass, Rdata, Record, RecordSet};
 use std::alloc::Global;
 
 // The chain of a key set with one link more: its key signed this set.
@@ -38,7 +38,7 @@ pub(crate) fn self_signed_chain(
     ensures { IfOk result (λ v. map fact_of v.items ≡ self_signed_chain_of set.now (signed_text by.now)) }
 {
     let mut links = Vec::new(alloc);
-    let anchored = anchored_link(set, by.key)?;
+    let anchored = anchored_link(&set.name, set.dns_class, by.key)?;
     links.push(anchored)?;
     let link = signed_link(alloc, set, by.signature, 0, by.key)?;
     links.push(link)?;
@@ -49,35 +49,36 @@ pub(crate) fn self_signed_chain(
 pub(crate) fn anchored_chain(alloc: Global, set: &RecordSet) -> Result<Vec<Link>, NoMemory>
     ensures { IfOk result (λ v. map fact_of v.items ≡ anchored_chain_of set.now) }
 {
-    let mut links = anchored_links(alloc, set)?;
+    let mut links = anchored_links(alloc, &set.name, set.dns_class, &set.records)?;
     let link = key_set_link(alloc, set)?;
     links.push(link)?;
     Ok(links)
 }
 
-// A link for each key of a set, in order.
-fn anchored_links(alloc: Global, set: &RecordSet) -> Result<Vec<Link>, NoMemory>
-    ensures { IfOk result (λ v. map fact_of v.items ≡ map (Anchored set.now.owner set.now.class) (rdatas_in set.now.records)) }
+// A link for each key of an owner, in order.
+fn anchored_links(
+    alloc: Global,
+    owner: &Name,
+    class: DNSClass,
+    keys: &[Record],
+) -> Result<Vec<Link>, NoMemory>
+    ensures { IfOk result (λ v. map fact_of v.items ≡ map (Anchored owner.now class.0) (rdatas_in keys.now)) }
 {
     let mut links = Vec::new(alloc);
-    for key in &set.records {
-        let link = anchored_link(set, key)?;
+    for key in keys {
+        let link = anchored_link(owner, class, key)?;
         links.push(link)?;
     }
     Ok(links)
 }
 
-// The link of an anchored key of a set.
-fn anchored_link(set: &RecordSet, key: &Record) -> Result<Link, NoMemory>
-    ensures { IfOk result (λ l. fact_of l ≡ Anchored set.now.owner set.now.class key.now.rdata) }
+// The link of an anchored key of an owner.
+fn anchored_link(owner: &Name, class: DNSClass, key: &Record) -> Result<Link, NoMemory>
+    ensures { IfOk result (λ l. fact_of l ≡ Anchored owner.now class.0 key.now.rdata) }
 {
-    let owner = set.name.try_clone()?;
+    let owner = owner.try_clone()?;
     let key = key.rdata.try_clone()?;
-    Ok(Link::Anchored {
-        owner,
-        class: set.dns_class,
-        key,
-    })
+    Ok(Link::Anchored { owner, class, key })
 }
 
 // The link of a key set, whose keys the first links show.

@@ -1,10 +1,10 @@
-ghost use Rattle.std.specs.Prelude.{◌≡◌, ℕ, ◌+◌, IfOk, OnOk, min, nat_lt, is_some, drop, take, if◌then◌else◌};
-ghost use Rattle.std.specs.List.{find, list_any, count_by};
+ghost use Rattle.std.specs.Prelude.{◌≡◌, ℕ, IfOk, OnOk, nat_lt};
+ghost use Rattle.std.specs.List.{find, list_any};
 ghost use Rattle.std.specs.Option.{option_copied};
 ghost use Rattle.dns_model.specs.Chains.{judge};
 ghost use Rattle.dns_judgement.specs.Validity.{is_good_by as is_good_in};
 ghost use Rattle.dns_judgement.specs.Marks.{counted_keys, is_readable_key};
-ghost use Rattle.dns_trust.specs.Counting.{counted_so_far};
+ghost use Rattle.dns_trust.specs.Counting.{count_in, tag_count_after, count_after, readable_tag, is_tried as is_tried_in};
 
 use crate::{TrustAnchors, is_good_by};
 use dns_name::NoMemory;
@@ -28,20 +28,40 @@ pub(crate) fn first_good<'a, V: Verifier>(
 {
     let mut counts = BTreeMap::new(alloc);
     for key in keys {
-        let Some(tag) = key_tag(key.rdata.as_slice()) else {
+        if !is_tried(&mut counts, key)? {
             continue;
-        };
-        if count(&mut counts, tag)? && is_good_by(alloc, verifier, now, set, sig, key)? {
+        }
+        if is_good_by(alloc, verifier, now, set, sig, key)? {
             return Ok(Some(key));
         }
     }
     Ok(None)
 }
 
+// Counts the tag of a key that can be read; whether the key is one of the first two of its tag.
+fn is_tried(counts: &mut BTreeMap<u16, u8>, key: &Record) -> Result<bool, NoMemory>
+    ensures tried { IfOk result (λ b. b ≡ is_tried_in counts.old key.now) }
+    ensures counted { OnOk result ((t : ℕ) → count_in counts.new t ≡ count_after counts.old key.now t) }
+{
+    match tag_of(key) {
+        Some(tag) => count(counts, tag),
+        None => Ok(false),
+    }
+}
+
+// The tag of a key that can be read.
+#[tactic(auto, unfolding(dns_model::specs::Views::key_in))]
+fn tag_of(key: &Record) -> Option<u16>
+    ensures { result ≡ readable_tag key.now }
+{
+    key_tag(key.rdata.as_slice())
+}
+
 // Counts a tag, to two at the most; whether it was counted.
+#[tactic(auto, unfolding(crate::specs::Counting::count_in))]
 fn count(counts: &mut BTreeMap<u16, u8>, tag: u16) -> Result<bool, NoMemory>
-    ensures counted { IfOk result (λ b. b ≡ nat_lt (counted_so_far counts.old tag) 2) }
-    ensures next { OnOk result ((t : ℕ) → counted_so_far counts.new t ≡ min 2 (counted_so_far counts.old t + (if t == tag then 1 else 0))) }
+    ensures tried { IfOk result (λ b. b ≡ nat_lt (count_in counts.old tag) 2) }
+    ensures counted { OnOk result ((t : ℕ) → count_in counts.new t ≡ tag_count_after counts.old tag t) }
 {
     let before = match counts.get(&tag) {
         Some(number) => *number,

@@ -42,14 +42,26 @@ pub fn judged_by(placed: PlacedSet, verdicts: Vec<Verdict>) -> Result<JudgedSet,
 fn place_of_proof(verdicts: &[Verdict]) -> Result<Option<u32>, NoMemory>
     ensures { IfOk result (λ p. p ≡ position is_proved (map verdict_text verdicts.now)) }
 {
-    numbered(verdicts.iter().position(|verdict| verdict.is_proved()))
+    numbered(first_proof(verdicts))
 }
 
 // The place of the first verdict that excuses the set.
 fn place_of_excuse(verdicts: &[Verdict]) -> Result<Option<u32>, NoMemory>
     ensures { IfOk result (λ p. p ≡ position is_excused (map verdict_text verdicts.now)) }
 {
-    numbered(verdicts.iter().position(|verdict| verdict.is_excused()))
+    numbered(first_excuse(verdicts))
+}
+
+fn first_proof(verdicts: &[Verdict]) -> Option<usize>
+    ensures { result ≡ position (λ v. is_proved (verdict_text v)) verdicts.now }
+{
+    verdicts.iter().position(|verdict| verdict.is_proved())
+}
+
+fn first_excuse(verdicts: &[Verdict]) -> Option<usize>
+    ensures { result ≡ position (λ v. is_excused (verdict_text v)) verdicts.now }
+{
+    verdicts.iter().position(|verdict| verdict.is_excused())
 }
 
 // A place in fewer bits, where it fits.
@@ -65,17 +77,17 @@ fn numbered(place: Option<usize>) -> Result<Option<u32>, NoMemory>
     }
 }
 
-// The links of the first verdict that proves the set.
-fn chain_of(verdicts: Vec<Verdict>) -> Vec<Link>
+// The links of the first verdict that proves the set. It goes from the last verdict to the first.
+fn chain_of(mut verdicts: Vec<Verdict>) -> Vec<Link>
     ensures { map fact_of result.items ≡ proved_chain (map verdict_text verdicts.items) }
 {
-    let alloc = *verdicts.allocator();
-    for verdict in verdicts {
+    let mut chain = Vec::new(*verdicts.allocator());
+    while let Some(verdict) = verdicts.pop() {
         if let Verdict::Proved(links) = verdict {
-            return links;
+            chain = links;
         }
     }
-    Vec::new(alloc)
+    chain
 }
 
 /// A DNSKEY set, judged: signed by an anchored key of it, or wholly anchored (RFC 4035, 5.2).

@@ -1,10 +1,10 @@
-ghost use Rattle.std.specs.Prelude.{◌≡◌, IfOk, drop, take};
+ghost use Rattle.std.specs.Prelude.{◌≡◌, ◌≤◌, IfOk, length, take};
 ghost use Rattle.std.specs.List.{find, list_all};
 ghost use Rattle.std.specs.Option.{option_map, option_copied};
 ghost use Rattle.dns_model.specs.Keys.{anchored};
 ghost use Rattle.dns_model.specs.Chains.{judge};
-ghost use Rattle.dns_judgement.specs.Marks.{most_signatures, first_signed as first_signed_of, anchored_signer as anchored_signer_of, is_anchored_key};
-ghost use Rattle.dns_trust.specs.Verdicts.{signed_text};
+ghost use Rattle.dns_judgement.specs.Marks.{most_signatures, first_signed as first_signed_of, anchored_signer as anchored_signer_of};
+ghost use Rattle.dns_trust.specs.Verdicts.{signed_text, is_signer as is_signer_of};
 
 use crate::{TrustAnchors, is_good_by};
 use dns_name::{Name, NoMemory};
@@ -37,23 +37,23 @@ pub(crate) fn first_signed<'a, V: Verifier>(
             first_signed_of (judge (V.answers verifier.now) anchors.now now) set.now 0 (take most_signatures set.now.signatures))
     }
 {
-    let mut place: u32 = 0;
-    for signature in first_signatures(set) {
+    let signatures = first_signatures(set);
+    for (place, signature) in signatures.iter().enumerate() {
         if let Some(key) = anchored_signer(alloc, verifier, anchors, now, set, signature)? {
             return Ok(Some(SignedBy {
-                place,
+                place: place as u32,
                 signature,
                 key,
             }));
         }
-        place += 1;
     }
     Ok(None)
 }
 
 // The signatures of a set that are tried.
 fn first_signatures(set: &RecordSet) -> &[Record]
-    ensures { result.now ≡ take most_signatures set.now.signatures }
+    ensures first { result.now ≡ take most_signatures set.now.signatures }
+    ensures few { length result.now ≤ most_signatures }
 {
     let signatures = set.rrsigs.as_slice();
     &signatures[..signatures.len().min(MOST_SIGNATURES)]
@@ -70,12 +70,45 @@ fn anchored_signer<'a, V: Verifier>(
 ) -> Result<Option<&'a Record>, NoMemory>
     ensures { IfOk result (λ k. option_copied k ≡ anchored_signer_of (judge (V.answers verifier.now) anchors.now now) set.now sig.now) }
 {
-    for key in &set.records {
-        if is_anchored(anchors, &set.name, key) && is_good_by(alloc, verifier, now, set, sig, key)? {
+    first_signer(alloc, verifier, anchors, now, set, sig, &set.records)
+}
+
+// The first of some keys that is anchored and by which a signature of a key set is good.
+fn first_signer<'a, V: Verifier>(
+    alloc: Global,
+    verifier: &V,
+    anchors: &TrustAnchors,
+    now: u64,
+    set: &RecordSet,
+    sig: &Record,
+    keys: &'a [Record],
+) -> Result<Option<&'a Record>, NoMemory>
+    ensures { IfOk result (λ k. option_copied k ≡ find (is_signer_of (judge (V.answers verifier.now) anchors.now now) set.now sig.now) keys.now) }
+{
+    for key in keys {
+        if is_signer(alloc, verifier, anchors, now, set, sig, key)? {
             return Ok(Some(key));
         }
     }
     Ok(None)
+}
+
+// The key is anchored, and the signature is good by it.
+fn is_signer<V: Verifier>(
+    alloc: Global,
+    verifier: &V,
+    anchors: &TrustAnchors,
+    now: u64,
+    set: &RecordSet,
+    sig: &Record,
+    key: &Record,
+) -> Result<bool, NoMemory>
+    ensures { IfOk result (λ b. b ≡ is_signer_of (judge (V.answers verifier.now) anchors.now now) set.now sig.now key.now) }
+{
+    if !is_anchored(anchors, &set.name, key) {
+        return Ok(false);
+    }
+    is_good_by(alloc, verifier, now, set, sig, key)
 }
 
 // Every key of a key set is an anchor of its owner.

@@ -5,9 +5,11 @@
 mod anchors;
 mod chains;
 mod counted;
+mod finding;
 mod good;
 mod judged;
 mod keys;
+mod listed;
 mod validity;
 mod verdict;
 
@@ -15,5 +17,6 @@ pub use anchors::TrustAnchors;
 pub use dns_judgement::RrsigValidity;
 pub use good::is_good_by;
 pub use judged::{judged_by, judged_keys};
+pub use listed::Listed;
 pub use validity::check;
 pub use verdict::{Verdict, ask_of, is_skipped, verdict_of};

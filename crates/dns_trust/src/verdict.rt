@@ -1,12 +1,10 @@
-ghost use Rattle.std.specs.Prelude.{◌≡◌, ℕ, IfOk, map};
+ghost use Rattle.std.specs.Prelude.{◌≡◌, IfOk};
 ghost use Rattle.std.specs.List.{find};
-ghost use Rattle.std.specs.Option.{option_map, option_copied};
-ghost use Rattle.dns_model.specs.Names.{Labels};
+ghost use Rattle.std.specs.Option.{option_copied};
 ghost use Rattle.dns_model.specs.Chains.{judge, signer_fits as signer_is_above};
-ghost use Rattle.dns_judgement.specs.Judged.{Judged};
 ghost use Rattle.dns_judgement.specs.Marks.{verdict_of as verdict_in, by_key_set as verdict_by_keys, is_kept_whole as is_whole, is_key_set_of, is_skipped as is_skipped_by, is_proved as is_proof, is_excused as is_excuse};
 ghost use Rattle.dns_judgement.specs.Run.{ask_of as asked_by};
-ghost use Rattle.dns_trust.specs.Verdicts.{verdict_text};
+ghost use Rattle.dns_trust.specs.Verdicts.{verdict_text, listed};
 
 use crate::TrustAnchors;
 use crate::chains::signed_chain;
@@ -65,7 +63,7 @@ pub fn verdict_of<V: Verifier>(
 ) -> Result<Verdict, NoMemory>
     ensures {
         IfOk result (λ v. verdict_text v ≡
-            verdict_in (judge (V.answers verifier.now) anchors.now now) set.now sig.now (option_map (λ (sets : Vec Judged). sets.items) answer.now))
+            verdict_in (judge (V.answers verifier.now) anchors.now now) set.now sig.now (listed answer.now))
     }
 {
     let Some(sets) = answer else {

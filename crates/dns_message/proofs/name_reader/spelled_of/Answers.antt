@@ -5,6 +5,8 @@ use Rattle.dns_message.specs.declared.step.Step.TheVariants as step
 use Rattle.dns_message.specs.NameAt.{step_of, name_at, spelled_at}
 use Rattle.dns_message.specs.Fitting.{IsSpelled, ending_or}
 use Rattle.dns_message.proofs.NameReading.{Walked, walked_none, walked_root, walked_label, walked_jump, label_step, jump_step, ending_fits, step_is, step_fails, spelled_is}
+use Rattle.dns_message.specs.Hops.{hop_in}
+use Rattle.dns_message.proofs.HopReading.{hop_in_is}
 use Rattle.dns_message.proofs.name_reader.spelled_of.Goals as goal
 
 pub steps-init : goal.steps-init
@@ -50,10 +52,11 @@ steps-preserved c =
     let is : step_of c.args.bytes.now c.steps.start c.steps.pos (length c.steps.wire.items) ≡ Ok (step.Jump c.in-Jump.target) =
     step_is _ _ _ _ _ _ _ _ (c.steps.wire.ok.0) c.len.ensures c.in_ok-step_at.ensures.reads (ap Ok c.in-Jump.is) in
     let s = jump_step c.args.bytes.now c.steps.start c.steps.pos (length c.steps.wire.items) c.in-Jump.target is in
+    let hop = hop_in_is c.args.bytes.now c.args.hops.now c.in-Jump.target c.requires.hops in
     record {
-      walk = rw (c.from-start.ensures, c.from-pos.ensures, c.ending_or-in-Jump.ensures) (walked_jump c.args.bytes.now c.args.at c.steps.start c.steps.pos c.steps.ending c.steps.wire.items c.in-Jump.target c.steps.invariant.walk is);
+      walk = rw (c.hop_in-start.ensures, c.ending_or-in-Jump.ensures) (walked_jump c.args.bytes.now c.args.at c.steps.start c.steps.pos c.steps.ending c.steps.wire.items c.in-Jump.target (hop_in c.args.hops.now c.in-Jump.target) c.steps.invariant.walk is hop);
       room = search rules;
-      start_fits = omega (arith, s.before, c.from-start.ensures, c.steps.invariant.start_fits);
-      pos_fits = omega (arith, s.before, c.from-pos.ensures, c.steps.invariant.start_fits);
+      start_fits = omega (arith, s.before, hop.before, c.hop_in-start.ensures, c.steps.invariant.start_fits);
+      pos_fits = omega (arith, s.before, hop.before, c.hop_in-start.ensures, c.steps.invariant.start_fits);
       ending_fits = rw c.ending_or-in-Jump.ensures (ending_fits c.steps.ending (c.steps.pos + 2) (length c.args.bytes.now) c.steps.invariant.ending_fits s.inside);
     }

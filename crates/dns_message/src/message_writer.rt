@@ -1,0 +1,243 @@
+ghost use Rattle.std.specs.Prelude.{◌≡◌, ◌+◌, ◌<◌, ◌≤◌, ◌^◌, ◌++◌, length, false, OnOk};
+ghost use Rattle.std.specs.List.{flat_map};
+ghost use Rattle.dns_model.specs.Bytes.{u16_bytes, u32_bytes};
+ghost use Rattle.dns_model.specs.Gives.{Gives};
+ghost use Rattle.dns_message.specs.declared.encode_error.EncodeError.TheVariants as errors;
+ghost use Rattle.dns_message.specs.WrittenAs.{number_of, question_bytes, record_bytes, opt_ttl, opt_bytes, edns_bytes, flags_of, header_bytes, edns_count, has_long_options, has_many, encoded, empty_query};
+
+use crate::encode_error::EncodeError;
+use crate::message::{Edns, Message};
+use dns_name::{NoMemory, Octets};
+use dns_record::{OpCode, Query, Record, ResponseCode};
+use std::alloc::Global;
+
+/// The most bytes of a message that is written, and the most items of a section.
+const MOST: usize = 65535;
+
+fn number_of(flag: bool) -> u16
+    ensures { result ≡ number_of flag }
+{
+    if flag { 1 } else { 0 }
+}
+
+fn push_u16(out: &mut Vec<u8>, number: u16) -> Result<(), NoMemory>
+    ensures { OnOk result (out.new.items ≡ out.old.items ++ u16_bytes number) }
+{
+    out.extend_from_slice(&[(number / 256) as u8, (number % 256) as u8])?;
+    Ok(())
+}
+
+fn push_u32(out: &mut Vec<u8>, number: u32) -> Result<(), NoMemory>
+    ensures { OnOk result (out.new.items ≡ out.old.items ++ u32_bytes number) }
+{
+    let upper = [(number / 16777216) as u8, (number / 65536 % 256) as u8];
+    let lower = [(number / 256 % 256) as u8, (number % 256) as u8];
+    out.extend_from_slice(&[upper[0], upper[1], lower[0], lower[1]])?;
+    Ok(())
+}
+
+fn push_question(out: &mut Vec<u8>, query: &Query) -> Result<(), NoMemory>
+    ensures { OnOk result (out.new.items ≡ out.old.items ++ question_bytes query.now) }
+{
+    out.extend_from_slice(query.name.wire())?;
+    push_u16(out, query.query_type.0)?;
+    push_u16(out, query.query_class.0)
+}
+
+fn push_record(out: &mut Vec<u8>, record: &Record) -> Result<(), NoMemory>
+    ensures { OnOk result (out.new.items ≡ out.old.items ++ record_bytes record.now) }
+{
+    out.extend_from_slice(record.name.wire())?;
+    push_u16(out, record.record_type.0)?;
+    push_u16(out, record.dns_class.0)?;
+    push_u32(out, record.ttl)?;
+    let rdata = record.rdata.as_slice();
+    push_u16(out, rdata.len() as u16)?;
+    out.extend_from_slice(rdata)?;
+    Ok(())
+}
+
+fn push_questions(out: &mut Vec<u8>, queries: &[Query]) -> Result<(), NoMemory>
+    ensures { OnOk result (out.new.items ≡ out.old.items ++ flat_map question_bytes queries.now) }
+{
+    for query in queries {
+        push_question(out, query)?;
+    }
+    Ok(())
+}
+
+fn push_records(out: &mut Vec<u8>, records: &[Record]) -> Result<(), NoMemory>
+    ensures { OnOk result (out.new.items ≡ out.old.items ++ flat_map record_bytes records.now) }
+{
+    for record in records {
+        push_record(out, record)?;
+    }
+    Ok(())
+}
+
+fn opt_ttl(code: u16, edns: &Edns) -> u32
+    ensures { result ≡ opt_ttl code edns.now }
+{
+    u32::from(code / 16 % 256) * 16777216
+        + u32::from(edns.version) * 65536
+        + u32::from(number_of(edns.dnssec_ok)) * 32768
+        + u32::from(edns.flags % 32768)
+}
+
+fn push_opt(out: &mut Vec<u8>, code: u16, edns: &Edns) -> Result<(), NoMemory>
+    requires { length edns.now.options ≤ 65535 }
+    ensures { OnOk result (out.new.items ≡ out.old.items ++ opt_bytes code edns.now) }
+{
+    let options = edns.options.as_slice();
+    out.extend_from_slice(&[0])?;
+    push_u16(out, 41)?;
+    push_u16(out, edns.max_payload)?;
+    push_u32(out, opt_ttl(code, edns))?;
+    push_u16(out, options.len() as u16)?;
+    out.extend_from_slice(options)?;
+    Ok(())
+}
+
+#[tactic(auto, unfolding(crate::specs::WrittenAs::has_many))]
+fn push_edns(out: &mut Vec<u8>, message: &Message) -> Result<(), NoMemory>
+    requires { has_many message.now ≡ false }
+    ensures { OnOk result (out.new.items ≡ out.old.items ++ edns_bytes message.now.response_code message.now.edns) }
+{
+    match &message.edns {
+        None => Ok(()),
+        Some(edns) => push_opt(out, message.response_code.0, edns),
+    }
+}
+
+fn flags_of(message: &Message) -> u16
+    ensures { result ≡ flags_of message.now }
+{
+    number_of(message.response) * 32768
+        + u16::from(message.op_code.0 % 16) * 2048
+        + number_of(message.authoritative) * 1024
+        + number_of(message.truncated) * 512
+        + number_of(message.recursion_desired) * 256
+        + number_of(message.recursion_available) * 128
+        + number_of(message.authentic_data) * 32
+        + number_of(message.checking_disabled) * 16
+        + message.response_code.0 % 16
+}
+
+fn edns_count(edns: &Option<Edns>) -> usize
+    ensures { result ≡ edns_count edns.now }
+{
+    match edns {
+        None => 0,
+        Some(_) => 1,
+    }
+}
+
+fn has_long_options(edns: &Option<Edns>) -> bool
+    ensures { result ≡ has_long_options edns.now }
+{
+    match edns {
+        None => false,
+        Some(edns) => MOST < edns.options.as_slice().len(),
+    }
+}
+
+/// Whether a section has more items than its count can say, or the OPT more options.
+#[tactic(auto, unfolding(crate::specs::WrittenAs::has_many))]
+fn has_many(message: &Message) -> bool
+    ensures { result ≡ has_many message.now }
+{
+    MOST < message.queries.len()
+        || MOST < message.answers.len()
+        || MOST < message.authorities.len()
+        || MOST < message.additionals.len() + edns_count(&message.edns)
+        || has_long_options(&message.edns)
+}
+
+/// How many items each section has, the OPT among the additional records.
+#[derive(Clone, Copy, Debug, Drop)]
+struct Counts {
+    queries: u16,
+    answers: u16,
+    authorities: u16,
+    additionals: u16,
+}
+
+#[tactic(auto, unfolding(crate::specs::WrittenAs::has_many))]
+fn counts_of(message: &Message) -> Counts
+    requires { has_many message.now ≡ false }
+    ensures queries { result.queries ≡ length message.now.queries }
+    ensures answers { result.answers ≡ length message.now.answers }
+    ensures authorities { result.authorities ≡ length message.now.authorities }
+    ensures additionals { result.additionals ≡ length message.now.additionals + edns_count message.now.edns }
+{
+    Counts {
+        queries: message.queries.len() as u16,
+        answers: message.answers.len() as u16,
+        authorities: message.authorities.len() as u16,
+        additionals: (message.additionals.len() + edns_count(&message.edns)) as u16,
+    }
+}
+
+fn push_header(out: &mut Vec<u8>, message: &Message) -> Result<(), NoMemory>
+    requires { has_many message.now ≡ false }
+    ensures { OnOk result (out.new.items ≡ out.old.items ++ header_bytes message.now) }
+{
+    let counts = counts_of(message);
+    push_u16(out, message.id)?;
+    push_u16(out, flags_of(message))?;
+    push_u16(out, counts.queries)?;
+    push_u16(out, counts.answers)?;
+    push_u16(out, counts.authorities)?;
+    push_u16(out, counts.additionals)?;
+    Ok(())
+}
+
+impl Message {
+    /// An empty query with id 0, which takes no memory.
+    pub fn query(alloc: Global) -> Message
+        ensures { result ≡ empty_query }
+    {
+        Message {
+            id: 0,
+            response: false,
+            op_code: OpCode::QUERY,
+            authoritative: false,
+            truncated: false,
+            recursion_desired: false,
+            recursion_available: false,
+            authentic_data: false,
+            checking_disabled: false,
+            response_code: ResponseCode::NO_ERROR,
+            queries: Vec::new(alloc),
+            answers: Vec::new(alloc),
+            authorities: Vec::new(alloc),
+            additionals: Vec::new(alloc),
+            edns: None,
+        }
+    }
+
+    /// The message as bytes, names spelled out and the OPT last (RFC 1035, 4.1; RFC 6891, 6.1). Of the opcode the lower four
+    /// bits are written, of an EDNS's flags the lower 15, of the code the lower four and, where there is an EDNS, the next
+    /// eight.
+    ///
+    /// `TooLong` comes exactly above 65,535 bytes.
+    #[tactic(auto, unfolding(crate::specs::WrittenAs::encoded, crate::specs::WrittenAs::written))]
+    pub fn to_vec(&self, alloc: Global) -> Result<Octets, EncodeError>
+        ensures { Gives (λ o. o) errors.NoMemory result (encoded self.now) }
+    {
+        if has_many(self) {
+            return Err(EncodeError::TooLong);
+        }
+        let mut out = Vec::new(alloc);
+        push_header(&mut out, self)?;
+        push_questions(&mut out, self.queries.as_slice())?;
+        push_records(&mut out, self.answers.as_slice())?;
+        push_records(&mut out, self.authorities.as_slice())?;
+        push_records(&mut out, self.additionals.as_slice())?;
+        push_edns(&mut out, self)?;
+        if MOST < out.len() {
+            return Err(EncodeError::TooLong);
+        }
+        Ok(Octets::from_vec(out))
+    }
+}

@@ -1,0 +1,451 @@
+use super::*;
+use dns_record::{DNSClass, Proof, RecordType};
+use std::alloc::{AllocError, Global};
+use std::test::*;
+
+fn digit_of(character: u8) -> Option<u8> {
+    match character {
+        b'0'..=b'9' => Some(character - b'0'),
+        b'a'..=b'f' => Some(character - b'a' + 10),
+        _ => None,
+    }
+}
+
+/// The bytes of hex text; other characters are passed over.
+fn bytes_of(alloc: Global, text: &str) -> Result<Vec<u8>, AllocError> {
+    let mut bytes = Vec::new(alloc);
+    let mut high = None;
+    for character in text.as_bytes() {
+        if let Some(digit) = digit_of(*character) {
+            match high {
+                None => high = Some(digit),
+                Some(upper) => {
+                    bytes.push(upper << 4 | digit)?;
+                    high = None;
+                }
+            }
+        }
+    }
+    Ok(bytes)
+}
+
+fn error_of(alloc: Global, bytes: &[u8]) -> Option<DecodeError> {
+    if bytes.len() < 1_000_000 {
+        Message::from_vec(alloc, bytes).err()
+    } else {
+        None
+    }
+}
+
+/// The fault of hex text, if it is no message.
+fn fault_of(alloc: Global, text: &str) -> Result<Option<DecodeError>, AllocError> {
+    let bytes = bytes_of(alloc, text)?;
+    Ok(error_of(alloc, &bytes))
+}
+
+#[test]
+fn first_fault_with_its_place(rt: HostRuntime) -> Result<(), Fail> {
+    let cases = [
+        ("", DecodeKind::Short, 0),
+        ("000000", DecodeKind::Short, 2),
+        ("0000000000000000000000", DecodeKind::Short, 10),
+        ("000000000000000000000000ff", DecodeKind::Trailing, 12),
+        // an A of three bytes
+        (
+            "000080000000000100000000 0000010001000000000003010203",
+            DecodeKind::BadRdata,
+            23,
+        ),
+        // its rdata reaches past the end
+        (
+            "000080000000000100000000 0000010001000000000004010203",
+            DecodeKind::Short,
+            23,
+        ),
+        // a ttl that is cut
+        (
+            "000080000000000100000000 0000010001000000",
+            DecodeKind::Short,
+            17,
+        ),
+        // an OPT among the answers, also where it is cut behind its type
+        (
+            "000080000000000100000000 00002904d0000000000000",
+            DecodeKind::BadOpt,
+            12,
+        ),
+        ("000080000000000100000000 000029", DecodeKind::BadOpt, 12),
+        ("000080000000000100000000 0000", DecodeKind::Short, 13),
+        // the second one, one that isn't at the root, and one that is cut
+        (
+            "000000000000000000000002 0000290200000000000000 0000290200000000000000",
+            DecodeKind::BadOpt,
+            23,
+        ),
+        (
+            "000000000000000000000001 01610000290200000000000000",
+            DecodeKind::BadOpt,
+            12,
+        ),
+        ("000000000000000000000001 00002902", DecodeKind::Short, 15),
+        // a pointer to its own row, forward, to the front of the row that it ends, and one that is cut
+        (
+            "000084000001000000000000 c00c00010001",
+            DecodeKind::BadName,
+            12,
+        ),
+        (
+            "000084000001000000000000 c00d00010001",
+            DecodeKind::BadName,
+            12,
+        ),
+        (
+            "000084000001000000000000 0161c00c00010001",
+            DecodeKind::BadName,
+            14,
+        ),
+        ("000084000001000000000000 0161c0", DecodeKind::Short, 14),
+        // the top bits 01 and 10
+        (
+            "000084000001000000000000 400000010001",
+            DecodeKind::BadName,
+            12,
+        ),
+        (
+            "000084000001000000000000 0161bf0000010001",
+            DecodeKind::BadName,
+            14,
+        ),
+        // a label that is cut, and no length byte
+        ("000084000001000000000000 036162", DecodeKind::Short, 12),
+        ("000084000001000000000000 0161", DecodeKind::Short, 14),
+        // a name in an rdata: a pointer to its own row, and one that goes on past the rdata
+        (
+            "000080000000000100000000 0000020001000000000002c017",
+            DecodeKind::BadRdata,
+            23,
+        ),
+        (
+            "000080000000000200000000 000002000100000000000101 00",
+            DecodeKind::BadRdata,
+            23,
+        ),
+    ];
+    for (text, kind, offset) in cases {
+        let fault = fault_of(rt.alloc(), text)?;
+        assert!(rt; fault == Some(DecodeError { kind, offset }), "{text}");
+    }
+    Ok(())
+}
+
+/// A message with one answer at the root.
+fn with_rdata(alloc: Global, kind: u8, class: u8, rdata: &[u8]) -> Result<Vec<u8>, AllocError> {
+    let mut bytes = bytes_of(alloc, "000080000000000100000000 0000")?;
+    bytes.push(kind)?;
+    bytes.push(0)?;
+    bytes.push(class)?;
+    bytes.extend_from_slice(&[0, 0, 0, 0, 0])?;
+    bytes.push((rdata.len() % 256) as u8)?;
+    bytes.extend_from_slice(rdata)?;
+    Ok(bytes)
+}
+
+/// The only answer has this type and rdata.
+fn answers(message: &Message, kind: u8, rdata: &[u8]) -> bool {
+    match message.answers.as_slice() {
+        [answer] => {
+            answer.record_type == RecordType(u16::from(kind))
+                && answer.rdata.as_slice() == rdata
+                && answer.proof == Proof::Indeterminate
+        }
+        _ => false,
+    }
+}
+
+fn is_taken(alloc: Global, kind: u8, class: u8, rdata: &[u8]) -> Result<bool, AllocError> {
+    let bytes = with_rdata(alloc, kind, class, rdata)?;
+    match Message::from_vec(alloc, &bytes) {
+        Ok(message) => Ok(answers(&message, kind, rdata)),
+        Err(_) => Ok(false),
+    }
+}
+
+/// The rdata is refused at its first byte.
+fn is_bad(alloc: Global, kind: u8, rdata: &[u8]) -> Result<bool, AllocError> {
+    let bytes = with_rdata(alloc, kind, 1, rdata)?;
+    let bad = DecodeError {
+        kind: DecodeKind::BadRdata,
+        offset: 23,
+    };
+    Ok(error_of(alloc, &bytes) == Some(bad))
+}
+
+/// Taken as it is, refused one byte short, and one byte long taken only where the shape ends in any bytes. In a class of another
+/// kind, and where it is empty, any rdata is taken.
+fn has_its_shape(alloc: Global, kind: u8, text: &str, long: bool) -> Result<bool, AllocError> {
+    let mut rdata = bytes_of(alloc, text)?;
+    rdata.push(0)?;
+    let size = rdata.len();
+    let exact = &rdata[..size.saturating_sub(1)];
+    let short = &rdata[..size.saturating_sub(2)];
+    let taken = is_taken(alloc, kind, 1, exact)?
+        && is_taken(alloc, kind, 3, short)?
+        && is_taken(alloc, kind, 1, &[])?;
+    let refused = is_bad(alloc, kind, short)? && is_bad(alloc, kind, &rdata)? != long;
+    Ok(taken && refused)
+}
+
+#[test]
+fn each_type_in_its_shape(rt: HostRuntime) -> Result<(), Fail> {
+    // type, an rdata of its shape that has no bytes to spare, whether one byte more is taken
+    let cases = [
+        (1, "c0000201", false),
+        (28, "20010db8000000000000000000000001", false),
+        (2, "016100", false),
+        (5, "016100", false),
+        (12, "016100", false),
+        (39, "016100", false),
+        (
+            6,
+            "00 016100 0000000100000002000000030000000400000005",
+            false,
+        ),
+        (15, "000a016100", false),
+        (18, "0001016100", false),
+        (21, "0001016100", false),
+        (36, "0001016100", false),
+        (17, "00016100", false),
+        (26, "000a00016100", false),
+        (33, "000100020003016100", false),
+        (35, "00010002 0153 00 0141 016100", false),
+        (43, "aec90d02", true),
+        (46, "00020d0000000e10000007d000000384aec9 016100", true),
+        (47, "016100 000140 010180", false),
+        (48, "0101030d", true),
+        (50, "01000001 02aabb 01cc 000140", false),
+    ];
+    for (kind, text, long) in cases {
+        let shaped = has_its_shape(rt.alloc(), kind, text, long)?;
+        assert!(rt; shaped, "{text}");
+    }
+    Ok(())
+}
+
+/// The message of hex text.
+fn message_of(alloc: Global, text: &str) -> Result<Option<Message>, AllocError> {
+    let bytes = bytes_of(alloc, text)?;
+    Ok(Message::from_vec(alloc, &bytes).ok())
+}
+
+/// An A record of `a.` and an NS record of `a.` whose rdata is `b.a.`.
+fn has_pointers(message: &Message) -> bool {
+    match message.answers.as_slice() {
+        [a, ns] => {
+            a.name.wire() == [1, 97, 0].as_slice()
+                && ns.name.wire() == [1, 97, 0].as_slice()
+                && a.rdata.as_slice() == [192, 0, 2, 1].as_slice()
+                && ns.rdata.as_slice() == [1, 98, 1, 97, 0].as_slice()
+                && a.ttl == 3600
+                && a.dns_class == DNSClass::IN
+        }
+        _ => false,
+    }
+}
+
+fn has_flags(message: &Message) -> bool {
+    message.id == 0xabcd
+        && message.response
+        && message.op_code.0 == 4
+        && message.authoritative
+        && !message.truncated
+        && message.recursion_desired
+        && !message.recursion_available
+        && !message.authentic_data
+        && message.checking_disabled
+}
+
+fn has_edns(message: &Message) -> bool {
+    match &message.edns {
+        None => false,
+        Some(edns) => {
+            edns.max_payload == 1232
+                && edns.version == 5
+                && edns.dnssec_ok
+                && edns.flags == 3
+                && edns.options.as_slice() == [0xaa, 0xbb].as_slice()
+        }
+    }
+}
+
+#[test]
+fn header_names_and_opt(rt: HostRuntime) -> Result<(), Fail> {
+    let text =
+        "000080000001000200000000 01610000010001 c00c0001000100000e100004c0000201 c00c0002000100000e1000040162c00c";
+    let message = message_of(rt.alloc(), text)?.ok_or("pointers")?;
+    assert!(rt; has_pointers(&message));
+    // each bit of the header apart, the code's bits from both places, and what an OPT says
+    let text = "abcda51f0000000000000001 00002904d0 12058003 0002aabb";
+    let message = message_of(rt.alloc(), text)?.ok_or("an OPT")?;
+    assert!(rt; has_flags(&message) && has_edns(&message));
+    assert!(rt; message.response_code.0 == 0x12f && message.additionals.is_empty());
+    Ok(())
+}
+
+/// Written and read again, a message gives the bytes that it gave.
+fn is_written_again(alloc: Global, text: &str, written: &str) -> Result<bool, AllocError> {
+    let want = bytes_of(alloc, written)?;
+    match message_of(alloc, text)? {
+        None => Ok(false),
+        Some(message) => match message.to_vec(alloc) {
+            Err(_) => Ok(false),
+            Ok(bytes) => Ok(bytes.as_slice() == want.as_slice()),
+        },
+    }
+}
+
+#[test]
+fn written_forms(rt: HostRuntime) -> Result<(), Fail> {
+    let cases = [
+        // pointers are spelled out
+        (
+            "000080000001000200000000 01610000010001 c00c0001000100000e100004c0000201 c00c0002000100000e1000040162c00c",
+            "000080000001000200000000 01610000010001 01610000010001 00000e100004c0000201 01610000020001 00000e10000501620161 00",
+        ),
+        // the bit Z is 0, and the OPT stands last
+        (
+            "abcdffff0000000000000002 00002904d0 12058003 0002aabb 00 ff00 0003 00000000 0001 01",
+            "abcdffbf0000000000000002 00 ff00 0003 00000000 0001 01 00002904d0 12058003 0002aabb",
+        ),
+    ];
+    for (text, written) in cases {
+        assert!(rt; is_written_again(rt.alloc(), text, written)?, "{text}");
+    }
+    let query = Message::query(rt.alloc());
+    let bytes = query.to_vec(rt.alloc()).ok().ok_or("a query")?;
+    assert_eq!(rt; bytes.as_slice(), [0; 12].as_slice());
+    Ok(())
+}
+
+/// A message with one root record of an opaque type and so many bytes of rdata.
+fn with_size(alloc: Global, size: u16) -> Result<Option<Message>, AllocError> {
+    let mut bytes = bytes_of(alloc, "000000000000000100000000 00 ff00 0001 00000000")?;
+    bytes.extend_from_slice(&size.to_be_bytes())?;
+    for _ in 0..size {
+        bytes.push(7)?;
+    }
+    if bytes.len() < 1_000_000 {
+        Ok(Message::from_vec(alloc, &bytes).ok())
+    } else {
+        Ok(None)
+    }
+}
+
+#[test]
+fn longest_message(rt: HostRuntime) -> Result<(), Fail> {
+    let message = with_size(rt.alloc(), 65512)?.ok_or("65,535 bytes")?;
+    let bytes = message.to_vec(rt.alloc()).ok().ok_or("not too long")?;
+    assert_eq!(rt; bytes.as_slice().len(), 65535);
+    let message = with_size(rt.alloc(), 65513)?.ok_or("65,536 bytes")?;
+    assert!(rt; message.to_vec(rt.alloc()).err() == Some(EncodeError::TooLong));
+    Ok(())
+}
+
+/// A question whose name has three labels of 63 bytes and one of so many.
+fn long_name(alloc: Global, last: u8) -> Result<Vec<u8>, AllocError> {
+    let mut bytes = bytes_of(alloc, "000000000001000000000000")?;
+    for size in [63, 63, 63, last] {
+        bytes.push(size)?;
+        for _ in 0..size {
+            bytes.push(97)?;
+        }
+    }
+    bytes.extend_from_slice(&[0, 0, 1, 0, 1])?;
+    Ok(bytes)
+}
+
+#[test]
+fn long_names(rt: HostRuntime) -> Result<(), Fail> {
+    let longest = long_name(rt.alloc(), 61)?;
+    assert!(rt; error_of(rt.alloc(), &longest).is_none());
+    let longer = long_name(rt.alloc(), 62)?;
+    let offset = 204;
+    let kind = DecodeKind::BadName;
+    assert!(rt; error_of(rt.alloc(), &longer) == Some(DecodeError { kind, offset }));
+    // the label that passes the limit also reaches past the end
+    let cut = &longer[..longer.len().min(250)];
+    let kind = DecodeKind::Short;
+    assert!(rt; error_of(rt.alloc(), cut) == Some(DecodeError { kind, offset }));
+    Ok(())
+}
+
+/// Some answer, other than want of memory, to the bytes with a pointer at a place.
+fn has_answer(
+    alloc: Global,
+    plain: &Vec<u8>,
+    place: usize,
+    upper: u8,
+    lower: u8,
+) -> Result<bool, AllocError> {
+    let mut bytes = plain.clone()?;
+    if place < bytes.len() {
+        bytes[place] = upper;
+    }
+    if place < bytes.len().saturating_sub(1) {
+        bytes[place + 1] = lower;
+    }
+    match error_of(alloc, &bytes) {
+        None => Ok(true),
+        Some(error) => Ok(
+            error.kind != DecodeKind::NoMemory && error.offset as usize <= bytes.len(),
+        ),
+    }
+}
+
+#[test]
+fn a_pointer_of_each_value_at_each_place(rt: HostRuntime) -> Result<(), Fail> {
+    let plain = bytes_of(
+        rt.alloc(),
+        "000080000001000100000000 01610000010001 c00c0002000100000e1000040162c00c",
+    )?;
+    for place in 0..plain.len() {
+        for upper in [192, 255] {
+            for lower in 0..=255u8 {
+                assert!(rt; has_answer(rt.alloc(), &plain, place, upper, lower)?);
+            }
+        }
+    }
+    Ok(())
+}
+
+/// An opaque rdata with the name `a.` and 1,000 pointers, each to the one before, the first to that name; then a record whose
+/// owner is a pointer to the last.
+fn row_of_pointers(alloc: Global) -> Result<Vec<u8>, AllocError> {
+    let mut bytes = bytes_of(
+        alloc,
+        "000080000000000200000000 00 ff00 0003 00000000 07d3 016100",
+    )?;
+    let mut target: u16 = 23;
+    for i in 0..1000u16 {
+        bytes.extend_from_slice(&(49152 + target).to_be_bytes())?;
+        target = 26 + 2 * i;
+    }
+    bytes.extend_from_slice(&(49152 + target).to_be_bytes())?;
+    bytes.extend_from_slice(&[255, 0, 0, 3, 0, 0, 0, 0, 0, 0])?;
+    Ok(bytes)
+}
+
+fn last_owner_is_a(message: &Message) -> bool {
+    match message.answers.as_slice() {
+        [_, last] => last.name.wire() == [1, 97, 0].as_slice(),
+        _ => false,
+    }
+}
+
+#[test]
+fn a_row_of_pointers(rt: HostRuntime) -> Result<(), Fail> {
+    let bytes = row_of_pointers(rt.alloc())?;
+    assert!(rt; bytes.len() < 10000);
+    let message = Message::from_vec(rt.alloc(), &bytes).ok().ok_or("a row")?;
+    assert!(rt; last_owner_is_a(&message));
+    Ok(())
+}

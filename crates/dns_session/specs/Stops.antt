@@ -1,0 +1,13 @@
+-- Reading that stops at a bad line, or where memory runs out.
+use Rattle.std.specs.Prelude.{ℕ, ◌≡◌, Result, Ok, Err}
+use Rattle.dns_session.specs.declared.stop.SessionStop.{SessionStop}
+use Rattle.dns_session.specs.declared.stop.SessionStop.TheVariants.{BadLine, NoMemory}
+
+abbrev pub StopsAs : {Y : Type 0} → SessionStop → Result Y ℕ → Type 0
+StopsAs (BadLine number) told = told ≡ Err number
+StopsAs NoMemory told = Unit {0}
+
+-- what a call returned, seen by `view`, is what reading gives, unless memory ran out
+abbrev pub ReadsAs : {X Y : Type 0} → (X → Y) → Result X SessionStop → Result Y ℕ → Type 0
+ReadsAs view (Ok x) told = told ≡ Ok (view x)
+ReadsAs view (Err stop) told = StopsAs stop told

@@ -1,0 +1,123 @@
+ghost use Rattle.std.specs.Prelude.{◌≡◌, IfOk, is_some};
+ghost use Rattle.dns_session.specs.Lines.{question_in, anchor_in, reply_in, anchor_line, query_line, reply_line};
+
+use crate::form::LineForm;
+use crate::session::{Anchor, Reply};
+use crate::words::{after, double, triple};
+use dns_message::{DecodeKind, Message};
+use dns_name::NoMemory;
+use dns_record::{DNSClass, Query};
+use dns_words::{name_in, octets_in, type_in, u8_in};
+use std::alloc::Global;
+
+/// A question of class IN by its words.
+fn question_of(alloc: Global, name: &[u8], kind: &[u8]) -> Result<Option<Query>, NoMemory>
+    ensures { IfOk result (λ q. q ≡ question_in name.now kind.now) }
+{
+    let Some(name) = name_in(alloc, name)? else {
+        return Ok(None);
+    };
+    let Some(query_type) = type_in(kind) else {
+        return Ok(None);
+    };
+    Ok(Some(Query {
+        name,
+        query_type,
+        query_class: DNSClass::IN,
+    }))
+}
+
+/// A trusted key by its words.
+fn anchor_of(
+    alloc: Global,
+    name: &[u8],
+    algorithm: &[u8],
+    key: &[u8],
+) -> Result<Option<Anchor>, NoMemory>
+    ensures { IfOk result (λ a. a ≡ anchor_in name.now algorithm.now key.now) }
+{
+    let Some(owner) = name_in(alloc, name)? else {
+        return Ok(None);
+    };
+    let Some(algorithm) = u8_in(algorithm) else {
+        return Ok(None);
+    };
+    let Some(key) = octets_in(alloc, key)? else {
+        return Ok(None);
+    };
+    Ok(Some(Anchor {
+        owner,
+        algorithm,
+        key,
+    }))
+}
+
+/// A reply by its words.
+fn reply_of(
+    alloc: Global,
+    name: &[u8],
+    kind: &[u8],
+    message: &[u8],
+) -> Result<Option<Reply>, NoMemory>
+    ensures { IfOk result (λ r. r ≡ reply_in name.now kind.now message.now) }
+{
+    let Some(query) = question_of(alloc, name, kind)? else {
+        return Ok(None);
+    };
+    let Some(bytes) = octets_in(alloc, message)? else {
+        return Ok(None);
+    };
+    let message = Message::from_vec(alloc, bytes.as_slice());
+    match message {
+        Ok(message) => Ok(Some(Reply { query, message: Ok(message) })),
+        Err(error) => {
+            if error.kind == DecodeKind::NoMemory {
+                Err(NoMemory)
+            } else {
+                Ok(Some(Reply { query, message: Err(error) }))
+            }
+        }
+    }
+}
+
+impl LineForm for Anchor {
+    ghost form = { anchor_line };
+
+    fn read(alloc: Global, line: &[u8]) -> Result<Option<Anchor>, NoMemory> {
+        match after(line, b"anchor") {
+            Some(rest) => match triple(rest) {
+                Some((name, algorithm, key)) => anchor_of(alloc, name, algorithm, key),
+                None => Ok(None),
+            },
+            None => Ok(None),
+        }
+    }
+}
+
+impl LineForm for Query {
+    ghost form = { query_line };
+
+    fn read(alloc: Global, line: &[u8]) -> Result<Option<Query>, NoMemory> {
+        match after(line, b"query") {
+            Some(rest) => match double(rest) {
+                Some((name, kind)) => question_of(alloc, name, kind),
+                None => Ok(None),
+            },
+            None => Ok(None),
+        }
+    }
+}
+
+impl LineForm for Reply {
+    ghost form = { reply_line };
+
+    fn read(alloc: Global, line: &[u8]) -> Result<Option<Reply>, NoMemory> {
+        match after(line, b"reply") {
+            Some(rest) => match triple(rest) {
+                Some((name, kind, message)) => reply_of(alloc, name, kind, message),
+                None => Ok(None),
+            },
+            None => Ok(None),
+        }
+    }
+}

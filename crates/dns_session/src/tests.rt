@@ -1,0 +1,206 @@
+use super::*;
+use dns_message::DecodeKind;
+use std::alloc::Global;
+use std::test::Fail;
+
+// The root's signed NS set under one anchored key.
+const ROOT: &str = "dns-session 1\n\
+    moment 1000\n\
+    algorithms 13\n\
+    anchor . 13 aabb\n\
+    accept 13 aabb 00020d0000000e10000007d000000384aec900000002000100000e100003016100 c0de\n\
+    query . NS\n\
+    reply . NS 0000840000010002000000000000020001000002000100000e10000301610000002e000100000e10001500020d0000000e10000007d000000384aec900c0de\n\
+    reply . DNSKEY 0000840000010001000000000000300001000030000100000e1000060101030daabb\n\
+    end\n";
+
+// The number of the first bad line, 0 where there is none, and a great number where memory runs out.
+fn bad_line(alloc: Global, text: &str) -> u64 {
+    match read_session(alloc, text.as_bytes()) {
+        Ok(_) => 0,
+        Err(SessionStop::BadLine(number)) => number,
+        Err(SessionStop::NoMemory) => u64::MAX,
+    }
+}
+
+// A line in each place of a small session, and whether it can stand there.
+fn bad_line_with(alloc: Global, place: u64, line: &str) -> Result<u64, Fail> {
+    let text = match place {
+        1 => format!(in alloc; "{line}\nmoment 0\nalgorithms\nquery . A\nend\n")?,
+        2 => format!(in alloc; "dns-session 1\n{line}\nalgorithms\nquery . A\nend\n")?,
+        3 => format!(in alloc; "dns-session 1\nmoment 0\n{line}\nquery . A\nend\n")?,
+        4 => format!(in alloc; "dns-session 1\nmoment 0\nalgorithms\n{line}\nquery . A\nend\n")?,
+        5 => format!(in alloc; "dns-session 1\nmoment 0\nalgorithms\nanchor . 1 -\n{line}\nend\n")?,
+        _ => format!(in alloc; "dns-session 1\nmoment 0\nalgorithms\nanchor . 1 -\nquery . A\n{line}\nend\n")?,
+    };
+    Ok(bad_line(alloc, text.as_str()))
+}
+
+#[test]
+fn each_line_has_its_forms(rt: HostRuntime) -> Result<(), Fail> {
+    let alloc = rt.alloc();
+    let good: [(u64, &str); 22] = [
+        (1, "dns-session 1"),
+        (2, "moment 0"),
+        (2, "moment 18446744073709551615"),
+        (3, "algorithms"),
+        (3, "algorithms 0 255 255"),
+        (4, "anchor . 13 aaBB"),
+        (4, "anchor . 13 -"),
+        (4, "anchor A\\.b\\009\\\\.C 255 0123456789abcdefABCDEF"),
+        (4, "anchor www.example. 0 00"),
+        (4, "anchor www.example 0 00"),
+        (4, "accept 1 - - -"),
+        (4, "accept 255 Aa bB 0C"),
+        (5, "query . ANY"),
+        (5, "query \\065.\\*.b NSEC3PARAM"),
+        (5, "query . TYPE0"),
+        (5, "query . TYPE65535"),
+        (5, "query . TYPE3"),
+        (6, "reply . A -"),
+        (6, "reply . A 00"),
+        (6, "reply a. TYPE3 0000840000000000000000FF"),
+        (6, "reply a. DNSKEY 000084000000000000000000"),
+        (6, "reply \\200. IXFR aA"),
+    ];
+    for (place, line) in good {
+        assert_eq!(rt; bad_line_with(alloc, place, line)?, 0, "{line}");
+    }
+    Ok(())
+}
+
+#[test]
+fn a_bad_line_is_told_by_its_number(rt: HostRuntime) -> Result<(), Fail> {
+    let alloc = rt.alloc();
+    let bad: [(u64, &str); 56] = [
+        (1, ""),
+        (1, "dns-session 2"),
+        (1, "dns-session  1"),
+        (1, "dns-session 1 "),
+        (1, " dns-session 1"),
+        (1, "dns-session 01"),
+        (1, "dns-session 1\r"),
+        (2, "moment"),
+        (2, "moment "),
+        (2, "moment 00"),
+        (2, "moment 01"),
+        (2, "moment +1"),
+        (2, "moment -1"),
+        (2, "moment 1 2"),
+        (2, "moment  1"),
+        (2, "moment 1 "),
+        (2, "moment 18446744073709551616"),
+        (2, "moment 36893488147419103232"),
+        (2, "moment 340282366920938463463374607431768211457"),
+        (2, "algorithms"),
+        (3, "algorithms "),
+        (3, "algorithms 256"),
+        (3, "algorithms 013"),
+        (3, "algorithms 1  2"),
+        (3, "algorithms 1 2 "),
+        (3, "algorithms 1 a"),
+        (3, "query . A"),
+        (4, "anchor . 13"),
+        (4, "anchor . 13 "),
+        (4, "anchor . 13 a"),
+        (4, "anchor . 13 aabbc"),
+        (4, "anchor . 13 ag"),
+        (4, "anchor . 13 --"),
+        (4, "anchor . 13 aa bb"),
+        (4, "anchor . 13  aa"),
+        (4, "anchor . 256 aa"),
+        (4, "anchor . 013 aa"),
+        (4, "anchor .. 13 aa"),
+        (4, "anchor a..b 13 aa"),
+        (4, "anchor a\\256 13 aa"),
+        (4, "accept 13 - -"),
+        (4, "accept 13 - - - -"),
+        (4, "reply . A -"),
+        (4, "end"),
+        (5, "query . TYPE1"),
+        (5, "query . TYPE03"),
+        (5, "query . TYPE65536"),
+        (5, "query . TYPE"),
+        (5, "query . a"),
+        (5, "query . A IN"),
+        (5, "query ."),
+        (5, "query  . A"),
+        (6, "query . A"),
+        (6, "reply . A"),
+        (6, "reply . A 000"),
+        (6, "anchor . 13 aa"),
+    ];
+    for (place, line) in bad {
+        assert_eq!(rt; bad_line_with(alloc, place, line)?, place, "{line}");
+    }
+    Ok(())
+}
+
+#[test]
+fn a_text_is_whole_and_ends_with_lf(rt: HostRuntime) {
+    let alloc = rt.alloc();
+    let cases: [(&str, u64); 12] = [
+        ("", 1),
+        ("\n", 1),
+        ("dns-session 1", 1),
+        ("dns-session 1\n", 2),
+        ("dns-session 1\nmoment 1\nalgorithms\nquery . A", 4),
+        ("dns-session 1\nmoment 1\nalgorithms\nquery . A\n", 5),
+        ("dns-session 1\nmoment 1\nalgorithms\nquery . A\nend", 5),
+        ("dns-session 1\nmoment 1\nalgorithms\nquery . A\nend\n", 0),
+        ("dns-session 1\nmoment 1\nalgorithms\nquery . A\nend\n\n", 6),
+        ("dns-session 1\nmoment 1\nalgorithms\nquery . A\nend\nend\n", 6),
+        ("dns-session 1\nmoment 1\nalgorithms\nquery . A\nend\n ", 6),
+        ("dns-session 1\nmoment 1\nalgorithms\naccept 1 - - -\nanchor . 1 -\nquery . A\nend\n", 5),
+    ];
+    for (text, want) in cases {
+        assert_eq!(rt; bad_line(alloc, text), want, "{text}");
+    }
+    let last = ROOT.len() - 4;
+    assert_eq!(rt; bad_line(alloc, &ROOT[..last]), 9);
+}
+
+#[test]
+fn the_signed_root_is_read(rt: HostRuntime) -> Result<(), Fail> {
+    let alloc = rt.alloc();
+    let Ok(session) = read_session(alloc, ROOT.as_bytes()) else {
+        return Err(Fail::new("no session"));
+    };
+    assert_eq!(rt; session.moment, 1000);
+    assert!(rt; session.algorithms.as_slice() == b"\x0d".as_slice());
+    assert_eq!(rt; session.anchors.len(), 1);
+    assert!(rt; session.anchors[0].owner.is_root());
+    assert_eq!(rt; session.anchors[0].algorithm, 13);
+    assert!(rt; session.anchors[0].key.as_slice() == b"\xaa\xbb".as_slice());
+    assert_eq!(rt; session.accepts.len(), 1);
+    assert_eq!(rt; session.accepts[0].algorithm, 13);
+    assert!(rt; session.accepts[0].key.as_slice() == b"\xaa\xbb".as_slice());
+    assert_eq!(rt; session.accepts[0].bytes.as_slice().len(), 32);
+    assert!(rt; session.accepts[0].signature.as_slice() == b"\xc0\xde".as_slice());
+    assert_eq!(rt; session.query.query_type.0, 2);
+    assert_eq!(rt; session.query.query_class.0, 1);
+    assert_eq!(rt; session.replies.len(), 2);
+    assert_eq!(rt; session.replies[1].query.query_type.0, 48);
+    match &session.replies[0].message {
+        Ok(message) => assert_eq!(rt; message.answers.len(), 2),
+        Err(_) => assert!(rt; false),
+    }
+    Ok(())
+}
+
+#[test]
+fn bytes_that_are_no_message_are_kept_as_their_fault(rt: HostRuntime) -> Result<(), Fail> {
+    let alloc = rt.alloc();
+    let text = "dns-session 1\nmoment 1\nalgorithms\nquery . A\nreply . A 000084000001000000000000c00c00010001\nend\n";
+    let Ok(session) = read_session(alloc, text.as_bytes()) else {
+        return Err(Fail::new("no session"));
+    };
+    match &session.replies[0].message {
+        Ok(_) => assert!(rt; false),
+        Err(error) => {
+            assert!(rt; error.kind == DecodeKind::BadName);
+            assert_eq!(rt; error.offset, 12);
+        }
+    }
+    Ok(())
+}

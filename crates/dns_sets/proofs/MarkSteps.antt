@@ -1,0 +1,48 @@
+-- How a record is marked by the place of its set.
+use Rattle.std.proofs.Common.{◌≡◌, ℕ, ◌+◌, ◌<◌, ◌≤◌, Bool, true, false, ◌&&◌, ◌==◌, cond, List, [], ◌∷◌, ◌++◌, length, take, get_or, Option, None, Some, refl, sym, ap, ◌∙◌, subst, arith}
+use Rattle.std.proofs.lemmas.List.{take_more, take_all, length-take-le}
+use Rattle.dns_model.specs.declared.section.Section.{Section}
+use Rattle.dns_model.specs.Names.{Labels, name_eq}
+use Rattle.dns_model.specs.Records.{Rr}
+use Rattle.dns_model.specs.Answers.{section_eq, set_kind}
+use Rattle.dns_judgement.specs.Judged.{Judged}
+use Rattle.dns_judgement.specs.Marking.{cleared, marked, marked_by}
+use Rattle.dns_sets.specs.declared.places.Places.{Places}
+use Rattle.dns_sets.specs.Places.{place_of, or_place, with_place, with_judged, place_in, is_placed, ArePlacedIn}
+use Rattle.dns_sets.proofs.PlaceLemmas.{IsPlace, is_place, is_absent, place-push, or_none}
+
+pub set_at : (p : Places) (section : Section) (sets : List Judged) (owner : Labels) (kind n : ℕ) → ArePlacedIn p section sets → Some n ≡ place_of p owner kind
+    → IsPlace (is_placed section owner kind) sets n
+set_at p section sets owner kind n are is = is_place (is_placed section owner kind) sets n (sym (are.each owner kind) ∙ sym is)
+
+pub marked_at : (p : Places) (now : ℕ) (section : Section) (sets : List Judged) (r s : Rr) (n : ℕ) (x : Judged) → ArePlacedIn p section sets
+    → Some n ≡ place_of p r.owner (set_kind r) → x ≡ get_or sets n x → s ≡ marked_by now r (Some x) → s ≡ marked now sets section r
+unfolding marked
+marked_at p now section sets r s n x are is read made =
+    made ∙ ap (marked_by now r) (sym ((set_at p section sets r.owner (set_kind r) n are is).found x read))
+
+pub marked_none : (p : Places) (now : ℕ) (section : Section) (sets : List Judged) (r s : Rr) → ArePlacedIn p section sets
+    → None ≡ place_of p r.owner (set_kind r) → s ≡ cleared r → s ≡ marked now sets section r
+unfolding marked
+marked_none p now section sets r s are is made =
+    made ∙ ap (marked_by now r) (sym (is_absent (is_placed section r.owner (set_kind r)) sets (sym (are.each r.owner (set_kind r)) ∙ sym is)).missing)
+
+-- ---- the places of judged sets
+
+pub none_placed : (p : Places) (section : Section) → ((o : Labels) (k : ℕ) → place_of p o k ≡ None) → ArePlacedIn p section []
+unfolding place_in
+none_placed p section is = record { each = is }
+
+pub placed_more : (old new : Places) (section : Section) (sets : List Judged) (i : ℕ) (x : Judged) → i < length sets → x ≡ get_or sets i x
+    → ArePlacedIn old section (take i sets) → ((o : Labels) (k : ℕ) → place_of new o k ≡ with_judged (place_of old) section x i o k)
+    → ArePlacedIn new section (take (i + 1) sets)
+placed_more old new section sets i x within read are is =
+    let long : length (take i sets) ≡ i = length-take-le i sets (omega arith) in
+    let more : take (i + 1) sets ≡ take i sets ++ x ∷ [] = take_more sets i x within ∙ ap (λ y. take i sets ++ y ∷ []) (sym read) in
+    let P = λ (xs : List Judged). ArePlacedIn new section xs in
+    subst P (sym more) (record {
+      each = λ o k.
+        is o k ∙ ap (λ p. or_place p (cond (is_placed section o k x) (Some i) None)) (are.each o k)
+        ∙ ap (λ m. or_place (place_in (is_placed section o k) (take i sets)) (cond (is_placed section o k x) (Some m) None)) (sym long)
+        ∙ sym (place-push (is_placed section o k) (take i sets) x);
+    })

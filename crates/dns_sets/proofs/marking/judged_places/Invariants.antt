@@ -1,0 +1,6 @@
+use Rattle.std.proofs.Common.{take}
+use Rattle.dns_sets.specs.Places.{ArePlacedIn}
+use Rattle.dns_sets.proofs.marking.judged_places.Given as goal
+
+abbrev pub invariant-loop-place : goal.invariant-loop-place
+invariant-loop-place l = ArePlacedIn l.places l.section (take l.place l.sets)

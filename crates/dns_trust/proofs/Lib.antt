@@ -1,0 +1,3 @@
+pub mod ChainOf
+pub mod Searching
+pub mod Counts

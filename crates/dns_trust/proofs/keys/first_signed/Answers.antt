@@ -1,0 +1,18 @@
+use Rattle.std.proofs.Common.{◌≡◌, ap, ◌∙◌, sym}
+use Rattle.std.specs.Option.{option_copied}
+use Rattle.dns_model.specs.Chains.{judge}
+use Rattle.dns_judgement.specs.Marks.{first_signed}
+use Rattle.dns_trust.proofs.Searching.{signed_here, signed_past, signed_end}
+use Rattle.dns_trust.proofs.keys.first_signed.Goals as goal
+
+pub returns-in-Some : goal.returns-in-Some
+returns-in-Some g c = ?
+
+pub loop-place-preserved : goal.loop-place-preserved
+loop-place-preserved g c = ?
+
+pub returns : goal.returns
+returns g c =
+    sym (signed_end (judge (g.V.Verifier.answers c.args.verifier.now) c.args.anchors.now c.args.now) c.args.set.now c.first_signatures-signatures.result.now c.loop-place.place c.loop-place-test.false)
+    ∙ c.loop-place.invariant
+    ∙ ap (first_signed (judge (g.V.Verifier.answers c.args.verifier.now) c.args.anchors.now c.args.now) c.args.set.now 0) c.first_signatures-signatures.ensures.first

@@ -1,0 +1,54 @@
+-- What a list of accepted signatures supports and accepts.
+use Rattle.std.specs.Prelude.{ℕ, ◌≡◌, ◌<◌, Bool, true, false, not, ◌==◌, ◌&&◌, ◌||◌, List, [], ◌∷◌, ◌++◌, if◌then◌else◌}
+use Rattle.std.specs.List.{list_any}
+use Rattle.dns_model.specs.Keys.{Answers, bytes_eq}
+use Rattle.dns_trust.specs.Finding.{mixed}
+
+-- a signature over bytes that a key's is, under an algorithm
+pub record AcceptedText : Type 0 where
+  pub algorithm : ℕ
+  pub key : List ℕ
+  pub bytes : List ℕ
+  pub signature : List ℕ
+
+pub record ListedText : Type 0 where
+  pub algorithms : List ℕ
+  pub accepted : List AcceptedText
+
+abbrev pub is_entry : ℕ → List ℕ → List ℕ → List ℕ → AcceptedText → Bool
+is_entry algorithm key bytes signature entry =
+    (algorithm == entry.algorithm) && (bytes_eq key entry.key && (bytes_eq bytes entry.bytes && bytes_eq signature entry.signature))
+
+abbrev pub is_listed : ListedText → ℕ → Bool
+is_listed listed algorithm = list_any (λ a. algorithm == a) listed.algorithms
+
+-- what is listed is supported and accepted, but never algorithm 1 (RFC 8624, 3.1)
+abbrev pub answers_of : ListedText → Answers
+answers_of listed = record {
+  supports = λ algorithm. not (algorithm == 1) && is_listed listed algorithm;
+  accepts = λ algorithm key bytes signature. not (algorithm == 1) && list_any (is_entry algorithm key bytes signature) listed.accepted;
+}
+
+-- one algorithm more; algorithm 1 changes nothing
+abbrev pub with_algorithm : ListedText → ℕ → ListedText
+with_algorithm listed algorithm =
+    if (algorithm == 1) || is_listed listed algorithm then listed
+    else record listed { algorithms = listed.algorithms ++ algorithm ∷ [] }
+
+-- one signature more; algorithm 1 changes nothing
+abbrev pub with_accepted : ListedText → AcceptedText → ListedText
+with_accepted listed entry =
+    if entry.algorithm == 1 then listed else record listed { accepted = listed.accepted ++ entry ∷ [] }
+
+-- the number by which a signature is found
+abbrev pub number_of : ℕ → List ℕ → List ℕ → List ℕ → ℕ
+number_of algorithm key bytes signature = mixed (mixed (mixed algorithm key) bytes) signature
+
+abbrev pub entry_number : AcceptedText → ℕ
+entry_number entry = number_of entry.algorithm entry.key entry.bytes entry.signature
+
+-- what one supports and accepts, so does the other; an algorithm is a byte
+pub record Within (a b : Answers) : Type 0 where
+  pub supports : (algorithm : ℕ) → algorithm < 256 → a.supports algorithm ≡ true → b.supports algorithm ≡ true
+  pub accepts : (algorithm : ℕ) (key bytes signature : List ℕ) → algorithm < 256
+      → a.accepts algorithm key bytes signature ≡ true → b.accepts algorithm key bytes signature ≡ true

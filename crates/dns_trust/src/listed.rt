@@ -1,0 +1,222 @@
+ghost use Rattle.std.specs.Prelude.{◌≡◌, ◌↔◌, ◌==◌, [], IsTrue, IfOk, OnOk, OnErr};
+ghost use Rattle.std.specs.List.{list_any};
+ghost use Rattle.dns_net.specs.Verifiers.{AnswerAlike};
+ghost use Rattle.dns_trust.specs.Finding.{passes_at};
+ghost use Rattle.dns_trust.specs.Listing.{Within, answers_of, is_entry as is_entry_of, number_of as number_in, with_accepted, with_algorithm};
+
+use crate::finding::{Places, add_place, mix};
+use dns_name::{NoMemory, Octets};
+use dns_net::Verifier;
+use std::alloc::Global;
+use std::collections::BTreeMap;
+use std::marker::Model;
+
+/// A signature that is accepted.
+#[derive(Drop)]
+struct Accepted {
+    algorithm: u8,
+    key: Octets,
+    bytes: Octets,
+    signature: Octets,
+}
+
+impl Model for Accepted {
+    ghost use Rattle.dns_trust.specs.Listing.{AcceptedText};
+
+    ghost Value = { AcceptedText };
+
+    ghost view = { λ a. record { algorithm = a.algorithm; key = a.key; bytes = a.bytes; signature = a.signature } };
+}
+
+/// A verifier that supports and accepts what was listed, and nothing else; algorithm 1 never. It computes nothing.
+#[derive(Drop)]
+pub struct Listed {
+    algorithms: Vec<u8>,
+    accepted: Vec<Accepted>,
+    places: Places,
+}
+
+impl Model for Listed {
+    ghost use Rattle.dns_trust.specs.Listing.{ListedText, entry_number};
+    ghost use Rattle.dns_trust.specs.Finding.{Covers};
+
+    ghost Value = { ListedText };
+
+    ghost view = { λ l. record { algorithms = l.algorithms.items; accepted = l.accepted.items } };
+
+    ghost invariant = { λ l. Covers entry_number l.places l.accepted.items };
+}
+
+impl Listed {
+    /// Nothing is supported, and nothing accepted.
+    pub fn new(alloc: Global) -> Listed
+        ensures { result ≡ record { algorithms = []; accepted = [] } }
+    {
+        Listed {
+            algorithms: Vec::new(alloc),
+            accepted: Vec::new(alloc),
+            places: BTreeMap::new(alloc),
+        }
+    }
+
+    /// Supports an algorithm from now on; algorithm 1 changes nothing. For want of memory all stays as it was.
+    pub fn support(&mut self, algorithm: u8) -> Result<(), NoMemory>
+        ensures ok { OnOk result (self.new ≡ with_algorithm self.old algorithm) }
+        ensures err { OnErr result (self.new ≡ self.old) }
+    {
+        if algorithm == 1 || has_algorithm(&self.algorithms, algorithm) {
+            return Ok(());
+        }
+        self.algorithms.push(algorithm)?;
+        Ok(())
+    }
+
+    /// Accepts a signature over bytes by a key under an algorithm from now on; algorithm 1 changes nothing. For want of
+    /// memory all stays as it was.
+    pub fn accept(
+        &mut self,
+        algorithm: u8,
+        key: &[u8],
+        bytes: &[u8],
+        signature: &[u8],
+    ) -> Result<(), NoMemory>
+        ensures ok { OnOk result (self.new ≡ with_accepted self.old (record { algorithm = algorithm; key = key.now; bytes = bytes.now; signature = signature.now })) }
+        ensures err { OnErr result (self.new ≡ self.old) }
+    {
+        if algorithm == 1 {
+            return Ok(());
+        }
+        let alloc = *self.accepted.allocator();
+        let entry = entry_of(alloc, algorithm, key, bytes, signature)?;
+        let number = number_of(algorithm, key, bytes, signature);
+        add_place(alloc, &mut self.places, number, self.accepted.len())?;
+        self.accepted.push(entry)?;
+        Ok(())
+    }
+}
+
+impl Verifier for Listed {
+    ghost use Rattle.dns_trust.specs.Listing.{answers_of};
+
+    ghost answers = { answers_of };
+
+    fn supports(&self, algorithm: u8) -> bool {
+        algorithm != 1 && has_algorithm(&self.algorithms, algorithm)
+    }
+
+    fn accepts(&self, algorithm: u8, key: &[u8], bytes: &[u8], signature: &[u8]) -> bool {
+        algorithm != 1 && self.holds(algorithm, key, bytes, signature)
+    }
+
+    /// Both hold the same, in whatever order and however often.
+    fn same(&self, other: &Listed) -> bool
+        ensures { IsTrue result ↔ AnswerAlike (answers_of self.now) (answers_of other.now) }
+    {
+        self.is_within(other) && other.is_within(self)
+    }
+}
+
+impl Listed {
+    // A signature is listed.
+    fn holds(&self, algorithm: u8, key: &[u8], bytes: &[u8], signature: &[u8]) -> bool
+        ensures { result ≡ list_any (is_entry_of algorithm key.now bytes.now signature.now) self.now.accepted }
+    {
+        match self.places.get(&number_of(algorithm, key, bytes, signature)) {
+            Some(places) => places
+                .iter()
+                .any(|place| is_entry_at(&self.accepted, *place, algorithm, key, bytes, signature)),
+            None => false,
+        }
+    }
+
+    // The other supports and accepts what this does.
+    fn is_within(&self, other: &Listed) -> bool
+        ensures { IsTrue result ↔ Within (answers_of self.now) (answers_of other.now) }
+    {
+        for algorithm in &self.algorithms {
+            if *algorithm != 1 && !other.supports(*algorithm) {
+                return false;
+            }
+        }
+        for entry in &self.accepted {
+            if entry.algorithm != 1 && !other.holds_entry(entry) {
+                return false;
+            }
+        }
+        true
+    }
+
+    // An entry is listed.
+    fn holds_entry(&self, entry: &Accepted) -> bool
+        ensures { result ≡ list_any (is_entry_of entry.now.algorithm entry.now.key entry.now.bytes entry.now.signature) self.now.accepted }
+    {
+        self.holds(
+            entry.algorithm,
+            entry.key.as_slice(),
+            entry.bytes.as_slice(),
+            entry.signature.as_slice(),
+        )
+    }
+}
+
+// An algorithm is listed.
+fn has_algorithm(algorithms: &[u8], algorithm: u8) -> bool
+    ensures { result ≡ list_any (λ a. algorithm == a) algorithms.now }
+{
+    algorithms.iter().any(|listed| algorithm == *listed)
+}
+
+// The entry at a place is this signature.
+fn is_entry_at(
+    accepted: &[Accepted],
+    place: usize,
+    algorithm: u8,
+    key: &[u8],
+    bytes: &[u8],
+    signature: &[u8],
+) -> bool
+    ensures { result ≡ passes_at (is_entry_of algorithm key.now bytes.now signature.now) accepted.now place }
+{
+    match accepted.get(place) {
+        Some(entry) => is_entry(entry, algorithm, key, bytes, signature),
+        None => false,
+    }
+}
+
+// The entry is this signature.
+fn is_entry(entry: &Accepted, algorithm: u8, key: &[u8], bytes: &[u8], signature: &[u8]) -> bool
+    ensures { result ≡ is_entry_of algorithm key.now bytes.now signature.now entry.now }
+{
+    algorithm == entry.algorithm
+        && key == entry.key.as_slice()
+        && bytes == entry.bytes.as_slice()
+        && signature == entry.signature.as_slice()
+}
+
+// An entry of copies.
+fn entry_of(
+    alloc: Global,
+    algorithm: u8,
+    key: &[u8],
+    bytes: &[u8],
+    signature: &[u8],
+) -> Result<Accepted, NoMemory>
+    ensures { IfOk result (λ a. a ≡ record { algorithm = algorithm; key = key.now; bytes = bytes.now; signature = signature.now }) }
+{
+    let key = Octets::from_slice(alloc, key)?;
+    let bytes = Octets::from_slice(alloc, bytes)?;
+    let signature = Octets::from_slice(alloc, signature)?;
+    Ok(Accepted {
+        algorithm,
+        key,
+        bytes,
+        signature,
+    })
+}
+
+// The number by which a signature is found.
+fn number_of(algorithm: u8, key: &[u8], bytes: &[u8], signature: &[u8]) -> u64
+    ensures { result ≡ number_in algorithm key.now bytes.now signature.now }
+{
+    mix(mix(mix(u64::from(algorithm), key), bytes), signature)
+}
