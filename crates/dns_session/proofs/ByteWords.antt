@@ -16,7 +16,7 @@ bytes_left (Some rest) = length rest.now + 1
 
 with_one : (front : List ℕ) (n : ℕ) (more : Option (List ℕ)) → with_bytes (front ++ n ∷ []) more ≡ with_bytes front (more >>= λ others. Some (n ∷ others))
 with_one front n None = refl
-with_one front n (Some others) = ap Some append_assoc
+with_one front n (Some others) = ap Some (append_assoc front (n ∷ []) others)
 
 pub next_byte : (front text word : List ℕ) (more all : Option (List ℕ)) (n : ℕ) → with_bytes front (bytes_in (words text)) ≡ all → words text ≡ word ∷ words_left more → Some n ≡ decimal_in 255 word → with_bytes (front ++ n ∷ []) (bytes_in (words_left more)) ≡ all
 unfolding bytes_in

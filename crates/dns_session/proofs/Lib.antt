@@ -1,3 +1,4 @@
 pub mod PieceLemmas
 pub mod ManyLemmas
 pub mod ByteWords
+pub mod WordLengths

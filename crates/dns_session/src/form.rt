@@ -1,4 +1,4 @@
-ghost use Rattle.std.specs.Prelude.{◌≡◌, ℕ, List, Option, IfOk};
+ghost use Rattle.std.specs.Prelude.{◌≡◌, ◌<◌, ◌^◌, ℕ, List, Option, IfOk, length};
 ghost use Rattle.dns_session.specs.Places.{many, one};
 ghost use Rattle.dns_model.specs.Gives.{Gives};
 
@@ -13,6 +13,7 @@ pub(crate) trait LineForm: Sized + Drop {
 
     /// What a line says, where it has the form.
     fn read(alloc: Global, line: &[u8]) -> Result<Option<Self>, NoMemory>
+        requires { length line.now < 2 ^ 32 }
         ensures { IfOk result (λ x. x ≡ form line.now) };
 }
 

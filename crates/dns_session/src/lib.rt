@@ -4,7 +4,15 @@
 mod form;
 mod forms;
 mod lines;
+mod named_forms;
+mod reading;
 mod session;
+mod stop;
 mod words;
 
+pub use reading::read_session;
 pub use session::{Accept, Anchor, Reply, Session};
+pub use stop::SessionStop;
+
+#[cfg(test)]
+mod tests;

@@ -1,4 +1,4 @@
-ghost use Rattle.std.specs.Prelude.{◌≡◌, ◌∷◌, ◌+◌, ◌<◌, ◌==◌, [], length, position, MatchOption, IfSome};
+ghost use Rattle.std.specs.Prelude.{◌≡◌, ◌∷◌, ◌+◌, ◌<◌, ◌==◌, ◌^◌, [], length, position, MatchOption, IfSome};
 ghost use Rattle.std.specs.Option.{option_map};
 ghost use Rattle.dns_session.specs.Places.{pieces, next_line, start_of, is_ended};
 
@@ -32,19 +32,20 @@ pub(crate) struct Lines<'a> {
 }
 
 impl<'a> Model for Lines<'a> {
-    ghost use Rattle.std.specs.Prelude.{length, ◌+◌, ◌≤◌, ◌^◌};
+    ghost use Rattle.std.specs.Prelude.{length, ◌+◌, ◌≤◌, ◌<◌, ◌^◌};
     ghost use Rattle.dns_session.specs.Places.{Place, place, pieces};
 
     ghost Value = { Place };
 
     ghost view = { λ l. place l.number (pieces 10 l.rest.now) };
 
-    ghost invariant = { λ l. l.number + length l.rest.now ≤ 2 ^ 63 };
+    ghost invariant = { λ l. (l.number + length l.rest.now ≤ 2 ^ 63) × (length l.rest.now < 2 ^ 32) };
 }
 
 impl<'a> Lines<'a> {
     /// All lines of a text.
     pub(crate) fn of(text: &'a [u8]) -> Lines<'a>
+        requires { length text.now < 2 ^ 32 }
         ensures { result ≡ start_of text.now }
     {
         Lines {
@@ -62,7 +63,8 @@ impl<'a> Lines<'a> {
 
     /// The next line, and those after it; none where no LF is left.
     pub(crate) fn next(&self) -> Option<(&'a [u8], Lines<'a>)>
-        ensures { option_map (λ x. (x.0.now, x.1)) result ≡ next_line self.now }
+        ensures next { option_map (λ x. (x.0.now, x.1)) result ≡ next_line self.now }
+        ensures short { IfSome result (λ x. length x.0.now < 2 ^ 32) }
     {
         match cut_at(self.rest, b'\n') {
             Some((line, rest)) => {

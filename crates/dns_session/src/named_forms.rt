@@ -1,4 +1,4 @@
-ghost use Rattle.std.specs.Prelude.{◌≡◌, IfOk, is_some};
+ghost use Rattle.std.specs.Prelude.{◌≡◌, ◌<◌, ◌^◌, IfOk, length};
 ghost use Rattle.dns_session.specs.Lines.{question_in, anchor_in, reply_in, anchor_line, query_line, reply_line};
 
 use crate::form::LineForm;
@@ -59,6 +59,7 @@ fn reply_of(
     kind: &[u8],
     message: &[u8],
 ) -> Result<Option<Reply>, NoMemory>
+    requires { length message.now < 2 ^ 32 }
     ensures { IfOk result (λ r. r ≡ reply_in name.now kind.now message.now) }
 {
     let Some(query) = question_of(alloc, name, kind)? else {
@@ -69,12 +70,18 @@ fn reply_of(
     };
     let message = Message::from_vec(alloc, bytes.as_slice());
     match message {
-        Ok(message) => Ok(Some(Reply { query, message: Ok(message) })),
+        Ok(message) => Ok(Some(Reply {
+            query,
+            message: Ok(message),
+        })),
         Err(error) => {
             if error.kind == DecodeKind::NoMemory {
                 Err(NoMemory)
             } else {
-                Ok(Some(Reply { query, message: Err(error) }))
+                Ok(Some(Reply {
+                    query,
+                    message: Err(error),
+                }))
             }
         }
     }
@@ -94,17 +101,16 @@ impl LineForm for Anchor {
     }
 }
 
-impl LineForm for Query {
-    ghost form = { query_line };
-
-    fn read(alloc: Global, line: &[u8]) -> Result<Option<Query>, NoMemory> {
-        match after(line, b"query") {
-            Some(rest) => match double(rest) {
-                Some((name, kind)) => question_of(alloc, name, kind),
-                None => Ok(None),
-            },
+/// The question of a `query` line.
+pub(crate) fn query_of(alloc: Global, line: &[u8]) -> Result<Option<Query>, NoMemory>
+    ensures { IfOk result (λ q. q ≡ query_line line.now) }
+{
+    match after(line, b"query") {
+        Some(rest) => match double(rest) {
+            Some((name, kind)) => question_of(alloc, name, kind),
             None => Ok(None),
-        }
+        },
+        None => Ok(None),
     }
 }
 

@@ -1,12 +1,13 @@
-ghost use Rattle.std.specs.Prelude.{◌≡◌};
-ghost use Rattle.dns_session.specs.Places.{one};
+ghost use Rattle.std.specs.Prelude.{◌≡◌, ◌<◌, ◌^◌, length};
+ghost use Rattle.dns_session.specs.Places.{one, Place};
 ghost use Rattle.dns_session.specs.Lines.{header_line, moment_line, algorithms_line, query_line, end_line};
 ghost use Rattle.dns_session.specs.Grammar.{session_of};
 ghost use Rattle.dns_session.specs.Stops.{ReadsAs};
 
-use crate::form::{LineForm, many};
+use crate::form::many;
 use crate::forms::{algorithms_of, is_end, is_header, moment_of};
 use crate::lines::Lines;
+use crate::named_forms::query_of;
 use crate::session::Session;
 use crate::stop::SessionStop;
 use dns_record::Query;
@@ -15,17 +16,11 @@ use std::alloc::Global;
 /// The lines after the first.
 #[tactic(auto, unfolding(crate::specs::Places::one))]
 fn after_header<'a>(lines: Lines<'a>) -> Result<Lines<'a>, SessionStop>
-    ensures { ReadsAs (λ after. (tt, after)) result (one header_line lines.entry) }
+    ensures { ReadsAs (λ (after : Place). (tt, after)) result (one header_line lines.entry) }
 {
     let bad = SessionStop::BadLine(lines.number());
     match lines.next() {
-        Some((line, after)) => {
-            if is_header(line) {
-                Ok(after)
-            } else {
-                Err(bad)
-            }
-        }
+        Some((line, after)) => { if is_header(line) { Ok(after) } else { Err(bad) } }
         None => Err(bad),
     }
 }
@@ -47,10 +42,7 @@ fn one_moment<'a>(lines: Lines<'a>) -> Result<(u64, Lines<'a>), SessionStop>
 
 /// The supported algorithms, and the lines after them.
 #[tactic(auto, unfolding(crate::specs::Places::one))]
-fn one_algorithms<'a>(
-    alloc: Global,
-    lines: Lines<'a>,
-) -> Result<(Vec<u8>, Lines<'a>), SessionStop>
+fn one_algorithms<'a>(alloc: Global, lines: Lines<'a>) -> Result<(Vec<u8>, Lines<'a>), SessionStop>
     ensures { ReadsAs (λ x. (x.0.items, x.1)) result (one algorithms_line lines.entry) }
 {
     let bad = SessionStop::BadLine(lines.number());
@@ -81,17 +73,11 @@ fn one_query<'a>(alloc: Global, lines: Lines<'a>) -> Result<(Query, Lines<'a>), 
 /// The lines after the last of the form.
 #[tactic(auto, unfolding(crate::specs::Places::one))]
 fn after_end<'a>(lines: Lines<'a>) -> Result<Lines<'a>, SessionStop>
-    ensures { ReadsAs (λ after. (tt, after)) result (one end_line lines.entry) }
+    ensures { ReadsAs (λ (after : Place). (tt, after)) result (one end_line lines.entry) }
 {
     let bad = SessionStop::BadLine(lines.number());
     match lines.next() {
-        Some((line, after)) => {
-            if is_end(line) {
-                Ok(after)
-            } else {
-                Err(bad)
-            }
-        }
+        Some((line, after)) => { if is_end(line) { Ok(after) } else { Err(bad) } }
         None => Err(bad),
     }
 }
@@ -102,6 +88,7 @@ fn after_end<'a>(lines: Lines<'a>) -> Result<Lines<'a>, SessionStop>
 /// after the last is bad where anything follows.
 #[tactic(auto, unfolding(crate::specs::Grammar::session_at))]
 pub fn read_session(alloc: Global, bytes: &[u8]) -> Result<Session, SessionStop>
+    requires { length bytes.now < 2 ^ 32 }
     ensures { ReadsAs (λ s. s) result (session_of bytes.now) }
 {
     let lines = after_header(Lines::of(bytes))?;

@@ -31,7 +31,9 @@ fn bad_line_with(alloc: Global, place: u64, line: &str) -> Result<u64, Fail> {
         3 => format!(in alloc; "dns-session 1\nmoment 0\n{line}\nquery . A\nend\n")?,
         4 => format!(in alloc; "dns-session 1\nmoment 0\nalgorithms\n{line}\nquery . A\nend\n")?,
         5 => format!(in alloc; "dns-session 1\nmoment 0\nalgorithms\nanchor . 1 -\n{line}\nend\n")?,
-        _ => format!(in alloc; "dns-session 1\nmoment 0\nalgorithms\nanchor . 1 -\nquery . A\n{line}\nend\n")?,
+        _ => format!(in alloc;
+            "dns-session 1\nmoment 0\nalgorithms\nanchor . 1 -\nquery . A\n{line}\nend\n"
+        )?,
     };
     Ok(bad_line(alloc, text.as_str()))
 }
@@ -149,9 +151,15 @@ fn a_text_is_whole_and_ends_with_lf(rt: HostRuntime) {
         ("dns-session 1\nmoment 1\nalgorithms\nquery . A\nend", 5),
         ("dns-session 1\nmoment 1\nalgorithms\nquery . A\nend\n", 0),
         ("dns-session 1\nmoment 1\nalgorithms\nquery . A\nend\n\n", 6),
-        ("dns-session 1\nmoment 1\nalgorithms\nquery . A\nend\nend\n", 6),
+        (
+            "dns-session 1\nmoment 1\nalgorithms\nquery . A\nend\nend\n",
+            6,
+        ),
         ("dns-session 1\nmoment 1\nalgorithms\nquery . A\nend\n ", 6),
-        ("dns-session 1\nmoment 1\nalgorithms\naccept 1 - - -\nanchor . 1 -\nquery . A\nend\n", 5),
+        (
+            "dns-session 1\nmoment 1\nalgorithms\naccept 1 - - -\nanchor . 1 -\nquery . A\nend\n",
+            5,
+        ),
     ];
     for (text, want) in cases {
         assert_eq!(rt; bad_line(alloc, text), want, "{text}");
@@ -191,7 +199,8 @@ fn the_signed_root_is_read(rt: HostRuntime) -> Result<(), Fail> {
 #[test]
 fn bytes_that_are_no_message_are_kept_as_their_fault(rt: HostRuntime) -> Result<(), Fail> {
     let alloc = rt.alloc();
-    let text = "dns-session 1\nmoment 1\nalgorithms\nquery . A\nreply . A 000084000001000000000000c00c00010001\nend\n";
+    let text =
+        "dns-session 1\nmoment 1\nalgorithms\nquery . A\nreply . A 000084000001000000000000c00c00010001\nend\n";
     let Ok(session) = read_session(alloc, text.as_bytes()) else {
         return Err(Fail::new("no session"));
     };

@@ -1,0 +1,56 @@
+-- Words are no longer than the line that they stand in.
+use Rattle.std.proofs.Common.{◌≡◌, ℕ, zero, suc, ◌+◌, ◌<◌, ◌≤◌, Bool, true, false, ◌==◌, List, [], ◌∷◌, length, Option, None, Some, unwrap_or, refl, sym, ap, ◌∙◌, arith, inl, inr}
+use Rattle.std.specs.List.{onto_first}
+use Rattle.std.proofs.lemmas.Bool.{cases_Bool}
+use Rattle.dns_model.specs.Keys.{bytes_eq}
+use Rattle.dns_session.specs.Places.{pieces}
+use Rattle.dns_session.specs.Lines.{Words, words, after, triple}
+
+-- the bytes of all words
+total : Words → ℕ
+total [] = 0
+total (word ∷ rest) = length word + total rest
+
+total_onto : (x : ℕ) (parts : Words) → total (onto_first x parts) ≤ total parts + 1
+unfolding total
+total_onto x [] = omega arith
+total_onto x (part ∷ parts) = omega arith
+
+total_pieces : (byte : ℕ) (text : List ℕ) → total (pieces byte text) ≤ length text
+unfolding total
+total_pieces byte [] = omega arith
+total_pieces byte (x ∷ xs) =
+    let ih = total_pieces byte xs in
+    elim (cases_Bool (x == byte)) [
+      | inl is ↦ rw is (omega (arith, ih))
+      | inr isnt ↦ let more = total_onto x (pieces byte xs) in rw isnt (omega (arith, ih, more))
+    ]
+
+some_same : {X : Type 0} (x y : X) → Some x ≡ Some y → x ≡ y
+some_same x y h = ap (λ o. unwrap_or o x) h
+
+total_after : (word : List ℕ) (all rest : Words) → Some rest ≡ after word all → total rest ≤ total all
+unfolding total
+total_after word [] rest h = cc
+total_after word (first ∷ others) rest h =
+    elim (cases_Bool (bytes_eq first word)) [
+      | inl is ↦ let same : rest ≡ others = some_same _ _ (rw is at h) in rw same (omega arith)
+      | inr isnt ↦ let none = rw isnt at h in cc
+    ]
+
+triple_third : (all : Words) (x : List ℕ × List ℕ × List ℕ) → Some x ≡ triple all → length x.2 ≤ total all
+unfolding total
+triple_third [] x h = cc
+triple_third (a ∷ []) x h = cc
+triple_third (a ∷ b ∷ []) x h = cc
+triple_third (a ∷ b ∷ c ∷ []) x h = let same : x.2 ≡ c = ap (λ y. y.2) (some_same _ _ h) in rw same (omega arith)
+triple_third (a ∷ b ∷ c ∷ d ∷ all) x h = cc
+
+-- the third word after the first is no longer than the line
+pub third_short : (word line : List ℕ) (rest : Words) (a b c : List ℕ) → Some rest ≡ after word (words line)
+    → ◌≡◌ {A = Option (List ℕ × List ℕ × List ℕ)} (Some (a, b, c)) (triple rest) → length c ≤ length line
+third_short word line rest a b c h e =
+    let one = triple_third rest (a, b, c) e in
+    let two = total_after word (words line) rest h in
+    let three = total_pieces 32 line in
+    omega (arith, one, two, three)
