@@ -1,16 +1,17 @@
 -- Which keys of a key set are tried, as the tags are counted.
-use Rattle.std.proofs.Common.{◌≡◌, ℕ, zero, suc, ◌+◌, ◌<◌, ◌≤◌, Bool, true, false, ◌&&◌, cond, List, [], ◌∷◌, ◌++◌, length, take, drop, refl, sym, ap, ◌∙◌, arith}
+use Rattle.std.proofs.Common.{◌≡◌, ℕ, zero, suc, ◌+◌, ◌<◌, ◌≤◌, Bool, true, false, ◌&&◌, ◌||◌, cond, List, [], ◌∷◌, ◌++◌, length, take, drop, refl, sym, ap, ◌∙◌, arith, add-zero}
 use Rattle.std.specs.Prelude.{nat_lt, ◌==◌, min, Option, None, Some, slice_index_or}
-use Rattle.std.specs.List.{filter, find, count_by}
+use Rattle.std.specs.List.{filter, find, count_by, list_any}
 use Rattle.std.specs.Ordering.{nat_cmp}
 use Rattle.std.specs.BTreeMap.{BTreeMap, is_at, get, Updates}
 use Rattle.std.proofs.lemmas.Bool.Decides.{nat_tests}
-use Rattle.std.proofs.lemmas.List.{drop_more, drop_all}
+use Rattle.std.proofs.lemmas.List.{drop_more, drop_all, append-nil}
 use Rattle.std.proofs.lemmas.List.Elements.{filter_more}
+use Rattle.std.proofs.lemmas.List.Sums.{sum_by-append}
 use Rattle.std.proofs.lemmas.Grind.{common_steps}
 use Rattle.dns_model.specs.Records.{Rr}
 use Rattle.dns_model.specs.Signing.{key_tag_of}
-use Rattle.dns_judgement.specs.Marks.{is_readable_key, same_tag, first_two, counted_keys}
+use Rattle.dns_judgement.specs.Marks.{is_readable_key, same_tag, first_two, counted_keys, by_insecure_key, Excused, Failed}
 use Rattle.dns_trust.specs.Counting.{count_in, tag_count_after, count_after, is_tried}
 
 nat_at : (k q : ℕ) → is_at (nat_cmp k) q ≡ (k == q)
@@ -43,7 +44,123 @@ none_tried p keys m empty = record { counted = λ r. rw empty refl; searched = r
 least_below : (n : ℕ) → nat_lt (min 2 n) 2 ≡ nat_lt n 2
 least_below n = grind (arith, nat_tests)
 
-step_of : (keys : List Rr) (i : ℕ) (key : Rr) (b : Bool) → i < length keys → key ≡ slice_index_or keys i key → is_readable_key key ≡ true
-    → b ≡ nat_lt (count_by (same_tag key) (readable (take i keys))) 2
-    → left_after keys i ≡ cond b (key ∷ left_after keys (i + 1)) (left_after keys (i + 1))
-step_of keys i key b h is can tried = ?
+-- what is left once one key more was met
+next_of : (earlier : List Rr) (key : Rr) (rest : List Rr) → first_two earlier (key ∷ rest)
+    ≡ cond (nat_lt (count_by (same_tag key) earlier) 2) (key ∷ first_two (earlier ++ key ∷ []) rest) (first_two (earlier ++ key ∷ []) rest)
+unfolding first_two
+next_of earlier key rest = refl
+
+-- the readable keys, once one key more was met
+readable_more : (keys : List Rr) (i : ℕ) (key : Rr) → i < length keys → key ≡ slice_index_or keys i key
+    → readable (take (i + 1) keys) ≡ readable (take i keys) ++ cond (is_readable_key key) (key ∷ []) []
+readable_more keys i key h is =
+    filter_more is_readable_key keys i key h
+    ∙ ap (λ k. readable (take i keys) ++ cond (is_readable_key k) (k ∷ []) []) (sym is)
+
+-- the readable keys from a place on
+readable_from : (keys : List Rr) (i : ℕ) (key : Rr) → i < length keys → key ≡ slice_index_or keys i key
+    → readable (drop i keys) ≡ cond (is_readable_key key) (key ∷ readable (drop (i + 1) keys)) (readable (drop (i + 1) keys))
+readable_from keys i key h is =
+    ap readable (drop_more keys i key h) ∙ ap (λ k. readable (k ∷ drop (i + 1) keys)) (sym is)
+
+-- the key at a place comes first where it is one of the first two of its tag
+left_step : (keys : List Rr) (i : ℕ) (key : Rr) (can few : Bool) → i < length keys → key ≡ slice_index_or keys i key
+    → can ≡ is_readable_key key → few ≡ nat_lt (count_by (same_tag key) (readable (take i keys))) 2
+    → left_after keys i ≡ cond (can && few) (key ∷ left_after keys (i + 1)) (left_after keys (i + 1))
+left_step keys i key true few h is can tried =
+    let here : readable (drop i keys) ≡ key ∷ readable (drop (i + 1) keys) = readable_from keys i key h is ∙ ap (λ b. cond b (key ∷ readable (drop (i + 1) keys)) (readable (drop (i + 1) keys))) (sym can) in
+    let more : readable (take (i + 1) keys) ≡ readable (take i keys) ++ key ∷ [] = readable_more keys i key h is ∙ ap (λ b. readable (take i keys) ++ cond b (key ∷ []) []) (sym can) in
+    ap (first_two (readable (take i keys))) here
+    ∙ next_of (readable (take i keys)) key (readable (drop (i + 1) keys))
+    ∙ ap (λ b. cond b (key ∷ first_two (readable (take i keys) ++ key ∷ []) (readable (drop (i + 1) keys))) (first_two (readable (take i keys) ++ key ∷ []) (readable (drop (i + 1) keys)))) (sym tried)
+    ∙ ap (λ earlier. cond few (key ∷ first_two earlier (readable (drop (i + 1) keys))) (first_two earlier (readable (drop (i + 1) keys)))) (sym more)
+left_step keys i key false few h is can tried =
+    let here : readable (drop i keys) ≡ readable (drop (i + 1) keys) = readable_from keys i key h is ∙ ap (λ b. cond b (key ∷ readable (drop (i + 1) keys)) (readable (drop (i + 1) keys))) (sym can) in
+    let more : readable (take (i + 1) keys) ≡ readable (take i keys) = readable_more keys i key h is ∙ ap (λ b. readable (take i keys) ++ cond b (key ∷ []) []) (sym can) ∙ append-nil (readable (take i keys)) in
+    ap (first_two (readable (take i keys))) here ∙ ap (λ earlier. first_two earlier (readable (drop (i + 1) keys))) (sym more)
+
+-- the same by the counts
+left_by : (p : Rr → Bool) (keys : List Rr) (i : ℕ) (m : BTreeMap ℕ ℕ) (key : Rr) → i < length keys → key ≡ slice_index_or keys i key → Tried p keys i m
+    → left_after keys i ≡ cond (is_tried m key) (key ∷ left_after keys (i + 1)) (left_after keys (i + 1))
+left_by p keys i m key h is t =
+    let few : nat_lt (count_in m (key_tag_of key.rdata)) 2 ≡ nat_lt (count_by (same_tag key) (readable (take i keys))) 2 =
+      ap (λ n. nat_lt n 2) (t.counted key) ∙ least_below (count_by (same_tag key) (readable (take i keys))) in
+    left_step keys i key (is_readable_key key) (nat_lt (count_in m (key_tag_of key.rdata)) 2) h is refl few
+
+-- the key at a place is tried, and is the one
+pub tried_here : (p : Rr → Bool) (keys : List Rr) (i : ℕ) (m : BTreeMap ℕ ℕ) (key : Rr) → i < length keys → key ≡ slice_index_or keys i key → Tried p keys i m
+    → is_tried m key ≡ true → p key ≡ true → find p (counted_keys keys) ≡ Some key
+tried_here p keys i m key h is t can good =
+    sym t.searched ∙ ap (find p) (left_by p keys i m key h is t)
+    ∙ ap (λ b. find p (cond b (key ∷ left_after keys (i + 1)) (left_after keys (i + 1)))) can
+    ∙ ap (λ b. cond b (Some key) (find p (left_after keys (i + 1)))) good
+
+none_left : (p : Rr → Bool) (earlier : List Rr) → find p (first_two earlier []) ≡ None
+unfolding first_two
+none_left p earlier = refl
+
+-- no key is left
+pub tried_end : (p : Rr → Bool) (keys : List Rr) (i : ℕ) (m : BTreeMap ℕ ℕ) → length keys ≤ i → Tried p keys i m → find p (counted_keys keys) ≡ None
+tried_end p keys i m h t = sym t.searched ∙ ap (λ rest. find p (first_two (readable (take i keys)) (readable rest))) (drop_all i keys h) ∙ none_left p (readable (take i keys))
+
+count_push : (p : Rr → Bool) (rs : List Rr) (key : Rr) → count_by p (rs ++ key ∷ []) ≡ count_by p rs + cond (p key) 1 0
+count_push p rs key = sum_by-append (λ r. cond (p r) 1 0) rs (key ∷ []) ∙ ap (λ n. count_by p rs + n) (add-zero (cond (p key) 1 0))
+
+same_number : (a b : ℕ) → (a == b) ≡ true → a ≡ b
+same_number a b h = grind (arith, nat_tests)
+
+-- one of a tag more, to two at the most
+tag_case : (same : Bool) (own other all : ℕ) → other ≡ min 2 all → (same ≡ true → own ≡ other)
+    → cond (same && nat_lt own 2) (own + 1) other ≡ min 2 (all + cond same 1 0)
+tag_case false own other all is alike = omega (arith, is)
+tag_case true own other all is alike = let e : own ≡ other = alike refl in grind (arith, nat_tests, e, is)
+
+count_step : (keys : List Rr) (i : ℕ) (m : BTreeMap ℕ ℕ) (key r : Rr) (can : Bool) → i < length keys → key ≡ slice_index_or keys i key
+    → can ≡ is_readable_key key
+    → count_in m (key_tag_of r.rdata) ≡ min 2 (count_by (same_tag r) (readable (take i keys)))
+    → cond can (tag_count_after m (key_tag_of key.rdata) (key_tag_of r.rdata)) (count_in m (key_tag_of r.rdata)) ≡ min 2 (count_by (same_tag r) (readable (take (i + 1) keys)))
+count_step keys i m key r false h is can t =
+    let more : readable (take (i + 1) keys) ≡ readable (take i keys) = readable_more keys i key h is ∙ ap (λ b. readable (take i keys) ++ cond b (key ∷ []) []) (sym can) ∙ append-nil (readable (take i keys)) in
+    t ∙ ap (λ rs. min 2 (count_by (same_tag r) rs)) (sym more)
+count_step keys i m key r true h is can t =
+    let more : readable (take (i + 1) keys) ≡ readable (take i keys) ++ key ∷ [] = readable_more keys i key h is ∙ ap (λ b. readable (take i keys) ++ cond b (key ∷ []) []) (sym can) in
+    tag_case (same_tag r key) (count_in m (key_tag_of key.rdata)) (count_in m (key_tag_of r.rdata)) (count_by (same_tag r) (readable (take i keys))) t
+      (λ same. ap (count_in m) (sym (same_number (key_tag_of r.rdata) (key_tag_of key.rdata) same)))
+    ∙ ap (min 2) (sym (count_push (same_tag r) (readable (take i keys)) key))
+    ∙ ap (λ rs. min 2 (count_by (same_tag r) rs)) (sym more)
+
+-- the counts, once one key more was met
+count_more : (p : Rr → Bool) (keys : List Rr) (i : ℕ) (m n : BTreeMap ℕ ℕ) (key : Rr) → i < length keys → key ≡ slice_index_or keys i key → Tried p keys i m
+    → ((t : ℕ) → count_in n t ≡ count_after m key t)
+    → (r : Rr) → count_in n (key_tag_of r.rdata) ≡ min 2 (count_by (same_tag r) (readable (take (i + 1) keys)))
+count_more p keys i m n key h is t after r = after (key_tag_of r.rdata) ∙ count_step keys i m key r (is_readable_key key) h is refl (t.counted r)
+
+-- a key that isn't tried is passed over
+pub tried_skip : (p : Rr → Bool) (keys : List Rr) (i : ℕ) (m n : BTreeMap ℕ ℕ) (key : Rr) → i < length keys → key ≡ slice_index_or keys i key → Tried p keys i m
+    → ((t : ℕ) → count_in n t ≡ count_after m key t) → is_tried m key ≡ false → Tried p keys (i + 1) n
+tried_skip p keys i m n key h is t after cannot = record {
+  counted = count_more p keys i m n key h is t after;
+  searched = sym (ap (find p) (left_by p keys i m key h is t) ∙ ap (λ b. find p (cond b (key ∷ left_after keys (i + 1)) (left_after keys (i + 1)))) cannot) ∙ t.searched;
+}
+
+-- a key that is tried in vain is passed over
+pub tried_fail : (p : Rr → Bool) (keys : List Rr) (i : ℕ) (m n : BTreeMap ℕ ℕ) (key : Rr) → i < length keys → key ≡ slice_index_or keys i key → Tried p keys i m
+    → ((t : ℕ) → count_in n t ≡ count_after m key t) → is_tried m key ≡ true → p key ≡ false → Tried p keys (i + 1) n
+tried_fail p keys i m n key h is t after can bad = record {
+  counted = count_more p keys i m n key h is t after;
+  searched = sym (ap (find p) (left_by p keys i m key h is t) ∙ ap (λ b. find p (cond b (key ∷ left_after keys (i + 1)) (left_after keys (i + 1)))) can
+    ∙ ap (λ b. cond b (Some key) (find p (left_after keys (i + 1)))) bad) ∙ t.searched;
+}
+
+any_case : (can : Bool) (key : Rr) (keys : List Rr)
+    → by_insecure_key (first_two [] (readable keys)) ≡ cond (list_any is_readable_key keys) Excused Failed
+    → by_insecure_key (first_two [] (cond can (key ∷ readable keys) (readable keys))) ≡ cond (can || list_any is_readable_key keys) Excused Failed
+unfolding first_two
+any_case true key keys rest = refl
+any_case false key keys rest = rest
+
+-- a key set that is Insecure excuses where it has a readable key
+pub any_counted : (keys : List Rr) → by_insecure_key (counted_keys keys) ≡ cond (list_any is_readable_key keys) Excused Failed
+unfolding first_two
+any_counted [] = refl
+any_counted (key ∷ keys) = any_case (is_readable_key key) key keys (any_counted keys)

@@ -1,9 +1,10 @@
-ghost use Rattle.std.specs.Prelude.{◌≡◌, IfOk};
+ghost use Rattle.std.specs.Prelude.{◌≡◌, IfOk, map};
 ghost use Rattle.std.specs.List.{find};
 ghost use Rattle.std.specs.Option.{option_copied};
 ghost use Rattle.dns_model.specs.Chains.{judge, signer_fits as signer_is_above};
-ghost use Rattle.dns_judgement.specs.Marks.{verdict_of as verdict_in, by_key_set as verdict_by_keys, is_kept_whole as is_whole, is_key_set_of, is_skipped as is_skipped_by, is_proved as is_proof, is_excused as is_excuse};
+ghost use Rattle.dns_judgement.specs.Marks.{verdict_of as verdict_in, by_key_set as verdict_by_set, by_keys, by_insecure_key, counted_keys, is_kept_whole as is_whole, is_key_set_of, is_skipped as is_skipped_by, is_proved as is_proof, is_excused as is_excuse};
 ghost use Rattle.dns_judgement.specs.Run.{ask_of as asked_by};
+ghost use Rattle.dns_net.specs.Link.{fact_of};
 ghost use Rattle.dns_trust.specs.Verdicts.{verdict_text, listed};
 
 use crate::TrustAnchors;
@@ -78,11 +79,11 @@ pub fn verdict_of<V: Verifier>(
     let Some(keys) = key_set_of(set.dns_class, &read.signer, sets) else {
         return Ok(Verdict::Failed);
     };
-    by_keys(alloc, verifier, anchors, now, set, sig, keys)
+    by_key_set(alloc, verifier, anchors, now, set, sig, keys)
 }
 
 // The verdict by the key set that was asked for.
-fn by_keys<V: Verifier>(
+fn by_key_set<V: Verifier>(
     alloc: Global,
     verifier: &V,
     anchors: &TrustAnchors,
@@ -91,27 +92,50 @@ fn by_keys<V: Verifier>(
     sig: &Record,
     keys: &JudgedSet,
 ) -> Result<Verdict, NoMemory>
-    ensures { IfOk result (λ v. verdict_text v ≡ verdict_by_keys (judge (V.answers verifier.now) anchors.now now) set.now sig.now (Some keys.now)) }
+    ensures { IfOk result (λ v. verdict_text v ≡ verdict_by_set (judge (V.answers verifier.now) anchors.now now) set.now sig.now (Some keys.now)) }
 {
     match keys.mark {
         Proof::Secure => {
-            match first_good(alloc, verifier, anchors, now, set, sig, &keys.set.records)? {
-                Some(key) => {
-                    let chain = signed_chain(alloc, set, sig, &keys.chain, key)?;
-                    Ok(Verdict::Proved(chain))
-                }
-                None => Ok(Verdict::Failed),
-            }
+            let records = keys.set.records.as_slice();
+            by_secure_keys(alloc, verifier, anchors, now, set, sig, &keys.chain, records)
         }
-        Proof::Insecure => {
-            if has_readable_key(&keys.set.records) {
-                Ok(Verdict::Excused)
-            } else {
-                Ok(Verdict::Failed)
-            }
-        }
+        Proof::Insecure => Ok(by_insecure_keys(&keys.set.records)),
         Proof::Bogus => Ok(Verdict::Failed),
         Proof::Indeterminate => Ok(Verdict::Failed),
+    }
+}
+
+// The verdict by the counted keys of a Secure key set.
+fn by_secure_keys<V: Verifier>(
+    alloc: Global,
+    verifier: &V,
+    anchors: &TrustAnchors,
+    now: u64,
+    set: &RecordSet,
+    sig: &Record,
+    chain: &Vec<Link>,
+    keys: &[Record],
+) -> Result<Verdict, NoMemory>
+    ensures { IfOk result (λ v. verdict_text v ≡ by_keys (judge (V.answers verifier.now) anchors.now now) set.now sig.now (map fact_of chain.now.items) Proof.Secure (counted_keys keys.now)) }
+{
+    match first_good(alloc, verifier, anchors, now, set, sig, keys)? {
+        Some(key) => {
+            let links = signed_chain(alloc, set, sig, chain, key)?;
+            Ok(Verdict::Proved(links))
+        }
+        None => Ok(Verdict::Failed),
+    }
+}
+
+// The verdict by the counted keys of an Insecure key set.
+#[tactic(auto, using(crate::proofs::Counts::any_counted))]
+fn by_insecure_keys(keys: &[Record]) -> Verdict
+    ensures { verdict_text result ≡ by_insecure_key (counted_keys keys.now) }
+{
+    if has_readable_key(keys) {
+        Verdict::Excused
+    } else {
+        Verdict::Failed
     }
 }
 
