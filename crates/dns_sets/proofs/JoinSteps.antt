@@ -51,9 +51,9 @@ new_places old new sets after r s own n are is last pushed made same =
     let P = λ (xs : List RrSet). ArePlaces new xs in
     subst P (sym whole) (record {
       each = λ o k.
-        is o k ∙ ap (λ m. or_place (place_of old o k) (cond (name_eq r.owner o && (r.kind == k)) (Some m) None)) last
-        ∙ ap (λ p. or_place p (cond (name_eq r.owner o && (r.kind == k)) (Some (length sets)) None)) (are.each o k)
-        ∙ sym (place-push (is_at o k) sets (single r));
+          is o k ∙ ap (λ m. or_place (place_of old o k) (cond (name_eq r.owner o && (r.kind == k)) (Some m) None)) last
+          ∙ ap (λ p. or_place p (cond (name_eq r.owner o && (r.kind == k)) (Some (length sets)) None)) (are.each o k)
+          ∙ sym (place-push (is_at o k) sets (single r));
     })
 
 -- ---- signatures

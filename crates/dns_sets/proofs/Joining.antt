@@ -157,8 +157,8 @@ bare_step r u true e =
 bare_step r u false e =
     let whole = u ++ r ∷ [] in
     let own : bare_set whole r ≡ single r =
-      ap (λ rs. record (single r) { records = rs }) (filter-append (same_set r) u (r ∷ []) ∙ ap (λ rs. rs ++ filter (same_set r) (r ∷ [])) (none_same r u e)
-      ∙ ap (λ b. cond b (r ∷ []) []) (same_set_refl r)) in
+    ap (λ rs. record (single r) { records = rs }) (filter-append (same_set r) u (r ∷ []) ∙ ap (λ rs. rs ++ filter (same_set r) (r ∷ [])) (none_same r u e)
+    ∙ ap (λ b. cond b (r ∷ []) []) (same_set_refl r)) in
     ap (map (bare_set whole)) (leaders-push u r ∙ ap (λ b. leaders u ++ cond b [] (r ∷ [])) e)
     ∙ map-append (bare_set whole) (leaders u) (r ∷ [])
     ∙ ap (λ sets. sets ++ bare_set whole r ∷ [])

@@ -42,7 +42,7 @@ placed_more old new section sets i x within read are is =
     let P = λ (xs : List Judged). ArePlacedIn new section xs in
     subst P (sym more) (record {
       each = λ o k.
-        is o k ∙ ap (λ p. or_place p (cond (is_placed section o k x) (Some i) None)) (are.each o k)
-        ∙ ap (λ m. or_place (place_in (is_placed section o k) (take i sets)) (cond (is_placed section o k x) (Some m) None)) (sym long)
-        ∙ sym (place-push (is_placed section o k) (take i sets) x);
+          is o k ∙ ap (λ p. or_place p (cond (is_placed section o k x) (Some i) None)) (are.each o k)
+          ∙ ap (λ m. or_place (place_in (is_placed section o k) (take i sets)) (cond (is_placed section o k x) (Some m) None)) (sym long)
+          ∙ sym (place-push (is_placed section o k) (take i sets) x);
     })

@@ -34,8 +34,20 @@ pub fn placed_sets(alloc: Global, depth: u16, message: &Message) -> Result<Vec<P
 {
     let mut placed = Vec::new(alloc);
     place_section(alloc, &mut placed, depth, Section::Answer, &message.answers)?;
-    place_section(alloc, &mut placed, depth, Section::Authority, &message.authorities)?;
-    place_section(alloc, &mut placed, depth, Section::Additional, &message.additionals)?;
+    place_section(
+        alloc,
+        &mut placed,
+        depth,
+        Section::Authority,
+        &message.authorities,
+    )?;
+    place_section(
+        alloc,
+        &mut placed,
+        depth,
+        Section::Additional,
+        &message.additionals,
+    )?;
     Ok(placed)
 }
 
@@ -115,11 +127,7 @@ fn meet<'a>(
 }
 
 // Gives a signature that can be read to the set that it covers.
-fn give<'a>(
-    sets: &mut Vec<RecordSet>,
-    places: &Places<'a>,
-    met: &'a Record,
-) -> Result<(), NoMemory>
+fn give<'a>(sets: &mut Vec<RecordSet>, places: &Places<'a>, met: &'a Record) -> Result<(), NoMemory>
     requires { ArePlaces places.now sets.old.items }
     ensures sets { OnOk result (sets.new.items ≡ given met.now sets.old.items) }
     ensures places { OnOk result (ArePlaces places.now sets.new.items) }

@@ -36,7 +36,5 @@ impl Model for JudgedSet {
 
     ghost Value = { Judged };
 
-    ghost view = {
-        λ j. record { section = j.section; set = j.set; mark = j.mark; sig = j.sig; chain = map fact_of j.chain.items }
-    };
+    ghost view = { λ j. record { section = j.section; set = j.set; mark = j.mark; sig = j.sig; chain = map fact_of j.chain.items } };
 }

@@ -11,4 +11,4 @@ mod places;
 pub use grouping::{clear_marks, placed_sets};
 pub use judged_set::{JudgedSet, PlacedSet};
 pub use marking::finished;
-pub use outcome::{foreign_record, outcome_of, Outcome};
+pub use outcome::{Outcome, foreign_record, outcome_of};

@@ -32,8 +32,20 @@ pub fn finished(
 {
     let mut message = message;
     mark_section(alloc, now, &sets, Section::Answer, &mut message.answers)?;
-    mark_section(alloc, now, &sets, Section::Authority, &mut message.authorities)?;
-    mark_section(alloc, now, &sets, Section::Additional, &mut message.additionals)?;
+    mark_section(
+        alloc,
+        now,
+        &sets,
+        Section::Authority,
+        &mut message.authorities,
+    )?;
+    mark_section(
+        alloc,
+        now,
+        &sets,
+        Section::Additional,
+        &mut message.additionals,
+    )?;
     let chains = chains_of(alloc, sets)?;
     Ok(DnsResponse {
         message,

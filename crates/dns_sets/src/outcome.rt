@@ -115,7 +115,5 @@ fn is_expanded(signature: &Record) -> bool
 fn has_wildcard_signature(records: &[Record]) -> bool
     ensures { result ≡ list_any is_expanded_signature records.now }
 {
-    records
-        .iter()
-        .any(|record| record.record_type == RecordType::RRSIG && is_expanded(record))
+    records.iter().any(|record| record.record_type == RecordType::RRSIG && is_expanded(record))
 }

@@ -31,7 +31,12 @@ impl<'a> Places<'a> {
     }
 
     /// Gives a set's owner and type a place, unless they have one.
-    pub(crate) fn add(&mut self, owner: &'a Name, record_type: RecordType, place: usize) -> Result<(), NoMemory>
+    pub(crate) fn add(
+        &mut self,
+        owner: &'a Name,
+        record_type: RecordType,
+        place: usize,
+    ) -> Result<(), NoMemory>
         ensures { OnOk result ((o : Labels) (k : ℕ) → place_of self.new o k ≡ with_place (place_of self.old) owner.now record_type.0 place o k) }
     {
         match self.get(owner, record_type) {

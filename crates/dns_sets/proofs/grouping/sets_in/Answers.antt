@@ -15,7 +15,7 @@ records-init c = record {
 pub records-preserved : goal.records-preserved
 records-preserved c = record {
   sets = c.in_ok-meet.ensures.sets ∙ ap (met_by c.met-item.result) c.records.invariant.sets
-    ∙ sym (bare_more c.args.section.now c.records.met-index c.met-item.result c.records-test.true c.met-item.is);
+      ∙ sym (bare_more c.args.section.now c.records.met-index c.met-item.result c.records-test.true c.met-item.is);
   places = c.in_ok-meet.ensures.places;
 }
 
@@ -28,7 +28,7 @@ signatures-init c = record {
 pub signatures-preserved : goal.signatures-preserved
 signatures-preserved c = record {
   sets = c.in_ok-give.ensures.sets ∙ ap (given c.met-item-in-signatures.result) c.signatures.invariant.sets
-    ∙ sym (part_more c.args.section.now c.signatures.met-index c.met-item-in-signatures.result c.signatures-test.true c.met-item-in-signatures.is);
+      ∙ sym (part_more c.args.section.now c.signatures.met-index c.met-item-in-signatures.result c.signatures-test.true c.met-item-in-signatures.is);
   places = c.in_ok-give.ensures.places;
 }
 
