@@ -2,3 +2,4 @@ pub mod Verdicts
 pub mod Counting
 pub mod Finding
 pub mod Listing
+pub mod Trusting

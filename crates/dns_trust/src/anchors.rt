@@ -1,7 +1,8 @@
-ghost use Rattle.std.specs.Prelude.{◌≡◌, []};
+ghost use Rattle.std.specs.Prelude.{◌≡◌, [], not, IfOk, OnOk, OnErr};
 ghost use Rattle.dns_model.specs.Keys.{holds_anchor};
+ghost use Rattle.dns_trust.specs.Trusting.{with_anchor};
 
-use dns_name::{Name, Octets};
+use dns_name::{Name, NoMemory, Octets};
 use std::alloc::Global;
 use std::marker::Model;
 
@@ -44,6 +45,28 @@ impl TrustAnchors {
         TrustAnchors {
             anchors: Vec::new(alloc),
         }
+    }
+
+    /// Trusts a key from now on, and answers whether it was not trusted before. For want of memory all stays as it was.
+    pub fn insert_with_name(
+        &mut self,
+        owner: Name,
+        algorithm: u8,
+        key: Octets,
+    ) -> Result<bool, NoMemory>
+        ensures ok { OnOk result (self.new ≡ with_anchor self.old (record { owner = owner; algorithm = algorithm; key = key })) }
+        ensures added { IfOk result (λ b. b ≡ not (holds_anchor self.old owner algorithm key)) }
+        ensures err { OnErr result (self.new ≡ self.old) }
+    {
+        if self.contains_with_name(&owner, algorithm, key.as_slice()) {
+            return Ok(false);
+        }
+        self.anchors.push(Anchor {
+            owner,
+            algorithm,
+            key,
+        })?;
+        Ok(true)
     }
 
     /// Whether a key is trusted.
