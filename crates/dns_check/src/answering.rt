@@ -50,6 +50,7 @@ fn listed_by(alloc: Global, algorithms: &[u8], accepts: &[Accept]) -> Result<Lis
 }
 
 /// Supports each algorithm.
+#[tactic(auto, unfolding(crate::specs::Answering::with_algorithms))]
 fn add_algorithms(verifier: &mut Listed, algorithms: &[u8]) -> Result<(), NoMemory>
     ensures { OnOk result (verifier.new ≡ with_algorithms verifier.old algorithms.now) }
 {
@@ -62,6 +63,7 @@ fn add_algorithms(verifier: &mut Listed, algorithms: &[u8]) -> Result<(), NoMemo
 }
 
 /// Accepts each signature.
+#[tactic(auto, unfolding(crate::specs::Answering::with_accepts))]
 fn add_accepts(verifier: &mut Listed, accepts: &[Accept]) -> Result<(), NoMemory>
     ensures { OnOk result (verifier.new ≡ with_accepts verifier.old accepts.now) }
 {
@@ -79,6 +81,7 @@ fn add_accepts(verifier: &mut Listed, accepts: &[Accept]) -> Result<(), NoMemory
 }
 
 /// The keys that the session trusts.
+#[tactic(auto, unfolding(crate::specs::Answering::with_anchors))]
 fn trusted_by(alloc: Global, anchors: &[Anchor]) -> Result<TrustAnchors, NoMemory>
     ensures { IfOk result (λ a. a ≡ trusted_by anchors.now) }
 {
