@@ -7,7 +7,9 @@ use Rattle.dns_report.specs.Report.{report_text}
 use Rattle.dns_report.specs.Faults.{fault_text}
 use Rattle.dns_session.specs.SessionText.{SessionText}
 use Rattle.dns_session.specs.Grammar.{session_of}
-use Rattle.dns_check.specs.Forms.{bad_line_text}
+use Rattle.dns_outside.specs.Reading.{input_limit}
+use Rattle.dns_outside.specs.Writing.{TakesPrefix}
+use Rattle.dns_check.specs.Forms.{bad_line_text, too_long_text}
 use Rattle.dns_check.specs.Answering.{Answers}
 use Rattle.dns_check.specs.declared.outcome.Ending.{Ending}
 use Rattle.dns_check.specs.declared.outcome.Ending.TheVariants.{Report, Fault, BadLine}
@@ -64,3 +66,22 @@ pub record Wrote (before now : Option (List ℕ)) (Fact : List ℕ → Type 0) :
 abbrev pub Leaves : (List ℕ → List ℕ → Type 0) → Option (List ℕ) → Option (List ℕ) → Option (List ℕ) → Type 0
 Leaves Fact None before now = Unit {0}
 Leaves Fact (Some bytes) before now = Wrote before now (Fact bytes)
+
+-- what a run over bytes may write: nothing, where memory runs out before a text is there
+pub data ComesTo (bytes text : List ℕ) : Type 0 where
+  Reported : Reports bytes text → ComesTo bytes text
+  Failed : Fails bytes text → ComesTo bytes text
+  Refused : Refuses bytes text → ComesTo bytes text
+  TooLong : input_limit < length bytes → text ≡ too_long_text → ComesTo bytes text
+  Nothing : text ≡ [] → ComesTo bytes text
+
+-- a prefix of a text of which a fact holds was written
+pub record WrotePrefix (before now : Option (List ℕ)) (Fact : List ℕ → Type 0) : Type 0 where
+  pub text : List ℕ
+  pub fact : Fact text
+  pub written : TakesPrefix before now text
+
+-- where bytes are told, a prefix of a text that they come to was written
+abbrev pub LeavesPrefix : Option (List ℕ) → Option (List ℕ) → Option (List ℕ) → Type 0
+LeavesPrefix None before now = Unit {0}
+LeavesPrefix (Some bytes) before now = WrotePrefix before now (ComesTo bytes)

@@ -3,8 +3,9 @@ ghost use Rattle.std.specs.Prelude.{◌≡◌, ◌≢◌, ◌<◌, ◌≤◌, ma
 ghost use Rattle.std.specs.Io.KnownBytes.{Appends};
 ghost use Rattle.dns_outside.specs.Faults.{Rose};
 ghost use Rattle.dns_outside.specs.Reading.{input_limit};
+ghost use Rattle.dns_outside.specs.Writing.{TakesPrefix};
 ghost use Rattle.dns_check.specs.Forms.{form_in, help_text, version_text, bad_words_text, too_long_text};
-ghost use Rattle.dns_check.specs.Outcomes.{Leaves, Wrote, Reports, Fails, Refuses};
+ghost use Rattle.dns_check.specs.Outcomes.{Leaves, LeavesPrefix, Wrote, WrotePrefix, ComesTo, Reports, Fails, Refuses};
 ghost use Rattle.dns_check.specs.declared.form.Form.TheVariants.{Validate, Help, Version};
 
 use crate::form::{Form, form_of, help_text, version_text};
@@ -30,6 +31,7 @@ fn write_text<W: Sink>(status: u8, text: &[u8], output: &mut W) -> u8
     ensures written { result < 5 → Appends (W.taken output.old) (W.taken output.new) text.now }
     ensures kept { result < 5 → result ≡ status }
     ensures sink { result ≡ 5 → status < 5 → Rose (W.faults output.old) (W.faults output.new) }
+    ensures prefix { TakesPrefix (W.taken output.old) (W.taken output.new) text.now }
     ensures most { status < 5 → result ≤ 6 }
     ensures later { W.faults output.old ≤ W.faults output.new }
 {
@@ -40,6 +42,7 @@ fn write_text<W: Sink>(status: u8, text: &[u8], output: &mut W) -> u8
 }
 
 /// Answers the session that bytes are.
+#[tactic(auto, using(crate::proofs::OutcomeLemmas::report_prefix, crate::proofs::OutcomeLemmas::fault_prefix, crate::proofs::OutcomeLemmas::refused_prefix, crate::proofs::OutcomeLemmas::nothing_written))]
 fn answer<W: Sink>(alloc: Global, bytes: &[u8], output: &mut W) -> u8
     requires { length bytes.now ≤ input_limit }
     ensures report { result ≡ 0 → Wrote (W.taken output.old) (W.taken output.new) (Reports bytes.now) }
@@ -48,6 +51,7 @@ fn answer<W: Sink>(alloc: Global, bytes: &[u8], output: &mut W) -> u8
     ensures grammar { result ≡ 3 → Wrote (W.taken output.old) (W.taken output.new) (Refuses bytes.now) }
     ensures read { result ≢ 4 }
     ensures sink { result ≡ 5 → Rose (W.faults output.old) (W.faults output.new) }
+    ensures prefix { WrotePrefix (W.taken output.old) (W.taken output.new) (ComesTo bytes.now) }
     ensures most { result ≤ 6 }
     ensures later { W.faults output.old ≤ W.faults output.new }
 {
@@ -63,6 +67,7 @@ fn answer<W: Sink>(alloc: Global, bytes: &[u8], output: &mut W) -> u8
 fn refuse_long<W: Sink>(output: &mut W) -> u8
     ensures written { result ≡ 7 → Appends (W.taken output.old) (W.taken output.new) too_long_text }
     ensures sink { result ≡ 5 → Rose (W.faults output.old) (W.faults output.new) }
+    ensures prefix { TakesPrefix (W.taken output.old) (W.taken output.new) too_long_text }
     ensures least { 5 ≤ result }
     ensures most { result ≤ 7 }
     ensures later { W.faults output.old ≤ W.faults output.new }
@@ -74,7 +79,7 @@ fn refuse_long<W: Sink>(output: &mut W) -> u8
 }
 
 /// Reads a session and answers it.
-#[tactic(auto, using(crate::proofs::OutcomeLemmas::leaves_told))]
+#[tactic(auto, using(crate::proofs::OutcomeLemmas::leaves_told, crate::proofs::OutcomeLemmas::prefix_told, crate::proofs::OutcomeLemmas::nothing_told, crate::proofs::OutcomeLemmas::long_prefix))]
 fn validate<S: Source, W: Sink>(alloc: Global, input: &mut S, output: &mut W) -> u8
     ensures report { result ≡ 0 → Leaves Reports (S.left input.old) (W.taken output.old) (W.taken output.new) }
     ensures fault { result ≡ 1 → Leaves Fails (S.left input.old) (W.taken output.old) (W.taken output.new) }
@@ -86,6 +91,7 @@ fn validate<S: Source, W: Sink>(alloc: Global, input: &mut S, output: &mut W) ->
     ensures long { result ≡ 7 → IfSome (S.left input.old) (λ left. input_limit < length left) }
     ensures too_long { result ≡ 7 → Appends (W.taken output.old) (W.taken output.new) too_long_text }
     ensures refused { IfSome (S.left input.old) (λ left. input_limit < length left → 4 ≤ result) }
+    ensures prefix { LeavesPrefix (S.left input.old) (W.taken output.old) (W.taken output.new) }
     ensures most { result ≤ 7 }
     ensures read_later { S.faults input.old ≤ S.faults input.new }
     ensures later { W.faults output.old ≤ W.faults output.new }
@@ -140,6 +146,16 @@ pub fn run<S: Source, W: Sink>(
     ensures refused {
         form_in (map (λ w. w.items) words.now) ≡ Some Validate
         → IfSome (S.left input.old) (λ left. input_limit < length left → 4 ≤ result)
+    }
+
+    // Whatever the status, a prefix of a text that the input comes to was written.
+    ensures prefix {
+        form_in (map (λ w. w.items) words.now) ≡ Some Validate
+        → LeavesPrefix (S.left input.old) (W.taken output.old) (W.taken output.new)
+    }
+    ensures no_prefix {
+        form_in (map (λ w. w.items) words.now) ≡ None
+        → TakesPrefix (W.taken output.old) (W.taken output.new) bad_words_text
     }
 
     ensures most { result ≤ 7 }
