@@ -3,3 +3,4 @@ pub mod Counting
 pub mod Finding
 pub mod Listing
 pub mod Anchoring
+pub mod Trusting

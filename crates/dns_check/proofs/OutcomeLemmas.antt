@@ -1,0 +1,54 @@
+-- What was written for bytes that were read is what the source told.
+use Rattle.std.proofs.Common.{◌≡◌, ◌++◌, ◌≤◌, ◌<◌, ℕ, List, [], Option, None, Some, IfSome, length, take, sym, refl, append-nil, arith}
+use Rattle.std.specs.Io.KnownBytes.{Appends}
+use Rattle.dns_outside.specs.Reading.{input_limit}
+use Rattle.dns_outside.specs.Writing.{TakesPrefix}
+use Rattle.dns_check.specs.Forms.{too_long_text}
+use Rattle.dns_check.specs.Outcomes.{Wrote, Leaves, WrotePrefix, LeavesPrefix, ComesTo, Reports, Fails, Refuses, Reported, Failed, Refused, TooLong, Nothing}
+
+-- the bytes that were read are those that the source told
+pub leaves_told : (Fact : List ℕ → List ℕ → Type 0) (told before now : Option (List ℕ)) (bytes : List ℕ)
+    → IfSome told (λ left. bytes ≡ left) → Wrote before now (Fact bytes) → Leaves Fact told before now
+leaves_told Fact None before now bytes same wrote = tt
+leaves_told Fact (Some left) before now bytes same wrote = rw (sym same) wrote
+
+pub prefix_told : (told before now : Option (List ℕ)) (bytes : List ℕ)
+    → IfSome told (λ left. bytes ≡ left) → WrotePrefix before now (ComesTo bytes) → LeavesPrefix told before now
+prefix_told None before now bytes same wrote = tt
+prefix_told (Some left) before now bytes same wrote = rw (sym same) wrote
+
+no_more : (xs : List ℕ) → xs ≡ xs ++ []
+no_more xs = sym (append-nil xs)
+
+appends_none : (o : Option (List ℕ)) → Appends o o []
+appends_none None = tt
+appends_none (Some xs) = no_more xs
+
+-- nothing was written
+pub nothing_written : (before : Option (List ℕ)) (bytes : List ℕ) → WrotePrefix before before (ComesTo bytes)
+nothing_written before bytes = record {
+  text = [];
+  fact = Nothing refl;
+  written = record { count = 0; bound = omega arith; taken = appends_none before };
+}
+
+pub nothing_told : (told before : Option (List ℕ)) → LeavesPrefix told before before
+nothing_told None before = tt
+nothing_told (Some bytes) before = nothing_written before bytes
+
+pub report_prefix : (before now : Option (List ℕ)) (bytes text : List ℕ)
+    → Reports bytes text → TakesPrefix before now text → WrotePrefix before now (ComesTo bytes)
+report_prefix before now bytes text is taken = record { text = text; fact = Reported is; written = taken }
+
+pub fault_prefix : (before now : Option (List ℕ)) (bytes text : List ℕ)
+    → Fails bytes text → TakesPrefix before now text → WrotePrefix before now (ComesTo bytes)
+fault_prefix before now bytes text is taken = record { text = text; fact = Failed is; written = taken }
+
+pub refused_prefix : (before now : Option (List ℕ)) (bytes text : List ℕ)
+    → Refuses bytes text → TakesPrefix before now text → WrotePrefix before now (ComesTo bytes)
+refused_prefix before now bytes text is taken = record { text = text; fact = Refused is; written = taken }
+
+pub long_prefix : (told before now : Option (List ℕ)) → IfSome told (λ left. input_limit < length left)
+    → TakesPrefix before now too_long_text → LeavesPrefix told before now
+long_prefix None before now long taken = tt
+long_prefix (Some left) before now long taken = record { text = too_long_text; fact = TooLong long refl; written = taken }

@@ -1,0 +1,6 @@
+use Rattle.std.proofs.Common.{◌≡◌, ◌++◌, take}
+use Rattle.dns_report.specs.Report.{section_text}
+use Rattle.dns_report.proofs.record.push_section.Given as goal
+
+abbrev pub invariant-loop-next : goal.invariant-loop-next
+invariant-loop-next l = l.into.items ≡ l.initial.into.items ++ section_text l.section (take l.next-index l.records)

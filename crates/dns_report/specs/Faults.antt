@@ -1,0 +1,74 @@
+-- The line that tells why there is no answer.
+use Rattle.std.specs.Prelude.{ℕ, List, [], ◌∷◌, codes}
+use Rattle.std.specs.Fmt.{decimal}
+use Rattle.dns_model.specs.NameText.{printed}
+use Rattle.dns_message.specs.declared.decode_error.DecodeError.{DecodeError}
+use Rattle.dns_message.specs.declared.decode_error.DecodeKind.{DecodeKind}
+use Rattle.dns_message.specs.declared.decode_error.DecodeKind.TheVariants as decode
+use Rattle.dns_net.specs.declared.io_kind.IoKind.{IoKind}
+use Rattle.dns_net.specs.declared.io_kind.IoKind.TheVariants.{PermissionDenied, ConnectionRefused, ConnectionReset, ConnectionAborted, NotConnected, AddrInUse, AddrNotAvailable, BrokenPipe, InvalidData, TimedOut, UnexpectedEof, RequestTooLong, Other}
+use Rattle.dns_net.specs.declared.error.ProtoError.{ProtoError}
+use Rattle.dns_net.specs.declared.error.ProtoError.TheVariants.{Decode, TooLong}
+use Rattle.dns_net.specs.declared.notice.Notice.{Notice}
+use Rattle.dns_net.specs.declared.notice.Notice.TheVariants.{NotJudgedYet}
+use Rattle.dns_net.specs.Errors.{DnsErrorText, ResponseCode, Nsec, DnssecBogus, ErrorText, Busy, Dns, Message, NoConnections, Proto, Io, Timeout, QueryCaseMismatch, ForeignClassRecord, Truncated, NoMemory}
+use Rattle.dns_words.specs.Codes.{type_word, class_word}
+use Rattle.dns_report.specs.Lines.{Words, line}
+use Rattle.dns_report.specs.Marks.{mark_word}
+
+-- the word of a kind is its name
+abbrev pub io_word : IoKind → List ℕ
+io_word PermissionDenied = codes "PermissionDenied"
+io_word ConnectionRefused = codes "ConnectionRefused"
+io_word ConnectionReset = codes "ConnectionReset"
+io_word ConnectionAborted = codes "ConnectionAborted"
+io_word NotConnected = codes "NotConnected"
+io_word AddrInUse = codes "AddrInUse"
+io_word AddrNotAvailable = codes "AddrNotAvailable"
+io_word BrokenPipe = codes "BrokenPipe"
+io_word InvalidData = codes "InvalidData"
+io_word TimedOut = codes "TimedOut"
+io_word UnexpectedEof = codes "UnexpectedEof"
+io_word RequestTooLong = codes "RequestTooLong"
+io_word Other = codes "Other"
+
+abbrev pub decode_word : DecodeKind → List ℕ
+decode_word decode.Short = codes "Short"
+decode_word decode.BadName = codes "BadName"
+decode_word decode.BadRdata = codes "BadRdata"
+decode_word decode.BadOpt = codes "BadOpt"
+decode_word decode.Trailing = codes "Trailing"
+decode_word decode.NoMemory = codes "NoMemory"
+
+-- what is wrong with bytes, and where
+abbrev pub proto_words : ProtoError → Words
+proto_words (Decode error) = decode_word error.kind ∷ decimal error.offset ∷ []
+proto_words TooLong = codes "TooLong" ∷ []
+
+abbrev pub dns_words : DnsErrorText → Words
+dns_words (ResponseCode code) = codes "code" ∷ decimal code ∷ []
+dns_words (Nsec query response proof) = codes "nsec" ∷ mark_word proof ∷ []
+dns_words DnssecBogus = codes "bogus" ∷ []
+
+-- a fixed text
+abbrev pub notice_text : Notice → List ℕ
+notice_text NotJudgedYet = codes "not judged yet"
+
+-- a fault's line
+abbrev pub fault_line : Words → List ℕ
+fault_line words = line (codes "fault") words
+
+-- the line of an error; want of memory has none
+abbrev pub fault_text : ErrorText → List ℕ
+fault_text Busy = fault_line (codes "busy" ∷ [])
+fault_text (Dns error) = fault_line (dns_words error)
+fault_text (Message notice) = fault_line (codes "message" ∷ notice_text notice ∷ [])
+fault_text NoConnections = fault_line (codes "no-connections" ∷ [])
+fault_text (Proto error) = fault_line (codes "proto" ∷ proto_words error)
+fault_text (Io kind) = fault_line (codes "io" ∷ io_word kind ∷ [])
+fault_text Timeout = fault_line (codes "timeout" ∷ [])
+fault_text QueryCaseMismatch = fault_line (codes "case" ∷ [])
+fault_text (ForeignClassRecord owner class kind) =
+    fault_line (codes "class" ∷ printed owner ∷ class_word class ∷ type_word kind ∷ [])
+fault_text Truncated = fault_line (codes "truncated" ∷ [])
+fault_text NoMemory = []

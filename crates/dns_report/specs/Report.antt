@@ -1,0 +1,84 @@
+-- The text of a report on an answer: its code, what it denies, its records with their marks, and the chains of its Secure sets.
+use Rattle.std.specs.Prelude.{ℕ, List, [], ◌∷◌, ◌++◌, map, length, codes}
+use Rattle.std.specs.List.{flat_map}
+use Rattle.std.specs.Fmt.{decimal}
+use Rattle.dns_model.specs.declared.section.Section.{Section}
+use Rattle.dns_model.specs.declared.section.Section.TheVariants.{Answer, Authority, Additional}
+use Rattle.dns_model.specs.declared.denial.Denial.{Denial}
+use Rattle.dns_model.specs.NameText.{printed}
+use Rattle.dns_model.specs.Records.{Rr, MessageText}
+use Rattle.dns_model.specs.Chains.{Fact, Anchored, Matched, KeySet, Signed}
+use Rattle.dns_model.specs.Answers.{ChainText, ResponseText}
+use Rattle.dns_words.specs.Codes.{type_word, class_word}
+use Rattle.dns_words.specs.OctetWords.{octets_word}
+use Rattle.dns_report.specs.Lines.{Words, line}
+use Rattle.dns_report.specs.Marks.{mark_word, section_word, denial_words}
+
+-- `dns-report 1`
+abbrev pub header_line : List ℕ
+header_line = line (codes "dns-report") (codes "1" ∷ [])
+
+-- `code N`
+abbrev pub code_line : ℕ → List ℕ
+code_line code = line (codes "code") (decimal code ∷ [])
+
+-- `denial none`, `denial absent MARK` or `denial expanded MARK`
+abbrev pub denial_line : Denial → List ℕ
+denial_line denial = line (codes "denial") (denial_words denial)
+
+-- `SECTION OWNER CLASS TYPE TTL MARK RDATA`
+abbrev pub record_line : Section → Rr → List ℕ
+record_line section r =
+    line (section_word section)
+        (printed r.owner ∷ class_word r.class ∷ type_word r.kind ∷ decimal r.ttl ∷ mark_word r.mark ∷ octets_word r.rdata ∷ [])
+
+-- a line for each record, in order
+abbrev pub section_text : Section → List Rr → List ℕ
+section_text section records = flat_map (record_line section) records
+
+-- for each key of a set the number of the link that shows it, and the key
+unfoldable pub key_words : List (List ℕ) → List ℕ → Words
+key_words [] numbers = []
+key_words (key ∷ keys) [] = []
+key_words (key ∷ keys) (number ∷ numbers) = decimal number ∷ octets_word key ∷ key_words keys numbers
+
+-- the line of a link
+abbrev pub link_line : Fact → List ℕ
+link_line (Anchored owner class key) = line (codes "anchored") (printed owner ∷ class_word class ∷ octets_word key ∷ [])
+link_line (Matched owner class key ds_link ds) =
+    line (codes "matched") (printed owner ∷ class_word class ∷ octets_word key ∷ decimal ds_link ∷ octets_word ds ∷ [])
+link_line (KeySet owner class keys links) = line (codes "keyset") (printed owner ∷ class_word class ∷ key_words keys links)
+link_line (Signed owner class kind rdatas sig key_link key) =
+    line (codes "signed")
+        (printed owner ∷ class_word class ∷ type_word kind ∷ decimal key_link ∷ octets_word key ∷ octets_word sig ∷ map octets_word rdatas)
+
+-- `chain SECTION COUNT`
+abbrev pub chain_line : ChainText → List ℕ
+chain_line chain = line (codes "chain") (section_word chain.section ∷ decimal (length chain.links) ∷ [])
+
+-- a chain's line, and one for each of its links
+abbrev pub chain_text : ChainText → List ℕ
+chain_text chain = chain_line chain ++ flat_map link_line chain.links
+
+-- the lines of all sections' records, in order
+unfoldable pub records_text : MessageText → List ℕ
+records_text message =
+    section_text Answer message.answers ++ section_text Authority message.authorities
+    ++ section_text Additional message.additionals
+
+-- the lines before the records
+unfoldable pub head_text : ℕ → Denial → List ℕ
+head_text code denial = header_line ++ code_line code ++ denial_line denial
+
+-- a report without its last line
+unfoldable pub report_body : ResponseText → List ℕ
+report_body answer =
+    head_text answer.message.response_code answer.denial ++ records_text answer.message ++ flat_map chain_text answer.chains
+
+-- `end`
+abbrev pub end_line : List ℕ
+end_line = line (codes "end") []
+
+-- the report on an answer
+unfoldable pub report_text : ResponseText → List ℕ
+report_text answer = report_body answer ++ end_line

@@ -1,0 +1,165 @@
+//! The line of an error.
+ghost use Rattle.std.specs.Prelude.{◌≡◌, ◌++◌, ◌∷◌, [], OnOk, IfOk};
+ghost use Rattle.dns_net.specs.Replies.{dns_error_of, error_of};
+ghost use Rattle.dns_report.specs.Lines.{line_rest};
+ghost use Rattle.dns_report.specs.Faults.{io_word, decode_word, proto_words, dns_words, notice_text, fault_text, fault_line};
+
+use crate::words::{
+    end_line, push_class_word, push_mark, push_name, push_number, push_text, push_type_word,
+    push_word,
+};
+use dns_message::DecodeKind;
+use dns_name::NoMemory;
+use dns_net::{DnsError, IoKind, NetError, Notice, ProtoError};
+use std::alloc::Global;
+
+/// The name of a kind of fault outside.
+fn io_word(kind: IoKind) -> &'static [u8]
+    ensures { result.now ≡ io_word kind }
+{
+    match kind {
+        IoKind::PermissionDenied => b"PermissionDenied",
+        IoKind::ConnectionRefused => b"ConnectionRefused",
+        IoKind::ConnectionReset => b"ConnectionReset",
+        IoKind::ConnectionAborted => b"ConnectionAborted",
+        IoKind::NotConnected => b"NotConnected",
+        IoKind::AddrInUse => b"AddrInUse",
+        IoKind::AddrNotAvailable => b"AddrNotAvailable",
+        IoKind::BrokenPipe => b"BrokenPipe",
+        IoKind::InvalidData => b"InvalidData",
+        IoKind::TimedOut => b"TimedOut",
+        IoKind::UnexpectedEof => b"UnexpectedEof",
+        IoKind::RequestTooLong => b"RequestTooLong",
+        IoKind::Other => b"Other",
+    }
+}
+
+/// The name of a kind of fault in bytes.
+fn decode_word(kind: DecodeKind) -> &'static [u8]
+    ensures { result.now ≡ decode_word kind }
+{
+    match kind {
+        DecodeKind::Short => b"Short",
+        DecodeKind::BadName => b"BadName",
+        DecodeKind::BadRdata => b"BadRdata",
+        DecodeKind::BadOpt => b"BadOpt",
+        DecodeKind::Trailing => b"Trailing",
+        DecodeKind::NoMemory => b"NoMemory",
+    }
+}
+
+/// A fixed text.
+fn notice_text(notice: Notice) -> &'static [u8]
+    ensures { result.now ≡ notice_text notice }
+{
+    match notice {
+        Notice::NotJudgedYet => b"not judged yet",
+    }
+}
+
+/// Appends what is wrong with bytes, and ends the line.
+fn push_proto(into: &mut Vec<u8>, error: ProtoError) -> Result<(), NoMemory>
+    ensures { OnOk result (into.new.items ≡ into.old.items ++ line_rest (proto_words error)) }
+{
+    match error {
+        ProtoError::Decode(error) => {
+            push_word(into, decode_word(error.kind))?;
+            push_number(into, u64::from(error.offset))?;
+            end_line(into)
+        }
+        ProtoError::TooLong => {
+            push_word(into, b"TooLong")?;
+            end_line(into)
+        }
+    }
+}
+
+/// Appends what DNS answered, and ends the line.
+fn push_dns(into: &mut Vec<u8>, error: &DnsError) -> Result<(), NoMemory>
+    ensures { OnOk result (into.new.items ≡ into.old.items ++ line_rest (dns_words (dns_error_of error.now))) }
+{
+    match error {
+        DnsError::ResponseCode(code) => {
+            push_word(into, b"code")?;
+            push_number(into, u64::from(code.0))?;
+            end_line(into)
+        }
+        DnsError::Nsec {
+            query: _,
+            response: _,
+            proof,
+        } => {
+            push_word(into, b"nsec")?;
+            push_mark(into, *proof)?;
+            end_line(into)
+        }
+        DnsError::DnssecBogus => {
+            push_word(into, b"bogus")?;
+            end_line(into)
+        }
+    }
+}
+
+/// Appends a line of one fixed word.
+fn push_single(into: &mut Vec<u8>, word: &[u8]) -> Result<(), NoMemory>
+    ensures { OnOk result (into.new.items ≡ into.old.items ++ fault_line (word.now ∷ [])) }
+{
+    push_text(into, b"fault")?;
+    push_word(into, word)?;
+    end_line(into)
+}
+
+/// Appends a line of two words.
+fn push_double(into: &mut Vec<u8>, first: &[u8], second: &[u8]) -> Result<(), NoMemory>
+    ensures { OnOk result (into.new.items ≡ into.old.items ++ fault_line (first.now ∷ second.now ∷ [])) }
+{
+    push_text(into, b"fault")?;
+    push_word(into, first)?;
+    push_word(into, second)?;
+    end_line(into)
+}
+
+/// Appends the line of an error.
+fn push_fault(into: &mut Vec<u8>, error: &NetError) -> Result<(), NoMemory>
+    ensures { OnOk result (into.new.items ≡ into.old.items ++ fault_text (error_of error.now)) }
+{
+    match error {
+        NetError::Busy => push_single(into, b"busy"),
+        NetError::Dns(error) => {
+            push_text(into, b"fault")?;
+            push_dns(into, error)
+        }
+        NetError::Message(notice) => push_double(into, b"message", notice_text(*notice)),
+        NetError::NoConnections => push_single(into, b"no-connections"),
+        NetError::Proto(error) => {
+            push_text(into, b"fault proto")?;
+            push_proto(into, *error)
+        }
+        NetError::Io(kind) => push_double(into, b"io", io_word(*kind)),
+        NetError::Timeout => push_single(into, b"timeout"),
+        NetError::QueryCaseMismatch => push_single(into, b"case"),
+        NetError::ForeignClassRecord {
+            record_name,
+            record_class,
+            record_type,
+        } => {
+            push_text(into, b"fault class")?;
+            push_name(into, record_name)?;
+            push_class_word(into, *record_class)?;
+            push_type_word(into, *record_type)?;
+            end_line(into)
+        }
+        NetError::Truncated => push_single(into, b"truncated"),
+        NetError::NoMemory => Ok(()),
+    }
+}
+
+/// The line of an error, which ends with LF; want of memory has no line, and the text is empty. The only error is want of
+/// memory.
+pub fn write_fault(alloc: Global, error: &NetError) -> Result<Vec<u8>, NoMemory>
+    ensures { IfOk result (λ v. v.items ≡ fault_text (error_of error.now)) }
+{
+    let mut text = Vec::new(alloc);
+    push_fault(&mut text, error)?;
+    Ok(text)
+}

@@ -1,0 +1,157 @@
+//! The lines of chains.
+ghost use Rattle.std.specs.Prelude.{◌≡◌, ◌++◌, ◌∷◌, [], map, codes, length, OnOk};
+ghost use Rattle.std.specs.List.{flat_map};
+ghost use Rattle.std.specs.Fmt.{decimal};
+ghost use Rattle.dns_model.specs.NameText.{printed};
+ghost use Rattle.dns_words.specs.Codes.{type_word, class_word};
+ghost use Rattle.dns_words.specs.OctetWords.{octets_word};
+ghost use Rattle.dns_net.specs.Link.{fact_of};
+ghost use Rattle.dns_report.specs.Lines.{line, line_rest};
+ghost use Rattle.dns_report.specs.Report.{key_words, link_line, chain_line, chain_text};
+
+use crate::marks::section_word;
+use crate::words::{
+    end_line, push_front, push_number, push_octets_word, push_text, push_type_word, push_word,
+};
+use dns_name::NoMemory;
+use dns_net::{Chain, Link};
+use dns_record::{Rdata, RecordType};
+
+/// Appends the words of numbered keys, and ends the line.
+#[tactic(auto, unfolding(crate::specs::Report::key_words))]
+fn push_keys(into: &mut Vec<u8>, keys: &[Rdata], numbers: &[u32]) -> Result<(), NoMemory>
+    ensures { OnOk result (into.new.items ≡ into.old.items ++ line_rest (key_words keys.now numbers.now)) }
+{
+    let mut left = keys;
+    let mut right = numbers;
+    'keys: while let Some((key, more)) = left.split_first() {
+        let Some((number, others)) = right.split_first() else {
+            return end_line(into);
+        };
+        push_number(into, u64::from(*number))?;
+        push_octets_word(into, key.as_slice())?;
+        left = more;
+        right = others;
+    }
+    end_line(into)
+}
+
+/// Appends the words of rdatas, and ends the line.
+fn push_rdatas(into: &mut Vec<u8>, rdatas: &[Rdata]) -> Result<(), NoMemory>
+    ensures { OnOk result (into.new.items ≡ into.old.items ++ line_rest (map octets_word rdatas.now)) }
+{
+    let mut left = rdatas;
+    'rdatas: while let Some((rdata, more)) = left.split_first() {
+        push_octets_word(into, rdata.as_slice())?;
+        left = more;
+    }
+    end_line(into)
+}
+
+/// Appends the line of a signed set.
+fn push_signed(
+    into: &mut Vec<u8>,
+    record_type: RecordType,
+    rdatas: &[Rdata],
+    sig: &[u8],
+    key_link: u32,
+    key: &[u8],
+) -> Result<(), NoMemory>
+    ensures {
+        OnOk result (into.new.items ≡ into.old.items ++ line_rest
+            (type_word record_type.0 ∷ decimal key_link ∷ octets_word key.now ∷ octets_word sig.now ∷ map octets_word rdatas.now))
+    }
+{
+    push_type_word(into, record_type)?;
+    push_number(into, u64::from(key_link))?;
+    push_octets_word(into, key)?;
+    push_octets_word(into, sig)?;
+    push_rdatas(into, rdatas)
+}
+
+/// Appends the line of a link.
+fn push_link(into: &mut Vec<u8>, link: &Link) -> Result<(), NoMemory>
+    ensures { OnOk result (into.new.items ≡ into.old.items ++ link_line (fact_of link.now)) }
+{
+    match link {
+        Link::Anchored { owner, class, key } => {
+            push_front(into, b"anchored", owner, *class)?;
+            push_octets_word(into, key.as_slice())?;
+            end_line(into)
+        }
+        Link::Matched {
+            owner,
+            class,
+            key,
+            ds_link,
+            ds,
+        } => {
+            push_front(into, b"matched", owner, *class)?;
+            push_octets_word(into, key.as_slice())?;
+            push_number(into, u64::from(*ds_link))?;
+            push_octets_word(into, ds.as_slice())?;
+            end_line(into)
+        }
+        Link::KeySet {
+            owner,
+            class,
+            keys,
+            links,
+        } => {
+            push_front(into, b"keyset", owner, *class)?;
+            push_keys(into, keys, links)
+        }
+        Link::Signed {
+            owner,
+            class,
+            record_type,
+            rdatas,
+            sig,
+            key_link,
+            key,
+        } => {
+            push_front(into, b"signed", owner, *class)?;
+            push_signed(into, *record_type, rdatas, sig.as_slice(), *key_link, key.as_slice())
+        }
+    }
+}
+
+/// Appends the line that begins a chain.
+fn push_chain_line(into: &mut Vec<u8>, chain: &Chain) -> Result<(), NoMemory>
+    ensures { OnOk result (into.new.items ≡ into.old.items ++ chain_line chain.now) }
+{
+    push_text(into, b"chain")?;
+    push_word(into, section_word(chain.section))?;
+    push_number(into, chain.links.len() as u64)?;
+    end_line(into)
+}
+
+/// Appends the lines of links, in order.
+fn push_links(into: &mut Vec<u8>, links: &[Link]) -> Result<(), NoMemory>
+    ensures { OnOk result (into.new.items ≡ into.old.items ++ flat_map link_line (map fact_of links.now)) }
+{
+    let mut left = links;
+    'links: while let Some((link, more)) = left.split_first() {
+        push_link(into, link)?;
+        left = more;
+    }
+    Ok(())
+}
+
+/// Appends the lines of a chain.
+fn push_chain(into: &mut Vec<u8>, chain: &Chain) -> Result<(), NoMemory>
+    ensures { OnOk result (into.new.items ≡ into.old.items ++ chain_text chain.now) }
+{
+    push_chain_line(into, chain)?;
+    push_links(into, &chain.links)
+}
+
+/// Appends the lines of chains, in order.
+pub(crate) fn push_chains(into: &mut Vec<u8>, chains: &[Chain]) -> Result<(), NoMemory>
+    ensures { OnOk result (into.new.items ≡ into.old.items ++ flat_map chain_text chains.now) }
+{
+    for chain in chains {
+        push_chain(into, chain)?;
+    }
+    Ok(())
+}

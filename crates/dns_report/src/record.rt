@@ -1,0 +1,51 @@
+//! The lines of records.
+ghost use Rattle.std.specs.Prelude.{◌≡◌, ◌++◌, ◌∷◌, [], OnOk};
+ghost use Rattle.std.specs.Fmt.{decimal};
+ghost use Rattle.dns_words.specs.Codes.{type_word};
+ghost use Rattle.dns_words.specs.OctetWords.{octets_word};
+ghost use Rattle.dns_report.specs.Lines.{line_rest};
+ghost use Rattle.dns_report.specs.Marks.{mark_word};
+ghost use Rattle.dns_report.specs.Report.{record_line, section_text};
+
+use crate::marks::section_word;
+use crate::words::{
+    end_line, push_front, push_mark, push_number, push_octets_word, push_type_word,
+};
+use dns_name::NoMemory;
+use dns_record::{Record, Section};
+
+/// Appends the last words of a record's line.
+fn push_rest(into: &mut Vec<u8>, one: &Record) -> Result<(), NoMemory>
+    ensures {
+        OnOk result (into.new.items ≡ into.old.items ++ line_rest
+            (type_word one.now.kind ∷ decimal one.now.ttl ∷ mark_word one.now.mark ∷ octets_word one.now.rdata ∷ []))
+    }
+{
+    push_type_word(into, one.record_type)?;
+    push_number(into, u64::from(one.ttl))?;
+    push_mark(into, one.proof)?;
+    push_octets_word(into, one.rdata.as_slice())?;
+    end_line(into)
+}
+
+/// Appends the line of a record of a section.
+fn push_record(into: &mut Vec<u8>, section: Section, one: &Record) -> Result<(), NoMemory>
+    ensures { OnOk result (into.new.items ≡ into.old.items ++ record_line section one.now) }
+{
+    push_front(into, section_word(section), &one.name, one.dns_class)?;
+    push_rest(into, one)
+}
+
+/// Appends the lines of a section's records, in order.
+pub(crate) fn push_section(
+    into: &mut Vec<u8>,
+    section: Section,
+    records: &[Record],
+) -> Result<(), NoMemory>
+    ensures { OnOk result (into.new.items ≡ into.old.items ++ section_text section records.now) }
+{
+    for next in records {
+        push_record(into, section, next)?;
+    }
+    Ok(())
+}

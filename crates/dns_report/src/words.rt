@@ -1,0 +1,98 @@
+//! Words of a line after its first: each with a space before it.
+ghost use Rattle.std.specs.Prelude.{◌≡◌, ◌++◌, ◌∷◌, [], OnOk};
+ghost use Rattle.std.specs.Fmt.{decimal};
+ghost use Rattle.dns_model.specs.NameText.{printed};
+ghost use Rattle.dns_words.specs.Codes.{type_word, class_word};
+ghost use Rattle.dns_words.specs.OctetWords.{octets_word};
+ghost use Rattle.dns_report.specs.Marks.{mark_word};
+
+use crate::marks::mark_word;
+use dns_name::{Name, NoMemory};
+use dns_record::{DNSClass, Proof, RecordType};
+use dns_words::{push_class, push_decimal, push_octets, push_type};
+
+/// Appends bytes as they are.
+pub(crate) fn push_text(into: &mut Vec<u8>, text: &[u8]) -> Result<(), NoMemory>
+    ensures { OnOk result (into.new.items ≡ into.old.items ++ text.now) }
+{
+    into.extend_from_slice(text)?;
+    Ok(())
+}
+
+/// Appends a word.
+pub(crate) fn push_word(into: &mut Vec<u8>, word: &[u8]) -> Result<(), NoMemory>
+    ensures { OnOk result (into.new.items ≡ into.old.items ++ (32 ∷ word.now)) }
+{
+    into.push(b' ')?;
+    into.extend_from_slice(word)?;
+    Ok(())
+}
+
+/// Ends a line.
+pub(crate) fn end_line(into: &mut Vec<u8>) -> Result<(), NoMemory>
+    ensures { OnOk result (into.new.items ≡ into.old.items ++ (10 ∷ [])) }
+{
+    into.push(b'\n')?;
+    Ok(())
+}
+
+/// Appends a number.
+pub(crate) fn push_number(into: &mut Vec<u8>, number: u64) -> Result<(), NoMemory>
+    ensures { OnOk result (into.new.items ≡ into.old.items ++ (32 ∷ decimal number)) }
+{
+    into.push(b' ')?;
+    push_decimal(into, number)
+}
+
+/// Appends a name in the case in which it stands.
+pub(crate) fn push_name(into: &mut Vec<u8>, name: &Name) -> Result<(), NoMemory>
+    ensures { OnOk result (into.new.items ≡ into.old.items ++ (32 ∷ printed name.now)) }
+{
+    let text = name.to_ascii(*into.allocator())?;
+    push_word(into, text.as_bytes())
+}
+
+/// Appends the word of a class.
+pub(crate) fn push_class_word(into: &mut Vec<u8>, class: DNSClass) -> Result<(), NoMemory>
+    ensures { OnOk result (into.new.items ≡ into.old.items ++ (32 ∷ class_word class.0)) }
+{
+    into.push(b' ')?;
+    push_class(into, class)
+}
+
+/// Appends the word of a type.
+pub(crate) fn push_type_word(into: &mut Vec<u8>, kind: RecordType) -> Result<(), NoMemory>
+    ensures { OnOk result (into.new.items ≡ into.old.items ++ (32 ∷ type_word kind.0)) }
+{
+    into.push(b' ')?;
+    push_type(into, kind)
+}
+
+/// Appends bytes as hexadecimal digits.
+pub(crate) fn push_octets_word(into: &mut Vec<u8>, bytes: &[u8]) -> Result<(), NoMemory>
+    ensures { OnOk result (into.new.items ≡ into.old.items ++ (32 ∷ octets_word bytes.now)) }
+{
+    into.push(b' ')?;
+    push_octets(into, bytes)
+}
+
+/// Appends the word of a mark.
+pub(crate) fn push_mark(into: &mut Vec<u8>, mark: Proof) -> Result<(), NoMemory>
+    ensures { OnOk result (into.new.items ≡ into.old.items ++ (32 ∷ mark_word mark)) }
+{
+    push_word(into, mark_word(mark))
+}
+
+/// Appends the first words of a line that is about an owner.
+pub(crate) fn push_front(
+    into: &mut Vec<u8>,
+    kind: &[u8],
+    owner: &Name,
+    class: DNSClass,
+) -> Result<(), NoMemory>
+    ensures { OnOk result (into.new.items ≡ into.old.items ++ (kind.now ++ (32 ∷ (printed owner.now ++ (32 ∷ class_word class.0))))) }
+{
+    push_text(into, kind)?;
+    push_name(into, owner)?;
+    push_class_word(into, class)
+}
