@@ -45,6 +45,6 @@ pub lookup_walk : {H Q R X : Type 0} (sent : H → Q → H → R → Type 0) (a 
 lookup_walk sent a b q r (Ok x) n m s h = one_walk sent a b q r n m s h
 lookup_walk {H} sent a b q r (Err e) n m s h =
     elim s as (λ _. Walked sent a b n m) [
-      inl made ↦ one_walk sent a b q r n m made h
-    | inr none ↦ record { steps = []; walked = sym none.1; counted = omega arith }
+      | inl made ↦ one_walk sent a b q r n m made h
+      | inr none ↦ record { steps = []; walked = sym none.1; counted = omega arith }
     ]

@@ -33,8 +33,8 @@ any_place : (p : ℕ → Bool) (i : ℕ) (places : List ℕ) → p i ≡ true �
 any_place p i [] good h = cc
 any_place p i (place ∷ places) good h =
     ⊎_elim (λ (e : (i == place) ≡ true). or_left (p place) (list_any p places) (ap p (sym (eqb-true i place e)) ∙ good))
-      (λ (e : list_any (λ place. i == place) places ≡ true). or_right (p place) (list_any p places) (any_place p i places good e))
-      (or_cases (i == place) (list_any (λ place. i == place) places) h)
+    (λ (e : list_any (λ place. i == place) places ≡ true). or_right (p place) (list_any p places) (any_place p i places good e))
+    (or_cases (i == place) (list_any (λ place. i == place) places) h)
 
 -- a test passes at one of the places of a number where it passes in the list
 pub found : {X Z : Type 0} (number : X → ℕ) (test : X → Bool) (n : ℕ) (places : BTreeMap ℕ (Vec ℕ Z)) (xs : List X)
@@ -43,9 +43,9 @@ pub found : {X Z : Type 0} (number : X → ℕ) (test : X → Bool) (n : ℕ) (p
 found number test n places xs alike covers =
     same_test (list_any (passes_at test xs) (places_at places n)) (list_any test xs) (places_any test xs (places_at places n))
     (λ h. let some = Any-from_list_any test xs h in
-      any_place (passes_at test xs) some.0 (places_at places n)
-        (ap (passes test) (slice_get-get_or xs some.0 some.1 some.2 ∙ ap Some some.3) ∙ some.4)
-        (ap (λ k. list_any (λ place. some.0 == place) (places_at places k)) (sym (alike some.1 some.4)) ∙ covers some.0 some.1 some.2 (sym some.3)))
+    any_place (passes_at test xs) some.0 (places_at places n)
+    (ap (passes test) (slice_get-get_or xs some.0 some.1 some.2 ∙ ap Some some.3) ∙ some.4)
+    (ap (λ k. list_any (λ place. some.0 == place) (places_at places k)) (sym (alike some.1 some.4)) ∙ covers some.0 some.1 some.2 (sym some.3)))
 
 kept_if : (b : Bool) (i : ℕ) (there : List ℕ) (place : ℕ) → list_any (λ p. i == p) there ≡ true
     → list_any (λ p. i == p) (cond b (there ++ place ∷ []) there) ≡ true
@@ -84,11 +84,11 @@ pub covers_more : {X Z : Type 0} (number : X → ℕ) (places next : BTreeMap �
     → ((k : ℕ) → places_at next k ≡ places_after places (number y) (length xs) k) → Covers number next (xs ++ y ∷ [])
 covers_more number places next xs y covers after i x h is =
     ⊎_elim
-      (λ (below : i < length xs). kept_place places next (number y) (length xs) after i (number x) (covers i x below (is ∙ get_or_append_left xs (y ∷ []) x i below)))
-      (λ (from : length xs ≤ i).
-        let last : length xs ≡ i = omega (arith, length_push xs y) in
-        let one : x ≡ y = is ∙ get_or_push xs y x i last in
-        ap (λ z. list_any (λ p. i == p) (places_at next (number z))) one
-        ∙ ap (λ k. list_any (λ p. k == p) (places_at next (number y))) (sym last)
-        ∙ added_place places next (number y) (length xs) after)
-      (cases_lt i (length xs))
+    (λ (below : i < length xs). kept_place places next (number y) (length xs) after i (number x) (covers i x below (is ∙ get_or_append_left xs (y ∷ []) x i below)))
+    (λ (from : length xs ≤ i).
+    let last : length xs ≡ i = omega (arith, length_push xs y) in
+    let one : x ≡ y = is ∙ get_or_push xs y x i last in
+    ap (λ z. list_any (λ p. i == p) (places_at next (number z))) one
+    ∙ ap (λ k. list_any (λ p. k == p) (places_at next (number y))) (sym last)
+    ∙ added_place places next (number y) (length xs) after)
+    (cases_lt i (length xs))

@@ -106,18 +106,10 @@ impl TrustAnchors {
 }
 
 // The anchor at one of some places is this key.
-fn is_at(
-    anchors: &[Anchor],
-    places: &[usize],
-    owner: &Name,
-    algorithm: u8,
-    key: &[u8],
-) -> bool
+fn is_at(anchors: &[Anchor], places: &[usize], owner: &Name, algorithm: u8, key: &[u8]) -> bool
     ensures { result ≡ list_any (passes_at (is_anchor_of owner.now algorithm key.now) anchors.now) places.now }
 {
-    places
-        .iter()
-        .any(|place| is_anchor_at(anchors, *place, owner, algorithm, key))
+    places.iter().any(|place| is_anchor_at(anchors, *place, owner, algorithm, key))
 }
 
 // The anchor at a place is this key.

@@ -196,9 +196,7 @@ fn is_at(
 ) -> bool
     ensures { result ≡ list_any (passes_at (is_entry_of algorithm key.now bytes.now signature.now) accepted.now) places.now }
 {
-    places
-        .iter()
-        .any(|place| is_entry_at(accepted, *place, algorithm, key, bytes, signature))
+    places.iter().any(|place| is_entry_at(accepted, *place, algorithm, key, bytes, signature))
 }
 
 // The entry at a place is this signature.

@@ -7,5 +7,5 @@ use Rattle.dns_trust.proofs.listed.Listed.holds.Goals as goal
 pub returns : goal.returns
 returns c =
     rw (c.is_at.ensures, c.deref.ensures.value, c.places_of-places.ensures, c.number_of.ensures, ← c.self.view_is)
-      (found entry_number (is_entry c.args.algorithm c.args.key.now c.args.bytes.now c.args.signature.now) (number_of c.args.algorithm c.args.key.now c.args.bytes.now c.args.signature.now) c.self.inside.places c.self.inside.accepted.items
-        (entry_alike c.args.algorithm c.args.key.now c.args.bytes.now c.args.signature.now) c.self.invariant)
+    (found entry_number (is_entry c.args.algorithm c.args.key.now c.args.bytes.now c.args.signature.now) (number_of c.args.algorithm c.args.key.now c.args.bytes.now c.args.signature.now) c.self.inside.places c.self.inside.accepted.items
+    (entry_alike c.args.algorithm c.args.key.now c.args.bytes.now c.args.signature.now) c.self.invariant)
