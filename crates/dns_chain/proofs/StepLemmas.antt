@@ -1,11 +1,12 @@
 -- The walk of asks, built up by the code's loops.
-use Rattle.std.proofs.Common.{ℕ, ◌+◌, ◌≤◌, ◌≡◌, ◌==◌, Bool, true, false, List, [], ◌∷◌, ◌++◌, map, take, drop, Option, None, Some, refl, sym, ◌∙◌, subst, arith, append_assoc}
-use Rattle.std.proofs.lemmas.List.{append-nil}
+use Rattle.std.proofs.Common.{ℕ, ◌+◌, ◌≤◌, ◌<◌, ◌≡◌, suc, length, get_or, ap, add-one, drop-cons, ◌==◌, Bool, true, false, List, [], ◌∷◌, ◌++◌, map, take, drop, Option, None, Some, refl, sym, ◌∙◌, subst, arith, append_assoc}
+use Rattle.std.proofs.lemmas.List.{append-nil, take_more, take_all, take-append-drop}
 use Rattle.dns_model.specs.Records.{Rr, RrSet, Question}
 use Rattle.dns_model.specs.Chains.{Judge}
 use Rattle.dns_model.specs.Answers.{Told, Placed}
 use Rattle.dns_judgement.specs.Judged.{Judged}
-use Rattle.dns_judgement.specs.Marks.{Verdict, Failed, is_proved}
+use Rattle.dns_judgement.specs.Marks.{Verdict, Failed, is_proved, judged_by, most_signatures}
+use Rattle.dns_model.specs.Types.{type_dnskey}
 use Rattle.dns_judgement.specs.Run.{Run, Sets, Signatures, Ask, NoSet, Keys, Others, NoSignature, Skips, Asks, Proves}
 use Rattle.dns_judgement.specs.Run.{most_sends}
 use Rattle.dns_net.specs.Errors.{Reply}
@@ -50,10 +51,10 @@ pub set_done : (j : Judge) (limit : ℕ) (says : Question → Option Told → Ty
     → SetsDone j limit says q d n (first ++ p ∷ []) (done ++ s ∷ []) m
 set_done j limit says q d n k m first p done s so step = record {
   so_far = λ ps ss e walk.
-      let P : List Placed → Type 0 = λ xs. Run j limit says n (Sets q d xs ((done ++ s ∷ []) ++ ss)) e in
-      let Q : List Judged → Type 0 = λ ys. Run j limit says n (Sets q d (first ++ (p ∷ ps)) ys) e in
-      subst P (sym (append_assoc first (p ∷ []) ps))
-      (subst Q (sym (append_assoc done (s ∷ []) ss)) (so.so_far (p ∷ ps) (s ∷ ss) e (set_before j limit says q d e p ps ss step walk)));
+    let P : List Placed → Type 0 = λ xs. Run j limit says n (Sets q d xs ((done ++ s ∷ []) ++ ss)) e in
+    let Q : List Judged → Type 0 = λ ys. Run j limit says n (Sets q d (first ++ (p ∷ ps)) ys) e in
+    subst P (sym (append_assoc first (p ∷ []) ps))
+    (subst Q (sym (append_assoc done (s ∷ []) ss)) (so.so_far (p ∷ ps) (s ∷ ss) e (set_before j limit says q d e p ps ss step walk)))
 }
 
 pub sets_done : (j : Judge) (limit : ℕ) (says : Question → Option Told → Type 0) (q : Question) (d n k : ℕ) (all : List Placed) (done : List Judged)
@@ -76,10 +77,10 @@ pub signature_done : (j : Judge) (limit : ℕ) (says : Question → Option Told 
     → SignaturesDone j limit says q d n set (first ++ r ∷ []) (done ++ v ∷ []) m
 signature_done j limit says q d n k m set first r done v so step failed = record {
   so_far = λ rs vs e walk.
-      let P : List Rr → Type 0 = λ xs. Run j limit says n (Signatures q d set xs ((done ++ v ∷ []) ++ vs)) e in
-      let Q : List Verdict → Type 0 = λ ys. Run j limit says n (Signatures q d set (first ++ (r ∷ rs)) ys) e in
-      subst P (sym (append_assoc first (r ∷ []) rs))
-      (subst Q (sym (append_assoc done (v ∷ []) vs)) (so.so_far (r ∷ rs) (v ∷ vs) e (signature_before j limit says q d e set r rs vs step failed walk)));
+    let P : List Rr → Type 0 = λ xs. Run j limit says n (Signatures q d set xs ((done ++ v ∷ []) ++ vs)) e in
+    let Q : List Verdict → Type 0 = λ ys. Run j limit says n (Signatures q d set (first ++ (r ∷ rs)) ys) e in
+    subst P (sym (append_assoc first (r ∷ []) rs))
+    (subst Q (sym (append_assoc done (v ∷ []) vs)) (so.so_far (r ∷ rs) (v ∷ vs) e (signature_before j limit says q d e set r rs vs step failed walk)))
 }
 
 pub signatures_done : (j : Judge) (limit : ℕ) (says : Question → Option Told → Type 0) (q : Question) (d n k : ℕ) (set : RrSet) (all : List Rr) (done : List Verdict)
@@ -109,3 +110,45 @@ then_way sent faults tells a b c n k m first rest = record {
   later = omega (arith, first.later, rest.later);
   told = rest.told ∙ first.told;
 }
+
+-- a set that isn't DNSKEY, judged by the verdicts of its signatures
+pub other_step : (j : Judge) (limit : ℕ) (says : Question → Option Told → Type 0) (q : Question) (d n m : ℕ) (p : Placed) (set : RrSet) (s : Judged) (vs : List Verdict)
+    → set ≡ p.set → (p.set.kind == type_dnskey) ≡ false
+    → Run j limit says n (Signatures q d set (take most_signatures set.signatures) vs) m → s ≡ judged_by p vs
+    → SetStep j limit says q d p n s m
+other_step j limit says q d n m p set s vs own kind walk is =
+    let P : RrSet → Type 0 = λ x. Run j limit says n (Signatures q d x (take most_signatures x.signatures) vs) m in
+    OtherStep n m s vs kind (subst P own walk) is
+
+-- a list around one of its elements
+around : (xs : List Rr) (i : ℕ) (r : Rr) → i < length xs → r ≡ get_or xs i r → take i xs ++ (r ∷ drop (i + 1) xs) ≡ xs
+around xs i r lt is =
+    let e0 : drop i xs ≡ get_or xs i r ∷ drop (suc i) xs = drop-cons xs i r lt in
+    let P : Rr → Type 0 = λ y. drop i xs ≡ y ∷ drop (suc i) xs in
+    let e : drop i xs ≡ r ∷ drop (i + 1) xs = rw add-one (subst P (sym is) e0) in
+    ap (λ ys. take i xs ++ ys) (sym e) ∙ take-append-drop i xs
+
+-- the signature at a place proves the set
+pub proved_at : (j : Judge) (limit : ℕ) (says : Question → Option Told → Type 0) (q : Question) (d n k m : ℕ) (set : RrSet) (all tried : List Rr) (i : ℕ) (r : Rr) (done : List Verdict) (v : Verdict)
+    → tried ≡ all → i < length tried → r ≡ get_or tried i r → SignaturesDone j limit says q d n set (take i tried) done k
+    → SignatureStep j limit says q d set r k v m → is_proved v ≡ true → Run j limit says n (Signatures q d set all (done ++ v ∷ [])) m
+proved_at j limit says q d n k m set all tried i r done v own lt is so step proved =
+    let P : List Rr → Type 0 = λ xs. Run j limit says n (Signatures q d set xs (done ++ v ∷ [])) m in
+    subst P (around tried i r lt is ∙ own) (signature_proved j limit says q d n k m set (take i tried) r (drop (i + 1) tried) done v so step proved)
+
+-- the signature at a place doesn't
+pub failed_at : (j : Judge) (limit : ℕ) (says : Question → Option Told → Type 0) (q : Question) (d n k m : ℕ) (set : RrSet) (tried : List Rr) (i : ℕ) (r : Rr) (done : List Verdict) (v : Verdict)
+    → i < length tried → r ≡ get_or tried i r → SignaturesDone j limit says q d n set (take i tried) done k
+    → SignatureStep j limit says q d set r k v m → is_proved v ≡ false → SignaturesDone j limit says q d n set (take (i + 1) tried) (done ++ v ∷ []) m
+failed_at j limit says q d n k m set tried i r done v lt is so step failed =
+    let P : List Rr → Type 0 = λ xs. SignaturesDone j limit says q d n set xs (done ++ v ∷ []) m in
+    let Q : Rr → Type 0 = λ y. take (i + 1) tried ≡ take i tried ++ y ∷ [] in
+    let e : take (i + 1) tried ≡ take i tried ++ r ∷ [] = subst Q (sym is) (take_more tried i r lt) in
+    subst P (sym e) (signature_done j limit says q d n k m set (take i tried) r done v so step failed)
+
+-- all signatures were tried
+pub all_failed : (j : Judge) (limit : ℕ) (says : Question → Option Told → Type 0) (q : Question) (d n k : ℕ) (set : RrSet) (all tried : List Rr) (i : ℕ) (done : List Verdict)
+    → tried ≡ all → length tried ≤ i → SignaturesDone j limit says q d n set (take i tried) done k → Run j limit says n (Signatures q d set all done) k
+all_failed j limit says q d n k set all tried i done own past so =
+    let P : List Rr → Type 0 = λ xs. SignaturesDone j limit says q d n set xs done k in
+    signatures_done j limit says q d n k set all done (subst P (take_all i tried past ∙ own) so)

@@ -1,7 +1,8 @@
-ghost use Rattle.std.specs.Prelude.{◌≡◌, ◌≤◌};
+ghost use Rattle.std.specs.Prelude.{◌⊎◌, ◌≡◌, ◌≤◌};
 ghost use Rattle.dns_model.specs.Chains.{judge};
 ghost use Rattle.dns_net.specs.Causes.{HasCause};
-ghost use Rattle.dns_net.specs.Replies.{reply_of};
+ghost use Rattle.dns_net.specs.Errors as seen;
+ghost use Rattle.dns_net.specs.Replies.{reply_of, error_of};
 ghost use Rattle.dns_chain.specs.Looked.{UnlessNoMemory, IsLookup, judged_answer};
 
 use crate::asking::hear;
@@ -11,7 +12,7 @@ use dns_message::Message;
 use dns_name::NoMemory;
 use dns_net::{DnsError, DnsHandle, DnsResponse, NetError, Notice, Verifier};
 use dns_record::{Denial, Query, Record};
-use dns_sets::{JudgedSet, Outcome, finished, foreign_record, outcome_of, placed_sets};
+use dns_sets::{finished, foreign_record, outcome_of, placed_sets, JudgedSet, Outcome};
 use dns_trust::TrustAnchors;
 use std::alloc::Global;
 
@@ -24,25 +25,32 @@ pub(crate) fn look<H: DnsHandle, V: Verifier>(
     handle: &mut H,
     query: Query,
 ) -> Result<DnsResponse, NetError>
+    requires limit { inquiry.limit ≤ 255 }
     ensures later { H.faults handle.old ≤ H.faults handle.new }
     ensures told { H.told handle.new ≡ H.told handle.old }
-    ensures lookup { UnlessNoMemory result (IsLookup H.sent handle.old handle.new (H.told handle.old)
-        (judge (V.answers verifier.now) anchors.now inquiry.now) inquiry.now inquiry.limit query (reply_of result)) }
+    ensures lookup {
+        UnlessNoMemory result (IsLookup H.sent handle.old handle.new (H.told handle.old)
+            (judge (V.answers verifier.now) anchors.now inquiry.now) inquiry.now inquiry.limit query (reply_of result))
+    }
 {
     let mut sends: u32 = 0;
-    let message = hear(alloc, inquiry, handle, &mut sends, &query)?;
-    if let Some(record) = foreign_record(&query, &message) {
-        return Err(foreign_error(record));
+    let message = match hear(alloc, inquiry, handle, &mut sends, &query) {
+        Ok(message) => message,
+        Err(error) => return Err(error),
+    };
+    match foreign_record(&query, &message) {
+        Some(record) => return Err(foreign_error(record)),
+        None => {}
     }
     let placed = placed_sets(alloc, 0, &message)?;
-    let judged = judge_sets(
-        alloc, verifier, anchors, inquiry, handle, &mut sends, &query, 0, placed,
-    )?;
+    let judged = judge_sets(alloc, verifier, anchors, inquiry, handle, &mut sends, &query, 0, placed)?;
     answer(alloc, inquiry.now, query, message, judged)
 }
 
 // The error that names a record of another class.
-fn foreign_error(record: &Record) -> NetError {
+fn foreign_error(record: &Record) -> NetError
+    ensures { (result ≡ NetError.NoMemory) ⊎ (error_of result ≡ seen.ForeignClassRecord record.now.owner record.now.class record.now.kind) }
+{
     match record.name.try_clone() {
         Ok(record_name) => NetError::ForeignClassRecord {
             record_name,

@@ -1,18 +1,22 @@
-ghost use Rattle.std.specs.Prelude.{◌≡◌, ◌≤◌, ◌<◌, ◌+◌, IfOk, map, take};
+ghost use Rattle.std.specs.Prelude.{is_some, ◌==◌, ◌≡◌, ◌≤◌, ◌<◌, ◌+◌, IfOk, map, take};
 ghost use Rattle.dns_model.specs.Chains.{judge};
 ghost use Rattle.dns_judgement.specs.Marks.{most_signatures};
-ghost use Rattle.dns_judgement.specs.Run.{Run, Sets, Signatures, Ask, most_sends};
+ghost use Rattle.dns_judgement.specs.Outcome.{foreign_record as foreign_in};
+ghost use Rattle.dns_model.specs.Types.{type_dnskey};
+ghost use Rattle.dns_model.specs.Answers.{told_by};
+ghost use Rattle.dns_judgement.specs.Run.{ending_of, Run, Sets, Signatures, Ask, most_sends};
 ghost use Rattle.dns_trust.specs.Verdicts.{verdict_text, listed};
 ghost use Rattle.dns_chain.specs.Heard.{says_of, Tells};
 ghost use Rattle.dns_chain.specs.Steps.{SetStep, SignatureStep, Went};
 
 use crate::asking::hear;
 use crate::inquiry::{Inquiry, MOST_SENDS};
+use dns_message::Message;
 use dns_name::NoMemory;
 use dns_net::{DnsHandle, NetError, Verifier};
 use dns_record::{Query, Record, RecordSet, RecordType};
-use dns_sets::{JudgedSet, Outcome, PlacedSet, foreign_record, outcome_of, placed_sets};
-use dns_trust::{TrustAnchors, Verdict, ask_of, is_skipped, judged_by, judged_keys, verdict_of};
+use dns_sets::{foreign_record, outcome_of, placed_sets, JudgedSet, Outcome, PlacedSet};
+use dns_trust::{ask_of, is_skipped, judged_by, judged_keys, verdict_of, TrustAnchors, Verdict};
 use std::alloc::Global;
 
 // How many signatures of a set are tried.
@@ -35,14 +39,14 @@ pub(crate) fn judge_sets<H: DnsHandle, V: Verifier>(
     requires limit { inquiry.limit ≤ 255 }
     requires shallow { depth ≤ 255 }
     ensures went { Went H.sent H.faults H.told handle.old handle.new sends.old sends.new }
-    ensures run { IfOk result (λ v. (tells : Tells) → H.told handle.old ≡ tells → Run (judge (V.answers verifier.now) anchors.now inquiry.now) inquiry.limit (says_of tells)
-        sends.old (Sets query.now depth placed.items v.items) sends.new) }
+    ensures run {
+        IfOk result (λ v. (tells : Tells) → H.told handle.old ≡ tells → Run (judge (V.answers verifier.now) anchors.now inquiry.now) inquiry.limit (says_of tells)
+            sends.old (Sets query.now depth placed.items v.items) sends.new)
+    }
 {
     let mut judged = Vec::new(alloc);
     for next in placed {
-        let one = judge_set(
-            alloc, verifier, anchors, inquiry, handle, sends, query, depth, next,
-        )?;
+        let one = judge_set(alloc, verifier, anchors, inquiry, handle, sends, query, depth, next)?;
         judged.push(one)?;
     }
     Ok(judged)
@@ -65,25 +69,32 @@ fn judge_set<H: DnsHandle, V: Verifier>(
     requires limit { inquiry.limit ≤ 255 }
     requires shallow { depth ≤ 255 }
     ensures went { Went H.sent H.faults H.told handle.old handle.new sends.old sends.new }
-    ensures step { IfOk result (λ s. (tells : Tells) → H.told handle.old ≡ tells → SetStep (judge (V.answers verifier.now) anchors.now inquiry.now) inquiry.limit (says_of tells)
-        query.now depth placed sends.old s sends.new) }
-{
-    if placed.set.record_type == RecordType::DNSKEY {
-        judged_keys(alloc, verifier, anchors, inquiry.now, placed)
-    } else {
-        let verdicts = judge_signatures(
-            alloc,
-            verifier,
-            anchors,
-            inquiry,
-            handle,
-            sends,
-            query,
-            depth,
-            &placed.set,
-        )?;
-        judged_by(placed, verdicts)
+    ensures step {
+        IfOk result (λ s. (tells : Tells) → H.told handle.old ≡ tells → SetStep (judge (V.answers verifier.now) anchors.now inquiry.now) inquiry.limit (says_of tells)
+            query.now depth placed sends.old s sends.new)
     }
+{
+    if is_key_set(&placed) {
+        let judged = judged_keys(alloc, verifier, anchors, inquiry.now, placed)?;
+        return Ok(judged);
+    }
+    let verdicts = judge_signatures(alloc, verifier, anchors, inquiry, handle, sends, query, depth, set_of(&placed))?;
+    let judged = judged_by(placed, verdicts)?;
+    Ok(judged)
+}
+
+// The set itself.
+fn set_of(placed: &PlacedSet) -> &RecordSet
+    ensures { result.now ≡ placed.now.set }
+{
+    &placed.set
+}
+
+// The set holds a zone's keys.
+fn is_key_set(placed: &PlacedSet) -> bool
+    ensures { result ≡ (placed.now.set.kind == type_dnskey) }
+{
+    placed.set.record_type == RecordType::DNSKEY
 }
 
 /// The verdicts of a set's first signatures, up to the first that proves the set.
@@ -103,15 +114,15 @@ fn judge_signatures<H: DnsHandle, V: Verifier>(
     requires limit { inquiry.limit ≤ 255 }
     requires shallow { depth ≤ 255 }
     ensures went { Went H.sent H.faults H.told handle.old handle.new sends.old sends.new }
-    ensures run { IfOk result (λ v. (tells : Tells) → H.told handle.old ≡ tells → Run (judge (V.answers verifier.now) anchors.now inquiry.now) inquiry.limit (says_of tells)
-        sends.old (Signatures query.now depth set.now (take most_signatures set.now.signatures) (map verdict_text v.items)) sends.new) }
+    ensures run {
+        IfOk result (λ v. (tells : Tells) → H.told handle.old ≡ tells → Run (judge (V.answers verifier.now) anchors.now inquiry.now) inquiry.limit (says_of tells)
+            sends.old (Signatures query.now depth set.now (take most_signatures set.now.signatures) (map verdict_text v.items)) sends.new)
+    }
 {
     let mut verdicts = Vec::new(alloc);
     let tried = first_signatures(set);
     for sig in tried {
-        let verdict = judge_signature(
-            alloc, verifier, anchors, inquiry, handle, sends, query, depth, set, sig,
-        )?;
+        let verdict = judge_signature(alloc, verifier, anchors, inquiry, handle, sends, query, depth, set, sig)?;
         let proved = verdict.is_proved();
         verdicts.push(verdict)?;
         if proved {
@@ -147,26 +158,21 @@ fn judge_signature<H: DnsHandle, V: Verifier>(
     requires limit { inquiry.limit ≤ 255 }
     requires shallow { depth ≤ 255 }
     ensures went { Went H.sent H.faults H.told handle.old handle.new sends.old sends.new }
-    ensures step { IfOk result (λ v. (tells : Tells) → H.told handle.old ≡ tells → SignatureStep (judge (V.answers verifier.now) anchors.now inquiry.now) inquiry.limit (says_of tells)
-        query.now depth set.now sig.now sends.old (verdict_text v) sends.new) }
+    ensures step {
+        IfOk result (λ v. (tells : Tells) → H.told handle.old ≡ tells → SignatureStep (judge (V.answers verifier.now) anchors.now inquiry.now) inquiry.limit (says_of tells)
+            query.now depth set.now sig.now sends.old (verdict_text v) sends.new)
+    }
 {
-    if is_skipped(query, set, sig)? {
+    let skipped = is_skipped(query, set, sig)?;
+    if skipped {
         return Ok(Verdict::Failed);
     }
     let Some(question) = ask_of(alloc, set, sig)? else {
         return Ok(Verdict::Failed);
     };
-    let answer = ask(
-        alloc,
-        verifier,
-        anchors,
-        inquiry,
-        handle,
-        sends,
-        &question,
-        depth + 1,
-    )?;
-    verdict_of(alloc, verifier, anchors, inquiry.now, set, sig, &answer)
+    let answer = ask(alloc, verifier, anchors, inquiry, handle, sends, &question, depth + 1)?;
+    let verdict = verdict_of(alloc, verifier, anchors, inquiry.now, set, sig, &answer)?;
+    Ok(verdict)
 }
 
 /// Asks a question at a depth: the judged sets of its answer, or None where the ask is refused, fails or isn't answered.
@@ -185,8 +191,10 @@ fn ask<H: DnsHandle, V: Verifier>(
     requires limit { inquiry.limit ≤ 255 }
     requires shallow { depth ≤ 256 }
     ensures went { Went H.sent H.faults H.told handle.old handle.new sends.old sends.new }
-    ensures run { IfOk result (λ a. (tells : Tells) → H.told handle.old ≡ tells → Run (judge (V.answers verifier.now) anchors.now inquiry.now) inquiry.limit (says_of tells)
-        sends.old (Ask query.now depth (listed a)) sends.new) }
+    ensures run {
+        IfOk result (λ a. (tells : Tells) → H.told handle.old ≡ tells → Run (judge (V.answers verifier.now) anchors.now inquiry.now) inquiry.limit (says_of tells)
+            sends.old (Ask query.now depth (listed a)) sends.new)
+    }
 {
     if depth > inquiry.limit || *sends >= MOST_SENDS {
         return Ok(None);
@@ -200,15 +208,28 @@ fn ask<H: DnsHandle, V: Verifier>(
             };
         }
     };
-    if foreign_record(query, &message).is_some() {
+    if has_foreign_record(query, &message) {
         return Ok(None);
     }
     let placed = placed_sets(alloc, depth, &message)?;
-    let judged = judge_sets(
-        alloc, verifier, anchors, inquiry, handle, sends, query, depth, placed,
-    )?;
-    match outcome_of(query, &message, &judged) {
-        Outcome::Accepted(_) => Ok(Some(judged)),
-        _ => Ok(None),
+    let judged = judge_sets(alloc, verifier, anchors, inquiry, handle, sends, query, depth, placed)?;
+    Ok(accepted(query, &message, judged))
+}
+
+// A record of the message has another class than the query.
+fn has_foreign_record(query: &Query, message: &Message) -> bool
+    ensures { result ≡ is_some (foreign_in query.now (told_by message.now)) }
+{
+    foreign_record(query, message).is_some()
+}
+
+// The judged sets of a message whose answer is accepted.
+fn accepted(query: &Query, message: &Message, judged: Vec<JudgedSet>) -> Option<Vec<JudgedSet>>
+    ensures { listed result ≡ ending_of query.now (told_by message.now) judged.items }
+{
+    match outcome_of(query, message, &judged) {
+        Outcome::Unjudged => None,
+        Outcome::Accepted(_) => Some(judged),
+        Outcome::Denied(_) => None,
     }
 }
