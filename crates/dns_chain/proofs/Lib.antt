@@ -1,3 +1,4 @@
 pub mod StepLemmas
 pub mod HeardLemmas
 pub mod LookLemmas
+pub mod SoundLookups

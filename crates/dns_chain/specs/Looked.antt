@@ -1,10 +1,10 @@
 -- What a lookup answers, and why (RFC 4035, 5).
-use Rattle.std.specs.Prelude.{ℕ, ◌≡◌, ◌⊎◌, ◌≤◌, ◌+◌, List, [], ◌∷◌, Option, None, Some, Result, Ok, Err}
+use Rattle.std.specs.Prelude.{IsSomeAnd, ℕ, ◌≡◌, ◌⊎◌, ◌≤◌, ◌+◌, List, [], ◌∷◌, Option, None, Some, Result, Ok, Err}
 use Rattle.dns_model.specs.declared.proof.Proof.{Proof}
 use Rattle.dns_model.specs.declared.denial.Denial.TheVariants as denied
 use Rattle.dns_model.specs.Records.{Rr, Question, MessageText}
 use Rattle.dns_model.specs.Chains.{Judge}
-use Rattle.dns_model.specs.Answers.{Told, told_by, placed_sets, ResponseText}
+use Rattle.dns_model.specs.Answers.{Told, told_by, placed_sets, ResponseText, Sound, SoundAlone}
 use Rattle.dns_judgement.specs.Judged.{Judged}
 use Rattle.dns_judgement.specs.Outcome.{Outcome, Unjudged, Accepted, Denied, outcome_of, foreign_record}
 use Rattle.dns_judgement.specs.Marking.{cleared_message, finished}
@@ -13,11 +13,11 @@ use Rattle.dns_net.specs.Errors as seen
 use Rattle.dns_net.specs.Errors.{Reply, ErrorText}
 use Rattle.dns_net.specs.Walks.{Walked}
 use Rattle.dns_net.specs.declared.notice.Notice.TheVariants.{NotJudgedYet}
-use Rattle.dns_net.specs.Handles.{ReplyIsTold}
+use Rattle.dns_net.specs.Handles.{ReplyIsTold, reply_to}
 use Rattle.dns_net.specs.Replies.{error_of}
 use Rattle.dns_net.specs.declared.error.NetError.{NetError}
 use Rattle.dns_net.specs.declared.error.NetError.TheVariants.{NoMemory}
-use Rattle.dns_chain.specs.Heard.{heard_message, says_of}
+use Rattle.dns_chain.specs.Heard.{heard_message, says_of, Tells}
 
 -- the answer of the top step, by its outcome
 abbrev pub answer_by : ℕ → Question → MessageText → List Judged → Outcome → Reply
@@ -82,3 +82,14 @@ pub record IsLookup {H : Type 0} (sent : H → Option Question → H → Reply �
   pub walk : Walked sent middle new 1 sends
   pub few : sends ≤ most_sends
   pub looked : Looked j now limit (says_of tells) q reply answer sends
+
+-- an answer is sound for the records that a known upstream tells for the query; alone, where the upstream doesn't tell
+abbrev pub IsSoundFor : Judge → ℕ → Tells → Question → ResponseText → Type 0
+IsSoundFor j now None q a = SoundAlone j now a
+IsSoundFor j now (Some replies) q a =
+    SoundAlone j now a × IsSomeAnd (heard_message (reply_to replies q)) (λ m. Sound j now (told_by m) a)
+
+-- what an Ok answer promises
+abbrev pub IsSoundAnswer : Judge → ℕ → Tells → Question → Reply → Type 0
+IsSoundAnswer j now tells q (Ok a) = IsSoundFor j now tells q a
+IsSoundAnswer j now tells q (Err e) = Unit {0}

@@ -2,7 +2,7 @@ ghost use Rattle.std.specs.Prelude.{◌≡◌, ◌≤◌, IfOk, IfErr, IfSome};
 ghost use Rattle.dns_model.specs.Chains.{judge};
 ghost use Rattle.dns_net.specs.Replies.{reply_of};
 ghost use Rattle.dns_chain.specs.Inquiries.{depth_limit};
-ghost use Rattle.dns_chain.specs.Looked.{UnlessNoMemory, IsLookup};
+ghost use Rattle.dns_chain.specs.Looked.{UnlessNoMemory, IsLookup, IsSoundAnswer};
 
 use crate::inquiry::{depth_limit_of, Inquiry};
 use crate::looking::look;
@@ -40,6 +40,7 @@ impl<H: DnsHandle + Drop, V: Verifier + Drop> DnssecDnsHandle<H, V> {
     ) -> Result<DnsResponse, NetError>
         ensures later { H.faults self.old.handle ≤ H.faults self.new.handle }
         ensures told { H.told self.new.handle ≡ H.told self.old.handle }
+        ensures sound { IsSoundAnswer (judge (V.answers self.old.verifier) self.old.anchors now) now (H.told self.old.handle) query (reply_of result) }
         ensures lookup {
             UnlessNoMemory result (IsLookup H.sent self.old.handle self.new.handle (H.told self.old.handle)
                 (judge (V.answers self.old.verifier) self.old.anchors now) now (depth_limit options) query (reply_of result))

@@ -1,0 +1,82 @@
+-- A lookup's Ok answer is sound.
+use Rattle.std.proofs.Common.{ℕ, List, ◌≡◌, ◌∙◌, Option, None, Some, Result, Ok, Err, refl, sym, ap, subst, IsSomeAnd, inl, inr, ◌⊎◌}
+use Rattle.dns_model.specs.declared.denial.Denial.{Denial}
+use Rattle.dns_model.specs.Records.{Question, MessageText}
+use Rattle.dns_model.specs.Chains.{Judge}
+use Rattle.dns_model.specs.Answers.{Told, told_by, ResponseText, Sound, SoundAlone}
+use Rattle.dns_judgement.specs.Judged.{Judged}
+use Rattle.dns_judgement.specs.Outcome.{Outcome, Unjudged, Accepted, Denied, outcome_of}
+use Rattle.dns_judgement.specs.Marking.{cleared_message, finished}
+use Rattle.dns_judgement.proofs.SoundLemmas.{sound_of_walk}
+use Rattle.dns_judgement.proofs.AloneLemmas.{sound_alone_of_walk}
+use Rattle.dns_net.specs.Errors as seen
+use Rattle.dns_net.specs.Errors.{Reply, ErrorText}
+use Rattle.dns_net.specs.Handles.{reply_to, ReplyIsTold}
+use Rattle.dns_net.specs.Replies.{reply_of}
+use Rattle.dns_net.specs.declared.error.NetError.{NetError}
+use Rattle.dns_net.specs.declared.error.NetError.TheVariants.{NoMemory}
+use Rattle.dns_chain.specs.Heard.{heard_message, says_of, Tells}
+use Rattle.dns_chain.specs.Looked.{Looked, PassedOn, NamesForeign, Answered, IsLookup, UnlessNoMemory, answer_by, IsSoundFor, IsSoundAnswer}
+
+-- an Ok answer is the finished one of an accepted outcome
+pub record IsFinished (now : ℕ) (sets : List Judged) (m : MessageText) (a : ResponseText) : Type 0 where
+  pub denial : Denial
+  pub is : a ≡ finished now sets m denial
+
+ok_same : (a b : ResponseText) → (let x : Reply = Ok a in x) ≡ Ok b → a ≡ b
+ok_same a b h = cc
+
+ok_err : (a : ResponseText) (e : ErrorText) → (let x : Reply = Err e in x) ≡ Ok a → ⊥
+ok_err a e h = cc
+
+accepted_only : (now : ℕ) (q : Question) (m : MessageText) (sets : List Judged) (o : Outcome) (a : ResponseText)
+    → answer_by now q m sets o ≡ Ok a → IsFinished now sets m a
+accepted_only now q m sets Unjudged a is = absurd (ok_err a _ is)
+accepted_only now q m sets (Accepted denial) a is = record { denial = denial; is = sym (ok_same _ a is) }
+accepted_only now q m sets (Denied proof) a is = absurd (ok_err a _ is)
+
+-- the message that was heard, with an answer that is sound for it
+pub record HeardSound (j : Judge) (now : ℕ) (reply : Reply) (a : ResponseText) : Type 0 where
+  pub message : MessageText
+  pub is : heard_message reply ≡ Some message
+  pub sound : Sound j now (told_by message) a
+  pub alone : SoundAlone j now a
+
+-- an Ok answer is sound for the message that was heard
+pub looked_sound : (j : Judge) (now limit : ℕ) (says : Question → Option Told → Type 0) (q : Question) {reply answer : Reply} {n : ℕ}
+    → Looked j now limit says q reply answer n → (a : ResponseText) → answer ≡ Ok a → HeardSound j now reply a
+looked_sound j now limit says q (PassedOn e none) = λ a is. absurd (ok_err a e is)
+looked_sound j now limit says q (NamesForeign reply answer m r heard foreign is) = λ a ok. absurd (ok_err a _ (sym is ∙ ok))
+looked_sound j now limit says q (Answered reply answer m sets n heard own run is) = λ a ok.
+    let f = accepted_only now q (cleared_message m) sets (outcome_of q (told_by (cleared_message m)) sets) a (sym is ∙ ok) in
+    let S : ResponseText → Type 0 = λ x. Sound j now (told_by m) x in
+    let A : ResponseText → Type 0 = λ x. SoundAlone j now x in
+    record {
+      message = m;
+      is = heard;
+      sound = subst S (sym f.is) (sound_of_walk j limit now says q 0 1 n m sets f.denial run);
+      alone = subst A (sym f.is) (sound_alone_of_walk j limit now says q 0 1 n (cleared_message m) sets f.denial run);
+    }
+
+none_heard : (m : MessageText) → (let x : Option MessageText = None in x) ≡ Some m → ⊥
+none_heard m h = cc
+
+-- for an upstream that tells or doesn't
+sound_told : (j : Judge) (now : ℕ) (tells : Tells) (q : Question) (reply : Reply) (a : ResponseText)
+    → ReplyIsTold tells (Some q) reply → HeardSound j now reply a → IsSoundFor j now tells q a
+sound_told j now None q reply a told h = h.alone
+sound_told j now (Some replies) q reply a (inl memory) h = absurd (none_heard h.message (sym (ap heard_message memory) ∙ h.is))
+sound_told j now (Some replies) q reply a (inr same) h =
+    let P : Option MessageText → Type 0 = λ o. IsSomeAnd o (λ m. Sound j now (told_by m) a) in
+    (h.alone, subst P (sym (sym (ap heard_message same) ∙ h.is)) h.sound)
+
+answer_told : {H : Type 0} (sent : H → Option Question → H → Reply → Type 0) (old new : H) (tells : Tells) (j : Judge) (now limit : ℕ) (q : Question) (answer : Reply)
+    → IsLookup sent old new tells j now limit q answer → IsSoundAnswer j now tells q answer
+answer_told sent old new tells j now limit q (Ok a) l = sound_told j now tells q l.reply a l.told (looked_sound j now limit (says_of tells) q l.looked a refl)
+answer_told sent old new tells j now limit q (Err e) l = tt
+
+-- a lookup's answer is sound
+pub lookup_sound : {H : Type 0} (sent : H → Option Question → H → Reply → Type 0) (old new : H) (tells : Tells) (j : Judge) (now limit : ℕ) (q : Question) (result : Result ResponseText NetError)
+    → UnlessNoMemory result (IsLookup sent old new tells j now limit q (reply_of result)) → IsSoundAnswer j now tells q (reply_of result)
+lookup_sound sent old new tells j now limit q (Ok a) l = answer_told sent old new tells j now limit q (Ok a) l
+lookup_sound sent old new tells j now limit q (Err e) l = tt
