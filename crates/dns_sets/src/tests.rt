@@ -246,7 +246,11 @@ fn records_are_marked_by_their_sets(rt: HostRuntime) -> Result<(), Fail> {
         let found = states(alloc, &marked.answers)?;
         assert_eq!(rt; found.as_slice(), want.as_slice(), "at {now}");
         let found = states(alloc, &marked.authorities)?;
-        assert_eq!(rt; found.as_slice(), [(Proof::Bogus, 300)].as_slice(), "at {now}");
+        assert_eq!(rt;
+            found.as_slice(),
+            [(Proof::Bogus, 300)].as_slice(),
+            "at {now}"
+        );
         let told = answered.chains;
         assert_eq!(rt; told.len(), chains, "at {now}");
     }
