@@ -1,16 +1,15 @@
 -- The sets of a section grow as its records are met one by one.
-use Rattle.std.proofs.Common.{◌≡◌, ℕ, ◌+◌, ◌<◌, Bool, true, false, not, ◌&&◌, ◌||◌, ◌==◌, cond, List, [], ◌∷◌, ◌++◌, map, length, take, get_or, Option, None, Some, refl, sym, ap, ◌∙◌, arith}
+use Rattle.std.proofs.Common.{◌≡◌, ℕ, ◌+◌, ◌<◌, Bool, true, false, not, ◌||◌, ◌==◌, cond, List, [], ◌∷◌, ◌++◌, map, length, take, get_or, refl, sym, ap, ◌∙◌}
 use Rattle.std.specs.List.{filter, list_any, AllByRecursion}
-use Rattle.std.proofs.lemmas.Bool.{and_parts, and_from, not-true}
-use Rattle.std.proofs.lemmas.List.{map-append, append-nil, take_more}
+use Rattle.std.proofs.lemmas.Bool.{and_parts, and_from}
+use Rattle.std.proofs.lemmas.List.{map-append, append-nil}
 use Rattle.std.proofs.lemmas.List.Elements.{filter-append, filter_more}
 use Rattle.dns_model.specs.Names.{Labels, name_eq}
-use Rattle.dns_model.specs.Types.{type_rrsig}
 use Rattle.dns_model.specs.Records.{Rr, RrSet}
-use Rattle.dns_model.specs.Sections.{same_set, is_signature, covers, leaders, unsigned_part, set_of, sets_of}
+use Rattle.dns_model.specs.Sections.{same_set, is_signature, leaders, unsigned_part}
 use Rattle.dns_model.proofs.EachLemmas.{Apart, each_more, each_of, map_agree, map-map, apart_map}
 use Rattle.dns_model.proofs.SetLemmas.{same_set_left, same_set_refl, leaders_apart, same_key, name_back, name_trans, number_same, number_refl}
-use Rattle.dns_sets.specs.Joining.{is_at, touched, with_record, with_signature, single, joined_by, met_by, bare_set, bare_sets, part_set}
+use Rattle.dns_sets.specs.Joining.{is_at, touched, with_record, single, joined_by, met_by, bare_set, bare_sets}
 
 -- ---- changes of the first that passes
 

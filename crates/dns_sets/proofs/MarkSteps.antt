@@ -1,15 +1,15 @@
 -- How a record is marked by the place of its set.
-use Rattle.std.proofs.Common.{◌≡◌, ℕ, ◌+◌, ◌<◌, ◌≤◌, Bool, true, false, ◌&&◌, ◌==◌, cond, List, [], ◌∷◌, ◌++◌, length, take, get_or, Option, None, Some, refl, sym, ap, ◌∙◌, subst, arith}
-use Rattle.std.proofs.lemmas.List.{take_more, take_all, length-take-le}
+use Rattle.std.proofs.Common.{◌≡◌, ℕ, ◌+◌, ◌<◌, cond, List, [], ◌∷◌, ◌++◌, length, take, get_or, None, Some, sym, ap, ◌∙◌, subst, arith}
+use Rattle.std.proofs.lemmas.List.{take_more, length-take-le}
 use Rattle.dns_model.specs.declared.section.Section.{Section}
-use Rattle.dns_model.specs.Names.{Labels, name_eq}
+use Rattle.dns_model.specs.Names.{Labels}
 use Rattle.dns_model.specs.Records.{Rr}
-use Rattle.dns_model.specs.Answers.{section_eq, set_kind}
+use Rattle.dns_model.specs.Answers.{set_kind}
 use Rattle.dns_judgement.specs.Judged.{Judged}
 use Rattle.dns_judgement.specs.Marking.{cleared, marked, marked_by}
 use Rattle.dns_sets.specs.declared.places.Places.{Places}
-use Rattle.dns_sets.specs.Places.{place_of, or_place, with_place, with_judged, place_in, is_placed, ArePlacedIn}
-use Rattle.dns_sets.proofs.PlaceLemmas.{IsPlace, is_place, is_absent, place-push, or_none}
+use Rattle.dns_sets.specs.Places.{place_of, or_place, with_judged, place_in, is_placed, ArePlacedIn}
+use Rattle.dns_sets.proofs.PlaceLemmas.{IsPlace, is_place, is_absent, place-push}
 
 pub set_at : (p : Places) (section : Section) (sets : List Judged) (owner : Labels) (kind n : ℕ) → ArePlacedIn p section sets → Some n ≡ place_of p owner kind
     → IsPlace (is_placed section owner kind) sets n

@@ -1,19 +1,18 @@
 -- The sets of a section get their signatures one by one.
-use Rattle.std.proofs.Common.{◌≡◌, ℕ, ◌+◌, ◌<◌, ◌≤◌, Bool, true, false, not, ◌&&◌, ◌==◌, cond, List, [], ◌∷◌, ◌++◌, map, length, take, get_or, Option, None, Some, refl, sym, ap, ◌∙◌, arith}
-use Rattle.std.specs.Prelude.{nat_eq}
-use Rattle.std.specs.List.{filter, AllByRecursion}
+use Rattle.std.proofs.Common.{◌≡◌, ℕ, ◌+◌, ◌<◌, ◌≤◌, Bool, true, false, not, ◌&&◌, ◌==◌, cond, List, [], ◌∷◌, ◌++◌, map, length, take, get_or, Option, None, Some, refl, sym, ap, ◌∙◌}
+use Rattle.std.specs.List.{filter}
 use Rattle.std.proofs.lemmas.Bool.{and_parts}
 use Rattle.std.proofs.lemmas.Cmp.{nat_eq_equiv}
 use Rattle.std.proofs.lemmas.List.{append-nil, take_more, take_all}
 use Rattle.std.proofs.lemmas.List.Elements.{filter-append}
-use Rattle.dns_model.specs.Names.{Labels, name_eq}
+use Rattle.dns_model.specs.Names.{name_eq}
 use Rattle.dns_model.specs.Types.{type_rrsig}
 use Rattle.dns_model.specs.Views.{SigText, sig_in}
 use Rattle.dns_model.specs.Records.{Rr, RrSet}
-use Rattle.dns_model.specs.Sections.{same_set, is_signature, covers, covers_kind, leaders, unsigned_part, set_of, sets_of}
+use Rattle.dns_model.specs.Sections.{same_set, is_signature, covers, covers_kind, leaders, unsigned_part, sets_of}
 use Rattle.dns_model.proofs.EachLemmas.{Apart, each_more, each_of, each_passes, map_agree, map-map, apart_map}
 use Rattle.dns_model.proofs.SetLemmas.{leaders_apart, same_key, each_leader, number_same}
-use Rattle.dns_sets.specs.Joining.{is_at, touched, with_signature, signed_by, given, bare_set, bare_sets, part_set, part_sets}
+use Rattle.dns_sets.specs.Joining.{is_at, with_signature, signed_by, given, bare_set, bare_sets, part_set, part_sets}
 use Rattle.dns_sets.proofs.Joining.{touched_map, at_single}
 
 -- ---- one more signature

@@ -1,5 +1,4 @@
 ghost use Rattle.std.specs.Prelude.{◌≡◌, ℕ, IfOk, OnOk, map, Some};
-ghost use Rattle.std.specs.Option.{option_copied};
 ghost use Rattle.dns_model.specs.Names.{Labels};
 ghost use Rattle.dns_model.specs.Views.{sig_in};
 ghost use Rattle.dns_model.specs.Serial.{distance, moment_number};

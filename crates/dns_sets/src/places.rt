@@ -1,4 +1,4 @@
-ghost use Rattle.std.specs.Prelude.{◌≡◌, ℕ, None, OnOk, OnErr};
+ghost use Rattle.std.specs.Prelude.{◌≡◌, ℕ, None, OnOk};
 ghost use Rattle.dns_model.specs.Names.{Labels};
 ghost use Rattle.dns_sets.specs.Places.{place_of, with_place};
 

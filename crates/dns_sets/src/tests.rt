@@ -157,6 +157,15 @@ fn judged(alloc: Global, section: Section, mark: Proof) -> Result<JudgedSet, Fai
     })
 }
 
+/// The marks and ttls of records.
+fn states(alloc: Global, records: &[Record]) -> Result<Vec<(Proof, u32)>, Fail> {
+    let mut states = Vec::new(alloc);
+    for one in records {
+        states.push((one.proof, one.ttl))?;
+    }
+    Ok(states)
+}
+
 /// The answer of a step with the set of A records of `a.` in the answer section and in the authority section.
 fn answer(alloc: Global, now: u64, mark: Proof) -> Result<dns_net::DnsResponse, Fail> {
     let mut sets = Vec::new(alloc);
@@ -232,16 +241,18 @@ fn records_are_marked_by_their_sets(rt: HostRuntime) -> Result<(), Fail> {
         ),
     ];
     for (now, mark, want, chains) in cases {
-        let answer = answer(alloc, now, mark)?;
-        let mut found = Vec::new(alloc);
-        for one in &answer.message.answers {
-            found.push((one.proof, one.ttl))?;
-        }
+        let answered = answer(alloc, now, mark)?;
+        let marked = answered.message;
+        let found = states(alloc, &marked.answers)?;
         assert_eq!(rt; found.as_slice(), want.as_slice(), "at {now}");
-        assert_eq!(rt; answer.chains.len(), chains, "at {now}");
-        for one in &answer.message.authorities {
-            assert_eq!(rt; (one.proof, one.ttl), (Proof::Bogus, 300));
-        }
+        let found = states(alloc, &marked.authorities)?;
+        assert_eq!(rt;
+            found.as_slice(),
+            [(Proof::Bogus, 300)].as_slice(),
+            "at {now}"
+        );
+        let told = answered.chains;
+        assert_eq!(rt; told.len(), chains, "at {now}");
     }
     Ok(())
 }

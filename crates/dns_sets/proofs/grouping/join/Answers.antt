@@ -1,5 +1,4 @@
 use Rattle.std.proofs.Common.{rules, ◌≡◌, length}
-use Rattle.dns_sets.proofs.PlaceLemmas.{IsPlace}
 use Rattle.dns_sets.proofs.JoinSteps.{place_at, joined_at, joined_places, joined_new, new_places}
 use Rattle.dns_sets.proofs.grouping.join.Goals as goal
 

@@ -1,4 +1,4 @@
-use Rattle.std.proofs.Common.{◌≡◌, ap, sym, ◌∙◌, subst}
+use Rattle.std.proofs.Common.{ap, sym, ◌∙◌, subst}
 use Rattle.dns_sets.specs.Joining.{met_by, given}
 use Rattle.dns_sets.specs.Places.{ArePlaces}
 use Rattle.dns_sets.proofs.Joining.{bare_more}

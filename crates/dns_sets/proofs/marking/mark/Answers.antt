@@ -1,6 +1,5 @@
 use Rattle.std.proofs.Common.{rules}
 use Rattle.dns_model.specs.Answers.{set_kind}
-use Rattle.dns_sets.proofs.PlaceLemmas.{IsPlace}
 use Rattle.dns_sets.proofs.MarkSteps.{set_at, marked_at, marked_none}
 use Rattle.dns_sets.proofs.marking.mark.Goals as goal
 
