@@ -1,10 +1,10 @@
 -- Parts of an rdata.
-use Rattle.std.proofs.Common.{◌≡◌, ℕ, ◌+◌, ◌-◌, ◌≤◌, ◌<◌, Bool, true, false, nat_le, cond, List, [], ◌∷◌, length, take, drop, Option, None, Some, refl, sym, ap, ◌∙◌, arith, subst}
+use Rattle.std.proofs.Common.{◌≡◌, ℕ, ◌+◌, ◌≤◌, true, nat_le, List, [], ◌∷◌, length, take, drop, Some, arith, subst}
 use Rattle.std.proofs.lemmas.Grind.{common_steps}
 use Rattle.std.proofs.lemmas.Bool.{leb-true}
 use Rattle.std.proofs.lemmas.Bool.Decides.{nat_tests}
 use Rattle.dns_signing.proofs.Through.{let_through, test_through}
-use Rattle.dns_model.specs.Shapes.{Part, Plain, counted_in, plain_front}
+use Rattle.dns_model.specs.Shapes.{Plain, counted_in, plain_front}
 
 counted_whole : (size : ℕ) (xs : List ℕ) → size ≤ length xs → plain_front (length (take size xs) + 1) (size ∷ xs) ≡ Some (Plain (length (take size xs) ∷ take size xs), drop size xs)
 counted_whole size xs h =

@@ -1,13 +1,12 @@
 -- Canonical form keeps the length.
-use Rattle.std.proofs.Common.{◌≡◌, ℕ, ◌+◌, ◌≤◌, ◌<◌, Bool, true, false, nat_le, cond, List, [], ◌∷◌, ◌++◌, map, length, take, drop, Option, None, Some, refl, sym, ap, ◌∙◌, arith, length-append, length-drop}
+use Rattle.std.proofs.Common.{◌≡◌, ℕ, ◌+◌, ◌≤◌, true, false, nat_le, cond, List, [], ◌∷◌, map, length, take, drop, Option, None, Some, refl, sym, ap, ◌∙◌, arith, length-append, length-drop}
 use Rattle.std.proofs.lemmas.List.{length-take-le}
 use Rattle.std.proofs.lemmas.Bool.{leb-true}
-use Rattle.std.proofs.lemmas.Grind.{common_steps}
 use Rattle.std.specs.List.{concat}
-use Rattle.dns_model.specs.Names.{Labels, wire, folded}
+use Rattle.dns_model.specs.Names.{Labels, wire}
 use Rattle.dns_model.specs.NameForm.{name_in}
-use Rattle.dns_model.specs.Shapes.{Field, Octets, DomainName, CharacterString, TypeBitmap, Remainder, Part, Plain, Named, part_in, parts_in, named_front, counted_in, counted_front, with_part, after_part, canonical_part, canonical_parts, canonical_form, is_lowered_type, shape_of, is_bitmap}
-use Rattle.dns_model.proofs.WireLemmas.{name_in_inverse, IsRead}
+use Rattle.dns_model.specs.Shapes.{Field, Octets, DomainName, CharacterString, TypeBitmap, Remainder, Part, Plain, part_in, parts_in, named_front, counted_in, counted_front, with_part, after_part, canonical_part, canonical_parts, canonical_form, is_lowered_type, shape_of, is_bitmap}
+use Rattle.dns_model.proofs.WireLemmas.{name_in_inverse}
 use Rattle.dns_model.proofs.NameLemmas.{length-wire-folded}
 use Rattle.dns_signing.proofs.Through.{let_through, test_through}
 

@@ -1,8 +1,7 @@
 -- A row of windows is read one window after another.
-use Rattle.std.proofs.Common.{◌≡◌, ℕ, ◌+◌, ◌-◌, ◌≤◌, ◌<◌, Bool, true, false, ◌||◌, ◌&&◌, nat_lt, nat_le, cond, List, [], ◌∷◌, length, take, drop, Option, None, Some, refl, sym, ap, ◌∙◌, arith, length-drop}
-use Rattle.std.proofs.lemmas.Grind.{common_steps}
+use Rattle.std.proofs.Common.{◌≡◌, ℕ, ◌≤◌, ◌<◌, Bool, true, false, ◌||◌, ◌&&◌, nat_lt, List, [], ◌∷◌, length, Option, None, Some, refl, sym, ap, ◌∙◌, arith, length-drop}
 use Rattle.dns_signing.proofs.Through.{let_through}
-use Rattle.dns_model.specs.Shapes.{Window, window_in, windows_in, after_window, with_window, window_has, windows_have, are_rising, are_rising_windows, bitmap_has, is_bitmap}
+use Rattle.dns_model.specs.Shapes.{Window, window_in, windows_in, after_window, with_window, window_has, windows_have, are_rising_windows, bitmap_has, is_bitmap}
 use Rattle.dns_signing.specs.Windows.{follows, rises_after, found_or_has}
 
 -- the bytes after a window are fewer

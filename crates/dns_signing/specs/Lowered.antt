@@ -1,7 +1,7 @@
 -- An rdata with the names in it lower-cased.
 use Rattle.std.specs.Prelude.{ℕ, List, map, Option, None, Some}
 use Rattle.std.specs.List.{concat}
-use Rattle.dns_model.specs.Shapes.{Field, Part, canonical_part, parts_in, shape_of}
+use Rattle.dns_model.specs.Shapes.{Part, canonical_part, parts_in, shape_of}
 
 abbrev pub lowered_parts : Option (List Part) → Option (List ℕ)
 lowered_parts None = None

@@ -1,4 +1,4 @@
-use Rattle.std.proofs.Common.{◌≡◌, ◌∙◌, sym, ap}
+use Rattle.std.proofs.Common.{◌∙◌, sym, ap}
 use Rattle.std.specs.Option.{is_some}
 use Rattle.dns_signing.proofs.CanonicalLemmas.{parts_none, parts_more, some_with, parts_decided}
 use Rattle.dns_signing.proofs.canonical.has_shape.Goals as goal

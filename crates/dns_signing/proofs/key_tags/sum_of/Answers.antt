@@ -1,6 +1,5 @@
-use Rattle.std.proofs.Common.{◌≡◌, ◌+◌, ◌%◌, ◌^◌, arith}
-use Rattle.std.proofs.lemmas.Grind.{common_steps}
-use Rattle.dns_signing.proofs.TagLemmas.{kept_more, sum_two, sum_one, sum_none}
+use Rattle.std.proofs.Common.{arith}
+use Rattle.dns_signing.proofs.TagLemmas.{sum_two, sum_one, sum_none}
 use Rattle.dns_signing.proofs.key_tags.sum_of.Goals as goal
 
 pub loop-rest-preserved : goal.loop-rest-preserved

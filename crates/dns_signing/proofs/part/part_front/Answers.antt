@@ -1,4 +1,4 @@
-use Rattle.std.proofs.Common.{◌≡◌, ◌∙◌, sym, ap}
+use Rattle.std.proofs.Common.{◌∙◌, sym, ap}
 use Rattle.dns_model.specs.Shapes.{counted_front}
 use Rattle.dns_signing.proofs.PartLemmas.{counted_plain}
 use Rattle.dns_signing.proofs.part.part_front.Goals as goal
