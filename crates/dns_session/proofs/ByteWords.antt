@@ -1,5 +1,5 @@
 -- Reading numbers of eight bits, word by word.
-use Rattle.std.proofs.Common.{◌≡◌, ℕ, ◌+◌, List, [], ◌∷◌, ◌++◌, length, Option, None, Some, refl, sym, ap, ◌∙◌, append_assoc, append-nil, Bor}
+use Rattle.std.proofs.Common.{◌≡◌, ℕ, ◌+◌, List, [], ◌∷◌, ◌++◌, length, Option, None, Some, refl, ap, ◌∙◌, append_assoc, append-nil, Bor}
 use Rattle.std.specs.Option.{option_map}
 use Rattle.dns_words.specs.Steps.{◌>>=◌}
 use Rattle.dns_words.specs.Decimals.{decimal_in}

@@ -1,5 +1,5 @@
 -- What is spelled as a session is read as that session.
-use Rattle.std.proofs.Common.{◌≡◌, ℕ, ◌+◌, ◌<◌, ◌≤◌, Bool, true, false, ◌==◌, List, [], ◌∷◌, ◌++◌, length, map, codes, Option, None, Some, unwrap_or, Result, Ok, Err, refl, sym, ap, subst, ◌∙◌, arith, inl, inr, append_assoc}
+use Rattle.std.proofs.Common.{◌≡◌, ℕ, ◌+◌, ◌<◌, false, List, [], ◌∷◌, ◌++◌, length, codes, Option, None, Some, Ok, refl, ap, ◌∙◌, arith, inl, inr, append_assoc}
 use Rattle.std.specs.Prelude.{◌↔◌}
 use Rattle.std.proofs.lemmas.Bool.{cases_Bool}
 use Rattle.std.specs.Cmp.Lexicographic.{bytes_decides}
@@ -7,11 +7,11 @@ use Rattle.dns_model.specs.Keys.{Anchor, bytes_eq}
 use Rattle.dns_model.specs.Records.{Question}
 use Rattle.dns_words.specs.Steps as steps
 use Rattle.dns_session.specs.SessionText.{SessionText, AcceptText, ReplyText}
-use Rattle.dns_session.specs.Places.{Place, place, pieces, start_of, one, many, many_in, is_nothing, or_bad, ◌>>=◌}
-use Rattle.dns_session.specs.Lines.{Words, words, after, header_line, moment_line, algorithms_line, anchor_line, accept_line, query_line, reply_line, end_line}
-use Rattle.dns_session.specs.Grammar.{session_at, session_of}
-use Rattle.dns_session.specs.Spelled.{lines_text, Unbroken, Say, Spelled}
-use Rattle.dns_session.proofs.SpelledLaws.{pieces_lines, session_spelled, ends, asks, trusts, lists, dates, begins, session_begins}
+use Rattle.dns_session.specs.Places.{place, pieces, start_of, one, many_in}
+use Rattle.dns_session.specs.Lines.{Words, words, after, header_line, moment_line, algorithms_line, anchor_line, accept_line, query_line, reply_line}
+use Rattle.dns_session.specs.Grammar.{session_of}
+use Rattle.dns_session.specs.Spelled.{Say, Spelled}
+use Rattle.dns_session.proofs.SpelledLaws.{pieces_lines, session_spelled, ends, asks, trusts, begins, session_begins}
 
 one_line : {X : Type 0} (form : List ℕ → Option X) (number : ℕ) (line next : List ℕ) (rest : List (List ℕ)) (x : X)
     → form line ≡ Some x → one form (place number (line ∷ next ∷ rest)) ≡ Ok (x, place (number + 1) (next ∷ rest))

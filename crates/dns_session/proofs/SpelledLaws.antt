@@ -1,6 +1,6 @@
 -- What is read as a session is spelled so.
-use Rattle.std.proofs.Common.{◌≡◌, ℕ, ◌+◌, ◌<◌, ◌≤◌, Bool, true, false, ◌==◌, ◌||◌, List, [], ◌∷◌, ◌++◌, length, map, codes, Option, None, Some, unwrap_or, Result, Ok, Err, refl, sym, ap, subst, ◌∙◌, arith, inl, inr, append-nil, append_assoc}
-use Rattle.std.specs.List.{slice_split, onto_first, join_with_byte, flat_map, list_any}
+use Rattle.std.proofs.Common.{◌≡◌, ℕ, ◌+◌, true, false, ◌==◌, List, [], ◌∷◌, ◌++◌, map, codes, Option, None, Some, Result, Ok, Err, refl, sym, ap, subst, ◌∙◌, inl, inr, append-nil, append_assoc}
+use Rattle.std.specs.List.{onto_first, join_with_byte, list_any}
 use Rattle.std.specs.Result.{result_unwrap_or}
 use Rattle.std.proofs.lemmas.Bool.{cases_Bool, or_parts}
 use Rattle.std.proofs.lemmas.List.Splits.{join_with_byte-slice_split}
@@ -8,11 +8,10 @@ use Rattle.std.specs.Cmp.Lexicographic.{bytes_decides}
 use Rattle.dns_model.specs.Keys.{Anchor, bytes_eq}
 use Rattle.dns_model.specs.Records.{Question}
 use Rattle.dns_session.specs.SessionText.{SessionText, AcceptText}
-use Rattle.dns_session.specs.Places.{Place, place, pieces, start_of, one, many, many_in, before_more, next_in, is_nothing, or_bad, ◌>>=◌}
+use Rattle.dns_session.specs.Places.{Place, place, pieces, start_of, one, many, many_in, before_more, is_nothing, or_bad, ◌>>=◌}
 use Rattle.dns_session.specs.Lines.{header_line, moment_line, algorithms_line, anchor_line, accept_line, query_line, reply_line, end_line, fixed}
 use Rattle.dns_session.specs.Grammar.{session_at, session_of, if_ended}
 use Rattle.dns_session.specs.Spelled.{lines_text, Unbroken, Say, Spelled}
-use Rattle.dns_session.proofs.PieceLemmas.{pieces_listed}
 
 -- ---- lines and pieces
 

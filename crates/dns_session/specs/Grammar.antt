@@ -1,5 +1,5 @@
 -- The grammar of sessions: lines of these forms in this order, and nothing after the last. Each ends with LF.
-use Rattle.std.specs.Prelude.{ℕ, Bool, true, false, List, Result, Ok, Err, if◌then◌else◌}
+use Rattle.std.specs.Prelude.{ℕ, List, Result, Ok, Err, if◌then◌else◌}
 use Rattle.dns_session.specs.SessionText.{SessionText}
 use Rattle.dns_session.specs.Places.{Place, start_of, one, many, is_ended, ◌>>=◌}
 use Rattle.dns_session.specs.Lines.{header_line, moment_line, algorithms_line, anchor_line, accept_line, query_line, reply_line, end_line}

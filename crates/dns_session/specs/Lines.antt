@@ -1,8 +1,7 @@
 -- The forms of a session's lines: words with one space between each two.
-use Rattle.std.specs.Prelude.{ℕ, List, [], ◌∷◌, codes, Option, None, Some, Result, if◌then◌else◌, ◌^◌, ◌-◌}
-use Rattle.dns_model.specs.Names.{Labels}
+use Rattle.std.specs.Prelude.{ℕ, List, [], ◌∷◌, codes, Option, None, Some, if◌then◌else◌, ◌^◌, ◌-◌}
 use Rattle.dns_model.specs.Keys.{Anchor, bytes_eq}
-use Rattle.dns_model.specs.Records.{Question, MessageText}
+use Rattle.dns_model.specs.Records.{Question}
 use Rattle.dns_model.specs.Types.{class_in}
 use Rattle.dns_message.specs.MessageAt.{message_at}
 use Rattle.dns_words.specs.NameWords.{name_word_in}
