@@ -40,8 +40,8 @@ impl Name {
         }
     }
 
-    /// The name of these labels, the leaf first. Each is checked in order: `EmptyLabel`, then `LongLabel` above 63 bytes.
-    /// `LongName` comes last, above 255 bytes in wire form.
+    /// The name of these labels, the leaf first. They are checked one after another, as those of a text are; a name that
+    /// is too long is `LongName` only where each label has passed.
     pub fn from_labels(alloc: Global, labels: &[Octets]) -> Result<Name, NameError>
         ensures { Gives (λ n. n) no_memory result (name_from labels.now) }
     {
