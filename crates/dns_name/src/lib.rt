@@ -1,5 +1,5 @@
 //! Domain names and the small types over bytes that the crates above are made of. The layer above may use `Name` and
-//! `NameRef` as lists of labels, `Octets`, `Rdata` and `Text` as lists of bytes, and the reading of a wire form.
+//! `NameRef` as lists of labels, `Octets` and `Text` as lists of bytes, the reading of a wire form, and names as text.
 #![tactic(auto)]
 
 mod comparing;

@@ -12,8 +12,9 @@ use std::alloc::Global;
 impl Name {
     /// The name that a text gives, read from left to right, with or without a last dot; `.` is the root.
     ///
-    /// `BadEscape` comes at a broken escape, or at a byte outside 0x21 to 0x7e that isn't escaped. A label is checked
-    /// where it ends: `EmptyLabel`, then `LongLabel` above 63 bytes. `LongName` comes last, above 255 bytes in wire form.
+    /// The first fault decides: `BadEscape` for an escape that is broken, or a byte that would need one; at the end of each
+    /// label `EmptyLabel` if it has no byte, `LongLabel` if it has more than 63. A text with none of these faults gives
+    /// `LongName` if its wire form has more than 255 bytes.
     pub fn from_ascii(alloc: Global, text: &str) -> Result<Name, NameError>
         ensures { Gives (λ n. n) no_memory result (read_name text.now) }
     {
@@ -39,8 +40,8 @@ impl Name {
         }
     }
 
-    /// The name of these labels, the leaf first. Each is checked in order: `EmptyLabel`, then `LongLabel` above 63 bytes.
-    /// `LongName` comes last, above 255 bytes in wire form.
+    /// The name of these labels, the leaf first. They are checked one after another, as those of a text are; a name that
+    /// is too long is `LongName` only where each label has passed.
     pub fn from_labels(alloc: Global, labels: &[Octets]) -> Result<Name, NameError>
         ensures { Gives (λ n. n) no_memory result (name_from labels.now) }
     {
