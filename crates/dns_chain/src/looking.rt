@@ -11,7 +11,7 @@ use dns_message::Message;
 use dns_name::NoMemory;
 use dns_net::{DnsError, DnsHandle, DnsResponse, NetError, Notice, Verifier};
 use dns_record::{Denial, Query, Record};
-use dns_sets::{finished, foreign_record, outcome_of, placed_sets, JudgedSet, Outcome};
+use dns_sets::{JudgedSet, Outcome, finished, foreign_record, outcome_of, placed_sets};
 use dns_trust::TrustAnchors;
 use std::alloc::Global;
 
@@ -26,10 +26,8 @@ pub(crate) fn look<H: DnsHandle, V: Verifier>(
 ) -> Result<DnsResponse, NetError>
     ensures later { H.faults handle.old ≤ H.faults handle.new }
     ensures told { H.told handle.new ≡ H.told handle.old }
-    ensures lookup {
-        UnlessNoMemory result (IsLookup H.sent handle.old handle.new (H.told handle.old)
-            (judge (V.answers verifier.now) anchors.now inquiry.now) inquiry.now inquiry.limit query (reply_of result))
-    }
+    ensures lookup { UnlessNoMemory result (IsLookup H.sent handle.old handle.new (H.told handle.old)
+        (judge (V.answers verifier.now) anchors.now inquiry.now) inquiry.now inquiry.limit query (reply_of result)) }
 {
     let mut sends: u32 = 0;
     let message = hear(alloc, inquiry, handle, &mut sends, &query)?;
@@ -37,7 +35,9 @@ pub(crate) fn look<H: DnsHandle, V: Verifier>(
         return Err(foreign_error(record));
     }
     let placed = placed_sets(alloc, 0, &message)?;
-    let judged = judge_sets(alloc, verifier, anchors, inquiry, handle, &mut sends, &query, 0, placed)?;
+    let judged = judge_sets(
+        alloc, verifier, anchors, inquiry, handle, &mut sends, &query, 0, placed,
+    )?;
     answer(alloc, inquiry.now, query, message, judged)
 }
 

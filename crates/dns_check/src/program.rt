@@ -117,10 +117,8 @@ pub fn run<S: Source, W: Sink>(
     output: &mut W,
 ) -> u8
     // A report is that of the answer that a lookup for the session gives.
-    ensures report {
-        result ≡ 0 → form_in (map (λ w. w.items) words.now) ≡ Some Validate
-        → Leaves Reports (S.left input.old) (W.taken output.old) (W.taken output.new)
-    }
+    ensures report { result ≡ 0 → form_in (map (λ w. w.items) words.now) ≡ Some Validate
+        → Leaves Reports (S.left input.old) (W.taken output.old) (W.taken output.new) }
     ensures help { result ≡ 0 → form_in (map (λ w. w.items) words.now) ≡ Some Help → Appends (W.taken output.old) (W.taken output.new) help_text }
     ensures version { result ≡ 0 → form_in (map (λ w. w.items) words.now) ≡ Some Version → Appends (W.taken output.old) (W.taken output.new) version_text }
 
@@ -143,20 +141,14 @@ pub fn run<S: Source, W: Sink>(
     // want of memory.
     ensures long { result ≡ 7 → IfSome (S.left input.old) (λ left. input_limit < length left) }
     ensures too_long { result ≡ 7 → Appends (W.taken output.old) (W.taken output.new) too_long_text }
-    ensures refused {
-        form_in (map (λ w. w.items) words.now) ≡ Some Validate
-        → IfSome (S.left input.old) (λ left. input_limit < length left → 4 ≤ result)
-    }
+    ensures refused { form_in (map (λ w. w.items) words.now) ≡ Some Validate
+        → IfSome (S.left input.old) (λ left. input_limit < length left → 4 ≤ result) }
 
     // Whatever the status, a prefix of a text that the input comes to was written.
-    ensures prefix {
-        form_in (map (λ w. w.items) words.now) ≡ Some Validate
-        → LeavesPrefix (S.left input.old) (W.taken output.old) (W.taken output.new)
-    }
-    ensures no_prefix {
-        form_in (map (λ w. w.items) words.now) ≡ None
-        → TakesPrefix (W.taken output.old) (W.taken output.new) bad_words_text
-    }
+    ensures prefix { form_in (map (λ w. w.items) words.now) ≡ Some Validate
+        → LeavesPrefix (S.left input.old) (W.taken output.old) (W.taken output.new) }
+    ensures no_prefix { form_in (map (λ w. w.items) words.now) ≡ None
+        → TakesPrefix (W.taken output.old) (W.taken output.new) bad_words_text }
 
     ensures most { result ≤ 7 }
     ensures read_later { S.faults input.old ≤ S.faults input.new }

@@ -6,3 +6,7 @@ pub mod RdataReading
 pub mod RecordReading
 pub mod Writing
 pub mod Standing
+pub mod NameWriting
+pub mod RdataWriting
+pub mod RecordWriting
+pub mod MessageWriting

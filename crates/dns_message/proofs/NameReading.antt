@@ -134,7 +134,7 @@ pub record IsLabelAt (bytes : List ℕ) (pos n : ℕ) : Type 0 where
   pub parts : slice_range bytes pos (pos + 1 + n) ≡ n ∷ slice_range bytes (pos + 1) (pos + 1 + n)
   pub long : length (slice_range bytes (pos + 1) (pos + 1 + n)) ≡ n
 
-label_at : (bytes : List ℕ) (pos n : ℕ) → get_or bytes pos 0 ≡ n → pos + 1 + n ≤ length bytes → IsLabelAt bytes pos n
+pub label_at : (bytes : List ℕ) (pos n : ℕ) → get_or bytes pos 0 ≡ n → pos + 1 + n ≤ length bytes → IsLabelAt bytes pos n
 label_at bytes pos n byte inside =
     let k1 : pos + 1 + n - pos ≡ suc n = omega arith in
     let k2 : pos + 1 + n - (pos + 1) ≡ n = omega arith in

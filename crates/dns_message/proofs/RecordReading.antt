@@ -95,19 +95,19 @@ section_done count i may bytes pos records opt total past so_far =
     sym so_far ∙ one
 
 -- the value of a step that did not fail
-bind_ok : {A B : Type 0} (r : Result A DecodeError) (f : A → Result B DecodeError) (y : B) → (r >>= f) ≡ Ok y → (x : A) × (r ≡ Ok x) × (f x ≡ Ok y)
+pub bind_ok : {A B : Type 0} (r : Result A DecodeError) (f : A → Result B DecodeError) (y : B) → (r >>= f) ≡ Ok y → (x : A) × (r ≡ Ok x) × (f x ≡ Ok y)
 bind_ok (Ok x) f y e = (x, refl, e)
 bind_ok (Err d) f y e = absurd cc
 
-is_kept : Item → Bool
+abbrev pub is_kept : Item → Bool
 is_kept (item.Kept kept) = true
 is_kept (item.Opt edns code) = false
 
 first_kept : (a b : Item × ℕ) → is_kept a.0 ≡ true → (let r : Result (Item × ℕ) DecodeError = Ok a in r) ≡ Ok b → is_kept b.0 ≡ true
 first_kept a b kept e = let same : a ≡ b = cc in ap (λ (x : Item × ℕ). is_kept x.0) (sym same) ∙ kept
 
-record_kept : (owner : Labels) (kind : ℕ) (bytes : List ℕ) (pos : ℕ) (x : Item × ℕ) → record_at owner kind bytes pos ≡ Ok x → is_kept x.0 ≡ true
-unfolding record_at is_kept
+pub record_kept : (owner : Labels) (kind : ℕ) (bytes : List ℕ) (pos : ℕ) (x : Item × ℕ) → record_at owner kind bytes pos ≡ Ok x → is_kept x.0 ≡ true
+unfolding record_at
 record_kept owner kind bytes pos x e =
     let a = bind_ok (u16_field bytes pos) _ x e in
     let b = bind_ok (u32_field bytes a.0.1) _ x a.2 in
@@ -129,7 +129,6 @@ closed_kept bytes pos x e =
     chosen_kept (b.0.0 == type_opt) bytes pos a.0.0 b.0.0 b.0.1 x b.2
 
 pub opt_may : (may : Bool) (bytes : List ℕ) (pos : ℕ) (edns : EdnsText) (code next : ℕ) → item_at may bytes pos ≡ Ok (item.Opt edns code, next) → may ≡ true
-unfolding is_kept
 opt_may true bytes pos edns code next h = refl
 opt_may false bytes pos edns code next h = let kept = closed_kept bytes pos (item.Opt edns code, next) h in absurd cc
 

@@ -12,7 +12,7 @@ use Rattle.dns_message.specs.Reading.{fault, ◌>>=◌, u16_field, u32_field}
 use Rattle.dns_message.specs.NameAt.{name_at}
 use Rattle.dns_message.specs.RdataAt.{rdata_at, opaque_at}
 
--- a record after its owner and type, which is no OPT
+-- a record, which is no OPT, after its owner and type
 unfoldable pub record_at : Labels → ℕ → List ℕ → ℕ → Result (Item × ℕ) DecodeError
 record_at owner kind bytes pos = do
   class ← u16_field bytes pos

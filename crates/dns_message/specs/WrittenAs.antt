@@ -1,10 +1,11 @@
 -- A message as it is written: names spelled out, the OPT last (RFC 1035, 4.1; RFC 6891, 6.1).
-use Rattle.std.specs.Prelude.{ℕ, ◌+◌, ◌*◌, ◌/◌, ◌%◌, Bool, true, false, List, [], ◌∷◌, ◌++◌, length, nat_le, nat_lt, ◌||◌, Option, None, Some, Result, Ok, Err, if◌then◌else◌}
+use Rattle.std.specs.Prelude.{◌≡◌, ◌<◌, slice_index, ℕ, ◌+◌, ◌*◌, ◌/◌, ◌%◌, Bool, true, false, List, [], ◌∷◌, ◌++◌, length, nat_le, nat_lt, ◌||◌, Option, None, Some, Result, Ok, Err, if◌then◌else◌}
 use Rattle.std.specs.List.{flat_map}
 use Rattle.dns_model.specs.Names.{wire}
 use Rattle.dns_model.specs.Bytes.{u16_bytes, u32_bytes}
 use Rattle.dns_model.specs.Types.{type_opt}
 use Rattle.dns_model.specs.Records.{Rr, Question, EdnsText, MessageText}
+use Rattle.dns_message.specs.MessageAt.{message_at}
 use Rattle.dns_message.specs.declared.encode_error.EncodeError.{EncodeError}
 use Rattle.dns_message.specs.declared.encode_error.EncodeError.TheVariants.{TooLong}
 
@@ -53,6 +54,14 @@ written m =
 -- a message has at most 65,535 bytes
 unfoldable pub encoded : MessageText → Result (List ℕ) EncodeError
 encoded m = if nat_le (length (written m)) 65535 then Ok (written m) else Err TooLong
+
+-- numbers that are bytes
+abbrev pub AreBytes : List ℕ → Type 0
+AreBytes bytes = (i : ℕ) → slice_index bytes i < 256
+
+-- where some bytes are this message, these are it too
+abbrev pub IsReadAgain : MessageText → List ℕ → Type 0
+IsReadAgain m again = (bytes : List ℕ) → AreBytes bytes → message_at bytes ≡ Ok m → message_at again ≡ Ok m
 
 -- an empty query
 abbrev pub empty_query : MessageText

@@ -18,6 +18,9 @@ fn hop_at(bytes: &[u8], hops: &[u16], place: usize) -> u16
     requires hops { AreHops bytes.now hops.now }
     ensures { IsHop bytes.now place result }
 {
+    if bytes[place] < 192 {
+        return place as u16;
+    }
     match step_at(bytes, place, place, 0) {
         Ok(Step::Jump(target)) => hops[usize::from(target)],
         _ => place as u16,

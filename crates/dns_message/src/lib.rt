@@ -24,3 +24,5 @@ pub use message::{Edns, Message};
 
 #[cfg(test)]
 mod tests;
+#[cfg(test)]
+mod writing_tests;

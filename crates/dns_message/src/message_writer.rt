@@ -1,9 +1,9 @@
-ghost use Rattle.std.specs.Prelude.{◌≡◌, ◌+◌, ◌<◌, ◌≤◌, ◌^◌, ◌++◌, length, false, OnOk};
+ghost use Rattle.std.specs.Prelude.{◌≡◌, ◌+◌, ◌<◌, ◌≤◌, ◌^◌, ◌++◌, length, false, OnOk, IfOk};
 ghost use Rattle.std.specs.List.{flat_map};
 ghost use Rattle.dns_model.specs.Bytes.{u16_bytes, u32_bytes};
 ghost use Rattle.dns_model.specs.Gives.{Gives};
 ghost use Rattle.dns_message.specs.declared.encode_error.EncodeError.TheVariants as errors;
-ghost use Rattle.dns_message.specs.WrittenAs.{number_of, question_bytes, record_bytes, opt_ttl, opt_bytes, edns_bytes, flags_of, header_bytes, edns_count, has_long_options, has_many, encoded, empty_query};
+ghost use Rattle.dns_message.specs.WrittenAs.{number_of, question_bytes, record_bytes, opt_ttl, opt_bytes, edns_bytes, flags_of, header_bytes, edns_count, has_long_options, has_many, encoded, empty_query, IsReadAgain};
 
 use crate::encode_error::EncodeError;
 use crate::message::{Edns, Message};
@@ -221,8 +221,16 @@ impl Message {
     /// eight.
     ///
     /// `TooLong` comes exactly above 65,535 bytes.
-    #[tactic(auto, unfolding(crate::specs::WrittenAs::encoded, crate::specs::WrittenAs::written))]
     pub fn to_vec(&self, alloc: Global) -> Result<Octets, EncodeError>
+        ensures exact { Gives (λ o. o) errors.NoMemory result (encoded self.now) }
+        // Where some bytes are this message, what is written is it too.
+        ensures again { IfOk result (λ o. IsReadAgain self.now o) }
+    {
+        self.encode(alloc)
+    }
+
+    #[tactic(auto, unfolding(crate::specs::WrittenAs::encoded, crate::specs::WrittenAs::written))]
+    fn encode(&self, alloc: Global) -> Result<Octets, EncodeError>
         ensures { Gives (λ o. o) errors.NoMemory result (encoded self.now) }
     {
         if has_many(self) {

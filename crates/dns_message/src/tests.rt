@@ -12,7 +12,7 @@ fn digit_of(character: u8) -> Option<u8> {
 }
 
 /// The bytes of hex text; other characters are passed over.
-fn bytes_of(alloc: Global, text: &str) -> Result<Vec<u8>, AllocError> {
+pub(crate) fn bytes_of(alloc: Global, text: &str) -> Result<Vec<u8>, AllocError> {
     let mut bytes = Vec::new(alloc);
     let mut high = None;
     for character in text.as_bytes() {
@@ -27,6 +27,15 @@ fn bytes_of(alloc: Global, text: &str) -> Result<Vec<u8>, AllocError> {
         }
     }
     Ok(bytes)
+}
+
+/// The message that the bytes are, if they are one.
+pub(crate) fn read(alloc: Global, bytes: &[u8]) -> Option<Message> {
+    if bytes.len() < 1_000_000 {
+        Message::from_vec(alloc, bytes).ok()
+    } else {
+        None
+    }
 }
 
 fn error_of(alloc: Global, bytes: &[u8]) -> Option<DecodeError> {
@@ -164,9 +173,9 @@ fn answers(message: &Message, kind: u8, rdata: &[u8]) -> bool {
 
 fn is_taken(alloc: Global, kind: u8, class: u8, rdata: &[u8]) -> Result<bool, AllocError> {
     let bytes = with_rdata(alloc, kind, class, rdata)?;
-    match Message::from_vec(alloc, &bytes) {
-        Ok(message) => Ok(answers(&message, kind, rdata)),
-        Err(_) => Ok(false),
+    match read(alloc, &bytes) {
+        Some(message) => Ok(answers(&message, kind, rdata)),
+        None => Ok(false),
     }
 }
 
@@ -232,9 +241,9 @@ fn each_type_in_its_shape(rt: HostRuntime) -> Result<(), Fail> {
 }
 
 /// The message of hex text.
-fn message_of(alloc: Global, text: &str) -> Result<Option<Message>, AllocError> {
+pub(crate) fn message_of(alloc: Global, text: &str) -> Result<Option<Message>, AllocError> {
     let bytes = bytes_of(alloc, text)?;
-    Ok(Message::from_vec(alloc, &bytes).ok())
+    Ok(read(alloc, &bytes))
 }
 
 /// An A record of `a.` and an NS record of `a.` whose rdata is `b.a.`.
@@ -288,65 +297,6 @@ fn header_names_and_opt(rt: HostRuntime) -> Result<(), Fail> {
     let message = message_of(rt.alloc(), text)?.ok_or("an OPT")?;
     assert!(rt; has_flags(&message) && has_edns(&message));
     assert!(rt; message.response_code.0 == 0x12f && message.additionals.is_empty());
-    Ok(())
-}
-
-/// Written and read again, a message gives the bytes that it gave.
-fn is_written_again(alloc: Global, text: &str, written: &str) -> Result<bool, AllocError> {
-    let want = bytes_of(alloc, written)?;
-    match message_of(alloc, text)? {
-        None => Ok(false),
-        Some(message) => match message.to_vec(alloc) {
-            Err(_) => Ok(false),
-            Ok(bytes) => Ok(bytes.as_slice() == want.as_slice()),
-        },
-    }
-}
-
-#[test]
-fn written_forms(rt: HostRuntime) -> Result<(), Fail> {
-    let cases = [
-        // pointers are spelled out
-        (
-            "000080000001000200000000 01610000010001 c00c0001000100000e100004c0000201 c00c0002000100000e1000040162c00c",
-            "000080000001000200000000 01610000010001 01610000010001 00000e100004c0000201 01610000020001 00000e10000501620161 00",
-        ),
-        // the bit Z is 0, and the OPT stands last
-        (
-            "abcdffff0000000000000002 00002904d0 12058003 0002aabb 00 ff00 0003 00000000 0001 01",
-            "abcdffbf0000000000000002 00 ff00 0003 00000000 0001 01 00002904d0 12058003 0002aabb",
-        ),
-    ];
-    for (text, written) in cases {
-        assert!(rt; is_written_again(rt.alloc(), text, written)?, "{text}");
-    }
-    let query = Message::query(rt.alloc());
-    let bytes = query.to_vec(rt.alloc()).ok().ok_or("a query")?;
-    assert_eq!(rt; bytes.as_slice(), [0; 12].as_slice());
-    Ok(())
-}
-
-/// A message with one root record of an opaque type and so many bytes of rdata.
-fn with_size(alloc: Global, size: u16) -> Result<Option<Message>, AllocError> {
-    let mut bytes = bytes_of(alloc, "000000000000000100000000 00 ff00 0001 00000000")?;
-    bytes.extend_from_slice(&size.to_be_bytes())?;
-    for _ in 0..size {
-        bytes.push(7)?;
-    }
-    if bytes.len() < 1_000_000 {
-        Ok(Message::from_vec(alloc, &bytes).ok())
-    } else {
-        Ok(None)
-    }
-}
-
-#[test]
-fn longest_message(rt: HostRuntime) -> Result<(), Fail> {
-    let message = with_size(rt.alloc(), 65512)?.ok_or("65,535 bytes")?;
-    let bytes = message.to_vec(rt.alloc()).ok().ok_or("not too long")?;
-    assert_eq!(rt; bytes.as_slice().len(), 65535);
-    let message = with_size(rt.alloc(), 65513)?.ok_or("65,536 bytes")?;
-    assert!(rt; message.to_vec(rt.alloc()).err() == Some(EncodeError::TooLong));
     Ok(())
 }
 
@@ -426,10 +376,10 @@ fn row_of_pointers(alloc: Global) -> Result<Vec<u8>, AllocError> {
     )?;
     let mut target: u16 = 23;
     for i in 0..1000u16 {
-        bytes.extend_from_slice(&(49152 + target).to_be_bytes())?;
+        bytes.extend_from_slice(&(49152 + target % 16384).to_be_bytes())?;
         target = 26 + 2 * i;
     }
-    bytes.extend_from_slice(&(49152 + target).to_be_bytes())?;
+    bytes.extend_from_slice(&(49152 + target % 16384).to_be_bytes())?;
     bytes.extend_from_slice(&[255, 0, 0, 3, 0, 0, 0, 0, 0, 0])?;
     Ok(bytes)
 }
@@ -444,8 +394,7 @@ fn last_owner_is_a(message: &Message) -> bool {
 #[test]
 fn a_row_of_pointers(rt: HostRuntime) -> Result<(), Fail> {
     let bytes = row_of_pointers(rt.alloc())?;
-    assert!(rt; bytes.len() < 10000);
-    let message = Message::from_vec(rt.alloc(), &bytes).ok().ok_or("a row")?;
+    let message = read(rt.alloc(), &bytes).ok_or("a row")?;
     assert!(rt; last_owner_is_a(&message));
     Ok(())
 }

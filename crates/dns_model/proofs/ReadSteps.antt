@@ -47,9 +47,9 @@ run_more labels bytes label run ok =
     record {
       good = rw (list_all-append is_label labels (label ∷ []), run.good, is.0) refl;
       spelled = λ above.
-        let front : bytes ++ length label ∷ [] ++ label ++ wire above ≡ bytes ++ (length label ∷ (label ++ wire above)) =
+          let front : bytes ++ length label ∷ [] ++ label ++ wire above ≡ bytes ++ (length label ∷ (label ++ wire above)) =
           append_assoc (bytes ++ length label ∷ []) label (wire above) ∙ append_assoc bytes (length label ∷ []) (label ++ wire above) in
-        front ∙ run.spelled (label ∷ above) ∙ ap wire (sym (append_assoc labels (label ∷ []) above))
+          front ∙ run.spelled (label ∷ above) ∙ ap wire (sym (append_assoc labels (label ∷ []) above));
     }
 
 name_tail : (name : Labels) → is_name name ≡ true → list_all is_label name ≡ true
@@ -145,7 +145,7 @@ label_more text bytes left [] label r is some ok = absurd (omega arith)
 label_more text bytes left (b ∷ rest) label r is some ok = record {
   labels = r.labels ++ label ∷ [];
   run = run_more r.labels bytes label r.run ok;
-  so_far = sym (fronted_more r.labels label (read_at [] (b ∷ rest)) ok) ∙ ap (fronted r.labels) (sym is) ∙ r.so_far
+  so_far = sym (fronted_more r.labels label (read_at [] (b ∷ rest)) ok) ∙ ap (fronted r.labels) (sym is) ∙ r.so_far;
 }
 
 pub label_last : (text bytes left : List ℕ) (label : Label) (dotted : Bool) → IsReading text bytes left → read_at [] left ≡ ended label (Ok ([], dotted))
@@ -154,8 +154,8 @@ label_last text bytes left label dotted r is ok = record {
   labels = r.labels ++ label ∷ [];
   run = run_more r.labels bytes label r.run ok;
   whole =
-    sym r.so_far ∙ ap (fronted r.labels) is ∙ fronted_more r.labels label (Ok ([], dotted)) ok
-    ∙ ap (λ (n : Labels). Ok (n, dotted)) (append-nil (r.labels ++ label ∷ []))
+      sym r.so_far ∙ ap (fronted r.labels) is ∙ fronted_more r.labels label (Ok ([], dotted)) ok
+      ∙ ap (λ (n : Labels). Ok (n, dotted)) (append-nil (r.labels ++ label ∷ []));
 }
 
 pub label_fails : (text bytes left : List ℕ) (fault : NameError) → IsReading text bytes left → FailsAs fault (read_at [] left) → FailsAs fault (read_at [] text)

@@ -170,6 +170,7 @@ labels_read_back label (next ∷ name) good bytes =
     dotted : (text : List ℕ) → 0 < length text → after_dot read_at text ≡ read_at [] text
     dotted [] lt = absurd (omega arith)
     dotted (b ∷ text) lt = refl
+
     longer : (next : Label) (name : Labels) → 0 < length (flat_map printed_label (next ∷ name))
     longer next name = omega (arith, length-append (printed_label next) (flat_map printed_label name), length-append (flat_map printed_byte next) (dot ∷ []))
 

@@ -12,6 +12,8 @@ mod octets;
 mod printing;
 mod reading;
 mod shown;
+#[cfg(test)]
+mod tests;
 mod text;
 mod text_reading;
 

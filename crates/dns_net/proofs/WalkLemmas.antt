@@ -1,5 +1,7 @@
 -- Walks put together.
-use Rattle.std.proofs.Common.{◌≤◌, ℕ, ◌+◌, List, [], ◌∷◌, ◌++◌, refl, sym, subst, arith, length-append}
+use Rattle.std.proofs.Common.{◌≤◌, ◌⊎◌, inl, inr, Result, Ok, Err, ℕ, ◌+◌, List, [], ◌∷◌, ◌++◌, refl, sym, subst, arith, length-append}
+use Rattle.dns_net.specs.declared.error.NetError.{NetError}
+use Rattle.dns_net.specs.Handles.{OrUnsent}
 use Rattle.dns_net.specs.Walks.{Steps, Walked}
 
 -- one send is a walk
@@ -36,3 +38,13 @@ then_walk sent a b c n k m first rest = record {
   walked = steps_append sent a b c first.steps rest.steps first.walked rest.walked;
   counted = omega (arith, length-append first.steps rest.steps, first.counted, rest.counted);
 }
+
+-- a lookup that is counted is a walk, also where memory ran out before the send
+pub lookup_walk : {H Q R X : Type 0} (sent : H → Q → H → R → Type 0) (a b : H) (q : Q) (r : R) (result : Result X NetError) (n m : ℕ)
+    → OrUnsent a b result (sent a q b r) → n + 1 ≤ m → Walked sent a b n m
+lookup_walk sent a b q r (Ok x) n m s h = one_walk sent a b q r n m s h
+lookup_walk {H} sent a b q r (Err e) n m s h =
+    elim s as (λ _. Walked sent a b n m) [
+      | inl made ↦ one_walk sent a b q r n m made h
+      | inr none ↦ record { steps = []; walked = sym none.1; counted = omega arith }
+    ]

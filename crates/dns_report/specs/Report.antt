@@ -30,7 +30,7 @@ denial_line denial = line (codes "denial") (denial_words denial)
 abbrev pub record_line : Section → Rr → List ℕ
 record_line section r =
     line (section_word section)
-        (printed r.owner ∷ class_word r.class ∷ type_word r.kind ∷ decimal r.ttl ∷ mark_word r.mark ∷ octets_word r.rdata ∷ [])
+    (printed r.owner ∷ class_word r.class ∷ type_word r.kind ∷ decimal r.ttl ∷ mark_word r.mark ∷ octets_word r.rdata ∷ [])
 
 -- a line for each record, in order
 abbrev pub section_text : Section → List Rr → List ℕ
@@ -50,7 +50,7 @@ link_line (Matched owner class key ds_link ds) =
 link_line (KeySet owner class keys links) = line (codes "keyset") (printed owner ∷ class_word class ∷ key_words keys links)
 link_line (Signed owner class kind rdatas sig key_link key) =
     line (codes "signed")
-        (printed owner ∷ class_word class ∷ type_word kind ∷ decimal key_link ∷ octets_word key ∷ octets_word sig ∷ map octets_word rdatas)
+    (printed owner ∷ class_word class ∷ type_word kind ∷ decimal key_link ∷ octets_word key ∷ octets_word sig ∷ map octets_word rdatas)
 
 -- `chain SECTION COUNT`
 abbrev pub chain_line : ChainText → List ℕ

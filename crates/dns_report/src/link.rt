@@ -57,10 +57,8 @@ fn push_signed(
     key_link: u32,
     key: &[u8],
 ) -> Result<(), NoMemory>
-    ensures {
-        OnOk result (into.new.items ≡ into.old.items ++ line_rest
-            (type_word record_type.0 ∷ decimal key_link ∷ octets_word key.now ∷ octets_word sig.now ∷ map octets_word rdatas.now))
-    }
+    ensures { OnOk result (into.new.items ≡ into.old.items ++ line_rest
+        (type_word record_type.0 ∷ decimal key_link ∷ octets_word key.now ∷ octets_word sig.now ∷ map octets_word rdatas.now)) }
 {
     push_type_word(into, record_type)?;
     push_number(into, u64::from(key_link))?;
@@ -111,7 +109,14 @@ fn push_link(into: &mut Vec<u8>, link: &Link) -> Result<(), NoMemory>
             key,
         } => {
             push_front(into, b"signed", owner, *class)?;
-            push_signed(into, *record_type, rdatas, sig.as_slice(), *key_link, key.as_slice())
+            push_signed(
+                into,
+                *record_type,
+                rdatas,
+                sig.as_slice(),
+                *key_link,
+                key.as_slice(),
+            )
         }
     }
 }

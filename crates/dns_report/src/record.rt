@@ -16,10 +16,8 @@ use dns_record::{Record, Section};
 
 /// Appends the last words of a record's line.
 fn push_rest(into: &mut Vec<u8>, one: &Record) -> Result<(), NoMemory>
-    ensures {
-        OnOk result (into.new.items ≡ into.old.items ++ line_rest
-            (type_word one.now.kind ∷ decimal one.now.ttl ∷ mark_word one.now.mark ∷ octets_word one.now.rdata ∷ []))
-    }
+    ensures { OnOk result (into.new.items ≡ into.old.items ++ line_rest
+        (type_word one.now.kind ∷ decimal one.now.ttl ∷ mark_word one.now.mark ∷ octets_word one.now.rdata ∷ [])) }
 {
     push_type_word(into, one.record_type)?;
     push_number(into, u64::from(one.ttl))?;

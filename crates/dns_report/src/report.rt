@@ -51,11 +51,7 @@ fn push_records(into: &mut Vec<u8>, message: &Message) -> Result<(), NoMemory>
 
 /// Appends the lines before the records.
 #[tactic(auto, unfolding(crate::specs::Report::head_text))]
-fn push_head(
-    into: &mut Vec<u8>,
-    code: ResponseCode,
-    denial: Denial,
-) -> Result<(), NoMemory>
+fn push_head(into: &mut Vec<u8>, code: ResponseCode, denial: Denial) -> Result<(), NoMemory>
     ensures { OnOk result (into.new.items ≡ into.old.items ++ head_text code.0 denial) }
 {
     push_text(into, b"dns-report 1\n")?;

@@ -2,3 +2,5 @@ pub mod PieceLemmas
 pub mod ManyLemmas
 pub mod ByteWords
 pub mod WordLengths
+pub mod SpelledLaws
+pub mod ReadLaws

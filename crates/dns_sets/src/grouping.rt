@@ -56,15 +56,15 @@ pub fn placed_sets(alloc: Global, depth: u16, message: &Message) -> Result<Vec<P
 fn clear(records: &mut [Record])
     ensures { records.new ≡ map cleared records.old }
 {
-    for record in records.iter_mut() {
-        clear_one(record);
+    for next in records.iter_mut() {
+        clear_one(next);
     }
 }
 
-pub(crate) fn clear_one(record: &mut Record)
-    ensures { record.new ≡ cleared record.old }
+pub(crate) fn clear_one(next: &mut Record)
+    ensures { next.new ≡ cleared next.old }
 {
-    record.proof = Proof::Indeterminate;
+    next.proof = Proof::Indeterminate;
 }
 
 // Adds a record to the set.

@@ -47,21 +47,21 @@ pub fn foreign_record<'a>(query: &Query, message: &'a Message) -> Option<&'a Rec
         .iter()
         .chain(message.authorities.iter())
         .chain(message.additionals.iter())
-        .find(|record| record.dns_class != class)
+        .find(|found| found.dns_class != class)
 }
 
 // A record at the query name has the query's type, or is a CNAME.
 fn has_answer(query: &Query, answers: &[Record]) -> bool
     ensures { result ≡ list_any (answers_asked query.now) answers.now }
 {
-    answers.iter().any(|record| answers_query(query, record))
+    answers.iter().any(|found| answers_query(query, found))
 }
 
-fn answers_query(query: &Query, record: &Record) -> bool
-    ensures { result ≡ answers_asked query.now record.now }
+fn answers_query(query: &Query, found: &Record) -> bool
+    ensures { result ≡ answers_asked query.now found.now }
 {
-    query.name.borrowed().eq_name(&record.name.borrowed())
-        && (record.record_type == query.query_type || record.record_type == RecordType::CNAME)
+    query.name == found.name
+        && (found.record_type == query.query_type || found.record_type == RecordType::CNAME)
 }
 
 fn has_unjudged(sets: &[JudgedSet]) -> bool
@@ -115,5 +115,5 @@ fn is_expanded(signature: &Record) -> bool
 fn has_wildcard_signature(records: &[Record]) -> bool
     ensures { result ≡ list_any is_expanded_signature records.now }
 {
-    records.iter().any(|record| record.record_type == RecordType::RRSIG && is_expanded(record))
+    records.iter().any(|found| found.record_type == RecordType::RRSIG && is_expanded(found))
 }

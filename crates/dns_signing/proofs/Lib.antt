@@ -5,3 +5,4 @@ pub mod PartLemmas
 pub mod CanonicalLemmas
 pub mod SizeLemmas
 pub mod RisingLemmas
+pub mod OnceLemmas

@@ -23,11 +23,17 @@ fn record(alloc: Global, owner: &Name, record_type: u16, bytes: &[u8]) -> Result
     })
 }
 
-fn name(alloc: Global, wire: &[u8]) -> Result<Name, Fail> {
+fn name(alloc: Global, wire: &[u8]) -> Result<Name, NoMemory> {
     match Name::from_wire(alloc, wire)? {
         Some(name) => Ok(name),
-        None => Err(Fail::from(NoMemory)),
+        None => Name::root(alloc),
     }
+}
+
+// A record of the root.
+fn at_root(alloc: Global, record_type: u16, bytes: &[u8]) -> Result<Record, NoMemory> {
+    let owner = Name::root(alloc)?;
+    record(alloc, &owner, record_type, bytes)
 }
 
 #[test]
@@ -271,160 +277,217 @@ fn a_bitmap_rises_window_by_window(rt: HostRuntime) -> Result<(), Fail> {
     Ok(())
 }
 
+// The signed text of rdatas, once given as they are and once as records.
+fn signed(
+    alloc: Global,
+    owner: &Name,
+    kind: u16,
+    bytes: &[&[u8]],
+    sig: &Rrsig,
+) -> Result<Octets, NoMemory> {
+    let mut rdatas = Vec::new(alloc);
+    for rdata_bytes in bytes {
+        rdatas.push(rdata(alloc, rdata_bytes)?)?;
+    }
+    signed_data_of(alloc, owner, RecordType(kind), DNSClass::IN, &rdatas, sig)
+}
+
+fn signed_set(
+    alloc: Global,
+    owner: Name,
+    kind: u16,
+    bytes: &[&[u8]],
+    sig: &Rrsig,
+) -> Result<Octets, NoMemory> {
+    let mut records = Vec::new(alloc);
+    for rdata_bytes in bytes {
+        records.push(record(alloc, &owner, kind, rdata_bytes)?)?;
+    }
+    let set = RecordSet {
+        name: owner,
+        record_type: RecordType(kind),
+        dns_class: DNSClass::IN,
+        records,
+        rrsigs: Vec::new(alloc),
+    };
+    signed_data(alloc, &set, sig)
+}
+
+// Whether both signed texts are the wanted one.
+fn is_signed_as(
+    alloc: Global,
+    owner: &[u8],
+    kind: u16,
+    bytes: &[&[u8]],
+    sig: &[u8],
+    want: &[u8],
+) -> Result<bool, NoMemory> {
+    let Some(sig) = Rrsig::read(sig) else {
+        return Ok(false);
+    };
+    let owner = name(alloc, owner)?;
+    let of_rdatas = signed(alloc, &owner, kind, bytes, &sig)?;
+    let of_set = signed_set(alloc, owner, kind, bytes, &sig)?;
+    Ok(of_rdatas.as_slice() == want && of_set.as_slice() == want)
+}
+
 #[test]
 fn the_text_that_is_signed_is_the_standards(rt: HostRuntime) -> Result<(), Fail> {
     let alloc = rt.alloc();
-    // Owner, type, rdatas, signature and signed text. The signer and the owner are lower-cased, a wildcard that was expanded
-    // stands again, equal records are signed once, and they rise.
-    let cases: [(&[u8], u16, &[&[u8]], &str, &str); 4] = [
-        (
-            b"\0",
-            2,
-            &[b"\x01a\0"],
-            ROOT_SIG,
-            "00020d0000000e10000007d000000384aec900000002000100000e100003016100",
-        ),
-        (
+    let sig = hex::decode(alloc, ROOT_SIG)?;
+    let want = hex::decode(
+        alloc,
+        "00020d0000000e10000007d000000384aec900000002000100000e100003016100",
+    )?;
+    assert!(rt; is_signed_as(alloc, b"\0", 2, &[b"\x01a\0"], &sig, &want)?);
+    // Lower-cased, equal records once, in rising order.
+    let want = hex::decode(
+        alloc,
+        "00020d0000000e10000007d000000384aec90000000200010000\
+         0e1000010000000200010000\
+         0e10000301610000000200010000\
+         0e100003016200",
+    )?;
+    assert!(rt;
+        is_signed_as(
+            alloc,
             b"\0",
             2,
             &[b"\x01b\0", b"\x01A\0", b"\x01a\0", b"\0"],
-            ROOT_SIG,
-            "00020d0000000e10000007d000000384aec90000000200010000\
-             0e1000010000000200010000\
-             0e10000301610000000200010000\
-             0e100003016200",
-        ),
-        (
-            b"\x01X\x01W\0",
-            1,
-            &[b"\xc0\0\x02\x01"],
-            "00010d0100000e10000007d000000384aec9015700c0de",
-            "00010d0100000e10000007d000000384aec9017700012a01770000010001\
-             00000e100004c0000201",
-        ),
-        (
-            b"\x01*\x01W\0",
-            1,
-            &[b"\xc0\0\x02\x01"],
-            "00010d0100000e10000007d000000384aec9015700c0de",
-            "00010d0100000e10000007d000000384aec9017700012a01770000010001\
-             00000e100004c0000201",
-        ),
-    ];
-    for (owner, kind, bytes, sig, want) in cases {
-        let owner = name(alloc, owner)?;
-        let sig = hex::decode(alloc, sig)?;
-        let Some(sig) = Rrsig::read(&sig) else {
-            return Err(Fail::from(NoMemory));
-        };
-        let want = hex::decode(alloc, want)?;
-        let mut rdatas = Vec::new(alloc);
-        let mut records = Vec::new(alloc);
-        for rdata_bytes in bytes {
-            rdatas.push(rdata(alloc, rdata_bytes)?)?;
-            records.push(record(alloc, &owner, kind, rdata_bytes)?)?;
-        }
-        let got = signed_data_of(alloc, &owner, RecordType(kind), DNSClass::IN, &rdatas, &sig)?;
-        assert!(rt; got.as_slice() == want.as_slice(), "{kind}");
-        let set = RecordSet {
-            name: owner,
-            record_type: RecordType(kind),
-            dns_class: DNSClass::IN,
-            records,
-            rrsigs: Vec::new(alloc),
-        };
-        let got = signed_data(alloc, &set, &sig)?;
-        assert!(rt; got.as_slice() == want.as_slice(), "{kind} of a set");
-    }
+            &sig,
+            &want
+        )?
+    );
     Ok(())
+}
+
+#[test]
+fn an_expanded_owner_is_signed_as_its_wildcard(rt: HostRuntime) -> Result<(), Fail> {
+    let alloc = rt.alloc();
+    let sig = hex::decode(alloc, "00010d0100000e10000007d000000384aec9015700c0de")?;
+    let want = hex::decode(
+        alloc,
+        "00010d0100000e10000007d000000384aec9017700012a01770000010001\
+         00000e100004c0000201",
+    )?;
+    assert!(rt; is_signed_as(alloc, b"\x01X\x01W\0", 1, &[b"\xc0\0\x02\x01"], &sig, &want)?);
+    assert!(rt; is_signed_as(alloc, b"\x01*\x01W\0", 1, &[b"\xc0\0\x02\x01"], &sig, &want)?);
+    Ok(())
+}
+
+// The numbers of an RRSIG record.
+fn sig_numbers(from: &Record) -> Option<[u32; 6]> {
+    let sig = Rrsig::of(from)?;
+    Some([
+        u32::from(sig.type_covered.0),
+        u32::from(sig.labels),
+        sig.original_ttl,
+        sig.expiration.0,
+        sig.inception.0,
+        u32::from(sig.key_tag),
+    ])
+}
+
+// The numbers of an SOA record.
+fn soa_numbers(from: &Record) -> Option<[u32; 5]> {
+    let soa = Soa::of(from)?;
+    Some([soa.serial, soa.refresh, soa.retry, soa.expire, soa.minimum])
+}
+
+// Which views of a record there are.
+fn views_of(from: &Record) -> [bool; 7] {
+    [
+        Rrsig::of(from).is_some(),
+        Dnskey::of(from).is_some(),
+        Ds::of(from).is_some(),
+        Nsec::of(from).is_some(),
+        Nsec3::of(from).is_some(),
+        Soa::of(from).is_some(),
+        Ns::of(from).is_some(),
+    ]
 }
 
 #[test]
 fn views_read_their_own_type_alone(rt: HostRuntime) -> Result<(), Fail> {
     let alloc = rt.alloc();
-    let owner = name(alloc, b"\x01A\0")?;
+    // A type, an rdata of its shape, and which views there are.
+    let cases: [(u16, &[u8], [bool; 7]); 6] = [
+        (
+            46,
+            b"\0\x02\x0d\0aaaabbbbcccctt\0",
+            [true, false, false, false, false, false, false],
+        ),
+        (
+            48,
+            b"\x01\x01\x03\x0d",
+            [false, true, false, false, false, false, false],
+        ),
+        (
+            43,
+            b"\x01\x01\x03\x0d",
+            [false, false, true, false, false, false, false],
+        ),
+        (
+            47,
+            b"\x01b\0\0\x01\x40",
+            [false, false, false, true, false, false, false],
+        ),
+        (
+            50,
+            b"\x01\x01\0\x0c\x02\xaa\xbb\x01\xcc\0\x01\x20",
+            [false, false, false, false, true, false, false],
+        ),
+        (
+            2,
+            b"\x01b\0",
+            [false, false, false, false, false, false, true],
+        ),
+    ];
+    for (kind, bytes, want) in cases {
+        let from = at_root(alloc, kind, bytes)?;
+        assert!(rt; views_of(&from) == want, "{kind}");
+    }
+    Ok(())
+}
+
+#[test]
+fn numbers_stand_in_their_places(rt: HostRuntime) -> Result<(), Fail> {
+    let alloc = rt.alloc();
     let sig = hex::decode(alloc, ROOT_SIG)?;
-    let from = record(alloc, &owner, 46, &sig)?;
-    let other = record(alloc, &owner, 48, &sig)?;
-    let Some(view) = Rrsig::of(&from) else {
-        return Err(Fail::from(NoMemory));
-    };
-    assert!(rt; view.type_covered == RecordType::NS && view.algorithm == 13 && view.labels == 0);
-    assert!(rt; view.original_ttl == 3600 && view.expiration == SerialNumber(2000));
-    assert!(rt; view.inception == SerialNumber(900) && view.key_tag == 44745);
-    assert!(rt; view.signer.wire() == b"\0".as_slice() && view.signature == b"\xc0\xde".as_slice());
-    assert!(rt; Rrsig::of(&other).is_none() && Dnskey::of(&from).is_none());
-    assert!(rt;
-        Dnskey::of(&other).is_some_and(|key| key.flags == 2
-            && key.protocol == 13
-            && !key.is_zone_key())
-    );
-    assert!(rt; Ds::of(&from).is_none() && Soa::of(&from).is_none() && Ns::of(&from).is_none());
-    let ds = record(alloc, &owner, 43, b"\xae\xc9\x0d\x02\xaa")?;
-    assert!(rt;
-        Ds::of(&ds).is_some_and(|ds| ds.key_tag == 44745
-            && ds.digest_type == 2
-            && ds.digest == b"\xaa".as_slice())
-    );
-    let ns = record(alloc, &owner, 2, b"\x01b\0")?;
-    assert!(rt; Ns::of(&ns).is_some_and(|ns| ns.name.wire() == b"\x01b\0".as_slice()));
-    let soa = record(
+    let from = at_root(alloc, 46, &sig)?;
+    assert!(rt; sig_numbers(&from) == Some([2, 0, 3600, 2000, 900, 44745]));
+    let from = at_root(
         alloc,
-        &owner,
         6,
         b"\0\x01r\0\0\0\0\x01\0\0\0\x02\0\0\0\x03\0\0\0\x04\0\0\0\x05",
     )?;
-    assert!(rt;
-        Soa::of(&soa).is_some_and(|soa| soa.serial == 1 && soa.expire == 4 && soa.minimum == 5)
-    );
+    assert!(rt; soa_numbers(&from) == Some([1, 2, 3, 4, 5]));
     Ok(())
 }
 
 #[test]
 fn owned_denials_say_what_their_records_say(rt: HostRuntime) -> Result<(), Fail> {
     let alloc = rt.alloc();
-    let owner = name(alloc, b"\x01A\0")?;
-    let nsec = record(alloc, &owner, 47, b"\x01b\0\0\x01\x40")?;
-    let nsec3 = record(
-        alloc,
-        &owner,
-        50,
-        b"\x01\x01\0\x0c\x02\xaa\xbb\x01\xcc\0\x01\x20",
-    )?;
-    assert!(rt;
-        NsecRecord::of(alloc, &nsec3)?.is_none() && Nsec3Record::of(alloc, &nsec)?.is_none()
-    );
-    let Some(got) = NsecRecord::of(alloc, &nsec)? else {
-        return Err(Fail::from(NoMemory));
-    };
-    assert!(rt; got.owner == owner && got.next.wire() == b"\x01b\0".as_slice());
-    assert!(rt; got.type_set().contains(RecordType::A) && !got.type_set().contains(RecordType::NS));
-    let Some(got) = Nsec3Record::of(alloc, &nsec3)? else {
-        return Err(Fail::from(NoMemory));
-    };
-    assert!(rt;
-        got.owner == owner && got.hash_algorithm == 1 && got.flags == 1 && got.iterations == 12
-    );
-    assert!(rt;
-        got.salt.as_slice() == b"\xaa\xbb".as_slice() && got.next.as_slice() == b"\xcc".as_slice()
-    );
-    assert!(rt; got.type_set().contains(RecordType::NS) && !got.type_set().contains(RecordType::A));
+    let from = at_root(alloc, 47, b"\x01b\0\0\x01\x40")?;
+    let got = NsecRecord::of(alloc, &from)?;
+    assert!(rt; got.is_some_and(|nsec| nsec.type_set().contains(RecordType::A)));
+    let from = at_root(alloc, 50, b"\x01\x01\0\x0c\x02\xaa\xbb\x01\xcc\0\x01\x20")?;
+    let got = Nsec3Record::of(alloc, &from)?;
+    assert!(rt; got.is_some_and(|nsec3| nsec3.iterations == 12));
     Ok(())
 }
 
 #[test]
 fn a_set_grows_by_records_of_its_own(rt: HostRuntime) -> Result<(), Fail> {
     let alloc = rt.alloc();
-    let owner = name(alloc, b"\x01A\0")?;
-    let next = record(alloc, &owner, 2, b"\x01c\0")?;
-    let mut set = RecordSet::of(alloc, record(alloc, &owner, 2, b"\x01b\0")?)?;
+    let next = at_root(alloc, 2, b"\x01c\0")?;
+    let mut set = RecordSet::of(alloc, at_root(alloc, 2, b"\x01b\0")?)?;
     assert!(rt;
         set.name == next.name
             && set.record_type == next.record_type
             && set.dns_class == next.dns_class
     );
     assert!(rt; set.push(next).is_ok());
-    assert!(rt; set.records.len() == 2 && set.rrsigs.is_empty());
-    assert!(rt; set.records[1].rdata.as_slice() == b"\x01c\0".as_slice());
+    assert_eq!(rt; set.records.len(), 2);
     Ok(())
 }

@@ -1,5 +1,5 @@
 -- Which keys of a key set are tried, as the tags are counted.
-use Rattle.std.proofs.Common.{◌≡◌, ℕ, zero, suc, ◌+◌, ◌<◌, ◌≤◌, Bool, true, false, ◌&&◌, ◌||◌, cond, List, [], ◌∷◌, ◌++◌, length, take, drop, refl, sym, ap, ◌∙◌, arith, add-zero}
+use Rattle.std.proofs.Common.{◌≡◌, ℕ, zero, suc, ◌+◌, ◌<◌, ◌≤◌, Bool, true, false, ◌&&◌, ◌||◌, cond, List, [], ◌∷◌, ◌++◌, length, take, drop, refl, sym, ap, ◌∙◌, arith, zero-add}
 use Rattle.std.specs.Prelude.{nat_lt, ◌==◌, min, Option, None, Some, slice_index_or}
 use Rattle.std.specs.List.{filter, find, count_by, list_any}
 use Rattle.std.specs.Ordering.{nat_cmp}
@@ -84,7 +84,7 @@ left_by : (p : Rr → Bool) (keys : List Rr) (i : ℕ) (m : BTreeMap ℕ ℕ) (k
     → left_after keys i ≡ cond (is_tried m key) (key ∷ left_after keys (i + 1)) (left_after keys (i + 1))
 left_by p keys i m key h is t =
     let few : nat_lt (count_in m (key_tag_of key.rdata)) 2 ≡ nat_lt (count_by (same_tag key) (readable (take i keys))) 2 =
-      ap (λ n. nat_lt n 2) (t.counted key) ∙ least_below (count_by (same_tag key) (readable (take i keys))) in
+    ap (λ n. nat_lt n 2) (t.counted key) ∙ least_below (count_by (same_tag key) (readable (take i keys))) in
     left_step keys i key (is_readable_key key) (nat_lt (count_in m (key_tag_of key.rdata)) 2) h is refl few
 
 -- the key at a place is tried, and is the one
@@ -104,7 +104,7 @@ pub tried_end : (p : Rr → Bool) (keys : List Rr) (i : ℕ) (m : BTreeMap ℕ �
 tried_end p keys i m h t = sym t.searched ∙ ap (λ rest. find p (first_two (readable (take i keys)) (readable rest))) (drop_all i keys h) ∙ none_left p (readable (take i keys))
 
 count_push : (p : Rr → Bool) (rs : List Rr) (key : Rr) → count_by p (rs ++ key ∷ []) ≡ count_by p rs + cond (p key) 1 0
-count_push p rs key = sum_by-append (λ r. cond (p r) 1 0) rs (key ∷ []) ∙ ap (λ n. count_by p rs + n) (add-zero (cond (p key) 1 0))
+count_push p rs key = sum_by-append (λ r. cond (p r) 1 0) rs (key ∷ []) ∙ ap (λ n. count_by p rs + n) (zero-add (cond (p key) 1 0))
 
 same_number : (a b : ℕ) → (a == b) ≡ true → a ≡ b
 same_number a b h = grind (arith, nat_tests)
@@ -125,7 +125,7 @@ count_step keys i m key r false h is can t =
 count_step keys i m key r true h is can t =
     let more : readable (take (i + 1) keys) ≡ readable (take i keys) ++ key ∷ [] = readable_more keys i key h is ∙ ap (λ b. readable (take i keys) ++ cond b (key ∷ []) []) (sym can) in
     tag_case (same_tag r key) (count_in m (key_tag_of key.rdata)) (count_in m (key_tag_of r.rdata)) (count_by (same_tag r) (readable (take i keys))) t
-      (λ same. ap (count_in m) (sym (same_number (key_tag_of r.rdata) (key_tag_of key.rdata) same)))
+    (λ same. ap (count_in m) (sym (same_number (key_tag_of r.rdata) (key_tag_of key.rdata) same)))
     ∙ ap (min 2) (sym (count_push (same_tag r) (readable (take i keys)) key))
     ∙ ap (λ rs. min 2 (count_by (same_tag r) rs)) (sym more)
 
@@ -149,7 +149,7 @@ pub tried_fail : (p : Rr → Bool) (keys : List Rr) (i : ℕ) (m n : BTreeMap �
 tried_fail p keys i m n key h is t after can bad = record {
   counted = count_more p keys i m n key h is t after;
   searched = sym (ap (find p) (left_by p keys i m key h is t) ∙ ap (λ b. find p (cond b (key ∷ left_after keys (i + 1)) (left_after keys (i + 1)))) can
-    ∙ ap (λ b. cond b (Some key) (find p (left_after keys (i + 1)))) bad) ∙ t.searched;
+      ∙ ap (λ b. cond b (Some key) (find p (left_after keys (i + 1)))) bad) ∙ t.searched;
 }
 
 any_case : (can : Bool) (key : Rr) (keys : List Rr)

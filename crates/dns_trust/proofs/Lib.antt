@@ -1,3 +1,6 @@
 pub mod ChainOf
 pub mod Searching
 pub mod Counts
+pub mod Found
+pub mod Alike
+pub mod Within

@@ -2,4 +2,5 @@ pub mod Verdicts
 pub mod Counting
 pub mod Finding
 pub mod Listing
+pub mod Anchoring
 pub mod Trusting

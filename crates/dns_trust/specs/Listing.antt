@@ -1,6 +1,6 @@
 -- What a list of accepted signatures supports and accepts.
-use Rattle.std.specs.Prelude.{ℕ, ◌≡◌, ◌<◌, Bool, true, false, not, ◌==◌, ◌&&◌, ◌||◌, List, [], ◌∷◌, ◌++◌, if◌then◌else◌}
-use Rattle.std.specs.List.{list_any}
+use Rattle.std.specs.Prelude.{ℕ, ◌≡◌, Bool, true, false, not, ◌==◌, ◌&&◌, ◌||◌, List, [], ◌∷◌, ◌++◌, if◌then◌else◌}
+use Rattle.std.specs.List.{list_all, list_any}
 use Rattle.dns_model.specs.Keys.{Answers, bytes_eq}
 use Rattle.dns_trust.specs.Finding.{mixed}
 
@@ -21,6 +21,10 @@ is_entry algorithm key bytes signature entry =
 
 abbrev pub is_listed : ListedText → ℕ → Bool
 is_listed listed algorithm = list_any (λ a. algorithm == a) listed.algorithms
+
+-- an entry of another list is listed
+abbrev pub holds_entry : ListedText → AcceptedText → Bool
+holds_entry listed entry = list_any (is_entry entry.algorithm entry.key entry.bytes entry.signature) listed.accepted
 
 -- what is listed is supported and accepted, but never algorithm 1 (RFC 8624, 3.1)
 abbrev pub answers_of : ListedText → Answers
@@ -47,8 +51,13 @@ number_of algorithm key bytes signature = mixed (mixed (mixed algorithm key) byt
 abbrev pub entry_number : AcceptedText → ℕ
 entry_number entry = number_of entry.algorithm entry.key entry.bytes entry.signature
 
--- what one supports and accepts, so does the other; an algorithm is a byte
-pub record Within (a b : Answers) : Type 0 where
-  pub supports : (algorithm : ℕ) → algorithm < 256 → a.supports algorithm ≡ true → b.supports algorithm ≡ true
-  pub accepts : (algorithm : ℕ) (key bytes signature : List ℕ) → algorithm < 256
-      → a.accepts algorithm key bytes signature ≡ true → b.accepts algorithm key bytes signature ≡ true
+-- all that one list holds, the other holds, algorithm 1 aside
+abbrev pub is_within : ListedText → ListedText → Bool
+is_within one other =
+    list_all (λ a. (a == 1) || is_listed other a) one.algorithms
+    && list_all (λ e. (e.algorithm == 1) || holds_entry other e) one.accepted
+
+-- both support and accept the same
+pub record SameAnswers (a b : Answers) : Type 0 where
+  pub supports : (algorithm : ℕ) → a.supports algorithm ≡ b.supports algorithm
+  pub accepts : (algorithm : ℕ) (key bytes signature : List ℕ) → a.accepts algorithm key bytes signature ≡ b.accepts algorithm key bytes signature

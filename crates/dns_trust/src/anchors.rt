@@ -1,9 +1,13 @@
-ghost use Rattle.std.specs.Prelude.{◌≡◌, [], not, IfOk, OnOk, OnErr};
-ghost use Rattle.dns_model.specs.Keys.{holds_anchor};
-ghost use Rattle.dns_trust.specs.Trusting.{with_anchor};
+ghost use Rattle.std.specs.Prelude.{◌≡◌, ◌↔◌, [], not, length, IsTrue, IfOk, OnOk, OnErr};
+ghost use Rattle.std.specs.List.{list_any};
+ghost use Rattle.dns_model.specs.Keys.{holds_anchor, is_anchor as is_anchor_of};
+ghost use Rattle.dns_trust.specs.Finding.{passes_at};
+ghost use Rattle.dns_trust.specs.Anchoring.{Holds, anchor_number, with_anchor};
 
+use crate::finding::{Places, add_place, mix, mix_lowered, places_of};
 use dns_name::{Name, NoMemory, Octets};
 use std::alloc::Global;
+use std::collections::BTreeMap;
 use std::marker::Model;
 
 /// A key that is trusted without a signature (RFC 4035, 4.4).
@@ -26,15 +30,20 @@ impl Model for Anchor {
 #[derive(Drop)]
 pub struct TrustAnchors {
     anchors: Vec<Anchor>,
+    places: Places,
 }
 
 impl Model for TrustAnchors {
     ghost use Rattle.std.specs.Prelude.{List};
     ghost use Rattle.dns_model.specs.Keys.{Anchor as Trusted};
+    ghost use Rattle.dns_trust.specs.Anchoring.{number_of_anchor};
+    ghost use Rattle.dns_trust.specs.Finding.{Covers};
 
     ghost Value = { List Trusted };
 
     ghost view = { λ a. a.anchors.items };
+
+    ghost invariant = { λ a. Covers number_of_anchor a.places a.anchors.items };
 }
 
 impl TrustAnchors {
@@ -44,23 +53,27 @@ impl TrustAnchors {
     {
         TrustAnchors {
             anchors: Vec::new(alloc),
+            places: BTreeMap::new(alloc),
         }
     }
 
-    /// Trusts a key from now on, and answers whether it was not trusted before. For want of memory all stays as it was.
+    /// Trusts a key from now on; whether it wasn't trusted before. For want of memory all stays as it was.
     pub fn insert_with_name(
         &mut self,
         owner: Name,
         algorithm: u8,
         key: Octets,
     ) -> Result<bool, NoMemory>
+        ensures new { IfOk result (λ b. b ≡ not (holds_anchor self.old owner algorithm key)) }
         ensures ok { OnOk result (self.new ≡ with_anchor self.old (record { owner = owner; algorithm = algorithm; key = key })) }
-        ensures added { IfOk result (λ b. b ≡ not (holds_anchor self.old owner algorithm key)) }
         ensures err { OnErr result (self.new ≡ self.old) }
     {
         if self.contains_with_name(&owner, algorithm, key.as_slice()) {
             return Ok(false);
         }
+        let alloc = *self.anchors.allocator();
+        let number = number_of(&owner, algorithm, key.as_slice());
+        add_place(alloc, &mut self.places, number, self.anchors.len())?;
         self.anchors.push(Anchor {
             owner,
             algorithm,
@@ -73,8 +86,52 @@ impl TrustAnchors {
     pub fn contains_with_name(&self, owner: &Name, algorithm: u8, key: &[u8]) -> bool
         ensures { result ≡ holds_anchor self.now owner.now algorithm key.now }
     {
-        self.anchors.iter().any(|anchor| {
-            *owner == anchor.owner && algorithm == anchor.algorithm && key == anchor.key.as_slice()
-        })
+        let places = places_of(&self.places, number_of(owner, algorithm, key));
+        is_at(&self.anchors, places, owner, algorithm, key)
     }
+
+    /// How many keys are trusted.
+    pub fn len(&self) -> usize
+        ensures { result ≡ length self.now }
+    {
+        self.anchors.len()
+    }
+
+    /// Whether no key is trusted.
+    pub fn is_empty(&self) -> bool
+        ensures { IsTrue result ↔ (self.now ≡ []) }
+    {
+        self.anchors.is_empty()
+    }
+}
+
+// The anchor at one of some places is this key.
+fn is_at(anchors: &[Anchor], places: &[usize], owner: &Name, algorithm: u8, key: &[u8]) -> bool
+    ensures { result ≡ list_any (passes_at (is_anchor_of owner.now algorithm key.now) anchors.now) places.now }
+{
+    places.iter().any(|place| is_anchor_at(anchors, *place, owner, algorithm, key))
+}
+
+// The anchor at a place is this key.
+fn is_anchor_at(anchors: &[Anchor], place: usize, owner: &Name, algorithm: u8, key: &[u8]) -> bool
+    ensures { result ≡ passes_at (is_anchor_of owner.now algorithm key.now) anchors.now place }
+{
+    match anchors.get(place) {
+        Some(anchor) => is_anchor(anchor, owner, algorithm, key),
+        None => false,
+    }
+}
+
+// The anchor is this key.
+fn is_anchor(anchor: &Anchor, owner: &Name, algorithm: u8, key: &[u8]) -> bool
+    ensures { result ≡ is_anchor_of owner.now algorithm key.now anchor.now }
+{
+    *owner == anchor.owner && algorithm == anchor.algorithm && key == anchor.key.as_slice()
+}
+
+// The number by which an anchor is found.
+fn number_of(owner: &Name, algorithm: u8, key: &[u8]) -> u64
+    ensures { result ≡ anchor_number owner.now algorithm key.now }
+{
+    mix_lowered(mix(u64::from(algorithm), key), owner.wire())
 }

@@ -10,6 +10,7 @@ use std::collections::BTreeMap;
 pub(crate) type Places = BTreeMap<u64, Vec<usize>>;
 
 // A number mixed with bytes.
+#[tactic(auto, unfolding(crate::specs::Finding::mixed))]
 pub(crate) fn mix(seed: u64, bytes: &[u8]) -> u64
     ensures { result ≡ mixed seed bytes.now }
 {
@@ -21,6 +22,7 @@ pub(crate) fn mix(seed: u64, bytes: &[u8]) -> u64
 }
 
 // A number mixed with bytes, A to Z as a to z.
+#[tactic(auto, unfolding(crate::specs::Finding::mixed))]
 pub(crate) fn mix_lowered(seed: u64, bytes: &[u8]) -> u64
     ensures { result ≡ mixed seed (map to_ascii_lowercase bytes.now) }
 {
@@ -36,6 +38,17 @@ fn mix_once(seed: u64, byte: u8) -> u64
 {
     seed.wrapping_mul(1_099_511_628_211)
         .wrapping_add(u64::from(byte))
+}
+
+// The places that are kept for a number.
+#[tactic(auto, unfolding(crate::specs::Finding::places_at))]
+pub(crate) fn places_of(places: &Places, number: u64) -> &[usize]
+    ensures { result.now ≡ places_at places.now number }
+{
+    match places.get(&number) {
+        Some(there) => there.as_slice(),
+        None => &[],
+    }
 }
 
 // Adds a place to those of a number. For want of memory all stay as they were.

@@ -32,10 +32,8 @@ pub(crate) fn first_signed<'a, V: Verifier>(
     now: u64,
     set: &'a RecordSet,
 ) -> Result<Option<SignedBy<'a>>, NoMemory>
-    ensures {
-        IfOk result (λ s. option_map signed_text s ≡
-            first_signed_of (judge (V.answers verifier.now) anchors.now now) set.now 0 (take most_signatures set.now.signatures))
-    }
+    ensures { IfOk result (λ s. option_map signed_text s ≡
+        first_signed_of (judge (V.answers verifier.now) anchors.now now) set.now 0 (take most_signatures set.now.signatures)) }
 {
     let signatures = first_signatures(set);
     for (place, signature) in signatures.iter().enumerate() {

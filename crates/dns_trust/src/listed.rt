@@ -1,10 +1,10 @@
-ghost use Rattle.std.specs.Prelude.{◌≡◌, ◌↔◌, ◌==◌, [], IsTrue, IfOk, OnOk, OnErr};
-ghost use Rattle.std.specs.List.{list_any};
+ghost use Rattle.std.specs.Prelude.{◌≡◌, ◌↔◌, ◌==◌, ◌&&◌, ◌||◌, [], IsTrue, IfOk, OnOk, OnErr};
+ghost use Rattle.std.specs.List.{list_all, list_any};
 ghost use Rattle.dns_net.specs.Verifiers.{AnswerAlike};
 ghost use Rattle.dns_trust.specs.Finding.{passes_at};
-ghost use Rattle.dns_trust.specs.Listing.{Within, answers_of, is_entry as is_entry_of, number_of as number_in, with_accepted, with_algorithm};
+ghost use Rattle.dns_trust.specs.Listing.{SameAnswers, answers_of, holds_entry as holds_entry_in, is_entry as is_entry_of, is_listed, is_within as is_within_of, number_of as number_in, with_accepted, with_algorithm};
 
-use crate::finding::{Places, add_place, mix};
+use crate::finding::{Places, add_place, mix, places_of};
 use dns_name::{NoMemory, Octets};
 use dns_net::Verifier;
 use std::alloc::Global;
@@ -101,7 +101,7 @@ impl Verifier for Listed {
     ghost answers = { answers_of };
 
     fn supports(&self, algorithm: u8) -> bool {
-        algorithm != 1 && has_algorithm(&self.algorithms, algorithm)
+        algorithm != 1 && self.lists(algorithm)
     }
 
     fn accepts(&self, algorithm: u8, key: &[u8], bytes: &[u8], signature: &[u8]) -> bool {
@@ -110,9 +110,10 @@ impl Verifier for Listed {
 
     /// Both hold the same, in whatever order and however often.
     fn same(&self, other: &Listed) -> bool
-        ensures { IsTrue result ↔ AnswerAlike (answers_of self.now) (answers_of other.now) }
+        ensures alike { IsTrue result → AnswerAlike (answers_of self.now) (answers_of other.now) }
+        ensures exact { IsTrue result ↔ SameAnswers (answers_of self.now) (answers_of other.now) }
     {
-        self.is_within(other) && other.is_within(self)
+        holds_same(self, other)
     }
 }
 
@@ -121,34 +122,27 @@ impl Listed {
     fn holds(&self, algorithm: u8, key: &[u8], bytes: &[u8], signature: &[u8]) -> bool
         ensures { result ≡ list_any (is_entry_of algorithm key.now bytes.now signature.now) self.now.accepted }
     {
-        match self.places.get(&number_of(algorithm, key, bytes, signature)) {
-            Some(places) => places
-                .iter()
-                .any(|place| is_entry_at(&self.accepted, *place, algorithm, key, bytes, signature)),
-            None => false,
-        }
+        let places = places_of(&self.places, number_of(algorithm, key, bytes, signature));
+        is_at(&self.accepted, places, algorithm, key, bytes, signature)
     }
 
     // The other supports and accepts what this does.
     fn is_within(&self, other: &Listed) -> bool
-        ensures { IsTrue result ↔ Within (answers_of self.now) (answers_of other.now) }
+        ensures { result ≡ is_within_of self.now other.now }
     {
-        for algorithm in &self.algorithms {
-            if *algorithm != 1 && !other.supports(*algorithm) {
-                return false;
-            }
-        }
-        for entry in &self.accepted {
-            if entry.algorithm != 1 && !other.holds_entry(entry) {
-                return false;
-            }
-        }
-        true
+        supports_all(other, &self.algorithms) && accepts_all(other, &self.accepted)
+    }
+
+    // An algorithm is listed.
+    fn lists(&self, algorithm: u8) -> bool
+        ensures { result ≡ is_listed self.now algorithm }
+    {
+        has_algorithm(&self.algorithms, algorithm)
     }
 
     // An entry is listed.
     fn holds_entry(&self, entry: &Accepted) -> bool
-        ensures { result ≡ list_any (is_entry_of entry.now.algorithm entry.now.key entry.now.bytes entry.now.signature) self.now.accepted }
+        ensures { result ≡ holds_entry_in self.now entry.now }
     {
         self.holds(
             entry.algorithm,
@@ -159,11 +153,50 @@ impl Listed {
     }
 }
 
+// Each holds what the other holds.
+fn holds_same(one: &Listed, other: &Listed) -> bool
+    ensures { result ≡ (is_within_of one.now other.now && is_within_of other.now one.now) }
+{
+    one.is_within(other) && other.is_within(one)
+}
+
+// All these algorithms but 1 are supported.
+fn supports_all(listed: &Listed, algorithms: &[u8]) -> bool
+    ensures { result ≡ list_all (λ a. (a == 1) || is_listed listed.now a) algorithms.now }
+{
+    algorithms
+        .iter()
+        .all(|algorithm| *algorithm == 1 || listed.lists(*algorithm))
+}
+
+// All these signatures are accepted, but those of algorithm 1.
+fn accepts_all(listed: &Listed, entries: &[Accepted]) -> bool
+    ensures { result ≡ list_all (λ e. (e.algorithm == 1) || holds_entry_in listed.now e) entries.now }
+{
+    entries
+        .iter()
+        .all(|entry| entry.algorithm == 1 || listed.holds_entry(entry))
+}
+
 // An algorithm is listed.
 fn has_algorithm(algorithms: &[u8], algorithm: u8) -> bool
     ensures { result ≡ list_any (λ a. algorithm == a) algorithms.now }
 {
     algorithms.iter().any(|listed| algorithm == *listed)
+}
+
+// The entry at one of some places is this signature.
+fn is_at(
+    accepted: &[Accepted],
+    places: &[usize],
+    algorithm: u8,
+    key: &[u8],
+    bytes: &[u8],
+    signature: &[u8],
+) -> bool
+    ensures { result ≡ list_any (passes_at (is_entry_of algorithm key.now bytes.now signature.now) accepted.now) places.now }
+{
+    places.iter().any(|place| is_entry_at(accepted, *place, algorithm, key, bytes, signature))
 }
 
 // The entry at a place is this signature.

@@ -62,10 +62,8 @@ pub fn verdict_of<V: Verifier>(
     sig: &Record,
     answer: &Option<Vec<JudgedSet>>,
 ) -> Result<Verdict, NoMemory>
-    ensures {
-        IfOk result (λ v. verdict_text v ≡
-            verdict_in (judge (V.answers verifier.now) anchors.now now) set.now sig.now (listed answer.now))
-    }
+    ensures { IfOk result (λ v. verdict_text v ≡
+        verdict_in (judge (V.answers verifier.now) anchors.now now) set.now sig.now (listed answer.now)) }
 {
     let Some(sets) = answer else {
         return Ok(Verdict::Failed);
@@ -97,7 +95,16 @@ fn by_key_set<V: Verifier>(
     match keys.mark {
         Proof::Secure => {
             let records = keys.set.records.as_slice();
-            by_secure_keys(alloc, verifier, anchors, now, set, sig, &keys.chain, records)
+            by_secure_keys(
+                alloc,
+                verifier,
+                anchors,
+                now,
+                set,
+                sig,
+                &keys.chain,
+                records,
+            )
         }
         Proof::Insecure => Ok(by_insecure_keys(&keys.set.records)),
         Proof::Bogus => Ok(Verdict::Failed),
@@ -140,7 +147,11 @@ fn by_insecure_keys(keys: &[Record]) -> Verdict
 }
 
 // The first key set of a zone in the answer section.
-fn key_set_of<'a>(class: DNSClass, signer: &NameRef<'_>, sets: &'a [JudgedSet]) -> Option<&'a JudgedSet>
+fn key_set_of<'a>(
+    class: DNSClass,
+    signer: &NameRef<'_>,
+    sets: &'a [JudgedSet],
+) -> Option<&'a JudgedSet>
     ensures { option_copied result ≡ find (is_key_set_of class.0 signer.now) sets.now }
 {
     sets.iter().find(|judged| is_keys(class, signer, judged))

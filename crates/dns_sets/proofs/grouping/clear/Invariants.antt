@@ -2,5 +2,5 @@ use Rattle.std.proofs.Common.{◌≡◌, ◌++◌, map, take, drop}
 use Rattle.dns_judgement.specs.Marking.{cleared}
 use Rattle.dns_sets.proofs.grouping.clear.Given as goal
 
-abbrev pub invariant-loop-record : goal.invariant-loop-record
-invariant-loop-record l = l.records ≡ map cleared (take l.record-index l.initial.records) ++ drop l.record-index l.initial.records
+abbrev pub invariant-loop-next : goal.invariant-loop-next
+invariant-loop-next l = l.records ≡ map cleared (take l.next-index l.initial.records) ++ drop l.next-index l.initial.records

@@ -20,4 +20,4 @@ returns-in-Some c =
 
 pub returns-in-None : goal.returns-in-None
 returns-in-None c =
-    marked_none c.args.places.now c.args.now c.args.section c.args.sets.now c.args.next.now c.clear_one.new.record c.requires c.in-None.ensures c.clear_one.ensures
+    marked_none c.args.places.now c.args.now c.args.section c.args.sets.now c.args.next.now c.clear_one.new.next c.requires c.in-None.ensures c.clear_one.ensures

@@ -11,19 +11,19 @@ loop-key-init g c = none_tried _ _ _ c.new-counts.ensures.empty
 pub loop-key-preserved-then-not-branch : goal.loop-key-preserved-then-not-branch
 loop-key-preserved-then-not-branch g c =
     tried_skip _ _ _ _ _ c.key-item.result c.loop-key-test.true c.key-item.is c.loop-key.invariant c.in_ok-is_tried.ensures.counted
-      (sym c.in_ok-is_tried.ensures.tried ∙ c.if-not-branch.true)
+    (sym c.in_ok-is_tried.ensures.tried ∙ c.if-not-branch.true)
 
 pub returns-then-branch : goal.returns-then-branch
 returns-then-branch g c =
     sym (tried_here _ _ _ _ c.key-item.result c.loop-key-test.true c.key-item.is c.loop-key.invariant
-      (sym c.in_ok-is_tried.ensures.tried ∙ c.if-not-branch.false)
-      (sym (c.in_ok-is_good_by.ensures c.args.anchors.now) ∙ c.if-branch.true))
+    (sym c.in_ok-is_tried.ensures.tried ∙ c.if-not-branch.false)
+    (sym (c.in_ok-is_good_by.ensures c.args.anchors.now) ∙ c.if-branch.true))
 
 pub loop-key-preserved : goal.loop-key-preserved
 loop-key-preserved g c =
     tried_fail _ _ _ _ _ c.key-item.result c.loop-key-test.true c.key-item.is c.loop-key.invariant c.in_ok-is_tried.ensures.counted
-      (sym c.in_ok-is_tried.ensures.tried ∙ c.if-not-branch.false)
-      (sym (c.in_ok-is_good_by.ensures c.args.anchors.now) ∙ c.if-branch.false)
+    (sym c.in_ok-is_tried.ensures.tried ∙ c.if-not-branch.false)
+    (sym (c.in_ok-is_good_by.ensures c.args.anchors.now) ∙ c.if-branch.false)
 
 pub returns : goal.returns
 returns g c = sym (tried_end _ _ _ _ c.loop-key-test.false c.loop-key.invariant)

@@ -8,14 +8,14 @@ use Rattle.dns_trust.proofs.keys.first_signed.Goals as goal
 pub returns-in-Some : goal.returns-in-Some
 returns-in-Some g c =
     sym (signed_here (judge (g.V.Verifier.answers c.args.verifier.now) c.args.anchors.now c.args.now) c.args.set.now c.first_signatures-signatures.result.now c.loop-place.place c.index-signatures-place.result c.in-Some.key.now c.loop-place-test.true c.index-signatures-place.is
-      (sym c.in_ok-key.ensures ∙ ap option_copied c.in-Some.is))
+    (sym c.in_ok-key.ensures ∙ ap option_copied c.in-Some.is))
     ∙ c.loop-place.invariant
     ∙ ap (first_signed (judge (g.V.Verifier.answers c.args.verifier.now) c.args.anchors.now c.args.now) c.args.set.now 0) c.first_signatures-signatures.ensures.first
 
 pub loop-place-preserved : goal.loop-place-preserved
 loop-place-preserved g c =
     signed_past (judge (g.V.Verifier.answers c.args.verifier.now) c.args.anchors.now c.args.now) c.args.set.now c.first_signatures-signatures.result.now c.loop-place.place c.index-signatures-place.result c.loop-place-test.true c.index-signatures-place.is
-      (sym c.in_ok-key.ensures ∙ ap option_copied c.in_default.is)
+    (sym c.in_ok-key.ensures ∙ ap option_copied c.in_default.is)
     ∙ c.loop-place.invariant
 
 pub returns : goal.returns

@@ -1,6 +1,5 @@
-use Rattle.std.proofs.Common.{◌∙◌, sym, inr}
-use Rattle.dns_message.proofs.Writing.{too_many}
+use Rattle.dns_message.proofs.MessageWriting.{given_again}
 use Rattle.dns_message.proofs.message.Message.to_vec.Goals as goal
 
-pub returns-then-has_many : goal.returns-then-has_many
-returns-then-has_many c = inr (too_many c.args.self.now (sym c.has_many.ensures ∙ c.if-has_many.true))
+pub returns-clause-again : goal.returns-clause-again
+returns-clause-again c = given_again c.args.self.now c.encode.result c.encode.ensures

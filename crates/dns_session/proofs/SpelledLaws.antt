@@ -1,0 +1,251 @@
+-- What is read as a session is spelled so.
+use Rattle.std.proofs.Common.{◌≡◌, ℕ, ◌+◌, ◌<◌, ◌≤◌, Bool, true, false, ◌==◌, ◌||◌, List, [], ◌∷◌, ◌++◌, length, map, codes, Option, None, Some, unwrap_or, Result, Ok, Err, refl, sym, ap, subst, ◌∙◌, arith, inl, inr, append-nil, append_assoc}
+use Rattle.std.specs.List.{slice_split, onto_first, join_with_byte, flat_map, list_any}
+use Rattle.std.specs.Result.{result_unwrap_or}
+use Rattle.std.proofs.lemmas.Bool.{cases_Bool, or_parts}
+use Rattle.std.proofs.lemmas.List.Splits.{join_with_byte-slice_split}
+use Rattle.std.specs.Cmp.Lexicographic.{bytes_decides}
+use Rattle.dns_model.specs.Keys.{Anchor, bytes_eq}
+use Rattle.dns_model.specs.Records.{Question}
+use Rattle.dns_session.specs.SessionText.{SessionText, AcceptText}
+use Rattle.dns_session.specs.Places.{Place, place, pieces, start_of, one, many, many_in, before_more, next_in, is_nothing, or_bad, ◌>>=◌}
+use Rattle.dns_session.specs.Lines.{header_line, moment_line, algorithms_line, anchor_line, accept_line, query_line, reply_line, end_line, fixed}
+use Rattle.dns_session.specs.Grammar.{session_at, session_of, if_ended}
+use Rattle.dns_session.specs.Spelled.{lines_text, Unbroken, Say, Spelled}
+use Rattle.dns_session.proofs.PieceLemmas.{pieces_listed}
+
+-- ---- lines and pieces
+
+split_line : (line rest : List ℕ) → list_any (λ b. b == 10) line ≡ false → pieces 10 (line ++ 10 ∷ rest) ≡ line ∷ pieces 10 rest
+split_line [] rest whole = refl
+split_line (x ∷ line) rest whole =
+    let parts = or_parts (x == 10) (list_any (λ b. b == 10) line) whole in
+    let ih : pieces 10 (line ++ 10 ∷ rest) ≡ line ∷ pieces 10 rest = split_line line rest parts.1 in
+    rw (parts.0, ih) refl
+
+-- lines give themselves, and nothing after the last LF
+pub pieces_lines : (lines : List (List ℕ)) → Unbroken lines → pieces 10 (lines_text lines) ≡ lines ++ [] ∷ []
+pieces_lines [] whole = refl
+pieces_lines (line ∷ lines) whole =
+    let ih : pieces 10 (lines_text lines) ≡ lines ++ [] ∷ [] = pieces_lines lines whole.1 in
+    let text : lines_text (line ∷ lines) ≡ line ++ 10 ∷ lines_text lines = append_assoc line (10 ∷ []) (lines_text lines) in
+    ap (pieces 10) text ∙ split_line line (lines_text lines) whole.0 ∙ ap (λ ps. line ∷ ps) ih
+
+join_lines : (lines : List (List ℕ)) → join_with_byte 10 (lines ++ [] ∷ []) ≡ lines_text lines
+join_lines [] = refl
+join_lines (line ∷ []) = sym (append-nil (line ++ 10 ∷ []))
+join_lines (line ∷ next ∷ lines) =
+    ap (λ text. line ++ 10 ∷ text) (join_lines (next ∷ lines)) ∙ sym (append_assoc line (10 ∷ []) (lines_text (next ∷ lines)))
+
+onto_unbroken : (x : ℕ) (parts : List (List ℕ)) → (x == 10) ≡ false → Unbroken parts → Unbroken (onto_first x parts)
+onto_unbroken x [] other whole = (rw other refl, tt)
+onto_unbroken x (part ∷ parts) other whole = (rw other whole.0, whole.1)
+
+pieces_unbroken : (text : List ℕ) → Unbroken (pieces 10 text)
+pieces_unbroken [] = (refl, tt)
+pieces_unbroken (x ∷ text) =
+    elim (cases_Bool (x == 10)) [
+      | inl is ↦ rw is (refl, pieces_unbroken text)
+      | inr isnt ↦ rw isnt (onto_unbroken x (pieces 10 text) isnt (pieces_unbroken text))
+    ]
+
+front_unbroken : (lines rest : List (List ℕ)) → Unbroken (lines ++ rest) → Unbroken lines
+front_unbroken [] rest whole = tt
+front_unbroken (line ∷ lines) rest whole = (whole.0, front_unbroken lines rest whole.1)
+
+-- ---- from what is read to lines
+
+-- one line of a form was read
+record OneRead {X : Type 0} (form : List ℕ → Option X) (at : Place) (x : X) (after : Place) : Type 0 where
+  line : List ℕ
+  says : form line ≡ Some x
+  cut : at.pieces ≡ line ∷ after.pieces
+
+ok_pair : {X : Type 0} (x y : X) (p q : Place) → ◌≡◌ {A = Result (X × Place) ℕ} (Ok (x, p)) (Ok (y, q)) → ◌≡◌ {A = X × Place} (x, p) (y, q)
+ok_pair x y p q h = ap (λ r. result_unwrap_or r (x, p)) h
+
+one_by : {X : Type 0} (form : List ℕ → Option X) (number : ℕ) (line next : List ℕ) (rest : List (List ℕ)) (x : X) (after : Place)
+    → (said : Option X) → form line ≡ said → or_bad number (place (number + 1) (next ∷ rest)) said ≡ Ok (x, after)
+    → OneRead form (place number (line ∷ next ∷ rest)) x after
+one_by form number line next rest x after None e h = cc
+one_by form number line next rest x after (Some y) e h =
+    let same = ok_pair y x (place (number + 1) (next ∷ rest)) after h in
+    record { line = line; says = e ∙ ap (λ p. Some p.0) same; cut = ap (λ p. line ∷ p.1.pieces) same }
+
+one_at : {X : Type 0} (form : List ℕ → Option X) (number : ℕ) (ps : List (List ℕ)) (x : X) (after : Place)
+    → one form (place number ps) ≡ Ok (x, after) → OneRead form (place number ps) x after
+unfolding one
+one_at form number [] x after h = cc
+one_at form number (line ∷ []) x after h = cc
+one_at form number (line ∷ next ∷ rest) x after h = one_by form number line next rest x after (form line) refl h
+
+-- any number of lines of a form were read
+record ManyRead {X : Type 0} (form : List ℕ → Option X) (ps : List (List ℕ)) (xs : List X) (after : Place) : Type 0 where
+  lines : List (List ℕ)
+  say : Say form lines xs
+  cut : ps ≡ lines ++ after.pieces
+
+many_by : {X : Type 0} (form : List ℕ → Option X) (number : ℕ) (line next : List ℕ) (rest : List (List ℕ)) (said : Option X)
+    (more : List X × Place) → form line ≡ said → ManyRead form (next ∷ rest) more.0 more.1
+    → ManyRead form (line ∷ next ∷ rest) (before_more said (place number (line ∷ next ∷ rest)) more).0
+    (before_more said (place number (line ∷ next ∷ rest)) more).1
+many_by form number line next rest None more e read = record { lines = []; say = refl; cut = refl }
+many_by form number line next rest (Some x) more e read =
+    record { lines = line ∷ read.lines; say = rw (e, read.say) refl; cut = ap (λ ps. line ∷ ps) read.cut }
+
+many_at : {X : Type 0} (form : List ℕ → Option X) (number : ℕ) (ps : List (List ℕ))
+    → ManyRead form ps (many_in form number ps).0 (many_in form number ps).1
+unfolding many_in
+many_at form number [] = record { lines = []; say = refl; cut = refl }
+many_at form number (line ∷ []) = record { lines = []; say = refl; cut = refl }
+many_at form number (line ∷ next ∷ rest) =
+    many_by form number line next rest (form line) (many_in form (number + 1) (next ∷ rest)) refl (many_at form (number + 1) (next ∷ rest))
+
+record Bound {A B : Type 0} (r : Result A ℕ) (more : A → Result B ℕ) (y : B) : Type 0 where
+  value : A
+  was : r ≡ Ok value
+  gives : more value ≡ Ok y
+
+bound : {A B : Type 0} (r : Result A ℕ) (more : A → Result B ℕ) (y : B) → (r >>= more) ≡ Ok y → Bound r more y
+bound (Ok x) more y h = record { value = x; was = refl; gives = h }
+bound (Err number) more y h = cc
+
+nothing_left : (ps : List (List ℕ)) → is_nothing ps ≡ true → ps ≡ [] ∷ []
+nothing_left [] h = cc
+nothing_left ([] ∷ []) h = refl
+nothing_left ((c ∷ cs) ∷ []) h = cc
+nothing_left ([] ∷ line ∷ ps) h = cc
+nothing_left ((c ∷ cs) ∷ line ∷ ps) h = cc
+
+fixed_line : (text line : List ℕ) → fixed text line ≡ Some tt → line ≡ text
+fixed_line text line h =
+    elim (cases_Bool (bytes_eq line text)) [
+      | inl is ↦ (bytes_decides line text).0 is
+      | inr isnt ↦ let none : None ≡ Some tt = rw isnt at h in cc
+    ]
+
+-- the parts of the grammar, from a place on
+
+abbrev pub ends : SessionText → Place → Result SessionText ℕ
+ends s at = one end_line at >>= λ last. if_ended last.1 s
+
+abbrev pub asks : ℕ → List ℕ → List Anchor → List AcceptText → Place → Result SessionText ℕ
+asks moment algorithms anchors accepts at = one query_line at >>= λ query. ends
+    (record { moment = moment; algorithms = algorithms; anchors = anchors; accepts = accepts; query = query.0; replies = (many reply_line query.1).0 })
+    (many reply_line query.1).1
+
+abbrev pub trusts : ℕ → List ℕ → Place → Result SessionText ℕ
+trusts moment algorithms at =
+    asks moment algorithms (many anchor_line at).0 (many accept_line (many anchor_line at).1).0 (many accept_line (many anchor_line at).1).1
+
+abbrev pub lists : ℕ → Place → Result SessionText ℕ
+lists moment at = one algorithms_line at >>= λ algorithms. trusts moment algorithms.0 algorithms.1
+
+abbrev pub dates : Place → Result SessionText ℕ
+dates at = one moment_line at >>= λ moment. lists moment.0 moment.1
+
+abbrev pub begins : Place → Result SessionText ℕ
+begins at = one header_line at >>= λ head. dates head.1
+
+pub session_begins : (at : Place) → session_at at ≡ begins at
+unfolding session_at
+session_begins at = refl
+
+record EndRead (s t : SessionText) (at : Place) : Type 0 where
+  same : s ≡ t
+  cut : at.pieces ≡ codes "end" ∷ [] ∷ []
+
+end_by : (s t : SessionText) (at : Place) → (if_ended at s) ≡ Ok t → (s ≡ t) × (at.pieces ≡ [] ∷ [])
+end_by s t at h =
+    elim (cases_Bool (is_nothing at.pieces)) [
+      | inl is ↦ (ap (λ r. result_unwrap_or r s) (let same : ◌≡◌ {A = Result SessionText ℕ} (Ok s) (Ok t) = rw is at h in same), nothing_left at.pieces is)
+      | inr isnt ↦ let none : ◌≡◌ {A = Result SessionText ℕ} (Err at.number) (Ok t) = rw isnt at h in cc
+    ]
+
+end_read : (s t : SessionText) (at : Place) → ends s at ≡ Ok t → EndRead s t at
+end_read s t at h =
+    let b = bound (one end_line at) (λ last. if_ended last.1 s) t h in
+    let line = one_at end_line at.number at.pieces b.value.0 b.value.1 b.was in
+    let rest = end_by s t b.value.1 b.gives in
+    let word : line.line ≡ codes "end" = fixed_line (codes "end") line.line line.says in
+    record { same = rest.0; cut = line.cut ∙ ap (λ l. l ∷ b.value.1.pieces) word ∙ ap (λ ps. codes "end" ∷ ps) rest.1 }
+
+-- the lines that were read from the query on
+record AskRead (s : SessionText) (at : Place) : Type 0 where
+  query : List ℕ
+  replies : List (List ℕ)
+  cut : at.pieces ≡ query ∷ (replies ++ codes "end" ∷ [] ∷ [])
+  query_says : query_line query ≡ Some s.query
+  replies_say : Say reply_line replies s.replies
+
+-- what a session says before its query
+record Before (s : SessionText) (moment : ℕ) (algorithms : List ℕ) (anchors : List Anchor) (accepts : List AcceptText) : Type 0 where
+  moment_same : moment ≡ s.moment
+  algorithms_same : algorithms ≡ s.algorithms
+  anchors_same : anchors ≡ s.anchors
+  accepts_same : accepts ≡ s.accepts
+
+ask_read : (moment : ℕ) (algorithms : List ℕ) (anchors : List Anchor) (accepts : List AcceptText) (s : SessionText) (at : Place)
+    → asks moment algorithms anchors accepts at ≡ Ok s → AskRead s at × Before s moment algorithms anchors accepts
+ask_read moment algorithms anchors accepts s at h =
+    let made : (Question × Place) → SessionText = λ query. record { moment = moment; algorithms = algorithms; anchors = anchors; accepts = accepts; query = query.0; replies = (many reply_line query.1).0 } in
+    let b = bound (one query_line at) (λ query. ends (made query) (many reply_line query.1).1) s h in
+    let line = one_at query_line at.number at.pieces b.value.0 b.value.1 b.was in
+    let told = many_at reply_line b.value.1.number b.value.1.pieces in
+    let last = end_read (made b.value) s (many reply_line b.value.1).1 b.gives in (
+      record {
+        query = line.line;
+        replies = told.lines;
+        cut = line.cut ∙ ap (λ ps. line.line ∷ ps) (told.cut ∙ ap (λ ps. told.lines ++ ps) last.cut);
+        query_says = line.says ∙ ap (λ t. Some t.query) last.same;
+        replies_say = told.say ∙ ap (λ t. map Some t.replies) last.same;
+      },
+      record {
+        moment_same = ap (λ t. t.moment) last.same;
+        algorithms_same = ap (λ t. t.algorithms) last.same;
+        anchors_same = ap (λ t. t.anchors) last.same;
+        accepts_same = ap (λ t. t.accepts) last.same;
+      },
+    )
+
+-- what is read is spelled so
+pub session_spelled : (text : List ℕ) (s : SessionText) → session_of text ≡ Ok s → Spelled text s
+session_spelled text s h =
+    let start = start_of text in
+    let b1 = bound (one header_line start) (λ head. dates head.1) s (sym (session_begins start) ∙ h) in
+    let l1 = one_at header_line start.number start.pieces b1.value.0 b1.value.1 b1.was in
+    let b2 = bound (one moment_line b1.value.1) (λ moment. lists moment.0 moment.1) s b1.gives in
+    let l2 = one_at moment_line b1.value.1.number b1.value.1.pieces b2.value.0 b2.value.1 b2.was in
+    let b3 = bound (one algorithms_line b2.value.1) (λ algorithms. trusts b2.value.0 algorithms.0 algorithms.1) s b2.gives in
+    let l3 = one_at algorithms_line b2.value.1.number b2.value.1.pieces b3.value.0 b3.value.1 b3.was in
+    let anchors = many_at anchor_line b3.value.1.number b3.value.1.pieces in
+    let here = (many anchor_line b3.value.1).1 in
+    let accepts = many_at accept_line here.number here.pieces in
+    let asked = ask_read b2.value.0 b3.value.0 (many anchor_line b3.value.1).0 (many accept_line here).0 s (many accept_line here).1 b3.gives in
+    let head : l1.line ≡ codes "dns-session 1" = fixed_line (codes "dns-session 1") l1.line l1.says in
+    let body : List (List ℕ) = asked.0.query ∷ (asked.0.replies ++ codes "end" ∷ []) in
+    let all : List (List ℕ) = codes "dns-session 1" ∷ l2.line ∷ l3.line ∷ (anchors.lines ++ (accepts.lines ++ body)) in
+    let tail : (many accept_line here).1.pieces ≡ body ++ [] ∷ [] =
+    asked.0.cut ∙ ap (λ ps. asked.0.query ∷ ps) (sym (append_assoc asked.0.replies (codes "end" ∷ []) ([] ∷ []))) in
+    let keys : b3.value.1.pieces ≡ (anchors.lines ++ (accepts.lines ++ body)) ++ [] ∷ [] =
+    anchors.cut ∙ ap (λ ps. anchors.lines ++ ps) (accepts.cut ∙ ap (λ ps. accepts.lines ++ ps) tail ∙ sym (append_assoc accepts.lines body ([] ∷ [])))
+    ∙ sym (append_assoc anchors.lines (accepts.lines ++ body) ([] ∷ [])) in
+    let whole : pieces 10 text ≡ all ++ [] ∷ [] =
+    l1.cut ∙ ap (λ l. l ∷ b1.value.1.pieces) head ∙ ap (λ ps. codes "dns-session 1" ∷ ps) (l2.cut ∙ ap (λ ps. l2.line ∷ ps) (l3.cut ∙ ap (λ ps. l3.line ∷ ps) keys)) in
+    let lines_whole : Unbroken (all ++ [] ∷ []) = subst Unbroken whole (pieces_unbroken text) in
+    record {
+      moment = l2.line;
+      algorithms = l3.line;
+      anchors = anchors.lines;
+      accepts = accepts.lines;
+      query = asked.0.query;
+      replies = asked.0.replies;
+      spelled = sym (join_with_byte-slice_split 10 text) ∙ ap (join_with_byte 10) whole ∙ join_lines all;
+      unbroken = front_unbroken all ([] ∷ []) lines_whole;
+      moment_says = l2.says ∙ ap Some asked.1.moment_same;
+      algorithms_say = l3.says ∙ ap Some asked.1.algorithms_same;
+      anchors_say = anchors.say ∙ ap (map Some) asked.1.anchors_same;
+      accepts_say = accepts.say ∙ ap (map Some) asked.1.accepts_same;
+      query_says = asked.0.query_says;
+      replies_say = asked.0.replies_say;
+    }
