@@ -18,13 +18,13 @@ use Rattle.dns_check.specs.declared.outcome.Ending.TheVariants.{Report, Fault, B
 pub record IsReport (session : SessionText) (text : List ℕ) : Type 0 where
   pub answer : ResponseText
   pub given : Answers session (Ok answer)
-  pub text : text ≡ report_text answer
+  pub spelled : text ≡ report_text answer
 
 -- the text is the line of one error, and a lookup for the session gives that error
 pub record IsFault (session : SessionText) (text : List ℕ) : Type 0 where
   pub error : ErrorText
   pub given : Answers session (Err error)
-  pub text : text ≡ fault_text error
+  pub spelled : text ≡ fault_text error
 
 -- how a session is answered
 abbrev pub IsAnswered : SessionText → Ending → List ℕ → Type 0
@@ -48,7 +48,7 @@ pub record Fails (bytes text : List ℕ) : Type 0 where
 pub record Refuses (bytes text : List ℕ) : Type 0 where
   pub number : ℕ
   pub read : session_of bytes ≡ Err number
-  pub text : text ≡ bad_line_text number
+  pub spelled : text ≡ bad_line_text number
 
 -- what bytes come to
 abbrev pub IsOutcome : List ℕ → Ending → List ℕ → Type 0
