@@ -11,13 +11,15 @@ use Rattle.dns_outside.specs.Reading.{input_limit}
 use Rattle.dns_outside.specs.Writing.{TakesPrefix}
 use Rattle.dns_check.specs.Forms.{bad_line_text, too_long_text}
 use Rattle.dns_check.specs.Answering.{Answers}
+use Rattle.dns_check.specs.Soundness.{IsSound}
 use Rattle.dns_check.specs.declared.outcome.Ending.{Ending}
 use Rattle.dns_check.specs.declared.outcome.Ending.TheVariants.{Report, Fault, BadLine}
 
--- the text is the report of one answer, and a lookup for the session gives that answer
+-- the text is the report of one answer; a lookup for the session gives that answer, and it is sound
 pub record IsReport (session : SessionText) (text : List ℕ) : Type 0 where
   pub answer : ResponseText
   pub given : Answers session (Ok answer)
+  pub sound : IsSound session answer
   pub spelled : text ≡ report_text answer
 
 -- the text is the line of one error, and a lookup for the session gives that error
