@@ -22,7 +22,11 @@ pub struct DnssecDnsHandle<H: Drop, V: Drop> {
 
 impl<H: DnsHandle + Drop, V: Verifier + Drop> DnssecDnsHandle<H, V> {
     /// A validator that trusts these anchors and tests signatures by this verifier.
-    pub fn new(handle: H, anchors: TrustAnchors, verifier: V) -> Result<Self, NoMemory> {
+    pub fn new(handle: H, anchors: TrustAnchors, verifier: V) -> Result<Self, NoMemory>
+        ensures handle { IfOk result (λ h. h.handle ≡ handle) }
+        ensures anchors { IfOk result (λ h. h.anchors ≡ anchors) }
+        ensures verifier { IfOk result (λ h. h.verifier ≡ verifier) }
+    {
         Ok(DnssecDnsHandle {
             handle,
             anchors,

@@ -11,7 +11,7 @@ use Rattle.dns_net.specs.Errors.{Reply}
 use Rattle.dns_net.specs.Requests.{plain_options}
 use Rattle.dns_net.specs.Recording.{RecordedText, AnswersFrom}
 use Rattle.dns_trust.specs.Listing.{ListedText, AcceptedText, answers_of, with_algorithm, with_accepted}
-use Rattle.dns_trust.specs.Trusting.{with_anchor}
+use Rattle.dns_trust.specs.Anchoring.{with_anchor}
 use Rattle.dns_chain.specs.Inquiries.{depth_limit}
 use Rattle.dns_chain.specs.Looked.{IsLookup}
 use Rattle.dns_session.specs.SessionText.{AcceptText, ReplyText, SessionText}

@@ -1,3 +1,4 @@
 pub mod Forms
 pub mod Answering
+pub mod Soundness
 pub mod Outcomes

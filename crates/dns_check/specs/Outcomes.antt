@@ -11,20 +11,22 @@ use Rattle.dns_outside.specs.Reading.{input_limit}
 use Rattle.dns_outside.specs.Writing.{TakesPrefix}
 use Rattle.dns_check.specs.Forms.{bad_line_text, too_long_text}
 use Rattle.dns_check.specs.Answering.{Answers}
+use Rattle.dns_check.specs.Soundness.{IsSound}
 use Rattle.dns_check.specs.declared.outcome.Ending.{Ending}
 use Rattle.dns_check.specs.declared.outcome.Ending.TheVariants.{Report, Fault, BadLine}
 
--- the text is the report of one answer, and a lookup for the session gives that answer
+-- the text is the report of one answer; a lookup for the session gives that answer, and it is sound
 pub record IsReport (session : SessionText) (text : List ℕ) : Type 0 where
   pub answer : ResponseText
   pub given : Answers session (Ok answer)
-  pub text : text ≡ report_text answer
+  pub sound : IsSound session answer
+  pub spelled : text ≡ report_text answer
 
 -- the text is the line of one error, and a lookup for the session gives that error
 pub record IsFault (session : SessionText) (text : List ℕ) : Type 0 where
   pub error : ErrorText
   pub given : Answers session (Err error)
-  pub text : text ≡ fault_text error
+  pub spelled : text ≡ fault_text error
 
 -- how a session is answered
 abbrev pub IsAnswered : SessionText → Ending → List ℕ → Type 0
@@ -48,7 +50,7 @@ pub record Fails (bytes text : List ℕ) : Type 0 where
 pub record Refuses (bytes text : List ℕ) : Type 0 where
   pub number : ℕ
   pub read : session_of bytes ≡ Err number
-  pub text : text ≡ bad_line_text number
+  pub spelled : text ≡ bad_line_text number
 
 -- what bytes come to
 abbrev pub IsOutcome : List ℕ → Ending → List ℕ → Type 0

@@ -33,6 +33,7 @@ fn bad_line(alloc: Global, number: u64) -> Result<Vec<u8>, NoMemory>
 }
 
 /// The report of a session's lookup, or the line of its fault.
+#[tactic(auto, using(crate::proofs::SoundLemmas::report_given))]
 fn answered(alloc: Global, session: Session) -> Result<(Ending, Vec<u8>), NoMemory>
     ensures { IfOk result (λ x. IsAnswered session x.0 x.1.items) }
 {

@@ -14,19 +14,19 @@ use Rattle.dns_words.specs.OctetWords.{octets_word}
 use Rattle.dns_report.specs.Lines.{Words, line}
 use Rattle.dns_report.specs.Marks.{mark_word, section_word, denial_words}
 
--- `dns-report 1`
+-- the first line names the form and its version
 abbrev pub header_line : List ℕ
 header_line = line (codes "dns-report") (codes "1" ∷ [])
 
--- `code N`
+-- the line of the response's code
 abbrev pub code_line : ℕ → List ℕ
 code_line code = line (codes "code") (decimal code ∷ [])
 
--- `denial none`, `denial absent MARK` or `denial expanded MARK`
+-- the line of what is denied
 abbrev pub denial_line : Denial → List ℕ
 denial_line denial = line (codes "denial") (denial_words denial)
 
--- `SECTION OWNER CLASS TYPE TTL MARK RDATA`
+-- the line of a record, which begins with its section
 abbrev pub record_line : Section → Rr → List ℕ
 record_line section r =
     line (section_word section)
@@ -52,7 +52,7 @@ link_line (Signed owner class kind rdatas sig key_link key) =
     line (codes "signed")
     (printed owner ∷ class_word class ∷ type_word kind ∷ decimal key_link ∷ octets_word key ∷ octets_word sig ∷ map octets_word rdatas)
 
--- `chain SECTION COUNT`
+-- the line before a chain's links: the section of its set, and how many links follow
 abbrev pub chain_line : ChainText → List ℕ
 chain_line chain = line (codes "chain") (section_word chain.section ∷ decimal (length chain.links) ∷ [])
 
@@ -75,7 +75,7 @@ unfoldable pub report_body : ResponseText → List ℕ
 report_body answer =
     head_text answer.message.response_code answer.denial ++ records_text answer.message ++ flat_map chain_text answer.chains
 
--- `end`
+-- the last line
 abbrev pub end_line : List ℕ
 end_line = line (codes "end") []
 

@@ -3,4 +3,3 @@ pub mod Counting
 pub mod Finding
 pub mod Listing
 pub mod Anchoring
-pub mod Trusting
