@@ -41,7 +41,7 @@ told_message : (replies : List (Question × Reply)) (q : Question) (reply : Repl
     → ReplyIsTold (Some replies) (Some q) reply → heard_message reply ≡ Some m → heard_message (reply_to replies q) ≡ Some m
 told_message replies q reply m told is =
     elim told [
-      inl none ↦ (let e : None ≡ Some m = sym (ap heard_message none) ∙ is in absurd (none_some m e))
+      | inl none ↦ (let e : None ≡ Some m = sym (ap heard_message none) ∙ is in absurd (none_some m e))
       | inr same ↦ sym (ap heard_message same) ∙ is
     ]
 
@@ -49,7 +49,7 @@ told_error : (replies : List (Question × Reply)) (q : Question) (reply : Reply)
     → (e ≡ NoMemory → ⊥) → ReplyIsTold (Some replies) (Some q) reply → Unheard reply e → heard_message (reply_to replies q) ≡ None
 told_error replies q reply e not_memory told unheard =
     elim told [
-      inl none ↦ absurd (not_memory (seen_no_memory e (error_same (error_of e) seen.NoMemory (sym unheard.is ∙ none))))
+      | inl none ↦ absurd (not_memory (seen_no_memory e (error_same (error_of e) seen.NoMemory (sym unheard.is ∙ none))))
       | inr same ↦ sym (ap heard_message same) ∙ unheard.none
     ]
 

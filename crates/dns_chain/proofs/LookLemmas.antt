@@ -80,5 +80,5 @@ lookup_answered sent faults telling old mid new j now limit q m n after ps ss an
       walk = subst Way one went.walk;
       few = went.few;
       looked = Answered asked.reply answer asked.heard.from ss after asked.heard.is (subst Own asked.heard.cleared (sym own))
-        (subst Mess asked.heard.cleared (subst Group grouped (subst Count one run))) (subst Made asked.heard.cleared is);
+          (subst Mess asked.heard.cleared (subst Group grouped (subst Count one run))) (subst Made asked.heard.cleared is);
     }

@@ -51,10 +51,10 @@ pub set_done : (j : Judge) (limit : ℕ) (says : Question → Option Told → Ty
     → SetsDone j limit says q d n (first ++ p ∷ []) (done ++ s ∷ []) m
 set_done j limit says q d n k m first p done s so step = record {
   so_far = λ ps ss e walk.
-    let P : List Placed → Type 0 = λ xs. Run j limit says n (Sets q d xs ((done ++ s ∷ []) ++ ss)) e in
-    let Q : List Judged → Type 0 = λ ys. Run j limit says n (Sets q d (first ++ (p ∷ ps)) ys) e in
-    subst P (sym (append_assoc first (p ∷ []) ps))
-    (subst Q (sym (append_assoc done (s ∷ []) ss)) (so.so_far (p ∷ ps) (s ∷ ss) e (set_before j limit says q d e p ps ss step walk)))
+      let P : List Placed → Type 0 = λ xs. Run j limit says n (Sets q d xs ((done ++ s ∷ []) ++ ss)) e in
+      let Q : List Judged → Type 0 = λ ys. Run j limit says n (Sets q d (first ++ (p ∷ ps)) ys) e in
+      subst P (sym (append_assoc first (p ∷ []) ps))
+      (subst Q (sym (append_assoc done (s ∷ []) ss)) (so.so_far (p ∷ ps) (s ∷ ss) e (set_before j limit says q d e p ps ss step walk)));
 }
 
 pub sets_done : (j : Judge) (limit : ℕ) (says : Question → Option Told → Type 0) (q : Question) (d n k : ℕ) (all : List Placed) (done : List Judged)
@@ -77,10 +77,10 @@ pub signature_done : (j : Judge) (limit : ℕ) (says : Question → Option Told 
     → SignaturesDone j limit says q d n set (first ++ r ∷ []) (done ++ v ∷ []) m
 signature_done j limit says q d n k m set first r done v so step failed = record {
   so_far = λ rs vs e walk.
-    let P : List Rr → Type 0 = λ xs. Run j limit says n (Signatures q d set xs ((done ++ v ∷ []) ++ vs)) e in
-    let Q : List Verdict → Type 0 = λ ys. Run j limit says n (Signatures q d set (first ++ (r ∷ rs)) ys) e in
-    subst P (sym (append_assoc first (r ∷ []) rs))
-    (subst Q (sym (append_assoc done (v ∷ []) vs)) (so.so_far (r ∷ rs) (v ∷ vs) e (signature_before j limit says q d e set r rs vs step failed walk)))
+      let P : List Rr → Type 0 = λ xs. Run j limit says n (Signatures q d set xs ((done ++ v ∷ []) ++ vs)) e in
+      let Q : List Verdict → Type 0 = λ ys. Run j limit says n (Signatures q d set (first ++ (r ∷ rs)) ys) e in
+      subst P (sym (append_assoc first (r ∷ []) rs))
+      (subst Q (sym (append_assoc done (v ∷ []) vs)) (so.so_far (r ∷ rs) (v ∷ vs) e (signature_before j limit says q d e set r rs vs step failed walk)));
 }
 
 pub signatures_done : (j : Judge) (limit : ℕ) (says : Question → Option Told → Type 0) (q : Question) (d n k : ℕ) (set : RrSet) (all : List Rr) (done : List Verdict)

@@ -7,18 +7,18 @@ use Rattle.dns_net.specs.declared.request.DnsRequestOptions.{DnsRequestOptions}
 -- the options of a judged ask: those of the call, with EDNS and DO
 abbrev pub asking_options : DnsRequestOptions → DnsRequestOptions
 asking_options options = record options {
-    use_edns = true;
-    edns_payload_len = if options.use_edns then options.edns_payload_len else 1232;
-    edns_set_dnssec_ok = true
-  }
+  use_edns = true;
+  edns_payload_len = if options.use_edns then options.edns_payload_len else 1232;
+  edns_set_dnssec_ok = true;
+}
 
 -- the request of a judged ask: that of its query, with AD set and CD clear
 abbrev pub asking_request : Question → DnsRequestOptions → RequestText
 asking_request query options = record {
-    message = record (query_message query (asking_options options)) { authentic_data = true };
-    options = asking_options options;
-    original = None
-  }
+  message = record (query_message query (asking_options options)) { authentic_data = true };
+  options = asking_options options;
+  original = None;
+}
 
 -- how deep nested asks go
 abbrev pub depth_limit : DnsRequestOptions → ℕ

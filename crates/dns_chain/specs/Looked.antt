@@ -35,13 +35,13 @@ pub data Looked (j : Judge) (now limit : ℕ) (says : Question → Option Told �
   PassedOn : (e : ErrorText) → heard_message (Err e) ≡ None → Looked j now limit says q (Err e) (Err e) 1
   -- a record of another class is named
   NamesForeign : (reply answer : Reply) (m : MessageText) (r : Rr)
-    → heard_message reply ≡ Some m → foreign_record q (told_by (cleared_message m)) ≡ Some r
-    → answer ≡ Err (seen.ForeignClassRecord r.owner r.class r.kind) → Looked j now limit says q reply answer 1
+      → heard_message reply ≡ Some m → foreign_record q (told_by (cleared_message m)) ≡ Some r
+      → answer ≡ Err (seen.ForeignClassRecord r.owner r.class r.kind) → Looked j now limit says q reply answer 1
   -- the sets of the message are judged, and make the answer
   Answered : (reply answer : Reply) (m : MessageText) (sets : List Judged) (n : ℕ)
-    → heard_message reply ≡ Some m → foreign_record q (told_by (cleared_message m)) ≡ None
-    → Run j limit says 1 (Sets q 0 (placed_sets (told_by (cleared_message m))) sets) n
-    → answer ≡ judged_answer now q (cleared_message m) sets → Looked j now limit says q reply answer n
+      → heard_message reply ≡ Some m → foreign_record q (told_by (cleared_message m)) ≡ None
+      → Run j limit says 1 (Sets q 0 (placed_sets (told_by (cleared_message m))) sets) n
+      → answer ≡ judged_answer now q (cleared_message m) sets → Looked j now limit says q reply answer n
 
 -- the message of a reply, without its marks
 pub record Heard (reply : Reply) (message : MessageText) : Type 0 where
@@ -65,7 +65,7 @@ UnlessNoMemory (Err e) Fact = (e ≡ NoMemory) ⊎ Fact
 
 -- one send of a query, its reply, and what was heard of it
 pub record Asked {H : Type 0} (sent : H → Option Question → H → Reply → Type 0) (old new : H)
-  (tells : Option (List (Question × Reply))) (q : Question) (result : Result MessageText NetError) : Type 0 where
+    (tells : Option (List (Question × Reply))) (q : Question) (result : Result MessageText NetError) : Type 0 where
   pub reply : Reply
   pub step : sent old (Some q) new reply
   pub told : ReplyIsTold tells (Some q) reply
@@ -73,7 +73,7 @@ pub record Asked {H : Type 0} (sent : H → Option Question → H → Reply → 
 
 -- a whole lookup: the first send, the walk of the asks after it, and why it answers as it does
 pub record IsLookup {H : Type 0} (sent : H → Option Question → H → Reply → Type 0) (old new : H)
-  (tells : Option (List (Question × Reply))) (j : Judge) (now limit : ℕ) (q : Question) (answer : Reply) : Type 0 where
+    (tells : Option (List (Question × Reply))) (j : Judge) (now limit : ℕ) (q : Question) (answer : Reply) : Type 0 where
   pub middle : H
   pub reply : Reply
   pub sends : ℕ

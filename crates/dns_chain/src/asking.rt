@@ -6,7 +6,7 @@ ghost use Rattle.dns_judgement.specs.Run.{most_sends};
 ghost use Rattle.dns_chain.specs.Steps.{Went};
 ghost use Rattle.dns_chain.specs.Looked.{HeardAs, UnlessNoMemory, Asked};
 
-use crate::inquiry::{asking_request_of, Inquiry, MOST_SENDS};
+use crate::inquiry::{Inquiry, MOST_SENDS, asking_request_of};
 use dns_message::Message;
 use dns_net::{DnsError, DnsHandle, DnsResponse, NetError};
 use dns_record::Query;
@@ -38,9 +38,15 @@ fn message_of(reply: Result<DnsResponse, NetError>) -> Result<Message, NetError>
 {
     match reply {
         Ok(response) => Ok(cleared(response)),
-        Err(NetError::Dns(DnsError::Nsec { query: _, response, proof: _ })) => {
-            Ok(cleared(Box::into_inner(response)))
-        }
+        Err(
+            NetError::Dns(
+                DnsError::Nsec {
+                    query: _,
+                    response,
+                    proof: _,
+                },
+            ),
+        ) => { Ok(cleared(Box::into_inner(response))) }
         Err(error) => Err(error),
     }
 }

@@ -4,7 +4,7 @@ ghost use Rattle.dns_net.specs.Replies.{reply_of};
 ghost use Rattle.dns_chain.specs.Inquiries.{depth_limit};
 ghost use Rattle.dns_chain.specs.Looked.{UnlessNoMemory, IsLookup, IsSoundAnswer};
 
-use crate::inquiry::{depth_limit_of, Inquiry};
+use crate::inquiry::{Inquiry, depth_limit_of};
 use crate::looking::look;
 use dns_name::NoMemory;
 use dns_net::{DnsHandle, DnsRequestOptions, DnsResponse, NetError, Verifier};
@@ -45,17 +45,22 @@ impl<H: DnsHandle + Drop, V: Verifier + Drop> DnssecDnsHandle<H, V> {
         ensures later { H.faults self.old.handle ≤ H.faults self.new.handle }
         ensures told { H.told self.new.handle ≡ H.told self.old.handle }
         ensures sound { IsSoundAnswer (judge (V.answers self.old.verifier) self.old.anchors now) now (H.told self.old.handle) query (reply_of result) }
-        ensures lookup {
-            UnlessNoMemory result (IsLookup H.sent self.old.handle self.new.handle (H.told self.old.handle)
-                (judge (V.answers self.old.verifier) self.old.anchors now) now (depth_limit options) query (reply_of result))
-        }
+        ensures lookup { UnlessNoMemory result (IsLookup H.sent self.old.handle self.new.handle (H.told self.old.handle)
+            (judge (V.answers self.old.verifier) self.old.anchors now) now (depth_limit options) query (reply_of result)) }
     {
         let inquiry = Inquiry {
             options,
             now,
             limit: depth_limit_of(&options),
         };
-        look(alloc, &self.verifier, &self.anchors, inquiry, &mut self.handle, query)
+        look(
+            alloc,
+            &self.verifier,
+            &self.anchors,
+            inquiry,
+            &mut self.handle,
+            query,
+        )
     }
 
     /// The handle that is asked.

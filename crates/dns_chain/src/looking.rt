@@ -12,7 +12,7 @@ use dns_message::Message;
 use dns_name::NoMemory;
 use dns_net::{DnsError, DnsHandle, DnsResponse, NetError, Notice, Verifier};
 use dns_record::{Denial, Query, Record};
-use dns_sets::{finished, foreign_record, outcome_of, placed_sets, JudgedSet, Outcome};
+use dns_sets::{JudgedSet, Outcome, finished, foreign_record, outcome_of, placed_sets};
 use dns_trust::TrustAnchors;
 use std::alloc::Global;
 
@@ -28,10 +28,8 @@ pub(crate) fn look<H: DnsHandle, V: Verifier>(
     requires limit { inquiry.limit ≤ 255 }
     ensures later { H.faults handle.old ≤ H.faults handle.new }
     ensures told { H.told handle.new ≡ H.told handle.old }
-    ensures lookup {
-        UnlessNoMemory result (IsLookup H.sent handle.old handle.new (H.told handle.old)
-            (judge (V.answers verifier.now) anchors.now inquiry.now) inquiry.now inquiry.limit query (reply_of result))
-    }
+    ensures lookup { UnlessNoMemory result (IsLookup H.sent handle.old handle.new (H.told handle.old)
+        (judge (V.answers verifier.now) anchors.now inquiry.now) inquiry.now inquiry.limit query (reply_of result)) }
 {
     let mut sends: u32 = 0;
     let message = match hear(alloc, inquiry, handle, &mut sends, &query) {
@@ -43,7 +41,9 @@ pub(crate) fn look<H: DnsHandle, V: Verifier>(
         None => {}
     }
     let placed = placed_sets(alloc, 0, &message)?;
-    let judged = judge_sets(alloc, verifier, anchors, inquiry, handle, &mut sends, &query, 0, placed)?;
+    let judged = judge_sets(
+        alloc, verifier, anchors, inquiry, handle, &mut sends, &query, 0, placed,
+    )?;
     answer(alloc, inquiry.now, query, message, judged)
 }
 

@@ -15,8 +15,8 @@ use dns_message::Message;
 use dns_name::NoMemory;
 use dns_net::{DnsHandle, NetError, Verifier};
 use dns_record::{Query, Record, RecordSet, RecordType};
-use dns_sets::{foreign_record, outcome_of, placed_sets, JudgedSet, Outcome, PlacedSet};
-use dns_trust::{ask_of, is_skipped, judged_by, judged_keys, verdict_of, TrustAnchors, Verdict};
+use dns_sets::{JudgedSet, Outcome, PlacedSet, foreign_record, outcome_of, placed_sets};
+use dns_trust::{TrustAnchors, Verdict, ask_of, is_skipped, judged_by, judged_keys, verdict_of};
 use std::alloc::Global;
 
 // How many signatures of a set are tried.
@@ -39,14 +39,14 @@ pub(crate) fn judge_sets<H: DnsHandle, V: Verifier>(
     requires limit { inquiry.limit ≤ 255 }
     requires shallow { depth ≤ 255 }
     ensures went { Went H.sent H.faults H.told handle.old handle.new sends.old sends.new }
-    ensures run {
-        IfOk result (λ v. (tells : Tells) → H.told handle.old ≡ tells → Run (judge (V.answers verifier.now) anchors.now inquiry.now) inquiry.limit (says_of tells)
-            sends.old (Sets query.now depth placed.items v.items) sends.new)
-    }
+    ensures run { IfOk result (λ v. (tells : Tells) → H.told handle.old ≡ tells → Run (judge (V.answers verifier.now) anchors.now inquiry.now) inquiry.limit (says_of tells)
+        sends.old (Sets query.now depth placed.items v.items) sends.new) }
 {
     let mut judged = Vec::new(alloc);
     for next in placed {
-        let one = judge_set(alloc, verifier, anchors, inquiry, handle, sends, query, depth, next)?;
+        let one = judge_set(
+            alloc, verifier, anchors, inquiry, handle, sends, query, depth, next,
+        )?;
         judged.push(one)?;
     }
     Ok(judged)
@@ -69,16 +69,24 @@ fn judge_set<H: DnsHandle, V: Verifier>(
     requires limit { inquiry.limit ≤ 255 }
     requires shallow { depth ≤ 255 }
     ensures went { Went H.sent H.faults H.told handle.old handle.new sends.old sends.new }
-    ensures step {
-        IfOk result (λ s. (tells : Tells) → H.told handle.old ≡ tells → SetStep (judge (V.answers verifier.now) anchors.now inquiry.now) inquiry.limit (says_of tells)
-            query.now depth placed sends.old s sends.new)
-    }
+    ensures step { IfOk result (λ s. (tells : Tells) → H.told handle.old ≡ tells → SetStep (judge (V.answers verifier.now) anchors.now inquiry.now) inquiry.limit (says_of tells)
+        query.now depth placed sends.old s sends.new) }
 {
     if is_key_set(&placed) {
         let judged = judged_keys(alloc, verifier, anchors, inquiry.now, placed)?;
         return Ok(judged);
     }
-    let verdicts = judge_signatures(alloc, verifier, anchors, inquiry, handle, sends, query, depth, set_of(&placed))?;
+    let verdicts = judge_signatures(
+        alloc,
+        verifier,
+        anchors,
+        inquiry,
+        handle,
+        sends,
+        query,
+        depth,
+        set_of(&placed),
+    )?;
     let judged = judged_by(placed, verdicts)?;
     Ok(judged)
 }
@@ -114,15 +122,15 @@ fn judge_signatures<H: DnsHandle, V: Verifier>(
     requires limit { inquiry.limit ≤ 255 }
     requires shallow { depth ≤ 255 }
     ensures went { Went H.sent H.faults H.told handle.old handle.new sends.old sends.new }
-    ensures run {
-        IfOk result (λ v. (tells : Tells) → H.told handle.old ≡ tells → Run (judge (V.answers verifier.now) anchors.now inquiry.now) inquiry.limit (says_of tells)
-            sends.old (Signatures query.now depth set.now (take most_signatures set.now.signatures) (map verdict_text v.items)) sends.new)
-    }
+    ensures run { IfOk result (λ v. (tells : Tells) → H.told handle.old ≡ tells → Run (judge (V.answers verifier.now) anchors.now inquiry.now) inquiry.limit (says_of tells)
+        sends.old (Signatures query.now depth set.now (take most_signatures set.now.signatures) (map verdict_text v.items)) sends.new) }
 {
     let mut verdicts = Vec::new(alloc);
     let tried = first_signatures(set);
     for sig in tried {
-        let verdict = judge_signature(alloc, verifier, anchors, inquiry, handle, sends, query, depth, set, sig)?;
+        let verdict = judge_signature(
+            alloc, verifier, anchors, inquiry, handle, sends, query, depth, set, sig,
+        )?;
         let proved = verdict.is_proved();
         verdicts.push(verdict)?;
         if proved {
@@ -158,10 +166,8 @@ fn judge_signature<H: DnsHandle, V: Verifier>(
     requires limit { inquiry.limit ≤ 255 }
     requires shallow { depth ≤ 255 }
     ensures went { Went H.sent H.faults H.told handle.old handle.new sends.old sends.new }
-    ensures step {
-        IfOk result (λ v. (tells : Tells) → H.told handle.old ≡ tells → SignatureStep (judge (V.answers verifier.now) anchors.now inquiry.now) inquiry.limit (says_of tells)
-            query.now depth set.now sig.now sends.old (verdict_text v) sends.new)
-    }
+    ensures step { IfOk result (λ v. (tells : Tells) → H.told handle.old ≡ tells → SignatureStep (judge (V.answers verifier.now) anchors.now inquiry.now) inquiry.limit (says_of tells)
+        query.now depth set.now sig.now sends.old (verdict_text v) sends.new) }
 {
     let skipped = is_skipped(query, set, sig)?;
     if skipped {
@@ -170,7 +176,16 @@ fn judge_signature<H: DnsHandle, V: Verifier>(
     let Some(question) = ask_of(alloc, set, sig)? else {
         return Ok(Verdict::Failed);
     };
-    let answer = ask(alloc, verifier, anchors, inquiry, handle, sends, &question, depth + 1)?;
+    let answer = ask(
+        alloc,
+        verifier,
+        anchors,
+        inquiry,
+        handle,
+        sends,
+        &question,
+        depth + 1,
+    )?;
     let verdict = verdict_of(alloc, verifier, anchors, inquiry.now, set, sig, &answer)?;
     Ok(verdict)
 }
@@ -191,10 +206,8 @@ fn ask<H: DnsHandle, V: Verifier>(
     requires limit { inquiry.limit ≤ 255 }
     requires shallow { depth ≤ 256 }
     ensures went { Went H.sent H.faults H.told handle.old handle.new sends.old sends.new }
-    ensures run {
-        IfOk result (λ a. (tells : Tells) → H.told handle.old ≡ tells → Run (judge (V.answers verifier.now) anchors.now inquiry.now) inquiry.limit (says_of tells)
-            sends.old (Ask query.now depth (listed a)) sends.new)
-    }
+    ensures run { IfOk result (λ a. (tells : Tells) → H.told handle.old ≡ tells → Run (judge (V.answers verifier.now) anchors.now inquiry.now) inquiry.limit (says_of tells)
+        sends.old (Ask query.now depth (listed a)) sends.new) }
 {
     if depth > inquiry.limit || *sends >= MOST_SENDS {
         return Ok(None);
@@ -212,7 +225,9 @@ fn ask<H: DnsHandle, V: Verifier>(
         return Ok(None);
     }
     let placed = placed_sets(alloc, depth, &message)?;
-    let judged = judge_sets(alloc, verifier, anchors, inquiry, handle, sends, query, depth, placed)?;
+    let judged = judge_sets(
+        alloc, verifier, anchors, inquiry, handle, sends, query, depth, placed,
+    )?;
     Ok(accepted(query, &message, judged))
 }
 

@@ -1,5 +1,5 @@
 -- The answer that a lookup gives to a session is sound.
-use Rattle.std.proofs.Common.{◌≡◌, ◌⊎◌, ℕ, List, [], map, Option, None, Some, Result, Ok, Err, sym, refl, ◌∙◌, ap}
+use Rattle.std.proofs.Common.{inl, inr, ◌≡◌, ◌⊎◌, ℕ, List, [], map, Option, None, Some, Result, Ok, Err, sym, refl, ◌∙◌, ap}
 use Rattle.dns_model.specs.declared.denial.Denial.{Denial}
 use Rattle.dns_model.specs.Records.{Question, MessageText}
 use Rattle.dns_model.specs.Chains.{Judge}
@@ -44,18 +44,18 @@ sound_looked j now limit says q (PassedOn e none) a is = cc
 sound_looked j now limit says q (NamesForeign reply answer m r heard foreign told) a is = cc
 sound_looked j now limit says q (Answered reply answer m sets n heard own walk told) a is =
     let f : IsFinished now sets (cleared_message m) a =
-        finished_of now q (cleared_message m) sets (outcome_of q (told_by (cleared_message m)) sets) a (sym told ∙ is) in
+    finished_of now q (cleared_message m) sets (outcome_of q (told_by (cleared_message m)) sets) a (sym told ∙ is) in
     let s : Sound j now (told_by m) (finished now sets (cleared_message m) f.denial) =
-        sound_of_walk j limit now says q 0 1 n m sets f.denial walk in
+    sound_of_walk j limit now says q 0 1 n m sets f.denial walk in
     record { message = m; heard = heard; sound = rw f.is at s }
 
 -- what was heard was told
 heard_told : (told : List (Question × Reply)) (q : Question) (reply : Reply) (m : MessageText)
     → ReplyIsTold (Some told) (Some q) reply → heard_message reply ≡ Some m → heard_message (reply_to told q) ≡ Some m
 heard_told told q reply m is heard = elim is [
-    | inl none ↦ absurd (none_heard (sym (ap heard_message none) ∙ heard))
-    | inr same ↦ sym (ap heard_message same) ∙ heard
-    ]
+  | inl none ↦ absurd (none_heard (sym (ap heard_message none) ∙ heard))
+  | inr same ↦ sym (ap heard_message same) ∙ heard
+]
   where
     none_heard : None ≡ Some m → ⊥
     none_heard h = cc
@@ -64,8 +64,8 @@ heard_told told q reply m is heard = elim is [
 pub sound_answer : (s : SessionText) (answer : ResponseText) → Answers s (Ok answer) → IsSound s answer
 sound_answer s answer given =
     let h : HeardSound (session_judge s) s.moment given.lookup.reply answer =
-        sound_looked (session_judge s) s.moment (depth_limit plain_options) (says_of (Some (map recorded s.replies))) s.query
-            given.lookup.looked answer refl in
+    sound_looked (session_judge s) s.moment (depth_limit plain_options) (says_of (Some (map recorded s.replies))) s.query
+    given.lookup.looked answer refl in
     record {
       message = h.message;
       told = heard_told (map recorded s.replies) s.query given.lookup.reply h.message given.lookup.told h.heard;

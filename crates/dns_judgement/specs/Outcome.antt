@@ -13,7 +13,7 @@ use Rattle.dns_model.specs.Sections.{is_signature}
 use Rattle.dns_model.specs.Answers.{Told, is_secure}
 use Rattle.dns_judgement.specs.Judged.{Judged, decider}
 
--- a record at the query name of the query's type or CNAME
+-- the record answers: it stands at the name that is asked, and is of the type or a CNAME
 abbrev pub answers_query : Question → Rr → Bool
 answers_query q r = name_eq q.owner r.owner && ((r.kind == q.kind) || (r.kind == type_cname))
 

@@ -12,8 +12,6 @@ mod notice;
 mod recorded;
 mod request;
 mod response;
-#[cfg(test)]
-mod tests;
 mod verifier;
 
 pub use error::{DnsError, NetError, ProtoError};

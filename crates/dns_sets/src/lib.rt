@@ -7,8 +7,6 @@ mod judged_set;
 mod marking;
 mod outcome;
 mod places;
-#[cfg(test)]
-mod tests;
 
 pub use grouping::{clear_marks, placed_sets};
 pub use judged_set::{JudgedSet, PlacedSet};

@@ -13,20 +13,20 @@ use Rattle.dns_chain.proofs.walk.+walk.Goals as goal
 pub ask-returns-then-depth-inquiry-clause-run : goal.ask-returns-then-depth-inquiry-clause-run
 ask-returns-then-depth-inquiry-clause-run g t c = λ tells told.
     elim c.then-depth-inquiry.branch [
-      ask-then-depth-inquiry-via-then-depth-inquiry w ↦ Refused _ _ _ (inl (omega arith))
+      | ask-then-depth-inquiry-via-then-depth-inquiry w ↦ Refused _ _ _ (inl (omega arith))
       | ask-then-depth-inquiry-via-else-depth-inquiry+then-sends-ge-MOST_SENDS w ↦ Refused _ _ _ (inr (omega arith))
     ]
 
 pub ask-returns-in-Err-clause-run : goal.ask-returns-in-Err-clause-run
 ask-returns-in-Err-clause-run g t c =
     elim c.match-error.branch [
-      ask-in-NoMemory w ↦ rw w.result-is tt
+      | ask-in-NoMemory w ↦ rw w.result-is tt
       | ask-in_default w ↦ rw w.result-is (λ tells told.
-        elim c.in-Err.ensures.asked [
-          inl memory ↦ absurd (w.in_default.not-NoMemory memory)
-          | inr asked ↦ Fault c.args.query.now c.args.depth c.args.sends.now c.hear.new.sends (omega arith) (omega arith) c.hear.ensures.count
-            (said_none g.H.DnsHandle.sent _ _ _ tells _ _ told w.in_default.not-NoMemory asked)
-        ])
+          elim c.in-Err.ensures.asked [
+            | inl memory ↦ absurd (w.in_default.not-NoMemory memory)
+            | inr asked ↦ Fault c.args.query.now c.args.depth c.args.sends.now c.hear.new.sends (omega arith) (omega arith) c.hear.ensures.count
+                (said_none g.H.DnsHandle.sent _ _ _ tells _ _ told w.in_default.not-NoMemory asked)
+          ])
     ]
 
 pub ask-returns-then-has_foreign_record-clause-run : goal.ask-returns-then-has_foreign_record-clause-run
@@ -62,19 +62,18 @@ pub judge_sets-returns-in_err-one-clause-went : goal.judge_sets-returns-in_err-o
 judge_sets-returns-in_err-one-clause-went g t c =
     then_way g.H.DnsHandle.sent g.H.DnsHandle.faults g.H.DnsHandle.told _ _ _ _ _ _ c.loop-next.invariant.2 c.judge_set.ensures.went
 
-
 pub judge_sets-loop-next-preserved : goal.judge_sets-loop-next-preserved
-judge_sets-loop-next-preserved g t c =
-    (tt, tt,
-    then_way g.H.DnsHandle.sent g.H.DnsHandle.faults g.H.DnsHandle.told _ _ _ _ _ _ c.loop-next.invariant.2 c.judge_set.ensures.went,
-    λ tells told. rw c.in_ok-push.ensures.items
-      (set_done _ _ _ _ _ _ _ _ _ _ _ _ (c.loop-next.invariant.3 tells told) (c.in_ok-one.ensures.step tells (c.loop-next.invariant.2.told ∙ told))))
-
+judge_sets-loop-next-preserved g t c = (
+  tt,
+  tt,
+  then_way g.H.DnsHandle.sent g.H.DnsHandle.faults g.H.DnsHandle.told _ _ _ _ _ _ c.loop-next.invariant.2 c.judge_set.ensures.went,
+  λ tells told. rw c.in_ok-push.ensures.items
+      (set_done _ _ _ _ _ _ _ _ _ _ _ _ (c.loop-next.invariant.3 tells told) (c.in_ok-one.ensures.step tells (c.loop-next.invariant.2.told ∙ told))),
+)
 
 pub judge_sets-returns-in_err-push-clause-went : goal.judge_sets-returns-in_err-push-clause-went
 judge_sets-returns-in_err-push-clause-went g t c =
     then_way g.H.DnsHandle.sent g.H.DnsHandle.faults g.H.DnsHandle.told _ _ _ _ _ _ c.loop-next.invariant.2 c.judge_set.ensures.went
-
 
 pub judge_sets-returns-clause-run : goal.judge_sets-returns-clause-run
 judge_sets-returns-clause-run g t c =
@@ -91,36 +90,30 @@ judge_signature-returns-clause-step g t c = λ tells told.
     AskedStep _ _ _ _ _ _ (sym c.in_ok-skipped.ensures ∙ c.if-skipped.false) (sym c.in_ok-question.ensures ∙ c.in-Some.is) refl
     (c.in_ok-answer.ensures.run tells told) c.in_ok-verdict.ensures
 
-
 pub judge_signatures-returns-in_err-verdict-clause-went : goal.judge_signatures-returns-in_err-verdict-clause-went
 judge_signatures-returns-in_err-verdict-clause-went g t c =
     then_way g.H.DnsHandle.sent g.H.DnsHandle.faults g.H.DnsHandle.told _ _ _ _ _ _ c.loop-sig.invariant.0 c.judge_signature.ensures.went
-
 
 pub judge_signatures-returns-in_err-push-clause-went : goal.judge_signatures-returns-in_err-push-clause-went
 judge_signatures-returns-in_err-push-clause-went g t c =
     then_way g.H.DnsHandle.sent g.H.DnsHandle.faults g.H.DnsHandle.told _ _ _ _ _ _ c.loop-sig.invariant.0 c.judge_signature.ensures.went
 
-
 pub judge_signatures-returns-then-proved-clause-went : goal.judge_signatures-returns-then-proved-clause-went
 judge_signatures-returns-then-proved-clause-went g t c =
     then_way g.H.DnsHandle.sent g.H.DnsHandle.faults g.H.DnsHandle.told _ _ _ _ _ _ c.loop-sig.invariant.0 c.judge_signature.ensures.went
 
-
 pub judge_signatures-returns-then-proved-clause-run : goal.judge_signatures-returns-then-proved-clause-run
 judge_signatures-returns-then-proved-clause-run g t c = λ tells told.
     rw c.in_ok-push.ensures.items (rw map-append (proved_at _ _ _ _ _ _ _ _ _ _ _ _ _ _ _ c.first_signatures-tried.ensures c.loop-sig-test.true c.sig-item.is
-      (c.loop-sig.invariant.1 tells told) (c.in_ok-verdict.ensures.step tells (c.loop-sig.invariant.0.told ∙ told)) (sym c.is_proved-proved.ensures ∙ c.if-proved.true)))
-
+    (c.loop-sig.invariant.1 tells told) (c.in_ok-verdict.ensures.step tells (c.loop-sig.invariant.0.told ∙ told)) (sym c.is_proved-proved.ensures ∙ c.if-proved.true)))
 
 pub judge_signatures-loop-sig-preserved : goal.judge_signatures-loop-sig-preserved
-judge_signatures-loop-sig-preserved g t c =
-    (then_way g.H.DnsHandle.sent g.H.DnsHandle.faults g.H.DnsHandle.told _ _ _ _ _ _ c.loop-sig.invariant.0 c.judge_signature.ensures.went,
-    λ tells told. rw c.in_ok-push.ensures.items (rw map-append (failed_at _ _ _ _ _ _ _ _ _ _ _ _ _ _ c.loop-sig-test.true c.sig-item.is
-      (c.loop-sig.invariant.1 tells told) (c.in_ok-verdict.ensures.step tells (c.loop-sig.invariant.0.told ∙ told)) (sym c.is_proved-proved.ensures ∙ c.if-proved.false))))
-
+judge_signatures-loop-sig-preserved g t c = (
+  then_way g.H.DnsHandle.sent g.H.DnsHandle.faults g.H.DnsHandle.told _ _ _ _ _ _ c.loop-sig.invariant.0 c.judge_signature.ensures.went,
+  λ tells told. rw c.in_ok-push.ensures.items (rw map-append (failed_at _ _ _ _ _ _ _ _ _ _ _ _ _ _ c.loop-sig-test.true c.sig-item.is
+      (c.loop-sig.invariant.1 tells told) (c.in_ok-verdict.ensures.step tells (c.loop-sig.invariant.0.told ∙ told)) (sym c.is_proved-proved.ensures ∙ c.if-proved.false))),
+)
 
 pub judge_signatures-returns-clause-run : goal.judge_signatures-returns-clause-run
 judge_signatures-returns-clause-run g t c = λ tells told.
     all_failed _ _ _ _ _ _ _ _ _ _ _ _ c.first_signatures-tried.ensures c.loop-sig-test.false (c.loop-sig.invariant.1 tells told)
-

@@ -27,10 +27,10 @@ invariant-judge_sets-loop-next g l =
     (goal.iterator-judge_sets-loop-next g).is_finite l.next-iterator ×
     Went g.H.DnsHandle.sent g.H.DnsHandle.faults g.H.DnsHandle.told l.initial.handle l.handle l.initial.sends l.sends ×
     ((tells : Tells) → g.H.DnsHandle.told l.initial.handle ≡ tells →
-        SetsDone (judge (g.V.Verifier.answers l.verifier) l.anchors l.inquiry.now) l.inquiry.limit (says_of tells) l.query l.depth l.initial.sends l.yielded l.judged.items l.sends)
+    SetsDone (judge (g.V.Verifier.answers l.verifier) l.anchors l.inquiry.now) l.inquiry.limit (says_of tells) l.query l.depth l.initial.sends l.yielded l.judged.items l.sends)
 
 abbrev pub invariant-judge_signatures-loop-sig : goal.invariant-judge_signatures-loop-sig
 invariant-judge_signatures-loop-sig g l =
     Went g.H.DnsHandle.sent g.H.DnsHandle.faults g.H.DnsHandle.told l.initial.handle l.handle l.initial.sends l.sends ×
     ((tells : Tells) → g.H.DnsHandle.told l.initial.handle ≡ tells →
-        SignaturesDone (judge (g.V.Verifier.answers l.verifier) l.anchors l.inquiry.now) l.inquiry.limit (says_of tells) l.query l.depth l.initial.sends l.set (take l.sig-index l.tried) (map verdict_text l.verdicts.items) l.sends)
+    SignaturesDone (judge (g.V.Verifier.answers l.verifier) l.anchors l.inquiry.now) l.inquiry.limit (says_of tells) l.query l.depth l.initial.sends l.set (take l.sig-index l.tried) (map verdict_text l.verdicts.items) l.sends)
