@@ -10,7 +10,7 @@ use Rattle.dns_judgement.specs.Outcome.{Outcome, Unjudged, Accepted, Denied, out
 use Rattle.dns_judgement.specs.Marking.{cleared_message, finished}
 use Rattle.dns_judgement.specs.Run.{Run, Sets, most_sends}
 use Rattle.dns_net.specs.Errors as seen
-use Rattle.dns_net.specs.Errors.{Reply, ErrorText}
+use Rattle.dns_net.specs.Errors.{Reply, ErrorText, DnsErrorText, Busy, Dns, Message, NoConnections, Proto, Io, Timeout, QueryCaseMismatch, ForeignClassRecord, Truncated, ResponseCode, Nsec, DnssecBogus}
 use Rattle.dns_net.specs.Walks.{Walked}
 use Rattle.dns_net.specs.declared.notice.Notice.TheVariants.{NotJudgedYet}
 use Rattle.dns_net.specs.Handles.{ReplyIsTold, reply_to}
@@ -89,7 +89,26 @@ IsSoundFor j now None q a = SoundAlone j now a
 IsSoundFor j now (Some replies) q a =
     SoundAlone j now a × IsSomeAnd (heard_message (reply_to replies q)) (λ m. Sound j now (told_by m) a)
 
--- what an Ok answer promises
+-- the response inside a denial is the query's, and sound as an Ok answer is
+abbrev pub IsSoundDns : Judge → ℕ → Tells → Question → DnsErrorText → Type 0
+IsSoundDns j now tells q (ResponseCode code) = Unit {0}
+IsSoundDns j now tells q (Nsec asked response proof) = (asked ≡ q) × IsSoundFor j now tells q response
+IsSoundDns j now tells q DnssecBogus = Unit {0}
+
+abbrev pub IsSoundError : Judge → ℕ → Tells → Question → ErrorText → Type 0
+IsSoundError j now tells q Busy = Unit {0}
+IsSoundError j now tells q (Dns error) = IsSoundDns j now tells q error
+IsSoundError j now tells q (Message notice) = Unit {0}
+IsSoundError j now tells q NoConnections = Unit {0}
+IsSoundError j now tells q (Proto error) = Unit {0}
+IsSoundError j now tells q (Io kind) = Unit {0}
+IsSoundError j now tells q Timeout = Unit {0}
+IsSoundError j now tells q QueryCaseMismatch = Unit {0}
+IsSoundError j now tells q (ForeignClassRecord owner class kind) = Unit {0}
+IsSoundError j now tells q Truncated = Unit {0}
+IsSoundError j now tells q seen.NoMemory = Unit {0}
+
+-- what an answer promises: an Ok one, and the response inside a denial
 abbrev pub IsSoundAnswer : Judge → ℕ → Tells → Question → Reply → Type 0
 IsSoundAnswer j now tells q (Ok a) = IsSoundFor j now tells q a
-IsSoundAnswer j now tells q (Err e) = Unit {0}
+IsSoundAnswer j now tells q (Err e) = IsSoundError j now tells q e

@@ -1,4 +1,4 @@
-ghost use Rattle.std.specs.Prelude.{◌≡◌, ◌≤◌, IfOk, IfErr, IfSome};
+ghost use Rattle.std.specs.Prelude.{◌≡◌, ◌≤◌, IfOk, true};
 ghost use Rattle.dns_model.specs.Chains.{judge};
 ghost use Rattle.dns_net.specs.Replies.{reply_of};
 ghost use Rattle.dns_chain.specs.Inquiries.{depth_limit};
@@ -34,7 +34,32 @@ impl<H: DnsHandle + Drop, V: Verifier + Drop> DnssecDnsHandle<H, V> {
         })
     }
 
-    /// Looks a query up at a moment, in seconds.
+    /// The same validator, by the name that says what it trusts.
+    pub fn with_trust_anchor(
+        handle: H,
+        anchors: TrustAnchors,
+        verifier: V,
+    ) -> Result<Self, NoMemory>
+        ensures handle { IfOk result (λ h. h.handle ≡ handle) }
+        ensures anchors { IfOk result (λ h. h.anchors ≡ anchors) }
+        ensures verifier { IfOk result (λ h. h.verifier ≡ verifier) }
+    {
+        DnssecDnsHandle::new(handle, anchors, verifier)
+    }
+
+    /// Its answers are validated.
+    pub fn is_verifying_dnssec(&self) -> bool
+        ensures { result ≡ true }
+    {
+        true
+    }
+
+    /// Looks a query up at a moment, in seconds: one send for the query, at most 1,024 in all, and asks for the keys of signers
+    /// down to the depth of the options and never below 255. The marks of the answer are this validator's own.
+    ///
+    /// Errors: one of the handle's own send for the query; `ForeignClassRecord` for a record of another class than the query's;
+    /// `Message("not judged yet")` where denial of existence would have to be judged; `Dns(Nsec)` where the answer is refused;
+    /// `NoMemory`.
     pub fn lookup(
         &mut self,
         alloc: Global,
