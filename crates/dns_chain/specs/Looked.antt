@@ -83,7 +83,7 @@ pub record IsLookup {H : Type 0} (sent : H → Option Question → H → Reply �
   pub few : sends ≤ most_sends
   pub looked : Looked j now limit (says_of tells) q reply answer sends
 
--- an answer is sound for the records that a known upstream tells for the query; alone, where the upstream doesn't tell
+-- what soundness says of an answer: all of it by what a known upstream replies to the question, and the part that needs no reply else
 abbrev pub IsSoundFor : Judge → ℕ → Tells → Question → ResponseText → Type 0
 IsSoundFor j now None q a = SoundAlone j now a
 IsSoundFor j now (Some replies) q a =
