@@ -44,7 +44,12 @@ fn words_of(alloc: Global, words: &[&str]) -> Result<Vec<Vec<u8>>, AllocError> {
 }
 
 // Runs `validate` over an input in memory, and compares its status and its text.
-fn gives(alloc: Global, input: Vec<u8>, status: u8, text: &[u8]) -> Result<bool, AllocError> {
+pub(crate) fn gives(
+    alloc: Global,
+    input: Vec<u8>,
+    status: u8,
+    text: &[u8],
+) -> Result<bool, AllocError> {
     let words = words_of(alloc, &["validate"])?;
     let mut source = TextSource::new(input, Vec::new(alloc));
     let mut sink = TextSink::new(alloc, Vec::new(alloc));
