@@ -1,7 +1,8 @@
 -- What an input comes to, and what a run leaves.
-use Rattle.std.specs.Prelude.{ℕ, ◌≡◌, ◌≤◌, ◌<◌, List, [], ◌∷◌, length, Option, None, Some, Result, Ok, Err}
+use Rattle.std.specs.Prelude.{ℕ, ◌≡◌, ◌≢◌, ◌≤◌, ◌<◌, List, [], ◌∷◌, length, Option, None, Some, Result, Ok, Err}
 use Rattle.std.specs.Io.KnownBytes.{Appends}
 use Rattle.dns_model.specs.Answers.{ResponseText}
+use Rattle.dns_net.specs.Errors as seen
 use Rattle.dns_net.specs.Errors.{ErrorText, Reply}
 use Rattle.dns_report.specs.Report.{report_text}
 use Rattle.dns_report.specs.Faults.{fault_text}
@@ -22,9 +23,10 @@ pub record IsReport (session : SessionText) (text : List ℕ) : Type 0 where
   pub sound : IsSound session answer
   pub spelled : text ≡ report_text answer
 
--- the text is the line of one error, and a lookup for the session gives that error
+-- the text is the line of one error, and a lookup for the session gives that error, which isn't want of memory
 pub record IsFault (session : SessionText) (text : List ℕ) : Type 0 where
   pub error : ErrorText
+  pub own : error ≢ seen.NoMemory
   pub given : Answers session (Err error)
   pub spelled : text ≡ fault_text error
 

@@ -1,5 +1,7 @@
 //! What bytes that were read come to, before anything is written.
-ghost use Rattle.std.specs.Prelude.{◌≡◌, ◌++◌, ◌<◌, ◌^◌, length, IfOk};
+ghost use Rattle.std.specs.Prelude.{◌≡◌, ◌++◌, ◌<◌, ◌^◌, ◌↔◌, length, IfOk, IsTrue};
+ghost use Rattle.dns_net.specs.Errors as seen;
+ghost use Rattle.dns_net.specs.Replies.{error_of};
 ghost use Rattle.dns_check.specs.Forms.{bad_line_text};
 ghost use Rattle.dns_check.specs.Outcomes.{IsOutcome, IsAnswered};
 
@@ -42,12 +44,21 @@ fn answered(alloc: Global, session: Session) -> Result<(Ending, Vec<u8>), NoMemo
             let text = write_report(alloc, &answer)?;
             Ok((Ending::Report, text))
         }
-        Err(NetError::NoMemory) => Err(NoMemory),
         Err(error) => {
+            if is_no_memory(&error) {
+                return Err(NoMemory);
+            }
             let text = write_fault(alloc, &error)?;
             Ok((Ending::Fault, text))
         }
     }
+}
+
+/// The error is want of memory.
+fn is_no_memory(error: &NetError) -> bool
+    ensures { IsTrue result ↔ (error_of error.now ≡ seen.NoMemory) }
+{
+    matches!(error, NetError::NoMemory)
 }
 
 /// What an input comes to, and the text of it.

@@ -122,11 +122,15 @@ pub fn run<S: Source, W: Sink>(
     ensures help { result ≡ 0 → form_in (map (λ w. w.items) words.now) ≡ Some Help → Appends (W.taken output.old) (W.taken output.new) help_text }
     ensures version { result ≡ 0 → form_in (map (λ w. w.items) words.now) ≡ Some Version → Appends (W.taken output.old) (W.taken output.new) version_text }
 
+    // The fixed texts end with 0, or at the sink.
+    ensures help_ends { form_in (map (λ w. w.items) words.now) ≡ Some Help → result ≢ 5 → result ≢ 6 → result ≡ 0 }
+    ensures version_ends { form_in (map (λ w. w.items) words.now) ≡ Some Version → result ≢ 5 → result ≢ 6 → result ≡ 0 }
+
     ensures fault { result ≡ 1 → Leaves Fails (S.left input.old) (W.taken output.old) (W.taken output.new) }
 
     // 2 is answered only for words that are no form, and such words end with 2 or at the sink.
     ensures words { result ≡ 2 → form_in (map (λ w. w.items) words.now) ≡ None }
-    ensures no_form { form_in (map (λ w. w.items) words.now) ≡ None → result < 5 → result ≡ 2 }
+    ensures no_form { form_in (map (λ w. w.items) words.now) ≡ None → result ≢ 5 → result ≢ 6 → result ≡ 2 }
     ensures bad_words { result ≡ 2 → Appends (W.taken output.old) (W.taken output.new) bad_words_text }
     ensures unread { form_in (map (λ w. w.items) words.now) ≢ Some Validate → input.new ≡ input.old }
 
