@@ -12,7 +12,7 @@ use Rattle.dns_net.specs.Errors.{Reply}
 use Rattle.dns_net.specs.Handles.{reply_to, ReplyIsTold}
 use Rattle.dns_net.specs.Replies.{error_of}
 use Rattle.dns_net.specs.declared.error.NetError.{NetError}
-use Rattle.dns_net.specs.declared.error.NetError.TheVariants.{Busy, Dns, Message, NoConnections, Proto, Io, Timeout, QueryCaseMismatch, ForeignClassRecord, Truncated, NoMemory}
+use Rattle.dns_net.specs.declared.error.NetError.TheVariants.{Busy, Dns, Message, Msg, NoConnections, Proto, Io, Timeout, QueryCaseMismatch, ForeignClassRecord, Truncated, NoMemory}
 use Rattle.dns_chain.specs.Heard.{heard_message, heard, told_of, says_of, Tells}
 use Rattle.dns_chain.specs.Looked.{Asked, Heard, Unheard}
 
@@ -21,6 +21,7 @@ pub seen_no_memory : (e : NetError) → error_of e ≡ seen.NoMemory → e ≡ N
 seen_no_memory Busy h = cc
 seen_no_memory (Dns error) h = cc
 seen_no_memory (Message notice) h = cc
+seen_no_memory (Msg text) h = cc
 seen_no_memory NoConnections h = cc
 seen_no_memory (Proto error) h = cc
 seen_no_memory (Io kind) h = cc

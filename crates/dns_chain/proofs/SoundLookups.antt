@@ -10,7 +10,7 @@ use Rattle.dns_judgement.specs.Marking.{cleared_message, finished}
 use Rattle.dns_judgement.proofs.SoundLemmas.{sound_of_walk}
 use Rattle.dns_judgement.proofs.AloneLemmas.{sound_alone_of_walk}
 use Rattle.dns_net.specs.Errors as seen
-use Rattle.dns_net.specs.Errors.{Reply, ErrorText, DnsErrorText, Busy, Dns, Message, NoConnections, Proto, Io, Timeout, QueryCaseMismatch, ForeignClassRecord, Truncated, ResponseCode, Nsec, DnssecBogus}
+use Rattle.dns_net.specs.Errors.{Reply, ErrorText, DnsErrorText, Busy, Dns, Message, Msg, NoConnections, Proto, Io, Timeout, QueryCaseMismatch, ForeignClassRecord, Truncated, ResponseCode, Nsec, DnssecBogus}
 use Rattle.dns_model.specs.Names.{Labels}
 use Rattle.dns_model.specs.declared.proof.Proof.{Proof}
 use Rattle.dns_model.specs.declared.denial.Denial.TheVariants as denied
@@ -127,6 +127,7 @@ error_told : {H : Type 0} (sent : H → Option Question → H → Reply → Type
 error_told sent old new tells j now limit q Busy l = tt
 error_told sent old new tells j now limit q (Dns error) l = dns_told sent old new tells j now limit q error l
 error_told sent old new tells j now limit q (Message notice) l = tt
+error_told sent old new tells j now limit q (Msg text) l = tt
 error_told sent old new tells j now limit q NoConnections l = tt
 error_told sent old new tells j now limit q (Proto error) l = tt
 error_told sent old new tells j now limit q (Io kind) l = tt

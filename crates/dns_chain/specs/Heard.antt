@@ -3,7 +3,7 @@ use Rattle.std.specs.Prelude.{◌≡◌, List, Option, None, Some, Result, Ok, E
 use Rattle.dns_model.specs.Records.{Question, MessageText}
 use Rattle.dns_model.specs.Answers.{Told, told_by, ResponseText}
 use Rattle.dns_judgement.specs.Marking.{cleared_message}
-use Rattle.dns_net.specs.Errors.{Reply, ErrorText, DnsErrorText, Busy, Dns, Message, NoConnections, Proto, Io, Timeout, QueryCaseMismatch, ForeignClassRecord, Truncated, NoMemory, ResponseCode, Nsec, DnssecBogus}
+use Rattle.dns_net.specs.Errors.{Reply, ErrorText, DnsErrorText, Busy, Dns, Message, Msg, NoConnections, Proto, Io, Timeout, QueryCaseMismatch, ForeignClassRecord, Truncated, NoMemory, ResponseCode, Nsec, DnssecBogus}
 use Rattle.dns_net.specs.Handles.{reply_to}
 
 abbrev pub heard_dns : DnsErrorText → Option MessageText
@@ -15,6 +15,7 @@ abbrev pub heard_error : ErrorText → Option MessageText
 heard_error Busy = None
 heard_error (Dns error) = heard_dns error
 heard_error (Message notice) = None
+heard_error (Msg text) = None
 heard_error NoConnections = None
 heard_error (Proto error) = None
 heard_error (Io kind) = None

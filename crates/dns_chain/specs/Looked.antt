@@ -10,7 +10,7 @@ use Rattle.dns_judgement.specs.Outcome.{Outcome, Unjudged, Accepted, Denied, out
 use Rattle.dns_judgement.specs.Marking.{cleared_message, finished}
 use Rattle.dns_judgement.specs.Run.{Run, Sets, most_sends}
 use Rattle.dns_net.specs.Errors as seen
-use Rattle.dns_net.specs.Errors.{Reply, ErrorText, DnsErrorText, Busy, Dns, Message, NoConnections, Proto, Io, Timeout, QueryCaseMismatch, ForeignClassRecord, Truncated, ResponseCode, Nsec, DnssecBogus}
+use Rattle.dns_net.specs.Errors.{Reply, ErrorText, DnsErrorText, Busy, Dns, Message, Msg, NoConnections, Proto, Io, Timeout, QueryCaseMismatch, ForeignClassRecord, Truncated, ResponseCode, Nsec, DnssecBogus}
 use Rattle.dns_net.specs.Walks.{Walked}
 use Rattle.dns_net.specs.declared.notice.Notice.TheVariants.{NotJudgedYet}
 use Rattle.dns_net.specs.Handles.{ReplyIsTold, reply_to}
@@ -99,6 +99,7 @@ abbrev pub IsSoundError : Judge → ℕ → Tells → Question → ErrorText →
 IsSoundError j now tells q Busy = Unit {0}
 IsSoundError j now tells q (Dns error) = IsSoundDns j now tells q error
 IsSoundError j now tells q (Message notice) = Unit {0}
+IsSoundError j now tells q (Msg text) = Unit {0}
 IsSoundError j now tells q NoConnections = Unit {0}
 IsSoundError j now tells q (Proto error) = Unit {0}
 IsSoundError j now tells q (Io kind) = Unit {0}

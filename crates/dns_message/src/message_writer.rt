@@ -216,9 +216,9 @@ impl Message {
         }
     }
 
-    /// The message as bytes, names spelled out and the OPT last (RFC 1035, 4.1; RFC 6891, 6.1). Of the opcode the lower four
-    /// bits are written, of an EDNS's flags the lower 15, of the code the lower four and, where there is an EDNS, the next
-    /// eight.
+    /// The message as bytes, names spelled out and the OPT last (RFC 1035, 4.1; RFC 6891, 6.1). A field with more bits than
+    /// its place in the message has is cut: the opcode to four, the flags beside DO to fifteen, and the response code to
+    /// twelve, eight of which stand in the OPT, so that a message without one keeps four.
     ///
     /// `TooLong` comes exactly above 65,535 bytes.
     pub fn to_vec(&self, alloc: Global) -> Result<Octets, EncodeError>

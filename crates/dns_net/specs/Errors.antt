@@ -1,5 +1,5 @@
 -- Errors and replies as contracts see them.
-use Rattle.std.specs.Prelude.{ℕ, Result}
+use Rattle.std.specs.Prelude.{ℕ, List, Result}
 use Rattle.dns_model.specs.declared.proof.Proof.{Proof}
 use Rattle.dns_model.specs.Names.{Labels}
 use Rattle.dns_model.specs.Records.{Question}
@@ -18,6 +18,7 @@ pub data ErrorText : Type 0 where
   Busy : ErrorText
   Dns : (error : DnsErrorText) → ErrorText
   Message : (notice : Notice) → ErrorText
+  Msg : (text : List ℕ) → ErrorText
   NoConnections : ErrorText
   Proto : (error : ProtoError) → ErrorText
   Io : (kind : IoKind) → ErrorText

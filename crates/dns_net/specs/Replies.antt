@@ -8,7 +8,7 @@ use Rattle.dns_net.specs.Errors.{DnsErrorText, ErrorText, Reply}
 use Rattle.dns_net.specs.declared.error.DnsError.{DnsError}
 use Rattle.dns_net.specs.declared.error.DnsError.TheVariants.{ResponseCode, Nsec, DnssecBogus}
 use Rattle.dns_net.specs.declared.error.NetError.{NetError}
-use Rattle.dns_net.specs.declared.error.NetError.TheVariants.{Busy, Dns, Message, NoConnections, Proto, Io, Timeout, QueryCaseMismatch, ForeignClassRecord, Truncated, NoMemory}
+use Rattle.dns_net.specs.declared.error.NetError.TheVariants.{Busy, Dns, Message, Msg, NoConnections, Proto, Io, Timeout, QueryCaseMismatch, ForeignClassRecord, Truncated, NoMemory}
 
 -- a code as its number, a box as its content
 abbrev pub dns_error_of : DnsError → DnsErrorText
@@ -20,6 +20,7 @@ abbrev pub error_of : NetError → ErrorText
 error_of Busy = seen.Busy
 error_of (Dns error) = seen.Dns (dns_error_of error)
 error_of (Message notice) = seen.Message notice
+error_of (Msg text) = seen.Msg text
 error_of NoConnections = seen.NoConnections
 error_of (Proto error) = seen.Proto error
 error_of (Io kind) = seen.Io kind

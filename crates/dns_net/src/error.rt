@@ -1,11 +1,11 @@
 ghost use Rattle.std.specs.Prelude.{◌≡◌, IfOk};
 ghost use Rattle.dns_net.specs.Replies.{dns_error_of, error_of};
 ghost use Rattle.dns_net.specs.Conversions.{decode_failed, outside_failed};
-ghost use Rattle.dns_net.specs.declared.error.NetError.TheVariants.{NoMemory, Dns, Message, Proto};
+ghost use Rattle.dns_net.specs.declared.error.NetError.TheVariants.{NoMemory, Dns, Message, Msg, Proto};
 
 use crate::{DnsResponse, IoKind, Notice};
 use dns_message::{DecodeError, DecodeKind};
-use dns_name::{Name, NoMemory};
+use dns_name::{Name, NoMemory, Text};
 use dns_record::{DNSClass, Proof, Query, RecordType, ResponseCode};
 use std::alloc::{AllocError, AllocFailed};
 use std::fmt;
@@ -52,6 +52,9 @@ pub enum NetError {
     /// A fixed text.
     #[error("{0}")]
     Message(Notice),
+    /// A text of a handle's own.
+    #[error("{}", .0.as_str())]
+    Msg(Text),
     /// No connection can be made.
     #[error("no connections available")]
     NoConnections,
@@ -136,6 +139,14 @@ impl From<Notice> for NetError {
     }
 }
 
+impl From<Text> for NetError {
+    ghost from_gives = { λ text e. e ≡ Msg text };
+
+    fn from(text: Text) -> Self {
+        NetError::Msg(text)
+    }
+}
+
 impl From<ProtoError> for NetError {
     ghost from_gives = { λ error e. e ≡ Proto error };
 
@@ -206,6 +217,10 @@ impl NetError {
                 Ok(NetError::Dns(error))
             }
             NetError::Message(notice) => Ok(NetError::Message(*notice)),
+            NetError::Msg(text) => {
+                let text = text.try_clone()?;
+                Ok(NetError::Msg(text))
+            }
             NetError::NoConnections => Ok(NetError::NoConnections),
             NetError::Proto(error) => Ok(NetError::Proto(*error)),
             NetError::Io(kind) => Ok(NetError::Io(*kind)),

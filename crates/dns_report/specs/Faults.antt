@@ -11,7 +11,7 @@ use Rattle.dns_net.specs.declared.error.ProtoError.{ProtoError}
 use Rattle.dns_net.specs.declared.error.ProtoError.TheVariants.{Decode, TooLong}
 use Rattle.dns_net.specs.declared.notice.Notice.{Notice}
 use Rattle.dns_net.specs.declared.notice.Notice.TheVariants.{NotJudgedYet}
-use Rattle.dns_net.specs.Errors.{DnsErrorText, ResponseCode, Nsec, DnssecBogus, ErrorText, Busy, Dns, Message, NoConnections, Proto, Io, Timeout, QueryCaseMismatch, ForeignClassRecord, Truncated, NoMemory}
+use Rattle.dns_net.specs.Errors.{DnsErrorText, ResponseCode, Nsec, DnssecBogus, ErrorText, Busy, Dns, Message, Msg, NoConnections, Proto, Io, Timeout, QueryCaseMismatch, ForeignClassRecord, Truncated, NoMemory}
 use Rattle.dns_words.specs.Codes.{type_word, class_word}
 use Rattle.dns_report.specs.Lines.{Words, line}
 use Rattle.dns_report.specs.Marks.{mark_word}
@@ -63,6 +63,7 @@ abbrev pub fault_text : ErrorText → List ℕ
 fault_text Busy = fault_line (codes "busy" ∷ [])
 fault_text (Dns error) = fault_line (dns_words error)
 fault_text (Message notice) = fault_line (codes "message" ∷ notice_text notice ∷ [])
+fault_text (Msg text) = fault_line (codes "message" ∷ text ∷ [])
 fault_text NoConnections = fault_line (codes "no-connections" ∷ [])
 fault_text (Proto error) = fault_line (codes "proto" ∷ proto_words error)
 fault_text (Io kind) = fault_line (codes "io" ∷ io_word kind ∷ [])

@@ -130,6 +130,7 @@ fn push_fault(into: &mut Vec<u8>, error: &NetError) -> Result<(), NoMemory>
             push_dns(into, error)
         }
         NetError::Message(notice) => push_double(into, b"message", notice_text(*notice)),
+        NetError::Msg(text) => push_double(into, b"message", text.as_bytes()),
         NetError::NoConnections => push_single(into, b"no-connections"),
         NetError::Proto(error) => {
             push_text(into, b"fault proto")?;
