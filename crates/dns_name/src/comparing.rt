@@ -63,6 +63,21 @@ impl Hash for Name {
     }
 }
 
+/// Equality as that of `Name`.
+impl<'a> PartialEq for NameRef<'a> {
+    ghost eq = { name_eq };
+
+    ghost laws = { partial_equiv_from_equiv name_equiv };
+
+    fn eq(&self, other: &NameRef<'a>) -> bool {
+        self.eq_name(other)
+    }
+}
+
+impl<'a> Eq for NameRef<'a> {
+    ghost laws = { name_equiv };
+}
+
 impl<'a> NameRef<'a> {
     /// The canonical order (RFC 4034, 6.1): label by label from the root, as lower-cased bytes; a missing label sorts first.
     pub fn cmp_name(&self, other: &NameRef) -> Ordering

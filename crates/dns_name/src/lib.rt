@@ -3,6 +3,7 @@
 #![tactic(auto)]
 
 mod comparing;
+mod laws;
 mod name;
 mod name_bytes;
 mod name_ref;
@@ -18,6 +19,9 @@ mod text;
 mod text_reading;
 
 pub use dns_model::NameError;
+pub use laws::{
+    equal_names_differ_in_case_alone, equal_names_hash_alike, names_are_in_a_total_order,
+};
 pub use name::Name;
 pub use name_ref::NameRef;
 pub use no_memory::NoMemory;
