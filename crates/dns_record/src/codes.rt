@@ -88,6 +88,7 @@ impl OpCode {
     pub const UPDATE: OpCode = OpCode(5);
 }
 
+/// The registered codes (the IANA registry of DNS parameters). 16 is BADVERS in an OPT and BADSIG in a TSIG.
 impl ResponseCode {
     pub const NO_ERROR: ResponseCode = ResponseCode(0);
 
@@ -100,4 +101,32 @@ impl ResponseCode {
     pub const NOT_IMP: ResponseCode = ResponseCode(4);
 
     pub const REFUSED: ResponseCode = ResponseCode(5);
+
+    pub const YX_DOMAIN: ResponseCode = ResponseCode(6);
+
+    pub const YX_RR_SET: ResponseCode = ResponseCode(7);
+
+    pub const NX_RR_SET: ResponseCode = ResponseCode(8);
+
+    pub const NOT_AUTH: ResponseCode = ResponseCode(9);
+
+    pub const NOT_ZONE: ResponseCode = ResponseCode(10);
+
+    pub const BAD_VERS: ResponseCode = ResponseCode(16);
+
+    pub const BAD_SIG: ResponseCode = ResponseCode(16);
+
+    pub const BAD_KEY: ResponseCode = ResponseCode(17);
+
+    pub const BAD_TIME: ResponseCode = ResponseCode(18);
+
+    pub const BAD_MODE: ResponseCode = ResponseCode(19);
+
+    pub const BAD_NAME: ResponseCode = ResponseCode(20);
+
+    pub const BAD_ALG: ResponseCode = ResponseCode(21);
+
+    pub const BAD_TRUNC: ResponseCode = ResponseCode(22);
+
+    pub const BAD_COOKIE: ResponseCode = ResponseCode(23);
 }

@@ -2,6 +2,7 @@
 #![tactic(auto)]
 
 mod codes;
+mod laws;
 mod query;
 mod rdata;
 mod record;
@@ -11,6 +12,7 @@ mod texts;
 pub use codes::{DNSClass, OpCode, RecordType, ResponseCode};
 pub use dns_model::{Denial, Proof, Section};
 pub use dns_name::{Name, NoMemory, Octets};
+pub use laws::{equal_queries_differ_in_case_alone, equal_queries_hash_alike};
 pub use query::Query;
 pub use rdata::Rdata;
 pub use record::{Record, clone_records};

@@ -1,4 +1,6 @@
-ghost use Rattle.std.specs.Prelude.{◌≡◌, ◌+◌, ◌^◌, ◌<◌, IsTrue, None};
+ghost use Rattle.std.specs.Prelude.{◌≡◌, ◌^◌, ◌↔◌, IsTrue, IsNone, false};
+ghost use Rattle.std.specs.Option.{option_map};
+ghost use Rattle.std.specs.Ordering.{ordering_reverse};
 ghost use Rattle.dns_model.specs.Serial.{at_or_before, serial_cmp, distance as steps_from};
 
 use std::cmp::Ordering;
@@ -10,7 +12,10 @@ pub struct SerialNumber(pub u32);
 impl SerialNumber {
     /// Whether the two are equal, or `other` lies 1 to 2^31 - 1 after `self` (RFC 1982, 3.2).
     pub fn at_or_before(self, other: SerialNumber) -> bool
-        ensures { result ≡ at_or_before self.0 other.0 }
+        ensures value { result ≡ at_or_before self.0 other.0 }
+        // Of two numbers that aren't equal at most one is before the other, and of two that lie 2^31 apart none.
+        ensures one_way { IsTrue result → IsTrue (at_or_before other.0 self.0) → self.0 ≡ other.0 }
+        ensures opposite { steps_from self.0 other.0 ≡ 2 ^ 31 → result ≡ false }
     {
         let steps = distance(self.0, other.0);
         self.0 == other.0 || (0 < steps && steps < 0x8000_0000)
@@ -18,7 +23,9 @@ impl SerialNumber {
 
     /// How the two are ordered, or None where neither is at or before the other: where they lie 2^31 apart.
     pub fn serial_cmp(self, other: SerialNumber) -> Option<Ordering>
-        ensures { result ≡ serial_cmp self.0 other.0 }
+        ensures value { result ≡ serial_cmp self.0 other.0 }
+        ensures none { IsNone result ↔ (steps_from self.0 other.0 ≡ 2 ^ 31) }
+        ensures turned { serial_cmp other.0 self.0 ≡ option_map ordering_reverse result }
     {
         if self.0 == other.0 {
             Some(Ordering::Equal)
@@ -38,17 +45,3 @@ fn distance(from: u32, to: u32) -> u32
 {
     to.wrapping_sub(from)
 }
-
-/// Two numbers of which each is at or before the other are one number.
-pub fn at_or_before_both_ways_is_equal(a: SerialNumber, b: SerialNumber)
-    requires there { IsTrue (at_or_before a.0 b.0) }
-    requires back { IsTrue (at_or_before b.0 a.0) }
-    ensures { a.0 ≡ b.0 }
-{}
-
-/// Numbers that lie 2^31 apart have no order (RFC 1982, 3.2).
-pub fn opposite_numbers_have_no_order(a: SerialNumber, b: SerialNumber)
-    requires { a.0 + 2 ^ 31 ≡ b.0 }
-    ensures there { serial_cmp a.0 b.0 ≡ None }
-    ensures back { serial_cmp b.0 a.0 ≡ None }
-{}
