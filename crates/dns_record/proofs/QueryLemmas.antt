@@ -19,11 +19,10 @@ pub question_eq-parts : (a b : Question) → IsTrue (question_eq a b) ↔ AreEqu
 question_eq-parts a b =
     let names = name_eq-Decides a.owner b.owner in
     let kinds = Decides-eqb a.kind b.kind in
-    let classes = Decides-eqb a.class b.class in
-    (
+    let classes = Decides-eqb a.class b.class in (
       λ h. let outer = and_parts (name_eq a.owner b.owner) ((a.kind == b.kind) && (a.class == b.class)) h in
-        let inner = and_parts (a.kind == b.kind) (a.class == b.class) outer.1 in
-        (names.0 outer.0, kinds.0 inner.0, classes.0 inner.1),
+          let inner = and_parts (a.kind == b.kind) (a.class == b.class) outer.1 in
+          (names.0 outer.0, kinds.0 inner.0, classes.0 inner.1),
       λ h. rw (names.1 h.0, kinds.1 h.1, classes.1 h.2) refl,
     )
 
@@ -38,9 +37,9 @@ question_ties a b =
     let kinds = nat_cmp a.kind b.kind in
     let classes = nat_cmp a.class b.class in
     let numbers : ((a.kind == b.kind) && (a.class == b.class)) ≡ is_eq (ordering_then kinds classes) =
-      ap (λ (e : Bool). e && (a.class == b.class)) (nat_ties a.kind b.kind)
-      ∙ ap (λ (e : Bool). is_eq kinds && e) (nat_ties a.class b.class)
-      ∙ tied_then kinds classes in
+    ap (λ (e : Bool). e && (a.class == b.class)) (nat_ties a.kind b.kind)
+    ∙ ap (λ (e : Bool). is_eq kinds && e) (nat_ties a.class b.class)
+    ∙ tied_then kinds classes in
     ap (λ (e : Bool). e && ((a.kind == b.kind) && (a.class == b.class))) (name_ties a.owner b.owner)
     ∙ ap (λ (e : Bool). is_eq names && e) numbers
     ∙ tied_then names (ordering_then kinds classes)

@@ -87,6 +87,16 @@ impl NsecRecord {
         Ok(Some(NsecRecord { owner, next, types }))
     }
 
+    /// An equal value in memory of its own.
+    pub fn try_clone(&self) -> Result<NsecRecord, NoMemory>
+        ensures { IfOk result (λ n. n ≡ self.now) }
+    {
+        let owner = self.owner.try_clone()?;
+        let next = self.next.try_clone()?;
+        let types = self.types.try_clone()?;
+        Ok(NsecRecord { owner, next, types })
+    }
+
     /// The types that stand at the owner.
     pub fn type_set(&self) -> TypeSet<'_>
         ensures { result ≡ self.now.text.types }

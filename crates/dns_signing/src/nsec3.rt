@@ -120,6 +120,25 @@ impl Nsec3Record {
         }))
     }
 
+    /// An equal value in memory of its own.
+    pub fn try_clone(&self) -> Result<Nsec3Record, NoMemory>
+        ensures { IfOk result (λ n. n ≡ self.now) }
+    {
+        let owner = self.owner.try_clone()?;
+        let salt = self.salt.try_clone()?;
+        let next = self.next.try_clone()?;
+        let types = self.types.try_clone()?;
+        Ok(Nsec3Record {
+            owner,
+            hash_algorithm: self.hash_algorithm,
+            flags: self.flags,
+            iterations: self.iterations,
+            salt,
+            next,
+            types,
+        })
+    }
+
     /// The types that stand at the name whose hash the owner's first label is.
     pub fn type_set(&self) -> TypeSet<'_>
         ensures { result ≡ self.now.text.types }
