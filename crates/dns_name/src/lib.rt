@@ -17,6 +17,8 @@ mod shown;
 mod tests;
 mod text;
 mod text_reading;
+#[cfg(test)]
+mod text_tests;
 
 pub use dns_model::NameError;
 pub use laws::{
