@@ -23,6 +23,8 @@ pub use encode_error::EncodeError;
 pub use message::{Edns, Message};
 
 #[cfg(test)]
+mod pointer_tests;
+#[cfg(test)]
 mod tests;
 #[cfg(test)]
 mod writing_tests;

@@ -38,7 +38,7 @@ pub(crate) fn read(alloc: Global, bytes: &[u8]) -> Option<Message> {
     }
 }
 
-fn error_of(alloc: Global, bytes: &[u8]) -> Option<DecodeError> {
+pub(crate) fn error_of(alloc: Global, bytes: &[u8]) -> Option<DecodeError> {
     if bytes.len() < 1_000_000 {
         Message::from_vec(alloc, bytes).err()
     } else {
@@ -52,103 +52,114 @@ fn fault_of(alloc: Global, text: &str) -> Result<Option<DecodeError>, AllocError
     Ok(error_of(alloc, &bytes))
 }
 
+/// Bytes that are no message, the first fault from the left, and its place.
+const FAULTS: [(&str, DecodeKind, u32); 23] = [
+    ("", DecodeKind::Short, 0),
+    ("000000", DecodeKind::Short, 2),
+    ("0000000000000000000000", DecodeKind::Short, 10),
+    ("000000000000000000000000ff", DecodeKind::Trailing, 12),
+    // an A of three bytes
+    (
+        "000080000000000100000000 0000010001000000000003010203",
+        DecodeKind::BadRdata,
+        23,
+    ),
+    // its rdata reaches past the end
+    (
+        "000080000000000100000000 0000010001000000000004010203",
+        DecodeKind::Short,
+        23,
+    ),
+    // a ttl that is cut
+    (
+        "000080000000000100000000 0000010001000000",
+        DecodeKind::Short,
+        17,
+    ),
+    // an OPT among the answers, also where it is cut behind its type
+    (
+        "000080000000000100000000 00002904d0000000000000",
+        DecodeKind::BadOpt,
+        12,
+    ),
+    ("000080000000000100000000 000029", DecodeKind::BadOpt, 12),
+    ("000080000000000100000000 0000", DecodeKind::Short, 13),
+    // the second one, one that isn't at the root, and one that is cut
+    (
+        "000000000000000000000002 0000290200000000000000 0000290200000000000000",
+        DecodeKind::BadOpt,
+        23,
+    ),
+    (
+        "000000000000000000000001 01610000290200000000000000",
+        DecodeKind::BadOpt,
+        12,
+    ),
+    ("000000000000000000000001 00002902", DecodeKind::Short, 15),
+    // a pointer to its own row, forward, to the front of the row that it ends, and one that is cut
+    (
+        "000084000001000000000000 c00c00010001",
+        DecodeKind::BadName,
+        12,
+    ),
+    (
+        "000084000001000000000000 c00d00010001",
+        DecodeKind::BadName,
+        12,
+    ),
+    (
+        "000084000001000000000000 0161c00c00010001",
+        DecodeKind::BadName,
+        14,
+    ),
+    ("000084000001000000000000 0161c0", DecodeKind::Short, 14),
+    // the top bits 01 and 10
+    (
+        "000084000001000000000000 400000010001",
+        DecodeKind::BadName,
+        12,
+    ),
+    (
+        "000084000001000000000000 0161bf0000010001",
+        DecodeKind::BadName,
+        14,
+    ),
+    // a label that is cut, and no length byte
+    ("000084000001000000000000 036162", DecodeKind::Short, 12),
+    ("000084000001000000000000 0161", DecodeKind::Short, 14),
+    // a name in an rdata: a pointer to its own row, and one that goes on past the rdata
+    (
+        "000080000000000100000000 0000020001000000000002c017",
+        DecodeKind::BadRdata,
+        23,
+    ),
+    (
+        "000080000000000200000000 000002000100000000000101 00",
+        DecodeKind::BadRdata,
+        23,
+    ),
+];
+
+/// Whether hex text is no message by this fault at this place.
+fn is_faulty(alloc: Global, text: &str, kind: DecodeKind, offset: u32) -> Result<bool, AllocError> {
+    Ok(fault_of(alloc, text)? == Some(DecodeError { kind, offset }))
+}
+
 #[test]
 fn first_fault_with_its_place(rt: HostRuntime) -> Result<(), Fail> {
-    let cases = [
-        ("", DecodeKind::Short, 0),
-        ("000000", DecodeKind::Short, 2),
-        ("0000000000000000000000", DecodeKind::Short, 10),
-        ("000000000000000000000000ff", DecodeKind::Trailing, 12),
-        // an A of three bytes
-        (
-            "000080000000000100000000 0000010001000000000003010203",
-            DecodeKind::BadRdata,
-            23,
-        ),
-        // its rdata reaches past the end
-        (
-            "000080000000000100000000 0000010001000000000004010203",
-            DecodeKind::Short,
-            23,
-        ),
-        // a ttl that is cut
-        (
-            "000080000000000100000000 0000010001000000",
-            DecodeKind::Short,
-            17,
-        ),
-        // an OPT among the answers, also where it is cut behind its type
-        (
-            "000080000000000100000000 00002904d0000000000000",
-            DecodeKind::BadOpt,
-            12,
-        ),
-        ("000080000000000100000000 000029", DecodeKind::BadOpt, 12),
-        ("000080000000000100000000 0000", DecodeKind::Short, 13),
-        // the second one, one that isn't at the root, and one that is cut
-        (
-            "000000000000000000000002 0000290200000000000000 0000290200000000000000",
-            DecodeKind::BadOpt,
-            23,
-        ),
-        (
-            "000000000000000000000001 01610000290200000000000000",
-            DecodeKind::BadOpt,
-            12,
-        ),
-        ("000000000000000000000001 00002902", DecodeKind::Short, 15),
-        // a pointer to its own row, forward, to the front of the row that it ends, and one that is cut
-        (
-            "000084000001000000000000 c00c00010001",
-            DecodeKind::BadName,
-            12,
-        ),
-        (
-            "000084000001000000000000 c00d00010001",
-            DecodeKind::BadName,
-            12,
-        ),
-        (
-            "000084000001000000000000 0161c00c00010001",
-            DecodeKind::BadName,
-            14,
-        ),
-        ("000084000001000000000000 0161c0", DecodeKind::Short, 14),
-        // the top bits 01 and 10
-        (
-            "000084000001000000000000 400000010001",
-            DecodeKind::BadName,
-            12,
-        ),
-        (
-            "000084000001000000000000 0161bf0000010001",
-            DecodeKind::BadName,
-            14,
-        ),
-        // a label that is cut, and no length byte
-        ("000084000001000000000000 036162", DecodeKind::Short, 12),
-        ("000084000001000000000000 0161", DecodeKind::Short, 14),
-        // a name in an rdata: a pointer to its own row, and one that goes on past the rdata
-        (
-            "000080000000000100000000 0000020001000000000002c017",
-            DecodeKind::BadRdata,
-            23,
-        ),
-        (
-            "000080000000000200000000 000002000100000000000101 00",
-            DecodeKind::BadRdata,
-            23,
-        ),
-    ];
-    for (text, kind, offset) in cases {
-        let fault = fault_of(rt.alloc(), text)?;
-        assert!(rt; fault == Some(DecodeError { kind, offset }), "{text}");
+    for (text, kind, offset) in &FAULTS {
+        assert!(rt; is_faulty(rt.alloc(), text, *kind, *offset)?, "{text}");
     }
     Ok(())
 }
 
 /// A message with one answer at the root.
-fn with_rdata(alloc: Global, kind: u8, class: u8, rdata: &[u8]) -> Result<Vec<u8>, AllocError> {
+pub(crate) fn with_rdata(
+    alloc: Global,
+    kind: u8,
+    class: u8,
+    rdata: &[u8],
+) -> Result<Vec<u8>, AllocError> {
     let mut bytes = bytes_of(alloc, "000080000000000100000000 0000")?;
     bytes.push(kind)?;
     bytes.push(0)?;
@@ -204,38 +215,38 @@ fn has_its_shape(alloc: Global, kind: u8, text: &str, long: bool) -> Result<bool
     Ok(taken && refused)
 }
 
+/// A type, an rdata of its shape that has no bytes to spare, and whether one byte more is taken.
+pub(crate) const SHAPES: [(u8, &str, bool); 20] = [
+    (1, "c0000201", false),
+    (28, "20010db8000000000000000000000001", false),
+    (2, "016100", false),
+    (5, "016100", false),
+    (12, "016100", false),
+    (39, "016100", false),
+    (
+        6,
+        "00 016100 0000000100000002000000030000000400000005",
+        false,
+    ),
+    (15, "000a016100", false),
+    (18, "0001016100", false),
+    (21, "0001016100", false),
+    (36, "0001016100", false),
+    (17, "00016100", false),
+    (26, "000a00016100", false),
+    (33, "000100020003016100", false),
+    (35, "00010002 0153 00 0141 016100", false),
+    (43, "aec90d02", true),
+    (46, "00020d0000000e10000007d000000384aec9 016100", true),
+    (47, "016100 000140 010180", false),
+    (48, "0101030d", true),
+    (50, "01000001 02aabb 01cc 000140", false),
+];
+
 #[test]
 fn each_type_in_its_shape(rt: HostRuntime) -> Result<(), Fail> {
-    // type, an rdata of its shape that has no bytes to spare, whether one byte more is taken
-    let cases = [
-        (1, "c0000201", false),
-        (28, "20010db8000000000000000000000001", false),
-        (2, "016100", false),
-        (5, "016100", false),
-        (12, "016100", false),
-        (39, "016100", false),
-        (
-            6,
-            "00 016100 0000000100000002000000030000000400000005",
-            false,
-        ),
-        (15, "000a016100", false),
-        (18, "0001016100", false),
-        (21, "0001016100", false),
-        (36, "0001016100", false),
-        (17, "00016100", false),
-        (26, "000a00016100", false),
-        (33, "000100020003016100", false),
-        (35, "00010002 0153 00 0141 016100", false),
-        (43, "aec90d02", true),
-        (46, "00020d0000000e10000007d000000384aec9 016100", true),
-        (47, "016100 000140 010180", false),
-        (48, "0101030d", true),
-        (50, "01000001 02aabb 01cc 000140", false),
-    ];
-    for (kind, text, long) in cases {
-        let shaped = has_its_shape(rt.alloc(), kind, text, long)?;
-        assert!(rt; shaped, "{text}");
+    for (kind, text, long) in &SHAPES {
+        assert!(rt; has_its_shape(rt.alloc(), *kind, text, *long)?, "{kind}");
     }
     Ok(())
 }
@@ -262,7 +273,9 @@ fn has_pointers(message: &Message) -> bool {
 }
 
 fn has_flags(message: &Message) -> bool {
-    message.id == 0xabcd
+    message.response_code.0 == 0x12f
+        && message.additionals.is_empty()
+        && message.id == 0xabcd
         && message.response
         && message.op_code.0 == 4
         && message.authoritative
@@ -286,115 +299,24 @@ fn has_edns(message: &Message) -> bool {
     }
 }
 
+/// Two records by pointers.
+pub(crate) const POINTERS: &str =
+    "000080000001000200000000 01610000010001 c00c0001000100000e100004c0000201 c00c0002000100000e1000040162c00c";
+
+/// Each bit of the header apart, the code's bits from both places, and what an OPT says.
+pub(crate) const WITH_OPT: &str = "abcda51f0000000000000001 00002904d0 12058003 0002aabb";
+
+fn passes(alloc: Global, text: &str, test: fn(&Message) -> bool) -> Result<bool, AllocError> {
+    match message_of(alloc, text)? {
+        Some(message) => Ok(test(&message)),
+        None => Ok(false),
+    }
+}
+
 #[test]
 fn header_names_and_opt(rt: HostRuntime) -> Result<(), Fail> {
-    let text =
-        "000080000001000200000000 01610000010001 c00c0001000100000e100004c0000201 c00c0002000100000e1000040162c00c";
-    let message = message_of(rt.alloc(), text)?.ok_or("pointers")?;
-    assert!(rt; has_pointers(&message));
-    // each bit of the header apart, the code's bits from both places, and what an OPT says
-    let text = "abcda51f0000000000000001 00002904d0 12058003 0002aabb";
-    let message = message_of(rt.alloc(), text)?.ok_or("an OPT")?;
-    assert!(rt; has_flags(&message) && has_edns(&message));
-    assert!(rt; message.response_code.0 == 0x12f && message.additionals.is_empty());
-    Ok(())
-}
-
-/// A question whose name has three labels of 63 bytes and one of so many.
-fn long_name(alloc: Global, last: u8) -> Result<Vec<u8>, AllocError> {
-    let mut bytes = bytes_of(alloc, "000000000001000000000000")?;
-    for size in [63, 63, 63, last] {
-        bytes.push(size)?;
-        for _ in 0..size {
-            bytes.push(97)?;
-        }
-    }
-    bytes.extend_from_slice(&[0, 0, 1, 0, 1])?;
-    Ok(bytes)
-}
-
-#[test]
-fn long_names(rt: HostRuntime) -> Result<(), Fail> {
-    let longest = long_name(rt.alloc(), 61)?;
-    assert!(rt; error_of(rt.alloc(), &longest).is_none());
-    let longer = long_name(rt.alloc(), 62)?;
-    let offset = 204;
-    let kind = DecodeKind::BadName;
-    assert!(rt; error_of(rt.alloc(), &longer) == Some(DecodeError { kind, offset }));
-    // the label that passes the limit also reaches past the end
-    let cut = &longer[..longer.len().min(250)];
-    let kind = DecodeKind::Short;
-    assert!(rt; error_of(rt.alloc(), cut) == Some(DecodeError { kind, offset }));
-    Ok(())
-}
-
-/// Some answer, other than want of memory, to the bytes with a pointer at a place.
-fn has_answer(
-    alloc: Global,
-    plain: &Vec<u8>,
-    place: usize,
-    upper: u8,
-    lower: u8,
-) -> Result<bool, AllocError> {
-    let mut bytes = plain.clone()?;
-    if place < bytes.len() {
-        bytes[place] = upper;
-    }
-    if place < bytes.len().saturating_sub(1) {
-        bytes[place + 1] = lower;
-    }
-    match error_of(alloc, &bytes) {
-        None => Ok(true),
-        Some(error) => Ok(
-            error.kind != DecodeKind::NoMemory && error.offset as usize <= bytes.len(),
-        ),
-    }
-}
-
-#[test]
-fn a_pointer_of_each_value_at_each_place(rt: HostRuntime) -> Result<(), Fail> {
-    let plain = bytes_of(
-        rt.alloc(),
-        "000080000001000100000000 01610000010001 c00c0002000100000e1000040162c00c",
-    )?;
-    for place in 0..plain.len() {
-        for upper in [192, 255] {
-            for lower in 0..=255u8 {
-                assert!(rt; has_answer(rt.alloc(), &plain, place, upper, lower)?);
-            }
-        }
-    }
-    Ok(())
-}
-
-/// An opaque rdata with the name `a.` and 1,000 pointers, each to the one before, the first to that name; then a record whose
-/// owner is a pointer to the last.
-fn row_of_pointers(alloc: Global) -> Result<Vec<u8>, AllocError> {
-    let mut bytes = bytes_of(
-        alloc,
-        "000080000000000200000000 00 ff00 0003 00000000 07d3 016100",
-    )?;
-    let mut target: u16 = 23;
-    for i in 0..1000u16 {
-        bytes.extend_from_slice(&(49152 + target % 16384).to_be_bytes())?;
-        target = 26 + 2 * i;
-    }
-    bytes.extend_from_slice(&(49152 + target % 16384).to_be_bytes())?;
-    bytes.extend_from_slice(&[255, 0, 0, 3, 0, 0, 0, 0, 0, 0])?;
-    Ok(bytes)
-}
-
-fn last_owner_is_a(message: &Message) -> bool {
-    match message.answers.as_slice() {
-        [_, last] => last.name.wire() == [1, 97, 0].as_slice(),
-        _ => false,
-    }
-}
-
-#[test]
-fn a_row_of_pointers(rt: HostRuntime) -> Result<(), Fail> {
-    let bytes = row_of_pointers(rt.alloc())?;
-    let message = read(rt.alloc(), &bytes).ok_or("a row")?;
-    assert!(rt; last_owner_is_a(&message));
+    assert!(rt; passes(rt.alloc(), POINTERS, has_pointers)?);
+    assert!(rt; passes(rt.alloc(), WITH_OPT, has_flags)?);
+    assert!(rt; passes(rt.alloc(), WITH_OPT, has_edns)?);
     Ok(())
 }
