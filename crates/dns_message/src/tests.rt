@@ -306,17 +306,23 @@ pub(crate) const POINTERS: &str =
 /// Each bit of the header apart, the code's bits from both places, and what an OPT says.
 pub(crate) const WITH_OPT: &str = "abcda51f0000000000000001 00002904d0 12058003 0002aabb";
 
-fn passes(alloc: Global, text: &str, test: fn(&Message) -> bool) -> Result<bool, AllocError> {
+fn names_are_spelled_out(alloc: Global, text: &str) -> Result<bool, AllocError> {
     match message_of(alloc, text)? {
-        Some(message) => Ok(test(&message)),
+        Some(message) => Ok(has_pointers(&message)),
+        None => Ok(false),
+    }
+}
+
+fn bits_stand_apart(alloc: Global, text: &str) -> Result<bool, AllocError> {
+    match message_of(alloc, text)? {
+        Some(message) => Ok(has_flags(&message) && has_edns(&message)),
         None => Ok(false),
     }
 }
 
 #[test]
 fn header_names_and_opt(rt: HostRuntime) -> Result<(), Fail> {
-    assert!(rt; passes(rt.alloc(), POINTERS, has_pointers)?);
-    assert!(rt; passes(rt.alloc(), WITH_OPT, has_flags)?);
-    assert!(rt; passes(rt.alloc(), WITH_OPT, has_edns)?);
+    assert!(rt; names_are_spelled_out(rt.alloc(), POINTERS)?);
+    assert!(rt; bits_stand_apart(rt.alloc(), WITH_OPT)?);
     Ok(())
 }
