@@ -1,4 +1,4 @@
-ghost use Rattle.std.specs.Prelude.{◌≡◌, ◌≤◌, ℕ, List, Option, Some};
+ghost use Rattle.std.specs.Prelude.{◌≡◌, ◌≤◌, ℕ, Bool, true, false, List, Option, Some};
 ghost use Rattle.dns_model.specs.Records.{Question};
 ghost use Rattle.dns_net.specs.Errors.{Reply};
 ghost use Rattle.dns_net.specs.Replies.{reply_of};
@@ -23,6 +23,12 @@ pub trait DnsHandle {
 
     /// The replies in order, where the handle tells them: the reply to a question is the first with that question.
     ghost told: { Self → Option (List (Question × Reply)) };
+
+    /// The handle's answers are validated.
+    ghost validates: { Self → Bool } = { λ _. false };
+
+    /// The handle's requests are to have an OPT record.
+    ghost uses_edns: { Self → Bool } = { λ _. true };
 
     /// Sends the request at a moment, in seconds, and waits. An error other than want of memory comes only where
     /// `faults` rises.
@@ -58,13 +64,17 @@ pub trait DnsHandle {
         self.send(alloc, request, now)
     }
 
-    /// The handle's answers are validated.
-    fn is_verifying_dnssec(&self) -> bool {
+    /// Whether the answers are validated: `true` only where they are.
+    fn is_verifying_dnssec(&self) -> bool
+        ensures { result ≡ true → validates self.now ≡ true }
+    {
         false
     }
 
-    /// Requests are to have an OPT record.
-    fn is_using_edns(&self) -> bool {
+    /// Whether requests are to have an OPT record (RFC 6891): `false` only where they aren't.
+    fn is_using_edns(&self) -> bool
+        ensures { result ≡ false → uses_edns self.now ≡ false }
+    {
         true
     }
 }
