@@ -1,5 +1,5 @@
 -- Names with the case of chosen letters changed, in wire form and as labels.
-use Rattle.std.proofs.Common.{◌≡◌, ℕ, ◌+◌, ◌≤◌, ◌<◌, Bool, true, false, ◌&&◌, List, [], ◌∷◌, ◌++◌, length, take, get_or, refl, sym, ap, ◌∙◌, subst, arith, length-append, append_assoc}
+use Rattle.std.proofs.Common.{◌≡◌, ℕ, ◌+◌, ◌≤◌, ◌<◌, true, false, List, [], ◌∷◌, ◌++◌, length, take, get_or, refl, sym, ap, ◌∙◌, subst, arith, length-append, append_assoc}
 use Rattle.std.specs.Prelude.{nat_le, nat_lt}
 use Rattle.std.specs.List.{list_all}
 use Rattle.std.proofs.lemmas.Bool.{and_parts}
@@ -113,9 +113,7 @@ unfolding label_cased
 cased_none bits = refl
 
 -- the bytes up to the next one
-pub cased_more : (bits bytes : List ℕ) (i byte : ℕ) → i < length bytes → byte ≡ get_or bytes i byte
-    → label_cased bits [] (take (i + 1) bytes) ≡ label_cased bits [] (take i bytes) ++ byte_cased bits (letters (take i bytes)) byte ∷ []
+pub cased_more : (bits bytes : List ℕ) (i : ℕ) → i < length bytes
+    → label_cased bits [] (take (i + 1) bytes) ≡ label_cased bits [] (take i bytes) ++ byte_cased bits (letters (take i bytes)) (get_or bytes i 0) ∷ []
 unfolding label_cased
-cased_more bits bytes i byte within is =
-    let more : take (i + 1) bytes ≡ take i bytes ++ byte ∷ [] = take_more bytes i byte within ∙ ap (λ x. take i bytes ++ x ∷ []) (sym is) in
-    rw (more, label_cased-append bits [] (take i bytes) (byte ∷ [])) refl
+cased_more bits bytes i within = rw (take_more bytes i 0 within, label_cased-append bits [] (take i bytes) (get_or bytes i 0 ∷ [])) refl

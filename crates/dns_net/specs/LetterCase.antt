@@ -1,5 +1,5 @@
 -- Names with the case of chosen letters changed (RFC 4343, 3 and 4.1: the case has no meaning, and is kept).
-use Rattle.std.specs.Prelude.{ℕ, Bool, ◌+◌, ◌/◌, ◌%◌, ◌==◌, ◌&&◌, List, [], ◌∷◌, ◌++◌, slice_index, count_by, if◌then◌else◌}
+use Rattle.std.specs.Prelude.{ℕ, Bool, ◌/◌, ◌%◌, ◌==◌, ◌&&◌, List, [], ◌∷◌, ◌++◌, slice_index, count_by, if◌then◌else◌}
 use Rattle.std.specs.Int.{bit_at}
 use Rattle.std.specs.Char.{is_ascii_alphabetic, is_ascii_uppercase, to_ascii_lowercase, to_ascii_uppercase}
 use Rattle.dns_model.specs.Names.{Label, Labels}
