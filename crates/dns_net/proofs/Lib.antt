@@ -1,2 +1,3 @@
 pub mod WalkLemmas
 pub mod ReplyLemmas
+pub mod CaseLemmas

@@ -1,5 +1,5 @@
 -- Walks put together.
-use Rattle.std.proofs.Common.{◌≤◌, ◌⊎◌, inl, inr, Result, Ok, Err, ℕ, ◌+◌, List, [], ◌∷◌, ◌++◌, refl, sym, subst, arith, length-append}
+use Rattle.std.proofs.Common.{◌≤◌, inl, inr, Result, Ok, Err, ℕ, ◌+◌, List, [], ◌∷◌, ◌++◌, refl, sym, subst, arith, length-append}
 use Rattle.dns_net.specs.declared.error.NetError.{NetError}
 use Rattle.dns_net.specs.Handles.{OrUnsent}
 use Rattle.dns_net.specs.Walks.{Steps, Walked}

@@ -1,5 +1,6 @@
 pub mod Link
 pub mod Verifiers
+pub mod LetterCase
 pub mod Requests
 pub mod Errors
 pub mod Replies

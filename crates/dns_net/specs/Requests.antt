@@ -1,6 +1,7 @@
 -- Requests (RFC 1035, 4.1; RFC 6891, 6.1).
-use Rattle.std.specs.Prelude.{true, false, List, [], ◌∷◌, Option, None, Some, if◌then◌else◌}
+use Rattle.std.specs.Prelude.{ℕ, true, false, List, [], ◌∷◌, Option, None, Some, if◌then◌else◌}
 use Rattle.dns_model.specs.Records.{Question, EdnsText, MessageText}
+use Rattle.dns_net.specs.LetterCase.{name_cased}
 use Rattle.dns_net.specs.declared.request.DnsRequestOptions.{DnsRequestOptions}
 
 -- a message to send, how, and its question as it was first
@@ -59,3 +60,21 @@ query_message query options = record {
 -- the request for one question
 abbrev pub request_of : Question → DnsRequestOptions → RequestText
 request_of query options = record { message = query_message query options; options = options; original = None }
+
+-- a question with the case of its name's chosen letters changed
+abbrev pub question_cased : List ℕ → Question → Question
+question_cased bits q = record { owner = name_cased bits q.owner; kind = q.kind; class = q.class }
+
+abbrev pub first_cased : List ℕ → List Question → List Question
+first_cased bits [] = []
+first_cased bits (q ∷ qs) = question_cased bits q ∷ qs
+
+abbrev pub keeping : Option Question → RequestText → RequestText
+keeping None request = request
+keeping (Some q) request = record request { original = Some q }
+
+-- the request with the case of its first question's chosen letters changed; the question as it was before is its original.
+-- Without a question nothing changes
+abbrev pub request_cased : List ℕ → RequestText → RequestText
+request_cased bits request =
+    keeping (first_question request) (record request { message = record request.message { queries = first_cased bits request.message.queries } })

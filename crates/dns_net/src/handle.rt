@@ -1,8 +1,8 @@
-ghost use Rattle.std.specs.Prelude.{◌≡◌, ◌≤◌, ℕ, List, Option, Some};
+ghost use Rattle.std.specs.Prelude.{◌≡◌, ◌≤◌, ⊤, ℕ, Bool, true, false, List, Option, Some};
 ghost use Rattle.dns_model.specs.Records.{Question};
 ghost use Rattle.dns_net.specs.Errors.{Reply};
 ghost use Rattle.dns_net.specs.Replies.{reply_of};
-ghost use Rattle.dns_net.specs.Requests.{first_question};
+ghost use Rattle.dns_net.specs.Requests.{RequestText, first_question, request_of};
 ghost use Rattle.dns_net.specs.Causes.{Rose, HasCause};
 ghost use Rattle.dns_net.specs.Handles.{ReplyIsTold, OrUnsent};
 
@@ -24,6 +24,15 @@ pub trait DnsHandle {
     /// The replies in order, where the handle tells them: the reply to a question is the first with that question.
     ghost told: { Self → Option (List (Question × Reply)) };
 
+    /// The handle before a `send`, the whole request, the moment, the handle after, the reply; a handle may leave it open.
+    ghost requested: { Self → RequestText → ℕ → Self → Reply → Type 0 } = { λ _ _ _ _ _. ⊤ };
+
+    /// The handle's answers are validated.
+    ghost validates: { Self → Bool } = { λ _. false };
+
+    /// The handle's requests are to have an OPT record.
+    ghost uses_edns: { Self → Bool } = { λ _. true };
+
     /// Sends the request at a moment, in seconds, and waits. An error other than want of memory comes only where
     /// `faults` rises.
     fn send(
@@ -34,12 +43,13 @@ pub trait DnsHandle {
     ) -> Result<DnsResponse, NetError>
         ensures sends { Rose (sends self.old) (sends self.new) }
         ensures sent { sent self.old (first_question request) self.new (reply_of result) }
+        ensures requested { requested self.old request now self.new (reply_of result) }
         ensures later { faults self.old ≤ faults self.new }
         ensures cause { HasCause (faults self.old) (faults self.new) result }
         ensures told { told self.new ≡ told self.old }
         ensures reply { ReplyIsTold (told self.old) (first_question request) (reply_of result) };
 
-    /// Sends the request for one question. Where memory runs out before the send, nothing is sent and nothing changes.
+    /// Sends the request for one question at the same moment. Where memory runs out before the send, nothing is sent and nothing changes.
     fn lookup(
         &mut self,
         alloc: Global,
@@ -49,6 +59,7 @@ pub trait DnsHandle {
     ) -> Result<DnsResponse, NetError>
         ensures sends { OrUnsent self.old self.new result (Rose (sends self.old) (sends self.new)) }
         ensures sent { OrUnsent self.old self.new result (sent self.old (Some query) self.new (reply_of result)) }
+        ensures requested { OrUnsent self.old self.new result (requested self.old (request_of query options) now self.new (reply_of result)) }
         ensures later { faults self.old ≤ faults self.new }
         ensures cause { HasCause (faults self.old) (faults self.new) result }
         ensures told { told self.new ≡ told self.old }
@@ -58,13 +69,17 @@ pub trait DnsHandle {
         self.send(alloc, request, now)
     }
 
-    /// The handle's answers are validated.
-    fn is_verifying_dnssec(&self) -> bool {
+    /// Whether the answers are validated: `true` only where they are.
+    fn is_verifying_dnssec(&self) -> bool
+        ensures { result ≡ true → validates self.now ≡ true }
+    {
         false
     }
 
-    /// Requests are to have an OPT record.
-    fn is_using_edns(&self) -> bool {
+    /// Whether requests are to have an OPT record (RFC 6891): `false` only where they aren't.
+    fn is_using_edns(&self) -> bool
+        ensures { result ≡ false → uses_edns self.now ≡ false }
+    {
         true
     }
 }

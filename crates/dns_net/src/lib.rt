@@ -4,14 +4,23 @@
 #![tactic(auto)]
 
 mod error;
+#[cfg(test)]
+mod error_tests;
 mod handle;
 mod io_kind;
+mod letter_case;
 mod link;
 mod link_tests;
 mod notice;
 mod recorded;
 mod request;
+#[cfg(test)]
+mod request_tests;
 mod response;
+#[cfg(test)]
+mod shown_tests;
+#[cfg(test)]
+mod tests;
 mod verifier;
 
 pub use error::{DnsError, NetError, ProtoError};

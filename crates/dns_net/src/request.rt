@@ -1,6 +1,7 @@
-ghost use Rattle.std.specs.Prelude.{◌≡◌, IfOk};
-ghost use Rattle.dns_net.specs.Requests.{edns_of, plain_options, request_of};
+ghost use Rattle.std.specs.Prelude.{◌≡◌, IfOk, OnOk};
+ghost use Rattle.dns_net.specs.Requests.{edns_of, first_cased, first_of, plain_options, request_cased, request_of};
 
+use crate::letter_case::name_cased;
 use dns_message::{Edns, Message};
 use dns_name::{NoMemory, Octets};
 use dns_record::{OpCode, Query, ResponseCode};
@@ -77,6 +78,20 @@ fn make_edns(alloc: Global, options: &DnsRequestOptions) -> Option<Edns>
     }
 }
 
+/// Changes the case of the first question's letters whose bit is set, and gives the question as it was.
+fn change_first(queries: &mut Vec<Query>, bits: &[u8]) -> Result<Option<Query>, NoMemory>
+    ensures before { IfOk result (λ q. q ≡ first_of queries.old.items) }
+    ensures after { OnOk result (queries.new.items ≡ first_cased bits.now queries.old.items) }
+{
+    let alloc = *queries.allocator();
+    let Some(query) = queries.first_mut() else {
+        return Ok(None);
+    };
+    let original = query.try_clone()?;
+    query.name = name_cased(alloc, &original.name, bits)?;
+    Ok(Some(original))
+}
+
 impl DnsRequest {
     /// A request that asks one question: a query of id 0 with RD and an OPT record as the options say (RFC 1035, 4.1.1;
     /// RFC 6891, 6.1.3). Whoever sends it gives it an id. The only error is want of memory.
@@ -111,6 +126,19 @@ impl DnsRequest {
             options,
             original: None,
         })
+    }
+
+    /// The request with the case of its first question's i-th letter changed where bit i is set, and `original` that
+    /// question as it was before this call (RFC 4343, 4.1). The letters are A to Z and a to z, counted from 0 over the
+    /// labels, the leaf first; bit i is bit i mod 8, the lowest first, of byte i / 8, and a bit behind the last byte is
+    /// clear. A request without a question stays as it is. The only error is want of memory.
+    pub fn with_case(mut self, bits: &[u8]) -> Result<DnsRequest, NoMemory>
+        ensures { IfOk result (λ r. r ≡ request_cased bits.now self) }
+    {
+        if let Some(original) = change_first(&mut self.message.queries, bits)? {
+            self.original = Some(original);
+        }
+        Ok(self)
     }
 
     /// An equal value in memory of its own.

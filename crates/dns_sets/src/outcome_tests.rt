@@ -1,0 +1,88 @@
+use crate::tests::{A, CNAME, Met, OVER_CNAME, OVER_EXPANDED, RRSIG, TXT, message, query, record};
+use crate::*;
+use dns_record::{DNSClass, Denial, Proof, Section};
+use std::alloc::Global;
+use std::test::Fail;
+
+const OTHER_NAME: Met = Met {
+    section: Section::Answer,
+    owner: "b.",
+    kind: A,
+    rdata: b"\x01",
+};
+
+const OTHER_TYPE: Met = Met {
+    section: Section::Answer,
+    owner: "a.",
+    kind: TXT,
+    rdata: b"\0",
+};
+
+const ALIAS: Met = Met {
+    section: Section::Answer,
+    owner: "a.",
+    kind: CNAME,
+    rdata: b"\0",
+};
+
+const SIGNED: Met = Met {
+    section: Section::Answer,
+    owner: "a.",
+    kind: RRSIG,
+    rdata: OVER_CNAME,
+};
+
+/// The signature has no label, its owner one: the record came from a wildcard.
+const EXPANDED: Met = Met {
+    section: Section::Answer,
+    owner: "a.",
+    kind: RRSIG,
+    rdata: OVER_EXPANDED,
+};
+
+const UNANSWERED: [Met; 2] = [OTHER_NAME, OTHER_TYPE];
+
+const ANSWERED: [Met; 4] = [OTHER_NAME, OTHER_TYPE, ALIAS, SIGNED];
+
+const FROM_WILDCARD: [Met; 3] = [ALIAS, SIGNED, EXPANDED];
+
+/// How a step ends whose query is for A records of `A.`, and whose sets aren't Secure.
+fn outcome(alloc: Global, records: &[Met]) -> Result<Outcome, Fail> {
+    let query = query(alloc, "A.")?;
+    let message = message(alloc, records)?;
+    let sets: Vec<JudgedSet> = Vec::new(alloc);
+    Ok(outcome_of(&query, &message, &sets))
+}
+
+#[test]
+fn a_step_ends_by_its_records(rt: HostRuntime) -> Result<(), Fail> {
+    let alloc = rt.alloc();
+    assert!(rt; outcome(alloc, &[])? == Outcome::Unjudged);
+    assert!(rt; outcome(alloc, &UNANSWERED)? == Outcome::Unjudged);
+    assert!(rt; outcome(alloc, &ANSWERED)? == Outcome::Accepted(Denial::None));
+    assert!(rt; outcome(alloc, &FROM_WILDCARD)? == Outcome::Denied(Proof::Bogus));
+    Ok(())
+}
+
+/// The type of the first record of another class than the query's, where the additional section has a CH record of this type.
+fn foreign_type(alloc: Global, kind: u16) -> Result<Option<u16>, Fail> {
+    let query = query(alloc, "A.")?;
+    let mut message = message(alloc, &ANSWERED)?;
+    if kind != 0 {
+        let mut foreign = record(alloc, &OTHER_TYPE)?;
+        foreign.record_type.0 = kind;
+        foreign.dns_class = DNSClass::CH;
+        message.additionals.push(foreign)?;
+    }
+    match foreign_record(&query, &message) {
+        Some(found) => Ok(Some(found.record_type.0)),
+        None => Ok(None),
+    }
+}
+
+#[test]
+fn a_record_of_another_class_is_found(rt: HostRuntime) -> Result<(), Fail> {
+    assert!(rt; foreign_type(rt.alloc(), 0)?.is_none());
+    assert!(rt; foreign_type(rt.alloc(), TXT)? == Some(TXT));
+    Ok(())
+}

@@ -1,0 +1,197 @@
+use crate::tests::*;
+use crate::*;
+use dns_name::{Name, Octets};
+use dns_record::{Proof, RecordSet, Section};
+use dns_sets::{JudgedSet, PlacedSet};
+use std::alloc::Global;
+use std::test::Fail;
+
+/// The root's key set of these keys, with the signature by the first.
+fn key_set(alloc: Global, owner: &str, keys: &[&[u8]], sig: Option<&[u8]>) -> Result<RecordSet, Fail> {
+    let Some((first, others)) = keys.split_first() else {
+        return Err("no key".into());
+    };
+    let mut set = RecordSet::of(alloc, key_record(alloc, owner, first)?)?;
+    for key in others {
+        set.records.push(key_record(alloc, owner, key)?)?;
+    }
+    if let Some(sig) = sig {
+        set.rrsigs.push(signature_of(alloc, owner, sig)?)?;
+    }
+    Ok(set)
+}
+
+const ONE: [&[u8]; 1] = [KEY];
+const TWO: [&[u8]; 2] = [KEY, OTHER_KEY];
+
+/// Anchors that hold the root's key, or none.
+fn anchors(alloc: Global, is_trusted: bool) -> Result<TrustAnchors, Fail> {
+    let mut anchors = TrustAnchors::empty(alloc);
+    if is_trusted {
+        let key = Octets::from_slice(alloc, public_key())?;
+        anchors.insert_with_name(Name::root(alloc)?, 13, key)?;
+    }
+    Ok(anchors)
+}
+
+/// The mark of the root's key set at second 1500, the place of the signature that decided, and the number of links.
+fn keys_mark(alloc: Global, is_trusted: bool, keys: &[&[u8]], sig: Option<&[u8]>) -> Result<(Proof, Option<u32>, usize), Fail> {
+    let set = key_set(alloc, ".", keys, sig)?;
+    let placed = PlacedSet {
+        section: Section::Answer,
+        set,
+    };
+    let anchors = anchors(alloc, is_trusted)?;
+    let judged = judged_keys(alloc, &verifier(alloc)?, &anchors, 1500, placed)?;
+    Ok((judged.mark, judged.sig, judged.chain.len()))
+}
+
+fn signed() -> Option<&'static [u8]> {
+    Some(OVER_KEYS)
+}
+
+fn is_secure(marked: (Proof, Option<u32>, usize), sig: Option<u32>, links: usize) -> bool {
+    marked.0 == Proof::Secure && marked.1 == sig && marked.2 == links
+}
+
+fn is_bogus(marked: (Proof, Option<u32>, usize)) -> bool {
+    marked.0 == Proof::Bogus && marked.1.is_none() && marked.2 == 0
+}
+
+#[test]
+fn key_sets_are_marked_by_anchors(rt: HostRuntime) -> Result<(), Fail> {
+    let alloc = rt.alloc();
+    assert!(rt; is_secure(keys_mark(alloc, true, &ONE, signed())?, Some(0), 2));
+    assert!(rt; is_bogus(keys_mark(alloc, false, &ONE, signed())?));
+    // no signature: each key is to be trusted
+    assert!(rt; is_secure(keys_mark(alloc, true, &ONE, None)?, None, 2));
+    assert!(rt; is_bogus(keys_mark(alloc, true, &TWO, None)?));
+    // the signature isn't over two keys
+    assert!(rt; is_bogus(keys_mark(alloc, true, &TWO, signed())?));
+    Ok(())
+}
+
+/// The judged sets that an ask for keys was answered with: one key set.
+fn answered(alloc: Global, owner: &str, section: Section, mark: Proof) -> Result<Vec<JudgedSet>, Fail> {
+    let mut sets = Vec::new(alloc);
+    sets.push(JudgedSet {
+        section,
+        set: key_set(alloc, owner, &ONE, None)?,
+        mark,
+        sig: None,
+        chain: Vec::new(alloc),
+    })?;
+    Ok(sets)
+}
+
+/// What the signature over the root's NS set does for it.
+fn verdict(alloc: Global, now: u64, answer: Option<Vec<JudgedSet>>) -> Result<Verdict, Fail> {
+    let set = servers(alloc)?;
+    let sig = signature_of(alloc, ".", OVER_NS)?;
+    let anchors = anchors(alloc, true)?;
+    let verifier = verifier(alloc)?;
+    Ok(verdict_of(alloc, &verifier, &anchors, now, &set, &sig, &answer)?)
+}
+
+fn proves(alloc: Global, now: u64, owner: &str, section: Section, mark: Proof) -> Result<bool, Fail> {
+    let answer = answered(alloc, owner, section, mark)?;
+    Ok(verdict(alloc, now, Some(answer))?.is_proved())
+}
+
+fn excuses(alloc: Global, owner: &str, mark: Proof) -> Result<bool, Fail> {
+    let answer = answered(alloc, owner, Section::Answer, mark)?;
+    Ok(verdict(alloc, 1500, Some(answer))?.is_excused())
+}
+
+fn proves_unanswered(alloc: Global) -> Result<bool, Fail> {
+    let verdict = verdict(alloc, 1500, None)?;
+    Ok(verdict.is_proved() || verdict.is_excused())
+}
+
+#[test]
+fn signatures_prove_by_the_keys_of_their_signer(rt: HostRuntime) -> Result<(), Fail> {
+    let alloc = rt.alloc();
+    assert!(rt; proves(alloc, 1500, ".", Section::Answer, Proof::Secure)?);
+    assert!(rt; !proves(alloc, 2001, ".", Section::Answer, Proof::Secure)?);
+    assert!(rt; !proves(alloc, 1500, "a.", Section::Answer, Proof::Secure)?);
+    assert!(rt; !proves(alloc, 1500, ".", Section::Additional, Proof::Secure)?);
+    assert!(rt; !proves(alloc, 1500, ".", Section::Answer, Proof::Bogus)?);
+    assert!(rt; !proves(alloc, 1500, ".", Section::Answer, Proof::Insecure)?);
+    assert!(rt; !proves_unanswered(alloc)?);
+    Ok(())
+}
+
+#[test]
+fn signatures_excuse_by_insecure_keys(rt: HostRuntime) -> Result<(), Fail> {
+    let alloc = rt.alloc();
+    assert!(rt; excuses(alloc, ".", Proof::Insecure)?);
+    assert!(rt; !excuses(alloc, ".", Proof::Bogus)?);
+    assert!(rt; !excuses(alloc, "a.", Proof::Insecure)?);
+    Ok(())
+}
+
+/// A verdict for each letter: P proves, E excuses, another fails.
+fn verdicts(alloc: Global, letters: &[u8]) -> Result<Vec<Verdict>, Fail> {
+    let mut verdicts = Vec::new(alloc);
+    for letter in letters {
+        let verdict = match letter {
+            b'P' => Verdict::Proved(Vec::new(alloc)),
+            b'E' => Verdict::Excused,
+            _ => Verdict::Failed,
+        };
+        verdicts.push(verdict)?;
+    }
+    Ok(verdicts)
+}
+
+/// The verdicts of a set's signatures, its mark and the place of the one that decided.
+struct Decided {
+    verdicts: &'static [u8],
+    mark: Proof,
+    sig: Option<u32>,
+}
+
+const DECIDED: [Decided; 5] = [
+    Decided {
+        verdicts: b"FEPP",
+        mark: Proof::Secure,
+        sig: Some(2),
+    },
+    Decided {
+        verdicts: b"PE",
+        mark: Proof::Secure,
+        sig: Some(0),
+    },
+    Decided {
+        verdicts: b"FEE",
+        mark: Proof::Insecure,
+        sig: Some(1),
+    },
+    Decided {
+        verdicts: b"FF",
+        mark: Proof::Bogus,
+        sig: None,
+    },
+    Decided {
+        verdicts: b"",
+        mark: Proof::Bogus,
+        sig: None,
+    },
+];
+
+fn is_decided(alloc: Global, row: &Decided) -> Result<bool, Fail> {
+    let placed = PlacedSet {
+        section: Section::Answer,
+        set: servers(alloc)?,
+    };
+    let judged = judged_by(placed, verdicts(alloc, row.verdicts)?)?;
+    Ok(judged.mark == row.mark && judged.sig == row.sig)
+}
+
+#[test]
+fn sets_are_marked_by_the_first_verdict(rt: HostRuntime) -> Result<(), Fail> {
+    for row in &DECIDED {
+        assert!(rt; is_decided(rt.alloc(), row)?, "mark {:?}, {} signatures", row.mark, row.verdicts.len());
+    }
+    Ok(())
+}
