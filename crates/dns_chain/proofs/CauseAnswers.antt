@@ -2,17 +2,20 @@
 use Rattle.std.proofs.Common.{ℕ, ◌≡◌, ◌∙◌, true, false, List, Option, None, Some, Result, Err, sym, ap, subst}
 use Rattle.dns_model.specs.Records.{Rr, Question, MessageText}
 use Rattle.dns_model.specs.Chains.{Judge}
-use Rattle.dns_model.specs.Answers.{Told, told_by, ResponseText}
+use Rattle.dns_model.specs.Answers.{Told, told_by, placed_sets, ResponseText}
+use Rattle.dns_judgement.specs.Judged.{Judged}
+use Rattle.dns_judgement.specs.Run.{Run, Sets}
 use Rattle.dns_judgement.specs.Outcome.{has_answer, foreign_record}
 use Rattle.dns_net.specs.Errors.{Reply, ErrorText, ForeignClassRecord}
 use Rattle.dns_net.specs.Handles.{reply_to}
 use Rattle.dns_net.specs.Replies.{reply_of}
 use Rattle.dns_net.specs.declared.error.NetError.{NetError}
-use Rattle.dns_chain.specs.Heard.{heard_message, heard, told_of, Tells}
+use Rattle.dns_chain.specs.Heard.{heard_message, heard, told_of, says_of, Tells}
 use Rattle.dns_chain.specs.Looked.{IsLookup, UnlessNoMemory, Heard}
-use Rattle.dns_chain.specs.Causes.{PassesOn, ForeignNamed, UnansweredUnjudged, Judges}
+use Rattle.dns_chain.specs.Causes.{PassesOn, ForeignNamed, UnansweredUnjudged, Judges, IsJudged}
 use Rattle.dns_chain.proofs.HeardLemmas.{none_some}
 use Rattle.dns_chain.proofs.LookLemmas.{unless_map}
+use Rattle.dns_chain.proofs.WalkSettled.{sets_settled, replies_one}
 use Rattle.dns_chain.proofs.CauseLemmas.{some_same, first_same, none_told, none_first, no_both, wants_lacks, wants_needs, lacks_needs, Caused, result_caused, ByUpstream, ByClass, ByUnjudged, ByDenied, ByAccepted}
 
 -- the records that a known upstream told
@@ -111,6 +114,13 @@ pub lookup_unanswered_unjudged : {H : Type 0} (sent : H → Option Question → 
 lookup_unanswered_unjudged sent faults old new tells j now limit q result l =
     unless_map result (λ c. unanswered_unjudged sent faults old new tells j now limit q (reply_of result) c) (result_caused sent faults old new tells j now limit q result l)
 
+-- the judged sets are the only ones that the replies allow
+only_sets : {H : Type 0} (sent : H → Option Question → H → Reply → Type 0) (old new : H) (replies : List (Question × Reply)) (j : Judge) (limit : ℕ) (q : Question) (m : MessageText) (sets : List Judged)
+    → IsJudged sent old new (Some replies) j limit q m sets
+    → (others : List Judged) (n : ℕ) → Run j limit (says_of (Some replies)) 1 (Sets q 0 (placed_sets (told_by m)) others) n → others ≡ sets
+only_sets sent old new replies j limit q m sets judged = λ others n walk.
+    sets_settled j limit (says_of (Some replies)) q 0 1 judged.sends n (placed_sets (told_by m)) sets others (replies_one replies) judged.run walk
+
 pub judges : {H : Type 0} (sent : H → Option Question → H → Reply → Type 0) (faults : H → ℕ) (old new : H) (tells : Tells) (j : Judge) (now limit : ℕ) (q : Question) (answer : Reply)
     → Caused sent faults old new tells j now limit q answer → Judges sent old new tells j now limit q answer
 judges sent faults old new None j now limit q answer caused = tt
@@ -122,6 +132,7 @@ judges sent faults old new (Some replies) j now limit q answer (ByUnjudged m set
   message = m;
   sets = sets;
   judged = judged;
+  only = only_sets sent old new replies j limit q m sets judged;
   unjudged = λ also. made;
   refused = λ lacks. absurd (wants_lacks q (told_by m) sets wants lacks);
   accepted = λ needs. absurd (wants_needs q (told_by m) sets wants needs);
@@ -130,6 +141,7 @@ judges sent faults old new (Some replies) j now limit q answer (ByDenied m sets 
   message = m;
   sets = sets;
   judged = judged;
+  only = only_sets sent old new replies j limit q m sets judged;
   unjudged = λ wants. absurd (wants_lacks q (told_by m) sets wants lacks);
   refused = λ also. made;
   accepted = λ needs. absurd (lacks_needs q (told_by m) sets lacks needs);
@@ -138,6 +150,7 @@ judges sent faults old new (Some replies) j now limit q answer (ByAccepted m set
   message = m;
   sets = sets;
   judged = judged;
+  only = only_sets sent old new replies j limit q m sets judged;
   unjudged = λ wants. absurd (wants_needs q (told_by m) sets wants needs);
   refused = λ lacks. absurd (lacks_needs q (told_by m) sets lacks needs);
   accepted = λ also. made;

@@ -178,12 +178,14 @@ abbrev pub AcceptedOnly : {H : Type 0} → (H → Option Question → H → Repl
 AcceptedOnly sent old new tells j now limit q answer =
     (response : ResponseText) → answer ≡ Ok response → IsAccepted sent old new tells j now limit q response
 
--- the sets of a message were judged, and the answer is the one that each case of them asks for
+-- the sets of a message were judged, what was said allows no other judgement of them, and the answer is the one that their
+-- case asks for
 pub record AnswersSets {H : Type 0} (sent : H → Option Question → H → Reply → Type 0) (old new : H)
     (tells : Tells) (j : Judge) (now limit : ℕ) (q : Question) (answer : Reply) : Type 0 where
   pub message : MessageText
   pub sets : List Judged
   pub judged : IsJudged sent old new tells j limit q message sets
+  pub only : (others : List Judged) (sends : ℕ) → Run j limit (says_of tells) 1 (Sets q 0 (placed_sets (told_by message)) others) sends → others ≡ sets
   pub unjudged : WantsDenial q (told_by message) sets → answer ≡ Err (Message NotJudgedYet)
   pub refused : LacksDenial q (told_by message) sets → answer ≡ Err (Dns (Nsec q (finished now sets message denied.None) Bogus))
   pub accepted : NeedsNone q (told_by message) sets → answer ≡ Ok (finished now sets message denied.None)
