@@ -1,20 +1,19 @@
 -- What a send that was heard says of a known upstream.
-use Rattle.std.proofs.Common.{ℕ, ◌+◌, ◌≤◌, ◌<◌, ◌≡◌, ◌∙◌, Bool, true, false, List, Option, None, Some, is_some, Result, Ok, Err, refl, sym, ap, subst, inl, inr}
+use Rattle.std.proofs.Common.{ℕ, ◌+◌, ◌≤◌, ◌<◌, ◌≡◌, ◌∙◌, false, List, Option, None, Some, is_some, Ok, Err, refl, sym, ap, subst, inl, inr}
 use Rattle.dns_model.specs.Records.{Question, MessageText}
 use Rattle.dns_model.specs.Chains.{Judge}
 use Rattle.dns_model.specs.Answers.{Told, Placed, told_by}
 use Rattle.dns_judgement.specs.Judged.{Judged}
 use Rattle.dns_judgement.specs.Outcome.{foreign_record}
-use Rattle.dns_judgement.specs.Marking.{cleared_message}
-use Rattle.dns_judgement.specs.Run.{Run, Sets, Ask, Answers, Fault, Foreign, judged_part, ending_of, most_sends}
+use Rattle.dns_judgement.specs.Run.{Run, Sets, Ask, Answers, judged_part, ending_of, most_sends}
 use Rattle.dns_net.specs.Errors as seen
 use Rattle.dns_net.specs.Errors.{Reply}
 use Rattle.dns_net.specs.Handles.{reply_to, ReplyIsTold}
 use Rattle.dns_net.specs.Replies.{error_of}
 use Rattle.dns_net.specs.declared.error.NetError.{NetError}
 use Rattle.dns_net.specs.declared.error.NetError.TheVariants.{Busy, Dns, Message, Msg, NoConnections, Proto, Io, Timeout, QueryCaseMismatch, ForeignClassRecord, Truncated, NoMemory}
-use Rattle.dns_chain.specs.Heard.{heard_message, heard, told_of, says_of, Tells}
-use Rattle.dns_chain.specs.Looked.{Asked, Heard, Unheard}
+use Rattle.dns_chain.specs.Heard.{heard_message, told_of, says_of, Tells}
+use Rattle.dns_chain.specs.Looked.{Asked, Unheard}
 
 -- only want of memory is seen as want of memory
 pub seen_no_memory : (e : NetError) → error_of e ≡ seen.NoMemory → e ≡ NoMemory
@@ -35,7 +34,7 @@ error_same : (a b : seen.ErrorText) → (let x : Reply = Err a in x) ≡ Err b �
 error_same a b h = cc
 
 -- a reply that was told and has a message
-none_some : (m : MessageText) → (let x : Option MessageText = None in x) ≡ Some m → ⊥
+pub none_some : (m : MessageText) → (let x : Option MessageText = None in x) ≡ Some m → ⊥
 none_some m h = cc
 
 told_message : (replies : List (Question × Reply)) (q : Question) (reply : Reply) (m : MessageText)

@@ -1,5 +1,5 @@
 -- A lookup's Ok answer is sound.
-use Rattle.std.proofs.Common.{ℕ, List, ◌≡◌, ◌∙◌, Option, None, Some, Result, Ok, Err, refl, sym, ap, subst, IsSomeAnd, inl, inr, ◌⊎◌}
+use Rattle.std.proofs.Common.{ℕ, List, ◌≡◌, ◌∙◌, Option, None, Some, Result, Ok, Err, refl, sym, ap, subst, IsSomeAnd, inl, inr}
 use Rattle.dns_model.specs.declared.denial.Denial.{Denial}
 use Rattle.dns_model.specs.Records.{Question, MessageText}
 use Rattle.dns_model.specs.Chains.{Judge}
@@ -14,7 +14,7 @@ use Rattle.dns_net.specs.Errors.{Reply, ErrorText, DnsErrorText, Busy, Dns, Mess
 use Rattle.dns_model.specs.Names.{Labels}
 use Rattle.dns_model.specs.declared.proof.Proof.{Proof}
 use Rattle.dns_model.specs.declared.denial.Denial.TheVariants as denied
-use Rattle.dns_net.specs.Handles.{reply_to, ReplyIsTold}
+use Rattle.dns_net.specs.Handles.{ReplyIsTold}
 use Rattle.dns_net.specs.Replies.{reply_of, error_of}
 use Rattle.dns_net.specs.declared.error.NetError.{NetError}
 use Rattle.dns_net.specs.declared.error.NetError.TheVariants.{NoMemory}
@@ -114,40 +114,40 @@ looked_denied j now limit says q (Answered reply answer m sets n heard own run i
       };
     }
 
-dns_told : {H : Type 0} (sent : H → Option Question → H → Reply → Type 0) (old new : H) (tells : Tells) (j : Judge) (now limit : ℕ) (q : Question) (error : DnsErrorText)
-    → IsLookup sent old new tells j now limit q (Err (Dns error)) → IsSoundDns j now tells q error
-dns_told sent old new tells j now limit q (ResponseCode code) l = tt
-dns_told sent old new tells j now limit q (Nsec asked r p) l =
+dns_told : {H : Type 0} (sent : H → Option Question → H → Reply → Type 0) (faults : H → ℕ) (old new : H) (tells : Tells) (j : Judge) (now limit : ℕ) (q : Question) (error : DnsErrorText)
+    → IsLookup sent faults old new tells j now limit q (Err (Dns error)) → IsSoundDns j now tells q error
+dns_told sent faults old new tells j now limit q (ResponseCode code) l = tt
+dns_told sent faults old new tells j now limit q (Nsec asked r p) l =
     let d = looked_denied j now limit (says_of tells) q l.looked asked r p refl in
     (d.query, sound_told j now tells q l.reply r l.told d.heard)
-dns_told sent old new tells j now limit q DnssecBogus l = tt
+dns_told sent faults old new tells j now limit q DnssecBogus l = tt
 
-error_told : {H : Type 0} (sent : H → Option Question → H → Reply → Type 0) (old new : H) (tells : Tells) (j : Judge) (now limit : ℕ) (q : Question) (e : ErrorText)
-    → IsLookup sent old new tells j now limit q (Err e) → IsSoundError j now tells q e
-error_told sent old new tells j now limit q Busy l = tt
-error_told sent old new tells j now limit q (Dns error) l = dns_told sent old new tells j now limit q error l
-error_told sent old new tells j now limit q (Message notice) l = tt
-error_told sent old new tells j now limit q (Msg text) l = tt
-error_told sent old new tells j now limit q NoConnections l = tt
-error_told sent old new tells j now limit q (Proto error) l = tt
-error_told sent old new tells j now limit q (Io kind) l = tt
-error_told sent old new tells j now limit q Timeout l = tt
-error_told sent old new tells j now limit q QueryCaseMismatch l = tt
-error_told sent old new tells j now limit q (ForeignClassRecord owner class kind) l = tt
-error_told sent old new tells j now limit q Truncated l = tt
-error_told sent old new tells j now limit q seen.NoMemory l = tt
+error_told : {H : Type 0} (sent : H → Option Question → H → Reply → Type 0) (faults : H → ℕ) (old new : H) (tells : Tells) (j : Judge) (now limit : ℕ) (q : Question) (e : ErrorText)
+    → IsLookup sent faults old new tells j now limit q (Err e) → IsSoundError j now tells q e
+error_told sent faults old new tells j now limit q Busy l = tt
+error_told sent faults old new tells j now limit q (Dns error) l = dns_told sent faults old new tells j now limit q error l
+error_told sent faults old new tells j now limit q (Message notice) l = tt
+error_told sent faults old new tells j now limit q (Msg text) l = tt
+error_told sent faults old new tells j now limit q NoConnections l = tt
+error_told sent faults old new tells j now limit q (Proto error) l = tt
+error_told sent faults old new tells j now limit q (Io kind) l = tt
+error_told sent faults old new tells j now limit q Timeout l = tt
+error_told sent faults old new tells j now limit q QueryCaseMismatch l = tt
+error_told sent faults old new tells j now limit q (ForeignClassRecord owner class kind) l = tt
+error_told sent faults old new tells j now limit q Truncated l = tt
+error_told sent faults old new tells j now limit q seen.NoMemory l = tt
 
-answer_told : {H : Type 0} (sent : H → Option Question → H → Reply → Type 0) (old new : H) (tells : Tells) (j : Judge) (now limit : ℕ) (q : Question) (answer : Reply)
-    → IsLookup sent old new tells j now limit q answer → IsSoundAnswer j now tells q answer
-answer_told sent old new tells j now limit q (Ok a) l = sound_told j now tells q l.reply a l.told (looked_sound j now limit (says_of tells) q l.looked a refl)
-answer_told sent old new tells j now limit q (Err e) l = error_told sent old new tells j now limit q e l
+answer_told : {H : Type 0} (sent : H → Option Question → H → Reply → Type 0) (faults : H → ℕ) (old new : H) (tells : Tells) (j : Judge) (now limit : ℕ) (q : Question) (answer : Reply)
+    → IsLookup sent faults old new tells j now limit q answer → IsSoundAnswer j now tells q answer
+answer_told sent faults old new tells j now limit q (Ok a) l = sound_told j now tells q l.reply a l.told (looked_sound j now limit (says_of tells) q l.looked a refl)
+answer_told sent faults old new tells j now limit q (Err e) l = error_told sent faults old new tells j now limit q e l
 
 memory_told : (j : Judge) (now : ℕ) (tells : Tells) (q : Question) (e : NetError) → e ≡ NoMemory → IsSoundError j now tells q (error_of e)
 memory_told j now tells q e is = let P : NetError → Type 0 = λ x. IsSoundError j now tells q (error_of x) in subst P (sym is) tt
 
 -- a lookup's answer is sound
-pub lookup_sound : {H : Type 0} (sent : H → Option Question → H → Reply → Type 0) (old new : H) (tells : Tells) (j : Judge) (now limit : ℕ) (q : Question) (result : Result ResponseText NetError)
-    → UnlessNoMemory result (IsLookup sent old new tells j now limit q (reply_of result)) → IsSoundAnswer j now tells q (reply_of result)
-lookup_sound sent old new tells j now limit q (Ok a) l = answer_told sent old new tells j now limit q (Ok a) l
-lookup_sound sent old new tells j now limit q (Err e) (inl memory) = memory_told j now tells q e memory
-lookup_sound sent old new tells j now limit q (Err e) (inr l) = answer_told sent old new tells j now limit q (Err (error_of e)) l
+pub lookup_sound : {H : Type 0} (sent : H → Option Question → H → Reply → Type 0) (faults : H → ℕ) (old new : H) (tells : Tells) (j : Judge) (now limit : ℕ) (q : Question) (result : Result ResponseText NetError)
+    → UnlessNoMemory result (IsLookup sent faults old new tells j now limit q (reply_of result)) → IsSoundAnswer j now tells q (reply_of result)
+lookup_sound sent faults old new tells j now limit q (Ok a) l = answer_told sent faults old new tells j now limit q (Ok a) l
+lookup_sound sent faults old new tells j now limit q (Err e) (inl memory) = memory_told j now tells q e memory
+lookup_sound sent faults old new tells j now limit q (Err e) (inr l) = answer_told sent faults old new tells j now limit q (Err (error_of e)) l

@@ -1,13 +1,13 @@
 -- The walk of asks, built up by the code's loops.
-use Rattle.std.proofs.Common.{ℕ, ◌+◌, ◌≤◌, ◌<◌, ◌≡◌, suc, length, get_or, ap, add-one, drop-cons, ◌==◌, Bool, true, false, List, [], ◌∷◌, ◌++◌, map, take, drop, Option, None, Some, refl, sym, ◌∙◌, subst, arith, append_assoc}
+use Rattle.std.proofs.Common.{ℕ, ◌+◌, ◌≤◌, ◌<◌, ◌≡◌, suc, length, get_or, ap, add-one, drop-cons, ◌==◌, true, false, List, [], ◌∷◌, ◌++◌, take, drop, Option, refl, sym, ◌∙◌, subst, arith, append_assoc}
 use Rattle.std.proofs.lemmas.List.{append-nil, take_more, take_all, take-append-drop}
 use Rattle.dns_model.specs.Records.{Rr, RrSet, Question}
 use Rattle.dns_model.specs.Chains.{Judge}
 use Rattle.dns_model.specs.Answers.{Told, Placed}
 use Rattle.dns_judgement.specs.Judged.{Judged}
-use Rattle.dns_judgement.specs.Marks.{Verdict, Failed, is_proved, judged_by, most_signatures}
+use Rattle.dns_judgement.specs.Marks.{Verdict, is_proved, judged_by, most_signatures}
 use Rattle.dns_model.specs.Types.{type_dnskey}
-use Rattle.dns_judgement.specs.Run.{Run, Sets, Signatures, Ask, NoSet, Keys, Others, NoSignature, Skips, Asks, Proves}
+use Rattle.dns_judgement.specs.Run.{Run, Sets, Signatures, NoSet, Keys, Others, NoSignature, Skips, Asks, Proves}
 use Rattle.dns_judgement.specs.Run.{most_sends}
 use Rattle.dns_net.specs.Errors.{Reply}
 use Rattle.dns_net.proofs.WalkLemmas.{no_walk, then_walk}

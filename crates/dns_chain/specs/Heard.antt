@@ -1,7 +1,7 @@
 -- What a lookup hears of a reply (RFC 4035, 4.2 and 5).
-use Rattle.std.specs.Prelude.{◌≡◌, List, Option, None, Some, Result, Ok, Err}
+use Rattle.std.specs.Prelude.{◌≡◌, List, Option, None, Some, Ok, Err}
 use Rattle.dns_model.specs.Records.{Question, MessageText}
-use Rattle.dns_model.specs.Answers.{Told, told_by, ResponseText}
+use Rattle.dns_model.specs.Answers.{Told, told_by}
 use Rattle.dns_judgement.specs.Marking.{cleared_message}
 use Rattle.dns_net.specs.Errors.{Reply, ErrorText, DnsErrorText, Busy, Dns, Message, Msg, NoConnections, Proto, Io, Timeout, QueryCaseMismatch, ForeignClassRecord, Truncated, NoMemory, ResponseCode, Nsec, DnssecBogus}
 use Rattle.dns_net.specs.Handles.{reply_to}

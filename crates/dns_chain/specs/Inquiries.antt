@@ -1,7 +1,7 @@
 -- The requests of a lookup (RFC 4035, 4.1, 4.6 and 4.9.2; RFC 6840, 5.7).
-use Rattle.std.specs.Prelude.{ℕ, true, false, min, Some, None, if◌then◌else◌}
+use Rattle.std.specs.Prelude.{ℕ, true, min, None, if◌then◌else◌}
 use Rattle.dns_model.specs.Records.{Question}
-use Rattle.dns_net.specs.Requests.{RequestText, request_of, query_message}
+use Rattle.dns_net.specs.Requests.{RequestText, query_message}
 use Rattle.dns_net.specs.declared.request.DnsRequestOptions.{DnsRequestOptions}
 
 -- the options of a judged ask: those of the call, with EDNS and DO

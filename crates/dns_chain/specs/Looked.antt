@@ -1,6 +1,5 @@
 -- What a lookup answers, and why (RFC 4035, 5).
-use Rattle.std.specs.Prelude.{IsSomeAnd, ℕ, ◌≡◌, ◌⊎◌, ◌≤◌, ◌+◌, List, [], ◌∷◌, Option, None, Some, Result, Ok, Err}
-use Rattle.dns_model.specs.declared.proof.Proof.{Proof}
+use Rattle.std.specs.Prelude.{IsSomeAnd, ℕ, ◌≡◌, ◌⊎◌, ◌≤◌, List, Option, None, Some, Result, Ok, Err}
 use Rattle.dns_model.specs.declared.denial.Denial.TheVariants as denied
 use Rattle.dns_model.specs.Records.{Rr, Question, MessageText}
 use Rattle.dns_model.specs.Chains.{Judge}
@@ -9,6 +8,7 @@ use Rattle.dns_judgement.specs.Judged.{Judged}
 use Rattle.dns_judgement.specs.Outcome.{Outcome, Unjudged, Accepted, Denied, outcome_of, foreign_record}
 use Rattle.dns_judgement.specs.Marking.{cleared_message, finished}
 use Rattle.dns_judgement.specs.Run.{Run, Sets, most_sends}
+use Rattle.dns_net.specs.Causes.{Rose}
 use Rattle.dns_net.specs.Errors as seen
 use Rattle.dns_net.specs.Errors.{Reply, ErrorText, DnsErrorText, Busy, Dns, Message, Msg, NoConnections, Proto, Io, Timeout, QueryCaseMismatch, ForeignClassRecord, Truncated, ResponseCode, Nsec, DnssecBogus}
 use Rattle.dns_net.specs.Walks.{Walked}
@@ -71,14 +71,16 @@ pub record Asked {H : Type 0} (sent : H → Option Question → H → Reply → 
   pub told : ReplyIsTold tells (Some q) reply
   pub heard : HeardAs reply result
 
--- a whole lookup: the first send, the walk of the asks after it, and why it answers as it does
-pub record IsLookup {H : Type 0} (sent : H → Option Question → H → Reply → Type 0) (old new : H)
+-- a whole lookup: the first send, which met a fault where it was answered an error without a message, the walk of the asks
+-- after it, and why it answers as it does
+pub record IsLookup {H : Type 0} (sent : H → Option Question → H → Reply → Type 0) (faults : H → ℕ) (old new : H)
     (tells : Option (List (Question × Reply))) (j : Judge) (now limit : ℕ) (q : Question) (answer : Reply) : Type 0 where
   pub middle : H
   pub reply : Reply
   pub sends : ℕ
   pub step : sent old (Some q) middle reply
   pub told : ReplyIsTold tells (Some q) reply
+  pub rose : heard_message reply ≡ None → Rose (faults old) (faults middle)
   pub walk : Walked sent middle new 1 sends
   pub few : sends ≤ most_sends
   pub looked : Looked j now limit (says_of tells) q reply answer sends

@@ -2,6 +2,7 @@ ghost use Rattle.std.specs.Prelude.{◌≡◌, ◌≤◌, IfOk, true};
 ghost use Rattle.dns_model.specs.Chains.{judge};
 ghost use Rattle.dns_net.specs.Replies.{reply_of};
 ghost use Rattle.dns_chain.specs.Inquiries.{depth_limit};
+ghost use Rattle.dns_chain.specs.Causes.{PassesOnly, PassesOn, ForeignOnly, ForeignNamed, UnjudgedOnly, UnansweredUnjudged, RefusedOnly, AcceptedOnly, Judges};
 ghost use Rattle.dns_chain.specs.Looked.{UnlessNoMemory, IsLookup, IsSoundAnswer};
 
 use crate::inquiry::{Inquiry, depth_limit_of};
@@ -70,7 +71,26 @@ impl<H: DnsHandle + Drop, V: Verifier + Drop> DnssecDnsHandle<H, V> {
         ensures later { H.faults self.old.handle ≤ H.faults self.new.handle }
         ensures told { H.told self.new.handle ≡ H.told self.old.handle }
         ensures sound { IsSoundAnswer (judge (V.answers self.old.verifier) self.old.anchors now) now (H.told self.old.handle) query (reply_of result) }
-        ensures lookup { UnlessNoMemory result (IsLookup H.sent self.old.handle self.new.handle (H.told self.old.handle)
+        ensures lookup { UnlessNoMemory result (IsLookup H.sent H.faults self.old.handle self.new.handle (H.told self.old.handle)
+            (judge (V.answers self.old.verifier) self.old.anchors now) now (depth_limit options) query (reply_of result)) }
+
+        // An error that only the handle makes is passed on, after one send that met a fault; and whatever error it replies is.
+        ensures passed { PassesOnly H.sent H.faults self.old.handle self.new.handle (H.told self.old.handle) query (reply_of result) }
+        ensures passes { UnlessNoMemory result (PassesOn (H.told self.old.handle) query (reply_of result)) }
+
+        // Else the first record of another class than the query's is named, and nothing else is complained of so.
+        ensures foreign { ForeignOnly H.sent H.faults self.old.handle self.new.handle (H.told self.old.handle) query (reply_of result) }
+        ensures names_foreign { UnlessNoMemory result (ForeignNamed (H.told self.old.handle) query (reply_of result)) }
+
+        // Else the sets are judged, and there are three answers: denial would have to be judged, is lacking, or isn't needed.
+        ensures unjudged { UnjudgedOnly H.sent H.faults self.old.handle self.new.handle (H.told self.old.handle)
+            (judge (V.answers self.old.verifier) self.old.anchors now) (depth_limit options) query (reply_of result) }
+        ensures unanswered { UnlessNoMemory result (UnansweredUnjudged (H.told self.old.handle) query (reply_of result)) }
+        ensures denied { RefusedOnly H.sent self.old.handle self.new.handle (H.told self.old.handle)
+            (judge (V.answers self.old.verifier) self.old.anchors now) now (depth_limit options) query (reply_of result) }
+        ensures accepted { AcceptedOnly H.sent self.old.handle self.new.handle (H.told self.old.handle)
+            (judge (V.answers self.old.verifier) self.old.anchors now) now (depth_limit options) query (reply_of result) }
+        ensures judges { UnlessNoMemory result (Judges H.sent self.old.handle self.new.handle (H.told self.old.handle)
             (judge (V.answers self.old.verifier) self.old.anchors now) now (depth_limit options) query (reply_of result)) }
     {
         let inquiry = Inquiry {

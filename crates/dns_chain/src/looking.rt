@@ -28,7 +28,7 @@ pub(crate) fn look<H: DnsHandle, V: Verifier>(
     requires limit { inquiry.limit ≤ 255 }
     ensures later { H.faults handle.old ≤ H.faults handle.new }
     ensures told { H.told handle.new ≡ H.told handle.old }
-    ensures lookup { UnlessNoMemory result (IsLookup H.sent handle.old handle.new (H.told handle.old)
+    ensures lookup { UnlessNoMemory result (IsLookup H.sent H.faults handle.old handle.new (H.told handle.old)
         (judge (V.answers verifier.now) anchors.now inquiry.now) inquiry.now inquiry.limit query (reply_of result)) }
 {
     let mut sends: u32 = 0;

@@ -1,2 +1,4 @@
 pub mod OutcomeLemmas
 pub mod SoundLemmas
+pub mod CauseLemmas
+pub mod EndLemmas

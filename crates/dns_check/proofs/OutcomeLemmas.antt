@@ -1,5 +1,5 @@
 -- What was written for bytes that were read is what the source told.
-use Rattle.std.proofs.Common.{◌≡◌, ◌++◌, ◌≤◌, ◌<◌, ℕ, List, [], Option, None, Some, IfSome, length, take, sym, refl, append-nil, arith}
+use Rattle.std.proofs.Common.{◌≡◌, ◌++◌, ◌<◌, ℕ, List, [], Option, None, Some, IfSome, length, sym, refl, append-nil, arith}
 use Rattle.std.specs.Io.KnownBytes.{Appends}
 use Rattle.dns_outside.specs.Reading.{input_limit}
 use Rattle.dns_outside.specs.Writing.{TakesPrefix}

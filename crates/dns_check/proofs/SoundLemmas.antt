@@ -1,20 +1,19 @@
 -- The answer that a lookup gives to a session is sound.
-use Rattle.std.proofs.Common.{inl, inr, ◌≡◌, ◌⊎◌, ℕ, List, [], map, Option, None, Some, Result, Ok, Err, sym, refl, ◌∙◌, ap}
+use Rattle.std.proofs.Common.{inl, inr, ◌≡◌, ℕ, List, map, Option, None, Some, Ok, sym, refl, ◌∙◌, ap}
 use Rattle.dns_model.specs.declared.denial.Denial.{Denial}
 use Rattle.dns_model.specs.Records.{Question, MessageText}
 use Rattle.dns_model.specs.Chains.{Judge}
-use Rattle.dns_model.specs.Answers.{Told, told_by, placed_sets, Sound, ResponseText}
+use Rattle.dns_model.specs.Answers.{Told, told_by, Sound, ResponseText}
 use Rattle.dns_judgement.specs.Judged.{Judged}
 use Rattle.dns_judgement.specs.Outcome.{Outcome, Unjudged, Accepted, Denied, outcome_of}
 use Rattle.dns_judgement.specs.Marking.{cleared_message, finished}
 use Rattle.dns_judgement.proofs.SoundLemmas.{sound_of_walk}
-use Rattle.dns_net.specs.Errors as seen
 use Rattle.dns_net.specs.Errors.{Reply}
 use Rattle.dns_net.specs.Requests.{plain_options}
 use Rattle.dns_net.specs.Handles.{reply_to, ReplyIsTold}
 use Rattle.dns_chain.specs.Heard.{heard_message, says_of}
 use Rattle.dns_chain.specs.Inquiries.{depth_limit}
-use Rattle.dns_chain.specs.Looked.{Looked, PassedOn, NamesForeign, Answered, answer_by, judged_answer}
+use Rattle.dns_chain.specs.Looked.{Looked, PassedOn, NamesForeign, Answered, answer_by}
 use Rattle.dns_session.specs.SessionText.{SessionText}
 use Rattle.dns_report.specs.Report.{report_text}
 use Rattle.dns_check.specs.Answering.{recorded, session_judge, Answers}

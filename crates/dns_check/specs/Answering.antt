@@ -1,5 +1,5 @@
 -- The lookup that a session asks for: over its replies, with its keys and signatures, at its moment.
-use Rattle.std.specs.Prelude.{ℕ, ◌≡◌, List, [], ◌∷◌, map, Option, None, Some, Result, Ok, Err}
+use Rattle.std.specs.Prelude.{ℕ, List, [], ◌∷◌, map, Some, Result, Ok, Err}
 use Rattle.dns_model.specs.declared.denial.Denial.TheVariants as denied
 use Rattle.dns_model.specs.Keys.{Anchor}
 use Rattle.dns_model.specs.Records.{Question, MessageText}
@@ -59,5 +59,5 @@ session_judge s = judge (answers_of (listed_by s.algorithms s.accepts)) (trusted
 -- a lookup of the session's query, over its replies, gives this answer
 pub record Answers (s : SessionText) (answer : Reply) : Type 0 where
   pub after : RecordedText
-  pub lookup : IsLookup AnswersFrom (recorded_by s.replies) after (Some (map recorded s.replies)) (session_judge s) s.moment
+  pub lookup : IsLookup AnswersFrom (λ r. r.faults) (recorded_by s.replies) after (Some (map recorded s.replies)) (session_judge s) s.moment
       (depth_limit plain_options) s.query answer

@@ -1,4 +1,5 @@
 pub mod Forms
 pub mod Answering
 pub mod Soundness
+pub mod Causes
 pub mod Outcomes

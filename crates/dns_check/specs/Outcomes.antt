@@ -1,5 +1,5 @@
 -- What an input comes to, and what a run leaves.
-use Rattle.std.specs.Prelude.{ℕ, ◌≡◌, ◌≢◌, ◌≤◌, ◌<◌, List, [], ◌∷◌, length, Option, None, Some, Result, Ok, Err}
+use Rattle.std.specs.Prelude.{ℕ, ◌≡◌, ◌≢◌, ◌<◌, List, [], length, Option, None, Some, Ok, Err}
 use Rattle.std.specs.Io.KnownBytes.{Appends}
 use Rattle.dns_model.specs.Answers.{ResponseText}
 use Rattle.dns_net.specs.Errors as seen
@@ -13,6 +13,7 @@ use Rattle.dns_outside.specs.Writing.{TakesPrefix}
 use Rattle.dns_check.specs.Forms.{bad_line_text, too_long_text}
 use Rattle.dns_check.specs.Answering.{Answers}
 use Rattle.dns_check.specs.Soundness.{IsSound}
+use Rattle.dns_check.specs.Causes.{FaultCause}
 use Rattle.dns_check.specs.declared.outcome.Ending.{Ending}
 use Rattle.dns_check.specs.declared.outcome.Ending.TheVariants.{Report, Fault, BadLine}
 
@@ -23,10 +24,12 @@ pub record IsReport (session : SessionText) (text : List ℕ) : Type 0 where
   pub sound : IsSound session answer
   pub spelled : text ≡ report_text answer
 
--- the text is the line of one error, and a lookup for the session gives that error, which isn't want of memory
+-- the text is the line of one error, which has its cause in the session and isn't want of memory, and a lookup for the session
+-- gives that error
 pub record IsFault (session : SessionText) (text : List ℕ) : Type 0 where
   pub error : ErrorText
   pub own : error ≢ seen.NoMemory
+  pub cause : FaultCause session error
   pub given : Answers session (Err error)
   pub spelled : text ≡ fault_text error
 

@@ -1,5 +1,5 @@
 -- What the answer to a session is worth (RFC 4035, 5).
-use Rattle.std.specs.Prelude.{◌≡◌, List, map, Option, Some}
+use Rattle.std.specs.Prelude.{◌≡◌, map, Some}
 use Rattle.dns_model.specs.Records.{MessageText}
 use Rattle.dns_model.specs.Answers.{told_by, Sound, ResponseText}
 use Rattle.dns_net.specs.Handles.{reply_to}

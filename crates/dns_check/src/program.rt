@@ -1,10 +1,14 @@
 //! The program over any source and any sink.
 ghost use Rattle.std.specs.Prelude.{◌≡◌, ◌≢◌, ◌<◌, ◌≤◌, map, length, Some, None, IfSome};
 ghost use Rattle.std.specs.Io.KnownBytes.{Appends};
+ghost use Rattle.dns_net.specs.Errors.{ErrorText, Message};
+ghost use Rattle.dns_net.specs.declared.notice.Notice.TheVariants.{NotJudgedYet};
+ghost use Rattle.dns_report.specs.Faults.{fault_text};
 ghost use Rattle.dns_outside.specs.Faults.{Rose};
 ghost use Rattle.dns_outside.specs.Reading.{input_limit};
 ghost use Rattle.dns_outside.specs.Writing.{TakesPrefix};
-ghost use Rattle.dns_check.specs.Forms.{form_in, help_text, version_text, bad_words_text, too_long_text};
+ghost use Rattle.dns_check.specs.Causes.{HasNoMessage, HasForeign, HasNoAnswer, EndsWith, EndsAsJudged, IfSession, IfBadLine};
+ghost use Rattle.dns_check.specs.Forms.{form_in, help_text, version_text, bad_line_text, bad_words_text, too_long_text};
 ghost use Rattle.dns_check.specs.Outcomes.{Leaves, LeavesPrefix, Wrote, WrotePrefix, ComesTo, Reports, Fails, Refuses};
 ghost use Rattle.dns_check.specs.declared.form.Form.TheVariants.{Validate, Help, Version};
 
@@ -126,7 +130,22 @@ pub fn run<S: Source, W: Sink>(
     ensures help_ends { form_in (map (λ w. w.items) words.now) ≡ Some Help → result ≢ 5 → result ≢ 6 → result ≡ 0 }
     ensures version_ends { form_in (map (λ w. w.items) words.now) ≡ Some Version → result ≢ 5 → result ≢ 6 → result ≡ 0 }
 
+    // 1 is answered only with the line of an error that has its cause in the session.
     ensures fault { result ≡ 1 → Leaves Fails (S.left input.old) (W.taken output.old) (W.taken output.new) }
+
+    // A session without a message in reply to its query ends with that error's line, one whose reply has a record of another
+    // class with the first of these, and one whose reply has no answer isn't judged yet; unless the status is 4 or more.
+    ensures no_message { form_in (map (λ w. w.items) words.now) ≡ Some Validate → IfSession (S.left input.old) (λ s.
+        (error : ErrorText) → HasNoMessage s error → EndsWith result 1 (W.taken output.old) (W.taken output.new) (fault_text error)) }
+    ensures other_class { form_in (map (λ w. w.items) words.now) ≡ Some Validate → IfSession (S.left input.old) (λ s.
+        (error : ErrorText) → HasForeign s error → EndsWith result 1 (W.taken output.old) (W.taken output.new) (fault_text error)) }
+    ensures no_answer { form_in (map (λ w. w.items) words.now) ≡ Some Validate → IfSession (S.left input.old) (λ s.
+        HasNoAnswer s → EndsWith result 1 (W.taken output.old) (W.taken output.new) (fault_text (Message NotJudgedYet))) }
+
+    // Where the records of the reply have the query's class, its sets are judged, and the run ends as each case of them asks
+    // for: with 0 and the report, with `fault nsec bogus`, or as not judged yet.
+    ensures judged { form_in (map (λ w. w.items) words.now) ≡ Some Validate → IfSession (S.left input.old) (λ s.
+        EndsAsJudged s result (W.taken output.old) (W.taken output.new)) }
 
     // 2 is answered only for words that are no form, and such words end with 2 or at the sink.
     ensures words { result ≡ 2 → form_in (map (λ w. w.items) words.now) ≡ None }
@@ -134,11 +153,14 @@ pub fn run<S: Source, W: Sink>(
     ensures bad_words { result ≡ 2 → Appends (W.taken output.old) (W.taken output.new) bad_words_text }
     ensures unread { form_in (map (λ w. w.items) words.now) ≢ Some Validate → input.new ≡ input.old }
 
+    // 3 is answered only for an input that is no session, and such an input ends with 3, or with 4 or more.
     ensures grammar { result ≡ 3 → Leaves Refuses (S.left input.old) (W.taken output.old) (W.taken output.new) }
+    ensures bad_line { form_in (map (λ w. w.items) words.now) ≡ Some Validate → IfBadLine (S.left input.old) (λ number.
+        EndsWith result 3 (W.taken output.old) (W.taken output.new) (bad_line_text number)) }
 
+    // 4 and 5 are answered only where the count of faults rose.
     ensures source { result ≡ 4 → Rose (S.faults input.old) (S.faults input.new) }
     ensures untouched { result ≡ 4 → output.new ≡ output.old }
-
     ensures sink { result ≡ 5 → Rose (W.faults output.old) (W.faults output.new) }
 
     // 7 is answered only for an input that is too long, and such an input ends with 7, at the source, at the sink or for

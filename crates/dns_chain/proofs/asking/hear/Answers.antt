@@ -1,5 +1,5 @@
 use Rattle.std.proofs.Common.{arith}
-use Rattle.dns_net.proofs.WalkLemmas.{no_walk, one_walk}
+use Rattle.dns_net.proofs.WalkLemmas.{one_walk}
 use Rattle.dns_chain.proofs.asking.hear.Goals as goal
 
 pub returns-clause-went : goal.returns-clause-went

@@ -1,4 +1,4 @@
-use Rattle.std.proofs.Common.{inl, inr, ap, Err, refl}
+use Rattle.std.proofs.Common.{inl, inr, ap, Err}
 use Rattle.dns_chain.proofs.LookLemmas.{unless_map, lookup_passed, lookup_foreign, lookup_answered}
 use Rattle.dns_chain.proofs.looking.look.Goals as goal
 
@@ -6,14 +6,17 @@ pub returns-in-Err-clause-lookup : goal.returns-in-Err-clause-lookup
 returns-in-Err-clause-lookup g c =
     elim c.in-Err.ensures.asked [
       | inl memory ↦ inl memory
-      | inr asked ↦ inr (lookup_passed g.H.DnsHandle.sent _ _ _ _ _ _ _ _ asked)
+      | inr asked ↦ elim c.in-Err.ensures.cause [
+        | inl memory ↦ inl memory
+        | inr rose ↦ inr (lookup_passed g.H.DnsHandle.sent g.H.DnsHandle.faults _ _ _ _ _ _ _ _ asked rose)
+      ]
     ]
 
 pub returns-in-Some-clause-lookup : goal.returns-in-Some-clause-lookup
 returns-in-Some-clause-lookup g c =
     elim c.foreign_error.ensures [
       | inl memory ↦ inl memory
-      | inr is ↦ inr (lookup_foreign g.H.DnsHandle.sent _ _ _ _ _ _ _ _ _ _ c.in-Ok.ensures.asked c.in-Some.ensures (ap (λ e. Err e) is))
+      | inr is ↦ inr (lookup_foreign g.H.DnsHandle.sent g.H.DnsHandle.faults _ _ _ _ _ _ _ _ _ _ c.in-Ok.ensures.asked c.in-Some.ensures (ap (λ e. Err e) is))
     ]
 
 pub returns-clause-lookup : goal.returns-clause-lookup

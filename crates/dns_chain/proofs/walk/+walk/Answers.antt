@@ -1,5 +1,4 @@
-use Rattle.std.proofs.Common.{◌≡◌, arith, rules, inl, inr, refl, ◌∙◌, sym}
-use Rattle.std.proofs.lemmas.Grind.{common_steps}
+use Rattle.std.proofs.Common.{◌≡◌, arith, inl, inr, refl, ◌∙◌, sym}
 use Rattle.std.proofs.lemmas.List.{map-append, map-id}
 use Rattle.std.proofs.lemmas.Iterator.Consumers.{YieldsList-end}
 use Rattle.std.proofs.lemmas.Iterator.Adapters.{YieldsList-from_vec}

@@ -1,4 +1,4 @@
-use Rattle.std.proofs.Common.{◌≡◌, ◌≤◌, ◌<◌, ◌+◌, map, take, ℕ, ◌-◌, ◌*◌}
+use Rattle.std.proofs.Common.{◌≡◌, ◌+◌, map, take, ◌-◌, ◌*◌}
 use Rattle.dns_model.specs.Chains.{judge}
 use Rattle.dns_trust.specs.Verdicts.{verdict_text}
 use Rattle.dns_chain.specs.Heard.{says_of, Tells}
