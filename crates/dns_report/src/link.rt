@@ -7,6 +7,7 @@ ghost use Rattle.dns_words.specs.Codes.{type_word, class_word};
 ghost use Rattle.dns_words.specs.OctetWords.{octets_word};
 ghost use Rattle.dns_net.specs.Link.{fact_of};
 ghost use Rattle.dns_report.specs.Lines.{line, line_rest};
+ghost use Rattle.dns_report.specs.View.{numbered, shown, chain_view};
 ghost use Rattle.dns_report.specs.Report.{key_words, link_line, chain_line, chain_text};
 
 use crate::marks::section_word;
@@ -18,9 +19,9 @@ use dns_net::{Chain, Link};
 use dns_record::{Rdata, RecordType};
 
 /// Appends the words of numbered keys, and ends the line.
-#[tactic(auto, unfolding(crate::specs::Report::key_words))]
+#[tactic(auto, unfolding(crate::specs::Report::key_words, crate::specs::View::numbered))]
 fn push_keys(into: &mut Vec<u8>, keys: &[Rdata], numbers: &[u32]) -> Result<(), NoMemory>
-    ensures { OnOk result (into.new.items ≡ into.old.items ++ line_rest (key_words keys.now numbers.now)) }
+    ensures { OnOk result (into.new.items ≡ into.old.items ++ line_rest (key_words (numbered keys.now numbers.now))) }
 {
     let mut left = keys;
     let mut right = numbers;
@@ -69,7 +70,7 @@ fn push_signed(
 
 /// Appends the line of a link.
 fn push_link(into: &mut Vec<u8>, link: &Link) -> Result<(), NoMemory>
-    ensures { OnOk result (into.new.items ≡ into.old.items ++ link_line (fact_of link.now)) }
+    ensures { OnOk result (into.new.items ≡ into.old.items ++ link_line (shown (fact_of link.now))) }
 {
     match link {
         Link::Anchored { owner, class, key } => {
@@ -123,7 +124,7 @@ fn push_link(into: &mut Vec<u8>, link: &Link) -> Result<(), NoMemory>
 
 /// Appends the line that begins a chain.
 fn push_chain_line(into: &mut Vec<u8>, chain: &Chain) -> Result<(), NoMemory>
-    ensures { OnOk result (into.new.items ≡ into.old.items ++ chain_line chain.now) }
+    ensures { OnOk result (into.new.items ≡ into.old.items ++ chain_line (chain_view chain.now)) }
 {
     push_text(into, b"chain")?;
     push_word(into, section_word(chain.section))?;
@@ -133,7 +134,7 @@ fn push_chain_line(into: &mut Vec<u8>, chain: &Chain) -> Result<(), NoMemory>
 
 /// Appends the lines of links, in order.
 fn push_links(into: &mut Vec<u8>, links: &[Link]) -> Result<(), NoMemory>
-    ensures { OnOk result (into.new.items ≡ into.old.items ++ flat_map link_line (map fact_of links.now)) }
+    ensures { OnOk result (into.new.items ≡ into.old.items ++ flat_map link_line (map shown (map fact_of links.now))) }
 {
     let mut left = links;
     'links: while let Some((link, more)) = left.split_first() {
@@ -145,7 +146,7 @@ fn push_links(into: &mut Vec<u8>, links: &[Link]) -> Result<(), NoMemory>
 
 /// Appends the lines of a chain.
 fn push_chain(into: &mut Vec<u8>, chain: &Chain) -> Result<(), NoMemory>
-    ensures { OnOk result (into.new.items ≡ into.old.items ++ chain_text chain.now) }
+    ensures { OnOk result (into.new.items ≡ into.old.items ++ chain_text (chain_view chain.now)) }
 {
     push_chain_line(into, chain)?;
     push_links(into, &chain.links)
@@ -153,7 +154,7 @@ fn push_chain(into: &mut Vec<u8>, chain: &Chain) -> Result<(), NoMemory>
 
 /// Appends the lines of chains, in order.
 pub(crate) fn push_chains(into: &mut Vec<u8>, chains: &[Chain]) -> Result<(), NoMemory>
-    ensures { OnOk result (into.new.items ≡ into.old.items ++ flat_map chain_text chains.now) }
+    ensures { OnOk result (into.new.items ≡ into.old.items ++ flat_map chain_text (map chain_view chains.now)) }
 {
     for chain in chains {
         push_chain(into, chain)?;

@@ -1,6 +1,7 @@
 //! The text of a report.
 ghost use Rattle.std.specs.Prelude.{◌≡◌, ◌++◌, OnOk, IfOk};
-ghost use Rattle.dns_report.specs.Report.{code_line, denial_line, head_text, records_text, report_body, report_text};
+ghost use Rattle.dns_report.specs.View.{view_of};
+ghost use Rattle.dns_report.specs.Report.{code_line, denial_line, head_text, records_text, view_body, view_text, report_text};
 
 use crate::link::push_chains;
 use crate::record::push_section;
@@ -42,7 +43,7 @@ fn push_denial(into: &mut Vec<u8>, denial: Denial) -> Result<(), NoMemory>
 /// Appends the lines of a message's records: answers, then authorities, then additionals.
 #[tactic(auto, unfolding(crate::specs::Report::records_text))]
 fn push_records(into: &mut Vec<u8>, message: &Message) -> Result<(), NoMemory>
-    ensures { OnOk result (into.new.items ≡ into.old.items ++ records_text message.now) }
+    ensures { OnOk result (into.new.items ≡ into.old.items ++ records_text message.now.answers message.now.authorities message.now.additionals) }
 {
     push_section(into, Section::Answer, &message.answers)?;
     push_section(into, Section::Authority, &message.authorities)?;
@@ -60,9 +61,9 @@ fn push_head(into: &mut Vec<u8>, code: ResponseCode, denial: Denial) -> Result<(
 }
 
 /// Appends the lines of a report but the last.
-#[tactic(auto, unfolding(crate::specs::Report::report_body))]
+#[tactic(auto, unfolding(crate::specs::Report::view_body))]
 fn push_body(into: &mut Vec<u8>, answer: &DnsResponse) -> Result<(), NoMemory>
-    ensures { OnOk result (into.new.items ≡ into.old.items ++ report_body answer.now) }
+    ensures { OnOk result (into.new.items ≡ into.old.items ++ view_body (view_of answer.now)) }
 {
     push_head(into, answer.message.response_code, answer.denial)?;
     push_records(into, &answer.message)?;
@@ -71,7 +72,7 @@ fn push_body(into: &mut Vec<u8>, answer: &DnsResponse) -> Result<(), NoMemory>
 
 /// The report on an answer: its code, what it denies, each record with its mark, and the chains of its Secure sets. Names
 /// are printed in the case in which they came. The only error is want of memory.
-#[tactic(auto, unfolding(crate::specs::Report::report_text))]
+#[tactic(auto, unfolding(crate::specs::Report::report_text, crate::specs::Report::view_text))]
 pub fn write_report(alloc: Global, answer: &DnsResponse) -> Result<Vec<u8>, NoMemory>
     ensures { IfOk result (λ v. v.items ≡ report_text answer.now) }
 {
