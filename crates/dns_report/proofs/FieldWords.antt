@@ -1,9 +1,8 @@
 -- The words of an answer's fields: each is a word, and tells its field.
-use Rattle.std.proofs.Common.{◌≡◌, ℕ, ◌^◌, ◌<◌, ◌≤◌, Bool, true, false, ◌&&◌, nat_lt, List, [], ◌∷◌, length, map, get_or, ap, refl, arith, inl, inr}
+use Rattle.std.proofs.Common.{◌≡◌, ℕ, ◌^◌, ◌<◌, ◌≤◌, true, List, [], ◌∷◌, map, get_or, ap, refl, arith}
 use Rattle.std.specs.Fmt.{decimal}
 use Rattle.std.specs.List.{list_all}
 use Rattle.std.proofs.lemmas.Bool.{and_parts, ltb-true}
-use Rattle.std.proofs.lemmas.Bool.Decides.{nat_tests}
 use Rattle.std.proofs.lemmas.Fmt.{decimal_injective}
 use Rattle.dns_model.specs.Bytes.{is_bytes}
 use Rattle.dns_model.specs.Names.{Labels, is_name}
@@ -60,9 +59,6 @@ pub bytes_tell : (a b : List ℕ) → is_bytes a ≡ true → is_bytes b ≡ tru
 bytes_tell a b first second h = octets_injective a b first second h
 
 -- ---- lists of words
-
-pub word_at : ℕ → Words → List ℕ
-word_at i words = get_or words i []
 
 abbrev pub more_words : Words → Words
 more_words [] = []

@@ -1,5 +1,5 @@
 -- A text of lines tells its lines, and a line its words, where each byte of a word is above the space.
-use Rattle.std.proofs.Common.{◌≡◌, ℕ, ◌+◌, ◌<◌, ◌≤◌, Bool, true, false, ◌&&◌, nat_lt, List, [], ◌∷◌, ◌++◌, length, slice_index, drop, refl, sym, ap, ◌∙◌, arith, length-append}
+use Rattle.std.proofs.Common.{◌≡◌, ℕ, ◌<◌, ◌≤◌, Bool, true, ◌&&◌, nat_lt, List, [], ◌∷◌, ◌++◌, length, slice_index, refl, sym, ap, ◌∙◌, arith, length-append}
 use Rattle.std.specs.List.{list_all, flat_map}
 use Rattle.std.proofs.lemmas.Bool.{and_parts}
 use Rattle.std.proofs.lemmas.Bool.Decides.{nat_tests}
@@ -65,7 +65,7 @@ line_cut a b (w ∷ ws) (v ∷ vs) x y first second all_first all_second h =
     let parts = and_parts (is_word w) (list_all is_word ws) all_first in
     let others = and_parts (is_word v) (list_all is_word vs) all_second in
     let e : a ++ 32 ∷ (line w ws ++ x) ≡ b ++ 32 ∷ (line v vs ++ y) =
-        sym (append_assoc a (32 ∷ line w ws) x) ∙ h ∙ append_assoc b (32 ∷ line v vs) y in
+    sym (append_assoc a (32 ∷ line w ws) x) ∙ h ∙ append_assoc b (32 ∷ line v vs) y in
     let same = cut a b 32 32 (line w ws ++ x) (line v vs ++ y) first second (omega arith) (omega arith) e in
     let more = line_cut w v ws vs x y parts.0 others.0 parts.1 others.1 same.rest in
     record { word = same.word; words = rw (more.word, more.words) refl; rest = more.rest }

@@ -1,14 +1,12 @@
 -- The line of a link tells the link, and the lines of chains the chains.
-use Rattle.std.proofs.Common.{◌≡◌, ℕ, ◌^◌, ◌<◌, Bool, true, false, ◌&&◌, nat_lt, List, [], ◌∷◌, ◌++◌, length, map, get_or, refl, sym, ap, ◌∙◌, arith}
+use Rattle.std.proofs.Common.{◌≡◌, ℕ, ◌^◌, true, ◌&&◌, nat_lt, List, [], ◌∷◌, ◌++◌, length, map, get_or, refl, ap, arith}
 use Rattle.std.specs.Fmt.{decimal}
 use Rattle.std.specs.List.{list_all}
 use Rattle.std.proofs.lemmas.Bool.{and_parts, ltb-true}
 use Rattle.std.proofs.lemmas.Fmt.{decimal_injective}
 use Rattle.dns_model.specs.Bytes.{is_bytes}
 use Rattle.dns_model.specs.Names.{Labels}
-use Rattle.dns_model.specs.NameText.{printed}
 use Rattle.dns_model.specs.declared.section.Section.{Section}
-use Rattle.dns_words.specs.Codes.{type_word, class_word}
 use Rattle.dns_words.specs.OctetWords.{octets_word}
 use Rattle.dns_words.proofs.WordShapes.{decimal_word}
 use Rattle.dns_report.specs.Marks.{section_word}
@@ -90,8 +88,15 @@ link_good (KeySet owner class keys) h =
     let f = fits_key_set owner class keys h in rw (printed_word owner, class_good class f.classed, keys_good keys f.keyed) refl
 link_good (Signed owner class kind rdatas sig key_link key) h =
     let f = fits_signed owner class kind rdatas sig key_link key h in
-    rw (printed_word owner, class_good class f.classed, type_good kind f.typed, number_good key_link f.linked, bytes_good key f.keyed, bytes_good sig f.signed,
-      rdatas_good rdatas f.listed) refl
+    rw (
+      printed_word owner,
+      class_good class f.classed,
+      type_good kind f.typed,
+      number_good key_link f.linked,
+      bytes_good key f.keyed,
+      bytes_good sig f.signed,
+      rdatas_good rdatas f.listed,
+    ) refl
 
 -- the first byte of a line's first word
 abbrev letter : Line → ℕ
@@ -150,7 +155,7 @@ link_tells (Signed o c t r x m k) (Signed p d u s y n l) first second h =
     let f = fits_signed o c t r x m k first in
     let g = fits_signed p d u s y n l second in
     let rdatas : map octets_word r ≡ map octets_word s =
-        ap (λ (l : Line). more_words (more_words (more_words (more_words (more_words (more_words l.1)))))) h in
+    ap (λ (l : Line). more_words (more_words (more_words (more_words (more_words (more_words l.1)))))) h in
     signed_same o p c d t u r s x y m n k l (name_tells o p f.named g.named (word_same _ _ 0 h)) (class_tells c d f.classed g.classed (word_same _ _ 1 h))
     (type_tells t u f.typed g.typed (word_same _ _ 2 h)) (rdatas_tell r s f.listed g.listed rdatas) (bytes_tell x y f.signed g.signed (word_same _ _ 5 h))
     (number_tells m n f.linked g.linked (word_same _ _ 3 h)) (bytes_tell k l f.keyed g.keyed (word_same _ _ 4 h))

@@ -18,7 +18,7 @@ use Rattle.dns_report.specs.View.{fitting_name, is_u16, is_u32, fitting_record}
 use Rattle.dns_report.proofs.LineLaws.{Line, is_line}
 use Rattle.dns_report.proofs.NameShapes.{printed_word}
 use Rattle.dns_report.proofs.MarkWords.{mark_injective, mark_is_word, section_is_word}
-use Rattle.dns_report.proofs.FieldWords.{class_good, type_good, number_good, bytes_good, name_tells, class_tells, type_tells, number_tells, bytes_tell, word_at}
+use Rattle.dns_report.proofs.FieldWords.{class_good, type_good, number_good, bytes_good, name_tells, class_tells, type_tells, number_tells, bytes_tell}
 use Rattle.dns_report.proofs.ReportLines.{record_of}
 
 -- what a fitting record's fields are
@@ -40,8 +40,15 @@ fields_of r h =
 record_good : (section : Section) (r : Rr) → fitting_record r ≡ true → is_line (record_of section r) ≡ true
 record_good section r h =
     let f = fields_of r h in
-    rw (section_is_word section, printed_word r.owner, class_good r.class f.class, type_good r.kind f.kind, number_good r.ttl f.ttl, mark_is_word r.mark,
-      bytes_good r.rdata f.rdata) refl
+    rw (
+      section_is_word section,
+      printed_word r.owner,
+      class_good r.class f.class,
+      type_good r.kind f.kind,
+      number_good r.ttl f.ttl,
+      mark_is_word r.mark,
+      bytes_good r.rdata f.rdata,
+    ) refl
 
 rr_same : (o p : Labels) (k l c d t u : ℕ) (x y : List ℕ) (m n : Proof) → o ≡ p → k ≡ l → c ≡ d → t ≡ u → x ≡ y → m ≡ n
     → ◌≡◌ {A = Rr} (record { owner = o; kind = k; class = c; ttl = t; rdata = x; mark = m }) (record { owner = p; kind = l; class = d; ttl = u; rdata = y; mark = n })

@@ -1,5 +1,5 @@
 -- The text of a report tells its view.
-use Rattle.std.proofs.Common.{◌≡◌, ℕ, Bool, true, false, ◌&&◌, List, [], ◌∷◌, ◌++◌, map, codes, get_or, refl, sym, ap, ◌∙◌}
+use Rattle.std.proofs.Common.{◌≡◌, ℕ, true, false, ◌&&◌, List, [], ◌∷◌, ◌++◌, map, codes, get_or, refl, sym, ap, ◌∙◌}
 use Rattle.std.specs.Fmt.{decimal}
 use Rattle.std.specs.List.{list_all}
 use Rattle.std.proofs.lemmas.Bool.{and_parts}
@@ -10,7 +10,7 @@ use Rattle.dns_model.specs.Records.{Rr}
 use Rattle.dns_report.specs.Marks.{section_word, denial_words}
 use Rattle.dns_report.specs.View.{ChainView, View, is_u16, fitting_record, fitting_chain, fitting_view}
 use Rattle.dns_report.specs.Report.{view_text}
-use Rattle.dns_report.proofs.LineLaws.{Line, is_line, text_of, lines_same}
+use Rattle.dns_report.proofs.LineLaws.{Line, is_line, lines_same}
 use Rattle.dns_report.proofs.MarkWords.{denial_injective, denial_is_words}
 use Rattle.dns_report.proofs.FieldWords.{small_good, small_tells}
 use Rattle.dns_report.proofs.RecordLaws.{begins, first_line, other_lines, section_tells, records_good}
@@ -70,14 +70,14 @@ lines_tell v w first second h =
     let denial_line : ◌≡◌ {A = Line} (codes "denial", denial_words v.denial) (codes "denial", denial_words w.denial) = first_line after_code in
     let denial : denial_words v.denial ≡ denial_words w.denial = ap (λ (l : Line). l.1) denial_line in
     let answers = section_tells Answer v.answers w.answers
-          (map (record_of Authority) v.authorities ++ (map (record_of Additional) v.additionals ++ chains_lines v.chains last))
-          (map (record_of Authority) w.authorities ++ (map (record_of Additional) w.additionals ++ chains_lines w.chains last))
-          f.answers g.answers (others_begin v.authorities v.additionals v.chains) (others_begin w.authorities w.additionals w.chains) (other_lines after_code) in
+    (map (record_of Authority) v.authorities ++ (map (record_of Additional) v.additionals ++ chains_lines v.chains last))
+    (map (record_of Authority) w.authorities ++ (map (record_of Additional) w.additionals ++ chains_lines w.chains last))
+    f.answers g.answers (others_begin v.authorities v.additionals v.chains) (others_begin w.authorities w.additionals w.chains) (other_lines after_code) in
     let authorities = section_tells Authority v.authorities w.authorities
-          (map (record_of Additional) v.additionals ++ chains_lines v.chains last) (map (record_of Additional) w.additionals ++ chains_lines w.chains last)
-          f.authorities g.authorities (additionals_begin v.additionals v.chains) (additionals_begin w.additionals w.chains) answers.rest in
+    (map (record_of Additional) v.additionals ++ chains_lines v.chains last) (map (record_of Additional) w.additionals ++ chains_lines w.chains last)
+    f.authorities g.authorities (additionals_begin v.additionals v.chains) (additionals_begin w.additionals w.chains) answers.rest in
     let additionals = section_tells Additional v.additionals w.additionals (chains_lines v.chains last) (chains_lines w.chains last)
-          f.additionals g.additionals (chains_begin Additional v.chains) (chains_begin Additional w.chains) authorities.rest in
+    f.additionals g.additionals (chains_begin Additional v.chains) (chains_begin Additional w.chains) authorities.rest in
     view_same v.code w.code v.denial w.denial v.answers w.answers v.authorities w.authorities v.additionals w.additionals v.chains w.chains
     (small_tells v.code w.code f.code g.code code) (denial_injective v.denial w.denial denial) answers.records authorities.records additionals.records
     (chains_tell v.chains w.chains f.chains g.chains additionals.rest)

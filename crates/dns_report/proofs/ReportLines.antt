@@ -1,9 +1,8 @@
 -- A report as its lines.
-use Rattle.std.proofs.Common.{◌≡◌, ℕ, Bool, true, ◌&&◌, List, [], ◌∷◌, ◌++◌, map, length, codes, refl, sym, ap, ◌∙◌}
+use Rattle.std.proofs.Common.{◌≡◌, ℕ, List, [], ◌∷◌, ◌++◌, map, length, codes, refl, sym, ap, ◌∙◌}
 use Rattle.std.specs.Fmt.{decimal}
 use Rattle.std.specs.List.{flat_map}
 use Rattle.std.proofs.lemmas.List.{append_assoc}
-use Rattle.std.proofs.lemmas.Grind.{flat_map-append}
 use Rattle.dns_model.specs.declared.section.Section.{Section}
 use Rattle.dns_model.specs.declared.section.Section.TheVariants.{Answer, Authority, Additional}
 use Rattle.dns_model.specs.NameText.{printed}
@@ -75,9 +74,14 @@ chains_are (chain ∷ chains) more =
 
 joined_alike : (h c d a u n k e : List ℕ) → h ++ (c ++ (d ++ (a ++ (u ++ (n ++ (k ++ e)))))) ≡ ((((h ++ c) ++ d) ++ ((a ++ u) ++ n)) ++ k) ++ e
 joined_alike h c d a u n k e =
-    rw (append_assoc (((h ++ c) ++ d) ++ ((a ++ u) ++ n)) k e, append_assoc ((h ++ c) ++ d) ((a ++ u) ++ n) (k ++ e),
-      append_assoc (h ++ c) d (((a ++ u) ++ n) ++ (k ++ e)), append_assoc h c (d ++ (((a ++ u) ++ n) ++ (k ++ e))),
-      append_assoc (a ++ u) n (k ++ e), append_assoc a u (n ++ (k ++ e))) refl
+    rw (
+      append_assoc (((h ++ c) ++ d) ++ ((a ++ u) ++ n)) k e,
+      append_assoc ((h ++ c) ++ d) ((a ++ u) ++ n) (k ++ e),
+      append_assoc (h ++ c) d (((a ++ u) ++ n) ++ (k ++ e)),
+      append_assoc h c (d ++ (((a ++ u) ++ n) ++ (k ++ e))),
+      append_assoc (a ++ u) n (k ++ e),
+      append_assoc a u (n ++ (k ++ e)),
+    ) refl
 
 -- the text of a view is that of its lines
 pub text_is_lines : (v : View) → flat_map text_of (lines_of v) ≡ view_text v
@@ -91,6 +95,6 @@ text_is_lines v =
     let third = records_are Additional v.additionals (chains_lines v.chains last) ∙ ap (λ t. additionals ++ t) fourth in
     let second = records_are Authority v.authorities (map (record_of Additional) v.additionals ++ chains_lines v.chains last) ∙ ap (λ t. authorities ++ t) third in
     let first = records_are Answer v.answers (map (record_of Authority) v.authorities ++ (map (record_of Additional) v.additionals ++ chains_lines v.chains last))
-            ∙ ap (λ t. answers ++ t) second in
+    ∙ ap (λ t. answers ++ t) second in
     ap (λ t. header_line ++ (code_line v.code ++ (denial_line v.denial ++ t))) first
     ∙ joined_alike header_line (code_line v.code) (denial_line v.denial) answers authorities additionals chains end_line
