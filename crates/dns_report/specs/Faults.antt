@@ -2,7 +2,6 @@
 use Rattle.std.specs.Prelude.{ℕ, List, [], ◌∷◌, codes}
 use Rattle.std.specs.Fmt.{decimal}
 use Rattle.dns_model.specs.NameText.{printed}
-use Rattle.dns_message.specs.declared.decode_error.DecodeError.{DecodeError}
 use Rattle.dns_message.specs.declared.decode_error.DecodeKind.{DecodeKind}
 use Rattle.dns_message.specs.declared.decode_error.DecodeKind.TheVariants as decode
 use Rattle.dns_net.specs.declared.io_kind.IoKind.{IoKind}

@@ -6,13 +6,13 @@ use Rattle.dns_model.specs.declared.section.Section.{Section}
 use Rattle.dns_model.specs.declared.section.Section.TheVariants.{Answer, Authority, Additional}
 use Rattle.dns_model.specs.declared.denial.Denial.{Denial}
 use Rattle.dns_model.specs.NameText.{printed}
-use Rattle.dns_model.specs.Records.{Rr, MessageText}
-use Rattle.dns_model.specs.Chains.{Fact, Anchored, Matched, KeySet, Signed}
-use Rattle.dns_model.specs.Answers.{ChainText, ResponseText}
+use Rattle.dns_model.specs.Records.{Rr}
+use Rattle.dns_model.specs.Answers.{ResponseText}
 use Rattle.dns_words.specs.Codes.{type_word, class_word}
 use Rattle.dns_words.specs.OctetWords.{octets_word}
 use Rattle.dns_report.specs.Lines.{Words, line}
 use Rattle.dns_report.specs.Marks.{mark_word, section_word, denial_words}
+use Rattle.dns_report.specs.View.{Numbered, Shown, Anchored, Matched, KeySet, Signed, ChainView, View, view_of}
 
 -- the first line names the form and its version
 abbrev pub header_line : List ℕ
@@ -37,48 +37,49 @@ abbrev pub section_text : Section → List Rr → List ℕ
 section_text section records = flat_map (record_line section) records
 
 -- for each key of a set the number of the link that shows it, and the key
-unfoldable pub key_words : List (List ℕ) → List ℕ → Words
-key_words [] numbers = []
-key_words (key ∷ keys) [] = []
-key_words (key ∷ keys) (number ∷ numbers) = decimal number ∷ octets_word key ∷ key_words keys numbers
+unfoldable pub key_words : List Numbered → Words
+key_words [] = []
+key_words (pair ∷ pairs) = decimal pair.0 ∷ octets_word pair.1 ∷ key_words pairs
 
 -- the line of a link
-abbrev pub link_line : Fact → List ℕ
+abbrev pub link_line : Shown → List ℕ
 link_line (Anchored owner class key) = line (codes "anchored") (printed owner ∷ class_word class ∷ octets_word key ∷ [])
 link_line (Matched owner class key ds_link ds) =
     line (codes "matched") (printed owner ∷ class_word class ∷ octets_word key ∷ decimal ds_link ∷ octets_word ds ∷ [])
-link_line (KeySet owner class keys links) = line (codes "keyset") (printed owner ∷ class_word class ∷ key_words keys links)
+link_line (KeySet owner class keys) = line (codes "keyset") (printed owner ∷ class_word class ∷ key_words keys)
 link_line (Signed owner class kind rdatas sig key_link key) =
     line (codes "signed")
     (printed owner ∷ class_word class ∷ type_word kind ∷ decimal key_link ∷ octets_word key ∷ octets_word sig ∷ map octets_word rdatas)
 
 -- the line before a chain's links: the section of its set, and how many links follow
-abbrev pub chain_line : ChainText → List ℕ
+abbrev pub chain_line : ChainView → List ℕ
 chain_line chain = line (codes "chain") (section_word chain.section ∷ decimal (length chain.links) ∷ [])
 
 -- a chain's line, and one for each of its links
-abbrev pub chain_text : ChainText → List ℕ
+abbrev pub chain_text : ChainView → List ℕ
 chain_text chain = chain_line chain ++ flat_map link_line chain.links
 
 -- the lines of all sections' records, in order
-unfoldable pub records_text : MessageText → List ℕ
-records_text message =
-    section_text Answer message.answers ++ section_text Authority message.authorities
-    ++ section_text Additional message.additionals
+unfoldable pub records_text : List Rr → List Rr → List Rr → List ℕ
+records_text answers authorities additionals =
+    section_text Answer answers ++ section_text Authority authorities ++ section_text Additional additionals
 
 -- the lines before the records
 unfoldable pub head_text : ℕ → Denial → List ℕ
 head_text code denial = header_line ++ code_line code ++ denial_line denial
 
 -- a report without its last line
-unfoldable pub report_body : ResponseText → List ℕ
-report_body answer =
-    head_text answer.message.response_code answer.denial ++ records_text answer.message ++ flat_map chain_text answer.chains
+unfoldable pub view_body : View → List ℕ
+view_body v = head_text v.code v.denial ++ records_text v.answers v.authorities v.additionals ++ flat_map chain_text v.chains
 
 -- the last line
 abbrev pub end_line : List ℕ
 end_line = line (codes "end") []
 
--- the report on an answer
+-- the report of a view
+unfoldable pub view_text : View → List ℕ
+view_text v = view_body v ++ end_line
+
+-- the report on an answer is that of its view
 unfoldable pub report_text : ResponseText → List ℕ
-report_text answer = report_body answer ++ end_line
+report_text answer = view_text (view_of answer)

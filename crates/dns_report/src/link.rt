@@ -1,12 +1,14 @@
 //! The lines of chains.
-ghost use Rattle.std.specs.Prelude.{◌≡◌, ◌++◌, ◌∷◌, [], map, codes, length, OnOk};
-ghost use Rattle.std.specs.List.{flat_map};
+ghost use Rattle.std.specs.Prelude.{◌≡◌, ◌++◌, ◌∷◌, ◌&&◌, ◌^◌, [], map, codes, length, nat_lt, OnOk, IsTrue};
+ghost use Rattle.std.specs.List.{flat_map, list_all};
 ghost use Rattle.std.specs.Fmt.{decimal};
+ghost use Rattle.dns_model.specs.Bytes.{is_bytes};
 ghost use Rattle.dns_model.specs.NameText.{printed};
 ghost use Rattle.dns_words.specs.Codes.{type_word, class_word};
 ghost use Rattle.dns_words.specs.OctetWords.{octets_word};
 ghost use Rattle.dns_net.specs.Link.{fact_of};
 ghost use Rattle.dns_report.specs.Lines.{line, line_rest};
+ghost use Rattle.dns_report.specs.View.{numbered, shown, chain_view, is_u16, is_u32, fitting_key, fitting_link, fitting_chain};
 ghost use Rattle.dns_report.specs.Report.{key_words, link_line, chain_line, chain_text};
 
 use crate::marks::section_word;
@@ -18,9 +20,10 @@ use dns_net::{Chain, Link};
 use dns_record::{Rdata, RecordType};
 
 /// Appends the words of numbered keys, and ends the line.
-#[tactic(auto, unfolding(crate::specs::Report::key_words))]
+#[tactic(auto, unfolding(crate::specs::Report::key_words, crate::specs::View::numbered))]
 fn push_keys(into: &mut Vec<u8>, keys: &[Rdata], numbers: &[u32]) -> Result<(), NoMemory>
-    ensures { OnOk result (into.new.items ≡ into.old.items ++ line_rest (key_words keys.now numbers.now)) }
+    ensures ok { OnOk result (into.new.items ≡ into.old.items ++ line_rest (key_words (numbered keys.now numbers.now))) }
+    ensures fits { OnOk result (IsTrue (list_all fitting_key (numbered keys.now numbers.now))) }
 {
     let mut left = keys;
     let mut right = numbers;
@@ -38,7 +41,8 @@ fn push_keys(into: &mut Vec<u8>, keys: &[Rdata], numbers: &[u32]) -> Result<(), 
 
 /// Appends the words of rdatas, and ends the line.
 fn push_rdatas(into: &mut Vec<u8>, rdatas: &[Rdata]) -> Result<(), NoMemory>
-    ensures { OnOk result (into.new.items ≡ into.old.items ++ line_rest (map octets_word rdatas.now)) }
+    ensures ok { OnOk result (into.new.items ≡ into.old.items ++ line_rest (map octets_word rdatas.now)) }
+    ensures fits { OnOk result (IsTrue (list_all is_bytes rdatas.now)) }
 {
     let mut left = rdatas;
     'rdatas: while let Some((rdata, more)) = left.split_first() {
@@ -57,8 +61,10 @@ fn push_signed(
     key_link: u32,
     key: &[u8],
 ) -> Result<(), NoMemory>
-    ensures { OnOk result (into.new.items ≡ into.old.items ++ line_rest
+    ensures ok { OnOk result (into.new.items ≡ into.old.items ++ line_rest
         (type_word record_type.0 ∷ decimal key_link ∷ octets_word key.now ∷ octets_word sig.now ∷ map octets_word rdatas.now)) }
+    ensures numbers { IsTrue (is_u16 record_type.0 && is_u32 key_link) }
+    ensures bytes { OnOk result (IsTrue (is_bytes key.now && (is_bytes sig.now && list_all is_bytes rdatas.now))) }
 {
     push_type_word(into, record_type)?;
     push_number(into, u64::from(key_link))?;
@@ -69,7 +75,8 @@ fn push_signed(
 
 /// Appends the line of a link.
 fn push_link(into: &mut Vec<u8>, link: &Link) -> Result<(), NoMemory>
-    ensures { OnOk result (into.new.items ≡ into.old.items ++ link_line (fact_of link.now)) }
+    ensures ok { OnOk result (into.new.items ≡ into.old.items ++ link_line (shown (fact_of link.now))) }
+    ensures fits { OnOk result (IsTrue (fitting_link (shown (fact_of link.now)))) }
 {
     match link {
         Link::Anchored { owner, class, key } => {
@@ -123,7 +130,8 @@ fn push_link(into: &mut Vec<u8>, link: &Link) -> Result<(), NoMemory>
 
 /// Appends the line that begins a chain.
 fn push_chain_line(into: &mut Vec<u8>, chain: &Chain) -> Result<(), NoMemory>
-    ensures { OnOk result (into.new.items ≡ into.old.items ++ chain_line chain.now) }
+    ensures ok { OnOk result (into.new.items ≡ into.old.items ++ chain_line (chain_view chain.now)) }
+    ensures count { OnOk result (IsTrue (nat_lt (length (chain_view chain.now).links) (2 ^ 64))) }
 {
     push_text(into, b"chain")?;
     push_word(into, section_word(chain.section))?;
@@ -133,7 +141,8 @@ fn push_chain_line(into: &mut Vec<u8>, chain: &Chain) -> Result<(), NoMemory>
 
 /// Appends the lines of links, in order.
 fn push_links(into: &mut Vec<u8>, links: &[Link]) -> Result<(), NoMemory>
-    ensures { OnOk result (into.new.items ≡ into.old.items ++ flat_map link_line (map fact_of links.now)) }
+    ensures ok { OnOk result (into.new.items ≡ into.old.items ++ flat_map link_line (map shown (map fact_of links.now))) }
+    ensures fits { OnOk result (IsTrue (list_all fitting_link (map shown (map fact_of links.now)))) }
 {
     let mut left = links;
     'links: while let Some((link, more)) = left.split_first() {
@@ -145,7 +154,8 @@ fn push_links(into: &mut Vec<u8>, links: &[Link]) -> Result<(), NoMemory>
 
 /// Appends the lines of a chain.
 fn push_chain(into: &mut Vec<u8>, chain: &Chain) -> Result<(), NoMemory>
-    ensures { OnOk result (into.new.items ≡ into.old.items ++ chain_text chain.now) }
+    ensures ok { OnOk result (into.new.items ≡ into.old.items ++ chain_text (chain_view chain.now)) }
+    ensures fits { OnOk result (IsTrue (fitting_chain (chain_view chain.now))) }
 {
     push_chain_line(into, chain)?;
     push_links(into, &chain.links)
@@ -153,7 +163,8 @@ fn push_chain(into: &mut Vec<u8>, chain: &Chain) -> Result<(), NoMemory>
 
 /// Appends the lines of chains, in order.
 pub(crate) fn push_chains(into: &mut Vec<u8>, chains: &[Chain]) -> Result<(), NoMemory>
-    ensures { OnOk result (into.new.items ≡ into.old.items ++ flat_map chain_text chains.now) }
+    ensures ok { OnOk result (into.new.items ≡ into.old.items ++ flat_map chain_text (map chain_view chains.now)) }
+    ensures fits { OnOk result (IsTrue (list_all fitting_chain (map chain_view chains.now))) }
 {
     for chain in chains {
         push_chain(into, chain)?;

@@ -1,10 +1,13 @@
 //! The lines of records.
-ghost use Rattle.std.specs.Prelude.{◌≡◌, ◌++◌, ◌∷◌, [], OnOk};
+ghost use Rattle.std.specs.Prelude.{◌≡◌, ◌++◌, ◌∷◌, [], OnOk, IsTrue};
 ghost use Rattle.std.specs.Fmt.{decimal};
+ghost use Rattle.std.specs.List.{list_all};
+ghost use Rattle.dns_model.specs.Bytes.{is_bytes};
 ghost use Rattle.dns_words.specs.Codes.{type_word};
 ghost use Rattle.dns_words.specs.OctetWords.{octets_word};
 ghost use Rattle.dns_report.specs.Lines.{line_rest};
 ghost use Rattle.dns_report.specs.Marks.{mark_word};
+ghost use Rattle.dns_report.specs.View.{is_u16, is_u32, fitting_record};
 ghost use Rattle.dns_report.specs.Report.{record_line, section_text};
 
 use crate::marks::section_word;
@@ -16,8 +19,11 @@ use dns_record::{Record, Section};
 
 /// Appends the last words of a record's line.
 fn push_rest(into: &mut Vec<u8>, one: &Record) -> Result<(), NoMemory>
-    ensures { OnOk result (into.new.items ≡ into.old.items ++ line_rest
+    ensures ok { OnOk result (into.new.items ≡ into.old.items ++ line_rest
         (type_word one.now.kind ∷ decimal one.now.ttl ∷ mark_word one.now.mark ∷ octets_word one.now.rdata ∷ [])) }
+    ensures kind { OnOk result (IsTrue (is_u16 one.now.kind)) }
+    ensures ttl { OnOk result (IsTrue (is_u32 one.now.ttl)) }
+    ensures rdata { OnOk result (IsTrue (is_bytes one.now.rdata)) }
 {
     push_type_word(into, one.record_type)?;
     push_number(into, u64::from(one.ttl))?;
@@ -28,7 +34,8 @@ fn push_rest(into: &mut Vec<u8>, one: &Record) -> Result<(), NoMemory>
 
 /// Appends the line of a record of a section.
 fn push_record(into: &mut Vec<u8>, section: Section, one: &Record) -> Result<(), NoMemory>
-    ensures { OnOk result (into.new.items ≡ into.old.items ++ record_line section one.now) }
+    ensures ok { OnOk result (into.new.items ≡ into.old.items ++ record_line section one.now) }
+    ensures fits { OnOk result (IsTrue (fitting_record one.now)) }
 {
     push_front(into, section_word(section), &one.name, one.dns_class)?;
     push_rest(into, one)
@@ -40,7 +47,8 @@ pub(crate) fn push_section(
     section: Section,
     records: &[Record],
 ) -> Result<(), NoMemory>
-    ensures { OnOk result (into.new.items ≡ into.old.items ++ section_text section records.now) }
+    ensures ok { OnOk result (into.new.items ≡ into.old.items ++ section_text section records.now) }
+    ensures fits { OnOk result (IsTrue (list_all fitting_record records.now)) }
 {
     for next in records {
         push_record(into, section, next)?;

@@ -1,6 +1,8 @@
 //! The text of a report.
-ghost use Rattle.std.specs.Prelude.{◌≡◌, ◌++◌, OnOk, IfOk};
-ghost use Rattle.dns_report.specs.Report.{code_line, denial_line, head_text, records_text, report_body, report_text};
+ghost use Rattle.std.specs.Prelude.{◌≡◌, ◌++◌, OnOk, IfOk, IsTrue};
+ghost use Rattle.std.specs.List.{list_all};
+ghost use Rattle.dns_report.specs.View.{View, view_of, is_u16, fitting_record, fitting_view};
+ghost use Rattle.dns_report.specs.Report.{code_line, denial_line, head_text, records_text, view_body, view_text, report_text};
 
 use crate::link::push_chains;
 use crate::record::push_section;
@@ -13,7 +15,8 @@ use std::alloc::Global;
 
 /// Appends the line of a code.
 fn push_code(into: &mut Vec<u8>, code: ResponseCode) -> Result<(), NoMemory>
-    ensures { OnOk result (into.new.items ≡ into.old.items ++ code_line code.0) }
+    ensures ok { OnOk result (into.new.items ≡ into.old.items ++ code_line code.0) }
+    ensures fits { IsTrue (is_u16 code.0) }
 {
     push_text(into, b"code")?;
     push_number(into, u64::from(code.0))?;
@@ -42,7 +45,10 @@ fn push_denial(into: &mut Vec<u8>, denial: Denial) -> Result<(), NoMemory>
 /// Appends the lines of a message's records: answers, then authorities, then additionals.
 #[tactic(auto, unfolding(crate::specs::Report::records_text))]
 fn push_records(into: &mut Vec<u8>, message: &Message) -> Result<(), NoMemory>
-    ensures { OnOk result (into.new.items ≡ into.old.items ++ records_text message.now) }
+    ensures ok { OnOk result (into.new.items ≡ into.old.items ++ records_text message.now.answers message.now.authorities message.now.additionals) }
+    ensures answers { OnOk result (IsTrue (list_all fitting_record message.now.answers)) }
+    ensures authorities { OnOk result (IsTrue (list_all fitting_record message.now.authorities)) }
+    ensures additionals { OnOk result (IsTrue (list_all fitting_record message.now.additionals)) }
 {
     push_section(into, Section::Answer, &message.answers)?;
     push_section(into, Section::Authority, &message.authorities)?;
@@ -52,7 +58,8 @@ fn push_records(into: &mut Vec<u8>, message: &Message) -> Result<(), NoMemory>
 /// Appends the lines before the records.
 #[tactic(auto, unfolding(crate::specs::Report::head_text))]
 fn push_head(into: &mut Vec<u8>, code: ResponseCode, denial: Denial) -> Result<(), NoMemory>
-    ensures { OnOk result (into.new.items ≡ into.old.items ++ head_text code.0 denial) }
+    ensures ok { OnOk result (into.new.items ≡ into.old.items ++ head_text code.0 denial) }
+    ensures fits { OnOk result (IsTrue (is_u16 code.0)) }
 {
     push_text(into, b"dns-report 1\n")?;
     push_code(into, code)?;
@@ -60,9 +67,10 @@ fn push_head(into: &mut Vec<u8>, code: ResponseCode, denial: Denial) -> Result<(
 }
 
 /// Appends the lines of a report but the last.
-#[tactic(auto, unfolding(crate::specs::Report::report_body))]
+#[tactic(auto, unfolding(crate::specs::Report::view_body))]
 fn push_body(into: &mut Vec<u8>, answer: &DnsResponse) -> Result<(), NoMemory>
-    ensures { OnOk result (into.new.items ≡ into.old.items ++ report_body answer.now) }
+    ensures ok { OnOk result (into.new.items ≡ into.old.items ++ view_body (view_of answer.now)) }
+    ensures fits { OnOk result (IsTrue (fitting_view (view_of answer.now))) }
 {
     push_head(into, answer.message.response_code, answer.denial)?;
     push_records(into, &answer.message)?;
@@ -71,9 +79,13 @@ fn push_body(into: &mut Vec<u8>, answer: &DnsResponse) -> Result<(), NoMemory>
 
 /// The report on an answer: its code, what it denies, each record with its mark, and the chains of its Secure sets. Names
 /// are printed in the case in which they came. The only error is want of memory.
-#[tactic(auto, unfolding(crate::specs::Report::report_text))]
+///
+/// The text tells what it shows: of all views with names, bytes and numbers that can stand in an answer, no other has it.
+#[tactic(auto, unfolding(crate::specs::Report::report_text, crate::specs::Report::view_text))]
 pub fn write_report(alloc: Global, answer: &DnsResponse) -> Result<Vec<u8>, NoMemory>
-    ensures { IfOk result (λ v. v.items ≡ report_text answer.now) }
+    ensures text { IfOk result (λ v. v.items ≡ report_text answer.now) }
+    ensures fits { OnOk result (IsTrue (fitting_view (view_of answer.now))) }
+    ensures tells { IfOk result (λ v. (other : View) → IsTrue (fitting_view other) → view_text other ≡ v.items → other ≡ view_of answer.now) }
 {
     let mut text = Vec::new(alloc);
     push_body(&mut text, answer)?;

@@ -1,13 +1,15 @@
 //! Words of a line after its first: each with a space before it.
-ghost use Rattle.std.specs.Prelude.{◌≡◌, ◌++◌, ◌∷◌, [], OnOk};
+ghost use Rattle.std.specs.Prelude.{◌≡◌, ◌++◌, ◌∷◌, [], OnOk, IsTrue};
 ghost use Rattle.std.specs.Fmt.{decimal};
+ghost use Rattle.dns_model.specs.Bytes.{is_bytes};
 ghost use Rattle.dns_model.specs.NameText.{printed};
 ghost use Rattle.dns_words.specs.Codes.{type_word, class_word};
 ghost use Rattle.dns_words.specs.OctetWords.{octets_word};
 ghost use Rattle.dns_report.specs.Marks.{mark_word};
+ghost use Rattle.dns_report.specs.View.{fitting_name, is_u16};
 
 use crate::marks::mark_word;
-use dns_name::{Name, NoMemory};
+use dns_name::{Name, NameRef, NoMemory};
 use dns_record::{DNSClass, Proof, RecordType};
 use dns_words::{push_class, push_decimal, push_octets, push_type};
 
@@ -44,10 +46,20 @@ pub(crate) fn push_number(into: &mut Vec<u8>, number: u64) -> Result<(), NoMemor
     push_decimal(into, number)
 }
 
+/// The name, of which it is known that it is one.
+fn known_name<'a>(name: &'a Name) -> NameRef<'a>
+    ensures same { result ≡ name.now }
+    ensures fits { IsTrue (fitting_name name.now) }
+{
+    name.borrowed().copy()
+}
+
 /// Appends a name in the case in which it stands.
 pub(crate) fn push_name(into: &mut Vec<u8>, name: &Name) -> Result<(), NoMemory>
-    ensures { OnOk result (into.new.items ≡ into.old.items ++ (32 ∷ printed name.now)) }
+    ensures ok { OnOk result (into.new.items ≡ into.old.items ++ (32 ∷ printed name.now)) }
+    ensures fits { IsTrue (fitting_name name.now) }
 {
+    let _known = known_name(name);
     let text = name.to_ascii(*into.allocator())?;
     push_word(into, text.as_bytes())
 }
@@ -62,7 +74,8 @@ pub(crate) fn push_class_word(into: &mut Vec<u8>, class: DNSClass) -> Result<(),
 
 /// Appends the word of a type.
 pub(crate) fn push_type_word(into: &mut Vec<u8>, kind: RecordType) -> Result<(), NoMemory>
-    ensures { OnOk result (into.new.items ≡ into.old.items ++ (32 ∷ type_word kind.0)) }
+    ensures ok { OnOk result (into.new.items ≡ into.old.items ++ (32 ∷ type_word kind.0)) }
+    ensures fits { IsTrue (is_u16 kind.0) }
 {
     into.push(b' ')?;
     push_type(into, kind)
@@ -70,7 +83,8 @@ pub(crate) fn push_type_word(into: &mut Vec<u8>, kind: RecordType) -> Result<(),
 
 /// Appends bytes as hexadecimal digits.
 pub(crate) fn push_octets_word(into: &mut Vec<u8>, bytes: &[u8]) -> Result<(), NoMemory>
-    ensures { OnOk result (into.new.items ≡ into.old.items ++ (32 ∷ octets_word bytes.now)) }
+    ensures ok { OnOk result (into.new.items ≡ into.old.items ++ (32 ∷ octets_word bytes.now)) }
+    ensures fits { IsTrue (is_bytes bytes.now) }
 {
     into.push(b' ')?;
     push_octets(into, bytes)
@@ -90,7 +104,9 @@ pub(crate) fn push_front(
     owner: &Name,
     class: DNSClass,
 ) -> Result<(), NoMemory>
-    ensures { OnOk result (into.new.items ≡ into.old.items ++ (kind.now ++ (32 ∷ (printed owner.now ++ (32 ∷ class_word class.0))))) }
+    ensures ok { OnOk result (into.new.items ≡ into.old.items ++ (kind.now ++ (32 ∷ (printed owner.now ++ (32 ∷ class_word class.0))))) }
+    ensures owner { OnOk result (IsTrue (fitting_name owner.now)) }
+    ensures class { IsTrue (is_u16 class.0) }
 {
     push_text(into, kind)?;
     push_name(into, owner)?;

@@ -1,5 +1,5 @@
 -- Reading digits one by one, and the number that they are.
-use Rattle.std.proofs.Common.{◌≡◌, ℕ, zero, suc, ◌+◌, ◌-◌, ◌*◌, ◌^◌, ◌<◌, ◌≤◌, Bool, true, false, ◌&&◌, nat_lt, nat_le, List, [], ◌∷◌, length, drop, drop-cons, slice_index, ◌⊎◌, inl, inr, Option, None, Some, if◌then◌else◌, refl, sym, ap, ◌∙◌, arith, ltb, leb, add-one}
+use Rattle.std.proofs.Common.{◌≡◌, ℕ, ◌+◌, ◌-◌, ◌*◌, ◌^◌, ◌<◌, ◌≤◌, Bool, true, false, ◌&&◌, nat_lt, nat_le, List, [], ◌∷◌, length, drop, drop-cons, slice_index, inl, inr, Option, None, Some, if◌then◌else◌, refl, sym, ◌∙◌, arith, add-one}
 use Rattle.std.specs.Char.{is_ascii_digit, digit_value}
 use Rattle.std.specs.Str.{all_ascii_digits}
 use Rattle.std.specs.Str.Parse.{digits_value, digits_value_after}
@@ -7,7 +7,7 @@ use Rattle.std.proofs.lemmas.Bool.Decides.{nat_tests}
 use Rattle.std.proofs.lemmas.Bool.{cases_lt, cases_Bool, le-leb, lt-leb}
 use Rattle.std.proofs.Math.ListN.{drop_of_length-le}
 use Rattle.dns_words.specs.Steps.{◌>>=◌}
-use Rattle.dns_words.specs.Decimals.{is_unpadded, is_decimal, decimal_in, with_digit, read_after}
+use Rattle.dns_words.specs.Decimals.{is_unpadded, decimal_in, with_digit, read_after}
 
 -- more digits never make a number smaller
 digits_after_grow : (n : ℕ) (cs : List ℕ) → n ≤ digits_value_after 10 n cs

@@ -1,3 +1,4 @@
 pub mod DecimalLemmas
 pub mod WordLaws
 pub mod OctetLaws
+pub mod WordShapes

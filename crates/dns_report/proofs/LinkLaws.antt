@@ -1,0 +1,216 @@
+-- The line of a link tells the link, and the lines of chains the chains.
+use Rattle.std.proofs.Common.{◌≡◌, ℕ, ◌^◌, true, ◌&&◌, nat_lt, List, [], ◌∷◌, ◌++◌, length, map, get_or, refl, ap, arith}
+use Rattle.std.specs.Fmt.{decimal}
+use Rattle.std.specs.List.{list_all}
+use Rattle.std.proofs.lemmas.Bool.{and_parts, ltb-true}
+use Rattle.std.proofs.lemmas.Fmt.{decimal_injective}
+use Rattle.dns_model.specs.Bytes.{is_bytes}
+use Rattle.dns_model.specs.Names.{Labels}
+use Rattle.dns_model.specs.declared.section.Section.{Section}
+use Rattle.dns_words.specs.OctetWords.{octets_word}
+use Rattle.dns_words.proofs.WordShapes.{decimal_word}
+use Rattle.dns_report.specs.Marks.{section_word}
+use Rattle.dns_report.specs.View.{Numbered, Shown, Anchored, Matched, KeySet, Signed, ChainView, fitting_name, is_u16, is_u32, fitting_key, fitting_link, fitting_chain}
+use Rattle.dns_report.specs.Report.{key_words}
+use Rattle.dns_report.proofs.LineLaws.{Line, is_line}
+use Rattle.dns_report.proofs.NameShapes.{printed_word}
+use Rattle.dns_report.proofs.MarkWords.{section_injective, section_is_word}
+use Rattle.dns_report.proofs.FieldWords.{class_good, type_good, number_good, bytes_good, rdatas_good, keys_good, name_tells, class_tells, type_tells, number_tells, bytes_tell, rdatas_tell, keys_tell, more_words}
+use Rattle.dns_report.proofs.RecordLaws.{first_line, other_lines}
+use Rattle.dns_report.proofs.ReportLines.{link_of, front_of, chains_lines, last}
+
+-- what a fitting link's fields are
+record FitsAnchored (owner : Labels) (class : ℕ) (key : List ℕ) : Type 0 where
+  named : fitting_name owner ≡ true
+  classed : is_u16 class ≡ true
+  keyed : is_bytes key ≡ true
+
+fits_anchored : (owner : Labels) (class : ℕ) (key : List ℕ) → fitting_link (Anchored owner class key) ≡ true → FitsAnchored owner class key
+fits_anchored owner class key h =
+    let a = and_parts (fitting_name owner) (is_u16 class && is_bytes key) h in
+    let b = and_parts (is_u16 class) (is_bytes key) a.1 in
+    record { named = a.0; classed = b.0; keyed = b.1 }
+
+record FitsMatched (owner : Labels) (class : ℕ) (key : List ℕ) (ds_link : ℕ) (ds : List ℕ) : Type 0 where
+  named : fitting_name owner ≡ true
+  classed : is_u16 class ≡ true
+  keyed : is_bytes key ≡ true
+  linked : is_u32 ds_link ≡ true
+  shown : is_bytes ds ≡ true
+
+fits_matched : (owner : Labels) (class : ℕ) (key : List ℕ) (ds_link : ℕ) (ds : List ℕ) → fitting_link (Matched owner class key ds_link ds) ≡ true
+    → FitsMatched owner class key ds_link ds
+fits_matched owner class key ds_link ds h =
+    let a = and_parts (fitting_name owner) (is_u16 class && (is_bytes key && (is_u32 ds_link && is_bytes ds))) h in
+    let b = and_parts (is_u16 class) (is_bytes key && (is_u32 ds_link && is_bytes ds)) a.1 in
+    let c = and_parts (is_bytes key) (is_u32 ds_link && is_bytes ds) b.1 in
+    let d = and_parts (is_u32 ds_link) (is_bytes ds) c.1 in
+    record { named = a.0; classed = b.0; keyed = c.0; linked = d.0; shown = d.1 }
+
+record FitsKeySet (owner : Labels) (class : ℕ) (keys : List Numbered) : Type 0 where
+  named : fitting_name owner ≡ true
+  classed : is_u16 class ≡ true
+  keyed : list_all fitting_key keys ≡ true
+
+fits_key_set : (owner : Labels) (class : ℕ) (keys : List Numbered) → fitting_link (KeySet owner class keys) ≡ true → FitsKeySet owner class keys
+fits_key_set owner class keys h =
+    let a = and_parts (fitting_name owner) (is_u16 class && list_all fitting_key keys) h in
+    let b = and_parts (is_u16 class) (list_all fitting_key keys) a.1 in
+    record { named = a.0; classed = b.0; keyed = b.1 }
+
+record FitsSigned (owner : Labels) (class kind : ℕ) (rdatas : List (List ℕ)) (sig : List ℕ) (key_link : ℕ) (key : List ℕ) : Type 0 where
+  named : fitting_name owner ≡ true
+  classed : is_u16 class ≡ true
+  typed : is_u16 kind ≡ true
+  linked : is_u32 key_link ≡ true
+  keyed : is_bytes key ≡ true
+  signed : is_bytes sig ≡ true
+  listed : list_all is_bytes rdatas ≡ true
+
+fits_signed : (owner : Labels) (class kind : ℕ) (rdatas : List (List ℕ)) (sig : List ℕ) (key_link : ℕ) (key : List ℕ)
+    → fitting_link (Signed owner class kind rdatas sig key_link key) ≡ true → FitsSigned owner class kind rdatas sig key_link key
+fits_signed owner class kind rdatas sig key_link key h =
+    let a = and_parts (fitting_name owner) (is_u16 class && (is_u16 kind && (is_u32 key_link && (is_bytes key && (is_bytes sig && list_all is_bytes rdatas))))) h in
+    let b = and_parts (is_u16 class) (is_u16 kind && (is_u32 key_link && (is_bytes key && (is_bytes sig && list_all is_bytes rdatas)))) a.1 in
+    let c = and_parts (is_u16 kind) (is_u32 key_link && (is_bytes key && (is_bytes sig && list_all is_bytes rdatas))) b.1 in
+    let d = and_parts (is_u32 key_link) (is_bytes key && (is_bytes sig && list_all is_bytes rdatas)) c.1 in
+    let e = and_parts (is_bytes key) (is_bytes sig && list_all is_bytes rdatas) d.1 in
+    let f = and_parts (is_bytes sig) (list_all is_bytes rdatas) e.1 in
+    record { named = a.0; classed = b.0; typed = c.0; linked = d.0; keyed = e.0; signed = f.0; listed = f.1 }
+
+link_good : (l : Shown) → fitting_link l ≡ true → is_line (link_of l) ≡ true
+link_good (Anchored owner class key) h =
+    let f = fits_anchored owner class key h in rw (printed_word owner, class_good class f.classed, bytes_good key f.keyed) refl
+link_good (Matched owner class key ds_link ds) h =
+    let f = fits_matched owner class key ds_link ds h in
+    rw (printed_word owner, class_good class f.classed, bytes_good key f.keyed, number_good ds_link f.linked, bytes_good ds f.shown) refl
+link_good (KeySet owner class keys) h =
+    let f = fits_key_set owner class keys h in rw (printed_word owner, class_good class f.classed, keys_good keys f.keyed) refl
+link_good (Signed owner class kind rdatas sig key_link key) h =
+    let f = fits_signed owner class kind rdatas sig key_link key h in
+    rw (
+      printed_word owner,
+      class_good class f.classed,
+      type_good kind f.typed,
+      number_good key_link f.linked,
+      bytes_good key f.keyed,
+      bytes_good sig f.signed,
+      rdatas_good rdatas f.listed,
+    ) refl
+
+-- the first byte of a line's first word
+abbrev letter : Line → ℕ
+letter l = get_or l.0 0 0
+
+apart : {X : Type 0} (l m : Line) → l ≡ m → (letter l ≡ letter m → ⊥) → X
+apart l m h other = absurd (other (ap letter h))
+
+word_same : (l m : Line) (i : ℕ) → l ≡ m → get_or l.1 i [] ≡ get_or m.1 i []
+word_same l m i h = ap (λ (l : Line). get_or l.1 i []) h
+
+anchored_same : (o p : Labels) (c d : ℕ) (k l : List ℕ) → o ≡ p → c ≡ d → k ≡ l → Anchored o c k ≡ Anchored p d l
+anchored_same o p c d k l a b e = rw (a, b, e) refl
+
+matched_same : (o p : Labels) (c d : ℕ) (k l : List ℕ) (m n : ℕ) (x y : List ℕ) → o ≡ p → c ≡ d → k ≡ l → m ≡ n → x ≡ y → Matched o c k m x ≡ Matched p d l n y
+matched_same o p c d k l m n x y a b e f g = rw (a, b, e, f, g) refl
+
+key_set_same : (o p : Labels) (c d : ℕ) (k l : List Numbered) → o ≡ p → c ≡ d → k ≡ l → KeySet o c k ≡ KeySet p d l
+key_set_same o p c d k l a b e = rw (a, b, e) refl
+
+signed_same : (o p : Labels) (c d t u : ℕ) (r s : List (List ℕ)) (x y : List ℕ) (m n : ℕ) (k l : List ℕ) → o ≡ p → c ≡ d → t ≡ u → r ≡ s → x ≡ y → m ≡ n → k ≡ l
+    → Signed o c t r x m k ≡ Signed p d u s y n l
+signed_same o p c d t u r s x y m n k l a b e f g h i = rw (a, b, e, f, g, h, i) refl
+
+-- a link's line tells it
+pub link_tells : (l m : Shown) → fitting_link l ≡ true → fitting_link m ≡ true → link_of l ≡ link_of m → l ≡ m
+link_tells (Anchored o c k) (Anchored p d l) first second h =
+    let f = fits_anchored o c k first in
+    let g = fits_anchored p d l second in
+    anchored_same o p c d k l (name_tells o p f.named g.named (word_same _ _ 0 h)) (class_tells c d f.classed g.classed (word_same _ _ 1 h))
+    (bytes_tell k l f.keyed g.keyed (word_same _ _ 2 h))
+link_tells (Anchored o c k) (Matched p d l n y) first second h = apart _ _ h (λ (e : 97 ≡ 109). omega (arith, e))
+link_tells (Anchored o c k) (KeySet p d l) first second h = apart _ _ h (λ (e : 97 ≡ 107). omega (arith, e))
+link_tells (Anchored o c k) (Signed p d u s y n l) first second h = apart _ _ h (λ (e : 97 ≡ 115). omega (arith, e))
+link_tells (Matched o c k m x) (Anchored p d l) first second h = apart _ _ h (λ (e : 109 ≡ 97). omega (arith, e))
+link_tells (Matched o c k m x) (Matched p d l n y) first second h =
+    let f = fits_matched o c k m x first in
+    let g = fits_matched p d l n y second in
+    matched_same o p c d k l m n x y (name_tells o p f.named g.named (word_same _ _ 0 h)) (class_tells c d f.classed g.classed (word_same _ _ 1 h))
+    (bytes_tell k l f.keyed g.keyed (word_same _ _ 2 h)) (number_tells m n f.linked g.linked (word_same _ _ 3 h)) (bytes_tell x y f.shown g.shown (word_same _ _ 4 h))
+link_tells (Matched o c k m x) (KeySet p d l) first second h = apart _ _ h (λ (e : 109 ≡ 107). omega (arith, e))
+link_tells (Matched o c k m x) (Signed p d u s y n l) first second h = apart _ _ h (λ (e : 109 ≡ 115). omega (arith, e))
+link_tells (KeySet o c k) (Anchored p d l) first second h = apart _ _ h (λ (e : 107 ≡ 97). omega (arith, e))
+link_tells (KeySet o c k) (Matched p d l n y) first second h = apart _ _ h (λ (e : 107 ≡ 109). omega (arith, e))
+link_tells (KeySet o c k) (KeySet p d l) first second h =
+    let f = fits_key_set o c k first in
+    let g = fits_key_set p d l second in
+    let keys : key_words k ≡ key_words l = ap (λ (l : Line). more_words (more_words l.1)) h in
+    key_set_same o p c d k l (name_tells o p f.named g.named (word_same _ _ 0 h)) (class_tells c d f.classed g.classed (word_same _ _ 1 h))
+    (keys_tell k l f.keyed g.keyed keys)
+link_tells (KeySet o c k) (Signed p d u s y n l) first second h = apart _ _ h (λ (e : 107 ≡ 115). omega (arith, e))
+link_tells (Signed o c t r x m k) (Anchored p d l) first second h = apart _ _ h (λ (e : 115 ≡ 97). omega (arith, e))
+link_tells (Signed o c t r x m k) (Matched p d l n y) first second h = apart _ _ h (λ (e : 115 ≡ 109). omega (arith, e))
+link_tells (Signed o c t r x m k) (KeySet p d l) first second h = apart _ _ h (λ (e : 115 ≡ 107). omega (arith, e))
+link_tells (Signed o c t r x m k) (Signed p d u s y n l) first second h =
+    let f = fits_signed o c t r x m k first in
+    let g = fits_signed p d u s y n l second in
+    let rdatas : map octets_word r ≡ map octets_word s =
+    ap (λ (l : Line). more_words (more_words (more_words (more_words (more_words (more_words l.1)))))) h in
+    signed_same o p c d t u r s x y m n k l (name_tells o p f.named g.named (word_same _ _ 0 h)) (class_tells c d f.classed g.classed (word_same _ _ 1 h))
+    (type_tells t u f.typed g.typed (word_same _ _ 2 h)) (rdatas_tell r s f.listed g.listed rdatas) (bytes_tell x y f.signed g.signed (word_same _ _ 5 h))
+    (number_tells m n f.linked g.linked (word_same _ _ 3 h)) (bytes_tell k l f.keyed g.keyed (word_same _ _ 4 h))
+
+-- ---- chains
+
+record SameLinks (ls ms : List Shown) (x y : List Line) : Type 0 where
+  links : ls ≡ ms
+  rest : x ≡ y
+
+links_tell : (ls ms : List Shown) (x y : List Line) → length ls ≡ length ms → list_all fitting_link ls ≡ true → list_all fitting_link ms ≡ true
+    → map link_of ls ++ x ≡ map link_of ms ++ y → SameLinks ls ms x y
+links_tell [] [] x y size first second h = record { links = refl; rest = h }
+links_tell [] (m ∷ ms) x y size first second h = absurd (omega (arith, size))
+links_tell (l ∷ ls) [] x y size first second h = absurd (omega (arith, size))
+links_tell (l ∷ ls) (m ∷ ms) x y size first second h =
+    let parts = and_parts (fitting_link l) (list_all fitting_link ls) first in
+    let others = and_parts (fitting_link m) (list_all fitting_link ms) second in
+    let one : link_of l ≡ link_of m = first_line h in
+    let more : map link_of ls ++ x ≡ map link_of ms ++ y = other_lines h in
+    let rest = links_tell ls ms x y (omega (arith, size)) parts.1 others.1 more in
+    record { links = rw (link_tells l m parts.0 others.0 one, rest.links) refl; rest = rest.rest }
+
+chain_same : (a b : Section) (ls ms : List Shown) (cs ds : List ChainView) → a ≡ b → ls ≡ ms → cs ≡ ds
+    → ◌≡◌ {A = List ChainView} (record { section = a; links = ls } ∷ cs) (record { section = b; links = ms } ∷ ds)
+chain_same a b ls ms cs ds e f g = rw (e, f, g) refl
+
+-- the lines of chains tell the chains
+pub chains_tell : (cs ds : List ChainView) → list_all fitting_chain cs ≡ true → list_all fitting_chain ds ≡ true → chains_lines cs last ≡ chains_lines ds last → cs ≡ ds
+chains_tell [] [] first second h = refl
+chains_tell [] (d ∷ ds) first second h = apart _ _ (first_line h) (λ (e : 101 ≡ 99). omega (arith, e))
+chains_tell (c ∷ cs) [] first second h = apart _ _ (first_line h) (λ (e : 99 ≡ 101). omega (arith, e))
+chains_tell (c ∷ cs) (d ∷ ds) first second h =
+    let parts = and_parts (fitting_chain c) (list_all fitting_chain cs) first in
+    let others = and_parts (fitting_chain d) (list_all fitting_chain ds) second in
+    let one = and_parts (nat_lt (length c.links) (2 ^ 64)) (list_all fitting_link c.links) parts.0 in
+    let two = and_parts (nat_lt (length d.links) (2 ^ 64)) (list_all fitting_link d.links) others.0 in
+    let front : front_of c ≡ front_of d = first_line h in
+    let more : map link_of c.links ++ chains_lines cs last ≡ map link_of d.links ++ chains_lines ds last = other_lines h in
+    let section : section_word c.section ≡ section_word d.section = word_same _ _ 0 front in
+    let count : decimal (length c.links) ≡ decimal (length d.links) = word_same _ _ 1 front in
+    let size = decimal_injective (length c.links) (length d.links) (ltb-true _ _ one.0) (ltb-true _ _ two.0) count in
+    let links = links_tell c.links d.links (chains_lines cs last) (chains_lines ds last) size one.1 two.1 more in
+    chain_same c.section d.section c.links d.links cs ds (section_injective c.section d.section section) links.links
+    (chains_tell cs ds parts.1 others.1 links.rest)
+
+links_good : (ls : List Shown) (more : List Line) → list_all fitting_link ls ≡ true → list_all is_line more ≡ true → list_all is_line (map link_of ls ++ more) ≡ true
+links_good [] more h rest = rest
+links_good (l ∷ ls) more h rest =
+    let parts = and_parts (fitting_link l) (list_all fitting_link ls) h in
+    rw (link_good l parts.0) (links_good ls more parts.1 rest)
+
+pub chains_good : (cs : List ChainView) → list_all fitting_chain cs ≡ true → list_all is_line (chains_lines cs last) ≡ true
+chains_good [] h = refl
+chains_good (c ∷ cs) h =
+    let parts = and_parts (fitting_chain c) (list_all fitting_chain cs) h in
+    let one = and_parts (nat_lt (length c.links) (2 ^ 64)) (list_all fitting_link c.links) parts.0 in
+    rw (section_is_word c.section, decimal_word (length c.links) (ltb-true _ _ one.0)) (links_good c.links (chains_lines cs last) one.1 (chains_good cs parts.1))

@@ -1,0 +1,120 @@
+-- The line of a record tells the record, and the lines of a section its records.
+use Rattle.std.proofs.Common.{◌≡◌, ℕ, Bool, true, false, ◌&&◌, List, [], ◌∷◌, ◌++◌, map, get_or, refl, sym, ap, ◌∙◌}
+use Rattle.std.specs.Fmt.{decimal}
+use Rattle.std.specs.List.{list_all}
+use Rattle.std.specs.Cmp.Lexicographic.{bytes_decides}
+use Rattle.std.proofs.lemmas.Bool.{and_parts}
+use Rattle.dns_model.specs.Bytes.{is_bytes}
+use Rattle.dns_model.specs.Names.{Labels}
+use Rattle.dns_model.specs.NameText.{printed}
+use Rattle.dns_model.specs.Keys.{bytes_eq}
+use Rattle.dns_model.specs.Records.{Rr}
+use Rattle.dns_model.specs.declared.proof.Proof.{Proof}
+use Rattle.dns_model.specs.declared.section.Section.{Section}
+use Rattle.dns_words.specs.Codes.{type_word, class_word}
+use Rattle.dns_words.specs.OctetWords.{octets_word}
+use Rattle.dns_report.specs.Marks.{mark_word, section_word}
+use Rattle.dns_report.specs.View.{fitting_name, is_u16, is_u32, fitting_record}
+use Rattle.dns_report.proofs.LineLaws.{Line, is_line}
+use Rattle.dns_report.proofs.NameShapes.{printed_word}
+use Rattle.dns_report.proofs.MarkWords.{mark_injective, mark_is_word, section_is_word}
+use Rattle.dns_report.proofs.FieldWords.{class_good, type_good, number_good, bytes_good, name_tells, class_tells, type_tells, number_tells, bytes_tell}
+use Rattle.dns_report.proofs.ReportLines.{record_of}
+
+-- what a fitting record's fields are
+record Fields (r : Rr) : Type 0 where
+  owner : fitting_name r.owner ≡ true
+  class : is_u16 r.class ≡ true
+  kind : is_u16 r.kind ≡ true
+  ttl : is_u32 r.ttl ≡ true
+  rdata : is_bytes r.rdata ≡ true
+
+fields_of : (r : Rr) → fitting_record r ≡ true → Fields r
+fields_of r h =
+    let a = and_parts (fitting_name r.owner) (is_u16 r.class && (is_u16 r.kind && (is_u32 r.ttl && is_bytes r.rdata))) h in
+    let b = and_parts (is_u16 r.class) (is_u16 r.kind && (is_u32 r.ttl && is_bytes r.rdata)) a.1 in
+    let c = and_parts (is_u16 r.kind) (is_u32 r.ttl && is_bytes r.rdata) b.1 in
+    let d = and_parts (is_u32 r.ttl) (is_bytes r.rdata) c.1 in
+    record { owner = a.0; class = b.0; kind = c.0; ttl = d.0; rdata = d.1 }
+
+record_good : (section : Section) (r : Rr) → fitting_record r ≡ true → is_line (record_of section r) ≡ true
+record_good section r h =
+    let f = fields_of r h in
+    rw (
+      section_is_word section,
+      printed_word r.owner,
+      class_good r.class f.class,
+      type_good r.kind f.kind,
+      number_good r.ttl f.ttl,
+      mark_is_word r.mark,
+      bytes_good r.rdata f.rdata,
+    ) refl
+
+rr_same : (o p : Labels) (k l c d t u : ℕ) (x y : List ℕ) (m n : Proof) → o ≡ p → k ≡ l → c ≡ d → t ≡ u → x ≡ y → m ≡ n
+    → ◌≡◌ {A = Rr} (record { owner = o; kind = k; class = c; ttl = t; rdata = x; mark = m }) (record { owner = p; kind = l; class = d; ttl = u; rdata = y; mark = n })
+rr_same o p k l c d t u x y m n a b e f g h = rw (a, b, e, f, g, h) refl
+
+-- a record's line tells it
+pub record_tells : (section : Section) (r q : Rr) → fitting_record r ≡ true → fitting_record q ≡ true → record_of section r ≡ record_of section q → r ≡ q
+record_tells section r q first second h =
+    let f = fields_of r first in
+    let g = fields_of q second in
+    let owner : printed r.owner ≡ printed q.owner = ap (λ (l : Line). get_or l.1 0 []) h in
+    let class : class_word r.class ≡ class_word q.class = ap (λ (l : Line). get_or l.1 1 []) h in
+    let kind : type_word r.kind ≡ type_word q.kind = ap (λ (l : Line). get_or l.1 2 []) h in
+    let ttl : decimal r.ttl ≡ decimal q.ttl = ap (λ (l : Line). get_or l.1 3 []) h in
+    let mark : mark_word r.mark ≡ mark_word q.mark = ap (λ (l : Line). get_or l.1 4 []) h in
+    let rdata : octets_word r.rdata ≡ octets_word q.rdata = ap (λ (l : Line). get_or l.1 5 []) h in
+    rr_same r.owner q.owner r.kind q.kind r.class q.class r.ttl q.ttl r.rdata q.rdata r.mark q.mark
+    (name_tells r.owner q.owner f.owner g.owner owner) (type_tells r.kind q.kind f.kind g.kind kind) (class_tells r.class q.class f.class g.class class)
+    (number_tells r.ttl q.ttl f.ttl g.ttl ttl) (bytes_tell r.rdata q.rdata f.rdata g.rdata rdata) (mark_injective r.mark q.mark mark)
+
+-- ---- the records of a section
+
+-- the next line begins with this word
+abbrev pub begins : List ℕ → List Line → Bool
+begins word [] = false
+begins word (l ∷ ls) = bytes_eq l.0 word
+
+pub word_begins : (word : List ℕ) → bytes_eq word word ≡ true
+word_begins word = (bytes_decides word word).1 refl
+
+pub no_yes : false ≡ true → ⊥
+no_yes h = cc
+
+pub first_line : {l m : Line} {ls ms : List Line} → l ∷ ls ≡ m ∷ ms → l ≡ m
+first_line h = ap (λ (all : List Line). get_or all 0 ([], [])) h
+
+abbrev others_of : List Line → List Line
+others_of [] = []
+others_of (l ∷ ls) = ls
+
+pub other_lines : {l m : Line} {ls ms : List Line} → l ∷ ls ≡ m ∷ ms → ls ≡ ms
+other_lines h = ap others_of h
+
+pub record SameSection (rs qs : List Rr) (x y : List Line) : Type 0 where
+  pub records : rs ≡ qs
+  pub rest : x ≡ y
+
+pub section_tells : (section : Section) (rs qs : List Rr) (x y : List Line) → list_all fitting_record rs ≡ true → list_all fitting_record qs ≡ true
+    → begins (section_word section) x ≡ false → begins (section_word section) y ≡ false
+    → map (record_of section) rs ++ x ≡ map (record_of section) qs ++ y → SameSection rs qs x y
+section_tells section [] [] x y first second before after h = record { records = refl; rest = h }
+section_tells section [] (q ∷ qs) x y first second before after h =
+    absurd (no_yes (sym before ∙ ap (begins (section_word section)) h ∙ word_begins (section_word section)))
+section_tells section (r ∷ rs) [] x y first second before after h =
+    absurd (no_yes (sym after ∙ ap (begins (section_word section)) (sym h) ∙ word_begins (section_word section)))
+section_tells section (r ∷ rs) (q ∷ qs) x y first second before after h =
+    let parts = and_parts (fitting_record r) (list_all fitting_record rs) first in
+    let others = and_parts (fitting_record q) (list_all fitting_record qs) second in
+    let line : record_of section r ≡ record_of section q = first_line h in
+    let more : map (record_of section) rs ++ x ≡ map (record_of section) qs ++ y = other_lines h in
+    let rest = section_tells section rs qs x y parts.1 others.1 before after more in
+    record { records = rw (record_tells section r q parts.0 others.0 line, rest.records) refl; rest = rest.rest }
+
+pub records_good : (section : Section) (rs : List Rr) (more : List Line) → list_all fitting_record rs ≡ true → list_all is_line more ≡ true
+    → list_all is_line (map (record_of section) rs ++ more) ≡ true
+records_good section [] more h rest = rest
+records_good section (r ∷ rs) more h rest =
+    let parts = and_parts (fitting_record r) (list_all fitting_record rs) h in
+    rw (record_good section r parts.0) (records_good section rs more parts.1 rest)

@@ -1,0 +1,12 @@
+use Rattle.std.proofs.Common.{◌≡◌, ◌++◌, ap, ◌∙◌}
+use Rattle.dns_report.specs.View.{view_of}
+use Rattle.dns_report.specs.Report.{view_text, view_body, end_line}
+use Rattle.dns_report.proofs.ReportLaw.{text_tells_view}
+use Rattle.dns_report.proofs.report.write_report.Goals as goal
+
+pub returns-clause-tells : goal.returns-clause-tells
+unfolding view_text
+returns-clause-tells c =
+    let written : c.push_text.new.into.items ≡ view_text (view_of c.args.answer.now) =
+    c.in_ok-push_text.ensures ∙ ap (λ t. t ++ end_line) (c.in_ok-push_body.ensures.ok ∙ ap (λ t. t ++ view_body (view_of c.args.answer.now)) c.new-text.ensures.items) in
+    λ other fits same. text_tells_view other (view_of c.args.answer.now) fits c.in_ok-push_body.ensures.fits (same ∙ written)

@@ -1,0 +1,92 @@
+-- What a report shows of an answer: its code, what it denies, the records of its sections, and its chains. The message's other
+-- fields aren't shown.
+use Rattle.std.specs.Prelude.{ℕ, Bool, ◌&&◌, nat_lt, ◌^◌, List, [], ◌∷◌, map, length}
+use Rattle.std.specs.List.{list_all}
+use Rattle.dns_model.specs.Bytes.{is_bytes}
+use Rattle.dns_model.specs.Names.{Labels, is_name}
+use Rattle.dns_model.specs.declared.section.Section.{Section}
+use Rattle.dns_model.specs.declared.denial.Denial.{Denial}
+use Rattle.dns_model.specs.Records.{Rr}
+use Rattle.dns_model.specs.Chains as fact
+use Rattle.dns_model.specs.Answers.{ChainText, ResponseText}
+
+-- a key of a set, after the number of the link that shows it
+abbrev pub Numbered : Type 0
+Numbered = ℕ × List ℕ
+
+-- a link of a chain as its line shows it
+pub data Shown : Type 0 where
+  Anchored : (owner : Labels) (class : ℕ) (key : List ℕ) → Shown
+  Matched : (owner : Labels) (class : ℕ) (key : List ℕ) (ds_link : ℕ) (ds : List ℕ) → Shown
+  KeySet : (owner : Labels) (class : ℕ) (keys : List Numbered) → Shown
+  Signed : (owner : Labels) (class : ℕ) (kind : ℕ) (rdatas : List (List ℕ)) (sig : List ℕ) (key_link : ℕ) (key : List ℕ) → Shown
+
+-- each key with its number, as long as there are both
+unfoldable pub numbered : List (List ℕ) → List ℕ → List Numbered
+numbered [] numbers = []
+numbered (key ∷ keys) [] = []
+numbered (key ∷ keys) (number ∷ numbers) = (number, key) ∷ numbered keys numbers
+
+abbrev pub shown : fact.Fact → Shown
+shown (fact.Anchored owner class key) = Anchored owner class key
+shown (fact.Matched owner class key ds_link ds) = Matched owner class key ds_link ds
+shown (fact.KeySet owner class keys links) = KeySet owner class (numbered keys links)
+shown (fact.Signed owner class kind rdatas sig key_link key) = Signed owner class kind rdatas sig key_link key
+
+pub record ChainView : Type 0 where
+  pub section : Section
+  pub links : List Shown
+
+abbrev pub chain_view : ChainText → ChainView
+chain_view chain = record { section = chain.section; links = map shown chain.links }
+
+pub record View : Type 0 where
+  pub code : ℕ
+  pub denial : Denial
+  pub answers : List Rr
+  pub authorities : List Rr
+  pub additionals : List Rr
+  pub chains : List ChainView
+
+-- what a report shows of an answer
+abbrev pub view_of : ResponseText → View
+view_of answer = record {
+  code = answer.message.response_code;
+  denial = answer.denial;
+  answers = answer.message.answers;
+  authorities = answer.message.authorities;
+  additionals = answer.message.additionals;
+  chains = map chain_view answer.chains;
+}
+
+-- ---- what can stand in an answer: names (RFC 1035, 3.1), bytes, and numbers of their fields' widths
+
+abbrev pub fitting_name : Labels → Bool
+fitting_name name = is_name name && list_all is_bytes name
+
+abbrev pub is_u16 : ℕ → Bool
+is_u16 n = nat_lt n (2 ^ 16)
+
+abbrev pub is_u32 : ℕ → Bool
+is_u32 n = nat_lt n (2 ^ 32)
+
+abbrev pub fitting_record : Rr → Bool
+fitting_record r = fitting_name r.owner && (is_u16 r.class && (is_u16 r.kind && (is_u32 r.ttl && is_bytes r.rdata)))
+
+abbrev pub fitting_key : Numbered → Bool
+fitting_key pair = is_u32 pair.0 && is_bytes pair.1
+
+abbrev pub fitting_link : Shown → Bool
+fitting_link (Anchored owner class key) = fitting_name owner && (is_u16 class && is_bytes key)
+fitting_link (Matched owner class key ds_link ds) = fitting_name owner && (is_u16 class && (is_bytes key && (is_u32 ds_link && is_bytes ds)))
+fitting_link (KeySet owner class keys) = fitting_name owner && (is_u16 class && list_all fitting_key keys)
+fitting_link (Signed owner class kind rdatas sig key_link key) =
+    fitting_name owner && (is_u16 class && (is_u16 kind && (is_u32 key_link && (is_bytes key && (is_bytes sig && list_all is_bytes rdatas)))))
+
+abbrev pub fitting_chain : ChainView → Bool
+fitting_chain chain = nat_lt (length chain.links) (2 ^ 64) && list_all fitting_link chain.links
+
+abbrev pub fitting_view : View → Bool
+fitting_view v =
+    is_u16 v.code && (list_all fitting_record v.answers && (list_all fitting_record v.authorities && (list_all fitting_record v.additionals
+    && list_all fitting_chain v.chains)))
