@@ -1,0 +1,7 @@
+//! Lookups over recorded replies, as tests: sessions with the marks, chains and refusals that they bring.
+#![tactic(auto)]
+
+#[cfg(test)]
+mod rows;
+#[cfg(test)]
+mod tests;
