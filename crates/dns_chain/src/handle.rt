@@ -56,7 +56,7 @@ impl<H: DnsHandle + Drop, V: Verifier + Drop> DnssecDnsHandle<H, V> {
     }
 
     /// Looks a query up at a moment, in seconds: one send for the query, at most 1,024 in all, and asks for the keys of signers
-    /// down to the depth of the options and never below 255. The marks of the answer are this validator's own.
+    /// down to the depth of the options and never deeper than 255. The marks of the answer are this validator's own.
     ///
     /// Errors: one of the handle's own send for the query; `ForeignClassRecord` for a record of another class than the query's;
     /// `Message("not judged yet")` where denial of existence would have to be judged; `Dns(Nsec)` where the answer is refused;
