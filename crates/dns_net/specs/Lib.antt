@@ -9,3 +9,4 @@ pub mod Causes
 pub mod Handles
 pub mod Recording
 pub mod Walks
+pub mod Notices

@@ -1,3 +1,6 @@
+ghost use Rattle.std.specs.Prelude.{Some};
+ghost use Rattle.dns_net.specs.Notices.{notice_text};
+
 use std::fmt;
 
 /// A fixed text that an error carries.
@@ -8,6 +11,8 @@ pub enum Notice {
 }
 
 impl fmt::Display for Notice {
+    ghost output = { λ notice. Some (notice_text notice) };
+
     fn fmt<W: fmt::Write>(&self, f: &mut fmt::Formatter<W>) -> fmt::Result {
         match self {
             Notice::NotJudgedYet => f.write_str("not judged yet"),
