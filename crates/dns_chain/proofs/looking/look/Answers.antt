@@ -31,11 +31,11 @@ returns-in-Some-clause-lookup g c =
     ]
 
 pub returns-in_err-placed-clause-sends : goal.returns-in_err-placed-clause-sends
-returns-in_err-placed-clause-sends g c = inl (sends_once _ _ _ _ _ c.in-Ok.ensures.asked.step)
+returns-in_err-placed-clause-sends g c = or_sent _ _ _ _ (sends_once _ _ _ _ _ c.in-Ok.ensures.asked.step)
 
 pub returns-in_err-judged-clause-sends : goal.returns-in_err-judged-clause-sends
 returns-in_err-judged-clause-sends g c =
-    inl (sends_more _ _ _ _ _ _ _ _ _ _ c.in-Ok.ensures.asked.step c.hear.ensures.count c.judge_sets.ensures.went)
+    or_sent _ _ _ _ (sends_more _ _ _ _ _ _ _ _ _ _ c.in-Ok.ensures.asked.step c.hear.ensures.count c.judge_sets.ensures.went)
 
 pub returns-clause-sends : goal.returns-clause-sends
 returns-clause-sends g c =
