@@ -14,7 +14,7 @@ use Rattle.std.proofs.lemmas.Cmp.{on_equiv, lists_equiv, nat_list_eq_equiv}
 use Rattle.std.proofs.lemmas.List.{map-append, length-map, take_more}
 use Rattle.std.proofs.lemmas.Grind.{fold-append, flat_map-append}
 use Rattle.std.proofs.lemmas.Slice.Eq.{slice_eq-Decides, bytes_eq-Decides}
-use Rattle.dns_model.specs.Names.{Label, Labels, lowered, folded, name_eq, wire, is_label, is_name}
+use Rattle.dns_model.specs.Names.{Label, Labels, lowered, folded, name_eq, name_input, wire, is_label, is_name}
 use Rattle.dns_model.specs.NameForm.{labels_of, IsWire}
 use Rattle.dns_model.proofs.WireLemmas.{wire-labels_of, is_name-labels_of, wire_injective}
 
@@ -81,10 +81,6 @@ pub name_equiv : IsEquivalence name_eq
 name_equiv = on_equiv folded (lists_equiv nat_list_eq_equiv)
 
 -- ---- what is fed to a hasher
-
--- the bytes of the folded wire form
-abbrev pub name_input : Labels → HashWrites
-name_input name = flat_map fed.u8 (wire (folded name))
 
 pub name_alike : Alike name_eq name_input
 name_alike = on_Alike folded (same_Alike (λ name. flat_map fed.u8 (wire name)) (λ a b. slice_eq-Decides bytes_eq-Decides a b (pointwise (pointwise nat_eq) a b) refl))

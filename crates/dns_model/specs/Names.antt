@@ -4,7 +4,9 @@ use Rattle.std.specs.Char.{to_ascii_lowercase}
 use Rattle.std.specs.Ordering.{nat_cmp, on}
 use Rattle.std.specs.declared.cmp.Ordering.{Ordering}
 use Rattle.std.specs.Cmp.Lexicographic.{pointwise, slice_cmp}
-use Rattle.std.specs.List.{list_all, ends_with}
+use Rattle.std.specs.List.{list_all, ends_with, flat_map}
+use Rattle.std.specs.Hash as fed
+use Rattle.std.specs.Hash.{HashWrites}
 
 abbrev pub Label : Type 0
 Label = List ℕ
@@ -67,6 +69,10 @@ wire (label ∷ name) = length label ∷ (label ++ wire name)
 -- a label has 1 to 63 bytes
 abbrev pub is_label : Label → Bool
 is_label label = nat_lt 0 (length label) && nat_le (length label) 63
+
+-- what a hasher is fed of a name: the bytes of its wire form with A to Z folded
+abbrev pub name_input : Labels → HashWrites
+name_input name = flat_map fed.u8 (wire (folded name))
 
 -- a name's labels are labels, and its wire form has at most 255 bytes
 abbrev pub is_name : Labels → Bool

@@ -5,8 +5,8 @@ ghost use Rattle.std.specs.Cmp.{partial_equiv_from_equiv, partial_order_from_agr
 ghost use Rattle.std.specs.Cmp.Lexicographic.{slice_cmp};
 ghost use Rattle.std.specs.Ordering.{nat_cmp, as_partial_cmp};
 ghost use Rattle.std.proofs.Common.{refl};
-ghost use Rattle.dns_model.specs.Names.{name_eq, name_cmp};
-ghost use Rattle.dns_model.proofs.NameLemmas.{name_equiv, name_input, name_alike};
+ghost use Rattle.dns_model.specs.Names.{name_input, name_eq, name_cmp};
+ghost use Rattle.dns_model.proofs.NameLemmas.{name_equiv, name_alike};
 ghost use Rattle.dns_model.proofs.OrderLemmas.{name_total, name_ties};
 
 use crate::{Name, NameRef};

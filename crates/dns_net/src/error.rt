@@ -1,7 +1,7 @@
 ghost use Rattle.std.specs.Prelude.{◌≡◌, IfOk};
 ghost use Rattle.dns_net.specs.Replies.{dns_error_of, error_of};
-ghost use Rattle.dns_net.specs.Conversions.{decode_failed, outside_failed};
-ghost use Rattle.dns_net.specs.declared.error.NetError.TheVariants.{NoMemory, Dns, Message, Msg, Proto};
+ghost use Rattle.dns_net.specs.Conversions.{decode_failed, outside_failed, proto_failed};
+ghost use Rattle.dns_net.specs.declared.error.NetError.TheVariants.{NoMemory, Dns, Message, Msg};
 
 use crate::{DnsResponse, IoKind, Notice};
 use dns_message::{DecodeError, DecodeKind};
@@ -147,11 +147,15 @@ impl From<Text> for NetError {
     }
 }
 
+/// Want of memory stays want of memory.
 impl From<ProtoError> for NetError {
-    ghost from_gives = { λ error e. e ≡ Proto error };
+    ghost from_gives = { λ error e. e ≡ proto_failed error };
 
     fn from(error: ProtoError) -> Self {
-        NetError::Proto(error)
+        match error {
+            ProtoError::Decode(error) => NetError::from(error),
+            ProtoError::TooLong => NetError::Proto(ProtoError::TooLong),
+        }
     }
 }
 

@@ -59,8 +59,7 @@ pub(crate) fn push_name(into: &mut Vec<u8>, name: &Name) -> Result<(), NoMemory>
     ensures ok { OnOk result (into.new.items ≡ into.old.items ++ (32 ∷ printed name.now)) }
     ensures fits { IsTrue (fitting_name name.now) }
 {
-    let _known = known_name(name);
-    let text = name.to_ascii(*into.allocator())?;
+    let text = known_name(name).to_ascii(*into.allocator())?;
     push_word(into, text.as_bytes())
 }
 

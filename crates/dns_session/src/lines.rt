@@ -1,15 +1,54 @@
-ghost use Rattle.std.specs.Prelude.{◌≡◌, ◌∷◌, ◌+◌, ◌<◌, ◌==◌, ◌^◌, [], length, position, MatchOption, IfSome};
+ghost use Rattle.std.specs.Prelude.{◌≡◌, ◌∷◌, ◌+◌, ◌<◌, ◌≤◌, ◌==◌, ◌^◌, [], false, length, take, position, MatchOption, IfSome};
+ghost use Rattle.std.specs.List.{list_any};
 ghost use Rattle.std.specs.Option.{option_map};
 ghost use Rattle.dns_session.specs.Places.{pieces, next_line, start_of, is_ended};
 
 use std::marker::Model;
+
+/// How many bytes are looked at in one step while none of them is the one that is looked for.
+const BLOCK: usize = 64;
+
+/// Whether a byte of this value stands in a block. No branch looks at a byte, so that many are compared at once.
+fn has_byte(block: &[u8], byte: u8) -> bool
+    ensures { result ≡ list_any (λ b. b == byte) block.now }
+{
+    let mut found = false;
+    for next in block {
+        found |= *next == byte;
+    }
+    found
+}
+
+/// How many bytes in front, in whole blocks, have another value.
+fn count_before(text: &[u8], byte: u8) -> usize
+    ensures within { result ≤ length text.now }
+    ensures others { list_any (λ b. b == byte) (take result text.now) ≡ false }
+{
+    let mut count = 0;
+    'steps: while text.len() - count >= BLOCK && !has_byte(&text[count..count + BLOCK], byte) {
+        count += BLOCK;
+    }
+    count
+}
+
+/// Where a byte of this value stands first, looked for byte by byte.
+fn near_place(text: &[u8], byte: u8) -> Option<usize>
+    ensures value { result ≡ position (λ b. b == byte) text.now }
+    ensures within { IfSome result (λ at. at < length text.now) }
+{
+    text.iter().position(|b| *b == byte)
+}
 
 /// Where a byte of this value stands first.
 fn place_of(text: &[u8], byte: u8) -> Option<usize>
     ensures value { result ≡ position (λ b. b == byte) text.now }
     ensures within { IfSome result (λ at. at < length text.now) }
 {
-    text.iter().position(|b| *b == byte)
+    let count = count_before(text, byte);
+    match near_place(&text[count..], byte) {
+        Some(at) => Some(count + at),
+        None => None,
+    }
 }
 
 /// The bytes before the first byte of a value, and those after it.

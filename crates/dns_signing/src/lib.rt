@@ -41,4 +41,6 @@ pub use soa::Soa;
 pub use type_set::TypeSet;
 
 #[cfg(test)]
+mod signed_tests;
+#[cfg(test)]
 mod tests;

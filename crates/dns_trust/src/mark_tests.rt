@@ -7,7 +7,12 @@ use std::alloc::Global;
 use std::test::Fail;
 
 /// The root's key set of these keys, with the signature by the first.
-fn key_set(alloc: Global, owner: &str, keys: &[&[u8]], sig: Option<&[u8]>) -> Result<RecordSet, Fail> {
+fn key_set(
+    alloc: Global,
+    owner: &str,
+    keys: &[&[u8]],
+    sig: Option<&[u8]>,
+) -> Result<RecordSet, Fail> {
     let Some((first, others)) = keys.split_first() else {
         return Err("no key".into());
     };
@@ -22,6 +27,7 @@ fn key_set(alloc: Global, owner: &str, keys: &[&[u8]], sig: Option<&[u8]>) -> Re
 }
 
 const ONE: [&[u8]; 1] = [KEY];
+
 const TWO: [&[u8]; 2] = [KEY, OTHER_KEY];
 
 /// Anchors that hold the root's key, or none.
@@ -35,7 +41,12 @@ fn anchors(alloc: Global, is_trusted: bool) -> Result<TrustAnchors, Fail> {
 }
 
 /// The mark of the root's key set at second 1500, the place of the signature that decided, and the number of links.
-fn keys_mark(alloc: Global, is_trusted: bool, keys: &[&[u8]], sig: Option<&[u8]>) -> Result<(Proof, Option<u32>, usize), Fail> {
+fn keys_mark(
+    alloc: Global,
+    is_trusted: bool,
+    keys: &[&[u8]],
+    sig: Option<&[u8]>,
+) -> Result<(Proof, Option<u32>, usize), Fail> {
     let set = key_set(alloc, ".", keys, sig)?;
     let placed = PlacedSet {
         section: Section::Answer,
@@ -72,7 +83,12 @@ fn key_sets_are_marked_by_anchors(rt: HostRuntime) -> Result<(), Fail> {
 }
 
 /// The judged sets that an ask for keys was answered with: one key set.
-fn answered(alloc: Global, owner: &str, section: Section, mark: Proof) -> Result<Vec<JudgedSet>, Fail> {
+fn answered(
+    alloc: Global,
+    owner: &str,
+    section: Section,
+    mark: Proof,
+) -> Result<Vec<JudgedSet>, Fail> {
     let mut sets = Vec::new(alloc);
     sets.push(JudgedSet {
         section,
@@ -93,7 +109,13 @@ fn verdict(alloc: Global, now: u64, answer: Option<Vec<JudgedSet>>) -> Result<Ve
     Ok(verdict_of(alloc, &verifier, &anchors, now, &set, &sig, &answer)?)
 }
 
-fn proves(alloc: Global, now: u64, owner: &str, section: Section, mark: Proof) -> Result<bool, Fail> {
+fn proves(
+    alloc: Global,
+    now: u64,
+    owner: &str,
+    section: Section,
+    mark: Proof,
+) -> Result<bool, Fail> {
     let answer = answered(alloc, owner, section, mark)?;
     Ok(verdict(alloc, now, Some(answer))?.is_proved())
 }
@@ -191,7 +213,12 @@ fn is_decided(alloc: Global, row: &Decided) -> Result<bool, Fail> {
 #[test]
 fn sets_are_marked_by_the_first_verdict(rt: HostRuntime) -> Result<(), Fail> {
     for row in &DECIDED {
-        assert!(rt; is_decided(rt.alloc(), row)?, "mark {:?}, {} signatures", row.mark, row.verdicts.len());
+        assert!(rt;
+            is_decided(rt.alloc(), row)?,
+            "mark {:?}, {} signatures",
+            row.mark,
+            row.verdicts.len()
+        );
     }
     Ok(())
 }

@@ -127,13 +127,25 @@ fn is_timed(alloc: Global, row: &Timed) -> Result<bool, Fail> {
 #[test]
 fn signatures_have_their_time_and_labels(rt: HostRuntime) -> Result<(), Fail> {
     for row in &TIMED {
-        assert!(rt; is_timed(rt.alloc(), row)?, "{} {} at {}", row.inception, row.expiration, row.now);
+        assert!(rt;
+            is_timed(rt.alloc(), row)?,
+            "{} {} at {}",
+            row.inception,
+            row.expiration,
+            row.now
+        );
     }
     Ok(())
 }
 
 /// A signature over the NS set of the root by a key of some owner, at second 1500.
-fn checked(alloc: Global, sig_owner: &str, sig: &[u8], owner: &str, key: &[u8]) -> Result<RrsigValidity, Fail> {
+fn checked(
+    alloc: Global,
+    sig_owner: &str,
+    sig: &[u8],
+    owner: &str,
+    key: &[u8],
+) -> Result<RrsigValidity, Fail> {
     let sig = signature_of(alloc, sig_owner, sig)?;
     let key = key_record(alloc, owner, key)?;
     Ok(check(&sig, &servers(alloc)?, &key, 1500))
@@ -143,7 +155,9 @@ fn checked(alloc: Global, sig_owner: &str, sig: &[u8], owner: &str, key: &[u8]) 
 fn signatures_fit_their_set_and_key(rt: HostRuntime) -> Result<(), Fail> {
     let alloc = rt.alloc();
     assert!(rt; checked(alloc, ".", OVER_NS, ".", KEY)? == RrsigValidity::ValidRrsig);
-    assert!(rt; checked(alloc, ".", OVER_NS_REVOKED, ".", REVOKED_KEY)? == RrsigValidity::ValidRrsig);
+    assert!(rt;
+        checked(alloc, ".", OVER_NS_REVOKED, ".", REVOKED_KEY)? == RrsigValidity::ValidRrsig
+    );
     assert!(rt; checked(alloc, "a.", OVER_NS, ".", KEY)? == RrsigValidity::WrongRrsig);
     assert!(rt; checked(alloc, ".", OVER_KEYS, ".", KEY)? == RrsigValidity::WrongRrsig);
     assert!(rt; checked(alloc, ".", OVER_NS, "a.", KEY)? == RrsigValidity::WrongDnskey);

@@ -7,25 +7,32 @@ use std::test::Fail;
 
 /// The key of the root, of algorithm 13 and tag 44745, and the same with the revoke flag, whose tag is 44873.
 pub(crate) const KEY: &[u8] = b"\x01\x01\x03\x0d\xaa\xbb";
+
 pub(crate) const REVOKED_KEY: &[u8] = b"\x01\x81\x03\x0d\xaa\xbb";
 /// Other keys of the tag 44745; the flags of the second say that it is no zone key.
 pub(crate) const OTHER_KEY: &[u8] = b"\x01\x01\x03\x0d\xaa\xba\x00\x01";
+
 pub(crate) const HOST_KEY: &[u8] = b"\x00\x01\x03\x0d\xaa\xbb\x01\x00";
 
 /// A signature over the root's NS set of original ttl 3600, from second 1000 to second 2000, and the bytes that it is over.
-pub(crate) const OVER_NS: &[u8] =
-    b"\0\x02\x0d\0\0\0\x0e\x10\0\0\x07\xd0\0\0\x03\xe8\xae\xc9\0\xcc";
-pub(crate) const NS_BYTES: &[u8] = b"\0\x02\x0d\0\0\0\x0e\x10\0\0\x07\xd0\0\0\x03\xe8\xae\xc9\0\0\0\x02\0\x01\0\0\x0e\x10\0\x03\x01a\0";
+pub(crate) const OVER_NS: &[u8] = b"\0\x02\x0d\0\0\0\x0e\x10\0\0\x07\xd0\0\0\x03\xe8\xae\xc9\0\xcc";
+
+pub(crate) const NS_BYTES: &[u8] =
+    b"\0\x02\x0d\0\0\0\x0e\x10\0\0\x07\xd0\0\0\x03\xe8\xae\xc9\0\0\0\x02\0\x01\0\0\x0e\x10\0\x03\x01a\0";
 
 /// The same by the revoked key.
 pub(crate) const OVER_NS_REVOKED: &[u8] =
     b"\0\x02\x0d\0\0\0\x0e\x10\0\0\x07\xd0\0\0\x03\xe8\xaf\x49\0\xcc";
-pub(crate) const NS_BYTES_REVOKED: &[u8] = b"\0\x02\x0d\0\0\0\x0e\x10\0\0\x07\xd0\0\0\x03\xe8\xaf\x49\0\0\0\x02\0\x01\0\0\x0e\x10\0\x03\x01a\0";
+
+pub(crate) const NS_BYTES_REVOKED: &[u8] =
+    b"\0\x02\x0d\0\0\0\x0e\x10\0\0\x07\xd0\0\0\x03\xe8\xaf\x49\0\0\0\x02\0\x01\0\0\x0e\x10\0\x03\x01a\0";
 
 /// A signature over the root's key set by its key, and the bytes that it is over.
 pub(crate) const OVER_KEYS: &[u8] =
     b"\0\x30\x0d\0\0\0\x0e\x10\0\0\x07\xd0\0\0\x03\xe8\xae\xc9\0\xdd";
-pub(crate) const KEYS_BYTES: &[u8] = b"\0\x30\x0d\0\0\0\x0e\x10\0\0\x07\xd0\0\0\x03\xe8\xae\xc9\0\0\0\x30\0\x01\0\0\x0e\x10\0\x06\x01\x01\x03\x0d\xaa\xbb";
+
+pub(crate) const KEYS_BYTES: &[u8] =
+    b"\0\x30\x0d\0\0\0\x0e\x10\0\0\x07\xd0\0\0\x03\xe8\xae\xc9\0\0\0\x30\0\x01\0\0\x0e\x10\0\x06\x01\x01\x03\x0d\xaa\xbb";
 
 pub(crate) fn public_key() -> &'static [u8] {
     b"\xaa\xbb"
@@ -130,7 +137,12 @@ fn insert(anchors: &mut TrustAnchors, alloc: Global, owner: &str) -> Result<bool
     Ok(anchors.insert_with_name(owner, 13, key)?)
 }
 
-fn contains(anchors: &TrustAnchors, alloc: Global, owner: &str, algorithm: u8) -> Result<bool, Fail> {
+fn contains(
+    anchors: &TrustAnchors,
+    alloc: Global,
+    owner: &str,
+    algorithm: u8,
+) -> Result<bool, Fail> {
     let owner = Name::from_ascii(alloc, owner)?;
     Ok(anchors.contains_with_name(&owner, algorithm, public_key()))
 }

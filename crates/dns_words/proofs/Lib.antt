@@ -1,4 +1,5 @@
 pub mod DecimalLemmas
 pub mod WordLaws
 pub mod OctetLaws
+pub mod PairSteps
 pub mod WordShapes

@@ -63,85 +63,35 @@ fn own_class_word(number: u16) -> Option<&'static [u8]>
 fn named_type(word: &[u8]) -> Option<u16>
     ensures { result ≡ number_of type_rows word.now }
 {
-    if word == b"A".as_slice() {
-        return Some(1);
+    match word {
+        b"A" => Some(1),
+        b"AAAA" => Some(28),
+        b"NS" => Some(2),
+        b"CNAME" => Some(5),
+        b"PTR" => Some(12),
+        b"DNAME" => Some(39),
+        b"SOA" => Some(6),
+        b"MX" => Some(15),
+        b"AFSDB" => Some(18),
+        b"RT" => Some(21),
+        b"KX" => Some(36),
+        b"RP" => Some(17),
+        b"PX" => Some(26),
+        b"SRV" => Some(33),
+        b"NAPTR" => Some(35),
+        b"DS" => Some(43),
+        b"RRSIG" => Some(46),
+        b"NSEC" => Some(47),
+        b"DNSKEY" => Some(48),
+        b"NSEC3" => Some(50),
+        b"TXT" => Some(16),
+        b"OPT" => Some(41),
+        b"NSEC3PARAM" => Some(51),
+        b"IXFR" => Some(251),
+        b"AXFR" => Some(252),
+        b"ANY" => Some(255),
+        _ => None,
     }
-    if word == b"AAAA".as_slice() {
-        return Some(28);
-    }
-    if word == b"NS".as_slice() {
-        return Some(2);
-    }
-    if word == b"CNAME".as_slice() {
-        return Some(5);
-    }
-    if word == b"PTR".as_slice() {
-        return Some(12);
-    }
-    if word == b"DNAME".as_slice() {
-        return Some(39);
-    }
-    if word == b"SOA".as_slice() {
-        return Some(6);
-    }
-    if word == b"MX".as_slice() {
-        return Some(15);
-    }
-    if word == b"AFSDB".as_slice() {
-        return Some(18);
-    }
-    if word == b"RT".as_slice() {
-        return Some(21);
-    }
-    if word == b"KX".as_slice() {
-        return Some(36);
-    }
-    if word == b"RP".as_slice() {
-        return Some(17);
-    }
-    if word == b"PX".as_slice() {
-        return Some(26);
-    }
-    if word == b"SRV".as_slice() {
-        return Some(33);
-    }
-    if word == b"NAPTR".as_slice() {
-        return Some(35);
-    }
-    if word == b"DS".as_slice() {
-        return Some(43);
-    }
-    if word == b"RRSIG".as_slice() {
-        return Some(46);
-    }
-    if word == b"NSEC".as_slice() {
-        return Some(47);
-    }
-    if word == b"DNSKEY".as_slice() {
-        return Some(48);
-    }
-    if word == b"NSEC3".as_slice() {
-        return Some(50);
-    }
-    if word == b"TXT".as_slice() {
-        return Some(16);
-    }
-    if word == b"OPT".as_slice() {
-        return Some(41);
-    }
-    if word == b"NSEC3PARAM".as_slice() {
-        return Some(51);
-    }
-    if word == b"IXFR".as_slice() {
-        return Some(251);
-    }
-    if word == b"AXFR".as_slice() {
-        return Some(252);
-    }
-    if word == b"ANY".as_slice() {
-        return Some(255);
-    }
-    None
 }
 
 /// The class whose own word it is.
@@ -149,22 +99,14 @@ fn named_type(word: &[u8]) -> Option<u16>
 fn named_class(word: &[u8]) -> Option<u16>
     ensures { result ≡ number_of class_rows word.now }
 {
-    if word == b"IN".as_slice() {
-        return Some(1);
+    match word {
+        b"IN" => Some(1),
+        b"CH" => Some(3),
+        b"HS" => Some(4),
+        b"NONE" => Some(254),
+        b"ANY" => Some(255),
+        _ => None,
     }
-    if word == b"CH".as_slice() {
-        return Some(3);
-    }
-    if word == b"HS".as_slice() {
-        return Some(4);
-    }
-    if word == b"NONE".as_slice() {
-        return Some(254);
-    }
-    if word == b"ANY".as_slice() {
-        return Some(255);
-    }
-    None
 }
 
 /// What follows a prefix.

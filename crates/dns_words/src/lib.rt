@@ -4,6 +4,7 @@
 
 mod codes;
 mod decimals;
+mod digits;
 mod names;
 mod octets;
 

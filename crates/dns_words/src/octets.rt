@@ -1,25 +1,24 @@
 ghost use Rattle.std.specs.Prelude.{◌≡◌, ◌++◌, ◌<◌, ◌≤◌, ◌^◌, IfOk, OnOk, OnErr};
 ghost use Rattle.dns_words.specs.OctetWords.{octets_word, octets_in};
 
+use crate::digits::bytes_of_pairs;
 use dns_name::{NoMemory, Octets};
-use hex::FromHexError;
 use std::alloc::Global;
 
 /// The bytes that a word is: two hexadecimal digits of either case for each, or `-` for none.
-#[tactic(auto, unfolding(crate::specs::OctetWords::octets_in))]
+#[tactic(auto, unfolding(crate::specs::OctetWords::octets_in), using(crate::proofs::PairSteps::even_word, crate::proofs::PairSteps::odd_word))]
 pub fn octets_in(alloc: Global, word: &[u8]) -> Result<Option<Octets>, NoMemory>
     ensures { IfOk result (λ o. o ≡ octets_in word.now) }
 {
     if word == b"-".as_slice() {
         return Ok(Some(Octets::from_vec(Vec::new(alloc))));
     }
-    if word.is_empty() {
+    if word.is_empty() || word.len() % 2 != 0 {
         return Ok(None);
     }
-    match hex::decode(alloc, word) {
-        Ok(bytes) => Ok(Some(Octets::from_vec(bytes))),
-        Err(FromHexError::OutOfMemory) => Err(NoMemory),
-        Err(_) => Ok(None),
+    match bytes_of_pairs(alloc, word)? {
+        Some(bytes) => Ok(Some(Octets::from_vec(bytes))),
+        None => Ok(None),
     }
 }
 
