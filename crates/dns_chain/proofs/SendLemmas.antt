@@ -2,8 +2,10 @@
 use Rattle.std.proofs.Common.{ℕ, ◌≡◌, List, [], ◌∷◌, Option, Some, Result, Ok, Err, refl, subst, inl, inr, arith}
 use Rattle.dns_model.specs.Records.{Question, MessageText}
 use Rattle.dns_model.specs.Chains.{Judge}
+use Rattle.dns_model.specs.Answers.{ResponseText}
 use Rattle.dns_net.specs.Errors.{Reply}
 use Rattle.dns_net.specs.Handles.{OrUnsent, ReplyIsTold}
+use Rattle.dns_net.specs.Replies.{reply_of}
 use Rattle.dns_net.specs.Requests.{RequestText, first_question}
 use Rattle.dns_net.specs.Walks.{Steps, Walked}
 use Rattle.dns_net.specs.declared.error.NetError.{NetError}
@@ -11,9 +13,10 @@ use Rattle.dns_net.specs.declared.request.DnsRequestOptions.{DnsRequestOptions}
 use Rattle.dns_net.proofs.WalkLemmas.{no_walk}
 use Rattle.dns_chain.specs.Heard.{Tells}
 use Rattle.dns_chain.specs.Inquiries.{asking_request}
-use Rattle.dns_chain.specs.Looked.{Asked, HeardAs, IsLookup}
+use Rattle.dns_chain.specs.Looked.{Asked, HeardAs, IsLookup, UnlessNoMemory}
 use Rattle.dns_chain.specs.Sends.{Asking, SendsFor}
 use Rattle.dns_chain.specs.Steps.{Went}
+use Rattle.dns_chain.proofs.LookLemmas.{unless_map}
 
 -- a send of a question's request as a judged ask
 pub asking_made : {H : Type 0} (sent : H → Option Question → H → Reply → Type 0) (requested : H → RequestText → ℕ → H → Reply → Type 0) (options : DnsRequestOptions) (now : ℕ)
@@ -84,3 +87,10 @@ lookup_made sent requested options at faults old new tells j now limit q answer 
   few = l.few;
   looked = l.looked;
 }
+
+pub result_made : {H : Type 0} (sent : H → Option Question → H → Reply → Type 0) (requested : H → RequestText → ℕ → H → Reply → Type 0) (options : DnsRequestOptions) (at : ℕ)
+    (faults : H → ℕ) (old new : H) (tells : Tells) (j : Judge) (now limit : ℕ) (q : Question) (result : Result ResponseText NetError)
+    → UnlessNoMemory result (IsLookup (Asking sent requested options at) faults old new tells j now limit q (reply_of result))
+    → UnlessNoMemory result (IsLookup sent faults old new tells j now limit q (reply_of result))
+result_made sent requested options at faults old new tells j now limit q result l =
+    unless_map result (λ made. lookup_made sent requested options at faults old new tells j now limit q (reply_of result) made) l
