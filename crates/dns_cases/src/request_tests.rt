@@ -54,35 +54,36 @@ fn keep(alloc: Global, kept: &mut Vec<Sending>, request: &DnsRequest, moment: u6
 /// An ask of the lookup of `. NS` with default options, over replies whose one signature is by the keys of the root.
 struct Asked {
     name: &'static str,
+    place: usize,
     message: &'static [u8],
 }
 
-const ASKED: [Asked; 2] = [
+const ASKS: usize = 2;
+
+const ASKED: [Asked; ASKS] = [
     Asked {
         name: "the query",
+        place: 0,
         message: b"\0\0\x01\x20\0\x01\0\0\0\0\0\x01\0\0\x02\0\x01\0\0\x29\x04\xd0\0\0\x80\0\0\0",
     },
     Asked {
         name: "the keys",
+        place: 1,
         message: b"\0\0\x01\x20\0\x01\0\0\0\0\0\x01\0\0\x30\0\x01\0\0\x29\x04\xd0\0\0\x80\0\0\0",
     },
 ];
 
-fn is_kept(kept: &[Sending], place: usize, message: &[u8], moment: u64) -> bool {
-    match kept.get(place) {
-        Some(sending) => *sending.message.as_slice() == *message && sending.moment == moment,
+// What was kept at the row's place is its message, sent at this moment, and nothing else was kept than all rows.
+fn is_kept(kept: &[Sending], row: &Asked, moment: u64) -> bool {
+    match kept.get(row.place) {
+        Some(sending) => *sending.message.as_slice() == *row.message
+            && sending.moment == moment
+            && kept.len() == ASKS,
         None => false,
     }
 }
 
-// The ask at this place of the session's lookup is this message, of as many asks.
-fn is_sent(
-    alloc: Global,
-    session: Session,
-    place: usize,
-    message: &[u8],
-    asks: usize,
-) -> Result<bool, NetError> {
+fn is_sent(alloc: Global, session: Session, row: &Asked) -> Result<bool, NetError> {
     let moment = session.moment;
     let verifier = listed(alloc, &session)?;
     let anchors = trusted(alloc, &session)?;
@@ -92,23 +93,23 @@ fn is_sent(
     };
     let mut handle = DnssecDnsHandle::new(upstream, anchors, verifier)?;
     let _ = handle.lookup(alloc, session.query, DnsRequestOptions::default(), moment)?;
-    let kept = handle.inner().kept.as_slice();
-    Ok(kept.len() == asks && is_kept(kept, place, message, moment))
+    Ok(is_kept(handle.inner().kept.as_slice(), row, moment))
 }
 
-fn sends_so(alloc: Global, session: &str, place: usize, row: &Asked) -> bool {
+fn sends_so(alloc: Global, session: &str, row: &Asked) -> bool {
     match read_session(alloc, session.as_bytes()) {
-        Ok(session) => matches!(
-            is_sent(alloc, session, place, row.message, ASKED.len()),
-            Ok(true)
-        ),
+        Ok(session) => matches!(is_sent(alloc, session, row), Ok(true)),
         Err(_) => false,
     }
 }
 
 #[test]
 fn each_ask_has_the_options_of_the_lookup_and_its_moment(rt: HostRuntime) {
-    for (place, row) in ASKED.iter().enumerate() {
-        assert!(rt; sends_so(rt.alloc(), MOMENTS[0].session, place, row), "{}", row.name);
+    for row in &ASKED {
+        assert!(rt;
+            sends_so(rt.alloc(), MOMENTS[0].session, row),
+            "{}",
+            row.name
+        );
     }
 }
