@@ -166,6 +166,7 @@ ends_by_case s status before now records told own (GivesReport answer after caus
       message = a.message;
       sets = a.sets;
       judged = record { after = after; judged = a.judged };
+      only = a.only;
       unjudged = λ wants. absurd (err_ok (Ok answer) answer _ (a.unjudged wants) refl);
       undenied = λ lacks. absurd (err_ok (Ok answer) answer _ (a.denied lacks) refl);
       accepted = λ needs. Ended is (subst P (ok_same (Ok answer) answer _ refl (a.accepted needs)) written);
@@ -177,6 +178,7 @@ ends_by_case s status before now records told own (GivesFault error after caused
       message = a.message;
       sets = a.sets;
       judged = record { after = after; judged = a.judged };
+      only = a.only;
       unjudged = λ wants. Ended is (subst P (err_same (Err error) error _ refl (a.unjudged wants)) written);
       undenied = λ lacks. Ended is (subst P (err_same (Err error) error _ refl (a.denied lacks)) written);
       accepted = λ needs. absurd (err_ok (Err error) _ error refl (a.accepted needs));

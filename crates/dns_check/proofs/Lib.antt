@@ -1,4 +1,5 @@
 pub mod OutcomeLemmas
 pub mod SoundLemmas
+pub mod JudgeLemmas
 pub mod CauseLemmas
 pub mod EndLemmas

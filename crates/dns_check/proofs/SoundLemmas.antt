@@ -1,5 +1,6 @@
 -- The answer that a lookup gives to a session is sound.
 use Rattle.std.proofs.Common.{inl, inr, ◌≡◌, ℕ, List, map, Option, None, Some, Ok, sym, refl, ◌∙◌, ap}
+use Rattle.std.specs.Prelude.{IsTrue}
 use Rattle.dns_model.specs.declared.denial.Denial.{Denial}
 use Rattle.dns_model.specs.Records.{Question, MessageText}
 use Rattle.dns_model.specs.Chains.{Judge}
@@ -15,7 +16,8 @@ use Rattle.dns_chain.specs.Heard.{heard_message, says_of}
 use Rattle.dns_chain.specs.Inquiries.{depth_limit}
 use Rattle.dns_chain.specs.Looked.{Looked, PassedOn, NamesForeign, Answered, answer_by}
 use Rattle.dns_session.specs.SessionText.{SessionText}
-use Rattle.dns_report.specs.Report.{report_text}
+use Rattle.dns_report.specs.View.{View, view_of, fitting_view}
+use Rattle.dns_report.specs.Report.{report_text, view_text}
 use Rattle.dns_check.specs.Answering.{recorded, session_judge, Answers}
 use Rattle.dns_check.specs.Soundness.{IsSound}
 use Rattle.dns_check.specs.Outcomes.{IsReport}
@@ -73,5 +75,13 @@ sound_answer s answer given =
 
 -- a report on the answer to a session
 pub report_given : (s : SessionText) (answer : ResponseText) (text : List ℕ)
-    → Answers s (Ok answer) → text ≡ report_text answer → IsReport s text
-report_given s answer text given is = record { answer = answer; given = given; sound = sound_answer s answer given; spelled = is }
+    → Answers s (Ok answer) → text ≡ report_text answer → IsTrue (fitting_view (view_of answer))
+    → ((other : View) → IsTrue (fitting_view other) → view_text other ≡ text → other ≡ view_of answer) → IsReport s text
+report_given s answer text given is fits tells = record {
+  answer = answer;
+  given = given;
+  sound = sound_answer s answer given;
+  spelled = is;
+  fits = fits;
+  tells = tells;
+}

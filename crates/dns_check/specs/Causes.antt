@@ -5,17 +5,18 @@ use Rattle.std.specs.Io.KnownBytes.{Appends}
 use Rattle.dns_model.specs.declared.proof.Proof.TheVariants.{Bogus}
 use Rattle.dns_model.specs.declared.denial.Denial.TheVariants as denied
 use Rattle.dns_model.specs.Records.{Rr, MessageText, question_eq}
-use Rattle.dns_model.specs.Answers.{Told, told_by}
+use Rattle.dns_model.specs.Answers.{Told, told_by, placed_sets}
 use Rattle.dns_message.specs.declared.decode_error.DecodeError.{DecodeError}
 use Rattle.dns_judgement.specs.Judged.{Judged}
 use Rattle.dns_judgement.specs.Outcome.{has_answer, foreign_record}
+use Rattle.dns_judgement.specs.Run.{Run, Sets}
 use Rattle.dns_judgement.specs.Marking.{finished}
 use Rattle.dns_net.specs.declared.error.ProtoError.TheVariants.{Decode}
 use Rattle.dns_net.specs.declared.notice.Notice.TheVariants.{NotJudgedYet}
 use Rattle.dns_net.specs.Errors.{ErrorText, Dns, Message, Proto, Timeout, ForeignClassRecord, Nsec}
 use Rattle.dns_net.specs.Recording.{RecordedText, AnswersFrom}
 use Rattle.dns_net.specs.Requests.{plain_options}
-use Rattle.dns_chain.specs.Heard.{told_of}
+use Rattle.dns_chain.specs.Heard.{told_of, says_of}
 use Rattle.dns_chain.specs.Inquiries.{depth_limit}
 use Rattle.dns_chain.specs.Causes.{IsJudged, WantsDenial, LacksDenial, NeedsNone}
 use Rattle.dns_report.specs.Report.{report_text}
@@ -90,11 +91,16 @@ pub data EndsWith (status expected : ℕ) (before now : Option (List ℕ)) (text
   Ended : status ≡ expected → Appends before now text → EndsWith status expected before now text
   Stopped : 4 ≤ status → EndsWith status expected before now text
 
--- the sets of the reply's message were judged, and the run ends as each case of them asks for
+-- the sets of the reply's message were judged, the session allows no other judgement of them, and the run ends as each case of
+-- them asks for
 pub record EndsByCase (s : SessionText) (status : ℕ) (before now : Option (List ℕ)) : Type 0 where
   pub message : MessageText
   pub sets : List Judged
   pub judged : HasJudged s message sets
+  pub only : (others : List Judged) (sends : ℕ)
+      → Run (session_judge s) (depth_limit plain_options) (says_of (Some (map recorded s.replies))) 1
+          (Sets s.query 0 (placed_sets (told_by message)) others) sends
+      → others ≡ sets
   pub unjudged : WantsDenial s.query (told_by message) sets → EndsWith status 1 before now (fault_text (Message NotJudgedYet))
   pub undenied : LacksDenial s.query (told_by message) sets
       → EndsWith status 1 before now (fault_text (Dns (Nsec s.query (finished s.moment sets message denied.None) Bogus)))

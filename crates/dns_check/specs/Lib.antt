@@ -1,5 +1,6 @@
 pub mod Forms
 pub mod Answering
+pub mod Adding
 pub mod Soundness
 pub mod Causes
 pub mod Outcomes

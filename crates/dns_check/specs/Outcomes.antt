@@ -1,10 +1,11 @@
 -- What an input comes to, and what a run leaves.
-use Rattle.std.specs.Prelude.{ℕ, ◌≡◌, ◌≢◌, ◌<◌, List, [], length, Option, None, Some, Ok, Err}
+use Rattle.std.specs.Prelude.{ℕ, ◌≡◌, ◌≢◌, ◌<◌, IsTrue, List, [], length, Option, None, Some, Ok, Err}
 use Rattle.std.specs.Io.KnownBytes.{Appends}
 use Rattle.dns_model.specs.Answers.{ResponseText}
 use Rattle.dns_net.specs.Errors as seen
 use Rattle.dns_net.specs.Errors.{ErrorText, Reply}
-use Rattle.dns_report.specs.Report.{report_text}
+use Rattle.dns_report.specs.View.{View, view_of, fitting_view}
+use Rattle.dns_report.specs.Report.{report_text, view_text}
 use Rattle.dns_report.specs.Faults.{fault_text}
 use Rattle.dns_session.specs.SessionText.{SessionText}
 use Rattle.dns_session.specs.Grammar.{session_of}
@@ -17,12 +18,15 @@ use Rattle.dns_check.specs.Causes.{FaultCause}
 use Rattle.dns_check.specs.declared.outcome.Ending.{Ending}
 use Rattle.dns_check.specs.declared.outcome.Ending.TheVariants.{Report, Fault, BadLine}
 
--- the text is the report of one answer; a lookup for the session gives that answer, and it is sound
+-- the text is the report of one answer; a lookup for the session gives that answer, and it is sound; and what the text shows of
+-- it, its view, is the only one with names, bytes and numbers of an answer that has this text
 pub record IsReport (session : SessionText) (text : List ℕ) : Type 0 where
   pub answer : ResponseText
   pub given : Answers session (Ok answer)
   pub sound : IsSound session answer
   pub spelled : text ≡ report_text answer
+  pub fits : IsTrue (fitting_view (view_of answer))
+  pub tells : (other : View) → IsTrue (fitting_view other) → view_text other ≡ text → other ≡ view_of answer
 
 -- the text is the line of one error, which has its cause in the session and isn't want of memory, and a lookup for the session
 -- gives that error
@@ -69,9 +73,14 @@ pub record Wrote (before now : Option (List ℕ)) (Fact : List ℕ → Type 0) :
   pub fact : Fact text
   pub written : Appends before now text
 
--- where bytes are told, a text that they come to was written
+-- a fact of some bytes
+pub record OfSome (Fact : List ℕ → Type 0) : Type 0 where
+  pub bytes : List ℕ
+  pub fact : Fact bytes
+
+-- a text was written that the told bytes come to; where none are told, one that some bytes come to
 abbrev pub Leaves : (List ℕ → List ℕ → Type 0) → Option (List ℕ) → Option (List ℕ) → Option (List ℕ) → Type 0
-Leaves Fact None before now = Unit {0}
+Leaves Fact None before now = OfSome (λ bytes. Wrote before now (Fact bytes))
 Leaves Fact (Some bytes) before now = Wrote before now (Fact bytes)
 
 -- what a run over bytes may write: nothing, where memory runs out before a text is there
@@ -88,7 +97,7 @@ pub record WrotePrefix (before now : Option (List ℕ)) (Fact : List ℕ → Typ
   pub fact : Fact text
   pub written : TakesPrefix before now text
 
--- where bytes are told, a prefix of a text that they come to was written
+-- a prefix of a text was written that the told bytes come to; where none are told, of one that some bytes come to
 abbrev pub LeavesPrefix : Option (List ℕ) → Option (List ℕ) → Option (List ℕ) → Type 0
-LeavesPrefix None before now = Unit {0}
+LeavesPrefix None before now = OfSome (λ bytes. WrotePrefix before now (ComesTo bytes))
 LeavesPrefix (Some bytes) before now = WrotePrefix before now (ComesTo bytes)

@@ -2,7 +2,8 @@
 ghost use Rattle.std.specs.Prelude.{◌≡◌, IfOk, OnOk};
 ghost use Rattle.dns_net.specs.Replies.{reply_of};
 ghost use Rattle.dns_chain.specs.Looked.{UnlessNoMemory};
-ghost use Rattle.dns_check.specs.Answering.{reply_from, recorded_by, with_algorithms, with_accepts, listed_by, trusted_by, Answers};
+ghost use Rattle.dns_check.specs.Adding.{with_algorithms, with_accepts, listed_by, trusted_by};
+ghost use Rattle.dns_check.specs.Answering.{reply_from, recorded_by, Answers};
 
 use dns_chain::DnssecDnsHandle;
 use dns_message::{DecodeError, Message};
@@ -50,7 +51,7 @@ fn listed_by(alloc: Global, algorithms: &[u8], accepts: &[Accept]) -> Result<Lis
 }
 
 /// Supports each algorithm.
-#[tactic(auto, unfolding(crate::specs::Answering::with_algorithms))]
+#[tactic(auto, unfolding(crate::specs::Adding::with_algorithms))]
 fn add_algorithms(verifier: &mut Listed, algorithms: &[u8]) -> Result<(), NoMemory>
     ensures { OnOk result (verifier.new ≡ with_algorithms verifier.old algorithms.now) }
 {
@@ -63,7 +64,7 @@ fn add_algorithms(verifier: &mut Listed, algorithms: &[u8]) -> Result<(), NoMemo
 }
 
 /// Accepts each signature.
-#[tactic(auto, unfolding(crate::specs::Answering::with_accepts))]
+#[tactic(auto, unfolding(crate::specs::Adding::with_accepts))]
 fn add_accepts(verifier: &mut Listed, accepts: &[Accept]) -> Result<(), NoMemory>
     ensures { OnOk result (verifier.new ≡ with_accepts verifier.old accepts.now) }
 {
@@ -81,7 +82,7 @@ fn add_accepts(verifier: &mut Listed, accepts: &[Accept]) -> Result<(), NoMemory
 }
 
 /// The keys that the session trusts.
-#[tactic(auto, unfolding(crate::specs::Answering::with_anchors))]
+#[tactic(auto, unfolding(crate::specs::Adding::with_anchors))]
 fn trusted_by(alloc: Global, anchors: &[Anchor]) -> Result<TrustAnchors, NoMemory>
     ensures { IfOk result (λ a. a ≡ trusted_by anchors.now) }
 {

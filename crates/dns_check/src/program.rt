@@ -1,11 +1,11 @@
 //! The program over any source and any sink.
-ghost use Rattle.std.specs.Prelude.{◌≡◌, ◌≢◌, ◌<◌, ◌≤◌, map, length, Some, None, IfSome};
+ghost use Rattle.std.specs.Prelude.{◌≡◌, ◌≢◌, ◌<◌, ◌≤◌, ◌+◌, map, length, Some, None, IfSome};
 ghost use Rattle.std.specs.Io.KnownBytes.{Appends};
 ghost use Rattle.dns_net.specs.Errors.{ErrorText, Message};
 ghost use Rattle.dns_net.specs.declared.notice.Notice.TheVariants.{NotJudgedYet};
 ghost use Rattle.dns_report.specs.Faults.{fault_text};
 ghost use Rattle.dns_outside.specs.Faults.{Rose};
-ghost use Rattle.dns_outside.specs.Reading.{input_limit};
+ghost use Rattle.dns_outside.specs.Reading.{input_limit, IsEnded, ReadsFront};
 ghost use Rattle.dns_outside.specs.Writing.{TakesPrefix};
 ghost use Rattle.dns_check.specs.Causes.{HasNoMessage, HasForeign, HasNoAnswer, EndsWith, EndsAsJudged, IfSession, IfBadLine};
 ghost use Rattle.dns_check.specs.Forms.{form_in, help_text, version_text, bad_line_text, bad_words_text, too_long_text};
@@ -96,6 +96,8 @@ fn validate<S: Source, W: Sink>(alloc: Global, input: &mut S, output: &mut W) ->
     ensures too_long { result ≡ 7 → Appends (W.taken output.old) (W.taken output.new) too_long_text }
     ensures refused { IfSome (S.left input.old) (λ left. input_limit < length left → 4 ≤ result) }
     ensures prefix { LeavesPrefix (S.left input.old) (W.taken output.old) (W.taken output.new) }
+    ensures ended { result < 4 → IsEnded (S.left input.old) (S.left input.new) }
+    ensures reads { ReadsFront (input_limit + 1) (S.left input.old) (S.left input.new) }
     ensures most { result ≤ 7 }
     ensures read_later { S.faults input.old ≤ S.faults input.new }
     ensures later { W.faults output.old ≤ W.faults output.new }
@@ -114,13 +116,15 @@ fn validate<S: Source, W: Sink>(alloc: Global, input: &mut S, output: &mut W) ->
 /// form, and nothing was read. 3: the input isn't in the grammar; the first bad line is named. 4: a read failed, and nothing
 /// is written. 5: a write failed after a prefix of the text. 6: memory ran out. 7: the input has more than 16,777,216 bytes.
 /// Words are judged first, then reading, then the grammar, then the lookup.
+#[tactic(auto, using(crate::proofs::OutcomeLemmas::nothing_read))]
 pub fn run<S: Source, W: Sink>(
     alloc: Global,
     words: &[Vec<u8>],
     input: &mut S,
     output: &mut W,
 ) -> u8
-    // A report is that of the answer that a lookup for the session gives.
+    // A report is that of the sound answer that a lookup for the session gives, and its text fixes what it shows of the answer:
+    // the `View`, which is code, denial, sections and chains. Where the source doesn't tell its bytes, some session has it.
     ensures report { result ≡ 0 → form_in (map (λ w. w.items) words.now) ≡ Some Validate
         → Leaves Reports (S.left input.old) (W.taken output.old) (W.taken output.new) }
     ensures help { result ≡ 0 → form_in (map (λ w. w.items) words.now) ≡ Some Help → Appends (W.taken output.old) (W.taken output.new) help_text }
@@ -170,11 +174,20 @@ pub fn run<S: Source, W: Sink>(
     ensures refused { form_in (map (λ w. w.items) words.now) ≡ Some Validate
         → IfSome (S.left input.old) (λ left. input_limit < length left → 4 ≤ result) }
 
-    // Whatever the status, a prefix of a text that the input comes to was written.
+    // Whatever the status, a prefix of a text that the input comes to was written, or of the text that the words ask for.
     ensures prefix { form_in (map (λ w. w.items) words.now) ≡ Some Validate
         → LeavesPrefix (S.left input.old) (W.taken output.old) (W.taken output.new) }
     ensures no_prefix { form_in (map (λ w. w.items) words.now) ≡ None
         → TakesPrefix (W.taken output.old) (W.taken output.new) bad_words_text }
+    ensures help_prefix { form_in (map (λ w. w.items) words.now) ≡ Some Help
+        → TakesPrefix (W.taken output.old) (W.taken output.new) help_text }
+    ensures version_prefix { form_in (map (λ w. w.items) words.now) ≡ Some Version
+        → TakesPrefix (W.taken output.old) (W.taken output.new) version_text }
+
+    // A session that is answered or refused was read to its end, and never more than one byte past the limit is read.
+    ensures ended { form_in (map (λ w. w.items) words.now) ≡ Some Validate → result < 4
+        → IsEnded (S.left input.old) (S.left input.new) }
+    ensures reads { ReadsFront (input_limit + 1) (S.left input.old) (S.left input.new) }
 
     ensures most { result ≤ 7 }
     ensures read_later { S.faults input.old ≤ S.faults input.new }

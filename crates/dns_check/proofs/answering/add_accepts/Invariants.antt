@@ -1,5 +1,5 @@
 use Rattle.std.proofs.Common.{◌≡◌, length}
-use Rattle.dns_check.specs.Answering.{with_accepts}
+use Rattle.dns_check.specs.Adding.{with_accepts}
 use Rattle.dns_check.proofs.answering.add_accepts.Given as goal
 
 abbrev pub invariant-accepts : goal.invariant-accepts

@@ -1,5 +1,5 @@
 use Rattle.std.proofs.Common.{◌≡◌, length}
-use Rattle.dns_check.specs.Answering.{with_algorithms}
+use Rattle.dns_check.specs.Adding.{with_algorithms}
 use Rattle.dns_check.proofs.answering.add_algorithms.Given as goal
 
 abbrev pub invariant-algorithms : goal.invariant-algorithms

@@ -1,5 +1,5 @@
 use Rattle.std.proofs.Common.{◌≡◌, length, []}
-use Rattle.dns_check.specs.Answering.{with_anchors}
+use Rattle.dns_check.specs.Adding.{with_anchors}
 use Rattle.dns_check.proofs.answering.trusted_by.Given as goal
 
 abbrev pub invariant-anchors : goal.invariant-anchors
