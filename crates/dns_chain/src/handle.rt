@@ -79,6 +79,8 @@ impl<H: DnsHandle + Drop, V: Verifier + Drop> DnssecDnsHandle<H, V> {
 
         // Whatever the result, each send is an ask with these options at this moment, the first one for the query.
         ensures sends { OrUnsent self.old.handle self.new.handle result (SendsFor (Asking H.sent H.requested options now) self.old.handle self.new.handle query) }
+
+        // What is sound of the answer, and how it came about.
         ensures sound { IsSoundAnswer (judge (V.answers self.old.verifier) self.old.anchors now) now (H.told self.old.handle) query (reply_of result) }
         ensures lookup { UnlessNoMemory result (IsLookup (Asking H.sent H.requested options now) H.faults self.old.handle self.new.handle (H.told self.old.handle)
             (judge (V.answers self.old.verifier) self.old.anchors now) now (depth_limit options) query (reply_of result)) }
