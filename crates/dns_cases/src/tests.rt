@@ -6,7 +6,7 @@ use dns_net::{
     Chain, DnsError, DnsRequestOptions, DnsResponse, NetError, Notice, ProtoError, Recorded,
 };
 use dns_record::{Denial, Proof, Record};
-use dns_session::{Session, read_session};
+use dns_session::{Reply, Session, read_session};
 use dns_trust::{Listed, TrustAnchors};
 use std::alloc::Global;
 use std::test::Fail;
@@ -25,7 +25,7 @@ fn reply_from(
     }
 }
 
-fn listed(alloc: Global, session: &Session) -> Result<Listed, NetError> {
+pub(crate) fn listed(alloc: Global, session: &Session) -> Result<Listed, NetError> {
     let mut verifier = Listed::new(alloc);
     for algorithm in &session.algorithms {
         verifier.support(*algorithm)?;
@@ -41,7 +41,7 @@ fn listed(alloc: Global, session: &Session) -> Result<Listed, NetError> {
     Ok(verifier)
 }
 
-fn trusted(alloc: Global, session: &Session) -> Result<TrustAnchors, NetError> {
+pub(crate) fn trusted(alloc: Global, session: &Session) -> Result<TrustAnchors, NetError> {
     let mut anchors = TrustAnchors::empty(alloc);
     for anchor in &session.anchors {
         let owner = anchor.owner.try_clone()?;
@@ -51,14 +51,19 @@ fn trusted(alloc: Global, session: &Session) -> Result<TrustAnchors, NetError> {
     Ok(anchors)
 }
 
+pub(crate) fn recorded(alloc: Global, replies: Vec<Reply>) -> Result<Recorded, NetError> {
+    let mut upstream = Recorded::new(alloc);
+    for reply in replies {
+        upstream.push(reply.query, reply_from(alloc, reply.message))?;
+    }
+    Ok(upstream)
+}
+
 // What the session's query is answered.
 fn looked_up(alloc: Global, session: Session) -> Result<DnsResponse, NetError> {
     let verifier = listed(alloc, &session)?;
     let anchors = trusted(alloc, &session)?;
-    let mut upstream = Recorded::new(alloc);
-    for reply in session.replies {
-        upstream.push(reply.query, reply_from(alloc, reply.message))?;
-    }
+    let upstream = recorded(alloc, session.replies)?;
     let mut handle = DnssecDnsHandle::new(upstream, anchors, verifier)?;
     handle.lookup(
         alloc,

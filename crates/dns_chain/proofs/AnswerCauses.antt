@@ -12,7 +12,7 @@ use Rattle.dns_net.specs.declared.error.NetError.{NetError}
 use Rattle.dns_net.specs.declared.notice.Notice.TheVariants.{NotJudgedYet}
 use Rattle.dns_chain.specs.Heard.{heard_message, Tells}
 use Rattle.dns_chain.specs.Looked.{IsLookup, UnlessNoMemory}
-use Rattle.dns_chain.specs.Causes.{is_upstreams, PassedOn, PassesOnly, NamesForeign, ForeignOnly, IsUnjudged, UnjudgedOnly, IsRefused, RefusedOnly, IsAccepted, AcceptedOnly}
+use Rattle.dns_chain.specs.Causes.{is_upstreams, PassedOn, PassesOnly, NamesForeign, ForeignOnly, IsUnjudged, UnjudgedOnly, IsDenied, DeniedOnly, IsAccepted, AcceptedOnly}
 use Rattle.dns_chain.proofs.HeardLemmas.{none_some}
 use Rattle.dns_chain.proofs.CauseLemmas.{err_same, ok_same, err_ok, foreign_memory, notice_memory, denial_memory, foreign_notice, foreign_denial, no_both, Caused, result_caused, ByUpstream, ByClass, ByUnjudged, ByDenied, ByAccepted}
 
@@ -94,23 +94,23 @@ lookup_unjudged_only sent faults old new tells j now limit q result l = λ is.
     (on_error result (Caused sent faults old new tells j now limit q (reply_of result)) (Message NotJudgedYet) (result_caused sent faults old new tells j now limit q result l) is
     (λ memory. notice_memory memory)) is
 
-refused_only : {H : Type 0} (sent : H → Option Question → H → Reply → Type 0) (faults : H → ℕ) (old new : H) (tells : Tells) (j : Judge) (now limit : ℕ) (q : Question) (answer : Reply) (asked : Question) (response : ResponseText) (proof : Proof)
+denied_only : {H : Type 0} (sent : H → Option Question → H → Reply → Type 0) (faults : H → ℕ) (old new : H) (tells : Tells) (j : Judge) (now limit : ℕ) (q : Question) (answer : Reply) (asked : Question) (response : ResponseText) (proof : Proof)
     → Caused sent faults old new tells j now limit q answer → answer ≡ Err (Dns (Nsec asked response proof))
-    → IsRefused sent old new tells j now limit q asked response proof
-refused_only sent faults old new tells j now limit q answer asked response proof (ByUpstream x passed made) is =
+    → IsDenied sent old new tells j now limit q asked response proof
+denied_only sent faults old new tells j now limit q answer asked response proof (ByUpstream x passed made) is =
     absurd (none_some response.message (sym passed.silent ∙ ap (λ y. heard_message (Err y)) (err_same answer x _ made is)))
-refused_only sent faults old new tells j now limit q answer asked response proof (ByClass x names made) is =
+denied_only sent faults old new tells j now limit q answer asked response proof (ByClass x names made) is =
     absurd (foreign_denial _ _ _ asked response proof (sym names.named ∙ err_same answer x _ made is))
-refused_only sent faults old new tells j now limit q answer asked response proof (ByUnjudged m sets judged wants made) is = cc
-refused_only sent faults old new tells j now limit q answer asked response proof (ByDenied m sets judged lacks made) is =
+denied_only sent faults old new tells j now limit q answer asked response proof (ByUnjudged m sets judged wants made) is = cc
+denied_only sent faults old new tells j now limit q answer asked response proof (ByDenied m sets judged lacks made) is =
     record { message = m; sets = sets; judged = judged; lacks = lacks; query = cc; bogus = cc; marked = cc }
-refused_only sent faults old new tells j now limit q answer asked response proof (ByAccepted m sets judged needs made) is = cc
+denied_only sent faults old new tells j now limit q answer asked response proof (ByAccepted m sets judged needs made) is = cc
 
--- an answer is refused for lack of a denial only
-pub lookup_refused_only : {H : Type 0} (sent : H → Option Question → H → Reply → Type 0) (faults : H → ℕ) (old new : H) (tells : Tells) (j : Judge) (now limit : ℕ) (q : Question) (result : Result ResponseText NetError)
-    → UnlessNoMemory result (IsLookup sent faults old new tells j now limit q (reply_of result)) → RefusedOnly sent old new tells j now limit q (reply_of result)
-lookup_refused_only sent faults old new tells j now limit q result l = λ asked response proof is.
-    refused_only sent faults old new tells j now limit q (reply_of result) asked response proof
+-- an error with an answer inside comes only where that answer lacks a denial
+pub lookup_denied_only : {H : Type 0} (sent : H → Option Question → H → Reply → Type 0) (faults : H → ℕ) (old new : H) (tells : Tells) (j : Judge) (now limit : ℕ) (q : Question) (result : Result ResponseText NetError)
+    → UnlessNoMemory result (IsLookup sent faults old new tells j now limit q (reply_of result)) → DeniedOnly sent old new tells j now limit q (reply_of result)
+lookup_denied_only sent faults old new tells j now limit q result l = λ asked response proof is.
+    denied_only sent faults old new tells j now limit q (reply_of result) asked response proof
     (on_error result (Caused sent faults old new tells j now limit q (reply_of result)) (Dns (Nsec asked response proof)) (result_caused sent faults old new tells j now limit q result l) is
     (λ memory. denial_memory asked response proof memory)) is
 

@@ -134,7 +134,7 @@ judges sent faults old new (Some replies) j now limit q answer (ByUnjudged m set
   judged = judged;
   only = only_sets sent old new replies j limit q m sets judged;
   unjudged = λ also. made;
-  refused = λ lacks. absurd (wants_lacks q (told_by m) sets wants lacks);
+  denied = λ lacks. absurd (wants_lacks q (told_by m) sets wants lacks);
   accepted = λ needs. absurd (wants_needs q (told_by m) sets wants needs);
 }
 judges sent faults old new (Some replies) j now limit q answer (ByDenied m sets judged lacks made) = λ records is own. record {
@@ -143,7 +143,7 @@ judges sent faults old new (Some replies) j now limit q answer (ByDenied m sets 
   judged = judged;
   only = only_sets sent old new replies j limit q m sets judged;
   unjudged = λ wants. absurd (wants_lacks q (told_by m) sets wants lacks);
-  refused = λ also. made;
+  denied = λ also. made;
   accepted = λ needs. absurd (lacks_needs q (told_by m) sets lacks needs);
 }
 judges sent faults old new (Some replies) j now limit q answer (ByAccepted m sets judged needs made) = λ records is own. record {
@@ -152,7 +152,7 @@ judges sent faults old new (Some replies) j now limit q answer (ByAccepted m set
   judged = judged;
   only = only_sets sent old new replies j limit q m sets judged;
   unjudged = λ wants. absurd (wants_needs q (told_by m) sets wants needs);
-  refused = λ lacks. absurd (lacks_needs q (told_by m) sets lacks needs);
+  denied = λ lacks. absurd (lacks_needs q (told_by m) sets lacks needs);
   accepted = λ also. made;
 }
 

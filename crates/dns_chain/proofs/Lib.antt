@@ -1,4 +1,5 @@
 pub mod StepLemmas
+pub mod SendLemmas
 pub mod HeardLemmas
 pub mod LookLemmas
 pub mod SoundLookups

@@ -3,7 +3,7 @@ use Rattle.std.specs.Prelude.{ℕ, ◌≡◌, ◌⊎◌, ◌≤◌, Bool, true, 
 use Rattle.std.specs.List.{list_any}
 use Rattle.dns_model.specs.declared.proof.Proof.{Proof}
 use Rattle.dns_model.specs.declared.proof.Proof.TheVariants.{Bogus}
-use Rattle.dns_model.specs.declared.denial.Denial.TheVariants as denied
+use Rattle.dns_model.specs.declared.denial.Denial.TheVariants as denial
 use Rattle.dns_model.specs.Names.{Labels}
 use Rattle.dns_model.specs.Records.{Rr, Question, MessageText}
 use Rattle.dns_model.specs.Chains.{Judge}
@@ -38,7 +38,7 @@ is_upstreams_dns DnssecBogus = true
 abbrev pub is_upstreams : ErrorText → Bool
 is_upstreams Busy = true
 is_upstreams (Dns error) = is_upstreams_dns error
-is_upstreams (Message notice) = false
+is_upstreams (Message NotJudgedYet) = false
 is_upstreams (Msg text) = true
 is_upstreams NoConnections = true
 is_upstreams (Proto error) = true
@@ -147,8 +147,8 @@ UnansweredUnjudged (Some replies) q answer =
     (records : Told) → heard (reply_to replies q) ≡ Some records → foreign_record q records ≡ None → has_answer q records ≡ false
     → answer ≡ Err (Message NotJudgedYet)
 
--- the sets were judged, the answer lacks a denial, and is refused with its records as they were judged
-pub record IsRefused {H : Type 0} (sent : H → Option Question → H → Reply → Type 0) (old new : H)
+-- the sets were judged, the answer lacks a denial, and its records are inside the error as they were judged
+pub record IsDenied {H : Type 0} (sent : H → Option Question → H → Reply → Type 0) (old new : H)
     (tells : Tells) (j : Judge) (now limit : ℕ) (q : Question) (asked : Question) (response : ResponseText) (proof : Proof) : Type 0 where
   pub message : MessageText
   pub sets : List Judged
@@ -156,13 +156,13 @@ pub record IsRefused {H : Type 0} (sent : H → Option Question → H → Reply 
   pub lacks : LacksDenial q (told_by message) sets
   pub query : asked ≡ q
   pub bogus : proof ≡ Bogus
-  pub marked : response ≡ finished now sets message denied.None
+  pub marked : response ≡ finished now sets message denial.None
 
--- an answer is refused for lack of a denial only
-abbrev pub RefusedOnly : {H : Type 0} → (H → Option Question → H → Reply → Type 0) → H → H → Tells → Judge → ℕ → ℕ → Question → Reply → Type 0
-RefusedOnly sent old new tells j now limit q answer =
+-- an error with an answer inside comes only where that answer lacks a denial
+abbrev pub DeniedOnly : {H : Type 0} → (H → Option Question → H → Reply → Type 0) → H → H → Tells → Judge → ℕ → ℕ → Question → Reply → Type 0
+DeniedOnly sent old new tells j now limit q answer =
     (asked : Question) (response : ResponseText) (proof : Proof) → answer ≡ Err (Dns (Nsec asked response proof))
-    → IsRefused sent old new tells j now limit q asked response proof
+    → IsDenied sent old new tells j now limit q asked response proof
 
 -- the sets were judged, and the answer, which needs no denial, is given with its records as they were judged
 pub record IsAccepted {H : Type 0} (sent : H → Option Question → H → Reply → Type 0) (old new : H)
@@ -171,7 +171,7 @@ pub record IsAccepted {H : Type 0} (sent : H → Option Question → H → Reply
   pub sets : List Judged
   pub judged : IsJudged sent old new tells j limit q message sets
   pub needs : NeedsNone q (told_by message) sets
-  pub marked : response ≡ finished now sets message denied.None
+  pub marked : response ≡ finished now sets message denial.None
 
 -- an answer is given only so
 abbrev pub AcceptedOnly : {H : Type 0} → (H → Option Question → H → Reply → Type 0) → H → H → Tells → Judge → ℕ → ℕ → Question → Reply → Type 0
@@ -187,8 +187,8 @@ pub record AnswersSets {H : Type 0} (sent : H → Option Question → H → Repl
   pub judged : IsJudged sent old new tells j limit q message sets
   pub only : (others : List Judged) (sends : ℕ) → Run j limit (says_of tells) 1 (Sets q 0 (placed_sets (told_by message)) others) sends → others ≡ sets
   pub unjudged : WantsDenial q (told_by message) sets → answer ≡ Err (Message NotJudgedYet)
-  pub refused : LacksDenial q (told_by message) sets → answer ≡ Err (Dns (Nsec q (finished now sets message denied.None) Bogus))
-  pub accepted : NeedsNone q (told_by message) sets → answer ≡ Ok (finished now sets message denied.None)
+  pub denied : LacksDenial q (told_by message) sets → answer ≡ Err (Dns (Nsec q (finished now sets message denial.None) Bogus))
+  pub accepted : NeedsNone q (told_by message) sets → answer ≡ Ok (finished now sets message denial.None)
 
 -- where a known upstream's reply has records of the query's class alone, its sets are judged and answered
 abbrev pub Judges : {H : Type 0} → (H → Option Question → H → Reply → Type 0) → H → H → Tells → Judge → ℕ → ℕ → Question → Reply → Type 0

@@ -1,10 +1,12 @@
 ghost use Rattle.std.specs.Prelude.{◌≡◌, ◌≤◌, ◌<◌, ◌+◌, Some};
 ghost use Rattle.dns_net.specs.Replies.{reply_of};
 ghost use Rattle.dns_net.specs.Causes.{HasCause};
+ghost use Rattle.dns_net.specs.Handles.{OrUnsent};
 ghost use Rattle.dns_judgement.specs.Marking.{cleared_message};
 ghost use Rattle.dns_judgement.specs.Run.{most_sends};
 ghost use Rattle.dns_chain.specs.Steps.{Went};
-ghost use Rattle.dns_chain.specs.Looked.{HeardAs, UnlessNoMemory, Asked};
+ghost use Rattle.dns_chain.specs.Sends.{Asking};
+ghost use Rattle.dns_chain.specs.Looked.{HeardAs, Asked};
 
 use crate::inquiry::{Inquiry, MOST_SENDS, asking_request_of};
 use dns_message::Message;
@@ -13,7 +15,8 @@ use dns_record::Query;
 use dns_sets::clear_marks;
 use std::alloc::Global;
 
-/// Sends a query and hears the message of the reply, also of a denial, without the marks that came with it.
+/// Sends a query and hears the message of the reply, also of a denial, without the marks that came with it. Where memory runs
+/// out before the send, nothing is sent and nothing changes.
 pub(crate) fn hear<H: DnsHandle>(
     alloc: Global,
     inquiry: Inquiry,
@@ -23,9 +26,9 @@ pub(crate) fn hear<H: DnsHandle>(
 ) -> Result<Message, NetError>
     requires few { sends.old < most_sends }
     ensures count { sends.new ≡ sends.old + 1 }
-    ensures went { Went H.sent H.faults H.told handle.old handle.new sends.old sends.new }
+    ensures went { Went (Asking H.sent H.requested inquiry.options inquiry.now) H.faults H.told handle.old handle.new sends.old sends.new }
     ensures cause { HasCause (H.faults handle.old) (H.faults handle.new) result }
-    ensures asked { UnlessNoMemory result (Asked H.sent handle.old handle.new (H.told handle.old) query.now result) }
+    ensures asked { OrUnsent handle.old handle.new result (Asked (Asking H.sent H.requested inquiry.options inquiry.now) handle.old handle.new (H.told handle.old) query.now result) }
 {
     *sends += 1;
     let request = asking_request_of(alloc, query, &inquiry.options)?;

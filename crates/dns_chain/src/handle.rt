@@ -1,8 +1,10 @@
 ghost use Rattle.std.specs.Prelude.{◌≡◌, ◌≤◌, IfOk, true};
 ghost use Rattle.dns_model.specs.Chains.{judge};
 ghost use Rattle.dns_net.specs.Replies.{reply_of};
+ghost use Rattle.dns_net.specs.Handles.{OrUnsent};
 ghost use Rattle.dns_chain.specs.Inquiries.{depth_limit};
-ghost use Rattle.dns_chain.specs.Causes.{PassesOnly, PassesOn, ForeignOnly, ForeignNamed, UnjudgedOnly, UnansweredUnjudged, RefusedOnly, AcceptedOnly, Judges};
+ghost use Rattle.dns_chain.specs.Sends.{Asking, SendsFor};
+ghost use Rattle.dns_chain.specs.Causes.{PassesOnly, PassesOn, ForeignOnly, ForeignNamed, UnjudgedOnly, UnansweredUnjudged, DeniedOnly, AcceptedOnly, Judges};
 ghost use Rattle.dns_chain.specs.Looked.{UnlessNoMemory, IsLookup, IsSoundAnswer};
 
 use crate::inquiry::{Inquiry, depth_limit_of};
@@ -56,10 +58,11 @@ impl<H: DnsHandle + Drop, V: Verifier + Drop> DnssecDnsHandle<H, V> {
     }
 
     /// Looks a query up at a moment, in seconds: one send for the query, at most 1,024 in all, and asks for the keys of signers
-    /// down to the depth of the options and never deeper than 255. The marks of the answer are this validator's own.
+    /// at most as deep as the options say, and never deeper than 255. Each send has the options with EDNS and DO, AD set and
+    /// CD clear, and the same moment. The marks of the answer are this validator's own. Its anchors and verifier stay as they are.
     ///
     /// Errors: one of the handle's own send for the query; `ForeignClassRecord` for a record of another class than the query's;
-    /// `Message("not judged yet")` where denial of existence would have to be judged; `Dns(Nsec)` where the answer is refused;
+    /// `Message("not judged yet")` where denial of existence would have to be judged; `Dns(Nsec)` where the answer lacks a denial;
     /// `NoMemory`.
     pub fn lookup(
         &mut self,
@@ -68,29 +71,37 @@ impl<H: DnsHandle + Drop, V: Verifier + Drop> DnssecDnsHandle<H, V> {
         options: DnsRequestOptions,
         now: u64,
     ) -> Result<DnsResponse, NetError>
+        // The next lookup is by the same anchors and the same verifier.
+        ensures anchors { self.new.anchors ≡ self.old.anchors }
+        ensures verifier { self.new.verifier ≡ self.old.verifier }
         ensures later { H.faults self.old.handle ≤ H.faults self.new.handle }
         ensures told { H.told self.new.handle ≡ H.told self.old.handle }
+
+        // Whatever the result, each send is an ask with these options at this moment, the first one for the query.
+        ensures sends { OrUnsent self.old.handle self.new.handle result (SendsFor (Asking H.sent H.requested options now) self.old.handle self.new.handle query) }
+
+        // What is sound of the answer, and how it came about.
         ensures sound { IsSoundAnswer (judge (V.answers self.old.verifier) self.old.anchors now) now (H.told self.old.handle) query (reply_of result) }
-        ensures lookup { UnlessNoMemory result (IsLookup H.sent H.faults self.old.handle self.new.handle (H.told self.old.handle)
+        ensures lookup { UnlessNoMemory result (IsLookup (Asking H.sent H.requested options now) H.faults self.old.handle self.new.handle (H.told self.old.handle)
             (judge (V.answers self.old.verifier) self.old.anchors now) now (depth_limit options) query (reply_of result)) }
 
         // An error that only the handle makes is passed on, after one send that met a fault; and whatever error it replies is.
-        ensures passed { PassesOnly H.sent H.faults self.old.handle self.new.handle (H.told self.old.handle) query (reply_of result) }
+        ensures passed { PassesOnly (Asking H.sent H.requested options now) H.faults self.old.handle self.new.handle (H.told self.old.handle) query (reply_of result) }
         ensures passes { UnlessNoMemory result (PassesOn (H.told self.old.handle) query (reply_of result)) }
 
         // Else the first record of another class than the query's is named, and nothing else is complained of so.
-        ensures foreign { ForeignOnly H.sent H.faults self.old.handle self.new.handle (H.told self.old.handle) query (reply_of result) }
+        ensures foreign { ForeignOnly (Asking H.sent H.requested options now) H.faults self.old.handle self.new.handle (H.told self.old.handle) query (reply_of result) }
         ensures names_foreign { UnlessNoMemory result (ForeignNamed (H.told self.old.handle) query (reply_of result)) }
 
         // Else the sets are judged, and there are three answers: denial would have to be judged, is lacking, or isn't needed.
-        ensures unjudged { UnjudgedOnly H.sent H.faults self.old.handle self.new.handle (H.told self.old.handle)
+        ensures unjudged { UnjudgedOnly (Asking H.sent H.requested options now) H.faults self.old.handle self.new.handle (H.told self.old.handle)
             (judge (V.answers self.old.verifier) self.old.anchors now) (depth_limit options) query (reply_of result) }
         ensures unanswered { UnlessNoMemory result (UnansweredUnjudged (H.told self.old.handle) query (reply_of result)) }
-        ensures denied { RefusedOnly H.sent self.old.handle self.new.handle (H.told self.old.handle)
+        ensures denied { DeniedOnly (Asking H.sent H.requested options now) self.old.handle self.new.handle (H.told self.old.handle)
             (judge (V.answers self.old.verifier) self.old.anchors now) now (depth_limit options) query (reply_of result) }
-        ensures accepted { AcceptedOnly H.sent self.old.handle self.new.handle (H.told self.old.handle)
+        ensures accepted { AcceptedOnly (Asking H.sent H.requested options now) self.old.handle self.new.handle (H.told self.old.handle)
             (judge (V.answers self.old.verifier) self.old.anchors now) now (depth_limit options) query (reply_of result) }
-        ensures judges { UnlessNoMemory result (Judges H.sent self.old.handle self.new.handle (H.told self.old.handle)
+        ensures judges { UnlessNoMemory result (Judges (Asking H.sent H.requested options now) self.old.handle self.new.handle (H.told self.old.handle)
             (judge (V.answers self.old.verifier) self.old.anchors now) now (depth_limit options) query (reply_of result)) }
     {
         let inquiry = Inquiry {

@@ -19,7 +19,7 @@ pub(crate) struct Inquiry {
     pub(crate) limit: u16,
 }
 
-/// How deep the asks of a call go: by its options, and never deeper than 255.
+/// How deep the asks of a call go: at most as deep as its options say, and never deeper than 255.
 pub(crate) fn depth_limit_of(options: &DnsRequestOptions) -> u16
     ensures { result ≡ depth_limit options.now }
 {

@@ -2,7 +2,9 @@ ghost use Rattle.std.specs.Prelude.{◌⊎◌, ◌≡◌, ◌≤◌};
 ghost use Rattle.dns_model.specs.Chains.{judge};
 ghost use Rattle.dns_net.specs.Causes.{HasCause};
 ghost use Rattle.dns_net.specs.Errors as seen;
+ghost use Rattle.dns_net.specs.Handles.{OrUnsent};
 ghost use Rattle.dns_net.specs.Replies.{reply_of, error_of};
+ghost use Rattle.dns_chain.specs.Sends.{Asking, SendsFor};
 ghost use Rattle.dns_chain.specs.Looked.{UnlessNoMemory, IsLookup, judged_answer};
 
 use crate::asking::hear;
@@ -28,7 +30,8 @@ pub(crate) fn look<H: DnsHandle, V: Verifier>(
     requires limit { inquiry.limit ≤ 255 }
     ensures later { H.faults handle.old ≤ H.faults handle.new }
     ensures told { H.told handle.new ≡ H.told handle.old }
-    ensures lookup { UnlessNoMemory result (IsLookup H.sent H.faults handle.old handle.new (H.told handle.old)
+    ensures sends { OrUnsent handle.old handle.new result (SendsFor (Asking H.sent H.requested inquiry.options inquiry.now) handle.old handle.new query) }
+    ensures lookup { UnlessNoMemory result (IsLookup (Asking H.sent H.requested inquiry.options inquiry.now) H.faults handle.old handle.new (H.told handle.old)
         (judge (V.answers verifier.now) anchors.now inquiry.now) inquiry.now inquiry.limit query (reply_of result)) }
 {
     let mut sends: u32 = 0;

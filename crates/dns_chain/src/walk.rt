@@ -7,6 +7,7 @@ ghost use Rattle.dns_model.specs.Answers.{told_by};
 ghost use Rattle.dns_judgement.specs.Run.{ending_of, Run, Sets, Signatures, Ask, most_sends};
 ghost use Rattle.dns_trust.specs.Verdicts.{verdict_text, listed};
 ghost use Rattle.dns_chain.specs.Heard.{says_of, Tells};
+ghost use Rattle.dns_chain.specs.Sends.{Asking};
 ghost use Rattle.dns_chain.specs.Steps.{SetStep, SignatureStep, Went};
 
 use crate::asking::hear;
@@ -38,7 +39,7 @@ pub(crate) fn judge_sets<H: DnsHandle, V: Verifier>(
     requires few { sends.old ≤ most_sends }
     requires limit { inquiry.limit ≤ 255 }
     requires shallow { depth ≤ 255 }
-    ensures went { Went H.sent H.faults H.told handle.old handle.new sends.old sends.new }
+    ensures went { Went (Asking H.sent H.requested inquiry.options inquiry.now) H.faults H.told handle.old handle.new sends.old sends.new }
     ensures run { IfOk result (λ v. (tells : Tells) → H.told handle.old ≡ tells → Run (judge (V.answers verifier.now) anchors.now inquiry.now) inquiry.limit (says_of tells)
         sends.old (Sets query.now depth placed.items v.items) sends.new) }
 {
@@ -68,7 +69,7 @@ fn judge_set<H: DnsHandle, V: Verifier>(
     requires few { sends.old ≤ most_sends }
     requires limit { inquiry.limit ≤ 255 }
     requires shallow { depth ≤ 255 }
-    ensures went { Went H.sent H.faults H.told handle.old handle.new sends.old sends.new }
+    ensures went { Went (Asking H.sent H.requested inquiry.options inquiry.now) H.faults H.told handle.old handle.new sends.old sends.new }
     ensures step { IfOk result (λ s. (tells : Tells) → H.told handle.old ≡ tells → SetStep (judge (V.answers verifier.now) anchors.now inquiry.now) inquiry.limit (says_of tells)
         query.now depth placed sends.old s sends.new) }
 {
@@ -121,7 +122,7 @@ fn judge_signatures<H: DnsHandle, V: Verifier>(
     requires few { sends.old ≤ most_sends }
     requires limit { inquiry.limit ≤ 255 }
     requires shallow { depth ≤ 255 }
-    ensures went { Went H.sent H.faults H.told handle.old handle.new sends.old sends.new }
+    ensures went { Went (Asking H.sent H.requested inquiry.options inquiry.now) H.faults H.told handle.old handle.new sends.old sends.new }
     ensures run { IfOk result (λ v. (tells : Tells) → H.told handle.old ≡ tells → Run (judge (V.answers verifier.now) anchors.now inquiry.now) inquiry.limit (says_of tells)
         sends.old (Signatures query.now depth set.now (take most_signatures set.now.signatures) (map verdict_text v.items)) sends.new) }
 {
@@ -165,7 +166,7 @@ fn judge_signature<H: DnsHandle, V: Verifier>(
     requires few { sends.old ≤ most_sends }
     requires limit { inquiry.limit ≤ 255 }
     requires shallow { depth ≤ 255 }
-    ensures went { Went H.sent H.faults H.told handle.old handle.new sends.old sends.new }
+    ensures went { Went (Asking H.sent H.requested inquiry.options inquiry.now) H.faults H.told handle.old handle.new sends.old sends.new }
     ensures step { IfOk result (λ v. (tells : Tells) → H.told handle.old ≡ tells → SignatureStep (judge (V.answers verifier.now) anchors.now inquiry.now) inquiry.limit (says_of tells)
         query.now depth set.now sig.now sends.old (verdict_text v) sends.new) }
 {
@@ -190,7 +191,8 @@ fn judge_signature<H: DnsHandle, V: Verifier>(
     Ok(verdict)
 }
 
-/// Asks a question at a depth: the judged sets of its answer, or None where the ask is refused, fails or isn't answered.
+/// Asks a question at a depth: the judged sets of its answer, or None where the ask is too deep or one too many, fails or has no
+/// answer that is accepted.
 #[cycle(walk)]
 fn ask<H: DnsHandle, V: Verifier>(
     alloc: Global,
@@ -205,7 +207,7 @@ fn ask<H: DnsHandle, V: Verifier>(
     requires few { sends.old ≤ most_sends }
     requires limit { inquiry.limit ≤ 255 }
     requires shallow { depth ≤ 256 }
-    ensures went { Went H.sent H.faults H.told handle.old handle.new sends.old sends.new }
+    ensures went { Went (Asking H.sent H.requested inquiry.options inquiry.now) H.faults H.told handle.old handle.new sends.old sends.new }
     ensures run { IfOk result (λ a. (tells : Tells) → H.told handle.old ≡ tells → Run (judge (V.answers verifier.now) anchors.now inquiry.now) inquiry.limit (says_of tells)
         sends.old (Ask query.now depth (listed a)) sends.new) }
 {

@@ -168,7 +168,7 @@ ends_by_case s status before now records told own (GivesReport answer after caus
       judged = record { after = after; judged = a.judged };
       only = a.only;
       unjudged = λ wants. absurd (err_ok (Ok answer) answer _ (a.unjudged wants) refl);
-      undenied = λ lacks. absurd (err_ok (Ok answer) answer _ (a.refused lacks) refl);
+      undenied = λ lacks. absurd (err_ok (Ok answer) answer _ (a.denied lacks) refl);
       accepted = λ needs. Ended is (subst P (ok_same (Ok answer) answer _ refl (a.accepted needs)) written);
     })
 ends_by_case s status before now records told own (GivesFault error after caused is written) =
@@ -180,7 +180,7 @@ ends_by_case s status before now records told own (GivesFault error after caused
       judged = record { after = after; judged = a.judged };
       only = a.only;
       unjudged = λ wants. Ended is (subst P (err_same (Err error) error _ refl (a.unjudged wants)) written);
-      undenied = λ lacks. Ended is (subst P (err_same (Err error) error _ refl (a.refused lacks)) written);
+      undenied = λ lacks. Ended is (subst P (err_same (Err error) error _ refl (a.denied lacks)) written);
       accepted = λ needs. absurd (err_ok (Err error) _ error refl (a.accepted needs));
     })
 ends_by_case s status before now records told own (GivesLater late) = inl late

@@ -22,30 +22,30 @@ ask-returns-in-Err-clause-run g t c =
       | ask-in-NoMemory w ↦ rw w.result-is tt
       | ask-in_default w ↦ rw w.result-is (λ tells told.
           elim c.in-Err.ensures.asked [
-            | inl memory ↦ absurd (w.in_default.not-NoMemory memory)
-            | inr asked ↦ Fault c.args.query.now c.args.depth c.args.sends.now c.hear.new.sends (omega arith) (omega arith) c.hear.ensures.count
-                (said_none g.H.DnsHandle.sent _ _ _ tells _ _ told w.in_default.not-NoMemory asked)
+            | inr unsent ↦ absurd (w.in_default.not-NoMemory unsent.0)
+            | inl asked ↦ Fault c.args.query.now c.args.depth c.args.sends.now c.hear.new.sends (omega arith) (omega arith) c.hear.ensures.count
+                (said_none _ _ _ _ tells _ _ told w.in_default.not-NoMemory asked)
           ])
     ]
 
 pub ask-returns-then-has_foreign_record-clause-run : goal.ask-returns-then-has_foreign_record-clause-run
 ask-returns-then-has_foreign_record-clause-run g t c = λ tells told.
     Foreign _ _ _ _ _ (omega arith) (omega arith) c.hear.ensures.count
-    (said_some g.H.DnsHandle.sent _ _ _ tells _ _ told c.in-Ok.ensures.asked)
+    (said_some _ _ _ _ tells _ _ told c.in-Ok.ensures.asked)
     (sym c.has_foreign_record.ensures ∙ c.if-has_foreign_record.true)
 
 pub ask-returns-in_err-judged-clause-went : goal.ask-returns-in_err-judged-clause-went
 ask-returns-in_err-judged-clause-went g t c =
-    then_way g.H.DnsHandle.sent g.H.DnsHandle.faults g.H.DnsHandle.told _ _ _ _ _ _ c.hear.ensures.went c.judge_sets.ensures.went
+    then_way _ g.H.DnsHandle.faults g.H.DnsHandle.told _ _ _ _ _ _ c.hear.ensures.went c.judge_sets.ensures.went
 
 pub ask-returns-clause-went : goal.ask-returns-clause-went
 ask-returns-clause-went g t c =
-    then_way g.H.DnsHandle.sent g.H.DnsHandle.faults g.H.DnsHandle.told _ _ _ _ _ _ c.hear.ensures.went c.judge_sets.ensures.went
+    then_way _ g.H.DnsHandle.faults g.H.DnsHandle.told _ _ _ _ _ _ c.hear.ensures.went c.judge_sets.ensures.went
 
 pub ask-returns-clause-run : goal.ask-returns-clause-run
 ask-returns-clause-run g t c = λ tells told.
     answered_ask _ _ _ _ _ _ _ _ _ _ _ _ (omega arith) (omega arith) c.hear.ensures.count
-    (said_some g.H.DnsHandle.sent _ _ _ tells _ _ told c.in-Ok.ensures.asked)
+    (said_some _ _ _ _ tells _ _ told c.in-Ok.ensures.asked)
     (sym c.has_foreign_record.ensures ∙ c.if-has_foreign_record.false)
     c.in_ok-placed.ensures (c.in_ok-judged.ensures.run tells (c.hear.ensures.went.told ∙ told)) c.accepted.ensures
 
@@ -59,20 +59,20 @@ judge_set-returns-clause-step g t c = λ tells told.
 
 pub judge_sets-returns-in_err-one-clause-went : goal.judge_sets-returns-in_err-one-clause-went
 judge_sets-returns-in_err-one-clause-went g t c =
-    then_way g.H.DnsHandle.sent g.H.DnsHandle.faults g.H.DnsHandle.told _ _ _ _ _ _ c.loop-next.invariant.2 c.judge_set.ensures.went
+    then_way _ g.H.DnsHandle.faults g.H.DnsHandle.told _ _ _ _ _ _ c.loop-next.invariant.2 c.judge_set.ensures.went
 
 pub judge_sets-loop-next-preserved : goal.judge_sets-loop-next-preserved
 judge_sets-loop-next-preserved g t c = (
   tt,
   tt,
-  then_way g.H.DnsHandle.sent g.H.DnsHandle.faults g.H.DnsHandle.told _ _ _ _ _ _ c.loop-next.invariant.2 c.judge_set.ensures.went,
+  then_way _ g.H.DnsHandle.faults g.H.DnsHandle.told _ _ _ _ _ _ c.loop-next.invariant.2 c.judge_set.ensures.went,
   λ tells told. rw c.in_ok-push.ensures.items
       (set_done _ _ _ _ _ _ _ _ _ _ _ _ (c.loop-next.invariant.3 tells told) (c.in_ok-one.ensures.step tells (c.loop-next.invariant.2.told ∙ told))),
 )
 
 pub judge_sets-returns-in_err-push-clause-went : goal.judge_sets-returns-in_err-push-clause-went
 judge_sets-returns-in_err-push-clause-went g t c =
-    then_way g.H.DnsHandle.sent g.H.DnsHandle.faults g.H.DnsHandle.told _ _ _ _ _ _ c.loop-next.invariant.2 c.judge_set.ensures.went
+    then_way _ g.H.DnsHandle.faults g.H.DnsHandle.told _ _ _ _ _ _ c.loop-next.invariant.2 c.judge_set.ensures.went
 
 pub judge_sets-returns-clause-run : goal.judge_sets-returns-clause-run
 judge_sets-returns-clause-run g t c =
@@ -91,15 +91,15 @@ judge_signature-returns-clause-step g t c = λ tells told.
 
 pub judge_signatures-returns-in_err-verdict-clause-went : goal.judge_signatures-returns-in_err-verdict-clause-went
 judge_signatures-returns-in_err-verdict-clause-went g t c =
-    then_way g.H.DnsHandle.sent g.H.DnsHandle.faults g.H.DnsHandle.told _ _ _ _ _ _ c.loop-sig.invariant.0 c.judge_signature.ensures.went
+    then_way _ g.H.DnsHandle.faults g.H.DnsHandle.told _ _ _ _ _ _ c.loop-sig.invariant.0 c.judge_signature.ensures.went
 
 pub judge_signatures-returns-in_err-push-clause-went : goal.judge_signatures-returns-in_err-push-clause-went
 judge_signatures-returns-in_err-push-clause-went g t c =
-    then_way g.H.DnsHandle.sent g.H.DnsHandle.faults g.H.DnsHandle.told _ _ _ _ _ _ c.loop-sig.invariant.0 c.judge_signature.ensures.went
+    then_way _ g.H.DnsHandle.faults g.H.DnsHandle.told _ _ _ _ _ _ c.loop-sig.invariant.0 c.judge_signature.ensures.went
 
 pub judge_signatures-returns-then-proved-clause-went : goal.judge_signatures-returns-then-proved-clause-went
 judge_signatures-returns-then-proved-clause-went g t c =
-    then_way g.H.DnsHandle.sent g.H.DnsHandle.faults g.H.DnsHandle.told _ _ _ _ _ _ c.loop-sig.invariant.0 c.judge_signature.ensures.went
+    then_way _ g.H.DnsHandle.faults g.H.DnsHandle.told _ _ _ _ _ _ c.loop-sig.invariant.0 c.judge_signature.ensures.went
 
 pub judge_signatures-returns-then-proved-clause-run : goal.judge_signatures-returns-then-proved-clause-run
 judge_signatures-returns-then-proved-clause-run g t c = λ tells told.
@@ -108,7 +108,7 @@ judge_signatures-returns-then-proved-clause-run g t c = λ tells told.
 
 pub judge_signatures-loop-sig-preserved : goal.judge_signatures-loop-sig-preserved
 judge_signatures-loop-sig-preserved g t c = (
-  then_way g.H.DnsHandle.sent g.H.DnsHandle.faults g.H.DnsHandle.told _ _ _ _ _ _ c.loop-sig.invariant.0 c.judge_signature.ensures.went,
+  then_way _ g.H.DnsHandle.faults g.H.DnsHandle.told _ _ _ _ _ _ c.loop-sig.invariant.0 c.judge_signature.ensures.went,
   λ tells told. rw c.in_ok-push.ensures.items (rw map-append (failed_at _ _ _ _ _ _ _ _ _ _ _ _ _ _ c.loop-sig-test.true c.sig-item.is
       (c.loop-sig.invariant.1 tells told) (c.in_ok-verdict.ensures.step tells (c.loop-sig.invariant.0.told ∙ told)) (sym c.is_proved-proved.ensures ∙ c.if-proved.false))),
 )

@@ -2,6 +2,7 @@ use Rattle.std.proofs.Common.{◌≡◌, ◌+◌, map, take, ◌-◌, ◌*◌}
 use Rattle.dns_model.specs.Chains.{judge}
 use Rattle.dns_trust.specs.Verdicts.{verdict_text}
 use Rattle.dns_chain.specs.Heard.{says_of, Tells}
+use Rattle.dns_chain.specs.Sends.{Asking}
 use Rattle.dns_chain.specs.Steps.{Went}
 use Rattle.dns_chain.proofs.StepLemmas.{SetsDone, SignaturesDone}
 use Rattle.dns_chain.proofs.walk.+walk.Given as goal
@@ -25,12 +26,12 @@ abbrev pub invariant-judge_sets-loop-next : goal.invariant-judge_sets-loop-next
 invariant-judge_sets-loop-next g l =
     (goal.iterator-judge_sets-loop-next g).can_next l.next-iterator ×
     (goal.iterator-judge_sets-loop-next g).is_finite l.next-iterator ×
-    Went g.H.DnsHandle.sent g.H.DnsHandle.faults g.H.DnsHandle.told l.initial.handle l.handle l.initial.sends l.sends ×
+    Went (Asking g.H.DnsHandle.sent g.H.DnsHandle.requested l.inquiry.options l.inquiry.now) g.H.DnsHandle.faults g.H.DnsHandle.told l.initial.handle l.handle l.initial.sends l.sends ×
     ((tells : Tells) → g.H.DnsHandle.told l.initial.handle ≡ tells →
     SetsDone (judge (g.V.Verifier.answers l.verifier) l.anchors l.inquiry.now) l.inquiry.limit (says_of tells) l.query l.depth l.initial.sends l.yielded l.judged.items l.sends)
 
 abbrev pub invariant-judge_signatures-loop-sig : goal.invariant-judge_signatures-loop-sig
 invariant-judge_signatures-loop-sig g l =
-    Went g.H.DnsHandle.sent g.H.DnsHandle.faults g.H.DnsHandle.told l.initial.handle l.handle l.initial.sends l.sends ×
+    Went (Asking g.H.DnsHandle.sent g.H.DnsHandle.requested l.inquiry.options l.inquiry.now) g.H.DnsHandle.faults g.H.DnsHandle.told l.initial.handle l.handle l.initial.sends l.sends ×
     ((tells : Tells) → g.H.DnsHandle.told l.initial.handle ≡ tells →
     SignaturesDone (judge (g.V.Verifier.answers l.verifier) l.anchors l.inquiry.now) l.inquiry.limit (says_of tells) l.query l.depth l.initial.sends l.set (take l.sig-index l.tried) (map verdict_text l.verdicts.items) l.sends)

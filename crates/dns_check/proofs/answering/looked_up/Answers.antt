@@ -1,8 +1,10 @@
 use Rattle.std.proofs.Common.{rules}
+use Rattle.dns_chain.proofs.SendLemmas.{result_made}
 use Rattle.dns_check.proofs.JudgeLemmas.{answers_looked}
 use Rattle.dns_check.proofs.answering.looked_up.Goals as goal
 
 pub returns : goal.returns
 returns c =
     answers_looked c.args.session c.lookup.result c.in_ok-handle.handle.handle _ c.in_ok-handle.handle.anchors
-    c.in_ok-handle.handle.verifier c.default.result (search rules) (search rules) (search rules) (search rules) c.lookup.ensures.lookup
+    c.in_ok-handle.handle.verifier c.default.result (search rules) (search rules) (search rules) (search rules)
+    (result_made _ _ _ _ _ _ _ _ _ _ _ _ _ c.lookup.ensures.lookup)
