@@ -128,10 +128,10 @@ impl DnsRequest {
         })
     }
 
-    /// The request with the case of its first question's i-th letter changed where bit i is set, and `original` that
-    /// question as it was before this call (RFC 4343, 4.1). The letters are A to Z and a to z, counted from 0 over the
-    /// labels, the leaf first; bit i is bit i mod 8, the lowest first, of byte i / 8, and a bit behind the last byte is
-    /// clear. A request without a question stays as it is. The only error is want of memory.
+    /// The request with the case of some letters of its first question's name changed, and `original` that question as it
+    /// was before this call (RFC 4343, 4.1). Each letter, A to Z or a to z, takes the next bit in its turn, from the leaf to
+    /// the root; a byte gives its bits from the least upward. A letter whose bit is set is changed, and one for which no
+    /// byte is left isn't. A request without a question stays as it is. The only error is want of memory.
     pub fn with_case(mut self, bits: &[u8]) -> Result<DnsRequest, NoMemory>
         ensures { IfOk result (λ r. r ≡ request_cased bits.now self) }
     {
