@@ -128,10 +128,10 @@ impl DnsRequest {
         })
     }
 
-    /// The request with the case of its first question's i-th letter changed where bit i is set, and `original` that
-    /// question as it was before this call (RFC 4343, 4.1). The letters are A to Z and a to z, counted from 0 over the
-    /// labels, the leaf first; bit i is bit i mod 8, the lowest first, of byte i / 8, and a bit behind the last byte is
-    /// clear. A request without a question stays as it is. The only error is want of memory.
+    /// The request with the case of some letters of its first question changed, and `original` that question as this call
+    /// met it (RFC 4343, 4.1). A to Z and a to z are letters. Each takes the next of the bits, over the labels from the leaf
+    /// on, and changes where it is set: the bytes give their bits in order, each from its lowest bit to its highest, and
+    /// where they end the rest are clear. A request without a question stays as it is. The only error is want of memory.
     pub fn with_case(mut self, bits: &[u8]) -> Result<DnsRequest, NoMemory>
         ensures { IfOk result (λ r. r ≡ request_cased bits.now self) }
     {
