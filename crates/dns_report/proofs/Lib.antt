@@ -6,3 +6,4 @@ mod FieldWords
 mod RecordLaws
 mod LinkLaws
 mod ReportLaw
+mod ChainLaw

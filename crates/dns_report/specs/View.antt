@@ -8,6 +8,7 @@ use Rattle.dns_model.specs.declared.section.Section.{Section}
 use Rattle.dns_model.specs.declared.denial.Denial.{Denial}
 use Rattle.dns_model.specs.Records.{Rr}
 use Rattle.dns_model.specs.Chains as fact
+use Rattle.dns_model.specs.Chains.{Judge, justified}
 use Rattle.dns_model.specs.Answers.{ChainText, ResponseText}
 
 -- a key of a set, after the number of the link that shows it
@@ -90,3 +91,7 @@ abbrev pub fitting_view : View → Bool
 fitting_view v =
     is_u16 v.code && (list_all fitting_record v.answers && (list_all fitting_record v.authorities && (list_all fitting_record v.additionals
     && list_all fitting_chain v.chains)))
+
+-- each chain is justified (RFC 4035, 5.2 and 5.3), so that each key of its key sets has the number of a link
+abbrev pub all_justified : Judge → List ChainText → Bool
+all_justified j chains = list_all (λ chain. justified j chain.links) chains

@@ -11,3 +11,6 @@ mod words;
 
 pub use fault::write_fault;
 pub use report::write_report;
+
+#[cfg(test)]
+mod tests;

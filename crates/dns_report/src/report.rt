@@ -1,7 +1,9 @@
 //! The text of a report.
 ghost use Rattle.std.specs.Prelude.{◌≡◌, ◌++◌, OnOk, IfOk, IsTrue};
 ghost use Rattle.std.specs.List.{list_all};
-ghost use Rattle.dns_report.specs.View.{View, view_of, is_u16, fitting_record, fitting_view};
+ghost use Rattle.dns_report.specs.View.{View, view_of, is_u16, fitting_record, fitting_view, all_justified};
+ghost use Rattle.dns_model.specs.Chains.{Judge};
+ghost use Rattle.dns_model.specs.Answers.{ResponseText};
 ghost use Rattle.dns_report.specs.Report.{code_line, denial_line, head_text, records_text, view_body, view_text, report_text};
 
 use crate::link::push_chains;
@@ -80,12 +82,15 @@ fn push_body(into: &mut Vec<u8>, answer: &DnsResponse) -> Result<(), NoMemory>
 /// The report on an answer: its code, what it denies, each record with its mark, and the chains of its Secure sets. Names
 /// are printed in the case in which they came. The only error is want of memory.
 ///
-/// The text tells what it shows: of all views with names, bytes and numbers that can stand in an answer, no other has it.
+/// The text tells what it shows: of all views with names, bytes and numbers that can stand in an answer, no other has it. Where
+/// all chains of two answers with one text are justified, the chains are the same too, whole.
 #[tactic(auto, unfolding(crate::specs::Report::report_text, crate::specs::Report::view_text))]
 pub fn write_report(alloc: Global, answer: &DnsResponse) -> Result<Vec<u8>, NoMemory>
     ensures text { IfOk result (λ v. v.items ≡ report_text answer.now) }
     ensures fits { OnOk result (IsTrue (fitting_view (view_of answer.now))) }
     ensures tells { IfOk result (λ v. (other : View) → IsTrue (fitting_view other) → view_text other ≡ v.items → other ≡ view_of answer.now) }
+    ensures chains { IfOk result (λ v. (other : ResponseText) (j k : Judge) → IsTrue (fitting_view (view_of other)) → report_text other ≡ v.items
+        → IsTrue (all_justified j other.chains) → IsTrue (all_justified k answer.now.chains) → other.chains ≡ answer.now.chains) }
 {
     let mut text = Vec::new(alloc);
     push_body(&mut text, answer)?;

@@ -252,3 +252,78 @@ fn bytes_that_are_no_message_are_kept_as_their_fault(rt: HostRuntime) -> Result<
     }
     Ok(())
 }
+
+/// A session with a line of every kind, and names with bytes that are escaped.
+fn escaped_session() -> &'static str {
+    "dns-session 1\n\
+     moment 18446744073709551615\n\
+     algorithms 8 13\n\
+     anchor \\000a\\.b\\032\\\\.Example 13 aabb\n\
+     accept 13 - Aa bB\n\
+     query \\200z.\\065. TYPE3\n\
+     reply \\200z.\\065. TYPE3 000084000000000000000000\n\
+     reply . NS 00\n\
+     end\n"
+}
+
+/// The wire form of the anchor's owner.
+fn anchor_wire() -> &'static [u8] {
+    b"\x06\x00a.b \\\x07Example\x00"
+}
+
+/// The wire form of the query's name.
+fn query_wire() -> &'static [u8] {
+    b"\x02\xc8z\x01A\x00"
+}
+
+fn has_anchor(anchors: &[Anchor], owner: &[u8], key: &[u8]) -> bool {
+    match anchors {
+        [anchor] => anchor.owner.wire() == owner && anchor.key.as_slice() == key,
+        _ => false,
+    }
+}
+
+fn has_accept(accepts: &[Accept], bytes: u8, signature: u8) -> bool {
+    match accepts {
+        [accept] => {
+            accept.algorithm == 13
+                && accept.key.is_empty()
+                && accept.bytes.as_slice() == [bytes].as_slice()
+                && accept.signature.as_slice() == [signature].as_slice()
+        }
+        _ => false,
+    }
+}
+
+/// The first reply is a message to this name, and the second is none.
+fn has_replies(replies: &[Reply], name: &[u8]) -> bool {
+    match replies {
+        [first, second] => {
+            first.query.name.wire() == name && first.message.is_ok() && second.message.is_err()
+        }
+        _ => false,
+    }
+}
+
+/// The session has these names, and what else stands in its lines.
+fn reads(alloc: Global, text: &str, anchor: &[u8], key: &[u8], query: &[u8]) -> bool {
+    if text.len() > 100_000 {
+        return false;
+    }
+    let Ok(session) = read_session(alloc, text.as_bytes()) else {
+        return false;
+    };
+    session.moment == u64::MAX
+        && session.algorithms.as_slice() == b"\x08\x0d".as_slice()
+        && has_anchor(&session.anchors, anchor, key)
+        && has_accept(&session.accepts, 0xaa, 0xbb)
+        && session.query.name.wire() == query
+        && session.query.query_type.0 == 3
+        && has_replies(&session.replies, query)
+}
+
+#[test]
+fn escaped_names_are_read(rt: HostRuntime) {
+    let alloc = rt.alloc();
+    assert!(rt; reads(alloc, escaped_session(), anchor_wire(), b"\xaa\xbb", query_wire()));
+}
