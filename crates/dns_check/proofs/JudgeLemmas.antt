@@ -35,7 +35,7 @@ left_out : (counts is here rest : Bool) → (is ≡ true → (counts ≡ false) 
 left_out false is here rest h = refl
 left_out true is true rest h = refl
 left_out true false false rest h = refl
-left_out true true false rest h = elim (h refl) [ | inl e ↦ cc | inr e ↦ cc ]
+left_out true true false rest h = elim (h refl) [ inl e ↦ cc | inr e ↦ cc ]
 
 -- the same, for lists
 skipped : {X : Type 0} (counts : Bool) (is : X → Bool) (xs : List X) (x : X) (more : List X)
@@ -67,7 +67,7 @@ algorithm_out algorithms a n out is =
 
 supports_after : (listed : ListedText) (a : ℕ) (more : List ℕ) (n : ℕ) (out : Bool) → ((a == 1) || is_listed listed a) ≡ out
     → supports_in ((cond out listed (record listed { algorithms = listed.algorithms ++ a ∷ [] })).algorithms ++ more) n
-      ≡ supports_in (listed.algorithms ++ a ∷ more) n
+    ≡ supports_in (listed.algorithms ++ a ∷ more) n
 unfolding supports_in
 supports_after listed a more n true is =
     skipped (not (n == 1)) (λ x. n == x) listed.algorithms a more (algorithm_out listed.algorithms a n is)
@@ -106,7 +106,7 @@ entry_out entry n key bytes signature one is =
 accepts_after : (listed : ListedText) (entry : AcceptedText) (more : List AcceptedText) (n : ℕ) (key bytes signature : List ℕ) (out : Bool)
     → (entry.algorithm == 1) ≡ out
     → accepts_in ((cond out listed (record listed { accepted = listed.accepted ++ entry ∷ [] })).accepted ++ more) n key bytes signature
-      ≡ accepts_in (listed.accepted ++ entry ∷ more) n key bytes signature
+    ≡ accepts_in (listed.accepted ++ entry ∷ more) n key bytes signature
 unfolding accepts_in
 accepts_after listed entry more n key bytes signature true is =
     skipped (not (n == 1)) (is_entry n key bytes signature) listed.accepted entry more
@@ -116,7 +116,7 @@ accepts_after listed entry more n key bytes signature false is =
 
 accepts_added : (listed : ListedText) (accepts : List AcceptText) (n : ℕ) (key bytes signature : List ℕ)
     → accepts_in (with_accepts listed accepts).accepted n key bytes signature
-      ≡ accepts_in (listed.accepted ++ map accepted accepts) n key bytes signature
+    ≡ accepts_in (listed.accepted ++ map accepted accepts) n key bytes signature
 unfolding with_accepts
 accepts_added listed [] n key bytes signature =
     ap (λ xs. accepts_in xs n key bytes signature) (sym (append-nil listed.accepted))
@@ -222,16 +222,16 @@ judge_plain s = ap₂ (λ answers is_anchored. judged_by answers is_anchored s.m
 -- a lookup over what the loops made is one for the session
 lookup_plain : (s : SessionText) (after : RecordedText) (answer : Reply)
     → IsLookup AnswersFrom (λ r. r.faults) (recorded_by s.replies) after (Some (map recorded s.replies))
-        (judge (answers_of (listed_by s.algorithms s.accepts)) (trusted_by s.anchors) s.moment) s.moment (depth_limit plain_options) s.query answer
+    (judge (answers_of (listed_by s.algorithms s.accepts)) (trusted_by s.anchors) s.moment) s.moment (depth_limit plain_options) s.query answer
     → Answers s answer
 lookup_plain s after answer given =
     let P : Judge → Type 0 = λ j. IsLookup AnswersFrom (λ r. r.faults) (recorded_by s.replies) after (Some (map recorded s.replies))
-        j s.moment (depth_limit plain_options) s.query answer in
+    j s.moment (depth_limit plain_options) s.query answer in
     record { after = after; lookup = subst P (judge_plain s) given }
 
 unless_plain : (s : SessionText) (result : Result ResponseText NetError) (after : RecordedText)
     → UnlessNoMemory result (IsLookup AnswersFrom (λ r. r.faults) (recorded_by s.replies) after (Some (map recorded s.replies))
-        (judge (answers_of (listed_by s.algorithms s.accepts)) (trusted_by s.anchors) s.moment) s.moment (depth_limit plain_options) s.query (reply_of result))
+    (judge (answers_of (listed_by s.algorithms s.accepts)) (trusted_by s.anchors) s.moment) s.moment (depth_limit plain_options) s.query (reply_of result))
     → UnlessNoMemory result (Answers s (reply_of result))
 unless_plain s (Ok response) after given = lookup_plain s after (Ok response) given
 unless_plain s (Err error) after given = elim given [
@@ -244,7 +244,7 @@ pub answers_looked : (s : SessionText) (result : Result ResponseText NetError) (
     (verifier : ListedText) (options : DnsRequestOptions)
     → handle ≡ recorded_by s.replies → anchors ≡ trusted_by s.anchors → verifier ≡ listed_by s.algorithms s.accepts → options ≡ plain_options
     → UnlessNoMemory result (IsLookup AnswersFrom (λ r. r.faults) handle after (Some handle.replies)
-        (judge (answers_of verifier) anchors s.moment) s.moment (depth_limit options) s.query (reply_of result))
+    (judge (answers_of verifier) anchors s.moment) s.moment (depth_limit options) s.query (reply_of result))
     → UnlessNoMemory result (Answers s (reply_of result))
 answers_looked s result handle after anchors verifier options over by listed plain given =
     unless_plain s result after (rw (over, by, listed, plain) at given)

@@ -64,8 +64,9 @@ record Longer (most : ℕ) : Type 0 where
 
 longer : (most : ℕ) → Longer most
 longer most =
-    let e : length (replicate (most + 1) 0) ≡ most + 1 = length-replicate (most + 1) 0 in
-    record { bytes = replicate (most + 1) 0; long = omega (arith, e) }
+    let zeros : List ℕ = replicate (most + 1) 0 in
+    let e : length zeros ≡ most + 1 = length-replicate (most + 1) 0 in
+    record { bytes = zeros; long = omega (arith, e) }
 
 pub long_prefix : (told before now : Option (List ℕ)) → IfSome told (λ left. input_limit < length left)
     → TakesPrefix before now too_long_text → LeavesPrefix told before now

@@ -99,7 +99,7 @@ pub record EndsByCase (s : SessionText) (status : ℕ) (before now : Option (Lis
   pub judged : HasJudged s message sets
   pub only : (others : List Judged) (sends : ℕ)
       → Run (session_judge s) (depth_limit plain_options) (says_of (Some (map recorded s.replies))) 1
-          (Sets s.query 0 (placed_sets (told_by message)) others) sends
+      (Sets s.query 0 (placed_sets (told_by message)) others) sends
       → others ≡ sets
   pub unjudged : WantsDenial s.query (told_by message) sets → EndsWith status 1 before now (fault_text (Message NotJudgedYet))
   pub undenied : LacksDenial s.query (told_by message) sets

@@ -5,6 +5,7 @@ use Rattle.dns_check.proofs.answering.looked_up.Goals as goal
 
 pub returns : goal.returns
 returns c =
-    answers_looked c.args.session c.lookup.result c.in_ok-handle.handle.handle _ c.in_ok-handle.handle.anchors
-    c.in_ok-handle.handle.verifier c.default.result (search rules) (search rules) (search rules) (search rules)
-    (result_made _ _ _ _ _ _ _ _ _ _ _ _ _ c.lookup.ensures.lookup)
+    rw (← c.session.view_is)
+    (answers_looked _ c.lookup.result c.in_ok-handle.handle.handle _ c.in_ok-handle.handle.anchors c.in_ok-handle.handle.verifier
+    c.default.result (search rules) (search rules) (search rules) (search rules)
+    (result_made _ _ _ _ _ _ _ _ _ _ _ _ _ c.lookup.ensures.lookup))
