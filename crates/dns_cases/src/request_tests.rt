@@ -97,7 +97,11 @@ fn is_sent(alloc: Global, session: Session, row: &Asked) -> Result<bool, NetErro
 }
 
 fn sends_so(alloc: Global, session: &str, row: &Asked) -> bool {
-    match read_session(alloc, session.as_bytes()) {
+    let text = session.as_bytes();
+    if text.len() > 65_535 {
+        return false;
+    }
+    match read_session(alloc, text) {
         Ok(session) => matches!(is_sent(alloc, session, row), Ok(true)),
         Err(_) => false,
     }

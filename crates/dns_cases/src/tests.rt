@@ -74,7 +74,11 @@ fn looked_up(alloc: Global, session: Session) -> Result<DnsResponse, NetError> {
 }
 
 fn answer_to(alloc: Global, session: &str) -> Option<Result<DnsResponse, NetError>> {
-    match read_session(alloc, session.as_bytes()) {
+    let text = session.as_bytes();
+    if text.len() > 65_535 {
+        return None;
+    }
+    match read_session(alloc, text) {
         Ok(session) => Some(looked_up(alloc, session)),
         Err(_) => None,
     }
