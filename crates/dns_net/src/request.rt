@@ -128,17 +128,10 @@ impl DnsRequest {
         })
     }
 
-<<<<<<< HEAD
     /// The request with the case of some letters of its first question's name changed, and `original` that question as it
     /// was before this call (RFC 4343, 4.1). Each letter, A to Z or a to z, takes the next bit in its turn, from the leaf to
     /// the root; a byte gives its bits from the least upward. A letter whose bit is set is changed, and one for which no
     /// byte is left isn't. A request without a question stays as it is. The only error is want of memory.
-=======
-    /// The request with the case of some letters of its first question changed, and `original` that question as this call
-    /// met it (RFC 4343, 4.1). A to Z and a to z are letters. Each takes the next of the bits, over the labels from the leaf
-    /// on, and changes where it is set: the bytes give their bits in order, each from its lowest bit to its highest, and
-    /// where they end the rest are clear. A request without a question stays as it is. The only error is want of memory.
->>>>>>> 3a8187d26246fb28d69d4e2cfc5f08d9c0d58bad
     pub fn with_case(mut self, bits: &[u8]) -> Result<DnsRequest, NoMemory>
         ensures { IfOk result (λ r. r ≡ request_cased bits.now self) }
     {
