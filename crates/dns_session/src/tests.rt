@@ -42,130 +42,403 @@ fn bad_line_with(alloc: Global, place: u64, line: &str) -> Result<u64, Fail> {
     Ok(bad_line(alloc, text.as_str()))
 }
 
+// A line at a place of a small session.
+struct Row {
+    place: u64,
+    line: &'static str,
+}
+
+const GOOD_LINES: [Row; 22] = [
+    Row {
+        place: 1,
+        line: "dns-session 1",
+    },
+    Row {
+        place: 2,
+        line: "moment 0",
+    },
+    Row {
+        place: 2,
+        line: "moment 18446744073709551615",
+    },
+    Row {
+        place: 3,
+        line: "algorithms",
+    },
+    Row {
+        place: 3,
+        line: "algorithms 0 255 255",
+    },
+    Row {
+        place: 4,
+        line: "anchor . 13 aaBB",
+    },
+    Row {
+        place: 4,
+        line: "anchor . 13 -",
+    },
+    Row {
+        place: 4,
+        line: "anchor A\\.b\\009\\\\.C 255 0123456789abcdefABCDEF",
+    },
+    Row {
+        place: 4,
+        line: "anchor www.example. 0 00",
+    },
+    Row {
+        place: 4,
+        line: "anchor www.example 0 00",
+    },
+    Row {
+        place: 4,
+        line: "accept 1 - - -",
+    },
+    Row {
+        place: 4,
+        line: "accept 255 Aa bB 0C",
+    },
+    Row {
+        place: 5,
+        line: "query . ANY",
+    },
+    Row {
+        place: 5,
+        line: "query \\065.\\*.b NSEC3PARAM",
+    },
+    Row {
+        place: 5,
+        line: "query . TYPE0",
+    },
+    Row {
+        place: 5,
+        line: "query . TYPE65535",
+    },
+    Row {
+        place: 5,
+        line: "query . TYPE3",
+    },
+    Row {
+        place: 6,
+        line: "reply . A -",
+    },
+    Row {
+        place: 6,
+        line: "reply . A 00",
+    },
+    Row {
+        place: 6,
+        line: "reply a. TYPE3 0000840000000000000000FF",
+    },
+    Row {
+        place: 6,
+        line: "reply a. DNSKEY 000084000000000000000000",
+    },
+    Row {
+        place: 6,
+        line: "reply \\200. IXFR aA",
+    },
+];
+
 #[test]
 fn each_line_has_its_forms(rt: HostRuntime) -> Result<(), Fail> {
     let alloc = rt.alloc();
-    let good: [(u64, &str); 22] = [
-        (1, "dns-session 1"),
-        (2, "moment 0"),
-        (2, "moment 18446744073709551615"),
-        (3, "algorithms"),
-        (3, "algorithms 0 255 255"),
-        (4, "anchor . 13 aaBB"),
-        (4, "anchor . 13 -"),
-        (4, "anchor A\\.b\\009\\\\.C 255 0123456789abcdefABCDEF"),
-        (4, "anchor www.example. 0 00"),
-        (4, "anchor www.example 0 00"),
-        (4, "accept 1 - - -"),
-        (4, "accept 255 Aa bB 0C"),
-        (5, "query . ANY"),
-        (5, "query \\065.\\*.b NSEC3PARAM"),
-        (5, "query . TYPE0"),
-        (5, "query . TYPE65535"),
-        (5, "query . TYPE3"),
-        (6, "reply . A -"),
-        (6, "reply . A 00"),
-        (6, "reply a. TYPE3 0000840000000000000000FF"),
-        (6, "reply a. DNSKEY 000084000000000000000000"),
-        (6, "reply \\200. IXFR aA"),
-    ];
-    for (place, line) in good {
+    for row in &GOOD_LINES {
+        let (place, line) = (row.place, row.line);
         assert_eq!(rt; bad_line_with(alloc, place, line)?, 0, "{line}");
     }
     Ok(())
 }
 
+const BAD_LINES: [Row; 56] = [
+    Row { place: 1, line: "" },
+    Row {
+        place: 1,
+        line: "dns-session 2",
+    },
+    Row {
+        place: 1,
+        line: "dns-session  1",
+    },
+    Row {
+        place: 1,
+        line: "dns-session 1 ",
+    },
+    Row {
+        place: 1,
+        line: " dns-session 1",
+    },
+    Row {
+        place: 1,
+        line: "dns-session 01",
+    },
+    Row {
+        place: 1,
+        line: "dns-session 1\r",
+    },
+    Row {
+        place: 2,
+        line: "moment",
+    },
+    Row {
+        place: 2,
+        line: "moment ",
+    },
+    Row {
+        place: 2,
+        line: "moment 00",
+    },
+    Row {
+        place: 2,
+        line: "moment 01",
+    },
+    Row {
+        place: 2,
+        line: "moment +1",
+    },
+    Row {
+        place: 2,
+        line: "moment -1",
+    },
+    Row {
+        place: 2,
+        line: "moment 1 2",
+    },
+    Row {
+        place: 2,
+        line: "moment  1",
+    },
+    Row {
+        place: 2,
+        line: "moment 1 ",
+    },
+    Row {
+        place: 2,
+        line: "moment 18446744073709551616",
+    },
+    Row {
+        place: 2,
+        line: "moment 36893488147419103232",
+    },
+    Row {
+        place: 2,
+        line: "moment 340282366920938463463374607431768211457",
+    },
+    Row {
+        place: 2,
+        line: "algorithms",
+    },
+    Row {
+        place: 3,
+        line: "algorithms ",
+    },
+    Row {
+        place: 3,
+        line: "algorithms 256",
+    },
+    Row {
+        place: 3,
+        line: "algorithms 013",
+    },
+    Row {
+        place: 3,
+        line: "algorithms 1  2",
+    },
+    Row {
+        place: 3,
+        line: "algorithms 1 2 ",
+    },
+    Row {
+        place: 3,
+        line: "algorithms 1 a",
+    },
+    Row {
+        place: 3,
+        line: "query . A",
+    },
+    Row {
+        place: 4,
+        line: "anchor . 13",
+    },
+    Row {
+        place: 4,
+        line: "anchor . 13 ",
+    },
+    Row {
+        place: 4,
+        line: "anchor . 13 a",
+    },
+    Row {
+        place: 4,
+        line: "anchor . 13 aabbc",
+    },
+    Row {
+        place: 4,
+        line: "anchor . 13 ag",
+    },
+    Row {
+        place: 4,
+        line: "anchor . 13 --",
+    },
+    Row {
+        place: 4,
+        line: "anchor . 13 aa bb",
+    },
+    Row {
+        place: 4,
+        line: "anchor . 13  aa",
+    },
+    Row {
+        place: 4,
+        line: "anchor . 256 aa",
+    },
+    Row {
+        place: 4,
+        line: "anchor . 013 aa",
+    },
+    Row {
+        place: 4,
+        line: "anchor .. 13 aa",
+    },
+    Row {
+        place: 4,
+        line: "anchor a..b 13 aa",
+    },
+    Row {
+        place: 4,
+        line: "anchor a\\256 13 aa",
+    },
+    Row {
+        place: 4,
+        line: "accept 13 - -",
+    },
+    Row {
+        place: 4,
+        line: "accept 13 - - - -",
+    },
+    Row {
+        place: 4,
+        line: "reply . A -",
+    },
+    Row {
+        place: 4,
+        line: "end",
+    },
+    Row {
+        place: 5,
+        line: "query . TYPE1",
+    },
+    Row {
+        place: 5,
+        line: "query . TYPE03",
+    },
+    Row {
+        place: 5,
+        line: "query . TYPE65536",
+    },
+    Row {
+        place: 5,
+        line: "query . TYPE",
+    },
+    Row {
+        place: 5,
+        line: "query . a",
+    },
+    Row {
+        place: 5,
+        line: "query . A IN",
+    },
+    Row {
+        place: 5,
+        line: "query .",
+    },
+    Row {
+        place: 5,
+        line: "query  . A",
+    },
+    Row {
+        place: 6,
+        line: "query . A",
+    },
+    Row {
+        place: 6,
+        line: "reply . A",
+    },
+    Row {
+        place: 6,
+        line: "reply . A 000",
+    },
+    Row {
+        place: 6,
+        line: "anchor . 13 aa",
+    },
+];
+
 #[test]
 fn a_bad_line_is_told_by_its_number(rt: HostRuntime) -> Result<(), Fail> {
     let alloc = rt.alloc();
-    let bad: [(u64, &str); 56] = [
-        (1, ""),
-        (1, "dns-session 2"),
-        (1, "dns-session  1"),
-        (1, "dns-session 1 "),
-        (1, " dns-session 1"),
-        (1, "dns-session 01"),
-        (1, "dns-session 1\r"),
-        (2, "moment"),
-        (2, "moment "),
-        (2, "moment 00"),
-        (2, "moment 01"),
-        (2, "moment +1"),
-        (2, "moment -1"),
-        (2, "moment 1 2"),
-        (2, "moment  1"),
-        (2, "moment 1 "),
-        (2, "moment 18446744073709551616"),
-        (2, "moment 36893488147419103232"),
-        (2, "moment 340282366920938463463374607431768211457"),
-        (2, "algorithms"),
-        (3, "algorithms "),
-        (3, "algorithms 256"),
-        (3, "algorithms 013"),
-        (3, "algorithms 1  2"),
-        (3, "algorithms 1 2 "),
-        (3, "algorithms 1 a"),
-        (3, "query . A"),
-        (4, "anchor . 13"),
-        (4, "anchor . 13 "),
-        (4, "anchor . 13 a"),
-        (4, "anchor . 13 aabbc"),
-        (4, "anchor . 13 ag"),
-        (4, "anchor . 13 --"),
-        (4, "anchor . 13 aa bb"),
-        (4, "anchor . 13  aa"),
-        (4, "anchor . 256 aa"),
-        (4, "anchor . 013 aa"),
-        (4, "anchor .. 13 aa"),
-        (4, "anchor a..b 13 aa"),
-        (4, "anchor a\\256 13 aa"),
-        (4, "accept 13 - -"),
-        (4, "accept 13 - - - -"),
-        (4, "reply . A -"),
-        (4, "end"),
-        (5, "query . TYPE1"),
-        (5, "query . TYPE03"),
-        (5, "query . TYPE65536"),
-        (5, "query . TYPE"),
-        (5, "query . a"),
-        (5, "query . A IN"),
-        (5, "query ."),
-        (5, "query  . A"),
-        (6, "query . A"),
-        (6, "reply . A"),
-        (6, "reply . A 000"),
-        (6, "anchor . 13 aa"),
-    ];
-    for (place, line) in bad {
+    for row in &BAD_LINES {
+        let (place, line) = (row.place, row.line);
         assert_eq!(rt; bad_line_with(alloc, place, line)?, place, "{line}");
     }
     Ok(())
 }
 
+// A text and the number of its first bad line; 0 where there is none.
+struct Text {
+    text: &'static str,
+    bad: u64,
+}
+
+const TEXTS: [Text; 12] = [
+    Text { text: "", bad: 1 },
+    Text { text: "\n", bad: 1 },
+    Text {
+        text: "dns-session 1",
+        bad: 1,
+    },
+    Text {
+        text: "dns-session 1\n",
+        bad: 2,
+    },
+    Text {
+        text: "dns-session 1\nmoment 1\nalgorithms\nquery . A",
+        bad: 4,
+    },
+    Text {
+        text: "dns-session 1\nmoment 1\nalgorithms\nquery . A\n",
+        bad: 5,
+    },
+    Text {
+        text: "dns-session 1\nmoment 1\nalgorithms\nquery . A\nend",
+        bad: 5,
+    },
+    Text {
+        text: "dns-session 1\nmoment 1\nalgorithms\nquery . A\nend\n",
+        bad: 0,
+    },
+    Text {
+        text: "dns-session 1\nmoment 1\nalgorithms\nquery . A\nend\n\n",
+        bad: 6,
+    },
+    Text {
+        text: "dns-session 1\nmoment 1\nalgorithms\nquery . A\nend\nend\n",
+        bad: 6,
+    },
+    Text {
+        text: "dns-session 1\nmoment 1\nalgorithms\nquery . A\nend\n ",
+        bad: 6,
+    },
+    Text {
+        text: "dns-session 1\nmoment 1\nalgorithms\naccept 1 - - -\nanchor . 1 -\nquery . A\nend\n",
+        bad: 5,
+    },
+];
+
 #[test]
 fn a_text_is_whole_and_ends_with_lf(rt: HostRuntime) {
     let alloc = rt.alloc();
-    let cases: [(&str, u64); 12] = [
-        ("", 1),
-        ("\n", 1),
-        ("dns-session 1", 1),
-        ("dns-session 1\n", 2),
-        ("dns-session 1\nmoment 1\nalgorithms\nquery . A", 4),
-        ("dns-session 1\nmoment 1\nalgorithms\nquery . A\n", 5),
-        ("dns-session 1\nmoment 1\nalgorithms\nquery . A\nend", 5),
-        ("dns-session 1\nmoment 1\nalgorithms\nquery . A\nend\n", 0),
-        ("dns-session 1\nmoment 1\nalgorithms\nquery . A\nend\n\n", 6),
-        (
-            "dns-session 1\nmoment 1\nalgorithms\nquery . A\nend\nend\n",
-            6,
-        ),
-        ("dns-session 1\nmoment 1\nalgorithms\nquery . A\nend\n ", 6),
-        (
-            "dns-session 1\nmoment 1\nalgorithms\naccept 1 - - -\nanchor . 1 -\nquery . A\nend\n",
-            5,
-        ),
-    ];
-    for (text, want) in cases {
+    for case in &TEXTS {
+        let (text, want) = (case.text, case.bad);
         assert_eq!(rt; bad_line(alloc, text), want, "{text}");
     }
     let last = ROOT.len() - 4;
@@ -306,24 +579,40 @@ fn has_replies(replies: &[Reply], name: &[u8]) -> bool {
 }
 
 /// The session has these names, and what else stands in its lines.
-fn reads(alloc: Global, text: &str, anchor: &[u8], key: &[u8], query: &[u8]) -> bool {
+fn reads(alloc: Global, text: &str, anchor: &[u8], key: &[u8], asked: &[u8]) -> bool {
     if text.len() > 100_000 {
         return false;
     }
     let Ok(session) = read_session(alloc, text.as_bytes()) else {
         return false;
     };
-    session.moment == u64::MAX
-        && session.algorithms.as_slice() == b"\x08\x0d".as_slice()
-        && has_anchor(&session.anchors, anchor, key)
-        && has_accept(&session.accepts, 0xaa, 0xbb)
-        && session.query.name.wire() == query
-        && session.query.query_type.0 == 3
-        && has_replies(&session.replies, query)
+    let Session {
+        moment,
+        algorithms,
+        anchors,
+        accepts,
+        query,
+        replies,
+    } = session;
+    moment == u64::MAX
+        && algorithms.as_slice() == b"\x08\x0d".as_slice()
+        && has_anchor(&anchors, anchor, key)
+        && has_accept(&accepts, 0xaa, 0xbb)
+        && query.name.wire() == asked
+        && query.query_type.0 == 3
+        && has_replies(&replies, asked)
 }
 
 #[test]
 fn escaped_names_are_read(rt: HostRuntime) {
     let alloc = rt.alloc();
-    assert!(rt; reads(alloc, escaped_session(), anchor_wire(), b"\xaa\xbb", query_wire()));
+    assert!(rt;
+        reads(
+            alloc,
+            escaped_session(),
+            anchor_wire(),
+            b"\xaa\xbb",
+            query_wire()
+        )
+    );
 }
