@@ -18,8 +18,8 @@ use Rattle.dns_check.specs.Causes.{FaultCause}
 use Rattle.dns_check.specs.declared.outcome.Ending.{Ending}
 use Rattle.dns_check.specs.declared.outcome.Ending.TheVariants.{Report, Fault, BadLine}
 
--- the text is the report of one answer; a lookup for the session gives that answer, and it is sound; and what the text shows of
--- it, its view, is the only one with names, bytes and numbers of an answer that has this text
+-- the text is the report of one answer; a lookup for the session gives that answer, and it is sound; what is shown of it, its
+-- view, fits, and no other fitting view has this text
 pub record IsReport (session : SessionText) (text : List ℕ) : Type 0 where
   pub answer : ResponseText
   pub given : Answers session (Ok answer)
@@ -78,7 +78,7 @@ pub record OfSome (Fact : List ℕ → Type 0) : Type 0 where
   pub bytes : List ℕ
   pub fact : Fact bytes
 
--- a text was written that the told bytes come to; where none are told, one that some bytes come to
+-- a text was written that stands so to the told bytes; where none are told, to some bytes
 abbrev pub Leaves : (List ℕ → List ℕ → Type 0) → Option (List ℕ) → Option (List ℕ) → Option (List ℕ) → Type 0
 Leaves Fact None before now = OfSome (λ bytes. Wrote before now (Fact bytes))
 Leaves Fact (Some bytes) before now = Wrote before now (Fact bytes)
@@ -97,7 +97,7 @@ pub record WrotePrefix (before now : Option (List ℕ)) (Fact : List ℕ → Typ
   pub fact : Fact text
   pub written : TakesPrefix before now text
 
--- a prefix of a text was written that the told bytes come to; where none are told, of one that some bytes come to
+-- a prefix of a text that the told bytes come to was written; where none are told, of one that some bytes come to
 abbrev pub LeavesPrefix : Option (List ℕ) → Option (List ℕ) → Option (List ℕ) → Type 0
 LeavesPrefix None before now = OfSome (λ bytes. WrotePrefix before now (ComesTo bytes))
 LeavesPrefix (Some bytes) before now = WrotePrefix before now (ComesTo bytes)

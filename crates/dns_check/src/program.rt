@@ -124,7 +124,7 @@ pub fn run<S: Source, W: Sink>(
     output: &mut W,
 ) -> u8
     // A report is that of the sound answer that a lookup for the session gives, and its text fixes what it shows of the answer:
-    // the `View`, which is code, denial, sections and chains. Where the source doesn't tell its bytes, some session has it.
+    // the `View`, which is code, denial, sections and chains. Where the source tells no bytes, it is the report for some session.
     ensures report { result ≡ 0 → form_in (map (λ w. w.items) words.now) ≡ Some Validate
         → Leaves Reports (S.left input.old) (W.taken output.old) (W.taken output.new) }
     ensures help { result ≡ 0 → form_in (map (λ w. w.items) words.now) ≡ Some Help → Appends (W.taken output.old) (W.taken output.new) help_text }
@@ -184,7 +184,8 @@ pub fn run<S: Source, W: Sink>(
     ensures version_prefix { form_in (map (λ w. w.items) words.now) ≡ Some Version
         → TakesPrefix (W.taken output.old) (W.taken output.new) version_text }
 
-    // A session that is answered or refused was read to its end, and never more than one byte past the limit is read.
+    // An input that is answered, or refused by the grammar, was read to its end; and one byte past the limit is the most that
+    // is read.
     ensures ended { form_in (map (λ w. w.items) words.now) ≡ Some Validate → result < 4
         → IsEnded (S.left input.old) (S.left input.new) }
     ensures reads { ReadsFront (input_limit + 1) (S.left input.old) (S.left input.new) }
