@@ -42,343 +42,109 @@ fn bad_line_with(alloc: Global, place: u64, line: &str) -> Result<u64, Fail> {
     Ok(bad_line(alloc, text.as_str()))
 }
 
-// A line at a place of a small session.
-struct Row {
-    place: u64,
-    line: &'static str,
+// Lines that can stand at a place of a small session, one after another.
+fn good_lines(place: u64) -> &'static str {
+    match place {
+        1 => "dns-session 1",
+        2 => "moment 0\n\
+            moment 18446744073709551615",
+        3 => "algorithms\n\
+            algorithms 0 255 255",
+        4 => "anchor . 13 aaBB\n\
+            anchor . 13 -\n\
+            anchor A\\.b\\009\\\\.C 255 0123456789abcdefABCDEF\n\
+            anchor www.example. 0 00\n\
+            anchor www.example 0 00\n\
+            accept 1 - - -\n\
+            accept 255 Aa bB 0C",
+        5 => "query . ANY\n\
+            query \\065.\\*.b NSEC3PARAM\n\
+            query . TYPE0\n\
+            query . TYPE65535\n\
+            query . TYPE3",
+        _ => "reply . A -\n\
+            reply . A 00\n\
+            reply a. TYPE3 0000840000000000000000FF\n\
+            reply a. DNSKEY 000084000000000000000000\n\
+            reply \\200. IXFR aA",
+    }
 }
-
-const GOOD_LINES: [Row; 22] = [
-    Row {
-        place: 1,
-        line: "dns-session 1",
-    },
-    Row {
-        place: 2,
-        line: "moment 0",
-    },
-    Row {
-        place: 2,
-        line: "moment 18446744073709551615",
-    },
-    Row {
-        place: 3,
-        line: "algorithms",
-    },
-    Row {
-        place: 3,
-        line: "algorithms 0 255 255",
-    },
-    Row {
-        place: 4,
-        line: "anchor . 13 aaBB",
-    },
-    Row {
-        place: 4,
-        line: "anchor . 13 -",
-    },
-    Row {
-        place: 4,
-        line: "anchor A\\.b\\009\\\\.C 255 0123456789abcdefABCDEF",
-    },
-    Row {
-        place: 4,
-        line: "anchor www.example. 0 00",
-    },
-    Row {
-        place: 4,
-        line: "anchor www.example 0 00",
-    },
-    Row {
-        place: 4,
-        line: "accept 1 - - -",
-    },
-    Row {
-        place: 4,
-        line: "accept 255 Aa bB 0C",
-    },
-    Row {
-        place: 5,
-        line: "query . ANY",
-    },
-    Row {
-        place: 5,
-        line: "query \\065.\\*.b NSEC3PARAM",
-    },
-    Row {
-        place: 5,
-        line: "query . TYPE0",
-    },
-    Row {
-        place: 5,
-        line: "query . TYPE65535",
-    },
-    Row {
-        place: 5,
-        line: "query . TYPE3",
-    },
-    Row {
-        place: 6,
-        line: "reply . A -",
-    },
-    Row {
-        place: 6,
-        line: "reply . A 00",
-    },
-    Row {
-        place: 6,
-        line: "reply a. TYPE3 0000840000000000000000FF",
-    },
-    Row {
-        place: 6,
-        line: "reply a. DNSKEY 000084000000000000000000",
-    },
-    Row {
-        place: 6,
-        line: "reply \\200. IXFR aA",
-    },
-];
 
 #[test]
 fn each_line_has_its_forms(rt: HostRuntime) -> Result<(), Fail> {
     let alloc = rt.alloc();
-    for row in &GOOD_LINES {
-        let (place, line) = (row.place, row.line);
-        assert_eq!(rt; bad_line_with(alloc, place, line)?, 0, "{line}");
+    for place in 1..=6 {
+        for line in good_lines(place).split('\n') {
+            assert_eq!(rt; bad_line_with(alloc, place, line)?, 0, "{line}");
+        }
     }
     Ok(())
 }
 
-const BAD_LINES: [Row; 56] = [
-    Row { place: 1, line: "" },
-    Row {
-        place: 1,
-        line: "dns-session 2",
-    },
-    Row {
-        place: 1,
-        line: "dns-session  1",
-    },
-    Row {
-        place: 1,
-        line: "dns-session 1 ",
-    },
-    Row {
-        place: 1,
-        line: " dns-session 1",
-    },
-    Row {
-        place: 1,
-        line: "dns-session 01",
-    },
-    Row {
-        place: 1,
-        line: "dns-session 1\r",
-    },
-    Row {
-        place: 2,
-        line: "moment",
-    },
-    Row {
-        place: 2,
-        line: "moment ",
-    },
-    Row {
-        place: 2,
-        line: "moment 00",
-    },
-    Row {
-        place: 2,
-        line: "moment 01",
-    },
-    Row {
-        place: 2,
-        line: "moment +1",
-    },
-    Row {
-        place: 2,
-        line: "moment -1",
-    },
-    Row {
-        place: 2,
-        line: "moment 1 2",
-    },
-    Row {
-        place: 2,
-        line: "moment  1",
-    },
-    Row {
-        place: 2,
-        line: "moment 1 ",
-    },
-    Row {
-        place: 2,
-        line: "moment 18446744073709551616",
-    },
-    Row {
-        place: 2,
-        line: "moment 36893488147419103232",
-    },
-    Row {
-        place: 2,
-        line: "moment 340282366920938463463374607431768211457",
-    },
-    Row {
-        place: 2,
-        line: "algorithms",
-    },
-    Row {
-        place: 3,
-        line: "algorithms ",
-    },
-    Row {
-        place: 3,
-        line: "algorithms 256",
-    },
-    Row {
-        place: 3,
-        line: "algorithms 013",
-    },
-    Row {
-        place: 3,
-        line: "algorithms 1  2",
-    },
-    Row {
-        place: 3,
-        line: "algorithms 1 2 ",
-    },
-    Row {
-        place: 3,
-        line: "algorithms 1 a",
-    },
-    Row {
-        place: 3,
-        line: "query . A",
-    },
-    Row {
-        place: 4,
-        line: "anchor . 13",
-    },
-    Row {
-        place: 4,
-        line: "anchor . 13 ",
-    },
-    Row {
-        place: 4,
-        line: "anchor . 13 a",
-    },
-    Row {
-        place: 4,
-        line: "anchor . 13 aabbc",
-    },
-    Row {
-        place: 4,
-        line: "anchor . 13 ag",
-    },
-    Row {
-        place: 4,
-        line: "anchor . 13 --",
-    },
-    Row {
-        place: 4,
-        line: "anchor . 13 aa bb",
-    },
-    Row {
-        place: 4,
-        line: "anchor . 13  aa",
-    },
-    Row {
-        place: 4,
-        line: "anchor . 256 aa",
-    },
-    Row {
-        place: 4,
-        line: "anchor . 013 aa",
-    },
-    Row {
-        place: 4,
-        line: "anchor .. 13 aa",
-    },
-    Row {
-        place: 4,
-        line: "anchor a..b 13 aa",
-    },
-    Row {
-        place: 4,
-        line: "anchor a\\256 13 aa",
-    },
-    Row {
-        place: 4,
-        line: "accept 13 - -",
-    },
-    Row {
-        place: 4,
-        line: "accept 13 - - - -",
-    },
-    Row {
-        place: 4,
-        line: "reply . A -",
-    },
-    Row {
-        place: 4,
-        line: "end",
-    },
-    Row {
-        place: 5,
-        line: "query . TYPE1",
-    },
-    Row {
-        place: 5,
-        line: "query . TYPE03",
-    },
-    Row {
-        place: 5,
-        line: "query . TYPE65536",
-    },
-    Row {
-        place: 5,
-        line: "query . TYPE",
-    },
-    Row {
-        place: 5,
-        line: "query . a",
-    },
-    Row {
-        place: 5,
-        line: "query . A IN",
-    },
-    Row {
-        place: 5,
-        line: "query .",
-    },
-    Row {
-        place: 5,
-        line: "query  . A",
-    },
-    Row {
-        place: 6,
-        line: "query . A",
-    },
-    Row {
-        place: 6,
-        line: "reply . A",
-    },
-    Row {
-        place: 6,
-        line: "reply . A 000",
-    },
-    Row {
-        place: 6,
-        line: "anchor . 13 aa",
-    },
-];
+// Lines that can't stand at a place of a small session.
+fn bad_lines(place: u64) -> &'static str {
+    match place {
+        1 =>
+            "\ndns-session 2\ndns-session  1\ndns-session 1 \n dns-session 1\ndns-session 01\ndns-session 1\r",
+        2 => "moment\n\
+            moment \n\
+            moment 00\n\
+            moment 01\n\
+            moment +1\n\
+            moment -1\n\
+            moment 1 2\n\
+            moment  1\n\
+            moment 1 \n\
+            moment 18446744073709551616\n\
+            moment 36893488147419103232\n\
+            moment 340282366920938463463374607431768211457\n\
+            algorithms",
+        3 => "algorithms \n\
+            algorithms 256\n\
+            algorithms 013\n\
+            algorithms 1  2\n\
+            algorithms 1 2 \n\
+            algorithms 1 a\n\
+            query . A",
+        4 => "anchor . 13\n\
+            anchor . 13 \n\
+            anchor . 13 a\n\
+            anchor . 13 aabbc\n\
+            anchor . 13 ag\n\
+            anchor . 13 --\n\
+            anchor . 13 aa bb\n\
+            anchor . 13  aa\n\
+            anchor . 256 aa\n\
+            anchor . 013 aa\n\
+            anchor .. 13 aa\n\
+            anchor a..b 13 aa\n\
+            anchor a\\256 13 aa\n\
+            accept 13 - -\n\
+            accept 13 - - - -\n\
+            reply . A -\n\
+            end",
+        5 => "query . TYPE1\n\
+            query . TYPE03\n\
+            query . TYPE65536\n\
+            query . TYPE\n\
+            query . a\n\
+            query . A IN\n\
+            query .\n\
+            query  . A",
+        _ => "query . A\n\
+            reply . A\n\
+            reply . A 000\n\
+            anchor . 13 aa",
+    }
+}
 
 #[test]
 fn a_bad_line_is_told_by_its_number(rt: HostRuntime) -> Result<(), Fail> {
     let alloc = rt.alloc();
-    for row in &BAD_LINES {
-        let (place, line) = (row.place, row.line);
-        assert_eq!(rt; bad_line_with(alloc, place, line)?, place, "{line}");
+    for place in 1..=6 {
+        for line in bad_lines(place).split('\n') {
+            assert_eq!(rt; bad_line_with(alloc, place, line)?, place, "{line}");
+        }
     }
     Ok(())
 }
