@@ -3,6 +3,8 @@
 #![tactic(auto)]
 
 #[cfg(test)]
+mod pointer_tests;
+#[cfg(test)]
 mod request_tests;
 #[cfg(test)]
 mod rows;
