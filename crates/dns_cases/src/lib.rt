@@ -1,5 +1,5 @@
-//! Lookups over recorded replies, as tests: sessions with the marks, chains and refusals that they bring,
-//! and the asks that are sent.
+//! Tests that stand on many crates: lookups over recorded replies with the marks, chains and refusals that they bring, the
+//! asks that are sent, and messages with a pointer at each place.
 #![tactic(auto)]
 
 #[cfg(test)]
