@@ -8,13 +8,18 @@ const REPLY: [u8; 35] = [
     0, 4, 192, 0, 2, 1,
 ];
 
+// Writes a byte over the one at a place.
+fn put(bytes: &mut [u8], place: usize, byte: u8) {
+    if let Some(old) = bytes.get_mut(place) {
+        *old = byte;
+    }
+}
+
 // The reply with these two bytes at a place is a message, or has a fault inside it.
 fn is_answered(alloc: Global, place: usize, high: u8, low: u8) -> bool {
     let mut bytes = REPLY;
-    if let Some([first, second]) = bytes.get_mut(place..place + 2) {
-        *first = high;
-        *second = low;
-    }
+    put(&mut bytes, place, high);
+    put(&mut bytes, place.saturating_add(1), low);
     match Message::from_vec(alloc, &bytes) {
         Ok(_) => true,
         Err(error) => error.kind != DecodeKind::NoMemory && error.offset <= 35,
