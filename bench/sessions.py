@@ -9,7 +9,7 @@ TOP = os.path.join(os.path.dirname(os.path.realpath(__file__)), "..")
 PROGRAM = os.path.join(TOP, "crates", "dns_check", "out", "dns_check")
 MOST_INPUT = 16_777_216
 MOST_MESSAGE = 65_535
-RUNS = 3
+RUNS = 9
 
 NS, RRSIG, DNSKEY, IN = 2, 46, 48, 1
 

@@ -1,7 +1,9 @@
 //! Tests that stand on many crates: lookups over recorded replies with the marks, chains and refusals that they bring, the
-//! asks that are sent, and messages with a pointer at each place.
+//! asks that are sent, messages with a pointer at each place, and the longest message.
 #![tactic(auto)]
 
+#[cfg(test)]
+mod longest_tests;
 #[cfg(test)]
 mod pointer_tests;
 #[cfg(test)]
