@@ -1,6 +1,0 @@
-use Rattle.std.proofs.Common.{◌≡◌}
-use Rattle.dns_check.specs.Answering.{recorded_by}
-use Rattle.dns_check.proofs.answering.recorded_by.Given as goal
-
-abbrev pub invariant-loop-next : goal.invariant-loop-next
-invariant-loop-next l = l.handle ≡ recorded_by l.yielded

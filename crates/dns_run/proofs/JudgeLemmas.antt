@@ -1,0 +1,250 @@
+-- A session's judge is that of its plain lists: that a key is added once, an algorithm once and algorithm 1 never changes no answer.
+use Rattle.std.proofs.Common.{ℕ, ◌≡◌, ◌⊎◌, ◌∙◌, Bool, true, false, cond, ◌&&◌, ◌||◌, List, [], ◌∷◌, ◌++◌, map, Option, None, Some, Result, Ok, Err, refl, sym, ap, ap₂, subst, inl, inr, append_assoc, append-nil}
+use Rattle.std.specs.Prelude.{not, ◌==◌, nat_eq}
+use Rattle.std.specs.List.{list_any}
+use Rattle.std.specs.Cmp.Lexicographic.{pointwise}
+use Rattle.std.proofs.lemmas.Bool.{and_parts, eqb-true, or_cases}
+use Rattle.std.proofs.lemmas.List.Folds.{list_any-append}
+use Rattle.std.proofs.lemmas.Slice.Eq.{bytes_eq-Decides}
+use mathlib.Core.Path.{fun_ext}
+use Rattle.dns_model.specs.Names.{Labels, folded, name_eq}
+use Rattle.dns_model.specs.Keys as keys
+use Rattle.dns_model.specs.Keys.{Anchor, bytes_eq, is_anchor, holds_anchor, anchored, anchored_by}
+use Rattle.dns_model.specs.Views.{KeyText, key_in}
+use Rattle.dns_model.specs.Serial.{timely}
+use Rattle.dns_model.specs.Chains.{Judge, judge}
+use Rattle.dns_model.specs.Answers.{ResponseText}
+use Rattle.dns_model.proofs.NameLemmas.{name_eq-Decides}
+use Rattle.dns_net.specs.declared.error.NetError.{NetError}
+use Rattle.dns_net.specs.Errors.{Reply}
+use Rattle.dns_net.specs.Replies.{reply_of}
+use Rattle.dns_net.specs.Recording.{RecordedText, AnswersFrom}
+use Rattle.dns_net.specs.Requests.{plain_options}
+use Rattle.dns_net.specs.declared.request.DnsRequestOptions.{DnsRequestOptions}
+use Rattle.dns_trust.specs.Listing.{ListedText, AcceptedText, is_entry, is_listed, answers_of, with_algorithm, with_accepted}
+use Rattle.dns_trust.specs.Anchoring.{with_anchor}
+use Rattle.dns_chain.specs.Inquiries.{depth_limit}
+use Rattle.dns_chain.specs.Looked.{IsLookup, UnlessNoMemory}
+use Rattle.dns_session.specs.SessionText.{AcceptText, SessionText}
+use Rattle.dns_run.specs.Adding.{with_algorithms, with_accepts, listed_by, with_anchors, trusted_by}
+use Rattle.dns_run.specs.Answering.{accepted, recorded, recorded_by, session_listing, session_judge, Answers}
+
+-- an element that doesn't count, or that is there already, may be left out of a test of a list
+left_out : (counts is here rest : Bool) → (is ≡ true → (counts ≡ false) ⊎ (here ≡ true))
+    → (counts && (here || rest)) ≡ (counts && (here || (is || rest)))
+left_out false is here rest h = refl
+left_out true is true rest h = refl
+left_out true false false rest h = refl
+left_out true true false rest h = elim (h refl) [ inl e ↦ cc | inr e ↦ cc ]
+
+-- the same, for lists
+skipped : {X : Type 0} (counts : Bool) (is : X → Bool) (xs : List X) (x : X) (more : List X)
+    → (is x ≡ true → (counts ≡ false) ⊎ (list_any is xs ≡ true))
+    → (counts && list_any is (xs ++ more)) ≡ (counts && list_any is (xs ++ x ∷ more))
+skipped counts is xs x more h =
+    ap (λ b. counts && b) (list_any-append is xs more)
+    ∙ left_out counts (is x) (list_any is xs) (list_any is more) h
+    ∙ ap (λ b. counts && b) (sym (list_any-append is xs (x ∷ more)))
+
+-- one element is put at the end
+put : {X : Type 0} (xs : List X) (x : X) (more : List X) → ((xs ++ x ∷ []) ++ more) ≡ (xs ++ x ∷ more)
+put xs x more = append_assoc xs (x ∷ []) more
+
+-- ---- algorithms
+
+supports_in : List ℕ → ℕ → Bool
+supports_in algorithms n = not (n == 1) && list_any (λ a. n == a) algorithms
+
+-- an algorithm that is left out
+algorithm_out : (algorithms : List ℕ) (a : ℕ) (n : ℕ) → ((a == 1) || list_any (λ x. a == x) algorithms) ≡ true → (n == a) ≡ true
+    → (not (n == 1) ≡ false) ⊎ (list_any (λ x. n == x) algorithms ≡ true)
+algorithm_out algorithms a n out is =
+    let same : a ≡ n = sym (eqb-true n a is) in
+    elim (or_cases (a == 1) (list_any (λ x. a == x) algorithms) out) [
+      | inl one ↦ inl (ap (λ k. not (k == 1)) (sym same) ∙ ap not one)
+      | inr there ↦ inr (ap (λ k. list_any (λ x. k == x) algorithms) (sym same) ∙ there)
+    ]
+
+supports_after : (listed : ListedText) (a : ℕ) (more : List ℕ) (n : ℕ) (out : Bool) → ((a == 1) || is_listed listed a) ≡ out
+    → supports_in ((cond out listed (record listed { algorithms = listed.algorithms ++ a ∷ [] })).algorithms ++ more) n
+    ≡ supports_in (listed.algorithms ++ a ∷ more) n
+unfolding supports_in
+supports_after listed a more n true is =
+    skipped (not (n == 1)) (λ x. n == x) listed.algorithms a more (algorithm_out listed.algorithms a n is)
+supports_after listed a more n false is = ap (λ xs. supports_in xs n) (put listed.algorithms a more)
+
+supports_added : (listed : ListedText) (algorithms : List ℕ) (n : ℕ)
+    → supports_in (with_algorithms listed algorithms).algorithms n ≡ supports_in (listed.algorithms ++ algorithms) n
+unfolding with_algorithms
+supports_added listed [] n = ap (λ xs. supports_in xs n) (sym (append-nil listed.algorithms))
+supports_added listed (a ∷ more) n =
+    supports_added (with_algorithm listed a) more n ∙ supports_after listed a more n ((a == 1) || is_listed listed a) refl
+
+-- algorithms leave the signatures as they are
+accepted_after : (listed : ListedText) (a : ℕ) (out : Bool)
+    → (cond out listed (record listed { algorithms = listed.algorithms ++ a ∷ [] })).accepted ≡ listed.accepted
+accepted_after listed a true = refl
+accepted_after listed a false = refl
+
+accepted_kept : (listed : ListedText) (algorithms : List ℕ) → (with_algorithms listed algorithms).accepted ≡ listed.accepted
+unfolding with_algorithms
+accepted_kept listed [] = refl
+accepted_kept listed (a ∷ more) = accepted_kept (with_algorithm listed a) more ∙ accepted_after listed a ((a == 1) || is_listed listed a)
+
+-- ---- signatures
+
+accepts_in : List AcceptedText → ℕ → List ℕ → List ℕ → List ℕ → Bool
+accepts_in entries n key bytes signature = not (n == 1) && list_any (is_entry n key bytes signature) entries
+
+-- a signature that is left out
+entry_out : (entry : AcceptedText) (n : ℕ) (key bytes signature : List ℕ) → (entry.algorithm == 1) ≡ true
+    → is_entry n key bytes signature entry ≡ true → not (n == 1) ≡ false
+entry_out entry n key bytes signature one is =
+    let parts = and_parts (n == entry.algorithm) (bytes_eq key entry.key && (bytes_eq bytes entry.bytes && bytes_eq signature entry.signature)) is in
+    ap (λ k. not (k == 1)) (eqb-true n entry.algorithm parts.0) ∙ ap not one
+
+accepts_after : (listed : ListedText) (entry : AcceptedText) (more : List AcceptedText) (n : ℕ) (key bytes signature : List ℕ) (out : Bool)
+    → (entry.algorithm == 1) ≡ out
+    → accepts_in ((cond out listed (record listed { accepted = listed.accepted ++ entry ∷ [] })).accepted ++ more) n key bytes signature
+    ≡ accepts_in (listed.accepted ++ entry ∷ more) n key bytes signature
+unfolding accepts_in
+accepts_after listed entry more n key bytes signature true is =
+    skipped (not (n == 1)) (is_entry n key bytes signature) listed.accepted entry more
+    (λ same. inl (entry_out entry n key bytes signature is same))
+accepts_after listed entry more n key bytes signature false is =
+    ap (λ xs. accepts_in xs n key bytes signature) (put listed.accepted entry more)
+
+accepts_added : (listed : ListedText) (accepts : List AcceptText) (n : ℕ) (key bytes signature : List ℕ)
+    → accepts_in (with_accepts listed accepts).accepted n key bytes signature
+    ≡ accepts_in (listed.accepted ++ map accepted accepts) n key bytes signature
+unfolding with_accepts
+accepts_added listed [] n key bytes signature =
+    ap (λ xs. accepts_in xs n key bytes signature) (sym (append-nil listed.accepted))
+accepts_added listed (a ∷ more) n key bytes signature =
+    accepts_added (with_accepted listed (accepted a)) more n key bytes signature
+    ∙ accepts_after listed (accepted a) (map accepted more) n key bytes signature (a.algorithm == 1) refl
+
+-- signatures leave the algorithms as they are
+algorithms_after : (listed : ListedText) (entry : AcceptedText) (out : Bool)
+    → (cond out listed (record listed { accepted = listed.accepted ++ entry ∷ [] })).algorithms ≡ listed.algorithms
+algorithms_after listed entry true = refl
+algorithms_after listed entry false = refl
+
+algorithms_kept : (listed : ListedText) (accepts : List AcceptText) → (with_accepts listed accepts).algorithms ≡ listed.algorithms
+unfolding with_accepts
+algorithms_kept listed [] = refl
+algorithms_kept listed (a ∷ more) = algorithms_kept (with_accepted listed (accepted a)) more ∙ algorithms_after listed (accepted a) (a.algorithm == 1)
+
+-- ---- the verifier
+
+none_listed : ListedText
+none_listed = record { algorithms = []; accepted = [] }
+
+supports_same : (algorithms : List ℕ) (accepts : List AcceptText) (n : ℕ)
+    → supports_in (listed_by algorithms accepts).algorithms n ≡ supports_in algorithms n
+unfolding none_listed
+supports_same algorithms accepts n =
+    ap (λ xs. supports_in xs n) (algorithms_kept (with_algorithms none_listed algorithms) accepts) ∙ supports_added none_listed algorithms n
+
+accepts_same : (algorithms : List ℕ) (accepts : List AcceptText) (n : ℕ) (key bytes signature : List ℕ)
+    → accepts_in (listed_by algorithms accepts).accepted n key bytes signature ≡ accepts_in (map accepted accepts) n key bytes signature
+unfolding none_listed
+accepts_same algorithms accepts n key bytes signature =
+    accepts_added (with_algorithms none_listed algorithms) accepts n key bytes signature
+    ∙ ap (λ xs. accepts_in (xs ++ map accepted accepts) n key bytes signature) (accepted_kept none_listed algorithms)
+
+supports_all : (s : SessionText) → (answers_of (listed_by s.algorithms s.accepts)).supports ≡ (answers_of (session_listing s)).supports
+unfolding supports_in
+supports_all s = fun_ext λ n. supports_same s.algorithms s.accepts n
+
+accepts_all : (s : SessionText) → (answers_of (listed_by s.algorithms s.accepts)).accepts ≡ (answers_of (session_listing s)).accepts
+unfolding accepts_in
+accepts_all s = fun_ext λ n. fun_ext λ key. fun_ext λ bytes. fun_ext λ signature. accepts_same s.algorithms s.accepts n key bytes signature
+
+answering : (ℕ → Bool) → (ℕ → List ℕ → List ℕ → List ℕ → Bool) → keys.Answers
+answering supports accepts = record { supports = supports; accepts = accepts }
+
+-- the verifier answers as the session's lists say
+listed_plain : (s : SessionText) → answers_of (listed_by s.algorithms s.accepts) ≡ answers_of (session_listing s)
+unfolding answering
+listed_plain s = ap₂ answering (supports_all s) (accepts_all s)
+
+-- ---- anchors
+
+-- an anchor that is left out
+anchor_out : (trusted : List Anchor) (a : Anchor) (owner : Labels) (n : ℕ) (key : List ℕ)
+    → holds_anchor trusted a.owner a.algorithm a.key ≡ true → is_anchor owner n key a ≡ true → holds_anchor trusted owner n key ≡ true
+anchor_out trusted a owner n key there is =
+    let one = and_parts (name_eq owner a.owner) ((n == a.algorithm) && bytes_eq key a.key) is in
+    let two = and_parts (n == a.algorithm) (bytes_eq key a.key) one.1 in
+    ap (λ name. list_any (λ (x : Anchor). pointwise (pointwise nat_eq) name (folded x.owner) && ((n == x.algorithm) && bytes_eq key x.key)) trusted)
+    ((name_eq-Decides owner a.owner).0 one.0)
+    ∙ ap (λ k. list_any (λ (x : Anchor). name_eq a.owner x.owner && ((k == x.algorithm) && bytes_eq key x.key)) trusted) (eqb-true n a.algorithm two.0)
+    ∙ ap (λ k. holds_anchor trusted a.owner a.algorithm k) ((bytes_eq-Decides key a.key).0 two.1)
+    ∙ there
+
+anchor_after : (trusted : List Anchor) (a : Anchor) (more : List Anchor) (owner : Labels) (n : ℕ) (key : List ℕ) (out : Bool)
+    → holds_anchor trusted a.owner a.algorithm a.key ≡ out
+    → holds_anchor (cond out trusted (trusted ++ a ∷ []) ++ more) owner n key ≡ holds_anchor (trusted ++ a ∷ more) owner n key
+anchor_after trusted a more owner n key true is =
+    skipped true (is_anchor owner n key) trusted a more (λ same. inr (anchor_out trusted a owner n key is same))
+anchor_after trusted a more owner n key false is = ap (λ xs. holds_anchor xs owner n key) (put trusted a more)
+
+anchors_added : (trusted anchors : List Anchor) (owner : Labels) (n : ℕ) (key : List ℕ)
+    → holds_anchor (with_anchors trusted anchors) owner n key ≡ holds_anchor (trusted ++ anchors) owner n key
+unfolding with_anchors
+anchors_added trusted [] owner n key = ap (λ xs. holds_anchor xs owner n key) (sym (append-nil trusted))
+anchors_added trusted (a ∷ more) owner n key =
+    anchors_added (with_anchor trusted a) more owner n key
+    ∙ anchor_after trusted a more owner n key (holds_anchor trusted a.owner a.algorithm a.key) refl
+
+anchored_text : (anchors : List Anchor) (owner : Labels) (key : Option KeyText) → anchored_by (trusted_by anchors) owner key ≡ anchored_by anchors owner key
+anchored_text anchors owner None = refl
+anchored_text anchors owner (Some key) = anchors_added [] anchors owner key.algorithm key.key
+
+-- a key is trusted as the session's anchors say
+trusted_plain : (anchors : List Anchor) → anchored (trusted_by anchors) ≡ anchored anchors
+trusted_plain anchors = fun_ext λ owner. fun_ext λ key. anchored_text anchors owner (key_in key)
+
+-- ---- the judge
+
+judged_by : keys.Answers → (Labels → List ℕ → Bool) → ℕ → Judge
+judged_by answers is_anchored now = record {
+  answers = answers;
+  is_anchored = is_anchored;
+  is_timely = λ sig. timely sig now;
+}
+
+judge_plain : (s : SessionText) → judge (answers_of (listed_by s.algorithms s.accepts)) (trusted_by s.anchors) s.moment ≡ session_judge s
+unfolding judged_by
+judge_plain s = ap₂ (λ answers is_anchored. judged_by answers is_anchored s.moment) (listed_plain s) (trusted_plain s.anchors)
+
+-- a lookup over what the loops made is one for the session
+lookup_plain : (s : SessionText) (after : RecordedText) (answer : Reply)
+    → IsLookup AnswersFrom (λ r. r.faults) (recorded_by s.replies) after (Some (map recorded s.replies))
+    (judge (answers_of (listed_by s.algorithms s.accepts)) (trusted_by s.anchors) s.moment) s.moment (depth_limit plain_options) s.query answer
+    → Answers s answer
+lookup_plain s after answer given =
+    let P : Judge → Type 0 = λ j. IsLookup AnswersFrom (λ r. r.faults) (recorded_by s.replies) after (Some (map recorded s.replies))
+    j s.moment (depth_limit plain_options) s.query answer in
+    record { after = after; lookup = subst P (judge_plain s) given }
+
+unless_plain : (s : SessionText) (result : Result ResponseText NetError) (after : RecordedText)
+    → UnlessNoMemory result (IsLookup AnswersFrom (λ r. r.faults) (recorded_by s.replies) after (Some (map recorded s.replies))
+    (judge (answers_of (listed_by s.algorithms s.accepts)) (trusted_by s.anchors) s.moment) s.moment (depth_limit plain_options) s.query (reply_of result))
+    → UnlessNoMemory result (Answers s (reply_of result))
+unless_plain s (Ok response) after given = lookup_plain s after (Ok response) given
+unless_plain s (Err error) after given = elim given [
+  | inl memory ↦ inl memory
+  | inr looked ↦ inr (lookup_plain s after (reply_of (Err error)) looked)
+]
+
+-- what a lookup over the handle, the keys and the verifier that were made of a session answered
+pub answers_looked : (s : SessionText) (result : Result ResponseText NetError) (handle after : RecordedText) (anchors : List Anchor)
+    (verifier : ListedText) (options : DnsRequestOptions)
+    → handle ≡ recorded_by s.replies → anchors ≡ trusted_by s.anchors → verifier ≡ listed_by s.algorithms s.accepts → options ≡ plain_options
+    → UnlessNoMemory result (IsLookup AnswersFrom (λ r. r.faults) handle after (Some handle.replies)
+    (judge (answers_of verifier) anchors s.moment) s.moment (depth_limit options) s.query (reply_of result))
+    → UnlessNoMemory result (Answers s (reply_of result))
+answers_looked s result handle after anchors verifier options over by listed plain given =
+    unless_plain s result after (rw (over, by, listed, plain) at given)

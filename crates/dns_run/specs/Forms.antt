@@ -1,0 +1,41 @@
+-- The words that the program takes, and its fixed texts.
+use Rattle.std.specs.Prelude.{ℕ, List, [], ◌∷◌, ◌++◌, codes, Option, None, Some, if◌then◌else◌}
+use Rattle.std.specs.Fmt.{decimal}
+use Rattle.dns_model.specs.Keys.{bytes_eq}
+use Rattle.dns_run.specs.declared.form.Form.{Form}
+use Rattle.dns_run.specs.declared.form.Form.TheVariants.{Validate, Help, Version}
+
+-- what one word asks for
+abbrev pub form_named : List ℕ → Option Form
+form_named word =
+    if bytes_eq word (codes "validate") then Some Validate
+    else if bytes_eq word (codes "--help") then Some Help
+    else if bytes_eq word (codes "--version") then Some Version
+    else None
+
+-- what words ask for
+abbrev pub form_in : List (List ℕ) → Option Form
+form_in [] = None
+form_in (word ∷ []) = form_named word
+form_in (word ∷ next ∷ more) = None
+
+-- a line
+abbrev pub spelled : List ℕ → List ℕ
+spelled text = text ++ 10 ∷ []
+
+abbrev pub help_text : List ℕ
+help_text =
+    codes "dns_check validate   reads a session and writes the report of its lookup\ndns_check --help     writes these lines\ndns_check --version  writes the name and the version\n"
+
+abbrev pub version_text : List ℕ
+version_text = codes "dns_check 0.1.0\n"
+
+abbrev pub bad_words_text : List ℕ
+bad_words_text = codes "bad words\n"
+
+abbrev pub too_long_text : List ℕ
+too_long_text = codes "input too long\n"
+
+-- `bad line N`
+abbrev pub bad_line_text : ℕ → List ℕ
+bad_line_text number = codes "bad line " ++ decimal number ++ 10 ∷ []

@@ -1,0 +1,54 @@
+//! The words that the program takes, and its fixed texts.
+ghost use Rattle.std.specs.Prelude.{◌≡◌, map};
+ghost use Rattle.dns_run.specs.Forms.{form_named, form_in, help_text, version_text};
+
+/// What the program is asked for.
+#[derive(Clone, Copy, Debug, PartialEq, Eq)]
+pub enum Form {
+    /// To answer a session.
+    Validate,
+    /// To tell its forms.
+    Help,
+    /// To tell its version.
+    Version,
+}
+
+/// What one word asks for.
+fn form_named(word: &[u8]) -> Option<Form>
+    ensures { result ≡ form_named word.now }
+{
+    if word == b"validate".as_slice() {
+        return Some(Form::Validate);
+    }
+    if word == b"--help".as_slice() {
+        return Some(Form::Help);
+    }
+    if word == b"--version".as_slice() {
+        return Some(Form::Version);
+    }
+    None
+}
+
+/// What words ask for.
+pub(crate) fn form_of(words: &[Vec<u8>]) -> Option<Form>
+    ensures { result ≡ form_in (map (λ w. w.items) words.now) }
+{
+    match words {
+        [word] => form_named(word),
+        _ => None,
+    }
+}
+
+/// The program's forms, a line each.
+pub(crate) fn help_text() -> &'static [u8]
+    ensures { result.now ≡ help_text }
+{
+    b"dns_check validate   reads a session and writes the report of its lookup\ndns_check --help     writes these lines\ndns_check --version  writes the name and the version\n"
+}
+
+/// The program's name and version.
+pub(crate) fn version_text() -> &'static [u8]
+    ensures { result.now ≡ version_text }
+{
+    b"dns_check 0.1.0\n"
+}

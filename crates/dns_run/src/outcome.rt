@@ -1,0 +1,77 @@
+//! What bytes that were read come to, before anything is written.
+ghost use Rattle.std.specs.Prelude.{◌≡◌, ◌++◌, ◌<◌, ◌^◌, ◌↔◌, length, IfOk, IsTrue};
+ghost use Rattle.dns_net.specs.Errors as seen;
+ghost use Rattle.dns_net.specs.Replies.{error_of};
+ghost use Rattle.dns_run.specs.Forms.{bad_line_text};
+ghost use Rattle.dns_run.specs.Outcomes.{IsOutcome, IsAnswered};
+
+use crate::answering::looked_up;
+use dns_name::NoMemory;
+use dns_net::NetError;
+use dns_report::{write_fault, write_report};
+use dns_session::{Session, SessionStop, read_session};
+use dns_words::push_decimal;
+use std::alloc::Global;
+
+/// How a run ends where its input was read.
+#[derive(Clone, Copy, Debug, PartialEq, Eq)]
+pub enum Ending {
+    /// The lookup answered: its report is written.
+    Report,
+    /// The lookup failed: the fault's line is written.
+    Fault,
+    /// The input is no session: its first bad line is named.
+    BadLine,
+}
+
+/// The line that names a bad line.
+fn bad_line(alloc: Global, number: u64) -> Result<Vec<u8>, NoMemory>
+    ensures { IfOk result (λ v. v.items ≡ bad_line_text number) }
+{
+    let mut text = Vec::from_slice(alloc, b"bad line ")?;
+    push_decimal(&mut text, number)?;
+    text.push(b'\n')?;
+    Ok(text)
+}
+
+/// The report of a session's lookup, or the line of its fault.
+#[tactic(auto, using(crate::proofs::SoundLemmas::report_given))]
+fn answered(alloc: Global, session: Session) -> Result<(Ending, Vec<u8>), NoMemory>
+    ensures { IfOk result (λ x. IsAnswered session x.0 x.1.items) }
+{
+    match looked_up(alloc, session) {
+        Ok(answer) => {
+            let text = write_report(alloc, &answer)?;
+            Ok((Ending::Report, text))
+        }
+        Err(error) => {
+            if is_no_memory(&error) {
+                return Err(NoMemory);
+            }
+            let text = write_fault(alloc, &error)?;
+            Ok((Ending::Fault, text))
+        }
+    }
+}
+
+/// The error is want of memory.
+fn is_no_memory(error: &NetError) -> bool
+    ensures { IsTrue result ↔ (error_of error.now ≡ seen.NoMemory) }
+{
+    matches!(error, NetError::NoMemory)
+}
+
+/// What an input comes to, and the text of it.
+pub(crate) fn outcome_of(alloc: Global, bytes: &[u8]) -> Result<(Ending, Vec<u8>), NoMemory>
+    requires { length bytes.now < 2 ^ 32 }
+    ensures { IfOk result (λ x. IsOutcome bytes.now x.0 x.1.items) }
+{
+    match read_session(alloc, bytes) {
+        Ok(session) => answered(alloc, session),
+        Err(SessionStop::BadLine(number)) => {
+            let text = bad_line(alloc, number)?;
+            Ok((Ending::BadLine, text))
+        }
+        Err(SessionStop::NoMemory) => Err(NoMemory),
+    }
+}
