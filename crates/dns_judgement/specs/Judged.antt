@@ -1,4 +1,4 @@
--- A set with what was found out of it.
+-- An RRset after it was judged: its mark, the signature that decided, and its chain (RFC 4035, 4.3 and 5.3).
 use Rattle.std.specs.Prelude.{ℕ, Bool, true, false, ◌&&◌, List, [], ◌∷◌, Option, None, Some, slice_get, if◌then◌else◌}
 use Rattle.dns_model.specs.Keys.{bytes_eq}
 use Rattle.dns_model.specs.declared.proof.Proof.{Proof}
