@@ -1,12 +1,12 @@
 -- Each cause has its answer, unless memory runs out.
 use Rattle.std.proofs.Common.{ℕ, ◌≡◌, ◌∙◌, true, false, List, Option, None, Some, Result, Err, sym, ap, subst}
-use Rattle.dns_model.specs.Records.{Rr, Question, MessageText}
+use Rattle.dns_model.specs.Records.{Rr, Question, MessageValue}
 use Rattle.dns_model.specs.Chains.{Judge}
-use Rattle.dns_model.specs.Answers.{Told, told_by, placed_sets, ResponseText}
+use Rattle.dns_model.specs.SoundAnswers.{Told, told_by, placed_sets, ResponseValue}
 use Rattle.dns_judgement.specs.Judged.{Judged}
 use Rattle.dns_judgement.specs.Run.{Run, Sets}
 use Rattle.dns_judgement.specs.Outcome.{has_answer, foreign_record}
-use Rattle.dns_net.specs.Errors.{Reply, ErrorText, ForeignClassRecord}
+use Rattle.dns_net.specs.Errors.{Reply, ErrorValue, ForeignClassRecord}
 use Rattle.dns_net.specs.Handles.{reply_to}
 use Rattle.dns_net.specs.Replies.{reply_of}
 use Rattle.dns_net.specs.declared.error.NetError.{NetError}
@@ -19,13 +19,13 @@ use Rattle.dns_chain.proofs.WalkSettled.{sets_settled, replies_one}
 use Rattle.dns_chain.proofs.CauseLemmas.{some_same, first_same, none_told, none_first, no_both, wants_lacks, wants_needs, lacks_needs, Caused, result_caused, ByUpstream, ByClass, ByUnjudged, ByDenied, ByAccepted}
 
 -- the records that a known upstream told
-told_records : (replies : List (Question × Reply)) (q : Question) (reply : Reply) (m : MessageText) (records : Told)
+told_records : (replies : List (Question × Reply)) (q : Question) (reply : Reply) (m : MessageValue) (records : Told)
     → reply_to replies q ≡ reply → Heard reply m → heard (reply_to replies q) ≡ Some records → told_by m ≡ records
 told_records replies q reply m records told h is =
     some_same (told_by m) records (ap (λ x. Some (told_by x)) h.cleared ∙ sym (ap told_of h.is) ∙ sym (ap heard told) ∙ is)
 
 -- a known upstream's error without a message told no records
-silent_told : (replies : List (Question × Reply)) (q : Question) (e : ErrorText) (records : Told)
+silent_told : (replies : List (Question × Reply)) (q : Question) (e : ErrorValue) (records : Told)
     → reply_to replies q ≡ Err e → heard_message (Err e) ≡ None → heard (reply_to replies q) ≡ Some records → ⊥
 silent_told replies q e records told silent is = none_told records (sym (ap told_of silent) ∙ sym (ap heard told) ∙ is)
 
@@ -43,12 +43,12 @@ passes_on sent faults old new (Some replies) j now limit q answer (ByAccepted m 
     absurd (none_some judged.heard.from (sym none ∙ ap heard_message judged.told ∙ judged.heard.is))
 
 -- a known upstream's error is the answer
-pub lookup_passes_on : {H : Type 0} (sent : H → Option Question → H → Reply → Type 0) (faults : H → ℕ) (old new : H) (tells : Tells) (j : Judge) (now limit : ℕ) (q : Question) (result : Result ResponseText NetError)
+pub lookup_passes_on : {H : Type 0} (sent : H → Option Question → H → Reply → Type 0) (faults : H → ℕ) (old new : H) (tells : Tells) (j : Judge) (now limit : ℕ) (q : Question) (result : Result ResponseValue NetError)
     → UnlessNoMemory result (IsLookup sent faults old new tells j now limit q (reply_of result)) → UnlessNoMemory result (PassesOn tells q (reply_of result))
 lookup_passes_on sent faults old new tells j now limit q result l =
     unless_map result (λ c. passes_on sent faults old new tells j now limit q (reply_of result) c) (result_caused sent faults old new tells j now limit q result l)
 
-own_none : (replies : List (Question × Reply)) (q : Question) (reply : Reply) (m : MessageText) (records : Told) (first : Rr)
+own_none : (replies : List (Question × Reply)) (q : Question) (reply : Reply) (m : MessageValue) (records : Told) (first : Rr)
     → reply_to replies q ≡ reply → Heard reply m → foreign_record q (told_by m) ≡ None
     → heard (reply_to replies q) ≡ Some records → foreign_record q records ≡ Some first → ⊥
 own_none replies q reply m records first told h own is found =
@@ -66,7 +66,7 @@ foreign_named sent faults old new (Some replies) j now limit q answer (ByUpstrea
 foreign_named sent faults old new (Some replies) j now limit q answer (ByClass x names made) = λ records first is found.
     let e : names.first ≡ first = same_first q names.records records names.first first
     (some_same names.records records (sym names.heard ∙ sym (ap heard names.told) ∙ is)) names.found found in
-    let P : Rr → Type 0 = λ r. answer ≡ Err (ForeignClassRecord r.owner r.class r.kind) in
+    let P : Rr → Type 0 = λ r. answer ≡ Err (ForeignClassRecord r.owner r.class r.rtype) in
     subst P e (made ∙ ap (λ y. Err y) names.named)
 foreign_named sent faults old new (Some replies) j now limit q answer (ByUnjudged m sets judged wants made) = λ records first is found.
     absurd (own_none replies q judged.reply m records first judged.told judged.heard judged.own is found)
@@ -76,7 +76,7 @@ foreign_named sent faults old new (Some replies) j now limit q answer (ByAccepte
     absurd (own_none replies q judged.reply m records first judged.told judged.heard judged.own is found)
 
 -- the first record of another class is named
-pub lookup_foreign_named : {H : Type 0} (sent : H → Option Question → H → Reply → Type 0) (faults : H → ℕ) (old new : H) (tells : Tells) (j : Judge) (now limit : ℕ) (q : Question) (result : Result ResponseText NetError)
+pub lookup_foreign_named : {H : Type 0} (sent : H → Option Question → H → Reply → Type 0) (faults : H → ℕ) (old new : H) (tells : Tells) (j : Judge) (now limit : ℕ) (q : Question) (result : Result ResponseValue NetError)
     → UnlessNoMemory result (IsLookup sent faults old new tells j now limit q (reply_of result)) → UnlessNoMemory result (ForeignNamed tells q (reply_of result))
 lookup_foreign_named sent faults old new tells j now limit q result l =
     unless_map result (λ c. foreign_named sent faults old new tells j now limit q (reply_of result) c) (result_caused sent faults old new tells j now limit q result l)
@@ -89,7 +89,7 @@ class_found replies q reply told records first same h found is own =
     none_first first (sym own ∙ ap (foreign_record q) (some_same records told (sym is ∙ ap heard same ∙ h)) ∙ found)
 
 -- an answer that was judged stands
-answer_stands : (replies : List (Question × Reply)) (q : Question) (reply : Reply) (m : MessageText) (records : Told)
+answer_stands : (replies : List (Question × Reply)) (q : Question) (reply : Reply) (m : MessageValue) (records : Told)
     → reply_to replies q ≡ reply → Heard reply m → has_answer q (told_by m) ≡ true
     → heard (reply_to replies q) ≡ Some records → has_answer q records ≡ false → ⊥
 answer_stands replies q reply m records told h answered is none =
@@ -109,13 +109,13 @@ unanswered_unjudged sent faults old new (Some replies) j now limit q answer (ByA
     absurd (answer_stands replies q judged.reply m records judged.told judged.heard needs.answered is none)
 
 -- a reply without an answer isn't judged yet
-pub lookup_unanswered_unjudged : {H : Type 0} (sent : H → Option Question → H → Reply → Type 0) (faults : H → ℕ) (old new : H) (tells : Tells) (j : Judge) (now limit : ℕ) (q : Question) (result : Result ResponseText NetError)
+pub lookup_unanswered_unjudged : {H : Type 0} (sent : H → Option Question → H → Reply → Type 0) (faults : H → ℕ) (old new : H) (tells : Tells) (j : Judge) (now limit : ℕ) (q : Question) (result : Result ResponseValue NetError)
     → UnlessNoMemory result (IsLookup sent faults old new tells j now limit q (reply_of result)) → UnlessNoMemory result (UnansweredUnjudged tells q (reply_of result))
 lookup_unanswered_unjudged sent faults old new tells j now limit q result l =
     unless_map result (λ c. unanswered_unjudged sent faults old new tells j now limit q (reply_of result) c) (result_caused sent faults old new tells j now limit q result l)
 
 -- the judged sets are the only ones that the replies allow
-only_sets : {H : Type 0} (sent : H → Option Question → H → Reply → Type 0) (old new : H) (replies : List (Question × Reply)) (j : Judge) (limit : ℕ) (q : Question) (m : MessageText) (sets : List Judged)
+only_sets : {H : Type 0} (sent : H → Option Question → H → Reply → Type 0) (old new : H) (replies : List (Question × Reply)) (j : Judge) (limit : ℕ) (q : Question) (m : MessageValue) (sets : List Judged)
     → IsJudged sent old new (Some replies) j limit q m sets
     → (others : List Judged) (n : ℕ) → Run j limit (says_of (Some replies)) 1 (Sets q 0 (placed_sets (told_by m)) others) n → others ≡ sets
 only_sets sent old new replies j limit q m sets judged = λ others n walk.
@@ -157,7 +157,7 @@ judges sent faults old new (Some replies) j now limit q answer (ByAccepted m set
 }
 
 -- records of the query's class alone are judged, and answered by their case
-pub lookup_judges : {H : Type 0} (sent : H → Option Question → H → Reply → Type 0) (faults : H → ℕ) (old new : H) (tells : Tells) (j : Judge) (now limit : ℕ) (q : Question) (result : Result ResponseText NetError)
+pub lookup_judges : {H : Type 0} (sent : H → Option Question → H → Reply → Type 0) (faults : H → ℕ) (old new : H) (tells : Tells) (j : Judge) (now limit : ℕ) (q : Question) (result : Result ResponseValue NetError)
     → UnlessNoMemory result (IsLookup sent faults old new tells j now limit q (reply_of result)) → UnlessNoMemory result (Judges sent old new tells j now limit q (reply_of result))
 lookup_judges sent faults old new tells j now limit q result l =
     unless_map result (λ c. judges sent faults old new tells j now limit q (reply_of result) c) (result_caused sent faults old new tells j now limit q result l)

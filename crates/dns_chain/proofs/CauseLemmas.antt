@@ -5,16 +5,16 @@ use Rattle.dns_model.specs.declared.proof.Proof.{Proof}
 use Rattle.dns_model.specs.declared.proof.Proof.TheVariants.{Bogus}
 use Rattle.dns_model.specs.declared.denial.Denial.TheVariants as denied
 use Rattle.dns_model.specs.Names.{Labels}
-use Rattle.dns_model.specs.Records.{Rr, Question, MessageText}
+use Rattle.dns_model.specs.Records.{Rr, Question, MessageValue}
 use Rattle.dns_model.specs.Chains.{Judge}
-use Rattle.dns_model.specs.Answers.{Told, told_by, placed_sets, ResponseText}
+use Rattle.dns_model.specs.SoundAnswers.{Told, told_by, placed_sets, ResponseValue}
 use Rattle.dns_judgement.specs.Judged.{Judged}
 use Rattle.dns_judgement.specs.Outcome.{Outcome, Unjudged, Accepted, Denied, outcome_of, has_answer, needs_denial, is_wildcard_signature, foreign_record}
 use Rattle.dns_judgement.specs.Marking.{cleared_message, finished}
 use Rattle.dns_judgement.specs.Run.{Run, Sets, most_sends}
 use Rattle.dns_net.specs.Causes.{Rose}
 use Rattle.dns_net.specs.Errors as seen
-use Rattle.dns_net.specs.Errors.{Reply, ErrorText, Dns, Message, ForeignClassRecord, Nsec}
+use Rattle.dns_net.specs.Errors.{Reply, ErrorValue, Dns, Message, ForeignClassRecord, Nsec}
 use Rattle.dns_net.specs.Handles.{ReplyIsTold}
 use Rattle.dns_net.specs.Replies.{reply_of, error_of}
 use Rattle.dns_net.specs.Walks.{Steps, Walked}
@@ -28,13 +28,13 @@ use Rattle.dns_chain.proofs.HeardLemmas.{seen_no_memory, none_some}
 
 -- ---- what can't be
 
-pub err_same : (answer : Reply) (a b : ErrorText) → answer ≡ Err a → answer ≡ Err b → a ≡ b
+pub err_same : (answer : Reply) (a b : ErrorValue) → answer ≡ Err a → answer ≡ Err b → a ≡ b
 err_same answer a b x y = cc
 
-pub ok_same : (answer : Reply) (a b : ResponseText) → answer ≡ Ok a → answer ≡ Ok b → a ≡ b
+pub ok_same : (answer : Reply) (a b : ResponseValue) → answer ≡ Ok a → answer ≡ Ok b → a ≡ b
 ok_same answer a b x y = cc
 
-pub err_ok : (answer : Reply) (a : ResponseText) (e : ErrorText) → answer ≡ Err e → answer ≡ Ok a → ⊥
+pub err_ok : (answer : Reply) (a : ResponseValue) (e : ErrorValue) → answer ≡ Err e → answer ≡ Ok a → ⊥
 err_ok answer a e x y = cc
 
 pub some_same : (a b : Told) → (let x : Option Told = Some a in x) ≡ Some b → a ≡ b
@@ -49,21 +49,21 @@ none_told a h = cc
 pub none_first : (a : Rr) → (let x : Option Rr = None in x) ≡ Some a → ⊥
 none_first a h = cc
 
-pub foreign_memory : (owner : Labels) (class kind : ℕ) → ForeignClassRecord owner class kind ≡ seen.NoMemory → ⊥
-foreign_memory owner class kind h = cc
+pub foreign_memory : (owner : Labels) (class rtype : ℕ) → ForeignClassRecord owner class rtype ≡ seen.NoMemory → ⊥
+foreign_memory owner class rtype h = cc
 
 pub notice_memory : Message NotJudgedYet ≡ seen.NoMemory → ⊥
 notice_memory h = cc
 
-pub denial_memory : (asked : Question) (response : ResponseText) (proof : Proof) → Dns (Nsec asked response proof) ≡ seen.NoMemory → ⊥
+pub denial_memory : (asked : Question) (response : ResponseValue) (proof : Proof) → Dns (Nsec asked response proof) ≡ seen.NoMemory → ⊥
 denial_memory asked response proof h = cc
 
-pub foreign_notice : (owner : Labels) (class kind : ℕ) → ForeignClassRecord owner class kind ≡ Message NotJudgedYet → ⊥
-foreign_notice owner class kind h = cc
+pub foreign_notice : (owner : Labels) (class rtype : ℕ) → ForeignClassRecord owner class rtype ≡ Message NotJudgedYet → ⊥
+foreign_notice owner class rtype h = cc
 
-pub foreign_denial : (owner : Labels) (class kind : ℕ) (asked : Question) (response : ResponseText) (proof : Proof)
-    → ForeignClassRecord owner class kind ≡ Dns (Nsec asked response proof) → ⊥
-foreign_denial owner class kind asked response proof h = cc
+pub foreign_denial : (owner : Labels) (class rtype : ℕ) (asked : Question) (response : ResponseValue) (proof : Proof)
+    → ForeignClassRecord owner class rtype ≡ Dns (Nsec asked response proof) → ⊥
+foreign_denial owner class rtype asked response proof h = cc
 
 pub no_both : (b : Bool) → b ≡ true → b ≡ false → ⊥
 no_both b true_is false_is = cc
@@ -105,17 +105,17 @@ lacks_needs q told sets l n = no_both (list_any is_wildcard_signature told.answe
 -- the upstream's error, a record of another class, or judged sets by one of three rows
 pub data Caused {H : Type 0} (sent : H → Option Question → H → Reply → Type 0) (faults : H → ℕ) (old new : H)
     (tells : Tells) (j : Judge) (now limit : ℕ) (q : Question) (answer : Reply) : Type 0 where
-  ByUpstream : (e : ErrorText) → PassedOn sent faults old new tells q e → answer ≡ Err e → Caused sent faults old new tells j now limit q answer
-  ByClass : (e : ErrorText) → NamesForeign sent old new tells q e → answer ≡ Err e → Caused sent faults old new tells j now limit q answer
-  ByUnjudged : (message : MessageText) (sets : List Judged) → IsJudged sent old new tells j limit q message sets
+  ByUpstream : (e : ErrorValue) → PassedOn sent faults old new tells q e → answer ≡ Err e → Caused sent faults old new tells j now limit q answer
+  ByClass : (e : ErrorValue) → NamesForeign sent old new tells q e → answer ≡ Err e → Caused sent faults old new tells j now limit q answer
+  ByUnjudged : (message : MessageValue) (sets : List Judged) → IsJudged sent old new tells j limit q message sets
       → WantsDenial q (told_by message) sets → answer ≡ Err (Message NotJudgedYet) → Caused sent faults old new tells j now limit q answer
-  ByDenied : (message : MessageText) (sets : List Judged) → IsJudged sent old new tells j limit q message sets
+  ByDenied : (message : MessageValue) (sets : List Judged) → IsJudged sent old new tells j limit q message sets
       → LacksDenial q (told_by message) sets → answer ≡ Err (Dns (Nsec q (finished now sets message denied.None) Bogus))
       → Caused sent faults old new tells j now limit q answer
-  ByAccepted : (message : MessageText) (sets : List Judged) → IsJudged sent old new tells j limit q message sets
+  ByAccepted : (message : MessageValue) (sets : List Judged) → IsJudged sent old new tells j limit q message sets
       → NeedsNone q (told_by message) sets → answer ≡ Ok (finished now sets message denied.None) → Caused sent faults old new tells j now limit q answer
 
-by_row : {H : Type 0} (sent : H → Option Question → H → Reply → Type 0) (faults : H → ℕ) (old new : H) (tells : Tells) (j : Judge) (now limit : ℕ) (q : Question) (answer : Reply) (message : MessageText) (sets : List Judged) {o : Outcome}
+by_row : {H : Type 0} (sent : H → Option Question → H → Reply → Type 0) (faults : H → ℕ) (old new : H) (tells : Tells) (j : Judge) (now limit : ℕ) (q : Question) (answer : Reply) (message : MessageValue) (sets : List Judged) {o : Outcome}
     → Row q (told_by message) sets o → IsJudged sent old new tells j limit q message sets → answer ≡ answer_by now q message sets o
     → Caused sent faults old new tells j now limit q answer
 by_row sent faults old new tells j now limit q answer message sets (UnjudgedRow wants) judged is = ByUnjudged message sets judged wants is
@@ -131,13 +131,13 @@ still : {H Q R : Type 0} (sent : H → Q → H → R → Type 0) (a b : H) (n : 
 still sent a b n walk = still_steps sent a b walk.steps (omega (arith, walk.counted)) walk.walked
 
 -- a told reply with a message, and one without
-message_told : (tells : Tells) (q : Question) (reply : Reply) (m : MessageText)
+message_told : (tells : Tells) (q : Question) (reply : Reply) (m : MessageValue)
     → ReplyIsTold tells (Some q) reply → heard_message reply ≡ Some m → IsReplyTo tells q reply
 message_told None q reply m told heard = tt
 message_told (Some replies) q reply m (inl memory) heard = absurd (none_some m (sym (ap heard_message memory) ∙ heard))
 message_told (Some replies) q reply m (inr same) heard = sym same
 
-error_told : (tells : Tells) (q : Question) (e : ErrorText)
+error_told : (tells : Tells) (q : Question) (e : ErrorValue)
     → ReplyIsTold tells (Some q) (Err e) → ((let x : Reply = Err e in x) ≡ Err seen.NoMemory) ⊎ IsReplyTo tells q (Err e)
 error_told None q e told = inr tt
 error_told (Some replies) q e (inl memory) = inl memory
@@ -152,7 +152,7 @@ record First {H : Type 0} (sent : H → Option Question → H → Reply → Type
   walk : Walked sent middle new 1 n
   few : n ≤ most_sends
 
-by_upstream : {H : Type 0} (sent : H → Option Question → H → Reply → Type 0) (faults : H → ℕ) (old new : H) (tells : Tells) (j : Judge) (now limit : ℕ) (q : Question) (e : ErrorText)
+by_upstream : {H : Type 0} (sent : H → Option Question → H → Reply → Type 0) (faults : H → ℕ) (old new : H) (tells : Tells) (j : Judge) (now limit : ℕ) (q : Question) (e : ErrorValue)
     → heard_message (Err e) ≡ None → First sent faults old new tells q (Err e) 1
     → ((let x : Reply = Err e in x) ≡ Err seen.NoMemory) ⊎ Caused sent faults old new tells j now limit q (Err e)
 by_upstream {H} sent faults old new tells j now limit q e none f =
@@ -164,13 +164,13 @@ by_upstream {H} sent faults old new tells j now limit q e none f =
       | inr told ↦ inr (ByUpstream e (record { step = subst Sent end f.step; told = told; silent = none; rose = subst Risen end (f.rose none) }) refl)
     ]
 
-by_class : {H : Type 0} (sent : H → Option Question → H → Reply → Type 0) (faults : H → ℕ) (old new : H) (tells : Tells) (j : Judge) (now limit : ℕ) (q : Question) (reply answer : Reply) (m : MessageText) (r : Rr)
+by_class : {H : Type 0} (sent : H → Option Question → H → Reply → Type 0) (faults : H → ℕ) (old new : H) (tells : Tells) (j : Judge) (now limit : ℕ) (q : Question) (reply answer : Reply) (m : MessageValue) (r : Rr)
     → heard_message reply ≡ Some m → foreign_record q (told_by (cleared_message m)) ≡ Some r
-    → answer ≡ Err (ForeignClassRecord r.owner r.class r.kind) → First sent faults old new tells q reply 1 → Caused sent faults old new tells j now limit q answer
+    → answer ≡ Err (ForeignClassRecord r.owner r.class r.rtype) → First sent faults old new tells q reply 1 → Caused sent faults old new tells j now limit q answer
 by_class {H} sent faults old new tells j now limit q reply answer m r is found named f =
     let end : f.middle ≡ new = still sent f.middle new 1 f.walk in
     let Sent : H → Type 0 = λ h. sent old (Some q) h reply in
-    ByClass (ForeignClassRecord r.owner r.class r.kind) (record {
+    ByClass (ForeignClassRecord r.owner r.class r.rtype) (record {
       reply = reply;
       records = told_by (cleared_message m);
       first = r;
@@ -181,7 +181,7 @@ by_class {H} sent faults old new tells j now limit q reply answer m r is found n
       named = refl;
     }) named
 
-by_sets : {H : Type 0} (sent : H → Option Question → H → Reply → Type 0) (faults : H → ℕ) (old new : H) (tells : Tells) (j : Judge) (now limit : ℕ) (q : Question) (reply answer : Reply) (m : MessageText) (sets : List Judged) (n : ℕ)
+by_sets : {H : Type 0} (sent : H → Option Question → H → Reply → Type 0) (faults : H → ℕ) (old new : H) (tells : Tells) (j : Judge) (now limit : ℕ) (q : Question) (reply answer : Reply) (m : MessageValue) (sets : List Judged) (n : ℕ)
     → heard_message reply ≡ Some m → foreign_record q (told_by (cleared_message m)) ≡ None
     → Run j limit (says_of tells) 1 (Sets q 0 (placed_sets (told_by (cleared_message m))) sets) n
     → answer ≡ judged_answer now q (cleared_message m) sets → First sent faults old new tells q reply n → Caused sent faults old new tells j now limit q answer
@@ -215,7 +215,7 @@ lookup_caused sent faults old new tells j now limit q answer l =
     (record { middle = l.middle; step = l.step; told = l.told; rose = l.rose; walk = l.walk; few = l.few })
 
 -- a lookup's answer has a cause, unless memory ran out
-pub result_caused : {H : Type 0} (sent : H → Option Question → H → Reply → Type 0) (faults : H → ℕ) (old new : H) (tells : Tells) (j : Judge) (now limit : ℕ) (q : Question) (result : Result ResponseText NetError)
+pub result_caused : {H : Type 0} (sent : H → Option Question → H → Reply → Type 0) (faults : H → ℕ) (old new : H) (tells : Tells) (j : Judge) (now limit : ℕ) (q : Question) (result : Result ResponseValue NetError)
     → UnlessNoMemory result (IsLookup sent faults old new tells j now limit q (reply_of result)) → UnlessNoMemory result (Caused sent faults old new tells j now limit q (reply_of result))
 result_caused sent faults old new tells j now limit q (Ok a) l =
     elim (lookup_caused sent faults old new tells j now limit q (Ok a) l) [

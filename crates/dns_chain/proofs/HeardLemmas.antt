@@ -1,11 +1,11 @@
 -- What a send that was heard says of a known upstream.
 use Rattle.std.proofs.Common.{ℕ, ◌+◌, ◌≤◌, ◌<◌, ◌≡◌, ◌∙◌, false, List, Option, None, Some, is_some, Ok, Err, refl, sym, ap, subst, inl, inr}
-use Rattle.dns_model.specs.Records.{Question, MessageText}
+use Rattle.dns_model.specs.Records.{Question, MessageValue}
 use Rattle.dns_model.specs.Chains.{Judge}
-use Rattle.dns_model.specs.Answers.{Told, Placed, told_by}
+use Rattle.dns_model.specs.SoundAnswers.{Told, Placed, told_by}
 use Rattle.dns_judgement.specs.Judged.{Judged}
 use Rattle.dns_judgement.specs.Outcome.{foreign_record}
-use Rattle.dns_judgement.specs.Run.{Run, Sets, Ask, Answers, judged_part, ending_of, most_sends}
+use Rattle.dns_judgement.specs.Run.{Run, Sets, Ask, Finishes, judged_part, ending_of, most_sends}
 use Rattle.dns_net.specs.Errors as seen
 use Rattle.dns_net.specs.Errors.{Reply}
 use Rattle.dns_net.specs.Handles.{reply_to, ReplyIsTold}
@@ -26,18 +26,18 @@ seen_no_memory (Proto error) h = cc
 seen_no_memory (Io kind) h = cc
 seen_no_memory Timeout h = cc
 seen_no_memory QueryCaseMismatch h = cc
-seen_no_memory (ForeignClassRecord owner class kind) h = cc
+seen_no_memory (ForeignClassRecord owner class rtype) h = cc
 seen_no_memory Truncated h = cc
 seen_no_memory NoMemory h = refl
 
-error_same : (a b : seen.ErrorText) → (let x : Reply = Err a in x) ≡ Err b → a ≡ b
+error_same : (a b : seen.ErrorValue) → (let x : Reply = Err a in x) ≡ Err b → a ≡ b
 error_same a b h = cc
 
 -- a reply that was told and has a message
-pub none_some : (m : MessageText) → (let x : Option MessageText = None in x) ≡ Some m → ⊥
+pub none_some : (m : MessageValue) → (let x : Option MessageValue = None in x) ≡ Some m → ⊥
 none_some m h = cc
 
-told_message : (replies : List (Question × Reply)) (q : Question) (reply : Reply) (m : MessageText)
+told_message : (replies : List (Question × Reply)) (q : Question) (reply : Reply) (m : MessageValue)
     → ReplyIsTold (Some replies) (Some q) reply → heard_message reply ≡ Some m → heard_message (reply_to replies q) ≡ Some m
 told_message replies q reply m told is =
     elim told [
@@ -54,7 +54,7 @@ told_error replies q reply e not_memory told unheard =
     ]
 
 -- what was heard is what is told
-pub said_some : {H : Type 0} (sent : H → Option Question → H → Reply → Type 0) (old new : H) (known tells : Tells) (q : Question) (m : MessageText)
+pub said_some : {H : Type 0} (sent : H → Option Question → H → Reply → Type 0) (old new : H) (known tells : Tells) (q : Question) (m : MessageValue)
     → known ≡ tells → Asked sent old new known q (Ok m) → says_of tells q (Some (told_by m))
 said_some sent old new known None q m is asked = tt
 said_some sent old new known (Some replies) q m is asked =
@@ -78,4 +78,4 @@ pub answered_ask : (j : Judge) (limit : ℕ) (says : Question → Option Told �
     → ps ≡ judged_part d told → Run j limit says k (Sets q d ps ss) m → answer ≡ ending_of q told ss → Run j limit says n (Ask q d answer) m
 answered_ask j limit says q d n k m told ps ss answer shallow few next said own is walk ends =
     let P : List Placed → Type 0 = λ xs. Run j limit says k (Sets q d xs ss) m in
-    Answers q d n k m told ss answer shallow few next said own (subst P is walk) ends
+    Finishes q d n k m told ss answer shallow few next said own (subst P is walk) ends

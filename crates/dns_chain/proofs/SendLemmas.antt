@@ -1,12 +1,12 @@
 -- Sends of a lookup, put together.
 use Rattle.std.proofs.Common.{ℕ, ◌≡◌, List, [], ◌∷◌, Option, Some, Result, Ok, Err, refl, subst, inl, inr, arith}
-use Rattle.dns_model.specs.Records.{Question, MessageText}
+use Rattle.dns_model.specs.Records.{Question, MessageValue}
 use Rattle.dns_model.specs.Chains.{Judge}
-use Rattle.dns_model.specs.Answers.{ResponseText}
+use Rattle.dns_model.specs.SoundAnswers.{ResponseValue}
 use Rattle.dns_net.specs.Errors.{Reply}
 use Rattle.dns_net.specs.Handles.{OrUnsent, ReplyIsTold}
 use Rattle.dns_net.specs.Replies.{reply_of}
-use Rattle.dns_net.specs.Requests.{RequestText, first_question}
+use Rattle.dns_net.specs.Requests.{RequestValue, first_question}
 use Rattle.dns_net.specs.Walks.{Steps, Walked}
 use Rattle.dns_net.specs.declared.error.NetError.{NetError}
 use Rattle.dns_net.specs.declared.request.DnsRequestOptions.{DnsRequestOptions}
@@ -19,13 +19,13 @@ use Rattle.dns_chain.specs.Steps.{Went}
 use Rattle.dns_chain.proofs.LookLemmas.{unless_map}
 
 -- a send of a question's request as a judged ask
-pub asking_made : {H : Type 0} (sent : H → Option Question → H → Reply → Type 0) (requested : H → RequestText → ℕ → H → Reply → Type 0) (options : DnsRequestOptions) (now : ℕ)
-    (from to : H) (request : RequestText) (q : Question) (reply : Reply)
+pub asking_made : {H : Type 0} (sent : H → Option Question → H → Reply → Type 0) (requested : H → RequestValue → ℕ → H → Reply → Type 0) (options : DnsRequestOptions) (now : ℕ)
+    (from to : H) (request : RequestValue) (q : Question) (reply : Reply)
     → request ≡ asking_request q options → sent from (first_question request) to reply → requested from request now to reply
     → Asking sent requested options now from (Some q) to reply
 asking_made sent requested options now from to request q reply is made carried =
-    let Made : RequestText → Type 0 = λ r. sent from (first_question r) to reply in
-    let Carried : RequestText → Type 0 = λ r. requested from r now to reply in
+    let Made : RequestValue → Type 0 = λ r. sent from (first_question r) to reply in
+    let Carried : RequestValue → Type 0 = λ r. requested from r now to reply in
     record { question = q; is = refl; made = subst Made is made; request = subst Carried is carried }
 
 -- a fact of a send that was made, whatever came of it
@@ -34,13 +34,13 @@ or_sent old new (Ok x) Sent s = s
 or_sent old new (Err e) Sent s = inl s
 
 -- a send of such a request, and what was heard of it
-pub asked_so : {H : Type 0} (sent : H → Option Question → H → Reply → Type 0) (requested : H → RequestText → ℕ → H → Reply → Type 0) (options : DnsRequestOptions) (now : ℕ)
-    (from to : H) (tells : Tells) (request : RequestText) (q : Question) (reply : Reply) (result : Result MessageText NetError)
+pub asked_so : {H : Type 0} (sent : H → Option Question → H → Reply → Type 0) (requested : H → RequestValue → ℕ → H → Reply → Type 0) (options : DnsRequestOptions) (now : ℕ)
+    (from to : H) (tells : Tells) (request : RequestValue) (q : Question) (reply : Reply) (result : Result MessageValue NetError)
     → request ≡ asking_request q options → sent from (first_question request) to reply → requested from request now to reply
     → ReplyIsTold tells (first_question request) reply → HeardAs reply result
     → OrUnsent from to result (Asked (Asking sent requested options now) from to tells q result)
 asked_so sent requested options now from to tells request q reply result is made carried told heard =
-    let Told : RequestText → Type 0 = λ r. ReplyIsTold tells (first_question r) reply in
+    let Told : RequestValue → Type 0 = λ r. ReplyIsTold tells (first_question r) reply in
     or_sent from to result (Asked (Asking sent requested options now) from to tells q result) (record {
       reply = reply;
       step = asking_made sent requested options now from to request q reply is made carried;
@@ -62,14 +62,14 @@ sends_more sent faults telling old mid new q reply n after step one went =
     record { middle = mid; reply = reply; sends = after; first = step; others = subst Way one went.walk; few = went.few }
 
 -- asks of a lookup are sends of the handle
-steps_made : {H : Type 0} (sent : H → Option Question → H → Reply → Type 0) (requested : H → RequestText → ℕ → H → Reply → Type 0) (options : DnsRequestOptions) (now : ℕ)
+steps_made : {H : Type 0} (sent : H → Option Question → H → Reply → Type 0) (requested : H → RequestValue → ℕ → H → Reply → Type 0) (options : DnsRequestOptions) (now : ℕ)
     (from to : H) (steps : List (Option Question × Reply)) → Steps (Asking sent requested options now) from steps to → Steps sent from steps to
 steps_made sent requested options now from to [] walk = walk
 steps_made sent requested options now from to (step ∷ steps) walk =
     (walk.0, walk.1.made, steps_made sent requested options now walk.0 to steps walk.2)
 
 -- a lookup by its asks is one by the handle's sends
-pub lookup_made : {H : Type 0} (sent : H → Option Question → H → Reply → Type 0) (requested : H → RequestText → ℕ → H → Reply → Type 0) (options : DnsRequestOptions) (at : ℕ)
+pub lookup_made : {H : Type 0} (sent : H → Option Question → H → Reply → Type 0) (requested : H → RequestValue → ℕ → H → Reply → Type 0) (options : DnsRequestOptions) (at : ℕ)
     (faults : H → ℕ) (old new : H) (tells : Tells) (j : Judge) (now limit : ℕ) (q : Question) (answer : Reply)
     → IsLookup (Asking sent requested options at) faults old new tells j now limit q answer → IsLookup sent faults old new tells j now limit q answer
 lookup_made sent requested options at faults old new tells j now limit q answer l = record {
@@ -88,8 +88,8 @@ lookup_made sent requested options at faults old new tells j now limit q answer 
   looked = l.looked;
 }
 
-pub result_made : {H : Type 0} (sent : H → Option Question → H → Reply → Type 0) (requested : H → RequestText → ℕ → H → Reply → Type 0) (options : DnsRequestOptions) (at : ℕ)
-    (faults : H → ℕ) (old new : H) (tells : Tells) (j : Judge) (now limit : ℕ) (q : Question) (result : Result ResponseText NetError)
+pub result_made : {H : Type 0} (sent : H → Option Question → H → Reply → Type 0) (requested : H → RequestValue → ℕ → H → Reply → Type 0) (options : DnsRequestOptions) (at : ℕ)
+    (faults : H → ℕ) (old new : H) (tells : Tells) (j : Judge) (now limit : ℕ) (q : Question) (result : Result ResponseValue NetError)
     → UnlessNoMemory result (IsLookup (Asking sent requested options at) faults old new tells j now limit q (reply_of result))
     → UnlessNoMemory result (IsLookup sent faults old new tells j now limit q (reply_of result))
 result_made sent requested options at faults old new tells j now limit q result l =

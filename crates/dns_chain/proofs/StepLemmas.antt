@@ -3,7 +3,7 @@ use Rattle.std.proofs.Common.{ℕ, ◌+◌, ◌≤◌, ◌<◌, ◌≡◌, suc, 
 use Rattle.std.proofs.lemmas.List.{append-nil, take_more, take_all, take-append-drop}
 use Rattle.dns_model.specs.Records.{Rr, RrSet, Question}
 use Rattle.dns_model.specs.Chains.{Judge}
-use Rattle.dns_model.specs.Answers.{Told, Placed}
+use Rattle.dns_model.specs.SoundAnswers.{Told, Placed}
 use Rattle.dns_judgement.specs.Judged.{Judged}
 use Rattle.dns_judgement.specs.Marks.{Verdict, is_proved, judged_by, most_signatures}
 use Rattle.dns_model.specs.Types.{type_dnskey}
@@ -16,9 +16,9 @@ use Rattle.dns_chain.specs.Steps.{Went, SetStep, SignatureStep, KeysStep, OtherS
 -- one set more in front of a walk
 pub set_before : (j : Judge) (limit : ℕ) (says : Question → Option Told → Type 0) (q : Question) (d : ℕ) {n k : ℕ} (m : ℕ) (p : Placed) (ps : List Placed) {s : Judged} (ss : List Judged)
     → SetStep j limit says q d p n s k → Run j limit says k (Sets q d ps ss) m → Run j limit says n (Sets q d (p ∷ ps) (s ∷ ss)) m
-set_before j limit says q d m p ps ss (KeysStep n s kind is) rest = Keys q d n m p ps s ss kind is rest
-set_before j limit says q d m p ps ss (OtherStep n k s vs kind signatures is) rest =
-    Others q d n k m p ps s ss vs kind signatures is rest
+set_before j limit says q d m p ps ss (KeysStep n s rtype is) rest = Keys q d n m p ps s ss rtype is rest
+set_before j limit says q d m p ps ss (OtherStep n k s vs rtype signatures is) rest =
+    Others q d n k m p ps s ss vs rtype signatures is rest
 
 -- one signature more in front of a walk, where it doesn't prove the set
 pub signature_before : (j : Judge) (limit : ℕ) (says : Question → Option Told → Type 0) (q : Question) (d : ℕ) {n k : ℕ} (m : ℕ) (set : RrSet) (r : Rr) (rs : List Rr) {v : Verdict} (vs : List Verdict)
@@ -113,12 +113,12 @@ then_way sent faults tells a b c n k m first rest = record {
 
 -- a set that isn't DNSKEY, judged by the verdicts of its signatures
 pub other_step : (j : Judge) (limit : ℕ) (says : Question → Option Told → Type 0) (q : Question) (d n m : ℕ) (p : Placed) (set : RrSet) (s : Judged) (vs : List Verdict)
-    → set ≡ p.set → (p.set.kind == type_dnskey) ≡ false
+    → set ≡ p.set → (p.set.rtype == type_dnskey) ≡ false
     → Run j limit says n (Signatures q d set (take most_signatures set.signatures) vs) m → s ≡ judged_by p vs
     → SetStep j limit says q d p n s m
-other_step j limit says q d n m p set s vs own kind walk is =
+other_step j limit says q d n m p set s vs own rtype walk is =
     let P : RrSet → Type 0 = λ x. Run j limit says n (Signatures q d x (take most_signatures x.signatures) vs) m in
-    OtherStep n m s vs kind (subst P own walk) is
+    OtherStep n m s vs rtype (subst P own walk) is
 
 -- a list around one of its elements
 around : (xs : List Rr) (i : ℕ) (r : Rr) → i < length xs → r ≡ get_or xs i r → take i xs ++ (r ∷ drop (i + 1) xs) ≡ xs

@@ -3,11 +3,11 @@ use Rattle.std.proofs.Common.{ℕ, ◌+◌, ◌≡◌, ◌≤◌, ◌<◌, ◌�
 use Rattle.dns_model.specs.Types.{type_dnskey}
 use Rattle.dns_model.specs.Records.{Rr, RrSet, Question}
 use Rattle.dns_model.specs.Chains.{Judge}
-use Rattle.dns_model.specs.Answers.{Told, Placed}
+use Rattle.dns_model.specs.SoundAnswers.{Told, Placed}
 use Rattle.dns_judgement.specs.Judged.{Judged}
 use Rattle.dns_judgement.specs.Marks.{Verdict, Failed, is_proved, is_skipped, verdict_of, judged_by, judged_keys, most_signatures}
 use Rattle.dns_judgement.specs.Outcome.{foreign_record}
-use Rattle.dns_judgement.specs.Run.{Aim, Sets, Signatures, Ask, Run, NoSet, Keys, Others, NoSignature, Skips, Asks, Proves, Refused, Fault, Foreign, Answers, ask_of, judged_part, ending_of, most_sends}
+use Rattle.dns_judgement.specs.Run.{Aim, Sets, Signatures, Ask, Run, NoSet, Keys, Others, NoSignature, Skips, Asks, Proves, Refused, Fault, Foreign, Finishes, ask_of, judged_part, ending_of, most_sends}
 use Rattle.dns_net.specs.Errors.{Reply}
 use Rattle.dns_chain.specs.Heard.{says_of}
 use Rattle.dns_chain.proofs.CauseLemmas.{no_both}
@@ -18,7 +18,7 @@ use Rattle.dns_chain.proofs.CauseLemmas.{no_both}
 record KeysFirst (j : Judge) (limit : ℕ) (says : Question → Option Told → Type 0) (q : Question) (d n : ℕ) (p : Placed) (ps : List Placed) (all : List Judged) (m : ℕ) : Type 0 where
   s : Judged
   rest : List Judged
-  kind : (p.set.kind == type_dnskey) ≡ true
+  rtype : (p.set.rtype == type_dnskey) ≡ true
   made : s ≡ judged_keys j p
   walk : Run j limit says n (Sets q d ps rest) m
   is : all ≡ s ∷ rest
@@ -29,7 +29,7 @@ record OtherFirst (j : Judge) (limit : ℕ) (says : Question → Option Told →
   rest : List Judged
   k : ℕ
   vs : List Verdict
-  kind : (p.set.kind == type_dnskey) ≡ false
+  rtype : (p.set.rtype == type_dnskey) ≡ false
   signatures : Run j limit says n (Signatures q d p.set (take most_signatures p.set.signatures) vs) k
   made : s ≡ judged_by p vs
   walk : Run j limit says k (Sets q d ps rest) m
@@ -93,24 +93,24 @@ FirstOf j limit says n (Sets q d ps ss) m = SetsFirst j limit says q d n ps ss m
 FirstOf j limit says n (Signatures q d set rs vs) m = SignaturesFirst j limit says q d n set rs vs m
 FirstOf j limit says n (Ask q d answer) m = AskEnds j limit says q d n answer m
 
-first_of : (j : Judge) (limit : ℕ) (says : Question → Option Told → Type 0) {n : ℕ} {aim : Aim} {m : ℕ} → Run j limit says n aim m → FirstOf j limit says n aim m
-first_of j limit says (NoSet q d n) = (refl, refl)
-first_of j limit says (Keys q d n m p ps s ss kind is walk) =
-    inl (record { s = s; rest = ss; kind = kind; made = is; walk = walk; is = refl })
-first_of j limit says (Others q d n k m p ps s ss vs kind signatures is walk) =
-    inr (record { s = s; rest = ss; k = k; vs = vs; kind = kind; signatures = signatures; made = is; walk = walk; is = refl })
-first_of j limit says (NoSignature q d n set) = (refl, refl)
-first_of j limit says (Skips q d n m set r rs vs skipped walk) = inl (record { rest = vs; skipped = skipped; walk = walk; is = refl })
-first_of j limit says (Asks q d e n k m set r rs asked answer v vs kept ask deep deeper is failed walk) =
+first_step_of : (j : Judge) (limit : ℕ) (says : Question → Option Told → Type 0) {n : ℕ} {aim : Aim} {m : ℕ} → Run j limit says n aim m → FirstOf j limit says n aim m
+first_step_of j limit says (NoSet q d n) = (refl, refl)
+first_step_of j limit says (Keys q d n m p ps s ss rtype is walk) =
+    inl (record { s = s; rest = ss; rtype = rtype; made = is; walk = walk; is = refl })
+first_step_of j limit says (Others q d n k m p ps s ss vs rtype signatures is walk) =
+    inr (record { s = s; rest = ss; k = k; vs = vs; rtype = rtype; signatures = signatures; made = is; walk = walk; is = refl })
+first_step_of j limit says (NoSignature q d n set) = (refl, refl)
+first_step_of j limit says (Skips q d n m set r rs vs skipped walk) = inl (record { rest = vs; skipped = skipped; walk = walk; is = refl })
+first_step_of j limit says (Asks q d e n k m set r rs asked answer v vs kept ask deep deeper is failed walk) =
     let P : ℕ → Type 0 = λ x. Run j limit says n (Ask asked x answer) k in
     inr (inl (record { k = k; asked = asked; answer = answer; v = v; rest = vs; kept = kept; ask = ask; deeper = subst P deep deeper; verdict = is; failed = failed; walk = walk; is = refl }))
-first_of j limit says (Proves q d e n k set r rs asked answer v kept ask deep deeper is proved) =
+first_step_of j limit says (Proves q d e n k set r rs asked answer v kept ask deep deeper is proved) =
     let P : ℕ → Type 0 = λ x. Run j limit says n (Ask asked x answer) k in
     inr (inr (record { asked = asked; answer = answer; v = v; kept = kept; ask = ask; deeper = subst P deep deeper; verdict = is; proved = proved; is = refl }))
-first_of j limit says (Refused q d n why) = WasRefused why refl refl
-first_of j limit says (Fault q d n m shallow few next said) = HadFault shallow few next said refl
-first_of j limit says (Foreign q d n m told shallow few next said other) = WasForeign told shallow few next said other refl
-first_of j limit says (Answers q d n k m told ss answer shallow few next said own walk ends) =
+first_step_of j limit says (Refused q d n why) = WasRefused why refl refl
+first_step_of j limit says (Fault q d n m shallow few next said) = HadFault shallow few next said refl
+first_step_of j limit says (Foreign q d n m told shallow few next said other) = WasForeign told shallow few next said other refl
+first_step_of j limit says (Finishes q d n k m told ss answer shallow few next said own walk ends) =
     let P : ℕ → Type 0 = λ x. Run j limit says x (Sets q d (judged_part d told) ss) m in
     WasAnswered told ss shallow few said own (subst P next walk) ends
 
@@ -155,24 +155,24 @@ cons_same : {X : Type 0} (x y : X) (xs ys all : List X) → x ≡ y → xs ≡ y
 cons_same x y xs ys all head tail is = cc
 
 settled : (j : Judge) (limit : ℕ) (says : Question → Option Told → Type 0) → SaysOne says → {n : ℕ} {aim : Aim} {m : ℕ} → Run j limit says n aim m → Settled j limit says n aim m
-settled j limit says one (NoSet q d n) = λ ts k walk. first_of j limit says walk
-settled j limit says one (Keys q d n m p ps s ss kind is rest) = λ ts k walk.
-    elim (first_of j limit says walk) [
+settled j limit says one (NoSet q d n) = λ ts k walk. first_step_of j limit says walk
+settled j limit says one (Keys q d n m p ps s ss rtype is rest) = λ ts k walk.
+    elim (first_step_of j limit says walk) [
       | inl f ↦ (let t = settled j limit says one rest f.rest k f.walk in (cons_same f.s s f.rest ss ts (f.made ∙ sym is) t.0 f.is, t.1))
-      | inr f ↦ absurd (no_both (p.set.kind == type_dnskey) kind f.kind)
+      | inr f ↦ absurd (no_both (p.set.rtype == type_dnskey) rtype f.rtype)
     ]
-settled j limit says one (Others q d n e m p ps s ss vs kind signatures is rest) = λ ts k walk.
-    elim (first_of j limit says walk) [
-      | inl f ↦ absurd (no_both (p.set.kind == type_dnskey) f.kind kind)
+settled j limit says one (Others q d n e m p ps s ss vs rtype signatures is rest) = λ ts k walk.
+    elim (first_step_of j limit says walk) [
+      | inl f ↦ absurd (no_both (p.set.rtype == type_dnskey) f.rtype rtype)
       | inr f ↦ (
           let v = settled j limit says one signatures f.vs f.k f.signatures in
           let P : ℕ → Type 0 = λ x. Run j limit says x (Sets q d ps f.rest) k in
           let t = settled j limit says one rest f.rest k (subst P v.1 f.walk) in
           (cons_same f.s s f.rest ss ts (f.made ∙ ap (judged_by p) v.0 ∙ sym is) t.0 f.is, t.1))
     ]
-settled j limit says one (NoSignature q d n set) = λ ws k walk. first_of j limit says walk
+settled j limit says one (NoSignature q d n set) = λ ws k walk. first_step_of j limit says walk
 settled j limit says one (Skips q d n m set r rs vs skipped rest) = λ ws k walk.
-    elim (first_of j limit says walk) [
+    elim (first_step_of j limit says walk) [
       | inl f ↦ (let t = settled j limit says one rest f.rest k f.walk in (cons_same Failed Failed f.rest vs ws refl t.0 f.is, t.1))
       | inr f ↦ elim f [
         | inl a ↦ absurd (no_both (is_skipped q set r) skipped a.kept)
@@ -180,7 +180,7 @@ settled j limit says one (Skips q d n m set r rs vs skipped rest) = λ ws k walk
       ]
     ]
 settled j limit says one (Asks q d e n i m set r rs asked answer v vs kept ask deep deeper is failed rest) = λ ws k walk.
-    elim (first_of j limit says walk) [
+    elim (first_step_of j limit says walk) [
       | inl f ↦ absurd (no_both (is_skipped q set r) f.skipped kept)
       | inr f ↦ elim f [
         | inl a ↦ (
@@ -198,7 +198,7 @@ settled j limit says one (Asks q d e n i m set r rs asked answer v vs kept ask d
       ]
     ]
 settled j limit says one (Proves q d e n m set r rs asked answer v kept ask deep deeper is proved) = λ ws k walk.
-    elim (first_of j limit says walk) [
+    elim (first_step_of j limit says walk) [
       | inl f ↦ absurd (no_both (is_skipped q set r) f.skipped kept)
       | inr f ↦ elim f [
         | inl a ↦ (
@@ -214,21 +214,21 @@ settled j limit says one (Proves q d e n m set r rs asked answer v kept ask deep
       ]
     ]
 settled j limit says one (Refused q d n why) = λ other k walk.
-    elim (first_of j limit says walk) [
+    elim (first_step_of j limit says walk) [
       | WasRefused also none same ↦ (none, same)
       | HadFault shallow few next said none ↦ absurd (not_refused limit d n shallow few why)
       | WasForeign told shallow few next said foreign none ↦ absurd (not_refused limit d n shallow few why)
       | WasAnswered told ss shallow few said own deeper ends ↦ absurd (not_refused limit d n shallow few why)
     ]
 settled j limit says one (Fault q d n m shallow few next said) = λ other k walk.
-    elim (first_of j limit says walk) [
+    elim (first_step_of j limit says walk) [
       | WasRefused why none same ↦ absurd (not_refused limit d n shallow few why)
       | HadFault also fewer more told none ↦ (none, more ∙ sym next)
       | WasForeign told also fewer more answer foreign none ↦ absurd (not_said says one q told said answer)
       | WasAnswered told ss also fewer answer own deeper ends ↦ absurd (not_said says one q told said answer)
     ]
 settled j limit says one (Foreign q d n m told shallow few next said other_class) = λ other k walk.
-    elim (first_of j limit says walk) [
+    elim (first_step_of j limit says walk) [
       | WasRefused why none same ↦ absurd (not_refused limit d n shallow few why)
       | HadFault also fewer more fault none ↦ absurd (not_said says one q told fault said)
       | WasForeign heard_too also fewer more answer foreign none ↦ (none, more ∙ sym next)
@@ -236,8 +236,8 @@ settled j limit says one (Foreign q d n m told shallow few next said other_class
           absurd (no_both (is_some (foreign_record q told)) other_class
           (ap (λ x. is_some (foreign_record q x)) (sym (told_same says one q told heard_too said answer)) ∙ own))
     ]
-settled j limit says one (Answers q d n e m told ss answer shallow few next said own sets ends) = λ other k walk.
-    elim (first_of j limit says walk) [
+settled j limit says one (Finishes q d n e m told ss answer shallow few next said own sets ends) = λ other k walk.
+    elim (first_step_of j limit says walk) [
       | WasRefused why none same ↦ absurd (not_refused limit d n shallow few why)
       | HadFault also fewer more fault none ↦ absurd (not_said says one q told fault said)
       | WasForeign heard_too also fewer more reply foreign none ↦

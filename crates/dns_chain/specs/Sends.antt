@@ -3,13 +3,13 @@ use Rattle.std.specs.Prelude.{ℕ, ◌≡◌, ◌≤◌, Option, Some}
 use Rattle.dns_model.specs.Records.{Question}
 use Rattle.dns_judgement.specs.Run.{most_sends}
 use Rattle.dns_net.specs.Errors.{Reply}
-use Rattle.dns_net.specs.Requests.{RequestText}
+use Rattle.dns_net.specs.Requests.{RequestValue}
 use Rattle.dns_net.specs.Walks.{Walked}
 use Rattle.dns_net.specs.declared.request.DnsRequestOptions.{DnsRequestOptions}
 use Rattle.dns_chain.specs.Inquiries.{asking_request}
 
 -- a send of a lookup with these options at this moment: what is sent is the request of its question as a judged ask
-pub record Asking {H : Type 0} (sent : H → Option Question → H → Reply → Type 0) (requested : H → RequestText → ℕ → H → Reply → Type 0)
+pub record Asking {H : Type 0} (sent : H → Option Question → H → Reply → Type 0) (requested : H → RequestValue → ℕ → H → Reply → Type 0)
     (options : DnsRequestOptions) (now : ℕ) (from : H) (asked : Option Question) (to : H) (reply : Reply) : Type 0 where
   pub question : Question
   pub is : asked ≡ Some question

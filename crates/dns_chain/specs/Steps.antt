@@ -3,7 +3,7 @@ use Rattle.std.specs.Prelude.{ℕ, ◌≡◌, ◌≤◌, ◌+◌, ◌==◌, true
 use Rattle.dns_model.specs.Types.{type_dnskey}
 use Rattle.dns_model.specs.Records.{Rr, RrSet, Question}
 use Rattle.dns_model.specs.Chains.{Judge}
-use Rattle.dns_model.specs.Answers.{Told, Placed}
+use Rattle.dns_model.specs.SoundAnswers.{Told, Placed}
 use Rattle.dns_judgement.specs.Judged.{Judged}
 use Rattle.dns_judgement.specs.Marks.{Verdict, Failed, is_skipped, verdict_of, judged_by, judged_keys, most_signatures}
 use Rattle.dns_judgement.specs.Run.{Run, Signatures, Ask, ask_of, most_sends}
@@ -12,8 +12,8 @@ use Rattle.dns_net.specs.Walks.{Walked}
 
 -- how one set of a step at a depth was judged, with the sends before and after
 pub data SetStep (j : Judge) (limit : ℕ) (says : Question → Option Told → Type 0) (q : Question) (d : ℕ) (p : Placed) : ℕ → Judged → ℕ → Type 0 where
-  KeysStep : (n : ℕ) (s : Judged) → (p.set.kind == type_dnskey) ≡ true → s ≡ judged_keys j p → SetStep j limit says q d p n s n
-  OtherStep : (n m : ℕ) (s : Judged) (vs : List Verdict) → (p.set.kind == type_dnskey) ≡ false
+  KeysStep : (n : ℕ) (s : Judged) → (p.set.rtype == type_dnskey) ≡ true → s ≡ judged_keys j p → SetStep j limit says q d p n s n
+  OtherStep : (n m : ℕ) (s : Judged) (vs : List Verdict) → (p.set.rtype == type_dnskey) ≡ false
       → Run j limit says n (Signatures q d p.set (take most_signatures p.set.signatures) vs) m → s ≡ judged_by p vs
       → SetStep j limit says q d p n s m
 

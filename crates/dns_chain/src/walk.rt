@@ -3,9 +3,9 @@ ghost use Rattle.dns_model.specs.Chains.{judge};
 ghost use Rattle.dns_judgement.specs.Marks.{most_signatures};
 ghost use Rattle.dns_judgement.specs.Outcome.{foreign_record as foreign_in};
 ghost use Rattle.dns_model.specs.Types.{type_dnskey};
-ghost use Rattle.dns_model.specs.Answers.{told_by};
+ghost use Rattle.dns_model.specs.SoundAnswers.{told_by};
 ghost use Rattle.dns_judgement.specs.Run.{ending_of, Run, Sets, Signatures, Ask, most_sends};
-ghost use Rattle.dns_trust.specs.Verdicts.{verdict_text, listed};
+ghost use Rattle.dns_trust.specs.Verdicts.{verdict_value, listed};
 ghost use Rattle.dns_chain.specs.Heard.{says_of, Tells};
 ghost use Rattle.dns_chain.specs.Sends.{Asking};
 ghost use Rattle.dns_chain.specs.Steps.{SetStep, SignatureStep, Went};
@@ -101,7 +101,7 @@ fn set_of(placed: &PlacedSet) -> &RecordSet
 
 // The set holds a zone's keys.
 fn is_key_set(placed: &PlacedSet) -> bool
-    ensures { result ≡ (placed.now.set.kind == type_dnskey) }
+    ensures { result ≡ (placed.now.set.rtype == type_dnskey) }
 {
     placed.set.record_type == RecordType::DNSKEY
 }
@@ -124,7 +124,7 @@ fn judge_signatures<H: DnsHandle, V: Verifier>(
     requires shallow { depth ≤ 255 }
     ensures went { Went (Asking H.sent H.requested inquiry.options inquiry.now) H.faults H.told handle.old handle.new sends.old sends.new }
     ensures run { IfOk result (λ v. (tells : Tells) → H.told handle.old ≡ tells → Run (judge (V.answers verifier.now) anchors.now inquiry.now) inquiry.limit (says_of tells)
-        sends.old (Signatures query.now depth set.now (take most_signatures set.now.signatures) (map verdict_text v.items)) sends.new) }
+        sends.old (Signatures query.now depth set.now (take most_signatures set.now.signatures) (map verdict_value v.items)) sends.new) }
 {
     let mut verdicts = Vec::new(alloc);
     let tried = first_signatures(set);
@@ -168,7 +168,7 @@ fn judge_signature<H: DnsHandle, V: Verifier>(
     requires shallow { depth ≤ 255 }
     ensures went { Went (Asking H.sent H.requested inquiry.options inquiry.now) H.faults H.told handle.old handle.new sends.old sends.new }
     ensures step { IfOk result (λ v. (tells : Tells) → H.told handle.old ≡ tells → SignatureStep (judge (V.answers verifier.now) anchors.now inquiry.now) inquiry.limit (says_of tells)
-        query.now depth set.now sig.now sends.old (verdict_text v) sends.new) }
+        query.now depth set.now sig.now sends.old (verdict_value v) sends.new) }
 {
     let skipped = is_skipped(query, set, sig)?;
     if skipped {

@@ -7,48 +7,48 @@ use Rattle.dns_model.specs.declared.section.Section.{Section}
 use Rattle.dns_model.specs.declared.section.Section.TheVariants.{Answer, Authority, Additional}
 use Rattle.dns_model.specs.declared.denial.Denial.{Denial}
 use Rattle.dns_model.specs.Names.{Labels, name_eq}
-use Rattle.dns_model.specs.Views.{sig_in}
-use Rattle.dns_model.specs.Records.{Rr, Question, MessageText}
+use Rattle.dns_model.specs.Views.{rrsig_in}
+use Rattle.dns_model.specs.Records.{Rr, Question, MessageValue}
 use Rattle.dns_model.specs.Sections.{is_signature}
-use Rattle.dns_model.specs.Chains.{Fact, Anchored, Matched, KeySet, Signed, Judge, last_link, is_listed, rdatas_of}
-use Rattle.dns_model.specs.Answers.{Told, told_by, placed_sets, section_of, is_secure, set_kind, ttl_of, first_ttl, signed_ttl, deciding_link, IsBoundedTtl, AreBounded, SoundAlone}
+use Rattle.dns_model.specs.Chains.{LinkValue, Anchored, Matched, KeySet, Signed, Judge, last_link, is_nonempty, rdatas_of}
+use Rattle.dns_model.specs.SoundAnswers.{Told, told_by, placed_sets, section_of, is_secure, set_rtype, ttl_of, first_ttl, signed_ttl, deciding_link, IsBoundedTtl, AreBounded, SoundAlone}
 use Rattle.dns_model.proofs.EachLemmas.{each_more, each_of, each_map, find_agree, find-map, find_known}
 use Rattle.dns_model.proofs.SetLemmas.{is_of, head_of}
 use Rattle.dns_model.proofs.ChainLemmas.{bytes_same}
 use Rattle.dns_judgement.specs.Judged.{Judged, decider, names_decider}
-use Rattle.dns_judgement.specs.Marking.{is_about, is_record, first_of, adjusted_by, adjusted_ttl, marked, chains_of, finished}
+use Rattle.dns_judgement.specs.Marking.{is_about, is_record, first_record, adjusted_by, adjusted_ttl, marked, chains_of, finished}
 use Rattle.dns_judgement.specs.Run.{Sets, Run}
 use Rattle.dns_judgement.proofs.StandLemmas.{stands_parts}
 use Rattle.dns_judgement.proofs.RunLemmas.{AreJudged, run_stands}
 use Rattle.dns_judgement.proofs.MarkedLemmas.{marked-keeps, about_parts, IsKnown, each_known, made_secure, decided_link}
 use Rattle.dns_judgement.proofs.SoundLemmas.{test_agrees, plain_from, signature_is, own_marks, have_one, chains}
 
-head_ttl : (f : Rr → Rr) (n : ℕ) (records : List Rr) → is_listed (rdatas_of records) ≡ true → AllByRecursion (λ r. (f r).ttl ≡ n) records
+head_ttl : (f : Rr → Rr) (n : ℕ) (records : List Rr) → is_nonempty (rdatas_of records) ≡ true → AllByRecursion (λ r. (f r).ttl ≡ n) records
     → ttl_of (option_map f (head_of records)) ≡ n
 head_ttl f n [] listed h = cc
 head_ttl f n (x ∷ xs) listed h = h.0
 
 -- the ttl of a Secure set under a signature
 abbrev set_ttl : ℕ → Judged → Rr → ℕ
-set_ttl now s d = min (ttl_of (first_of s.set.records)) (signed_ttl (sig_in d.rdata) now)
+set_ttl now s d = min (ttl_of (first_record s.set.records)) (signed_ttl (rrsig_in d.rdata) now)
 
 own_ttl : (now : ℕ) (s : Judged) (d : Rr) → is_secure s.mark ≡ true → decider s ≡ Some d → (r : Rr) → adjusted_ttl now s r ≡ set_ttl now s d
 own_ttl now s d secure is r = ap (λ b. cond b (adjusted_by now s r (decider s)) r.ttl) secure ∙ ap (adjusted_by now s r) is
 
 -- the first record of a Secure set has the set's ttl in the answer
-alone_first : (j : Judge) (now : ℕ) (told : Told) (ss : List Judged) (s : Judged) (d : Rr) (owner : Labels) (kind : ℕ) → IsKnown j told ss s
-    → is_secure s.mark ≡ true → decider s ≡ Some d → name_eq s.set.owner owner ≡ true → s.set.kind ≡ kind
-    → first_ttl (map (marked now ss s.section) (section_of told s.section)) owner kind ≡ set_ttl now s d
-alone_first j now told ss s d owner kind known secure is named kind_is =
+alone_first : (j : Judge) (now : ℕ) (told : Told) (ss : List Judged) (s : Judged) (d : Rr) (owner : Labels) (rtype : ℕ) → IsKnown j told ss s
+    → is_secure s.mark ≡ true → decider s ≡ Some d → name_eq s.set.owner owner ≡ true → s.set.rtype ≡ rtype
+    → first_ttl (map (marked now ss s.section) (section_of told s.section)) owner rtype ≡ set_ttl now s d
+alone_first j now told ss s d owner rtype known secure is named rtype_is =
     let f = marked now ss s.section in
     let keeps = marked-keeps now ss s.section in
     let section = section_of told s.section in
-    let test = λ (r : Rr). name_eq owner r.owner && (kind == r.kind) in
+    let test = λ (r : Rr). name_eq owner r.owner && (rtype == r.rtype) in
     let agree : (r : Rr) → test (f r) ≡ is_of s.set r =
-    λ r. ap (λ o. name_eq owner o && (kind == (f r).kind)) (keeps.owner r) ∙ ap (λ k. name_eq owner r.owner && (kind == k)) (keeps.kind r)
-    ∙ sym (test_agrees s.set owner kind named kind_is r) in
+    λ r. ap (λ o. name_eq owner o && (rtype == (f r).rtype)) (keeps.owner r) ∙ ap (λ k. name_eq owner r.owner && (rtype == k)) (keeps.rtype r)
+    ∙ sym (test_agrees s.set owner rtype named rtype_is r) in
     let ttls : AllByRecursion (λ r. (f r).ttl ≡ set_ttl now s d) s.set.records =
-    each_more (λ r. f r ≡ record r { mark = s.mark; ttl = adjusted_ttl now s r }) (λ r. (f r).ttl ≡ set_ttl now s d)
+    each_more (λ r. f r ≡ record r { proof = s.mark; ttl = adjusted_ttl now s r }) (λ r. (f r).ttl ≡ set_ttl now s d)
     (λ r e. ap (λ x. x.ttl) e ∙ own_ttl now s d secure is r) s.set.records (own_marks j now told ss s known) in
     ap ttl_of (find-map test f section ∙ ap (option_map f) (find_agree (λ r. test (f r)) (is_of s.set) agree section ∙ sym known.begins.head))
     ∙ head_ttl f (set_ttl now s d) s.set.records known.proper.listed ttls
@@ -56,24 +56,24 @@ alone_first j now told ss s d owner kind known secure is named kind_is =
 least_right : (a b c : ℕ) → b ≡ c → min a b ≤ c
 least_right a b c e = omega arith
 
-bounded_by_link : (now : ℕ) (section : List Rr) (r : Rr) (mark : Proof) (s : Judged) (link : Option Fact) (d : Option Rr) → names_decider link d ≡ true
-    → (is_signature r && not (is_record r d)) ≡ false → ((x : Rr) → d ≡ Some x → first_ttl section r.owner (set_kind r) ≡ set_ttl now s x)
-    → IsBoundedTtl now section (record r { mark = mark; ttl = adjusted_by now s r d }) link
+bounded_by_link : (now : ℕ) (section : List Rr) (r : Rr) (mark : Proof) (s : Judged) (link : Option LinkValue) (d : Option Rr) → names_decider link d ≡ true
+    → (is_signature r && not (is_record r d)) ≡ false → ((x : Rr) → d ≡ Some x → first_ttl section r.owner (set_rtype r) ≡ set_ttl now s x)
+    → IsBoundedTtl now section (record r { proof = mark; ttl = adjusted_by now s r d }) link
 bounded_by_link now section r mark s None d named decides first = cc
 bounded_by_link now section r mark s (Some (Anchored owner class key)) d named decides first = cc
 bounded_by_link now section r mark s (Some (Matched owner class key ds_link ds)) d named decides first = cc
 bounded_by_link now section r mark s (Some (KeySet owner class keys links)) None named decides first = plain_from (is_signature r) decides
 bounded_by_link now section r mark s (Some (KeySet owner class keys links)) (Some d) named decides first = cc
-bounded_by_link now section r mark s (Some (Signed owner class kind rdatas sig key_link key)) None named decides first = cc
-bounded_by_link now section r mark s (Some (Signed owner class kind rdatas sig key_link key)) (Some d) named decides first = (
+bounded_by_link now section r mark s (Some (Signed owner class rtype rdatas sig key_link key)) None named decides first = cc
+bounded_by_link now section r mark s (Some (Signed owner class rtype rdatas sig key_link key)) (Some d) named decides first = (
   signature_is r d sig named decides,
   sym (first d refl),
-  least_right (ttl_of (first_of s.set.records)) (signed_ttl (sig_in d.rdata) now) (signed_ttl (sig_in sig) now)
-      (ap (λ bytes. signed_ttl (sig_in bytes) now) (sym (bytes_same sig d.rdata named))),
+  least_right (ttl_of (first_record s.set.records)) (signed_ttl (rrsig_in d.rdata) now) (signed_ttl (rrsig_in sig) now)
+      (ap (λ bytes. signed_ttl (rrsig_in bytes) now) (sym (bytes_same sig d.rdata named))),
 )
 
 bounded_one : (j : Judge) (now : ℕ) (told : Told) (ss : List Judged) (section : Section) → AllByRecursion (IsKnown j told ss) ss → (r : Rr)
-    → is_secure ((marked now ss section r).mark) ≡ true
+    → is_secure ((marked now ss section r).proof) ≡ true
     → IsBoundedTtl now (map (marked now ss section) (section_of told section)) (marked now ss section r)
     (deciding_link (chains_of ss) section (marked now ss section r))
 bounded_one j now told ss section known r h =
@@ -83,12 +83,12 @@ bounded_one j now told ss section known r h =
     let about = about_parts section r s found.passes in
     let chain = stands_parts j s found.known.stand made.secure in
     let records = map (marked now ss section) (section_of told section) in
-    let first : (x : Rr) → decider s ≡ Some x → first_ttl records r.owner (set_kind r) ≡ set_ttl now s x =
-    λ x is. ap (λ at. first_ttl (map (marked now ss at) (section_of told at)) r.owner (set_kind r)) (sym about.section_is)
-    ∙ alone_first j now told ss s x r.owner (set_kind r) found.known made.secure is about.owner about.kind in
+    let first : (x : Rr) → decider s ≡ Some x → first_ttl records r.owner (set_rtype r) ≡ set_ttl now s x =
+    λ x is. ap (λ at. first_ttl (map (marked now ss at) (section_of told at)) r.owner (set_rtype r)) (sym about.section_is)
+    ∙ alone_first j now told ss s x r.owner (set_rtype r) found.known made.secure is about.owner about.rtype in
     let by_link = bounded_by_link now records r s.mark s (last_link s.chain) (decider s) chain.named made.decides first in
     let decided = decided_link j told ss section r s known made.found made.secure in
-    let made_record : Rr = record r { mark = s.mark; ttl = adjusted_by now s r (decider s) } in
+    let made_record : Rr = record r { proof = s.mark; ttl = adjusted_by now s r (decider s) } in
     subst (λ x. IsBoundedTtl now records x (deciding_link (chains_of ss) section x)) (sym made.form)
     (subst (λ l. IsBoundedTtl now records made_record l) (sym decided) by_link)
 
@@ -97,11 +97,11 @@ bounded : (j : Judge) (now : ℕ) (told : Told) (ss : List Judged) (section : Se
 bounded j now told ss section known =
     let f = marked now ss section in
     let records = map f (section_of told section) in
-    let P = λ (r : Rr). is_secure r.mark ≡ true → IsBoundedTtl now records r (deciding_link (chains_of ss) section r) in
+    let P = λ (r : Rr). is_secure r.proof ≡ true → IsBoundedTtl now records r (deciding_link (chains_of ss) section r) in
     each_map P f (section_of told section) (each_of (λ r. P (f r)) (bounded_one j now told ss section known) (section_of told section))
 
 -- sets of a message that stand make its answer sound by itself
-pub sound_alone_of_review : (j : Judge) (now : ℕ) (m : MessageText) (ss : List Judged) (denial : Denial)
+pub sound_alone_of_review : (j : Judge) (now : ℕ) (m : MessageValue) (ss : List Judged) (denial : Denial)
     → AreJudged j (placed_sets (told_by m)) ss → SoundAlone j now (finished now ss m denial)
 sound_alone_of_review j now m ss denial judged =
     let told = told_by m in
@@ -117,7 +117,7 @@ sound_alone_of_review j now m ss denial judged =
     }
 
 -- a walk over all the sets of a message makes its answer sound by itself
-pub sound_alone_of_walk : (j : Judge) (limit now : ℕ) (says : Question → Option Told → Type 0) (q : Question) (depth before after : ℕ) (m : MessageText) (ss : List Judged) (denial : Denial)
+pub sound_alone_of_walk : (j : Judge) (limit now : ℕ) (says : Question → Option Told → Type 0) (q : Question) (depth before after : ℕ) (m : MessageValue) (ss : List Judged) (denial : Denial)
     → Run j limit says before (Sets q depth (placed_sets (told_by m)) ss) after → SoundAlone j now (finished now ss m denial)
 sound_alone_of_walk j limit now says q depth before after m ss denial run =
     sound_alone_of_review j now m ss denial (run_stands j limit says q depth before after (told_by m) ss run)

@@ -6,10 +6,10 @@ use Rattle.dns_judgement.specs.declared.rrsig_validity.RrsigValidity.{RrsigValid
 use Rattle.dns_judgement.specs.declared.rrsig_validity.RrsigValidity.TheVariants.{ValidRrsig, ExpiredRrsig, WrongDnskey, WrongRrsig}
 use Rattle.dns_model.specs.Names.{name_eq, at_or_above, num_labels, parent}
 use Rattle.dns_model.specs.Types.{type_rrsig, type_nsec, type_nsec3, type_dnskey}
-use Rattle.dns_model.specs.Views.{SigText, KeyText, sig_in, key_in, is_zone_key, is_revoked}
+use Rattle.dns_model.specs.Views.{RrsigValue, DnskeyValue, rrsig_in, dnskey_in, is_zone_key, is_revoked}
 use Rattle.dns_model.specs.Signing.{signed_bytes, key_tag_of}
 use Rattle.dns_model.specs.Records.{Rr, RrSet}
-use Rattle.dns_model.specs.Chains.{Fact, Signed, Judge, is_listed, rdatas_of, signer_fits, labels_fit, parent_fits, is_good, key_comes, is_signed, link_holds}
+use Rattle.dns_model.specs.Chains.{LinkValue, Signed, Judge, is_nonempty, rdatas_of, signer_fits, labels_fit, parent_fits, is_good, key_comes, is_signed, link_holds}
 use Rattle.dns_model.proofs.SetLemmas.{number_same, IsProper}
 use Rattle.dns_judgement.specs.Validity.{is_of_set, is_by_key, key_validity, sig_validity, validity, is_valid, is_accepted, is_good_by}
 use Rattle.dns_judgement.specs.Marks.{is_kept_whole}
@@ -17,9 +17,9 @@ use Rattle.dns_judgement.specs.Marks.{is_kept_whole}
 -- ---- what a good signature is
 
 -- the tests of a good signature, taken apart
-pub record IsGoodText (j : Judge) (set : RrSet) (r key : Rr) (sig : SigText) : Type 0 where
-  pub text : KeyText
-  pub read : key_in key.rdata ≡ Some text
+pub record IsGoodRead (j : Judge) (set : RrSet) (r key : Rr) (sig : RrsigValue) : Type 0 where
+  pub text : DnskeyValue
+  pub read : dnskey_in key.rdata ≡ Some text
   pub of_set : is_of_set set r sig ≡ true
   pub timely : j.is_timely sig ≡ true
   pub by_key : is_by_key sig key text ≡ true
@@ -36,9 +36,9 @@ by_key_is : (b : Bool) → is_valid (if b then ValidRrsig else WrongDnskey) ≡ 
 by_key_is true h = refl
 by_key_is false h = cc
 
-good_by_key : (j : Judge) (set : RrSet) (r key : Rr) (sig : SigText) (o : Option KeyText) → key_in key.rdata ≡ o
+good_by_key : (j : Judge) (set : RrSet) (r key : Rr) (sig : RrsigValue) (o : Option DnskeyValue) → dnskey_in key.rdata ≡ o
     → is_of_set set r sig ≡ true → j.is_timely sig ≡ true
-    → is_valid (key_validity sig key o) ≡ true → is_accepted j set (Some sig) o ≡ true → IsGoodText j set r key sig
+    → is_valid (key_validity sig key o) ≡ true → is_accepted j set (Some sig) o ≡ true → IsGoodRead j set r key sig
 good_by_key j set r key sig None is fits timely valid accepted = cc
 good_by_key j set r key sig (Some text) is fits timely valid accepted = record {
   text = text;
@@ -49,18 +49,18 @@ good_by_key j set r key sig (Some text) is fits timely valid accepted = record {
   accepted = accepted;
 }
 
-pub good_parts : (j : Judge) (set : RrSet) (r key : Rr) (sig : SigText) → sig_in r.rdata ≡ Some sig → is_good_by j set r key ≡ true
-    → IsGoodText j set r key sig
+pub good_parts : (j : Judge) (set : RrSet) (r key : Rr) (sig : RrsigValue) → rrsig_in r.rdata ≡ Some sig → is_good_by j set r key ≡ true
+    → IsGoodRead j set r key sig
 unfolding is_good_by validity
 good_parts j set r key sig is good =
-    let both = and_parts (is_valid (sig_validity j.is_timely set r key (sig_in r.rdata))) (is_accepted j set (sig_in r.rdata) (key_in key.rdata)) good in
+    let both = and_parts (is_valid (sig_validity j.is_timely set r key (rrsig_in r.rdata))) (is_accepted j set (rrsig_in r.rdata) (dnskey_in key.rdata)) good in
     let valid : is_valid (sig_validity j.is_timely set r key (Some sig)) ≡ true = ap (λ o. is_valid (sig_validity j.is_timely set r key o)) (sym is) ∙ both.0 in
-    let accepted : is_accepted j set (Some sig) (key_in key.rdata) ≡ true = ap (λ o. is_accepted j set o (key_in key.rdata)) (sym is) ∙ both.1 in
-    let parts = valid_parts (is_of_set set r sig) (j.is_timely sig) (key_validity sig key (key_in key.rdata)) valid in
-    good_by_key j set r key sig (key_in key.rdata) refl parts.0 parts.1 parts.2 accepted
+    let accepted : is_accepted j set (Some sig) (dnskey_in key.rdata) ≡ true = ap (λ o. is_accepted j set o (dnskey_in key.rdata)) (sym is) ∙ both.1 in
+    let parts = valid_parts (is_of_set set r sig) (j.is_timely sig) (key_validity sig key (dnskey_in key.rdata)) valid in
+    good_by_key j set r key sig (dnskey_in key.rdata) refl parts.0 parts.1 parts.2 accepted
 
 -- the name that a good signature gives is that of its key
-pub signer_is_owner : (j : Judge) (set : RrSet) (r key : Rr) (sig : SigText) → IsGoodText j set r key sig → name_eq sig.signer key.owner ≡ true
+pub signer_is_owner : (j : Judge) (set : RrSet) (r key : Rr) (sig : RrsigValue) → IsGoodRead j set r key sig → name_eq sig.signer key.owner ≡ true
 signer_is_owner j set r key sig good =
     (and_parts (name_eq sig.signer key.owner)
     ((good.text.algorithm == sig.algorithm) && ((key_tag_of key.rdata == sig.key_tag) && is_zone_key good.text)) good.by_key).0
@@ -79,31 +79,31 @@ good_again : (zone unrevoked protocol supported algorithm tag timely accepts : B
     → ((zone && (unrevoked && (protocol && supported))) && (algorithm && (tag && (timely && accepts)))) ≡ true
 good_again zone unrevoked protocol supported algorithm tag timely accepts a b c d e f g h = rw (a, b, c, d, e, f, g, h) refl
 
-pub good_in_link : (j : Judge) (set : RrSet) (r key : Rr) (sig : SigText) → IsGoodText j set r key sig
-    → is_good j set.owner set.class set.kind (rdatas_of set.records) sig key.rdata (key_in key.rdata) ≡ true
+pub good_in_link : (j : Judge) (set : RrSet) (r key : Rr) (sig : RrsigValue) → IsGoodRead j set r key sig
+    → is_good j set.owner set.class set.rtype (rdatas_of set.records) sig key.rdata (dnskey_in key.rdata) ≡ true
 good_in_link j set r key sig good =
     let text = good.text in
-    let accepts = j.answers.accepts sig.algorithm text.key (signed_bytes set.owner set.kind set.class (rdatas_of set.records) sig) sig.signature in
+    let accepts = j.answers.accepts sig.algorithm text.key (signed_bytes set.owner set.rtype set.class (rdatas_of set.records) sig) sig.signature in
     let by = and_four (name_eq sig.signer key.owner) (text.algorithm == sig.algorithm) (key_tag_of key.rdata == sig.key_tag) (is_zone_key text) good.by_key in
     let to = and_four (not (is_revoked text)) (text.protocol == 3) (j.answers.supports text.algorithm) accepts good.accepted in
-    ap (is_good j set.owner set.class set.kind (rdatas_of set.records) sig key.rdata) good.read
+    ap (is_good j set.owner set.class set.rtype (rdatas_of set.records) sig key.rdata) good.read
     ∙ good_again (is_zone_key text) (not (is_revoked text)) (text.protocol == 3) (j.answers.supports text.algorithm)
     (text.algorithm == sig.algorithm) (key_tag_of key.rdata == sig.key_tag) (j.is_timely sig) accepts
     by.3 to.0 to.1 to.2 by.1 by.2 good.timely to.3
 
 -- the parts of a test that a signature is of a set
-pub record IsOfSet (set : RrSet) (r : Rr) (sig : SigText) : Type 0 where
+pub record IsOfSet (set : RrSet) (r : Rr) (sig : RrsigValue) : Type 0 where
   pub owner : name_eq set.owner r.owner ≡ true
   pub class : (set.class == r.class) ≡ true
   pub above : at_or_above sig.signer set.owner ≡ true
-  pub covered : (sig.covered == set.kind) ≡ true
+  pub covered : (sig.covered == set.rtype) ≡ true
   pub labels : nat_le sig.labels (num_labels set.owner) ≡ true
 
-pub of_set_parts : (set : RrSet) (r : Rr) (sig : SigText) → is_of_set set r sig ≡ true → IsOfSet set r sig
+pub of_set_parts : (set : RrSet) (r : Rr) (sig : RrsigValue) → is_of_set set r sig ≡ true → IsOfSet set r sig
 of_set_parts set r sig h =
-    let last = (sig.covered == set.kind) && nat_le sig.labels (num_labels set.owner) in
+    let last = (sig.covered == set.rtype) && nat_le sig.labels (num_labels set.owner) in
     let front = and_four (name_eq set.owner r.owner) (set.class == r.class) (at_or_above sig.signer set.owner) last h in
-    let back = and_parts (sig.covered == set.kind) (nat_le sig.labels (num_labels set.owner)) front.3 in
+    let back = and_parts (sig.covered == set.rtype) (nat_le sig.labels (num_labels set.owner)) front.3 in
     record { owner = front.0; class = front.1; above = front.2; covered = back.0; labels = back.1 }
 
 labels_step : (nsec nsec3 full at_parent within : Bool) → (nsec ≡ true → nsec3 ≡ false)
@@ -114,48 +114,48 @@ labels_step true false full at_parent within apart h w = (h, refl)
 labels_step false true full at_parent within apart h w = and_parts full at_parent h
 labels_step false false full at_parent within apart h w = (w, refl)
 
-kinds_differ : (kind : ℕ) → (kind == type_nsec) ≡ true → (kind == type_nsec3) ≡ false
-kinds_differ kind h = ap (λ n. n == type_nsec3) (number_same kind type_nsec h)
+rtypes_differ : (rtype : ℕ) → (rtype == type_nsec) ≡ true → (rtype == type_nsec3) ≡ false
+rtypes_differ rtype h = ap (λ n. n == type_nsec3) (number_same rtype type_nsec h)
 
 -- Labels and the parent fit where a set isn't expanded
-pub labels_and_parent : (set : RrSet) (sig : SigText) → is_kept_whole set sig ≡ true → nat_le sig.labels (num_labels set.owner) ≡ true
-    → (labels_fit set.kind sig.labels set.owner ≡ true) × (parent_fits set.kind sig.signer set.owner ≡ true)
+pub labels_and_parent : (set : RrSet) (sig : RrsigValue) → is_kept_whole set sig ≡ true → nat_le sig.labels (num_labels set.owner) ≡ true
+    → (labels_fit set.rtype sig.labels set.owner ≡ true) × (parent_fits set.rtype sig.signer set.owner ≡ true)
 labels_and_parent set sig whole within =
-    labels_step (set.kind == type_nsec) (set.kind == type_nsec3) (sig.labels == num_labels set.owner) (name_eq (parent set.owner) sig.signer)
-    (nat_le sig.labels (num_labels set.owner)) (kinds_differ set.kind) whole within
+    labels_step (set.rtype == type_nsec) (set.rtype == type_nsec3) (sig.labels == num_labels set.owner) (name_eq (parent set.owner) sig.signer)
+    (nat_le sig.labels (num_labels set.owner)) (rtypes_differ set.rtype) whole within
 
 -- a key set is always kept whole
-pub keys_kept_whole : (set : RrSet) (sig : SigText) → (set.kind == type_dnskey) ≡ true → is_kept_whole set sig ≡ true
-keys_kept_whole set sig keys = rw (number_same set.kind type_dnskey keys) refl
+pub keys_kept_whole : (set : RrSet) (sig : RrsigValue) → (set.rtype == type_dnskey) ≡ true → is_kept_whole set sig ≡ true
+keys_kept_whole set sig keys = rw (number_same set.rtype type_dnskey keys) refl
 
 -- ---- the link
 
 -- what stands beside a good signature in a link
-pub record Fits (earlier : List Fact) (set : RrSet) (sig : SigText) (key_link : ℕ) (key : List ℕ) : Type 0 where
+pub record Fits (earlier : List LinkValue) (set : RrSet) (sig : RrsigValue) (key_link : ℕ) (key : List ℕ) : Type 0 where
   pub whole : is_kept_whole set sig ≡ true
-  pub signer : signer_fits set.kind sig.signer set.owner ≡ true
-  pub comes : key_comes earlier set.owner set.class set.kind (rdatas_of set.records) sig.signer key_link key ≡ true
+  pub signer : signer_fits set.rtype sig.signer set.owner ≡ true
+  pub comes : key_comes earlier set.owner set.class set.rtype (rdatas_of set.records) sig.signer key_link key ≡ true
 
 and_six : (a b c d e f : Bool) → a ≡ true → b ≡ true → c ≡ true → d ≡ true → e ≡ true → f ≡ true → (a && (b && (c && (d && (e && f))))) ≡ true
 and_six a b c d e f p q r s t u = rw (p, q, r, s, t, u) refl
 
 -- the signed link of a proper set holds where the signature is good and the rest fits
-pub signed_holds : (j : Judge) (earlier : List Fact) (set : RrSet) (r key : Rr) (sig : SigText) (key_link : ℕ)
-    → IsProper set → sig_in r.rdata ≡ Some sig → is_good_by j set r key ≡ true → Fits earlier set sig key_link key.rdata
-    → link_holds j earlier (Signed set.owner set.class set.kind (rdatas_of set.records) r.rdata key_link key.rdata) ≡ true
+pub signed_holds : (j : Judge) (earlier : List LinkValue) (set : RrSet) (r key : Rr) (sig : RrsigValue) (key_link : ℕ)
+    → IsProper set → rrsig_in r.rdata ≡ Some sig → is_good_by j set r key ≡ true → Fits earlier set sig key_link key.rdata
+    → link_holds j earlier (Signed set.owner set.class set.rtype (rdatas_of set.records) r.rdata key_link key.rdata) ≡ true
 unfolding link_holds
 signed_holds j earlier set r key sig key_link proper is good fits =
     let rdatas = rdatas_of set.records in
     let text = good_parts j set r key sig is good in
     let of_set = of_set_parts set r sig text.of_set in
     let fit = labels_and_parent set sig fits.whole of_set.labels in
-    let signed : is_signed j earlier set.owner set.class set.kind rdatas key_link key.rdata (Some sig) ≡ true =
-    and_six (sig.covered == set.kind) (signer_fits set.kind sig.signer set.owner) (labels_fit set.kind sig.labels set.owner)
-    (parent_fits set.kind sig.signer set.owner) (is_good j set.owner set.class set.kind rdatas sig key.rdata (key_in key.rdata))
-    (key_comes earlier set.owner set.class set.kind rdatas sig.signer key_link key.rdata)
+    let signed : is_signed j earlier set.owner set.class set.rtype rdatas key_link key.rdata (Some sig) ≡ true =
+    and_six (sig.covered == set.rtype) (signer_fits set.rtype sig.signer set.owner) (labels_fit set.rtype sig.labels set.owner)
+    (parent_fits set.rtype sig.signer set.owner) (is_good j set.owner set.class set.rtype rdatas sig key.rdata (dnskey_in key.rdata))
+    (key_comes earlier set.owner set.class set.rtype rdatas sig.signer key_link key.rdata)
     of_set.covered fits.signer fit.0 fit.1 (good_in_link j set r key sig text) fits.comes in
-    let read : is_signed j earlier set.owner set.class set.kind rdatas key_link key.rdata (sig_in r.rdata) ≡ true =
-    ap (is_signed j earlier set.owner set.class set.kind rdatas key_link key.rdata) is ∙ signed in
-    and_from (not (set.kind == type_rrsig)) (is_listed rdatas && is_signed j earlier set.owner set.class set.kind rdatas key_link key.rdata (sig_in r.rdata))
+    let read : is_signed j earlier set.owner set.class set.rtype rdatas key_link key.rdata (rrsig_in r.rdata) ≡ true =
+    ap (is_signed j earlier set.owner set.class set.rtype rdatas key_link key.rdata) is ∙ signed in
+    and_from (not (set.rtype == type_rrsig)) (is_nonempty rdatas && is_signed j earlier set.owner set.class set.rtype rdatas key_link key.rdata (rrsig_in r.rdata))
     (ap not proper.plain)
-    (and_from (is_listed rdatas) (is_signed j earlier set.owner set.class set.kind rdatas key_link key.rdata (sig_in r.rdata)) proper.listed read)
+    (and_from (is_nonempty rdatas) (is_signed j earlier set.owner set.class set.rtype rdatas key_link key.rdata (rrsig_in r.rdata)) proper.listed read)

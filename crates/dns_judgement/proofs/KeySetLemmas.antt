@@ -7,10 +7,10 @@ use Rattle.std.proofs.lemmas.List.{append_assoc}
 use Rattle.dns_model.specs.declared.proof.Proof.TheVariants.{Secure, Bogus}
 use Rattle.dns_model.specs.Names.{Labels, name_eq, at_or_above}
 use Rattle.dns_model.specs.Types.{type_dnskey}
-use Rattle.dns_model.specs.Views.{SigText, sig_in, key_in}
+use Rattle.dns_model.specs.Views.{RrsigValue, rrsig_in, dnskey_in}
 use Rattle.dns_model.specs.Records.{Rr, RrSet}
-use Rattle.dns_model.specs.Chains.{Fact, Anchored, KeySet, Signed, Judge, all_shown, is_listed, has_bytes, rdatas_of, signer_fits, key_comes, shows_key, link_holds, links_hold, is_chain, justified, link_is_for}
-use Rattle.dns_model.specs.Answers.{Placed}
+use Rattle.dns_model.specs.Chains.{LinkValue, Anchored, KeySet, Signed, Judge, all_shown, is_nonempty, has_bytes, rdatas_of, signer_fits, key_comes, shows_key, link_holds, links_hold, is_chain, justified, link_is_for}
+use Rattle.dns_model.specs.SoundAnswers.{Placed}
 use Rattle.dns_model.proofs.EachLemmas.{each_both, find_known}
 use Rattle.dns_model.proofs.SetLemmas.{name_back, name_trans, number_same, is_of, IsProper}
 use Rattle.dns_model.proofs.ChainLemmas.{links_hold-append, is_chain-append, last_link-append, justified_extends, bytes_refl, each_member, signed_is_for, keys_are_for, anchor_shown, slice_get_at}
@@ -53,10 +53,10 @@ first_signed_at j set n (r ∷ rs) s h =
 
 -- a good signature can be read
 record IsRead (r : Rr) : Type 0 where
-  sig : SigText
-  is : sig_in r.rdata ≡ Some sig
+  sig : RrsigValue
+  is : rrsig_in r.rdata ≡ Some sig
 
-read_step : (j : Judge) (set : RrSet) (r key : Rr) (o : Option SigText) → sig_in r.rdata ≡ o
+read_step : (j : Judge) (set : RrSet) (r key : Rr) (o : Option RrsigValue) → rrsig_in r.rdata ≡ o
     → is_valid (sig_validity j.is_timely set r key o) ≡ true → IsRead r
 read_step j set r key None is h = cc
 read_step j set r key (Some sig) is h = record { sig = sig; is = is }
@@ -64,8 +64,8 @@ read_step j set r key (Some sig) is h = record { sig = sig; is = is }
 good_is_read : (j : Judge) (set : RrSet) (r key : Rr) → is_good_by j set r key ≡ true → IsRead r
 unfolding is_good_by validity
 good_is_read j set r key h =
-    read_step j set r key (sig_in r.rdata) refl
-    (and_parts (is_valid (sig_validity j.is_timely set r key (sig_in r.rdata))) (is_accepted j set (sig_in r.rdata) (key_in key.rdata)) h).0
+    read_step j set r key (rrsig_in r.rdata) refl
+    (and_parts (is_valid (sig_validity j.is_timely set r key (rrsig_in r.rdata))) (is_accepted j set (rrsig_in r.rdata) (dnskey_in key.rdata)) h).0
 
 -- ---- a key set signed by an anchored key of it
 
@@ -73,14 +73,14 @@ one_anchor : (j : Judge) (owner : Labels) (class : ℕ) (key : List ℕ) → j.i
 unfolding links_hold link_holds
 one_anchor j owner class key h = rw h refl
 
-signer_of_keys : (kind : ℕ) (signer owner : Labels) → (kind == type_dnskey) ≡ true → at_or_above signer owner ≡ true → signer_fits kind signer owner ≡ true
-signer_of_keys kind signer owner keys h = rw (number_same kind type_dnskey keys) h
+signer_of_keys : (rtype : ℕ) (signer owner : Labels) → (rtype == type_dnskey) ≡ true → at_or_above signer owner ≡ true → signer_fits rtype signer owner ≡ true
+signer_of_keys rtype signer owner keys h = rw (number_same rtype type_dnskey keys) h
 
 comes_of_keys : (keys owner member shown other : Bool) → keys ≡ true → owner ≡ true → member ≡ true → shown ≡ true
     → (if keys then owner && (member && shown) else other) ≡ true
 comes_of_keys keys owner member shown other k o m s = rw (k, o, m, s) refl
 
-self_signed : (j : Judge) (set : RrSet) (rs : List Rr) (s : SignedKeys) → IsProper set → (set.kind == type_dnskey) ≡ true → IsSignedAt j set rs 0 s
+self_signed : (j : Judge) (set : RrSet) (rs : List Rr) (s : SignedKeys) → IsProper set → (set.rtype == type_dnskey) ≡ true → IsSignedAt j set rs 0 s
     → IsChainFor j set (self_signed_chain set s) (Some s.signature)
 self_signed j set rs s proper keys at =
     let rdatas = rdatas_of set.records in
@@ -92,17 +92,17 @@ self_signed j set rs s proper keys at =
     let read = good_is_read j set s.signature s.key passes.1 in
     let good = good_parts j set s.signature s.key read.sig read.is passes.1 in
     let above = (of_set_parts set s.signature read.sig good.of_set).above in
-    let own = and_parts (name_eq set.owner s.key.owner) (set.kind == s.key.kind) found.known.1 in
+    let own = and_parts (name_eq set.owner s.key.owner) (set.rtype == s.key.rtype) found.known.1 in
     let owner : name_eq set.owner read.sig.signer ≡ true =
     name_trans set.owner s.key.owner read.sig.signer own.0 (name_back read.sig.signer s.key.owner (signer_is_owner j set s.signature s.key read.sig good)) in
     let anchor = Anchored set.owner set.class s.key.rdata in
-    let link = Signed set.owner set.class set.kind rdatas s.signature.rdata 0 s.key.rdata in
-    let comes : key_comes (anchor ∷ []) set.owner set.class set.kind rdatas read.sig.signer 0 s.key.rdata ≡ true =
-    comes_of_keys (set.kind == type_dnskey) (name_eq set.owner read.sig.signer) (has_bytes rdatas s.key.rdata)
+    let link = Signed set.owner set.class set.rtype rdatas s.signature.rdata 0 s.key.rdata in
+    let comes : key_comes (anchor ∷ []) set.owner set.class set.rtype rdatas read.sig.signer 0 s.key.rdata ≡ true =
+    comes_of_keys (set.rtype == type_dnskey) (name_eq set.owner read.sig.signer) (has_bytes rdatas s.key.rdata)
     (shows_key set.owner set.class s.key.rdata (Some anchor)) false keys owner found.known.0 (anchor_shown set.owner set.class s.key.rdata) in
     let fits : Fits (anchor ∷ []) set read.sig 0 s.key.rdata = record {
       whole = keys_kept_whole set read.sig keys;
-      signer = signer_of_keys set.kind read.sig.signer set.owner keys above;
+      signer = signer_of_keys set.rtype read.sig.signer set.owner keys above;
       comes = comes;
     } in
     let holds = signed_holds j (anchor ∷ []) set s.signature s.key read.sig 0 proper read.is passes.1 fits in
@@ -115,7 +115,7 @@ self_signed j set rs s proper keys at =
 
 -- ---- a wholly anchored key set
 
-anchors_hold : (j : Judge) (set : RrSet) (earlier : List Fact) (records : List Rr) → list_all (is_anchored_key j set) records ≡ true
+anchors_hold : (j : Judge) (set : RrSet) (earlier : List LinkValue) (records : List Rr) → list_all (is_anchored_key j set) records ≡ true
     → links_hold j earlier (map (Anchored set.owner set.class) (rdatas_of records)) ≡ true
 unfolding links_hold link_holds
 anchors_hold j set earlier [] h = refl
@@ -125,7 +125,7 @@ anchors_hold j set earlier (r ∷ rs) h =
     and_from (is_anchored_key j set r) (links_hold j next (map (Anchored set.owner set.class) (rdatas_of rs))) parts.0 (anchors_hold j set next rs parts.1)
 
 -- each key is shown by the link with its number
-keys_shown : (owner : Labels) (class : ℕ) (front : List Fact) (keys : List (List ℕ)) (n : ℕ) → n ≡ length front
+keys_shown : (owner : Labels) (class : ℕ) (front : List LinkValue) (keys : List (List ℕ)) (n : ℕ) → n ≡ length front
     → all_shown (front ++ map (Anchored owner class) keys) owner class keys (numbers_from n keys) ≡ true
 unfolding all_shown
 keys_shown owner class front [] n is = refl
@@ -141,7 +141,7 @@ keys_shown owner class front (key ∷ keys) n is =
     ∙ keys_shown owner class (front ++ anchor ∷ []) keys (n + 1) longer in
     and_from (shows_key owner class key (slice_get (front ++ anchor ∷ rest) n)) (all_shown (front ++ anchor ∷ rest) owner class keys (numbers_from (n + 1) keys)) here later
 
-anchored : (j : Judge) (set : RrSet) → IsProper set → (set.kind == type_dnskey) ≡ true → list_all (is_anchored_key j set) set.records ≡ true
+anchored : (j : Judge) (set : RrSet) → IsProper set → (set.rtype == type_dnskey) ≡ true → list_all (is_anchored_key j set) set.records ≡ true
     → IsChainFor j set (anchored_chain set) None
 unfolding link_holds
 anchored j set proper keys all =
@@ -150,7 +150,7 @@ anchored j set proper keys all =
     let numbers = numbers_from 0 rdatas in
     let link = KeySet set.owner set.class rdatas numbers in
     let holds : link_holds j anchors link ≡ true =
-    and_from (is_listed rdatas) (all_shown anchors set.owner set.class rdatas numbers) proper.listed (keys_shown set.owner set.class [] rdatas 0 refl) in
+    and_from (is_nonempty rdatas) (all_shown anchors set.owner set.class rdatas numbers) proper.listed (keys_shown set.owner set.class [] rdatas 0 refl) in
     let front = anchors_hold j set [] set.records all in
     let both : links_hold j [] (anchors ++ link ∷ []) ≡ true =
     links_hold-append j [] anchors link ∙ and_from (links_hold j [] anchors) (link_holds j anchors link) front holds in
@@ -171,7 +171,7 @@ unsigned_step j placed true h =
     stands_from j (record { section = placed.section; set = placed.set; mark = Secure; sig = None; chain = anchored_chain placed.set }) (h refl)
 unsigned_step j placed false h = refl
 
-keys_step : (j : Judge) (placed : Placed) (n : ℕ) (o : Option SignedKeys) → IsProper placed.set → (placed.set.kind == type_dnskey) ≡ true
+keys_step : (j : Judge) (placed : Placed) (n : ℕ) (o : Option SignedKeys) → IsProper placed.set → (placed.set.rtype == type_dnskey) ≡ true
     → first_signed j placed.set 0 (take n placed.set.signatures) ≡ o → stands j (keys_by j placed o) ≡ true
 keys_step j placed n None proper keys is =
     unsigned_step j placed (list_all (is_anchored_key j placed.set) placed.set.records) (anchored j placed.set proper keys)
@@ -184,7 +184,7 @@ keys_step j placed n (Some s) proper keys is =
     stands_from j (record { section = placed.section; set = placed.set; mark = Secure; sig = Some s.place; chain = self_signed_chain placed.set s }) (rw at chain)
 
 -- a proper key set that is judged stands
-pub judged_keys-stands : (j : Judge) (placed : Placed) → IsProper placed.set → (placed.set.kind == type_dnskey) ≡ true → stands j (judged_keys j placed) ≡ true
+pub judged_keys-stands : (j : Judge) (placed : Placed) → IsProper placed.set → (placed.set.rtype == type_dnskey) ≡ true → stands j (judged_keys j placed) ≡ true
 unfolding judged_keys
 judged_keys-stands j placed proper keys =
     keys_step j placed most_signatures (first_signed j placed.set 0 (take most_signatures placed.set.signatures)) proper keys refl

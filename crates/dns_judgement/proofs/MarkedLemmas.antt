@@ -10,14 +10,14 @@ use Rattle.dns_model.specs.Names.{Labels, name_eq}
 use Rattle.dns_model.specs.Types.{type_rrsig, type_dnskey}
 use Rattle.dns_model.specs.Records.{Rr, RrSet}
 use Rattle.dns_model.specs.Sections.{is_signature}
-use Rattle.dns_model.specs.Chains.{Fact, Anchored, Matched, KeySet, Signed, Judge, last_link, link_is_for, same_rdatas, rdatas_of}
-use Rattle.dns_model.specs.Answers.{Told, placed_sets, section_of, section_eq, is_secure, set_kind, covered_kind, chain_is_of, link_is_of, last_of, deciding_link}
-use Rattle.dns_model.specs.Views.{sig_in}
+use Rattle.dns_model.specs.Chains.{LinkValue, Anchored, Matched, KeySet, Signed, Judge, last_link, link_is_for, same_rdatas, rdatas_of}
+use Rattle.dns_model.specs.SoundAnswers.{Told, placed_sets, section_of, section_eq, is_secure, set_rtype, covered_rtype, chain_is_of, link_is_of, last_of, deciding_link}
+use Rattle.dns_model.specs.Views.{rrsig_in}
 use Rattle.dns_model.proofs.NameLemmas.{name_equiv}
 use Rattle.dns_model.proofs.EachLemmas.{each_more, each_both, each_filter, each_passes, each_unmap, find_agree_each, find-map, find-filter, Apart, apart_unmap}
 use Rattle.dns_model.proofs.SetLemmas.{name_back, name_trans, name_left, number_refl, number_same, number_back, section_refl, section_same, section_back, is_of, IsProper, BeginsIn, same_key, same_place, placed_apart, proper_placed, begins_placed, KeepsKey}
 use Rattle.dns_judgement.specs.Judged.{Judged, placed_of, decider, stands}
-use Rattle.dns_judgement.specs.Marking.{cleared, is_about, is_record, adjusted_by, adjusted_ttl, marked_by, marked, chain_text, chains_of}
+use Rattle.dns_judgement.specs.Marking.{cleared, is_about, is_record, adjusted_by, adjusted_ttl, marked_by, marked, chain_value, chains_of}
 use Rattle.dns_judgement.proofs.StandLemmas.{stands_parts}
 use Rattle.dns_judgement.proofs.RunLemmas.{AreJudged}
 
@@ -26,50 +26,50 @@ use Rattle.dns_judgement.proofs.RunLemmas.{AreJudged}
 -- the parts of a record that marking keeps
 record IsAlike (t r : Rr) : Type 0 where
   owner : r.owner ≡ t.owner
-  kind : r.kind ≡ t.kind
+  rtype : r.rtype ≡ t.rtype
   class : r.class ≡ t.class
   rdata : r.rdata ≡ t.rdata
 
-alike_step : (b : Bool) (r : Rr) (mark : Proof) (ttl : ℕ) → IsAlike r (if b then cleared r else record r { mark = mark; ttl = ttl })
-alike_step true r mark ttl = record { owner = refl; kind = refl; class = refl; rdata = refl }
-alike_step false r mark ttl = record { owner = refl; kind = refl; class = refl; rdata = refl }
+alike_step : (b : Bool) (r : Rr) (mark : Proof) (ttl : ℕ) → IsAlike r (if b then cleared r else record r { proof = mark; ttl = ttl })
+alike_step true r mark ttl = record { owner = refl; rtype = refl; class = refl; rdata = refl }
+alike_step false r mark ttl = record { owner = refl; rtype = refl; class = refl; rdata = refl }
 
 alike_by : (now : ℕ) (r : Rr) (o : Option Judged) → IsAlike r (marked_by now r o)
-alike_by now r None = record { owner = refl; kind = refl; class = refl; rdata = refl }
+alike_by now r None = record { owner = refl; rtype = refl; class = refl; rdata = refl }
 alike_by now r (Some s) = alike_step (is_signature r && not (is_record r (decider s))) r s.mark (adjusted_ttl now s r)
 
 pub marked-keeps : (now : ℕ) (ss : List Judged) (section : Section) → KeepsKey (marked now ss section)
 unfolding marked
 marked-keeps now ss section = record {
   owner = λ r. (alike_by now r (find (is_about section r) ss)).owner;
-  kind = λ r. (alike_by now r (find (is_about section r) ss)).kind;
+  rtype = λ r. (alike_by now r (find (is_about section r) ss)).rtype;
   class = λ r. (alike_by now r (find (is_about section r) ss)).class;
   rdata = λ r. (alike_by now r (find (is_about section r) ss)).rdata;
 }
 
 pub cleared-keeps : KeepsKey cleared
-cleared-keeps = record { owner = λ r. refl; kind = λ r. refl; class = λ r. refl; rdata = λ r. refl }
+cleared-keeps = record { owner = λ r. refl; rtype = λ r. refl; class = λ r. refl; rdata = λ r. refl }
 
 -- ---- the set that a record is about
 
 pub record IsAbout (section : Section) (r : Rr) (s : Judged) : Type 0 where
   pub section_is : s.section ≡ section
   pub owner : name_eq s.set.owner r.owner ≡ true
-  pub kind : s.set.kind ≡ set_kind r
+  pub rtype : s.set.rtype ≡ set_rtype r
 
 pub about_parts : (section : Section) (r : Rr) (s : Judged) → is_about section r s ≡ true → IsAbout section r s
 about_parts section r s h =
-    let one = and_parts (section_eq s.section section) (name_eq s.set.owner r.owner && (s.set.kind == set_kind r)) h in
-    let two = and_parts (name_eq s.set.owner r.owner) (s.set.kind == set_kind r) one.1 in
-    record { section_is = section_same s.section section one.0; owner = two.0; kind = number_same s.set.kind (set_kind r) two.1 }
+    let one = and_parts (section_eq s.section section) (name_eq s.set.owner r.owner && (s.set.rtype == set_rtype r)) h in
+    let two = and_parts (name_eq s.set.owner r.owner) (s.set.rtype == set_rtype r) one.1 in
+    record { section_is = section_same s.section section one.0; owner = two.0; rtype = number_same s.set.rtype (set_rtype r) two.1 }
 
 same_place_from : (section : Section) (r : Rr) (a b : Judged) → IsAbout section r a → IsAbout section r b → same_place (placed_of a) (placed_of b) ≡ true
 same_place_from section r a b p q =
     let sections : section_eq a.section b.section ≡ true = rw (p.section_is, q.section_is) (section_refl section) in
     let owners : name_eq a.set.owner b.set.owner ≡ true = name_trans a.set.owner r.owner b.set.owner p.owner (name_back b.set.owner r.owner q.owner) in
-    let kinds : (a.set.kind == b.set.kind) ≡ true = rw (p.kind, q.kind) (number_refl (set_kind r)) in
+    let kinds : (a.set.rtype == b.set.rtype) ≡ true = rw (p.rtype, q.rtype) (number_refl (set_rtype r)) in
     and_from (section_eq a.section b.section) (same_key a.set b.set) sections
-    (and_from (name_eq a.set.owner b.set.owner) (a.set.kind == b.set.kind) owners kinds)
+    (and_from (name_eq a.set.owner b.set.owner) (a.set.rtype == b.set.rtype) owners kinds)
 
 not_about : (section : Section) (r : Rr) (a b : Judged) → same_place (placed_of a) (placed_of b) ≡ false → is_about section r b ≡ true
     → is_about section r a ≡ false
@@ -124,35 +124,35 @@ each_known j told ss judged =
 -- ---- the records of a set
 
 -- the kind of a record that isn't a signature
-pub plain_kind : (r : Rr) → is_signature r ≡ false → set_kind r ≡ r.kind
-plain_kind r h = ap (λ b. cond b (covered_kind (sig_in r.rdata) r.kind) r.kind) h
+pub plain_rtype : (r : Rr) → is_signature r ≡ false → set_rtype r ≡ r.rtype
+plain_rtype r h = ap (λ b. cond b (covered_rtype (rrsig_in r.rdata) r.rtype) r.rtype) h
 
 pub record IsOwn (set : RrSet) (r : Rr) : Type 0 where
   pub owner : name_eq set.owner r.owner ≡ true
-  pub kind : set.kind ≡ r.kind
+  pub rtype : set.rtype ≡ r.rtype
   pub plain : is_signature r ≡ false
 
 pub own_from : (set : RrSet) (r : Rr) → IsProper set → is_of set r ≡ true → IsOwn set r
 own_from set r proper h =
-    let parts = and_parts (name_eq set.owner r.owner) (set.kind == r.kind) h in
-    let kind = number_same set.kind r.kind parts.1 in
-    record { owner = parts.0; kind = kind; plain = ap (λ n. n == type_rrsig) (sym kind) ∙ proper.plain }
+    let parts = and_parts (name_eq set.owner r.owner) (set.rtype == r.rtype) h in
+    let rtype = number_same set.rtype r.rtype parts.1 in
+    record { owner = parts.0; rtype = rtype; plain = ap (λ n. n == type_rrsig) (sym rtype) ∙ proper.plain }
 
 -- a set's own record is about it
 pub own_about : (s : Judged) (r : Rr) → IsOwn s.set r → is_about s.section r s ≡ true
 own_about s r own =
-    let kind : (s.set.kind == set_kind r) ≡ true =
-    ap (λ n. s.set.kind == n) (plain_kind r own.plain) ∙ ap (λ n. n == r.kind) own.kind ∙ number_refl r.kind in
-    and_from (section_eq s.section s.section) (name_eq s.set.owner r.owner && (s.set.kind == set_kind r)) (section_refl s.section)
-    (and_from (name_eq s.set.owner r.owner) (s.set.kind == set_kind r) own.owner kind)
+    let rtype : (s.set.rtype == set_rtype r) ≡ true =
+    ap (λ n. s.set.rtype == n) (plain_rtype r own.plain) ∙ ap (λ n. n == r.rtype) own.rtype ∙ number_refl r.rtype in
+    and_from (section_eq s.section s.section) (name_eq s.set.owner r.owner && (s.set.rtype == set_rtype r)) (section_refl s.section)
+    (and_from (name_eq s.set.owner r.owner) (s.set.rtype == set_rtype r) own.owner rtype)
 
 -- a set's own record as it is marked
 pub own_marked : (now : ℕ) (ss : List Judged) (s : Judged) (r : Rr) → IsFoundBy ss s → IsOwn s.set r
-    → marked now ss s.section r ≡ record r { mark = s.mark; ttl = adjusted_ttl now s r }
+    → marked now ss s.section r ≡ record r { proof = s.mark; ttl = adjusted_ttl now s r }
 unfolding marked
 own_marked now ss s r found own =
     ap (marked_by now r) (found.found s.section r (own_about s r own))
-    ∙ ap (λ b. if b && not (is_record r (decider s)) then cleared r else record r { mark = s.mark; ttl = adjusted_ttl now s r }) own.plain
+    ∙ ap (λ b. if b && not (is_record r (decider s)) then cleared r else record r { proof = s.mark; ttl = adjusted_ttl now s r }) own.plain
 
 -- ---- Secure records
 
@@ -162,88 +162,88 @@ pub record IsMadeSecure (now : ℕ) (ss : List Judged) (section : Section) (r : 
   pub found : find (is_about section r) ss ≡ Some set
   pub secure : is_secure set.mark ≡ true
   pub decides : (is_signature r && not (is_record r (decider set))) ≡ false
-  pub form : marked now ss section r ≡ record r { mark = set.mark; ttl = adjusted_by now set r (decider set) }
+  pub form : marked now ss section r ≡ record r { proof = set.mark; ttl = adjusted_by now set r (decider set) }
 
 record IsSecureForm (r : Rr) (b secure : Bool) (mark : Proof) (ttl : ℕ) : Type 0 where
   is_kept : b ≡ false
   is_secure_mark : secure ≡ true
-  form : (if b then cleared r else record r { mark = mark; ttl = if secure then ttl else r.ttl }) ≡ record r { mark = mark; ttl = ttl }
+  form : (if b then cleared r else record r { proof = mark; ttl = if secure then ttl else r.ttl }) ≡ record r { proof = mark; ttl = ttl }
 
 secure_form : (r : Rr) (b secure : Bool) (mark : Proof) (ttl : ℕ) → is_secure mark ≡ secure
-    → is_secure ((if b then cleared r else record r { mark = mark; ttl = if secure then ttl else r.ttl }).mark) ≡ true → IsSecureForm r b secure mark ttl
+    → is_secure ((if b then cleared r else record r { proof = mark; ttl = if secure then ttl else r.ttl }).proof) ≡ true → IsSecureForm r b secure mark ttl
 secure_form r true secure mark ttl is h = cc
 secure_form r false true mark ttl is h = record { is_kept = refl; is_secure_mark = refl; form = refl }
 secure_form r false false mark ttl is h = cc
 
 made_by : (now : ℕ) (ss : List Judged) (section : Section) (r : Rr) (o : Option Judged) → find (is_about section r) ss ≡ o
-    → marked now ss section r ≡ marked_by now r o → is_secure ((marked_by now r o).mark) ≡ true → IsMadeSecure now ss section r
+    → marked now ss section r ≡ marked_by now r o → is_secure ((marked_by now r o).proof) ≡ true → IsMadeSecure now ss section r
 made_by now ss section r None is form h = cc
 made_by now ss section r (Some s) is form h =
     let f = secure_form r (is_signature r && not (is_record r (decider s))) (is_secure s.mark) s.mark (adjusted_by now s r (decider s)) refl h in
     record { set = s; found = is; secure = f.is_secure_mark; decides = f.is_kept; form = form ∙ f.form }
 
-pub made_secure : (now : ℕ) (ss : List Judged) (section : Section) (r : Rr) → is_secure ((marked now ss section r).mark) ≡ true → IsMadeSecure now ss section r
+pub made_secure : (now : ℕ) (ss : List Judged) (section : Section) (r : Rr) → is_secure ((marked now ss section r).proof) ≡ true → IsMadeSecure now ss section r
 unfolding marked
 made_secure now ss section r h = made_by now ss section r (find (is_about section r) ss) refl refl h
 
 plain_form : (r : Rr) (b secure : Bool) (mark : Proof) (ttl : ℕ) → is_secure mark ≡ secure
-    → is_secure ((if b then cleared r else record r { mark = mark; ttl = if secure then ttl else r.ttl }).mark) ≡ false
-    → (if b then cleared r else record r { mark = mark; ttl = if secure then ttl else r.ttl }).ttl ≡ r.ttl
+    → is_secure ((if b then cleared r else record r { proof = mark; ttl = if secure then ttl else r.ttl }).proof) ≡ false
+    → (if b then cleared r else record r { proof = mark; ttl = if secure then ttl else r.ttl }).ttl ≡ r.ttl
 plain_form r true secure mark ttl is h = refl
 plain_form r false true mark ttl is h = cc
 plain_form r false false mark ttl is h = refl
 
-plain_by : (now : ℕ) (r : Rr) (o : Option Judged) → is_secure ((marked_by now r o).mark) ≡ false → (marked_by now r o).ttl ≡ r.ttl
+plain_by : (now : ℕ) (r : Rr) (o : Option Judged) → is_secure ((marked_by now r o).proof) ≡ false → (marked_by now r o).ttl ≡ r.ttl
 plain_by now r None h = refl
 plain_by now r (Some s) h =
     plain_form r (is_signature r && not (is_record r (decider s))) (is_secure s.mark) s.mark (adjusted_by now s r (decider s)) refl h
 
 -- the ttl of a record that isn't Secure stays
-pub plain_ttl : (now : ℕ) (ss : List Judged) (section : Section) (r : Rr) → is_secure ((marked now ss section r).mark) ≡ false
+pub plain_ttl : (now : ℕ) (ss : List Judged) (section : Section) (r : Rr) → is_secure ((marked now ss section r).proof) ≡ false
     → (marked now ss section r).ttl ≡ r.ttl
 unfolding marked
 plain_ttl now ss section r h = plain_by now r (find (is_about section r) ss) h
 
 -- ---- the chain of the set that a record is about
 
-agrees : (set : RrSet) (o owner : Labels) (k kind : ℕ) (rest : Bool) → ((set.kind == k) && (name_eq set.owner o && rest)) ≡ true
-    → (name_eq owner o && (kind == k)) ≡ (name_eq set.owner owner && (set.kind == kind))
-agrees set o owner k kind rest h =
-    let one = and_parts (set.kind == k) (name_eq set.owner o && rest) h in
+agrees : (set : RrSet) (o owner : Labels) (k rtype : ℕ) (rest : Bool) → ((set.rtype == k) && (name_eq set.owner o && rest)) ≡ true
+    → (name_eq owner o && (rtype == k)) ≡ (name_eq set.owner owner && (set.rtype == rtype))
+agrees set o owner k rtype rest h =
+    let one = and_parts (set.rtype == k) (name_eq set.owner o && rest) h in
     let two = and_parts (name_eq set.owner o) rest one.1 in
     let names : name_eq owner o ≡ name_eq set.owner owner = name_equiv.symm owner o ∙ sym (name_left set.owner o owner two.0) in
-    let kinds : (kind == k) ≡ (set.kind == kind) = number_back kind k ∙ ap (λ n. n == kind) (sym (number_same set.kind k one.0)) in
-    ap (λ b. b && (kind == k)) names ∙ ap (λ b. name_eq set.owner owner && b) kinds
+    let kinds : (rtype == k) ≡ (set.rtype == rtype) = number_back rtype k ∙ ap (λ n. n == rtype) (sym (number_same set.rtype k one.0)) in
+    ap (λ b. b && (rtype == k)) names ∙ ap (λ b. name_eq set.owner owner && b) kinds
 
 -- a link for a set is of the names and types that the set is of
-link_agrees : (set : RrSet) (link : Option Fact) (owner : Labels) (kind : ℕ) → link_is_for set link ≡ true
-    → link_is_of owner kind link ≡ (name_eq set.owner owner && (set.kind == kind))
-link_agrees set None owner kind h = cc
-link_agrees set (Some (Anchored o c key)) owner kind h = cc
-link_agrees set (Some (Matched o c key ds_link ds)) owner kind h = cc
-link_agrees set (Some (KeySet o c keys links)) owner kind h =
-    agrees set o owner type_dnskey kind ((set.class == c) && same_rdatas (rdatas_of set.records) keys) h
-link_agrees set (Some (Signed o c k rdatas sig key_link key)) owner kind h =
-    agrees set o owner k kind ((set.class == c) && same_rdatas (rdatas_of set.records) rdatas) h
+link_agrees : (set : RrSet) (link : Option LinkValue) (owner : Labels) (rtype : ℕ) → link_is_for set link ≡ true
+    → link_is_of owner rtype link ≡ (name_eq set.owner owner && (set.rtype == rtype))
+link_agrees set None owner rtype h = cc
+link_agrees set (Some (Anchored o c key)) owner rtype h = cc
+link_agrees set (Some (Matched o c key ds_link ds)) owner rtype h = cc
+link_agrees set (Some (KeySet o c keys links)) owner rtype h =
+    agrees set o owner type_dnskey rtype ((set.class == c) && same_rdatas (rdatas_of set.records) keys) h
+link_agrees set (Some (Signed o c k rdatas sig key_link key)) owner rtype h =
+    agrees set o owner k rtype ((set.class == c) && same_rdatas (rdatas_of set.records) rdatas) h
 
 -- a Secure set's chain is of a record exactly where the set is
 chain_agrees : (j : Judge) (told : Told) (ss : List Judged) (section : Section) (r : Rr) (s : Judged)
-    → (is_secure s.mark ≡ true) × IsKnown j told ss s → chain_is_of section r.owner (set_kind r) (chain_text s) ≡ is_about section r s
+    → (is_secure s.mark ≡ true) × IsKnown j told ss s → chain_is_of section r.owner (set_rtype r) (chain_value s) ≡ is_about section r s
 chain_agrees j told ss section r s h =
     let chain = stands_parts j s h.1.stand h.0 in
-    ap (λ b. b && link_is_of r.owner (set_kind r) (last_link s.chain)) (section_back section s.section)
-    ∙ ap (λ b. section_eq s.section section && b) (link_agrees s.set (last_link s.chain) r.owner (set_kind r) chain.ends)
+    ap (λ b. b && link_is_of r.owner (set_rtype r) (last_link s.chain)) (section_back section s.section)
+    ∙ ap (λ b. section_eq s.section section && b) (link_agrees s.set (last_link s.chain) r.owner (set_rtype r) chain.ends)
 
 -- the deciding link of a record that is about a Secure set is the last of that set's chain
 pub decided_link : (j : Judge) (told : Told) (ss : List Judged) (section : Section) (r : Rr) (s : Judged) → AllByRecursion (IsKnown j told ss) ss
     → find (is_about section r) ss ≡ Some s → is_secure s.mark ≡ true → deciding_link (chains_of ss) section r ≡ last_link s.chain
 decided_link j told ss section r s known found secure =
     let secures = λ (t : Judged). is_secure t.mark in
-    let test = chain_is_of section r.owner (set_kind r) in
+    let test = chain_is_of section r.owner (set_rtype r) in
     let Secures = λ (t : Judged). secures t ≡ true in
-    let each : AllByRecursion (λ t. test (chain_text t) ≡ is_about section r t) (filter secures ss) =
-    each_more (λ t. Secures t × IsKnown j told ss t) (λ t. test (chain_text t) ≡ is_about section r t) (chain_agrees j told ss section r) (filter secures ss)
+    let each : AllByRecursion (λ t. test (chain_value t) ≡ is_about section r t) (filter secures ss) =
+    each_more (λ t. Secures t × IsKnown j told ss t) (λ t. test (chain_value t) ≡ is_about section r t) (chain_agrees j told ss section r) (filter secures ss)
     (each_both Secures (IsKnown j told ss) (filter secures ss) (each_passes secures ss) (each_filter (IsKnown j told ss) secures ss known)) in
-    ap last_of (find-map test chain_text (filter secures ss)
-    ∙ ap (option_map chain_text) (find_agree_each (λ t. test (chain_text t)) (is_about section r) (filter secures ss) each
+    ap last_of (find-map test chain_value (filter secures ss)
+    ∙ ap (option_map chain_value) (find_agree_each (λ t. test (chain_value t)) (is_about section r) (filter secures ss) each
     ∙ find-filter (is_about section r) secures ss s found secure))

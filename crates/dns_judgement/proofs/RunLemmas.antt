@@ -6,13 +6,13 @@ use Rattle.dns_model.specs.declared.proof.Proof.TheVariants.{Secure, Bogus}
 use Rattle.dns_model.specs.Types.{type_dnskey}
 use Rattle.dns_model.specs.Records.{Rr, RrSet, Question}
 use Rattle.dns_model.specs.Chains.{Judge}
-use Rattle.dns_model.specs.Answers.{Told, Placed, placed_sets}
+use Rattle.dns_model.specs.SoundAnswers.{Told, Placed, placed_sets}
 use Rattle.dns_model.proofs.EachLemmas.{each_filter}
 use Rattle.dns_model.proofs.SetLemmas.{IsProper, proper_placed}
 use Rattle.dns_judgement.specs.Judged.{Judged, placed_of, stands}
 use Rattle.dns_judgement.specs.Marks.{Verdict, Proved, Excused, Failed, is_skipped, verdict_of, judged_by, most_signatures, is_anchored_key, SignedKeys, first_signed, anchored_chain, keys_by, judged_keys}
 use Rattle.dns_judgement.specs.Outcome.{Outcome, Unjudged, Accepted, Denied, outcome_of}
-use Rattle.dns_judgement.specs.Run.{is_judged_below, judged_part, accepted_sets, Aim, Sets, Signatures, Ask, Run, NoSet, Keys, Others, NoSignature, Skips, Asks, Proves, Refused, Fault, Foreign, Answers}
+use Rattle.dns_judgement.specs.Run.{is_judged_below, judged_part, accepted_sets, Aim, Sets, Signatures, Ask, Run, NoSet, Keys, Others, NoSignature, Skips, Asks, Proves, Refused, Fault, Foreign, Finishes}
 use Rattle.dns_judgement.proofs.StandLemmas.{IsGoodVerdict, AreGood, proof_is_chain, judged_by-stands}
 use Rattle.dns_judgement.proofs.KeySetLemmas.{judged_keys-stands}
 
@@ -37,7 +37,7 @@ IsGoodAnswer j (Some ss) = AllStand j ss
 -- what a walk shows of its aim, where its sets are proper
 abbrev pub IsGood : Judge → Aim → Type 0
 IsGood j (Sets q d ps ss) = AreProper ps → AreJudged j ps ss
-IsGood j (Signatures q d set rs vs) = IsProper set → (set.kind == type_dnskey) ≡ false → AreGood j set rs vs
+IsGood j (Signatures q d set rs vs) = IsProper set → (set.rtype == type_dnskey) ≡ false → AreGood j set rs vs
 IsGood j (Ask q d answer) = IsGoodAnswer j answer
 
 -- ---- the steps
@@ -70,7 +70,7 @@ judged_more j p ps s made ss is placed stand rest = record {
 }
 
 good_verdict : (j : Judge) (set : RrSet) (q : Question) (r : Rr) (answer : Option (List Judged)) (v : Verdict)
-    → IsProper set → (set.kind == type_dnskey) ≡ false → is_skipped q set r ≡ false → IsGoodAnswer j answer → v ≡ verdict_of j set r answer
+    → IsProper set → (set.rtype == type_dnskey) ≡ false → is_skipped q set r ≡ false → IsGoodAnswer j answer → v ≡ verdict_of j set r answer
     → IsGoodVerdict j set r v
 unfolding verdict_of
 good_verdict j set q r None (Proved chain) proper other asked good is = cc
@@ -86,9 +86,9 @@ ended j ss (Accepted denial) (Some ts) stand is =
     rw same at stand
 ended j ss (Denied proof) (Some ts) stand is = cc
 
-part_step : (top : Bool) (ps : List Placed) → AreProper ps → AreProper (if top then ps else filter (λ p. is_judged_below p.set.kind) ps)
+part_step : (top : Bool) (ps : List Placed) → AreProper ps → AreProper (if top then ps else filter (λ p. is_judged_below p.set.rtype) ps)
 part_step true ps h = h
-part_step false ps h = each_filter (λ p. IsProper p.set) (λ p. is_judged_below p.set.kind) ps h
+part_step false ps h = each_filter (λ p. IsProper p.set) (λ p. is_judged_below p.set.rtype) ps h
 
 -- the sets that are judged of a reply are proper
 pub proper_part : (depth : ℕ) (told : Told) → AreProper (judged_part depth told)
@@ -113,7 +113,7 @@ run_good j limit says (Proves q d e n k set r rs asked answer v kept is deeper a
 run_good j limit says (Refused q d n why) = tt
 run_good j limit says (Fault q d n m shallow few next said) = tt
 run_good j limit says (Foreign q d n m told shallow few next said foreign) = tt
-run_good j limit says (Answers q d n k m told ss answer shallow few next said own sets is) =
+run_good j limit says (Finishes q d n k m told ss answer shallow few next said own sets is) =
     ended j ss (outcome_of q told ss) answer ((run_good j limit says sets (proper_part d told)).stand) is
 
 -- the sets of a message, all or those that are judged at a depth, are judged in order, and stand
@@ -139,4 +139,4 @@ run_counts j limit says (Proves q d e n k set r rs asked answer v kept is deeper
 run_counts j limit says (Refused q d n why) = omega arith
 run_counts j limit says (Fault q d n m shallow few next said) = omega arith
 run_counts j limit says (Foreign q d n m told shallow few next said foreign) = omega arith
-run_counts j limit says (Answers q d n k m told ss answer shallow few next said own sets is) = omega (arith, run_counts j limit says sets)
+run_counts j limit says (Finishes q d n k m told ss answer shallow few next said own sets is) = omega (arith, run_counts j limit says sets)

@@ -8,16 +8,16 @@ use Rattle.dns_model.specs.declared.section.Section.{Section}
 use Rattle.dns_model.specs.declared.section.Section.TheVariants.{Answer, Authority, Additional}
 use Rattle.dns_model.specs.declared.denial.Denial.{Denial}
 use Rattle.dns_model.specs.Names.{Labels, name_eq}
-use Rattle.dns_model.specs.Views.{sig_in}
-use Rattle.dns_model.specs.Records.{Rr, RrSet, Question, MessageText}
+use Rattle.dns_model.specs.Views.{rrsig_in}
+use Rattle.dns_model.specs.Records.{Rr, RrSet, Question, MessageValue}
 use Rattle.dns_model.specs.Sections.{is_signature, sets_of}
-use Rattle.dns_model.specs.Chains.{Fact, Anchored, Matched, KeySet, Signed, Judge, last_link, is_listed, rdatas_of, link_is_for}
-use Rattle.dns_model.specs.Answers.{Told, told_by, Placed, place, placed_sets, section_of, is_secure, set_kind, first_mark, is_secure_set, HasOneMark, HaveOneMark, secure_sets, IsChainOf, AreChainsOf, deciding_link, ttl_of, first_ttl, signed_ttl, IsSecureTtl, IsKept, AreKept, Sound}
+use Rattle.dns_model.specs.Chains.{LinkValue, Anchored, Matched, KeySet, Signed, Judge, last_link, is_nonempty, rdatas_of, link_is_for}
+use Rattle.dns_model.specs.SoundAnswers.{Told, told_by, Placed, in_section, placed_sets, section_of, is_secure, set_rtype, first_mark, is_secure_set, HasOneMark, HaveOneMark, secure_sets, IsChainOf, AreChainsOf, deciding_link, ttl_of, first_ttl, signed_ttl, IsSecureTtl, IsKept, AreKept, Sound}
 use Rattle.dns_model.proofs.EachLemmas.{each_more, each_map, find_agree, find-map, find_known, map-map}
 use Rattle.dns_model.proofs.SetLemmas.{name_left, is_of, head_of, BeginsIn, KeepsKey, on_set, sets_of-map, rdatas_of-map, placed_each}
 use Rattle.dns_model.proofs.ChainLemmas.{bytes_same}
 use Rattle.dns_judgement.specs.Judged.{Judged, placed_of, decider, names_decider}
-use Rattle.dns_judgement.specs.Marking.{cleared, cleared_message, is_about, is_record, first_of, adjusted_by, adjusted_ttl, marked, marked_message, chain_text, chains_of, finished}
+use Rattle.dns_judgement.specs.Marking.{cleared, cleared_message, is_about, is_record, first_record, adjusted_by, adjusted_ttl, marked, marked_message, chain_value, chains_of, finished}
 use Rattle.dns_judgement.specs.Run.{Sets, Run}
 use Rattle.dns_judgement.proofs.StandLemmas.{stands_parts}
 use Rattle.dns_judgement.proofs.RunLemmas.{AreJudged, run_stands}
@@ -25,31 +25,31 @@ use Rattle.dns_judgement.proofs.MarkedLemmas.{marked-keeps, about_parts, IsKnown
 
 -- ---- the first record of a set
 
-first_is_head : (records : List Rr) → first_of records ≡ head_of records
+first_is_head : (records : List Rr) → first_record records ≡ head_of records
 first_is_head [] = refl
 first_is_head (r ∷ rs) = refl
 
-pub test_agrees : (set : RrSet) (owner : Labels) (kind : ℕ) → name_eq set.owner owner ≡ true → set.kind ≡ kind → (r : Rr)
-    → is_of set r ≡ (name_eq owner r.owner && (kind == r.kind))
-test_agrees set owner kind named kind_is r =
-    ap (λ b. b && (set.kind == r.kind)) (name_left set.owner owner r.owner named) ∙ ap (λ k. name_eq owner r.owner && (k == r.kind)) kind_is
+pub test_agrees : (set : RrSet) (owner : Labels) (rtype : ℕ) → name_eq set.owner owner ≡ true → set.rtype ≡ rtype → (r : Rr)
+    → is_of set r ≡ (name_eq owner r.owner && (rtype == r.rtype))
+test_agrees set owner rtype named rtype_is r =
+    ap (λ b. b && (set.rtype == r.rtype)) (name_left set.owner owner r.owner named) ∙ ap (λ k. name_eq owner r.owner && (k == r.rtype)) rtype_is
 
-first_is : (set : RrSet) (section : List Rr) (owner : Labels) (kind : ℕ) → BeginsIn section set → name_eq set.owner owner ≡ true → set.kind ≡ kind
-    → ttl_of (first_of set.records) ≡ first_ttl section owner kind
-first_is set section owner kind begins named kind_is =
+first_is : (set : RrSet) (section : List Rr) (owner : Labels) (rtype : ℕ) → BeginsIn section set → name_eq set.owner owner ≡ true → set.rtype ≡ rtype
+    → ttl_of (first_record set.records) ≡ first_ttl section owner rtype
+first_is set section owner rtype begins named rtype_is =
     ap ttl_of (first_is_head set.records ∙ begins.head
-    ∙ find_agree (is_of set) (λ r. name_eq owner r.owner && (kind == r.kind)) (test_agrees set owner kind named kind_is) section)
+    ∙ find_agree (is_of set) (λ r. name_eq owner r.owner && (rtype == r.rtype)) (test_agrees set owner rtype named rtype_is) section)
 
 ttl_of-cleared : (o : Option Rr) → ttl_of (option_map cleared o) ≡ ttl_of o
 ttl_of-cleared None = refl
 ttl_of-cleared (Some r) = refl
 
-first_ttl-cleared : (section : List Rr) (owner : Labels) (kind : ℕ) → first_ttl (map cleared section) owner kind ≡ first_ttl section owner kind
-first_ttl-cleared section owner kind =
-    let test = λ (r : Rr). name_eq owner r.owner && (kind == r.kind) in
+first_ttl-cleared : (section : List Rr) (owner : Labels) (rtype : ℕ) → first_ttl (map cleared section) owner rtype ≡ first_ttl section owner rtype
+first_ttl-cleared section owner rtype =
+    let test = λ (r : Rr). name_eq owner r.owner && (rtype == r.rtype) in
     ap ttl_of (find-map test cleared section) ∙ ttl_of-cleared (find test section)
 
-section_of-cleared : (m : MessageText) (section : Section) → section_of (told_by (cleared_message m)) section ≡ map cleared (section_of (told_by m) section)
+section_of-cleared : (m : MessageValue) (section : Section) → section_of (told_by (cleared_message m)) section ≡ map cleared (section_of (told_by m) section)
 section_of-cleared m Answer = refl
 section_of-cleared m Authority = refl
 section_of-cleared m Additional = refl
@@ -71,24 +71,24 @@ pub signature_is : (r d : Rr) (sig : List ℕ) → names_decider (Some (Signed r
 signature_is r d sig named decides is =
     sym (bytes_same d.rdata r.rdata (decides_from (is_signature r) (is_record r (Some d)) decides is)) ∙ sym (bytes_same sig d.rdata named)
 
-secure_by_link : (now : ℕ) (section : List Rr) (t r : Rr) (mark : Proof) (s : Judged) (link : Option Fact) (d : Option Rr) → names_decider link d ≡ true
-    → (is_signature r && not (is_record r d)) ≡ false → r.ttl ≡ t.ttl → ttl_of (first_of s.set.records) ≡ first_ttl section r.owner (set_kind r)
-    → IsSecureTtl now section t (record r { mark = mark; ttl = adjusted_by now s r d }) link
+secure_by_link : (now : ℕ) (section : List Rr) (t r : Rr) (mark : Proof) (s : Judged) (link : Option LinkValue) (d : Option Rr) → names_decider link d ≡ true
+    → (is_signature r && not (is_record r d)) ≡ false → r.ttl ≡ t.ttl → ttl_of (first_record s.set.records) ≡ first_ttl section r.owner (set_rtype r)
+    → IsSecureTtl now section t (record r { proof = mark; ttl = adjusted_by now s r d }) link
 secure_by_link now section t r mark s None d named decides kept first = cc
 secure_by_link now section t r mark s (Some (Anchored owner class key)) d named decides kept first = cc
 secure_by_link now section t r mark s (Some (Matched owner class key ds_link ds)) d named decides kept first = cc
 secure_by_link now section t r mark s (Some (KeySet owner class keys links)) None named decides kept first = (plain_from (is_signature r) decides, kept)
 secure_by_link now section t r mark s (Some (KeySet owner class keys links)) (Some d) named decides kept first = cc
-secure_by_link now section t r mark s (Some (Signed owner class kind rdatas sig key_link key)) None named decides kept first = cc
-secure_by_link now section t r mark s (Some (Signed owner class kind rdatas sig key_link key)) (Some d) named decides kept first = (
+secure_by_link now section t r mark s (Some (Signed owner class rtype rdatas sig key_link key)) None named decides kept first = cc
+secure_by_link now section t r mark s (Some (Signed owner class rtype rdatas sig key_link key)) (Some d) named decides kept first = (
   signature_is r d sig named decides,
-  ap (λ n. min n (signed_ttl (sig_in d.rdata) now)) first
-      ∙ ap (λ bytes. min (first_ttl section r.owner (set_kind r)) (signed_ttl (sig_in bytes) now)) (sym (bytes_same sig d.rdata named)),
+  ap (λ n. min n (signed_ttl (rrsig_in d.rdata) now)) first
+      ∙ ap (λ bytes. min (first_ttl section r.owner (set_rtype r)) (signed_ttl (rrsig_in bytes) now)) (sym (bytes_same sig d.rdata named)),
 )
 
 -- ---- the records that were told
 
-kept_one : (j : Judge) (now : ℕ) (m : MessageText) (ss : List Judged) (section : Section)
+kept_one : (j : Judge) (now : ℕ) (m : MessageValue) (ss : List Judged) (section : Section)
     → AllByRecursion (IsKnown j (told_by (cleared_message m)) ss) ss → (t : Rr)
     → IsKept now (chains_of ss) section (section_of (told_by m) section) t (marked now ss section (cleared t))
 kept_one j now m ss section known t =
@@ -98,7 +98,7 @@ kept_one j now m ss section known t =
     let r = cleared t in
     record {
       owner = keeps.owner r;
-      kind = keeps.kind r;
+      rtype = keeps.rtype r;
       class = keeps.class r;
       rdata = keeps.rdata r;
       plain = plain_ttl now ss section r;
@@ -110,11 +110,11 @@ kept_one j now m ss section known t =
           let chain = stands_parts j s found.known.stand made.secure in
           let begins : BeginsIn (map cleared section_told) s.set =
           subst (λ xs. BeginsIn xs s.set) (ap (section_of told) about.section_is ∙ section_of-cleared m section) found.known.begins in
-          let first : ttl_of (first_of s.set.records) ≡ first_ttl section_told r.owner (set_kind r) =
-          first_is s.set (map cleared section_told) r.owner (set_kind r) begins about.owner about.kind ∙ first_ttl-cleared section_told r.owner (set_kind r) in
+          let first : ttl_of (first_record s.set.records) ≡ first_ttl section_told r.owner (set_rtype r) =
+          first_is s.set (map cleared section_told) r.owner (set_rtype r) begins about.owner about.rtype ∙ first_ttl-cleared section_told r.owner (set_rtype r) in
           let by_link = secure_by_link now section_told t r s.mark s (last_link s.chain) (decider s) chain.named made.decides refl first in
           let decided = decided_link j told ss section r s known made.found made.secure in
-          let made_record : Rr = record r { mark = s.mark; ttl = adjusted_by now s r (decider s) } in
+          let made_record : Rr = record r { proof = s.mark; ttl = adjusted_by now s r (decider s) } in
           subst (λ x. IsSecureTtl now section_told t x (deciding_link (chains_of ss) section x)) (sym made.form)
           (subst (λ l. IsSecureTtl now section_told t made_record l) (sym decided) by_link);
     }
@@ -123,7 +123,7 @@ kept_all : (Kept : Rr → Rr → Type 0) (f : Rr → Rr) (ts : List Rr) → ((t 
 kept_all Kept f [] h = tt
 kept_all Kept f (t ∷ ts) h = (h t, kept_all Kept f ts h)
 
-kept : (j : Judge) (now : ℕ) (m : MessageText) (ss : List Judged) (section : Section)
+kept : (j : Judge) (now : ℕ) (m : MessageValue) (ss : List Judged) (section : Section)
     → AllByRecursion (IsKnown j (told_by (cleared_message m)) ss) ss
     → AreKept (IsKept now (chains_of ss) section (section_of (told_by m) section)) (section_of (told_by m) section)
     (map (marked now ss section) (map cleared (section_of (told_by m) section)))
@@ -136,22 +136,22 @@ kept j now m ss section known =
 -- ---- the marks of sets
 
 pub own_marks : (j : Judge) (now : ℕ) (told : Told) (ss : List Judged) (s : Judged) → IsKnown j told ss s
-    → AllByRecursion (λ r. marked now ss s.section r ≡ record r { mark = s.mark; ttl = adjusted_ttl now s r }) s.set.records
+    → AllByRecursion (λ r. marked now ss s.section r ≡ record r { proof = s.mark; ttl = adjusted_ttl now s r }) s.set.records
 own_marks j now told ss s known =
-    each_more (λ r. is_of s.set r ≡ true) (λ r. marked now ss s.section r ≡ record r { mark = s.mark; ttl = adjusted_ttl now s r })
+    each_more (λ r. is_of s.set r ≡ true) (λ r. marked now ss s.section r ≡ record r { proof = s.mark; ttl = adjusted_ttl now s r })
     (λ r h. own_marked now ss s r known.found (own_from s.set r known.proper h)) s.set.records known.proper.own
 
-one_mark : (f : Rr → Rr) (mark : Proof) (records : List Rr) → AllByRecursion (λ r. (f r).mark ≡ mark) records
-    → AllByRecursion (λ r. r.mark ≡ first_mark (map f records)) (map f records)
+one_mark : (f : Rr → Rr) (mark : Proof) (records : List Rr) → AllByRecursion (λ r. (f r).proof ≡ mark) records
+    → AllByRecursion (λ r. r.proof ≡ first_mark (map f records)) (map f records)
 one_mark f mark [] h = tt
 one_mark f mark (x ∷ xs) h =
-    (refl, each_map (λ r. r.mark ≡ (f x).mark) f xs (each_more (λ r. (f r).mark ≡ mark) (λ r. (f r).mark ≡ (f x).mark) (λ r e. e ∙ sym h.0) xs h.1))
+    (refl, each_map (λ r. r.proof ≡ (f x).proof) f xs (each_more (λ r. (f r).proof ≡ mark) (λ r. (f r).proof ≡ (f x).proof) (λ r e. e ∙ sym h.0) xs h.1))
 
 set_has_one : (j : Judge) (now : ℕ) (told : Told) (ss : List Judged) (s : Judged) → IsKnown j told ss s → HasOneMark (on_set (marked now ss s.section) s.set)
 set_has_one j now told ss s known =
     let f = marked now ss s.section in
     one_mark f s.mark s.set.records
-    (each_more (λ r. f r ≡ record r { mark = s.mark; ttl = adjusted_ttl now s r }) (λ r. (f r).mark ≡ s.mark) (λ r e. ap (λ x. x.mark) e) s.set.records
+    (each_more (λ r. f r ≡ record r { proof = s.mark; ttl = adjusted_ttl now s r }) (λ r. (f r).proof ≡ s.mark) (λ r e. ap (λ x. x.proof) e) s.set.records
     (own_marks j now told ss s known))
 
 pub have_one : (j : Judge) (now : ℕ) (told : Told) (ss : List Judged) (section : Section) → AreJudged j (placed_sets told) ss
@@ -169,41 +169,41 @@ have_one j now told ss section judged known =
 
 -- a set with its records marked
 abbrev on_placed : ℕ → List Judged → Placed → Placed
-on_placed now ss p = place p.section (on_set (marked now ss p.section) p.set)
+on_placed now ss p = in_section p.section (on_set (marked now ss p.section) p.set)
 
 placed_part : (now : ℕ) (ss : List Judged) (section : Section) (records : List Rr)
-    → map (place section) (sets_of (map (marked now ss section) records)) ≡ map (on_placed now ss) (map (place section) (sets_of records))
+    → map (in_section section) (sets_of (map (marked now ss section) records)) ≡ map (on_placed now ss) (map (in_section section) (sets_of records))
 placed_part now ss section records =
     let f = marked now ss section in
-    ap (map (place section)) (sets_of-map f (marked-keeps now ss section) records) ∙ map-map (place section) (on_set f) (sets_of records)
-    ∙ sym (map-map (on_placed now ss) (place section) (sets_of records))
+    ap (map (in_section section)) (sets_of-map f (marked-keeps now ss section) records) ∙ map-map (in_section section) (on_set f) (sets_of records)
+    ∙ sym (map-map (on_placed now ss) (in_section section) (sets_of records))
 
-placed_marked : (now : ℕ) (ss : List Judged) (m : MessageText) → placed_sets (told_by (marked_message now ss m)) ≡ map (on_placed now ss) (placed_sets (told_by m))
+placed_marked : (now : ℕ) (ss : List Judged) (m : MessageValue) → placed_sets (told_by (marked_message now ss m)) ≡ map (on_placed now ss) (placed_sets (told_by m))
 placed_marked now ss m =
-    let one = map (place Answer) (sets_of m.answers) in
-    let two = map (place Authority) (sets_of m.authorities) in
-    let three = map (place Additional) (sets_of m.additionals) in
+    let one = map (in_section Answer) (sets_of m.answers) in
+    let two = map (in_section Authority) (sets_of m.authorities) in
+    let three = map (in_section Additional) (sets_of m.additionals) in
     let f = on_placed now ss in
-    ap (λ xs. xs ++ map (place Authority) (sets_of (map (marked now ss Authority) m.authorities)) ++ map (place Additional) (sets_of (map (marked now ss Additional) m.additionals)))
+    ap (λ xs. xs ++ map (in_section Authority) (sets_of (map (marked now ss Authority) m.authorities)) ++ map (in_section Additional) (sets_of (map (marked now ss Additional) m.additionals)))
     (placed_part now ss Answer m.answers)
-    ∙ ap (λ xs. map f one ++ xs ++ map (place Additional) (sets_of (map (marked now ss Additional) m.additionals))) (placed_part now ss Authority m.authorities)
+    ∙ ap (λ xs. map f one ++ xs ++ map (in_section Additional) (sets_of (map (marked now ss Additional) m.additionals))) (placed_part now ss Authority m.authorities)
     ∙ ap (λ xs. map f one ++ map f two ++ xs) (placed_part now ss Additional m.additionals)
     ∙ ap (λ xs. xs ++ map f three) (sym (map-append f one two)) ∙ sym (map-append f (one ++ two) three)
 
-first_marked : (f : Rr → Rr) (mark : Proof) (records : List Rr) → is_listed (rdatas_of records) ≡ true → AllByRecursion (λ r. (f r).mark ≡ mark) records
+first_marked : (f : Rr → Rr) (mark : Proof) (records : List Rr) → is_nonempty (rdatas_of records) ≡ true → AllByRecursion (λ r. (f r).proof ≡ mark) records
     → first_mark (map f records) ≡ mark
 first_marked f mark [] listed h = cc
 first_marked f mark (x ∷ xs) listed h = h.0
 
-link_is_for-kept : (f : Rr → Rr) → KeepsKey f → (set : RrSet) (link : Option Fact) → link_is_for (on_set f set) link ≡ link_is_for set link
+link_is_for-kept : (f : Rr → Rr) → KeepsKey f → (set : RrSet) (link : Option LinkValue) → link_is_for (on_set f set) link ≡ link_is_for set link
 link_is_for-kept f keeps set None = refl
 link_is_for-kept f keeps set (Some (Anchored owner class key)) = refl
 link_is_for-kept f keeps set (Some (Matched owner class key ds_link ds)) = refl
 link_is_for-kept f keeps set (Some (KeySet owner class keys links)) = rw (rdatas_of-map f keeps set.records) refl
-link_is_for-kept f keeps set (Some (Signed owner class kind rdatas sig key_link key)) = rw (rdatas_of-map f keeps set.records) refl
+link_is_for-kept f keeps set (Some (Signed owner class rtype rdatas sig key_link key)) = rw (rdatas_of-map f keeps set.records) refl
 
-chain_step : (j : Judge) (b c : Bool) (s : Judged) (ss : List Judged) (p : Placed) (ps : List Placed) → c ≡ b → (b ≡ true → IsChainOf j (chain_text s) p)
-    → AreChainsOf j (map chain_text ss) ps → AreChainsOf j (map chain_text (cond b (s ∷ ss) ss)) (cond c (p ∷ ps) ps)
+chain_step : (j : Judge) (b c : Bool) (s : Judged) (ss : List Judged) (p : Placed) (ps : List Placed) → c ≡ b → (b ≡ true → IsChainOf j (chain_value s) p)
+    → AreChainsOf j (map chain_value ss) ps → AreChainsOf j (map chain_value (cond b (s ∷ ss) ss)) (cond c (p ∷ ps) ps)
 chain_step j true true s ss p ps same one rest = (one refl, rest)
 chain_step j true false s ss p ps same one rest = cc
 chain_step j false true s ss p ps same one rest = cc
@@ -214,8 +214,8 @@ chains_hold : (j : Judge) (now : ℕ) (told : Told) (ss ts : List Judged) → Al
 chains_hold j now told ss [] known = tt
 chains_hold j now told ss (s ∷ ts) known =
     let f = marked now ss s.section in
-    let marks : AllByRecursion (λ r. (f r).mark ≡ s.mark) s.set.records =
-    each_more (λ r. f r ≡ record r { mark = s.mark; ttl = adjusted_ttl now s r }) (λ r. (f r).mark ≡ s.mark) (λ r e. ap (λ x. x.mark) e) s.set.records
+    let marks : AllByRecursion (λ r. (f r).proof ≡ s.mark) s.set.records =
+    each_more (λ r. f r ≡ record r { proof = s.mark; ttl = adjusted_ttl now s r }) (λ r. (f r).proof ≡ s.mark) (λ r e. ap (λ x. x.proof) e) s.set.records
     (own_marks j now told ss s known.0) in
     let p = on_placed now ss (placed_of s) in
     let same : is_secure_set p.set ≡ is_secure s.mark = ap is_secure (first_marked f s.mark s.set.records known.0.proper.listed marks) in
@@ -229,7 +229,7 @@ chains_hold j now told ss (s ∷ ts) known =
     })
     (chains_hold j now told ss ts known.1)
 
-pub chains : (j : Judge) (now : ℕ) (m : MessageText) (ss : List Judged) → AreJudged j (placed_sets (told_by m)) ss → AllByRecursion (IsKnown j (told_by m) ss) ss
+pub chains : (j : Judge) (now : ℕ) (m : MessageValue) (ss : List Judged) → AreJudged j (placed_sets (told_by m)) ss → AllByRecursion (IsKnown j (told_by m) ss) ss
     → AreChainsOf j (chains_of ss) (secure_sets (told_by (marked_message now ss m)))
 chains j now m ss judged known =
     subst (λ ps. AreChainsOf j (chains_of ss) (filter (λ p. is_secure_set p.set) ps))
@@ -238,7 +238,7 @@ chains j now m ss judged known =
 -- ---- the answer
 
 -- sets of a message that stand, each record's mark aside, make its answer sound
-pub sound_of_review : (j : Judge) (now : ℕ) (m : MessageText) (ss : List Judged) (denial : Denial)
+pub sound_of_review : (j : Judge) (now : ℕ) (m : MessageValue) (ss : List Judged) (denial : Denial)
     → AreJudged j (placed_sets (told_by (cleared_message m))) ss → Sound j now (told_by m) (finished now ss (cleared_message m) denial)
 sound_of_review j now m ss denial judged =
     let told = told_by (cleared_message m) in
@@ -255,7 +255,7 @@ sound_of_review j now m ss denial judged =
     }
 
 -- a walk over all the sets of a message makes its answer sound
-pub sound_of_walk : (j : Judge) (limit now : ℕ) (says : Question → Option Told → Type 0) (q : Question) (depth before after : ℕ) (m : MessageText) (ss : List Judged) (denial : Denial)
+pub sound_of_walk : (j : Judge) (limit now : ℕ) (says : Question → Option Told → Type 0) (q : Question) (depth before after : ℕ) (m : MessageValue) (ss : List Judged) (denial : Denial)
     → Run j limit says before (Sets q depth (placed_sets (told_by (cleared_message m))) ss) after
     → Sound j now (told_by m) (finished now ss (cleared_message m) denial)
 sound_of_walk j limit now says q depth before after m ss denial run =

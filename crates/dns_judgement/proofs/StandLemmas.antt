@@ -9,22 +9,22 @@ use Rattle.dns_model.specs.declared.proof.Proof.TheVariants.{Secure, Insecure, B
 use Rattle.dns_model.specs.declared.section.Section.TheVariants.{Answer}
 use Rattle.dns_model.specs.Names.{Labels, name_eq}
 use Rattle.dns_model.specs.Types.{type_dnskey}
-use Rattle.dns_model.specs.Views.{SigText, sig_in}
+use Rattle.dns_model.specs.Views.{RrsigValue, rrsig_in}
 use Rattle.dns_model.specs.Records.{Rr, RrSet, Question, question_eq}
-use Rattle.dns_model.specs.Chains.{Fact, Signed, Judge, has_bytes, rdatas_of, signer_fits, key_comes, shows_key, shows_member, justified, last_link, ends_at, link_is_for}
-use Rattle.dns_model.specs.Answers.{Placed, is_secure, section_eq}
+use Rattle.dns_model.specs.Chains.{LinkValue, Signed, Judge, has_bytes, rdatas_of, signer_fits, key_comes, shows_key, shows_member, justified, last_link, ends_at, link_is_for}
+use Rattle.dns_model.specs.SoundAnswers.{Placed, is_secure, section_eq}
 use Rattle.dns_model.proofs.EachLemmas.{each_filter, find_known}
 use Rattle.dns_model.proofs.SetLemmas.{IsProper}
 use Rattle.dns_model.proofs.ChainLemmas.{last_link-append, slice_get-last, justified_extends, bytes_refl, each_member, member_shown, signed_is_for}
 use Rattle.dns_judgement.specs.Validity.{is_good_by}
 use Rattle.dns_judgement.specs.Judged.{Judged, decider, names_decider, stands}
-use Rattle.dns_judgement.specs.Marks.{is_skipped, is_skipped_text, key_question, first_two, counted_keys, is_readable_key, same_tag, is_key_set_of, Verdict, Proved, Excused, Failed, is_proved, is_excused, signed_chain, by_secure_key, by_insecure_key, by_keys, by_key_set, is_kept_whole, verdict_by, verdict_of, mark_at, proved_chain, judged_by}
+use Rattle.dns_judgement.specs.Marks.{is_skipped, is_skipped_read, key_question, first_two, counted_keys, is_readable_key, same_tag, is_key_set_of, Verdict, Proved, Excused, Failed, is_proved, is_excused, signed_chain, by_secure_key, by_insecure_key, by_keys, by_key_set, is_kept_whole, verdict_by, verdict_of, mark_at, proved_chain, judged_by}
 use Rattle.dns_judgement.proofs.GoodLemmas.{Fits, signed_holds}
 
 -- ---- a chain for a set
 
 -- a justified chain that ends at a set and names a signature
-pub record IsChainFor (j : Judge) (set : RrSet) (chain : List Fact) (signature : Option Rr) : Type 0 where
+pub record IsChainFor (j : Judge) (set : RrSet) (chain : List LinkValue) (signature : Option Rr) : Type 0 where
   pub held : justified j chain ≡ true
   pub ends : ends_at chain set ≡ true
   pub named : names_decider (last_link chain) signature ≡ true
@@ -53,48 +53,48 @@ stands_from j s h =
 -- ---- the verdict of one signature
 
 -- what a proof by one signature was made of
-pub record IsProof (j : Judge) (set : RrSet) (r : Rr) (answer : List Judged) (chain : List Fact) : Type 0 where
-  pub sig : SigText
+pub record IsProof (j : Judge) (set : RrSet) (r : Rr) (answer : List Judged) (chain : List LinkValue) : Type 0 where
+  pub sig : RrsigValue
   pub keys : Judged
   pub key : Rr
-  pub read : sig_in r.rdata ≡ Some sig
+  pub read : rrsig_in r.rdata ≡ Some sig
   pub whole : is_kept_whole set sig ≡ true
   pub found : find (is_key_set_of set.class sig.signer) answer ≡ Some keys
   pub secure : is_secure keys.mark ≡ true
   pub good : find (is_good_by j set r) (counted_keys keys.set.records) ≡ Some key
   pub chain_is : chain ≡ signed_chain set r keys.chain key
 
-record ByKey (set : RrSet) (r : Rr) (before : List Fact) (o : Option Rr) (chain : List Fact) : Type 0 where
+record ByKey (set : RrSet) (r : Rr) (before : List LinkValue) (o : Option Rr) (chain : List LinkValue) : Type 0 where
   key : Rr
   is : o ≡ Some key
   chain_is : chain ≡ signed_chain set r before key
 
-proved_by : (set : RrSet) (r : Rr) (before : List Fact) (o : Option Rr) (chain : List Fact) → by_secure_key set r before o ≡ Proved chain
+proved_by : (set : RrSet) (r : Rr) (before : List LinkValue) (o : Option Rr) (chain : List LinkValue) → by_secure_key set r before o ≡ Proved chain
     → ByKey set r before o chain
 proved_by set r before None chain h = cc
 proved_by set r before (Some key) chain h = record { key = key; is = refl; chain_is = cc }
 
-excused_only : (keys : List Rr) (chain : List Fact) → by_insecure_key keys ≡ Proved chain → ⊥
+excused_only : (keys : List Rr) (chain : List LinkValue) → by_insecure_key keys ≡ Proved chain → ⊥
 excused_only [] chain h = cc
 excused_only (key ∷ keys) chain h = cc
 
-record ByMark (j : Judge) (set : RrSet) (r : Rr) (before : List Fact) (mark : Proof) (keys : List Rr) (chain : List Fact) : Type 0 where
+record ByMark (j : Judge) (set : RrSet) (r : Rr) (before : List LinkValue) (mark : Proof) (keys : List Rr) (chain : List LinkValue) : Type 0 where
   secure : is_secure mark ≡ true
   by : ByKey set r before (find (is_good_by j set r) keys) chain
 
-proved_mark : (j : Judge) (set : RrSet) (r : Rr) (before : List Fact) (mark : Proof) (keys : List Rr) (chain : List Fact)
+proved_mark : (j : Judge) (set : RrSet) (r : Rr) (before : List LinkValue) (mark : Proof) (keys : List Rr) (chain : List LinkValue)
     → by_keys j set r before mark keys ≡ Proved chain → ByMark j set r before mark keys chain
 proved_mark j set r before Secure keys chain h = record { secure = refl; by = proved_by set r before (find (is_good_by j set r) keys) chain h }
 proved_mark j set r before Insecure keys chain h = absurd (excused_only keys chain h)
 proved_mark j set r before Bogus keys chain h = cc
 proved_mark j set r before Indeterminate keys chain h = cc
 
-record ByKeySet (j : Judge) (set : RrSet) (r : Rr) (o : Option Judged) (chain : List Fact) : Type 0 where
+record ByKeySet (j : Judge) (set : RrSet) (r : Rr) (o : Option Judged) (chain : List LinkValue) : Type 0 where
   keys : Judged
   is : o ≡ Some keys
   by : ByMark j set r keys.chain keys.mark (counted_keys keys.set.records) chain
 
-proved_set : (j : Judge) (set : RrSet) (r : Rr) (o : Option Judged) (chain : List Fact) → by_key_set j set r o ≡ Proved chain → ByKeySet j set r o chain
+proved_set : (j : Judge) (set : RrSet) (r : Rr) (o : Option Judged) (chain : List LinkValue) → by_key_set j set r o ≡ Proved chain → ByKeySet j set r o chain
 proved_set j set r None chain h = cc
 proved_set j set r (Some keys) chain h = record {
   keys = keys;
@@ -102,14 +102,14 @@ proved_set j set r (Some keys) chain h = record {
   by = proved_mark j set r keys.chain keys.mark (counted_keys keys.set.records) chain h;
 }
 
-whole_step : (whole : Bool) (v : Verdict) (chain : List Fact) → (if whole then v else Failed) ≡ Proved chain → (whole ≡ true) × (v ≡ Proved chain)
+whole_step : (whole : Bool) (v : Verdict) (chain : List LinkValue) → (if whole then v else Failed) ≡ Proved chain → (whole ≡ true) × (v ≡ Proved chain)
 whole_step true v chain h = (refl, h)
 whole_step false v chain h = cc
 
-proved_text : (j : Judge) (set : RrSet) (r : Rr) (answer : List Judged) (o : Option SigText) (chain : List Fact) → sig_in r.rdata ≡ o
+proved_read : (j : Judge) (set : RrSet) (r : Rr) (answer : List Judged) (o : Option RrsigValue) (chain : List LinkValue) → rrsig_in r.rdata ≡ o
     → verdict_by j set r answer o ≡ Proved chain → IsProof j set r answer chain
-proved_text j set r answer None chain is h = cc
-proved_text j set r answer (Some sig) chain is h =
+proved_read j set r answer None chain is h = cc
+proved_read j set r answer (Some sig) chain is h =
     let found = find (is_key_set_of set.class sig.signer) answer in
     let parts = whole_step (is_kept_whole set sig) (by_key_set j set r found) chain h in
     let by = proved_set j set r found chain parts.1 in
@@ -125,23 +125,23 @@ proved_text j set r answer (Some sig) chain is h =
       chain_is = by.by.by.chain_is;
     }
 
-pub proved_parts : (j : Judge) (set : RrSet) (r : Rr) (answer : List Judged) (chain : List Fact) → verdict_of j set r (Some answer) ≡ Proved chain
+pub proved_parts : (j : Judge) (set : RrSet) (r : Rr) (answer : List Judged) (chain : List LinkValue) → verdict_of j set r (Some answer) ≡ Proved chain
     → IsProof j set r answer chain
 unfolding verdict_of
-proved_parts j set r answer chain h = proved_text j set r answer (sig_in r.rdata) chain refl h
+proved_parts j set r answer chain h = proved_read j set r answer (rrsig_in r.rdata) chain refl h
 
 -- a signature that isn't skipped has a signer that fits
-skipped_step : (set : RrSet) (asked : Question) (o : Option SigText) (sig : SigText) → o ≡ Some sig → is_skipped_text asked set o ≡ false
-    → signer_fits set.kind sig.signer set.owner ≡ true
+skipped_step : (set : RrSet) (asked : Question) (o : Option RrsigValue) (sig : RrsigValue) → o ≡ Some sig → is_skipped_read asked set o ≡ false
+    → signer_fits set.rtype sig.signer set.owner ≡ true
 skipped_step set asked None sig is h = cc
 skipped_step set asked (Some text) sig is h =
     let same : text ≡ sig = cc in
-    let parts = or_parts (not (signer_fits set.kind text.signer set.owner)) (question_eq (key_question set.class text.signer) asked) h in
-    ap (λ t. signer_fits set.kind t.signer set.owner) (sym same) ∙ not-false (signer_fits set.kind text.signer set.owner) parts.0
+    let parts = or_parts (not (signer_fits set.rtype text.signer set.owner)) (question_eq (key_question set.class text.signer) asked) h in
+    ap (λ t. signer_fits set.rtype t.signer set.owner) (sym same) ∙ not-false (signer_fits set.rtype text.signer set.owner) parts.0
 
-pub asked_fits : (set : RrSet) (asked : Question) (r : Rr) (sig : SigText) → sig_in r.rdata ≡ Some sig → is_skipped asked set r ≡ false
-    → signer_fits set.kind sig.signer set.owner ≡ true
-asked_fits set asked r sig is h = skipped_step set asked (sig_in r.rdata) sig is h
+pub asked_fits : (set : RrSet) (asked : Question) (r : Rr) (sig : RrsigValue) → rrsig_in r.rdata ≡ Some sig → is_skipped asked set r ≡ false
+    → signer_fits set.rtype sig.signer set.owner ≡ true
+asked_fits set asked r sig is h = skipped_step set asked (rrsig_in r.rdata) sig is h
 
 two_step : (P : Rr → Type 0) (b : Bool) (x : Rr) (xs : List Rr) → P x → AllByRecursion P xs → AllByRecursion P (if b then x ∷ xs else xs)
 two_step P true x xs h k = (h, k)
@@ -160,22 +160,22 @@ each_counted P records h = each_first_two P [] (filter is_readable_key records) 
 -- the parts of a test that a set is a signer's key set
 record IsKeySetOf (class : ℕ) (signer : Labels) (s : Judged) : Type 0 where
   owner : name_eq signer s.set.owner ≡ true
-  kind : (s.set.kind == type_dnskey) ≡ true
+  rtype : (s.set.rtype == type_dnskey) ≡ true
   class_is : (class == s.set.class) ≡ true
 
 key_set_parts : (class : ℕ) (signer : Labels) (s : Judged) → is_key_set_of class signer s ≡ true → IsKeySetOf class signer s
 key_set_parts class signer s h =
-    let one = and_parts (section_eq Answer s.section) (name_eq signer s.set.owner && ((s.set.kind == type_dnskey) && (class == s.set.class))) h in
-    let two = and_parts (name_eq signer s.set.owner) ((s.set.kind == type_dnskey) && (class == s.set.class)) one.1 in
-    let three = and_parts (s.set.kind == type_dnskey) (class == s.set.class) two.1 in
-    record { owner = two.0; kind = three.0; class_is = three.1 }
+    let one = and_parts (section_eq Answer s.section) (name_eq signer s.set.owner && ((s.set.rtype == type_dnskey) && (class == s.set.class))) h in
+    let two = and_parts (name_eq signer s.set.owner) ((s.set.rtype == type_dnskey) && (class == s.set.class)) one.1 in
+    let three = and_parts (s.set.rtype == type_dnskey) (class == s.set.class) two.1 in
+    record { owner = two.0; rtype = three.0; class_is = three.1 }
 
 comes_step : (keys shown both : Bool) → keys ≡ false → shown ≡ true → (if keys then both else shown) ≡ true
 comes_step keys shown both k s = rw (k, s) refl
 
 -- a proof by one signature is a chain for its set
-pub proof_is_chain : (j : Judge) (set : RrSet) (asked : Question) (r : Rr) (answer : List Judged) (chain : List Fact)
-    → IsProper set → (set.kind == type_dnskey) ≡ false → is_skipped asked set r ≡ false → AllByRecursion (λ s. stands j s ≡ true) answer
+pub proof_is_chain : (j : Judge) (set : RrSet) (asked : Question) (r : Rr) (answer : List Judged) (chain : List LinkValue)
+    → IsProper set → (set.rtype == type_dnskey) ≡ false → is_skipped asked set r ≡ false → AllByRecursion (λ s. stands j s ≡ true) answer
     → verdict_of j set r (Some answer) ≡ Proved chain → IsChainFor j set chain (Some r)
 proof_is_chain j set asked r answer chain proper other asked_for stand is =
     let p = proved_parts j set r answer chain is in
@@ -186,12 +186,12 @@ proof_is_chain j set asked r answer chain proper other asked_for stand is =
     let Member = λ (k : Rr). has_bytes rdatas k.rdata ≡ true in
     let key = find_known (is_good_by j set r) Member (counted_keys p.keys.set.records) p.key (each_counted Member p.keys.set.records (each_member p.keys.set.records)) p.good in
     let last = length p.keys.chain - 1 in
-    let link = Signed set.owner set.class set.kind (rdatas_of set.records) r.rdata last p.key.rdata in
+    let link = Signed set.owner set.class set.rtype (rdatas_of set.records) r.rdata last p.key.rdata in
     let shown : shows_member p.sig.signer set.class p.key.rdata (slice_get p.keys.chain last) ≡ true =
     ap (shows_member p.sig.signer set.class p.key.rdata) (slice_get-last p.keys.chain)
-    ∙ member_shown p.keys.set (last_link p.keys.chain) p.sig.signer set.class p.key.rdata below.ends key_set.kind key_set.owner key_set.class_is key.known in
-    let comes : key_comes p.keys.chain set.owner set.class set.kind (rdatas_of set.records) p.sig.signer last p.key.rdata ≡ true =
-    comes_step (set.kind == type_dnskey) (shows_member p.sig.signer set.class p.key.rdata (slice_get p.keys.chain last))
+    ∙ member_shown p.keys.set (last_link p.keys.chain) p.sig.signer set.class p.key.rdata below.ends key_set.rtype key_set.owner key_set.class_is key.known in
+    let comes : key_comes p.keys.chain set.owner set.class set.rtype (rdatas_of set.records) p.sig.signer last p.key.rdata ≡ true =
+    comes_step (set.rtype == type_dnskey) (shows_member p.sig.signer set.class p.key.rdata (slice_get p.keys.chain last))
     (name_eq set.owner p.sig.signer && (has_bytes (rdatas_of set.records) p.key.rdata && shows_key set.owner set.class p.key.rdata (slice_get p.keys.chain last)))
     other shown in
     let fits : Fits p.keys.chain set p.sig last p.key.rdata = record { whole = p.whole; signer = asked_fits set asked r p.sig p.read asked_for; comes = comes } in
@@ -244,7 +244,7 @@ slice_get-take (suc n) [] k x h = h
 slice_get-take (suc n) (y ∷ ys) zero x h = h
 slice_get-take (suc n) (y ∷ ys) (suc k) x h = slice_get-take n ys k x h
 
-marked_stands : (j : Judge) (placed : Placed) (chain : List Fact) (o e : Option ℕ)
+marked_stands : (j : Judge) (placed : Placed) (chain : List LinkValue) (o e : Option ℕ)
     → ((n : ℕ) → o ≡ Some n → IsChainFor j placed.set chain (slice_get placed.set.signatures n))
     → stands j (record { section = placed.section; set = placed.set; mark = (mark_at o e).mark; sig = (mark_at o e).sig; chain = chain }) ≡ true
 marked_stands j placed chain (Some n) e h =

@@ -7,18 +7,18 @@ use Rattle.dns_model.specs.declared.section.Section.{Section}
 use Rattle.dns_model.specs.declared.section.Section.TheVariants.{Answer, Authority, Additional}
 use Rattle.dns_model.specs.declared.denial.Denial.{Denial}
 use Rattle.dns_model.specs.Names.{name_eq}
-use Rattle.dns_model.specs.Views.{sig_in}
+use Rattle.dns_model.specs.Views.{rrsig_in}
 use Rattle.dns_model.specs.Keys.{bytes_eq}
-use Rattle.dns_model.specs.Records.{Rr, RrSet, MessageText}
+use Rattle.dns_model.specs.Records.{Rr, RrSet, MessageValue}
 use Rattle.dns_model.specs.Sections.{is_signature}
-use Rattle.dns_model.specs.Answers.{ChainText, ResponseText, Told, section_eq, is_secure, set_kind, signed_ttl, ttl_of}
+use Rattle.dns_model.specs.SoundAnswers.{ChainValue, ResponseValue, Told, section_eq, is_secure, set_rtype, signed_ttl, ttl_of}
 use Rattle.dns_judgement.specs.Judged.{Judged, decider}
 
 -- a record that nothing was found out of
 abbrev pub cleared : Rr → Rr
-cleared r = record r { mark = Indeterminate }
+cleared r = record r { proof = Indeterminate }
 
-abbrev pub cleared_message : MessageText → MessageText
+abbrev pub cleared_message : MessageValue → MessageValue
 cleared_message m = record m {
   answers = map cleared m.answers;
   authorities = map cleared m.authorities;
@@ -28,19 +28,19 @@ cleared_message m = record m {
 -- the set is the record's, or the one that the record covers as a signature
 abbrev pub is_about : Section → Rr → Judged → Bool
 is_about section r judged =
-    section_eq judged.section section && (name_eq judged.set.owner r.owner && (judged.set.kind == set_kind r))
+    section_eq judged.section section && (name_eq judged.set.owner r.owner && (judged.set.rtype == set_rtype r))
 
 abbrev pub is_record : Rr → Option Rr → Bool
 is_record r None = false
 is_record r (Some s) = bytes_eq s.rdata r.rdata
 
-abbrev pub first_of : List Rr → Option Rr
-first_of [] = None
-first_of (r ∷ rs) = Some r
+abbrev pub first_record : List Rr → Option Rr
+first_record [] = None
+first_record (r ∷ rs) = Some r
 
 abbrev pub adjusted_by : ℕ → Judged → Rr → Option Rr → ℕ
 adjusted_by now judged r None = r.ttl
-adjusted_by now judged r (Some signature) = min (ttl_of (first_of judged.set.records)) (signed_ttl (sig_in signature.rdata) now)
+adjusted_by now judged r (Some signature) = min (ttl_of (first_record judged.set.records)) (signed_ttl (rrsig_in signature.rdata) now)
 
 -- a Secure set's ttl is bounded by the signature that decided
 abbrev pub adjusted_ttl : ℕ → Judged → Rr → ℕ
@@ -51,26 +51,26 @@ marked_by now r None = cleared r
 marked_by now r (Some judged) =
     if is_signature r && not (is_record r (decider judged))
     then cleared r
-    else record r { mark = judged.mark; ttl = adjusted_ttl now judged r }
+    else record r { proof = judged.mark; ttl = adjusted_ttl now judged r }
 
 -- a record with the mark of its set; a signature has the set's mark only where it decided
 unfoldable pub marked : ℕ → List Judged → Section → Rr → Rr
 marked now sets section r = marked_by now r (find (is_about section r) sets)
 
-abbrev pub marked_message : ℕ → List Judged → MessageText → MessageText
+abbrev pub marked_message : ℕ → List Judged → MessageValue → MessageValue
 marked_message now sets m = record m {
   answers = map (marked now sets Answer) m.answers;
   authorities = map (marked now sets Authority) m.authorities;
   additionals = map (marked now sets Additional) m.additionals;
 }
 
-abbrev pub chain_text : Judged → ChainText
-chain_text judged = record { section = judged.section; links = judged.chain }
+abbrev pub chain_value : Judged → ChainValue
+chain_value judged = record { section = judged.section; links = judged.chain }
 
 -- the chains of the Secure sets, in order
-abbrev pub chains_of : List Judged → List ChainText
-chains_of sets = map chain_text (filter (λ s. is_secure s.mark) sets)
+abbrev pub chains_of : List Judged → List ChainValue
+chains_of sets = map chain_value (filter (λ s. is_secure s.mark) sets)
 
 -- the answer of a judged step
-abbrev pub finished : ℕ → List Judged → MessageText → Denial → ResponseText
+abbrev pub finished : ℕ → List Judged → MessageValue → Denial → ResponseValue
 finished now sets m denial = record { message = marked_message now sets m; chains = chains_of sets; denial = denial }

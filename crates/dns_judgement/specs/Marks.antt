@@ -7,11 +7,11 @@ use Rattle.dns_model.specs.declared.section.Section.{Section}
 use Rattle.dns_model.specs.declared.section.Section.TheVariants.{Answer}
 use Rattle.dns_model.specs.Names.{Labels, name_eq, at_or_above, num_labels, parent}
 use Rattle.dns_model.specs.Types.{type_ds, type_nsec, type_nsec3, type_dnskey}
-use Rattle.dns_model.specs.Views.{SigText, KeyText, sig_in, key_in}
+use Rattle.dns_model.specs.Views.{RrsigValue, DnskeyValue, rrsig_in, dnskey_in}
 use Rattle.dns_model.specs.Records.{Rr, RrSet, Question, question_eq}
 use Rattle.dns_model.specs.Signing.{key_tag_of}
-use Rattle.dns_model.specs.Chains.{Fact, Anchored, KeySet, Signed, Judge, signer_fits, rdatas_of}
-use Rattle.dns_model.specs.Answers.{Placed, section_eq}
+use Rattle.dns_model.specs.Chains.{LinkValue, Anchored, KeySet, Signed, Judge, signer_fits, rdatas_of}
+use Rattle.dns_model.specs.SoundAnswers.{Placed, section_eq}
 use Rattle.dns_judgement.specs.Validity.{is_good_by}
 use Rattle.dns_judgement.specs.Judged.{Judged}
 
@@ -21,19 +21,19 @@ most_signatures = 8
 
 -- the question for a signer's keys
 abbrev pub key_question : ℕ → Labels → Question
-key_question class signer = record { owner = signer; kind = type_dnskey; class = class }
+key_question class signer = record { owner = signer; rtype = type_dnskey; class = class }
 
-abbrev pub is_skipped_text : Question → RrSet → Option SigText → Bool
-is_skipped_text asked set None = true
-is_skipped_text asked set (Some sig) =
-    not (signer_fits set.kind sig.signer set.owner) || question_eq (key_question set.class sig.signer) asked
+abbrev pub is_skipped_read : Question → RrSet → Option RrsigValue → Bool
+is_skipped_read asked set None = true
+is_skipped_read asked set (Some sig) =
+    not (signer_fits set.rtype sig.signer set.owner) || question_eq (key_question set.class sig.signer) asked
 
 -- a signature isn't asked for: it can't be read, its signer doesn't fit, or it asks what is being asked
 abbrev pub is_skipped : Question → RrSet → Rr → Bool
-is_skipped asked set r = is_skipped_text asked set (sig_in r.rdata)
+is_skipped asked set r = is_skipped_read asked set (rrsig_in r.rdata)
 
 abbrev pub is_readable_key : Rr → Bool
-is_readable_key r = is_some (key_in r.rdata)
+is_readable_key r = is_some (dnskey_in r.rdata)
 
 abbrev pub same_tag : Rr → Rr → Bool
 same_tag a b = key_tag_of a.rdata == key_tag_of b.rdata
@@ -53,11 +53,11 @@ counted_keys records = first_two [] (filter is_readable_key records)
 -- the key set of a question in the answer section of a finished ask
 abbrev pub is_key_set_of : ℕ → Labels → Judged → Bool
 is_key_set_of class signer judged =
-    section_eq Answer judged.section && (name_eq signer judged.set.owner && ((judged.set.kind == type_dnskey) && (class == judged.set.class)))
+    section_eq Answer judged.section && (name_eq signer judged.set.owner && ((judged.set.rtype == type_dnskey) && (class == judged.set.class)))
 
 -- what one signature does for its set: it proves it by a chain, it excuses it, or neither
 pub data Verdict : Type 0 where
-  Proved : List Fact → Verdict
+  Proved : List LinkValue → Verdict
   Excused : Verdict
   Failed : Verdict
 
@@ -72,11 +72,11 @@ is_excused Excused = true
 is_excused Failed = false
 
 -- the chain of a key set, and the link that a signature by one of its keys adds
-abbrev pub signed_chain : RrSet → Rr → List Fact → Rr → List Fact
+abbrev pub signed_chain : RrSet → Rr → List LinkValue → Rr → List LinkValue
 signed_chain set r chain key =
-    chain ++ Signed set.owner set.class set.kind (rdatas_of set.records) r.rdata (length chain - 1) key.rdata ∷ []
+    chain ++ Signed set.owner set.class set.rtype (rdatas_of set.records) r.rdata (length chain - 1) key.rdata ∷ []
 
-abbrev pub by_secure_key : RrSet → Rr → List Fact → Option Rr → Verdict
+abbrev pub by_secure_key : RrSet → Rr → List LinkValue → Option Rr → Verdict
 by_secure_key set r chain None = Failed
 by_secure_key set r chain (Some key) = Proved (signed_chain set r chain key)
 
@@ -85,7 +85,7 @@ by_insecure_key [] = Failed
 by_insecure_key (key ∷ keys) = Excused
 
 -- by the mark of the key set that was asked for
-abbrev pub by_keys : Judge → RrSet → Rr → List Fact → Proof → List Rr → Verdict
+abbrev pub by_keys : Judge → RrSet → Rr → List LinkValue → Proof → List Rr → Verdict
 by_keys j set r chain Secure keys = by_secure_key set r chain (find (is_good_by j set r) keys)
 by_keys j set r chain Insecure keys = by_insecure_key keys
 by_keys j set r chain Bogus keys = Failed
@@ -96,13 +96,13 @@ by_key_set j set r None = Failed
 by_key_set j set r (Some keys) = by_keys j set r keys.chain keys.mark (counted_keys keys.set.records)
 
 -- an NSEC or NSEC3 is never expanded, and an NSEC3 stands right below its signer
-abbrev pub is_kept_whole : RrSet → SigText → Bool
+abbrev pub is_kept_whole : RrSet → RrsigValue → Bool
 is_kept_whole set sig =
-    if set.kind == type_nsec then sig.labels == num_labels set.owner
-    else if set.kind == type_nsec3 then (sig.labels == num_labels set.owner) && name_eq (parent set.owner) sig.signer
+    if set.rtype == type_nsec then sig.labels == num_labels set.owner
+    else if set.rtype == type_nsec3 then (sig.labels == num_labels set.owner) && name_eq (parent set.owner) sig.signer
     else true
 
-abbrev pub verdict_by : Judge → RrSet → Rr → List Judged → Option SigText → Verdict
+abbrev pub verdict_by : Judge → RrSet → Rr → List Judged → Option RrsigValue → Verdict
 verdict_by j set r answer None = Failed
 verdict_by j set r answer (Some sig) =
     if is_kept_whole set sig then by_key_set j set r (find (is_key_set_of set.class sig.signer) answer) else Failed
@@ -110,7 +110,7 @@ verdict_by j set r answer (Some sig) =
 -- the verdict of one signature, with the sets of the answer to its ask; none where the ask failed or was refused
 unfoldable pub verdict_of : Judge → RrSet → Rr → Option (List Judged) → Verdict
 verdict_of j set r None = Failed
-verdict_of j set r (Some answer) = verdict_by j set r answer (sig_in r.rdata)
+verdict_of j set r (Some answer) = verdict_by j set r answer (rrsig_in r.rdata)
 
 -- a mark, and the place of the signature that decided
 pub record Mark : Type 0 where
@@ -131,7 +131,7 @@ abbrev pub set_mark : List Verdict → Mark
 set_mark [] = unsigned_mark
 set_mark (v ∷ vs) = mark_at (position is_proved (v ∷ vs)) (position is_excused (v ∷ vs))
 
-abbrev pub proved_chain : List Verdict → List Fact
+abbrev pub proved_chain : List Verdict → List LinkValue
 proved_chain [] = []
 proved_chain (Proved chain ∷ vs) = chain
 proved_chain (Excused ∷ vs) = proved_chain vs
@@ -175,15 +175,15 @@ numbers_from n [] = []
 numbers_from n (key ∷ keys) = n ∷ numbers_from (n + 1) keys
 
 -- a link for each anchored key, and then their set
-abbrev pub anchored_chain : RrSet → List Fact
+abbrev pub anchored_chain : RrSet → List LinkValue
 anchored_chain set =
     map (Anchored set.owner set.class) (rdatas_of set.records)
     ++ KeySet set.owner set.class (rdatas_of set.records) (numbers_from 0 (rdatas_of set.records)) ∷ []
 
-abbrev pub self_signed_chain : RrSet → SignedKeys → List Fact
+abbrev pub self_signed_chain : RrSet → SignedKeys → List LinkValue
 self_signed_chain set signed =
     Anchored set.owner set.class signed.key.rdata
-    ∷ Signed set.owner set.class set.kind (rdatas_of set.records) signed.signature.rdata 0 signed.key.rdata ∷ []
+    ∷ Signed set.owner set.class set.rtype (rdatas_of set.records) signed.signature.rdata 0 signed.key.rdata ∷ []
 
 abbrev pub keys_unsigned : Judge → Placed → Judged
 keys_unsigned j placed =

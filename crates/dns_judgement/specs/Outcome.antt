@@ -7,35 +7,35 @@ use Rattle.dns_model.specs.declared.denial.Denial as denial
 use Rattle.dns_model.specs.declared.denial.Denial.TheVariants as denied
 use Rattle.dns_model.specs.Names.{Labels, name_eq, num_labels}
 use Rattle.dns_model.specs.Types.{type_cname, type_nsec, type_nsec3}
-use Rattle.dns_model.specs.Views.{SigText, sig_in}
+use Rattle.dns_model.specs.Views.{RrsigValue, rrsig_in}
 use Rattle.dns_model.specs.Records.{Rr, Question}
 use Rattle.dns_model.specs.Sections.{is_signature}
-use Rattle.dns_model.specs.Answers.{Told, is_secure}
+use Rattle.dns_model.specs.SoundAnswers.{Told, is_secure}
 use Rattle.dns_judgement.specs.Judged.{Judged, decider}
 
 -- the record answers: it stands at the name that is asked, and is of the type or a CNAME
 abbrev pub answers_query : Question → Rr → Bool
-answers_query q r = name_eq q.owner r.owner && ((r.kind == q.kind) || (r.kind == type_cname))
+answers_query q r = name_eq q.owner r.owner && ((r.rtype == q.rtype) || (r.rtype == type_cname))
 
 abbrev pub has_answer : Question → Told → Bool
 has_answer q told = list_any (answers_query q) told.answers
 
-abbrev pub is_expanded_text : Labels → Option SigText → Bool
-is_expanded_text owner None = false
-is_expanded_text owner (Some sig) = nat_lt sig.labels (num_labels owner)
+abbrev pub is_expanded_read : Labels → Option RrsigValue → Bool
+is_expanded_read owner None = false
+is_expanded_read owner (Some sig) = nat_lt sig.labels (num_labels owner)
 
 -- a readable RRSIG whose Labels is below its owner's count
 abbrev pub is_wildcard_signature : Rr → Bool
-is_wildcard_signature r = is_signature r && is_expanded_text r.owner (sig_in r.rdata)
+is_wildcard_signature r = is_signature r && is_expanded_read r.owner (rrsig_in r.rdata)
 
 abbrev pub is_expanded_by : Option Rr → Bool
 is_expanded_by None = false
-is_expanded_by (Some r) = is_expanded_text r.owner (sig_in r.rdata)
+is_expanded_by (Some r) = is_expanded_read r.owner (rrsig_in r.rdata)
 
 -- a Secure set that can only be judged with denial of existence: NSEC, NSEC3, or expanded from a wildcard
 abbrev pub needs_denial : Judged → Bool
 needs_denial judged =
-    is_secure judged.mark && ((judged.set.kind == type_nsec) || (judged.set.kind == type_nsec3) || is_expanded_by (decider judged))
+    is_secure judged.mark && ((judged.set.rtype == type_nsec) || (judged.set.rtype == type_nsec3) || is_expanded_by (decider judged))
 
 -- how a judged step ends
 pub data Outcome : Type 0 where

@@ -3,10 +3,10 @@ use Rattle.std.specs.Prelude.{ℕ, ◌+◌, ◌≡◌, ◌≤◌, ◌<◌, ◌�
 use Rattle.std.specs.List.{filter}
 use Rattle.dns_model.specs.Names.{Labels}
 use Rattle.dns_model.specs.Types.{type_soa, type_ds, type_nsec, type_dnskey, type_nsec3}
-use Rattle.dns_model.specs.Views.{SigText, sig_in}
+use Rattle.dns_model.specs.Views.{RrsigValue, rrsig_in}
 use Rattle.dns_model.specs.Records.{Rr, RrSet, Question}
 use Rattle.dns_model.specs.Chains.{Judge}
-use Rattle.dns_model.specs.Answers.{Told, Placed, placed_sets}
+use Rattle.dns_model.specs.SoundAnswers.{Told, Placed, placed_sets}
 use Rattle.dns_judgement.specs.Judged.{Judged}
 use Rattle.dns_judgement.specs.Marks.{Verdict, Failed, is_proved, is_skipped, key_question, verdict_of, judged_by, judged_keys, most_signatures}
 use Rattle.dns_judgement.specs.Outcome.{Outcome, Unjudged, Accepted, Denied, outcome_of, foreign_record}
@@ -17,11 +17,11 @@ most_sends = 1024
 
 -- the types whose sets are judged below the top
 abbrev pub is_judged_below : ℕ → Bool
-is_judged_below kind = (kind == type_dnskey) || (kind == type_ds) || (kind == type_nsec) || (kind == type_nsec3) || (kind == type_soa)
+is_judged_below rtype = (rtype == type_dnskey) || (rtype == type_ds) || (rtype == type_nsec) || (rtype == type_nsec3) || (rtype == type_soa)
 
 -- the sets of a step at a depth that are judged: all at the top
 abbrev pub judged_part : ℕ → Told → List Placed
-judged_part depth told = if depth == 0 then placed_sets told else filter (λ p. is_judged_below p.set.kind) (placed_sets told)
+judged_part depth told = if depth == 0 then placed_sets told else filter (λ p. is_judged_below p.set.rtype) (placed_sets told)
 
 -- the sets of a step whose answer was accepted
 abbrev pub accepted_sets : List Judged → Outcome → Option (List Judged)
@@ -32,13 +32,13 @@ accepted_sets sets (Denied proof) = None
 abbrev pub ending_of : Question → Told → List Judged → Option (List Judged)
 ending_of q told sets = accepted_sets sets (outcome_of q told sets)
 
-abbrev pub signer_question : ℕ → Option SigText → Option Question
+abbrev pub signer_question : ℕ → Option RrsigValue → Option Question
 signer_question class None = None
 signer_question class (Some sig) = Some (key_question class sig.signer)
 
 -- the ask of a signature for its signer's keys
 abbrev pub ask_of : RrSet → Rr → Option Question
-ask_of set r = signer_question set.class (sig_in r.rdata)
+ask_of set r = signer_question set.class (rrsig_in r.rdata)
 
 -- what a part of the walk is about, and what it came to
 pub data Aim : Type 0 where
@@ -54,10 +54,10 @@ pub data Aim : Type 0 where
 pub data Run (j : Judge) (limit : ℕ) (says : Question → Option Told → Type 0) : ℕ → Aim → ℕ → Type 0 where
   NoSet : (q : Question) (d n : ℕ) → Run j limit says n (Sets q d [] []) n
   Keys : (q : Question) (d n m : ℕ) (p : Placed) (ps : List Placed) (s : Judged) (ss : List Judged)
-      → (p.set.kind == type_dnskey) ≡ true → s ≡ judged_keys j p
+      → (p.set.rtype == type_dnskey) ≡ true → s ≡ judged_keys j p
       → Run j limit says n (Sets q d ps ss) m → Run j limit says n (Sets q d (p ∷ ps) (s ∷ ss)) m
   Others : (q : Question) (d n k m : ℕ) (p : Placed) (ps : List Placed) (s : Judged) (ss : List Judged) (vs : List Verdict)
-      → (p.set.kind == type_dnskey) ≡ false
+      → (p.set.rtype == type_dnskey) ≡ false
       → Run j limit says n (Signatures q d p.set (take most_signatures p.set.signatures) vs) k → s ≡ judged_by p vs
       → Run j limit says k (Sets q d ps ss) m → Run j limit says n (Sets q d (p ∷ ps) (s ∷ ss)) m
   NoSignature : (q : Question) (d n : ℕ) (set : RrSet) → Run j limit says n (Signatures q d set [] []) n
@@ -76,6 +76,6 @@ pub data Run (j : Judge) (limit : ℕ) (says : Question → Option Told → Type
   Fault : (q : Question) (d n m : ℕ) → d ≤ limit → n < most_sends → m ≡ n + 1 → says q None → Run j limit says n (Ask q d None) m
   Foreign : (q : Question) (d n m : ℕ) (told : Told) → d ≤ limit → n < most_sends → m ≡ n + 1
       → says q (Some told) → is_some (foreign_record q told) ≡ true → Run j limit says n (Ask q d None) m
-  Answers : (q : Question) (d n k m : ℕ) (told : Told) (ss : List Judged) (answer : Option (List Judged)) → d ≤ limit → n < most_sends → k ≡ n + 1
+  Finishes : (q : Question) (d n k m : ℕ) (told : Told) (ss : List Judged) (answer : Option (List Judged)) → d ≤ limit → n < most_sends → k ≡ n + 1
       → says q (Some told) → is_some (foreign_record q told) ≡ false
       → Run j limit says k (Sets q d (judged_part d told) ss) m → answer ≡ ending_of q told ss → Run j limit says n (Ask q d answer) m

@@ -3,36 +3,36 @@ use Rattle.std.specs.Prelude.{ℕ, Bool, true, false, not, ◌==◌, ◌&&◌, n
 use Rattle.dns_judgement.specs.declared.rrsig_validity.RrsigValidity.{RrsigValidity}
 use Rattle.dns_judgement.specs.declared.rrsig_validity.RrsigValidity.TheVariants.{ValidRrsig, ExpiredRrsig, WrongDnskey, WrongRrsig}
 use Rattle.dns_model.specs.Names.{name_eq, at_or_above, num_labels}
-use Rattle.dns_model.specs.Views.{SigText, KeyText, sig_in, key_in, is_zone_key, is_revoked}
+use Rattle.dns_model.specs.Views.{RrsigValue, DnskeyValue, rrsig_in, dnskey_in, is_zone_key, is_revoked}
 use Rattle.dns_model.specs.Records.{Rr, RrSet}
 use Rattle.dns_model.specs.Signing.{signed_bytes, key_tag_of}
 use Rattle.dns_model.specs.Chains.{Judge, rdatas_of}
 
 -- the signature stands at the set's owner and class, under a signer at or above it, over the set's type and no more labels
-abbrev pub is_of_set : RrSet → Rr → SigText → Bool
+abbrev pub is_of_set : RrSet → Rr → RrsigValue → Bool
 is_of_set set r sig =
     name_eq set.owner r.owner && ((set.class == r.class) && (at_or_above sig.signer set.owner
-    && ((sig.covered == set.kind) && nat_le sig.labels (num_labels set.owner))))
+    && ((sig.covered == set.rtype) && nat_le sig.labels (num_labels set.owner))))
 
 -- the key is the signer's, has the signature's algorithm and tag, and is a zone key
-abbrev pub is_by_key : SigText → Rr → KeyText → Bool
+abbrev pub is_by_key : RrsigValue → Rr → DnskeyValue → Bool
 is_by_key sig r key =
     name_eq sig.signer r.owner && ((key.algorithm == sig.algorithm) && ((key_tag_of r.rdata == sig.key_tag) && is_zone_key key))
 
-abbrev pub key_validity : SigText → Rr → Option KeyText → RrsigValidity
+abbrev pub key_validity : RrsigValue → Rr → Option DnskeyValue → RrsigValidity
 key_validity sig r None = WrongDnskey
 key_validity sig r (Some key) = if is_by_key sig r key then ValidRrsig else WrongDnskey
 
-abbrev pub sig_validity : (SigText → Bool) → RrSet → Rr → Rr → Option SigText → RrsigValidity
+abbrev pub sig_validity : (RrsigValue → Bool) → RrSet → Rr → Rr → Option RrsigValue → RrsigValidity
 sig_validity is_timely set r key None = WrongRrsig
 sig_validity is_timely set r key (Some sig) =
     if not (is_of_set set r sig) then WrongRrsig
     else if not (is_timely sig) then ExpiredRrsig
-    else key_validity sig key (key_in key.rdata)
+    else key_validity sig key (dnskey_in key.rdata)
 
 -- the first test that fails, of the signature, the moment and the key
-unfoldable pub validity : (SigText → Bool) → RrSet → Rr → Rr → RrsigValidity
-validity is_timely set r key = sig_validity is_timely set r key (sig_in r.rdata)
+unfoldable pub validity : (RrsigValue → Bool) → RrSet → Rr → Rr → RrsigValidity
+validity is_timely set r key = sig_validity is_timely set r key (rrsig_in r.rdata)
 
 abbrev pub is_valid : RrsigValidity → Bool
 is_valid ValidRrsig = true
@@ -40,14 +40,14 @@ is_valid ExpiredRrsig = false
 is_valid WrongDnskey = false
 is_valid WrongRrsig = false
 
-abbrev pub is_accepted : Judge → RrSet → Option SigText → Option KeyText → Bool
+abbrev pub is_accepted : Judge → RrSet → Option RrsigValue → Option DnskeyValue → Bool
 is_accepted j set None key = false
 is_accepted j set (Some sig) None = false
 is_accepted j set (Some sig) (Some key) =
     not (is_revoked key) && ((key.protocol == 3) && (j.answers.supports key.algorithm
-    && j.answers.accepts sig.algorithm key.key (signed_bytes set.owner set.kind set.class (rdatas_of set.records) sig) sig.signature))
+    && j.answers.accepts sig.algorithm key.key (signed_bytes set.owner set.rtype set.class (rdatas_of set.records) sig) sig.signature))
 
 -- the signature (second) of a set is good by a key (third)
 unfoldable pub is_good_by : Judge → RrSet → Rr → Rr → Bool
 is_good_by j set r key =
-    is_valid (validity j.is_timely set r key) && is_accepted j set (sig_in r.rdata) (key_in key.rdata)
+    is_valid (validity j.is_timely set r key) && is_accepted j set (rrsig_in r.rdata) (dnskey_in key.rdata)

@@ -1,7 +1,7 @@
 pub mod BitmapReading
 pub mod Faults
 pub mod NameReading
-pub mod HopReading
+pub mod PointerReading
 pub mod RdataReading
 pub mod RecordReading
 pub mod Writing

@@ -8,14 +8,14 @@ use Rattle.std.proofs.lemmas.List.Concat.{flat_map-cons}
 use Rattle.dns_model.specs.Names.{Labels, wire, is_name}
 use Rattle.dns_model.specs.Gives.{Gives}
 use Rattle.dns_model.specs.Bytes.{u16_bytes}
-use Rattle.dns_model.specs.Records.{Rr, EdnsText, Question, MessageText}
+use Rattle.dns_model.specs.Records.{Rr, EdnsValue, Question, MessageValue}
 use Rattle.dns_message.specs.declared.decode_error.DecodeError.{DecodeError}
 use Rattle.dns_message.specs.declared.decode_error.DecodeKind.TheVariants.{Trailing}
 use Rattle.dns_message.specs.Reading.{◌>>=◌, fault, u16_field}
 use Rattle.dns_message.specs.NameAt.{name_at}
 use Rattle.dns_message.specs.RecordAt.{Listed, section_at}
-use Rattle.dns_message.specs.MessageAt.{HeaderText, header_at, question_at, questions_at, edns_in, upper_code_in, message_of, message_at}
-use Rattle.dns_message.specs.WrittenAs.{AreBytes, IsReadAgain, encoded, number_of, question_bytes, record_bytes, edns_bytes, edns_count, flags_of, header_bytes, written}
+use Rattle.dns_message.specs.MessageAt.{HeaderValue, header_at, question_at, questions_at, edns_in, upper_code_in, message_of, message_at}
+use Rattle.dns_message.specs.WrittenAs.{AreBytes, IsReadAgain, encoded, flag_bit, question_bytes, record_bytes, edns_bytes, edns_count, flags_of, header_bytes, written}
 use Rattle.dns_message.specs.declared.encode_error.EncodeError.{EncodeError}
 use Rattle.dns_message.specs.declared.encode_error.EncodeError.TheVariants.{TooLong, NoMemory}
 use Rattle.dns_message.proofs.RecordReading.{bind_ok}
@@ -34,7 +34,7 @@ question_good bytes pos x h =
     let a = bind_ok (name_at bytes pos) _ x h in
     let b = bind_ok (u16_field bytes a.0.1) _ x a.2 in
     let c = bind_ok (u16_field bytes b.0.1) _ x b.2 in
-    let made : Question × ℕ = (record { owner = a.0.0; kind = b.0.0; class = c.0.0 }, c.0.1) in
+    let made : Question × ℕ = (record { owner = a.0.0; rtype = b.0.0; class = c.0.0 }, c.0.1) in
     subst (λ (y : Question × ℕ). is_name y.0.owner ≡ true) (same_pair made x c.2) (name_good bytes pos a.0.0 a.0.1 a.1)
 
 abbrev pub HasName : Question → Type 0
@@ -52,16 +52,16 @@ questions_good (suc count) bytes pos x h =
 question_again : (q : Question) (bytes : List ℕ) (pos : ℕ) → HasName q → Stands bytes pos (question_bytes q) → question_at bytes pos ≡ Ok (q, pos + length (question_bytes q))
 unfolding question_at
 question_again q bytes pos good s =
-    let s2 = stands_front bytes pos (wire q.owner ++ u16_bytes q.kind) (u16_bytes q.class) s in
-    let l2 : length (wire q.owner ++ u16_bytes q.kind) ≡ length (wire q.owner) + 2 = length-append (wire q.owner) (u16_bytes q.kind) in
-    let l3 : length (question_bytes q) ≡ length (wire q.owner ++ u16_bytes q.kind) + 2 = length-append (wire q.owner ++ u16_bytes q.kind) (u16_bytes q.class) in
-    let name = name_again q.owner bytes pos (stands_front bytes pos (wire q.owner) (u16_bytes q.kind) s2) good in
-    let kind = stands_u16 bytes (pos + length (wire q.owner)) q.kind (stands_back bytes pos (wire q.owner) (u16_bytes q.kind) s2) in
+    let s2 = stands_front bytes pos (wire q.owner ++ u16_bytes q.rtype) (u16_bytes q.class) s in
+    let l2 : length (wire q.owner ++ u16_bytes q.rtype) ≡ length (wire q.owner) + 2 = length-append (wire q.owner) (u16_bytes q.rtype) in
+    let l3 : length (question_bytes q) ≡ length (wire q.owner ++ u16_bytes q.rtype) + 2 = length-append (wire q.owner ++ u16_bytes q.rtype) (u16_bytes q.class) in
+    let name = name_again q.owner bytes pos (stands_front bytes pos (wire q.owner) (u16_bytes q.rtype) s2) good in
+    let rtype = stands_u16 bytes (pos + length (wire q.owner)) q.rtype (stands_back bytes pos (wire q.owner) (u16_bytes q.rtype) s2) in
     let behind : Stands bytes (pos + length (wire q.owner) + 2) (u16_bytes q.class) =
-    stands_at bytes _ _ (u16_bytes q.class) (omega (arith, l2)) (stands_back bytes pos (wire q.owner ++ u16_bytes q.kind) (u16_bytes q.class) s) in
+    stands_at bytes _ _ (u16_bytes q.class) (omega (arith, l2)) (stands_back bytes pos (wire q.owner ++ u16_bytes q.rtype) (u16_bytes q.class) s) in
     let class = stands_u16 bytes (pos + length (wire q.owner) + 2) q.class behind in
     let end : pos + length (wire q.owner) + 2 + 2 ≡ pos + length (question_bytes q) = omega (arith, l2, l3) in
-    rw (name, kind, class, end) refl
+    rw (name, rtype, class, end) refl
 
 questions_again : (qs : List Question) (bytes : List ℕ) (pos : ℕ) → AllByRecursion HasName qs → Stands bytes pos (flat_map question_bytes qs)
     → questions_at (length qs) bytes pos ≡ Ok (qs, pos + length (flat_map question_bytes qs))
@@ -77,10 +77,10 @@ questions_again (q ∷ qs) bytes pos g s =
 
 -- ---- the header
 
-abbrev pub header_of : MessageText → HeaderText
+abbrev pub header_of : MessageValue → HeaderValue
 header_of m = record { id = m.id; flags = flags_of m; questions = length m.queries; answers = length m.answers; authorities = length m.authorities; additionals = length m.additionals + edns_count m.edns }
 
-header_again : (m : MessageText) (bytes : List ℕ) → Stands bytes 0 (header_bytes m) → header_at bytes ≡ Ok (header_of m)
+header_again : (m : MessageValue) (bytes : List ℕ) → Stands bytes 0 (header_bytes m) → header_at bytes ≡ Ok (header_of m)
 unfolding header_at
 header_again m bytes s =
     let s5 = stands_front bytes 0 (u16_bytes m.id ++ u16_bytes (flags_of m) ++ u16_bytes (length m.queries) ++ u16_bytes (length m.answers) ++ u16_bytes (length m.authorities)) (u16_bytes (length m.additionals + edns_count m.edns)) s in
@@ -125,12 +125,12 @@ flag_parts qr op aa tc rd ra ad cd code a b c d e f g h i = record {
 -- ---- the message
 
 -- a code fits in the header, and in the OPT where there is one
-abbrev pub CodeFits : Option EdnsText → ℕ → Type 0
+abbrev pub CodeFits : Option EdnsValue → ℕ → Type 0
 CodeFits None code = code < 16
 CodeFits (Some e) code = code < 4096
 
 -- a message that is read again
-pub record IsMessageAgain (m : MessageText) : Type 0 where
+pub record IsMessageAgain (m : MessageValue) : Type 0 where
   pub op : m.op_code < 16
   pub code : CodeFits m.edns m.response_code
   pub queries : AllByRecursion HasName m.queries
@@ -139,19 +139,19 @@ pub record IsMessageAgain (m : MessageText) : Type 0 where
   pub additionals : AllByRecursion IsRecordAgain m.additionals
   pub edns : IfSome m.edns (λ e. IsOptAgain e (m.response_code / 16 % 256))
 
-edns_back : (upper : ℕ) (o : Option EdnsText) → edns_in (opt_with upper o) ≡ o
+edns_back : (upper : ℕ) (o : Option EdnsValue) → edns_in (opt_with upper o) ≡ o
 edns_back upper None = refl
 edns_back upper (Some e) = refl
 
-code_back : (o : Option EdnsText) (code : ℕ) → CodeFits o code → upper_code_in (opt_with (code / 16 % 256) o) * 16 + code % 16 ≡ code
+code_back : (o : Option EdnsValue) (code : ℕ) → CodeFits o code → upper_code_in (opt_with (code / 16 % 256) o) * 16 + code % 16 ≡ code
 code_back None code h = omega (arith, h)
 code_back (Some e) code h = omega (arith, h)
 
-message_same : (m : MessageText) → IsMessageAgain m → message_of (header_of m) m.queries m.answers m.authorities m.additionals (opt_with (m.response_code / 16 % 256) m.edns) ≡ m
+message_same : (m : MessageValue) → IsMessageAgain m → message_of (header_of m) m.queries m.answers m.authorities m.additionals (opt_with (m.response_code / 16 % 256) m.edns) ≡ m
 message_same m g =
     let op : m.op_code % 16 ≡ m.op_code = omega (arith, g.op) in
-    let p = flag_parts (number_of m.response) (m.op_code % 16) (number_of m.authoritative) (number_of m.truncated) (number_of m.recursion_desired) (number_of m.recursion_available)
-    (number_of m.authentic_data) (number_of m.checking_disabled) (m.response_code % 16) (number_small m.response) (omega arith) (number_small m.authoritative) (number_small m.truncated)
+    let p = flag_parts (flag_bit m.response) (m.op_code % 16) (flag_bit m.authoritative) (flag_bit m.truncated) (flag_bit m.recursion_desired) (flag_bit m.recursion_available)
+    (flag_bit m.authentic_data) (flag_bit m.checking_disabled) (m.response_code % 16) (number_small m.response) (omega arith) (number_small m.authoritative) (number_small m.truncated)
     (number_small m.recursion_desired) (number_small m.recursion_available) (number_small m.authentic_data) (number_small m.checking_disabled) (omega arith) in
     let f : ℕ = flags_of m in
     let a : (flags_of m / 32768 % 2 == 1) ≡ m.response = do_bit m.response (flags_of m / 32768 % 2) p.qr_is in
@@ -184,7 +184,7 @@ message_same m g =
     }
 
 -- what is written is read
-message_again : (m : MessageText) → IsMessageAgain m → message_at (written m) ≡ Ok m
+message_again : (m : MessageValue) → IsMessageAgain m → message_at (written m) ≡ Ok m
 unfolding message_at written
 message_again m g =
     let head : List ℕ = header_bytes m in
@@ -226,9 +226,9 @@ message_again m g =
     (stands_at bytes _ _ (edns_bytes m.response_code m.edns) (omega (arith, l1, l2, l3, l4))
     (stands_back bytes 0 (header_bytes m ++ flat_map question_bytes m.queries ++ flat_map record_bytes m.answers ++ flat_map record_bytes m.authorities ++ flat_map record_bytes m.additionals) (edns_bytes m.response_code m.edns) s)) in
     let last : nat_lt (p4 + length (edns_bytes m.response_code m.edns)) (length bytes) ≡ false = grind (arith, nat_tests, l1, l2, l3, l4, l5) in
-    rw (read_header, read_questions, read_answers, read_authorities, read_additionals, last) (ap (λ (x : MessageText). Ok x) (message_same m g))
+    rw (read_header, read_questions, read_answers, read_authorities, read_additionals, last) (ap (λ (x : MessageValue). Ok x) (message_same m g))
 
-good_parts : (h : HeaderText) (q : List Question) (a n d : List Rr) (o p r : Option (EdnsText × ℕ)) → AllByRecursion HasName q → IsSectionAgain a p → IsSectionAgain n r → IsSectionAgain d o
+good_parts : (h : HeaderValue) (q : List Question) (a n d : List Rr) (o p r : Option (EdnsValue × ℕ)) → AllByRecursion HasName q → IsSectionAgain a p → IsSectionAgain n r → IsSectionAgain d o
     → IsMessageAgain (message_of h q a n d o)
 good_parts h q a n d None p r gq ga gn gd = record {
   op = omega arith;
@@ -252,14 +252,14 @@ good_parts h q a n d (Some opt) p r gq ga gn gd =
       edns = subst (IsOptAgain opt.0) (sym same) gd.taken;
     }
 
-same_message : (a b : MessageText) → (let r : Result MessageText DecodeError = Ok a in r) ≡ Ok b → a ≡ b
+same_message : (a b : MessageValue) → (let r : Result MessageValue DecodeError = Ok a in r) ≡ Ok b → a ≡ b
 same_message a b h = cc
 
-no_trailing : (test : Bool) (place : ℕ) (a b : MessageText) → cond {A = Result MessageText DecodeError} test (Err (fault Trailing place)) (Ok a) ≡ Ok b → a ≡ b
+no_trailing : (test : Bool) (place : ℕ) (a b : MessageValue) → cond {A = Result MessageValue DecodeError} test (Err (fault Trailing place)) (Ok a) ≡ Ok b → a ≡ b
 no_trailing true place a b h = absurd cc
 no_trailing false place a b h = same_message a b h
 
-message_good : (bytes : List ℕ) (m : MessageText) → AreBytes bytes → message_at bytes ≡ Ok m → IsMessageAgain m
+message_good : (bytes : List ℕ) (m : MessageValue) → AreBytes bytes → message_at bytes ≡ Ok m → IsMessageAgain m
 unfolding message_at
 message_good bytes m fits h =
     let a = bind_ok (header_at bytes) _ m h in
@@ -267,25 +267,25 @@ message_good bytes m fits h =
     let c = bind_ok (section_at a.0.answers false bytes b.0.1) _ m b.2 in
     let d = bind_ok (section_at a.0.authorities false bytes c.0.2) _ m c.2 in
     let e = bind_ok (section_at a.0.additionals true bytes d.0.2) _ m d.2 in
-    let made : MessageText = message_of a.0 b.0.0 c.0.0 d.0.0 e.0.0 e.0.1 in
+    let made : MessageValue = message_of a.0 b.0.0 c.0.0 d.0.0 e.0.0 e.0.1 in
     let same : message_of a.0 b.0.0 c.0.0 d.0.0 e.0.0 e.0.1 ≡ m = no_trailing (nat_lt e.0.2 (length bytes)) e.0.2 (message_of a.0 b.0.0 c.0.0 d.0.0 e.0.0 e.0.1) m e.2 in
     subst IsMessageAgain same (good_parts a.0 b.0.0 c.0.0 d.0.0 e.0.0 e.0.1 c.0.1 d.0.1 (questions_good a.0.questions bytes 12 b.0 b.1)
     (section_good a.0.answers false bytes b.0.1 c.0.0 c.0.1 c.0.2 fits c.1) (section_good a.0.authorities false bytes c.0.2 d.0.0 d.0.1 d.0.2 fits d.1)
     (section_good a.0.additionals true bytes d.0.2 e.0.0 e.0.1 e.0.2 fits e.1))
 
 -- where some bytes are a message, its written form is it too
-pub written_again : (m : MessageText) (bytes : List ℕ) → AreBytes bytes → message_at bytes ≡ Ok m → message_at (written m) ≡ Ok m
+pub written_again : (m : MessageValue) (bytes : List ℕ) → AreBytes bytes → message_at bytes ≡ Ok m → message_at (written m) ≡ Ok m
 written_again m bytes fits h = message_again m (message_good bytes m fits h)
 
-encoded_is : (test : Bool) (m : MessageText) (out : List ℕ) → cond {A = Result (List ℕ) EncodeError} test (Ok (written m)) (Err TooLong) ≡ Ok out → written m ≡ out
+encoded_is : (test : Bool) (m : MessageValue) (out : List ℕ) → cond {A = Result (List ℕ) EncodeError} test (Ok (written m)) (Err TooLong) ≡ Ok out → written m ≡ out
 encoded_is true m out h = cc
 encoded_is false m out h = absurd cc
 
-encoded_again : (m : MessageText) (out : List ℕ) → encoded m ≡ Ok out → IsReadAgain m out
+encoded_again : (m : MessageValue) (out : List ℕ) → encoded m ≡ Ok out → IsReadAgain m out
 unfolding encoded
 encoded_again m out h = λ bytes fits read. subst (λ (o : List ℕ). message_at o ≡ Ok m) (encoded_is (nat_le (length (written m)) 65535) m out h) (written_again m bytes fits read)
 
 -- what a writer gave is read again
-pub given_again : (m : MessageText) (r : Result (List ℕ) EncodeError) → Gives (λ o. o) NoMemory r (encoded m) → IfOk r (λ o. IsReadAgain m o)
+pub given_again : (m : MessageValue) (r : Result (List ℕ) EncodeError) → Gives (λ o. o) NoMemory r (encoded m) → IfOk r (λ o. IsReadAgain m o)
 given_again m (Ok out) h = encoded_again m out h
 given_again m (Err e) h = tt

@@ -17,7 +17,7 @@ use Rattle.dns_message.specs.declared.decode_error.DecodeKind.{DecodeKind}
 use Rattle.dns_message.specs.Reading.{◌>>=◌, fault, FailsWith}
 use Rattle.dns_message.proofs.Faults.{fails_on}
 use Rattle.dns_message.specs.NameAt.{step_of, target_at, with_label, ending_at, after_step, labels_from, steps_left, labels_at, name_at, spelled_at}
-use Rattle.dns_message.specs.Hops.{IsHop}
+use Rattle.dns_message.specs.Pointers.{IsPointerEnd}
 use Rattle.dns_message.specs.Fitting.{FitsStep, IsSpelled, ending_or}
 
 -- what a label step says
@@ -39,13 +39,13 @@ label_step bytes start pos size n h = record {
 }
 
 -- what a pointer says
-pub record IsJumpStep (bytes : List ℕ) (start pos target : ℕ) : Type 0 where
+pub record IsPointerStep (bytes : List ℕ) (start pos target : ℕ) : Type 0 where
   pub before : target < start
   pub inside : pos + 2 ≤ length bytes
 
-pub jump_step : (bytes : List ℕ) (start pos size target : ℕ) → step_of bytes start pos size ≡ Ok (step.Jump target) → IsJumpStep bytes start pos target
+pub pointer_step : (bytes : List ℕ) (start pos size target : ℕ) → step_of bytes start pos size ≡ Ok (step.Pointer target) → IsPointerStep bytes start pos target
 unfolding step_of
-jump_step bytes start pos size target h = record { before = grind (arith, nat_tests); inside = grind (arith, nat_tests) }
+pointer_step bytes start pos size target h = record { before = grind (arith, nat_tests); inside = grind (arith, nat_tests) }
 
 -- a place within the bytes where a name's bytes end
 pub ending_fits : (ending : Option ℕ) (place end : ℕ) → IfSome ending (λ e. e ≤ end) → place ≤ end → ending_or ending place ≤ end
@@ -61,8 +61,8 @@ after_alike (Ok step.Root) bytes start pos size n m is a b more = refl
 after_alike (Ok (step.Label k)) bytes start pos size n m is a b more =
     let s = label_step bytes start pos size k is in
     ap (with_label (slice_range bytes (pos + 1) (pos + 1 + k))) (more start (pos + 1 + k) (size + 1 + k) (omega (arith, s.room, s.some)) (omega (arith, s.room, s.some)))
-after_alike (Ok (step.Jump target)) bytes start pos size n m is a b more =
-    let before = (jump_step bytes start pos size target is).before in
+after_alike (Ok (step.Pointer target)) bytes start pos size n m is a b more =
+    let before = (pointer_step bytes start pos size target is).before in
     ap (ending_at (pos + 2)) (more target target size (omega (arith, before)) (omega (arith, before)))
 
 pub enough : (n m : ℕ) (bytes : List ℕ) (start pos size : ℕ) → steps_left start size < n → steps_left start size < m → labels_from n bytes start pos size ≡ labels_from m bytes start pos size
@@ -81,8 +81,8 @@ one_step (Ok (step.Label k)) bytes start pos size is =
     let s = label_step bytes start pos size k is in
     rw is (ap (with_label (slice_range bytes (pos + 1) (pos + 1 + k)))
     (enough (steps_left start size) (suc (steps_left start (size + 1 + k))) bytes start (pos + 1 + k) (size + 1 + k) (omega (arith, s.room, s.some)) (omega arith)))
-one_step (Ok (step.Jump target)) bytes start pos size is =
-    let before = (jump_step bytes start pos size target is).before in
+one_step (Ok (step.Pointer target)) bytes start pos size is =
+    let before = (pointer_step bytes start pos size target is).before in
     rw is (ap (ending_at (pos + 2)) (enough (steps_left start size) (suc (steps_left target size)) bytes target target size (omega (arith, before)) (omega arith)))
 
 -- ---- what a reader has read so far
@@ -187,18 +187,18 @@ landed : (ending : Option ℕ) (labels : Labels) (place : ℕ) (r s : Result (La
     → finish ending (with_labels labels (ending_at place r)) ≡ finish ending (with_labels labels (ending_at place s))
 landed ending labels place r s same = ap (λ (x : Result (Labels × ℕ) DecodeError). finish ending (with_labels labels x)) same
 
-pub walked_jump : (bytes : List ℕ) (at start pos : ℕ) (ending : Option ℕ) (read : List ℕ) (target to : ℕ) → Walked bytes at start pos ending read
-    → step_of bytes start pos (length read) ≡ Ok (step.Jump target) → IsHop bytes target to
+pub walked_pointer : (bytes : List ℕ) (at start pos : ℕ) (ending : Option ℕ) (read : List ℕ) (target to : ℕ) → Walked bytes at start pos ending read
+    → step_of bytes start pos (length read) ≡ Ok (step.Pointer target) → IsPointerEnd bytes target to
     → Walked bytes at to to (Some (ending_or ending (pos + 2))) read
-walked_jump bytes at start pos ending read target to w is hop =
+walked_pointer bytes at start pos ending read target to w is pointer_end =
     let rest : labels_at bytes start pos (length read) ≡ ending_at (pos + 2) (labels_at bytes target target (length read)) =
-    one_step (Ok (step.Jump target)) bytes start pos (length read) is in
+    one_step (Ok (step.Pointer target)) bytes start pos (length read) is in
     record {
       labels = w.labels;
       spelled = w.spelled;
       good = w.good;
       so_far = jumped ending w.labels (pos + 2) (labels_at bytes to to (length read))
-          ∙ sym (landed ending w.labels (pos + 2) (labels_at bytes target target (length read)) (labels_at bytes to to (length read)) (hop.alike (length read) (pos + 2)))
+          ∙ sym (landed ending w.labels (pos + 2) (labels_at bytes target target (length read)) (labels_at bytes to to (length read)) (pointer_end.alike (length read) (pos + 2)))
           ∙ ap (λ (r : Result (Labels × ℕ) DecodeError). finish ending (with_labels w.labels r)) (sym rest)
           ∙ w.so_far;
     }

@@ -67,7 +67,7 @@ step_good (Ok (step.Label k)) n bytes start pos size labels next fits is ih h =
     let all : list_all is_label (label ∷ more.tail) ≡ true = rw (is_one, rest.good) refl in
     let room : size + length (wire (label ∷ more.tail)) ≤ 255 = omega (arith, rest.room, long, length-append label (wire more.tail)) in
     subst (λ (x : Labels). IsGood size x) (sym more.is) (record { good = all; room = room })
-step_good (Ok (step.Jump target)) n bytes start pos size labels next fits is ih h =
+step_good (Ok (step.Pointer target)) n bytes start pos size labels next fits is ih h =
     let more = ending_inverse (pos + 2) (labels_from n bytes target target size) labels next h in
     ih target target size labels more.place fits more.was
 

@@ -195,9 +195,9 @@ fields_again (f ∷ g ∷ fields) bytes pos stop all right inside h other at end
     rw (one, rest) (ap Some (sym r.whole))
 
 -- each type's shape is such a row
-shape_right : (kind : ℕ) → ends_right (shape_of kind) ≡ true
+shape_right : (rtype : ℕ) → ends_right (shape_of rtype) ≡ true
 unfolding shape_of
-shape_right kind = grind (arith, nat_tests)
+shape_right rtype = grind (arith, nat_tests)
 
 -- ---- a whole rdata
 
@@ -209,8 +209,8 @@ limited : (o : Option (List ℕ)) (rdata : List ℕ) → within_limit o ≡ Some
 limited None rdata h = absurd cc
 limited (Some bytes) rdata h = limit_cases (nat_le (length bytes) 65535) bytes rdata h
 
-pub record IsRdataAgain (kind class : ℕ) (rdata : List ℕ) : Type 0 where
-  pub again : (bytes : List ℕ) (pos : ℕ) → Stands bytes pos rdata → rdata_at kind class bytes (length rdata) pos ≡ Ok rdata
+pub record IsRdataAgain (rtype class : ℕ) (rdata : List ℕ) : Type 0 where
+  pub again : (bytes : List ℕ) (pos : ℕ) → Stands bytes pos rdata → rdata_at rtype class bytes (length rdata) pos ≡ Ok rdata
 
 some_error : (e : DecodeError) (o : Option (List ℕ)) (rdata : List ℕ) → or_error e o ≡ Ok rdata → o ≡ Some rdata
 some_error e None rdata h = absurd cc
@@ -221,70 +221,70 @@ empty_list [] h = refl
 empty_list (b ∷ rdata) h = absurd (omega arith)
 
 -- an rdata of no bytes is taken in each type and class
-empty_again : (kind class : ℕ) (bytes : List ℕ) (pos : ℕ) → pos ≤ length bytes → rdata_at kind class bytes 0 pos ≡ Ok []
+empty_again : (rtype class : ℕ) (bytes : List ℕ) (pos : ℕ) → pos ≤ length bytes → rdata_at rtype class bytes 0 pos ≡ Ok []
 unfolding rdata_at
-empty_again kind class bytes pos inside =
+empty_again rtype class bytes pos inside =
     let test : nat_lt (length bytes) (pos + 0) ≡ false = grind (arith, nat_tests) in
     rw test refl
 
-opaque_again : (kind class : ℕ) (rdata bytes : List ℕ) (pos : ℕ) → has_shapes class ≡ false → 0 < length rdata → Stands bytes pos rdata → rdata_at kind class bytes (length rdata) pos ≡ Ok rdata
+opaque_again : (rtype class : ℕ) (rdata bytes : List ℕ) (pos : ℕ) → has_shapes class ≡ false → 0 < length rdata → Stands bytes pos rdata → rdata_at rtype class bytes (length rdata) pos ≡ Ok rdata
 unfolding rdata_at
-opaque_again kind class rdata bytes pos free some s =
+opaque_again rtype class rdata bytes pos free some s =
     let inside = stands_inside bytes pos rdata s in
     let test : nat_lt (length bytes) (pos + length rdata) ≡ false = grind (arith, nat_tests, inside) in
     let full : (length rdata == 0) ≡ false = grind (arith, nat_tests, some) in
     rw (test, full, free, stands_range bytes pos rdata s) refl
 
-shaped_again : (kind class : ℕ) (rdata bytes : List ℕ) (pos : ℕ) → has_shapes class ≡ true → 0 < length rdata → Stands bytes pos rdata
-    → shaped_at kind bytes pos (pos + length rdata) ≡ Some rdata → rdata_at kind class bytes (length rdata) pos ≡ Ok rdata
+shaped_again : (rtype class : ℕ) (rdata bytes : List ℕ) (pos : ℕ) → has_shapes class ≡ true → 0 < length rdata → Stands bytes pos rdata
+    → shaped_at rtype bytes pos (pos + length rdata) ≡ Some rdata → rdata_at rtype class bytes (length rdata) pos ≡ Ok rdata
 unfolding rdata_at
-shaped_again kind class rdata bytes pos free some s is =
+shaped_again rtype class rdata bytes pos free some s is =
     let inside = stands_inside bytes pos rdata s in
     let test : nat_lt (length bytes) (pos + length rdata) ≡ false = grind (arith, nat_tests, inside) in
     let full : (length rdata == 0) ≡ false = grind (arith, nat_tests, some) in
     rw (test, full, free, is) refl
 
 -- the shape that was read is read again
-shape_again : (kind : ℕ) (from : List ℕ) (start stop : ℕ) (rdata : List ℕ) → stop ≤ length from → shaped_at kind from start stop ≡ Some rdata
-    → (bytes : List ℕ) (pos : ℕ) → Stands bytes pos rdata → shaped_at kind bytes pos (pos + length rdata) ≡ Some rdata
+shape_again : (rtype : ℕ) (from : List ℕ) (start stop : ℕ) (rdata : List ℕ) → stop ≤ length from → shaped_at rtype from start stop ≡ Some rdata
+    → (bytes : List ℕ) (pos : ℕ) → Stands bytes pos rdata → shaped_at rtype bytes pos (pos + length rdata) ≡ Some rdata
 unfolding shaped_at
-shape_again kind from start stop rdata inside h bytes pos s =
-    let was = limited (fields_at (shape_of kind) from start stop) rdata h in
+shape_again rtype from start stop rdata inside h bytes pos s =
+    let was = limited (fields_at (shape_of rtype) from start stop) rdata h in
     let short : within_limit (Some rdata) ≡ Some rdata = ap within_limit (sym was) ∙ h in
-    ap within_limit (fields_again (shape_of kind) from start stop rdata (shape_right kind) inside was bytes pos (pos + length rdata) s refl) ∙ short
+    ap within_limit (fields_again (shape_of rtype) from start stop rdata (shape_right rtype) inside was bytes pos (pos + length rdata) s refl) ∙ short
 
-by_length : (kind class : ℕ) (rdata : List ℕ) (test : Bool) → (length rdata == 0) ≡ test
-    → ((bytes : List ℕ) (pos : ℕ) → 0 < length rdata → Stands bytes pos rdata → rdata_at kind class bytes (length rdata) pos ≡ Ok rdata) → IsRdataAgain kind class rdata
-by_length kind class rdata true is more =
+by_length : (rtype class : ℕ) (rdata : List ℕ) (test : Bool) → (length rdata == 0) ≡ test
+    → ((bytes : List ℕ) (pos : ℕ) → 0 < length rdata → Stands bytes pos rdata → rdata_at rtype class bytes (length rdata) pos ≡ Ok rdata) → IsRdataAgain rtype class rdata
+by_length rtype class rdata true is more =
     let none : length rdata ≡ 0 = grind (arith, nat_tests) in
     let empty : rdata ≡ [] = empty_list rdata none in
-    record { again = λ bytes pos s. rw empty (empty_again kind class bytes pos (omega (arith, stands_inside bytes pos rdata s))) }
-by_length kind class rdata false is more =
+    record { again = λ bytes pos s. rw empty (empty_again rtype class bytes pos (omega (arith, stands_inside bytes pos rdata s))) }
+by_length rtype class rdata false is more =
     let some : 0 < length rdata = grind (arith, nat_tests) in
     record { again = λ bytes pos s. more bytes pos some s }
 
-by_class : (kind class : ℕ) (from : List ℕ) (size start : ℕ) (rdata : List ℕ) (test : Bool) → has_shapes class ≡ test → start + size ≤ length from
-    → cond {A = Result (List ℕ) DecodeError} (not test) (Ok (slice_range from start (start + size))) (or_error (fault BadRdata start) (shaped_at kind from start (start + size))) ≡ Ok rdata
-    → IsRdataAgain kind class rdata
-by_class kind class from size start rdata false is inside h = by_length kind class rdata _ refl (λ bytes pos some s. opaque_again kind class rdata bytes pos is some s)
-by_class kind class from size start rdata true is inside h =
-    let was = some_error (fault BadRdata start) (shaped_at kind from start (start + size)) rdata h in
-    by_length kind class rdata _ refl (λ bytes pos some s. shaped_again kind class rdata bytes pos is some s (shape_again kind from start (start + size) rdata inside was bytes pos s))
+by_class : (rtype class : ℕ) (from : List ℕ) (size start : ℕ) (rdata : List ℕ) (test : Bool) → has_shapes class ≡ test → start + size ≤ length from
+    → cond {A = Result (List ℕ) DecodeError} (not test) (Ok (slice_range from start (start + size))) (or_error (fault BadRdata start) (shaped_at rtype from start (start + size))) ≡ Ok rdata
+    → IsRdataAgain rtype class rdata
+by_class rtype class from size start rdata false is inside h = by_length rtype class rdata _ refl (λ bytes pos some s. opaque_again rtype class rdata bytes pos is some s)
+by_class rtype class from size start rdata true is inside h =
+    let was = some_error (fault BadRdata start) (shaped_at rtype from start (start + size)) rdata h in
+    by_length rtype class rdata _ refl (λ bytes pos some s. shaped_again rtype class rdata bytes pos is some s (shape_again rtype from start (start + size) rdata inside was bytes pos s))
 
-by_size : (kind class : ℕ) (from : List ℕ) (size start : ℕ) (rdata : List ℕ) (test : Bool) → start + size ≤ length from
-    → cond {A = Result (List ℕ) DecodeError} test (Ok []) (cond (not (has_shapes class)) (Ok (slice_range from start (start + size))) (or_error (fault BadRdata start) (shaped_at kind from start (start + size)))) ≡ Ok rdata
-    → IsRdataAgain kind class rdata
-by_size kind class from size start rdata true inside h =
+by_size : (rtype class : ℕ) (from : List ℕ) (size start : ℕ) (rdata : List ℕ) (test : Bool) → start + size ≤ length from
+    → cond {A = Result (List ℕ) DecodeError} test (Ok []) (cond (not (has_shapes class)) (Ok (slice_range from start (start + size))) (or_error (fault BadRdata start) (shaped_at rtype from start (start + size)))) ≡ Ok rdata
+    → IsRdataAgain rtype class rdata
+by_size rtype class from size start rdata true inside h =
     let empty : [] ≡ rdata = cc in
-    record { again = λ bytes pos s. rw (← empty) (empty_again kind class bytes pos (omega (arith, stands_inside bytes pos rdata s))) }
-by_size kind class from size start rdata false inside h = by_class kind class from size start rdata (has_shapes class) refl inside h
+    record { again = λ bytes pos s. rw (← empty) (empty_again rtype class bytes pos (omega (arith, stands_inside bytes pos rdata s))) }
+by_size rtype class from size start rdata false inside h = by_class rtype class from size start rdata (has_shapes class) refl inside h
 
-by_end : (kind class : ℕ) (from : List ℕ) (size start : ℕ) (rdata : List ℕ) (test : Bool) → nat_lt (length from) (start + size) ≡ test
-    → cond {A = Result (List ℕ) DecodeError} test (Err (fault Short start)) (cond (size == 0) (Ok []) (cond (not (has_shapes class)) (Ok (slice_range from start (start + size))) (or_error (fault BadRdata start) (shaped_at kind from start (start + size))))) ≡ Ok rdata
-    → IsRdataAgain kind class rdata
-by_end kind class from size start rdata true is h = absurd cc
-by_end kind class from size start rdata false is h = let inside : start + size ≤ length from = grind (arith, nat_tests) in by_size kind class from size start rdata (size == 0) inside h
+by_end : (rtype class : ℕ) (from : List ℕ) (size start : ℕ) (rdata : List ℕ) (test : Bool) → nat_lt (length from) (start + size) ≡ test
+    → cond {A = Result (List ℕ) DecodeError} test (Err (fault Short start)) (cond (size == 0) (Ok []) (cond (not (has_shapes class)) (Ok (slice_range from start (start + size))) (or_error (fault BadRdata start) (shaped_at rtype from start (start + size))))) ≡ Ok rdata
+    → IsRdataAgain rtype class rdata
+by_end rtype class from size start rdata true is h = absurd cc
+by_end rtype class from size start rdata false is h = let inside : start + size ≤ length from = grind (arith, nat_tests) in by_size rtype class from size start rdata (size == 0) inside h
 
-pub rdata_again : (kind class : ℕ) (from : List ℕ) (size start : ℕ) (rdata : List ℕ) → rdata_at kind class from size start ≡ Ok rdata → IsRdataAgain kind class rdata
+pub rdata_again : (rtype class : ℕ) (from : List ℕ) (size start : ℕ) (rdata : List ℕ) → rdata_at rtype class from size start ≡ Ok rdata → IsRdataAgain rtype class rdata
 unfolding rdata_at
-rdata_again kind class from size start rdata h = by_end kind class from size start rdata _ refl h
+rdata_again rtype class from size start rdata h = by_end rtype class from size start rdata _ refl h

@@ -4,7 +4,7 @@ use Rattle.std.specs.Prelude.{◌==◌, IfSome}
 use Rattle.std.proofs.lemmas.Bool.Decides.{nat_tests}
 use Rattle.std.proofs.lemmas.List.{append-nil}
 use Rattle.dns_model.specs.Names.{Labels, wire}
-use Rattle.dns_model.specs.Records.{Rr, EdnsText, Question}
+use Rattle.dns_model.specs.Records.{Rr, EdnsValue, Question}
 use Rattle.dns_model.proofs.WireLemmas.{length-wire}
 use Rattle.dns_message.specs.declared.decode_error.DecodeError.{DecodeError}
 use Rattle.dns_message.specs.declared.decode_error.DecodeKind.{DecodeKind}
@@ -15,7 +15,7 @@ use Rattle.dns_model.specs.Types.{type_opt}
 use Rattle.dns_message.specs.NameAt.{name_at}
 use Rattle.dns_message.specs.RdataAt.{rdata_at}
 use Rattle.dns_message.specs.Reading.{◌>>=◌, fault, FailsWith, u16_field, u32_field}
-use Rattle.dns_message.specs.RecordAt.{is_root, record_at, item_at, Listed, with_item, may_after, section_at}
+use Rattle.dns_message.specs.RecordAt.{is_root, record_at, item_at, Listed, with_item, allow_opt_after, section_at}
 use Rattle.dns_message.specs.MessageAt.{question_at, questions_at}
 use Rattle.dns_message.proofs.Faults.{fails_on}
 
@@ -28,12 +28,12 @@ root_wire (label ∷ name) =
 
 -- ---- sections
 
-abbrev pub first_opt : Option (EdnsText × ℕ) → Option (EdnsText × ℕ) → Option (EdnsText × ℕ)
+abbrev pub first_opt : Option (EdnsValue × ℕ) → Option (EdnsValue × ℕ) → Option (EdnsValue × ℕ)
 first_opt None later = later
 first_opt (Some opt) later = Some opt
 
 -- what was read before, and what is still read
-abbrev pub with_front : List Rr → Option (EdnsText × ℕ) → Result Listed DecodeError → Result Listed DecodeError
+abbrev pub with_front : List Rr → Option (EdnsValue × ℕ) → Result Listed DecodeError → Result Listed DecodeError
 with_front records opt (Err e) = Err e
 with_front records opt (Ok (more, later, next)) = Ok (records ++ more, first_opt opt later, next)
 
@@ -41,57 +41,57 @@ pub section_start : (records : List Rr) (r : Result Listed DecodeError) → reco
 section_start records (Err e) none = refl
 section_start records (Ok x) none = rw none refl
 
-kept_more : (records : List Rr) (opt : Option (EdnsText × ℕ)) (kept : Rr) (r : Result Listed DecodeError) → with_front records opt (with_item (item.Kept kept) r) ≡ with_front (records ++ kept ∷ []) opt r
+kept_more : (records : List Rr) (opt : Option (EdnsValue × ℕ)) (kept : Rr) (r : Result Listed DecodeError) → with_front records opt (with_item (item.Kept kept) r) ≡ with_front (records ++ kept ∷ []) opt r
 kept_more records opt kept (Err e) = refl
 kept_more records opt kept (Ok x) = ap (λ (all : List Rr). Ok (all, first_opt opt x.1, x.2)) (simp append_assoc)
 
-opt_more : (records : List Rr) (edns : EdnsText) (code : ℕ) (r : Result Listed DecodeError) → with_front records None (with_item (item.Opt edns code) r) ≡ with_front records (Some (edns, code)) r
+opt_more : (records : List Rr) (edns : EdnsValue) (code : ℕ) (r : Result Listed DecodeError) → with_front records None (with_item (item.Opt edns code) r) ≡ with_front records (Some (edns, code)) r
 opt_more records edns code (Err e) = refl
 opt_more records edns code (Ok x) = refl
 
 -- the first of the records that are left, and the others
-section_step : (count i : ℕ) (may : Bool) (bytes : List ℕ) (pos : ℕ) (it : Item) (next : ℕ) → i < count → item_at may bytes pos ≡ Ok (it, next)
-    → section_at (count - i) may bytes pos ≡ with_item it (section_at (count - (i + 1)) (may_after it may) bytes next)
+section_step : (count i : ℕ) (allow_opt : Bool) (bytes : List ℕ) (pos : ℕ) (it : Item) (next : ℕ) → i < count → item_at allow_opt bytes pos ≡ Ok (it, next)
+    → section_at (count - i) allow_opt bytes pos ≡ with_item it (section_at (count - (i + 1)) (allow_opt_after it allow_opt) bytes next)
 unfolding section_at
-section_step count i may bytes pos it next lt h =
+section_step count i allow_opt bytes pos it next lt h =
     let k : count - i ≡ suc (count - (i + 1)) = omega arith in
     rw (k, h) refl
 
-pub section_kept : (count i : ℕ) (may : Bool) (bytes : List ℕ) (pos : ℕ) (kept : Rr) (next : ℕ) (records : List Rr) (opt : Option (EdnsText × ℕ)) (total : Result Listed DecodeError)
-    → i < count → item_at may bytes pos ≡ Ok (item.Kept kept, next) → with_front records opt (section_at (count - i) may bytes pos) ≡ total
-    → with_front (records ++ kept ∷ []) opt (section_at (count - (i + 1)) may bytes next) ≡ total
-section_kept count i may bytes pos kept next records opt total lt h so_far =
-    sym (ap (with_front records opt) (section_step count i may bytes pos (item.Kept kept) next lt h) ∙ kept_more records opt kept (section_at (count - (i + 1)) may bytes next)) ∙ so_far
+pub section_kept : (count i : ℕ) (allow_opt : Bool) (bytes : List ℕ) (pos : ℕ) (kept : Rr) (next : ℕ) (records : List Rr) (opt : Option (EdnsValue × ℕ)) (total : Result Listed DecodeError)
+    → i < count → item_at allow_opt bytes pos ≡ Ok (item.Kept kept, next) → with_front records opt (section_at (count - i) allow_opt bytes pos) ≡ total
+    → with_front (records ++ kept ∷ []) opt (section_at (count - (i + 1)) allow_opt bytes next) ≡ total
+section_kept count i allow_opt bytes pos kept next records opt total lt h so_far =
+    sym (ap (with_front records opt) (section_step count i allow_opt bytes pos (item.Kept kept) next lt h) ∙ kept_more records opt kept (section_at (count - (i + 1)) allow_opt bytes next)) ∙ so_far
 
-pub section_opt : (count i : ℕ) (may : Bool) (bytes : List ℕ) (pos : ℕ) (edns : EdnsText) (code next : ℕ) (records : List Rr) (total : Result Listed DecodeError)
-    → i < count → item_at may bytes pos ≡ Ok (item.Opt edns code, next) → with_front records None (section_at (count - i) may bytes pos) ≡ total
+pub section_opt : (count i : ℕ) (allow_opt : Bool) (bytes : List ℕ) (pos : ℕ) (edns : EdnsValue) (code next : ℕ) (records : List Rr) (total : Result Listed DecodeError)
+    → i < count → item_at allow_opt bytes pos ≡ Ok (item.Opt edns code, next) → with_front records None (section_at (count - i) allow_opt bytes pos) ≡ total
     → with_front records (Some (edns, code)) (section_at (count - (i + 1)) false bytes next) ≡ total
-section_opt count i may bytes pos edns code next records total lt h so_far =
-    sym (ap (with_front records None) (section_step count i may bytes pos (item.Opt edns code) next lt h) ∙ opt_more records edns code (section_at (count - (i + 1)) false bytes next)) ∙ so_far
+section_opt count i allow_opt bytes pos edns code next records total lt h so_far =
+    sym (ap (with_front records None) (section_step count i allow_opt bytes pos (item.Opt edns code) next lt h) ∙ opt_more records edns code (section_at (count - (i + 1)) false bytes next)) ∙ so_far
 
-section_fault : (count i : ℕ) (may : Bool) (bytes : List ℕ) (pos : ℕ) (records : List Rr) (opt : Option (EdnsText × ℕ)) (total : Result Listed DecodeError) (e : DecodeError)
-    → i < count → with_front records opt (section_at (count - i) may bytes pos) ≡ total → item_at may bytes pos ≡ Err e → total ≡ Err e
+section_fault : (count i : ℕ) (allow_opt : Bool) (bytes : List ℕ) (pos : ℕ) (records : List Rr) (opt : Option (EdnsValue × ℕ)) (total : Result Listed DecodeError) (e : DecodeError)
+    → i < count → with_front records opt (section_at (count - i) allow_opt bytes pos) ≡ total → item_at allow_opt bytes pos ≡ Err e → total ≡ Err e
 unfolding section_at
-section_fault count i may bytes pos records opt total e lt so_far h =
+section_fault count i allow_opt bytes pos records opt total e lt so_far h =
     let k : count - i ≡ suc (count - (i + 1)) = omega arith in
-    let one : with_front records opt (section_at (count - i) may bytes pos) ≡ Err e = rw (k, h) refl in
+    let one : with_front records opt (section_at (count - i) allow_opt bytes pos) ≡ Err e = rw (k, h) refl in
     sym so_far ∙ one
 
-pub section_fails : (kind : DecodeKind) (place count i : ℕ) (may : Bool) (bytes : List ℕ) (pos : ℕ) (records : List Rr) (opt : Option (EdnsText × ℕ)) (total : Result Listed DecodeError)
-    → i < count → with_front records opt (section_at (count - i) may bytes pos) ≡ total → FailsWith kind place (item_at may bytes pos) → FailsWith kind place total
-section_fails kind place count i may bytes pos records opt total lt so_far h =
-    fails_on kind place (item_at may bytes pos) total (λ e k. section_fault count i may bytes pos records opt total e lt so_far k) h
+pub section_fails : (kind : DecodeKind) (place count i : ℕ) (allow_opt : Bool) (bytes : List ℕ) (pos : ℕ) (records : List Rr) (opt : Option (EdnsValue × ℕ)) (total : Result Listed DecodeError)
+    → i < count → with_front records opt (section_at (count - i) allow_opt bytes pos) ≡ total → FailsWith kind place (item_at allow_opt bytes pos) → FailsWith kind place total
+section_fails kind place count i allow_opt bytes pos records opt total lt so_far h =
+    fails_on kind place (item_at allow_opt bytes pos) total (λ e k. section_fault count i allow_opt bytes pos records opt total e lt so_far k) h
 
-ended : (records : List Rr) (opt : Option (EdnsText × ℕ)) (pos : ℕ) → with_front records opt (Ok ([], None, pos)) ≡ Ok (records, opt, pos)
+ended : (records : List Rr) (opt : Option (EdnsValue × ℕ)) (pos : ℕ) → with_front records opt (Ok ([], None, pos)) ≡ Ok (records, opt, pos)
 ended records None pos = ap (λ (all : List Rr). Ok (all, None, pos)) (append-nil records)
 ended records (Some opt) pos = ap (λ (all : List Rr). Ok (all, Some opt, pos)) (append-nil records)
 
-pub section_done : (count i : ℕ) (may : Bool) (bytes : List ℕ) (pos : ℕ) (records : List Rr) (opt : Option (EdnsText × ℕ)) (total : Result Listed DecodeError)
-    → count ≤ i → with_front records opt (section_at (count - i) may bytes pos) ≡ total → total ≡ Ok (records, opt, pos)
+pub section_done : (count i : ℕ) (allow_opt : Bool) (bytes : List ℕ) (pos : ℕ) (records : List Rr) (opt : Option (EdnsValue × ℕ)) (total : Result Listed DecodeError)
+    → count ≤ i → with_front records opt (section_at (count - i) allow_opt bytes pos) ≡ total → total ≡ Ok (records, opt, pos)
 unfolding section_at
-section_done count i may bytes pos records opt total past so_far =
+section_done count i allow_opt bytes pos records opt total past so_far =
     let k : count - i ≡ 0 = omega arith in
-    let one : with_front records opt (section_at (count - i) may bytes pos) ≡ Ok (records, opt, pos) = rw k (ended records opt pos) in
+    let one : with_front records opt (section_at (count - i) allow_opt bytes pos) ≡ Ok (records, opt, pos) = rw k (ended records opt pos) in
     sym so_far ∙ one
 
 -- the value of a step that did not fail
@@ -106,19 +106,19 @@ is_kept (item.Opt edns code) = false
 first_kept : (a b : Item × ℕ) → is_kept a.0 ≡ true → (let r : Result (Item × ℕ) DecodeError = Ok a in r) ≡ Ok b → is_kept b.0 ≡ true
 first_kept a b kept e = let same : a ≡ b = cc in ap (λ (x : Item × ℕ). is_kept x.0) (sym same) ∙ kept
 
-pub record_kept : (owner : Labels) (kind : ℕ) (bytes : List ℕ) (pos : ℕ) (x : Item × ℕ) → record_at owner kind bytes pos ≡ Ok x → is_kept x.0 ≡ true
+pub record_kept : (owner : Labels) (rtype : ℕ) (bytes : List ℕ) (pos : ℕ) (x : Item × ℕ) → record_at owner rtype bytes pos ≡ Ok x → is_kept x.0 ≡ true
 unfolding record_at
-record_kept owner kind bytes pos x e =
+record_kept owner rtype bytes pos x e =
     let a = bind_ok (u16_field bytes pos) _ x e in
     let b = bind_ok (u32_field bytes a.0.1) _ x a.2 in
     let c = bind_ok (u16_field bytes b.0.1) _ x b.2 in
-    let d = bind_ok (rdata_at kind a.0.0 bytes c.0.0 c.0.1) _ x c.2 in
+    let d = bind_ok (rdata_at rtype a.0.0 bytes c.0.0 c.0.1) _ x c.2 in
     first_kept _ x refl d.2
 
-chosen_kept : (opt : Bool) (bytes : List ℕ) (pos : ℕ) (owner : Labels) (kind next : ℕ) (x : Item × ℕ)
-    → cond opt (Err (fault BadOpt pos)) (record_at owner kind bytes next) ≡ Ok x → is_kept x.0 ≡ true
-chosen_kept true bytes pos owner kind next x e = absurd cc
-chosen_kept false bytes pos owner kind next x e = record_kept owner kind bytes next x e
+chosen_kept : (opt : Bool) (bytes : List ℕ) (pos : ℕ) (owner : Labels) (rtype next : ℕ) (x : Item × ℕ)
+    → cond opt (Err (fault BadOpt pos)) (record_at owner rtype bytes next) ≡ Ok x → is_kept x.0 ≡ true
+chosen_kept true bytes pos owner rtype next x e = absurd cc
+chosen_kept false bytes pos owner rtype next x e = record_kept owner rtype bytes next x e
 
 -- where none may stand no OPT is taken
 closed_kept : (bytes : List ℕ) (pos : ℕ) (x : Item × ℕ) → item_at false bytes pos ≡ Ok x → is_kept x.0 ≡ true
@@ -128,9 +128,9 @@ closed_kept bytes pos x e =
     let b = bind_ok (u16_field bytes a.0.1) _ x a.2 in
     chosen_kept (b.0.0 == type_opt) bytes pos a.0.0 b.0.0 b.0.1 x b.2
 
-pub opt_may : (may : Bool) (bytes : List ℕ) (pos : ℕ) (edns : EdnsText) (code next : ℕ) → item_at may bytes pos ≡ Ok (item.Opt edns code, next) → may ≡ true
-opt_may true bytes pos edns code next h = refl
-opt_may false bytes pos edns code next h = let kept = closed_kept bytes pos (item.Opt edns code, next) h in absurd cc
+pub opt_allowed : (allow_opt : Bool) (bytes : List ℕ) (pos : ℕ) (edns : EdnsValue) (code next : ℕ) → item_at allow_opt bytes pos ≡ Ok (item.Opt edns code, next) → allow_opt ≡ true
+opt_allowed true bytes pos edns code next h = refl
+opt_allowed false bytes pos edns code next h = let kept = closed_kept bytes pos (item.Opt edns code, next) h in absurd cc
 
 -- ---- questions
 
@@ -179,6 +179,6 @@ questions_done count i bytes pos queries total past so_far =
     sym so_far ∙ one
 
 -- where one may stand, none was taken before
-pub none_before : (opt : Option (EdnsText × ℕ)) (may : Bool) → IfSome opt (λ x. may ≡ false) → may ≡ true → opt ≡ None
-none_before None may once free = refl
-none_before (Some opt) may once free = absurd cc
+pub none_before : (opt : Option (EdnsValue × ℕ)) (allow_opt : Bool) → IfSome opt (λ x. allow_opt ≡ false) → allow_opt ≡ true → opt ≡ None
+none_before None allow_opt once free = refl
+none_before (Some opt) allow_opt once free = absurd cc

@@ -6,7 +6,7 @@ use Rattle.std.proofs.lemmas.Bool.Decides.{nat_tests}
 use Rattle.std.proofs.lemmas.List.Concat.{flat_map-cons}
 use Rattle.dns_model.specs.Names.{wire}
 use Rattle.dns_model.specs.Bytes.{u16_bytes, u32_bytes}
-use Rattle.dns_model.specs.Records.{Rr, Question, EdnsText, MessageText}
+use Rattle.dns_model.specs.Records.{Rr, Question, EdnsValue, MessageValue}
 use Rattle.dns_model.proofs.WireLemmas.{length-wire}
 use Rattle.dns_message.specs.declared.encode_error.EncodeError.TheVariants.{TooLong}
 use Rattle.dns_message.specs.WrittenAs.{question_bytes, record_bytes, edns_bytes, edns_count, header_bytes, has_long_options, has_many, written, encoded, opt_ttl, flags_of}
@@ -17,20 +17,20 @@ long_enough f some [] = omega arith
 long_enough f some (x ∷ xs) = omega (arith, some x, long_enough f some xs, ap length (flat_map-cons f x xs), length-append (f x) (flat_map f xs))
 
 some_question : (q : Question) → 0 < length (question_bytes q)
-some_question q = omega (arith, length-wire q.owner, length-append (wire q.owner ++ u16_bytes q.kind) (u16_bytes q.class))
+some_question q = omega (arith, length-wire q.owner, length-append (wire q.owner ++ u16_bytes q.rtype) (u16_bytes q.class))
 
 some_record : (r : Rr) → 0 < length (record_bytes r)
 some_record r = omega (
   arith,
-  length-append (wire r.owner ++ u16_bytes r.kind ++ u16_bytes r.class ++ u32_bytes r.ttl ++ u16_bytes (length r.rdata)) r.rdata,
-  length-append (wire r.owner ++ u16_bytes r.kind ++ u16_bytes r.class ++ u32_bytes r.ttl) (u16_bytes (length r.rdata)),
+  length-append (wire r.owner ++ u16_bytes r.rtype ++ u16_bytes r.class ++ u32_bytes r.ttl ++ u16_bytes (length r.rdata)) r.rdata,
+  length-append (wire r.owner ++ u16_bytes r.rtype ++ u16_bytes r.class ++ u32_bytes r.ttl) (u16_bytes (length r.rdata)),
 )
 
 -- the parts of a written message
-pub record IsLong (m : MessageText) : Type 0 where
+pub record IsLong (m : MessageValue) : Type 0 where
   pub whole : length m.queries + length m.answers + length m.authorities + length m.additionals + length (edns_bytes m.response_code m.edns) ≤ length (written m)
 
-pub written_length : (m : MessageText) → IsLong m
+pub written_length : (m : MessageValue) → IsLong m
 unfolding written
 written_length m =
     let q = long_enough question_bytes some_question m.queries in
@@ -39,11 +39,11 @@ written_length m =
     let d = long_enough record_bytes some_record m.additionals in
     record { whole = simp length-append (omega (arith, q, a, n, d)) }
 
-long_edns : (code : ℕ) (e : Option EdnsText) → edns_count e ≤ length (edns_bytes code e)
+long_edns : (code : ℕ) (e : Option EdnsValue) → edns_count e ≤ length (edns_bytes code e)
 long_edns code None = omega arith
 long_edns code (Some e) = omega arith
 
-long_options : (code : ℕ) (e : Option EdnsText) → has_long_options e ≡ true → 65535 < length (edns_bytes code e)
+long_options : (code : ℕ) (e : Option EdnsValue) → has_long_options e ≡ true → 65535 < length (edns_bytes code e)
 long_options code None h = absurd cc
 long_options code (Some e) h =
     let many : 65535 < length e.options = grind (arith, nat_tests) in
@@ -61,7 +61,7 @@ one_of_five false false false false false p q r s t h = absurd cc
 above : (n : ℕ) → nat_lt 65535 n ≡ true → 65535 < n
 above n h = grind (arith, nat_tests)
 
-pub has_many_long : (m : MessageText) → has_many m ≡ true → 65535 < length (written m)
+pub has_many_long : (m : MessageValue) → has_many m ≡ true → 65535 < length (written m)
 unfolding has_many
 has_many_long m h =
     let w = (written_length m).whole in
@@ -75,7 +75,7 @@ has_many_long m h =
     (λ k. let many = long_options m.response_code m.edns k in omega (arith, w, many))
     h
 
-pub too_many : (m : MessageText) → has_many m ≡ true → encoded m ≡ Err TooLong
+pub too_many : (m : MessageValue) → has_many m ≡ true → encoded m ≡ Err TooLong
 unfolding encoded
 too_many m h =
     let many = has_many_long m h in

@@ -6,7 +6,7 @@ use Rattle.dns_model.specs.Names.{Labels, wire, is_name}
 use Rattle.dns_message.specs.declared.decode_error.DecodeError.{DecodeError}
 use Rattle.dns_model.specs.Shapes as shapes
 use Rattle.dns_message.specs.declared.message_reader.Header.{Header}
-use Rattle.dns_message.specs.MessageAt.{HeaderText}
+use Rattle.dns_message.specs.MessageAt.{HeaderValue}
 use Rattle.dns_message.specs.declared.shape.Field.{Field}
 use Rattle.dns_message.specs.declared.shape.Field.TheVariants as field
 use Rattle.dns_message.specs.declared.step.Step.{Step}
@@ -16,7 +16,7 @@ use Rattle.dns_message.specs.declared.step.Step.TheVariants as step
 abbrev pub FitsStep : ℕ → ℕ → ℕ → ℕ → Step → Type 0
 FitsStep end start pos size step.Root = pos + 1 ≤ end
 FitsStep end start pos size (step.Label n) = (0 < n) × (n ≤ 63) × (pos + 1 + n ≤ end) × (size + 1 + n ≤ 254)
-FitsStep end start pos size (step.Jump target) = (target < start) × (pos + 2 ≤ end)
+FitsStep end start pos size (step.Pointer target) = (target < start) × (pos + 2 ≤ end)
 
 -- the bytes are the wire form of the name that was read
 pub record IsSpelled (read : Result (Labels × ℕ) DecodeError) (bytes : List ℕ) (next : ℕ) : Type 0 where
@@ -31,12 +31,12 @@ ending_or None place = place
 ending_or (Some first) place = first
 
 -- a field of the code as one of the definitions
-abbrev pub field_text : Field → shapes.Field
-field_text (field.Octets n) = shapes.Octets n
-field_text field.DomainName = shapes.DomainName
-field_text field.CharacterString = shapes.CharacterString
-field_text field.TypeBitmap = shapes.TypeBitmap
-field_text field.Remainder = shapes.Remainder
+abbrev pub field_value : Field → shapes.Field
+field_value (field.Octets n) = shapes.Octets n
+field_value field.DomainName = shapes.DomainName
+field_value field.CharacterString = shapes.CharacterString
+field_value field.TypeBitmap = shapes.TypeBitmap
+field_value field.Remainder = shapes.Remainder
 
 -- bytes were appended that were read with the place after them
 pub record IsAppended (read : Option (List ℕ × ℕ)) (old new : List ℕ) (next : ℕ) : Type 0 where
@@ -50,9 +50,9 @@ FieldRead read old new (Some next) = IsAppended read old new next
 FieldRead read old new None = read ≡ None
 
 -- a window at the front of a bitmap as one of the definitions
-abbrev pub window_text : Option (ℕ × Bor (List ℕ) × Bor (List ℕ)) → Option (shapes.Window × List ℕ)
-window_text None = None
-window_text (Some x) = Some (record { number = x.0; bits = x.1.now }, x.2.now)
+abbrev pub window_value : Option (ℕ × Bor (List ℕ) × Bor (List ℕ)) → Option (shapes.Window × List ℕ)
+window_value None = None
+window_value (Some x) = Some (record { number = x.0; bits = x.1.now }, x.2.now)
 
 -- the bytes that a vector holds
 abbrev pub items_in : Option (Vec ℕ) → Option (List ℕ)
@@ -60,5 +60,5 @@ items_in None = None
 items_in (Some v) = Some v.items
 
 -- the header of the code as one of the definitions
-abbrev pub header_text : Header → HeaderText
-header_text h = record { id = h.id; flags = h.flags; questions = h.questions; answers = h.answers; authorities = h.authorities; additionals = h.additionals }
+abbrev pub header_value : Header → HeaderValue
+header_value h = record { id = h.id; flags = h.flags; questions = h.questions; answers = h.answers; authorities = h.authorities; additionals = h.additionals }

@@ -1,6 +1,6 @@
 pub mod Reading
 pub mod NameAt
-pub mod Hops
+pub mod Pointers
 pub mod Fitting
 pub mod RdataAt
 pub mod RecordAt

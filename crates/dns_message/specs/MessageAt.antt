@@ -1,6 +1,6 @@
 -- A whole message: header, questions, answers, authorities and additional records (RFC 1035, 4.1; RFC 6891, 6.1).
 use Rattle.std.specs.Prelude.{ℕ, zero, suc, ◌+◌, ◌*◌, ◌/◌, ◌%◌, ◌==◌, Bool, true, false, List, [], ◌∷◌, length, Option, None, Some, Result, Ok, Err, nat_lt, if◌then◌else◌}
-use Rattle.dns_model.specs.Records.{Rr, Question, EdnsText, MessageText}
+use Rattle.dns_model.specs.Records.{Rr, Question, EdnsValue, MessageValue}
 use Rattle.dns_message.specs.declared.decode_error.DecodeKind.TheVariants.{Trailing}
 use Rattle.dns_message.specs.declared.decode_error.DecodeError.{DecodeError}
 use Rattle.dns_message.specs.Reading.{fault, ◌>>=◌, u16_field}
@@ -8,7 +8,7 @@ use Rattle.dns_message.specs.NameAt.{name_at}
 use Rattle.dns_message.specs.RecordAt.{section_at}
 
 -- the six numbers of the first twelve bytes
-pub record HeaderText : Type 0 where
+pub record HeaderValue : Type 0 where
   pub id : ℕ
   pub flags : ℕ
   pub questions : ℕ
@@ -16,7 +16,7 @@ pub record HeaderText : Type 0 where
   pub authorities : ℕ
   pub additionals : ℕ
 
-unfoldable pub header_at : List ℕ → Result HeaderText DecodeError
+unfoldable pub header_at : List ℕ → Result HeaderValue DecodeError
 header_at bytes = do
   id ← u16_field bytes 0
   flags ← u16_field bytes 2
@@ -29,9 +29,9 @@ header_at bytes = do
 unfoldable pub question_at : List ℕ → ℕ → Result (Question × ℕ) DecodeError
 question_at bytes pos = do
   name ← name_at bytes pos
-  kind ← u16_field bytes name.1
-  class ← u16_field bytes kind.1
-  Ok (record { owner = name.0; kind = kind.0; class = class.0 }, class.1)
+  rtype ← u16_field bytes name.1
+  class ← u16_field bytes rtype.1
+  Ok (record { owner = name.0; rtype = rtype.0; class = class.0 }, class.1)
 
 -- so many questions, and the place after them
 unfoldable pub questions_at : ℕ → List ℕ → ℕ → Result (List Question × ℕ) DecodeError
@@ -41,17 +41,17 @@ questions_at (suc count) bytes pos = do
   others ← questions_at count bytes first.1
   Ok (first.0 ∷ others.0, others.1)
 
-abbrev pub edns_in : Option (EdnsText × ℕ) → Option EdnsText
+abbrev pub edns_in : Option (EdnsValue × ℕ) → Option EdnsValue
 edns_in None = None
 edns_in (Some opt) = Some opt.0
 
 -- the upper eight bits of the code
-abbrev pub upper_code_in : Option (EdnsText × ℕ) → ℕ
+abbrev pub upper_code_in : Option (EdnsValue × ℕ) → ℕ
 upper_code_in None = 0
 upper_code_in (Some opt) = opt.1
 
 -- the bits of the second number from the top: QR, four of the opcode, AA, TC, RD, RA, one that is ignored, AD, CD, four of the code
-abbrev pub message_of : HeaderText → List Question → List Rr → List Rr → List Rr → Option (EdnsText × ℕ) → MessageText
+abbrev pub message_of : HeaderValue → List Question → List Rr → List Rr → List Rr → Option (EdnsValue × ℕ) → MessageValue
 message_of header queries answers authorities additionals opt = record {
   id = header.id;
   response = header.flags / 32768 % 2 == 1;
@@ -71,7 +71,7 @@ message_of header queries answers authorities additionals opt = record {
 }
 
 -- the message that bytes are, all of them
-unfoldable pub message_at : List ℕ → Result MessageText DecodeError
+unfoldable pub message_at : List ℕ → Result MessageValue DecodeError
 message_at bytes = do
   header ← header_at bytes
   queries ← questions_at header.questions bytes 12

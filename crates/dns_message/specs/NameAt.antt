@@ -26,7 +26,7 @@ step_of bytes start pos size =
     -- a pointer whose target isn't before its row of labels
     else if nat_le 192 (slice_index bytes pos) && nat_le start (target_at bytes pos) then Err (fault BadName pos)
     -- a pointer, whose target begins a row of its own
-    else if nat_le 192 (slice_index bytes pos) then Ok (step.Jump (target_at bytes pos))
+    else if nat_le 192 (slice_index bytes pos) then Ok (step.Pointer (target_at bytes pos))
     -- a label that reaches past the end
     else if nat_lt (length bytes) (pos + 1 + slice_index bytes pos) then Err (fault Short pos)
     -- a label with which the name, its closing zero byte too, passes 255 bytes
@@ -48,7 +48,7 @@ after_step (Err e) bytes start pos size more = Err e
 after_step (Ok step.Root) bytes start pos size more = Ok ([], pos + 1)
 after_step (Ok (step.Label n)) bytes start pos size more =
     with_label (slice_range bytes (pos + 1) (pos + 1 + n)) (more start (pos + 1 + n) (size + 1 + n))
-after_step (Ok (step.Jump target)) bytes start pos size more = ending_at (pos + 2) (more target target size)
+after_step (Ok (step.Pointer target)) bytes start pos size more = ending_at (pos + 2) (more target target size)
 
 -- the labels from a place on. The first number only bounds the steps
 unfoldable pub labels_from : ℕ → List ℕ → ℕ → ℕ → ℕ → Result (Labels × ℕ) DecodeError

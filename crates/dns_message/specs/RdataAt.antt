@@ -55,7 +55,7 @@ within_limit (Some bytes) = if nat_le (length bytes) 65535 then Some bytes else 
 
 -- the bytes of an rdata in the shape of its type
 unfoldable pub shaped_at : ℕ → List ℕ → ℕ → ℕ → Option (List ℕ)
-shaped_at kind bytes pos stop = within_limit (fields_at (shape_of kind) bytes pos stop)
+shaped_at rtype bytes pos stop = within_limit (fields_at (shape_of rtype) bytes pos stop)
 
 -- `size` bytes as they stand
 unfoldable pub opaque_at : List ℕ → ℕ → ℕ → Result (List ℕ) DecodeError
@@ -63,8 +63,8 @@ opaque_at bytes size pos = if nat_lt (length bytes) (pos + size) then Err (fault
 
 -- the rdata of `size` bytes at a place, by its type and class; an empty one is allowed for each type
 unfoldable pub rdata_at : ℕ → ℕ → List ℕ → ℕ → ℕ → Result (List ℕ) DecodeError
-rdata_at kind class bytes size pos =
+rdata_at rtype class bytes size pos =
     if nat_lt (length bytes) (pos + size) then Err (fault Short pos)
     else if size == 0 then Ok []
     else if not (has_shapes class) then Ok (slice_range bytes pos (pos + size))
-    else or_error (fault BadRdata pos) (shaped_at kind bytes pos (pos + size))
+    else or_error (fault BadRdata pos) (shaped_at rtype bytes pos (pos + size))

@@ -1,11 +1,11 @@
 ghost use Rattle.std.specs.Prelude.{◌≡◌, ◌≤◌, ◌<◌, length, IfSome};
 ghost use Rattle.dns_model.specs.Shapes.{window_in, is_bitmap};
-ghost use Rattle.dns_message.specs.Fitting.{window_text};
+ghost use Rattle.dns_message.specs.Fitting.{window_value};
 
 /// The window at the front of a type bitmap, its number and its bits, and the bytes after it (RFC 4034, 4.1.2).
 #[tactic(auto, unfolding(dns_model::specs::Shapes::window_in))]
 fn window_of(bytes: &[u8]) -> Option<(u8, &[u8], &[u8])>
-    ensures window { window_text result ≡ window_in bytes.now }
+    ensures window { window_value result ≡ window_in bytes.now }
     ensures shorter { IfSome result (λ x. length x.2.now < length bytes.now) }
 {
     match bytes {

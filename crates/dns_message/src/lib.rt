@@ -1,16 +1,16 @@
-//! Messages: their parts, how they are read from bytes and written. The layer above sees a message as a `MessageText`.
+//! Messages: their parts, how they are read from bytes and written. The layer above sees a message as a `MessageValue`.
 #![tactic(auto)]
 
 mod bitmap;
 mod decode_error;
 mod encode_error;
-mod hops;
 mod item;
 mod message;
 mod message_reader;
 mod message_writer;
 mod name_reader;
 mod number_reader;
+mod pointers;
 mod rdata;
 mod rdata_reader;
 mod record_reader;

@@ -18,9 +18,9 @@ pub struct Edns {
 }
 
 impl Model for Edns {
-    ghost use Rattle.dns_model.specs.Records.{EdnsText};
+    ghost use Rattle.dns_model.specs.Records.{EdnsValue};
 
-    ghost Value = { EdnsText };
+    ghost Value = { EdnsValue };
 
     ghost view = { λ e. record { max_payload = e.max_payload; version = e.version; dnssec_ok = e.dnssec_ok; flags = e.flags; options = e.options } };
 }
@@ -62,9 +62,9 @@ pub struct Message {
 }
 
 impl Model for Message {
-    ghost use Rattle.dns_model.specs.Records.{MessageText};
+    ghost use Rattle.dns_model.specs.Records.{MessageValue};
 
-    ghost Value = { MessageText };
+    ghost Value = { MessageValue };
 
     ghost view = { λ m. record {
       id = m.id;

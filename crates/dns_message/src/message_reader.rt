@@ -1,14 +1,14 @@
 ghost use Rattle.std.specs.Prelude.{◌≡◌, ◌+◌, ◌<◌, ◌≤◌, ◌^◌, length, IfOk};
 ghost use Rattle.dns_message.specs.Reading.{Reads};
 ghost use Rattle.dns_message.specs.MessageAt.{header_at, question_at, questions_at, message_of, message_at};
-ghost use Rattle.dns_message.specs.Hops.{AreHops};
-ghost use Rattle.dns_message.specs.Fitting.{header_text};
+ghost use Rattle.dns_message.specs.Pointers.{ArePointerEnds};
+ghost use Rattle.dns_message.specs.Fitting.{header_value};
 
 use crate::decode_error::{DecodeError, DecodeKind, fault};
-use crate::hops::hops_of;
 use crate::message::{Edns, Message};
 use crate::name_reader::name_of;
 use crate::number_reader::u16_of;
+use crate::pointers::pointer_ends_of;
 use crate::section_reader::section_of;
 use dns_record::{DNSClass, OpCode, Query, Record, RecordType, ResponseCode};
 use std::alloc::Global;
@@ -27,7 +27,7 @@ pub(crate) struct Header {
 #[tactic(auto, unfolding(crate::specs::MessageAt::header_at))]
 fn header_of(bytes: &[u8]) -> Result<Header, DecodeError>
     requires short { length bytes.now < 2 ^ 32 }
-    ensures reads { Reads header_text result (header_at bytes.now) }
+    ensures reads { Reads header_value result (header_at bytes.now) }
     ensures fits { IfOk result (λ h. 12 ≤ length bytes.now) }
 {
     let (id, next) = u16_of(bytes, 0)?;
@@ -51,21 +51,21 @@ fn header_of(bytes: &[u8]) -> Result<Header, DecodeError>
 fn question_of(
     alloc: Global,
     bytes: &[u8],
-    hops: &[u16],
+    pointer_ends: &[u16],
     at: usize,
 ) -> Result<(Query, usize), DecodeError>
-    requires hops { AreHops bytes.now hops.now }
+    requires pointer_ends { ArePointerEnds bytes.now pointer_ends.now }
     requires short { length bytes.now < 2 ^ 32 }
     requires at { at ≤ length bytes.now }
     ensures reads { Reads (λ x. (x.0, x.1)) result (question_at bytes.now at) }
     ensures fits { IfOk result (λ x. x.1 ≤ length bytes.now) }
 {
-    let (name, next) = name_of(alloc, bytes, hops, at)?;
-    let (kind, next) = u16_of(bytes, next)?;
+    let (name, next) = name_of(alloc, bytes, pointer_ends, at)?;
+    let (record_type, next) = u16_of(bytes, next)?;
     let (class, next) = u16_of(bytes, next)?;
     let query = Query {
         name,
-        query_type: RecordType(kind),
+        query_type: RecordType(record_type),
         query_class: DNSClass(class),
     };
     Ok((query, next))
@@ -76,10 +76,10 @@ fn questions_of(
     alloc: Global,
     count: u16,
     bytes: &[u8],
-    hops: &[u16],
+    pointer_ends: &[u16],
     at: usize,
 ) -> Result<(Vec<Query>, usize), DecodeError>
-    requires hops { AreHops bytes.now hops.now }
+    requires pointer_ends { ArePointerEnds bytes.now pointer_ends.now }
     requires short { length bytes.now < 2 ^ 32 }
     requires at { at ≤ length bytes.now }
     ensures reads { Reads (λ x. (x.0.items, x.1)) result (questions_at count bytes.now at) }
@@ -88,7 +88,7 @@ fn questions_of(
     let mut queries = Vec::new(alloc);
     let mut pos = at;
     'questions: for _ in 0..count {
-        let (query, next) = question_of(alloc, bytes, hops, pos)?;
+        let (query, next) = question_of(alloc, bytes, pointer_ends, pos)?;
         queries.push(query)?;
         pos = next;
     }
@@ -104,7 +104,7 @@ fn message_of(
     additionals: Vec<Record>,
     opt: Option<(Edns, u8)>,
 ) -> Message
-    ensures { result ≡ message_of (header_text header) queries.items answers.items authorities.items additionals.items opt }
+    ensures { result ≡ message_of (header_value header) queries.items answers.items authorities.items additionals.items opt }
 {
     let flags = header.flags;
     let (edns, upper) = match opt {
@@ -141,16 +141,23 @@ impl Message {
         ensures { Reads (λ m. m) result (message_at bytes.now) }
     {
         let header = header_of(bytes)?;
-        let hops = hops_of(alloc, bytes)?;
-        let hops = hops.as_slice();
-        let (queries, next) = questions_of(alloc, header.questions, bytes, hops, 12)?;
-        let (answers, _none, next) = section_of(alloc, header.answers, false, bytes, hops, next)?;
+        let pointer_ends = pointer_ends_of(alloc, bytes)?;
+        let pointer_ends = pointer_ends.as_slice();
+        let (queries, next) = questions_of(alloc, header.questions, bytes, pointer_ends, 12)?;
+        let (answers, _none, next) = section_of(
+            alloc,
+            header.answers,
+            false,
+            bytes,
+            pointer_ends,
+            next,
+        )?;
         let (authorities, _none, next) = section_of(
             alloc,
             header.authorities,
             false,
             bytes,
-            hops,
+            pointer_ends,
             next,
         )?;
         let (additionals, opt, next) = section_of(
@@ -158,7 +165,7 @@ impl Message {
             header.additionals,
             true,
             bytes,
-            hops,
+            pointer_ends,
             next,
         )?;
         if next < bytes.len() {

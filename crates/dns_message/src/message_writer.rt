@@ -3,7 +3,7 @@ ghost use Rattle.std.specs.List.{flat_map};
 ghost use Rattle.dns_model.specs.Bytes.{u16_bytes, u32_bytes};
 ghost use Rattle.dns_model.specs.Gives.{Gives};
 ghost use Rattle.dns_message.specs.declared.encode_error.EncodeError.TheVariants as errors;
-ghost use Rattle.dns_message.specs.WrittenAs.{number_of, question_bytes, record_bytes, opt_ttl, opt_bytes, edns_bytes, flags_of, header_bytes, edns_count, has_long_options, has_many, encoded, empty_query, IsReadAgain};
+ghost use Rattle.dns_message.specs.WrittenAs.{flag_bit, question_bytes, record_bytes, opt_ttl, opt_bytes, edns_bytes, flags_of, header_bytes, edns_count, has_long_options, has_many, encoded, empty_query, IsReadAgain};
 
 use crate::encode_error::EncodeError;
 use crate::message::{Edns, Message};
@@ -14,8 +14,8 @@ use std::alloc::Global;
 /// The most bytes of a message that is written, and the most items of a section.
 const MOST: usize = 65535;
 
-fn number_of(flag: bool) -> u16
-    ensures { result ≡ number_of flag }
+fn flag_bit(flag: bool) -> u16
+    ensures { result ≡ flag_bit flag }
 {
     if flag { 1 } else { 0 }
 }
@@ -80,7 +80,7 @@ fn opt_ttl(code: u16, edns: &Edns) -> u32
 {
     u32::from(code / 16 % 256) * 16777216
         + u32::from(edns.version) * 65536
-        + u32::from(number_of(edns.dnssec_ok)) * 32768
+        + u32::from(flag_bit(edns.dnssec_ok)) * 32768
         + u32::from(edns.flags % 32768)
 }
 
@@ -112,14 +112,14 @@ fn push_edns(out: &mut Vec<u8>, message: &Message) -> Result<(), NoMemory>
 fn flags_of(message: &Message) -> u16
     ensures { result ≡ flags_of message.now }
 {
-    number_of(message.response) * 32768
+    flag_bit(message.response) * 32768
         + u16::from(message.op_code.0 % 16) * 2048
-        + number_of(message.authoritative) * 1024
-        + number_of(message.truncated) * 512
-        + number_of(message.recursion_desired) * 256
-        + number_of(message.recursion_available) * 128
-        + number_of(message.authentic_data) * 32
-        + number_of(message.checking_disabled) * 16
+        + flag_bit(message.authoritative) * 1024
+        + flag_bit(message.truncated) * 512
+        + flag_bit(message.recursion_desired) * 256
+        + flag_bit(message.recursion_available) * 128
+        + flag_bit(message.authentic_data) * 32
+        + flag_bit(message.checking_disabled) * 16
         + message.response_code.0 % 16
 }
 

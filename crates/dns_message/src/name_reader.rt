@@ -1,11 +1,11 @@
 ghost use Rattle.std.specs.Prelude.{◌≡◌, ◌+◌, ◌<◌, ◌≤◌, ◌^◌, length, IfOk};
 ghost use Rattle.dns_message.specs.Reading.{Reads};
 ghost use Rattle.dns_message.specs.NameAt.{name_at, spelled_at};
-ghost use Rattle.dns_message.specs.Hops.{AreHops};
+ghost use Rattle.dns_message.specs.Pointers.{ArePointerEnds};
 ghost use Rattle.dns_message.specs.Fitting.{IsSpelled, ending_or};
 
 use crate::decode_error::DecodeError;
-use crate::hops::hop_in;
+use crate::pointers::pointer_end_in;
 use crate::step::{Step, step_at};
 use dns_name::{Name, Octets};
 use std::alloc::Global;
@@ -24,10 +24,10 @@ fn ending_or(ending: Option<usize>, place: usize) -> usize
 pub(crate) fn spelled_of(
     alloc: Global,
     bytes: &[u8],
-    hops: &[u16],
+    pointer_ends: &[u16],
     at: usize,
 ) -> Result<(Vec<u8>, usize), DecodeError>
-    requires hops { AreHops bytes.now hops.now }
+    requires pointer_ends { ArePointerEnds bytes.now pointer_ends.now }
     requires short { length bytes.now < 2 ^ 32 }
     requires at { at ≤ length bytes.now }
     ensures reads { Reads (λ x. (x.0.items, x.1)) result (spelled_at bytes.now at) }
@@ -49,9 +49,9 @@ pub(crate) fn spelled_of(
                 wire.extend_from_slice(&bytes[pos..next])?;
                 pos = next;
             }
-            Step::Jump(target) => {
+            Step::Pointer(target) => {
                 ending = Some(ending_or(ending, pos + 2));
-                start = hop_in(hops, target);
+                start = pointer_end_in(pointer_ends, target);
                 pos = start;
             }
         }
@@ -62,16 +62,16 @@ pub(crate) fn spelled_of(
 pub(crate) fn name_of(
     alloc: Global,
     bytes: &[u8],
-    hops: &[u16],
+    pointer_ends: &[u16],
     at: usize,
 ) -> Result<(Name, usize), DecodeError>
-    requires hops { AreHops bytes.now hops.now }
+    requires pointer_ends { ArePointerEnds bytes.now pointer_ends.now }
     requires short { length bytes.now < 2 ^ 32 }
     requires at { at ≤ length bytes.now }
     ensures reads { Reads (λ x. (x.0, x.1)) result (name_at bytes.now at) }
     ensures fits { IfOk result (λ x. x.1 ≤ length bytes.now) }
 {
-    let (wire, next) = spelled_of(alloc, bytes, hops, at)?;
+    let (wire, next) = spelled_of(alloc, bytes, pointer_ends, at)?;
     let name = Name::from_octets(Octets::from_vec(wire));
     Ok((name, next))
 }

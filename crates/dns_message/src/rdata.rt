@@ -2,8 +2,8 @@ ghost use Rattle.std.specs.Prelude.{◌≡◌, ◌+◌, ◌<◌, ◌≤◌, ◌^
 ghost use Rattle.dns_model.specs.Types.{has_shapes};
 ghost use Rattle.dns_message.specs.Reading.{Reads};
 ghost use Rattle.dns_message.specs.RdataAt.{fields_at, shaped_at, opaque_at, rdata_at};
-ghost use Rattle.dns_message.specs.Hops.{AreHops};
-ghost use Rattle.dns_message.specs.Fitting.{field_text, items_in};
+ghost use Rattle.dns_message.specs.Pointers.{ArePointerEnds};
+ghost use Rattle.dns_message.specs.Fitting.{field_value, items_in};
 
 use crate::decode_error::{DecodeError, DecodeKind, fault};
 use crate::rdata_reader::push_field;
@@ -17,20 +17,20 @@ fn fields_of(
     alloc: Global,
     shape: &[Field],
     bytes: &[u8],
-    hops: &[u16],
+    pointer_ends: &[u16],
     at: usize,
     stop: usize,
 ) -> Result<Option<Vec<u8>>, NoMemory>
-    requires hops { AreHops bytes.now hops.now }
+    requires pointer_ends { ArePointerEnds bytes.now pointer_ends.now }
     requires short { length bytes.now < 2 ^ 32 }
     requires at { at ≤ length bytes.now }
     requires stop { stop ≤ length bytes.now }
-    ensures { IfOk result (λ o. items_in o ≡ fields_at (map field_text shape.now) bytes.now at stop) }
+    ensures { IfOk result (λ o. items_in o ≡ fields_at (map field_value shape.now) bytes.now at stop) }
 {
     let mut into = Vec::new(alloc);
     let mut pos = at;
     for field in shape {
-        match push_field(alloc, *field, bytes, hops, pos, stop, &mut into)? {
+        match push_field(alloc, *field, bytes, pointer_ends, pos, stop, &mut into)? {
             None => return Ok(None),
             Some(next) => pos = next,
         }
@@ -46,19 +46,19 @@ fn fields_of(
 #[tactic(auto, unfolding(crate::specs::RdataAt::shaped_at))]
 fn shaped_of(
     alloc: Global,
-    kind: u16,
+    record_type: u16,
     bytes: &[u8],
-    hops: &[u16],
+    pointer_ends: &[u16],
     at: usize,
     stop: usize,
 ) -> Result<Option<Rdata>, NoMemory>
-    requires hops { AreHops bytes.now hops.now }
+    requires pointer_ends { ArePointerEnds bytes.now pointer_ends.now }
     requires short { length bytes.now < 2 ^ 32 }
     requires at { at ≤ length bytes.now }
     requires stop { stop ≤ length bytes.now }
-    ensures { IfOk result (λ o. o ≡ shaped_at kind bytes.now at stop) }
+    ensures { IfOk result (λ o. o ≡ shaped_at record_type bytes.now at stop) }
 {
-    match fields_of(alloc, shape_of(kind), bytes, hops, at, stop)? {
+    match fields_of(alloc, shape_of(record_type), bytes, pointer_ends, at, stop)? {
         None => Ok(None),
         Some(spelled) => {
             if spelled.len() <= Rdata::MAX_LEN {
@@ -101,17 +101,17 @@ pub(crate) fn opaque_of(
 #[tactic(auto, unfolding(crate::specs::RdataAt::rdata_at))]
 pub(crate) fn rdata_of(
     alloc: Global,
-    kind: u16,
+    record_type: u16,
     class: u16,
     bytes: &[u8],
-    hops: &[u16],
+    pointer_ends: &[u16],
     size: u16,
     at: usize,
 ) -> Result<Rdata, DecodeError>
-    requires hops { AreHops bytes.now hops.now }
+    requires pointer_ends { ArePointerEnds bytes.now pointer_ends.now }
     requires short { length bytes.now < 2 ^ 32 }
     requires at { at ≤ length bytes.now }
-    ensures reads { Reads (λ r. r) result (rdata_at kind class bytes.now size at) }
+    ensures reads { Reads (λ r. r) result (rdata_at record_type class bytes.now size at) }
     ensures fits { IfOk result (λ r. at + size ≤ length bytes.now) }
 {
     let stop = at + usize::from(size);
@@ -124,7 +124,7 @@ pub(crate) fn rdata_of(
     if !has_shapes(class) {
         return Ok(Rdata::from_slice(alloc, &bytes[at..stop])?);
     }
-    match shaped_of(alloc, kind, bytes, hops, at, stop)? {
+    match shaped_of(alloc, record_type, bytes, pointer_ends, at, stop)? {
         Some(rdata) => Ok(rdata),
         None => Err(fault(DecodeKind::BadRdata, at)),
     }

@@ -1,8 +1,8 @@
 ghost use Rattle.std.specs.Prelude.{◌≡◌, ◌+◌, ◌<◌, ◌≤◌, ◌^◌, length, IfOk, IfSome};
 ghost use Rattle.dns_message.specs.NameAt.{spelled_at};
 ghost use Rattle.dns_message.specs.RdataAt.{octets_at, counted_at, rest_at, bitmap_at, without_fault, field_at};
-ghost use Rattle.dns_message.specs.Hops.{AreHops};
-ghost use Rattle.dns_message.specs.Fitting.{field_text, FieldRead};
+ghost use Rattle.dns_message.specs.Pointers.{ArePointerEnds};
+ghost use Rattle.dns_message.specs.Fitting.{field_value, FieldRead};
 
 use crate::bitmap::is_bitmap;
 use crate::decode_error::DecodeKind;
@@ -42,21 +42,21 @@ pub(crate) fn push_field(
     alloc: Global,
     field: Field,
     bytes: &[u8],
-    hops: &[u16],
+    pointer_ends: &[u16],
     pos: usize,
     stop: usize,
     into: &mut Vec<u8>,
 ) -> Result<Option<usize>, NoMemory>
-    requires hops { AreHops bytes.now hops.now }
+    requires pointer_ends { ArePointerEnds bytes.now pointer_ends.now }
     requires short { length bytes.now < 2 ^ 32 }
     requires stop { stop ≤ length bytes.now }
     requires pos { pos ≤ length bytes.now }
-    ensures reads { IfOk result (λ next. FieldRead (field_at (field_text field) bytes.now pos stop) into.old.items into.new.items next) }
+    ensures reads { IfOk result (λ next. FieldRead (field_at (field_value field) bytes.now pos stop) into.old.items into.new.items next) }
     ensures fits { IfOk result (λ next. IfSome next (λ n. n ≤ length bytes.now)) }
 {
     match field {
         Field::Octets(size) => push_octets(bytes, usize::from(size), pos, stop, into),
-        Field::DomainName => push_name(alloc, bytes, hops, pos, into),
+        Field::DomainName => push_name(alloc, bytes, pointer_ends, pos, into),
         Field::CharacterString => push_counted(bytes, pos, stop, into),
         Field::TypeBitmap => push_bitmap(bytes, pos, stop, into),
         Field::Remainder => push_rest(bytes, pos, stop, into),
@@ -66,17 +66,17 @@ pub(crate) fn push_field(
 fn push_name(
     alloc: Global,
     bytes: &[u8],
-    hops: &[u16],
+    pointer_ends: &[u16],
     pos: usize,
     into: &mut Vec<u8>,
 ) -> Result<Option<usize>, NoMemory>
-    requires hops { AreHops bytes.now hops.now }
+    requires pointer_ends { ArePointerEnds bytes.now pointer_ends.now }
     requires short { length bytes.now < 2 ^ 32 }
     requires pos { pos ≤ length bytes.now }
     ensures reads { IfOk result (λ next. FieldRead (without_fault (spelled_at bytes.now pos)) into.old.items into.new.items next) }
     ensures fits { IfOk result (λ next. IfSome next (λ n. n ≤ length bytes.now)) }
 {
-    match spelled_of(alloc, bytes, hops, pos) {
+    match spelled_of(alloc, bytes, pointer_ends, pos) {
         Ok((wire, next)) => {
             into.extend_from_slice(&wire)?;
             Ok(Some(next))

@@ -1,6 +1,6 @@
 ghost use Rattle.std.specs.Prelude.{◌≡◌, ◌+◌, ◌<◌, ◌≤◌, ◌^◌, length, IfOk};
 ghost use Rattle.dns_message.specs.Reading.{Reads};
-ghost use Rattle.dns_message.specs.Hops.{AreHops};
+ghost use Rattle.dns_message.specs.Pointers.{ArePointerEnds};
 ghost use Rattle.dns_message.specs.RecordAt.{record_at, opt_at, item_at, edns_of, is_root};
 
 use crate::decode_error::{DecodeError, DecodeKind, fault};
@@ -18,24 +18,24 @@ use std::alloc::Global;
 fn record_of(
     alloc: Global,
     owner: Name,
-    kind: u16,
+    record_type: u16,
     bytes: &[u8],
-    hops: &[u16],
+    pointer_ends: &[u16],
     at: usize,
 ) -> Result<(Item, usize), DecodeError>
-    requires hops { AreHops bytes.now hops.now }
+    requires pointer_ends { ArePointerEnds bytes.now pointer_ends.now }
     requires short { length bytes.now < 2 ^ 32 }
     requires at { at ≤ length bytes.now }
-    ensures reads { Reads (λ x. (x.0, x.1)) result (record_at owner kind bytes.now at) }
+    ensures reads { Reads (λ x. (x.0, x.1)) result (record_at owner record_type bytes.now at) }
     ensures fits { IfOk result (λ x. x.1 ≤ length bytes.now) }
 {
     let (class, next) = u16_of(bytes, at)?;
     let (ttl, next) = u32_of(bytes, next)?;
     let (size, next) = u16_of(bytes, next)?;
-    let rdata = rdata_of(alloc, kind, class, bytes, hops, size, next)?;
+    let rdata = rdata_of(alloc, record_type, class, bytes, pointer_ends, size, next)?;
     let record = Record {
         name: owner,
-        record_type: RecordType(kind),
+        record_type: RecordType(record_type),
         dns_class: DNSClass(class),
         ttl,
         rdata,
@@ -80,23 +80,23 @@ fn opt_of(alloc: Global, bytes: &[u8], at: usize) -> Result<(Item, usize), Decod
 #[tactic(auto, unfolding(crate::specs::RecordAt::item_at))]
 pub(crate) fn item_of(
     alloc: Global,
-    may: bool,
+    allow_opt: bool,
     bytes: &[u8],
-    hops: &[u16],
+    pointer_ends: &[u16],
     at: usize,
 ) -> Result<(Item, usize), DecodeError>
-    requires hops { AreHops bytes.now hops.now }
+    requires pointer_ends { ArePointerEnds bytes.now pointer_ends.now }
     requires short { length bytes.now < 2 ^ 32 }
     requires at { at ≤ length bytes.now }
-    ensures reads { Reads (λ x. (x.0, x.1)) result (item_at may bytes.now at) }
+    ensures reads { Reads (λ x. (x.0, x.1)) result (item_at allow_opt bytes.now at) }
     ensures fits { IfOk result (λ x. x.1 ≤ length bytes.now) }
 {
-    let (owner, next) = name_of(alloc, bytes, hops, at)?;
-    let (kind, next) = u16_of(bytes, next)?;
-    if kind != 41 {
-        return record_of(alloc, owner, kind, bytes, hops, next);
+    let (owner, next) = name_of(alloc, bytes, pointer_ends, at)?;
+    let (record_type, next) = u16_of(bytes, next)?;
+    if record_type != 41 {
+        return record_of(alloc, owner, record_type, bytes, pointer_ends, next);
     }
-    if may && stands_at_root(&owner) {
+    if allow_opt && stands_at_root(&owner) {
         return opt_of(alloc, bytes, next);
     }
     Err(fault(DecodeKind::BadOpt, at))

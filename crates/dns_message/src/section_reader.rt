@@ -1,6 +1,6 @@
 ghost use Rattle.std.specs.Prelude.{◌≡◌, ◌+◌, ◌<◌, ◌≤◌, ◌^◌, length, IfOk};
 ghost use Rattle.dns_message.specs.Reading.{Reads};
-ghost use Rattle.dns_message.specs.Hops.{AreHops};
+ghost use Rattle.dns_message.specs.Pointers.{ArePointerEnds};
 ghost use Rattle.dns_message.specs.RecordAt.{section_at};
 
 use crate::decode_error::DecodeError;
@@ -15,23 +15,23 @@ use std::alloc::Global;
 pub(crate) fn section_of(
     alloc: Global,
     count: u16,
-    may: bool,
+    allow_opt: bool,
     bytes: &[u8],
-    hops: &[u16],
+    pointer_ends: &[u16],
     at: usize,
 ) -> Result<(Vec<Record>, Option<(Edns, u8)>, usize), DecodeError>
-    requires hops { AreHops bytes.now hops.now }
+    requires pointer_ends { ArePointerEnds bytes.now pointer_ends.now }
     requires short { length bytes.now < 2 ^ 32 }
     requires at { at ≤ length bytes.now }
-    ensures reads { Reads (λ x. (x.0.items, x.1, x.2)) result (section_at count may bytes.now at) }
+    ensures reads { Reads (λ x. (x.0.items, x.1, x.2)) result (section_at count allow_opt bytes.now at) }
     ensures fits { IfOk result (λ x. x.2 ≤ length bytes.now) }
 {
     let mut records = Vec::new(alloc);
     let mut opt = None;
-    let mut allowed = may;
+    let mut allowed = allow_opt;
     let mut pos = at;
     'records: for _ in 0..count {
-        let (item, next) = item_of(alloc, allowed, bytes, hops, pos)?;
+        let (item, next) = item_of(alloc, allowed, bytes, pointer_ends, pos)?;
         pos = next;
         match item {
             Item::Kept(record) => records.push(record)?,

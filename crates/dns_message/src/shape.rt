@@ -1,6 +1,6 @@
 ghost use Rattle.std.specs.Prelude.{◌≡◌, map};
 ghost use Rattle.dns_model.specs.Shapes.{shape_of};
-ghost use Rattle.dns_message.specs.Fitting.{field_text};
+ghost use Rattle.dns_message.specs.Fitting.{field_value};
 
 /// One field of an rdata.
 #[derive(Clone, Copy, Debug, Drop)]
@@ -17,10 +17,10 @@ pub(crate) enum Field {
 
 /// The fields of each type's rdata (RFC 1035, 3.3; RFC 4034; RFC 5155, 3); of a type that isn't known, bytes as they stand.
 #[tactic(auto, unfolding(dns_model::specs::Shapes::shape_of))]
-pub(crate) fn shape_of(kind: u16) -> &'static [Field]
-    ensures { map field_text result.now ≡ shape_of kind }
+pub(crate) fn shape_of(record_type: u16) -> &'static [Field]
+    ensures { map field_value result.now ≡ shape_of record_type }
 {
-    match kind {
+    match record_type {
         1 => &[Field::Octets(4)],
         2 | 5 | 12 | 39 => &[Field::DomainName],
         6 => &[Field::DomainName, Field::DomainName, Field::Octets(20)],

@@ -13,7 +13,7 @@ pub(crate) enum Step {
     /// A label of so many bytes.
     Label(u8),
     /// A pointer to a place.
-    Jump(u16),
+    Pointer(u16),
 }
 
 /// The step at `pos` in a row of labels that began at `start`, with `size` bytes of labels before.
@@ -48,7 +48,7 @@ pub(crate) fn step_at(
         if start <= usize::from(target) {
             return Err(fault(DecodeKind::BadName, pos));
         }
-        return Ok(Step::Jump(target));
+        return Ok(Step::Pointer(target));
     }
     if bytes.len() < pos + 1 + usize::from(byte) {
         return Err(fault(DecodeKind::Short, pos));

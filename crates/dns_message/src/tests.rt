@@ -156,12 +156,12 @@ fn first_fault_with_its_place(rt: HostRuntime) -> Result<(), Fail> {
 /// A message with one answer at the root.
 pub(crate) fn with_rdata(
     alloc: Global,
-    kind: u8,
+    record_type: u8,
     class: u8,
     rdata: &[u8],
 ) -> Result<Vec<u8>, AllocError> {
     let mut bytes = bytes_of(alloc, "000080000000000100000000 0000")?;
-    bytes.push(kind)?;
+    bytes.push(record_type)?;
     bytes.push(0)?;
     bytes.push(class)?;
     bytes.extend_from_slice(&[0, 0, 0, 0, 0])?;
@@ -171,10 +171,10 @@ pub(crate) fn with_rdata(
 }
 
 /// The only answer has this type and rdata.
-fn answers(message: &Message, kind: u8, rdata: &[u8]) -> bool {
+fn answers(message: &Message, record_type: u8, rdata: &[u8]) -> bool {
     match message.answers.as_slice() {
         [answer] => {
-            answer.record_type == RecordType(u16::from(kind))
+            answer.record_type == RecordType(u16::from(record_type))
                 && answer.rdata.as_slice() == rdata
                 && answer.proof == Proof::Indeterminate
         }
@@ -182,17 +182,17 @@ fn answers(message: &Message, kind: u8, rdata: &[u8]) -> bool {
     }
 }
 
-fn is_taken(alloc: Global, kind: u8, class: u8, rdata: &[u8]) -> Result<bool, AllocError> {
-    let bytes = with_rdata(alloc, kind, class, rdata)?;
+fn is_taken(alloc: Global, record_type: u8, class: u8, rdata: &[u8]) -> Result<bool, AllocError> {
+    let bytes = with_rdata(alloc, record_type, class, rdata)?;
     match read(alloc, &bytes) {
-        Some(message) => Ok(answers(&message, kind, rdata)),
+        Some(message) => Ok(answers(&message, record_type, rdata)),
         None => Ok(false),
     }
 }
 
 /// The rdata is refused at its first byte.
-fn is_bad(alloc: Global, kind: u8, rdata: &[u8]) -> Result<bool, AllocError> {
-    let bytes = with_rdata(alloc, kind, 1, rdata)?;
+fn is_bad(alloc: Global, record_type: u8, rdata: &[u8]) -> Result<bool, AllocError> {
+    let bytes = with_rdata(alloc, record_type, 1, rdata)?;
     let bad = DecodeError {
         kind: DecodeKind::BadRdata,
         offset: 23,
@@ -202,16 +202,21 @@ fn is_bad(alloc: Global, kind: u8, rdata: &[u8]) -> Result<bool, AllocError> {
 
 /// Taken as it is, refused one byte short, and one byte long taken only where the shape ends in any bytes. In a class of another
 /// kind, and where it is empty, any rdata is taken.
-fn has_its_shape(alloc: Global, kind: u8, text: &str, long: bool) -> Result<bool, AllocError> {
+fn has_its_shape(
+    alloc: Global,
+    record_type: u8,
+    text: &str,
+    long: bool,
+) -> Result<bool, AllocError> {
     let mut rdata = bytes_of(alloc, text)?;
     rdata.push(0)?;
     let size = rdata.len();
     let exact = &rdata[..size.saturating_sub(1)];
     let short = &rdata[..size.saturating_sub(2)];
-    let taken = is_taken(alloc, kind, 1, exact)?
-        && is_taken(alloc, kind, 3, short)?
-        && is_taken(alloc, kind, 1, &[])?;
-    let refused = is_bad(alloc, kind, short)? && is_bad(alloc, kind, &rdata)? != long;
+    let taken = is_taken(alloc, record_type, 1, exact)?
+        && is_taken(alloc, record_type, 3, short)?
+        && is_taken(alloc, record_type, 1, &[])?;
+    let refused = is_bad(alloc, record_type, short)? && is_bad(alloc, record_type, &rdata)? != long;
     Ok(taken && refused)
 }
 
@@ -245,8 +250,11 @@ pub(crate) const SHAPES: [(u8, &str, bool); 20] = [
 
 #[test]
 fn each_type_in_its_shape(rt: HostRuntime) -> Result<(), Fail> {
-    for (kind, text, long) in &SHAPES {
-        assert!(rt; has_its_shape(rt.alloc(), *kind, text, *long)?, "{kind}");
+    for (record_type, text, long) in &SHAPES {
+        assert!(rt;
+            has_its_shape(rt.alloc(), *record_type, text, *long)?,
+            "{record_type}"
+        );
     }
     Ok(())
 }

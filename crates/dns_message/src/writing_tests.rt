@@ -141,9 +141,9 @@ fn text_comes_back(alloc: Global, text: &str) -> Result<bool, AllocError> {
     comes_back(alloc, &bytes)
 }
 
-fn rdata_comes_back(alloc: Global, kind: u8, text: &str) -> Result<bool, AllocError> {
+fn rdata_comes_back(alloc: Global, record_type: u8, text: &str) -> Result<bool, AllocError> {
     let rdata = bytes_of(alloc, text)?;
-    let bytes = with_rdata(alloc, kind, 1, &rdata)?;
+    let bytes = with_rdata(alloc, record_type, 1, &rdata)?;
     comes_back(alloc, &bytes)
 }
 
@@ -153,8 +153,11 @@ fn what_is_written_is_read_again(rt: HostRuntime) -> Result<(), Fail> {
         assert!(rt; text_comes_back(rt.alloc(), text)?, "{text}");
         assert!(rt; text_comes_back(rt.alloc(), want)?, "{want}");
     }
-    for (kind, text, _) in &SHAPES {
-        assert!(rt; rdata_comes_back(rt.alloc(), *kind, text)?, "{kind}");
+    for (record_type, text, _) in &SHAPES {
+        assert!(rt;
+            rdata_comes_back(rt.alloc(), *record_type, text)?,
+            "{record_type}"
+        );
     }
     Ok(())
 }

@@ -9,7 +9,7 @@ use Rattle.dns_model.specs.Names.{Labels, name_eq}
 use Rattle.dns_model.specs.Types.{type_dnskey}
 use Rattle.dns_model.specs.Keys.{bytes_eq}
 use Rattle.dns_model.specs.Records.{Rr, RrSet}
-use Rattle.dns_model.specs.Chains.{Fact, Anchored, Matched, KeySet, Signed, Judge, link_holds, links_hold, is_chain, justified, last_link, same_rdatas, rdatas_of, has_bytes, link_is_for, shows_member, shows_key}
+use Rattle.dns_model.specs.Chains.{LinkValue, Anchored, Matched, KeySet, Signed, Judge, link_holds, links_hold, is_chain, justified, last_link, same_rdatas, rdatas_of, has_bytes, link_is_for, shows_member, shows_key}
 use Rattle.dns_model.proofs.EachLemmas.{each_more}
 use Rattle.dns_model.proofs.SetLemmas.{name_refl, name_trans, number_refl, number_same}
 
@@ -22,7 +22,7 @@ and_true true = refl
 and_true false = refl
 
 -- links hold in two parts, the second after the first
-pub links_hold-join : (j : Judge) (earlier links more : List Fact)
+pub links_hold-join : (j : Judge) (earlier links more : List LinkValue)
     → links_hold j earlier (links ++ more) ≡ (links_hold j earlier links && links_hold j (earlier ++ links) more)
 unfolding links_hold
 links_hold-join j earlier [] more = ap (λ e. links_hold j e more) (sym (append-nil earlier))
@@ -32,21 +32,21 @@ links_hold-join j earlier (link ∷ links) more =
     ∙ and_assoc (link_holds j earlier link) (links_hold j (earlier ++ link ∷ []) links) (links_hold j (earlier ++ link ∷ links) more)
 
 -- one more link
-pub links_hold-append : (j : Judge) (earlier links : List Fact) (link : Fact)
+pub links_hold-append : (j : Judge) (earlier links : List LinkValue) (link : LinkValue)
     → links_hold j earlier (links ++ link ∷ []) ≡ (links_hold j earlier links && link_holds j (earlier ++ links) link)
 unfolding links_hold
 links_hold-append j earlier links link =
     links_hold-join j earlier links (link ∷ [])
     ∙ ap (λ b. links_hold j earlier links && b) (and_true (link_holds j (earlier ++ links) link))
 
-pub last_link-append : (chain : List Fact) (link : Fact) → last_link (chain ++ link ∷ []) ≡ Some link
+pub last_link-append : (chain : List LinkValue) (link : LinkValue) → last_link (chain ++ link ∷ []) ≡ Some link
 unfolding last_link
 last_link-append [] link = refl
 last_link-append (x ∷ []) link = refl
 last_link-append (x ∷ y ∷ chain) link = last_link-append (y ∷ chain) link
 
 -- the link with the last number
-pub slice_get-last : (chain : List Fact) → slice_get chain (length chain - 1) ≡ last_link chain
+pub slice_get-last : (chain : List LinkValue) → slice_get chain (length chain - 1) ≡ last_link chain
 unfolding last_link
 slice_get-last [] = refl
 slice_get-last (x ∷ []) = refl
@@ -54,25 +54,25 @@ slice_get-last (x ∷ y ∷ chain) =
     let here : length (x ∷ y ∷ chain) - 1 ≡ suc (length (y ∷ chain) - 1) = omega arith in
     ap (slice_get (x ∷ y ∷ chain)) here ∙ slice_get-last (y ∷ chain)
 
-pub is_chain-append : (chain : List Fact) (link : Fact) → is_chain (chain ++ link ∷ []) ≡ true
+pub is_chain-append : (chain : List LinkValue) (link : LinkValue) → is_chain (chain ++ link ∷ []) ≡ true
 is_chain-append [] link = refl
 is_chain-append (x ∷ chain) link = refl
 
 -- a justified chain with one more link that holds is justified
-pub justified_extends : (j : Judge) (chain : List Fact) (link : Fact) → justified j chain ≡ true → link_holds j chain link ≡ true
+pub justified_extends : (j : Judge) (chain : List LinkValue) (link : LinkValue) → justified j chain ≡ true → link_holds j chain link ≡ true
     → justified j (chain ++ link ∷ []) ≡ true
 justified_extends j chain link held holds =
     let parts = and_parts (is_chain chain) (links_hold j [] chain) held in
     let both : (links_hold j [] chain && link_holds j chain link) ≡ true = and_from (links_hold j [] chain) (link_holds j chain link) parts.1 holds in
     and_from (is_chain (chain ++ link ∷ [])) (links_hold j [] (chain ++ link ∷ [])) (is_chain-append chain link) (links_hold-append j [] chain link ∙ both)
 
-is_chain-take : (n : ℕ) (chain : List Fact) → 0 < n → is_chain chain ≡ true → is_chain (take n chain) ≡ true
+is_chain-take : (n : ℕ) (chain : List LinkValue) → 0 < n → is_chain chain ≡ true → is_chain (take n chain) ≡ true
 is_chain-take zero chain some is = absurd (omega arith)
 is_chain-take (suc n) [] some is = is
 is_chain-take (suc n) (x ∷ chain) some is = refl
 
 -- each prefix of a justified chain that has a link is justified
-pub justified-take : (j : Judge) (n : ℕ) (chain : List Fact) → 0 < n → justified j chain ≡ true → justified j (take n chain) ≡ true
+pub justified-take : (j : Judge) (n : ℕ) (chain : List LinkValue) → 0 < n → justified j chain ≡ true → justified j (take n chain) ≡ true
 justified-take j n chain some held =
     let parts = and_parts (is_chain chain) (links_hold j [] chain) held in
     let cut : (links_hold j [] (take n chain) && links_hold j (take n chain) (drop n chain)) ≡ true =
@@ -112,12 +112,12 @@ each_member (x ∷ xs) = (
 -- ---- what a link shows
 
 -- a link is about a set, taken apart: its owner is the set's, its class and its rdatas too
-about : (kind_is : Bool) (set : RrSet) (owner : Labels) (class : ℕ) (rdatas : List (List ℕ))
-    → (kind_is && (name_eq set.owner owner && ((set.class == class) && same_rdatas (rdatas_of set.records) rdatas))) ≡ true
+about : (rtype_is : Bool) (set : RrSet) (owner : Labels) (class : ℕ) (rdatas : List (List ℕ))
+    → (rtype_is && (name_eq set.owner owner && ((set.class == class) && same_rdatas (rdatas_of set.records) rdatas))) ≡ true
     → (name : Labels) (number : ℕ) (key : List ℕ) → name_eq name set.owner ≡ true → (number == set.class) ≡ true → has_bytes (rdatas_of set.records) key ≡ true
-    → (kind_is ≡ true) × ((name_eq name owner && ((number == class) && has_bytes rdatas key)) ≡ true)
-about kind_is set owner class rdatas h name number key is_owner is_class member =
-    let one = and_parts kind_is (name_eq set.owner owner && ((set.class == class) && same_rdatas (rdatas_of set.records) rdatas)) h in
+    → (rtype_is ≡ true) × ((name_eq name owner && ((number == class) && has_bytes rdatas key)) ≡ true)
+about rtype_is set owner class rdatas h name number key is_owner is_class member =
+    let one = and_parts rtype_is (name_eq set.owner owner && ((set.class == class) && same_rdatas (rdatas_of set.records) rdatas)) h in
     let two = and_parts (name_eq set.owner owner) ((set.class == class) && same_rdatas (rdatas_of set.records) rdatas) one.1 in
     let three = and_parts (set.class == class) (same_rdatas (rdatas_of set.records) rdatas) two.1 in
     let within : has_bytes rdatas key ≡ true = ap (λ xs. has_bytes xs key) (sym (rdatas_same (rdatas_of set.records) rdatas three.1)) ∙ member in
@@ -128,18 +128,18 @@ about kind_is set owner class rdatas h name number key is_owner is_class member 
     )
 
 -- a link for a key set shows each key of it
-pub member_shown : (set : RrSet) (link : Option Fact) (name : Labels) (number : ℕ) (key : List ℕ)
-    → link_is_for set link ≡ true → (set.kind == type_dnskey) ≡ true → name_eq name set.owner ≡ true → (number == set.class) ≡ true
+pub member_shown : (set : RrSet) (link : Option LinkValue) (name : Labels) (number : ℕ) (key : List ℕ)
+    → link_is_for set link ≡ true → (set.rtype == type_dnskey) ≡ true → name_eq name set.owner ≡ true → (number == set.class) ≡ true
     → has_bytes (rdatas_of set.records) key ≡ true → shows_member name number key link ≡ true
 member_shown set None name number key is keys owner class member = cc
 member_shown set (Some (Anchored o c k)) name number key is keys owner class member = cc
 member_shown set (Some (Matched o c k ds_link ds)) name number key is keys owner class member = cc
 member_shown set (Some (KeySet o c ks links)) name number key is keys owner class member =
-    (about (set.kind == type_dnskey) set o c ks is name number key owner class member).1
-member_shown set (Some (Signed o c kind rdatas sig key_link k)) name number key is keys owner class member =
-    let parts = about (set.kind == kind) set o c rdatas is name number key owner class member in
-    let kind_is : (kind == type_dnskey) ≡ true = ap (λ n. n == type_dnskey) (sym (number_same set.kind kind parts.0)) ∙ keys in
-    and_from (kind == type_dnskey) (name_eq name o && ((number == c) && has_bytes rdatas key)) kind_is parts.1
+    (about (set.rtype == type_dnskey) set o c ks is name number key owner class member).1
+member_shown set (Some (Signed o c rtype rdatas sig key_link k)) name number key is keys owner class member =
+    let parts = about (set.rtype == rtype) set o c rdatas is name number key owner class member in
+    let rtype_is : (rtype == type_dnskey) ≡ true = ap (λ n. n == type_dnskey) (sym (number_same set.rtype rtype parts.0)) ∙ keys in
+    and_from (rtype == type_dnskey) (name_eq name o && ((number == c) && has_bytes rdatas key)) rtype_is parts.1
 
 own_parts : (set : RrSet) → (name_eq set.owner set.owner && ((set.class == set.class) && same_rdatas (rdatas_of set.records) (rdatas_of set.records))) ≡ true
 own_parts set =
@@ -148,16 +148,16 @@ own_parts set =
 
 -- a signed link that is made of a set is for it
 pub signed_is_for : (set : RrSet) (sig : List ℕ) (key_link : ℕ) (key : List ℕ)
-    → link_is_for set (Some (Signed set.owner set.class set.kind (rdatas_of set.records) sig key_link key)) ≡ true
+    → link_is_for set (Some (Signed set.owner set.class set.rtype (rdatas_of set.records) sig key_link key)) ≡ true
 signed_is_for set sig key_link key =
-    and_from (set.kind == set.kind) (name_eq set.owner set.owner && ((set.class == set.class) && same_rdatas (rdatas_of set.records) (rdatas_of set.records)))
-    (number_refl set.kind) (own_parts set)
+    and_from (set.rtype == set.rtype) (name_eq set.owner set.owner && ((set.class == set.class) && same_rdatas (rdatas_of set.records) (rdatas_of set.records)))
+    (number_refl set.rtype) (own_parts set)
 
 -- a key set's link that is made of a set is for it
-pub keys_are_for : (set : RrSet) (links : List ℕ) → (set.kind == type_dnskey) ≡ true
+pub keys_are_for : (set : RrSet) (links : List ℕ) → (set.rtype == type_dnskey) ≡ true
     → link_is_for set (Some (KeySet set.owner set.class (rdatas_of set.records) links)) ≡ true
 keys_are_for set links keys =
-    and_from (set.kind == type_dnskey) (name_eq set.owner set.owner && ((set.class == set.class) && same_rdatas (rdatas_of set.records) (rdatas_of set.records)))
+    and_from (set.rtype == type_dnskey) (name_eq set.owner set.owner && ((set.class == set.class) && same_rdatas (rdatas_of set.records) (rdatas_of set.records)))
     keys (own_parts set)
 
 -- an anchored key's link shows the key
@@ -168,6 +168,6 @@ anchor_shown owner class key =
 
 -- ---- a link by its number
 
-pub slice_get_at : (front : List Fact) (link : Fact) (rest : List Fact) → slice_get (front ++ link ∷ rest) (length front) ≡ Some link
+pub slice_get_at : (front : List LinkValue) (link : LinkValue) (rest : List LinkValue) → slice_get (front ++ link ∷ rest) (length front) ≡ Some link
 slice_get_at [] link rest = refl
 slice_get_at (x ∷ front) link rest = slice_get_at front link rest

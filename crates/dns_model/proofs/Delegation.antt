@@ -5,13 +5,13 @@ use Rattle.dns_model.specs.Bytes.{u16_bytes, u32_bytes}
 use Rattle.dns_model.specs.Names.{Labels, wire}
 use Rattle.dns_model.specs.NameForm.{label_in, labels_in, name_in}
 use Rattle.dns_model.specs.Signing.{ds_digest, tag_sum}
-use Rattle.dns_model.specs.Views.{sig_in, key_in, ds_in}
-use Rattle.dns_model.specs.Keys.{Answers, matches}
-use Rattle.dns_model.specs.Chains.{Fact, Anchored, Matched, KeySet, Signed, judge, justified, links_hold, link_holds, all_shown}
+use Rattle.dns_model.specs.Views.{rrsig_in, dnskey_in, ds_in}
+use Rattle.dns_model.specs.Keys.{VerifierAnswers, matches}
+use Rattle.dns_model.specs.Chains.{LinkValue, Anchored, Matched, KeySet, Signed, judge, justified, links_hold, link_holds, all_shown}
 use Rattle.dns_model.proofs.Worked.{example, upper_example, letter_a, key, anchors}
 
 -- a verifier that takes every signature of algorithm 13 for good
-abbrev pub trusting : Answers
+abbrev pub trusting : VerifierAnswers
 trusting = record { supports = λ algorithm. algorithm == 13; accepts = λ algorithm public bytes sig. algorithm == 13 }
 
 -- the SHA-256 digest of `example.` and the key, under the key's tag and algorithm
@@ -21,15 +21,15 @@ ds_of_key =
     ∷ 96 ∷ 92 ∷ 163 ∷ 74 ∷ 222 ∷ 215 ∷ 116 ∷ 44 ∷ 40 ∷ 238 ∷ 81 ∷ 68 ∷ 213 ∷ 187 ∷ 235 ∷ 70 ∷ 255 ∷ 41 ∷ []
 
 pub ds_matches : matches trusting (example ∷ []) key ds_of_key ≡ true
-unfolding key_in ds_in tag_sum ds_digest sha256 first_words schedule rounds compress hash_after digest_bytes
+unfolding dnskey_in ds_in tag_sum ds_digest sha256 first_words schedule rounds compress hash_after digest_bytes
 ds_matches = refl
 
 pub ds_matches_in_upper_case : matches trusting (upper_example ∷ []) key ds_of_key ≡ true
-unfolding key_in ds_in tag_sum ds_digest sha256 first_words schedule rounds compress hash_after digest_bytes
+unfolding dnskey_in ds_in tag_sum ds_digest sha256 first_words schedule rounds compress hash_after digest_bytes
 ds_matches_in_upper_case = refl
 
 pub ds_matches_no_other_owner : matches trusting (letter_a ∷ example ∷ []) key ds_of_key ≡ false
-unfolding key_in ds_in tag_sum ds_digest sha256 first_words schedule rounds compress hash_after digest_bytes
+unfolding dnskey_in ds_in tag_sum ds_digest sha256 first_words schedule rounds compress hash_after digest_bytes
 ds_matches_no_other_owner = refl
 
 -- the rdata of a signature by the key, from 900 to 2000
@@ -40,20 +40,20 @@ signature_of covered labels signer =
 
 -- the root's key set, a DS set of an owner signed by a signer, the key of `example.` by that DS set, its key set,
 -- and an address signed by it
-abbrev pub chain_over : Labels → Labels → List Fact
+abbrev pub chain_over : Labels → Labels → List LinkValue
 chain_over owner signer =
     Anchored [] 1 key ∷ KeySet [] 1 (key ∷ []) (0 ∷ []) ∷ Signed owner 1 43 (ds_of_key ∷ []) (signature_of 43 1 signer) 1 key
     ∷ Matched (example ∷ []) 1 key 2 ds_of_key ∷ Signed (example ∷ []) 1 48 (key ∷ []) (signature_of 48 1 (example ∷ [])) 3 key
     ∷ Signed (letter_a ∷ example ∷ []) 1 1 ((127 ∷ 0 ∷ 0 ∷ 1 ∷ []) ∷ []) (signature_of 1 2 (example ∷ [])) 4 key ∷ []
 
 pub justified_over : justified (judge trusting anchors 1000) (chain_over (example ∷ []) []) ≡ true
-unfolding links_hold link_holds all_shown sig_in key_in ds_in name_in labels_in label_in tag_sum ds_digest sha256 first_words schedule rounds compress hash_after digest_bytes
+unfolding links_hold link_holds all_shown rrsig_in dnskey_in ds_in name_in labels_in label_in tag_sum ds_digest sha256 first_words schedule rounds compress hash_after digest_bytes
 justified_over = refl
 
 pub no_other_owner : justified (judge trusting anchors 1000) (chain_over (letter_a ∷ []) []) ≡ false
-unfolding links_hold link_holds all_shown sig_in key_in ds_in name_in labels_in label_in tag_sum ds_digest sha256 first_words schedule rounds compress hash_after digest_bytes
+unfolding links_hold link_holds all_shown rrsig_in dnskey_in ds_in name_in labels_in label_in tag_sum ds_digest sha256 first_words schedule rounds compress hash_after digest_bytes
 no_other_owner = refl
 
 pub no_ds_by_its_own_zone : justified (judge trusting anchors 1000) (chain_over (example ∷ []) (example ∷ [])) ≡ false
-unfolding links_hold link_holds all_shown sig_in key_in ds_in name_in labels_in label_in tag_sum ds_digest sha256 first_words schedule rounds compress hash_after digest_bytes
+unfolding links_hold link_holds all_shown rrsig_in dnskey_in ds_in name_in labels_in label_in tag_sum ds_digest sha256 first_words schedule rounds compress hash_after digest_bytes
 no_ds_by_its_own_zone = refl

@@ -4,7 +4,7 @@ use Rattle.dns_model.specs.Names.{Labels, at_or_above, strictly_above, parent, n
 use Rattle.dns_model.specs.NameForm.{label_in, labels_in, name_in}
 use Rattle.dns_model.specs.Shapes.{counted_in, window_in, windows_in, is_bitmap, bitmap_has, parts_in, shape_of, is_lowered_type, canonical_form}
 use Rattle.dns_model.specs.Signing.{signed_owner, key_tag}
-use Rattle.dns_model.specs.Views.{sig_in, key_in, ns_in}
+use Rattle.dns_model.specs.Views.{rrsig_in, dnskey_in, ns_in}
 use Rattle.dns_model.specs.Records.{Rr}
 use Rattle.dns_model.specs.Sections.{leaders, sets_of}
 use Rattle.dns_model.specs.Keys.{usable}
@@ -86,19 +86,19 @@ label_of_64 = refl
 
 -- ---- rdata
 
-pub key_of_three_bytes : key_in (1 ∷ 1 ∷ 3 ∷ []) ≡ None
-unfolding key_in
+pub key_of_three_bytes : dnskey_in (1 ∷ 1 ∷ 3 ∷ []) ≡ None
+unfolding dnskey_in
 key_of_three_bytes = refl
 
 pub tag_of_three_bytes : key_tag (1 ∷ 1 ∷ 3 ∷ []) ≡ None
 tag_of_three_bytes = refl
 
-pub signature_without_signer : sig_in (0 ∷ 2 ∷ 13 ∷ 0 ∷ 0 ∷ 0 ∷ 14 ∷ 16 ∷ 0 ∷ 0 ∷ 7 ∷ 208 ∷ 0 ∷ 0 ∷ 3 ∷ 132 ∷ 174 ∷ 201 ∷ []) ≡ None
-unfolding sig_in name_in labels_in label_in
+pub signature_without_signer : rrsig_in (0 ∷ 2 ∷ 13 ∷ 0 ∷ 0 ∷ 0 ∷ 14 ∷ 16 ∷ 0 ∷ 0 ∷ 7 ∷ 208 ∷ 0 ∷ 0 ∷ 3 ∷ 132 ∷ 174 ∷ 201 ∷ []) ≡ None
+unfolding rrsig_in name_in labels_in label_in
 signature_without_signer = refl
 
-pub empty_views : is_some (sig_in []) ≡ false
-unfolding sig_in
+pub empty_views : is_some (rrsig_in []) ≡ false
+unfolding rrsig_in
 empty_views = refl
 
 pub target_with_a_byte_more : ns_in (1 ∷ 97 ∷ 0 ∷ 0 ∷ []) ≡ None
@@ -187,29 +187,29 @@ nsec3_far_below = refl
 -- ---- usable keys
 
 pub usable_key_signs : usable verifier key ≡ true
-unfolding key_in
+unfolding dnskey_in
 usable_key_signs = refl
 
 pub revoked : usable verifier revoked_key ≡ false
-unfolding key_in
+unfolding dnskey_in
 revoked = refl
 
 pub no_zone_key : usable verifier (0 ∷ 1 ∷ 3 ∷ 13 ∷ 170 ∷ 187 ∷ []) ≡ false
-unfolding key_in
+unfolding dnskey_in
 no_zone_key = refl
 
 pub another_protocol : usable verifier (1 ∷ 0 ∷ 2 ∷ 13 ∷ 170 ∷ 187 ∷ []) ≡ false
-unfolding key_in
+unfolding dnskey_in
 another_protocol = refl
 
 pub another_algorithm : usable verifier (1 ∷ 0 ∷ 3 ∷ 8 ∷ 170 ∷ 187 ∷ []) ≡ false
-unfolding key_in
+unfolding dnskey_in
 another_algorithm = refl
 
 -- ---- the sets of a section
 
 abbrev pub record_at : Labels → ℕ → List ℕ → Rr
-record_at owner kind rdata = record { owner = owner; kind = kind; class = 1; ttl = 60; rdata = rdata; mark = Indeterminate }
+record_at owner rtype rdata = record { owner = owner; rtype = rtype; class = 1; ttl = 60; rdata = rdata; proof = Indeterminate }
 
 -- two letter cases are one owner; a signature that can't be read, or covers another type, isn't the set's; a signature makes no set
 pub one_set_in_two_cases :
@@ -217,13 +217,13 @@ pub one_set_in_two_cases :
     ∷ record_at (example ∷ []) 46 signature ∷ record_at [] 46 [] ∷ [])
     ≡ record {
       owner = example ∷ [];
-      kind = 16;
+      rtype = 16;
       class = 1;
       signatures = [];
       records = record_at (example ∷ []) 16 [] ∷ record_at (upper_example ∷ []) 16 (1 ∷ []) ∷ [];
     }
-    ∷ record { owner = []; kind = 2; class = 1; signatures = record_at [] 46 signature ∷ []; records = record_at [] 2 name_a ∷ [] } ∷ []
-unfolding sets_of leaders sig_in name_in labels_in label_in
+    ∷ record { owner = []; rtype = 2; class = 1; signatures = record_at [] 46 signature ∷ []; records = record_at [] 2 name_a ∷ [] } ∷ []
+unfolding sets_of leaders rrsig_in name_in labels_in label_in
 one_set_in_two_cases = refl
 
 pub no_sets : sets_of [] ≡ []

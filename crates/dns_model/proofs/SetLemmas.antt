@@ -12,8 +12,8 @@ use Rattle.dns_model.specs.Names.{Labels, name_eq}
 use Rattle.dns_model.specs.Types.{type_rrsig}
 use Rattle.dns_model.specs.Records.{Rr, RrSet}
 use Rattle.dns_model.specs.Sections.{same_set, is_signature, covers, leaders, unsigned_part, set_of, sets_of}
-use Rattle.dns_model.specs.Chains.{is_listed, rdatas_of}
-use Rattle.dns_model.specs.Answers.{Told, Placed, place, placed_sets, section_of, section_eq}
+use Rattle.dns_model.specs.Chains.{is_nonempty, rdatas_of}
+use Rattle.dns_model.specs.SoundAnswers.{Told, Placed, in_section, placed_sets, section_of, section_eq}
 use Rattle.dns_model.proofs.NameLemmas.{name_equiv}
 use Rattle.dns_model.proofs.EachLemmas.{each_more, each_of, each_both, each_append, each_front, each_back, each_map, each_unmap, each_filter, each_passes, filter-map, map_agree, map-map, Apart, apart_filter, apart_map, apart_agree, apart_append}
 
@@ -71,13 +71,13 @@ section_back Additional Additional = refl
 -- ---- records of one set
 
 pub same_set_refl : (a : Rr) → same_set a a ≡ true
-same_set_refl a = and_from (name_eq a.owner a.owner) (a.kind == a.kind) (name_refl a.owner) (number_refl a.kind)
+same_set_refl a = and_from (name_eq a.owner a.owner) (a.rtype == a.rtype) (name_refl a.owner) (number_refl a.rtype)
 
 pub same_set_left : (a b c : Rr) → same_set a b ≡ true → same_set a c ≡ same_set b c
 same_set_left a b c h =
-    let parts = and_parts (name_eq a.owner b.owner) (a.kind == b.kind) h in
-    ap (λ x. x && (a.kind == c.kind)) (name_left a.owner b.owner c.owner parts.0)
-    ∙ ap (λ k. name_eq b.owner c.owner && (k == c.kind)) (number_same a.kind b.kind parts.1)
+    let parts = and_parts (name_eq a.owner b.owner) (a.rtype == b.rtype) h in
+    ap (λ x. x && (a.rtype == c.rtype)) (name_left a.owner b.owner c.owner parts.0)
+    ∙ ap (λ k. name_eq b.owner c.owner && (k == c.rtype)) (number_same a.rtype b.rtype parts.1)
 
 -- two records of one set have the same set
 pub filter-same_set : (a b : Rr) (section : List Rr) → same_set a b ≡ true → filter (same_set a) section ≡ filter (same_set b) section
@@ -105,32 +105,32 @@ leaders_apart (r ∷ rs) =
 
 -- a record of the set's owner and type
 abbrev pub is_of : RrSet → Rr → Bool
-is_of set r = name_eq set.owner r.owner && (set.kind == r.kind)
+is_of set r = name_eq set.owner r.owner && (set.rtype == r.rtype)
 
 -- a set that isn't of signatures, with a record, and all of its records its own
 pub record IsProper (set : RrSet) : Type 0 where
-  pub plain : (set.kind == type_rrsig) ≡ false
-  pub listed : is_listed (rdatas_of set.records) ≡ true
+  pub plain : (set.rtype == type_rrsig) ≡ false
+  pub listed : is_nonempty (rdatas_of set.records) ≡ true
   pub own : AllByRecursion (λ r. is_of set r ≡ true) set.records
 
-listed_step : (b : Bool) (x : Rr) (xs : List Rr) → (b ≡ true) → is_listed (rdatas_of (cond b (x ∷ xs) xs)) ≡ true
+listed_step : (b : Bool) (x : Rr) (xs : List Rr) → (b ≡ true) → is_nonempty (rdatas_of (cond b (x ∷ xs) xs)) ≡ true
 listed_step true x xs h = refl
 listed_step false x xs h = cc
 
-listed_later : (b : Bool) (x : Rr) (xs : List Rr) → is_listed (rdatas_of xs) ≡ true → is_listed (rdatas_of (cond b (x ∷ xs) xs)) ≡ true
+listed_later : (b : Bool) (x : Rr) (xs : List Rr) → is_nonempty (rdatas_of xs) ≡ true → is_nonempty (rdatas_of (cond b (x ∷ xs) xs)) ≡ true
 listed_later true x xs h = refl
 listed_later false x xs h = h
 
 -- each record is in its own set
-each_listed : (section : List Rr) → AllByRecursion (λ r. is_listed (rdatas_of (filter (same_set r) section)) ≡ true) section
+each_listed : (section : List Rr) → AllByRecursion (λ r. is_nonempty (rdatas_of (filter (same_set r) section)) ≡ true) section
 each_listed [] = tt
 each_listed (x ∷ xs) = (
   listed_step (same_set x x) x (filter (same_set x) xs) (same_set_refl x),
-  each_more (λ r. is_listed (rdatas_of (filter (same_set r) xs)) ≡ true) (λ r. is_listed (rdatas_of (filter (same_set r) (x ∷ xs))) ≡ true)
+  each_more (λ r. is_nonempty (rdatas_of (filter (same_set r) xs)) ≡ true) (λ r. is_nonempty (rdatas_of (filter (same_set r) (x ∷ xs))) ≡ true)
       (λ r. listed_later (same_set r x) x (filter (same_set r) xs)) xs (each_listed xs),
 )
 
-proper : (section : List Rr) (r : Rr) → (not (is_signature r) ≡ true) × (is_listed (rdatas_of (filter (same_set r) section)) ≡ true) → IsProper (set_of section r)
+proper : (section : List Rr) (r : Rr) → (not (is_signature r) ≡ true) × (is_nonempty (rdatas_of (filter (same_set r) section)) ≡ true) → IsProper (set_of section r)
 proper section r h = record {
   plain = not-true (is_signature r) h.0;
   listed = h.1;
@@ -148,35 +148,35 @@ each_plain_leader P section h =
 pub proper_sets : (section : List Rr) → AllByRecursion IsProper (sets_of section)
 unfolding sets_of
 proper_sets section =
-    let P = λ (r : Rr). is_listed (rdatas_of (filter (same_set r) section)) ≡ true in
+    let P = λ (r : Rr). is_nonempty (rdatas_of (filter (same_set r) section)) ≡ true in
     each_map IsProper (set_of section) (leaders (unsigned_part section))
     (each_more (λ r. (not (is_signature r) ≡ true) × P r) (λ r. IsProper (set_of section r)) (proper section) (leaders (unsigned_part section))
     (each_plain_leader P section (each_listed section)))
 
-each_placed : (P : Placed → Type 0) (told : Told) → ((section : Section) → AllByRecursion (λ set. P (place section set)) (sets_of (section_of told section)))
+each_placed : (P : Placed → Type 0) (told : Told) → ((section : Section) → AllByRecursion (λ set. P (in_section section set)) (sets_of (section_of told section)))
     → AllByRecursion P (placed_sets told)
 each_placed P told h =
-    let one = map (place Answer) (sets_of told.answers) in
-    let two = map (place Authority) (sets_of told.authorities) in
-    let three = map (place Additional) (sets_of told.additionals) in
+    let one = map (in_section Answer) (sets_of told.answers) in
+    let two = map (in_section Authority) (sets_of told.authorities) in
+    let three = map (in_section Additional) (sets_of told.additionals) in
     each_append P (one ++ two) three
-    (each_append P one two (each_map P (place Answer) (sets_of told.answers) (h Answer)) (each_map P (place Authority) (sets_of told.authorities) (h Authority)))
-    (each_map P (place Additional) (sets_of told.additionals) (h Additional))
+    (each_append P one two (each_map P (in_section Answer) (sets_of told.answers) (h Answer)) (each_map P (in_section Authority) (sets_of told.authorities) (h Authority)))
+    (each_map P (in_section Additional) (sets_of told.additionals) (h Additional))
 
 -- what is shown of each set of a message is shown of those of a section
 pub placed_each : (P : Placed → Type 0) (told : Told) (section : Section) → AllByRecursion P (placed_sets told)
-    → AllByRecursion (λ set. P (place section set)) (sets_of (section_of told section))
+    → AllByRecursion (λ set. P (in_section section set)) (sets_of (section_of told section))
 placed_each P told Answer h =
-    each_unmap P (place Answer) (sets_of told.answers)
-    (each_front P (map (place Answer) (sets_of told.answers)) (map (place Authority) (sets_of told.authorities))
-    (each_front P (map (place Answer) (sets_of told.answers) ++ map (place Authority) (sets_of told.authorities)) (map (place Additional) (sets_of told.additionals)) h))
+    each_unmap P (in_section Answer) (sets_of told.answers)
+    (each_front P (map (in_section Answer) (sets_of told.answers)) (map (in_section Authority) (sets_of told.authorities))
+    (each_front P (map (in_section Answer) (sets_of told.answers) ++ map (in_section Authority) (sets_of told.authorities)) (map (in_section Additional) (sets_of told.additionals)) h))
 placed_each P told Authority h =
-    each_unmap P (place Authority) (sets_of told.authorities)
-    (each_back P (map (place Answer) (sets_of told.answers)) (map (place Authority) (sets_of told.authorities))
-    (each_front P (map (place Answer) (sets_of told.answers) ++ map (place Authority) (sets_of told.authorities)) (map (place Additional) (sets_of told.additionals)) h))
+    each_unmap P (in_section Authority) (sets_of told.authorities)
+    (each_back P (map (in_section Answer) (sets_of told.answers)) (map (in_section Authority) (sets_of told.authorities))
+    (each_front P (map (in_section Answer) (sets_of told.answers) ++ map (in_section Authority) (sets_of told.authorities)) (map (in_section Additional) (sets_of told.additionals)) h))
 placed_each P told Additional h =
-    each_unmap P (place Additional) (sets_of told.additionals)
-    (each_back P (map (place Answer) (sets_of told.answers) ++ map (place Authority) (sets_of told.authorities)) (map (place Additional) (sets_of told.additionals)) h)
+    each_unmap P (in_section Additional) (sets_of told.additionals)
+    (each_back P (map (in_section Answer) (sets_of told.answers) ++ map (in_section Authority) (sets_of told.authorities)) (map (in_section Additional) (sets_of told.additionals)) h)
 
 pub proper_placed : (told : Told) → AllByRecursion (λ p. IsProper p.set) (placed_sets told)
 proper_placed told = each_placed (λ p. IsProper p.set) told (λ section. proper_sets (section_of told section))
@@ -211,7 +211,7 @@ begins_placed told = each_placed (λ p. BeginsIn (section_of told p.section) p.s
 -- ---- no two sets of a message are one
 
 abbrev pub same_key : RrSet → RrSet → Bool
-same_key a b = name_eq a.owner b.owner && (a.kind == b.kind)
+same_key a b = name_eq a.owner b.owner && (a.rtype == b.rtype)
 
 pub sets_apart : (section : List Rr) → Apart same_key (sets_of section)
 unfolding sets_of
@@ -223,23 +223,23 @@ same_place a b = section_eq a.section b.section && same_key a.set b.set
 
 -- sets of two sections
 across : (one two : Section) (xs ys : List RrSet) → section_eq one two ≡ false
-    → AllByRecursion (λ p. AllByRecursion (λ q. same_place p q ≡ false) (map (place two) ys)) (map (place one) xs)
+    → AllByRecursion (λ p. AllByRecursion (λ q. same_place p q ≡ false) (map (in_section two) ys)) (map (in_section one) xs)
 across one two xs ys differ =
-    each_map (λ p. AllByRecursion (λ q. same_place p q ≡ false) (map (place two) ys)) (place one) xs
-    (each_of (λ x. AllByRecursion (λ q. same_place (place one x) q ≡ false) (map (place two) ys)) (λ x.
-    each_map (λ q. same_place (place one x) q ≡ false) (place two) ys
-    (each_of (λ y. same_place (place one x) (place two y) ≡ false) (λ y. ap (λ b. b && same_key x y) differ) ys)) xs)
+    each_map (λ p. AllByRecursion (λ q. same_place p q ≡ false) (map (in_section two) ys)) (in_section one) xs
+    (each_of (λ x. AllByRecursion (λ q. same_place (in_section one x) q ≡ false) (map (in_section two) ys)) (λ x.
+    each_map (λ q. same_place (in_section one x) q ≡ false) (in_section two) ys
+    (each_of (λ y. same_place (in_section one x) (in_section two y) ≡ false) (λ y. ap (λ b. b && same_key x y) differ) ys)) xs)
 
-within : (section : Section) (xs : List RrSet) → section_eq section section ≡ true → Apart same_key xs → Apart same_place (map (place section) xs)
+within : (section : Section) (xs : List RrSet) → section_eq section section ≡ true → Apart same_key xs → Apart same_place (map (in_section section) xs)
 within section xs same h =
-    apart_map same_place (place section) xs
-    (apart_agree same_key (λ x y. same_place (place section x) (place section y)) xs (λ x y. ap (λ b. b && same_key x y) same) h)
+    apart_map same_place (in_section section) xs
+    (apart_agree same_key (λ x y. same_place (in_section section x) (in_section section y)) xs (λ x y. ap (λ b. b && same_key x y) same) h)
 
 pub placed_apart : (told : Told) → Apart same_place (placed_sets told)
 placed_apart told =
-    let one = map (place Answer) (sets_of told.answers) in
-    let two = map (place Authority) (sets_of told.authorities) in
-    let three = map (place Additional) (sets_of told.additionals) in
+    let one = map (in_section Answer) (sets_of told.answers) in
+    let two = map (in_section Authority) (sets_of told.authorities) in
+    let three = map (in_section Additional) (sets_of told.additionals) in
     apart_append same_place (one ++ two) three
     (each_append (λ p. AllByRecursion (λ q. same_place p q ≡ false) three) one two
     (across Answer Additional (sets_of told.answers) (sets_of told.additionals) refl)
@@ -251,7 +251,7 @@ placed_apart told =
 -- ---- each record in one set
 
 same_set_back : (a b : Rr) → same_set a b ≡ same_set b a
-same_set_back a b = ap (λ x. x && (a.kind == b.kind)) (name_equiv.symm a.owner b.owner) ∙ ap (λ x. name_eq b.owner a.owner && x) (number_back a.kind b.kind)
+same_set_back a b = ap (λ x. x && (a.rtype == b.rtype)) (name_equiv.symm a.owner b.owner) ∙ ap (λ x. name_eq b.owner a.owner && x) (number_back a.rtype b.rtype)
 
 filter_none : {X : Type 0} (p : X → Bool) (xs : List X) → AllByRecursion (λ x. p x ≡ false) xs → filter p xs ≡ []
 filter_none p [] h = refl
@@ -320,7 +320,7 @@ each_one_set section =
 -- what a change of records keeps
 pub record KeepsKey (f : Rr → Rr) : Type 0 where
   pub owner : (r : Rr) → (f r).owner ≡ r.owner
-  pub kind : (r : Rr) → (f r).kind ≡ r.kind
+  pub rtype : (r : Rr) → (f r).rtype ≡ r.rtype
   pub class : (r : Rr) → (f r).class ≡ r.class
   pub rdata : (r : Rr) → (f r).rdata ≡ r.rdata
 
@@ -329,13 +329,13 @@ abbrev pub on_set : (Rr → Rr) → RrSet → RrSet
 on_set f set = record set { records = map f set.records; signatures = map f set.signatures }
 
 signature-kept : (f : Rr → Rr) → KeepsKey f → (r : Rr) → is_signature (f r) ≡ is_signature r
-signature-kept f k r = ap (λ n. n == type_rrsig) (k.kind r)
+signature-kept f k r = ap (λ n. n == type_rrsig) (k.rtype r)
 
 same_set-kept : (f : Rr → Rr) → KeepsKey f → (a b : Rr) → same_set (f a) (f b) ≡ same_set a b
-same_set-kept f k a b = rw (k.owner a, k.owner b, k.kind a, k.kind b) refl
+same_set-kept f k a b = rw (k.owner a, k.owner b, k.rtype a, k.rtype b) refl
 
 covers-kept : (f : Rr → Rr) → KeepsKey f → (a b : Rr) → covers (f a) (f b) ≡ covers a b
-covers-kept f k a b = rw (k.owner a, k.owner b, k.kind a, k.kind b, k.rdata b) refl
+covers-kept f k a b = rw (k.owner a, k.owner b, k.rtype a, k.rtype b, k.rdata b) refl
 
 unsigned-map : (f : Rr → Rr) → KeepsKey f → (section : List Rr) → unsigned_part (map f section) ≡ map f (unsigned_part section)
 unsigned-map f k section =
@@ -357,7 +357,7 @@ set_of-map f k section r =
     filter-map (same_set (f r)) f section ∙ ap (map f) (filter_agree (λ s. same_set (f r) (f s)) (same_set r) (same_set-kept f k r) section) in
     let signatures : filter (covers (f r)) (map f section) ≡ map f (filter (covers r) section) =
     filter-map (covers (f r)) f section ∙ ap (map f) (filter_agree (λ s. covers (f r) (f s)) (covers r) (covers-kept f k r) section) in
-    rw (records, signatures, k.owner r, k.kind r, k.class r) refl
+    rw (records, signatures, k.owner r, k.rtype r, k.class r) refl
 
 -- the sets of changed records are the sets, changed
 pub sets_of-map : (f : Rr → Rr) → KeepsKey f → (section : List Rr) → sets_of (map f section) ≡ map (on_set f) (sets_of section)

@@ -11,7 +11,7 @@ use Rattle.std.proofs.lemmas.Str.{IsAscii-append}
 use Rattle.std.proofs.lemmas.Str.Ascii.{IsAscii-nil, IsAscii-cons}
 use Rattle.dns_model.specs.Bytes.{is_bytes}
 use Rattle.dns_model.specs.Names.{Label, Labels, wire, is_label, is_name}
-use Rattle.dns_model.specs.NameText.{dot, backslash, is_special, is_printable, is_digit, three_digits, printed_byte, printed_label, printed, number_of, number_in, escape_in, byte_in, Read, and_then, label_checked, ended, after_dot, after_byte, step_in, labels_read, text_read, within, read_name}
+use Rattle.dns_model.specs.NameText.{dot, backslash, is_special, is_printable, is_digit, three_digits, printed_byte, printed_label, printed, number_of_digits, number_in, escape_in, byte_in, Read, and_then, label_checked, ended, after_dot, after_byte, step_in, labels_read, text_read, within, read_name}
 use Rattle.dns_model.specs.declared.name_error.NameError.{NameError}
 use Rattle.dns_model.specs.declared.name_error.NameError.TheVariants.{EmptyLabel, LongLabel, LongName, BadEscape, NoMemory}
 use Rattle.dns_model.proofs.WireLemmas.{second_of_some}
@@ -22,7 +22,7 @@ number_shorter : (a : ℕ) (text rest : List ℕ) (value : ℕ) → number_in a 
 unfolding number_in
 number_shorter a [] rest value h = cc
 number_shorter a (b ∷ []) rest value h = cc
-number_shorter a (b ∷ c ∷ left) rest value h = number_cut b c left rest value _ (number_of a b c) h
+number_shorter a (b ∷ c ∷ left) rest value h = number_cut b c left rest value _ (number_of_digits a b c) h
   where
     number_cut : (b c : ℕ) (left rest : List ℕ) (value : ℕ) (t : Bool) (n : ℕ) → cond {A = Option (ℕ × List ℕ)} t (Some (n, left)) None ≡ Some (value, rest) → length rest < length (b ∷ c ∷ left)
     number_cut b c left rest value true n h = let same : left ≡ rest = second_of_some h in rw (← same) (omega arith)
@@ -89,8 +89,8 @@ digits_read byte rest small =
     let a : is_digit (48 + byte / 100) ≡ true = grind (arith, nat_tests) in
     let b : is_digit (48 + byte / 10 % 10) ≡ true = grind (arith, nat_tests) in
     let c : is_digit (48 + byte % 10) ≡ true = grind (arith, nat_tests) in
-    let whole : number_of (48 + byte / 100) (48 + byte / 10 % 10) (48 + byte % 10) ≡ byte = omega arith in
-    let fits : nat_le (number_of (48 + byte / 100) (48 + byte / 10 % 10) (48 + byte % 10)) 255 ≡ true = rw whole (grind (arith, nat_tests)) in
+    let whole : number_of_digits (48 + byte / 100) (48 + byte / 10 % 10) (48 + byte % 10) ≡ byte = omega arith in
+    let fits : nat_le (number_of_digits (48 + byte / 100) (48 + byte / 10 % 10) (48 + byte % 10)) 255 ≡ true = rw whole (grind (arith, nat_tests)) in
     rw (a, b, c, fits, whole) refl
 
 -- a byte that is printed after a backslash

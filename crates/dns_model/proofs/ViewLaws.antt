@@ -5,7 +5,7 @@ use Rattle.std.proofs.lemmas.List.{length-drop}
 use Rattle.dns_model.specs.Names.{Labels}
 use Rattle.dns_model.specs.NameForm.{name_in, whole_name}
 use Rattle.dns_model.specs.Shapes.{Field, Octets, DomainName, CharacterString, TypeBitmap, Remainder, Part, Plain, Named, named_front, after_part, with_part, parts_in, shape_of, has_shape, is_bitmap, counted_in, counted_front}
-use Rattle.dns_model.specs.Views.{sig_in, sig_from, key_in, ds_in, nsec_in, nsec_from, nsec3_in, nsec3_from, nsec3_after_salt, soa_in, soa_numbers, soa_after_mname, soa_from, ns_in}
+use Rattle.dns_model.specs.Views.{rrsig_in, rrsig_from, dnskey_in, ds_in, nsec_in, nsec_from, nsec3_in, nsec3_from, nsec3_after_salt, soa_in, soa_numbers, soa_after_mname, soa_from, ns_in}
 
 -- the two tests of length say the same
 short_or_long : (n k : ℕ) → nat_lt n k ≡ not (nat_le k n)
@@ -24,8 +24,8 @@ front true false p rest view more e h = refl
 front false true p rest view more e h = h ∙ sym (with_part-keeps p (more rest))
 front false false p rest view more e h = absurd (true≢false (sym e))
 
-pub key_has_shape : (rdata : List ℕ) → is_some (key_in rdata) ≡ has_shape 48 rdata
-unfolding key_in parts_in shape_of
+pub key_has_shape : (rdata : List ℕ) → is_some (dnskey_in rdata) ≡ has_shape 48 rdata
+unfolding dnskey_in parts_in shape_of
 key_has_shape rdata = front _ _ (Plain (take 4 rdata)) (drop 4 rdata) _ (parts_in (Remainder ∷ [])) (short_or_long (length rdata) 4) refl
 
 pub ds_has_shape : (rdata : List ℕ) → is_some (ds_in rdata) ≡ has_shape 43 rdata
@@ -33,13 +33,13 @@ unfolding ds_in parts_in shape_of
 ds_has_shape rdata = front _ _ (Plain (take 4 rdata)) (drop 4 rdata) _ (parts_in (Remainder ∷ [])) (short_or_long (length rdata) 4) refl
 
 signed_by : (rdata : List ℕ) (n : Option (Labels × List ℕ))
-    → is_some (sig_from rdata n) ≡ is_some (after_part (named_front n) (parts_in (Remainder ∷ [])))
+    → is_some (rrsig_from rdata n) ≡ is_some (after_part (named_front n) (parts_in (Remainder ∷ [])))
 unfolding parts_in
 signed_by rdata None = refl
 signed_by rdata (Some (name, rest)) = refl
 
-pub sig_has_shape : (rdata : List ℕ) → is_some (sig_in rdata) ≡ has_shape 46 rdata
-unfolding sig_in parts_in shape_of
+pub sig_has_shape : (rdata : List ℕ) → is_some (rrsig_in rdata) ≡ has_shape 46 rdata
+unfolding rrsig_in parts_in shape_of
 sig_has_shape rdata =
     front _ _ (Plain (take 18 rdata)) (drop 18 rdata) _ (parts_in (DomainName ∷ Remainder ∷ [])) (short_or_long (length rdata) 18)
     (signed_by rdata (name_in (drop 18 rdata)))

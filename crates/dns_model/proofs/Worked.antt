@@ -9,9 +9,9 @@ use Rattle.dns_model.specs.NameForm.{label_in, labels_in, name_in}
 use Rattle.dns_model.specs.Serial.{serial_cmp, timely, seconds_left}
 use Rattle.dns_model.specs.Shapes.{parts_in, shape_of, is_lowered_type, canonical_form}
 use Rattle.dns_model.specs.Signing.{key_tag_of, tag_sum, insert_once, rising_once, signed_bytes}
-use Rattle.dns_model.specs.Keys.{Answers, Anchor, bytes_eq}
-use Rattle.dns_model.specs.Chains.{Fact, judge, Anchored, KeySet, Signed, all_shown, link_holds, links_hold, justified, accepted}
-use Rattle.dns_model.specs.Views.{SigText, sig_in, key_in}
+use Rattle.dns_model.specs.Keys.{VerifierAnswers, AnchorValue, bytes_eq}
+use Rattle.dns_model.specs.Chains.{LinkValue, judge, Anchored, KeySet, Signed, all_shown, link_holds, links_hold, justified, accepted_alone}
+use Rattle.dns_model.specs.Views.{RrsigValue, rrsig_in, dnskey_in}
 
 -- ---- numbers as bytes
 
@@ -53,7 +53,7 @@ pub before_along_the_circle : serial_cmp 4294967295 2147483646 ≡ Some Less
 before_along_the_circle = refl
 
 -- a signature of the root's zone with these times
-abbrev pub signature_from_to : ℕ → ℕ → SigText
+abbrev pub signature_from_to : ℕ → ℕ → RrsigValue
 signature_from_to inception expiration = record {
   covered = 2;
   algorithm = 13;
@@ -126,8 +126,8 @@ abbrev pub signature : List ℕ
 signature =
     0 ∷ 2 ∷ 13 ∷ 0 ∷ 0 ∷ 0 ∷ 14 ∷ 16 ∷ 0 ∷ 0 ∷ 7 ∷ 208 ∷ 0 ∷ 0 ∷ 3 ∷ 132 ∷ 174 ∷ 201 ∷ 0 ∷ 192 ∷ 222 ∷ []
 
-pub signature_read : sig_in signature ≡ Some (signature_from_to 900 2000)
-unfolding sig_in name_in labels_in label_in
+pub signature_read : rrsig_in signature ≡ Some (signature_from_to 900 2000)
+unfolding rrsig_in name_in labels_in label_in
 signature_read = refl
 
 -- the rdata of `a.`
@@ -155,7 +155,7 @@ abbrev pub other_key : List ℕ
 other_key = 1 ∷ 1 ∷ 3 ∷ 13 ∷ 170 ∷ 188 ∷ []
 
 -- a verifier that supports algorithm 13, and accepts one signature by one key
-abbrev pub verifier : Answers
+abbrev pub verifier : VerifierAnswers
 verifier = record {
   supports = λ algorithm. algorithm == 13;
   accepts = λ algorithm public bytes sig.
@@ -163,42 +163,42 @@ verifier = record {
 }
 
 -- the root's key, by algorithm and public key
-abbrev pub anchors : List Anchor
+abbrev pub anchors : List AnchorValue
 anchors = record { owner = []; algorithm = 13; key = 170 ∷ 187 ∷ [] } ∷ []
 
-abbrev pub chain_by : List ℕ → List Fact
+abbrev pub chain_by : List ℕ → List LinkValue
 chain_by k = Anchored [] 1 k ∷ KeySet [] 1 (k ∷ []) (0 ∷ []) ∷ Signed [] 1 2 (name_a ∷ []) signature 1 k ∷ []
 
 pub justified_at_1000 : justified (judge verifier anchors 1000) (chain_by key) ≡ true
-unfolding links_hold link_holds all_shown sig_in key_in name_in labels_in label_in tag_sum signed_bytes rising_once insert_once canonical_form is_lowered_type parts_in shape_of
+unfolding links_hold link_holds all_shown rrsig_in dnskey_in name_in labels_in label_in tag_sum signed_bytes rising_once insert_once canonical_form is_lowered_type parts_in shape_of
 justified_at_1000 = refl
 
 pub justified_at_its_end : justified (judge verifier anchors 2000) (chain_by key) ≡ true
-unfolding links_hold link_holds all_shown sig_in key_in name_in labels_in label_in tag_sum signed_bytes rising_once insert_once canonical_form is_lowered_type parts_in shape_of
+unfolding links_hold link_holds all_shown rrsig_in dnskey_in name_in labels_in label_in tag_sum signed_bytes rising_once insert_once canonical_form is_lowered_type parts_in shape_of
 justified_at_its_end = refl
 
 pub not_justified_after_its_end : justified (judge verifier anchors 2001) (chain_by key) ≡ false
-unfolding links_hold link_holds all_shown sig_in key_in name_in labels_in label_in tag_sum signed_bytes rising_once insert_once canonical_form is_lowered_type parts_in shape_of
+unfolding links_hold link_holds all_shown rrsig_in dnskey_in name_in labels_in label_in tag_sum signed_bytes rising_once insert_once canonical_form is_lowered_type parts_in shape_of
 not_justified_after_its_end = refl
 
 pub not_justified_before_its_start : justified (judge verifier anchors 899) (chain_by key) ≡ false
-unfolding links_hold link_holds all_shown sig_in key_in name_in labels_in label_in tag_sum signed_bytes rising_once insert_once canonical_form is_lowered_type parts_in shape_of
+unfolding links_hold link_holds all_shown rrsig_in dnskey_in name_in labels_in label_in tag_sum signed_bytes rising_once insert_once canonical_form is_lowered_type parts_in shape_of
 not_justified_before_its_start = refl
 
 pub not_justified_by_another_key : justified (judge verifier anchors 1000) (chain_by other_key) ≡ false
-unfolding links_hold link_holds all_shown sig_in key_in name_in labels_in label_in tag_sum signed_bytes rising_once insert_once canonical_form is_lowered_type parts_in shape_of
+unfolding links_hold link_holds all_shown rrsig_in dnskey_in name_in labels_in label_in tag_sum signed_bytes rising_once insert_once canonical_form is_lowered_type parts_in shape_of
 not_justified_by_another_key = refl
 
 pub not_justified_by_a_revoked_key : justified (judge verifier anchors 1000) (chain_by revoked_key) ≡ false
-unfolding links_hold link_holds all_shown sig_in key_in name_in labels_in label_in tag_sum signed_bytes rising_once insert_once canonical_form is_lowered_type parts_in shape_of
+unfolding links_hold link_holds all_shown rrsig_in dnskey_in name_in labels_in label_in tag_sum signed_bytes rising_once insert_once canonical_form is_lowered_type parts_in shape_of
 not_justified_by_a_revoked_key = refl
 
 pub not_justified_without_an_anchor : justified (judge verifier [] 1000) (chain_by key) ≡ false
-unfolding links_hold link_holds all_shown sig_in key_in name_in labels_in label_in tag_sum signed_bytes rising_once insert_once canonical_form is_lowered_type parts_in shape_of
+unfolding links_hold link_holds all_shown rrsig_in dnskey_in name_in labels_in label_in tag_sum signed_bytes rising_once insert_once canonical_form is_lowered_type parts_in shape_of
 not_justified_without_an_anchor = refl
 
-pub accepted_at_any_time : accepted verifier (chain_by key) ≡ true
-unfolding links_hold link_holds all_shown sig_in key_in name_in labels_in label_in tag_sum signed_bytes rising_once insert_once canonical_form is_lowered_type parts_in shape_of
+pub accepted_at_any_time : accepted_alone verifier (chain_by key) ≡ true
+unfolding links_hold link_holds all_shown rrsig_in dnskey_in name_in labels_in label_in tag_sum signed_bytes rising_once insert_once canonical_form is_lowered_type parts_in shape_of
 accepted_at_any_time = refl
 
 pub no_links : justified (judge verifier anchors 1000) [] ≡ false
@@ -209,22 +209,22 @@ unfolding links_hold link_holds
 no_keys = refl
 
 pub a_number_too_many : justified (judge verifier anchors 1000) (Anchored [] 1 key ∷ KeySet [] 1 (key ∷ []) (0 ∷ 0 ∷ []) ∷ []) ≡ false
-unfolding links_hold link_holds all_shown key_in
+unfolding links_hold link_holds all_shown dnskey_in
 a_number_too_many = refl
 
 pub its_own_number : justified (judge verifier anchors 1000) (Anchored [] 1 key ∷ KeySet [] 1 (key ∷ []) (1 ∷ []) ∷ []) ≡ false
-unfolding links_hold link_holds all_shown key_in
+unfolding links_hold link_holds all_shown dnskey_in
 its_own_number = refl
 
 pub another_class : justified (judge verifier anchors 1000) (Anchored [] 1 key ∷ KeySet [] 3 (key ∷ []) (0 ∷ []) ∷ []) ≡ false
-unfolding links_hold link_holds all_shown key_in
+unfolding links_hold link_holds all_shown dnskey_in
 another_class = refl
 
 pub no_rdata : justified (judge verifier anchors 1000) (Anchored [] 1 key ∷ KeySet [] 1 (key ∷ []) (0 ∷ []) ∷ Signed [] 1 2 [] signature 1 key ∷ []) ≡ false
-unfolding links_hold link_holds all_shown sig_in key_in name_in labels_in label_in tag_sum signed_bytes rising_once insert_once canonical_form is_lowered_type parts_in shape_of
+unfolding links_hold link_holds all_shown rrsig_in dnskey_in name_in labels_in label_in tag_sum signed_bytes rising_once insert_once canonical_form is_lowered_type parts_in shape_of
 no_rdata = refl
 
 -- an anchored key alone signs no other set than its own
 pub a_key_that_is_no_set : justified (judge verifier anchors 1000) (Anchored [] 1 key ∷ Signed [] 1 2 (name_a ∷ []) signature 0 key ∷ []) ≡ false
-unfolding links_hold link_holds all_shown sig_in key_in name_in labels_in label_in tag_sum signed_bytes rising_once insert_once canonical_form is_lowered_type parts_in shape_of
+unfolding links_hold link_holds all_shown rrsig_in dnskey_in name_in labels_in label_in tag_sum signed_bytes rising_once insert_once canonical_form is_lowered_type parts_in shape_of
 a_key_that_is_no_set = refl

@@ -2,14 +2,14 @@
 use Rattle.std.specs.Prelude.{◌≡◌, ℕ, true, false, ◌==◌, List, [], ◌∷◌, map, None, refl}
 use Rattle.dns_model.specs.NameForm.{label_in, labels_in, name_in}
 use Rattle.dns_model.specs.Keys.{bytes_eq}
-use Rattle.dns_model.specs.Chains.{Fact, judge, last_link, ends_at}
-use Rattle.dns_model.specs.Answers.{Told, ResponseText, Sound, SoundAlone}
+use Rattle.dns_model.specs.Chains.{LinkValue, judge, last_link, ends_at}
+use Rattle.dns_model.specs.SoundAnswers.{Told, ResponseValue, Sound, SoundAlone}
 use Rattle.dns_model.specs.declared.proof.Proof.{Proof}
 use Rattle.dns_model.specs.declared.proof.Proof.TheVariants.{Secure, Bogus, Indeterminate}
 use Rattle.dns_model.specs.declared.section.Section.TheVariants.{Answer}
 use Rattle.dns_model.specs.declared.denial.Denial.TheVariants.{None as Nothing}
 use Rattle.std.proofs.Common.{sym, ◌∙◌, ap, true≢false, lit≤}
-use Rattle.dns_model.specs.Views.{sig_in}
+use Rattle.dns_model.specs.Views.{rrsig_in}
 use Rattle.dns_model.specs.Records.{Rr, RrSet}
 use Rattle.dns_model.specs.Sections.{leaders, sets_of}
 use Rattle.dns_model.proofs.Worked.{key, name_a, signature, verifier, anchors, chain_by, justified_at_1000, not_justified_after_its_end}
@@ -17,7 +17,7 @@ use Rattle.dns_model.proofs.Worked.{key, name_a, signature, verifier, anchors, c
 -- ---- the set that the chain ends at, and a sound answer
 
 abbrev pub record_of : ℕ → ℕ → List ℕ → Proof → Rr
-record_of kind ttl rdata mark = record { owner = []; kind = kind; class = 1; ttl = ttl; rdata = rdata; mark = mark }
+record_of rtype ttl rdata mark = record { owner = []; rtype = rtype; class = 1; ttl = ttl; rdata = rdata; proof = mark }
 
 abbrev pub told_records : Told
 told_records = record {
@@ -30,7 +30,7 @@ told_records = record {
 abbrev pub set_of_root : RrSet
 set_of_root = record {
   owner = [];
-  kind = 2;
+  rtype = 2;
   class = 1;
   records = record_of 2 1000 name_a Secure ∷ [];
   signatures = record_of 46 1000 signature Secure ∷ [];
@@ -40,7 +40,7 @@ pub ends_at_the_set : ends_at (chain_by key) set_of_root ≡ true
 unfolding last_link
 ends_at_the_set = refl
 
-pub ends_at_no_other_type : ends_at (chain_by key) (record set_of_root { kind = 48 }) ≡ false
+pub ends_at_no_other_type : ends_at (chain_by key) (record set_of_root { rtype = 48 }) ≡ false
 unfolding last_link
 ends_at_no_other_type = refl
 
@@ -57,7 +57,7 @@ unfolding last_link
 ends_nowhere = refl
 
 -- an answer to the question for the root's NS set, with these records and chains
-abbrev pub answer_of : List Rr → List (List Fact) → ResponseText
+abbrev pub answer_of : List Rr → List (List LinkValue) → ResponseValue
 answer_of records chains = record {
   message = record {
     id = 0;
@@ -70,7 +70,7 @@ answer_of records chains = record {
     authentic_data = false;
     checking_disabled = false;
     response_code = 0;
-    queries = record { owner = []; kind = 2; class = 1 } ∷ [];
+    queries = record { owner = []; rtype = 2; class = 1 } ∷ [];
     answers = records;
     authorities = [];
     additionals = [];
@@ -81,21 +81,21 @@ answer_of records chains = record {
 }
 
 -- the root's NS set Secure until 2000, seen at 1000
-abbrev pub answer : ResponseText
+abbrev pub answer : ResponseValue
 answer = answer_of (record_of 2 1000 name_a Secure ∷ record_of 46 1000 signature Secure ∷ []) (chain_by key ∷ [])
 
 pub one_set : sets_of answer.message.answers ≡ set_of_root ∷ []
-unfolding sets_of leaders sig_in name_in labels_in label_in
+unfolding sets_of leaders rrsig_in name_in labels_in label_in
 one_set = refl
 
 pub sound_answer : Sound (judge verifier anchors 1000) 1000 told_records answer
-unfolding sets_of leaders sig_in name_in labels_in label_in last_link
+unfolding sets_of leaders rrsig_in name_in labels_in label_in last_link
 sound_answer = record {
   code = refl;
   answers = (
     record {
       owner = refl;
-      kind = refl;
+      rtype = refl;
       class = refl;
       rdata = refl;
       plain = λ no. absurd (true≢false no);
@@ -104,7 +104,7 @@ sound_answer = record {
     (
       record {
         owner = refl;
-        kind = refl;
+        rtype = refl;
         class = refl;
         rdata = refl;
         plain = λ no. absurd (true≢false no);
@@ -123,7 +123,7 @@ sound_answer = record {
 
 -- the same answer, where nothing tells what the upstream said
 pub sound_alone : SoundAlone (judge verifier anchors 1000) 1000 answer
-unfolding sets_of leaders sig_in name_in labels_in label_in last_link
+unfolding sets_of leaders rrsig_in name_in labels_in label_in last_link
 sound_alone = record {
   answers = (
     (λ yes. (λ signs. absurd (true≢false (sym signs)), refl, lit≤ tt)),
@@ -143,7 +143,7 @@ sound_alone = record {
 pub not_with_two_ttls :
     SoundAlone (judge verifier anchors 1000) 1000
     (answer_of (record_of 2 1000 name_a Secure ∷ record_of 46 999 signature Secure ∷ []) (chain_by key ∷ [])) → ⊥
-unfolding sets_of leaders sig_in name_in labels_in label_in last_link
+unfolding sets_of leaders rrsig_in name_in labels_in label_in last_link
 not_with_two_ttls s = absurd (true≢false (sym (ap (λ n. n == 1000) (s.answers.1.0 refl).1)))
 
 pub not_without_a_chain :
@@ -164,7 +164,7 @@ not_after_its_end s = absurd (true≢false (sym s.chains.0.holds ∙ not_justifi
 pub not_with_a_longer_ttl :
     Sound (judge verifier anchors 1000) 1000 told_records
     (answer_of (record_of 2 1001 name_a Secure ∷ record_of 46 1000 signature Secure ∷ []) (chain_by key ∷ [])) → ⊥
-unfolding sets_of leaders sig_in name_in labels_in label_in last_link
+unfolding sets_of leaders rrsig_in name_in labels_in label_in last_link
 not_with_a_longer_ttl s = absurd (true≢false (sym (ap (λ n. n == 1000) (s.answers.0.secure refl).1)))
 
 pub not_with_a_record_left_out :
@@ -179,12 +179,12 @@ not_with_another_rdata s = absurd (true≢false (sym (ap (bytes_eq name_a) s.ans
 -- a Bogus set keeps its ttl, and has no chain
 pub sound_bogus :
     Sound (judge verifier anchors 2001) 2001 told_records (answer_of (record_of 2 3600 name_a Bogus ∷ record_of 46 3600 signature Indeterminate ∷ []) [])
-unfolding sets_of leaders sig_in name_in labels_in label_in
+unfolding sets_of leaders rrsig_in name_in labels_in label_in
 sound_bogus = record {
   code = refl;
   answers = (
-    record { owner = refl; kind = refl; class = refl; rdata = refl; plain = λ no. refl; secure = λ yes. absurd (true≢false (sym yes)) },
-    (record { owner = refl; kind = refl; class = refl; rdata = refl; plain = λ no. refl; secure = λ yes. absurd (true≢false (sym yes)) }, tt),
+    record { owner = refl; rtype = refl; class = refl; rdata = refl; plain = λ no. refl; secure = λ yes. absurd (true≢false (sym yes)) },
+    (record { owner = refl; rtype = refl; class = refl; rdata = refl; plain = λ no. refl; secure = λ yes. absurd (true≢false (sym yes)) }, tt),
   );
   authorities = tt;
   additionals = tt;

@@ -13,4 +13,4 @@ pub mod Serial
 pub mod Signing
 pub mod Keys
 pub mod Chains
-pub mod Answers
+pub mod SoundAnswers

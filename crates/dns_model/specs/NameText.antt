@@ -42,14 +42,14 @@ printed (label ∷ name) = flat_map printed_label (label ∷ name)
 abbrev pub is_digit : ℕ → Bool
 is_digit byte = nat_le 48 byte && nat_le byte 57
 
-abbrev pub number_of : ℕ → ℕ → ℕ → ℕ
-number_of a b c = (a - 48) * 100 + (b - 48) * 10 + (c - 48)
+abbrev pub number_of_digits : ℕ → ℕ → ℕ → ℕ
+number_of_digits a b c = (a - 48) * 100 + (b - 48) * 10 + (c - 48)
 
 -- the byte of three digits, the first of them given, and the text after them
 unfoldable pub number_in : ℕ → List ℕ → Option (ℕ × List ℕ)
 number_in a [] = None
 number_in a (b ∷ []) = None
-number_in a (b ∷ c ∷ rest) = if is_digit b && is_digit c && nat_le (number_of a b c) 255 then Some (number_of a b c, rest) else None
+number_in a (b ∷ c ∷ rest) = if is_digit b && is_digit c && nat_le (number_of_digits a b c) 255 then Some (number_of_digits a b c, rest) else None
 
 -- the byte of an escape, after its backslash, and the text after it
 unfoldable pub escape_in : List ℕ → Option (ℕ × List ℕ)

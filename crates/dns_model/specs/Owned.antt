@@ -1,11 +1,11 @@
 -- NSEC and NSEC3 records with their owners (RFC 4034, 4; RFC 5155, 3).
 use Rattle.dns_model.specs.Names.{Labels}
-use Rattle.dns_model.specs.Views.{NsecText, Nsec3Text}
+use Rattle.dns_model.specs.Views.{NsecValue, Nsec3Value}
 
 pub record OwnedNsec : Type 0 where
   pub owner : Labels
-  pub text : NsecText
+  pub text : NsecValue
 
 pub record OwnedNsec3 : Type 0 where
   pub owner : Labels
-  pub text : Nsec3Text
+  pub text : Nsec3Value

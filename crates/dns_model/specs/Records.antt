@@ -5,33 +5,33 @@ use Rattle.dns_model.specs.declared.proof.Proof.{Proof}
 
 pub record Rr : Type 0 where
   pub owner : Labels
-  pub kind : ℕ
+  pub rtype : ℕ
   pub class : ℕ
   pub ttl : ℕ
   pub rdata : List ℕ
-  pub mark : Proof
+  pub proof : Proof
 
 -- the records of one owner, type and class, with the signatures that cover them
 pub record RrSet : Type 0 where
   pub owner : Labels
-  pub kind : ℕ
+  pub rtype : ℕ
   pub class : ℕ
   pub records : List Rr
   pub signatures : List Rr
 
 pub record Question : Type 0 where
   pub owner : Labels
-  pub kind : ℕ
+  pub rtype : ℕ
   pub class : ℕ
 
-pub record EdnsText : Type 0 where
+pub record EdnsValue : Type 0 where
   pub max_payload : ℕ
   pub version : ℕ
   pub dnssec_ok : Bool
   pub flags : ℕ
   pub options : List ℕ
 
-pub record MessageText : Type 0 where
+pub record MessageValue : Type 0 where
   pub id : ℕ
   pub response : Bool
   pub op_code : ℕ
@@ -46,8 +46,8 @@ pub record MessageText : Type 0 where
   pub answers : List Rr
   pub authorities : List Rr
   pub additionals : List Rr
-  pub edns : Option EdnsText
+  pub edns : Option EdnsValue
 
 -- questions compare with their names folded
 abbrev pub question_eq : Question → Question → Bool
-question_eq a b = name_eq a.owner b.owner && ((a.kind == b.kind) && (a.class == b.class))
+question_eq a b = name_eq a.owner b.owner && ((a.rtype == b.rtype) && (a.class == b.class))

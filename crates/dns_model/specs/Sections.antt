@@ -3,23 +3,23 @@ use Rattle.std.specs.Prelude.{ℕ, Bool, true, false, not, ◌==◌, ◌&&◌, L
 use Rattle.std.specs.List.{filter}
 use Rattle.dns_model.specs.Names.{Labels, name_eq}
 use Rattle.dns_model.specs.Types.{type_rrsig}
-use Rattle.dns_model.specs.Views.{SigText, sig_in}
+use Rattle.dns_model.specs.Views.{RrsigValue, rrsig_in}
 use Rattle.dns_model.specs.Records.{Rr, RrSet}
 
 -- two records of one owner and type
 abbrev pub same_set : Rr → Rr → Bool
-same_set a b = name_eq a.owner b.owner && (a.kind == b.kind)
+same_set a b = name_eq a.owner b.owner && (a.rtype == b.rtype)
 
 abbrev pub is_signature : Rr → Bool
-is_signature r = r.kind == type_rrsig
+is_signature r = r.rtype == type_rrsig
 
-abbrev pub covers_kind : ℕ → Option SigText → Bool
-covers_kind kind None = false
-covers_kind kind (Some sig) = sig.covered == kind
+abbrev pub covers_rtype : ℕ → Option RrsigValue → Bool
+covers_rtype rtype None = false
+covers_rtype rtype (Some sig) = sig.covered == rtype
 
 -- a readable RRSIG of the record's owner that covers its type
 abbrev pub covers : Rr → Rr → Bool
-covers r signature = is_signature signature && (name_eq r.owner signature.owner && covers_kind r.kind (sig_in signature.rdata))
+covers r signature = is_signature signature && (name_eq r.owner signature.owner && covers_rtype r.rtype (rrsig_in signature.rdata))
 
 -- each record that no earlier one shares a set with
 unfoldable pub leaders : List Rr → List Rr
@@ -34,7 +34,7 @@ unsigned_part section = filter (λ r. not (is_signature r)) section
 abbrev pub set_of : List Rr → Rr → RrSet
 set_of section r = record {
   owner = r.owner;
-  kind = r.kind;
+  rtype = r.rtype;
   class = r.class;
   records = filter (same_set r) section;
   signatures = filter (covers r) section;

@@ -2,7 +2,7 @@
 use Rattle.std.specs.Prelude.{ℕ, ◌+◌, ◌-◌, ◌%◌, ◌^◌, Bool, ◌==◌, ◌&&◌, ◌||◌, nat_lt, if◌then◌else◌, Option, None, Some}
 use Rattle.std.specs.declared.cmp.Ordering.{Ordering}
 use Rattle.std.specs.declared.cmp.Ordering.TheVariants.{Less, Equal, Greater}
-use Rattle.dns_model.specs.Views.{SigText}
+use Rattle.dns_model.specs.Views.{RrsigValue}
 
 -- how far b lies after a on the circle of 2^32 numbers
 abbrev pub distance : ℕ → ℕ → ℕ
@@ -25,9 +25,9 @@ abbrev pub moment_number : ℕ → ℕ
 moment_number now = now % 2 ^ 32
 
 -- the moment lies in the signature's validity
-abbrev pub timely : SigText → ℕ → Bool
+abbrev pub timely : RrsigValue → ℕ → Bool
 timely sig now = at_or_before sig.inception (moment_number now) && at_or_before (moment_number now) sig.expiration
 
 -- the seconds that a signature is still valid
-abbrev pub seconds_left : SigText → ℕ → ℕ
+abbrev pub seconds_left : RrsigValue → ℕ → ℕ
 seconds_left sig now = distance (moment_number now) sig.expiration

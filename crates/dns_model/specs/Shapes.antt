@@ -66,15 +66,15 @@ abbrev pub has_bit : List ℕ → ℕ → Bool
 has_bit bits place = (slice_index bits (place / 8) / 2 ^ (7 - place % 8)) % 2 == 1
 
 abbrev pub window_has : ℕ → Window → Bool
-window_has kind window = (window.number == kind / 256) && has_bit window.bits (kind % 256)
+window_has rtype window = (window.number == rtype / 256) && has_bit window.bits (rtype % 256)
 
 abbrev pub windows_have : ℕ → Option (List Window) → Bool
-windows_have kind None = false
-windows_have kind (Some windows) = list_any (window_has kind) windows
+windows_have rtype None = false
+windows_have rtype (Some windows) = list_any (window_has rtype) windows
 
 -- a bitmap holds a type's bit
 unfoldable pub bitmap_has : List ℕ → ℕ → Bool
-bitmap_has bytes kind = windows_have kind (windows_in bytes bytes)
+bitmap_has bytes rtype = windows_have rtype (windows_in bytes bytes)
 
 -- a field as it is read: bytes as they stand, or a name
 pub data Part : Type 0 where
@@ -116,31 +116,31 @@ parts_in (field ∷ fields) bytes = after_part (part_in field bytes) (parts_in f
 
 -- the fields of each type's rdata; a type that isn't here is opaque
 unfoldable pub shape_of : ℕ → List Field
-shape_of kind =
-    if kind == 1 then Octets 4 ∷ []
-    else if (kind == 2) || (kind == 5) || (kind == 12) || (kind == 39) then DomainName ∷ []
-    else if kind == type_soa then DomainName ∷ DomainName ∷ Octets 20 ∷ []
-    else if (kind == 15) || (kind == 18) || (kind == 21) || (kind == 36) then Octets 2 ∷ DomainName ∷ []
-    else if kind == 17 then DomainName ∷ DomainName ∷ []
-    else if kind == 26 then Octets 2 ∷ DomainName ∷ DomainName ∷ []
-    else if kind == 28 then Octets 16 ∷ []
-    else if kind == 33 then Octets 6 ∷ DomainName ∷ []
-    else if kind == 35 then Octets 4 ∷ CharacterString ∷ CharacterString ∷ CharacterString ∷ DomainName ∷ []
-    else if kind == type_ds then Octets 4 ∷ Remainder ∷ []
-    else if kind == type_rrsig then Octets 18 ∷ DomainName ∷ Remainder ∷ []
-    else if kind == type_nsec then DomainName ∷ TypeBitmap ∷ []
-    else if kind == type_dnskey then Octets 4 ∷ Remainder ∷ []
-    else if kind == type_nsec3 then Octets 4 ∷ CharacterString ∷ CharacterString ∷ TypeBitmap ∷ []
+shape_of rtype =
+    if rtype == 1 then Octets 4 ∷ []
+    else if (rtype == 2) || (rtype == 5) || (rtype == 12) || (rtype == 39) then DomainName ∷ []
+    else if rtype == type_soa then DomainName ∷ DomainName ∷ Octets 20 ∷ []
+    else if (rtype == 15) || (rtype == 18) || (rtype == 21) || (rtype == 36) then Octets 2 ∷ DomainName ∷ []
+    else if rtype == 17 then DomainName ∷ DomainName ∷ []
+    else if rtype == 26 then Octets 2 ∷ DomainName ∷ DomainName ∷ []
+    else if rtype == 28 then Octets 16 ∷ []
+    else if rtype == 33 then Octets 6 ∷ DomainName ∷ []
+    else if rtype == 35 then Octets 4 ∷ CharacterString ∷ CharacterString ∷ CharacterString ∷ DomainName ∷ []
+    else if rtype == type_ds then Octets 4 ∷ Remainder ∷ []
+    else if rtype == type_rrsig then Octets 18 ∷ DomainName ∷ Remainder ∷ []
+    else if rtype == type_nsec then DomainName ∷ TypeBitmap ∷ []
+    else if rtype == type_dnskey then Octets 4 ∷ Remainder ∷ []
+    else if rtype == type_nsec3 then Octets 4 ∷ CharacterString ∷ CharacterString ∷ TypeBitmap ∷ []
     else Remainder ∷ []
 
 -- the rdata has its type's shape, names spelled out
 abbrev pub has_shape : ℕ → List ℕ → Bool
-has_shape kind rdata = is_some (parts_in (shape_of kind) rdata)
+has_shape rtype rdata = is_some (parts_in (shape_of rtype) rdata)
 
 -- the types whose names are lower-cased in canonical form (RFC 4034, 6.2; RFC 6840, 5.1 takes NSEC out)
 unfoldable pub is_lowered_type : ℕ → Bool
-is_lowered_type kind =
-    list_any (λ lowered. kind == lowered) (2 ∷ 5 ∷ 6 ∷ 12 ∷ 15 ∷ 17 ∷ 18 ∷ 21 ∷ 26 ∷ 33 ∷ 35 ∷ 36 ∷ 39 ∷ 46 ∷ [])
+is_lowered_type rtype =
+    list_any (λ lowered. rtype == lowered) (2 ∷ 5 ∷ 6 ∷ 12 ∷ 15 ∷ 17 ∷ 18 ∷ 21 ∷ 26 ∷ 33 ∷ 35 ∷ 36 ∷ 39 ∷ 46 ∷ [])
 
 abbrev pub canonical_part : Part → List ℕ
 canonical_part (Plain bytes) = bytes
@@ -152,4 +152,4 @@ canonical_parts rdata (Some parts) = concat (map canonical_part parts)
 
 -- an rdata with the names in it lower-cased where its type asks it; one that hasn't its type's shape stays (RFC 4034, 6.2)
 unfoldable pub canonical_form : ℕ → List ℕ → List ℕ
-canonical_form kind rdata = if is_lowered_type kind then canonical_parts rdata (parts_in (shape_of kind) rdata) else rdata
+canonical_form rtype rdata = if is_lowered_type rtype then canonical_parts rdata (parts_in (shape_of rtype) rdata) else rdata

@@ -11,7 +11,7 @@ use Rattle.sha2.specs.Sha512.{sha384}
 use Rattle.dns_model.specs.Bytes.{u16_bytes, u32_bytes}
 use Rattle.dns_model.specs.Names.{Labels, folded, wire, last_labels, star, num_labels}
 use Rattle.dns_model.specs.Shapes.{canonical_form}
-use Rattle.dns_model.specs.Views.{SigText}
+use Rattle.dns_model.specs.Views.{RrsigValue}
 
 abbrev pub placed_by : Ordering → List ℕ → List ℕ → List (List ℕ) → List (List ℕ) → List (List ℕ)
 placed_by Less x y ys placed = x ∷ y ∷ ys
@@ -33,21 +33,21 @@ abbrev pub signed_owner : Labels → ℕ → Labels
 signed_owner owner labels = folded (if nat_lt labels (num_labels owner) then star (last_labels labels owner) else owner)
 
 -- a signature's rdata without the signature itself, the signer lower-cased
-abbrev pub signed_head : SigText → List ℕ
+abbrev pub signed_head : RrsigValue → List ℕ
 signed_head sig =
     u16_bytes sig.covered ++ (sig.algorithm ∷ sig.labels ∷ []) ++ u32_bytes sig.original_ttl ++ u32_bytes sig.expiration
     ++ u32_bytes sig.inception ++ u16_bytes sig.key_tag ++ wire (folded sig.signer)
 
 -- one record as it was signed
-abbrev pub signed_record : Labels → ℕ → ℕ → SigText → List ℕ → List ℕ
-signed_record owner kind class sig rdata =
-    wire (signed_owner owner sig.labels) ++ u16_bytes kind ++ u16_bytes class ++ u32_bytes sig.original_ttl
+abbrev pub signed_record : Labels → ℕ → ℕ → RrsigValue → List ℕ → List ℕ
+signed_record owner rtype class sig rdata =
+    wire (signed_owner owner sig.labels) ++ u16_bytes rtype ++ u16_bytes class ++ u32_bytes sig.original_ttl
     ++ u16_bytes (length rdata) ++ rdata
 
 -- the bytes that a signature of a set is over
-unfoldable pub signed_bytes : Labels → ℕ → ℕ → List (List ℕ) → SigText → List ℕ
-signed_bytes owner kind class rdatas sig =
-    signed_head sig ++ concat (map (signed_record owner kind class sig) (rising_once (map (canonical_form kind) rdatas)))
+unfoldable pub signed_bytes : Labels → ℕ → ℕ → List (List ℕ) → RrsigValue → List ℕ
+signed_bytes owner rtype class rdatas sig =
+    signed_head sig ++ concat (map (signed_record owner rtype class sig) (rising_once (map (canonical_form rtype) rdatas)))
 
 -- the sum of the bytes, those at even places shifted left by 8
 unfoldable pub tag_sum : List ℕ → ℕ

@@ -5,7 +5,7 @@ use Rattle.dns_model.specs.Names.{Labels}
 use Rattle.dns_model.specs.NameForm.{name_in, whole_name}
 use Rattle.dns_model.specs.Shapes.{counted_in, is_bitmap}
 
-pub record SigText : Type 0 where
+pub record RrsigValue : Type 0 where
   pub covered : ℕ
   pub algorithm : ℕ
   pub labels : ℕ
@@ -16,23 +16,23 @@ pub record SigText : Type 0 where
   pub signer : Labels
   pub signature : List ℕ
 
-pub record KeyText : Type 0 where
+pub record DnskeyValue : Type 0 where
   pub flags : ℕ
   pub protocol : ℕ
   pub algorithm : ℕ
   pub key : List ℕ
 
-pub record DsText : Type 0 where
+pub record DsValue : Type 0 where
   pub key_tag : ℕ
   pub algorithm : ℕ
   pub digest_type : ℕ
   pub digest : List ℕ
 
-pub record NsecText : Type 0 where
+pub record NsecValue : Type 0 where
   pub next : Labels
   pub types : List ℕ
 
-pub record Nsec3Text : Type 0 where
+pub record Nsec3Value : Type 0 where
   pub hash_algorithm : ℕ
   pub flags : ℕ
   pub iterations : ℕ
@@ -40,7 +40,7 @@ pub record Nsec3Text : Type 0 where
   pub next : List ℕ
   pub types : List ℕ
 
-pub record SoaText : Type 0 where
+pub record SoaValue : Type 0 where
   pub mname : Labels
   pub rname : Labels
   pub serial : ℕ
@@ -49,9 +49,9 @@ pub record SoaText : Type 0 where
   pub expire : ℕ
   pub minimum : ℕ
 
-abbrev pub sig_from : List ℕ → Option (Labels × List ℕ) → Option SigText
-sig_from rdata None = None
-sig_from rdata (Some (signer, signature)) = Some (record {
+abbrev pub rrsig_from : List ℕ → Option (Labels × List ℕ) → Option RrsigValue
+rrsig_from rdata None = None
+rrsig_from rdata (Some (signer, signature)) = Some (record {
   covered = u16_at rdata 0;
   algorithm = slice_index rdata 2;
   labels = slice_index rdata 3;
@@ -64,60 +64,60 @@ sig_from rdata (Some (signer, signature)) = Some (record {
 })
 
 -- RRSIG (RFC 4034, 3.1)
-unfoldable pub sig_in : List ℕ → Option SigText
-sig_in rdata = if nat_lt (length rdata) 18 then None else sig_from rdata (name_in (drop 18 rdata))
+unfoldable pub rrsig_in : List ℕ → Option RrsigValue
+rrsig_in rdata = if nat_lt (length rdata) 18 then None else rrsig_from rdata (name_in (drop 18 rdata))
 
 -- DNSKEY (RFC 4034, 2.1)
-unfoldable pub key_in : List ℕ → Option KeyText
-key_in rdata =
+unfoldable pub dnskey_in : List ℕ → Option DnskeyValue
+dnskey_in rdata =
     if nat_lt (length rdata) 4 then None
     else Some (record { flags = u16_at rdata 0; protocol = slice_index rdata 2; algorithm = slice_index rdata 3; key = drop 4 rdata })
 
 -- DS (RFC 4034, 5.1)
-unfoldable pub ds_in : List ℕ → Option DsText
+unfoldable pub ds_in : List ℕ → Option DsValue
 ds_in rdata =
     if nat_lt (length rdata) 4 then None
     else Some (record { key_tag = u16_at rdata 0; algorithm = slice_index rdata 2; digest_type = slice_index rdata 3; digest = drop 4 rdata })
 
-abbrev pub nsec_from : Option (Labels × List ℕ) → Option NsecText
+abbrev pub nsec_from : Option (Labels × List ℕ) → Option NsecValue
 nsec_from None = None
 nsec_from (Some (next, types)) = if is_bitmap types then Some (record { next = next; types = types }) else None
 
 -- NSEC (RFC 4034, 4.1)
-unfoldable pub nsec_in : List ℕ → Option NsecText
+unfoldable pub nsec_in : List ℕ → Option NsecValue
 nsec_in rdata = nsec_from (name_in rdata)
 
-abbrev pub nsec3_from : List ℕ → List ℕ → Option (List ℕ × List ℕ) → Option Nsec3Text
+abbrev pub nsec3_from : List ℕ → List ℕ → Option (List ℕ × List ℕ) → Option Nsec3Value
 nsec3_from rdata salt None = None
 nsec3_from rdata salt (Some (next, types)) =
     if is_bitmap types
     then Some (record { hash_algorithm = slice_index rdata 0; flags = slice_index rdata 1; iterations = u16_at rdata 2; salt = salt; next = next; types = types })
     else None
 
-abbrev pub nsec3_after_salt : List ℕ → Option (List ℕ × List ℕ) → Option Nsec3Text
+abbrev pub nsec3_after_salt : List ℕ → Option (List ℕ × List ℕ) → Option Nsec3Value
 nsec3_after_salt rdata None = None
 nsec3_after_salt rdata (Some (salt, rest)) = nsec3_from rdata salt (counted_in rest)
 
 -- NSEC3 (RFC 5155, 3.2)
-unfoldable pub nsec3_in : List ℕ → Option Nsec3Text
+unfoldable pub nsec3_in : List ℕ → Option Nsec3Value
 nsec3_in rdata = if nat_lt (length rdata) 4 then None else nsec3_after_salt rdata (counted_in (drop 4 rdata))
 
-abbrev pub soa_numbers : Labels → Labels → List ℕ → Option SoaText
+abbrev pub soa_numbers : Labels → Labels → List ℕ → Option SoaValue
 soa_numbers mname rname rest =
     if length rest == 20
     then Some (record { mname = mname; rname = rname; serial = u32_at rest 0; refresh = u32_at rest 4; retry = u32_at rest 8; expire = u32_at rest 12; minimum = u32_at rest 16 })
     else None
 
-abbrev pub soa_after_mname : Labels → Option (Labels × List ℕ) → Option SoaText
+abbrev pub soa_after_mname : Labels → Option (Labels × List ℕ) → Option SoaValue
 soa_after_mname mname None = None
 soa_after_mname mname (Some (rname, rest)) = soa_numbers mname rname rest
 
-abbrev pub soa_from : Option (Labels × List ℕ) → Option SoaText
+abbrev pub soa_from : Option (Labels × List ℕ) → Option SoaValue
 soa_from None = None
 soa_from (Some (mname, rest)) = soa_after_mname mname (name_in rest)
 
 -- SOA (RFC 1035, 3.3.13)
-unfoldable pub soa_in : List ℕ → Option SoaText
+unfoldable pub soa_in : List ℕ → Option SoaValue
 soa_in rdata = soa_from (name_in rdata)
 
 -- NS (RFC 1035, 3.3.11)
@@ -125,9 +125,9 @@ unfoldable pub ns_in : List ℕ → Option Labels
 ns_in rdata = whole_name (name_in rdata)
 
 -- a DNSKEY's flag for a zone's keys (RFC 4034, 2.1.1)
-abbrev pub is_zone_key : KeyText → Bool
+abbrev pub is_zone_key : DnskeyValue → Bool
 is_zone_key key = key.flags / 256 % 2 == 1
 
 -- a DNSKEY's flag for a revoked key (RFC 5011, 2.1)
-abbrev pub is_revoked : KeyText → Bool
+abbrev pub is_revoked : DnskeyValue → Bool
 is_revoked key = key.flags / 128 % 2 == 1

@@ -1,7 +1,7 @@
 ghost use Rattle.std.specs.Prelude.{◌≡◌, ◌≤◌, ◌<◌, ◌++◌, ◌∷◌, [], Option, None, Some, IfOk, IfSome, OnOk, IsTrue, MatchResult, length, option_map};
 ghost use Rattle.dns_model.specs.Gives.{Gives};
 ghost use Rattle.dns_model.specs.Names.{Labels};
-ghost use Rattle.dns_model.specs.NameText.{byte_in, ended, escape_in, label_checked, is_digit, is_printable, number_in, number_of, text_read, within};
+ghost use Rattle.dns_model.specs.NameText.{byte_in, ended, escape_in, label_checked, is_digit, is_printable, number_in, number_of_digits, text_read, within};
 ghost use Rattle.dns_model.specs.declared.name_error.NameError.TheVariants.{NoMemory as no_memory};
 ghost use Rattle.dns_model.proofs.TextLemmas.{read_at};
 ghost use Rattle.dns_model.proofs.ReadSteps.{FailsAs, HasRun, IsLabels, IsRun, rest_read};

@@ -77,7 +77,7 @@ first_place-push told k r q =
 
 pub question_equiv : IsEquivalence question_eq
 question_equiv =
-    and_equiv (on_equiv (λ q. q.owner) name_equiv) (and_equiv (on_equiv (λ q. q.kind) nat_eq_equiv) (on_equiv (λ q. q.class) nat_eq_equiv))
+    and_equiv (on_equiv (λ q. q.owner) name_equiv) (and_equiv (on_equiv (λ q. q.rtype) nat_eq_equiv) (on_equiv (λ q. q.class) nat_eq_equiv))
 
 -- ---- the map from questions to places
 
@@ -144,16 +144,16 @@ nat_ties x y = grind (arith, nat_tests)
 
 pub question_orders : Orders question_cmp
 question_orders = record {
-  total = then_total (on_total (λ q. q.owner) name_total) (then_total (on_total (λ q. q.kind) nat_cmp_total) (on_total (λ q. q.class) nat_cmp_total));
+  total = then_total (on_total (λ q. q.owner) name_total) (then_total (on_total (λ q. q.rtype) nat_cmp_total) (on_total (λ q. q.class) nat_cmp_total));
   tied = λ a b.
       let n = name_ties a.owner b.owner in
-      let k = nat_ties a.kind b.kind in
+      let k = nat_ties a.rtype b.rtype in
       let l = nat_ties a.class b.class in
-      ap (λ x. x && (nat_eq a.kind b.kind && nat_eq a.class b.class)) n
+      ap (λ x. x && (nat_eq a.rtype b.rtype && nat_eq a.class b.class)) n
       ∙ ap (λ x. is_eq (name_cmp a.owner b.owner) && (x && nat_eq a.class b.class)) k
-      ∙ ap (λ x. is_eq (name_cmp a.owner b.owner) && (is_eq (nat_cmp a.kind b.kind) && x)) l
-      ∙ ap (λ x. is_eq (name_cmp a.owner b.owner) && x) (tied_then (nat_cmp a.kind b.kind) (nat_cmp a.class b.class))
-      ∙ tied_then (name_cmp a.owner b.owner) (ordering_then (nat_cmp a.kind b.kind) (nat_cmp a.class b.class));
+      ∙ ap (λ x. is_eq (name_cmp a.owner b.owner) && (is_eq (nat_cmp a.rtype b.rtype) && x)) l
+      ∙ ap (λ x. is_eq (name_cmp a.owner b.owner) && x) (tied_then (nat_cmp a.rtype b.rtype) (nat_cmp a.class b.class))
+      ∙ tied_then (name_cmp a.owner b.owner) (ordering_then (nat_cmp a.rtype b.rtype) (nat_cmp a.class b.class));
 }
 
 -- what isn't there is None

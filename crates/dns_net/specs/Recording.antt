@@ -12,7 +12,7 @@ use Rattle.dns_net.specs.Errors.{Reply}
 use Rattle.dns_net.specs.Handles.{reply_to}
 
 -- the counts, and the replies in the order in which they were put in
-pub record RecordedText : Type 0 where
+pub record RecordedValue : Type 0 where
   pub sends : ℕ
   pub faults : ℕ
   pub replies : List (Question × Reply)
@@ -31,7 +31,7 @@ reply_for replies None = Err seen.Timeout
 reply_for replies (Some q) = reply_to replies q
 
 -- a send: the first reply to the question, or want of memory; the send is counted, and so is an error
-pub record AnswersFrom (old : RecordedText) (q : Option Question) (new : RecordedText) (reply : Reply) : Type 0 where
+pub record AnswersFrom (old : RecordedValue) (q : Option Question) (new : RecordedValue) (reply : Reply) : Type 0 where
   pub answered : (reply ≡ Err seen.NoMemory) ⊎ (reply ≡ reply_for old.replies q)
   pub counted : new.sends ≡ one_more old.sends
   pub faulted : new.faults ≡ faults_after old.faults reply
@@ -39,7 +39,7 @@ pub record AnswersFrom (old : RecordedText) (q : Option Question) (new : Recorde
 
 -- questions in order: by name in canonical order, then by type and class
 abbrev pub question_cmp : Question → Question → Ordering
-question_cmp a b = ordering_then (name_cmp a.owner b.owner) (ordering_then (nat_cmp a.kind b.kind) (nat_cmp a.class b.class))
+question_cmp a b = ordering_then (name_cmp a.owner b.owner) (ordering_then (nat_cmp a.rtype b.rtype) (nat_cmp a.class b.class))
 
 -- the reply at a place of the list; none is Timeout
 abbrev pub reply_of_place : Option (Question × Reply) → Reply

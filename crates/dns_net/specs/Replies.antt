@@ -2,21 +2,21 @@
 use Rattle.std.specs.Prelude.{◌≡◌, Result, Ok, Err}
 use Rattle.dns_model.specs.declared.proof.Proof.{Proof}
 use Rattle.dns_model.specs.Records.{Question}
-use Rattle.dns_model.specs.Answers.{ResponseText}
+use Rattle.dns_model.specs.SoundAnswers.{ResponseValue}
 use Rattle.dns_net.specs.Errors as seen
-use Rattle.dns_net.specs.Errors.{DnsErrorText, ErrorText, Reply}
+use Rattle.dns_net.specs.Errors.{DnsErrorValue, ErrorValue, Reply}
 use Rattle.dns_net.specs.declared.error.DnsError.{DnsError}
 use Rattle.dns_net.specs.declared.error.DnsError.TheVariants.{ResponseCode, Nsec, DnssecBogus}
 use Rattle.dns_net.specs.declared.error.NetError.{NetError}
 use Rattle.dns_net.specs.declared.error.NetError.TheVariants.{Busy, Dns, Message, Msg, NoConnections, Proto, Io, Timeout, QueryCaseMismatch, ForeignClassRecord, Truncated, NoMemory}
 
 -- a code as its number, a box as its content
-abbrev pub dns_error_of : DnsError → DnsErrorText
+abbrev pub dns_error_of : DnsError → DnsErrorValue
 dns_error_of (ResponseCode code) = seen.ResponseCode code.0
 dns_error_of (Nsec query response proof) = seen.Nsec query response.value proof
 dns_error_of DnssecBogus = seen.DnssecBogus
 
-abbrev pub error_of : NetError → ErrorText
+abbrev pub error_of : NetError → ErrorValue
 error_of Busy = seen.Busy
 error_of (Dns error) = seen.Dns (dns_error_of error)
 error_of (Message notice) = seen.Message notice
@@ -26,19 +26,19 @@ error_of (Proto error) = seen.Proto error
 error_of (Io kind) = seen.Io kind
 error_of Timeout = seen.Timeout
 error_of QueryCaseMismatch = seen.QueryCaseMismatch
-error_of (ForeignClassRecord owner class kind) = seen.ForeignClassRecord owner class.0 kind.0
+error_of (ForeignClassRecord owner class rtype) = seen.ForeignClassRecord owner class.0 rtype.0
 error_of Truncated = seen.Truncated
 error_of NoMemory = seen.NoMemory
 
-abbrev pub reply_of : Result ResponseText NetError → Reply
+abbrev pub reply_of : Result ResponseValue NetError → Reply
 reply_of (Ok response) = Ok response
 reply_of (Err error) = Err (error_of error)
 
 -- the error is a denial of this question, with this response and proof
-abbrev pub DeniesWith : Question → ResponseText → Proof → NetError → Type 0
+abbrev pub DeniesWith : Question → ResponseValue → Proof → NetError → Type 0
 DeniesWith query response proof error = error_of error ≡ seen.Dns (seen.Nsec query response proof)
 
 -- a fact of the question, the response and the proof of a denial; other errors have none
-abbrev pub IfDenied : NetError → (Question → ResponseText → Proof → Type 0) → Type 0
+abbrev pub IfDenied : NetError → (Question → ResponseValue → Proof → Type 0) → Type 0
 IfDenied (Dns (Nsec query response proof)) Fact = Fact query response.value proof
 IfDenied _ Fact = Unit {0}

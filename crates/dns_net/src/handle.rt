@@ -2,7 +2,7 @@ ghost use Rattle.std.specs.Prelude.{◌≡◌, ◌≤◌, ⊤, ℕ, Bool, true, 
 ghost use Rattle.dns_model.specs.Records.{Question};
 ghost use Rattle.dns_net.specs.Errors.{Reply};
 ghost use Rattle.dns_net.specs.Replies.{reply_of};
-ghost use Rattle.dns_net.specs.Requests.{RequestText, first_question, request_of};
+ghost use Rattle.dns_net.specs.Requests.{RequestValue, first_question, request_of};
 ghost use Rattle.dns_net.specs.Causes.{Rose, HasCause};
 ghost use Rattle.dns_net.specs.Handles.{ReplyIsTold, OrUnsent};
 
@@ -25,7 +25,7 @@ pub trait DnsHandle {
     ghost told: { Self → Option (List (Question × Reply)) };
 
     /// The handle before a `send`, the whole request, the moment, the handle after, the reply; a handle may leave it open.
-    ghost requested: { Self → RequestText → ℕ → Self → Reply → Type 0 } = { λ _ _ _ _ _. ⊤ };
+    ghost requested: { Self → RequestValue → ℕ → Self → Reply → Type 0 } = { λ _ _ _ _ _. ⊤ };
 
     /// The handle's answers are validated.
     ghost validates: { Self → Bool } = { λ _. false };

@@ -1,5 +1,5 @@
 ghost use Rattle.std.specs.Prelude.{◌≡◌, IfOk, map};
-ghost use Rattle.dns_net.specs.Link.{fact_of};
+ghost use Rattle.dns_net.specs.Link.{link_value};
 
 use dns_name::{Name, NoMemory};
 use dns_record::{DNSClass, Rdata, RecordType, Section};
@@ -51,12 +51,12 @@ pub struct Chain {
 
 impl Model for Chain {
     ghost use Rattle.std.specs.Prelude.{map};
-    ghost use Rattle.dns_model.specs.Answers.{ChainText};
-    ghost use Rattle.dns_net.specs.Link.{fact_of};
+    ghost use Rattle.dns_model.specs.SoundAnswers.{ChainValue};
+    ghost use Rattle.dns_net.specs.Link.{link_value};
 
-    ghost Value = { ChainText };
+    ghost Value = { ChainValue };
 
-    ghost view = { λ c. record { section = c.section; links = map fact_of c.links.items } };
+    ghost view = { λ c. record { section = c.section; links = map link_value c.links.items } };
 }
 
 /// Equal rdatas in memory of their own, in order.
@@ -73,7 +73,7 @@ pub fn clone_rdatas(rdatas: &Vec<Rdata>) -> Result<Vec<Rdata>, NoMemory>
 
 /// Equal links in memory of their own, in order.
 pub fn clone_links(links: &Vec<Link>) -> Result<Vec<Link>, NoMemory>
-    ensures { IfOk result (λ v. map fact_of v.items ≡ map fact_of links.now.items) }
+    ensures { IfOk result (λ v. map link_value v.items ≡ map link_value links.now.items) }
 {
     let mut all = Vec::new(*links.allocator());
     for link in links {
@@ -86,7 +86,7 @@ pub fn clone_links(links: &Vec<Link>) -> Result<Vec<Link>, NoMemory>
 impl Link {
     /// A link that says the same, in memory of its own.
     pub fn try_clone(&self) -> Result<Link, NoMemory>
-        ensures { IfOk result (λ l. fact_of l ≡ fact_of self.now) }
+        ensures { IfOk result (λ l. link_value l ≡ link_value self.now) }
     {
         match self {
             Link::Anchored { owner, class, key } => {

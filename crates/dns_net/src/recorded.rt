@@ -40,9 +40,9 @@ pub struct Recorded {
 }
 
 impl Model for Recorded {
-    ghost use Rattle.dns_net.specs.Recording.{RecordedText, IndexesFirst, question_cmp};
+    ghost use Rattle.dns_net.specs.Recording.{RecordedValue, IndexesFirst, question_cmp};
 
-    ghost Value = { RecordedText };
+    ghost Value = { RecordedValue };
 
     ghost view = { λ r. record { sends = r.sends; faults = r.faults; replies = r.replies.items } };
 

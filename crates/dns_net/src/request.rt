@@ -1,5 +1,5 @@
 ghost use Rattle.std.specs.Prelude.{◌≡◌, IfOk, OnOk};
-ghost use Rattle.dns_net.specs.Requests.{edns_of, first_cased, first_of, plain_options, request_cased, request_of};
+ghost use Rattle.dns_net.specs.Requests.{edns_of, first_cased, first_query, plain_options, request_cased, request_of};
 
 use crate::letter_case::name_cased;
 use dns_message::{Edns, Message};
@@ -54,9 +54,9 @@ pub struct DnsRequest {
 }
 
 impl Model for DnsRequest {
-    ghost use Rattle.dns_net.specs.Requests.{RequestText};
+    ghost use Rattle.dns_net.specs.Requests.{RequestValue};
 
-    ghost Value = { RequestText };
+    ghost Value = { RequestValue };
 
     ghost view = { λ r. record { message = r.message; options = r.options; original = r.original } };
 }
@@ -80,7 +80,7 @@ fn make_edns(alloc: Global, options: &DnsRequestOptions) -> Option<Edns>
 
 /// Changes the case of the first question's letters whose bit is set, and gives the question as it was.
 fn change_first(queries: &mut Vec<Query>, bits: &[u8]) -> Result<Option<Query>, NoMemory>
-    ensures before { IfOk result (λ q. q ≡ first_of queries.old.items) }
+    ensures before { IfOk result (λ q. q ≡ first_query queries.old.items) }
     ensures after { OnOk result (queries.new.items ≡ first_cased bits.now queries.old.items) }
 {
     let alloc = *queries.allocator();

@@ -63,12 +63,17 @@ const CASED: [Cased; 9] = [
 ];
 
 /// The question is this one, also in case.
-fn asks(alloc: Global, question: Option<&Query>, name: &str, kind: u16) -> Result<bool, Fail> {
+fn asks(
+    alloc: Global,
+    question: Option<&Query>,
+    name: &str,
+    record_type: u16,
+) -> Result<bool, Fail> {
     let Some(question) = question else {
         return Ok(false);
     };
     let printed = question.name.to_ascii(alloc)?;
-    Ok(printed.as_str() == name && question.query_type.0 == kind)
+    Ok(printed.as_str() == name && question.query_type.0 == record_type)
 }
 
 fn is_cased(alloc: Global, row: &Cased) -> Result<bool, Fail> {

@@ -16,9 +16,9 @@ pub struct DnsResponse {
 }
 
 impl Model for DnsResponse {
-    ghost use Rattle.dns_model.specs.Answers.{ResponseText};
+    ghost use Rattle.dns_model.specs.SoundAnswers.{ResponseValue};
 
-    ghost Value = { ResponseText };
+    ghost Value = { ResponseValue };
 
     ghost view = { λ r. record { message = r.message; chains = r.chains.items; denial = r.denial } };
 }

@@ -4,17 +4,17 @@ use dns_record::{DNSClass, Denial, Query, RecordType, ResponseCode};
 use std::alloc::Global;
 use std::test::Fail;
 
-pub(crate) fn query(alloc: Global, name: &str, kind: u16) -> Result<Query, Fail> {
+pub(crate) fn query(alloc: Global, name: &str, record_type: u16) -> Result<Query, Fail> {
     let name = Name::from_ascii(alloc, name)?;
     Ok(Query {
         name,
-        query_type: RecordType(kind),
+        query_type: RecordType(record_type),
         query_class: DNSClass::IN,
     })
 }
 
-pub(crate) fn request(alloc: Global, name: &str, kind: u16) -> Result<DnsRequest, Fail> {
-    let query = query(alloc, name, kind)?;
+pub(crate) fn request(alloc: Global, name: &str, record_type: u16) -> Result<DnsRequest, Fail> {
+    let query = query(alloc, name, record_type)?;
     Ok(DnsRequest::from_query(alloc, query, DnsRequestOptions::default())?)
 }
 
@@ -22,10 +22,10 @@ pub(crate) fn request(alloc: Global, name: &str, kind: u16) -> Result<DnsRequest
 pub(crate) fn response(
     alloc: Global,
     name: &str,
-    kind: u16,
+    record_type: u16,
     code: u16,
 ) -> Result<DnsResponse, Fail> {
-    let mut message = request(alloc, name, kind)?.message;
+    let mut message = request(alloc, name, record_type)?.message;
     message.response_code = ResponseCode(code);
     Ok(DnsResponse {
         message,
@@ -43,44 +43,44 @@ pub(crate) fn shows(alloc: Global, error: &NetError, want: &str) -> Result<bool,
 /// A reply that was recorded: the name and the type of its query, and its code; code 16 stands for the error `Busy`.
 struct Told {
     name: &'static str,
-    kind: u16,
+    record_type: u16,
     code: u16,
 }
 
 const TOLD: [Told; 5] = [
     Told {
         name: "org.",
-        kind: 2,
+        record_type: 2,
         code: 0,
     },
     Told {
         name: "ORG.",
-        kind: 2,
+        record_type: 2,
         code: 5,
     },
     Told {
         name: "org.",
-        kind: 1,
+        record_type: 1,
         code: 3,
     },
     Told {
         name: ".",
-        kind: 2,
+        record_type: 2,
         code: 2,
     },
     Told {
         name: "net.",
-        kind: 2,
+        record_type: 2,
         code: 16,
     },
 ];
 
 fn record_one(alloc: Global, handle: &mut Recorded, told: &Told) -> Result<(), Fail> {
-    let query = query(alloc, told.name, told.kind)?;
+    let query = query(alloc, told.name, told.record_type)?;
     let reply = if told.code == 16 {
         Err(NetError::Busy)
     } else {
-        Ok(response(alloc, told.name, told.kind, told.code)?)
+        Ok(response(alloc, told.name, told.record_type, told.code)?)
     };
     handle.push(query, reply)?;
     Ok(())
@@ -97,7 +97,7 @@ fn recorded(alloc: Global) -> Result<Recorded, Fail> {
 /// A query, and what is answered: a code or the text of an error.
 struct Asked {
     name: &'static str,
-    kind: u16,
+    record_type: u16,
     code: Option<u16>,
     fault: &'static str,
 }
@@ -106,45 +106,45 @@ const ASKED: [Asked; 7] = [
     // the first reply serves
     Asked {
         name: "org.",
-        kind: 2,
+        record_type: 2,
         code: Some(0),
         fault: "",
     },
     // in whatever case the name is
     Asked {
         name: "oRg.",
-        kind: 2,
+        record_type: 2,
         code: Some(0),
         fault: "",
     },
     Asked {
         name: "org.",
-        kind: 1,
+        record_type: 1,
         code: Some(3),
         fault: "",
     },
     Asked {
         name: ".",
-        kind: 2,
+        record_type: 2,
         code: Some(2),
         fault: "",
     },
     Asked {
         name: "net.",
-        kind: 2,
+        record_type: 2,
         code: None,
         fault: "resource too busy",
     },
     // none was recorded
     Asked {
         name: "net.",
-        kind: 1,
+        record_type: 1,
         code: None,
         fault: "request timed out",
     },
     Asked {
         name: "a.org.",
-        kind: 2,
+        record_type: 2,
         code: None,
         fault: "request timed out",
     },
@@ -164,7 +164,7 @@ fn replies_as(
 
 fn is_answered(alloc: Global, asked: &Asked) -> Result<bool, Fail> {
     let mut handle = recorded(alloc)?;
-    let query = query(alloc, asked.name, asked.kind)?;
+    let query = query(alloc, asked.name, asked.record_type)?;
     let reply = handle.lookup(alloc, query, DnsRequestOptions::default(), 1000);
     replies_as(alloc, reply, asked)
 }
@@ -176,7 +176,7 @@ fn recorded_answers_the_first_reply_to_a_query(rt: HostRuntime) -> Result<(), Fa
             is_answered(rt.alloc(), asked)?,
             "at {} {}",
             asked.name,
-            asked.kind
+            asked.record_type
         );
     }
     Ok(())

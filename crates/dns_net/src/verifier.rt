@@ -1,11 +1,11 @@
 ghost use Rattle.std.specs.Prelude.{◌≡◌, IsTrue};
-ghost use Rattle.dns_model.specs.Keys.{Answers};
+ghost use Rattle.dns_model.specs.Keys.{VerifierAnswers};
 ghost use Rattle.dns_net.specs.Verifiers.{AnswerAlike};
 
 /// What tests signatures. Its answers depend on nothing but the arguments.
 pub trait Verifier {
     /// Which algorithms are supported, and which signatures are accepted.
-    ghost answers: { Self → Answers };
+    ghost answers: { Self → VerifierAnswers };
 
     /// The algorithm, by its number in the registry, can be tested.
     fn supports(&self, algorithm: u8) -> bool

@@ -22,13 +22,13 @@ impl Model for RecordSet {
 
     ghost Value = { RrSet };
 
-    ghost view = { λ s. record { owner = s.name; kind = s.record_type.0; class = s.dns_class.0; records = s.records.items; signatures = s.rrsigs.items } };
+    ghost view = { λ s. record { owner = s.name; rtype = s.record_type.0; class = s.dns_class.0; records = s.records.items; signatures = s.rrsigs.items } };
 }
 
 impl RecordSet {
     /// The set of one record: its name, type and class, and no signatures.
     pub fn of(alloc: Global, first: Record) -> Result<RecordSet, NoMemory>
-        ensures { IfOk result (λ s. s ≡ record { owner = first.owner; kind = first.kind; class = first.class; records = first ∷ []; signatures = [] }) }
+        ensures { IfOk result (λ s. s ≡ record { owner = first.owner; rtype = first.rtype; class = first.class; records = first ∷ []; signatures = [] }) }
     {
         let name = first.name.try_clone()?;
         let record_type = first.record_type;
@@ -47,7 +47,7 @@ impl RecordSet {
     /// Adds a record of the same name, type and class. For want of memory it hands the record back, and the set stays.
     pub fn push(&mut self, next: Record) -> Result<(), Record>
         requires name { IsTrue (name_eq self.old.owner next.owner) }
-        requires kind { self.old.kind ≡ next.kind }
+        requires rtype { self.old.rtype ≡ next.rtype }
         requires class { self.old.class ≡ next.class }
         ensures ok { OnOk result (self.new ≡ record self.old { records = self.old.records ++ next ∷ [] }) }
         ensures err { OnErr result (self.new ≡ self.old) }

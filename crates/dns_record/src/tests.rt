@@ -11,11 +11,11 @@ fn hash_of(query: &Query) -> u64 {
     state.finish()
 }
 
-fn query_of(alloc: Global, text: &str, kind: u16) -> Result<Query, NameError> {
+fn query_of(alloc: Global, text: &str, record_type: u16) -> Result<Query, NameError> {
     let name = Name::from_ascii(alloc, text)?;
     Ok(Query {
         name,
-        query_type: RecordType(kind),
+        query_type: RecordType(record_type),
         query_class: DNSClass::IN,
     })
 }
@@ -49,8 +49,8 @@ fn questions_compare_with_names_folded(rt: HostRuntime) -> Result<(), Fail> {
     Ok(())
 }
 
-fn is_shown(alloc: Global, kind: u16, want: &str) -> Result<bool, NameError> {
-    let query = query_of(alloc, "a.B", kind)?;
+fn is_shown(alloc: Global, record_type: u16, want: &str) -> Result<bool, NameError> {
+    let query = query_of(alloc, "a.B", record_type)?;
     let shown = format!(in alloc; "{query}")?;
     Ok(shown.as_str() == want)
 }

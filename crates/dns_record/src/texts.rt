@@ -73,7 +73,7 @@ impl fmt::Display for Query {
     fn fmt<W: fmt::Write>(&self, f: &mut fmt::Formatter<W>) -> fmt::Result {
         let name = &self.name;
         let class = self.query_class;
-        let kind = self.query_type;
-        write!(f, "{name} {class} {kind}")
+        let record_type = self.query_type;
+        write!(f, "{name} {class} {record_type}")
     }
 }

@@ -3,24 +3,24 @@ use Rattle.std.proofs.Common.{◌≡◌, ℕ, suc, true, List, [], ◌∷◌, �
 use Rattle.std.proofs.lemmas.Bool.{and_parts}
 use Rattle.dns_model.specs.Names.{Labels}
 use Rattle.dns_model.specs.declared.section.Section.{Section}
-use Rattle.dns_model.specs.Chains as fact
-use Rattle.dns_model.specs.Chains.{Fact, Judge, all_shown, shows_key, is_listed, is_signed, link_holds, links_hold, is_chain, justified}
+use Rattle.dns_model.specs.Chains as trust
+use Rattle.dns_model.specs.Chains.{LinkValue, Judge, all_shown, shows_key, is_nonempty, is_signed, link_holds, links_hold, is_chain, justified}
 use Rattle.std.specs.Prelude.{slice_get}
-use Rattle.dns_model.specs.Answers.{ChainText, ResponseText}
+use Rattle.dns_model.specs.SoundAnswers.{ChainValue, ResponseValue}
 use Rattle.dns_report.specs.View.{Numbered, Shown, Anchored, Matched, KeySet, Signed, numbered, shown, ChainView, chain_view, View, view_of, all_justified}
 
 -- a key set has as many numbers as keys
-abbrev Even : Fact → Type 0
-Even (fact.Anchored owner class key) = Unit {0}
-Even (fact.Matched owner class key ds_link ds) = Unit {0}
-Even (fact.KeySet owner class keys links) = length keys ≡ length links
-Even (fact.Signed owner class kind rdatas sig key_link key) = Unit {0}
+abbrev Even : LinkValue → Type 0
+Even (trust.Anchored owner class key) = Unit {0}
+Even (trust.Matched owner class key ds_link ds) = Unit {0}
+Even (trust.KeySet owner class keys links) = length keys ≡ length links
+Even (trust.Signed owner class rtype rdatas sig key_link key) = Unit {0}
 
-abbrev AllEven : List Fact → Type 0
+abbrev AllEven : List LinkValue → Type 0
 AllEven [] = Unit {0}
 AllEven (link ∷ links) = Even link × AllEven links
 
-shown_even : (earlier : List Fact) (owner : Labels) (class : ℕ) (keys : List (List ℕ)) (links : List ℕ) → all_shown earlier owner class keys links ≡ true → length keys ≡ length links
+shown_even : (earlier : List LinkValue) (owner : Labels) (class : ℕ) (keys : List (List ℕ)) (links : List ℕ) → all_shown earlier owner class keys links ≡ true → length keys ≡ length links
 unfolding all_shown
 shown_even earlier owner class [] [] h = refl
 shown_even earlier owner class [] (n ∷ ns) h = cc h
@@ -29,15 +29,15 @@ shown_even earlier owner class (k ∷ ks) (n ∷ ns) h =
     let parts = and_parts (shows_key owner class k (slice_get earlier n)) (all_shown earlier owner class ks ns) h in
     ap suc (shown_even earlier owner class ks ns parts.1)
 
-link_even : (j : Judge) (earlier : List Fact) (link : Fact) → link_holds j earlier link ≡ true → Even link
+link_even : (j : Judge) (earlier : List LinkValue) (link : LinkValue) → link_holds j earlier link ≡ true → Even link
 unfolding link_holds
-link_even j earlier (fact.Anchored owner class key) h = tt
-link_even j earlier (fact.Matched owner class key ds_link ds) h = tt
-link_even j earlier (fact.KeySet owner class keys links) h =
-    shown_even earlier owner class keys links (and_parts (is_listed keys) (all_shown earlier owner class keys links) h).1
-link_even j earlier (fact.Signed owner class kind rdatas sig key_link key) h = tt
+link_even j earlier (trust.Anchored owner class key) h = tt
+link_even j earlier (trust.Matched owner class key ds_link ds) h = tt
+link_even j earlier (trust.KeySet owner class keys links) h =
+    shown_even earlier owner class keys links (and_parts (is_nonempty keys) (all_shown earlier owner class keys links) h).1
+link_even j earlier (trust.Signed owner class rtype rdatas sig key_link key) h = tt
 
-links_even : (j : Judge) (earlier links : List Fact) → links_hold j earlier links ≡ true → AllEven links
+links_even : (j : Judge) (earlier links : List LinkValue) → links_hold j earlier links ≡ true → AllEven links
 unfolding links_hold
 links_even j earlier [] h = tt
 links_even j earlier (link ∷ links) h =
@@ -67,26 +67,26 @@ seconds_back (k ∷ ks) [] h = absurd (omega (arith, h))
 seconds_back (k ∷ ks) (n ∷ ns) h = ap (λ l. k ∷ l) (seconds_back ks ns (omega (arith, h)))
 
 -- the link that is shown so
-abbrev whole : Shown → Fact
-whole (Anchored owner class key) = fact.Anchored owner class key
-whole (Matched owner class key ds_link ds) = fact.Matched owner class key ds_link ds
-whole (KeySet owner class keys) = fact.KeySet owner class (seconds keys) (firsts keys)
-whole (Signed owner class kind rdatas sig key_link key) = fact.Signed owner class kind rdatas sig key_link key
+abbrev whole : Shown → LinkValue
+whole (Anchored owner class key) = trust.Anchored owner class key
+whole (Matched owner class key ds_link ds) = trust.Matched owner class key ds_link ds
+whole (KeySet owner class keys) = trust.KeySet owner class (seconds keys) (firsts keys)
+whole (Signed owner class rtype rdatas sig key_link key) = trust.Signed owner class rtype rdatas sig key_link key
 
-whole_back : (link : Fact) → Even link → whole (shown link) ≡ link
-whole_back (fact.Anchored owner class key) even = refl
-whole_back (fact.Matched owner class key ds_link ds) even = refl
-whole_back (fact.KeySet owner class keys links) even = rw (seconds_back keys links even, firsts_back keys links even) refl
-whole_back (fact.Signed owner class kind rdatas sig key_link key) even = refl
+whole_back : (link : LinkValue) → Even link → whole (shown link) ≡ link
+whole_back (trust.Anchored owner class key) even = refl
+whole_back (trust.Matched owner class key ds_link ds) even = refl
+whole_back (trust.KeySet owner class keys links) even = rw (seconds_back keys links even, firsts_back keys links even) refl
+whole_back (trust.Signed owner class rtype rdatas sig key_link key) even = refl
 
-links_back : (links : List Fact) → AllEven links → map whole (map shown links) ≡ links
+links_back : (links : List LinkValue) → AllEven links → map whole (map shown links) ≡ links
 links_back [] even = refl
 links_back (link ∷ links) even = rw (whole_back link even.0, links_back links even.1) refl
 
-abbrev whole_chain : ChainView → ChainText
+abbrev whole_chain : ChainView → ChainValue
 whole_chain chain = record { section = chain.section; links = map whole chain.links }
 
-chains_back : (j : Judge) (chains : List ChainText) → all_justified j chains ≡ true → map whole_chain (map chain_view chains) ≡ chains
+chains_back : (j : Judge) (chains : List ChainValue) → all_justified j chains ≡ true → map whole_chain (map chain_view chains) ≡ chains
 chains_back j [] h = refl
 chains_back j (chain ∷ chains) h =
     let parts = and_parts (justified j chain.links) (all_justified j chains) h in
@@ -94,12 +94,12 @@ chains_back j (chain ∷ chains) h =
     chain_same chain.section (map whole (map shown chain.links)) chain.links (map whole_chain (map chain_view chains)) chains
     (links_back chain.links (links_even j [] chain.links holds.1)) (chains_back j chains parts.1)
   where
-    chain_same : (s : Section) (a b : List Fact) (cs ds : List ChainText) → a ≡ b → cs ≡ ds
-        → ◌≡◌ {A = List ChainText} (record { section = s; links = a } ∷ cs) (record { section = s; links = b } ∷ ds)
+    chain_same : (s : Section) (a b : List LinkValue) (cs ds : List ChainValue) → a ≡ b → cs ≡ ds
+        → ◌≡◌ {A = List ChainValue} (record { section = s; links = a } ∷ cs) (record { section = s; links = b } ∷ ds)
     chain_same s a b cs ds e f = rw (e, f) refl
 
 -- two answers with one view, whose chains are justified, have the same chains
-pub view_tells_chains : (j k : Judge) (a b : ResponseText) → all_justified j a.chains ≡ true → all_justified k b.chains ≡ true
+pub view_tells_chains : (j k : Judge) (a b : ResponseValue) → all_justified j a.chains ≡ true → all_justified k b.chains ≡ true
     → view_of a ≡ view_of b → a.chains ≡ b.chains
 view_tells_chains j k a b first second h =
     sym (chains_back j a.chains first) ∙ ap (λ (v : View). map whole_chain v.chains) h ∙ chains_back k b.chains second

@@ -58,21 +58,21 @@ fits_key_set owner class keys h =
     let b = and_parts (is_u16 class) (list_all fitting_key keys) a.1 in
     record { named = a.0; classed = b.0; keyed = b.1 }
 
-record FitsSigned (owner : Labels) (class kind : ℕ) (rdatas : List (List ℕ)) (sig : List ℕ) (key_link : ℕ) (key : List ℕ) : Type 0 where
+record FitsSigned (owner : Labels) (class rtype : ℕ) (rdatas : List (List ℕ)) (sig : List ℕ) (key_link : ℕ) (key : List ℕ) : Type 0 where
   named : fitting_name owner ≡ true
   classed : is_u16 class ≡ true
-  typed : is_u16 kind ≡ true
+  typed : is_u16 rtype ≡ true
   linked : is_u32 key_link ≡ true
   keyed : is_bytes key ≡ true
   signed : is_bytes sig ≡ true
   listed : list_all is_bytes rdatas ≡ true
 
-fits_signed : (owner : Labels) (class kind : ℕ) (rdatas : List (List ℕ)) (sig : List ℕ) (key_link : ℕ) (key : List ℕ)
-    → fitting_link (Signed owner class kind rdatas sig key_link key) ≡ true → FitsSigned owner class kind rdatas sig key_link key
-fits_signed owner class kind rdatas sig key_link key h =
-    let a = and_parts (fitting_name owner) (is_u16 class && (is_u16 kind && (is_u32 key_link && (is_bytes key && (is_bytes sig && list_all is_bytes rdatas))))) h in
-    let b = and_parts (is_u16 class) (is_u16 kind && (is_u32 key_link && (is_bytes key && (is_bytes sig && list_all is_bytes rdatas)))) a.1 in
-    let c = and_parts (is_u16 kind) (is_u32 key_link && (is_bytes key && (is_bytes sig && list_all is_bytes rdatas))) b.1 in
+fits_signed : (owner : Labels) (class rtype : ℕ) (rdatas : List (List ℕ)) (sig : List ℕ) (key_link : ℕ) (key : List ℕ)
+    → fitting_link (Signed owner class rtype rdatas sig key_link key) ≡ true → FitsSigned owner class rtype rdatas sig key_link key
+fits_signed owner class rtype rdatas sig key_link key h =
+    let a = and_parts (fitting_name owner) (is_u16 class && (is_u16 rtype && (is_u32 key_link && (is_bytes key && (is_bytes sig && list_all is_bytes rdatas))))) h in
+    let b = and_parts (is_u16 class) (is_u16 rtype && (is_u32 key_link && (is_bytes key && (is_bytes sig && list_all is_bytes rdatas)))) a.1 in
+    let c = and_parts (is_u16 rtype) (is_u32 key_link && (is_bytes key && (is_bytes sig && list_all is_bytes rdatas))) b.1 in
     let d = and_parts (is_u32 key_link) (is_bytes key && (is_bytes sig && list_all is_bytes rdatas)) c.1 in
     let e = and_parts (is_bytes key) (is_bytes sig && list_all is_bytes rdatas) d.1 in
     let f = and_parts (is_bytes sig) (list_all is_bytes rdatas) e.1 in
@@ -86,12 +86,12 @@ link_good (Matched owner class key ds_link ds) h =
     rw (printed_word owner, class_good class f.classed, bytes_good key f.keyed, number_good ds_link f.linked, bytes_good ds f.shown) refl
 link_good (KeySet owner class keys) h =
     let f = fits_key_set owner class keys h in rw (printed_word owner, class_good class f.classed, keys_good keys f.keyed) refl
-link_good (Signed owner class kind rdatas sig key_link key) h =
-    let f = fits_signed owner class kind rdatas sig key_link key h in
+link_good (Signed owner class rtype rdatas sig key_link key) h =
+    let f = fits_signed owner class rtype rdatas sig key_link key h in
     rw (
       printed_word owner,
       class_good class f.classed,
-      type_good kind f.typed,
+      type_good rtype f.typed,
       number_good key_link f.linked,
       bytes_good key f.keyed,
       bytes_good sig f.signed,

@@ -25,17 +25,17 @@ use Rattle.dns_report.proofs.ReportLines.{record_of}
 record Fields (r : Rr) : Type 0 where
   owner : fitting_name r.owner ≡ true
   class : is_u16 r.class ≡ true
-  kind : is_u16 r.kind ≡ true
+  rtype : is_u16 r.rtype ≡ true
   ttl : is_u32 r.ttl ≡ true
   rdata : is_bytes r.rdata ≡ true
 
 fields_of : (r : Rr) → fitting_record r ≡ true → Fields r
 fields_of r h =
-    let a = and_parts (fitting_name r.owner) (is_u16 r.class && (is_u16 r.kind && (is_u32 r.ttl && is_bytes r.rdata))) h in
-    let b = and_parts (is_u16 r.class) (is_u16 r.kind && (is_u32 r.ttl && is_bytes r.rdata)) a.1 in
-    let c = and_parts (is_u16 r.kind) (is_u32 r.ttl && is_bytes r.rdata) b.1 in
+    let a = and_parts (fitting_name r.owner) (is_u16 r.class && (is_u16 r.rtype && (is_u32 r.ttl && is_bytes r.rdata))) h in
+    let b = and_parts (is_u16 r.class) (is_u16 r.rtype && (is_u32 r.ttl && is_bytes r.rdata)) a.1 in
+    let c = and_parts (is_u16 r.rtype) (is_u32 r.ttl && is_bytes r.rdata) b.1 in
     let d = and_parts (is_u32 r.ttl) (is_bytes r.rdata) c.1 in
-    record { owner = a.0; class = b.0; kind = c.0; ttl = d.0; rdata = d.1 }
+    record { owner = a.0; class = b.0; rtype = c.0; ttl = d.0; rdata = d.1 }
 
 record_good : (section : Section) (r : Rr) → fitting_record r ≡ true → is_line (record_of section r) ≡ true
 record_good section r h =
@@ -44,14 +44,14 @@ record_good section r h =
       section_is_word section,
       printed_word r.owner,
       class_good r.class f.class,
-      type_good r.kind f.kind,
+      type_good r.rtype f.rtype,
       number_good r.ttl f.ttl,
-      mark_is_word r.mark,
+      mark_is_word r.proof,
       bytes_good r.rdata f.rdata,
     ) refl
 
 rr_same : (o p : Labels) (k l c d t u : ℕ) (x y : List ℕ) (m n : Proof) → o ≡ p → k ≡ l → c ≡ d → t ≡ u → x ≡ y → m ≡ n
-    → ◌≡◌ {A = Rr} (record { owner = o; kind = k; class = c; ttl = t; rdata = x; mark = m }) (record { owner = p; kind = l; class = d; ttl = u; rdata = y; mark = n })
+    → ◌≡◌ {A = Rr} (record { owner = o; rtype = k; class = c; ttl = t; rdata = x; proof = m }) (record { owner = p; rtype = l; class = d; ttl = u; rdata = y; proof = n })
 rr_same o p k l c d t u x y m n a b e f g h = rw (a, b, e, f, g, h) refl
 
 -- a record's line tells it
@@ -61,13 +61,13 @@ record_tells section r q first second h =
     let g = fields_of q second in
     let owner : printed r.owner ≡ printed q.owner = ap (λ (l : Line). get_or l.1 0 []) h in
     let class : class_word r.class ≡ class_word q.class = ap (λ (l : Line). get_or l.1 1 []) h in
-    let kind : type_word r.kind ≡ type_word q.kind = ap (λ (l : Line). get_or l.1 2 []) h in
+    let rtype : type_word r.rtype ≡ type_word q.rtype = ap (λ (l : Line). get_or l.1 2 []) h in
     let ttl : decimal r.ttl ≡ decimal q.ttl = ap (λ (l : Line). get_or l.1 3 []) h in
-    let mark : mark_word r.mark ≡ mark_word q.mark = ap (λ (l : Line). get_or l.1 4 []) h in
+    let mark : mark_word r.proof ≡ mark_word q.proof = ap (λ (l : Line). get_or l.1 4 []) h in
     let rdata : octets_word r.rdata ≡ octets_word q.rdata = ap (λ (l : Line). get_or l.1 5 []) h in
-    rr_same r.owner q.owner r.kind q.kind r.class q.class r.ttl q.ttl r.rdata q.rdata r.mark q.mark
-    (name_tells r.owner q.owner f.owner g.owner owner) (type_tells r.kind q.kind f.kind g.kind kind) (class_tells r.class q.class f.class g.class class)
-    (number_tells r.ttl q.ttl f.ttl g.ttl ttl) (bytes_tell r.rdata q.rdata f.rdata g.rdata rdata) (mark_injective r.mark q.mark mark)
+    rr_same r.owner q.owner r.rtype q.rtype r.class q.class r.ttl q.ttl r.rdata q.rdata r.proof q.proof
+    (name_tells r.owner q.owner f.owner g.owner owner) (type_tells r.rtype q.rtype f.rtype g.rtype rtype) (class_tells r.class q.class f.class g.class class)
+    (number_tells r.ttl q.ttl f.ttl g.ttl ttl) (bytes_tell r.rdata q.rdata f.rdata g.rdata rdata) (mark_injective r.proof q.proof mark)
 
 -- ---- the records of a section
 

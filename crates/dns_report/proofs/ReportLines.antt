@@ -16,15 +16,15 @@ use Rattle.dns_report.proofs.LineLaws.{Line, text_of}
 
 abbrev pub record_of : Section → Rr → Line
 record_of section r =
-    (section_word section, printed r.owner ∷ class_word r.class ∷ type_word r.kind ∷ decimal r.ttl ∷ mark_word r.mark ∷ octets_word r.rdata ∷ [])
+    (section_word section, printed r.owner ∷ class_word r.class ∷ type_word r.rtype ∷ decimal r.ttl ∷ mark_word r.proof ∷ octets_word r.rdata ∷ [])
 
 abbrev pub link_of : Shown → Line
 link_of (Anchored owner class key) = (codes "anchored", printed owner ∷ class_word class ∷ octets_word key ∷ [])
 link_of (Matched owner class key ds_link ds) =
     (codes "matched", printed owner ∷ class_word class ∷ octets_word key ∷ decimal ds_link ∷ octets_word ds ∷ [])
 link_of (KeySet owner class keys) = (codes "keyset", printed owner ∷ class_word class ∷ key_words keys)
-link_of (Signed owner class kind rdatas sig key_link key) =
-    (codes "signed", printed owner ∷ class_word class ∷ type_word kind ∷ decimal key_link ∷ octets_word key ∷ octets_word sig ∷ map octets_word rdatas)
+link_of (Signed owner class rtype rdatas sig key_link key) =
+    (codes "signed", printed owner ∷ class_word class ∷ type_word rtype ∷ decimal key_link ∷ octets_word key ∷ octets_word sig ∷ map octets_word rdatas)
 
 abbrev pub front_of : ChainView → Line
 front_of chain = (codes "chain", section_word chain.section ∷ decimal (length chain.links) ∷ [])
@@ -54,7 +54,7 @@ link_is : (l : Shown) → text_of (link_of l) ≡ link_line l
 link_is (Anchored owner class key) = refl
 link_is (Matched owner class key ds_link ds) = refl
 link_is (KeySet owner class keys) = refl
-link_is (Signed owner class kind rdatas sig key_link key) = refl
+link_is (Signed owner class rtype rdatas sig key_link key) = refl
 
 links_are : (links : List Shown) (more : List Line) → flat_map text_of (map link_of links ++ more) ≡ flat_map link_line links ++ flat_map text_of more
 links_are [] more = refl

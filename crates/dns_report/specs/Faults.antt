@@ -10,7 +10,7 @@ use Rattle.dns_net.specs.declared.error.ProtoError.{ProtoError}
 use Rattle.dns_net.specs.declared.error.ProtoError.TheVariants.{Decode, TooLong}
 use Rattle.dns_net.specs.declared.notice.Notice.{Notice}
 use Rattle.dns_net.specs.declared.notice.Notice.TheVariants.{NotJudgedYet}
-use Rattle.dns_net.specs.Errors.{DnsErrorText, ResponseCode, Nsec, DnssecBogus, ErrorText, Busy, Dns, Message, Msg, NoConnections, Proto, Io, Timeout, QueryCaseMismatch, ForeignClassRecord, Truncated, NoMemory}
+use Rattle.dns_net.specs.Errors.{DnsErrorValue, ResponseCode, Nsec, DnssecBogus, ErrorValue, Busy, Dns, Message, Msg, NoConnections, Proto, Io, Timeout, QueryCaseMismatch, ForeignClassRecord, Truncated, NoMemory}
 use Rattle.dns_words.specs.Codes.{type_word, class_word}
 use Rattle.dns_report.specs.Lines.{Words, line}
 use Rattle.dns_report.specs.Marks.{mark_word}
@@ -44,7 +44,7 @@ abbrev pub proto_words : ProtoError → Words
 proto_words (Decode error) = decode_word error.kind ∷ decimal error.offset ∷ []
 proto_words TooLong = codes "TooLong" ∷ []
 
-abbrev pub dns_words : DnsErrorText → Words
+abbrev pub dns_words : DnsErrorValue → Words
 dns_words (ResponseCode code) = codes "code" ∷ decimal code ∷ []
 dns_words (Nsec query response proof) = codes "nsec" ∷ mark_word proof ∷ []
 dns_words DnssecBogus = codes "bogus" ∷ []
@@ -58,7 +58,7 @@ abbrev pub fault_line : Words → List ℕ
 fault_line words = line (codes "fault") words
 
 -- the line of an error; want of memory has none
-abbrev pub fault_text : ErrorText → List ℕ
+abbrev pub fault_text : ErrorValue → List ℕ
 fault_text Busy = fault_line (codes "busy" ∷ [])
 fault_text (Dns error) = fault_line (dns_words error)
 fault_text (Message notice) = fault_line (codes "message" ∷ notice_text notice ∷ [])
@@ -68,7 +68,7 @@ fault_text (Proto error) = fault_line (codes "proto" ∷ proto_words error)
 fault_text (Io kind) = fault_line (codes "io" ∷ io_word kind ∷ [])
 fault_text Timeout = fault_line (codes "timeout" ∷ [])
 fault_text QueryCaseMismatch = fault_line (codes "case" ∷ [])
-fault_text (ForeignClassRecord owner class kind) =
-    fault_line (codes "class" ∷ printed owner ∷ class_word class ∷ type_word kind ∷ [])
+fault_text (ForeignClassRecord owner class rtype) =
+    fault_line (codes "class" ∷ printed owner ∷ class_word class ∷ type_word rtype ∷ [])
 fault_text Truncated = fault_line (codes "truncated" ∷ [])
 fault_text NoMemory = []

@@ -7,7 +7,7 @@ use Rattle.dns_model.specs.declared.section.Section.TheVariants.{Answer, Authori
 use Rattle.dns_model.specs.declared.denial.Denial.{Denial}
 use Rattle.dns_model.specs.NameText.{printed}
 use Rattle.dns_model.specs.Records.{Rr}
-use Rattle.dns_model.specs.Answers.{ResponseText}
+use Rattle.dns_model.specs.SoundAnswers.{ResponseValue}
 use Rattle.dns_words.specs.Codes.{type_word, class_word}
 use Rattle.dns_words.specs.OctetWords.{octets_word}
 use Rattle.dns_report.specs.Lines.{Words, line}
@@ -30,7 +30,7 @@ denial_line denial = line (codes "denial") (denial_words denial)
 abbrev pub record_line : Section → Rr → List ℕ
 record_line section r =
     line (section_word section)
-    (printed r.owner ∷ class_word r.class ∷ type_word r.kind ∷ decimal r.ttl ∷ mark_word r.mark ∷ octets_word r.rdata ∷ [])
+    (printed r.owner ∷ class_word r.class ∷ type_word r.rtype ∷ decimal r.ttl ∷ mark_word r.proof ∷ octets_word r.rdata ∷ [])
 
 -- a line for each record, in order
 abbrev pub section_text : Section → List Rr → List ℕ
@@ -47,9 +47,9 @@ link_line (Anchored owner class key) = line (codes "anchored") (printed owner �
 link_line (Matched owner class key ds_link ds) =
     line (codes "matched") (printed owner ∷ class_word class ∷ octets_word key ∷ decimal ds_link ∷ octets_word ds ∷ [])
 link_line (KeySet owner class keys) = line (codes "keyset") (printed owner ∷ class_word class ∷ key_words keys)
-link_line (Signed owner class kind rdatas sig key_link key) =
+link_line (Signed owner class rtype rdatas sig key_link key) =
     line (codes "signed")
-    (printed owner ∷ class_word class ∷ type_word kind ∷ decimal key_link ∷ octets_word key ∷ octets_word sig ∷ map octets_word rdatas)
+    (printed owner ∷ class_word class ∷ type_word rtype ∷ decimal key_link ∷ octets_word key ∷ octets_word sig ∷ map octets_word rdatas)
 
 -- the line before a chain's links: the section of its set, and how many links follow
 abbrev pub chain_line : ChainView → List ℕ
@@ -81,5 +81,5 @@ unfoldable pub view_text : View → List ℕ
 view_text v = view_body v ++ end_line
 
 -- the report on an answer is that of its view
-unfoldable pub report_text : ResponseText → List ℕ
+unfoldable pub report_text : ResponseValue → List ℕ
 report_text answer = view_text (view_of answer)

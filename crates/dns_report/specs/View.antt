@@ -7,9 +7,9 @@ use Rattle.dns_model.specs.Names.{Labels, is_name}
 use Rattle.dns_model.specs.declared.section.Section.{Section}
 use Rattle.dns_model.specs.declared.denial.Denial.{Denial}
 use Rattle.dns_model.specs.Records.{Rr}
-use Rattle.dns_model.specs.Chains as fact
+use Rattle.dns_model.specs.Chains as trust
 use Rattle.dns_model.specs.Chains.{Judge, justified}
-use Rattle.dns_model.specs.Answers.{ChainText, ResponseText}
+use Rattle.dns_model.specs.SoundAnswers.{ChainValue, ResponseValue}
 
 -- a key of a set, after the number of the link that shows it
 abbrev pub Numbered : Type 0
@@ -20,7 +20,7 @@ pub data Shown : Type 0 where
   Anchored : (owner : Labels) (class : ℕ) (key : List ℕ) → Shown
   Matched : (owner : Labels) (class : ℕ) (key : List ℕ) (ds_link : ℕ) (ds : List ℕ) → Shown
   KeySet : (owner : Labels) (class : ℕ) (keys : List Numbered) → Shown
-  Signed : (owner : Labels) (class : ℕ) (kind : ℕ) (rdatas : List (List ℕ)) (sig : List ℕ) (key_link : ℕ) (key : List ℕ) → Shown
+  Signed : (owner : Labels) (class : ℕ) (rtype : ℕ) (rdatas : List (List ℕ)) (sig : List ℕ) (key_link : ℕ) (key : List ℕ) → Shown
 
 -- each key with its number, as long as there are both
 unfoldable pub numbered : List (List ℕ) → List ℕ → List Numbered
@@ -28,17 +28,17 @@ numbered [] numbers = []
 numbered (key ∷ keys) [] = []
 numbered (key ∷ keys) (number ∷ numbers) = (number, key) ∷ numbered keys numbers
 
-abbrev pub shown : fact.Fact → Shown
-shown (fact.Anchored owner class key) = Anchored owner class key
-shown (fact.Matched owner class key ds_link ds) = Matched owner class key ds_link ds
-shown (fact.KeySet owner class keys links) = KeySet owner class (numbered keys links)
-shown (fact.Signed owner class kind rdatas sig key_link key) = Signed owner class kind rdatas sig key_link key
+abbrev pub shown : trust.LinkValue → Shown
+shown (trust.Anchored owner class key) = Anchored owner class key
+shown (trust.Matched owner class key ds_link ds) = Matched owner class key ds_link ds
+shown (trust.KeySet owner class keys links) = KeySet owner class (numbered keys links)
+shown (trust.Signed owner class rtype rdatas sig key_link key) = Signed owner class rtype rdatas sig key_link key
 
 pub record ChainView : Type 0 where
   pub section : Section
   pub links : List Shown
 
-abbrev pub chain_view : ChainText → ChainView
+abbrev pub chain_view : ChainValue → ChainView
 chain_view chain = record { section = chain.section; links = map shown chain.links }
 
 pub record View : Type 0 where
@@ -50,7 +50,7 @@ pub record View : Type 0 where
   pub chains : List ChainView
 
 -- what a report shows of an answer
-abbrev pub view_of : ResponseText → View
+abbrev pub view_of : ResponseValue → View
 view_of answer = record {
   code = answer.message.response_code;
   denial = answer.denial;
@@ -72,7 +72,7 @@ abbrev pub is_u32 : ℕ → Bool
 is_u32 n = nat_lt n (2 ^ 32)
 
 abbrev pub fitting_record : Rr → Bool
-fitting_record r = fitting_name r.owner && (is_u16 r.class && (is_u16 r.kind && (is_u32 r.ttl && is_bytes r.rdata)))
+fitting_record r = fitting_name r.owner && (is_u16 r.class && (is_u16 r.rtype && (is_u32 r.ttl && is_bytes r.rdata)))
 
 abbrev pub fitting_key : Numbered → Bool
 fitting_key pair = is_u32 pair.0 && is_bytes pair.1
@@ -81,8 +81,8 @@ abbrev pub fitting_link : Shown → Bool
 fitting_link (Anchored owner class key) = fitting_name owner && (is_u16 class && is_bytes key)
 fitting_link (Matched owner class key ds_link ds) = fitting_name owner && (is_u16 class && (is_bytes key && (is_u32 ds_link && is_bytes ds)))
 fitting_link (KeySet owner class keys) = fitting_name owner && (is_u16 class && list_all fitting_key keys)
-fitting_link (Signed owner class kind rdatas sig key_link key) =
-    fitting_name owner && (is_u16 class && (is_u16 kind && (is_u32 key_link && (is_bytes key && (is_bytes sig && list_all is_bytes rdatas)))))
+fitting_link (Signed owner class rtype rdatas sig key_link key) =
+    fitting_name owner && (is_u16 class && (is_u16 rtype && (is_u32 key_link && (is_bytes key && (is_bytes sig && list_all is_bytes rdatas)))))
 
 abbrev pub fitting_chain : ChainView → Bool
 fitting_chain chain = nat_lt (length chain.links) (2 ^ 64) && list_all fitting_link chain.links
@@ -93,5 +93,5 @@ fitting_view v =
     && list_all fitting_chain v.chains)))
 
 -- each chain is justified (RFC 4035, 5.2 and 5.3), so that each key of its key sets has the number of a link
-abbrev pub all_justified : Judge → List ChainText → Bool
+abbrev pub all_justified : Judge → List ChainValue → Bool
 all_justified j chains = list_all (λ chain. justified j chain.links) chains

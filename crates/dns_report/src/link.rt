@@ -6,7 +6,7 @@ ghost use Rattle.dns_model.specs.Bytes.{is_bytes};
 ghost use Rattle.dns_model.specs.NameText.{printed};
 ghost use Rattle.dns_words.specs.Codes.{type_word, class_word};
 ghost use Rattle.dns_words.specs.OctetWords.{octets_word};
-ghost use Rattle.dns_net.specs.Link.{fact_of};
+ghost use Rattle.dns_net.specs.Link.{link_value};
 ghost use Rattle.dns_report.specs.Lines.{line, line_rest};
 ghost use Rattle.dns_report.specs.View.{numbered, shown, chain_view, is_u16, is_u32, fitting_key, fitting_link, fitting_chain};
 ghost use Rattle.dns_report.specs.Report.{key_words, link_line, chain_line, chain_text};
@@ -75,8 +75,8 @@ fn push_signed(
 
 /// Appends the line of a link.
 fn push_link(into: &mut Vec<u8>, link: &Link) -> Result<(), NoMemory>
-    ensures ok { OnOk result (into.new.items ≡ into.old.items ++ link_line (shown (fact_of link.now))) }
-    ensures fits { OnOk result (IsTrue (fitting_link (shown (fact_of link.now)))) }
+    ensures ok { OnOk result (into.new.items ≡ into.old.items ++ link_line (shown (link_value link.now))) }
+    ensures fits { OnOk result (IsTrue (fitting_link (shown (link_value link.now)))) }
 {
     match link {
         Link::Anchored { owner, class, key } => {
@@ -141,8 +141,8 @@ fn push_chain_line(into: &mut Vec<u8>, chain: &Chain) -> Result<(), NoMemory>
 
 /// Appends the lines of links, in order.
 fn push_links(into: &mut Vec<u8>, links: &[Link]) -> Result<(), NoMemory>
-    ensures ok { OnOk result (into.new.items ≡ into.old.items ++ flat_map link_line (map shown (map fact_of links.now))) }
-    ensures fits { OnOk result (IsTrue (list_all fitting_link (map shown (map fact_of links.now)))) }
+    ensures ok { OnOk result (into.new.items ≡ into.old.items ++ flat_map link_line (map shown (map link_value links.now))) }
+    ensures fits { OnOk result (IsTrue (list_all fitting_link (map shown (map link_value links.now)))) }
 {
     let mut left = links;
     'links: while let Some((link, more)) = left.split_first() {

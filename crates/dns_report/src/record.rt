@@ -20,8 +20,8 @@ use dns_record::{Record, Section};
 /// Appends the last words of a record's line.
 fn push_rest(into: &mut Vec<u8>, one: &Record) -> Result<(), NoMemory>
     ensures ok { OnOk result (into.new.items ≡ into.old.items ++ line_rest
-        (type_word one.now.kind ∷ decimal one.now.ttl ∷ mark_word one.now.mark ∷ octets_word one.now.rdata ∷ [])) }
-    ensures kind { OnOk result (IsTrue (is_u16 one.now.kind)) }
+        (type_word one.now.rtype ∷ decimal one.now.ttl ∷ mark_word one.now.proof ∷ octets_word one.now.rdata ∷ [])) }
+    ensures rtype { OnOk result (IsTrue (is_u16 one.now.rtype)) }
     ensures ttl { OnOk result (IsTrue (is_u32 one.now.ttl)) }
     ensures rdata { OnOk result (IsTrue (is_bytes one.now.rdata)) }
 {

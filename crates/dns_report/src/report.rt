@@ -3,7 +3,7 @@ ghost use Rattle.std.specs.Prelude.{◌≡◌, ◌++◌, OnOk, IfOk, IsTrue};
 ghost use Rattle.std.specs.List.{list_all};
 ghost use Rattle.dns_report.specs.View.{View, view_of, is_u16, fitting_record, fitting_view, all_justified};
 ghost use Rattle.dns_model.specs.Chains.{Judge};
-ghost use Rattle.dns_model.specs.Answers.{ResponseText};
+ghost use Rattle.dns_model.specs.SoundAnswers.{ResponseValue};
 ghost use Rattle.dns_report.specs.Report.{code_line, denial_line, head_text, records_text, view_body, view_text, report_text};
 
 use crate::link::push_chains;
@@ -89,7 +89,7 @@ pub fn write_report(alloc: Global, answer: &DnsResponse) -> Result<Vec<u8>, NoMe
     ensures text { IfOk result (λ v. v.items ≡ report_text answer.now) }
     ensures fits { OnOk result (IsTrue (fitting_view (view_of answer.now))) }
     ensures tells { IfOk result (λ v. (other : View) → IsTrue (fitting_view other) → view_text other ≡ v.items → other ≡ view_of answer.now) }
-    ensures chains { IfOk result (λ v. (other : ResponseText) (j k : Judge) → IsTrue (fitting_view (view_of other)) → report_text other ≡ v.items
+    ensures chains { IfOk result (λ v. (other : ResponseValue) (j k : Judge) → IsTrue (fitting_view (view_of other)) → report_text other ≡ v.items
         → IsTrue (all_justified j other.chains) → IsTrue (all_justified k answer.now.chains) → other.chains ≡ answer.now.chains) }
 {
     let mut text = Vec::new(alloc);

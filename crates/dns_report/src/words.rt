@@ -72,12 +72,12 @@ pub(crate) fn push_class_word(into: &mut Vec<u8>, class: DNSClass) -> Result<(),
 }
 
 /// Appends the word of a type.
-pub(crate) fn push_type_word(into: &mut Vec<u8>, kind: RecordType) -> Result<(), NoMemory>
-    ensures ok { OnOk result (into.new.items ≡ into.old.items ++ (32 ∷ type_word kind.0)) }
-    ensures fits { IsTrue (is_u16 kind.0) }
+pub(crate) fn push_type_word(into: &mut Vec<u8>, record_type: RecordType) -> Result<(), NoMemory>
+    ensures ok { OnOk result (into.new.items ≡ into.old.items ++ (32 ∷ type_word record_type.0)) }
+    ensures fits { IsTrue (is_u16 record_type.0) }
 {
     into.push(b' ')?;
-    push_type(into, kind)
+    push_type(into, record_type)
 }
 
 /// Appends bytes as hexadecimal digits.

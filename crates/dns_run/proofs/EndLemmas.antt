@@ -1,12 +1,12 @@
 -- What a session must end with, out of how a run ended.
 use Rattle.std.proofs.Common.{ℕ, ◌≡◌, ◌≢◌, ◌≤◌, ◌⊎◌, ◌∙◌, zero, suc, List, map, Option, None, Some, Result, Ok, Err, refl, sym, ap, subst, inl, inr, arith}
 use Rattle.std.specs.Io.KnownBytes.{Appends}
-use Rattle.dns_model.specs.Answers.{Told, ResponseText}
+use Rattle.dns_model.specs.SoundAnswers.{Told, ResponseValue}
 use Rattle.dns_judgement.specs.Outcome.{foreign_record}
 use Rattle.dns_net.specs.declared.notice.Notice.TheVariants.{NotJudgedYet}
 use Rattle.dns_net.specs.Errors as seen
-use Rattle.dns_net.specs.Errors.{Reply, ErrorText, Dns, Message, ForeignClassRecord, Nsec}
-use Rattle.dns_net.specs.Recording.{RecordedText, AnswersFrom}
+use Rattle.dns_net.specs.Errors.{Reply, ErrorValue, Dns, Message, ForeignClassRecord, Nsec}
+use Rattle.dns_net.specs.Recording.{RecordedValue, AnswersFrom}
 use Rattle.dns_net.specs.Requests.{plain_options}
 use Rattle.dns_chain.specs.Inquiries.{depth_limit}
 use Rattle.dns_chain.specs.Causes.{AnswersSets}
@@ -14,7 +14,7 @@ use Rattle.dns_chain.proofs.CauseLemmas.{err_same, err_ok, ok_same}
 use Rattle.dns_chain.proofs.CauseAnswers.{passes_on, foreign_named, unanswered_unjudged, judges}
 use Rattle.dns_report.specs.Report.{report_text}
 use Rattle.dns_report.specs.Faults.{fault_text}
-use Rattle.dns_session.specs.SessionText.{SessionText}
+use Rattle.dns_session.specs.SessionValue.{SessionValue}
 use Rattle.dns_session.specs.Grammar.{session_of}
 use Rattle.dns_run.specs.Forms.{bad_line_text}
 use Rattle.dns_run.specs.Answering.{recorded, recorded_by, session_judge}
@@ -45,33 +45,33 @@ ending bytes (suc (suc zero)) before now says = absurd (says.form refl)
 ending bytes (suc (suc (suc zero))) before now says = Refused refl (says.grammar refl)
 ending bytes (suc (suc (suc (suc n)))) before now says = Later (omega arith)
 
-session_same : (bytes : List ℕ) (s x : SessionText) → session_of bytes ≡ Ok s → session_of bytes ≡ Ok x → x ≡ s
+session_same : (bytes : List ℕ) (s x : SessionValue) → session_of bytes ≡ Ok s → session_of bytes ≡ Ok x → x ≡ s
 session_same bytes s x is also = ok_is (sym also ∙ is)
   where
-    ok_is : (let y : Result SessionText ℕ = Ok x in y) ≡ Ok s → x ≡ s
+    ok_is : (let y : Result SessionValue ℕ = Ok x in y) ≡ Ok s → x ≡ s
     ok_is h = cc
 
-no_line : (bytes : List ℕ) (s : SessionText) (n : ℕ) → session_of bytes ≡ Ok s → session_of bytes ≡ Err n → ⊥
+no_line : (bytes : List ℕ) (s : SessionValue) (n : ℕ) → session_of bytes ≡ Ok s → session_of bytes ≡ Err n → ⊥
 no_line bytes s n is also = clash (sym is ∙ also)
   where
-    clash : (let y : Result SessionText ℕ = Ok s in y) ≡ Err n → ⊥
+    clash : (let y : Result SessionValue ℕ = Ok s in y) ≡ Err n → ⊥
     clash h = cc
 
 line_same : (bytes : List ℕ) (n k : ℕ) → session_of bytes ≡ Err n → session_of bytes ≡ Err k → k ≡ n
 line_same bytes n k is also = err_is (sym also ∙ is)
   where
-    err_is : (let y : Result SessionText ℕ = Err k in y) ≡ Err n → k ≡ n
+    err_is : (let y : Result SessionValue ℕ = Err k in y) ≡ Err n → k ≡ n
     err_is h = cc
 
 -- what a run over a session gave, with the cause of its answer
-data Session (s : SessionText) (status : ℕ) (before now : Option (List ℕ)) : Type 0 where
-  GivesReport : (answer : ResponseText) (after : RecordedText) → SessionCaused s after (Ok answer)
+data Session (s : SessionValue) (status : ℕ) (before now : Option (List ℕ)) : Type 0 where
+  GivesReport : (answer : ResponseValue) (after : RecordedValue) → SessionCaused s after (Ok answer)
       → status ≡ 0 → Appends before now (report_text answer) → Session s status before now
-  GivesFault : (error : ErrorText) (after : RecordedText) → SessionCaused s after (Err error)
+  GivesFault : (error : ErrorValue) (after : RecordedValue) → SessionCaused s after (Err error)
       → status ≡ 1 → Appends before now (fault_text error) → Session s status before now
   GivesLater : 4 ≤ status → Session s status before now
 
-gives_report : (s : SessionText) (status : ℕ) (before now : Option (List ℕ)) (text : List ℕ)
+gives_report : (s : SessionValue) (status : ℕ) (before now : Option (List ℕ)) (text : List ℕ)
     → IsReport s text → status ≡ 0 → Appends before now text → Session s status before now
 gives_report s status before now text r is written =
     let P : List ℕ → Type 0 = λ t. Appends before now t in
@@ -80,7 +80,7 @@ gives_report s status before now text r is written =
       | inr caused ↦ GivesReport r.answer r.given.after caused is (subst P r.spelled written)
     ]
 
-gives_fault : (s : SessionText) (status : ℕ) (before now : Option (List ℕ)) (text : List ℕ)
+gives_fault : (s : SessionValue) (status : ℕ) (before now : Option (List ℕ)) (text : List ℕ)
     → IsFault s text → status ≡ 1 → Appends before now text → Session s status before now
 gives_fault s status before now text f is written =
     let P : List ℕ → Type 0 = λ t. Appends before now t in
@@ -90,13 +90,13 @@ gives_fault s status before now text f is written =
     ]
 
 -- how a run over a session ended
-session_ends : (bytes : List ℕ) (s : SessionText) (status : ℕ) (before now : Option (List ℕ))
+session_ends : (bytes : List ℕ) (s : SessionValue) (status : ℕ) (before now : Option (List ℕ))
     → session_of bytes ≡ Ok s → Ending bytes status before now → Session s status before now
 session_ends bytes s status before now read (Reported is wrote) =
-    let P : SessionText → Type 0 = λ x. IsReport x wrote.text in
+    let P : SessionValue → Type 0 = λ x. IsReport x wrote.text in
     gives_report s status before now wrote.text (subst P (session_same bytes s wrote.fact.session read wrote.fact.read) wrote.fact.report) is wrote.written
 session_ends bytes s status before now read (Failed is wrote) =
-    let P : SessionText → Type 0 = λ x. IsFault x wrote.text in
+    let P : SessionValue → Type 0 = λ x. IsFault x wrote.text in
     gives_fault s status before now wrote.text (subst P (session_same bytes s wrote.fact.session read wrote.fact.read) wrote.fact.fault) is wrote.written
 session_ends bytes s status before now read (Refused is wrote) = absurd (no_line bytes s wrote.fact.number read wrote.fact.read)
 session_ends bytes s status before now read (Later late) = GivesLater late
@@ -104,19 +104,19 @@ session_ends bytes s status before now read (Later late) = GivesLater late
 -- ---- what it must end with
 
 -- where every answer with a cause is this error, the run ends with its line
-ends_fault : (s : SessionText) (status : ℕ) (before now : Option (List ℕ)) (error : ErrorText)
-    → ((after : RecordedText) (answer : Reply) → SessionCaused s after answer → answer ≡ Err error)
+ends_fault : (s : SessionValue) (status : ℕ) (before now : Option (List ℕ)) (error : ErrorValue)
+    → ((after : RecordedValue) (answer : Reply) → SessionCaused s after answer → answer ≡ Err error)
     → Session s status before now → EndsWith status 1 before now (fault_text error)
 ends_fault s status before now error only (GivesReport answer after caused is written) =
     absurd (err_ok (Ok answer) answer error (only after (Ok answer) caused) refl)
 ends_fault s status before now error only (GivesFault x after caused is written) =
-    let P : ErrorText → Type 0 = λ y. Appends before now (fault_text y) in
+    let P : ErrorValue → Type 0 = λ y. Appends before now (fault_text y) in
     Ended is (subst P (err_same (Err x) x error refl (only after (Err x) caused)) written)
 ends_fault s status before now error only (GivesLater late) = Stopped late
 
 -- a session without a message in reply to its query
 pub ends_without_message : (status : ℕ) (told before now : Option (List ℕ)) → Says status told before now
-    → IfSession told (λ s. (error : ErrorText) → HasNoMessage s error → EndsWith status 1 before now (fault_text error))
+    → IfSession told (λ s. (error : ErrorValue) → HasNoMessage s error → EndsWith status 1 before now (fault_text error))
 ends_without_message status None before now says = tt
 ends_without_message status (Some bytes) before now says = λ s read error none.
     ends_fault s status before now error
@@ -127,7 +127,7 @@ ends_without_message status (Some bytes) before now says = λ s read error none.
 
 -- a session whose reply has a record of another class
 pub ends_foreign : (status : ℕ) (told before now : Option (List ℕ)) → Says status told before now
-    → IfSession told (λ s. (error : ErrorText) → HasForeign s error → EndsWith status 1 before now (fault_text error))
+    → IfSession told (λ s. (error : ErrorValue) → HasForeign s error → EndsWith status 1 before now (fault_text error))
 ends_foreign status None before now says = tt
 ends_foreign status (Some bytes) before now says = λ s read error foreign.
     ends_fault s status before now error
@@ -149,19 +149,19 @@ ends_unanswered status (Some bytes) before now says = λ s read h.
     (session_ends bytes s status before now read (ending bytes status before now says))
 
 -- the judged sets of an answer with a cause
-sets_of_cause : (s : SessionText) (after : RecordedText) (answer : Reply) (records : Told)
+sets_of_cause : (s : SessionValue) (after : RecordedValue) (answer : Reply) (records : Told)
     → session_records s ≡ Some records → foreign_record s.query records ≡ None → SessionCaused s after answer
     → AnswersSets AnswersFrom (recorded_by s.replies) after (Some (map recorded s.replies)) (session_judge s) s.moment (depth_limit plain_options) s.query answer
 sets_of_cause s after answer records told own caused =
     judges AnswersFrom (λ r. r.faults) (recorded_by s.replies) after (Some (map recorded s.replies)) (session_judge s) s.moment
     (depth_limit plain_options) s.query answer caused records (session_told s ∙ told) own
 
-ends_by_case : (s : SessionText) (status : ℕ) (before now : Option (List ℕ)) (records : Told)
+ends_by_case : (s : SessionValue) (status : ℕ) (before now : Option (List ℕ)) (records : Told)
     → session_records s ≡ Some records → foreign_record s.query records ≡ None
     → Session s status before now → (4 ≤ status) ⊎ EndsByCase s status before now
 ends_by_case s status before now records told own (GivesReport answer after caused is written) =
     let a = sets_of_cause s after (Ok answer) records told own caused in
-    let P : ResponseText → Type 0 = λ x. Appends before now (report_text x) in
+    let P : ResponseValue → Type 0 = λ x. Appends before now (report_text x) in
     inr (record {
       message = a.message;
       sets = a.sets;
@@ -173,7 +173,7 @@ ends_by_case s status before now records told own (GivesReport answer after caus
     })
 ends_by_case s status before now records told own (GivesFault error after caused is written) =
     let a = sets_of_cause s after (Err error) records told own caused in
-    let P : ErrorText → Type 0 = λ x. Appends before now (fault_text x) in
+    let P : ErrorValue → Type 0 = λ x. Appends before now (fault_text x) in
     inr (record {
       message = a.message;
       sets = a.sets;

@@ -9,25 +9,25 @@ use Rattle.std.proofs.lemmas.Slice.Eq.{bytes_eq-Decides}
 use mathlib.Core.Path.{fun_ext}
 use Rattle.dns_model.specs.Names.{Labels, folded, name_eq}
 use Rattle.dns_model.specs.Keys as keys
-use Rattle.dns_model.specs.Keys.{Anchor, bytes_eq, is_anchor, holds_anchor, anchored, anchored_by}
-use Rattle.dns_model.specs.Views.{KeyText, key_in}
+use Rattle.dns_model.specs.Keys.{AnchorValue, bytes_eq, is_anchor, holds_anchor, anchored, anchored_by}
+use Rattle.dns_model.specs.Views.{DnskeyValue, dnskey_in}
 use Rattle.dns_model.specs.Serial.{timely}
 use Rattle.dns_model.specs.Chains.{Judge, judge}
-use Rattle.dns_model.specs.Answers.{ResponseText}
+use Rattle.dns_model.specs.SoundAnswers.{ResponseValue}
 use Rattle.dns_model.proofs.NameLemmas.{name_eq-Decides}
 use Rattle.dns_net.specs.declared.error.NetError.{NetError}
 use Rattle.dns_net.specs.Errors.{Reply}
 use Rattle.dns_net.specs.Replies.{reply_of}
-use Rattle.dns_net.specs.Recording.{RecordedText, AnswersFrom}
+use Rattle.dns_net.specs.Recording.{RecordedValue, AnswersFrom}
 use Rattle.dns_net.specs.Requests.{plain_options}
 use Rattle.dns_net.specs.declared.request.DnsRequestOptions.{DnsRequestOptions}
-use Rattle.dns_trust.specs.Listing.{ListedText, AcceptedText, is_entry, is_listed, answers_of, with_algorithm, with_accepted}
+use Rattle.dns_trust.specs.Listing.{ListedValue, ListedSignatureValue, is_entry, is_listed, answers_of, with_algorithm, with_accepted}
 use Rattle.dns_trust.specs.Anchoring.{with_anchor}
 use Rattle.dns_chain.specs.Inquiries.{depth_limit}
 use Rattle.dns_chain.specs.Looked.{IsLookup, UnlessNoMemory}
-use Rattle.dns_session.specs.SessionText.{AcceptText, SessionText}
+use Rattle.dns_session.specs.SessionValue.{AcceptedSignatureValue, SessionValue}
 use Rattle.dns_run.specs.Adding.{with_algorithms, with_accepts, listed_by, with_anchors, trusted_by}
-use Rattle.dns_run.specs.Answering.{accepted, recorded, recorded_by, session_listing, session_judge, Answers}
+use Rattle.dns_run.specs.Answering.{listed_signature, recorded, recorded_by, session_listing, session_judge, AnswersSession}
 
 -- an element that doesn't count, or that is there already, may be left out of a test of a list
 left_out : (counts is here rest : Bool) → (is ≡ true → (counts ≡ false) ⊎ (here ≡ true))
@@ -65,7 +65,7 @@ algorithm_out algorithms a n out is =
       | inr there ↦ inr (ap (λ k. list_any (λ x. k == x) algorithms) (sym same) ∙ there)
     ]
 
-supports_after : (listed : ListedText) (a : ℕ) (more : List ℕ) (n : ℕ) (out : Bool) → ((a == 1) || is_listed listed a) ≡ out
+supports_after : (listed : ListedValue) (a : ℕ) (more : List ℕ) (n : ℕ) (out : Bool) → ((a == 1) || is_listed listed a) ≡ out
     → supports_in ((cond out listed (record listed { algorithms = listed.algorithms ++ a ∷ [] })).algorithms ++ more) n
     ≡ supports_in (listed.algorithms ++ a ∷ more) n
 unfolding supports_in
@@ -73,7 +73,7 @@ supports_after listed a more n true is =
     skipped (not (n == 1)) (λ x. n == x) listed.algorithms a more (algorithm_out listed.algorithms a n is)
 supports_after listed a more n false is = ap (λ xs. supports_in xs n) (put listed.algorithms a more)
 
-supports_added : (listed : ListedText) (algorithms : List ℕ) (n : ℕ)
+supports_added : (listed : ListedValue) (algorithms : List ℕ) (n : ℕ)
     → supports_in (with_algorithms listed algorithms).algorithms n ≡ supports_in (listed.algorithms ++ algorithms) n
 unfolding with_algorithms
 supports_added listed [] n = ap (λ xs. supports_in xs n) (sym (append-nil listed.algorithms))
@@ -81,29 +81,29 @@ supports_added listed (a ∷ more) n =
     supports_added (with_algorithm listed a) more n ∙ supports_after listed a more n ((a == 1) || is_listed listed a) refl
 
 -- algorithms leave the signatures as they are
-accepted_after : (listed : ListedText) (a : ℕ) (out : Bool)
+accepted_after : (listed : ListedValue) (a : ℕ) (out : Bool)
     → (cond out listed (record listed { algorithms = listed.algorithms ++ a ∷ [] })).accepted ≡ listed.accepted
 accepted_after listed a true = refl
 accepted_after listed a false = refl
 
-accepted_kept : (listed : ListedText) (algorithms : List ℕ) → (with_algorithms listed algorithms).accepted ≡ listed.accepted
+accepted_kept : (listed : ListedValue) (algorithms : List ℕ) → (with_algorithms listed algorithms).accepted ≡ listed.accepted
 unfolding with_algorithms
 accepted_kept listed [] = refl
 accepted_kept listed (a ∷ more) = accepted_kept (with_algorithm listed a) more ∙ accepted_after listed a ((a == 1) || is_listed listed a)
 
 -- ---- signatures
 
-accepts_in : List AcceptedText → ℕ → List ℕ → List ℕ → List ℕ → Bool
+accepts_in : List ListedSignatureValue → ℕ → List ℕ → List ℕ → List ℕ → Bool
 accepts_in entries n key bytes signature = not (n == 1) && list_any (is_entry n key bytes signature) entries
 
 -- a signature that is left out
-entry_out : (entry : AcceptedText) (n : ℕ) (key bytes signature : List ℕ) → (entry.algorithm == 1) ≡ true
+entry_out : (entry : ListedSignatureValue) (n : ℕ) (key bytes signature : List ℕ) → (entry.algorithm == 1) ≡ true
     → is_entry n key bytes signature entry ≡ true → not (n == 1) ≡ false
 entry_out entry n key bytes signature one is =
     let parts = and_parts (n == entry.algorithm) (bytes_eq key entry.key && (bytes_eq bytes entry.bytes && bytes_eq signature entry.signature)) is in
     ap (λ k. not (k == 1)) (eqb-true n entry.algorithm parts.0) ∙ ap not one
 
-accepts_after : (listed : ListedText) (entry : AcceptedText) (more : List AcceptedText) (n : ℕ) (key bytes signature : List ℕ) (out : Bool)
+accepts_after : (listed : ListedValue) (entry : ListedSignatureValue) (more : List ListedSignatureValue) (n : ℕ) (key bytes signature : List ℕ) (out : Bool)
     → (entry.algorithm == 1) ≡ out
     → accepts_in ((cond out listed (record listed { accepted = listed.accepted ++ entry ∷ [] })).accepted ++ more) n key bytes signature
     ≡ accepts_in (listed.accepted ++ entry ∷ more) n key bytes signature
@@ -114,83 +114,83 @@ accepts_after listed entry more n key bytes signature true is =
 accepts_after listed entry more n key bytes signature false is =
     ap (λ xs. accepts_in xs n key bytes signature) (put listed.accepted entry more)
 
-accepts_added : (listed : ListedText) (accepts : List AcceptText) (n : ℕ) (key bytes signature : List ℕ)
+accepts_added : (listed : ListedValue) (accepts : List AcceptedSignatureValue) (n : ℕ) (key bytes signature : List ℕ)
     → accepts_in (with_accepts listed accepts).accepted n key bytes signature
-    ≡ accepts_in (listed.accepted ++ map accepted accepts) n key bytes signature
+    ≡ accepts_in (listed.accepted ++ map listed_signature accepts) n key bytes signature
 unfolding with_accepts
 accepts_added listed [] n key bytes signature =
     ap (λ xs. accepts_in xs n key bytes signature) (sym (append-nil listed.accepted))
 accepts_added listed (a ∷ more) n key bytes signature =
-    accepts_added (with_accepted listed (accepted a)) more n key bytes signature
-    ∙ accepts_after listed (accepted a) (map accepted more) n key bytes signature (a.algorithm == 1) refl
+    accepts_added (with_accepted listed (listed_signature a)) more n key bytes signature
+    ∙ accepts_after listed (listed_signature a) (map listed_signature more) n key bytes signature (a.algorithm == 1) refl
 
 -- signatures leave the algorithms as they are
-algorithms_after : (listed : ListedText) (entry : AcceptedText) (out : Bool)
+algorithms_after : (listed : ListedValue) (entry : ListedSignatureValue) (out : Bool)
     → (cond out listed (record listed { accepted = listed.accepted ++ entry ∷ [] })).algorithms ≡ listed.algorithms
 algorithms_after listed entry true = refl
 algorithms_after listed entry false = refl
 
-algorithms_kept : (listed : ListedText) (accepts : List AcceptText) → (with_accepts listed accepts).algorithms ≡ listed.algorithms
+algorithms_kept : (listed : ListedValue) (accepts : List AcceptedSignatureValue) → (with_accepts listed accepts).algorithms ≡ listed.algorithms
 unfolding with_accepts
 algorithms_kept listed [] = refl
-algorithms_kept listed (a ∷ more) = algorithms_kept (with_accepted listed (accepted a)) more ∙ algorithms_after listed (accepted a) (a.algorithm == 1)
+algorithms_kept listed (a ∷ more) = algorithms_kept (with_accepted listed (listed_signature a)) more ∙ algorithms_after listed (listed_signature a) (a.algorithm == 1)
 
 -- ---- the verifier
 
-none_listed : ListedText
+none_listed : ListedValue
 none_listed = record { algorithms = []; accepted = [] }
 
-supports_same : (algorithms : List ℕ) (accepts : List AcceptText) (n : ℕ)
+supports_same : (algorithms : List ℕ) (accepts : List AcceptedSignatureValue) (n : ℕ)
     → supports_in (listed_by algorithms accepts).algorithms n ≡ supports_in algorithms n
 unfolding none_listed
 supports_same algorithms accepts n =
     ap (λ xs. supports_in xs n) (algorithms_kept (with_algorithms none_listed algorithms) accepts) ∙ supports_added none_listed algorithms n
 
-accepts_same : (algorithms : List ℕ) (accepts : List AcceptText) (n : ℕ) (key bytes signature : List ℕ)
-    → accepts_in (listed_by algorithms accepts).accepted n key bytes signature ≡ accepts_in (map accepted accepts) n key bytes signature
+accepts_same : (algorithms : List ℕ) (accepts : List AcceptedSignatureValue) (n : ℕ) (key bytes signature : List ℕ)
+    → accepts_in (listed_by algorithms accepts).accepted n key bytes signature ≡ accepts_in (map listed_signature accepts) n key bytes signature
 unfolding none_listed
 accepts_same algorithms accepts n key bytes signature =
     accepts_added (with_algorithms none_listed algorithms) accepts n key bytes signature
-    ∙ ap (λ xs. accepts_in (xs ++ map accepted accepts) n key bytes signature) (accepted_kept none_listed algorithms)
+    ∙ ap (λ xs. accepts_in (xs ++ map listed_signature accepts) n key bytes signature) (accepted_kept none_listed algorithms)
 
-supports_all : (s : SessionText) → (answers_of (listed_by s.algorithms s.accepts)).supports ≡ (answers_of (session_listing s)).supports
+supports_all : (s : SessionValue) → (answers_of (listed_by s.algorithms s.accepts)).supports ≡ (answers_of (session_listing s)).supports
 unfolding supports_in
 supports_all s = fun_ext λ n. supports_same s.algorithms s.accepts n
 
-accepts_all : (s : SessionText) → (answers_of (listed_by s.algorithms s.accepts)).accepts ≡ (answers_of (session_listing s)).accepts
+accepts_all : (s : SessionValue) → (answers_of (listed_by s.algorithms s.accepts)).accepts ≡ (answers_of (session_listing s)).accepts
 unfolding accepts_in
 accepts_all s = fun_ext λ n. fun_ext λ key. fun_ext λ bytes. fun_ext λ signature. accepts_same s.algorithms s.accepts n key bytes signature
 
-answering : (ℕ → Bool) → (ℕ → List ℕ → List ℕ → List ℕ → Bool) → keys.Answers
+answering : (ℕ → Bool) → (ℕ → List ℕ → List ℕ → List ℕ → Bool) → keys.VerifierAnswers
 answering supports accepts = record { supports = supports; accepts = accepts }
 
 -- the verifier answers as the session's lists say
-listed_plain : (s : SessionText) → answers_of (listed_by s.algorithms s.accepts) ≡ answers_of (session_listing s)
+listed_plain : (s : SessionValue) → answers_of (listed_by s.algorithms s.accepts) ≡ answers_of (session_listing s)
 unfolding answering
 listed_plain s = ap₂ answering (supports_all s) (accepts_all s)
 
 -- ---- anchors
 
 -- an anchor that is left out
-anchor_out : (trusted : List Anchor) (a : Anchor) (owner : Labels) (n : ℕ) (key : List ℕ)
+anchor_out : (trusted : List AnchorValue) (a : AnchorValue) (owner : Labels) (n : ℕ) (key : List ℕ)
     → holds_anchor trusted a.owner a.algorithm a.key ≡ true → is_anchor owner n key a ≡ true → holds_anchor trusted owner n key ≡ true
 anchor_out trusted a owner n key there is =
     let one = and_parts (name_eq owner a.owner) ((n == a.algorithm) && bytes_eq key a.key) is in
     let two = and_parts (n == a.algorithm) (bytes_eq key a.key) one.1 in
-    ap (λ name. list_any (λ (x : Anchor). pointwise (pointwise nat_eq) name (folded x.owner) && ((n == x.algorithm) && bytes_eq key x.key)) trusted)
+    ap (λ name. list_any (λ (x : AnchorValue). pointwise (pointwise nat_eq) name (folded x.owner) && ((n == x.algorithm) && bytes_eq key x.key)) trusted)
     ((name_eq-Decides owner a.owner).0 one.0)
-    ∙ ap (λ k. list_any (λ (x : Anchor). name_eq a.owner x.owner && ((k == x.algorithm) && bytes_eq key x.key)) trusted) (eqb-true n a.algorithm two.0)
+    ∙ ap (λ k. list_any (λ (x : AnchorValue). name_eq a.owner x.owner && ((k == x.algorithm) && bytes_eq key x.key)) trusted) (eqb-true n a.algorithm two.0)
     ∙ ap (λ k. holds_anchor trusted a.owner a.algorithm k) ((bytes_eq-Decides key a.key).0 two.1)
     ∙ there
 
-anchor_after : (trusted : List Anchor) (a : Anchor) (more : List Anchor) (owner : Labels) (n : ℕ) (key : List ℕ) (out : Bool)
+anchor_after : (trusted : List AnchorValue) (a : AnchorValue) (more : List AnchorValue) (owner : Labels) (n : ℕ) (key : List ℕ) (out : Bool)
     → holds_anchor trusted a.owner a.algorithm a.key ≡ out
     → holds_anchor (cond out trusted (trusted ++ a ∷ []) ++ more) owner n key ≡ holds_anchor (trusted ++ a ∷ more) owner n key
 anchor_after trusted a more owner n key true is =
     skipped true (is_anchor owner n key) trusted a more (λ same. inr (anchor_out trusted a owner n key is same))
 anchor_after trusted a more owner n key false is = ap (λ xs. holds_anchor xs owner n key) (put trusted a more)
 
-anchors_added : (trusted anchors : List Anchor) (owner : Labels) (n : ℕ) (key : List ℕ)
+anchors_added : (trusted anchors : List AnchorValue) (owner : Labels) (n : ℕ) (key : List ℕ)
     → holds_anchor (with_anchors trusted anchors) owner n key ≡ holds_anchor (trusted ++ anchors) owner n key
 unfolding with_anchors
 anchors_added trusted [] owner n key = ap (λ xs. holds_anchor xs owner n key) (sym (append-nil trusted))
@@ -198,41 +198,41 @@ anchors_added trusted (a ∷ more) owner n key =
     anchors_added (with_anchor trusted a) more owner n key
     ∙ anchor_after trusted a more owner n key (holds_anchor trusted a.owner a.algorithm a.key) refl
 
-anchored_text : (anchors : List Anchor) (owner : Labels) (key : Option KeyText) → anchored_by (trusted_by anchors) owner key ≡ anchored_by anchors owner key
-anchored_text anchors owner None = refl
-anchored_text anchors owner (Some key) = anchors_added [] anchors owner key.algorithm key.key
+anchored_read : (anchors : List AnchorValue) (owner : Labels) (key : Option DnskeyValue) → anchored_by (trusted_by anchors) owner key ≡ anchored_by anchors owner key
+anchored_read anchors owner None = refl
+anchored_read anchors owner (Some key) = anchors_added [] anchors owner key.algorithm key.key
 
 -- a key is trusted as the session's anchors say
-trusted_plain : (anchors : List Anchor) → anchored (trusted_by anchors) ≡ anchored anchors
-trusted_plain anchors = fun_ext λ owner. fun_ext λ key. anchored_text anchors owner (key_in key)
+trusted_plain : (anchors : List AnchorValue) → anchored (trusted_by anchors) ≡ anchored anchors
+trusted_plain anchors = fun_ext λ owner. fun_ext λ key. anchored_read anchors owner (dnskey_in key)
 
 -- ---- the judge
 
-judged_by : keys.Answers → (Labels → List ℕ → Bool) → ℕ → Judge
+judged_by : keys.VerifierAnswers → (Labels → List ℕ → Bool) → ℕ → Judge
 judged_by answers is_anchored now = record {
   answers = answers;
   is_anchored = is_anchored;
   is_timely = λ sig. timely sig now;
 }
 
-judge_plain : (s : SessionText) → judge (answers_of (listed_by s.algorithms s.accepts)) (trusted_by s.anchors) s.moment ≡ session_judge s
+judge_plain : (s : SessionValue) → judge (answers_of (listed_by s.algorithms s.accepts)) (trusted_by s.anchors) s.moment ≡ session_judge s
 unfolding judged_by
 judge_plain s = ap₂ (λ answers is_anchored. judged_by answers is_anchored s.moment) (listed_plain s) (trusted_plain s.anchors)
 
 -- a lookup over what the loops made is one for the session
-lookup_plain : (s : SessionText) (after : RecordedText) (answer : Reply)
+lookup_plain : (s : SessionValue) (after : RecordedValue) (answer : Reply)
     → IsLookup AnswersFrom (λ r. r.faults) (recorded_by s.replies) after (Some (map recorded s.replies))
     (judge (answers_of (listed_by s.algorithms s.accepts)) (trusted_by s.anchors) s.moment) s.moment (depth_limit plain_options) s.query answer
-    → Answers s answer
+    → AnswersSession s answer
 lookup_plain s after answer given =
     let P : Judge → Type 0 = λ j. IsLookup AnswersFrom (λ r. r.faults) (recorded_by s.replies) after (Some (map recorded s.replies))
     j s.moment (depth_limit plain_options) s.query answer in
     record { after = after; lookup = subst P (judge_plain s) given }
 
-unless_plain : (s : SessionText) (result : Result ResponseText NetError) (after : RecordedText)
+unless_plain : (s : SessionValue) (result : Result ResponseValue NetError) (after : RecordedValue)
     → UnlessNoMemory result (IsLookup AnswersFrom (λ r. r.faults) (recorded_by s.replies) after (Some (map recorded s.replies))
     (judge (answers_of (listed_by s.algorithms s.accepts)) (trusted_by s.anchors) s.moment) s.moment (depth_limit plain_options) s.query (reply_of result))
-    → UnlessNoMemory result (Answers s (reply_of result))
+    → UnlessNoMemory result (AnswersSession s (reply_of result))
 unless_plain s (Ok response) after given = lookup_plain s after (Ok response) given
 unless_plain s (Err error) after given = elim given [
   | inl memory ↦ inl memory
@@ -240,11 +240,11 @@ unless_plain s (Err error) after given = elim given [
 ]
 
 -- what a lookup over the handle, the keys and the verifier that were made of a session answered
-pub answers_looked : (s : SessionText) (result : Result ResponseText NetError) (handle after : RecordedText) (anchors : List Anchor)
-    (verifier : ListedText) (options : DnsRequestOptions)
+pub answers_looked : (s : SessionValue) (result : Result ResponseValue NetError) (handle after : RecordedValue) (anchors : List AnchorValue)
+    (verifier : ListedValue) (options : DnsRequestOptions)
     → handle ≡ recorded_by s.replies → anchors ≡ trusted_by s.anchors → verifier ≡ listed_by s.algorithms s.accepts → options ≡ plain_options
     → UnlessNoMemory result (IsLookup AnswersFrom (λ r. r.faults) handle after (Some handle.replies)
     (judge (answers_of verifier) anchors s.moment) s.moment (depth_limit options) s.query (reply_of result))
-    → UnlessNoMemory result (Answers s (reply_of result))
+    → UnlessNoMemory result (AnswersSession s (reply_of result))
 answers_looked s result handle after anchors verifier options over by listed plain given =
     unless_plain s result after (rw (over, by, listed, plain) at given)

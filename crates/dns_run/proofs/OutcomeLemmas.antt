@@ -2,8 +2,8 @@
 use Rattle.std.proofs.Common.{◌≡◌, ◌+◌, ◌++◌, ◌<◌, replicate, ℕ, List, [], Option, None, Some, IfSome, length, sym, refl, append-nil, arith}
 use Rattle.std.proofs.lemmas.List.{length-replicate}
 use Rattle.std.specs.Io.KnownBytes.{Appends, Consumes}
-use Rattle.dns_outside.specs.Reading.{input_limit, ReadsFront}
-use Rattle.dns_outside.specs.Writing.{TakesPrefix}
+use Rattle.dns_io.specs.Reading.{input_limit, ReadsFront}
+use Rattle.dns_io.specs.Writing.{TakesPrefix}
 use Rattle.dns_run.specs.Forms.{too_long_text}
 use Rattle.dns_run.specs.Outcomes.{Wrote, Leaves, WrotePrefix, LeavesPrefix, ComesTo, Reports, Fails, Refuses, Reported, Failed, Refused, TooLong, Nothing}
 

@@ -2,9 +2,9 @@
 use Rattle.std.proofs.Common.{inl, inr, ◌≡◌, ℕ, List, map, Option, None, Some, Ok, sym, refl, ◌∙◌, ap}
 use Rattle.std.specs.Prelude.{IsTrue}
 use Rattle.dns_model.specs.declared.denial.Denial.{Denial}
-use Rattle.dns_model.specs.Records.{Question, MessageText}
+use Rattle.dns_model.specs.Records.{Question, MessageValue}
 use Rattle.dns_model.specs.Chains.{Judge}
-use Rattle.dns_model.specs.Answers.{Told, told_by, Sound, ResponseText}
+use Rattle.dns_model.specs.SoundAnswers.{Told, told_by, Sound, ResponseValue}
 use Rattle.dns_judgement.specs.Judged.{Judged}
 use Rattle.dns_judgement.specs.Outcome.{Outcome, Unjudged, Accepted, Denied, outcome_of}
 use Rattle.dns_judgement.specs.Marking.{cleared_message, finished}
@@ -15,32 +15,32 @@ use Rattle.dns_net.specs.Handles.{reply_to, ReplyIsTold}
 use Rattle.dns_chain.specs.Heard.{heard_message, says_of}
 use Rattle.dns_chain.specs.Inquiries.{depth_limit}
 use Rattle.dns_chain.specs.Looked.{Looked, PassedOn, NamesForeign, Answered, answer_by}
-use Rattle.dns_session.specs.SessionText.{SessionText}
+use Rattle.dns_session.specs.SessionValue.{SessionValue}
 use Rattle.dns_report.specs.View.{View, view_of, fitting_view}
 use Rattle.dns_report.specs.Report.{report_text, view_text}
-use Rattle.dns_run.specs.Answering.{recorded, session_judge, Answers}
+use Rattle.dns_run.specs.Answering.{recorded, session_judge, AnswersSession}
 use Rattle.dns_run.specs.Soundness.{IsSound}
 use Rattle.dns_run.specs.Outcomes.{IsReport}
 
 -- a message whose judged sets make the answer
-record IsFinished (now : ℕ) (sets : List Judged) (message : MessageText) (answer : ResponseText) : Type 0 where
+record IsFinished (now : ℕ) (sets : List Judged) (message : MessageValue) (answer : ResponseValue) : Type 0 where
   pub denial : Denial
   pub is : finished now sets message denial ≡ answer
 
-finished_of : (now : ℕ) (q : Question) (message : MessageText) (sets : List Judged) (outcome : Outcome) (answer : ResponseText)
+finished_of : (now : ℕ) (q : Question) (message : MessageValue) (sets : List Judged) (outcome : Outcome) (answer : ResponseValue)
     → answer_by now q message sets outcome ≡ Ok answer → IsFinished now sets message answer
 finished_of now q message sets Unjudged answer is = cc
 finished_of now q message sets (Accepted denial) answer is = record { denial = denial; is = cc }
 finished_of now q message sets (Denied proof) answer is = cc
 
 -- the message that was heard of a reply, for which the answer is sound
-record HeardSound (j : Judge) (now : ℕ) (reply : Reply) (answer : ResponseText) : Type 0 where
-  pub message : MessageText
+record HeardSound (j : Judge) (now : ℕ) (reply : Reply) (answer : ResponseValue) : Type 0 where
+  pub message : MessageValue
   pub heard : heard_message reply ≡ Some message
   pub sound : Sound j now (told_by message) answer
 
 sound_looked : (j : Judge) (now limit : ℕ) (says : Question → Option Told → Type 0) (q : Question) {reply answer : Reply} {n : ℕ}
-    → Looked j now limit says q reply answer n → (a : ResponseText) → answer ≡ Ok a → HeardSound j now reply a
+    → Looked j now limit says q reply answer n → (a : ResponseValue) → answer ≡ Ok a → HeardSound j now reply a
 sound_looked j now limit says q (PassedOn e none) a is = cc
 sound_looked j now limit says q (NamesForeign reply answer m r heard foreign told) a is = cc
 sound_looked j now limit says q (Answered reply answer m sets n heard own walk told) a is =
@@ -51,7 +51,7 @@ sound_looked j now limit says q (Answered reply answer m sets n heard own walk t
     record { message = m; heard = heard; sound = rw f.is at s }
 
 -- what was heard was told
-heard_told : (told : List (Question × Reply)) (q : Question) (reply : Reply) (m : MessageText)
+heard_told : (told : List (Question × Reply)) (q : Question) (reply : Reply) (m : MessageValue)
     → ReplyIsTold (Some told) (Some q) reply → heard_message reply ≡ Some m → heard_message (reply_to told q) ≡ Some m
 heard_told told q reply m is heard = elim is [
   | inl none ↦ absurd (none_heard (sym (ap heard_message none) ∙ heard))
@@ -62,7 +62,7 @@ heard_told told q reply m is heard = elim is [
     none_heard h = cc
 
 -- the answer to a session is sound
-pub sound_answer : (s : SessionText) (answer : ResponseText) → Answers s (Ok answer) → IsSound s answer
+pub sound_answer : (s : SessionValue) (answer : ResponseValue) → AnswersSession s (Ok answer) → IsSound s answer
 sound_answer s answer given =
     let h : HeardSound (session_judge s) s.moment given.lookup.reply answer =
     sound_looked (session_judge s) s.moment (depth_limit plain_options) (says_of (Some (map recorded s.replies))) s.query
@@ -74,8 +74,8 @@ sound_answer s answer given =
     }
 
 -- a report on the answer to a session
-pub report_given : (s : SessionText) (answer : ResponseText) (text : List ℕ)
-    → Answers s (Ok answer) → text ≡ report_text answer → IsTrue (fitting_view (view_of answer))
+pub report_given : (s : SessionValue) (answer : ResponseValue) (text : List ℕ)
+    → AnswersSession s (Ok answer) → text ≡ report_text answer → IsTrue (fitting_view (view_of answer))
     → ((other : View) → IsTrue (fitting_view other) → view_text other ≡ text → other ≡ view_of answer) → IsReport s text
 report_given s answer text given is fits tells = record {
   answer = answer;

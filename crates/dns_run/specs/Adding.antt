@@ -1,28 +1,28 @@
 -- What the lists of a verifier and of trusted keys become when a session's lines are added one by one, for the contracts of the
 -- functions that do it. What a session's judge is stands in Answering.
 use Rattle.std.specs.Prelude.{ℕ, List, [], ◌∷◌}
-use Rattle.dns_model.specs.Keys.{Anchor}
-use Rattle.dns_trust.specs.Listing.{ListedText, with_algorithm, with_accepted}
+use Rattle.dns_model.specs.Keys.{AnchorValue}
+use Rattle.dns_trust.specs.Listing.{ListedValue, with_algorithm, with_accepted}
 use Rattle.dns_trust.specs.Anchoring.{with_anchor}
-use Rattle.dns_session.specs.SessionText.{AcceptText}
-use Rattle.dns_run.specs.Answering.{accepted}
+use Rattle.dns_session.specs.SessionValue.{AcceptedSignatureValue}
+use Rattle.dns_run.specs.Answering.{listed_signature}
 
-unfoldable pub with_algorithms : ListedText → List ℕ → ListedText
+unfoldable pub with_algorithms : ListedValue → List ℕ → ListedValue
 with_algorithms listed [] = listed
 with_algorithms listed (a ∷ more) = with_algorithms (with_algorithm listed a) more
 
-unfoldable pub with_accepts : ListedText → List AcceptText → ListedText
+unfoldable pub with_accepts : ListedValue → List AcceptedSignatureValue → ListedValue
 with_accepts listed [] = listed
-with_accepts listed (a ∷ more) = with_accepts (with_accepted listed (accepted a)) more
+with_accepts listed (a ∷ more) = with_accepts (with_accepted listed (listed_signature a)) more
 
 -- a verifier's lists, from nothing
-abbrev pub listed_by : List ℕ → List AcceptText → ListedText
+abbrev pub listed_by : List ℕ → List AcceptedSignatureValue → ListedValue
 listed_by algorithms accepts = with_accepts (with_algorithms (record { algorithms = []; accepted = [] }) algorithms) accepts
 
-unfoldable pub with_anchors : List Anchor → List Anchor → List Anchor
+unfoldable pub with_anchors : List AnchorValue → List AnchorValue → List AnchorValue
 with_anchors trusted [] = trusted
 with_anchors trusted (a ∷ more) = with_anchors (with_anchor trusted a) more
 
 -- the trusted keys, from none
-abbrev pub trusted_by : List Anchor → List Anchor
+abbrev pub trusted_by : List AnchorValue → List AnchorValue
 trusted_by anchors = with_anchors [] anchors

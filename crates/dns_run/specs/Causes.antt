@@ -4,8 +4,8 @@ use Rattle.std.specs.List.{find}
 use Rattle.std.specs.Io.KnownBytes.{Appends}
 use Rattle.dns_model.specs.declared.proof.Proof.TheVariants.{Bogus}
 use Rattle.dns_model.specs.declared.denial.Denial.TheVariants as denied
-use Rattle.dns_model.specs.Records.{Rr, MessageText, question_eq}
-use Rattle.dns_model.specs.Answers.{Told, told_by, placed_sets}
+use Rattle.dns_model.specs.Records.{Rr, MessageValue, question_eq}
+use Rattle.dns_model.specs.SoundAnswers.{Told, told_by, placed_sets}
 use Rattle.dns_message.specs.declared.decode_error.DecodeError.{DecodeError}
 use Rattle.dns_judgement.specs.Judged.{Judged}
 use Rattle.dns_judgement.specs.Outcome.{has_answer, foreign_record}
@@ -13,54 +13,54 @@ use Rattle.dns_judgement.specs.Run.{Run, Sets}
 use Rattle.dns_judgement.specs.Marking.{finished}
 use Rattle.dns_net.specs.declared.error.ProtoError.TheVariants.{Decode}
 use Rattle.dns_net.specs.declared.notice.Notice.TheVariants.{NotJudgedYet}
-use Rattle.dns_net.specs.Errors.{ErrorText, Dns, Message, Proto, Timeout, ForeignClassRecord, Nsec}
-use Rattle.dns_net.specs.Recording.{RecordedText, AnswersFrom}
+use Rattle.dns_net.specs.Errors.{ErrorValue, Dns, Message, Proto, Timeout, ForeignClassRecord, Nsec}
+use Rattle.dns_net.specs.Recording.{RecordedValue, AnswersFrom}
 use Rattle.dns_net.specs.Requests.{plain_options}
 use Rattle.dns_chain.specs.Heard.{told_of, says_of}
 use Rattle.dns_chain.specs.Inquiries.{depth_limit}
 use Rattle.dns_chain.specs.Causes.{IsJudged, WantsDenial, LacksDenial, NeedsNone}
 use Rattle.dns_report.specs.Report.{report_text}
 use Rattle.dns_report.specs.Faults.{fault_text}
-use Rattle.dns_session.specs.SessionText.{SessionText, ReplyText}
+use Rattle.dns_session.specs.SessionValue.{SessionValue, ReplyValue}
 use Rattle.dns_session.specs.Grammar.{session_of}
 use Rattle.dns_run.specs.Answering.{recorded, recorded_by, session_judge}
 
 -- ---- what a session replies to its query
 
 -- the first reply to the query
-abbrev pub session_reply : SessionText → Option ReplyText
+abbrev pub session_reply : SessionValue → Option ReplyValue
 session_reply s = find (λ reply. question_eq reply.question s.query) s.replies
 
-abbrev pub message_in : Result MessageText DecodeError → Option MessageText
+abbrev pub message_in : Result MessageValue DecodeError → Option MessageValue
 message_in (Ok message) = Some message
 message_in (Err fault) = None
 
-abbrev pub message_of : Option ReplyText → Option MessageText
+abbrev pub message_of : Option ReplyValue → Option MessageValue
 message_of None = None
 message_of (Some reply) = message_in reply.message
 
 -- the records of that reply's message
-abbrev pub session_records : SessionText → Option Told
+abbrev pub session_records : SessionValue → Option Told
 session_records s = told_of (message_of (session_reply s))
 
 -- ---- the causes of a fault's line
 
 -- the session has no message in reply to its query: nothing comes, or bytes that are no message
-pub data HasNoMessage (s : SessionText) (error : ErrorText) : Type 0 where
+pub data HasNoMessage (s : SessionValue) (error : ErrorValue) : Type 0 where
   NoReply : session_reply s ≡ None → error ≡ Timeout → HasNoMessage s error
-  BadMessage : (reply : ReplyText) (fault : DecodeError) → session_reply s ≡ Some reply → reply.message ≡ Err fault
+  BadMessage : (reply : ReplyValue) (fault : DecodeError) → session_reply s ≡ Some reply → reply.message ≡ Err fault
       → error ≡ Proto (Decode fault) → HasNoMessage s error
 
 -- a record of the reply has another class than the query: the first in section order is named
-pub record HasForeign (s : SessionText) (error : ErrorText) : Type 0 where
+pub record HasForeign (s : SessionValue) (error : ErrorValue) : Type 0 where
   pub records : Told
   pub first : Rr
   pub told : session_records s ≡ Some records
   pub found : foreign_record s.query records ≡ Some first
-  pub named : error ≡ ForeignClassRecord first.owner first.class first.kind
+  pub named : error ≡ ForeignClassRecord first.owner first.class first.rtype
 
 -- the records of the reply have the query's class, and none of them answers the query
-pub record HasNoAnswer (s : SessionText) : Type 0 where
+pub record HasNoAnswer (s : SessionValue) : Type 0 where
   pub records : Told
   pub told : session_records s ≡ Some records
   pub own : foreign_record s.query records ≡ None
@@ -68,20 +68,20 @@ pub record HasNoAnswer (s : SessionText) : Type 0 where
 
 -- the sets of the reply's message were judged so, by asks for what the session replies, with its keys and signatures, at
 -- its moment
-pub record HasJudged (s : SessionText) (message : MessageText) (sets : List Judged) : Type 0 where
-  pub after : RecordedText
+pub record HasJudged (s : SessionValue) (message : MessageValue) (sets : List Judged) : Type 0 where
+  pub after : RecordedValue
   pub judged : IsJudged AnswersFrom (recorded_by s.replies) after (Some (map recorded s.replies)) (session_judge s)
       (depth_limit plain_options) s.query message sets
 
 -- why a session is answered with an error
-pub data FaultCause (s : SessionText) (error : ErrorText) : Type 0 where
+pub data FaultCause (s : SessionValue) (error : ErrorValue) : Type 0 where
   NoMessage : HasNoMessage s error → FaultCause s error
   OtherClass : HasForeign s error → FaultCause s error
   -- denial of existence would have to be judged
-  NotJudged : (message : MessageText) (sets : List Judged) → HasJudged s message sets → WantsDenial s.query (told_by message) sets
+  NotJudged : (message : MessageValue) (sets : List Judged) → HasJudged s message sets → WantsDenial s.query (told_by message) sets
       → error ≡ Message NotJudgedYet → FaultCause s error
   -- an answer that may be expanded from a wildcard lacks its denial
-  NotDenied : (message : MessageText) (sets : List Judged) → HasJudged s message sets → LacksDenial s.query (told_by message) sets
+  NotDenied : (message : MessageValue) (sets : List Judged) → HasJudged s message sets → LacksDenial s.query (told_by message) sets
       → error ≡ Dns (Nsec s.query (finished s.moment sets message denied.None) Bogus) → FaultCause s error
 
 -- ---- how a run ends
@@ -93,8 +93,8 @@ pub data EndsWith (status expected : ℕ) (before now : Option (List ℕ)) (text
 
 -- the sets of the reply's message were judged, the session allows no other judgement of them, and the run ends as each case of
 -- them asks for
-pub record EndsByCase (s : SessionText) (status : ℕ) (before now : Option (List ℕ)) : Type 0 where
-  pub message : MessageText
+pub record EndsByCase (s : SessionValue) (status : ℕ) (before now : Option (List ℕ)) : Type 0 where
+  pub message : MessageValue
   pub sets : List Judged
   pub judged : HasJudged s message sets
   pub only : (others : List Judged) (sends : ℕ)
@@ -107,15 +107,15 @@ pub record EndsByCase (s : SessionText) (status : ℕ) (before now : Option (Lis
   pub accepted : NeedsNone s.query (told_by message) sets → EndsWith status 0 before now (report_text (finished s.moment sets message denied.None))
 
 -- a message with records of the query's class alone is judged, or the status is 4 or more
-abbrev pub EndsAsJudged : SessionText → ℕ → Option (List ℕ) → Option (List ℕ) → Type 0
+abbrev pub EndsAsJudged : SessionValue → ℕ → Option (List ℕ) → Option (List ℕ) → Type 0
 EndsAsJudged s status before now =
     (records : Told) → session_records s ≡ Some records → foreign_record s.query records ≡ None
     → (4 ≤ status) ⊎ EndsByCase s status before now
 
 -- a fact of the session that told bytes are
-abbrev pub IfSession : Option (List ℕ) → (SessionText → Type 0) → Type 0
+abbrev pub IfSession : Option (List ℕ) → (SessionValue → Type 0) → Type 0
 IfSession None Fact = Unit {0}
-IfSession (Some bytes) Fact = (s : SessionText) → session_of bytes ≡ Ok s → Fact s
+IfSession (Some bytes) Fact = (s : SessionValue) → session_of bytes ≡ Ok s → Fact s
 
 -- a fact of the first bad line, where told bytes are no session
 abbrev pub IfBadLine : Option (List ℕ) → (ℕ → Type 0) → Type 0

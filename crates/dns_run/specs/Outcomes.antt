@@ -1,18 +1,18 @@
 -- What an input comes to, and what a run leaves.
 use Rattle.std.specs.Prelude.{ℕ, ◌≡◌, ◌≢◌, ◌<◌, IsTrue, List, [], length, Option, None, Some, Ok, Err}
 use Rattle.std.specs.Io.KnownBytes.{Appends}
-use Rattle.dns_model.specs.Answers.{ResponseText}
+use Rattle.dns_model.specs.SoundAnswers.{ResponseValue}
 use Rattle.dns_net.specs.Errors as seen
-use Rattle.dns_net.specs.Errors.{ErrorText, Reply}
+use Rattle.dns_net.specs.Errors.{ErrorValue, Reply}
 use Rattle.dns_report.specs.View.{View, view_of, fitting_view}
 use Rattle.dns_report.specs.Report.{report_text, view_text}
 use Rattle.dns_report.specs.Faults.{fault_text}
-use Rattle.dns_session.specs.SessionText.{SessionText}
+use Rattle.dns_session.specs.SessionValue.{SessionValue}
 use Rattle.dns_session.specs.Grammar.{session_of}
-use Rattle.dns_outside.specs.Reading.{input_limit}
-use Rattle.dns_outside.specs.Writing.{TakesPrefix}
+use Rattle.dns_io.specs.Reading.{input_limit}
+use Rattle.dns_io.specs.Writing.{TakesPrefix}
 use Rattle.dns_run.specs.Forms.{bad_line_text, too_long_text}
-use Rattle.dns_run.specs.Answering.{Answers}
+use Rattle.dns_run.specs.Answering.{AnswersSession}
 use Rattle.dns_run.specs.Soundness.{IsSound}
 use Rattle.dns_run.specs.Causes.{FaultCause}
 use Rattle.dns_run.specs.declared.outcome.Ending.{Ending}
@@ -20,9 +20,9 @@ use Rattle.dns_run.specs.declared.outcome.Ending.TheVariants.{Report, Fault, Bad
 
 -- the text is the report of one answer; a lookup for the session gives that answer, and it is sound; what is shown of it, its
 -- view, fits, and no other fitting view has this text
-pub record IsReport (session : SessionText) (text : List ℕ) : Type 0 where
-  pub answer : ResponseText
-  pub given : Answers session (Ok answer)
+pub record IsReport (session : SessionValue) (text : List ℕ) : Type 0 where
+  pub answer : ResponseValue
+  pub given : AnswersSession session (Ok answer)
   pub sound : IsSound session answer
   pub spelled : text ≡ report_text answer
   pub fits : IsTrue (fitting_view (view_of answer))
@@ -30,28 +30,28 @@ pub record IsReport (session : SessionText) (text : List ℕ) : Type 0 where
 
 -- the text is the line of one error, which has its cause in the session and isn't want of memory, and a lookup for the session
 -- gives that error
-pub record IsFault (session : SessionText) (text : List ℕ) : Type 0 where
-  pub error : ErrorText
+pub record IsFault (session : SessionValue) (text : List ℕ) : Type 0 where
+  pub error : ErrorValue
   pub own : error ≢ seen.NoMemory
   pub cause : FaultCause session error
-  pub given : Answers session (Err error)
+  pub given : AnswersSession session (Err error)
   pub spelled : text ≡ fault_text error
 
 -- how a session is answered
-abbrev pub IsAnswered : SessionText → Ending → List ℕ → Type 0
+abbrev pub IsAnswered : SessionValue → Ending → List ℕ → Type 0
 IsAnswered session Report text = IsReport session text
 IsAnswered session Fault text = IsFault session text
 IsAnswered session BadLine text = ⊥
 
 -- the bytes are a session, and the text is the report of an answer to it
 pub record Reports (bytes text : List ℕ) : Type 0 where
-  pub session : SessionText
+  pub session : SessionValue
   pub read : session_of bytes ≡ Ok session
   pub report : IsReport session text
 
 -- the bytes are a session, and the text is the line of an error in answer to it
 pub record Fails (bytes text : List ℕ) : Type 0 where
-  pub session : SessionText
+  pub session : SessionValue
   pub read : session_of bytes ≡ Ok session
   pub fault : IsFault session text
 

@@ -3,14 +3,14 @@ ghost use Rattle.std.specs.Prelude.{◌≡◌, IfOk, OnOk};
 ghost use Rattle.dns_net.specs.Replies.{reply_of};
 ghost use Rattle.dns_chain.specs.Looked.{UnlessNoMemory};
 ghost use Rattle.dns_run.specs.Adding.{with_algorithms, with_accepts, listed_by, trusted_by};
-ghost use Rattle.dns_run.specs.Answering.{reply_from, recorded_by, Answers};
+ghost use Rattle.dns_run.specs.Answering.{reply_from, recorded_by, AnswersSession};
 
 use dns_chain::DnssecDnsHandle;
 use dns_message::{DecodeError, Message};
 use dns_name::NoMemory;
 use dns_net::{DnsRequestOptions, DnsResponse, NetError, ProtoError, Recorded};
 use dns_record::Denial;
-use dns_session::{Accept, Anchor, Reply, Session};
+use dns_session::{AcceptedSignature, Anchor, Reply, Session};
 use dns_trust::{Listed, TrustAnchors};
 use std::alloc::Global;
 
@@ -41,7 +41,11 @@ fn recorded_by(alloc: Global, replies: Vec<Reply>) -> Result<Recorded, NoMemory>
 }
 
 /// The verifier that supports and accepts what the session lists.
-fn listed_by(alloc: Global, algorithms: &[u8], accepts: &[Accept]) -> Result<Listed, NoMemory>
+fn listed_by(
+    alloc: Global,
+    algorithms: &[u8],
+    accepts: &[AcceptedSignature],
+) -> Result<Listed, NoMemory>
     ensures { IfOk result (λ l. l ≡ listed_by algorithms.now accepts.now) }
 {
     let mut verifier = Listed::new(alloc);
@@ -65,7 +69,7 @@ fn add_algorithms(verifier: &mut Listed, algorithms: &[u8]) -> Result<(), NoMemo
 
 /// Accepts each signature.
 #[tactic(auto, unfolding(crate::specs::Adding::with_accepts))]
-fn add_accepts(verifier: &mut Listed, accepts: &[Accept]) -> Result<(), NoMemory>
+fn add_accepts(verifier: &mut Listed, accepts: &[AcceptedSignature]) -> Result<(), NoMemory>
     ensures { OnOk result (verifier.new ≡ with_accepts verifier.old accepts.now) }
 {
     let mut left = accepts;
@@ -99,7 +103,7 @@ fn trusted_by(alloc: Global, anchors: &[Anchor]) -> Result<TrustAnchors, NoMemor
 
 /// What the session's query is answered, with default options and at the session's moment.
 pub(crate) fn looked_up(alloc: Global, session: Session) -> Result<DnsResponse, NetError>
-    ensures { UnlessNoMemory result (Answers session (reply_of result)) }
+    ensures { UnlessNoMemory result (AnswersSession session (reply_of result)) }
 {
     let Session {
         moment,

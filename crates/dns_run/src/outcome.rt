@@ -62,7 +62,7 @@ fn is_no_memory(error: &NetError) -> bool
 }
 
 /// What an input comes to, and the text of it.
-pub(crate) fn outcome_of(alloc: Global, bytes: &[u8]) -> Result<(Ending, Vec<u8>), NoMemory>
+pub(crate) fn session_ending(alloc: Global, bytes: &[u8]) -> Result<(Ending, Vec<u8>), NoMemory>
     requires { length bytes.now < 2 ^ 32 }
     ensures { IfOk result (λ x. IsOutcome bytes.now x.0 x.1.items) }
 {

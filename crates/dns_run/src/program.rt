@@ -1,21 +1,21 @@
 //! The program over any source and any sink.
 ghost use Rattle.std.specs.Prelude.{◌≡◌, ◌≢◌, ◌<◌, ◌≤◌, ◌+◌, map, length, Some, None, IfSome};
 ghost use Rattle.std.specs.Io.KnownBytes.{Appends};
-ghost use Rattle.dns_net.specs.Errors.{ErrorText, Message};
+ghost use Rattle.dns_net.specs.Errors.{ErrorValue, Message};
 ghost use Rattle.dns_net.specs.declared.notice.Notice.TheVariants.{NotJudgedYet};
 ghost use Rattle.dns_report.specs.Faults.{fault_text};
-ghost use Rattle.dns_outside.specs.Faults.{Rose};
-ghost use Rattle.dns_outside.specs.Reading.{input_limit, IsEnded, ReadsFront};
-ghost use Rattle.dns_outside.specs.Writing.{TakesPrefix};
+ghost use Rattle.dns_io.specs.Faults.{Rose};
+ghost use Rattle.dns_io.specs.Reading.{input_limit, IsEnded, ReadsFront};
+ghost use Rattle.dns_io.specs.Writing.{TakesPrefix};
 ghost use Rattle.dns_run.specs.Causes.{HasNoMessage, HasForeign, HasNoAnswer, EndsWith, EndsAsJudged, IfSession, IfBadLine};
 ghost use Rattle.dns_run.specs.Forms.{form_in, help_text, version_text, bad_line_text, bad_words_text, too_long_text};
 ghost use Rattle.dns_run.specs.Outcomes.{Leaves, LeavesPrefix, Wrote, WrotePrefix, ComesTo, Reports, Fails, Refuses};
 ghost use Rattle.dns_run.specs.declared.form.Form.TheVariants.{Validate, Help, Version};
 
 use crate::form::{Form, form_of, help_text, version_text};
-use crate::outcome::{Ending, outcome_of};
+use crate::outcome::{Ending, session_ending};
+use dns_io::{ReadStop, Sink, SinkFault, Source, read_all, write_all};
 use dns_name::NoMemory;
-use dns_outside::{ReadStop, Sink, SinkFault, Source, read_all, write_all};
 use std::alloc::Global;
 
 /// The status where a text wasn't written whole.
@@ -59,7 +59,7 @@ fn answer<W: Sink>(alloc: Global, bytes: &[u8], output: &mut W) -> u8
     ensures most { result ≤ 6 }
     ensures later { W.faults output.old ≤ W.faults output.new }
 {
-    match outcome_of(alloc, bytes) {
+    match session_ending(alloc, bytes) {
         Ok((Ending::Report, text)) => write_text(0, &text, output),
         Ok((Ending::Fault, text)) => write_text(1, &text, output),
         Ok((Ending::BadLine, text)) => write_text(3, &text, output),
@@ -140,9 +140,9 @@ pub fn run<S: Source, W: Sink>(
     // A session without a message in reply to its query ends with that error's line, one whose reply has a record of another
     // class with the first of these, and one whose reply has no answer isn't judged yet; unless the status is 4 or more.
     ensures no_message { form_in (map (λ w. w.items) words.now) ≡ Some Validate → IfSession (S.left input.old) (λ s.
-        (error : ErrorText) → HasNoMessage s error → EndsWith result 1 (W.taken output.old) (W.taken output.new) (fault_text error)) }
+        (error : ErrorValue) → HasNoMessage s error → EndsWith result 1 (W.taken output.old) (W.taken output.new) (fault_text error)) }
     ensures other_class { form_in (map (λ w. w.items) words.now) ≡ Some Validate → IfSession (S.left input.old) (λ s.
-        (error : ErrorText) → HasForeign s error → EndsWith result 1 (W.taken output.old) (W.taken output.new) (fault_text error)) }
+        (error : ErrorValue) → HasForeign s error → EndsWith result 1 (W.taken output.old) (W.taken output.new) (fault_text error)) }
     ensures no_answer { form_in (map (λ w. w.items) words.now) ≡ Some Validate → IfSession (S.left input.old) (λ s.
         HasNoAnswer s → EndsWith result 1 (W.taken output.old) (W.taken output.new) (fault_text (Message NotJudgedYet))) }
 

@@ -1,7 +1,7 @@
 //! `run` over sources and sinks in memory.
 use crate::program::run;
 use crate::rows::{BAD_LINES, FAULTS, FORMS, MOMENTS, Row};
-use dns_outside::{Sink, SinkFault, SureSink, SureSource, TextSink, TextSource};
+use dns_io::{Sink, SinkFault, SureSink, SureSource, TextSink, TextSource};
 use std::alloc::{AllocError, Global};
 use std::test::Fail;
 

@@ -1,6 +1,6 @@
 -- Reading lines of one form, line by line.
 use Rattle.std.proofs.Common.{◌≡◌, ℕ, ◌+◌, ◌<◌, List, [], ◌∷◌, ◌++◌, length, Option, None, Some, refl, sym, ap, ◌∙◌, arith, append_assoc, append-nil}
-use Rattle.dns_session.specs.Places.{Place, place, next_in, next_line, many_in, many}
+use Rattle.dns_session.specs.LinePlaces.{Place, place, next_in, next_line, many_in, many}
 
 abbrev from_some : {A : Type 0} → A → Option A → A
 from_some d None = d

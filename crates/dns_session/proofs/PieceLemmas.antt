@@ -5,7 +5,7 @@ use Rattle.std.proofs.lemmas.Bool.{cases_lt, cases_Bool, lt-ltb, le-ltb}
 use Rattle.std.proofs.lemmas.List.{take_rest}
 use Rattle.std.proofs.lemmas.List.Splits.{slice_split_first}
 use Rattle.std.proofs.lemmas.Bool.Decides.{nat_tests}
-use Rattle.dns_session.specs.Places.{pieces, is_nothing, next_in, place}
+use Rattle.dns_session.specs.LinePlaces.{pieces, is_nothing, next_in, place}
 use Rattle.dns_session.specs.Lines.{words, single}
 
 -- where nothing passes there is one piece

@@ -3,11 +3,11 @@ use Rattle.std.proofs.Common.{◌≡◌, ℕ, ◌+◌, ◌<◌, false, List, [],
 use Rattle.std.specs.Prelude.{◌↔◌}
 use Rattle.std.proofs.lemmas.Bool.{cases_Bool}
 use Rattle.std.specs.Cmp.Lexicographic.{bytes_decides}
-use Rattle.dns_model.specs.Keys.{Anchor, bytes_eq}
+use Rattle.dns_model.specs.Keys.{AnchorValue, bytes_eq}
 use Rattle.dns_model.specs.Records.{Question}
 use Rattle.dns_words.specs.Steps as steps
-use Rattle.dns_session.specs.SessionText.{SessionText, AcceptText, ReplyText}
-use Rattle.dns_session.specs.Places.{place, pieces, start_of, one, many_in}
+use Rattle.dns_session.specs.SessionValue.{SessionValue, AcceptedSignatureValue, ReplyValue}
+use Rattle.dns_session.specs.LinePlaces.{place, pieces, start_of, one, many_in}
 use Rattle.dns_session.specs.Lines.{Words, words, after, header_line, moment_line, algorithms_line, anchor_line, accept_line, query_line, reply_line}
 use Rattle.dns_session.specs.Grammar.{session_of}
 use Rattle.dns_session.specs.Spelled.{Say, Spelled}
@@ -91,7 +91,7 @@ starts_by : {X : Type 0} (word line : List ℕ) (said : Option Words) (more : Wo
 starts_by word line None more x e h = absurd (some_none x h)
 starts_by word line (Some rest) more x e h = record { rest = rest; begins = e }
 
-accept_starts : (line : List ℕ) (x : AcceptText) → accept_line line ≡ Some x → Starts (codes "accept") line
+accept_starts : (line : List ℕ) (x : AcceptedSignatureValue) → accept_line line ≡ Some x → Starts (codes "accept") line
 accept_starts line x h = starts_by (codes "accept") line (after (codes "accept") (words line)) _ x refl h
 
 query_starts : (line : List ℕ) (x : Question) → query_line line ≡ Some x → Starts (codes "query") line
@@ -111,19 +111,19 @@ end_no_reply = refl
 
 -- ---- the whole text
 
-ends_gives : (s : SessionText) (number : ℕ) → ends s (place number (codes "end" ∷ [] ∷ [])) ≡ Ok s
+ends_gives : (s : SessionValue) (number : ℕ) → ends s (place number (codes "end" ∷ [] ∷ [])) ≡ Ok s
 unfolding one
 ends_gives s number = refl
 
-asks_gives : (moment : ℕ) (algorithms : List ℕ) (anchors : List Anchor) (accepts : List AcceptText) (number : ℕ)
-    (query : List ℕ) (question : Question) (lines : List (List ℕ)) (replies : List ReplyText)
+asks_gives : (moment : ℕ) (algorithms : List ℕ) (anchors : List AnchorValue) (accepts : List AcceptedSignatureValue) (number : ℕ)
+    (query : List ℕ) (question : Question) (lines : List (List ℕ)) (replies : List ReplyValue)
     → query_line query ≡ Some question → Say reply_line lines replies
     → asks moment algorithms anchors accepts (place number (query ∷ (lines ++ codes "end" ∷ [] ∷ [])))
     ≡ Ok (record { moment = moment; algorithms = algorithms; anchors = anchors; accepts = accepts; query = question; replies = replies })
 asks_gives moment algorithms anchors accepts number query question lines replies asked say =
     let row = row_of reply_line (number + 1) lines replies (codes "end" ∷ [] ∷ []) say (omega arith) end_no_reply in
     let first = one_listed query_line number query (lines ++ codes "end" ∷ [] ∷ []) question (listed_after lines _ (omega arith)) asked in
-    let made : SessionText = record { moment = moment; algorithms = algorithms; anchors = anchors; accepts = accepts; query = question; replies = replies } in
+    let made : SessionValue = record { moment = moment; algorithms = algorithms; anchors = anchors; accepts = accepts; query = question; replies = replies } in
     rw (first, row.reads) (ends_gives made row.next)
 
 -- what stands after the accept lines isn't one of them
@@ -135,17 +135,17 @@ query_others : (query : List ℕ) (question : Question) (ps : List (List ℕ)) �
 query_others query question [] asked = tt
 query_others query question (p ∷ ps) asked = query_no_anchor query (query_starts query question asked)
 
-accept_others : (line : List ℕ) (x : AcceptText) (ps : List (List ℕ)) → accept_line line ≡ Some x → Others anchor_line (line ∷ ps)
+accept_others : (line : List ℕ) (x : AcceptedSignatureValue) (ps : List (List ℕ)) → accept_line line ≡ Some x → Others anchor_line (line ∷ ps)
 accept_others line x [] h = tt
 accept_others line x (p ∷ ps) h = accept_no_anchor line (accept_starts line x h)
 
-anchors_others : (lines : List (List ℕ)) (accepts : List AcceptText) (query : List ℕ) (question : Question) (ps : List (List ℕ))
+anchors_others : (lines : List (List ℕ)) (accepts : List AcceptedSignatureValue) (query : List ℕ) (question : Question) (ps : List (List ℕ))
     → Say accept_line lines accepts → query_line query ≡ Some question → Others anchor_line (lines ++ query ∷ ps)
 anchors_others [] accepts query question ps say asked = query_others query question ps asked
 anchors_others (line ∷ lines) [] query question ps say asked = cc
 anchors_others (line ∷ lines) (x ∷ accepts) query question ps say asked = accept_others line x (lines ++ query ∷ ps) (ap (first_or None) say)
 
-trusts_gives : (moment : ℕ) (algorithms : List ℕ) (number : ℕ) (s : SessionText) (anchors accepts : List (List ℕ)) (query : List ℕ) (replies : List (List ℕ))
+trusts_gives : (moment : ℕ) (algorithms : List ℕ) (number : ℕ) (s : SessionValue) (anchors accepts : List (List ℕ)) (query : List ℕ) (replies : List (List ℕ))
     → Say anchor_line anchors s.anchors → Say accept_line accepts s.accepts → query_line query ≡ Some s.query → Say reply_line replies s.replies
     → trusts moment algorithms (place number (anchors ++ (accepts ++ query ∷ (replies ++ codes "end" ∷ [] ∷ []))))
     ≡ Ok (record { moment = moment; algorithms = algorithms; anchors = s.anchors; accepts = s.accepts; query = s.query; replies = s.replies })
@@ -156,7 +156,7 @@ trusts_gives moment algorithms number s anchors accepts query replies keys takes
     let two = row_of accept_line one.next accepts s.accepts body takes (omega arith) (accepts_others query s.query (replies ++ codes "end" ∷ [] ∷ []) asked) in
     rw (one.reads, two.reads) (asks_gives moment algorithms s.anchors s.accepts two.next query s.query replies s.replies asked tells)
 
-begins_gives : (s : SessionText) (moment algorithms : List ℕ) (ps : List (List ℕ)) → moment_line moment ≡ Some s.moment → algorithms_line algorithms ≡ Some s.algorithms
+begins_gives : (s : SessionValue) (moment algorithms : List ℕ) (ps : List (List ℕ)) → moment_line moment ≡ Some s.moment → algorithms_line algorithms ≡ Some s.algorithms
     → 0 < length ps → ((number : ℕ) → trusts s.moment s.algorithms (place number ps) ≡ Ok s)
     → begins (place 1 (codes "dns-session 1" ∷ moment ∷ algorithms ∷ ps)) ≡ Ok s
 begins_gives s moment algorithms [] dated listed some more = absurd (omega arith)
@@ -168,7 +168,7 @@ begins_gives s moment algorithms (next ∷ ps) dated listed some more =
     rw (head, first, second) (more (1 + 1 + 1 + 1))
 
 -- what is spelled so is read
-pub session_read : (text : List ℕ) (s : SessionText) → Spelled text s → session_of text ≡ Ok s
+pub session_read : (text : List ℕ) (s : SessionValue) → Spelled text s → session_of text ≡ Ok s
 session_read text s sp =
     let end : List (List ℕ) = codes "end" ∷ [] ∷ [] in
     let body : List (List ℕ) = sp.query ∷ (sp.replies ++ codes "end" ∷ []) in
@@ -185,5 +185,5 @@ session_read text s sp =
     (λ number. trusts_gives s.moment s.algorithms number s sp.anchors sp.accepts sp.query sp.replies sp.anchors_say sp.accepts_say sp.query_says sp.replies_say)
 
 -- a text is read as a session exactly where it is spelled so
-pub session_exactly : (text : List ℕ) (s : SessionText) → (session_of text ≡ Ok s) ↔ Spelled text s
+pub session_exactly : (text : List ℕ) (s : SessionValue) → (session_of text ≡ Ok s) ↔ Spelled text s
 session_exactly text s = (session_spelled text s, session_read text s)

@@ -5,10 +5,10 @@ use Rattle.std.specs.Result.{result_unwrap_or}
 use Rattle.std.proofs.lemmas.Bool.{cases_Bool, or_parts}
 use Rattle.std.proofs.lemmas.List.Splits.{join_with_byte-slice_split}
 use Rattle.std.specs.Cmp.Lexicographic.{bytes_decides}
-use Rattle.dns_model.specs.Keys.{Anchor, bytes_eq}
+use Rattle.dns_model.specs.Keys.{AnchorValue, bytes_eq}
 use Rattle.dns_model.specs.Records.{Question}
-use Rattle.dns_session.specs.SessionText.{SessionText, AcceptText}
-use Rattle.dns_session.specs.Places.{Place, place, pieces, start_of, one, many, many_in, before_more, is_nothing, or_bad, ◌>>=◌}
+use Rattle.dns_session.specs.SessionValue.{SessionValue, AcceptedSignatureValue}
+use Rattle.dns_session.specs.LinePlaces.{Place, place, pieces, start_of, one, many, many_in, before_more, is_nothing, or_bad, ◌>>=◌}
 use Rattle.dns_session.specs.Lines.{header_line, moment_line, algorithms_line, anchor_line, accept_line, query_line, reply_line, end_line, fixed}
 use Rattle.dns_session.specs.Grammar.{session_at, session_of, if_ended}
 use Rattle.dns_session.specs.Spelled.{lines_text, Unbroken, Say, Spelled}
@@ -125,43 +125,43 @@ fixed_line text line h =
 
 -- the parts of the grammar, from a place on
 
-abbrev pub ends : SessionText → Place → Result SessionText ℕ
+abbrev pub ends : SessionValue → Place → Result SessionValue ℕ
 ends s at = one end_line at >>= λ last. if_ended last.1 s
 
-abbrev pub asks : ℕ → List ℕ → List Anchor → List AcceptText → Place → Result SessionText ℕ
+abbrev pub asks : ℕ → List ℕ → List AnchorValue → List AcceptedSignatureValue → Place → Result SessionValue ℕ
 asks moment algorithms anchors accepts at = one query_line at >>= λ query. ends
     (record { moment = moment; algorithms = algorithms; anchors = anchors; accepts = accepts; query = query.0; replies = (many reply_line query.1).0 })
     (many reply_line query.1).1
 
-abbrev pub trusts : ℕ → List ℕ → Place → Result SessionText ℕ
+abbrev pub trusts : ℕ → List ℕ → Place → Result SessionValue ℕ
 trusts moment algorithms at =
     asks moment algorithms (many anchor_line at).0 (many accept_line (many anchor_line at).1).0 (many accept_line (many anchor_line at).1).1
 
-abbrev pub lists : ℕ → Place → Result SessionText ℕ
+abbrev pub lists : ℕ → Place → Result SessionValue ℕ
 lists moment at = one algorithms_line at >>= λ algorithms. trusts moment algorithms.0 algorithms.1
 
-abbrev pub dates : Place → Result SessionText ℕ
+abbrev pub dates : Place → Result SessionValue ℕ
 dates at = one moment_line at >>= λ moment. lists moment.0 moment.1
 
-abbrev pub begins : Place → Result SessionText ℕ
+abbrev pub begins : Place → Result SessionValue ℕ
 begins at = one header_line at >>= λ head. dates head.1
 
 pub session_begins : (at : Place) → session_at at ≡ begins at
 unfolding session_at
 session_begins at = refl
 
-record EndRead (s t : SessionText) (at : Place) : Type 0 where
+record EndRead (s t : SessionValue) (at : Place) : Type 0 where
   same : s ≡ t
   cut : at.pieces ≡ codes "end" ∷ [] ∷ []
 
-end_by : (s t : SessionText) (at : Place) → (if_ended at s) ≡ Ok t → (s ≡ t) × (at.pieces ≡ [] ∷ [])
+end_by : (s t : SessionValue) (at : Place) → (if_ended at s) ≡ Ok t → (s ≡ t) × (at.pieces ≡ [] ∷ [])
 end_by s t at h =
     elim (cases_Bool (is_nothing at.pieces)) [
-      | inl is ↦ (ap (λ r. result_unwrap_or r s) (let same : ◌≡◌ {A = Result SessionText ℕ} (Ok s) (Ok t) = rw is at h in same), nothing_left at.pieces is)
-      | inr isnt ↦ let none : ◌≡◌ {A = Result SessionText ℕ} (Err at.number) (Ok t) = rw isnt at h in cc
+      | inl is ↦ (ap (λ r. result_unwrap_or r s) (let same : ◌≡◌ {A = Result SessionValue ℕ} (Ok s) (Ok t) = rw is at h in same), nothing_left at.pieces is)
+      | inr isnt ↦ let none : ◌≡◌ {A = Result SessionValue ℕ} (Err at.number) (Ok t) = rw isnt at h in cc
     ]
 
-end_read : (s t : SessionText) (at : Place) → ends s at ≡ Ok t → EndRead s t at
+end_read : (s t : SessionValue) (at : Place) → ends s at ≡ Ok t → EndRead s t at
 end_read s t at h =
     let b = bound (one end_line at) (λ last. if_ended last.1 s) t h in
     let line = one_at end_line at.number at.pieces b.value.0 b.value.1 b.was in
@@ -170,7 +170,7 @@ end_read s t at h =
     record { same = rest.0; cut = line.cut ∙ ap (λ l. l ∷ b.value.1.pieces) word ∙ ap (λ ps. codes "end" ∷ ps) rest.1 }
 
 -- the lines that were read from the query on
-record AskRead (s : SessionText) (at : Place) : Type 0 where
+record AskRead (s : SessionValue) (at : Place) : Type 0 where
   query : List ℕ
   replies : List (List ℕ)
   cut : at.pieces ≡ query ∷ (replies ++ codes "end" ∷ [] ∷ [])
@@ -178,16 +178,16 @@ record AskRead (s : SessionText) (at : Place) : Type 0 where
   replies_say : Say reply_line replies s.replies
 
 -- what a session says before its query
-record Before (s : SessionText) (moment : ℕ) (algorithms : List ℕ) (anchors : List Anchor) (accepts : List AcceptText) : Type 0 where
+record Before (s : SessionValue) (moment : ℕ) (algorithms : List ℕ) (anchors : List AnchorValue) (accepts : List AcceptedSignatureValue) : Type 0 where
   moment_same : moment ≡ s.moment
   algorithms_same : algorithms ≡ s.algorithms
   anchors_same : anchors ≡ s.anchors
   accepts_same : accepts ≡ s.accepts
 
-ask_read : (moment : ℕ) (algorithms : List ℕ) (anchors : List Anchor) (accepts : List AcceptText) (s : SessionText) (at : Place)
+ask_read : (moment : ℕ) (algorithms : List ℕ) (anchors : List AnchorValue) (accepts : List AcceptedSignatureValue) (s : SessionValue) (at : Place)
     → asks moment algorithms anchors accepts at ≡ Ok s → AskRead s at × Before s moment algorithms anchors accepts
 ask_read moment algorithms anchors accepts s at h =
-    let made : (Question × Place) → SessionText = λ query. record { moment = moment; algorithms = algorithms; anchors = anchors; accepts = accepts; query = query.0; replies = (many reply_line query.1).0 } in
+    let made : (Question × Place) → SessionValue = λ query. record { moment = moment; algorithms = algorithms; anchors = anchors; accepts = accepts; query = query.0; replies = (many reply_line query.1).0 } in
     let b = bound (one query_line at) (λ query. ends (made query) (many reply_line query.1).1) s h in
     let line = one_at query_line at.number at.pieces b.value.0 b.value.1 b.was in
     let told = many_at reply_line b.value.1.number b.value.1.pieces in
@@ -208,7 +208,7 @@ ask_read moment algorithms anchors accepts s at h =
     )
 
 -- what is read is spelled so
-pub session_spelled : (text : List ℕ) (s : SessionText) → session_of text ≡ Ok s → Spelled text s
+pub session_spelled : (text : List ℕ) (s : SessionValue) → session_of text ≡ Ok s → Spelled text s
 session_spelled text s h =
     let start = start_of text in
     let b1 = bound (one header_line start) (λ head. dates head.1) s (sym (session_begins start) ∙ h) in

@@ -3,7 +3,7 @@ use Rattle.std.proofs.Common.{◌≡◌, ℕ, ◌+◌, ◌≤◌, ◌==◌, List
 use Rattle.std.specs.List.{onto_first}
 use Rattle.std.proofs.lemmas.Bool.{cases_Bool}
 use Rattle.dns_model.specs.Keys.{bytes_eq}
-use Rattle.dns_session.specs.Places.{pieces}
+use Rattle.dns_session.specs.LinePlaces.{pieces}
 use Rattle.dns_session.specs.Lines.{Words, words, after, triple}
 
 -- the bytes of all words

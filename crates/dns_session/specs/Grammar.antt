@@ -1,7 +1,7 @@
 -- The grammar of sessions: lines of these forms in this order, and nothing after the last. Each ends with LF.
 use Rattle.std.specs.Prelude.{ℕ, List, Result, Ok, Err, if◌then◌else◌}
-use Rattle.dns_session.specs.SessionText.{SessionText}
-use Rattle.dns_session.specs.Places.{Place, start_of, one, many, is_ended, ◌>>=◌}
+use Rattle.dns_session.specs.SessionValue.{SessionValue}
+use Rattle.dns_session.specs.LinePlaces.{Place, start_of, one, many, is_ended, ◌>>=◌}
 use Rattle.dns_session.specs.Lines.{header_line, moment_line, algorithms_line, anchor_line, accept_line, query_line, reply_line, end_line}
 
 -- the value, where nothing follows; else the next line is bad
@@ -9,7 +9,7 @@ abbrev pub if_ended : {X : Type 0} → Place → X → Result X ℕ
 if_ended at x = if is_ended at then Ok x else Err at.number
 
 -- the session from a place on, or the number of the first bad line
-unfoldable pub session_at : Place → Result SessionText ℕ
+unfoldable pub session_at : Place → Result SessionValue ℕ
 session_at start = do
   head ← one header_line start
   moment ← one moment_line head.1
@@ -29,5 +29,5 @@ session_at start = do
   })
 
 -- the session that bytes are, or the number of the first line, from 1, that can't stand at its place
-abbrev pub session_of : List ℕ → Result SessionText ℕ
+abbrev pub session_of : List ℕ → Result SessionValue ℕ
 session_of bytes = session_at (start_of bytes)

@@ -1,5 +1,5 @@
-pub mod SessionText
-pub mod Places
+pub mod SessionValue
+pub mod LinePlaces
 pub mod Lines
 pub mod Grammar
 pub mod Spelled

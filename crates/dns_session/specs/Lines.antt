@@ -1,6 +1,6 @@
 -- The forms of a session's lines: words with one space between each two.
 use Rattle.std.specs.Prelude.{ℕ, List, [], ◌∷◌, codes, Option, None, Some, if◌then◌else◌, ◌^◌, ◌-◌}
-use Rattle.dns_model.specs.Keys.{Anchor, bytes_eq}
+use Rattle.dns_model.specs.Keys.{AnchorValue, bytes_eq}
 use Rattle.dns_model.specs.Records.{Question}
 use Rattle.dns_model.specs.Types.{class_in}
 use Rattle.dns_message.specs.MessageAt.{message_at}
@@ -9,8 +9,8 @@ use Rattle.dns_words.specs.Steps.{◌>>=◌}
 use Rattle.dns_words.specs.Decimals.{decimal_in}
 use Rattle.dns_words.specs.Codes.{type_in}
 use Rattle.dns_words.specs.OctetWords.{octets_in}
-use Rattle.dns_session.specs.SessionText.{AcceptText, ReplyText}
-use Rattle.dns_session.specs.Places.{pieces}
+use Rattle.dns_session.specs.SessionValue.{AcceptedSignatureValue, ReplyValue}
+use Rattle.dns_session.specs.LinePlaces.{pieces}
 
 abbrev pub Words : Type 0
 Words = List (List ℕ)
@@ -77,7 +77,7 @@ abbrev pub algorithms_line : List ℕ → Option (List ℕ)
 algorithms_line line = after (codes "algorithms") (words line) >>= bytes_in
 
 -- an accepted signature, by its words
-abbrev pub accept_in : List ℕ → List ℕ → List ℕ → List ℕ → Option AcceptText
+abbrev pub accept_in : List ℕ → List ℕ → List ℕ → List ℕ → Option AcceptedSignatureValue
 accept_in number key bytes signature = do
   algorithm ← decimal_in 255 number
   key ← octets_in key
@@ -86,14 +86,14 @@ accept_in number key bytes signature = do
   Some (record { algorithm = algorithm; key = key; bytes = bytes; signature = signature })
 
 -- `accept ALGORITHM KEY BYTES SIGNATURE`
-abbrev pub accept_line : List ℕ → Option AcceptText
+abbrev pub accept_line : List ℕ → Option AcceptedSignatureValue
 accept_line line = do
   rest ← after (codes "accept") (words line)
   fields ← quadruple rest
   accept_in fields.0 fields.1 fields.2 fields.3
 
 -- a trusted key, by its words
-abbrev pub anchor_in : List ℕ → List ℕ → List ℕ → Option Anchor
+abbrev pub anchor_in : List ℕ → List ℕ → List ℕ → Option AnchorValue
 anchor_in name number key = do
   owner ← name_word_in name
   algorithm ← decimal_in 255 number
@@ -101,7 +101,7 @@ anchor_in name number key = do
   Some (record { owner = owner; algorithm = algorithm; key = key })
 
 -- `anchor NAME ALGORITHM KEY`
-abbrev pub anchor_line : List ℕ → Option Anchor
+abbrev pub anchor_line : List ℕ → Option AnchorValue
 anchor_line line = do
   rest ← after (codes "anchor") (words line)
   fields ← triple rest
@@ -113,10 +113,10 @@ end_line = fixed (codes "end")
 
 -- a question of class IN, by its words
 abbrev pub question_in : List ℕ → List ℕ → Option Question
-question_in name kind = do
+question_in name rtype = do
   owner ← name_word_in name
-  number ← type_in kind
-  Some (record { owner = owner; kind = number; class = class_in })
+  number ← type_in rtype
+  Some (record { owner = owner; rtype = number; class = class_in })
 
 -- `query NAME TYPE`
 abbrev pub query_line : List ℕ → Option Question
@@ -126,14 +126,14 @@ query_line line = do
   question_in fields.0 fields.1
 
 -- a reply, by its words: a message or bytes that are none
-abbrev pub reply_in : List ℕ → List ℕ → List ℕ → Option ReplyText
-reply_in name kind message = do
-  question ← question_in name kind
+abbrev pub reply_in : List ℕ → List ℕ → List ℕ → Option ReplyValue
+reply_in name rtype message = do
+  question ← question_in name rtype
   bytes ← octets_in message
   Some (record { question = question; message = message_at bytes })
 
 -- `reply NAME TYPE MESSAGE`
-abbrev pub reply_line : List ℕ → Option ReplyText
+abbrev pub reply_line : List ℕ → Option ReplyValue
 reply_line line = do
   rest ← after (codes "reply") (words line)
   fields ← triple rest

@@ -1,7 +1,7 @@
 -- Sessions as texts: which lines, in which order, say what a session says.
 use Rattle.std.specs.Prelude.{ℕ, ◌≡◌, ◌==◌, false, List, [], ◌∷◌, ◌++◌, map, codes, Option, Some}
 use Rattle.std.specs.List.{flat_map, list_any}
-use Rattle.dns_session.specs.SessionText.{SessionText}
+use Rattle.dns_session.specs.SessionValue.{SessionValue}
 use Rattle.dns_session.specs.Lines.{moment_line, algorithms_line, anchor_line, accept_line, query_line, reply_line}
 
 -- lines with LF after each
@@ -18,7 +18,7 @@ abbrev pub Say : {X : Type 0} → (List ℕ → Option X) → List (List ℕ) �
 Say form lines xs = map form lines ≡ map Some xs
 
 -- the text of a session: each line of its form, in this order, and nothing else
-pub record Spelled (text : List ℕ) (s : SessionText) : Type 0 where
+pub record Spelled (text : List ℕ) (s : SessionValue) : Type 0 where
   pub moment : List ℕ
   pub algorithms : List ℕ
   pub anchors : List (List ℕ)

@@ -1,5 +1,5 @@
 ghost use Rattle.std.specs.Prelude.{◌≡◌, ◌<◌, ◌^◌, ℕ, List, Option, IfOk, length};
-ghost use Rattle.dns_session.specs.Places.{many, one};
+ghost use Rattle.dns_session.specs.LinePlaces.{many, one};
 ghost use Rattle.dns_model.specs.Gives.{Gives};
 
 use crate::lines::Lines;

@@ -3,7 +3,7 @@ ghost use Rattle.std.specs.Option.{option_map, option_copied};
 ghost use Rattle.dns_session.specs.Lines.{header_line, moment_line, algorithms_line, accept_in, accept_line, end_line, words_left, bytes_in};
 
 use crate::form::LineForm;
-use crate::session::Accept;
+use crate::session::AcceptedSignature;
 use crate::words::{after, next_word, quadruple, single};
 use dns_name::NoMemory;
 use dns_words::{decimal_in, octets_in, u8_in};
@@ -70,7 +70,7 @@ fn accept_of(
     key: &[u8],
     bytes: &[u8],
     signature: &[u8],
-) -> Result<Option<Accept>, NoMemory>
+) -> Result<Option<AcceptedSignature>, NoMemory>
     ensures { IfOk result (λ x. x ≡ accept_in algorithm.now key.now bytes.now signature.now) }
 {
     let Some(algorithm) = u8_in(algorithm) else {
@@ -85,7 +85,7 @@ fn accept_of(
     let Some(signature) = octets_in(alloc, signature)? else {
         return Ok(None);
     };
-    Ok(Some(Accept {
+    Ok(Some(AcceptedSignature {
         algorithm,
         key,
         bytes,
@@ -93,10 +93,10 @@ fn accept_of(
     }))
 }
 
-impl LineForm for Accept {
+impl LineForm for AcceptedSignature {
     ghost form = { accept_line };
 
-    fn read(alloc: Global, line: &[u8]) -> Result<Option<Accept>, NoMemory> {
+    fn read(alloc: Global, line: &[u8]) -> Result<Option<AcceptedSignature>, NoMemory> {
         match after(line, b"accept") {
             Some(rest) => match quadruple(rest) {
                 Some((algorithm, key, bytes, signature)) => {

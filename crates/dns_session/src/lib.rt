@@ -11,7 +11,7 @@ mod stop;
 mod words;
 
 pub use reading::read_session;
-pub use session::{Accept, Anchor, Reply, Session};
+pub use session::{AcceptedSignature, Anchor, Reply, Session};
 pub use stop::SessionStop;
 
 #[cfg(test)]

@@ -1,7 +1,7 @@
 ghost use Rattle.std.specs.Prelude.{◌≡◌, ◌∷◌, ◌+◌, ◌<◌, ◌≤◌, ◌==◌, ◌^◌, [], false, length, take, position, MatchOption, IfSome};
 ghost use Rattle.std.specs.List.{list_any};
 ghost use Rattle.std.specs.Option.{option_map};
-ghost use Rattle.dns_session.specs.Places.{pieces, next_line, start_of, is_ended};
+ghost use Rattle.dns_session.specs.LinePlaces.{pieces, next_line, start_of, is_ended};
 
 use std::marker::Model;
 
@@ -72,7 +72,7 @@ pub(crate) struct Lines<'a> {
 
 impl<'a> Model for Lines<'a> {
     ghost use Rattle.std.specs.Prelude.{length, ◌+◌, ◌≤◌, ◌<◌, ◌^◌};
-    ghost use Rattle.dns_session.specs.Places.{Place, place, pieces};
+    ghost use Rattle.dns_session.specs.LinePlaces.{Place, place, pieces};
 
     ghost Value = { Place };
 

@@ -11,13 +11,13 @@ use dns_words::{name_in, octets_in, type_in, u8_in};
 use std::alloc::Global;
 
 /// A question of class IN by its words.
-fn question_of(alloc: Global, name: &[u8], kind: &[u8]) -> Result<Option<Query>, NoMemory>
-    ensures { IfOk result (λ q. q ≡ question_in name.now kind.now) }
+fn question_of(alloc: Global, name: &[u8], record_type: &[u8]) -> Result<Option<Query>, NoMemory>
+    ensures { IfOk result (λ q. q ≡ question_in name.now record_type.now) }
 {
     let Some(name) = name_in(alloc, name)? else {
         return Ok(None);
     };
-    let Some(query_type) = type_in(kind) else {
+    let Some(query_type) = type_in(record_type) else {
         return Ok(None);
     };
     Ok(Some(Query {
@@ -56,13 +56,13 @@ fn anchor_of(
 fn reply_of(
     alloc: Global,
     name: &[u8],
-    kind: &[u8],
+    record_type: &[u8],
     message: &[u8],
 ) -> Result<Option<Reply>, NoMemory>
     requires { length message.now < 2 ^ 32 }
-    ensures { IfOk result (λ r. r ≡ reply_in name.now kind.now message.now) }
+    ensures { IfOk result (λ r. r ≡ reply_in name.now record_type.now message.now) }
 {
-    let Some(query) = question_of(alloc, name, kind)? else {
+    let Some(query) = question_of(alloc, name, record_type)? else {
         return Ok(None);
     };
     let Some(bytes) = octets_in(alloc, message)? else {
@@ -107,7 +107,7 @@ pub(crate) fn query_of(alloc: Global, line: &[u8]) -> Result<Option<Query>, NoMe
 {
     match after(line, b"query") {
         Some(rest) => match double(rest) {
-            Some((name, kind)) => question_of(alloc, name, kind),
+            Some((name, record_type)) => question_of(alloc, name, record_type),
             None => Ok(None),
         },
         None => Ok(None),
@@ -120,7 +120,7 @@ impl LineForm for Reply {
     fn read(alloc: Global, line: &[u8]) -> Result<Option<Reply>, NoMemory> {
         match after(line, b"reply") {
             Some(rest) => match triple(rest) {
-                Some((name, kind, message)) => reply_of(alloc, name, kind, message),
+                Some((name, record_type, message)) => reply_of(alloc, name, record_type, message),
                 None => Ok(None),
             },
             None => Ok(None),

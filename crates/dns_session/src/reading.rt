@@ -1,5 +1,5 @@
 ghost use Rattle.std.specs.Prelude.{◌≡◌, ◌<◌, ◌^◌, length};
-ghost use Rattle.dns_session.specs.Places.{one, Place};
+ghost use Rattle.dns_session.specs.LinePlaces.{one, Place};
 ghost use Rattle.dns_session.specs.Lines.{header_line, moment_line, algorithms_line, query_line, end_line};
 ghost use Rattle.dns_session.specs.Grammar.{session_of};
 ghost use Rattle.dns_session.specs.Stops.{ReadsAs};
@@ -14,7 +14,7 @@ use dns_record::Query;
 use std::alloc::Global;
 
 /// The lines after the first.
-#[tactic(auto, unfolding(crate::specs::Places::one))]
+#[tactic(auto, unfolding(crate::specs::LinePlaces::one))]
 fn after_header<'a>(lines: Lines<'a>) -> Result<Lines<'a>, SessionStop>
     ensures { ReadsAs (λ (after : Place). (tt, after)) result (one header_line lines.entry) }
 {
@@ -26,7 +26,7 @@ fn after_header<'a>(lines: Lines<'a>) -> Result<Lines<'a>, SessionStop>
 }
 
 /// The moment, and the lines after it.
-#[tactic(auto, unfolding(crate::specs::Places::one))]
+#[tactic(auto, unfolding(crate::specs::LinePlaces::one))]
 fn one_moment<'a>(lines: Lines<'a>) -> Result<(u64, Lines<'a>), SessionStop>
     ensures { ReadsAs (λ x. x) result (one moment_line lines.entry) }
 {
@@ -41,7 +41,7 @@ fn one_moment<'a>(lines: Lines<'a>) -> Result<(u64, Lines<'a>), SessionStop>
 }
 
 /// The supported algorithms, and the lines after them.
-#[tactic(auto, unfolding(crate::specs::Places::one))]
+#[tactic(auto, unfolding(crate::specs::LinePlaces::one))]
 fn one_algorithms<'a>(alloc: Global, lines: Lines<'a>) -> Result<(Vec<u8>, Lines<'a>), SessionStop>
     ensures { ReadsAs (λ x. (x.0.items, x.1)) result (one algorithms_line lines.entry) }
 {
@@ -56,7 +56,7 @@ fn one_algorithms<'a>(alloc: Global, lines: Lines<'a>) -> Result<(Vec<u8>, Lines
 }
 
 /// The query, and the lines after it.
-#[tactic(auto, unfolding(crate::specs::Places::one))]
+#[tactic(auto, unfolding(crate::specs::LinePlaces::one))]
 fn one_query<'a>(alloc: Global, lines: Lines<'a>) -> Result<(Query, Lines<'a>), SessionStop>
     ensures { ReadsAs (λ x. x) result (one query_line lines.entry) }
 {
@@ -71,7 +71,7 @@ fn one_query<'a>(alloc: Global, lines: Lines<'a>) -> Result<(Query, Lines<'a>), 
 }
 
 /// The lines after the last of the form.
-#[tactic(auto, unfolding(crate::specs::Places::one))]
+#[tactic(auto, unfolding(crate::specs::LinePlaces::one))]
 fn after_end<'a>(lines: Lines<'a>) -> Result<Lines<'a>, SessionStop>
     ensures { ReadsAs (λ (after : Place). (tt, after)) result (one end_line lines.entry) }
 {

@@ -16,14 +16,14 @@ pub struct Anchor {
 impl Model for Anchor {
     ghost use Rattle.dns_model.specs.Keys as keys;
 
-    ghost Value = { keys.Anchor };
+    ghost Value = { keys.AnchorValue };
 
     ghost view = { λ a. record { owner = a.owner; algorithm = a.algorithm; key = a.key } };
 }
 
 /// A signature that a verifier accepts.
 #[derive(Drop)]
-pub struct Accept {
+pub struct AcceptedSignature {
     pub algorithm: u8,
     /// The public key alone.
     pub key: Octets,
@@ -32,10 +32,10 @@ pub struct Accept {
     pub signature: Octets,
 }
 
-impl Model for Accept {
-    ghost use Rattle.dns_session.specs.SessionText.{AcceptText};
+impl Model for AcceptedSignature {
+    ghost use Rattle.dns_session.specs.SessionValue.{AcceptedSignatureValue};
 
-    ghost Value = { AcceptText };
+    ghost Value = { AcceptedSignatureValue };
 
     ghost view = { λ a. record { algorithm = a.algorithm; key = a.key; bytes = a.bytes; signature = a.signature } };
 }
@@ -49,9 +49,9 @@ pub struct Reply {
 }
 
 impl Model for Reply {
-    ghost use Rattle.dns_session.specs.SessionText.{ReplyText};
+    ghost use Rattle.dns_session.specs.SessionValue.{ReplyValue};
 
-    ghost Value = { ReplyText };
+    ghost Value = { ReplyValue };
 
     ghost view = { λ r. record { question = r.query; message = r.message } };
 }
@@ -64,16 +64,16 @@ pub struct Session {
     /// The algorithms that the verifier supports.
     pub algorithms: Vec<u8>,
     pub anchors: Vec<Anchor>,
-    pub accepts: Vec<Accept>,
+    pub accepts: Vec<AcceptedSignature>,
     pub query: Query,
     /// The first reply to a question serves it.
     pub replies: Vec<Reply>,
 }
 
 impl Model for Session {
-    ghost use Rattle.dns_session.specs.SessionText.{SessionText};
+    ghost use Rattle.dns_session.specs.SessionValue.{SessionValue};
 
-    ghost Value = { SessionText };
+    ghost Value = { SessionValue };
 
     ghost view = { λ s. record {
       moment = s.moment;

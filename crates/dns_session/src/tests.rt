@@ -217,7 +217,7 @@ fn is_the_anchor(anchor: &Anchor) -> bool {
         && anchor.key.as_slice() == b"\xaa\xbb".as_slice()
 }
 
-fn is_the_accepted(accept: &Accept) -> bool {
+fn is_the_accepted(accept: &AcceptedSignature) -> bool {
     accept.algorithm == 13
         && accept.key.as_slice() == b"\xaa\xbb".as_slice()
         && accept.bytes.as_slice().len() == 33
@@ -322,7 +322,7 @@ fn has_anchor(anchors: &[Anchor], owner: &[u8], key: &[u8]) -> bool {
     }
 }
 
-fn has_accept(accepts: &[Accept], bytes: u8, signature: u8) -> bool {
+fn has_accept(accepts: &[AcceptedSignature], bytes: u8, signature: u8) -> bool {
     match accepts {
         [accept] => {
             accept.algorithm == 13

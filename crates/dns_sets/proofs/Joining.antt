@@ -9,7 +9,7 @@ use Rattle.dns_model.specs.Records.{Rr, RrSet}
 use Rattle.dns_model.specs.Sections.{same_set, is_signature, leaders, unsigned_part}
 use Rattle.dns_model.proofs.EachLemmas.{Apart, each_more, each_of, map_agree, map-map, apart_map}
 use Rattle.dns_model.proofs.SetLemmas.{same_set_left, same_set_refl, leaders_apart, same_key, name_back, name_trans, number_same, number_refl}
-use Rattle.dns_sets.specs.Joining.{is_at, touched, with_record, single, joined_by, met_by, bare_set, bare_sets}
+use Rattle.dns_sets.specs.Joining.{is_at, touched, with_record, set_of_one, joined_by, met_by, bare_set, bare_sets}
 
 -- ---- changes of the first that passes
 
@@ -41,12 +41,12 @@ touched_map same p f one [] h = refl
 touched_map same p f one (x ∷ xs) h = touched_step same p f (p x) x xs one refl h.0 (touched_map same p f one xs h.1)
 
 -- two sets of one owner and type are alike
-pub at_single : (owner : Labels) (kind : ℕ) → Single same_key (is_at owner kind)
-at_single owner kind x y h k =
-    let a = and_parts (name_eq x.owner owner) (x.kind == kind) h in
-    let b = and_parts (name_eq y.owner owner) (y.kind == kind) k in
-    let same : x.kind ≡ y.kind = number_same x.kind kind a.1 ∙ sym (number_same y.kind kind b.1) in
-    and_from (name_eq x.owner y.owner) (x.kind == y.kind) (name_trans x.owner owner y.owner a.0 (name_back y.owner owner b.0)) (ap (λ k. x.kind == k) (sym same) ∙ number_refl x.kind)
+pub at_single : (owner : Labels) (rtype : ℕ) → Single same_key (is_at owner rtype)
+at_single owner rtype x y h k =
+    let a = and_parts (name_eq x.owner owner) (x.rtype == rtype) h in
+    let b = and_parts (name_eq y.owner owner) (y.rtype == rtype) k in
+    let same : x.rtype ≡ y.rtype = number_same x.rtype rtype a.1 ∙ sym (number_same y.rtype rtype b.1) in
+    and_from (name_eq x.owner y.owner) (x.rtype == y.rtype) (name_trans x.owner owner y.owner a.0 (name_back y.owner owner b.0)) (ap (λ k. x.rtype == k) (sym same) ∙ number_refl x.rtype)
 
 -- ---- leaders of a section with one more record
 
@@ -109,9 +109,9 @@ grown_step l r u rs false e = ap (λ xs. record (bare_set u l) { records = xs })
 
 -- a set grows where the record is its own
 bare_grown : (r : Rr) (u ls : List Rr)
-    → map (bare_set (u ++ r ∷ [])) ls ≡ map (λ s. cond (is_at r.owner r.kind s) (with_record r s) s) (map (bare_set u) ls)
+    → map (bare_set (u ++ r ∷ [])) ls ≡ map (λ s. cond (is_at r.owner r.rtype s) (with_record r s) s) (map (bare_set u) ls)
 bare_grown r u ls =
-    let F = λ (s : RrSet). cond (is_at r.owner r.kind s) (with_record r s) s in
+    let F = λ (s : RrSet). cond (is_at r.owner r.rtype s) (with_record r s) s in
     map_agree (bare_set (u ++ r ∷ [])) (λ l. F (bare_set u l)) ls
     (each_of (λ l. bare_set (u ++ r ∷ []) l ≡ F (bare_set u l))
     (λ l. grown_step l r u (filter (same_set l) (u ++ r ∷ [])) (same_set l r) (filter-append (same_set l) u (r ∷ []))) ls)
@@ -141,32 +141,32 @@ each_fails p (x ∷ xs) e =
     let parts = fails_step (p x) (list_any p xs) e in
     (parts.0, each_fails p xs parts.1)
 
-any_bare : (r : Rr) (u : List Rr) → list_any (is_at r.owner r.kind) (bare_sets u) ≡ is_led r u
-any_bare r u = any-map (is_at r.owner r.kind) (bare_set u) (leaders u) ∙ led-leaders u r
+any_bare : (r : Rr) (u : List Rr) → list_any (is_at r.owner r.rtype) (bare_sets u) ≡ is_led r u
+any_bare r u = any-map (is_at r.owner r.rtype) (bare_set u) (leaders u) ∙ led-leaders u r
 
 bare_apart : (u : List Rr) → Apart same_key (bare_sets u)
 bare_apart u = apart_map same_key (bare_set u) (leaders u) (leaders_apart u)
 
 bare_step : (r : Rr) (u : List Rr) (b : Bool) → is_led r u ≡ b
-    → bare_sets (u ++ r ∷ []) ≡ cond b (touched (is_at r.owner r.kind) (with_record r) (bare_sets u)) (bare_sets u ++ single r ∷ [])
+    → bare_sets (u ++ r ∷ []) ≡ cond b (touched (is_at r.owner r.rtype) (with_record r) (bare_sets u)) (bare_sets u ++ set_of_one r ∷ [])
 bare_step r u true e =
     ap (map (bare_set (u ++ r ∷ []))) (leaders-push u r ∙ ap (λ b. leaders u ++ cond b [] (r ∷ [])) e ∙ append-nil (leaders u))
     ∙ bare_grown r u (leaders u)
-    ∙ sym (touched_map same_key (is_at r.owner r.kind) (with_record r) (at_single r.owner r.kind) (bare_sets u) (bare_apart u))
+    ∙ sym (touched_map same_key (is_at r.owner r.rtype) (with_record r) (at_single r.owner r.rtype) (bare_sets u) (bare_apart u))
 bare_step r u false e =
     let whole = u ++ r ∷ [] in
-    let own : bare_set whole r ≡ single r =
-    ap (λ rs. record (single r) { records = rs }) (filter-append (same_set r) u (r ∷ []) ∙ ap (λ rs. rs ++ filter (same_set r) (r ∷ [])) (none_same r u e)
+    let own : bare_set whole r ≡ set_of_one r =
+    ap (λ rs. record (set_of_one r) { records = rs }) (filter-append (same_set r) u (r ∷ []) ∙ ap (λ rs. rs ++ filter (same_set r) (r ∷ [])) (none_same r u e)
     ∙ ap (λ b. cond b (r ∷ []) []) (same_set_refl r)) in
     ap (map (bare_set whole)) (leaders-push u r ∙ ap (λ b. leaders u ++ cond b [] (r ∷ [])) e)
     ∙ map-append (bare_set whole) (leaders u) (r ∷ [])
     ∙ ap (λ sets. sets ++ bare_set whole r ∷ [])
-    (bare_grown r u (leaders u) ∙ kept (is_at r.owner r.kind) (with_record r) (bare_sets u) (each_fails (is_at r.owner r.kind) (bare_sets u) (any_bare r u ∙ e)))
+    (bare_grown r u (leaders u) ∙ kept (is_at r.owner r.rtype) (with_record r) (bare_sets u) (each_fails (is_at r.owner r.rtype) (bare_sets u) (any_bare r u ∙ e)))
     ∙ ap (λ s. bare_sets u ++ s ∷ []) own
 
 -- the sets of records with one more
 pub bare-push : (r : Rr) (u : List Rr) → bare_sets (u ++ r ∷ []) ≡ joined_by r (bare_sets u)
-bare-push r u = bare_step r u (list_any (is_at r.owner r.kind) (bare_sets u)) (sym (any_bare r u))
+bare-push r u = bare_step r u (list_any (is_at r.owner r.rtype) (bare_sets u)) (sym (any_bare r u))
 
 met_step : (r : Rr) (u : List Rr) (b : Bool) → bare_sets (u ++ cond (not b) (r ∷ []) []) ≡ cond b (bare_sets u) (joined_by r (bare_sets u))
 met_step r u true = ap bare_sets (append-nil u)

@@ -4,36 +4,36 @@ use Rattle.std.proofs.lemmas.List.{take_more, length-take-le}
 use Rattle.dns_model.specs.declared.section.Section.{Section}
 use Rattle.dns_model.specs.Names.{Labels}
 use Rattle.dns_model.specs.Records.{Rr}
-use Rattle.dns_model.specs.Answers.{set_kind}
+use Rattle.dns_model.specs.SoundAnswers.{set_rtype}
 use Rattle.dns_judgement.specs.Judged.{Judged}
 use Rattle.dns_judgement.specs.Marking.{cleared, marked, marked_by}
-use Rattle.dns_sets.specs.declared.places.Places.{Places}
-use Rattle.dns_sets.specs.Places.{place_of, or_place, with_judged, place_in, is_placed, ArePlacedIn}
+use Rattle.dns_sets.specs.declared.set_places.SetPlaces.{SetPlaces}
+use Rattle.dns_sets.specs.SetPlaces.{place_of, or_place, with_judged, place_in, is_placed, ArePlacedIn}
 use Rattle.dns_sets.proofs.PlaceLemmas.{IsPlace, is_place, is_absent, place-push}
 
-pub set_at : (p : Places) (section : Section) (sets : List Judged) (owner : Labels) (kind n : ℕ) → ArePlacedIn p section sets → Some n ≡ place_of p owner kind
-    → IsPlace (is_placed section owner kind) sets n
-set_at p section sets owner kind n are is = is_place (is_placed section owner kind) sets n (sym (are.each owner kind) ∙ sym is)
+pub set_at : (p : SetPlaces) (section : Section) (sets : List Judged) (owner : Labels) (rtype n : ℕ) → ArePlacedIn p section sets → Some n ≡ place_of p owner rtype
+    → IsPlace (is_placed section owner rtype) sets n
+set_at p section sets owner rtype n are is = is_place (is_placed section owner rtype) sets n (sym (are.each owner rtype) ∙ sym is)
 
-pub marked_at : (p : Places) (now : ℕ) (section : Section) (sets : List Judged) (r s : Rr) (n : ℕ) (x : Judged) → ArePlacedIn p section sets
-    → Some n ≡ place_of p r.owner (set_kind r) → x ≡ get_or sets n x → s ≡ marked_by now r (Some x) → s ≡ marked now sets section r
+pub marked_at : (p : SetPlaces) (now : ℕ) (section : Section) (sets : List Judged) (r s : Rr) (n : ℕ) (x : Judged) → ArePlacedIn p section sets
+    → Some n ≡ place_of p r.owner (set_rtype r) → x ≡ get_or sets n x → s ≡ marked_by now r (Some x) → s ≡ marked now sets section r
 unfolding marked
 marked_at p now section sets r s n x are is read made =
-    made ∙ ap (marked_by now r) (sym ((set_at p section sets r.owner (set_kind r) n are is).found x read))
+    made ∙ ap (marked_by now r) (sym ((set_at p section sets r.owner (set_rtype r) n are is).found x read))
 
-pub marked_none : (p : Places) (now : ℕ) (section : Section) (sets : List Judged) (r s : Rr) → ArePlacedIn p section sets
-    → None ≡ place_of p r.owner (set_kind r) → s ≡ cleared r → s ≡ marked now sets section r
+pub marked_none : (p : SetPlaces) (now : ℕ) (section : Section) (sets : List Judged) (r s : Rr) → ArePlacedIn p section sets
+    → None ≡ place_of p r.owner (set_rtype r) → s ≡ cleared r → s ≡ marked now sets section r
 unfolding marked
 marked_none p now section sets r s are is made =
-    made ∙ ap (marked_by now r) (sym (is_absent (is_placed section r.owner (set_kind r)) sets (sym (are.each r.owner (set_kind r)) ∙ sym is)).missing)
+    made ∙ ap (marked_by now r) (sym (is_absent (is_placed section r.owner (set_rtype r)) sets (sym (are.each r.owner (set_rtype r)) ∙ sym is)).missing)
 
 -- ---- the places of judged sets
 
-pub none_placed : (p : Places) (section : Section) → ((o : Labels) (k : ℕ) → place_of p o k ≡ None) → ArePlacedIn p section []
+pub none_placed : (p : SetPlaces) (section : Section) → ((o : Labels) (k : ℕ) → place_of p o k ≡ None) → ArePlacedIn p section []
 unfolding place_in
 none_placed p section is = record { each = is }
 
-pub placed_more : (old new : Places) (section : Section) (sets : List Judged) (i : ℕ) (x : Judged) → i < length sets → x ≡ get_or sets i x
+pub placed_more : (old new : SetPlaces) (section : Section) (sets : List Judged) (i : ℕ) (x : Judged) → i < length sets → x ≡ get_or sets i x
     → ArePlacedIn old section (take i sets) → ((o : Labels) (k : ℕ) → place_of new o k ≡ with_judged (place_of old) section x i o k)
     → ArePlacedIn new section (take (i + 1) sets)
 placed_more old new section sets i x within read are is =

@@ -7,9 +7,9 @@ use Rattle.std.proofs.lemmas.List.{append-nil, take_more, take_all}
 use Rattle.std.proofs.lemmas.List.Elements.{filter-append}
 use Rattle.dns_model.specs.Names.{name_eq}
 use Rattle.dns_model.specs.Types.{type_rrsig}
-use Rattle.dns_model.specs.Views.{SigText, sig_in}
+use Rattle.dns_model.specs.Views.{RrsigValue, rrsig_in}
 use Rattle.dns_model.specs.Records.{Rr, RrSet}
-use Rattle.dns_model.specs.Sections.{same_set, is_signature, covers, covers_kind, leaders, unsigned_part, sets_of}
+use Rattle.dns_model.specs.Sections.{same_set, is_signature, covers, covers_rtype, leaders, unsigned_part, sets_of}
 use Rattle.dns_model.proofs.EachLemmas.{Apart, each_more, each_of, each_passes, map_agree, map-map, apart_map}
 use Rattle.dns_model.proofs.SetLemmas.{leaders_apart, same_key, each_leader, number_same}
 use Rattle.dns_sets.specs.Joining.{is_at, with_signature, signed_by, given, bare_set, bare_sets, part_set, part_sets}
@@ -21,8 +21,8 @@ use Rattle.dns_sets.proofs.Joining.{touched_map, at_single}
 abbrev pub set_with : List Rr → Rr → List Rr → RrSet
 set_with section l signatures = record (part_set section [] l) { signatures = signatures }
 
-abbrev pub is_covered : Rr → Bool → Option SigText → Rr → Bool
-is_covered r b o l = b && (name_eq l.owner r.owner && covers_kind l.kind o)
+abbrev pub is_covered : Rr → Bool → Option RrsigValue → Rr → Bool
+is_covered r b o l = b && (name_eq l.owner r.owner && covers_rtype l.rtype o)
 
 and_false : (b : Bool) → (b && false) ≡ false
 and_false true = refl
@@ -43,7 +43,7 @@ part_apart : (section front ls : List Rr) → Apart same_set ls → Apart same_k
 part_apart section front ls apart = apart_map same_key (part_set section front) ls apart
 
 -- a signature is given where it covers
-give_step : (section front : List Rr) (r : Rr) (ls : List Rr) (b : Bool) (o : Option SigText) → Apart same_set ls
+give_step : (section front : List Rr) (r : Rr) (ls : List Rr) (b : Bool) (o : Option RrsigValue) → Apart same_set ls
     → map (λ l. set_with section l (filter (covers l) front ++ cond (is_covered r b o l) (r ∷ []) [])) ls
     ≡ signed_by r (cond b o None) (map (part_set section front) ls)
 give_step section front r ls false o apart =
@@ -58,18 +58,18 @@ give_step section front r ls true (Some sig) apart =
     let F = λ (s : RrSet). cond (is_at r.owner sig.covered s) (with_signature r s) s in
     map_agree one (λ l. F (part_set section front l)) ls
     (each_of (λ l. one l ≡ F (part_set section front l))
-    (λ l. ap (λ b. set_with section l (filter (covers l) front ++ cond (name_eq l.owner r.owner && b) (r ∷ []) [])) (nat_eq_equiv.symm sig.covered l.kind)
-    ∙ signed_step section front l r (name_eq l.owner r.owner && (l.kind == sig.covered))) ls)
+    (λ l. ap (λ b. set_with section l (filter (covers l) front ++ cond (name_eq l.owner r.owner && b) (r ∷ []) [])) (nat_eq_equiv.symm sig.covered l.rtype)
+    ∙ signed_step section front l r (name_eq l.owner r.owner && (l.rtype == sig.covered))) ls)
     ∙ sym (map-map F (part_set section front) ls)
     ∙ sym (touched_map same_key (is_at r.owner sig.covered) (with_signature r) (at_single r.owner sig.covered) (map (part_set section front) ls) (part_apart section front ls apart))
 
 part-push : (section front : List Rr) (r : Rr) (ls : List Rr) → Apart same_set ls
     → map (part_set section (front ++ r ∷ [])) ls ≡ given r (map (part_set section front) ls)
 part-push section front r ls apart =
-    let one = λ (l : Rr). set_with section l (filter (covers l) front ++ cond (is_covered r (is_signature r) (sig_in r.rdata) l) (r ∷ []) []) in
+    let one = λ (l : Rr). set_with section l (filter (covers l) front ++ cond (is_covered r (is_signature r) (rrsig_in r.rdata) l) (r ∷ []) []) in
     map_agree (part_set section (front ++ r ∷ [])) one ls
     (each_of (λ l. part_set section (front ++ r ∷ []) l ≡ one l) (λ l. ap (set_with section l) (filter-append (covers l) front (r ∷ []))) ls)
-    ∙ give_step section front r ls (is_signature r) (sig_in r.rdata) apart
+    ∙ give_step section front r ls (is_signature r) (rrsig_in r.rdata) apart
 
 -- the signatures that were given, with one more
 pub part_more : (section : List Rr) (i : ℕ) (r : Rr) → i < length section → r ≡ get_or section i r
@@ -83,8 +83,8 @@ part_more section i r within read =
 plain_step : (l x : Rr) (b c : Bool) (rest all : List Rr) → not (is_signature l) ≡ true → is_signature x ≡ b → same_set l x ≡ c → filter (same_set l) rest ≡ all
     → filter (same_set l) (cond (not b) (x ∷ rest) rest) ≡ cond c (x ∷ all) all
 plain_step l x true true rest all plain e h later =
-    let parts = and_parts (name_eq l.owner x.owner) (l.kind == x.kind) h in
-    let same : is_signature l ≡ true = ap (λ k. k == type_rrsig) (number_same l.kind x.kind parts.1) ∙ e in
+    let parts = and_parts (name_eq l.owner x.owner) (l.rtype == x.rtype) h in
+    let same : is_signature l ≡ true = ap (λ k. k == type_rrsig) (number_same l.rtype x.rtype parts.1) ∙ e in
     cc
 plain_step l x true false rest all plain e h later = later
 plain_step l x false c rest all plain e h later = ap (λ b. cond b (x ∷ filter (same_set l) rest) (filter (same_set l) rest)) h ∙ ap (λ ys. cond c (x ∷ ys) ys) later

@@ -3,14 +3,14 @@ use Rattle.std.specs.Prelude.{ℕ, ◌+◌, Bool, ◌==◌, ◌&&◌, List, [], 
 use Rattle.std.specs.List.{filter, list_any}
 use Rattle.dns_model.specs.Names.{Labels, name_eq}
 use Rattle.dns_model.specs.Types.{type_rrsig}
-use Rattle.dns_model.specs.Views.{SigText, sig_in}
+use Rattle.dns_model.specs.Views.{RrsigValue, rrsig_in}
 use Rattle.dns_model.specs.Records.{Rr, RrSet}
 use Rattle.dns_model.specs.Sections.{is_signature, same_set, covers, leaders, unsigned_part}
-use Rattle.dns_signing.specs.ReadAs.{read_as}
+use Rattle.dns_rdata.specs.ReadAs.{read_as}
 
 -- a set of this owner and type
 abbrev pub is_at : Labels → ℕ → RrSet → Bool
-is_at owner kind set = name_eq set.owner owner && (set.kind == kind)
+is_at owner rtype set = name_eq set.owner owner && (set.rtype == rtype)
 
 -- the first that passes is changed
 unfoldable pub touched : {X : Type 0} → (X → Bool) → (X → X) → List X → List X
@@ -24,29 +24,29 @@ abbrev pub with_signature : Rr → RrSet → RrSet
 with_signature r set = record set { signatures = set.signatures ++ r ∷ [] }
 
 -- the set of one record
-abbrev pub single : Rr → RrSet
-single r = record { owner = r.owner; kind = r.kind; class = r.class; records = r ∷ []; signatures = [] }
+abbrev pub set_of_one : Rr → RrSet
+set_of_one r = record { owner = r.owner; rtype = r.rtype; class = r.class; records = r ∷ []; signatures = [] }
 
 -- the record joins the first set of its owner and type, or stands in a set of its own
 abbrev pub joined_by : Rr → List RrSet → List RrSet
 joined_by r sets =
-    if list_any (is_at r.owner r.kind) sets then touched (is_at r.owner r.kind) (with_record r) sets else sets ++ single r ∷ []
+    if list_any (is_at r.owner r.rtype) sets then touched (is_at r.owner r.rtype) (with_record r) sets else sets ++ set_of_one r ∷ []
 
 -- a signature joins no set
 abbrev pub met_by : Rr → List RrSet → List RrSet
 met_by r sets = if is_signature r then sets else joined_by r sets
 
-abbrev pub signed_by : Rr → Option SigText → List RrSet → List RrSet
+abbrev pub signed_by : Rr → Option RrsigValue → List RrSet → List RrSet
 signed_by r None sets = sets
 signed_by r (Some sig) sets = touched (is_at r.owner sig.covered) (with_signature r) sets
 
 -- a signature that can be read is given to the first set that it covers
 abbrev pub given : Rr → List RrSet → List RrSet
-given r sets = signed_by r (read_as type_rrsig sig_in r) sets
+given r sets = signed_by r (read_as type_rrsig rrsig_in r) sets
 
 -- the set of the first record of an owner and type, without signatures
 abbrev pub bare_set : List Rr → Rr → RrSet
-bare_set records r = record { owner = r.owner; kind = r.kind; class = r.class; records = filter (same_set r) records; signatures = [] }
+bare_set records r = record { owner = r.owner; rtype = r.rtype; class = r.class; records = filter (same_set r) records; signatures = [] }
 
 -- the sets of records that are no signatures
 abbrev pub bare_sets : List Rr → List RrSet
@@ -56,7 +56,7 @@ bare_sets records = map (bare_set records) (leaders records)
 abbrev pub part_set : List Rr → List Rr → Rr → RrSet
 part_set section front r = record {
   owner = r.owner;
-  kind = r.kind;
+  rtype = r.rtype;
   class = r.class;
   records = filter (same_set r) section;
   signatures = filter (covers r) front;

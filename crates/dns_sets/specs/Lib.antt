@@ -1,4 +1,4 @@
 pub mod Outcome
 pub mod Joining
-pub mod Places
+pub mod SetPlaces
 pub mod Depth

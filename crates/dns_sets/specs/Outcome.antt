@@ -3,7 +3,7 @@ use Rattle.dns_judgement.specs.Outcome as outcome
 use Rattle.dns_sets.specs.declared.outcome.Outcome.{Outcome}
 use Rattle.dns_sets.specs.declared.outcome.Outcome.TheVariants.{Unjudged, Accepted, Denied}
 
-abbrev pub outcome_text : Outcome → outcome.Outcome
-outcome_text Unjudged = outcome.Unjudged
-outcome_text (Accepted denial) = outcome.Accepted denial
-outcome_text (Denied proof) = outcome.Denied proof
+abbrev pub outcome_value : Outcome → outcome.Outcome
+outcome_value Unjudged = outcome.Unjudged
+outcome_value (Accepted denial) = outcome.Accepted denial
+outcome_value (Denied proof) = outcome.Denied proof

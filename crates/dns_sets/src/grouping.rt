@@ -1,21 +1,21 @@
 ghost use Rattle.std.specs.Prelude.{◌≡◌, ◌++◌, IfOk, OnOk, map};
 ghost use Rattle.dns_model.specs.Sections.{sets_of};
-ghost use Rattle.dns_model.specs.Answers.{told_by, place};
+ghost use Rattle.dns_model.specs.SoundAnswers.{told_by, in_section};
 ghost use Rattle.dns_judgement.specs.Marking.{cleared, cleared_message};
 ghost use Rattle.dns_judgement.specs.Run.{judged_part};
 ghost use Rattle.dns_sets.specs.Depth.{is_judged_at as is_judged_at_depth, judged_at};
 ghost use Rattle.dns_sets.specs.Joining.{joined_by, met_by, given, with_record as record_added, with_signature as signature_added};
 ghost use Rattle.dns_model.specs.Types.{type_rrsig};
-ghost use Rattle.dns_model.specs.Views.{sig_in};
-ghost use Rattle.dns_signing.specs.ReadAs.{read_as};
-ghost use Rattle.dns_sets.specs.Places.{ArePlaces, place_of, place_covered};
+ghost use Rattle.dns_model.specs.Views.{rrsig_in};
+ghost use Rattle.dns_rdata.specs.ReadAs.{read_as};
+ghost use Rattle.dns_sets.specs.SetPlaces.{ArePlaces, place_of, place_covered};
 
 use crate::PlacedSet;
-use crate::places::Places;
+use crate::set_places::SetPlaces;
 use dns_message::Message;
 use dns_name::NoMemory;
+use dns_rdata::Rrsig;
 use dns_record::{Proof, Record, RecordSet, RecordType, Section};
-use dns_signing::Rrsig;
 use std::alloc::Global;
 
 /// Takes every mark off the records of a message, so that none from outside is believed.
@@ -87,7 +87,7 @@ fn add_signature(set: &mut RecordSet, next: Record) -> Result<(), NoMemory>
 fn join<'a>(
     alloc: Global,
     sets: &mut Vec<RecordSet>,
-    places: &mut Places<'a>,
+    places: &mut SetPlaces<'a>,
     met: &'a Record,
 ) -> Result<(), NoMemory>
     requires { ArePlaces places.old sets.old.items }
@@ -113,7 +113,7 @@ fn join<'a>(
 fn meet<'a>(
     alloc: Global,
     sets: &mut Vec<RecordSet>,
-    places: &mut Places<'a>,
+    places: &mut SetPlaces<'a>,
     met: &'a Record,
 ) -> Result<(), NoMemory>
     requires { ArePlaces places.old sets.old.items }
@@ -127,7 +127,11 @@ fn meet<'a>(
 }
 
 // Gives a signature that can be read to the set that it covers.
-fn give<'a>(sets: &mut Vec<RecordSet>, places: &Places<'a>, met: &'a Record) -> Result<(), NoMemory>
+fn give<'a>(
+    sets: &mut Vec<RecordSet>,
+    places: &SetPlaces<'a>,
+    met: &'a Record,
+) -> Result<(), NoMemory>
     requires { ArePlaces places.now sets.old.items }
     ensures sets { OnOk result (sets.new.items ≡ given met.now sets.old.items) }
     ensures places { OnOk result (ArePlaces places.now sets.new.items) }
@@ -143,8 +147,8 @@ fn give<'a>(sets: &mut Vec<RecordSet>, places: &Places<'a>, met: &'a Record) -> 
 }
 
 // The place of the set that a signature covers.
-fn covered_place<'a>(places: &Places<'a>, met: &'a Record) -> Option<usize>
-    ensures { result ≡ place_covered (place_of places.now) met.now.owner (read_as type_rrsig sig_in met.now) }
+fn covered_place<'a>(places: &SetPlaces<'a>, met: &'a Record) -> Option<usize>
+    ensures { result ≡ place_covered (place_of places.now) met.now.owner (read_as type_rrsig rrsig_in met.now) }
 {
     let sig = Rrsig::of(met)?;
     places.get(&met.name, sig.type_covered)
@@ -155,7 +159,7 @@ fn sets_in<'a>(alloc: Global, section: &'a [Record]) -> Result<Vec<RecordSet>, N
     ensures { IfOk result (λ v. v.items ≡ sets_of section.now) }
 {
     let mut sets = Vec::new(alloc);
-    let mut places = Places::new(alloc);
+    let mut places = SetPlaces::new(alloc);
     'records: for met in section {
         meet(alloc, &mut sets, &mut places, met)?;
     }
@@ -166,15 +170,15 @@ fn sets_in<'a>(alloc: Global, section: &'a [Record]) -> Result<Vec<RecordSet>, N
 }
 
 // Whether a type's sets are judged at a depth.
-fn is_judged_at(depth: u16, kind: RecordType) -> bool
-    ensures { result ≡ is_judged_at_depth depth kind.0 }
+fn is_judged_at(depth: u16, record_type: RecordType) -> bool
+    ensures { result ≡ is_judged_at_depth depth record_type.0 }
 {
     depth == 0
-        || kind == RecordType::DNSKEY
-        || kind == RecordType::DS
-        || kind == RecordType::NSEC
-        || kind == RecordType::NSEC3
-        || kind == RecordType::SOA
+        || record_type == RecordType::DNSKEY
+        || record_type == RecordType::DS
+        || record_type == RecordType::NSEC
+        || record_type == RecordType::NSEC3
+        || record_type == RecordType::SOA
 }
 
 // Adds the sets of a section that are judged at a depth.
@@ -184,7 +188,7 @@ fn place_all(
     section: Section,
     sets: Vec<RecordSet>,
 ) -> Result<(), NoMemory>
-    ensures { OnOk result (into.new.items ≡ into.old.items ++ judged_at depth (map (place section) sets.items)) }
+    ensures { OnOk result (into.new.items ≡ into.old.items ++ judged_at depth (map (in_section section) sets.items)) }
 {
     for set in sets {
         if is_judged_at(depth, set.record_type) {
@@ -202,7 +206,7 @@ fn place_section(
     section: Section,
     records: &[Record],
 ) -> Result<(), NoMemory>
-    ensures { OnOk result (into.new.items ≡ into.old.items ++ judged_at depth (map (place section) (sets_of records.now))) }
+    ensures { OnOk result (into.new.items ≡ into.old.items ++ judged_at depth (map (in_section section) (sets_of records.now))) }
 {
     let sets = sets_in(alloc, records)?;
     place_all(into, depth, section, sets)

@@ -10,7 +10,7 @@ pub struct PlacedSet {
 }
 
 impl Model for PlacedSet {
-    ghost use Rattle.dns_model.specs.Answers.{Placed};
+    ghost use Rattle.dns_model.specs.SoundAnswers.{Placed};
 
     ghost Value = { Placed };
 
@@ -31,10 +31,10 @@ pub struct JudgedSet {
 
 impl Model for JudgedSet {
     ghost use Rattle.std.specs.Prelude.{map};
-    ghost use Rattle.dns_net.specs.Link.{fact_of};
+    ghost use Rattle.dns_net.specs.Link.{link_value};
     ghost use Rattle.dns_judgement.specs.Judged.{Judged};
 
     ghost Value = { Judged };
 
-    ghost view = { λ j. record { section = j.section; set = j.set; mark = j.mark; sig = j.sig; chain = map fact_of j.chain.items } };
+    ghost view = { λ j. record { section = j.section; set = j.set; mark = j.mark; sig = j.sig; chain = map link_value j.chain.items } };
 }

@@ -10,7 +10,7 @@ mod marking_tests;
 mod outcome;
 #[cfg(test)]
 mod outcome_tests;
-mod places;
+mod set_places;
 #[cfg(test)]
 mod tests;
 

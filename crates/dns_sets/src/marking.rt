@@ -1,21 +1,21 @@
 ghost use Rattle.std.specs.Prelude.{◌≡◌, ℕ, IfOk, OnOk, map, Some};
 ghost use Rattle.dns_model.specs.Names.{Labels};
-ghost use Rattle.dns_model.specs.Views.{sig_in};
+ghost use Rattle.dns_model.specs.Views.{rrsig_in};
 ghost use Rattle.dns_model.specs.Serial.{distance, moment_number};
-ghost use Rattle.dns_model.specs.Answers.{section_eq, ttl_of, set_kind as set_kind_of, signed_ttl as signed_ttl_of};
+ghost use Rattle.dns_model.specs.SoundAnswers.{section_eq, ttl_of, set_rtype as set_rtype_of, signed_ttl as signed_ttl_of};
 ghost use Rattle.dns_judgement.specs.Judged.{decider as decider_of};
-ghost use Rattle.dns_judgement.specs.Marking.{finished as finished_text, marked, marked_by, is_record, first_of, adjusted_ttl as adjusted_ttl_of, chains_of as chains_in};
-ghost use Rattle.dns_sets.specs.Places.{ArePlacedIn, place_of, with_judged};
+ghost use Rattle.dns_judgement.specs.Marking.{finished as finished_value, marked, marked_by, is_record, first_record, adjusted_ttl as adjusted_ttl_of, chains_of as chains_in};
+ghost use Rattle.dns_sets.specs.SetPlaces.{ArePlacedIn, place_of, with_judged};
 
 use crate::JudgedSet;
 use crate::grouping::clear_one;
 use crate::outcome::decider;
-use crate::places::Places;
+use crate::set_places::SetPlaces;
 use dns_message::Message;
 use dns_name::NoMemory;
 use dns_net::{Chain, DnsResponse};
+use dns_rdata::Rrsig;
 use dns_record::{Denial, Proof, Record, RecordType, Section};
-use dns_signing::Rrsig;
 use std::alloc::Global;
 
 /// The answer of a judged step: its message with the marks and ttls that its sets leave to each record, and the chains of
@@ -27,7 +27,7 @@ pub fn finished(
     message: Message,
     denial: Denial,
 ) -> Result<DnsResponse, NoMemory>
-    ensures { IfOk result (λ r. r ≡ finished_text now sets.items message denial) }
+    ensures { IfOk result (λ r. r ≡ finished_value now sets.items message denial) }
 {
     let mut message = message;
     mark_section(alloc, now, &sets, Section::Answer, &mut message.answers)?;
@@ -91,10 +91,10 @@ fn judged_places<'a>(
     alloc: Global,
     sets: &'a [JudgedSet],
     section: Section,
-) -> Result<Places<'a>, NoMemory>
+) -> Result<SetPlaces<'a>, NoMemory>
     ensures { IfOk result (λ p. ArePlacedIn p section sets.now) }
 {
-    let mut places = Places::new(alloc);
+    let mut places = SetPlaces::new(alloc);
     for (place, judged) in sets.iter().enumerate() {
         add_judged(&mut places, section, judged, place)?;
     }
@@ -103,7 +103,7 @@ fn judged_places<'a>(
 
 // Gives a set of the section its place.
 fn add_judged<'a>(
-    places: &mut Places<'a>,
+    places: &mut SetPlaces<'a>,
     section: Section,
     judged: &'a JudgedSet,
     place: usize,
@@ -123,8 +123,8 @@ fn is_section(one: Section, other: Section) -> bool
 }
 
 // The type of the set that a record belongs to, or that it covers as a signature.
-fn set_kind(of: &Record) -> RecordType
-    ensures { result.0 ≡ set_kind_of of.now }
+fn set_rtype(of: &Record) -> RecordType
+    ensures { result.0 ≡ set_rtype_of of.now }
 {
     match Rrsig::of(of) {
         Some(sig) => sig.type_covered,
@@ -133,7 +133,7 @@ fn set_kind(of: &Record) -> RecordType
 }
 
 // Gives a record the mark of its set, by the place of the set.
-fn mark(now: u64, sets: &[JudgedSet], places: &Places, section: Section, next: &mut Record)
+fn mark(now: u64, sets: &[JudgedSet], places: &SetPlaces, section: Section, next: &mut Record)
     requires { ArePlacedIn places.now section sets.now }
     ensures { next.new ≡ marked now sets.now section next.old }
 {
@@ -144,10 +144,10 @@ fn mark(now: u64, sets: &[JudgedSet], places: &Places, section: Section, next: &
 }
 
 // The place of the set that a record belongs to, or that it covers.
-fn place_of_set(places: &Places, next: &Record) -> Option<usize>
-    ensures { result ≡ place_of places.now next.now.owner (set_kind_of next.now) }
+fn place_of_set(places: &SetPlaces, next: &Record) -> Option<usize>
+    ensures { result ≡ place_of places.now next.now.owner (set_rtype_of next.now) }
 {
-    places.get(&next.name, set_kind(next))
+    places.get(&next.name, set_rtype(next))
 }
 
 // Gives a record the mark of this set; a signature only where it decided.
@@ -187,7 +187,7 @@ fn adjusted_ttl(now: u64, judged: &JudgedSet, next: &Record) -> u32
 
 // The ttl of the first record.
 fn first_ttl(records: &[Record]) -> u32
-    ensures { result ≡ ttl_of (first_of records.now) }
+    ensures { result ≡ ttl_of (first_record records.now) }
 {
     match records {
         [first, ..] => first.ttl,
@@ -197,7 +197,7 @@ fn first_ttl(records: &[Record]) -> u32
 
 // The ttl that a signature leaves to records, in seconds.
 fn signed_ttl(signature: &Record, now: u64) -> u32
-    ensures { result ≡ signed_ttl_of (sig_in signature.now.rdata) now }
+    ensures { result ≡ signed_ttl_of (rrsig_in signature.now.rdata) now }
 {
     match Rrsig::read(signature.rdata.as_slice()) {
         Some(sig) => {

@@ -9,21 +9,21 @@ use std::test::Fail;
 const ADDRESS: Met = Met {
     section: Section::Answer,
     owner: "a.",
-    kind: A,
+    record_type: A,
     rdata: b"\x01\x01\x01\x01",
 };
 
 const SIGNATURE: Met = Met {
     section: Section::Answer,
     owner: "a.",
-    kind: RRSIG,
+    record_type: RRSIG,
     rdata: OVER_A,
 };
 
 const DECIDER: Met = Met {
     section: Section::Answer,
     owner: "a.",
-    kind: RRSIG,
+    record_type: RRSIG,
     rdata: OVER_A_TOO,
 };
 
@@ -32,7 +32,7 @@ const TOLD: [Met; 5] = [
     Met {
         section: Section::Answer,
         owner: "A.",
-        kind: A,
+        record_type: A,
         rdata: b"\x01\x01\x01\x01",
     },
     SIGNATURE,
@@ -40,13 +40,13 @@ const TOLD: [Met; 5] = [
     Met {
         section: Section::Answer,
         owner: "a.",
-        kind: TXT,
+        record_type: TXT,
         rdata: b"\0",
     },
     Met {
         section: Section::Authority,
         owner: "a.",
-        kind: A,
+        record_type: A,
         rdata: b"\x01\x01\x01\x01",
     },
 ];

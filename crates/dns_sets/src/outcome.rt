@@ -1,16 +1,16 @@
 ghost use Rattle.std.specs.Prelude.{◌≡◌};
 ghost use Rattle.std.specs.List.{list_any};
 ghost use Rattle.std.specs.Option.{option_copied};
-ghost use Rattle.dns_model.specs.Answers.{told_by};
-ghost use Rattle.dns_model.specs.Views.{sig_in};
+ghost use Rattle.dns_model.specs.SoundAnswers.{told_by};
+ghost use Rattle.dns_model.specs.Views.{rrsig_in};
 ghost use Rattle.dns_judgement.specs.Judged.{decider as decider_of};
-ghost use Rattle.dns_judgement.specs.Outcome.{outcome_of as told_outcome, foreign_record as foreign_in, answers_query as answers_asked, is_wildcard_signature as is_expanded_signature, needs_denial as wants_denial, is_expanded_by, is_expanded_text};
-ghost use Rattle.dns_sets.specs.Outcome.{outcome_text};
+ghost use Rattle.dns_judgement.specs.Outcome.{outcome_of as told_outcome, foreign_record as foreign_in, answers_query as answers_asked, is_wildcard_signature as is_expanded_signature, needs_denial as wants_denial, is_expanded_by, is_expanded_read};
+ghost use Rattle.dns_sets.specs.Outcome.{outcome_value};
 
 use crate::JudgedSet;
 use dns_message::Message;
+use dns_rdata::Rrsig;
 use dns_record::{Denial, Proof, Query, Record, RecordType};
-use dns_signing::Rrsig;
 
 /// How a judged step ends.
 #[derive(Clone, Copy, Debug, PartialEq, Eq)]
@@ -26,7 +26,7 @@ pub enum Outcome {
 /// How a step ends whose sets are judged (RFC 4035, 5.3.4 and 5.4).
 #[tactic(auto, unfolding(dns_judgement::specs::Outcome::outcome_of))]
 pub fn outcome_of(query: &Query, message: &Message, sets: &[JudgedSet]) -> Outcome
-    ensures { outcome_text result ≡ told_outcome query.now (told_by message.now) sets.now }
+    ensures { outcome_value result ≡ told_outcome query.now (told_by message.now) sets.now }
 {
     if !has_answer(query, &message.answers) || has_unjudged(sets) {
         Outcome::Unjudged
@@ -77,8 +77,10 @@ fn needs_denial(set: &JudgedSet) -> bool
     if set.mark != Proof::Secure {
         return false;
     }
-    let kind = set.set.record_type;
-    kind == RecordType::NSEC || kind == RecordType::NSEC3 || is_decided_by_wildcard(set)
+    let record_type = set.set.record_type;
+    record_type == RecordType::NSEC
+        || record_type == RecordType::NSEC3
+        || is_decided_by_wildcard(set)
 }
 
 // Whether the signature that decided has fewer labels than its owner.
@@ -103,7 +105,7 @@ pub(crate) fn decider<'a>(set: &'a JudgedSet) -> Option<&'a Record>
 
 // Whether a signature can be read and has fewer labels than its owner.
 fn is_expanded(signature: &Record) -> bool
-    ensures { result ≡ is_expanded_text signature.now.owner (sig_in signature.now.rdata) }
+    ensures { result ≡ is_expanded_read signature.now.owner (rrsig_in signature.now.rdata) }
 {
     match Rrsig::read(signature.rdata.as_slice()) {
         Some(sig) => sig.labels < signature.name.borrowed().num_labels(),

@@ -7,28 +7,28 @@ use std::test::Fail;
 const OTHER_NAME: Met = Met {
     section: Section::Answer,
     owner: "b.",
-    kind: A,
+    record_type: A,
     rdata: b"\x01",
 };
 
 const OTHER_TYPE: Met = Met {
     section: Section::Answer,
     owner: "a.",
-    kind: TXT,
+    record_type: TXT,
     rdata: b"\0",
 };
 
 const ALIAS: Met = Met {
     section: Section::Answer,
     owner: "a.",
-    kind: CNAME,
+    record_type: CNAME,
     rdata: b"\0",
 };
 
 const SIGNED: Met = Met {
     section: Section::Answer,
     owner: "a.",
-    kind: RRSIG,
+    record_type: RRSIG,
     rdata: OVER_CNAME,
 };
 
@@ -36,7 +36,7 @@ const SIGNED: Met = Met {
 const EXPANDED: Met = Met {
     section: Section::Answer,
     owner: "a.",
-    kind: RRSIG,
+    record_type: RRSIG,
     rdata: OVER_EXPANDED,
 };
 
@@ -65,12 +65,12 @@ fn a_step_ends_by_its_records(rt: HostRuntime) -> Result<(), Fail> {
 }
 
 /// The type of the first record of another class than the query's, where the additional section has a CH record of this type.
-fn foreign_type(alloc: Global, kind: u16) -> Result<Option<u16>, Fail> {
+fn foreign_type(alloc: Global, record_type: u16) -> Result<Option<u16>, Fail> {
     let query = query(alloc, "A.")?;
     let mut message = message(alloc, &ANSWERED)?;
-    if kind != 0 {
+    if record_type != 0 {
         let mut foreign = record(alloc, &OTHER_TYPE)?;
-        foreign.record_type.0 = kind;
+        foreign.record_type.0 = record_type;
         foreign.dns_class = DNSClass::CH;
         message.additionals.push(foreign)?;
     }

@@ -10,7 +10,7 @@ use std::test::Fail;
 pub(crate) struct Met {
     pub(crate) section: Section,
     pub(crate) owner: &'static str,
-    pub(crate) kind: u16,
+    pub(crate) record_type: u16,
     pub(crate) rdata: &'static [u8],
 }
 
@@ -45,7 +45,7 @@ pub(crate) fn record(alloc: Global, met: &Met) -> Result<Record, Fail> {
     }
     Ok(Record {
         name: Name::from_ascii(alloc, met.owner)?,
-        record_type: RecordType(met.kind),
+        record_type: RecordType(met.record_type),
         dns_class: DNSClass::IN,
         ttl: 300,
         rdata: Rdata::from_slice(alloc, met.rdata)?,
@@ -85,7 +85,7 @@ pub(crate) fn message(alloc: Global, records: &[Met]) -> Result<Message, Fail> {
 /// A set that is wanted: its section and type, and how many records and signatures it has.
 struct Grouped {
     section: Section,
-    kind: u16,
+    record_type: u16,
     records: usize,
     signatures: usize,
 }
@@ -93,25 +93,25 @@ struct Grouped {
 const GROUPED: [Grouped; 4] = [
     Grouped {
         section: Section::Answer,
-        kind: A,
+        record_type: A,
         records: 2,
         signatures: 1,
     },
     Grouped {
         section: Section::Answer,
-        kind: AAAA,
+        record_type: AAAA,
         records: 1,
         signatures: 0,
     },
     Grouped {
         section: Section::Authority,
-        kind: A,
+        record_type: A,
         records: 1,
         signatures: 0,
     },
     Grouped {
         section: Section::Authority,
-        kind: SOA,
+        record_type: SOA,
         records: 1,
         signatures: 0,
     },
@@ -120,7 +120,7 @@ const GROUPED: [Grouped; 4] = [
 /// The sets that are judged below the top, here the SOA record's alone.
 const GROUPED_BELOW: [Grouped; 1] = [Grouped {
     section: Section::Authority,
-    kind: SOA,
+    record_type: SOA,
     records: 1,
     signatures: 0,
 }];
@@ -131,62 +131,62 @@ const MET: [Met; 9] = [
     Met {
         section: Section::Answer,
         owner: "A.",
-        kind: RRSIG,
+        record_type: RRSIG,
         rdata: OVER_A,
     },
     Met {
         section: Section::Answer,
         owner: "a.",
-        kind: A,
+        record_type: A,
         rdata: b"\x01\x01\x01\x01",
     },
     Met {
         section: Section::Answer,
         owner: "a.",
-        kind: AAAA,
+        record_type: AAAA,
         rdata: b"\x02",
     },
     Met {
         section: Section::Answer,
         owner: "A.",
-        kind: A,
+        record_type: A,
         rdata: b"\x03\x03\x03\x03",
     },
     Met {
         section: Section::Answer,
         owner: "a.",
-        kind: RRSIG,
+        record_type: RRSIG,
         rdata: b"\0\x1c",
     },
     Met {
         section: Section::Answer,
         owner: "a.",
-        kind: RRSIG,
+        record_type: RRSIG,
         rdata: OVER_TXT,
     },
     Met {
         section: Section::Authority,
         owner: "a.",
-        kind: A,
+        record_type: A,
         rdata: b"\x04\x04\x04\x04",
     },
     Met {
         section: Section::Authority,
         owner: ".",
-        kind: SOA,
+        record_type: SOA,
         rdata: b"\x05",
     },
     Met {
         section: Section::Additional,
         owner: ".",
-        kind: RRSIG,
+        record_type: RRSIG,
         rdata: OVER_SOA,
     },
 ];
 
 fn is_grouped(placed: &PlacedSet, want: &Grouped) -> bool {
     placed.section == want.section
-        && placed.set.record_type.0 == want.kind
+        && placed.set.record_type.0 == want.record_type
         && placed.set.records.len() == want.records
         && placed.set.rrsigs.len() == want.signatures
 }

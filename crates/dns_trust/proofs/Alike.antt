@@ -7,10 +7,10 @@ use Rattle.std.proofs.lemmas.Bool.{and_parts, eqb-true}
 use Rattle.std.proofs.lemmas.List.{map-append, length-map}
 use Rattle.std.proofs.lemmas.Slice.Eq.{bytes_eq-Decides}
 use Rattle.dns_model.specs.Names.{Label, Labels, lowered, folded, name_eq, wire}
-use Rattle.dns_model.specs.Keys.{Anchor, bytes_eq, is_anchor}
+use Rattle.dns_model.specs.Keys.{AnchorValue, bytes_eq, is_anchor}
 use Rattle.dns_model.proofs.NameLemmas.{name_eq-Decides}
 use Rattle.dns_trust.specs.Finding.{mixed}
-use Rattle.dns_trust.specs.Listing.{AcceptedText, is_entry, number_of, entry_number}
+use Rattle.dns_trust.specs.Listing.{ListedSignatureValue, is_entry, signature_number, entry_number}
 use Rattle.dns_trust.specs.Anchoring.{anchor_number, number_of_anchor}
 
 -- the wire form in lower case, from the folded labels
@@ -29,7 +29,7 @@ pub wire_alike : (a b : Labels) → name_eq a b ≡ true → map to_ascii_lowerc
 wire_alike a b h = wire_lowered a ∙ ap lower_wire ((name_eq-Decides a b).0 h) ∙ sym (wire_lowered b)
 
 -- the number of an anchor that is equal
-pub anchor_alike : (owner : Labels) (algorithm : ℕ) (key : List ℕ) (anchor : Anchor) → is_anchor owner algorithm key anchor ≡ true
+pub anchor_alike : (owner : Labels) (algorithm : ℕ) (key : List ℕ) (anchor : AnchorValue) → is_anchor owner algorithm key anchor ≡ true
     → number_of_anchor anchor ≡ anchor_number owner algorithm key
 anchor_alike owner algorithm key anchor h =
     let one = and_parts (name_eq owner anchor.owner) ((algorithm == anchor.algorithm) && bytes_eq key anchor.key) h in
@@ -39,8 +39,8 @@ anchor_alike owner algorithm key anchor h =
     ∙ ap (λ a. mixed (mixed a anchor.key) (map to_ascii_lowercase (wire anchor.owner))) (eqb-true algorithm anchor.algorithm two.0))
 
 -- the number of a signature that is equal
-pub entry_alike : (algorithm : ℕ) (key bytes signature : List ℕ) (entry : AcceptedText) → is_entry algorithm key bytes signature entry ≡ true
-    → entry_number entry ≡ number_of algorithm key bytes signature
+pub entry_alike : (algorithm : ℕ) (key bytes signature : List ℕ) (entry : ListedSignatureValue) → is_entry algorithm key bytes signature entry ≡ true
+    → entry_number entry ≡ signature_number algorithm key bytes signature
 entry_alike algorithm key bytes signature entry h =
     let one = and_parts (algorithm == entry.algorithm) (bytes_eq key entry.key && (bytes_eq bytes entry.bytes && bytes_eq signature entry.signature)) h in
     let two = and_parts (bytes_eq key entry.key) (bytes_eq bytes entry.bytes && bytes_eq signature entry.signature) one.1 in

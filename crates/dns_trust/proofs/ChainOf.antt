@@ -2,11 +2,11 @@
 use Rattle.std.proofs.Common.{◌≡◌, ℕ, ◌+◌, ◌<◌, List, [], ◌∷◌, ◌++◌, length, drop, refl, sym, ap, ◌∙◌, append_assoc}
 use Rattle.std.proofs.lemmas.List.{drop_more, map-append}
 use Rattle.std.specs.Prelude.{map, slice_index_or}
-use Rattle.dns_model.specs.Chains.{Fact}
+use Rattle.dns_model.specs.Chains.{LinkValue}
 use Rattle.dns_judgement.specs.Marks.{Verdict, Proved, Excused, Failed, proved_chain, numbers_from}
 
 -- the chain of the first verdict that proves, or another chain
-abbrev pub chain_else : List Verdict → List Fact → List Fact
+abbrev pub chain_else : List Verdict → List LinkValue → List LinkValue
 chain_else [] chain = chain
 chain_else (Proved links ∷ vs) chain = links
 chain_else (Excused ∷ vs) chain = chain_else vs chain
@@ -18,7 +18,7 @@ chain_else-none (Proved links ∷ vs) = refl
 chain_else-none (Excused ∷ vs) = chain_else-none vs
 chain_else-none (Failed ∷ vs) = chain_else-none vs
 
-pub chain_else-append : (vs : List Verdict) (v : Verdict) (chain : List Fact) → chain_else (vs ++ v ∷ []) chain ≡ chain_else vs (chain_else (v ∷ []) chain)
+pub chain_else-append : (vs : List Verdict) (v : Verdict) (chain : List LinkValue) → chain_else (vs ++ v ∷ []) chain ≡ chain_else vs (chain_else (v ∷ []) chain)
 chain_else-append [] v chain = refl
 chain_else-append (Proved links ∷ vs) v chain = refl
 chain_else-append (Excused ∷ vs) v chain = chain_else-append vs v chain
@@ -32,7 +32,7 @@ numbers_more done keys i h =
     ∙ ap (λ ks. done ++ numbers_from i ks) (sym (drop_more keys i [] h))
 
 -- the last verdict is taken off
-pub chain_else_pop : {V : Type 0} (f : V → Verdict) (old rest : List V) (v : V) (chain : List Fact) → old ≡ rest ++ v ∷ []
+pub chain_else_pop : {V : Type 0} (f : V → Verdict) (old rest : List V) (v : V) (chain : List LinkValue) → old ≡ rest ++ v ∷ []
     → chain_else (map f rest) (chain_else (f v ∷ []) chain) ≡ chain_else (map f old) chain
 chain_else_pop f old rest v chain is =
     sym (ap (λ vs. chain_else (map f vs) chain) is

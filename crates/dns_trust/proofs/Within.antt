@@ -9,9 +9,9 @@ use Rattle.std.proofs.lemmas.List.Folds.{Any-from_list_any, list_any_at}
 use Rattle.std.proofs.lemmas.List.Sums.{AllPass-from_list_all, list_all-from_AllPass}
 use Rattle.std.proofs.lemmas.Slice.Eq.{bytes_eq-Decides}
 use Rattle.std.specs.Cmp.Derive.{both_true}
-use Rattle.dns_model.specs.Keys.{Answers, bytes_eq}
+use Rattle.dns_model.specs.Keys.{VerifierAnswers, bytes_eq}
 use Rattle.dns_net.specs.Verifiers.{AnswerAlike}
-use Rattle.dns_trust.specs.Listing.{AcceptedText, ListedText, SameAnswers, answers_of, holds_entry, is_entry, is_listed, is_within}
+use Rattle.dns_trust.specs.Listing.{ListedSignatureValue, ListedValue, SameAnswers, answers_of, holds_entry, is_entry, is_listed, is_within}
 use Rattle.dns_trust.proofs.Found.{same_test}
 
 -- a test that is true or false
@@ -23,7 +23,7 @@ untrue : {P : Type 0} (b : Bool) → b ≡ true → b ≡ false → P
 untrue b h k = absurd (let e : true ≡ false = sym h ∙ k in cc)
 
 -- an algorithm that one supports, the other supports
-supports_from : (one other : ListedText) → is_within one other ≡ true → (n : ℕ) → (answers_of one).supports n ≡ true → (answers_of other).supports n ≡ true
+supports_from : (one other : ListedValue) → is_within one other ≡ true → (n : ℕ) → (answers_of one).supports n ≡ true → (answers_of other).supports n ≡ true
 supports_from one other within n h =
     let halves = and_parts (list_all (λ a. (a == 1) || is_listed other a) one.algorithms) (list_all (λ e. (e.algorithm == 1) || holds_entry other e) one.accepted) within in
     let parts = and_parts (not (n == 1)) (is_listed one n) h in
@@ -34,8 +34,8 @@ supports_from one other within n h =
     both_true parts.0 (⊎_elim (λ (x : (n == 1) ≡ true). untrue {P = is_listed other n ≡ true} (n == 1) x (not-true (n == 1) parts.0)) (λ (x : is_listed other n ≡ true). x) (or_cases (n == 1) (is_listed other n) test))
 
 -- a test for an entry that is equal
-entry_test : (n : ℕ) (key bytes signature : List ℕ) (e : AcceptedText) → is_entry n key bytes signature e ≡ true
-    → (xs : List AcceptedText) → list_any (is_entry e.algorithm e.key e.bytes e.signature) xs ≡ list_any (is_entry n key bytes signature) xs
+entry_test : (n : ℕ) (key bytes signature : List ℕ) (e : ListedSignatureValue) → is_entry n key bytes signature e ≡ true
+    → (xs : List ListedSignatureValue) → list_any (is_entry e.algorithm e.key e.bytes e.signature) xs ≡ list_any (is_entry n key bytes signature) xs
 entry_test n key bytes signature e h xs =
     let one = and_parts (n == e.algorithm) (bytes_eq key e.key && (bytes_eq bytes e.bytes && bytes_eq signature e.signature)) h in
     let two = and_parts (bytes_eq key e.key) (bytes_eq bytes e.bytes && bytes_eq signature e.signature) one.1 in
@@ -46,13 +46,13 @@ entry_test n key bytes signature e h xs =
     ∙ ap (λ s. list_any (is_entry e.algorithm e.key e.bytes s) xs) ((bytes_eq-Decides signature e.signature).0 three.1))
 
 -- an entry is itself
-entry_itself : (e : AcceptedText) → is_entry e.algorithm e.key e.bytes e.signature e ≡ true
+entry_itself : (e : ListedSignatureValue) → is_entry e.algorithm e.key e.bytes e.signature e ≡ true
 entry_itself e =
     both_true (eq-eqb e.algorithm e.algorithm refl) (both_true ((bytes_eq-Decides e.key e.key).1 refl)
     (both_true ((bytes_eq-Decides e.bytes e.bytes).1 refl) ((bytes_eq-Decides e.signature e.signature).1 refl)))
 
 -- a signature that one accepts, the other accepts
-accepts_from : (one other : ListedText) → is_within one other ≡ true → (n : ℕ) (key bytes signature : List ℕ)
+accepts_from : (one other : ListedValue) → is_within one other ≡ true → (n : ℕ) (key bytes signature : List ℕ)
     → (answers_of one).accepts n key bytes signature ≡ true → (answers_of other).accepts n key bytes signature ≡ true
 accepts_from one other within n key bytes signature h =
     let halves = and_parts (list_all (λ a. (a == 1) || is_listed other a) one.algorithms) (list_all (λ e. (e.algorithm == 1) || holds_entry other e) one.accepted) within in
@@ -67,7 +67,7 @@ accepts_from one other within n key bytes signature h =
     (or_cases (some.1.algorithm == 1) (holds_entry other some.1) test))
 
 -- the tests of a list whose answers are all the other's
-within_to : (one other : ListedText) → SameAnswers (answers_of one) (answers_of other) → is_within one other ≡ true
+within_to : (one other : ListedValue) → SameAnswers (answers_of one) (answers_of other) → is_within one other ≡ true
 within_to one other s =
     both_true
     (list_all-from_AllPass (λ a. (a == 1) || is_listed other a) one.algorithms (λ k d below.
@@ -83,7 +83,7 @@ within_to one other s =
     ∙ both_true (not_from_false (e.algorithm == 1) h) (list_any_at (is_entry e.algorithm e.key e.bytes e.signature) one.accepted k d below (entry_itself e)))).1)))
 
 -- both hold what the other holds exactly where they answer the same
-pub same_decides : (one other : ListedText) → Decides (is_within one other && is_within other one) (SameAnswers (answers_of one) (answers_of other))
+pub same_decides : (one other : ListedValue) → Decides (is_within one other && is_within other one) (SameAnswers (answers_of one) (answers_of other))
 same_decides one other = (
   λ h.
       let parts = and_parts (is_within one other) (is_within other one) h in
@@ -96,5 +96,5 @@ same_decides one other = (
 )
 
 -- and then they answer alike
-pub alike_from : (a b : Answers) → SameAnswers a b → AnswerAlike a b
+pub alike_from : (a b : VerifierAnswers) → SameAnswers a b → AnswerAlike a b
 alike_from a b s = record { supports = λ n _. s.supports n; accepts = λ n key bytes signature _. s.accepts n key bytes signature }

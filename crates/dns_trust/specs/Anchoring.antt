@@ -2,21 +2,21 @@
 use Rattle.std.specs.Prelude.{ℕ, ◌≡◌, Bool, ◌||◌, List, [], ◌∷◌, ◌++◌, map, if◌then◌else◌}
 use Rattle.std.specs.Char.{to_ascii_lowercase}
 use Rattle.dns_model.specs.Names.{Labels, wire}
-use Rattle.dns_model.specs.Keys.{Anchor, is_anchor, holds_anchor}
+use Rattle.dns_model.specs.Keys.{AnchorValue, is_anchor, holds_anchor}
 use Rattle.dns_trust.specs.Finding.{mixed}
 
 -- one anchor more, unless it is there
-abbrev pub with_anchor : List Anchor → Anchor → List Anchor
+abbrev pub with_anchor : List AnchorValue → AnchorValue → List AnchorValue
 with_anchor anchors anchor =
     if holds_anchor anchors anchor.owner anchor.algorithm anchor.key then anchors else anchors ++ anchor ∷ []
 
 -- the one list holds what the other holds, and one anchor more
-abbrev pub Holds : List Anchor → List Anchor → Anchor → Type 0
+abbrev pub Holds : List AnchorValue → List AnchorValue → AnchorValue → Type 0
 Holds next anchors anchor = (owner : Labels) (algorithm : ℕ) (key : List ℕ)
     → holds_anchor next owner algorithm key ≡ (holds_anchor anchors owner algorithm key || is_anchor owner algorithm key anchor)
 
 abbrev pub anchor_number : Labels → ℕ → List ℕ → ℕ
 anchor_number owner algorithm key = mixed (mixed algorithm key) (map to_ascii_lowercase (wire owner))
 
-abbrev pub number_of_anchor : Anchor → ℕ
+abbrev pub number_of_anchor : AnchorValue → ℕ
 number_of_anchor anchor = anchor_number anchor.owner anchor.algorithm anchor.key

@@ -4,7 +4,7 @@ ghost use Rattle.dns_model.specs.Keys.{holds_anchor, is_anchor as is_anchor_of};
 ghost use Rattle.dns_trust.specs.Finding.{passes_at};
 ghost use Rattle.dns_trust.specs.Anchoring.{Holds, anchor_number, with_anchor};
 
-use crate::finding::{Places, add_place, mix, mix_lowered, places_of};
+use crate::finding::{PlacesByNumber, add_place, mix, mix_lowered, places_of};
 use dns_name::{Name, NoMemory, Octets};
 use std::alloc::Global;
 use std::collections::BTreeMap;
@@ -12,14 +12,14 @@ use std::marker::Model;
 
 /// A key that is trusted without a signature (RFC 4035, 4.4).
 #[derive(Drop)]
-struct Anchor {
+struct TrustAnchor {
     owner: Name,
     algorithm: u8,
     key: Octets,
 }
 
-impl Model for Anchor {
-    ghost use Rattle.dns_model.specs.Keys.{Anchor as Trusted};
+impl Model for TrustAnchor {
+    ghost use Rattle.dns_model.specs.Keys.{AnchorValue as Trusted};
 
     ghost Value = { Trusted };
 
@@ -29,13 +29,13 @@ impl Model for Anchor {
 /// The keys that are trusted without a signature, as a set: a zone's name, an algorithm and a public key. Flags don't count.
 #[derive(Drop)]
 pub struct TrustAnchors {
-    anchors: Vec<Anchor>,
-    places: Places,
+    anchors: Vec<TrustAnchor>,
+    places: PlacesByNumber,
 }
 
 impl Model for TrustAnchors {
     ghost use Rattle.std.specs.Prelude.{List};
-    ghost use Rattle.dns_model.specs.Keys.{Anchor as Trusted};
+    ghost use Rattle.dns_model.specs.Keys.{AnchorValue as Trusted};
     ghost use Rattle.dns_trust.specs.Anchoring.{number_of_anchor};
     ghost use Rattle.dns_trust.specs.Finding.{Covers};
 
@@ -72,9 +72,9 @@ impl TrustAnchors {
             return Ok(false);
         }
         let alloc = *self.anchors.allocator();
-        let number = number_of(&owner, algorithm, key.as_slice());
+        let number = anchor_number(&owner, algorithm, key.as_slice());
         add_place(alloc, &mut self.places, number, self.anchors.len())?;
-        self.anchors.push(Anchor {
+        self.anchors.push(TrustAnchor {
             owner,
             algorithm,
             key,
@@ -86,7 +86,7 @@ impl TrustAnchors {
     pub fn contains_with_name(&self, owner: &Name, algorithm: u8, key: &[u8]) -> bool
         ensures { result ≡ holds_anchor self.now owner.now algorithm key.now }
     {
-        let places = places_of(&self.places, number_of(owner, algorithm, key));
+        let places = places_of(&self.places, anchor_number(owner, algorithm, key));
         is_at(&self.anchors, places, owner, algorithm, key)
     }
 
@@ -106,14 +106,20 @@ impl TrustAnchors {
 }
 
 // The anchor at one of some places is this key.
-fn is_at(anchors: &[Anchor], places: &[usize], owner: &Name, algorithm: u8, key: &[u8]) -> bool
+fn is_at(anchors: &[TrustAnchor], places: &[usize], owner: &Name, algorithm: u8, key: &[u8]) -> bool
     ensures { result ≡ list_any (passes_at (is_anchor_of owner.now algorithm key.now) anchors.now) places.now }
 {
     places.iter().any(|place| is_anchor_at(anchors, *place, owner, algorithm, key))
 }
 
 // The anchor at a place is this key.
-fn is_anchor_at(anchors: &[Anchor], place: usize, owner: &Name, algorithm: u8, key: &[u8]) -> bool
+fn is_anchor_at(
+    anchors: &[TrustAnchor],
+    place: usize,
+    owner: &Name,
+    algorithm: u8,
+    key: &[u8],
+) -> bool
     ensures { result ≡ passes_at (is_anchor_of owner.now algorithm key.now) anchors.now place }
 {
     match anchors.get(place) {
@@ -123,14 +129,14 @@ fn is_anchor_at(anchors: &[Anchor], place: usize, owner: &Name, algorithm: u8, k
 }
 
 // The anchor is this key.
-fn is_anchor(anchor: &Anchor, owner: &Name, algorithm: u8, key: &[u8]) -> bool
+fn is_anchor(anchor: &TrustAnchor, owner: &Name, algorithm: u8, key: &[u8]) -> bool
     ensures { result ≡ is_anchor_of owner.now algorithm key.now anchor.now }
 {
     *owner == anchor.owner && algorithm == anchor.algorithm && key == anchor.key.as_slice()
 }
 
 // The number by which an anchor is found.
-fn number_of(owner: &Name, algorithm: u8, key: &[u8]) -> u64
+fn anchor_number(owner: &Name, algorithm: u8, key: &[u8]) -> u64
     ensures { result ≡ anchor_number owner.now algorithm key.now }
 {
     mix_lowered(mix(u64::from(algorithm), key), owner.wire())

@@ -1,8 +1,8 @@
 ghost use Rattle.std.specs.Prelude.{◌≡◌, IfOk, map};
 ghost use Rattle.dns_model.specs.Chains.{Anchored, KeySet, Signed, rdatas_of as rdatas_in};
-ghost use Rattle.dns_net.specs.Link.{fact_of};
+ghost use Rattle.dns_net.specs.Link.{link_value};
 ghost use Rattle.dns_judgement.specs.Marks.{numbers_from, signed_chain as signed_chain_of, self_signed_chain as self_signed_chain_of, anchored_chain as anchored_chain_of};
-ghost use Rattle.dns_trust.specs.Verdicts.{signed_text};
+ghost use Rattle.dns_trust.specs.Verdicts.{signed_value};
 
 use crate::keys::SignedBy;
 use dns_name::{Name, NoMemory};
@@ -18,7 +18,7 @@ pub(crate) fn signed_chain(
     chain: &Vec<Link>,
     key: &Record,
 ) -> Result<Vec<Link>, NoMemory>
-    ensures { IfOk result (λ v. map fact_of v.items ≡ signed_chain_of set.now sig.now (map fact_of chain.now.items) key.now) }
+    ensures { IfOk result (λ v. map link_value v.items ≡ signed_chain_of set.now sig.now (map link_value chain.now.items) key.now) }
 {
     let Ok(key_link) = u32::try_from(chain.len().saturating_sub(1)) else {
         return Err(NoMemory);
@@ -35,7 +35,7 @@ pub(crate) fn self_signed_chain(
     set: &RecordSet,
     by: &SignedBy<'_>,
 ) -> Result<Vec<Link>, NoMemory>
-    ensures { IfOk result (λ v. map fact_of v.items ≡ self_signed_chain_of set.now (signed_text by.now)) }
+    ensures { IfOk result (λ v. map link_value v.items ≡ self_signed_chain_of set.now (signed_value by.now)) }
 {
     let mut links = Vec::new(alloc);
     let anchored = anchored_link(&set.name, set.dns_class, by.key)?;
@@ -47,7 +47,7 @@ pub(crate) fn self_signed_chain(
 
 // A link for each key of a wholly anchored key set, and then the set.
 pub(crate) fn anchored_chain(alloc: Global, set: &RecordSet) -> Result<Vec<Link>, NoMemory>
-    ensures { IfOk result (λ v. map fact_of v.items ≡ anchored_chain_of set.now) }
+    ensures { IfOk result (λ v. map link_value v.items ≡ anchored_chain_of set.now) }
 {
     let mut links = anchored_links(alloc, &set.name, set.dns_class, &set.records)?;
     let link = key_set_link(alloc, set)?;
@@ -62,7 +62,7 @@ fn anchored_links(
     class: DNSClass,
     keys: &[Record],
 ) -> Result<Vec<Link>, NoMemory>
-    ensures { IfOk result (λ v. map fact_of v.items ≡ map (Anchored owner.now class.0) (rdatas_in keys.now)) }
+    ensures { IfOk result (λ v. map link_value v.items ≡ map (Anchored owner.now class.0) (rdatas_in keys.now)) }
 {
     let mut links = Vec::new(alloc);
     for key in keys {
@@ -74,7 +74,7 @@ fn anchored_links(
 
 // The link of an anchored key of an owner.
 fn anchored_link(owner: &Name, class: DNSClass, key: &Record) -> Result<Link, NoMemory>
-    ensures { IfOk result (λ l. fact_of l ≡ Anchored owner.now class.0 key.now.rdata) }
+    ensures { IfOk result (λ l. link_value l ≡ Anchored owner.now class.0 key.now.rdata) }
 {
     let owner = owner.try_clone()?;
     let key = key.rdata.try_clone()?;
@@ -83,7 +83,7 @@ fn anchored_link(owner: &Name, class: DNSClass, key: &Record) -> Result<Link, No
 
 // The link of a key set, whose keys the first links show.
 fn key_set_link(alloc: Global, set: &RecordSet) -> Result<Link, NoMemory>
-    ensures { IfOk result (λ l. fact_of l ≡ KeySet set.now.owner set.now.class (rdatas_in set.now.records) (numbers_from 0 (rdatas_in set.now.records))) }
+    ensures { IfOk result (λ l. link_value l ≡ KeySet set.now.owner set.now.class (rdatas_in set.now.records) (numbers_from 0 (rdatas_in set.now.records))) }
 {
     let owner = set.name.try_clone()?;
     let keys = rdatas_of(alloc, &set.records)?;
@@ -104,7 +104,7 @@ fn signed_link(
     key_link: u32,
     key: &Record,
 ) -> Result<Link, NoMemory>
-    ensures { IfOk result (λ l. fact_of l ≡ Signed set.now.owner set.now.class set.now.kind (rdatas_in set.now.records) sig.now.rdata key_link key.now.rdata) }
+    ensures { IfOk result (λ l. link_value l ≡ Signed set.now.owner set.now.class set.now.rtype (rdatas_in set.now.records) sig.now.rdata key_link key.now.rdata) }
 {
     let owner = set.name.try_clone()?;
     let rdatas = rdatas_of(alloc, &set.records)?;

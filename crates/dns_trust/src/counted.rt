@@ -9,8 +9,8 @@ ghost use Rattle.dns_trust.specs.Counting.{count_in, tag_count_after, count_afte
 use crate::{TrustAnchors, is_good_by};
 use dns_name::NoMemory;
 use dns_net::Verifier;
+use dns_rdata::{Dnskey, key_tag};
 use dns_record::{Record, RecordSet};
-use dns_signing::{Dnskey, key_tag};
 use std::alloc::Global;
 use std::collections::BTreeMap;
 
@@ -50,7 +50,7 @@ fn is_tried(counts: &mut BTreeMap<u16, u8>, key: &Record) -> Result<bool, NoMemo
 }
 
 // The tag of a key that can be read.
-#[tactic(auto, unfolding(dns_model::specs::Views::key_in))]
+#[tactic(auto, unfolding(dns_model::specs::Views::dnskey_in))]
 fn tag_of(key: &Record) -> Option<u16>
     ensures { result ≡ readable_tag key.now }
 {

@@ -7,7 +7,7 @@ use std::alloc::Global;
 use std::collections::BTreeMap;
 
 // Places in a list, by the numbers of their elements.
-pub(crate) type Places = BTreeMap<u64, Vec<usize>>;
+pub(crate) type PlacesByNumber = BTreeMap<u64, Vec<usize>>;
 
 // A number mixed with bytes.
 #[tactic(auto, unfolding(crate::specs::Finding::mixed))]
@@ -42,7 +42,7 @@ fn mix_once(seed: u64, byte: u8) -> u64
 
 // The places that are kept for a number.
 #[tactic(auto, unfolding(crate::specs::Finding::places_at))]
-pub(crate) fn places_of(places: &Places, number: u64) -> &[usize]
+pub(crate) fn places_of(places: &PlacesByNumber, number: u64) -> &[usize]
     ensures { result.now ≡ places_at places.now number }
 {
     match places.get(&number) {
@@ -55,7 +55,7 @@ pub(crate) fn places_of(places: &Places, number: u64) -> &[usize]
 #[tactic(auto, unfolding(crate::specs::Finding::places_at))]
 pub(crate) fn add_place(
     alloc: Global,
-    places: &mut Places,
+    places: &mut PlacesByNumber,
     number: u64,
     place: usize,
 ) -> Result<(), NoMemory>

@@ -1,6 +1,6 @@
 ghost use Rattle.std.specs.Prelude.{◌≡◌, IfOk, List};
-ghost use Rattle.dns_model.specs.Views.{sig_in, key_in};
-ghost use Rattle.dns_model.specs.Keys.{Anchor};
+ghost use Rattle.dns_model.specs.Views.{rrsig_in, dnskey_in};
+ghost use Rattle.dns_model.specs.Keys.{AnchorValue};
 ghost use Rattle.dns_model.specs.Chains.{judge, judge_alone};
 ghost use Rattle.dns_judgement.specs.Validity.{is_good_by as is_good_in, is_accepted as is_accepted_in};
 
@@ -8,8 +8,8 @@ use crate::validity::check;
 use dns_judgement::RrsigValidity;
 use dns_name::NoMemory;
 use dns_net::Verifier;
+use dns_rdata::{Dnskey, Rrsig, signed_data};
 use dns_record::{Record, RecordSet};
-use dns_signing::{Dnskey, Rrsig, signed_data};
 use std::alloc::Global;
 
 /// Whether a signature of a set is good by a key at a moment: it fits, the key isn't revoked, and the verifier accepts it
@@ -23,7 +23,7 @@ pub fn is_good_by<V: Verifier>(
     sig: &Record,
     key: &Record,
 ) -> Result<bool, NoMemory>
-    ensures { IfOk result (λ b. (anchors : List Anchor) → b ≡ is_good_in (judge (V.answers verifier.now) anchors now) set.now sig.now key.now) }
+    ensures { IfOk result (λ b. (anchors : List AnchorValue) → b ≡ is_good_in (judge (V.answers verifier.now) anchors now) set.now sig.now key.now) }
 {
     match check(sig, set, key, now) {
         RrsigValidity::ValidRrsig => is_accepted(alloc, verifier, set, sig, key),
@@ -39,7 +39,7 @@ fn is_accepted<V: Verifier>(
     sig: &Record,
     key: &Record,
 ) -> Result<bool, NoMemory>
-    ensures { IfOk result (λ b. b ≡ is_accepted_in (judge_alone (V.answers verifier.now)) set.now (sig_in sig.now.rdata) (key_in key.now.rdata)) }
+    ensures { IfOk result (λ b. b ≡ is_accepted_in (judge_alone (V.answers verifier.now)) set.now (rrsig_in sig.now.rdata) (dnskey_in key.now.rdata)) }
 {
     let Some(read) = Rrsig::read(sig.rdata.as_slice()) else {
         return Ok(false);

@@ -1,10 +1,10 @@
 ghost use Rattle.std.specs.Prelude.{◌≡◌, ℕ, IfOk, map};
 ghost use Rattle.std.specs.List.{position};
-ghost use Rattle.dns_model.specs.Keys.{Answers};
+ghost use Rattle.dns_model.specs.Keys.{VerifierAnswers};
 ghost use Rattle.dns_model.specs.Chains.{judge};
-ghost use Rattle.dns_net.specs.Link.{fact_of};
+ghost use Rattle.dns_net.specs.Link.{link_value};
 ghost use Rattle.dns_judgement.specs.Marks.{is_proved, is_excused, proved_chain, judged_by as judged_by_verdicts, judged_keys as judged_key_set, keys_unsigned as unsigned_keys};
-ghost use Rattle.dns_trust.specs.Verdicts.{verdict_text};
+ghost use Rattle.dns_trust.specs.Verdicts.{verdict_value};
 
 use crate::chains::{anchored_chain, self_signed_chain};
 use crate::keys::{first_signed, is_wholly_anchored};
@@ -19,7 +19,7 @@ use std::alloc::Global;
 /// excuses it (RFC 4035, 5.3.3).
 #[tactic(auto, unfolding(dns_judgement::specs::Marks::judged_by))]
 pub fn judged_by(placed: PlacedSet, verdicts: Vec<Verdict>) -> Result<JudgedSet, NoMemory>
-    ensures { IfOk result (λ j. j ≡ judged_by_verdicts placed (map verdict_text verdicts.items)) }
+    ensures { IfOk result (λ j. j ≡ judged_by_verdicts placed (map verdict_value verdicts.items)) }
 {
     let proved = place_of_proof(&verdicts)?;
     let excused = place_of_excuse(&verdicts)?;
@@ -40,26 +40,26 @@ pub fn judged_by(placed: PlacedSet, verdicts: Vec<Verdict>) -> Result<JudgedSet,
 
 // The place of the first verdict that proves the set.
 fn place_of_proof(verdicts: &[Verdict]) -> Result<Option<u32>, NoMemory>
-    ensures { IfOk result (λ p. p ≡ position is_proved (map verdict_text verdicts.now)) }
+    ensures { IfOk result (λ p. p ≡ position is_proved (map verdict_value verdicts.now)) }
 {
     numbered(first_proof(verdicts))
 }
 
 // The place of the first verdict that excuses the set.
 fn place_of_excuse(verdicts: &[Verdict]) -> Result<Option<u32>, NoMemory>
-    ensures { IfOk result (λ p. p ≡ position is_excused (map verdict_text verdicts.now)) }
+    ensures { IfOk result (λ p. p ≡ position is_excused (map verdict_value verdicts.now)) }
 {
     numbered(first_excuse(verdicts))
 }
 
 fn first_proof(verdicts: &[Verdict]) -> Option<usize>
-    ensures { result ≡ position (λ v. is_proved (verdict_text v)) verdicts.now }
+    ensures { result ≡ position (λ v. is_proved (verdict_value v)) verdicts.now }
 {
     verdicts.iter().position(|verdict| verdict.is_proved())
 }
 
 fn first_excuse(verdicts: &[Verdict]) -> Option<usize>
-    ensures { result ≡ position (λ v. is_excused (verdict_text v)) verdicts.now }
+    ensures { result ≡ position (λ v. is_excused (verdict_value v)) verdicts.now }
 {
     verdicts.iter().position(|verdict| verdict.is_excused())
 }
@@ -79,7 +79,7 @@ fn numbered(place: Option<usize>) -> Result<Option<u32>, NoMemory>
 
 // The links of the first verdict that proves the set. It goes from the last verdict to the first.
 fn chain_of(mut verdicts: Vec<Verdict>) -> Vec<Link>
-    ensures { map fact_of result.items ≡ proved_chain (map verdict_text verdicts.items) }
+    ensures { map link_value result.items ≡ proved_chain (map verdict_value verdicts.items) }
 {
     let mut chain = Vec::new(*verdicts.allocator());
     while let Some(verdict) = verdicts.pop() {
@@ -122,7 +122,7 @@ fn unsigned_key_set(
     anchors: &TrustAnchors,
     placed: PlacedSet,
 ) -> Result<JudgedSet, NoMemory>
-    ensures { IfOk result (λ j. (answers : Answers) (now : ℕ) → j ≡ unsigned_keys (judge answers anchors.now now) placed) }
+    ensures { IfOk result (λ j. (answers : VerifierAnswers) (now : ℕ) → j ≡ unsigned_keys (judge answers anchors.now now) placed) }
 {
     let (mark, chain) = if is_wholly_anchored(anchors, &placed.set) {
         (Proof::Secure, anchored_chain(alloc, &placed.set)?)

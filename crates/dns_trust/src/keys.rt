@@ -4,13 +4,13 @@ ghost use Rattle.std.specs.Option.{option_map, option_copied};
 ghost use Rattle.dns_model.specs.Keys.{anchored};
 ghost use Rattle.dns_model.specs.Chains.{judge};
 ghost use Rattle.dns_judgement.specs.Marks.{most_signatures, first_signed as first_signed_of, anchored_signer as anchored_signer_of};
-ghost use Rattle.dns_trust.specs.Verdicts.{signed_text, is_signer as is_signer_of};
+ghost use Rattle.dns_trust.specs.Verdicts.{signed_value, is_signer as is_signer_of};
 
 use crate::{TrustAnchors, is_good_by};
 use dns_name::{Name, NoMemory};
 use dns_net::Verifier;
+use dns_rdata::Dnskey;
 use dns_record::{Record, RecordSet};
-use dns_signing::Dnskey;
 use std::alloc::Global;
 
 // How many signatures of a set are tried.
@@ -32,7 +32,7 @@ pub(crate) fn first_signed<'a, V: Verifier>(
     now: u64,
     set: &'a RecordSet,
 ) -> Result<Option<SignedBy<'a>>, NoMemory>
-    ensures { IfOk result (λ s. option_map signed_text s ≡
+    ensures { IfOk result (λ s. option_map signed_value s ≡
         first_signed_of (judge (V.answers verifier.now) anchors.now now) set.now 0 (take most_signatures set.now.signatures)) }
 {
     let signatures = first_signatures(set);

@@ -2,9 +2,9 @@ ghost use Rattle.std.specs.Prelude.{◌≡◌, ◌↔◌, ◌==◌, ◌&&◌, �
 ghost use Rattle.std.specs.List.{list_all, list_any};
 ghost use Rattle.dns_net.specs.Verifiers.{AnswerAlike};
 ghost use Rattle.dns_trust.specs.Finding.{passes_at};
-ghost use Rattle.dns_trust.specs.Listing.{SameAnswers, answers_of, holds_entry as holds_entry_in, is_entry as is_entry_of, is_listed, is_within as is_within_of, number_of as number_in, with_accepted, with_algorithm};
+ghost use Rattle.dns_trust.specs.Listing.{SameAnswers, answers_of, holds_entry as holds_entry_in, is_entry as is_entry_of, is_listed, is_within as is_within_of, signature_number as number_in, with_accepted, with_algorithm};
 
-use crate::finding::{Places, add_place, mix, places_of};
+use crate::finding::{PlacesByNumber, add_place, mix, places_of};
 use dns_name::{NoMemory, Octets};
 use dns_net::Verifier;
 use std::alloc::Global;
@@ -13,17 +13,17 @@ use std::marker::Model;
 
 /// A signature that is accepted.
 #[derive(Drop)]
-struct Accepted {
+struct ListedSignature {
     algorithm: u8,
     key: Octets,
     bytes: Octets,
     signature: Octets,
 }
 
-impl Model for Accepted {
-    ghost use Rattle.dns_trust.specs.Listing.{AcceptedText};
+impl Model for ListedSignature {
+    ghost use Rattle.dns_trust.specs.Listing.{ListedSignatureValue};
 
-    ghost Value = { AcceptedText };
+    ghost Value = { ListedSignatureValue };
 
     ghost view = { λ a. record { algorithm = a.algorithm; key = a.key; bytes = a.bytes; signature = a.signature } };
 }
@@ -32,15 +32,15 @@ impl Model for Accepted {
 #[derive(Drop)]
 pub struct Listed {
     algorithms: Vec<u8>,
-    accepted: Vec<Accepted>,
-    places: Places,
+    accepted: Vec<ListedSignature>,
+    places: PlacesByNumber,
 }
 
 impl Model for Listed {
-    ghost use Rattle.dns_trust.specs.Listing.{ListedText, entry_number};
+    ghost use Rattle.dns_trust.specs.Listing.{ListedValue, entry_number};
     ghost use Rattle.dns_trust.specs.Finding.{Covers};
 
-    ghost Value = { ListedText };
+    ghost Value = { ListedValue };
 
     ghost view = { λ l. record { algorithms = l.algorithms.items; accepted = l.accepted.items } };
 
@@ -88,7 +88,7 @@ impl Listed {
         }
         let alloc = *self.accepted.allocator();
         let entry = entry_of(alloc, algorithm, key, bytes, signature)?;
-        let number = number_of(algorithm, key, bytes, signature);
+        let number = signature_number(algorithm, key, bytes, signature);
         add_place(alloc, &mut self.places, number, self.accepted.len())?;
         self.accepted.push(entry)?;
         Ok(())
@@ -122,7 +122,10 @@ impl Listed {
     fn holds(&self, algorithm: u8, key: &[u8], bytes: &[u8], signature: &[u8]) -> bool
         ensures { result ≡ list_any (is_entry_of algorithm key.now bytes.now signature.now) self.now.accepted }
     {
-        let places = places_of(&self.places, number_of(algorithm, key, bytes, signature));
+        let places = places_of(
+            &self.places,
+            signature_number(algorithm, key, bytes, signature),
+        );
         is_at(&self.accepted, places, algorithm, key, bytes, signature)
     }
 
@@ -141,7 +144,7 @@ impl Listed {
     }
 
     // An entry is listed.
-    fn holds_entry(&self, entry: &Accepted) -> bool
+    fn holds_entry(&self, entry: &ListedSignature) -> bool
         ensures { result ≡ holds_entry_in self.now entry.now }
     {
         self.holds(
@@ -170,7 +173,7 @@ fn supports_all(listed: &Listed, algorithms: &[u8]) -> bool
 }
 
 // All these signatures are accepted, but those of algorithm 1.
-fn accepts_all(listed: &Listed, entries: &[Accepted]) -> bool
+fn accepts_all(listed: &Listed, entries: &[ListedSignature]) -> bool
     ensures { result ≡ list_all (λ e. (e.algorithm == 1) || holds_entry_in listed.now e) entries.now }
 {
     entries
@@ -187,7 +190,7 @@ fn has_algorithm(algorithms: &[u8], algorithm: u8) -> bool
 
 // The entry at one of some places is this signature.
 fn is_at(
-    accepted: &[Accepted],
+    accepted: &[ListedSignature],
     places: &[usize],
     algorithm: u8,
     key: &[u8],
@@ -201,7 +204,7 @@ fn is_at(
 
 // The entry at a place is this signature.
 fn is_entry_at(
-    accepted: &[Accepted],
+    accepted: &[ListedSignature],
     place: usize,
     algorithm: u8,
     key: &[u8],
@@ -217,7 +220,13 @@ fn is_entry_at(
 }
 
 // The entry is this signature.
-fn is_entry(entry: &Accepted, algorithm: u8, key: &[u8], bytes: &[u8], signature: &[u8]) -> bool
+fn is_entry(
+    entry: &ListedSignature,
+    algorithm: u8,
+    key: &[u8],
+    bytes: &[u8],
+    signature: &[u8],
+) -> bool
     ensures { result ≡ is_entry_of algorithm key.now bytes.now signature.now entry.now }
 {
     algorithm == entry.algorithm
@@ -233,13 +242,13 @@ fn entry_of(
     key: &[u8],
     bytes: &[u8],
     signature: &[u8],
-) -> Result<Accepted, NoMemory>
+) -> Result<ListedSignature, NoMemory>
     ensures { IfOk result (λ a. a ≡ record { algorithm = algorithm; key = key.now; bytes = bytes.now; signature = signature.now }) }
 {
     let key = Octets::from_slice(alloc, key)?;
     let bytes = Octets::from_slice(alloc, bytes)?;
     let signature = Octets::from_slice(alloc, signature)?;
-    Ok(Accepted {
+    Ok(ListedSignature {
         algorithm,
         key,
         bytes,
@@ -248,7 +257,7 @@ fn entry_of(
 }
 
 // The number by which a signature is found.
-fn number_of(algorithm: u8, key: &[u8], bytes: &[u8], signature: &[u8]) -> u64
+fn signature_number(algorithm: u8, key: &[u8], bytes: &[u8], signature: &[u8]) -> u64
     ensures { result ≡ number_in algorithm key.now bytes.now signature.now }
 {
     mix(mix(mix(u64::from(algorithm), key), bytes), signature)

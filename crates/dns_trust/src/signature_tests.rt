@@ -187,12 +187,12 @@ fn signatures_are_good_by_their_key(rt: HostRuntime) -> Result<(), Fail> {
 }
 
 /// A signature over the root's NS set asks for the root's keys, unless they are what is asked for.
-fn is_skipped_at(alloc: Global, kind: RecordType, sig: &[u8]) -> Result<bool, Fail> {
+fn is_skipped_at(alloc: Global, record_type: RecordType, sig: &[u8]) -> Result<bool, Fail> {
     let set = servers(alloc)?;
     let sig = signature_of(alloc, ".", sig)?;
     match ask_of(alloc, &set, &sig)? {
         Some(mut query) => {
-            query.query_type = kind;
+            query.query_type = record_type;
             Ok(is_skipped(&query, &set, &sig)?)
         }
         None => Ok(true),

@@ -49,7 +49,7 @@ fn keys_signature() -> &'static [u8] {
 pub(crate) fn record(
     alloc: Global,
     owner: &str,
-    kind: RecordType,
+    record_type: RecordType,
     rdata: &[u8],
 ) -> Result<Record, Fail> {
     if rdata.len() > 65535 {
@@ -57,7 +57,7 @@ pub(crate) fn record(
     }
     Ok(Record {
         name: Name::from_ascii(alloc, owner)?,
-        record_type: kind,
+        record_type,
         dns_class: DNSClass::IN,
         ttl: 3600,
         rdata: Rdata::from_slice(alloc, rdata)?,

@@ -1,11 +1,11 @@
 ghost use Rattle.std.specs.Prelude.{◌≡◌};
 ghost use Rattle.dns_model.specs.Serial.{timely};
-ghost use Rattle.dns_model.specs.Views.{key_in};
+ghost use Rattle.dns_model.specs.Views.{dnskey_in};
 ghost use Rattle.dns_judgement.specs.Validity.{validity, is_of_set as is_set_signature, key_validity as key_fits};
 
 use dns_judgement::RrsigValidity;
+use dns_rdata::{Dnskey, Rrsig, SerialNumber, key_tag};
 use dns_record::{Record, RecordSet};
-use dns_signing::{Dnskey, Rrsig, SerialNumber, key_tag};
 
 /// Whether a signature fits a set, a key and a moment in seconds since 1970, before any arithmetic on it: the first test
 /// that fails, of the signature, of the moment and of the key (RFC 4035, 5.3.1).
@@ -45,9 +45,9 @@ fn is_timely(read: &Rrsig<'_>, now: u64) -> bool
 }
 
 // The key is the signer's, has the signature's algorithm and tag, and is a zone key.
-#[tactic(auto, unfolding(dns_model::specs::Views::key_in))]
+#[tactic(auto, unfolding(dns_model::specs::Views::dnskey_in))]
 fn key_validity(read: &Rrsig<'_>, key: &Record) -> RrsigValidity
-    ensures { result ≡ key_fits read.now key.now (key_in key.now.rdata) }
+    ensures { result ≡ key_fits read.now key.now (dnskey_in key.now.rdata) }
 {
     let Some(dnskey) = Dnskey::read(key.rdata.as_slice()) else {
         return RrsigValidity::WrongDnskey;

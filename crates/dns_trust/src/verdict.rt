@@ -4,17 +4,17 @@ ghost use Rattle.std.specs.Option.{option_copied};
 ghost use Rattle.dns_model.specs.Chains.{judge, signer_fits as signer_is_above};
 ghost use Rattle.dns_judgement.specs.Marks.{verdict_of as verdict_in, by_key_set as verdict_by_set, by_keys, by_insecure_key, counted_keys, is_kept_whole as is_whole, is_key_set_of, is_skipped as is_skipped_by, is_proved as is_proof, is_excused as is_excuse};
 ghost use Rattle.dns_judgement.specs.Run.{ask_of as asked_by};
-ghost use Rattle.dns_net.specs.Link.{fact_of};
-ghost use Rattle.dns_trust.specs.Verdicts.{verdict_text, listed};
+ghost use Rattle.dns_net.specs.Link.{link_value};
+ghost use Rattle.dns_trust.specs.Verdicts.{verdict_value, listed};
 
 use crate::TrustAnchors;
 use crate::chains::signed_chain;
 use crate::counted::{first_good, has_readable_key};
 use dns_name::{NameRef, NoMemory};
 use dns_net::{Link, Verifier};
+use dns_rdata::Rrsig;
 use dns_record::{DNSClass, Proof, Query, Record, RecordSet, RecordType, Section};
 use dns_sets::JudgedSet;
-use dns_signing::Rrsig;
 use std::alloc::Global;
 
 /// What one signature does for its set.
@@ -31,7 +31,7 @@ pub enum Verdict {
 impl Verdict {
     /// Whether it makes the set Secure.
     pub fn is_proved(&self) -> bool
-        ensures { result ≡ is_proof (verdict_text self.now) }
+        ensures { result ≡ is_proof (verdict_value self.now) }
     {
         match self {
             Verdict::Proved(_) => true,
@@ -41,7 +41,7 @@ impl Verdict {
 
     /// Whether it shows that no more than Insecure can be expected.
     pub fn is_excused(&self) -> bool
-        ensures { result ≡ is_excuse (verdict_text self.now) }
+        ensures { result ≡ is_excuse (verdict_value self.now) }
     {
         match self {
             Verdict::Excused => true,
@@ -62,7 +62,7 @@ pub fn verdict_of<V: Verifier>(
     sig: &Record,
     answer: &Option<Vec<JudgedSet>>,
 ) -> Result<Verdict, NoMemory>
-    ensures { IfOk result (λ v. verdict_text v ≡
+    ensures { IfOk result (λ v. verdict_value v ≡
         verdict_in (judge (V.answers verifier.now) anchors.now now) set.now sig.now (listed answer.now)) }
 {
     let Some(sets) = answer else {
@@ -90,7 +90,7 @@ fn by_key_set<V: Verifier>(
     sig: &Record,
     keys: &JudgedSet,
 ) -> Result<Verdict, NoMemory>
-    ensures { IfOk result (λ v. verdict_text v ≡ verdict_by_set (judge (V.answers verifier.now) anchors.now now) set.now sig.now (Some keys.now)) }
+    ensures { IfOk result (λ v. verdict_value v ≡ verdict_by_set (judge (V.answers verifier.now) anchors.now now) set.now sig.now (Some keys.now)) }
 {
     match keys.mark {
         Proof::Secure => {
@@ -123,7 +123,7 @@ fn by_secure_keys<V: Verifier>(
     chain: &Vec<Link>,
     keys: &[Record],
 ) -> Result<Verdict, NoMemory>
-    ensures { IfOk result (λ v. verdict_text v ≡ by_keys (judge (V.answers verifier.now) anchors.now now) set.now sig.now (map fact_of chain.now.items) Proof.Secure (counted_keys keys.now)) }
+    ensures { IfOk result (λ v. verdict_value v ≡ by_keys (judge (V.answers verifier.now) anchors.now now) set.now sig.now (map link_value chain.now.items) Proof.Secure (counted_keys keys.now)) }
 {
     match first_good(alloc, verifier, anchors, now, set, sig, keys)? {
         Some(key) => {
@@ -137,7 +137,7 @@ fn by_secure_keys<V: Verifier>(
 // The verdict by the counted keys of an Insecure key set.
 #[tactic(auto, using(crate::proofs::Counts::any_counted))]
 fn by_insecure_keys(keys: &[Record]) -> Verdict
-    ensures { verdict_text result ≡ by_insecure_key (counted_keys keys.now) }
+    ensures { verdict_value result ≡ by_insecure_key (counted_keys keys.now) }
 {
     if has_readable_key(keys) {
         Verdict::Excused
@@ -198,7 +198,7 @@ pub fn is_skipped(asked: &Query, set: &RecordSet, sig: &Record) -> Result<bool, 
 
 // The signer stands at the owner or above it; a DS stands in the zone above.
 fn signer_fits(set: &RecordSet, signer: &NameRef<'_>) -> bool
-    ensures { result ≡ signer_is_above set.now.kind signer.now set.now.owner }
+    ensures { result ≡ signer_is_above set.now.rtype signer.now set.now.owner }
 {
     let owner = set.name.borrowed();
     if set.record_type == RecordType::DS {

@@ -14,7 +14,7 @@ use Rattle.std.proofs.lemmas.Str.Parse.{IsNumeralModel, numerals_by_value}
 use Rattle.dns_model.specs.Keys.{bytes_eq}
 use Rattle.dns_words.specs.Steps.{◌>>=◌}
 use Rattle.dns_words.specs.Decimals.{is_unpadded, is_decimal, decimal_in}
-use Rattle.dns_words.specs.Codes.{type_rows, class_rows, own_word, number_of, code_word, after_prefix, if_unnamed, prefixed_in, code_in, type_word, type_in, class_word, class_in}
+use Rattle.dns_words.specs.Codes.{type_rows, class_rows, own_word, number_of_word, code_word, after_prefix, if_unnamed, prefixed_in, code_in, type_word, type_in, class_word, class_in}
 
 -- ---- numbers
 
@@ -71,7 +71,7 @@ decimal_from limit n word fits h = decimal_of_value limit n word fits (cases_Boo
 -- no two rows have one word
 abbrev WordsDiffer : List (ℕ × List ℕ) → Type 0
 WordsDiffer [] = Unit {0}
-WordsDiffer (row ∷ rows) = (number_of rows row.1 ≡ None) × WordsDiffer rows
+WordsDiffer (row ∷ rows) = (number_of_word rows row.1 ≡ None) × WordsDiffer rows
 
 -- no two rows have one number
 abbrev NumbersDiffer : List (ℕ × List ℕ) → Type 0
@@ -85,8 +85,8 @@ bytes_alike : (a b : List ℕ) → a ≡ b → bytes_eq a b ≡ true
 bytes_alike a b h = (bytes_decides a b).1 h
 
 -- a number's own word is read as the number
-named_back : (rows : List (ℕ × List ℕ)) (n : ℕ) (word : List ℕ) → WordsDiffer rows → own_word rows n ≡ Some word → number_of rows word ≡ Some n
-unfolding own_word number_of
+named_back : (rows : List (ℕ × List ℕ)) (n : ℕ) (word : List ℕ) → WordsDiffer rows → own_word rows n ≡ Some word → number_of_word rows word ≡ Some n
+unfolding own_word number_of_word
 named_back [] n word differ h = cc
 named_back (row ∷ rows) n word differ h =
     elim (cases_Bool (n == row.0)) [
@@ -95,18 +95,18 @@ named_back (row ∷ rows) n word differ h =
           let number : n ≡ row.0 = eqb-true n row.0 is in
           rw (bytes_alike word row.1 (sym same)) (ap Some (sym number))
       | inr isnt ↦
-          let rest : number_of rows word ≡ Some n = named_back rows n word differ.1 (rw isnt at h) in
+          let rest : number_of_word rows word ≡ Some n = named_back rows n word differ.1 (rw isnt at h) in
           elim (cases_Bool (bytes_eq word row.1)) [
             | inl same ↦
-                let none : number_of rows word ≡ None = rw (same_bytes word row.1 same) differ.0 in
+                let none : number_of_word rows word ≡ None = rw (same_bytes word row.1 same) differ.0 in
                 cc
             | inr other ↦ rw other rest
           ]
     ]
 
 -- a word that is read as a number is the number's own
-named_from : (rows : List (ℕ × List ℕ)) (n : ℕ) (word : List ℕ) → NumbersDiffer rows → number_of rows word ≡ Some n → own_word rows n ≡ Some word
-unfolding own_word number_of
+named_from : (rows : List (ℕ × List ℕ)) (n : ℕ) (word : List ℕ) → NumbersDiffer rows → number_of_word rows word ≡ Some n → own_word rows n ≡ Some word
+unfolding own_word number_of_word
 named_from [] n word differ h = cc
 named_from (row ∷ rows) n word differ h =
     elim (cases_Bool (bytes_eq word row.1)) [
@@ -147,8 +147,8 @@ abbrev NonePrefixed : List ℕ → List (ℕ × List ℕ) → Type 0
 NonePrefixed prefix [] = Unit {0}
 NonePrefixed prefix (row ∷ rows) = (after_prefix prefix row.1 ≡ None) × NonePrefixed prefix rows
 
-prefixed_unnamed : (prefix rest : List ℕ) (rows : List (ℕ × List ℕ)) → NonePrefixed prefix rows → number_of rows (prefix ++ rest) ≡ None
-unfolding number_of
+prefixed_unnamed : (prefix rest : List ℕ) (rows : List (ℕ × List ℕ)) → NonePrefixed prefix rows → number_of_word rows (prefix ++ rest) ≡ None
+unfolding number_of_word
 prefixed_unnamed prefix rest [] apart = refl
 prefixed_unnamed prefix rest (row ∷ rows) apart =
     elim (cases_Bool (bytes_eq (prefix ++ rest) row.1)) [
@@ -189,29 +189,29 @@ prefixed_from rows prefix word n None h e = absurd (none_some n e)
 prefixed_from rows prefix word n (Some rest) h e = decimal_unnamed rows prefix word rest n h (decimal_in 65535 rest) refl e
 
 code_from_at : (rows : List (ℕ × List ℕ)) (prefix word : List ℕ) (n : ℕ) → NumbersDiffer rows
-    → (named : Option ℕ) → number_of rows word ≡ named → option_or named (prefixed_in rows prefix word) ≡ Some n → word ≡ code_word rows prefix n
+    → (named : Option ℕ) → number_of_word rows word ≡ named → option_or named (prefixed_in rows prefix word) ≡ Some n → word ≡ code_word rows prefix n
 code_from_at rows prefix word n differ (Some m) h e =
     let own : own_word rows n ≡ Some word = named_from rows n word differ (h ∙ e) in
     rw own refl
 code_from_at rows prefix word n differ None h e = prefixed_from rows prefix word n (after_prefix prefix word) refl e
 
 code_from : (rows : List (ℕ × List ℕ)) (prefix word : List ℕ) (n : ℕ) → NumbersDiffer rows → code_in rows prefix word ≡ Some n → word ≡ code_word rows prefix n
-code_from rows prefix word n differ h = code_from_at rows prefix word n differ (number_of rows word) refl h
+code_from rows prefix word n differ h = code_from_at rows prefix word n differ (number_of_word rows word) refl h
 
 -- the type that a printed type word is
 pub type_back : (n : ℕ) → n ≤ 65535 → type_in (type_word n) ≡ Some n
-unfolding type_in type_word own_word number_of
+unfolding type_in type_word own_word number_of_word
 type_back n within = code_back type_rows (codes "TYPE") n (search rules) (search rules) within
 
 pub class_back : (n : ℕ) → n ≤ 65535 → class_in (class_word n) ≡ Some n
-unfolding class_in class_word own_word number_of
+unfolding class_in class_word own_word number_of_word
 class_back n within = code_back class_rows (codes "CLASS") n (search rules) (search rules) within
 
 -- a word that is read is the one that is printed
 pub type_from : (word : List ℕ) (n : ℕ) → type_in word ≡ Some n → word ≡ type_word n
-unfolding type_in type_word own_word number_of
+unfolding type_in type_word own_word number_of_word
 type_from word n h = code_from type_rows (codes "TYPE") word n (search rules) h
 
 pub class_from : (word : List ℕ) (n : ℕ) → class_in word ≡ Some n → word ≡ class_word n
-unfolding class_in class_word own_word number_of
+unfolding class_in class_word own_word number_of_word
 class_from word n h = code_from class_rows (codes "CLASS") word n (search rules) h

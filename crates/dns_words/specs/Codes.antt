@@ -25,9 +25,9 @@ own_word [] n = None
 own_word (row ∷ rows) n = if n == row.0 then Some row.1 else own_word rows n
 
 -- the number whose own word it is; case counts
-unfoldable pub number_of : List (ℕ × List ℕ) → List ℕ → Option ℕ
-number_of [] word = None
-number_of (row ∷ rows) word = if bytes_eq word row.1 then Some row.0 else number_of rows word
+unfoldable pub number_of_word : List (ℕ × List ℕ) → List ℕ → Option ℕ
+number_of_word [] word = None
+number_of_word (row ∷ rows) word = if bytes_eq word row.1 then Some row.0 else number_of_word rows word
 
 -- a number's own word, or the prefix and the number
 abbrev pub code_word : List (ℕ × List ℕ) → List ℕ → ℕ → List ℕ
@@ -50,7 +50,7 @@ prefixed_in rows prefix word = do
 
 -- the number that a word stands for
 abbrev pub code_in : List (ℕ × List ℕ) → List ℕ → List ℕ → Option ℕ
-code_in rows prefix word = option_or (number_of rows word) (prefixed_in rows prefix word)
+code_in rows prefix word = option_or (number_of_word rows word) (prefixed_in rows prefix word)
 
 -- the word of a type
 unfoldable pub type_word : ℕ → List ℕ

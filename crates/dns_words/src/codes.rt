@@ -1,7 +1,7 @@
 ghost use Rattle.std.specs.Prelude.{◌≡◌, ◌++◌, codes, OnOk, OnErr};
 ghost use Rattle.std.specs.Fmt.{decimal};
 ghost use Rattle.std.specs.Option.{option_map, option_copied};
-ghost use Rattle.dns_words.specs.Codes.{own_word, number_of, type_rows, class_rows, after_prefix, prefixed_in, type_in, class_in, type_word, class_word};
+ghost use Rattle.dns_words.specs.Codes.{own_word, number_of_word, type_rows, class_rows, after_prefix, prefixed_in, type_in, class_in, type_word, class_word};
 
 use crate::{push_decimal, u16_in};
 use dns_name::NoMemory;
@@ -59,9 +59,9 @@ fn own_class_word(number: u16) -> Option<&'static [u8]>
 }
 
 /// The type whose own word it is.
-#[tactic(auto, unfolding(crate::specs::Codes::number_of))]
+#[tactic(auto, unfolding(crate::specs::Codes::number_of_word))]
 fn named_type(word: &[u8]) -> Option<u16>
-    ensures { result ≡ number_of type_rows word.now }
+    ensures { result ≡ number_of_word type_rows word.now }
 {
     match word {
         b"A" => Some(1),
@@ -95,9 +95,9 @@ fn named_type(word: &[u8]) -> Option<u16>
 }
 
 /// The class whose own word it is.
-#[tactic(auto, unfolding(crate::specs::Codes::number_of))]
+#[tactic(auto, unfolding(crate::specs::Codes::number_of_word))]
 fn named_class(word: &[u8]) -> Option<u16>
-    ensures { result ≡ number_of class_rows word.now }
+    ensures { result ≡ number_of_word class_rows word.now }
 {
     match word {
         b"IN" => Some(1),
@@ -181,16 +181,16 @@ fn push_prefixed(text: &mut Vec<u8>, prefix: &[u8], number: u16) -> Result<(), N
 
 /// Puts the word of a type behind a text; the text stays where memory runs out.
 #[tactic(auto, unfolding(crate::specs::Codes::type_word))]
-pub fn push_type(text: &mut Vec<u8>, kind: RecordType) -> Result<(), NoMemory>
-    ensures ok { OnOk result (text.new.items ≡ text.old.items ++ type_word kind.0) }
+pub fn push_type(text: &mut Vec<u8>, record_type: RecordType) -> Result<(), NoMemory>
+    ensures ok { OnOk result (text.new.items ≡ text.old.items ++ type_word record_type.0) }
     ensures err { OnErr result (text.new.items ≡ text.old.items) }
 {
-    match own_type_word(kind.0) {
+    match own_type_word(record_type.0) {
         Some(word) => {
             text.extend_from_slice(word)?;
             Ok(())
         }
-        None => push_prefixed(text, b"TYPE", kind.0),
+        None => push_prefixed(text, b"TYPE", record_type.0),
     }
 }
 

@@ -1,6 +1,6 @@
 use Rattle.std.proofs.Common.{◌≡◌, ◌+◌, map, take, ◌-◌, ◌*◌}
 use Rattle.dns_model.specs.Chains.{judge}
-use Rattle.dns_trust.specs.Verdicts.{verdict_text}
+use Rattle.dns_trust.specs.Verdicts.{verdict_value}
 use Rattle.dns_chain.specs.Heard.{says_of, Tells}
 use Rattle.dns_chain.specs.Sends.{Asking}
 use Rattle.dns_chain.specs.Steps.{Went}
@@ -34,4 +34,4 @@ abbrev pub invariant-judge_signatures-loop-sig : goal.invariant-judge_signatures
 invariant-judge_signatures-loop-sig g l =
     Went (Asking g.H.DnsHandle.sent g.H.DnsHandle.requested l.inquiry.options l.inquiry.now) g.H.DnsHandle.faults g.H.DnsHandle.told l.initial.handle l.handle l.initial.sends l.sends ×
     ((tells : Tells) → g.H.DnsHandle.told l.initial.handle ≡ tells →
-    SignaturesDone (judge (g.V.Verifier.answers l.verifier) l.anchors l.inquiry.now) l.inquiry.limit (says_of tells) l.query l.depth l.initial.sends l.set (take l.sig-index l.tried) (map verdict_text l.verdicts.items) l.sends)
+    SignaturesDone (judge (g.V.Verifier.answers l.verifier) l.anchors l.inquiry.now) l.inquiry.limit (says_of tells) l.query l.depth l.initial.sends l.set (take l.sig-index l.tried) (map verdict_value l.verdicts.items) l.sends)

@@ -4,9 +4,9 @@ use Rattle.std.proofs.lemmas.List.{length-take}
 use Rattle.dns_message.specs.declared.step.Step.TheVariants as step
 use Rattle.dns_message.specs.NameAt.{step_of, name_at, spelled_at}
 use Rattle.dns_message.specs.Fitting.{IsSpelled, ending_or}
-use Rattle.dns_message.proofs.NameReading.{Walked, walked_none, walked_root, walked_label, walked_jump, label_step, jump_step, ending_fits, step_is, step_fails, spelled_is}
-use Rattle.dns_message.specs.Hops.{hop_in}
-use Rattle.dns_message.proofs.HopReading.{hop_in_is}
+use Rattle.dns_message.proofs.NameReading.{Walked, walked_none, walked_root, walked_label, walked_pointer, label_step, pointer_step, ending_fits, step_is, step_fails, spelled_is}
+use Rattle.dns_message.specs.Pointers.{pointer_end_in}
+use Rattle.dns_message.proofs.PointerReading.{pointer_end_in_is}
 use Rattle.dns_message.proofs.name_reader.spelled_of.Goals as goal
 
 pub steps-init : goal.steps-init
@@ -49,14 +49,14 @@ steps-preserved-in-Label c =
 
 pub steps-preserved : goal.steps-preserved
 steps-preserved c =
-    let is : step_of c.args.bytes.now c.steps.start c.steps.pos (length c.steps.wire.items) ≡ Ok (step.Jump c.in-Jump.target) =
-    step_is _ _ _ _ _ _ _ _ (c.steps.wire.ok.0) c.len.ensures c.in_ok-step_at.ensures.reads (ap Ok c.in-Jump.is) in
-    let s = jump_step c.args.bytes.now c.steps.start c.steps.pos (length c.steps.wire.items) c.in-Jump.target is in
-    let hop = hop_in_is c.args.bytes.now c.args.hops.now c.in-Jump.target c.requires.hops in
+    let is : step_of c.args.bytes.now c.steps.start c.steps.pos (length c.steps.wire.items) ≡ Ok (step.Pointer c.in-Pointer.target) =
+    step_is _ _ _ _ _ _ _ _ (c.steps.wire.ok.0) c.len.ensures c.in_ok-step_at.ensures.reads (ap Ok c.in-Pointer.is) in
+    let s = pointer_step c.args.bytes.now c.steps.start c.steps.pos (length c.steps.wire.items) c.in-Pointer.target is in
+    let pointer_end = pointer_end_in_is c.args.bytes.now c.args.pointer_ends.now c.in-Pointer.target c.requires.pointer_ends in
     record {
-      walk = rw (c.hop_in-start.ensures, c.ending_or-in-Jump.ensures) (walked_jump c.args.bytes.now c.args.at c.steps.start c.steps.pos c.steps.ending c.steps.wire.items c.in-Jump.target (hop_in c.args.hops.now c.in-Jump.target) c.steps.invariant.walk is hop);
+      walk = rw (c.pointer_end_in-start.ensures, c.ending_or-in-Pointer.ensures) (walked_pointer c.args.bytes.now c.args.at c.steps.start c.steps.pos c.steps.ending c.steps.wire.items c.in-Pointer.target (pointer_end_in c.args.pointer_ends.now c.in-Pointer.target) c.steps.invariant.walk is pointer_end);
       room = search rules;
-      start_fits = omega (arith, s.before, hop.before, c.hop_in-start.ensures, c.steps.invariant.start_fits);
-      pos_fits = omega (arith, s.before, hop.before, c.hop_in-start.ensures, c.steps.invariant.start_fits);
-      ending_fits = rw c.ending_or-in-Jump.ensures (ending_fits c.steps.ending (c.steps.pos + 2) (length c.args.bytes.now) c.steps.invariant.ending_fits s.inside);
+      start_fits = omega (arith, s.before, pointer_end.before, c.pointer_end_in-start.ensures, c.steps.invariant.start_fits);
+      pos_fits = omega (arith, s.before, pointer_end.before, c.pointer_end_in-start.ensures, c.steps.invariant.start_fits);
+      ending_fits = rw c.ending_or-in-Pointer.ensures (ending_fits c.steps.ending (c.steps.pos + 2) (length c.args.bytes.now) c.steps.invariant.ending_fits s.inside);
     }

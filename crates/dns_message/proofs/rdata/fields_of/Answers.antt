@@ -2,7 +2,7 @@ use Rattle.std.proofs.Common.{rules, ◌≡◌, ◌+◌, ◌≤◌, ◌<◌, ℕ
 use Rattle.std.specs.Prelude.{◌==◌}
 use Rattle.std.proofs.lemmas.Bool.Decides.{nat_tests}
 use Rattle.dns_message.specs.RdataAt.{field_at, fields_at, with_bytes}
-use Rattle.dns_message.specs.Fitting.{field_text, IsAppended, FieldRead}
+use Rattle.dns_message.specs.Fitting.{field_value, IsAppended, FieldRead}
 use Rattle.dns_message.proofs.RdataReading.{next_field, fields_more, fields_none, fields_done, fields_start}
 use Rattle.dns_message.proofs.rdata.fields_of.Goals as goal
 

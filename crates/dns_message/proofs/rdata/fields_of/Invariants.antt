@@ -1,10 +1,10 @@
 use Rattle.std.proofs.Common.{◌≡◌, ◌≤◌, length, map, drop}
 use Rattle.dns_message.specs.RdataAt.{with_bytes, fields_at}
-use Rattle.dns_message.specs.Fitting.{field_text}
+use Rattle.dns_message.specs.Fitting.{field_value}
 use Rattle.dns_message.proofs.rdata.fields_of.Given as goal
 
 abbrev pub invariant-loop-field : goal.invariant-loop-field
 invariant-loop-field l = record {
-  so_far : with_bytes l.into.items (fields_at (map field_text (drop l.field-index l.shape)) l.bytes l.pos l.stop) ≡ fields_at (map field_text l.shape) l.bytes l.at l.stop;
+  so_far : with_bytes l.into.items (fields_at (map field_value (drop l.field-index l.shape)) l.bytes l.pos l.stop) ≡ fields_at (map field_value l.shape) l.bytes l.at l.stop;
   fits : l.pos ≤ length l.bytes;
 }

@@ -13,5 +13,5 @@ returns-clause-order c =
     let a = c.args._a.now in
     let b = c.args._b.now in
     let ties = question_ties a b in
-    let equal = Equal-is (ordering_then (name_cmp a.owner b.owner) (ordering_then (nat_cmp a.kind b.kind) (nat_cmp a.class b.class))) in
+    let equal = Equal-is (ordering_then (name_cmp a.owner b.owner) (ordering_then (nat_cmp a.rtype b.rtype) (nat_cmp a.class b.class))) in
     (λ h. equal.0 (sym ties ∙ h), λ h. ties ∙ equal.1 h)

@@ -1,5 +1,5 @@
 use Rattle.std.proofs.Common.{◌≡◌, length}
-use Rattle.dns_session.specs.Places.{many}
+use Rattle.dns_session.specs.LinePlaces.{many}
 use Rattle.dns_session.proofs.ManyLemmas.{with_front}
 use Rattle.dns_session.proofs.form.many.Given as goal
 

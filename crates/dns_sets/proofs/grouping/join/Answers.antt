@@ -4,7 +4,7 @@ use Rattle.dns_sets.proofs.grouping.join.Goals as goal
 
 pub index_mut-requires : goal.index_mut-requires
 index_mut-requires c =
-    let h = (place_at c.args.places.now c.args.sets.now.items c.args.met.now.owner c.args.met.now.kind c.in-Some.place c.requires c.in-Some.ensures).within in
+    let h = (place_at c.args.places.now c.args.sets.now.items c.args.met.now.owner c.args.met.now.rtype c.in-Some.place c.requires c.in-Some.ensures).within in
     search (rules, h)
 
 pub returns-in_ok-add_record-in-Some-clause-sets : goal.returns-in_ok-add_record-in-Some-clause-sets
@@ -14,7 +14,7 @@ returns-in_ok-add_record-in-Some-clause-sets c =
 
 pub returns-in_ok-add_record-in-Some-clause-places : goal.returns-in_ok-add_record-in-Some-clause-places
 returns-in_ok-add_record-in-Some-clause-places c =
-    joined_places c.args.places.now c.args.sets.now.items c.args.met.now.owner c.args.met.now.kind c.in_ok-next.next c.in-Some.place c.index_mut.result.now c.add_record.new.set
+    joined_places c.args.places.now c.args.sets.now.items c.args.met.now.owner c.args.met.now.rtype c.in_ok-next.next c.in-Some.place c.index_mut.result.now c.add_record.new.set
     c.requires c.in-Some.ensures c.index_mut.ensures.value c.in_ok-add_record-in-Some.ensures
 
 pub returns-in_ok-push-in-None-clause-sets : goal.returns-in_ok-push-in-None-clause-sets

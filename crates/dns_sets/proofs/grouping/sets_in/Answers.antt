@@ -1,6 +1,6 @@
 use Rattle.std.proofs.Common.{ap, sym, ◌∙◌, subst}
 use Rattle.dns_sets.specs.Joining.{met_by, given}
-use Rattle.dns_sets.specs.Places.{ArePlaces}
+use Rattle.dns_sets.specs.SetPlaces.{ArePlaces}
 use Rattle.dns_sets.proofs.Joining.{bare_more}
 use Rattle.dns_sets.proofs.Signing.{part_none, part_more, part_all}
 use Rattle.dns_sets.proofs.JoinSteps.{no_sets, no_places}

@@ -1,7 +1,7 @@
 use Rattle.std.proofs.Common.{◌≡◌, take}
 use Rattle.dns_model.specs.Sections.{unsigned_part}
 use Rattle.dns_sets.specs.Joining.{bare_sets, part_sets}
-use Rattle.dns_sets.specs.Places.{ArePlaces}
+use Rattle.dns_sets.specs.SetPlaces.{ArePlaces}
 use Rattle.dns_sets.proofs.grouping.sets_in.Given as goal
 
 abbrev pub invariant-records : goal.invariant-records

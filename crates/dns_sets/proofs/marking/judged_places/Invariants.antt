@@ -1,5 +1,5 @@
 use Rattle.std.proofs.Common.{take}
-use Rattle.dns_sets.specs.Places.{ArePlacedIn}
+use Rattle.dns_sets.specs.SetPlaces.{ArePlacedIn}
 use Rattle.dns_sets.proofs.marking.judged_places.Given as goal
 
 abbrev pub invariant-loop-place : goal.invariant-loop-place

@@ -1,15 +1,15 @@
 use Rattle.std.proofs.Common.{rules}
-use Rattle.dns_model.specs.Answers.{set_kind}
+use Rattle.dns_model.specs.SoundAnswers.{set_rtype}
 use Rattle.dns_sets.proofs.MarkSteps.{set_at, marked_at, marked_none}
 use Rattle.dns_sets.proofs.marking.mark.Goals as goal
 
 pub bounds-sets-place : goal.bounds-sets-place
 bounds-sets-place c =
-    (set_at c.args.places.now c.args.section c.args.sets.now c.args.next.now.owner (set_kind c.args.next.now) c.in-Some.place c.requires c.in-Some.ensures).within
+    (set_at c.args.places.now c.args.section c.args.sets.now c.args.next.now.owner (set_rtype c.args.next.now) c.in-Some.place c.requires c.in-Some.ensures).within
 
 pub offset_bounds-sets-place : goal.offset_bounds-sets-place
 offset_bounds-sets-place c =
-    let h = (set_at c.args.places.now c.args.section c.args.sets.now c.args.next.now.owner (set_kind c.args.next.now) c.in-Some.place c.requires c.in-Some.ensures).within in
+    let h = (set_at c.args.places.now c.args.section c.args.sets.now c.args.next.now.owner (set_rtype c.args.next.now) c.in-Some.place c.requires c.in-Some.ensures).within in
     search (rules, h)
 
 pub returns-in-Some : goal.returns-in-Some

@@ -1,11 +1,11 @@
 use Rattle.std.proofs.Common.{◌≡◌}
-use Rattle.dns_trust.specs.Listing.{entry_number, is_entry, number_of}
+use Rattle.dns_trust.specs.Listing.{entry_number, is_entry, signature_number}
 use Rattle.dns_trust.proofs.Found.{found}
 use Rattle.dns_trust.proofs.Alike.{entry_alike}
 use Rattle.dns_trust.proofs.listed.Listed.holds.Goals as goal
 
 pub returns : goal.returns
 returns c =
-    rw (c.is_at.ensures, c.deref.ensures.value, c.places_of-places.ensures, c.number_of.ensures, ← c.self.view_is)
-    (found entry_number (is_entry c.args.algorithm c.args.key.now c.args.bytes.now c.args.signature.now) (number_of c.args.algorithm c.args.key.now c.args.bytes.now c.args.signature.now) c.self.inside.places c.self.inside.accepted.items
+    rw (c.is_at.ensures, c.deref.ensures.value, c.places_of-places.ensures, c.signature_number.ensures, ← c.self.view_is)
+    (found entry_number (is_entry c.args.algorithm c.args.key.now c.args.bytes.now c.args.signature.now) (signature_number c.args.algorithm c.args.key.now c.args.bytes.now c.args.signature.now) c.self.inside.places c.self.inside.accepted.items
     (entry_alike c.args.algorithm c.args.key.now c.args.bytes.now c.args.signature.now) c.self.invariant)

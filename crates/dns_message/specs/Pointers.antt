@@ -1,0 +1,16 @@
+-- Where a row of bare pointers, each to the next, ends: a name that stands at its front is the one that stands at its end (RFC 1035, 4.1.4).
+use Rattle.std.specs.Prelude.{◌≡◌, ℕ, ◌<◌, ◌≤◌, List, length, slice_index, nat_lt, if◌then◌else◌}
+use Rattle.dns_message.specs.NameAt.{ending_at, labels_at}
+
+-- a row of labels that begins at `from` reads as the one that begins at `to`
+pub record IsPointerEnd (bytes : List ℕ) (from to : ℕ) : Type 0 where
+  pub before : to ≤ from
+  pub alike : (size place : ℕ) → ending_at place (labels_at bytes from from size) ≡ ending_at place (labels_at bytes to to size)
+
+-- a table of them, by the place
+pub record ArePointerEnds (bytes pointer_ends : List ℕ) : Type 0 where
+  pub each : (place : ℕ) → place < length pointer_ends → IsPointerEnd bytes place (slice_index pointer_ends place)
+
+-- where a pointer leads by the table, or its target where the table ends before it
+abbrev pub pointer_end_in : List ℕ → ℕ → ℕ
+pointer_end_in pointer_ends target = if nat_lt target (length pointer_ends) then slice_index pointer_ends target else target

@@ -1,0 +1,213 @@
+-- What a reply tells, and when an answer is sound (RFC 4035, 4.3 and 5).
+use Rattle.std.specs.Prelude.{ℕ, ◌≡◌, ◌≤◌, ◌⊎◌, Bool, true, false, ◌==◌, ◌&&◌, ◌||◌, min, List, [], ◌∷◌, ◌++◌, map, Option, None, Some, if◌then◌else◌}
+use Rattle.std.specs.List.{filter, find, AllByRecursion}
+use Rattle.dns_model.specs.declared.proof.Proof.{Proof}
+use Rattle.dns_model.specs.declared.proof.Proof.TheVariants.{Secure, Insecure, Bogus, Indeterminate}
+use Rattle.dns_model.specs.declared.section.Section.{Section}
+use Rattle.dns_model.specs.declared.section.Section.TheVariants.{Answer, Authority, Additional}
+use Rattle.dns_model.specs.declared.denial.Denial.{Denial}
+use Rattle.dns_model.specs.Names.{Labels, name_eq}
+use Rattle.dns_model.specs.Types.{type_rrsig}
+use Rattle.dns_model.specs.Views.{RrsigValue, rrsig_in}
+use Rattle.dns_model.specs.Serial.{seconds_left}
+use Rattle.dns_model.specs.Records.{Rr, RrSet, MessageValue}
+use Rattle.dns_model.specs.Sections.{sets_of, is_signature}
+use Rattle.dns_model.specs.Chains.{LinkValue, Judge, Anchored, Matched, KeySet, Signed, justified, ends_at, last_link}
+
+-- the records that a reply tells
+pub record Told : Type 0 where
+  pub code : ℕ
+  pub answers : List Rr
+  pub authorities : List Rr
+  pub additionals : List Rr
+
+-- a message tells its code and its three sections; an OPT is no record
+abbrev pub told_by : MessageValue → Told
+told_by message = record {
+  code = message.response_code;
+  answers = message.answers;
+  authorities = message.authorities;
+  additionals = message.additionals;
+}
+
+-- a chain, and the section that its set stands in
+pub record ChainValue : Type 0 where
+  pub section : Section
+  pub links : List LinkValue
+
+-- an answer: a message, the chains of its Secure sets, and what it denies
+pub record ResponseValue : Type 0 where
+  pub message : MessageValue
+  pub chains : List ChainValue
+  pub denial : Denial
+
+abbrev pub is_secure : Proof → Bool
+is_secure Secure = true
+is_secure Insecure = false
+is_secure Bogus = false
+is_secure Indeterminate = false
+
+abbrev pub section_eq : Section → Section → Bool
+section_eq Answer Answer = true
+section_eq Answer Authority = false
+section_eq Answer Additional = false
+section_eq Authority Answer = false
+section_eq Authority Authority = true
+section_eq Authority Additional = false
+section_eq Additional Answer = false
+section_eq Additional Authority = false
+section_eq Additional Additional = true
+
+-- the records of a section
+abbrev pub section_of : Told → Section → List Rr
+section_of told Answer = told.answers
+section_of told Authority = told.authorities
+section_of told Additional = told.additionals
+
+-- a set, and the section that it stands in
+pub record Placed : Type 0 where
+  pub section : Section
+  pub set : RrSet
+
+abbrev pub in_section : Section → RrSet → Placed
+in_section section set = record { section = section; set = set }
+
+-- the sets of all sections, in order
+abbrev pub placed_sets : Told → List Placed
+placed_sets told =
+    map (in_section Answer) (sets_of told.answers) ++ map (in_section Authority) (sets_of told.authorities)
+    ++ map (in_section Additional) (sets_of told.additionals)
+
+-- the mark of a set is that of its first record
+abbrev pub first_mark : List Rr → Proof
+first_mark [] = Indeterminate
+first_mark (r ∷ rs) = r.proof
+
+abbrev pub is_secure_set : RrSet → Bool
+is_secure_set set = is_secure (first_mark set.records)
+
+-- the records of a set have one mark
+abbrev pub HasOneMark : RrSet → Type 0
+HasOneMark set = AllByRecursion (λ r. r.proof ≡ first_mark set.records) set.records
+
+abbrev pub HaveOneMark : List Rr → Type 0
+HaveOneMark section = AllByRecursion HasOneMark (sets_of section)
+
+abbrev pub secure_sets : Told → List Placed
+secure_sets told = filter (λ p. is_secure_set p.set) (placed_sets told)
+
+-- a chain names a set's section, ends at the set, and is justified
+pub record IsChainOf (j : Judge) (chain : ChainValue) (placed : Placed) : Type 0 where
+  pub named : chain.section ≡ placed.section
+  pub ends : ends_at chain.links placed.set ≡ true
+  pub holds : justified j chain.links ≡ true
+
+-- one chain for each set, in order
+abbrev pub AreChainsOf : Judge → List ChainValue → List Placed → Type 0
+AreChainsOf j [] [] = Unit {0}
+AreChainsOf j [] (p ∷ ps) = ⊥
+AreChainsOf j (chain ∷ chains) [] = ⊥
+AreChainsOf j (chain ∷ chains) (p ∷ ps) = IsChainOf j chain p × AreChainsOf j chains ps
+
+abbrev pub covered_rtype : Option RrsigValue → ℕ → ℕ
+covered_rtype None rtype = rtype
+covered_rtype (Some sig) rtype = sig.covered
+
+-- the type of the set that a record belongs to, or that it covers as a signature
+abbrev pub set_rtype : Rr → ℕ
+set_rtype r = if is_signature r then covered_rtype (rrsig_in r.rdata) r.rtype else r.rtype
+
+abbrev pub link_is_of : Labels → ℕ → Option LinkValue → Bool
+link_is_of owner rtype None = false
+link_is_of owner rtype (Some (Anchored o c key)) = false
+link_is_of owner rtype (Some (Matched o c key ds_link ds)) = false
+link_is_of owner rtype (Some (KeySet o c keys links)) = name_eq owner o && (rtype == 48)
+link_is_of owner rtype (Some (Signed o c k rdatas sig key_link key)) = name_eq owner o && (rtype == k)
+
+abbrev pub chain_is_of : Section → Labels → ℕ → ChainValue → Bool
+chain_is_of section owner rtype chain = section_eq section chain.section && link_is_of owner rtype (last_link chain.links)
+
+abbrev pub last_of : Option ChainValue → Option LinkValue
+last_of None = None
+last_of (Some chain) = last_link chain.links
+
+-- the last link of the chain that ends at the set of a record, or at the set that the record covers
+abbrev pub deciding_link : List ChainValue → Section → Rr → Option LinkValue
+deciding_link chains section r = last_of (find (chain_is_of section r.owner (set_rtype r)) chains)
+
+abbrev pub ttl_of : Option Rr → ℕ
+ttl_of None = 0
+ttl_of (Some r) = r.ttl
+
+-- the ttl of the first record of a section with this owner and type
+abbrev pub first_ttl : List Rr → Labels → ℕ → ℕ
+first_ttl section owner rtype = ttl_of (find (λ r. name_eq owner r.owner && (rtype == r.rtype)) section)
+
+-- the ttl that a signature leaves to records: no more than the original ttl and the seconds that it is still valid
+abbrev pub signed_ttl : Option RrsigValue → ℕ → ℕ
+signed_ttl None now = 0
+signed_ttl (Some sig) now = min sig.original_ttl (seconds_left sig now)
+
+-- a Secure record's ttl by the last link of its set's chain: as it was told under a key set, else the least of three numbers;
+-- a Secure signature is the one that the link names
+abbrev pub IsSecureTtl : ℕ → List Rr → Rr → Rr → Option LinkValue → Type 0
+IsSecureTtl now section t r None = ⊥
+IsSecureTtl now section t r (Some (Anchored owner class key)) = ⊥
+IsSecureTtl now section t r (Some (Matched owner class key ds_link ds)) = ⊥
+IsSecureTtl now section t r (Some (KeySet owner class keys links)) = (is_signature r ≡ false) × (r.ttl ≡ t.ttl)
+IsSecureTtl now section t r (Some (Signed owner class rtype rdatas sig key_link key)) =
+    (is_signature r ≡ true → r.rdata ≡ sig)
+    × (r.ttl ≡ min (first_ttl section r.owner (set_rtype r)) (signed_ttl (rrsig_in sig) now))
+
+-- a record of an answer beside the record as it was told
+pub record IsKept (now : ℕ) (chains : List ChainValue) (section : Section) (told : List Rr) (t r : Rr) : Type 0 where
+  pub owner : r.owner ≡ t.owner
+  pub rtype : r.rtype ≡ t.rtype
+  pub class : r.class ≡ t.class
+  pub rdata : r.rdata ≡ t.rdata
+  pub plain : is_secure r.proof ≡ false → r.ttl ≡ t.ttl
+  pub secure : is_secure r.proof ≡ true → IsSecureTtl now told t r (deciding_link chains section r)
+
+-- the records of a section are those that were told, in order
+abbrev pub AreKept : (Rr → Rr → Type 0) → List Rr → List Rr → Type 0
+AreKept Kept [] [] = Unit {0}
+AreKept Kept [] (r ∷ rs) = ⊥
+AreKept Kept (t ∷ ts) [] = ⊥
+AreKept Kept (t ∷ ts) (r ∷ rs) = Kept t r × AreKept Kept ts rs
+
+-- the answer holds exactly the records that were told, each set with one mark, each Secure set with one justified chain
+pub record Sound (j : Judge) (now : ℕ) (told : Told) (a : ResponseValue) : Type 0 where
+  pub code : a.message.response_code ≡ told.code
+  pub answers : AreKept (IsKept now a.chains Answer told.answers) told.answers a.message.answers
+  pub authorities : AreKept (IsKept now a.chains Authority told.authorities) told.authorities a.message.authorities
+  pub additionals : AreKept (IsKept now a.chains Additional told.additionals) told.additionals a.message.additionals
+  pub marks_of_answers : HaveOneMark a.message.answers
+  pub marks_of_authorities : HaveOneMark a.message.authorities
+  pub marks_of_additionals : HaveOneMark a.message.additionals
+  pub chains : AreChainsOf j a.chains (secure_sets (told_by a.message))
+
+-- a Secure record's ttl where nothing tells what the upstream said: under a signature that of its set, and no more than the
+-- signature leaves
+abbrev pub IsBoundedTtl : ℕ → List Rr → Rr → Option LinkValue → Type 0
+IsBoundedTtl now section r None = ⊥
+IsBoundedTtl now section r (Some (Anchored owner class key)) = ⊥
+IsBoundedTtl now section r (Some (Matched owner class key ds_link ds)) = ⊥
+IsBoundedTtl now section r (Some (KeySet owner class keys links)) = is_signature r ≡ false
+IsBoundedTtl now section r (Some (Signed owner class rtype rdatas sig key_link key)) =
+    (is_signature r ≡ true → r.rdata ≡ sig)
+    × (r.ttl ≡ first_ttl section r.owner (set_rtype r))
+    × (r.ttl ≤ signed_ttl (rrsig_in sig) now)
+
+abbrev pub AreBounded : ℕ → List ChainValue → Section → List Rr → Type 0
+AreBounded now chains section records =
+    AllByRecursion (λ r. is_secure r.proof ≡ true → IsBoundedTtl now records r (deciding_link chains section r)) records
+
+-- the part of `Sound` that speaks of the answer alone, for an upstream that doesn't tell
+pub record SoundAlone (j : Judge) (now : ℕ) (a : ResponseValue) : Type 0 where
+  pub answers : AreBounded now a.chains Answer a.message.answers
+  pub authorities : AreBounded now a.chains Authority a.message.authorities
+  pub additionals : AreBounded now a.chains Additional a.message.additionals
+  pub marks_of_answers : HaveOneMark a.message.answers
+  pub marks_of_authorities : HaveOneMark a.message.authorities
+  pub marks_of_additionals : HaveOneMark a.message.additionals
+  pub chains : AreChainsOf j a.chains (secure_sets (told_by a.message))
