@@ -1,0 +1,171 @@
+#!/usr/bin/env python3
+"""The large rows: sessions that would be long files, with the outputs that the rules ask for.
+
+    python3 rows/generate.py FOLDER
+
+writes each as FOLDER/NAME.session, NAME.out and NAME.status. `tools/run_rows` runs them without any file."""
+import os
+import sys
+
+import texts
+from texts import A, DNSKEY, KEY, NS, OPAQUE, Record, Signed
+
+MOST_INPUT = 16_777_216
+MOST_SENDS = 1024
+MOST_MESSAGE = 65_535
+ROOT = []
+SERVER = texts.wire([b"a"])
+ADDRESS = bytes.fromhex("c0000201")
+
+
+def root_servers(key=KEY):
+    return Signed([Record(ROOT, NS, SERVER)], key)
+
+
+def by_one_key(signed, anchors=(KEY,), accepts=(), further=()):
+    """A lookup of the first set, in an answer of these and further records, under one anchored key."""
+    name, kind = signed[0].owner, signed[0].kind
+    answers = [record for one in signed for record in one.section()]
+    replies = [texts.reply(name, kind, texts.message(name, kind, answers, further)), texts.keys_reply([KEY])]
+    accepts = [*accepts, *(one.accept() for one in signed)]
+    return texts.session(map(texts.anchor, anchors), accepts, name, kind, replies)
+
+
+def chain_by_one_key(signed):
+    return texts.chain([texts.anchored(KEY), texts.key_set([KEY]), signed.link(1)])
+
+
+def stored_report():
+    servers = root_servers()
+    return texts.report(servers.lines("answer", True), chain_by_one_key(servers))
+
+
+def forty_keys():
+    """A key set of 40 keys, signed by the first, which is anchored; the last signs the answer."""
+    keys = [texts.key_of(texts.number(k * k + 1, 2) + bytes(range(k))) for k in range(40)]
+    by_first = Signed([Record(ROOT, DNSKEY, key) for key in keys], keys[0])
+    servers = root_servers(keys[-1])
+    replies = [texts.reply(ROOT, NS, texts.message(ROOT, NS, servers.section())), texts.keys_reply(keys, by_first)]
+    session = texts.session([texts.anchor(keys[0])], [by_first.accept(), servers.accept()], ROOT, NS, replies)
+    links = [texts.anchored(keys[0]), by_first.link(0), servers.link(1)]
+    return session, texts.report(servers.lines("answer", True), texts.chain(links)), 0
+
+
+def sixty_links():
+    """A key set of 58 keys, all anchored: a link for each, one for the set, one for the answer."""
+    keys = [texts.key_of(texts.number(k * k + 1, 2)) for k in range(58)]
+    servers = root_servers(keys[-1])
+    replies = [texts.reply(ROOT, NS, texts.message(ROOT, NS, servers.section())), texts.keys_reply(keys)]
+    session = texts.session(map(texts.anchor, keys), [servers.accept()], ROOT, NS, replies)
+    links = [*map(texts.anchored, keys), texts.key_set(keys), servers.link(len(keys))]
+    return session, texts.report(servers.lines("answer", True), texts.chain(links)), 0
+
+
+def two_hundred_sets():
+    """A message of 200 sets: the answer, and 199 without a signature in the additional section."""
+    servers = root_servers()
+    further = [Record([b"n%d" % k], A, ADDRESS) for k in range(199)]
+    session = by_one_key([servers], further=further)
+    lines = [*servers.lines("answer", True), *(one.line("additional", texts.TTL, "bogus") for one in further)]
+    return session, texts.report(lines, chain_by_one_key(servers)), 0
+
+
+def signed_addresses(count):
+    return [Signed([Record([b"n%d" % k], A, ADDRESS)], KEY) for k in range(count)]
+
+
+def hundred_chains():
+    """An answer of 100 sets with a chain each."""
+    signed = signed_addresses(100)
+    lines = [line for one in signed for line in one.lines("answer", True)]
+    chains = [line for one in signed for line in chain_by_one_key(one)]
+    return by_one_key(signed), texts.report(lines, chains), 0
+
+
+def more_sends_than_are_made():
+    """Each set of the answer asks for the root's keys, and no ask is made past the 1,024th send."""
+    signed = signed_addresses(1_050)
+    asked = MOST_SENDS - 1
+    lines = [line for place, one in enumerate(signed) for line in one.lines("answer", place < asked)]
+    chains = [line for one in signed[:asked] for line in chain_by_one_key(one)]
+    return by_one_key(signed), texts.report(lines, chains), 0
+
+
+def name_of_127_labels():
+    """A name of 127 labels, whose wire form has 255 bytes, signed with all its labels."""
+    signed = Signed([Record([b"a"] * 127, A, ADDRESS)], KEY)
+    return by_one_key([signed]), texts.report(signed.lines("answer", True), chain_by_one_key(signed)), 0
+
+
+def longest_message():
+    """A message of 65,535 bytes with one record, whose rdata fills it."""
+    front = len(texts.message(ROOT, OPAQUE, [Record(ROOT, OPAQUE, b"")]))
+    filling = Record(ROOT, OPAQUE, bytes(place % 251 for place in range(MOST_MESSAGE - front)))
+    octets = texts.message(ROOT, OPAQUE, [filling])
+    assert len(octets) == MOST_MESSAGE
+    session = texts.session([texts.anchor(KEY)], [], ROOT, OPAQUE, [texts.reply(ROOT, OPAQUE, octets)])
+    return session, texts.report([filling.line("answer", texts.TTL, "bogus")], []), 0
+
+
+def thousand_anchors():
+    """1,000 anchors, of which the last is the key of the zone."""
+    anchors = [texts.key_of(b"\1" + texts.number(k, 2)) for k in range(999)]
+    return by_one_key([root_servers()], anchors=[*anchors, KEY]), stored_report(), 0
+
+
+def of_length(most):
+    """The stored session with further lines, so many bytes in all."""
+    servers = root_servers()
+    room = most - len(by_one_key([servers]))
+    accepts = []
+    while room:
+        # two digits a byte, and an algorithm of one digit or two, so that every room can be filled
+        size = min(100_000, room - len("accept 13 -  c0de\n"))
+        if 0 < room - size - len("accept 13 -  c0de\n") < 1_000:
+            size -= 1_000
+        algorithm = "13" if size % 2 == 0 else "8"
+        size += size % 2
+        accepts.append(f"accept {algorithm} - {'5a' * (size // 2)} c0de")
+        room -= len(accepts[-1]) + 1
+    session = by_one_key([servers], accepts=accepts)
+    assert len(session) == most
+    return session
+
+
+def longest_input():
+    """A session of 16 MiB."""
+    return of_length(MOST_INPUT), stored_report(), 0
+
+
+def input_of_a_byte_too_many():
+    """A session of 16 MiB and a byte."""
+    return of_length(MOST_INPUT + 1), b"input too long\n", 7
+
+
+def line_of_sixteen_mebibytes():
+    """16 MiB of spaces, which are read and are one bad line."""
+    return b" " * MOST_INPUT, b"bad line 1\n", 3
+
+
+MADE = (forty_keys, sixty_links, two_hundred_sets, hundred_chains, more_sends_than_are_made, name_of_127_labels,
+        longest_message, thousand_anchors, longest_input, input_of_a_byte_too_many, line_of_sixteen_mebibytes)
+
+
+def rows():
+    """The rows by name: session, output and status, under the word `validate`."""
+    return {make.__name__.replace("_", "-"): make for make in MADE}
+
+
+def main(folder):
+    os.makedirs(folder, exist_ok=True)
+    for name, make in rows().items():
+        session, out, status = make()
+        for end, text in ((".session", session), (".out", out), (".status", b"%d\n" % status)):
+            with open(os.path.join(folder, name + end), "wb") as file:
+                file.write(text)
+
+
+if __name__ == "__main__":
+    if len(sys.argv) != 2:
+        sys.exit(__doc__)
+    main(sys.argv[1])

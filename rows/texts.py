@@ -1,0 +1,137 @@
+"""Sessions and the reports that are expected of them, made from the rules of the standards and never from the program.
+
+A row here has one zone, the root, whose keys are anchored or signed by an anchored one, and whose signatures the
+session's `accept` lines accept or don't. Names are lists of labels, the leaf first."""
+MOMENT, INCEPTION, EXPIRATION, TTL = 1000, 900, 2000, 3600
+A, NS, RRSIG, DNSKEY, OPAQUE, IN = 1, 2, 46, 48, 65280, 1
+WORDS = {A: "A", NS: "NS", RRSIG: "RRSIG", DNSKEY: "DNSKEY"}
+ALGORITHM = 13
+SIGNATURE = bytes.fromhex("c0de")
+# the key of the stored session: flags of a zone key, protocol 3, algorithm 13
+KEY = bytes.fromhex("0101030daabb")
+
+
+def number(value, size):
+    return value.to_bytes(size, "big")
+
+
+def wire(name):
+    """RFC 1035, 3.1."""
+    return b"".join(number(len(label), 1) + label for label in name) + b"\0"
+
+
+def shown(name):
+    """RFC 1035, 5.1. No label here needs an escape."""
+    return "".join(label.decode() + "." for label in name) or "."
+
+
+def type_word(kind):
+    return WORDS.get(kind, f"TYPE{kind}")
+
+
+def key_of(octets):
+    return KEY[:4] + octets
+
+
+def key_tag(rdata):
+    """RFC 4034, appendix B."""
+    total = sum(byte << 8 if place % 2 == 0 else byte for place, byte in enumerate(rdata))
+    return (total + (total >> 16 & 0xFFFF)) & 0xFFFF
+
+
+class Record:
+    def __init__(self, owner, kind, rdata):
+        self.owner, self.kind, self.rdata = owner, kind, rdata
+
+    def wire(self):
+        """RFC 1035, 4.1.3."""
+        fixed = number(self.kind, 2) + number(IN, 2) + number(TTL, 4)
+        return wire(self.owner) + fixed + number(len(self.rdata), 2) + self.rdata
+
+    def line(self, section, ttl, mark):
+        return f"{section} {shown(self.owner)} IN {type_word(self.kind)} {ttl} {mark} {self.rdata.hex()}"
+
+
+def question(name, kind):
+    return wire(name) + number(kind, 2) + number(IN, 2)
+
+
+def message(name, kind, answers, additionals=()):
+    """A reply with one question (RFC 1035, 4.1), names spelled out."""
+    counts = (1, len(answers), 0, len(additionals))
+    records = b"".join(record.wire() for record in (*answers, *additionals))
+    return bytes.fromhex("00008400") + b"".join(number(count, 2) for count in counts) + question(name, kind) + records
+
+
+class Signed:
+    """Records of one owner and type with a signature of the root by a key (RFC 4034, 3.1)."""
+
+    def __init__(self, records, key, signature=SIGNATURE):
+        self.records, self.key, self.signature = records, key, signature
+        first = records[0]
+        self.owner, self.kind = first.owner, first.kind
+        labels = len(first.owner) - (first.owner[:1] == [b"*"])
+        times = number(TTL, 4) + number(EXPIRATION, 4) + number(INCEPTION, 4)
+        head = number(first.kind, 2) + number(ALGORITHM, 1) + number(labels, 1) + times
+        self.front = head + number(key_tag(key), 2) + wire([])
+
+    def rrsig(self):
+        return Record(self.owner, RRSIG, self.front + self.signature)
+
+    def section(self):
+        return [*self.records, self.rrsig()]
+
+    def accept(self):
+        """RFC 4034, 3.1.8.1: the rdatas rise as bytes. No name here has a capital letter."""
+        rising = sorted(self.records, key=lambda record: record.rdata)
+        signed = self.front + b"".join(record.wire() for record in rising)
+        return f"accept {ALGORITHM} {self.key[4:].hex()} {signed.hex()} {self.signature.hex()}"
+
+    def link(self, place):
+        """A link by the key that the link at this place shows."""
+        rdatas = " ".join(record.rdata.hex() for record in self.records)
+        return (f"signed {shown(self.owner)} IN {type_word(self.kind)} {place} {self.key.hex()}"
+                f" {self.rrsig().rdata.hex()} {rdatas}")
+
+    def lines(self, section, is_secure):
+        """The ttl of a secure set is bounded by the seconds that its signature has left (RFC 4035, 5.3.3)."""
+        ttl = min(TTL, EXPIRATION - MOMENT) if is_secure else TTL
+        lines = [record.line(section, ttl, "secure" if is_secure else "bogus") for record in self.records]
+        return [*lines, self.rrsig().line(section, ttl, "secure" if is_secure else "indeterminate")]
+
+
+def anchor(key):
+    return f"anchor . {ALGORITHM} {key[4:].hex()}"
+
+
+def anchored(key):
+    return f"anchored . IN {key.hex()}"
+
+
+def key_set(keys):
+    """A key set all of whose keys are shown, each by the link at its own place."""
+    return "keyset . IN " + " ".join(f"{place} {key.hex()}" for place, key in enumerate(keys))
+
+
+def chain(links, section="answer"):
+    return [f"chain {section} {len(links)}", *links]
+
+
+def reply(name, kind, octets):
+    return f"reply {shown(name)} {type_word(kind)} {octets.hex() or '-'}"
+
+
+def keys_reply(keys, signed=None):
+    records = signed.section() if signed else [Record([], DNSKEY, key) for key in keys]
+    return reply([], DNSKEY, message([], DNSKEY, records))
+
+
+def session(anchors, accepts, name, kind, replies):
+    head = ["dns-session 1", f"moment {MOMENT}", f"algorithms {ALGORITHM}"]
+    query = f"query {shown(name)} {type_word(kind)}"
+    return "".join(line + "\n" for line in (*head, *anchors, *accepts, query, *replies, "end")).encode()
+
+
+def report(records, chains):
+    head = ["dns-report 1", "code 0", "denial none"]
+    return "".join(line + "\n" for line in (*head, *records, *chains, "end")).encode()
