@@ -1,14 +1,14 @@
-//! Tests that stand on many crates: lookups over recorded replies with the marks, chains and refusals that they bring, the
-//! asks that are sent, messages with a pointer at each place, and the longest message.
+//! Tests that stand on many crates: `run` over the repository's rows and over an outside that fails, what a lookup sends and
+//! refuses, messages with every pointer at their places, and the longest message.
 #![tactic(auto)]
 
 #[cfg(test)]
 mod longest_tests;
 #[cfg(test)]
+mod lookup_tests;
+#[cfg(test)]
 mod pointer_tests;
 #[cfg(test)]
-mod request_tests;
+mod run_tests;
 #[cfg(test)]
-mod rows;
-#[cfg(test)]
-mod tests;
+mod worked_rows;

@@ -7,9 +7,5 @@ mod answering;
 mod form;
 mod outcome;
 mod program;
-#[cfg(test)]
-mod rows;
-#[cfg(test)]
-mod tests;
 
 pub use program::run;

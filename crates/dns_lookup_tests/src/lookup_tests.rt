@@ -1,0 +1,217 @@
+//! What a lookup sends, and what a denial holds (RFC 1035, 4.1; RFC 6891, 6.1.2; RFC 4035, 4.1).
+use dns_chain::DnssecDnsHandle;
+use dns_message::Message;
+use dns_name::Name;
+use dns_net::{
+    DnsError, DnsHandle, DnsRequest, DnsRequestOptions, DnsResponse, NetError, Recorded,
+};
+use dns_record::{DNSClass, Denial, Octets, Proof, Query, Record, RecordType};
+use dns_trust::{Listed, TrustAnchors};
+use std::alloc::Global;
+
+/// The message of a request, and when it was sent.
+#[derive(Drop)]
+struct Sending {
+    message: Octets,
+    moment: u64,
+}
+
+/// A handle that keeps what it sends.
+#[derive(Drop)]
+struct Keeping {
+    replies: Recorded,
+    kept: Vec<Sending>,
+}
+
+impl DnsHandle for Keeping {
+    ghost use Rattle.std.specs.Prelude.{Some};
+    ghost use Rattle.dns_net.specs.Recording.{AnswersFrom};
+
+    ghost sends = { λ h. h.replies.sends };
+
+    ghost faults = { λ h. h.replies.faults };
+
+    ghost sent = { λ from asked to reply. AnswersFrom from.replies asked to.replies reply };
+
+    ghost told = { λ h. Some h.replies.replies };
+
+    fn send(
+        &mut self,
+        alloc: Global,
+        request: DnsRequest,
+        now: u64,
+    ) -> Result<DnsResponse, NetError> {
+        keep(alloc, &mut self.kept, &request, now);
+        self.replies.send(alloc, request, now)
+    }
+}
+
+// Keeps a request where memory is enough.
+fn keep(alloc: Global, kept: &mut Vec<Sending>, request: &DnsRequest, moment: u64) {
+    if let Ok(message) = request.message.to_vec(alloc) {
+        let _ = kept.push(Sending { message, moment });
+    }
+}
+
+/// A reply to a query for a name.
+struct Given {
+    name: &'static str,
+    query_type: RecordType,
+    message: &'static [u8],
+}
+
+/// The root's NS set with a signature, and its key set.
+const ROOT_SERVERS: [Given; 2] = [
+    Given {
+        name: ".",
+        query_type: RecordType::NS,
+        message: b"\0\0\x84\0\0\x01\0\x02\0\0\0\0\0\0\x02\0\x01\0\0\x02\0\x01\0\0\x0e\x10\0\x03\x01a\0\0\0\x2e\0\x01\0\0\x0e\x10\0\x15\0\x02\x0d\0\0\0\x0e\x10\0\0\x07\xd0\0\0\x03\x84\xae\xc9\0\xc0\xde",
+    },
+    Given {
+        name: ".",
+        query_type: RecordType::DNSKEY,
+        message: b"\0\0\x84\0\0\x01\0\x01\0\0\0\0\0\0\x30\0\x01\0\0\x30\0\x01\0\0\x0e\x10\0\x06\x01\x01\x03\x0d\xaa\xbb",
+    },
+];
+
+/// An NS set of `b.` that its signature, with no label, would expand, and the root's key set.
+const EXPANDED: [Given; 2] = [
+    Given {
+        name: "b.",
+        query_type: RecordType::NS,
+        message: b"\0\0\x84\0\0\x01\0\x02\0\0\0\0\x01b\0\0\x02\0\x01\x01b\0\0\x02\0\x01\0\0\x0e\x10\0\x03\x01a\0\x01b\0\0\x2e\0\x01\0\0\x0e\x10\0\x15\0\x02\x0d\0\0\0\x0e\x10\0\0\x07\xd0\0\0\x03\x84\xae\xc9\0\xc0\xde",
+    },
+    Given {
+        name: ".",
+        query_type: RecordType::DNSKEY,
+        message: b"\0\0\x84\0\0\x01\0\x01\0\0\0\0\0\0\x30\0\x01\0\0\x30\0\x01\0\0\x0e\x10\0\x06\x01\x01\x03\x0d\xaa\xbb",
+    },
+];
+
+fn query_of(alloc: Global, given: &Given) -> Result<Query, NetError> {
+    let name = match Name::from_ascii(alloc, given.name) {
+        Ok(name) => name,
+        Err(_) => return Err(NetError::Timeout),
+    };
+    Ok(Query {
+        name,
+        query_type: given.query_type,
+        query_class: DNSClass::IN,
+    })
+}
+
+fn response_of(alloc: Global, message: &[u8]) -> Result<DnsResponse, NetError> {
+    if message.len() > 65_535 {
+        return Err(NetError::Timeout);
+    }
+    match Message::from_vec(alloc, message) {
+        Ok(message) => Ok(DnsResponse {
+            message,
+            chains: Vec::new(alloc),
+            denial: Denial::None,
+        }),
+        Err(_) => Err(NetError::Timeout),
+    }
+}
+
+// A handle over these replies that trusts no key and accepts no signature.
+fn handle_over(
+    alloc: Global,
+    replies: &[Given],
+) -> Result<DnssecDnsHandle<Keeping, Listed>, NetError> {
+    let mut upstream = Keeping {
+        replies: Recorded::new(alloc),
+        kept: Vec::new(alloc),
+    };
+    for given in replies {
+        let response = response_of(alloc, given.message);
+        upstream.replies.push(query_of(alloc, given)?, response)?;
+    }
+    let anchors = TrustAnchors::empty(alloc);
+    Ok(DnssecDnsHandle::new(upstream, anchors, Listed::new(alloc))?)
+}
+
+/// An ask of the lookup of `. NS` with default options.
+struct Asked {
+    name: &'static str,
+    place: usize,
+    message: &'static [u8],
+}
+
+const ASKS: usize = 2;
+
+const ASKED: [Asked; ASKS] = [
+    Asked {
+        name: "the query",
+        place: 0,
+        message: b"\0\0\x01\x20\0\x01\0\0\0\0\0\x01\0\0\x02\0\x01\0\0\x29\x04\xd0\0\0\x80\0\0\0",
+    },
+    Asked {
+        name: "the keys",
+        place: 1,
+        message: b"\0\0\x01\x20\0\x01\0\0\0\0\0\x01\0\0\x30\0\x01\0\0\x29\x04\xd0\0\0\x80\0\0\0",
+    },
+];
+
+// What was kept at the row's place is its message, sent at this moment, and nothing else was kept than all rows.
+fn is_kept(kept: &[Sending], row: &Asked, moment: u64) -> bool {
+    match kept.get(row.place) {
+        Some(sending) => *sending.message.as_slice() == *row.message
+            && sending.moment == moment
+            && kept.len() == ASKS,
+        None => false,
+    }
+}
+
+fn is_sent(alloc: Global, row: &Asked) -> Result<bool, NetError> {
+    let mut handle = handle_over(alloc, &ROOT_SERVERS)?;
+    let query = query_of(alloc, &ROOT_SERVERS[0])?;
+    let _ = handle.lookup(alloc, query, DnsRequestOptions::default(), 1000)?;
+    Ok(is_kept(handle.inner().kept.as_slice(), row, 1000))
+}
+
+#[test]
+fn each_ask_has_the_options_of_the_lookup_and_its_moment(rt: HostRuntime) {
+    for row in &ASKED {
+        assert!(rt;
+            matches!(is_sent(rt.alloc(), row), Ok(true)),
+            "{}",
+            row.name
+        );
+    }
+}
+
+fn is_seen(record: &Record, record_type: RecordType, proof: Proof) -> bool {
+    record.record_type == record_type && record.ttl == 3600 && record.proof == proof
+}
+
+// The answer section of the judged response: a bogus NS record, and its signature.
+fn is_judged(answers: &[Record]) -> bool {
+    match answers {
+        [first, second] => is_seen(first, RecordType::NS, Proof::Bogus)
+            && is_seen(second, RecordType::RRSIG, Proof::Indeterminate),
+        _ => false,
+    }
+}
+
+fn denied(alloc: Global) -> Result<bool, NetError> {
+    let mut handle = handle_over(alloc, &EXPANDED)?;
+    let query = query_of(alloc, &EXPANDED[0])?;
+    match handle.lookup(alloc, query, DnsRequestOptions::default(), 1000) {
+        Err(
+            NetError::Dns(
+                DnsError::Nsec {
+                    query: _,
+                    response,
+                    proof,
+                },
+            ),
+        ) => Ok(proof == Proof::Bogus && is_judged(&response.message.answers)),
+        _ => Ok(false),
+    }
+}
+
+#[test]
+fn a_denial_holds_the_judged_response(rt: HostRuntime) {
+    assert!(rt; matches!(denied(rt.alloc()), Ok(true)));
+}

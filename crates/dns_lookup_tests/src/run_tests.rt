@@ -1,0 +1,121 @@
+//! `run` over sources and sinks in memory.
+use crate::worked_rows::{ROWS, Row};
+use dns_io::{Sink, SinkFault, SureSink, SureSource, TextSink, TextSource};
+use dns_run::run;
+use std::alloc::{AllocError, Global};
+use std::test::Fail;
+
+// A sink that takes one byte a write, and fails at its second.
+#[derive(Drop)]
+struct Slow {
+    taken: Vec<u8>,
+    faults: u64,
+}
+
+impl Sink for Slow {
+    ghost use Rattle.std.specs.Prelude.{Some};
+
+    ghost taken = { λ s. Some s.taken.items };
+
+    ghost faults = { λ s. s.faults };
+
+    fn write(&mut self, bytes: &[u8]) -> Result<usize, SinkFault> {
+        match bytes {
+            [first, ..] if self.taken.is_empty() => {
+                self.taken.push(*first)?;
+                Ok(1)
+            }
+            _ => {
+                self.faults = self.faults.saturating_add(1);
+                Err(SinkFault::Failed)
+            }
+        }
+    }
+}
+
+fn words_of(alloc: Global, words: &[&str]) -> Result<Vec<Vec<u8>>, AllocError> {
+    let mut all = Vec::new(alloc);
+    for word in words {
+        all.push(word.as_bytes().to_vec(alloc)?)?;
+    }
+    Ok(all)
+}
+
+// Words over a source and a sink that may fail, and whose numbered reads do.
+fn told_run(
+    alloc: Global,
+    words: &[&str],
+    session: &[u8],
+    failing: &[u64],
+) -> Result<(u8, Vec<u8>), AllocError> {
+    let words = words_of(alloc, words)?;
+    let mut source = TextSource::new(session.to_vec(alloc)?, failing.to_vec(alloc)?);
+    let mut sink = TextSink::new(alloc, Vec::new(alloc));
+    let status = run(alloc, &words, &mut source, &mut sink);
+    let text = sink.taken().to_vec(alloc)?;
+    Ok((status, text))
+}
+
+// Words over a source and a sink that never fail.
+fn sure_run(alloc: Global, words: &[&str], session: &[u8]) -> Result<(u8, Vec<u8>), AllocError> {
+    let words = words_of(alloc, words)?;
+    let mut source = SureSource::new(session.to_vec(alloc)?);
+    let mut sink = SureSink::new(alloc);
+    let status = run(alloc, &words, &mut source, &mut sink);
+    let text = sink.taken().to_vec(alloc)?;
+    Ok((status, text))
+}
+
+// A session whose report can't be written.
+fn slow_run(alloc: Global, session: &[u8]) -> Result<(u8, Vec<u8>), AllocError> {
+    let words = words_of(alloc, &["validate"])?;
+    let mut source = SureSource::new(session.to_vec(alloc)?);
+    let mut sink = Slow {
+        taken: Vec::new(alloc),
+        faults: 0,
+    };
+    let status = run(alloc, &words, &mut source, &mut sink);
+    Ok((status, sink.taken))
+}
+
+fn is_end(ended: &(u8, Vec<u8>), status: u8, text: &[u8]) -> bool {
+    ended.0 == status && *ended.1.as_slice() == *text
+}
+
+// Both kinds of source and sink end as the row says.
+fn ends_so(alloc: Global, row: &Row) -> Result<bool, AllocError> {
+    let told = told_run(alloc, row.words, row.session, &[])?;
+    let sure = sure_run(alloc, row.words, row.session)?;
+    Ok(is_end(&told, row.status, row.text) && is_end(&sure, row.status, row.text))
+}
+
+// Over an outside whose first read and second write fail, and whose second read fails, a row ends by its words, for the read
+// and for the write.
+fn fails_so(alloc: Global, row: &Row) -> Result<bool, AllocError> {
+    let unread = told_run(alloc, row.words, row.session, &[0])?;
+    if row.words != ["validate"].as_slice() {
+        return Ok(is_end(&unread, row.status, row.text));
+    }
+    // no bytes are read by one read
+    let broken = told_run(alloc, row.words, row.session, &[1])?;
+    let is_broken = row.session.is_empty() || is_end(&broken, 4, b"");
+    let slow = slow_run(alloc, row.session)?;
+    let first = row.text.get(..1).unwrap_or_default();
+    Ok(is_end(&unread, 4, b"") && is_broken && is_end(&slow, 5, first))
+}
+
+#[test]
+fn each_row_ends_as_it_says(rt: HostRuntime) -> Result<(), Fail> {
+    for row in &ROWS {
+        assert!(rt; ends_so(rt.alloc(), row)?, "{}", row.name);
+    }
+    Ok(())
+}
+
+#[test]
+fn the_outside_may_fail(rt: HostRuntime) -> Result<(), Fail> {
+    for row in &ROWS {
+        assert!(rt; fails_so(rt.alloc(), row)?, "{}", row.name);
+    }
+    Ok(())
+}
