@@ -3,5 +3,8 @@ pub mod StandLemmas
 pub mod KeySetLemmas
 pub mod RunLemmas
 pub mod MarkedLemmas
+pub mod DeciderLemmas
+pub mod AfterLemmas
+pub mod OneDeciderLemmas
 pub mod SoundLemmas
 pub mod AloneLemmas

@@ -15,9 +15,9 @@ use Rattle.dns_model.specs.SoundAnswers.{Told, placed_sets, section_of, section_
 use Rattle.dns_model.specs.Views.{rrsig_in}
 use Rattle.dns_model.proofs.NameLemmas.{name_equiv}
 use Rattle.dns_model.proofs.EachLemmas.{each_more, each_both, each_filter, each_passes, each_unmap, find_agree_each, find-map, find-filter, Apart, apart_unmap}
-use Rattle.dns_model.proofs.SetLemmas.{name_back, name_trans, name_left, number_refl, number_same, number_back, section_refl, section_same, section_back, is_of, IsProper, BeginsIn, same_key, same_place, placed_apart, proper_placed, begins_placed, KeepsKey}
+use Rattle.dns_model.proofs.SetLemmas.{name_back, name_trans, name_left, number_refl, number_same, number_back, section_refl, section_same, section_back, is_of, IsProper, BeginsIn, IsSignedIn, same_key, same_place, placed_apart, proper_placed, begins_placed, signed_placed, KeepsKey}
 use Rattle.dns_judgement.specs.Judged.{Judged, placed_of, decider, stands}
-use Rattle.dns_judgement.specs.Marking.{cleared, is_about, is_record, adjusted_by, adjusted_ttl, marked_by, marked, chain_value, chains_of}
+use Rattle.dns_judgement.specs.Marking.{cleared, is_about, covered, signature_place, is_place, adjusted_by, adjusted_ttl, marked_by, marked, chain_value, chains_of}
 use Rattle.dns_judgement.proofs.StandLemmas.{stands_parts}
 use Rattle.dns_judgement.proofs.RunLemmas.{AreJudged}
 
@@ -34,18 +34,31 @@ alike_step : (b : Bool) (r : Rr) (mark : Proof) (ttl : ℕ) → IsAlike r (if b 
 alike_step true r mark ttl = record { owner = refl; rtype = refl; class = refl; rdata = refl }
 alike_step false r mark ttl = record { owner = refl; rtype = refl; class = refl; rdata = refl }
 
-alike_by : (now : ℕ) (r : Rr) (o : Option Judged) → IsAlike r (marked_by now r o)
-alike_by now r None = record { owner = refl; rtype = refl; class = refl; rdata = refl }
-alike_by now r (Some s) = alike_step (is_signature r && not (is_record r (decider s))) r s.mark (adjusted_ttl now s r)
+alike_by : (now place : ℕ) (r : Rr) (o : Option Judged) → IsAlike r (marked_by now place r o)
+alike_by now place r None = record { owner = refl; rtype = refl; class = refl; rdata = refl }
+alike_by now place r (Some s) = alike_step (is_signature r && not (is_place s.sig place)) r s.mark (adjusted_ttl now s r)
 
-pub marked-keeps : (now : ℕ) (ss : List Judged) (section : Section) → KeepsKey (marked now ss section)
+pub marked-keeps : (now : ℕ) (ss : List Judged) (section : Section) (before : List Rr) → KeepsKey (marked now ss section before)
 unfolding marked
-marked-keeps now ss section = record {
-  owner = λ r. (alike_by now r (find (is_about section r) ss)).owner;
-  rtype = λ r. (alike_by now r (find (is_about section r) ss)).rtype;
-  class = λ r. (alike_by now r (find (is_about section r) ss)).class;
-  rdata = λ r. (alike_by now r (find (is_about section r) ss)).rdata;
+marked-keeps now ss section before = record {
+  owner = λ r. (alike_by now (signature_place before r) r (find (is_about section r) ss)).owner;
+  rtype = λ r. (alike_by now (signature_place before r) r (find (is_about section r) ss)).rtype;
+  class = λ r. (alike_by now (signature_place before r) r (find (is_about section r) ss)).class;
+  rdata = λ r. (alike_by now (signature_place before r) r (find (is_about section r) ss)).rdata;
 }
+
+plain_step : (now m n : ℕ) (r : Rr) (o : Option Judged) → is_signature r ≡ false → marked_by now m r o ≡ marked_by now n r o
+plain_step now m n r None plain = refl
+plain_step now m n r (Some s) plain =
+    ap (λ b. cond (b && not (is_place s.sig m)) (cleared r) (record r { proof = s.mark; ttl = adjusted_ttl now s r })) plain
+    ∙ sym (ap (λ b. cond (b && not (is_place s.sig n)) (cleared r) (record r { proof = s.mark; ttl = adjusted_ttl now s r })) plain)
+
+-- what stands before matters to signatures alone
+pub marked-plain : (now : ℕ) (ss : List Judged) (section : Section) (before : List Rr) (r : Rr) → is_signature r ≡ false
+    → marked now ss section before r ≡ marked now ss section [] r
+unfolding marked
+marked-plain now ss section before r plain =
+    plain_step now (signature_place before r) (signature_place [] r) r (find (is_about section r) ss) plain
 
 pub cleared-keeps : KeepsKey cleared
 cleared-keeps = record { owner = λ r. refl; rtype = λ r. refl; class = λ r. refl; rdata = λ r. refl }
@@ -100,6 +113,7 @@ each_found (a ∷ ss) apart =
 pub record IsKnown (j : Judge) (told : Told) (ss : List Judged) (s : Judged) : Type 0 where
   pub proper : IsProper s.set
   pub begins : BeginsIn (section_of told s.section) s.set
+  pub signed : IsSignedIn (section_of told s.section) s.set
   pub stand : stands j s ≡ true
   pub found : IsFoundBy ss s
 
@@ -108,18 +122,23 @@ each_known j told ss judged =
     let back = sym judged.grouped in
     let Proper = λ (s : Judged). IsProper s.set in
     let Begins = λ (s : Judged). BeginsIn (section_of told s.section) s.set in
+    let Signed = λ (s : Judged). IsSignedIn (section_of told s.section) s.set in
     let Stands = λ (s : Judged). stands j s ≡ true in
     let proper : AllByRecursion Proper ss =
     each_unmap (λ p. IsProper p.set) placed_of ss (subst (λ ps. AllByRecursion (λ p. IsProper p.set) ps) back (proper_placed told)) in
     let begins : AllByRecursion Begins ss =
     each_unmap (λ p. BeginsIn (section_of told p.section) p.set) placed_of ss
     (subst (λ ps. AllByRecursion (λ p. BeginsIn (section_of told p.section) p.set) ps) back (begins_placed told)) in
+    let signed : AllByRecursion Signed ss =
+    each_unmap (λ p. IsSignedIn (section_of told p.section) p.set) placed_of ss
+    (subst (λ ps. AllByRecursion (λ p. IsSignedIn (section_of told p.section) p.set) ps) back (signed_placed told)) in
     let apart : Apart (λ a b. same_place (placed_of a) (placed_of b)) ss =
     apart_unmap same_place placed_of ss (subst (λ ps. Apart same_place ps) back (placed_apart told)) in
-    each_more (λ s. Proper s × (Begins s × (Stands s × IsFoundBy ss s))) (IsKnown j told ss)
-    (λ s h. record { proper = h.0; begins = h.1.0; stand = h.1.1.0; found = h.1.1.1 }) ss
-    (each_both Proper (λ s. Begins s × (Stands s × IsFoundBy ss s)) ss proper
-    (each_both Begins (λ s. Stands s × IsFoundBy ss s) ss begins (each_both Stands (IsFoundBy ss) ss judged.stand (each_found ss apart))))
+    each_more (λ s. Proper s × (Begins s × (Signed s × (Stands s × IsFoundBy ss s)))) (IsKnown j told ss)
+    (λ s h. record { proper = h.0; begins = h.1.0; signed = h.1.1.0; stand = h.1.1.1.0; found = h.1.1.1.1 }) ss
+    (each_both Proper (λ s. Begins s × (Signed s × (Stands s × IsFoundBy ss s))) ss proper
+    (each_both Begins (λ s. Signed s × (Stands s × IsFoundBy ss s)) ss begins
+    (each_both Signed (λ s. Stands s × IsFoundBy ss s) ss signed (each_both Stands (IsFoundBy ss) ss judged.stand (each_found ss apart)))))
 
 -- ---- the records of a set
 
@@ -147,22 +166,23 @@ own_about s r own =
     (and_from (name_eq s.set.owner r.owner) (s.set.rtype == set_rtype r) own.owner rtype)
 
 -- a set's own record as it is marked
-pub own_marked : (now : ℕ) (ss : List Judged) (s : Judged) (r : Rr) → IsFoundBy ss s → IsOwn s.set r
-    → marked now ss s.section r ≡ record r { proof = s.mark; ttl = adjusted_ttl now s r }
+pub own_marked : (now : ℕ) (ss : List Judged) (s : Judged) (before : List Rr) (r : Rr) → IsFoundBy ss s → IsOwn s.set r
+    → marked now ss s.section before r ≡ record r { proof = s.mark; ttl = adjusted_ttl now s r }
 unfolding marked
-own_marked now ss s r found own =
-    ap (marked_by now r) (found.found s.section r (own_about s r own))
-    ∙ ap (λ b. if b && not (is_record r (decider s)) then cleared r else record r { proof = s.mark; ttl = adjusted_ttl now s r }) own.plain
+own_marked now ss s before r found own =
+    let place = signature_place before r in
+    ap (marked_by now place r) (found.found s.section r (own_about s r own))
+    ∙ ap (λ b. if b && not (is_place s.sig place) then cleared r else record r { proof = s.mark; ttl = adjusted_ttl now s r }) own.plain
 
 -- ---- Secure records
 
 -- a record that is marked Secure, with the set that it is about
-pub record IsMadeSecure (now : ℕ) (ss : List Judged) (section : Section) (r : Rr) : Type 0 where
+pub record IsMadeSecure (now : ℕ) (ss : List Judged) (section : Section) (before : List Rr) (r : Rr) : Type 0 where
   pub set : Judged
   pub found : find (is_about section r) ss ≡ Some set
   pub secure : is_secure set.mark ≡ true
-  pub decides : (is_signature r && not (is_record r (decider set))) ≡ false
-  pub form : marked now ss section r ≡ record r { proof = set.mark; ttl = adjusted_by now set r (decider set) }
+  pub decides : (is_signature r && not (is_place set.sig (signature_place before r))) ≡ false
+  pub form : marked now ss section before r ≡ record r { proof = set.mark; ttl = adjusted_by now set r (decider set) }
 
 record IsSecureForm (r : Rr) (b secure : Bool) (mark : Proof) (ttl : ℕ) : Type 0 where
   is_kept : b ≡ false
@@ -175,16 +195,18 @@ secure_form r true secure mark ttl is h = cc
 secure_form r false true mark ttl is h = record { is_kept = refl; is_secure_mark = refl; form = refl }
 secure_form r false false mark ttl is h = cc
 
-made_by : (now : ℕ) (ss : List Judged) (section : Section) (r : Rr) (o : Option Judged) → find (is_about section r) ss ≡ o
-    → marked now ss section r ≡ marked_by now r o → is_secure ((marked_by now r o).proof) ≡ true → IsMadeSecure now ss section r
-made_by now ss section r None is form h = cc
-made_by now ss section r (Some s) is form h =
-    let f = secure_form r (is_signature r && not (is_record r (decider s))) (is_secure s.mark) s.mark (adjusted_by now s r (decider s)) refl h in
+made_by : (now : ℕ) (ss : List Judged) (section : Section) (before : List Rr) (r : Rr) (o : Option Judged) → find (is_about section r) ss ≡ o
+    → marked now ss section before r ≡ marked_by now (signature_place before r) r o
+    → is_secure ((marked_by now (signature_place before r) r o).proof) ≡ true → IsMadeSecure now ss section before r
+made_by now ss section before r None is form h = cc
+made_by now ss section before r (Some s) is form h =
+    let f = secure_form r (is_signature r && not (is_place s.sig (signature_place before r))) (is_secure s.mark) s.mark (adjusted_by now s r (decider s)) refl h in
     record { set = s; found = is; secure = f.is_secure_mark; decides = f.is_kept; form = form ∙ f.form }
 
-pub made_secure : (now : ℕ) (ss : List Judged) (section : Section) (r : Rr) → is_secure ((marked now ss section r).proof) ≡ true → IsMadeSecure now ss section r
+pub made_secure : (now : ℕ) (ss : List Judged) (section : Section) (before : List Rr) (r : Rr)
+    → is_secure ((marked now ss section before r).proof) ≡ true → IsMadeSecure now ss section before r
 unfolding marked
-made_secure now ss section r h = made_by now ss section r (find (is_about section r) ss) refl refl h
+made_secure now ss section before r h = made_by now ss section before r (find (is_about section r) ss) refl refl h
 
 plain_form : (r : Rr) (b secure : Bool) (mark : Proof) (ttl : ℕ) → is_secure mark ≡ secure
     → is_secure ((if b then cleared r else record r { proof = mark; ttl = if secure then ttl else r.ttl }).proof) ≡ false
@@ -193,16 +215,16 @@ plain_form r true secure mark ttl is h = refl
 plain_form r false true mark ttl is h = cc
 plain_form r false false mark ttl is h = refl
 
-plain_by : (now : ℕ) (r : Rr) (o : Option Judged) → is_secure ((marked_by now r o).proof) ≡ false → (marked_by now r o).ttl ≡ r.ttl
-plain_by now r None h = refl
-plain_by now r (Some s) h =
-    plain_form r (is_signature r && not (is_record r (decider s))) (is_secure s.mark) s.mark (adjusted_by now s r (decider s)) refl h
+plain_by : (now place : ℕ) (r : Rr) (o : Option Judged) → is_secure ((marked_by now place r o).proof) ≡ false → (marked_by now place r o).ttl ≡ r.ttl
+plain_by now place r None h = refl
+plain_by now place r (Some s) h =
+    plain_form r (is_signature r && not (is_place s.sig place)) (is_secure s.mark) s.mark (adjusted_by now s r (decider s)) refl h
 
 -- the ttl of a record that isn't Secure stays
-pub plain_ttl : (now : ℕ) (ss : List Judged) (section : Section) (r : Rr) → is_secure ((marked now ss section r).proof) ≡ false
-    → (marked now ss section r).ttl ≡ r.ttl
+pub plain_ttl : (now : ℕ) (ss : List Judged) (section : Section) (before : List Rr) (r : Rr)
+    → is_secure ((marked now ss section before r).proof) ≡ false → (marked now ss section before r).ttl ≡ r.ttl
 unfolding marked
-plain_ttl now ss section r h = plain_by now r (find (is_about section r) ss) h
+plain_ttl now ss section before r h = plain_by now (signature_place before r) r (find (is_about section r) ss) h
 
 -- ---- the chain of the set that a record is about
 

@@ -12,16 +12,19 @@ use Rattle.dns_model.specs.Views.{rrsig_in}
 use Rattle.dns_model.specs.Records.{Rr, RrSet, Question, MessageValue}
 use Rattle.dns_model.specs.Sections.{is_signature, sets_of}
 use Rattle.dns_model.specs.Chains.{LinkValue, Anchored, Matched, KeySet, Signed, Judge, last_link, is_nonempty, rdatas_of, link_is_for}
-use Rattle.dns_model.specs.SoundAnswers.{Told, told_by, Placed, in_section, placed_sets, section_of, is_secure, set_rtype, first_mark, is_secure_set, HasOneMark, HaveOneMark, secure_sets, IsChainOf, AreChainsOf, deciding_link, ttl_of, first_ttl, signed_ttl, IsSecureTtl, IsKept, AreKept, Sound}
-use Rattle.dns_model.proofs.EachLemmas.{each_more, each_map, find_agree, find-map, find_known, map-map}
-use Rattle.dns_model.proofs.SetLemmas.{name_left, is_of, head_of, BeginsIn, KeepsKey, on_set, sets_of-map, rdatas_of-map, placed_each}
+use Rattle.dns_model.specs.SoundAnswers.{Told, told_by, Placed, in_section, placed_sets, section_of, is_secure, set_rtype, first_mark, is_secure_set, HasOneMark, HaveOneMark, secure_sets, IsChainOf, ChainValue, AreChainsOf, deciding_link, ttl_of, first_ttl, signed_ttl, IsSecureTtl, IsKept, AreKept, Sound}
+use Rattle.dns_model.proofs.EachLemmas.{each_more, each_map, each_unmap, find_agree, find-map, find_known, filter-map, map-map}
+use Rattle.dns_model.proofs.SetLemmas.{name_left, is_of, head_of, BeginsIn, IsSignedIn, KeepsKey, on_set, sets_of-map, rdatas_of-map, placed_each}
 use Rattle.dns_model.proofs.ChainLemmas.{bytes_same}
 use Rattle.dns_judgement.specs.Judged.{Judged, placed_of, decider, names_decider}
-use Rattle.dns_judgement.specs.Marking.{cleared, cleared_message, is_about, is_record, first_record, adjusted_by, adjusted_ttl, marked, marked_message, chain_value, chains_of, finished}
+use Rattle.dns_judgement.specs.Marking.{cleared, cleared_message, is_about, signature_place, is_place, first_record, adjusted_by, adjusted_ttl, marked, marked_section, marked_message, chain_value, chains_of, finished}
 use Rattle.dns_judgement.specs.Run.{Sets, Run}
 use Rattle.dns_judgement.proofs.StandLemmas.{stands_parts}
 use Rattle.dns_judgement.proofs.RunLemmas.{AreJudged, run_stands}
-use Rattle.dns_judgement.proofs.MarkedLemmas.{marked-keeps, about_parts, IsKnown, each_known, own_from, own_marked, made_secure, plain_ttl, decided_link}
+use Rattle.dns_judgement.proofs.MarkedLemmas.{marked-keeps, marked-plain, about_parts, IsKnown, each_known, own_from, own_marked, made_secure, plain_ttl, decided_link}
+use Rattle.dns_judgement.proofs.DeciderLemmas.{decider_is}
+use Rattle.dns_judgement.proofs.OneDeciderLemmas.{one_decider}
+use Rattle.dns_judgement.proofs.AfterLemmas.{IsPlainChange, bare, bare_sets, kept_after}
 
 -- ---- the first record of a set
 
@@ -56,32 +59,29 @@ section_of-cleared m Additional = refl
 
 -- ---- the ttl of Secure records
 
-pub plain_from : (b : Bool) → (b && true) ≡ false → b ≡ false
-plain_from true h = h
-plain_from false h = refl
-
-decides_from : (b e : Bool) → (b && not e) ≡ false → b ≡ true → e ≡ true
-decides_from true true h s = refl
-decides_from true false h s = cc
-decides_from false e h s = cc
+-- under a key set no signature decided
+pub none_decides : (r : Rr) (b : Bool) → (b ≡ true → None ≡ Some r) → b ≡ false
+none_decides r true h = cc (h refl)
+none_decides r false h = refl
 
 -- a Secure signature is the one that the link names
 pub signature_is : (r d : Rr) (sig : List ℕ) → names_decider (Some (Signed r.owner 0 0 [] sig 0 [])) (Some d) ≡ true
-    → (is_signature r && not (is_record r (Some d))) ≡ false → is_signature r ≡ true → r.rdata ≡ sig
-signature_is r d sig named decides is =
-    sym (bytes_same d.rdata r.rdata (decides_from (is_signature r) (is_record r (Some d)) decides is)) ∙ sym (bytes_same sig d.rdata named)
+    → Some d ≡ Some r → r.rdata ≡ sig
+signature_is r d sig named decides =
+    let same : d ≡ r = cc in
+    ap (λ x. x.rdata) (sym same) ∙ sym (bytes_same sig d.rdata named)
 
 secure_by_link : (now : ℕ) (section : List Rr) (t r : Rr) (mark : Proof) (s : Judged) (link : Option LinkValue) (d : Option Rr) → names_decider link d ≡ true
-    → (is_signature r && not (is_record r d)) ≡ false → r.ttl ≡ t.ttl → ttl_of (first_record s.set.records) ≡ first_ttl section r.owner (set_rtype r)
+    → (is_signature r ≡ true → d ≡ Some r) → r.ttl ≡ t.ttl → ttl_of (first_record s.set.records) ≡ first_ttl section r.owner (set_rtype r)
     → IsSecureTtl now section t (record r { proof = mark; ttl = adjusted_by now s r d }) link
 secure_by_link now section t r mark s None d named decides kept first = cc
 secure_by_link now section t r mark s (Some (Anchored owner class key)) d named decides kept first = cc
 secure_by_link now section t r mark s (Some (Matched owner class key ds_link ds)) d named decides kept first = cc
-secure_by_link now section t r mark s (Some (KeySet owner class keys links)) None named decides kept first = (plain_from (is_signature r) decides, kept)
+secure_by_link now section t r mark s (Some (KeySet owner class keys links)) None named decides kept first = (none_decides r (is_signature r) decides, kept)
 secure_by_link now section t r mark s (Some (KeySet owner class keys links)) (Some d) named decides kept first = cc
 secure_by_link now section t r mark s (Some (Signed owner class rtype rdatas sig key_link key)) None named decides kept first = cc
 secure_by_link now section t r mark s (Some (Signed owner class rtype rdatas sig key_link key)) (Some d) named decides kept first = (
-  signature_is r d sig named decides,
+  λ is. signature_is r d sig named (decides is),
   ap (λ n. min n (signed_ttl (rrsig_in d.rdata) now)) first
       ∙ ap (λ bytes. min (first_ttl section r.owner (set_rtype r)) (signed_ttl (rrsig_in bytes) now)) (sym (bytes_same sig d.rdata named)),
 )
@@ -89,57 +89,62 @@ secure_by_link now section t r mark s (Some (Signed owner class rtype rdatas sig
 -- ---- the records that were told
 
 kept_one : (j : Judge) (now : ℕ) (m : MessageValue) (ss : List Judged) (section : Section)
-    → AllByRecursion (IsKnown j (told_by (cleared_message m)) ss) ss → (t : Rr)
-    → IsKept now (chains_of ss) section (section_of (told_by m) section) t (marked now ss section (cleared t))
-kept_one j now m ss section known t =
+    → AllByRecursion (IsKnown j (told_by (cleared_message m)) ss) ss → (before rest : List Rr) (t : Rr)
+    → before ++ cleared t ∷ rest ≡ map cleared (section_of (told_by m) section)
+    → IsKept now (chains_of ss) section (section_of (told_by m) section) t (marked now ss section before (cleared t))
+kept_one j now m ss section known before rest t split =
     let told = told_by (cleared_message m) in
     let section_told = section_of (told_by m) section in
-    let keeps = marked-keeps now ss section in
+    let keeps = marked-keeps now ss section before in
     let r = cleared t in
     record {
       owner = keeps.owner r;
       rtype = keeps.rtype r;
       class = keeps.class r;
       rdata = keeps.rdata r;
-      plain = plain_ttl now ss section r;
+      plain = plain_ttl now ss section before r;
       secure = λ h.
-          let made = made_secure now ss section r h in
+          let made = made_secure now ss section before r h in
           let s = made.set in
           let found = find_known (is_about section r) (IsKnown j told ss) ss s known made.found in
           let about = about_parts section r s found.passes in
           let chain = stands_parts j s found.known.stand made.secure in
-          let begins : BeginsIn (map cleared section_told) s.set =
-          subst (λ xs. BeginsIn xs s.set) (ap (section_of told) about.section_is ∙ section_of-cleared m section) found.known.begins in
+          let here : section_of told s.section ≡ map cleared section_told = ap (section_of told) about.section_is ∙ section_of-cleared m section in
+          let begins : BeginsIn (map cleared section_told) s.set = subst (λ xs. BeginsIn xs s.set) here found.known.begins in
+          let signed : IsSignedIn (map cleared section_told) s.set = subst (λ xs. IsSignedIn xs s.set) here found.known.signed in
           let first : ttl_of (first_record s.set.records) ≡ first_ttl section_told r.owner (set_rtype r) =
           first_is s.set (map cleared section_told) r.owner (set_rtype r) begins about.owner about.rtype ∙ first_ttl-cleared section_told r.owner (set_rtype r) in
-          let by_link = secure_by_link now section_told t r s.mark s (last_link s.chain) (decider s) chain.named made.decides refl first in
+          let decides = decider_is section (map cleared section_told) before rest r s found.known.proper signed about split made.decides in
+          let by_link = secure_by_link now section_told t r s.mark s (last_link s.chain) (decider s) chain.named decides refl first in
           let decided = decided_link j told ss section r s known made.found made.secure in
           let made_record : Rr = record r { proof = s.mark; ttl = adjusted_by now s r (decider s) } in
           subst (λ x. IsSecureTtl now section_told t x (deciding_link (chains_of ss) section x)) (sym made.form)
           (subst (λ l. IsSecureTtl now section_told t made_record l) (sym decided) by_link);
     }
 
-kept_all : (Kept : Rr → Rr → Type 0) (f : Rr → Rr) (ts : List Rr) → ((t : Rr) → Kept t (f t)) → AreKept Kept ts (map f ts)
-kept_all Kept f [] h = tt
-kept_all Kept f (t ∷ ts) h = (h t, kept_all Kept f ts h)
-
 kept : (j : Judge) (now : ℕ) (m : MessageValue) (ss : List Judged) (section : Section)
     → AllByRecursion (IsKnown j (told_by (cleared_message m)) ss) ss
     → AreKept (IsKept now (chains_of ss) section (section_of (told_by m) section)) (section_of (told_by m) section)
-    (map (marked now ss section) (map cleared (section_of (told_by m) section)))
+    (marked_section now ss section (map cleared (section_of (told_by m) section)))
 kept j now m ss section known =
-    let Kept = IsKept now (chains_of ss) section (section_of (told_by m) section) in
     let records = section_of (told_by m) section in
-    subst (λ rs. AreKept Kept records rs) (sym (map-map (marked now ss section) cleared records))
-    (kept_all Kept (λ t. marked now ss section (cleared t)) records (kept_one j now m ss section known))
+    kept_after (IsKept now (chains_of ss) section records) (marked now ss section) cleared (map cleared records) [] records refl
+    (kept_one j now m ss section known)
 
 -- ---- the marks of sets
 
+-- a record as it is marked where nothing stands before it
+abbrev pub marked_first : ℕ → List Judged → Section → Rr → Rr
+marked_first now ss section = marked now ss section []
+
+pub plain_change : (now : ℕ) (ss : List Judged) (section : Section) → IsPlainChange (marked now ss section)
+plain_change now ss section = record { keeps = marked-keeps now ss section; plain = marked-plain now ss section }
+
 pub own_marks : (j : Judge) (now : ℕ) (told : Told) (ss : List Judged) (s : Judged) → IsKnown j told ss s
-    → AllByRecursion (λ r. marked now ss s.section r ≡ record r { proof = s.mark; ttl = adjusted_ttl now s r }) s.set.records
+    → AllByRecursion (λ r. marked_first now ss s.section r ≡ record r { proof = s.mark; ttl = adjusted_ttl now s r }) s.set.records
 own_marks j now told ss s known =
-    each_more (λ r. is_of s.set r ≡ true) (λ r. marked now ss s.section r ≡ record r { proof = s.mark; ttl = adjusted_ttl now s r })
-    (λ r h. own_marked now ss s r known.found (own_from s.set r known.proper h)) s.set.records known.proper.own
+    each_more (λ r. is_of s.set r ≡ true) (λ r. marked_first now ss s.section r ≡ record r { proof = s.mark; ttl = adjusted_ttl now s r })
+    (λ r h. own_marked now ss s [] r known.found (own_from s.set r known.proper h)) s.set.records known.proper.own
 
 one_mark : (f : Rr → Rr) (mark : Proof) (records : List Rr) → AllByRecursion (λ r. (f r).proof ≡ mark) records
     → AllByRecursion (λ r. r.proof ≡ first_mark (map f records)) (map f records)
@@ -147,46 +152,67 @@ one_mark f mark [] h = tt
 one_mark f mark (x ∷ xs) h =
     (refl, each_map (λ r. r.proof ≡ (f x).proof) f xs (each_more (λ r. (f r).proof ≡ mark) (λ r. (f r).proof ≡ (f x).proof) (λ r e. e ∙ sym h.0) xs h.1))
 
-set_has_one : (j : Judge) (now : ℕ) (told : Told) (ss : List Judged) (s : Judged) → IsKnown j told ss s → HasOneMark (on_set (marked now ss s.section) s.set)
+set_has_one : (j : Judge) (now : ℕ) (told : Told) (ss : List Judged) (s : Judged) → IsKnown j told ss s → HasOneMark (on_set (marked_first now ss s.section) s.set)
 set_has_one j now told ss s known =
-    let f = marked now ss s.section in
+    let f = marked_first now ss s.section in
     one_mark f s.mark s.set.records
     (each_more (λ r. f r ≡ record r { proof = s.mark; ttl = adjusted_ttl now s r }) (λ r. (f r).proof ≡ s.mark) (λ r e. ap (λ x. x.proof) e) s.set.records
     (own_marks j now told ss s known))
 
+-- the sets of a marked section, signatures aside, are those of the section with their records marked
+sets_of-marked : (now : ℕ) (ss : List Judged) (section : Section) (records : List Rr)
+    → map bare (sets_of (marked_section now ss section records)) ≡ map bare (map (on_set (marked_first now ss section)) (sets_of records))
+sets_of-marked now ss section records =
+    bare_sets (marked now ss section) (plain_change now ss section) records
+    ∙ ap (map bare) (sets_of-map (marked_first now ss section) (marked-keeps now ss section []) records)
+
 pub have_one : (j : Judge) (now : ℕ) (told : Told) (ss : List Judged) (section : Section) → AreJudged j (placed_sets told) ss
-    → AllByRecursion (IsKnown j told ss) ss → HaveOneMark (map (marked now ss section) (section_of told section))
+    → AllByRecursion (IsKnown j told ss) ss → HaveOneMark (marked_section now ss section (section_of told section))
 have_one j now told ss section judged known =
-    let f = marked now ss section in
-    let P = λ (p : Placed). HasOneMark (on_set (marked now ss p.section) p.set) in
+    let f = marked_first now ss section in
+    let records = section_of told section in
+    let P = λ (p : Placed). HasOneMark (on_set (marked_first now ss p.section) p.set) in
     let placed : AllByRecursion P (placed_sets told) =
     subst (λ ps. AllByRecursion P ps) judged.grouped
     (each_map P placed_of ss (each_more (IsKnown j told ss) (λ s. P (placed_of s)) (set_has_one j now told ss) ss known)) in
-    subst (λ sets. AllByRecursion HasOneMark sets) (sym (sets_of-map f (marked-keeps now ss section) (section_of told section)))
-    (each_map HasOneMark (on_set f) (sets_of (section_of told section)) (placed_each P told section placed))
+    let one : AllByRecursion HasOneMark (map (on_set f) (sets_of records)) = each_map HasOneMark (on_set f) (sets_of records) (placed_each P told section placed) in
+    each_unmap HasOneMark bare (sets_of (marked_section now ss section records))
+    (subst (λ sets. AllByRecursion HasOneMark sets) (sym (sets_of-marked now ss section records)) (each_map HasOneMark bare (map (on_set f) (sets_of records)) one))
 
 -- ---- the chains
 
--- a set with its records marked
-abbrev on_placed : ℕ → List Judged → Placed → Placed
-on_placed now ss p = in_section p.section (on_set (marked now ss p.section) p.set)
+-- a set in its section, without its signatures
+abbrev pub bare_placed : Placed → Placed
+bare_placed p = in_section p.section (bare p.set)
+
+-- a set without its signatures, with its records marked
+abbrev pub on_placed : ℕ → List Judged → Placed → Placed
+on_placed now ss p = in_section p.section (bare (on_set (marked_first now ss p.section) p.set))
 
 placed_part : (now : ℕ) (ss : List Judged) (section : Section) (records : List Rr)
-    → map (in_section section) (sets_of (map (marked now ss section) records)) ≡ map (on_placed now ss) (map (in_section section) (sets_of records))
+    → map bare_placed (map (in_section section) (sets_of (marked_section now ss section records)))
+    ≡ map (on_placed now ss) (map (in_section section) (sets_of records))
 placed_part now ss section records =
-    let f = marked now ss section in
-    ap (map (in_section section)) (sets_of-map f (marked-keeps now ss section) records) ∙ map-map (in_section section) (on_set f) (sets_of records)
+    let f = on_set (marked_first now ss section) in
+    let marked_sets = sets_of (marked_section now ss section records) in
+    map-map bare_placed (in_section section) marked_sets ∙ sym (map-map (in_section section) bare marked_sets)
+    ∙ ap (map (in_section section)) (sets_of-marked now ss section records ∙ map-map bare f (sets_of records))
+    ∙ map-map (in_section section) (λ s. bare (f s)) (sets_of records)
     ∙ sym (map-map (on_placed now ss) (in_section section) (sets_of records))
 
-placed_marked : (now : ℕ) (ss : List Judged) (m : MessageValue) → placed_sets (told_by (marked_message now ss m)) ≡ map (on_placed now ss) (placed_sets (told_by m))
+placed_marked : (now : ℕ) (ss : List Judged) (m : MessageValue)
+    → map bare_placed (placed_sets (told_by (marked_message now ss m))) ≡ map (on_placed now ss) (placed_sets (told_by m))
 placed_marked now ss m =
     let one = map (in_section Answer) (sets_of m.answers) in
     let two = map (in_section Authority) (sets_of m.authorities) in
     let three = map (in_section Additional) (sets_of m.additionals) in
+    let first = map (in_section Answer) (sets_of (marked_section now ss Answer m.answers)) in
+    let second = map (in_section Authority) (sets_of (marked_section now ss Authority m.authorities)) in
+    let third = map (in_section Additional) (sets_of (marked_section now ss Additional m.additionals)) in
     let f = on_placed now ss in
-    ap (λ xs. xs ++ map (in_section Authority) (sets_of (map (marked now ss Authority) m.authorities)) ++ map (in_section Additional) (sets_of (map (marked now ss Additional) m.additionals)))
-    (placed_part now ss Answer m.answers)
-    ∙ ap (λ xs. map f one ++ xs ++ map (in_section Additional) (sets_of (map (marked now ss Additional) m.additionals))) (placed_part now ss Authority m.authorities)
+    map-append bare_placed (first ++ second) third ∙ ap (λ xs. xs ++ map bare_placed third) (map-append bare_placed first second)
+    ∙ ap (λ xs. xs ++ map bare_placed second ++ map bare_placed third) (placed_part now ss Answer m.answers)
+    ∙ ap (λ xs. map f one ++ xs ++ map bare_placed third) (placed_part now ss Authority m.authorities)
     ∙ ap (λ xs. map f one ++ map f two ++ xs) (placed_part now ss Additional m.additionals)
     ∙ ap (λ xs. xs ++ map f three) (sym (map-append f one two)) ∙ sym (map-append f (one ++ two) three)
 
@@ -195,12 +221,29 @@ first_marked : (f : Rr → Rr) (mark : Proof) (records : List Rr) → is_nonempt
 first_marked f mark [] listed h = cc
 first_marked f mark (x ∷ xs) listed h = h.0
 
-link_is_for-kept : (f : Rr → Rr) → KeepsKey f → (set : RrSet) (link : Option LinkValue) → link_is_for (on_set f set) link ≡ link_is_for set link
+link_is_for-kept : (f : Rr → Rr) → KeepsKey f → (set : RrSet) (link : Option LinkValue) → link_is_for (bare (on_set f set)) link ≡ link_is_for set link
 link_is_for-kept f keeps set None = refl
 link_is_for-kept f keeps set (Some (Anchored owner class key)) = refl
 link_is_for-kept f keeps set (Some (Matched owner class key ds_link ds)) = refl
 link_is_for-kept f keeps set (Some (KeySet owner class keys links)) = rw (rdatas_of-map f keeps set.records) refl
 link_is_for-kept f keeps set (Some (Signed owner class rtype rdatas sig key_link key)) = rw (rdatas_of-map f keeps set.records) refl
+
+link_is_for-bare : (set : RrSet) (link : Option LinkValue) → link_is_for (bare set) link ≡ link_is_for set link
+link_is_for-bare set None = refl
+link_is_for-bare set (Some (Anchored owner class key)) = refl
+link_is_for-bare set (Some (Matched owner class key ds_link ds)) = refl
+link_is_for-bare set (Some (KeySet owner class keys links)) = refl
+link_is_for-bare set (Some (Signed owner class rtype rdatas sig key_link key)) = refl
+
+-- no signature of a set matters to its chain
+chains_unbare : (j : Judge) (cs : List ChainValue) (ps : List Placed) → AreChainsOf j cs (map bare_placed ps) → AreChainsOf j cs ps
+chains_unbare j [] [] h = tt
+chains_unbare j [] (p ∷ ps) h = h
+chains_unbare j (c ∷ cs) [] h = h
+chains_unbare j (c ∷ cs) (p ∷ ps) h = (
+  record { named = h.0.named; ends = sym (link_is_for-bare p.set (last_link c.links)) ∙ h.0.ends; holds = h.0.holds },
+  chains_unbare j cs ps h.1,
+)
 
 chain_step : (j : Judge) (b c : Bool) (s : Judged) (ss : List Judged) (p : Placed) (ps : List Placed) → c ≡ b → (b ≡ true → IsChainOf j (chain_value s) p)
     → AreChainsOf j (map chain_value ss) ps → AreChainsOf j (map chain_value (cond b (s ∷ ss) ss)) (cond c (p ∷ ps) ps)
@@ -213,7 +256,7 @@ chains_hold : (j : Judge) (now : ℕ) (told : Told) (ss ts : List Judged) → Al
     → AreChainsOf j (chains_of ts) (filter (λ p. is_secure_set p.set) (map (on_placed now ss) (map placed_of ts)))
 chains_hold j now told ss [] known = tt
 chains_hold j now told ss (s ∷ ts) known =
-    let f = marked now ss s.section in
+    let f = marked_first now ss s.section in
     let marks : AllByRecursion (λ r. (f r).proof ≡ s.mark) s.set.records =
     each_more (λ r. f r ≡ record r { proof = s.mark; ttl = adjusted_ttl now s r }) (λ r. (f r).proof ≡ s.mark) (λ r e. ap (λ x. x.proof) e) s.set.records
     (own_marks j now told ss s known.0) in
@@ -224,7 +267,7 @@ chains_hold j now told ss (s ∷ ts) known =
     let chain = stands_parts j s known.0.stand secure in
     record {
       named = refl;
-      ends = link_is_for-kept f (marked-keeps now ss s.section) s.set (last_link s.chain) ∙ chain.ends;
+      ends = link_is_for-kept f (marked-keeps now ss s.section []) s.set (last_link s.chain) ∙ chain.ends;
       holds = chain.held;
     })
     (chains_hold j now told ss ts known.1)
@@ -232,8 +275,12 @@ chains_hold j now told ss (s ∷ ts) known =
 pub chains : (j : Judge) (now : ℕ) (m : MessageValue) (ss : List Judged) → AreJudged j (placed_sets (told_by m)) ss → AllByRecursion (IsKnown j (told_by m) ss) ss
     → AreChainsOf j (chains_of ss) (secure_sets (told_by (marked_message now ss m)))
 chains j now m ss judged known =
-    subst (λ ps. AreChainsOf j (chains_of ss) (filter (λ p. is_secure_set p.set) ps))
-    (ap (map (on_placed now ss)) judged.grouped ∙ sym (placed_marked now ss m)) (chains_hold j now (told_by m) ss ss known)
+    let secures = λ (p : Placed). is_secure_set p.set in
+    let sets = placed_sets (told_by (marked_message now ss m)) in
+    chains_unbare j (chains_of ss) (filter secures sets)
+    (subst (λ ps. AreChainsOf j (chains_of ss) ps)
+    (ap (filter secures) (ap (map (on_placed now ss)) judged.grouped ∙ sym (placed_marked now ss m)) ∙ filter-map secures bare_placed sets)
+    (chains_hold j now (told_by m) ss ss known))
 
 -- ---- the answer
 
@@ -251,6 +298,9 @@ sound_of_review j now m ss denial judged =
       marks_of_answers = have_one j now told ss Answer judged known;
       marks_of_authorities = have_one j now told ss Authority judged known;
       marks_of_additionals = have_one j now told ss Additional judged known;
+      deciders_of_answers = one_decider now ss Answer told.answers;
+      deciders_of_authorities = one_decider now ss Authority told.authorities;
+      deciders_of_additionals = one_decider now ss Additional told.additionals;
       chains = chains j now (cleared_message m) ss judged known;
     }
 

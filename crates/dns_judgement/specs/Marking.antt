@@ -1,5 +1,5 @@
 -- The records of an answer with their marks, and its chains (RFC 4035, 4.3 and 5.3.3).
-use Rattle.std.specs.Prelude.{ℕ, Bool, true, false, not, ◌==◌, ◌&&◌, min, List, [], ◌∷◌, map, Option, None, Some, if◌then◌else◌}
+use Rattle.std.specs.Prelude.{ℕ, Bool, true, false, not, ◌==◌, ◌&&◌, min, List, [], ◌∷◌, ◌++◌, map, count_by, Option, None, Some, if◌then◌else◌}
 use Rattle.std.specs.List.{filter, find}
 use Rattle.dns_model.specs.declared.proof.Proof.{Proof}
 use Rattle.dns_model.specs.declared.proof.Proof.TheVariants.{Secure, Insecure, Bogus, Indeterminate}
@@ -8,9 +8,8 @@ use Rattle.dns_model.specs.declared.section.Section.TheVariants.{Answer, Authori
 use Rattle.dns_model.specs.declared.denial.Denial.{Denial}
 use Rattle.dns_model.specs.Names.{name_eq}
 use Rattle.dns_model.specs.Views.{rrsig_in}
-use Rattle.dns_model.specs.Keys.{bytes_eq}
 use Rattle.dns_model.specs.Records.{Rr, RrSet, MessageValue}
-use Rattle.dns_model.specs.Sections.{is_signature}
+use Rattle.dns_model.specs.Sections.{is_signature, covers}
 use Rattle.dns_model.specs.SoundAnswers.{ChainValue, ResponseValue, Told, section_eq, is_secure, set_rtype, signed_ttl, ttl_of}
 use Rattle.dns_judgement.specs.Judged.{Judged, decider}
 
@@ -30,9 +29,17 @@ abbrev pub is_about : Section → Rr → Judged → Bool
 is_about section r judged =
     section_eq judged.section section && (name_eq judged.set.owner r.owner && (judged.set.rtype == set_rtype r))
 
-abbrev pub is_record : Rr → Option Rr → Bool
-is_record r None = false
-is_record r (Some s) = bytes_eq s.rdata r.rdata
+-- a record of the set that a signature covers, as far as owner and type say so
+abbrev pub covered : Rr → Rr
+covered signature = record signature { rtype = set_rtype signature }
+
+-- the place of a signature among those of the set that it covers: how many of them stand before it in its section
+abbrev pub signature_place : List Rr → Rr → ℕ
+signature_place before signature = count_by (covers (covered signature)) before
+
+abbrev pub is_place : Option ℕ → ℕ → Bool
+is_place None place = false
+is_place (Some n) place = n == place
 
 abbrev pub first_record : List Rr → Option Rr
 first_record [] = None
@@ -46,22 +53,31 @@ adjusted_by now judged r (Some signature) = min (ttl_of (first_record judged.set
 abbrev pub adjusted_ttl : ℕ → Judged → Rr → ℕ
 adjusted_ttl now judged r = if is_secure judged.mark then adjusted_by now judged r (decider judged) else r.ttl
 
-abbrev pub marked_by : ℕ → Rr → Option Judged → Rr
-marked_by now r None = cleared r
-marked_by now r (Some judged) =
-    if is_signature r && not (is_record r (decider judged))
+-- of the signatures of a set the one that decided is marked: that at its place (RFC 4035, 5.3.3), and no copy of it
+abbrev pub marked_by : ℕ → ℕ → Rr → Option Judged → Rr
+marked_by now place r None = cleared r
+marked_by now place r (Some judged) =
+    if is_signature r && not (is_place judged.sig place)
     then cleared r
     else record r { proof = judged.mark; ttl = adjusted_ttl now judged r }
 
--- a record with the mark of its set; a signature has the set's mark only where it decided
-unfoldable pub marked : ℕ → List Judged → Section → Rr → Rr
-marked now sets section r = marked_by now r (find (is_about section r) sets)
+-- a record with the mark of its set, behind those that stand before it in its section
+unfoldable pub marked : ℕ → List Judged → Section → List Rr → Rr → Rr
+marked now sets section before r = marked_by now (signature_place before r) r (find (is_about section r) sets)
+
+-- each element changed, by itself and what stands before it
+unfoldable pub map_after : {X Y : Type 0} → (List X → X → Y) → List X → List X → List Y
+map_after f before [] = []
+map_after f before (x ∷ xs) = f before x ∷ map_after f (before ++ x ∷ []) xs
+
+abbrev pub marked_section : ℕ → List Judged → Section → List Rr → List Rr
+marked_section now sets section records = map_after (marked now sets section) [] records
 
 abbrev pub marked_message : ℕ → List Judged → MessageValue → MessageValue
 marked_message now sets m = record m {
-  answers = map (marked now sets Answer) m.answers;
-  authorities = map (marked now sets Authority) m.authorities;
-  additionals = map (marked now sets Additional) m.additionals;
+  answers = marked_section now sets Answer m.answers;
+  authorities = marked_section now sets Authority m.authorities;
+  additionals = marked_section now sets Additional m.additionals;
 }
 
 abbrev pub chain_value : Judged → ChainValue

@@ -10,8 +10,9 @@ use Rattle.dns_model.specs.declared.section.Section.{Section}
 use Rattle.dns_model.specs.declared.section.Section.TheVariants.{Answer, Authority, Additional}
 use Rattle.dns_model.specs.Names.{Labels, name_eq}
 use Rattle.dns_model.specs.Types.{type_rrsig}
+use Rattle.dns_model.specs.Views.{rrsig_in}
 use Rattle.dns_model.specs.Records.{Rr, RrSet}
-use Rattle.dns_model.specs.Sections.{same_set, is_signature, covers, leaders, unsigned_part, set_of, sets_of}
+use Rattle.dns_model.specs.Sections.{same_set, is_signature, covers_rtype, covers, leaders, unsigned_part, set_of, sets_of}
 use Rattle.dns_model.specs.Chains.{is_nonempty, rdatas_of}
 use Rattle.dns_model.specs.SoundAnswers.{Told, Placed, in_section, placed_sets, section_of, section_eq}
 use Rattle.dns_model.proofs.NameLemmas.{name_equiv}
@@ -208,6 +209,25 @@ begins section =
 pub begins_placed : (told : Told) → AllByRecursion (λ p. BeginsIn (section_of told p.section) p.set) (placed_sets told)
 begins_placed told = each_placed (λ p. BeginsIn (section_of told p.section) p.set) told (λ section. begins (section_of told section))
 
+-- ---- the signatures of a set
+
+-- a signature of the set's owner that covers its type
+abbrev pub covers_set : RrSet → Rr → Bool
+covers_set set r = is_signature r && (name_eq set.owner r.owner && covers_rtype set.rtype (rrsig_in r.rdata))
+
+-- a set has the section's signatures that cover it, in order
+pub record IsSignedIn (section : List Rr) (set : RrSet) : Type 0 where
+  pub signed : set.signatures ≡ filter (covers_set set) section
+
+signed_sets : (section : List Rr) → AllByRecursion (IsSignedIn section) (sets_of section)
+unfolding sets_of
+signed_sets section =
+    each_map (IsSignedIn section) (set_of section) (leaders (unsigned_part section))
+    (each_of (λ r. IsSignedIn section (set_of section r)) (λ r. record { signed = refl }) (leaders (unsigned_part section)))
+
+pub signed_placed : (told : Told) → AllByRecursion (λ p. IsSignedIn (section_of told p.section) p.set) (placed_sets told)
+signed_placed told = each_placed (λ p. IsSignedIn (section_of told p.section) p.set) told (λ section. signed_sets (section_of told section))
+
 -- ---- no two sets of a message are one
 
 abbrev pub same_key : RrSet → RrSet → Bool
@@ -336,6 +356,10 @@ same_set-kept f k a b = rw (k.owner a, k.owner b, k.rtype a, k.rtype b) refl
 
 covers-kept : (f : Rr → Rr) → KeepsKey f → (a b : Rr) → covers (f a) (f b) ≡ covers a b
 covers-kept f k a b = rw (k.owner a, k.owner b, k.rtype a, k.rtype b, k.rdata b) refl
+
+-- a changed signature covers what it covered
+pub covered-kept : (f : Rr → Rr) → KeepsKey f → (a b : Rr) → covers a (f b) ≡ covers a b
+covered-kept f k a b = rw (k.owner b, k.rtype b, k.rdata b) refl
 
 unsigned-map : (f : Rr → Rr) → KeepsKey f → (section : List Rr) → unsigned_part (map f section) ≡ map f (unsigned_part section)
 unsigned-map f k section =

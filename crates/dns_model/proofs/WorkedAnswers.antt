@@ -8,7 +8,7 @@ use Rattle.dns_model.specs.declared.proof.Proof.{Proof}
 use Rattle.dns_model.specs.declared.proof.Proof.TheVariants.{Secure, Bogus, Indeterminate}
 use Rattle.dns_model.specs.declared.section.Section.TheVariants.{Answer}
 use Rattle.dns_model.specs.declared.denial.Denial.TheVariants.{None as Nothing}
-use Rattle.std.proofs.Common.{sym, ◌∙◌, ap, true≢false, lit≤}
+use Rattle.std.proofs.Common.{sym, ◌∙◌, ap, true≢false, ◌≤◌, lit≤, arith}
 use Rattle.dns_model.specs.Views.{rrsig_in}
 use Rattle.dns_model.specs.Records.{Rr, RrSet}
 use Rattle.dns_model.specs.Sections.{leaders, sets_of}
@@ -118,6 +118,9 @@ sound_answer = record {
   marks_of_answers = ((refl, tt), tt);
   marks_of_authorities = tt;
   marks_of_additionals = tt;
+  deciders_of_answers = (lit≤ tt, tt);
+  deciders_of_authorities = tt;
+  deciders_of_additionals = tt;
   chains = (record { named = refl; ends = refl; holds = justified_at_1000 }, tt);
 }
 
@@ -134,6 +137,9 @@ sound_alone = record {
   marks_of_answers = ((refl, tt), tt);
   marks_of_authorities = tt;
   marks_of_additionals = tt;
+  deciders_of_answers = (lit≤ tt, tt);
+  deciders_of_authorities = tt;
+  deciders_of_additionals = tt;
   chains = (record { named = refl; ends = refl; holds = justified_at_1000 }, tt);
 }
 
@@ -191,5 +197,56 @@ sound_bogus = record {
   marks_of_answers = ((refl, tt), tt);
   marks_of_authorities = tt;
   marks_of_additionals = tt;
+  deciders_of_answers = (lit≤ tt, tt);
+  deciders_of_authorities = tt;
+  deciders_of_additionals = tt;
   chains = tt;
 }
+
+-- ---- the signature that decided, and a copy beside it
+
+-- the root's NS set with its signature told twice
+abbrev pub told_twice : Told
+told_twice = record told_records {
+  answers = record_of 2 3600 name_a Indeterminate ∷ record_of 46 3600 signature Indeterminate ∷ record_of 46 3600 signature Indeterminate ∷ [];
+}
+
+-- the copy keeps its ttl and has no mark
+pub sound_with_a_copy :
+    Sound (judge verifier anchors 1000) 1000 told_twice
+    (answer_of (record_of 2 1000 name_a Secure ∷ record_of 46 1000 signature Secure ∷ record_of 46 3600 signature Indeterminate ∷ []) (chain_by key ∷ []))
+unfolding sets_of leaders rrsig_in name_in labels_in label_in last_link
+sound_with_a_copy = record {
+  code = refl;
+  answers = (
+    record {
+      owner = refl;
+      rtype = refl;
+      class = refl;
+      rdata = refl;
+      plain = λ no. absurd (true≢false no);
+      secure = λ yes. (λ signs. absurd (true≢false (sym signs)), refl);
+    },
+    (
+      record { owner = refl; rtype = refl; class = refl; rdata = refl; plain = λ no. absurd (true≢false no); secure = λ yes. (λ signs. refl, refl) },
+      (record { owner = refl; rtype = refl; class = refl; rdata = refl; plain = λ no. refl; secure = λ yes. absurd (true≢false (sym yes)) }, tt),
+    ),
+  );
+  authorities = tt;
+  additionals = tt;
+  marks_of_answers = ((refl, tt), tt);
+  marks_of_authorities = tt;
+  marks_of_additionals = tt;
+  deciders_of_answers = (lit≤ tt, tt);
+  deciders_of_authorities = tt;
+  deciders_of_additionals = tt;
+  chains = (record { named = refl; ends = refl; holds = justified_at_1000 }, tt);
+}
+
+pub not_with_a_secure_copy :
+    Sound (judge verifier anchors 1000) 1000 told_twice
+    (answer_of (record_of 2 1000 name_a Secure ∷ record_of 46 1000 signature Secure ∷ record_of 46 1000 signature Secure ∷ []) (chain_by key ∷ [])) → ⊥
+unfolding sets_of leaders rrsig_in name_in labels_in label_in
+not_with_a_secure_copy s =
+    let two : 2 ≤ 1 = s.deciders_of_answers.0 in
+    omega arith

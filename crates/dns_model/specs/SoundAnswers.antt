@@ -1,5 +1,5 @@
 -- What a reply tells, and when an answer is sound (RFC 4035, 4.3 and 5).
-use Rattle.std.specs.Prelude.{ℕ, ◌≡◌, ◌≤◌, ◌⊎◌, Bool, true, false, ◌==◌, ◌&&◌, ◌||◌, min, List, [], ◌∷◌, ◌++◌, map, Option, None, Some, if◌then◌else◌}
+use Rattle.std.specs.Prelude.{ℕ, ◌≡◌, ◌≤◌, ◌⊎◌, Bool, true, false, ◌==◌, ◌&&◌, ◌||◌, min, List, [], ◌∷◌, ◌++◌, map, count_by, Option, None, Some, if◌then◌else◌}
 use Rattle.std.specs.List.{filter, find, AllByRecursion}
 use Rattle.dns_model.specs.declared.proof.Proof.{Proof}
 use Rattle.dns_model.specs.declared.proof.Proof.TheVariants.{Secure, Insecure, Bogus, Indeterminate}
@@ -93,6 +93,13 @@ HasOneMark set = AllByRecursion (λ r. r.proof ≡ first_mark set.records) set.r
 abbrev pub HaveOneMark : List Rr → Type 0
 HaveOneMark section = AllByRecursion HasOneMark (sets_of section)
 
+-- of the signatures of a set at most one is Secure, the one that decided: no copy beside it is (RFC 4035, 5.3.3)
+abbrev pub HasOneDecider : RrSet → Type 0
+HasOneDecider set = count_by (λ r. is_secure r.proof) set.signatures ≤ 1
+
+abbrev pub HaveOneDecider : List Rr → Type 0
+HaveOneDecider section = AllByRecursion HasOneDecider (sets_of section)
+
 abbrev pub secure_sets : Told → List Placed
 secure_sets told = filter (λ p. is_secure_set p.set) (placed_sets told)
 
@@ -175,7 +182,8 @@ AreKept Kept [] (r ∷ rs) = ⊥
 AreKept Kept (t ∷ ts) [] = ⊥
 AreKept Kept (t ∷ ts) (r ∷ rs) = Kept t r × AreKept Kept ts rs
 
--- the answer holds exactly the records that were told, each set with one mark, each Secure set with one justified chain
+-- the answer holds exactly the records that were told, each set with one mark and at most one Secure signature, each Secure
+-- set with one justified chain
 pub record Sound (j : Judge) (now : ℕ) (told : Told) (a : ResponseValue) : Type 0 where
   pub code : a.message.response_code ≡ told.code
   pub answers : AreKept (IsKept now a.chains Answer told.answers) told.answers a.message.answers
@@ -184,6 +192,9 @@ pub record Sound (j : Judge) (now : ℕ) (told : Told) (a : ResponseValue) : Typ
   pub marks_of_answers : HaveOneMark a.message.answers
   pub marks_of_authorities : HaveOneMark a.message.authorities
   pub marks_of_additionals : HaveOneMark a.message.additionals
+  pub deciders_of_answers : HaveOneDecider a.message.answers
+  pub deciders_of_authorities : HaveOneDecider a.message.authorities
+  pub deciders_of_additionals : HaveOneDecider a.message.additionals
   pub chains : AreChainsOf j a.chains (secure_sets (told_by a.message))
 
 -- a Secure record's ttl where nothing tells what the upstream said: under a signature that of its set, and no more than the
@@ -210,4 +221,7 @@ pub record SoundAlone (j : Judge) (now : ℕ) (a : ResponseValue) : Type 0 where
   pub marks_of_answers : HaveOneMark a.message.answers
   pub marks_of_authorities : HaveOneMark a.message.authorities
   pub marks_of_additionals : HaveOneMark a.message.additionals
+  pub deciders_of_answers : HaveOneDecider a.message.answers
+  pub deciders_of_authorities : HaveOneDecider a.message.authorities
+  pub deciders_of_additionals : HaveOneDecider a.message.additionals
   pub chains : AreChainsOf j a.chains (secure_sets (told_by a.message))
