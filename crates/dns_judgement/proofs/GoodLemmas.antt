@@ -7,6 +7,8 @@ use Rattle.dns_judgement.specs.declared.rrsig_validity.RrsigValidity.TheVariants
 use Rattle.dns_model.specs.Names.{name_eq, at_or_above, num_labels, parent}
 use Rattle.dns_model.specs.Types.{type_rrsig, type_nsec, type_nsec3, type_dnskey}
 use Rattle.dns_model.specs.Views.{RrsigValue, DnskeyValue, rrsig_in, dnskey_in, is_zone_key, is_revoked}
+use Rattle.dns_model.specs.RecordViews.{rrsig_of, dnskey_of}
+use Rattle.dns_model.proofs.RecordViewLemmas.{rrsig_read, dnskey_read}
 use Rattle.dns_model.specs.Signing.{signed_bytes, key_tag_of}
 use Rattle.dns_model.specs.Records.{Rr, RrSet}
 use Rattle.dns_model.specs.Chains.{LinkValue, Signed, Judge, is_nonempty, rdatas_of, signer_fits, labels_fit, parent_fits, is_good, key_comes, is_signed, link_holds}
@@ -19,7 +21,7 @@ use Rattle.dns_judgement.specs.Marks.{is_kept_whole}
 -- the tests of a good signature, taken apart
 pub record IsGoodRead (j : Judge) (set : RrSet) (r key : Rr) (sig : RrsigValue) : Type 0 where
   pub text : DnskeyValue
-  pub read : dnskey_in key.rdata ≡ Some text
+  pub read : dnskey_of key ≡ Some text
   pub of_set : is_of_set set r sig ≡ true
   pub timely : j.is_timely sig ≡ true
   pub by_key : is_by_key sig key text ≡ true
@@ -36,7 +38,7 @@ by_key_is : (b : Bool) → is_valid (if b then ValidRrsig else WrongDnskey) ≡ 
 by_key_is true h = refl
 by_key_is false h = cc
 
-good_by_key : (j : Judge) (set : RrSet) (r key : Rr) (sig : RrsigValue) (o : Option DnskeyValue) → dnskey_in key.rdata ≡ o
+good_by_key : (j : Judge) (set : RrSet) (r key : Rr) (sig : RrsigValue) (o : Option DnskeyValue) → dnskey_of key ≡ o
     → is_of_set set r sig ≡ true → j.is_timely sig ≡ true
     → is_valid (key_validity sig key o) ≡ true → is_accepted j set (Some sig) o ≡ true → IsGoodRead j set r key sig
 good_by_key j set r key sig None is fits timely valid accepted = cc
@@ -49,15 +51,15 @@ good_by_key j set r key sig (Some text) is fits timely valid accepted = record {
   accepted = accepted;
 }
 
-pub good_parts : (j : Judge) (set : RrSet) (r key : Rr) (sig : RrsigValue) → rrsig_in r.rdata ≡ Some sig → is_good_by j set r key ≡ true
+pub good_parts : (j : Judge) (set : RrSet) (r key : Rr) (sig : RrsigValue) → rrsig_of r ≡ Some sig → is_good_by j set r key ≡ true
     → IsGoodRead j set r key sig
 unfolding is_good_by validity
 good_parts j set r key sig is good =
-    let both = and_parts (is_valid (sig_validity j.is_timely set r key (rrsig_in r.rdata))) (is_accepted j set (rrsig_in r.rdata) (dnskey_in key.rdata)) good in
+    let both = and_parts (is_valid (sig_validity j.is_timely set r key (rrsig_of r))) (is_accepted j set (rrsig_of r) (dnskey_of key)) good in
     let valid : is_valid (sig_validity j.is_timely set r key (Some sig)) ≡ true = ap (λ o. is_valid (sig_validity j.is_timely set r key o)) (sym is) ∙ both.0 in
-    let accepted : is_accepted j set (Some sig) (dnskey_in key.rdata) ≡ true = ap (λ o. is_accepted j set o (dnskey_in key.rdata)) (sym is) ∙ both.1 in
-    let parts = valid_parts (is_of_set set r sig) (j.is_timely sig) (key_validity sig key (dnskey_in key.rdata)) valid in
-    good_by_key j set r key sig (dnskey_in key.rdata) refl parts.0 parts.1 parts.2 accepted
+    let accepted : is_accepted j set (Some sig) (dnskey_of key) ≡ true = ap (λ o. is_accepted j set o (dnskey_of key)) (sym is) ∙ both.1 in
+    let parts = valid_parts (is_of_set set r sig) (j.is_timely sig) (key_validity sig key (dnskey_of key)) valid in
+    good_by_key j set r key sig (dnskey_of key) refl parts.0 parts.1 parts.2 accepted
 
 -- the name that a good signature gives is that of its key
 pub signer_is_owner : (j : Judge) (set : RrSet) (r key : Rr) (sig : RrsigValue) → IsGoodRead j set r key sig → name_eq sig.signer key.owner ≡ true
@@ -86,7 +88,7 @@ good_in_link j set r key sig good =
     let accepts = j.answers.accepts sig.algorithm text.key (signed_bytes set.owner set.rtype set.class (rdatas_of set.records) sig) sig.signature in
     let by = and_four (name_eq sig.signer key.owner) (text.algorithm == sig.algorithm) (key_tag_of key.rdata == sig.key_tag) (is_zone_key text) good.by_key in
     let to = and_four (not (is_revoked text)) (text.protocol == 3) (j.answers.supports text.algorithm) accepts good.accepted in
-    ap (is_good j set.owner set.class set.rtype (rdatas_of set.records) sig key.rdata) good.read
+    ap (is_good j set.owner set.class set.rtype (rdatas_of set.records) sig key.rdata) (dnskey_read key text good.read)
     ∙ good_again (is_zone_key text) (not (is_revoked text)) (text.protocol == 3) (j.answers.supports text.algorithm)
     (text.algorithm == sig.algorithm) (key_tag_of key.rdata == sig.key_tag) (j.is_timely sig) accepts
     by.3 to.0 to.1 to.2 by.1 by.2 good.timely to.3
@@ -141,7 +143,7 @@ and_six a b c d e f p q r s t u = rw (p, q, r, s, t, u) refl
 
 -- the signed link of a proper set holds where the signature is good and the rest fits
 pub signed_holds : (j : Judge) (earlier : List LinkValue) (set : RrSet) (r key : Rr) (sig : RrsigValue) (key_link : ℕ)
-    → IsProper set → rrsig_in r.rdata ≡ Some sig → is_good_by j set r key ≡ true → Fits earlier set sig key_link key.rdata
+    → IsProper set → rrsig_of r ≡ Some sig → is_good_by j set r key ≡ true → Fits earlier set sig key_link key.rdata
     → link_holds j earlier (Signed set.owner set.class set.rtype (rdatas_of set.records) r.rdata key_link key.rdata) ≡ true
 unfolding link_holds
 signed_holds j earlier set r key sig key_link proper is good fits =
@@ -155,7 +157,7 @@ signed_holds j earlier set r key sig key_link proper is good fits =
     (key_comes earlier set.owner set.class set.rtype rdatas sig.signer key_link key.rdata)
     of_set.covered fits.signer fit.0 fit.1 (good_in_link j set r key sig text) fits.comes in
     let read : is_signed j earlier set.owner set.class set.rtype rdatas key_link key.rdata (rrsig_in r.rdata) ≡ true =
-    ap (is_signed j earlier set.owner set.class set.rtype rdatas key_link key.rdata) is ∙ signed in
+    ap (is_signed j earlier set.owner set.class set.rtype rdatas key_link key.rdata) (rrsig_read r sig is) ∙ signed in
     and_from (not (set.rtype == type_rrsig)) (is_nonempty rdatas && is_signed j earlier set.owner set.class set.rtype rdatas key_link key.rdata (rrsig_in r.rdata))
     (ap not proper.plain)
     (and_from (is_nonempty rdatas) (is_signed j earlier set.owner set.class set.rtype rdatas key_link key.rdata (rrsig_in r.rdata)) proper.listed read)

@@ -7,7 +7,8 @@ use Rattle.std.proofs.lemmas.List.{append_assoc}
 use Rattle.dns_model.specs.declared.proof.Proof.TheVariants.{Secure, Bogus}
 use Rattle.dns_model.specs.Names.{Labels, name_eq, at_or_above}
 use Rattle.dns_model.specs.Types.{type_dnskey}
-use Rattle.dns_model.specs.Views.{RrsigValue, rrsig_in, dnskey_in}
+use Rattle.dns_model.specs.Views.{RrsigValue}
+use Rattle.dns_model.specs.RecordViews.{rrsig_of, dnskey_of}
 use Rattle.dns_model.specs.Records.{Rr, RrSet}
 use Rattle.dns_model.specs.Chains.{LinkValue, Anchored, KeySet, Signed, Judge, all_shown, is_nonempty, has_bytes, rdatas_of, signer_fits, key_comes, shows_key, link_holds, links_hold, is_chain, justified, link_is_for}
 use Rattle.dns_model.specs.SoundAnswers.{Placed}
@@ -54,9 +55,9 @@ first_signed_at j set n (r ∷ rs) s h =
 -- a good signature can be read
 record IsRead (r : Rr) : Type 0 where
   sig : RrsigValue
-  is : rrsig_in r.rdata ≡ Some sig
+  is : rrsig_of r ≡ Some sig
 
-read_step : (j : Judge) (set : RrSet) (r key : Rr) (o : Option RrsigValue) → rrsig_in r.rdata ≡ o
+read_step : (j : Judge) (set : RrSet) (r key : Rr) (o : Option RrsigValue) → rrsig_of r ≡ o
     → is_valid (sig_validity j.is_timely set r key o) ≡ true → IsRead r
 read_step j set r key None is h = cc
 read_step j set r key (Some sig) is h = record { sig = sig; is = is }
@@ -64,10 +65,13 @@ read_step j set r key (Some sig) is h = record { sig = sig; is = is }
 good_is_read : (j : Judge) (set : RrSet) (r key : Rr) → is_good_by j set r key ≡ true → IsRead r
 unfolding is_good_by validity
 good_is_read j set r key h =
-    read_step j set r key (rrsig_in r.rdata) refl
-    (and_parts (is_valid (sig_validity j.is_timely set r key (rrsig_in r.rdata))) (is_accepted j set (rrsig_in r.rdata) (dnskey_in key.rdata)) h).0
+    read_step j set r key (rrsig_of r) refl
+    (and_parts (is_valid (sig_validity j.is_timely set r key (rrsig_of r))) (is_accepted j set (rrsig_of r) (dnskey_of key)) h).0
 
 -- ---- a key set signed by an anchored key of it
+
+anchored_rdata : (j : Judge) (set : RrSet) (key : Rr) → is_anchored_key j set key ≡ true → j.is_anchored set.owner key.rdata ≡ true
+anchored_rdata j set key h = (and_parts (key.rtype == type_dnskey) (j.is_anchored set.owner key.rdata) h).1
 
 one_anchor : (j : Judge) (owner : Labels) (class : ℕ) (key : List ℕ) → j.is_anchored owner key ≡ true → justified j (Anchored owner class key ∷ []) ≡ true
 unfolding links_hold link_holds
@@ -108,7 +112,7 @@ self_signed j set rs s proper keys at =
     let holds = signed_holds j (anchor ∷ []) set s.signature s.key read.sig 0 proper read.is passes.1 fits in
     let ended = last_link-append (anchor ∷ []) link in
     record {
-      held = justified_extends j (anchor ∷ []) link (one_anchor j set.owner set.class s.key.rdata passes.0) holds;
+      held = justified_extends j (anchor ∷ []) link (one_anchor j set.owner set.class s.key.rdata (anchored_rdata j set s.key passes.0)) holds;
       ends = ap (link_is_for set) ended ∙ signed_is_for set s.signature.rdata 0 s.key.rdata;
       named = ap (λ l. names_decider l (Some s.signature)) ended ∙ bytes_refl s.signature.rdata;
     }
@@ -122,7 +126,7 @@ anchors_hold j set earlier [] h = refl
 anchors_hold j set earlier (r ∷ rs) h =
     let parts = and_parts (is_anchored_key j set r) (list_all (is_anchored_key j set) rs) h in
     let next = earlier ++ Anchored set.owner set.class r.rdata ∷ [] in
-    and_from (is_anchored_key j set r) (links_hold j next (map (Anchored set.owner set.class) (rdatas_of rs))) parts.0 (anchors_hold j set next rs parts.1)
+    and_from (j.is_anchored set.owner r.rdata) (links_hold j next (map (Anchored set.owner set.class) (rdatas_of rs))) (anchored_rdata j set r parts.0) (anchors_hold j set next rs parts.1)
 
 -- each key is shown by the link with its number
 keys_shown : (owner : Labels) (class : ℕ) (front : List LinkValue) (keys : List (List ℕ)) (n : ℕ) → n ≡ length front

@@ -9,7 +9,8 @@ use Rattle.dns_model.specs.declared.proof.Proof.TheVariants.{Secure, Insecure, B
 use Rattle.dns_model.specs.declared.section.Section.TheVariants.{Answer}
 use Rattle.dns_model.specs.Names.{Labels, name_eq}
 use Rattle.dns_model.specs.Types.{type_dnskey}
-use Rattle.dns_model.specs.Views.{RrsigValue, rrsig_in}
+use Rattle.dns_model.specs.Views.{RrsigValue}
+use Rattle.dns_model.specs.RecordViews.{rrsig_of}
 use Rattle.dns_model.specs.Records.{Rr, RrSet, Question, question_eq}
 use Rattle.dns_model.specs.Chains.{LinkValue, Signed, Judge, has_bytes, rdatas_of, signer_fits, key_comes, shows_key, shows_member, justified, last_link, ends_at, link_is_for}
 use Rattle.dns_model.specs.SoundAnswers.{Placed, is_secure, section_eq}
@@ -18,7 +19,7 @@ use Rattle.dns_model.proofs.SetLemmas.{IsProper}
 use Rattle.dns_model.proofs.ChainLemmas.{last_link-append, slice_get-last, justified_extends, bytes_refl, each_member, member_shown, signed_is_for}
 use Rattle.dns_judgement.specs.Validity.{is_good_by}
 use Rattle.dns_judgement.specs.Judged.{Judged, decider, names_decider, stands}
-use Rattle.dns_judgement.specs.Marks.{is_skipped, is_skipped_read, key_question, first_two, counted_keys, is_readable_key, same_tag, is_key_set_of, Verdict, Proved, Excused, Failed, is_proved, is_excused, signed_chain, by_secure_key, by_insecure_key, by_keys, by_key_set, is_kept_whole, verdict_by, verdict_of, mark_at, proved_chain, judged_by}
+use Rattle.dns_judgement.specs.Marks.{is_skipped, is_skipped_read, key_question, first_two, counted_keys, is_key_of, same_tag, is_key_set_of, Verdict, Proved, Excused, Failed, is_proved, is_excused, signed_chain, by_secure_key, by_insecure_key, by_keys, by_key_set, is_kept_whole, verdict_by, verdict_of, mark_at, proved_chain, judged_by}
 use Rattle.dns_judgement.proofs.GoodLemmas.{Fits, signed_holds}
 
 -- ---- a chain for a set
@@ -57,11 +58,11 @@ pub record IsProof (j : Judge) (set : RrSet) (r : Rr) (answer : List Judged) (ch
   pub sig : RrsigValue
   pub keys : Judged
   pub key : Rr
-  pub read : rrsig_in r.rdata ≡ Some sig
+  pub read : rrsig_of r ≡ Some sig
   pub whole : is_kept_whole set sig ≡ true
   pub found : find (is_key_set_of set.class sig.signer) answer ≡ Some keys
   pub secure : is_secure keys.mark ≡ true
-  pub good : find (is_good_by j set r) (counted_keys keys.set.records) ≡ Some key
+  pub good : find (is_good_by j set r) (counted_keys sig.signer keys.set.records) ≡ Some key
   pub chain_is : chain ≡ signed_chain set r keys.chain key
 
 record ByKey (set : RrSet) (r : Rr) (before : List LinkValue) (o : Option Rr) (chain : List LinkValue) : Type 0 where
@@ -89,30 +90,31 @@ proved_mark j set r before Insecure keys chain h = absurd (excused_only keys cha
 proved_mark j set r before Bogus keys chain h = cc
 proved_mark j set r before Indeterminate keys chain h = cc
 
-record ByKeySet (j : Judge) (set : RrSet) (r : Rr) (o : Option Judged) (chain : List LinkValue) : Type 0 where
+record ByKeySet (j : Judge) (set : RrSet) (r : Rr) (signer : Labels) (o : Option Judged) (chain : List LinkValue) : Type 0 where
   keys : Judged
   is : o ≡ Some keys
-  by : ByMark j set r keys.chain keys.mark (counted_keys keys.set.records) chain
+  by : ByMark j set r keys.chain keys.mark (counted_keys signer keys.set.records) chain
 
-proved_set : (j : Judge) (set : RrSet) (r : Rr) (o : Option Judged) (chain : List LinkValue) → by_key_set j set r o ≡ Proved chain → ByKeySet j set r o chain
-proved_set j set r None chain h = cc
-proved_set j set r (Some keys) chain h = record {
+proved_set : (j : Judge) (set : RrSet) (r : Rr) (signer : Labels) (o : Option Judged) (chain : List LinkValue) → by_key_set j set r signer o ≡ Proved chain
+    → ByKeySet j set r signer o chain
+proved_set j set r signer None chain h = cc
+proved_set j set r signer (Some keys) chain h = record {
   keys = keys;
   is = refl;
-  by = proved_mark j set r keys.chain keys.mark (counted_keys keys.set.records) chain h;
+  by = proved_mark j set r keys.chain keys.mark (counted_keys signer keys.set.records) chain h;
 }
 
 whole_step : (whole : Bool) (v : Verdict) (chain : List LinkValue) → (if whole then v else Failed) ≡ Proved chain → (whole ≡ true) × (v ≡ Proved chain)
 whole_step true v chain h = (refl, h)
 whole_step false v chain h = cc
 
-proved_read : (j : Judge) (set : RrSet) (r : Rr) (answer : List Judged) (o : Option RrsigValue) (chain : List LinkValue) → rrsig_in r.rdata ≡ o
+proved_read : (j : Judge) (set : RrSet) (r : Rr) (answer : List Judged) (o : Option RrsigValue) (chain : List LinkValue) → rrsig_of r ≡ o
     → verdict_by j set r answer o ≡ Proved chain → IsProof j set r answer chain
 proved_read j set r answer None chain is h = cc
 proved_read j set r answer (Some sig) chain is h =
     let found = find (is_key_set_of set.class sig.signer) answer in
-    let parts = whole_step (is_kept_whole set sig) (by_key_set j set r found) chain h in
-    let by = proved_set j set r found chain parts.1 in
+    let parts = whole_step (is_kept_whole set sig) (by_key_set j set r sig.signer found) chain h in
+    let by = proved_set j set r sig.signer found chain parts.1 in
     record {
       sig = sig;
       keys = by.keys;
@@ -128,7 +130,7 @@ proved_read j set r answer (Some sig) chain is h =
 pub proved_parts : (j : Judge) (set : RrSet) (r : Rr) (answer : List Judged) (chain : List LinkValue) → verdict_of j set r (Some answer) ≡ Proved chain
     → IsProof j set r answer chain
 unfolding verdict_of
-proved_parts j set r answer chain h = proved_read j set r answer (rrsig_in r.rdata) chain refl h
+proved_parts j set r answer chain h = proved_read j set r answer (rrsig_of r) chain refl h
 
 -- a signature that isn't skipped has a signer that fits
 skipped_step : (set : RrSet) (asked : Question) (o : Option RrsigValue) (sig : RrsigValue) → o ≡ Some sig → is_skipped_read asked set o ≡ false
@@ -139,9 +141,9 @@ skipped_step set asked (Some text) sig is h =
     let parts = or_parts (not (signer_fits set.rtype text.signer set.owner)) (question_eq (key_question set.class text.signer) asked) h in
     ap (λ t. signer_fits set.rtype t.signer set.owner) (sym same) ∙ not-false (signer_fits set.rtype text.signer set.owner) parts.0
 
-pub asked_fits : (set : RrSet) (asked : Question) (r : Rr) (sig : RrsigValue) → rrsig_in r.rdata ≡ Some sig → is_skipped asked set r ≡ false
+pub asked_fits : (set : RrSet) (asked : Question) (r : Rr) (sig : RrsigValue) → rrsig_of r ≡ Some sig → is_skipped asked set r ≡ false
     → signer_fits set.rtype sig.signer set.owner ≡ true
-asked_fits set asked r sig is h = skipped_step set asked (rrsig_in r.rdata) sig is h
+asked_fits set asked r sig is h = skipped_step set asked (rrsig_of r) sig is h
 
 two_step : (P : Rr → Type 0) (b : Bool) (x : Rr) (xs : List Rr) → P x → AllByRecursion P xs → AllByRecursion P (if b then x ∷ xs else xs)
 two_step P true x xs h k = (h, k)
@@ -154,8 +156,8 @@ each_first_two P earlier (r ∷ rs) h =
     two_step P (nat_lt (count_by (same_tag r) earlier) 2) r (first_two (earlier ++ r ∷ []) rs) h.0 (each_first_two P (earlier ++ r ∷ []) rs h.1)
 
 -- what is shown of each record is shown of each counted key
-pub each_counted : (P : Rr → Type 0) (records : List Rr) → AllByRecursion P records → AllByRecursion P (counted_keys records)
-each_counted P records h = each_first_two P [] (filter is_readable_key records) (each_filter P is_readable_key records h)
+pub each_counted : (P : Rr → Type 0) (zone : Labels) (records : List Rr) → AllByRecursion P records → AllByRecursion P (counted_keys zone records)
+each_counted P zone records h = each_first_two P [] (filter (is_key_of zone) records) (each_filter P (is_key_of zone) records h)
 
 -- the parts of a test that a set is a signer's key set
 record IsKeySetOf (class : ℕ) (signer : Labels) (s : Judged) : Type 0 where
@@ -184,7 +186,8 @@ proof_is_chain j set asked r answer chain proper other asked_for stand is =
     let below = stands_parts j p.keys found.known p.secure in
     let rdatas = rdatas_of p.keys.set.records in
     let Member = λ (k : Rr). has_bytes rdatas k.rdata ≡ true in
-    let key = find_known (is_good_by j set r) Member (counted_keys p.keys.set.records) p.key (each_counted Member p.keys.set.records (each_member p.keys.set.records)) p.good in
+    let key = find_known (is_good_by j set r) Member (counted_keys p.sig.signer p.keys.set.records) p.key
+    (each_counted Member p.sig.signer p.keys.set.records (each_member p.keys.set.records)) p.good in
     let last = length p.keys.chain - 1 in
     let link = Signed set.owner set.class set.rtype (rdatas_of set.records) r.rdata last p.key.rdata in
     let shown : shows_member p.sig.signer set.class p.key.rdata (slice_get p.keys.chain last) ≡ true =

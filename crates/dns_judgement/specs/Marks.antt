@@ -7,8 +7,9 @@ use Rattle.dns_model.specs.declared.section.Section.{Section}
 use Rattle.dns_model.specs.declared.section.Section.TheVariants.{Answer}
 use Rattle.dns_model.specs.Names.{Labels, name_eq, at_or_above, num_labels, parent}
 use Rattle.dns_model.specs.Types.{type_ds, type_nsec, type_nsec3, type_dnskey}
-use Rattle.dns_model.specs.Views.{RrsigValue, DnskeyValue, rrsig_in, dnskey_in}
+use Rattle.dns_model.specs.Views.{RrsigValue}
 use Rattle.dns_model.specs.Records.{Rr, RrSet, Question, question_eq}
+use Rattle.dns_model.specs.RecordViews.{rrsig_of, dnskey_of}
 use Rattle.dns_model.specs.Signing.{key_tag_of}
 use Rattle.dns_model.specs.Chains.{LinkValue, Anchored, KeySet, Signed, Judge, signer_fits, rdatas_of}
 use Rattle.dns_model.specs.SoundAnswers.{Placed, section_eq}
@@ -30,10 +31,11 @@ is_skipped_read asked set (Some sig) =
 
 -- a signature isn't asked for: it can't be read, its signer doesn't fit, or it asks what is being asked
 abbrev pub is_skipped : Question → RrSet → Rr → Bool
-is_skipped asked set r = is_skipped_read asked set (rrsig_in r.rdata)
+is_skipped asked set r = is_skipped_read asked set (rrsig_of r)
 
-abbrev pub is_readable_key : Rr → Bool
-is_readable_key r = is_some (dnskey_in r.rdata)
+-- the record is a key of a zone: owned by it, of type DNSKEY, and readable
+abbrev pub is_key_of : Labels → Rr → Bool
+is_key_of zone r = name_eq zone r.owner && is_some (dnskey_of r)
 
 abbrev pub same_tag : Rr → Rr → Bool
 same_tag a b = key_tag_of a.rdata == key_tag_of b.rdata
@@ -46,9 +48,9 @@ first_two earlier (r ∷ rs) =
     then r ∷ first_two (earlier ++ r ∷ []) rs
     else first_two (earlier ++ r ∷ []) rs
 
--- the keys of a key set that may sign other sets
-abbrev pub counted_keys : List Rr → List Rr
-counted_keys records = first_two [] (filter is_readable_key records)
+-- the keys of a zone that may sign its sets, of whatever records: the first two of each tag
+abbrev pub counted_keys : Labels → List Rr → List Rr
+counted_keys zone records = first_two [] (filter (is_key_of zone) records)
 
 -- the key set of a question in the answer section of a finished ask
 abbrev pub is_key_set_of : ℕ → Labels → Judged → Bool
@@ -91,9 +93,9 @@ by_keys j set r chain Insecure keys = by_insecure_key keys
 by_keys j set r chain Bogus keys = Failed
 by_keys j set r chain Indeterminate keys = Failed
 
-abbrev pub by_key_set : Judge → RrSet → Rr → Option Judged → Verdict
-by_key_set j set r None = Failed
-by_key_set j set r (Some keys) = by_keys j set r keys.chain keys.mark (counted_keys keys.set.records)
+abbrev pub by_key_set : Judge → RrSet → Rr → Labels → Option Judged → Verdict
+by_key_set j set r signer None = Failed
+by_key_set j set r signer (Some keys) = by_keys j set r keys.chain keys.mark (counted_keys signer keys.set.records)
 
 -- an NSEC or NSEC3 is never expanded, and an NSEC3 stands right below its signer
 abbrev pub is_kept_whole : RrSet → RrsigValue → Bool
@@ -105,12 +107,12 @@ is_kept_whole set sig =
 abbrev pub verdict_by : Judge → RrSet → Rr → List Judged → Option RrsigValue → Verdict
 verdict_by j set r answer None = Failed
 verdict_by j set r answer (Some sig) =
-    if is_kept_whole set sig then by_key_set j set r (find (is_key_set_of set.class sig.signer) answer) else Failed
+    if is_kept_whole set sig then by_key_set j set r sig.signer (find (is_key_set_of set.class sig.signer) answer) else Failed
 
 -- the verdict of one signature, with the sets of the answer to its ask; none where the ask failed or was refused
 unfoldable pub verdict_of : Judge → RrSet → Rr → Option (List Judged) → Verdict
 verdict_of j set r None = Failed
-verdict_of j set r (Some answer) = verdict_by j set r answer (rrsig_in r.rdata)
+verdict_of j set r (Some answer) = verdict_by j set r answer (rrsig_of r)
 
 -- a mark, and the place of the signature that decided
 pub record Mark : Type 0 where
@@ -147,8 +149,9 @@ judged_by placed verdicts = record {
   chain = proved_chain verdicts;
 }
 
+-- a record of another type than DNSKEY is never anchored
 abbrev pub is_anchored_key : Judge → RrSet → Rr → Bool
-is_anchored_key j set key = j.is_anchored set.owner key.rdata
+is_anchored_key j set key = (key.rtype == type_dnskey) && j.is_anchored set.owner key.rdata
 
 -- an anchored key of a key set by which a signature of that set is good
 abbrev pub anchored_signer : Judge → RrSet → Rr → Option Rr

@@ -7,9 +7,9 @@ use Rattle.dns_model.specs.declared.denial.Denial as denial
 use Rattle.dns_model.specs.declared.denial.Denial.TheVariants as denied
 use Rattle.dns_model.specs.Names.{Labels, name_eq, num_labels}
 use Rattle.dns_model.specs.Types.{type_cname, type_nsec, type_nsec3}
-use Rattle.dns_model.specs.Views.{RrsigValue, rrsig_in}
+use Rattle.dns_model.specs.Views.{RrsigValue}
 use Rattle.dns_model.specs.Records.{Rr, Question}
-use Rattle.dns_model.specs.Sections.{is_signature}
+use Rattle.dns_model.specs.RecordViews.{rrsig_of}
 use Rattle.dns_model.specs.SoundAnswers.{Told, is_secure}
 use Rattle.dns_judgement.specs.Judged.{Judged, decider}
 
@@ -26,11 +26,11 @@ is_expanded_read owner (Some sig) = nat_lt sig.labels (num_labels owner)
 
 -- a readable RRSIG whose Labels is below its owner's count
 abbrev pub is_wildcard_signature : Rr → Bool
-is_wildcard_signature r = is_signature r && is_expanded_read r.owner (rrsig_in r.rdata)
+is_wildcard_signature r = is_expanded_read r.owner (rrsig_of r)
 
 abbrev pub is_expanded_by : Option Rr → Bool
 is_expanded_by None = false
-is_expanded_by (Some r) = is_expanded_read r.owner (rrsig_in r.rdata)
+is_expanded_by (Some r) = is_wildcard_signature r
 
 -- a Secure set that can only be judged with denial of existence: NSEC, NSEC3, or expanded from a wildcard
 abbrev pub needs_denial : Judged → Bool

@@ -3,8 +3,9 @@ use Rattle.std.specs.Prelude.{ℕ, ◌+◌, ◌≡◌, ◌≤◌, ◌<◌, ◌�
 use Rattle.std.specs.List.{filter}
 use Rattle.dns_model.specs.Names.{Labels}
 use Rattle.dns_model.specs.Types.{type_soa, type_ds, type_nsec, type_dnskey, type_nsec3}
-use Rattle.dns_model.specs.Views.{RrsigValue, rrsig_in}
+use Rattle.dns_model.specs.Views.{RrsigValue}
 use Rattle.dns_model.specs.Records.{Rr, RrSet, Question}
+use Rattle.dns_model.specs.RecordViews.{rrsig_of}
 use Rattle.dns_model.specs.Chains.{Judge}
 use Rattle.dns_model.specs.SoundAnswers.{Told, Placed, placed_sets}
 use Rattle.dns_judgement.specs.Judged.{Judged}
@@ -38,7 +39,7 @@ signer_question class (Some sig) = Some (key_question class sig.signer)
 
 -- the ask of a signature for its signer's keys
 abbrev pub ask_of : RrSet → Rr → Option Question
-ask_of set r = signer_question set.class (rrsig_in r.rdata)
+ask_of set r = signer_question set.class (rrsig_of r)
 
 -- what a part of the walk is about, and what it came to
 pub data Aim : Type 0 where

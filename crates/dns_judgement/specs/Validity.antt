@@ -3,8 +3,9 @@ use Rattle.std.specs.Prelude.{ℕ, Bool, true, false, not, ◌==◌, ◌&&◌, n
 use Rattle.dns_judgement.specs.declared.rrsig_validity.RrsigValidity.{RrsigValidity}
 use Rattle.dns_judgement.specs.declared.rrsig_validity.RrsigValidity.TheVariants.{ValidRrsig, ExpiredRrsig, WrongDnskey, WrongRrsig}
 use Rattle.dns_model.specs.Names.{name_eq, at_or_above, num_labels}
-use Rattle.dns_model.specs.Views.{RrsigValue, DnskeyValue, rrsig_in, dnskey_in, is_zone_key, is_revoked}
+use Rattle.dns_model.specs.Views.{RrsigValue, DnskeyValue, is_zone_key, is_revoked}
 use Rattle.dns_model.specs.Records.{Rr, RrSet}
+use Rattle.dns_model.specs.RecordViews.{rrsig_of, dnskey_of}
 use Rattle.dns_model.specs.Signing.{signed_bytes, key_tag_of}
 use Rattle.dns_model.specs.Chains.{Judge, rdatas_of}
 
@@ -28,11 +29,11 @@ sig_validity is_timely set r key None = WrongRrsig
 sig_validity is_timely set r key (Some sig) =
     if not (is_of_set set r sig) then WrongRrsig
     else if not (is_timely sig) then ExpiredRrsig
-    else key_validity sig key (dnskey_in key.rdata)
+    else key_validity sig key (dnskey_of key)
 
--- the first test that fails, of the signature, the moment and the key
+-- the first test that fails, of the signature, the moment and the key; a record of another type is neither
 unfoldable pub validity : (RrsigValue → Bool) → RrSet → Rr → Rr → RrsigValidity
-validity is_timely set r key = sig_validity is_timely set r key (rrsig_in r.rdata)
+validity is_timely set r key = sig_validity is_timely set r key (rrsig_of r)
 
 abbrev pub is_valid : RrsigValidity → Bool
 is_valid ValidRrsig = true
@@ -50,4 +51,4 @@ is_accepted j set (Some sig) (Some key) =
 -- the signature (second) of a set is good by a key (third)
 unfoldable pub is_good_by : Judge → RrSet → Rr → Rr → Bool
 is_good_by j set r key =
-    is_valid (validity j.is_timely set r key) && is_accepted j set (rrsig_in r.rdata) (dnskey_in key.rdata)
+    is_valid (validity j.is_timely set r key) && is_accepted j set (rrsig_of r) (dnskey_of key)

@@ -1,6 +1,7 @@
 pub mod Worked
 pub mod WorkedAnswers
 pub mod ViewLaws
+pub mod RecordViewLemmas
 pub mod Lists
 pub mod WireLemmas
 pub mod NameSteps

@@ -8,6 +8,7 @@ pub mod Shapes
 pub mod Views
 pub mod Owned
 pub mod Records
+pub mod RecordViews
 pub mod Sections
 pub mod Serial
 pub mod Signing

@@ -2,9 +2,8 @@ ghost use Rattle.std.specs.Prelude.{◌≡◌};
 ghost use Rattle.std.specs.List.{list_any};
 ghost use Rattle.std.specs.Option.{option_copied};
 ghost use Rattle.dns_model.specs.SoundAnswers.{told_by};
-ghost use Rattle.dns_model.specs.Views.{rrsig_in};
 ghost use Rattle.dns_judgement.specs.Judged.{decider as decider_of};
-ghost use Rattle.dns_judgement.specs.Outcome.{outcome_of as told_outcome, foreign_record as foreign_in, answers_query as answers_asked, is_wildcard_signature as is_expanded_signature, needs_denial as wants_denial, is_expanded_by, is_expanded_read};
+ghost use Rattle.dns_judgement.specs.Outcome.{outcome_of as told_outcome, foreign_record as foreign_in, answers_query as answers_asked, is_wildcard_signature as is_expanded_signature, needs_denial as wants_denial, is_expanded_by};
 ghost use Rattle.dns_sets.specs.Outcome.{outcome_value};
 
 use crate::JudgedSet;
@@ -103,11 +102,11 @@ pub(crate) fn decider<'a>(set: &'a JudgedSet) -> Option<&'a Record>
     }
 }
 
-// Whether a signature can be read and has fewer labels than its owner.
+// Whether a record is a readable signature that has fewer labels than its owner.
 fn is_expanded(signature: &Record) -> bool
-    ensures { result ≡ is_expanded_read signature.now.owner (rrsig_in signature.now.rdata) }
+    ensures { result ≡ is_expanded_signature signature.now }
 {
-    match Rrsig::read(signature.rdata.as_slice()) {
+    match Rrsig::of(signature) {
         Some(sig) => sig.labels < signature.name.borrowed().num_labels(),
         None => false,
     }
@@ -117,5 +116,5 @@ fn is_expanded(signature: &Record) -> bool
 fn has_wildcard_signature(records: &[Record]) -> bool
     ensures { result ≡ list_any is_expanded_signature records.now }
 {
-    records.iter().any(|found| found.record_type == RecordType::RRSIG && is_expanded(found))
+    records.iter().any(is_expanded)
 }

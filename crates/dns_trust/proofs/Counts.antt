@@ -1,4 +1,4 @@
--- Which keys of a key set are tried, as the tags are counted.
+-- Which keys of a zone are tried, as the tags are counted.
 use Rattle.std.proofs.Common.{◌≡◌, ℕ, zero, suc, ◌+◌, ◌<◌, ◌≤◌, Bool, true, false, ◌&&◌, ◌||◌, cond, List, [], ◌∷◌, ◌++◌, length, take, drop, refl, sym, ap, ◌∙◌, arith, zero-add}
 use Rattle.std.specs.Prelude.{nat_lt, ◌==◌, min, Option, None, Some, slice_index_or}
 use Rattle.std.specs.List.{filter, find, count_by, list_any}
@@ -9,9 +9,10 @@ use Rattle.std.proofs.lemmas.List.{drop_more, drop_all, append-nil}
 use Rattle.std.proofs.lemmas.List.Elements.{filter_more}
 use Rattle.std.proofs.lemmas.List.Sums.{sum_by-append}
 use Rattle.std.proofs.lemmas.Grind.{common_steps}
+use Rattle.dns_model.specs.Names.{Labels}
 use Rattle.dns_model.specs.Records.{Rr}
 use Rattle.dns_model.specs.Signing.{key_tag_of}
-use Rattle.dns_judgement.specs.Marks.{is_readable_key, same_tag, first_two, counted_keys, by_insecure_key, Excused, Failed}
+use Rattle.dns_judgement.specs.Marks.{is_key_of, same_tag, first_two, counted_keys, by_insecure_key, Excused, Failed}
 use Rattle.dns_trust.specs.Counting.{count_in, tag_count_after, count_after, is_tried}
 
 nat_at : (k q : ℕ) → is_at (nat_cmp k) q ≡ (k == q)
@@ -23,23 +24,23 @@ pub count_once : (m n : BTreeMap ℕ ℕ) (tag v : ℕ) → Updates nat_cmp m n 
 unfolding count_in
 count_once m n tag v h is small t = let at = nat_at tag t in grind (arith, nat_tests, common_steps, h.0 t, at)
 
--- the readable keys of a list
-abbrev readable : List Rr → List Rr
-readable keys = filter is_readable_key keys
+-- the keys of a zone in a list
+abbrev zone_keys : Labels → List Rr → List Rr
+zone_keys zone keys = filter (is_key_of zone) keys
 
 -- the keys that are left, after those before
-abbrev left_after : List Rr → ℕ → List Rr
-left_after keys i = first_two (readable (take i keys)) (readable (drop i keys))
+abbrev left_after : Labels → List Rr → ℕ → List Rr
+left_after zone keys i = first_two (zone_keys zone (take i keys)) (zone_keys zone (drop i keys))
 
 -- the tags of the keys so far are counted, and a search goes on among the keys that are left
-pub record Tried (p : Rr → Bool) (keys : List Rr) (i : ℕ) (m : BTreeMap ℕ ℕ) : Type 0 where
-  pub counted : (r : Rr) → count_in m (key_tag_of r.rdata) ≡ min 2 (count_by (same_tag r) (readable (take i keys)))
-  pub searched : find p (left_after keys i) ≡ find p (counted_keys keys)
+pub record Tried (p : Rr → Bool) (zone : Labels) (keys : List Rr) (i : ℕ) (m : BTreeMap ℕ ℕ) : Type 0 where
+  pub counted : (r : Rr) → count_in m (key_tag_of r.rdata) ≡ min 2 (count_by (same_tag r) (zone_keys zone (take i keys)))
+  pub searched : find p (left_after zone keys i) ≡ find p (counted_keys zone keys)
 
 -- no key was met
-pub none_tried : (p : Rr → Bool) (keys : List Rr) (m : BTreeMap ℕ ℕ) → m.entries ≡ [] → Tried p keys 0 m
+pub none_tried : (p : Rr → Bool) (zone : Labels) (keys : List Rr) (m : BTreeMap ℕ ℕ) → m.entries ≡ [] → Tried p zone keys 0 m
 unfolding count_in
-none_tried p keys m empty = record { counted = λ r. rw empty refl; searched = refl }
+none_tried p zone keys m empty = record { counted = λ r. rw empty refl; searched = refl }
 
 least_below : (n : ℕ) → nat_lt (min 2 n) 2 ≡ nat_lt n 2
 least_below n = grind (arith, nat_tests)
@@ -50,58 +51,58 @@ next_of : (earlier : List Rr) (key : Rr) (rest : List Rr) → first_two earlier 
 unfolding first_two
 next_of earlier key rest = refl
 
--- the readable keys, once one key more was met
-readable_more : (keys : List Rr) (i : ℕ) (key : Rr) → i < length keys → key ≡ slice_index_or keys i key
-    → readable (take (i + 1) keys) ≡ readable (take i keys) ++ cond (is_readable_key key) (key ∷ []) []
-readable_more keys i key h is =
-    filter_more is_readable_key keys i key h
-    ∙ ap (λ k. readable (take i keys) ++ cond (is_readable_key k) (k ∷ []) []) (sym is)
+-- the zone's keys, once one record more was met
+readable_more : (zone : Labels) (keys : List Rr) (i : ℕ) (key : Rr) → i < length keys → key ≡ slice_index_or keys i key
+    → zone_keys zone (take (i + 1) keys) ≡ zone_keys zone (take i keys) ++ cond (is_key_of zone key) (key ∷ []) []
+readable_more zone keys i key h is =
+    filter_more (is_key_of zone) keys i key h
+    ∙ ap (λ k. zone_keys zone (take i keys) ++ cond (is_key_of zone k) (k ∷ []) []) (sym is)
 
--- the readable keys from a place on
-readable_from : (keys : List Rr) (i : ℕ) (key : Rr) → i < length keys → key ≡ slice_index_or keys i key
-    → readable (drop i keys) ≡ cond (is_readable_key key) (key ∷ readable (drop (i + 1) keys)) (readable (drop (i + 1) keys))
-readable_from keys i key h is =
-    ap readable (drop_more keys i key h) ∙ ap (λ k. readable (k ∷ drop (i + 1) keys)) (sym is)
+-- the zone's keys from a place on
+readable_from : (zone : Labels) (keys : List Rr) (i : ℕ) (key : Rr) → i < length keys → key ≡ slice_index_or keys i key
+    → zone_keys zone (drop i keys) ≡ cond (is_key_of zone key) (key ∷ zone_keys zone (drop (i + 1) keys)) (zone_keys zone (drop (i + 1) keys))
+readable_from zone keys i key h is =
+    ap (zone_keys zone) (drop_more keys i key h) ∙ ap (λ k. zone_keys zone (k ∷ drop (i + 1) keys)) (sym is)
 
 -- the key at a place comes first where it is one of the first two of its tag
-left_step : (keys : List Rr) (i : ℕ) (key : Rr) (can few : Bool) → i < length keys → key ≡ slice_index_or keys i key
-    → can ≡ is_readable_key key → few ≡ nat_lt (count_by (same_tag key) (readable (take i keys))) 2
-    → left_after keys i ≡ cond (can && few) (key ∷ left_after keys (i + 1)) (left_after keys (i + 1))
-left_step keys i key true few h is can tried =
-    let here : readable (drop i keys) ≡ key ∷ readable (drop (i + 1) keys) = readable_from keys i key h is ∙ ap (λ b. cond b (key ∷ readable (drop (i + 1) keys)) (readable (drop (i + 1) keys))) (sym can) in
-    let more : readable (take (i + 1) keys) ≡ readable (take i keys) ++ key ∷ [] = readable_more keys i key h is ∙ ap (λ b. readable (take i keys) ++ cond b (key ∷ []) []) (sym can) in
-    ap (first_two (readable (take i keys))) here
-    ∙ next_of (readable (take i keys)) key (readable (drop (i + 1) keys))
-    ∙ ap (λ b. cond b (key ∷ first_two (readable (take i keys) ++ key ∷ []) (readable (drop (i + 1) keys))) (first_two (readable (take i keys) ++ key ∷ []) (readable (drop (i + 1) keys)))) (sym tried)
-    ∙ ap (λ earlier. cond few (key ∷ first_two earlier (readable (drop (i + 1) keys))) (first_two earlier (readable (drop (i + 1) keys)))) (sym more)
-left_step keys i key false few h is can tried =
-    let here : readable (drop i keys) ≡ readable (drop (i + 1) keys) = readable_from keys i key h is ∙ ap (λ b. cond b (key ∷ readable (drop (i + 1) keys)) (readable (drop (i + 1) keys))) (sym can) in
-    let more : readable (take (i + 1) keys) ≡ readable (take i keys) = readable_more keys i key h is ∙ ap (λ b. readable (take i keys) ++ cond b (key ∷ []) []) (sym can) ∙ append-nil (readable (take i keys)) in
-    ap (first_two (readable (take i keys))) here ∙ ap (λ earlier. first_two earlier (readable (drop (i + 1) keys))) (sym more)
+left_step : (zone : Labels) (keys : List Rr) (i : ℕ) (key : Rr) (can few : Bool) → i < length keys → key ≡ slice_index_or keys i key
+    → can ≡ is_key_of zone key → few ≡ nat_lt (count_by (same_tag key) (zone_keys zone (take i keys))) 2
+    → left_after zone keys i ≡ cond (can && few) (key ∷ left_after zone keys (i + 1)) (left_after zone keys (i + 1))
+left_step zone keys i key true few h is can tried =
+    let here : zone_keys zone (drop i keys) ≡ key ∷ zone_keys zone (drop (i + 1) keys) = readable_from zone keys i key h is ∙ ap (λ b. cond b (key ∷ zone_keys zone (drop (i + 1) keys)) (zone_keys zone (drop (i + 1) keys))) (sym can) in
+    let more : zone_keys zone (take (i + 1) keys) ≡ zone_keys zone (take i keys) ++ key ∷ [] = readable_more zone keys i key h is ∙ ap (λ b. zone_keys zone (take i keys) ++ cond b (key ∷ []) []) (sym can) in
+    ap (first_two (zone_keys zone (take i keys))) here
+    ∙ next_of (zone_keys zone (take i keys)) key (zone_keys zone (drop (i + 1) keys))
+    ∙ ap (λ b. cond b (key ∷ first_two (zone_keys zone (take i keys) ++ key ∷ []) (zone_keys zone (drop (i + 1) keys))) (first_two (zone_keys zone (take i keys) ++ key ∷ []) (zone_keys zone (drop (i + 1) keys)))) (sym tried)
+    ∙ ap (λ earlier. cond few (key ∷ first_two earlier (zone_keys zone (drop (i + 1) keys))) (first_two earlier (zone_keys zone (drop (i + 1) keys)))) (sym more)
+left_step zone keys i key false few h is can tried =
+    let here : zone_keys zone (drop i keys) ≡ zone_keys zone (drop (i + 1) keys) = readable_from zone keys i key h is ∙ ap (λ b. cond b (key ∷ zone_keys zone (drop (i + 1) keys)) (zone_keys zone (drop (i + 1) keys))) (sym can) in
+    let more : zone_keys zone (take (i + 1) keys) ≡ zone_keys zone (take i keys) = readable_more zone keys i key h is ∙ ap (λ b. zone_keys zone (take i keys) ++ cond b (key ∷ []) []) (sym can) ∙ append-nil (zone_keys zone (take i keys)) in
+    ap (first_two (zone_keys zone (take i keys))) here ∙ ap (λ earlier. first_two earlier (zone_keys zone (drop (i + 1) keys))) (sym more)
 
 -- the same by the counts
-left_by : (p : Rr → Bool) (keys : List Rr) (i : ℕ) (m : BTreeMap ℕ ℕ) (key : Rr) → i < length keys → key ≡ slice_index_or keys i key → Tried p keys i m
-    → left_after keys i ≡ cond (is_tried m key) (key ∷ left_after keys (i + 1)) (left_after keys (i + 1))
-left_by p keys i m key h is t =
-    let few : nat_lt (count_in m (key_tag_of key.rdata)) 2 ≡ nat_lt (count_by (same_tag key) (readable (take i keys))) 2 =
-    ap (λ n. nat_lt n 2) (t.counted key) ∙ least_below (count_by (same_tag key) (readable (take i keys))) in
-    left_step keys i key (is_readable_key key) (nat_lt (count_in m (key_tag_of key.rdata)) 2) h is refl few
+left_by : (p : Rr → Bool) (zone : Labels) (keys : List Rr) (i : ℕ) (m : BTreeMap ℕ ℕ) (key : Rr) → i < length keys → key ≡ slice_index_or keys i key → Tried p zone keys i m
+    → left_after zone keys i ≡ cond (is_tried zone m key) (key ∷ left_after zone keys (i + 1)) (left_after zone keys (i + 1))
+left_by p zone keys i m key h is t =
+    let few : nat_lt (count_in m (key_tag_of key.rdata)) 2 ≡ nat_lt (count_by (same_tag key) (zone_keys zone (take i keys))) 2 =
+    ap (λ n. nat_lt n 2) (t.counted key) ∙ least_below (count_by (same_tag key) (zone_keys zone (take i keys))) in
+    left_step zone keys i key (is_key_of zone key) (nat_lt (count_in m (key_tag_of key.rdata)) 2) h is refl few
 
 -- the key at a place is tried, and is the one
-pub tried_here : (p : Rr → Bool) (keys : List Rr) (i : ℕ) (m : BTreeMap ℕ ℕ) (key : Rr) → i < length keys → key ≡ slice_index_or keys i key → Tried p keys i m
-    → is_tried m key ≡ true → p key ≡ true → find p (counted_keys keys) ≡ Some key
-tried_here p keys i m key h is t can good =
-    sym t.searched ∙ ap (find p) (left_by p keys i m key h is t)
-    ∙ ap (λ b. find p (cond b (key ∷ left_after keys (i + 1)) (left_after keys (i + 1)))) can
-    ∙ ap (λ b. cond b (Some key) (find p (left_after keys (i + 1)))) good
+pub tried_here : (p : Rr → Bool) (zone : Labels) (keys : List Rr) (i : ℕ) (m : BTreeMap ℕ ℕ) (key : Rr) → i < length keys → key ≡ slice_index_or keys i key → Tried p zone keys i m
+    → is_tried zone m key ≡ true → p key ≡ true → find p (counted_keys zone keys) ≡ Some key
+tried_here p zone keys i m key h is t can good =
+    sym t.searched ∙ ap (find p) (left_by p zone keys i m key h is t)
+    ∙ ap (λ b. find p (cond b (key ∷ left_after zone keys (i + 1)) (left_after zone keys (i + 1)))) can
+    ∙ ap (λ b. cond b (Some key) (find p (left_after zone keys (i + 1)))) good
 
 none_left : (p : Rr → Bool) (earlier : List Rr) → find p (first_two earlier []) ≡ None
 unfolding first_two
 none_left p earlier = refl
 
 -- no key is left
-pub tried_end : (p : Rr → Bool) (keys : List Rr) (i : ℕ) (m : BTreeMap ℕ ℕ) → length keys ≤ i → Tried p keys i m → find p (counted_keys keys) ≡ None
-tried_end p keys i m h t = sym t.searched ∙ ap (λ rest. find p (first_two (readable (take i keys)) (readable rest))) (drop_all i keys h) ∙ none_left p (readable (take i keys))
+pub tried_end : (p : Rr → Bool) (zone : Labels) (keys : List Rr) (i : ℕ) (m : BTreeMap ℕ ℕ) → length keys ≤ i → Tried p zone keys i m → find p (counted_keys zone keys) ≡ None
+tried_end p zone keys i m h t = sym t.searched ∙ ap (λ rest. find p (first_two (zone_keys zone (take i keys)) (zone_keys zone rest))) (drop_all i keys h) ∙ none_left p (zone_keys zone (take i keys))
 
 count_push : (p : Rr → Bool) (rs : List Rr) (key : Rr) → count_by p (rs ++ key ∷ []) ≡ count_by p rs + cond (p key) 1 0
 count_push p rs key = sum_by-append (λ r. cond (p r) 1 0) rs (key ∷ []) ∙ ap (λ n. count_by p rs + n) (zero-add (cond (p key) 1 0))
@@ -115,52 +116,52 @@ tag_case : (same : Bool) (own other all : ℕ) → other ≡ min 2 all → (same
 tag_case false own other all is alike = omega (arith, is)
 tag_case true own other all is alike = let e : own ≡ other = alike refl in grind (arith, nat_tests, e, is)
 
-count_step : (keys : List Rr) (i : ℕ) (m : BTreeMap ℕ ℕ) (key r : Rr) (can : Bool) → i < length keys → key ≡ slice_index_or keys i key
-    → can ≡ is_readable_key key
-    → count_in m (key_tag_of r.rdata) ≡ min 2 (count_by (same_tag r) (readable (take i keys)))
-    → cond can (tag_count_after m (key_tag_of key.rdata) (key_tag_of r.rdata)) (count_in m (key_tag_of r.rdata)) ≡ min 2 (count_by (same_tag r) (readable (take (i + 1) keys)))
-count_step keys i m key r false h is can t =
-    let more : readable (take (i + 1) keys) ≡ readable (take i keys) = readable_more keys i key h is ∙ ap (λ b. readable (take i keys) ++ cond b (key ∷ []) []) (sym can) ∙ append-nil (readable (take i keys)) in
+count_step : (zone : Labels) (keys : List Rr) (i : ℕ) (m : BTreeMap ℕ ℕ) (key r : Rr) (can : Bool) → i < length keys → key ≡ slice_index_or keys i key
+    → can ≡ is_key_of zone key
+    → count_in m (key_tag_of r.rdata) ≡ min 2 (count_by (same_tag r) (zone_keys zone (take i keys)))
+    → cond can (tag_count_after m (key_tag_of key.rdata) (key_tag_of r.rdata)) (count_in m (key_tag_of r.rdata)) ≡ min 2 (count_by (same_tag r) (zone_keys zone (take (i + 1) keys)))
+count_step zone keys i m key r false h is can t =
+    let more : zone_keys zone (take (i + 1) keys) ≡ zone_keys zone (take i keys) = readable_more zone keys i key h is ∙ ap (λ b. zone_keys zone (take i keys) ++ cond b (key ∷ []) []) (sym can) ∙ append-nil (zone_keys zone (take i keys)) in
     t ∙ ap (λ rs. min 2 (count_by (same_tag r) rs)) (sym more)
-count_step keys i m key r true h is can t =
-    let more : readable (take (i + 1) keys) ≡ readable (take i keys) ++ key ∷ [] = readable_more keys i key h is ∙ ap (λ b. readable (take i keys) ++ cond b (key ∷ []) []) (sym can) in
-    tag_case (same_tag r key) (count_in m (key_tag_of key.rdata)) (count_in m (key_tag_of r.rdata)) (count_by (same_tag r) (readable (take i keys))) t
+count_step zone keys i m key r true h is can t =
+    let more : zone_keys zone (take (i + 1) keys) ≡ zone_keys zone (take i keys) ++ key ∷ [] = readable_more zone keys i key h is ∙ ap (λ b. zone_keys zone (take i keys) ++ cond b (key ∷ []) []) (sym can) in
+    tag_case (same_tag r key) (count_in m (key_tag_of key.rdata)) (count_in m (key_tag_of r.rdata)) (count_by (same_tag r) (zone_keys zone (take i keys))) t
     (λ same. ap (count_in m) (sym (same_number (key_tag_of r.rdata) (key_tag_of key.rdata) same)))
-    ∙ ap (min 2) (sym (count_push (same_tag r) (readable (take i keys)) key))
+    ∙ ap (min 2) (sym (count_push (same_tag r) (zone_keys zone (take i keys)) key))
     ∙ ap (λ rs. min 2 (count_by (same_tag r) rs)) (sym more)
 
 -- the counts, once one key more was met
-count_more : (p : Rr → Bool) (keys : List Rr) (i : ℕ) (m n : BTreeMap ℕ ℕ) (key : Rr) → i < length keys → key ≡ slice_index_or keys i key → Tried p keys i m
-    → ((t : ℕ) → count_in n t ≡ count_after m key t)
-    → (r : Rr) → count_in n (key_tag_of r.rdata) ≡ min 2 (count_by (same_tag r) (readable (take (i + 1) keys)))
-count_more p keys i m n key h is t after r = after (key_tag_of r.rdata) ∙ count_step keys i m key r (is_readable_key key) h is refl (t.counted r)
+count_more : (p : Rr → Bool) (zone : Labels) (keys : List Rr) (i : ℕ) (m n : BTreeMap ℕ ℕ) (key : Rr) → i < length keys → key ≡ slice_index_or keys i key → Tried p zone keys i m
+    → ((t : ℕ) → count_in n t ≡ count_after zone m key t)
+    → (r : Rr) → count_in n (key_tag_of r.rdata) ≡ min 2 (count_by (same_tag r) (zone_keys zone (take (i + 1) keys)))
+count_more p zone keys i m n key h is t after r = after (key_tag_of r.rdata) ∙ count_step zone keys i m key r (is_key_of zone key) h is refl (t.counted r)
 
 -- a key that isn't tried is passed over
-pub tried_skip : (p : Rr → Bool) (keys : List Rr) (i : ℕ) (m n : BTreeMap ℕ ℕ) (key : Rr) → i < length keys → key ≡ slice_index_or keys i key → Tried p keys i m
-    → ((t : ℕ) → count_in n t ≡ count_after m key t) → is_tried m key ≡ false → Tried p keys (i + 1) n
-tried_skip p keys i m n key h is t after cannot = record {
-  counted = count_more p keys i m n key h is t after;
-  searched = sym (ap (find p) (left_by p keys i m key h is t) ∙ ap (λ b. find p (cond b (key ∷ left_after keys (i + 1)) (left_after keys (i + 1)))) cannot) ∙ t.searched;
+pub tried_skip : (p : Rr → Bool) (zone : Labels) (keys : List Rr) (i : ℕ) (m n : BTreeMap ℕ ℕ) (key : Rr) → i < length keys → key ≡ slice_index_or keys i key → Tried p zone keys i m
+    → ((t : ℕ) → count_in n t ≡ count_after zone m key t) → is_tried zone m key ≡ false → Tried p zone keys (i + 1) n
+tried_skip p zone keys i m n key h is t after cannot = record {
+  counted = count_more p zone keys i m n key h is t after;
+  searched = sym (ap (find p) (left_by p zone keys i m key h is t) ∙ ap (λ b. find p (cond b (key ∷ left_after zone keys (i + 1)) (left_after zone keys (i + 1)))) cannot) ∙ t.searched;
 }
 
 -- a key that is tried in vain is passed over
-pub tried_fail : (p : Rr → Bool) (keys : List Rr) (i : ℕ) (m n : BTreeMap ℕ ℕ) (key : Rr) → i < length keys → key ≡ slice_index_or keys i key → Tried p keys i m
-    → ((t : ℕ) → count_in n t ≡ count_after m key t) → is_tried m key ≡ true → p key ≡ false → Tried p keys (i + 1) n
-tried_fail p keys i m n key h is t after can bad = record {
-  counted = count_more p keys i m n key h is t after;
-  searched = sym (ap (find p) (left_by p keys i m key h is t) ∙ ap (λ b. find p (cond b (key ∷ left_after keys (i + 1)) (left_after keys (i + 1)))) can
-      ∙ ap (λ b. cond b (Some key) (find p (left_after keys (i + 1)))) bad) ∙ t.searched;
+pub tried_fail : (p : Rr → Bool) (zone : Labels) (keys : List Rr) (i : ℕ) (m n : BTreeMap ℕ ℕ) (key : Rr) → i < length keys → key ≡ slice_index_or keys i key → Tried p zone keys i m
+    → ((t : ℕ) → count_in n t ≡ count_after zone m key t) → is_tried zone m key ≡ true → p key ≡ false → Tried p zone keys (i + 1) n
+tried_fail p zone keys i m n key h is t after can bad = record {
+  counted = count_more p zone keys i m n key h is t after;
+  searched = sym (ap (find p) (left_by p zone keys i m key h is t) ∙ ap (λ b. find p (cond b (key ∷ left_after zone keys (i + 1)) (left_after zone keys (i + 1)))) can
+      ∙ ap (λ b. cond b (Some key) (find p (left_after zone keys (i + 1)))) bad) ∙ t.searched;
 }
 
-any_case : (can : Bool) (key : Rr) (keys : List Rr)
-    → by_insecure_key (first_two [] (readable keys)) ≡ cond (list_any is_readable_key keys) Excused Failed
-    → by_insecure_key (first_two [] (cond can (key ∷ readable keys) (readable keys))) ≡ cond (can || list_any is_readable_key keys) Excused Failed
+any_case : (zone : Labels) (can : Bool) (key : Rr) (keys : List Rr)
+    → by_insecure_key (first_two [] (zone_keys zone keys)) ≡ cond (list_any (is_key_of zone) keys) Excused Failed
+    → by_insecure_key (first_two [] (cond can (key ∷ zone_keys zone keys) (zone_keys zone keys))) ≡ cond (can || list_any (is_key_of zone) keys) Excused Failed
 unfolding first_two
-any_case true key keys rest = refl
-any_case false key keys rest = rest
+any_case zone true key keys rest = refl
+any_case zone false key keys rest = rest
 
--- a key set that is Insecure excuses where it has a readable key
-pub any_counted : (keys : List Rr) → by_insecure_key (counted_keys keys) ≡ cond (list_any is_readable_key keys) Excused Failed
+-- a key set that is Insecure excuses where it has a key of the zone
+pub any_counted : (zone : Labels) (keys : List Rr) → by_insecure_key (counted_keys zone keys) ≡ cond (list_any (is_key_of zone) keys) Excused Failed
 unfolding first_two
-any_counted [] = refl
-any_counted (key ∷ keys) = any_case (is_readable_key key) key keys (any_counted keys)
+any_counted zone [] = refl
+any_counted zone (key ∷ keys) = any_case zone (is_key_of zone key) key keys (any_counted zone keys)

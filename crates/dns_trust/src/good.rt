@@ -1,5 +1,5 @@
 ghost use Rattle.std.specs.Prelude.{◌≡◌, IfOk, List};
-ghost use Rattle.dns_model.specs.Views.{rrsig_in, dnskey_in};
+ghost use Rattle.dns_model.specs.RecordViews.{rrsig_of, dnskey_of};
 ghost use Rattle.dns_model.specs.Keys.{AnchorValue};
 ghost use Rattle.dns_model.specs.Chains.{judge, judge_alone};
 ghost use Rattle.dns_judgement.specs.Validity.{is_good_by as is_good_in, is_accepted as is_accepted_in};
@@ -39,12 +39,12 @@ fn is_accepted<V: Verifier>(
     sig: &Record,
     key: &Record,
 ) -> Result<bool, NoMemory>
-    ensures { IfOk result (λ b. b ≡ is_accepted_in (judge_alone (V.answers verifier.now)) set.now (rrsig_in sig.now.rdata) (dnskey_in key.now.rdata)) }
+    ensures { IfOk result (λ b. b ≡ is_accepted_in (judge_alone (V.answers verifier.now)) set.now (rrsig_of sig.now) (dnskey_of key.now)) }
 {
-    let Some(read) = Rrsig::read(sig.rdata.as_slice()) else {
+    let Some(read) = Rrsig::of(sig) else {
         return Ok(false);
     };
-    let Some(dnskey) = Dnskey::read(key.rdata.as_slice()) else {
+    let Some(dnskey) = Dnskey::of(key) else {
         return Ok(false);
     };
     if dnskey.is_revoked() || dnskey.protocol != 3 || !verifier.supports(dnskey.algorithm) {

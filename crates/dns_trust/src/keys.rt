@@ -1,6 +1,7 @@
-ghost use Rattle.std.specs.Prelude.{◌≡◌, ◌≤◌, IfOk, length, take};
+ghost use Rattle.std.specs.Prelude.{◌≡◌, ◌≤◌, ◌==◌, ◌&&◌, IfOk, length, take};
 ghost use Rattle.std.specs.List.{find, list_all};
 ghost use Rattle.std.specs.Option.{option_map, option_copied};
+ghost use Rattle.dns_model.specs.Types.{type_dnskey};
 ghost use Rattle.dns_model.specs.Keys.{anchored};
 ghost use Rattle.dns_model.specs.Chains.{judge};
 ghost use Rattle.dns_judgement.specs.Marks.{most_signatures, first_signed as first_signed_of, anchored_signer as anchored_signer_of};
@@ -111,18 +112,18 @@ fn is_signer<V: Verifier>(
 
 // Every key of a key set is an anchor of its owner.
 pub(crate) fn is_wholly_anchored(anchors: &TrustAnchors, set: &RecordSet) -> bool
-    ensures { result ≡ list_all (λ r. anchored anchors.now set.now.owner r.rdata) set.now.records }
+    ensures { result ≡ list_all (λ r. (r.rtype == type_dnskey) && anchored anchors.now set.now.owner r.rdata) set.now.records }
 {
     set.records
         .iter()
         .all(|key| is_anchored(anchors, &set.name, key))
 }
 
-// The key can be read, and is an anchor of the owner.
+// The record is a key that can be read, and an anchor of the owner.
 fn is_anchored(anchors: &TrustAnchors, owner: &Name, key: &Record) -> bool
-    ensures { result ≡ anchored anchors.now owner.now key.now.rdata }
+    ensures { result ≡ ((key.now.rtype == type_dnskey) && anchored anchors.now owner.now key.now.rdata) }
 {
-    let Some(dnskey) = Dnskey::read(key.rdata.as_slice()) else {
+    let Some(dnskey) = Dnskey::of(key) else {
         return false;
     };
     anchors.contains_with_name(owner, dnskey.algorithm, dnskey.key)

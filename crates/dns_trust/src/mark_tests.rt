@@ -1,7 +1,7 @@
 use crate::tests::*;
 use crate::*;
 use dns_name::{Name, Octets};
-use dns_record::{Proof, RecordSet, Section};
+use dns_record::{Proof, Record, RecordSet, RecordType, Section};
 use dns_sets::{JudgedSet, PlacedSet};
 use std::alloc::Global;
 use std::test::Fail;
@@ -149,6 +149,102 @@ fn signatures_excuse_by_insecure_keys(rt: HostRuntime) -> Result<(), Fail> {
     assert!(rt; excuses(alloc, ".", Proof::Insecure)?);
     assert!(rt; !excuses(alloc, ".", Proof::Bogus)?);
     assert!(rt; !excuses(alloc, "a.", Proof::Insecure)?);
+    Ok(())
+}
+
+/// A key of the tag 44745 for each letter: K is the one that signed, O and H are others; A is K as another zone's, T is K in a
+/// record of type TXT.
+fn key_by_letter(alloc: Global, letter: u8) -> Result<Record, Fail> {
+    match letter {
+        b'K' => key_record(alloc, ".", KEY),
+        b'O' => key_record(alloc, ".", OTHER_KEY),
+        b'H' => key_record(alloc, ".", HOST_KEY),
+        b'A' => key_record(alloc, "a.", KEY),
+        _ => record(alloc, ".", RecordType::TXT, KEY),
+    }
+}
+
+fn keys_by_letters(alloc: Global, letters: &[u8]) -> Result<RecordSet, Fail> {
+    let mut set = key_set(alloc, ".", &ONE, None)?;
+    set.records = Vec::new(alloc);
+    for letter in letters {
+        set.records.push(key_by_letter(alloc, *letter)?)?;
+    }
+    Ok(set)
+}
+
+/// The keys of the answer to an ask, and whether the signature proves its set by them.
+struct Counted {
+    keys: &'static [u8],
+    proves: bool,
+}
+
+const COUNTED: [Counted; 8] = [
+    Counted {
+        keys: b"K",
+        proves: true,
+    },
+    Counted {
+        keys: b"OK",
+        proves: true,
+    },
+    Counted {
+        keys: b"OHK",
+        proves: false,
+    },
+    // records that are no keys of the zone count for nothing
+    Counted {
+        keys: b"A",
+        proves: false,
+    },
+    Counted {
+        keys: b"T",
+        proves: false,
+    },
+    Counted {
+        keys: b"AAOK",
+        proves: true,
+    },
+    Counted {
+        keys: b"TTOK",
+        proves: true,
+    },
+    Counted {
+        keys: b"ATOHK",
+        proves: false,
+    },
+];
+
+fn is_counted(alloc: Global, row: &Counted) -> Result<bool, Fail> {
+    let mut answer = answered(alloc, ".", Section::Answer, Proof::Secure)?;
+    for judged in &mut answer {
+        judged.set = keys_by_letters(alloc, row.keys)?;
+    }
+    Ok(verdict(alloc, 1500, Some(answer))?.is_proved() == row.proves)
+}
+
+#[test]
+fn the_first_two_keys_of_a_tag_count(rt: HostRuntime) -> Result<(), Fail> {
+    for row in &COUNTED {
+        assert!(rt; is_counted(rt.alloc(), row)?, "{} keys", row.keys.len());
+    }
+    Ok(())
+}
+
+/// The mark of the root's unsigned key set of these records, of which the public key of K is trusted.
+fn unsigned_mark(alloc: Global, letters: &[u8]) -> Result<Proof, Fail> {
+    let placed = PlacedSet {
+        section: Section::Answer,
+        set: keys_by_letters(alloc, letters)?,
+    };
+    let anchors = anchors(alloc, true)?;
+    Ok(judged_keys(alloc, &verifier(alloc)?, &anchors, 1500, placed)?.mark)
+}
+
+#[test]
+fn a_record_of_another_type_is_no_anchor(rt: HostRuntime) -> Result<(), Fail> {
+    assert!(rt; unsigned_mark(rt.alloc(), b"KK")? == Proof::Secure);
+    assert!(rt; unsigned_mark(rt.alloc(), b"KT")? == Proof::Bogus);
     Ok(())
 }
 

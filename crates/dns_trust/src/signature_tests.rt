@@ -1,6 +1,6 @@
 use crate::tests::*;
 use crate::*;
-use dns_record::RecordType;
+use dns_record::{Record, RecordType};
 use std::alloc::Global;
 use std::test::Fail;
 
@@ -166,6 +166,56 @@ fn signatures_fit_their_set_and_key(rt: HostRuntime) -> Result<(), Fail> {
     Ok(())
 }
 
+/// The rdata of a signature and of a key, in records of these types, and what is found out of them.
+struct Typed {
+    sig: RecordType,
+    key: RecordType,
+    want: RrsigValidity,
+}
+
+const TYPED: [Typed; 4] = [
+    Typed {
+        sig: RecordType::RRSIG,
+        key: RecordType::DNSKEY,
+        want: RrsigValidity::ValidRrsig,
+    },
+    Typed {
+        sig: RecordType::TXT,
+        key: RecordType::DNSKEY,
+        want: RrsigValidity::WrongRrsig,
+    },
+    Typed {
+        sig: RecordType::RRSIG,
+        key: RecordType::TXT,
+        want: RrsigValidity::WrongDnskey,
+    },
+    // the signature is tested first
+    Typed {
+        sig: RecordType::DNSKEY,
+        key: RecordType::RRSIG,
+        want: RrsigValidity::WrongRrsig,
+    },
+];
+
+fn is_typed(alloc: Global, row: &Typed) -> Result<bool, Fail> {
+    let sig = record(alloc, ".", row.sig, OVER_NS)?;
+    let key = record(alloc, ".", row.key, KEY)?;
+    Ok(check(&sig, &servers(alloc)?, &key, 1500) == row.want)
+}
+
+#[test]
+fn records_of_another_type_are_not_read(rt: HostRuntime) -> Result<(), Fail> {
+    for row in &TYPED {
+        assert!(rt;
+            is_typed(rt.alloc(), row)?,
+            "types {} and {}",
+            row.sig.0,
+            row.key.0
+        );
+    }
+    Ok(())
+}
+
 /// A signature over the NS set of the root is good by a key of the root at a moment.
 fn is_good(alloc: Global, sig: &[u8], key: &[u8], now: u64) -> Result<bool, Fail> {
     let sig = signature_of(alloc, ".", sig)?;
@@ -188,12 +238,16 @@ fn signatures_are_good_by_their_key(rt: HostRuntime) -> Result<(), Fail> {
 
 /// A signature over the root's NS set asks for the root's keys, unless they are what is asked for.
 fn is_skipped_at(alloc: Global, record_type: RecordType, sig: &[u8]) -> Result<bool, Fail> {
-    let set = servers(alloc)?;
     let sig = signature_of(alloc, ".", sig)?;
-    match ask_of(alloc, &set, &sig)? {
+    is_record_skipped(alloc, record_type, &sig)
+}
+
+fn is_record_skipped(alloc: Global, record_type: RecordType, sig: &Record) -> Result<bool, Fail> {
+    let set = servers(alloc)?;
+    match ask_of(alloc, &set, sig)? {
         Some(mut query) => {
             query.query_type = record_type;
-            Ok(is_skipped(&query, &set, &sig)?)
+            Ok(is_skipped(&query, &set, sig)?)
         }
         None => Ok(true),
     }
@@ -204,7 +258,9 @@ fn signatures_ask_for_their_keys(rt: HostRuntime) -> Result<(), Fail> {
     let alloc = rt.alloc();
     assert!(rt; !is_skipped_at(alloc, RecordType::NS, OVER_NS)?);
     assert!(rt; is_skipped_at(alloc, RecordType::DNSKEY, OVER_NS)?);
-    // too short to be read
+    // too short to be read, or of another type
     assert!(rt; is_skipped_at(alloc, RecordType::NS, KEY)?);
+    let text = record(alloc, ".", RecordType::TXT, OVER_NS)?;
+    assert!(rt; is_record_skipped(alloc, RecordType::NS, &text)?);
     Ok(())
 }

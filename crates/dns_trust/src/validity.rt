@@ -1,6 +1,6 @@
 ghost use Rattle.std.specs.Prelude.{◌≡◌};
 ghost use Rattle.dns_model.specs.Serial.{timely};
-ghost use Rattle.dns_model.specs.Views.{dnskey_in};
+ghost use Rattle.dns_model.specs.RecordViews.{dnskey_of};
 ghost use Rattle.dns_judgement.specs.Validity.{validity, is_of_set as is_set_signature, key_validity as key_fits};
 
 use dns_judgement::RrsigValidity;
@@ -8,12 +8,13 @@ use dns_rdata::{Dnskey, Rrsig, SerialNumber, key_tag};
 use dns_record::{Record, RecordSet};
 
 /// Whether a signature fits a set, a key and a moment in seconds since 1970, before any arithmetic on it: the first test
-/// that fails, of the signature, of the moment and of the key (RFC 4035, 5.3.1).
+/// that fails, of the signature, of the moment and of the key (RFC 4035, 5.3.1). A record of another type is no signature and
+/// no key, whatever its rdata.
 #[tactic(auto, unfolding(dns_judgement::specs::Validity::validity))]
 pub fn check(sig: &Record, set: &RecordSet, key: &Record, now: u64) -> RrsigValidity
     ensures { result ≡ validity (λ s. timely s now) set.now sig.now key.now }
 {
-    let Some(read) = Rrsig::read(sig.rdata.as_slice()) else {
+    let Some(read) = Rrsig::of(sig) else {
         return RrsigValidity::WrongRrsig;
     };
     if !is_of_set(set, sig, &read) {
@@ -47,9 +48,9 @@ fn is_timely(read: &Rrsig<'_>, now: u64) -> bool
 // The key is the signer's, has the signature's algorithm and tag, and is a zone key.
 #[tactic(auto, unfolding(dns_model::specs::Views::dnskey_in))]
 fn key_validity(read: &Rrsig<'_>, key: &Record) -> RrsigValidity
-    ensures { result ≡ key_fits read.now key.now (dnskey_in key.now.rdata) }
+    ensures { result ≡ key_fits read.now key.now (dnskey_of key.now) }
 {
-    let Some(dnskey) = Dnskey::read(key.rdata.as_slice()) else {
+    let Some(dnskey) = Dnskey::of(key) else {
         return RrsigValidity::WrongDnskey;
     };
     let Some(tag) = key_tag(key.rdata.as_slice()) else {

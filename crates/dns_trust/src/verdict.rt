@@ -9,7 +9,7 @@ ghost use Rattle.dns_trust.specs.Verdicts.{verdict_value, listed};
 
 use crate::TrustAnchors;
 use crate::chains::signed_chain;
-use crate::counted::{first_good, has_readable_key};
+use crate::counted::{first_good, has_key_of};
 use dns_name::{NameRef, NoMemory};
 use dns_net::{Link, Verifier};
 use dns_rdata::Rrsig;
@@ -68,7 +68,7 @@ pub fn verdict_of<V: Verifier>(
     let Some(sets) = answer else {
         return Ok(Verdict::Failed);
     };
-    let Some(read) = Rrsig::read(sig.rdata.as_slice()) else {
+    let Some(read) = Rrsig::of(sig) else {
         return Ok(Verdict::Failed);
     };
     if !is_kept_whole(set, &read) {
@@ -77,7 +77,7 @@ pub fn verdict_of<V: Verifier>(
     let Some(keys) = key_set_of(set.dns_class, &read.signer, sets) else {
         return Ok(Verdict::Failed);
     };
-    by_key_set(alloc, verifier, anchors, now, set, sig, keys)
+    by_key_set(alloc, verifier, anchors, now, set, sig, &read.signer, keys)
 }
 
 // The verdict by the key set that was asked for.
@@ -88,9 +88,10 @@ fn by_key_set<V: Verifier>(
     now: u64,
     set: &RecordSet,
     sig: &Record,
+    signer: &NameRef<'_>,
     keys: &JudgedSet,
 ) -> Result<Verdict, NoMemory>
-    ensures { IfOk result (λ v. verdict_value v ≡ verdict_by_set (judge (V.answers verifier.now) anchors.now now) set.now sig.now (Some keys.now)) }
+    ensures { IfOk result (λ v. verdict_value v ≡ verdict_by_set (judge (V.answers verifier.now) anchors.now now) set.now sig.now signer.now (Some keys.now)) }
 {
     match keys.mark {
         Proof::Secure => {
@@ -103,10 +104,11 @@ fn by_key_set<V: Verifier>(
                 set,
                 sig,
                 &keys.chain,
+                signer,
                 records,
             )
         }
-        Proof::Insecure => Ok(by_insecure_keys(&keys.set.records)),
+        Proof::Insecure => Ok(by_insecure_keys(signer, &keys.set.records)),
         Proof::Bogus => Ok(Verdict::Failed),
         Proof::Indeterminate => Ok(Verdict::Failed),
     }
@@ -121,11 +123,12 @@ fn by_secure_keys<V: Verifier>(
     set: &RecordSet,
     sig: &Record,
     chain: &Vec<Link>,
+    zone: &NameRef<'_>,
     keys: &[Record],
 ) -> Result<Verdict, NoMemory>
-    ensures { IfOk result (λ v. verdict_value v ≡ by_keys (judge (V.answers verifier.now) anchors.now now) set.now sig.now (map link_value chain.now.items) Proof.Secure (counted_keys keys.now)) }
+    ensures { IfOk result (λ v. verdict_value v ≡ by_keys (judge (V.answers verifier.now) anchors.now now) set.now sig.now (map link_value chain.now.items) Proof.Secure (counted_keys zone.now keys.now)) }
 {
-    match first_good(alloc, verifier, anchors, now, set, sig, keys)? {
+    match first_good(alloc, verifier, anchors, now, set, sig, zone, keys)? {
         Some(key) => {
             let links = signed_chain(alloc, set, sig, chain, key)?;
             Ok(Verdict::Proved(links))
@@ -136,10 +139,10 @@ fn by_secure_keys<V: Verifier>(
 
 // The verdict by the counted keys of an Insecure key set.
 #[tactic(auto, using(crate::proofs::Counts::any_counted))]
-fn by_insecure_keys(keys: &[Record]) -> Verdict
-    ensures { verdict_value result ≡ by_insecure_key (counted_keys keys.now) }
+fn by_insecure_keys(zone: &NameRef<'_>, keys: &[Record]) -> Verdict
+    ensures { verdict_value result ≡ by_insecure_key (counted_keys zone.now keys.now) }
 {
-    if has_readable_key(keys) {
+    if has_key_of(zone, keys) {
         Verdict::Excused
     } else {
         Verdict::Failed
@@ -186,7 +189,7 @@ fn is_kept_whole(set: &RecordSet, read: &Rrsig<'_>) -> bool
 pub fn is_skipped(asked: &Query, set: &RecordSet, sig: &Record) -> Result<bool, NoMemory>
     ensures { IfOk result (λ b. b ≡ is_skipped_by asked.now set.now sig.now) }
 {
-    let Some(read) = Rrsig::read(sig.rdata.as_slice()) else {
+    let Some(read) = Rrsig::of(sig) else {
         return Ok(true);
     };
     let fits = signer_fits(set, &read.signer);
@@ -212,7 +215,7 @@ fn signer_fits(set: &RecordSet, signer: &NameRef<'_>) -> bool
 pub fn ask_of(alloc: Global, set: &RecordSet, sig: &Record) -> Result<Option<Query>, NoMemory>
     ensures { IfOk result (λ q. q ≡ asked_by set.now sig.now) }
 {
-    let Some(read) = Rrsig::read(sig.rdata.as_slice()) else {
+    let Some(read) = Rrsig::of(sig) else {
         return Ok(None);
     };
     let name = read.signer.to_name(alloc)?;

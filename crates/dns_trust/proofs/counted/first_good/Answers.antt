@@ -6,24 +6,24 @@ use Rattle.dns_trust.proofs.Counts.{none_tried, tried_skip, tried_fail, tried_he
 use Rattle.dns_trust.proofs.counted.first_good.Goals as goal
 
 pub loop-key-init : goal.loop-key-init
-loop-key-init g c = none_tried _ _ _ c.new-counts.ensures.empty
+loop-key-init g c = none_tried _ _ _ _ c.new-counts.ensures.empty
 
 pub loop-key-preserved-then-not-branch : goal.loop-key-preserved-then-not-branch
 loop-key-preserved-then-not-branch g c =
-    tried_skip _ _ _ _ _ c.key-item.result c.loop-key-test.true c.key-item.is c.loop-key.invariant c.in_ok-is_tried.ensures.counted
+    tried_skip _ _ _ _ _ _ c.key-item.result c.loop-key-test.true c.key-item.is c.loop-key.invariant c.in_ok-is_tried.ensures.counted
     (sym c.in_ok-is_tried.ensures.tried ∙ c.if-not-branch.true)
 
 pub returns-then-branch : goal.returns-then-branch
 returns-then-branch g c =
-    sym (tried_here _ _ _ _ c.key-item.result c.loop-key-test.true c.key-item.is c.loop-key.invariant
+    sym (tried_here _ _ _ _ _ c.key-item.result c.loop-key-test.true c.key-item.is c.loop-key.invariant
     (sym c.in_ok-is_tried.ensures.tried ∙ c.if-not-branch.false)
     (sym (c.in_ok-is_good_by.ensures c.args.anchors.now) ∙ c.if-branch.true))
 
 pub loop-key-preserved : goal.loop-key-preserved
 loop-key-preserved g c =
-    tried_fail _ _ _ _ _ c.key-item.result c.loop-key-test.true c.key-item.is c.loop-key.invariant c.in_ok-is_tried.ensures.counted
+    tried_fail _ _ _ _ _ _ c.key-item.result c.loop-key-test.true c.key-item.is c.loop-key.invariant c.in_ok-is_tried.ensures.counted
     (sym c.in_ok-is_tried.ensures.tried ∙ c.if-not-branch.false)
     (sym (c.in_ok-is_good_by.ensures c.args.anchors.now) ∙ c.if-branch.false)
 
 pub returns : goal.returns
-returns g c = sym (tried_end _ _ _ _ c.loop-key-test.false c.loop-key.invariant)
+returns g c = sym (tried_end _ _ _ _ _ c.loop-key-test.false c.loop-key.invariant)
