@@ -1,4 +1,3 @@
-pub mod BitmapReading
 pub mod Faults
 pub mod NameReading
 pub mod PointerReading

@@ -4,9 +4,10 @@ use Rattle.std.specs.Prelude.{nat_eq, ◌==◌}
 use Rattle.std.proofs.lemmas.Bool.Decides.{nat_tests}
 use Rattle.std.proofs.lemmas.List.{append-nil}
 use Rattle.dns_model.specs.Shapes as shapes
-use Rattle.dns_message.specs.declared.shape.Field.{Field}
+use Rattle.dns_rdata.specs.declared.shape.Field.{Field}
 use Rattle.dns_message.specs.RdataAt.{field_at, with_bytes, after_field, fields_at}
-use Rattle.dns_message.specs.Fitting.{field_value, IsAppended}
+use Rattle.dns_rdata.specs.Fields.{field_value}
+use Rattle.dns_message.specs.Fitting.{IsAppended}
 
 no_front : (o : Option (List ℕ)) → with_bytes [] o ≡ o
 no_front None = refl

@@ -1,14 +1,10 @@
--- What lies where, and what is spelled, after a step in a name or a name.
+-- For private functions of this crate only: what lies where, and what is spelled, after a step in a name or a name.
 use Rattle.std.specs.Prelude.{◌≡◌, ℕ, ◌+◌, ◌<◌, ◌≤◌, true, ◌++◌, List, Option, None, Some, Result, Ok}
-use Rattle.std.specs.Borrow.{Bor}
 use Rattle.std.specs.Global.{Vec}
 use Rattle.dns_model.specs.Names.{Labels, wire, is_name}
 use Rattle.dns_message.specs.declared.decode_error.DecodeError.{DecodeError}
-use Rattle.dns_model.specs.Shapes as shapes
 use Rattle.dns_message.specs.declared.message_reader.Header.{Header}
 use Rattle.dns_message.specs.MessageAt.{HeaderValue}
-use Rattle.dns_message.specs.declared.shape.Field.{Field}
-use Rattle.dns_message.specs.declared.shape.Field.TheVariants as field
 use Rattle.dns_message.specs.declared.step.Step.{Step}
 use Rattle.dns_message.specs.declared.step.Step.TheVariants as step
 
@@ -30,14 +26,6 @@ abbrev pub ending_or : Option ℕ → ℕ → ℕ
 ending_or None place = place
 ending_or (Some first) place = first
 
--- a field of the code as one of the definitions
-abbrev pub field_value : Field → shapes.Field
-field_value (field.Octets n) = shapes.Octets n
-field_value field.DomainName = shapes.DomainName
-field_value field.CharacterString = shapes.CharacterString
-field_value field.TypeBitmap = shapes.TypeBitmap
-field_value field.Remainder = shapes.Remainder
-
 -- bytes were appended that were read with the place after them
 pub record IsAppended (read : Option (List ℕ × ℕ)) (old new : List ℕ) (next : ℕ) : Type 0 where
   pub front : List ℕ
@@ -48,11 +36,6 @@ pub record IsAppended (read : Option (List ℕ × ℕ)) (old new : List ℕ) (ne
 abbrev pub FieldRead : Option (List ℕ × ℕ) → List ℕ → List ℕ → Option ℕ → Type 0
 FieldRead read old new (Some next) = IsAppended read old new next
 FieldRead read old new None = read ≡ None
-
--- a window at the front of a bitmap as one of the definitions
-abbrev pub window_value : Option (ℕ × Bor (List ℕ) × Bor (List ℕ)) → Option (shapes.Window × List ℕ)
-window_value None = None
-window_value (Some x) = Some (record { number = x.0; bits = x.1.now }, x.2.now)
 
 -- the bytes that a vector holds
 abbrev pub items_in : Option (Vec ℕ) → Option (List ℕ)

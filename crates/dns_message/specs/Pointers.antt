@@ -1,4 +1,4 @@
--- Where a row of bare pointers, each to the next, ends: a name that stands at its front is the one that stands at its end (RFC 1035, 4.1.4).
+-- For private functions of this crate only: where a row of bare pointers, each to the next, ends: a name that stands at its front is the one that stands at its end (RFC 1035, 4.1.4).
 use Rattle.std.specs.Prelude.{◌≡◌, ℕ, ◌<◌, ◌≤◌, List, length, slice_index, nat_lt, if◌then◌else◌}
 use Rattle.dns_message.specs.NameAt.{ending_at, labels_at}
 

@@ -1,7 +1,6 @@
 //! Messages: their parts, how they are read from bytes and written. The layer above sees a message as a `MessageValue`.
 #![tactic(auto)]
 
-mod bitmap;
 mod decode_error;
 mod encode_error;
 mod item;
@@ -15,7 +14,6 @@ mod rdata;
 mod rdata_reader;
 mod record_reader;
 mod section_reader;
-mod shape;
 mod step;
 
 pub use decode_error::{DecodeError, DecodeKind};

@@ -1,6 +1,5 @@
 ghost use Rattle.std.specs.Prelude.{◌≡◌, ◌+◌, ◌<◌, ◌≤◌, ◌^◌, ◌++◌, length, false, OnOk, IfOk};
 ghost use Rattle.std.specs.List.{flat_map};
-ghost use Rattle.dns_model.specs.Bytes.{u16_bytes, u32_bytes};
 ghost use Rattle.dns_model.specs.Gives.{Gives};
 ghost use Rattle.dns_message.specs.declared.encode_error.EncodeError.TheVariants as errors;
 ghost use Rattle.dns_message.specs.WrittenAs.{flag_bit, question_bytes, record_bytes, opt_ttl, opt_bytes, edns_bytes, flags_of, header_bytes, edns_count, has_long_options, has_many, encoded, empty_query, IsReadAgain};
@@ -8,6 +7,7 @@ ghost use Rattle.dns_message.specs.WrittenAs.{flag_bit, question_bytes, record_b
 use crate::encode_error::EncodeError;
 use crate::message::{Edns, Message};
 use dns_name::{NoMemory, Octets};
+use dns_rdata::{push_u16, push_u32};
 use dns_record::{OpCode, Query, Record, ResponseCode};
 use std::alloc::Global;
 
@@ -18,22 +18,6 @@ fn flag_bit(flag: bool) -> u16
     ensures { result ≡ flag_bit flag }
 {
     if flag { 1 } else { 0 }
-}
-
-fn push_u16(out: &mut Vec<u8>, number: u16) -> Result<(), NoMemory>
-    ensures { OnOk result (out.new.items ≡ out.old.items ++ u16_bytes number) }
-{
-    out.extend_from_slice(&[(number / 256) as u8, (number % 256) as u8])?;
-    Ok(())
-}
-
-fn push_u32(out: &mut Vec<u8>, number: u32) -> Result<(), NoMemory>
-    ensures { OnOk result (out.new.items ≡ out.old.items ++ u32_bytes number) }
-{
-    let upper = [(number / 16777216) as u8, (number / 65536 % 256) as u8];
-    let lower = [(number / 256 % 256) as u8, (number % 256) as u8];
-    out.extend_from_slice(&[upper[0], upper[1], lower[0], lower[1]])?;
-    Ok(())
 }
 
 fn push_question(out: &mut Vec<u8>, query: &Query) -> Result<(), NoMemory>

@@ -2,6 +2,7 @@ ghost use Rattle.std.specs.Prelude.{◌≡◌, ◌+◌, ◌<◌, ◌≤◌, ◌^
 ghost use Rattle.dns_message.specs.Reading.{Reads, u16_field, u32_field};
 
 use crate::decode_error::{DecodeError, DecodeKind, fault};
+use dns_rdata::{u16_at, u32_at};
 
 /// The number of two bytes at a place, and the place after it.
 #[tactic(auto, unfolding(crate::specs::Reading::u16_field))]
@@ -14,8 +15,7 @@ pub(crate) fn u16_of(bytes: &[u8], at: usize) -> Result<(u16, usize), DecodeErro
     if bytes.len() < at + 2 {
         return Err(fault(DecodeKind::Short, at));
     }
-    let number = u16::from(bytes[at]) * 256 + u16::from(bytes[at + 1]);
-    Ok((number, at + 2))
+    Ok((u16_at(bytes, at), at + 2))
 }
 
 /// The number of four bytes at a place, and the place after it.
@@ -29,7 +29,5 @@ pub(crate) fn u32_of(bytes: &[u8], at: usize) -> Result<(u32, usize), DecodeErro
     if bytes.len() < at + 4 {
         return Err(fault(DecodeKind::Short, at));
     }
-    let upper = u32::from(bytes[at]) * 256 + u32::from(bytes[at + 1]);
-    let lower = u32::from(bytes[at + 2]) * 256 + u32::from(bytes[at + 3]);
-    Ok((upper * 65536 + lower, at + 4))
+    Ok((u32_at(bytes, at), at + 4))
 }

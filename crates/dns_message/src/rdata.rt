@@ -3,17 +3,18 @@ ghost use Rattle.dns_model.specs.Types.{has_shapes};
 ghost use Rattle.dns_message.specs.Reading.{Reads};
 ghost use Rattle.dns_message.specs.RdataAt.{fields_at, shaped_at, opaque_at, rdata_at};
 ghost use Rattle.dns_message.specs.Pointers.{ArePointerEnds};
-ghost use Rattle.dns_message.specs.Fitting.{field_value, items_in};
+ghost use Rattle.dns_message.specs.Fitting.{items_in};
+ghost use Rattle.dns_rdata.specs.Fields.{field_value};
 
 use crate::decode_error::{DecodeError, DecodeKind, fault};
 use crate::rdata_reader::push_field;
-use crate::shape::{Field, shape_of};
 use dns_name::{NoMemory, Octets};
-use dns_record::Rdata;
+use dns_rdata::{Field, fields_of};
+use dns_record::{Rdata, RecordType};
 use std::alloc::Global;
 
 /// The bytes of the rdata from `at` up to `stop`, names spelled out, or `None` where they aren't exactly these fields.
-fn fields_of(
+fn spelled_fields(
     alloc: Global,
     shape: &[Field],
     bytes: &[u8],
@@ -58,7 +59,14 @@ fn shaped_of(
     requires stop { stop ≤ length bytes.now }
     ensures { IfOk result (λ o. o ≡ shaped_at record_type bytes.now at stop) }
 {
-    match fields_of(alloc, shape_of(record_type), bytes, pointer_ends, at, stop)? {
+    match spelled_fields(
+        alloc,
+        fields_of(RecordType(record_type)),
+        bytes,
+        pointer_ends,
+        at,
+        stop,
+    )? {
         None => Ok(None),
         Some(spelled) => {
             if spelled.len() <= Rdata::MAX_LEN {

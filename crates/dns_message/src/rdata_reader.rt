@@ -2,13 +2,13 @@ ghost use Rattle.std.specs.Prelude.{◌≡◌, ◌+◌, ◌<◌, ◌≤◌, ◌^
 ghost use Rattle.dns_message.specs.NameAt.{spelled_at};
 ghost use Rattle.dns_message.specs.RdataAt.{octets_at, counted_at, rest_at, bitmap_at, without_fault, field_at};
 ghost use Rattle.dns_message.specs.Pointers.{ArePointerEnds};
-ghost use Rattle.dns_message.specs.Fitting.{field_value, FieldRead};
+ghost use Rattle.dns_message.specs.Fitting.{FieldRead};
+ghost use Rattle.dns_rdata.specs.Fields.{field_value};
 
-use crate::bitmap::is_bitmap;
 use crate::decode_error::DecodeKind;
 use crate::name_reader::spelled_of;
-use crate::shape::Field;
 use dns_name::NoMemory;
+use dns_rdata::{Field, is_bitmap};
 use std::alloc::Global;
 
 /// Appends the bytes from `pos` up to `next`, where they stand before `stop`.

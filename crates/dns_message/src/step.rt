@@ -4,6 +4,7 @@ ghost use Rattle.dns_message.specs.NameAt.{step_of};
 ghost use Rattle.dns_message.specs.Fitting.{FitsStep};
 
 use crate::decode_error::{DecodeError, DecodeKind, fault};
+use dns_rdata::u16_at;
 
 /// What stands at a place of a name.
 #[derive(Clone, Copy, Debug, Drop)]
@@ -44,7 +45,7 @@ pub(crate) fn step_at(
         if bytes.len() <= pos + 1 {
             return Err(fault(DecodeKind::Short, pos));
         }
-        let target = (u16::from(byte) * 256 + u16::from(bytes[pos + 1])) % 16384;
+        let target = u16_at(bytes, pos) % 16384;
         if start <= usize::from(target) {
             return Err(fault(DecodeKind::BadName, pos));
         }

@@ -1,4 +1,4 @@
--- The fields and parts of the code, as those of the definitions.
+-- The fields of the code, as those of the definitions; its parts, which only private functions read, too.
 use Rattle.dns_model.specs.Shapes as shape
 use Rattle.dns_rdata.specs.declared.shape.Field.{Field}
 use Rattle.dns_rdata.specs.declared.shape.Field.TheVariants.{Octets, DomainName, CharacterString, TypeBitmap, Remainder}

@@ -1,4 +1,4 @@
--- An rdata with the names in it lower-cased.
+-- For private functions of this crate only: an rdata with the names in it lower-cased.
 use Rattle.std.specs.Prelude.{ℕ, List, map, Option, None, Some}
 use Rattle.std.specs.List.{concat}
 use Rattle.dns_model.specs.Shapes.{Part, canonical_part, parts_in, shape_of}

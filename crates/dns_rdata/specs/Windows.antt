@@ -1,4 +1,4 @@
--- A type bitmap read window by window.
+-- For private functions of this crate only: a type bitmap read window by window.
 use Rattle.std.specs.Prelude.{ℕ, Bool, true, false, nat_lt, ◌||◌, ◌&&◌, List, [], ◌∷◌, Option, None, Some}
 use Rattle.std.specs.List.{list_any}
 use Rattle.dns_model.specs.Shapes.{Window, window_has, are_rising}

@@ -1,5 +1,6 @@
-//! Views of rdata, serial numbers, canonical forms, and the bytes that signatures and digests are over. The layer above
-//! may use each view as the text of `dns_model` that has its name, and each call as the definition that its clause names.
+//! Rdata: what each type's is made of, numbers and type bitmaps in it, views of it, canonical forms, and the bytes that
+//! signatures and digests are over. The layer above may use each view as the text of `dns_model` that has its name, and
+//! each call as the definition that its clause names.
 #![tactic(auto)]
 
 mod bytes;
@@ -24,6 +25,7 @@ mod type_set;
 mod window;
 mod write;
 
+pub use bytes::{u16_at, u32_at};
 pub use canonical::{canonical_rdata, has_shape};
 pub use digest::ds_covers;
 pub use dnskey::Dnskey;
@@ -36,9 +38,11 @@ pub use nsec::{Nsec, NsecRecord};
 pub use nsec3::{Nsec3, Nsec3Record};
 pub use rrsig::Rrsig;
 pub use serial::SerialNumber;
+pub use shape::{Field, fields_of};
 pub use signed::{signed_data, signed_data_of};
 pub use soa::Soa;
-pub use type_set::TypeSet;
+pub use type_set::{TypeSet, is_bitmap};
+pub use write::{push_u16, push_u32};
 
 #[cfg(test)]
 mod signed_tests;

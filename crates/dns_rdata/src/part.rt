@@ -21,7 +21,7 @@ pub(crate) fn part_front<'a>(field: Field, bytes: &'a [u8]) -> Option<(Part<'a>,
     ensures { option_map (λ p. (part_value p.0, p.1.now)) result ≡ part_in (field_value field) bytes.now }
 {
     match field {
-        Field::Octets(size) => plain_front(bytes, size),
+        Field::Octets(size) => plain_front(bytes, usize::from(size)),
         Field::DomainName => {
             let (name, rest) = NameRef::front(bytes)?;
             Some((Part::Named(name), rest))

@@ -4,22 +4,25 @@ ghost use Rattle.dns_rdata.specs.Fields.{field_value};
 
 use dns_record::RecordType;
 
-// One field of an rdata.
-#[derive(Clone, Copy, Drop)]
-pub(crate) enum Field {
-    // So many bytes.
-    Octets(usize),
+/// One field of an rdata.
+#[derive(Clone, Copy, Debug, Drop)]
+pub enum Field {
+    /// So many bytes.
+    Octets(u8),
+    /// A domain name.
     DomainName,
-    // A length byte and that many bytes.
+    /// A length byte and that many bytes.
     CharacterString,
+    /// A type bitmap (RFC 4034, 4.1.2), up to the end.
     TypeBitmap,
-    // Whatever bytes are left.
+    /// Whatever bytes are left.
     Remainder,
 }
 
-// The fields of each type's rdata (RFC 1035, 3.3; RFC 4034; RFC 5155, 3); a type that is not named here is opaque.
+/// The fields of each type's rdata (RFC 1035, 3.3; RFC 4034; RFC 5155, 3); a type that is not named here is opaque.
+/// A new type of rdata is one line here and one in `shape_of` of `dns_model`.
 #[tactic(auto, unfolding(dns_model::specs::Shapes::shape_of))]
-pub(crate) fn fields_of(record_type: RecordType) -> &'static [Field]
+pub fn fields_of(record_type: RecordType) -> &'static [Field]
     ensures { map field_value result.now ≡ shape_of record_type.0 }
 {
     match record_type {

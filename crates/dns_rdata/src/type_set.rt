@@ -59,8 +59,8 @@ fn bitmap_has(bytes: &[u8], record_type: u16) -> bool
     found
 }
 
-// Whether the bytes are a type bitmap: a row of windows whose numbers rise.
-pub(crate) fn is_bitmap(bytes: &[u8]) -> bool
+/// Whether the bytes are a type bitmap: a row of windows whose numbers rise (RFC 4034, 4.1.2).
+pub fn is_bitmap(bytes: &[u8]) -> bool
     ensures { result ≡ is_row bytes.now }
 {
     let mut last = None;

@@ -2,9 +2,10 @@ use Rattle.std.proofs.Common.{rules, ◌≡◌, ◌+◌, ◌≤◌, ◌<◌, ℕ
 use Rattle.std.specs.Prelude.{◌==◌}
 use Rattle.std.proofs.lemmas.Bool.Decides.{nat_tests}
 use Rattle.dns_message.specs.RdataAt.{field_at, fields_at, with_bytes}
-use Rattle.dns_message.specs.Fitting.{field_value, IsAppended, FieldRead}
+use Rattle.dns_rdata.specs.Fields.{field_value}
+use Rattle.dns_message.specs.Fitting.{IsAppended, FieldRead}
 use Rattle.dns_message.proofs.RdataReading.{next_field, fields_more, fields_none, fields_done, fields_start}
-use Rattle.dns_message.proofs.rdata.fields_of.Goals as goal
+use Rattle.dns_message.proofs.rdata.spelled_fields.Goals as goal
 
 pub returns-in-None : goal.returns-in-None
 returns-in-None c =
