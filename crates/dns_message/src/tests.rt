@@ -11,22 +11,25 @@ fn digit_of(character: u8) -> Option<u8> {
     }
 }
 
-/// The bytes of hex text; other characters are passed over.
+/// The bytes of hex text, spaces aside. A row that is no such text fails its test by this error.
 pub(crate) fn bytes_of(alloc: Global, text: &str) -> Result<Vec<u8>, AllocError> {
     let mut bytes = Vec::new(alloc);
     let mut high = None;
     for character in text.as_bytes() {
-        if let Some(digit) = digit_of(*character) {
-            match high {
-                None => high = Some(digit),
-                Some(upper) => {
-                    bytes.push(upper << 4 | digit)?;
-                    high = None;
-                }
+        match (digit_of(*character), high) {
+            (Some(digit), None) => high = Some(digit),
+            (Some(digit), Some(upper)) => {
+                bytes.push(upper << 4 | digit)?;
+                high = None;
             }
+            (None, _) if *character == b' ' => {}
+            (None, _) => return Err(AllocError),
         }
     }
-    Ok(bytes)
+    match high {
+        Some(_) => Err(AllocError),
+        None => Ok(bytes),
+    }
 }
 
 /// The message that the bytes are, if they are one.

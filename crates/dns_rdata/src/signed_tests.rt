@@ -118,8 +118,8 @@ fn text_of_set(alloc: Global, row: &Signed, sig: &Rrsig) -> Result<Octets, NoMem
 }
 
 fn is_signed_as(alloc: Global, row: &Signed) -> Result<bool, NoMemory> {
-    let bytes = bytes_of(alloc, row.sig);
-    let want = bytes_of(alloc, row.want);
+    let bytes = bytes_of(alloc, row.sig)?;
+    let want = bytes_of(alloc, row.want)?;
     match Rrsig::read(&bytes) {
         Some(sig) => Ok(
             text_of_rdatas(alloc, row, &sig)?.as_slice() == want.as_slice()
@@ -189,7 +189,7 @@ fn views_read_their_own_type_alone(rt: HostRuntime) -> Result<(), Fail> {
 }
 
 fn sig_has_its_numbers(alloc: Global, text: &str) -> Result<bool, NoMemory> {
-    let bytes = bytes_of(alloc, text);
+    let bytes = bytes_of(alloc, text)?;
     let from = at_root(alloc, 46, &bytes)?;
     match Rrsig::of(&from) {
         Some(sig) => Ok(
@@ -205,7 +205,7 @@ fn sig_has_its_numbers(alloc: Global, text: &str) -> Result<bool, NoMemory> {
 }
 
 fn soa_has_its_numbers(alloc: Global, text: &str) -> Result<bool, NoMemory> {
-    let bytes = bytes_of(alloc, text);
+    let bytes = bytes_of(alloc, text)?;
     let from = at_root(alloc, 6, &bytes)?;
     match Soa::of(&from) {
         Some(soa) => Ok(
@@ -232,7 +232,7 @@ fn numbers_stand_in_their_places(rt: HostRuntime) -> Result<(), Fail> {
 }
 
 fn nsec_is_copied(alloc: Global, text: &str) -> Result<bool, NoMemory> {
-    let bytes = bytes_of(alloc, text);
+    let bytes = bytes_of(alloc, text)?;
     let from = at_root(alloc, 47, &bytes)?;
     match NsecRecord::of(alloc, &from)? {
         Some(nsec) => {
@@ -248,7 +248,7 @@ fn nsec_is_copied(alloc: Global, text: &str) -> Result<bool, NoMemory> {
 }
 
 fn nsec3_is_copied(alloc: Global, text: &str) -> Result<bool, NoMemory> {
-    let bytes = bytes_of(alloc, text);
+    let bytes = bytes_of(alloc, text)?;
     let from = at_root(alloc, 50, &bytes)?;
     match Nsec3Record::of(alloc, &from)? {
         Some(nsec3) => {

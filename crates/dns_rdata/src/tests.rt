@@ -5,11 +5,11 @@ use std::alloc::Global;
 use std::cmp::Ordering;
 use std::test::Fail;
 
-/// The bytes of hex text; none where it is no such text.
-pub(crate) fn bytes_of(alloc: Global, text: &str) -> Vec<u8> {
+/// The bytes of hex text. A row that is no such text fails its test by this error.
+pub(crate) fn bytes_of(alloc: Global, text: &str) -> Result<Vec<u8>, NoMemory> {
     match hex::decode(alloc, text) {
-        Ok(bytes) => bytes,
-        Err(_) => Vec::new(alloc),
+        Ok(bytes) => Ok(bytes),
+        Err(_) => Err(NoMemory),
     }
 }
 
@@ -67,16 +67,17 @@ const TAGS: [(&str, Option<u16>); 6] = [
     ("", None),
 ];
 
-fn tag_of(alloc: Global, text: &str) -> Option<u16> {
-    let key = bytes_of(alloc, text);
-    key_tag(&key)
+fn tag_of(alloc: Global, text: &str) -> Result<Option<u16>, NoMemory> {
+    let key = bytes_of(alloc, text)?;
+    Ok(key_tag(&key))
 }
 
 #[test]
-fn key_tags_are_those_of_the_standard(rt: HostRuntime) {
+fn key_tags_are_those_of_the_standard(rt: HostRuntime) -> Result<(), Fail> {
     for (text, want) in &TAGS {
-        assert!(rt; tag_of(rt.alloc(), text) == *want, "{text}");
+        assert!(rt; tag_of(rt.alloc(), text)? == *want, "{text}");
     }
+    Ok(())
 }
 
 /// An owner in wire form, a key, the front and the digest of a DS, and whether it covers the key.
@@ -150,9 +151,9 @@ fn is_covered(
     digest: &str,
 ) -> Result<bool, NoMemory> {
     let owner = name_of(alloc, owner)?;
-    let key = bytes_of(alloc, key);
-    let mut ds = bytes_of(alloc, front);
-    ds.extend_from_slice(&bytes_of(alloc, digest))?;
+    let key = bytes_of(alloc, key)?;
+    let mut ds = bytes_of(alloc, front)?;
+    ds.extend_from_slice(&bytes_of(alloc, digest)?)?;
     Ok(ds_covers(&owner, &key, &ds))
 }
 
@@ -201,7 +202,7 @@ fn fits_whole(record_type: u16, longer: &[u8], may: bool) -> bool {
 }
 
 fn have_shape(alloc: Global, types: &[u16], text: &str, may: bool) -> Result<bool, NoMemory> {
-    let mut bytes = bytes_of(alloc, text);
+    let mut bytes = bytes_of(alloc, text)?;
     bytes.push(0)?;
     for record_type in types {
         if !fits_whole(*record_type, &bytes, may) {
