@@ -1,23 +1,58 @@
+//! The printed form of a name, written without memory (RFC 1035, 5.1).
+ghost use Rattle.std.specs.Prelude.{◌+◌, ◌<◌, ◌∷◌, [], Some};
+ghost use Rattle.std.specs.Fmt.{WritesOnOk};
+ghost use Rattle.dns_model.specs.NameText.{printed, printed_byte, printed_label};
+
 use crate::{Name, NameRef};
 use std::fmt;
 
-/// The printed form, as `to_ascii` gives it, without memory.
+/// Writes a decimal digit.
+fn write_digit<W: fmt::Write>(f: &mut fmt::Formatter<W>, digit: u8) -> fmt::Result
+    requires { digit < 10 }
+    ensures { WritesOnOk W.write_str_gives f.old result ((48 + digit) ∷ []) f.new }
+{
+    f.write_char(char::from(b'0' + digit))
+}
+
+/// Writes a byte of a label.
+#[tactic(auto, unfolding(dns_model::specs::NameText::printed_byte))]
+fn write_byte<W: fmt::Write>(f: &mut fmt::Formatter<W>, byte: u8) -> fmt::Result
+    ensures { WritesOnOk W.write_str_gives f.old result (printed_byte byte) f.new }
+{
+    if byte == b'.' || byte == b'\\' {
+        f.write_str("\\")?;
+        return f.write_char(char::from(byte));
+    }
+    if byte >= 0x21 && byte <= 0x7e {
+        return f.write_char(char::from(byte));
+    }
+    f.write_str("\\")?;
+    write_digit(f, byte / 100)?;
+    write_digit(f, byte / 10 % 10)?;
+    write_digit(f, byte % 10)
+}
+
+/// Writes a label and a dot.
+fn write_label<W: fmt::Write>(f: &mut fmt::Formatter<W>, label: &[u8]) -> fmt::Result
+    ensures { WritesOnOk W.write_str_gives f.old result (printed_label label.now) f.new }
+{
+    for byte in label {
+        write_byte(f, *byte)?;
+    }
+    f.write_str(".")
+}
+
+/// The printed form, as `to_ascii` gives it.
 impl<'a> fmt::Display for NameRef<'a> {
+    ghost output = { λ name. Some (printed name) };
+
     fn fmt<W: fmt::Write>(&self, f: &mut fmt::Formatter<W>) -> fmt::Result {
         if self.is_root() {
             return f.write_str(".");
         }
         let mut rest = self.copy();
         'labels: while let Some((label, above)) = rest.split_first() {
-            for byte in label {
-                match *byte {
-                    b'.' => f.write_str("\\.")?,
-                    b'\\' => f.write_str("\\\\")?,
-                    0x21..=0x7e => f.write_char(*byte as char)?,
-                    other => write!(f, "\\{other:03}")?,
-                }
-            }
-            f.write_str(".")?;
+            write_label(f, label)?;
             rest = above;
         }
         Ok(())
@@ -25,8 +60,9 @@ impl<'a> fmt::Display for NameRef<'a> {
 }
 
 impl fmt::Display for Name {
+    ghost output = { λ name. Some (printed name) };
+
     fn fmt<W: fmt::Write>(&self, f: &mut fmt::Formatter<W>) -> fmt::Result {
-        let name = self.borrowed();
-        write!(f, "{name}")
+        fmt::Display::fmt(&self.borrowed(), f)
     }
 }

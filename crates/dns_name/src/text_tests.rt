@@ -29,7 +29,7 @@ fn fault_of(named: Result<Name, NameError>) -> Option<NameError> {
 }
 
 /// Texts, and the printed form of the name that each gives.
-const READ: [(&str, &str); 8] = [
+const READ: [(&str, &str); 9] = [
     (".", "."),
     ("example", "example."),
     ("Example.ORG.", "Example.ORG."),
@@ -37,6 +37,7 @@ const READ: [(&str, &str); 8] = [
     ("\\065\\.\\\\b.", "A\\.\\\\b."),
     ("\\a\\\"\\127", "a\"\\127."),
     ("\\000\\255.x", "\\000\\255.x."),
+    ("a\\032b.c", "a\\032b.c."),
     ("a\\.", "a\\.."),
 ];
 

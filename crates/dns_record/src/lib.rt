@@ -7,7 +7,7 @@ mod query;
 mod rdata;
 mod record;
 mod record_set;
-mod texts;
+mod words;
 
 pub use codes::{DNSClass, OpCode, RecordType, ResponseCode};
 pub use dns_model::{Denial, Proof, Section};

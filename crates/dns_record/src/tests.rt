@@ -49,16 +49,24 @@ fn questions_compare_with_names_folded(rt: HostRuntime) -> Result<(), Fail> {
     Ok(())
 }
 
-fn is_shown(alloc: Global, record_type: u16, want: &str) -> Result<bool, NameError> {
-    let query = query_of(alloc, "a.B", record_type)?;
+/// A name and a type, and how a question of class IN for them is shown.
+const SHOWN: [(&str, u16, &str); 3] = [
+    ("a.B", 48, "a.B. IN DNSKEY"),
+    ("a.B", 65280, "a.B. IN TYPE65280"),
+    ("a\\032b", 1, "a\\032b. IN A"),
+];
+
+fn is_shown(alloc: Global, row: &(&str, u16, &str)) -> Result<bool, NameError> {
+    let query = query_of(alloc, row.0, row.1)?;
     let shown = format!(in alloc; "{query}")?;
-    Ok(shown.as_str() == want)
+    Ok(shown.as_str() == row.2)
 }
 
 #[test]
 fn questions_are_shown(rt: HostRuntime) -> Result<(), Fail> {
-    assert!(rt; is_shown(rt.alloc(), 48, "a.B. IN DNSKEY")?);
-    assert!(rt; is_shown(rt.alloc(), 65280, "a.B. IN TYPE65280")?);
+    for row in &SHOWN {
+        assert!(rt; is_shown(rt.alloc(), row)?, "at {}", row.2);
+    }
     Ok(())
 }
 

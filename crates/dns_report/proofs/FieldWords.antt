@@ -7,7 +7,7 @@ use Rattle.std.proofs.lemmas.Fmt.{decimal_injective}
 use Rattle.dns_model.specs.Bytes.{is_bytes}
 use Rattle.dns_model.specs.Names.{Labels, is_name}
 use Rattle.dns_model.specs.NameText.{printed}
-use Rattle.dns_words.specs.Codes.{type_word, class_word}
+use Rattle.dns_record.specs.Words.{type_word, class_word}
 use Rattle.dns_words.specs.OctetWords.{octets_word}
 use Rattle.dns_words.proofs.WordShapes.{is_word, decimal_word, type_is_word, class_is_word, octets_is_word, type_injective, class_injective, octets_injective}
 use Rattle.dns_report.specs.Lines.{Words}

@@ -7,7 +7,7 @@ use Rattle.dns_model.specs.declared.section.Section.{Section}
 use Rattle.dns_model.specs.declared.section.Section.TheVariants.{Answer, Authority, Additional}
 use Rattle.dns_model.specs.NameText.{printed}
 use Rattle.dns_model.specs.Records.{Rr}
-use Rattle.dns_words.specs.Codes.{type_word, class_word}
+use Rattle.dns_record.specs.Words.{type_word, class_word}
 use Rattle.dns_words.specs.OctetWords.{octets_word}
 use Rattle.dns_report.specs.Marks.{mark_word, section_word, denial_words}
 use Rattle.dns_report.specs.View.{Shown, Anchored, Matched, KeySet, Signed, ChainView, View}

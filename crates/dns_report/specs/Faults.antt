@@ -11,7 +11,7 @@ use Rattle.dns_net.specs.declared.error.ProtoError.TheVariants.{Decode, TooLong}
 use Rattle.dns_net.specs.declared.notice.Notice.{Notice}
 use Rattle.dns_net.specs.declared.notice.Notice.TheVariants.{NotJudgedYet}
 use Rattle.dns_net.specs.Errors.{DnsErrorValue, ResponseCode, Nsec, DnssecBogus, ErrorValue, Busy, Dns, Message, Msg, NoConnections, Proto, Io, Timeout, QueryCaseMismatch, ForeignClassRecord, Truncated, NoMemory}
-use Rattle.dns_words.specs.Codes.{type_word, class_word}
+use Rattle.dns_record.specs.Words.{type_word, class_word}
 use Rattle.dns_report.specs.Lines.{Words, line}
 use Rattle.dns_report.specs.Marks.{mark_word}
 

@@ -4,7 +4,7 @@ ghost use Rattle.std.specs.List.{flat_map, list_all};
 ghost use Rattle.std.specs.Fmt.{decimal};
 ghost use Rattle.dns_model.specs.Bytes.{is_bytes};
 ghost use Rattle.dns_model.specs.NameText.{printed};
-ghost use Rattle.dns_words.specs.Codes.{type_word, class_word};
+ghost use Rattle.dns_record.specs.Words.{type_word, class_word};
 ghost use Rattle.dns_words.specs.OctetWords.{octets_word};
 ghost use Rattle.dns_net.specs.Link.{link_value};
 ghost use Rattle.dns_report.specs.Lines.{line, line_rest};

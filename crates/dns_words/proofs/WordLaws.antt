@@ -14,7 +14,8 @@ use Rattle.std.proofs.lemmas.Str.Parse.{IsNumeralModel, numerals_by_value}
 use Rattle.dns_model.specs.Keys.{bytes_eq}
 use Rattle.dns_words.specs.Steps.{◌>>=◌}
 use Rattle.dns_words.specs.Decimals.{is_unpadded, is_decimal, decimal_in}
-use Rattle.dns_words.specs.Codes.{type_rows, class_rows, own_word, number_of_word, code_word, after_prefix, if_unnamed, prefixed_in, code_in, type_word, type_in, class_word, class_in}
+use Rattle.dns_record.specs.Words.{Row, type_rows, class_rows, own_word, own_number, code_word, type_word, class_word}
+use Rattle.dns_words.specs.Codes.{after_prefix, if_unnamed, prefixed_in, code_in, type_in, class_in}
 
 -- ---- numbers
 
@@ -69,12 +70,12 @@ decimal_from limit n word fits h = decimal_of_value limit n word fits (cases_Boo
 -- ---- own words
 
 -- no two rows have one word
-abbrev WordsDiffer : List (ℕ × List ℕ) → Type 0
+abbrev WordsDiffer : List Row → Type 0
 WordsDiffer [] = Unit {0}
-WordsDiffer (row ∷ rows) = (number_of_word rows row.1 ≡ None) × WordsDiffer rows
+WordsDiffer (row ∷ rows) = (own_number rows row.1 ≡ None) × WordsDiffer rows
 
 -- no two rows have one number
-abbrev NumbersDiffer : List (ℕ × List ℕ) → Type 0
+abbrev NumbersDiffer : List Row → Type 0
 NumbersDiffer [] = Unit {0}
 NumbersDiffer (row ∷ rows) = (own_word rows row.0 ≡ None) × NumbersDiffer rows
 
@@ -85,40 +86,38 @@ bytes_alike : (a b : List ℕ) → a ≡ b → bytes_eq a b ≡ true
 bytes_alike a b h = (bytes_decides a b).1 h
 
 -- a number's own word is read as the number
-named_back : (rows : List (ℕ × List ℕ)) (n : ℕ) (word : List ℕ) → WordsDiffer rows → own_word rows n ≡ Some word → number_of_word rows word ≡ Some n
-unfolding own_word number_of_word
+named_back : (rows : List Row) (n : ℕ) (word : List ℕ) → WordsDiffer rows → own_word rows n ≡ Some word → own_number rows word ≡ Some n
+unfolding own_word own_number
 named_back [] n word differ h = cc
 named_back (row ∷ rows) n word differ h =
-    elim (cases_Bool (n == row.0)) [
+    elim (cases_Bool (row.0 == n)) [
       | inl is ↦
           let same : row.1 ≡ word = some_same _ _ (rw is at h) in
-          let number : n ≡ row.0 = eqb-true n row.0 is in
-          rw (bytes_alike word row.1 (sym same)) (ap Some (sym number))
+          rw (bytes_alike row.1 word same) (ap Some (eqb-true row.0 n is))
       | inr isnt ↦
-          let rest : number_of_word rows word ≡ Some n = named_back rows n word differ.1 (rw isnt at h) in
-          elim (cases_Bool (bytes_eq word row.1)) [
+          let rest : own_number rows word ≡ Some n = named_back rows n word differ.1 (rw isnt at h) in
+          elim (cases_Bool (bytes_eq row.1 word)) [
             | inl same ↦
-                let none : number_of_word rows word ≡ None = rw (same_bytes word row.1 same) differ.0 in
+                let none : own_number rows word ≡ None = rw (sym (same_bytes row.1 word same)) differ.0 in
                 cc
             | inr other ↦ rw other rest
           ]
     ]
 
 -- a word that is read as a number is the number's own
-named_from : (rows : List (ℕ × List ℕ)) (n : ℕ) (word : List ℕ) → NumbersDiffer rows → number_of_word rows word ≡ Some n → own_word rows n ≡ Some word
-unfolding own_word number_of_word
+named_from : (rows : List Row) (n : ℕ) (word : List ℕ) → NumbersDiffer rows → own_number rows word ≡ Some n → own_word rows n ≡ Some word
+unfolding own_word own_number
 named_from [] n word differ h = cc
 named_from (row ∷ rows) n word differ h =
-    elim (cases_Bool (bytes_eq word row.1)) [
+    elim (cases_Bool (bytes_eq row.1 word)) [
       | inl is ↦
           let same : row.0 ≡ n = some_same _ _ (rw is at h) in
-          let spelled : word ≡ row.1 = same_bytes word row.1 is in
-          rw (eq-eqb n row.0 (sym same)) (ap Some (sym spelled))
+          rw (eq-eqb row.0 n same) (ap Some (same_bytes row.1 word is))
       | inr isnt ↦
           let rest : own_word rows n ≡ Some word = named_from rows n word differ.1 (rw isnt at h) in
-          elim (cases_Bool (n == row.0)) [
+          elim (cases_Bool (row.0 == n)) [
             | inl same ↦
-                let none : own_word rows n ≡ None = rw (eqb-true n row.0 same) differ.0 in
+                let none : own_word rows n ≡ None = rw (sym (eqb-true row.0 n same)) differ.0 in
                 cc
             | inr other ↦ rw other rest
           ]
@@ -143,38 +142,38 @@ prefix_from prefix word rest h =
     ]
 
 -- no row's word begins with the prefix
-abbrev NonePrefixed : List ℕ → List (ℕ × List ℕ) → Type 0
+abbrev NonePrefixed : List ℕ → List Row → Type 0
 NonePrefixed prefix [] = Unit {0}
 NonePrefixed prefix (row ∷ rows) = (after_prefix prefix row.1 ≡ None) × NonePrefixed prefix rows
 
-prefixed_unnamed : (prefix rest : List ℕ) (rows : List (ℕ × List ℕ)) → NonePrefixed prefix rows → number_of_word rows (prefix ++ rest) ≡ None
-unfolding number_of_word
+prefixed_unnamed : (prefix rest : List ℕ) (rows : List Row) → NonePrefixed prefix rows → own_number rows (prefix ++ rest) ≡ None
+unfolding own_number
 prefixed_unnamed prefix rest [] apart = refl
 prefixed_unnamed prefix rest (row ∷ rows) apart =
-    elim (cases_Bool (bytes_eq (prefix ++ rest) row.1)) [
+    elim (cases_Bool (bytes_eq row.1 (prefix ++ rest))) [
       | inl is ↦
           let P : List ℕ → Type 0 = λ word. after_prefix prefix word ≡ Some rest in
-          let some : after_prefix prefix row.1 ≡ Some rest = subst P (same_bytes _ _ is) (prefix_back prefix rest) in
+          let some : after_prefix prefix row.1 ≡ Some rest = subst P (sym (same_bytes _ _ is)) (prefix_back prefix rest) in
           absurd (none_some rest (sym apart.0 ∙ some))
       | inr isnt ↦ rw isnt (prefixed_unnamed prefix rest rows apart.1)
     ]
 
-code_back_at : (rows : List (ℕ × List ℕ)) (prefix : List ℕ) (n : ℕ) → WordsDiffer rows → NonePrefixed prefix rows → n ≤ 65535
+code_back_at : (rows : List Row) (prefix : List ℕ) (n : ℕ) → WordsDiffer rows → NonePrefixed prefix rows → n ≤ 65535
     → (own : Option (List ℕ)) → own_word rows n ≡ own → code_in rows prefix (unwrap_or own (prefix ++ decimal n)) ≡ Some n
 code_back_at rows prefix n differ apart within (Some word) h = rw (named_back rows n word differ h) refl
 code_back_at rows prefix n differ apart within None h =
     rw (prefixed_unnamed prefix (decimal n) rows apart, prefix_back prefix (decimal n), decimal_back 65535 n within (omega arith), h) refl
 
-code_back : (rows : List (ℕ × List ℕ)) (prefix : List ℕ) (n : ℕ) → WordsDiffer rows → NonePrefixed prefix rows → n ≤ 65535
+code_back : (rows : List Row) (prefix : List ℕ) (n : ℕ) → WordsDiffer rows → NonePrefixed prefix rows → n ≤ 65535
     → code_in rows prefix (code_word rows prefix n) ≡ Some n
 code_back rows prefix n differ apart within = code_back_at rows prefix n differ apart within (own_word rows n) refl
 
-unnamed_from : (rows : List (ℕ × List ℕ)) (m n : ℕ) (own : Option (List ℕ)) → own_word rows m ≡ own → (if is_some own then None else Some m) ≡ Some n
+unnamed_from : (rows : List Row) (m n : ℕ) (own : Option (List ℕ)) → own_word rows m ≡ own → (if is_some own then None else Some m) ≡ Some n
     → (m ≡ n) × (own_word rows m ≡ None)
 unnamed_from rows m n None h e = (some_same m n e, h)
 unnamed_from rows m n (Some word) h e = absurd (none_some n e)
 
-decimal_unnamed : (rows : List (ℕ × List ℕ)) (prefix word rest : List ℕ) (n : ℕ) → after_prefix prefix word ≡ Some rest
+decimal_unnamed : (rows : List Row) (prefix word rest : List ℕ) (n : ℕ) → after_prefix prefix word ≡ Some rest
     → (number : Option ℕ) → decimal_in 65535 rest ≡ number → (number >>= if_unnamed rows) ≡ Some n → word ≡ code_word rows prefix n
 decimal_unnamed rows prefix word rest n h None d e = absurd (none_some n e)
 decimal_unnamed rows prefix word rest n h (Some m) d e =
@@ -183,35 +182,35 @@ decimal_unnamed rows prefix word rest n h (Some m) d e =
     prefix_from prefix word rest h ∙ ap (λ ds. prefix ++ ds) (digits ∙ ap decimal facts.0)
     ∙ sym (ap (λ own. unwrap_or own (prefix ++ decimal n)) (sym (ap (own_word rows) facts.0) ∙ facts.1))
 
-prefixed_from : (rows : List (ℕ × List ℕ)) (prefix word : List ℕ) (n : ℕ) (rest : Option (List ℕ)) → after_prefix prefix word ≡ rest
+prefixed_from : (rows : List Row) (prefix word : List ℕ) (n : ℕ) (rest : Option (List ℕ)) → after_prefix prefix word ≡ rest
     → (rest >>= λ digits. decimal_in 65535 digits >>= if_unnamed rows) ≡ Some n → word ≡ code_word rows prefix n
 prefixed_from rows prefix word n None h e = absurd (none_some n e)
 prefixed_from rows prefix word n (Some rest) h e = decimal_unnamed rows prefix word rest n h (decimal_in 65535 rest) refl e
 
-code_from_at : (rows : List (ℕ × List ℕ)) (prefix word : List ℕ) (n : ℕ) → NumbersDiffer rows
-    → (named : Option ℕ) → number_of_word rows word ≡ named → option_or named (prefixed_in rows prefix word) ≡ Some n → word ≡ code_word rows prefix n
+code_from_at : (rows : List Row) (prefix word : List ℕ) (n : ℕ) → NumbersDiffer rows
+    → (named : Option ℕ) → own_number rows word ≡ named → option_or named (prefixed_in rows prefix word) ≡ Some n → word ≡ code_word rows prefix n
 code_from_at rows prefix word n differ (Some m) h e =
     let own : own_word rows n ≡ Some word = named_from rows n word differ (h ∙ e) in
     rw own refl
 code_from_at rows prefix word n differ None h e = prefixed_from rows prefix word n (after_prefix prefix word) refl e
 
-code_from : (rows : List (ℕ × List ℕ)) (prefix word : List ℕ) (n : ℕ) → NumbersDiffer rows → code_in rows prefix word ≡ Some n → word ≡ code_word rows prefix n
-code_from rows prefix word n differ h = code_from_at rows prefix word n differ (number_of_word rows word) refl h
+code_from : (rows : List Row) (prefix word : List ℕ) (n : ℕ) → NumbersDiffer rows → code_in rows prefix word ≡ Some n → word ≡ code_word rows prefix n
+code_from rows prefix word n differ h = code_from_at rows prefix word n differ (own_number rows word) refl h
 
 -- the type that a printed type word is
 pub type_back : (n : ℕ) → n ≤ 65535 → type_in (type_word n) ≡ Some n
-unfolding type_in type_word own_word number_of_word
+unfolding type_in type_word own_word own_number
 type_back n within = code_back type_rows (codes "TYPE") n (search rules) (search rules) within
 
 pub class_back : (n : ℕ) → n ≤ 65535 → class_in (class_word n) ≡ Some n
-unfolding class_in class_word own_word number_of_word
+unfolding class_in class_word own_word own_number
 class_back n within = code_back class_rows (codes "CLASS") n (search rules) (search rules) within
 
 -- a word that is read is the one that is printed
 pub type_from : (word : List ℕ) (n : ℕ) → type_in word ≡ Some n → word ≡ type_word n
-unfolding type_in type_word own_word number_of_word
+unfolding type_in type_word own_word own_number
 type_from word n h = code_from type_rows (codes "TYPE") word n (search rules) h
 
 pub class_from : (word : List ℕ) (n : ℕ) → class_in word ≡ Some n → word ≡ class_word n
-unfolding class_in class_word own_word number_of_word
+unfolding class_in class_word own_word own_number
 class_from word n h = code_from class_rows (codes "CLASS") word n (search rules) h

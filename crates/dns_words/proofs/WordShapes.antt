@@ -12,7 +12,8 @@ use Rattle.std.proofs.lemmas.List.Sums.{list_all-from_AllPass}
 use Rattle.hex.specs.Hex.{encode_lower, is_hex_digit, IsBytes}
 use Rattle.hex.proofs.HexLemmas.{decode_of-encode_lower, decode_of-ok}
 use Rattle.dns_model.specs.Bytes.{is_bytes}
-use Rattle.dns_words.specs.Codes.{type_rows, class_rows, own_word, type_word, class_word, type_in, class_in}
+use Rattle.dns_record.specs.Words.{Row, type_rows, class_rows, own_word, type_word, class_word}
+use Rattle.dns_words.specs.Codes.{type_in, class_in}
 use Rattle.dns_words.specs.OctetWords.{octets_word, octets_in}
 use Rattle.dns_words.proofs.WordLaws.{own, type_back, class_back}
 use Rattle.dns_words.proofs.OctetLaws.{octets_back}
@@ -58,13 +59,13 @@ octets_is_word (b ∷ bs) h =
     hex_digits_word (encode_lower (b ∷ bs)) (list_all-from_AllPass is_hex_digit _ (decode_of-ok _ _ (decode_of-encode_lower (b ∷ bs) (bytes_below (b ∷ bs) h))).1)
 
 -- an own word or another
-own_or : (rows : List (ℕ × List ℕ)) (n : ℕ) (other : List ℕ) → list_all (λ row. is_word row.1) rows ≡ true → is_word other ≡ true
+own_or : (rows : List Row) (n : ℕ) (other : List ℕ) → list_all (λ row. is_word row.1) rows ≡ true → is_word other ≡ true
     → is_word (unwrap_or (own_word rows n) other) ≡ true
 unfolding own_word
 own_or [] n other rows_are is = is
 own_or (row ∷ rows) n other rows_are is =
     let parts = and_parts (is_word row.1) (list_all (λ row. is_word row.1) rows) rows_are in
-    elim (cases_Bool (n == row.0)) [
+    elim (cases_Bool (row.0 == n)) [
       | inl same ↦ rw same parts.0
       | inr apart ↦ rw apart (own_or rows n other parts.1 is)
     ]

@@ -1,113 +1,13 @@
+//! Types and classes as words. Which have a word of their own stands in the tables of `dns_record`.
 ghost use Rattle.std.specs.Prelude.{◌≡◌, ◌++◌, codes, OnOk, OnErr};
 ghost use Rattle.std.specs.Fmt.{decimal};
 ghost use Rattle.std.specs.Option.{option_map, option_copied};
-ghost use Rattle.dns_words.specs.Codes.{own_word, number_of_word, type_rows, class_rows, after_prefix, prefixed_in, type_in, class_in, type_word, class_word};
+ghost use Rattle.dns_record.specs.Words.{class_rows, class_word, type_rows, type_word};
+ghost use Rattle.dns_words.specs.Codes.{after_prefix, class_in, prefixed_in, type_in};
 
 use crate::{push_decimal, u16_in};
 use dns_name::NoMemory;
 use dns_record::{DNSClass, RecordType};
-
-/// The type's own word.
-#[tactic(auto, unfolding(crate::specs::Codes::own_word))]
-fn own_type_word(number: u16) -> Option<&'static [u8]>
-    ensures { option_map (λ w. w.now) result ≡ own_word type_rows number }
-{
-    match number {
-        1 => Some(b"A"),
-        28 => Some(b"AAAA"),
-        2 => Some(b"NS"),
-        5 => Some(b"CNAME"),
-        12 => Some(b"PTR"),
-        39 => Some(b"DNAME"),
-        6 => Some(b"SOA"),
-        15 => Some(b"MX"),
-        18 => Some(b"AFSDB"),
-        21 => Some(b"RT"),
-        36 => Some(b"KX"),
-        17 => Some(b"RP"),
-        26 => Some(b"PX"),
-        33 => Some(b"SRV"),
-        35 => Some(b"NAPTR"),
-        43 => Some(b"DS"),
-        46 => Some(b"RRSIG"),
-        47 => Some(b"NSEC"),
-        48 => Some(b"DNSKEY"),
-        50 => Some(b"NSEC3"),
-        16 => Some(b"TXT"),
-        41 => Some(b"OPT"),
-        51 => Some(b"NSEC3PARAM"),
-        251 => Some(b"IXFR"),
-        252 => Some(b"AXFR"),
-        255 => Some(b"ANY"),
-        _ => None,
-    }
-}
-
-/// The class's own word.
-#[tactic(auto, unfolding(crate::specs::Codes::own_word))]
-fn own_class_word(number: u16) -> Option<&'static [u8]>
-    ensures { option_map (λ w. w.now) result ≡ own_word class_rows number }
-{
-    match number {
-        1 => Some(b"IN"),
-        3 => Some(b"CH"),
-        4 => Some(b"HS"),
-        254 => Some(b"NONE"),
-        255 => Some(b"ANY"),
-        _ => None,
-    }
-}
-
-/// The type whose own word it is.
-#[tactic(auto, unfolding(crate::specs::Codes::number_of_word))]
-fn named_type(word: &[u8]) -> Option<u16>
-    ensures { result ≡ number_of_word type_rows word.now }
-{
-    match word {
-        b"A" => Some(1),
-        b"AAAA" => Some(28),
-        b"NS" => Some(2),
-        b"CNAME" => Some(5),
-        b"PTR" => Some(12),
-        b"DNAME" => Some(39),
-        b"SOA" => Some(6),
-        b"MX" => Some(15),
-        b"AFSDB" => Some(18),
-        b"RT" => Some(21),
-        b"KX" => Some(36),
-        b"RP" => Some(17),
-        b"PX" => Some(26),
-        b"SRV" => Some(33),
-        b"NAPTR" => Some(35),
-        b"DS" => Some(43),
-        b"RRSIG" => Some(46),
-        b"NSEC" => Some(47),
-        b"DNSKEY" => Some(48),
-        b"NSEC3" => Some(50),
-        b"TXT" => Some(16),
-        b"OPT" => Some(41),
-        b"NSEC3PARAM" => Some(51),
-        b"IXFR" => Some(251),
-        b"AXFR" => Some(252),
-        b"ANY" => Some(255),
-        _ => None,
-    }
-}
-
-/// The class whose own word it is.
-#[tactic(auto, unfolding(crate::specs::Codes::number_of_word))]
-fn named_class(word: &[u8]) -> Option<u16>
-    ensures { result ≡ number_of_word class_rows word.now }
-{
-    match word {
-        b"IN" => Some(1),
-        b"CH" => Some(3),
-        b"HS" => Some(4),
-        b"NONE" => Some(254),
-        b"ANY" => Some(255),
-        _ => None,
-    }
-}
 
 /// What follows a prefix.
 fn after_prefix<'a>(word: &'a [u8], prefix: &[u8]) -> Option<&'a [u8]>
@@ -122,7 +22,7 @@ fn prefixed_type(word: &[u8]) -> Option<u16>
 {
     let digits = after_prefix(word, b"TYPE")?;
     let number = u16_in(digits)?;
-    match own_type_word(number) {
+    match RecordType(number).own_word() {
         Some(_) => None,
         None => Some(number),
     }
@@ -134,7 +34,7 @@ fn prefixed_class(word: &[u8]) -> Option<u16>
 {
     let digits = after_prefix(word, b"CLASS")?;
     let number = u16_in(digits)?;
-    match own_class_word(number) {
+    match DNSClass(number).own_word() {
         Some(_) => None,
         None => Some(number),
     }
@@ -145,8 +45,8 @@ fn prefixed_class(word: &[u8]) -> Option<u16>
 pub fn type_in(word: &[u8]) -> Option<RecordType>
     ensures { option_map (λ t. t.0) result ≡ type_in word.now }
 {
-    match named_type(word) {
-        Some(number) => Some(RecordType(number)),
+    match RecordType::of_own_word(word) {
+        Some(record_type) => Some(record_type),
         None => {
             let number = prefixed_type(word)?;
             Some(RecordType(number))
@@ -159,8 +59,8 @@ pub fn type_in(word: &[u8]) -> Option<RecordType>
 pub fn class_in(word: &[u8]) -> Option<DNSClass>
     ensures { option_map (λ c. c.0) result ≡ class_in word.now }
 {
-    match named_class(word) {
-        Some(number) => Some(DNSClass(number)),
+    match DNSClass::of_own_word(word) {
+        Some(class) => Some(class),
         None => {
             let number = prefixed_class(word)?;
             Some(DNSClass(number))
@@ -180,14 +80,14 @@ fn push_prefixed(text: &mut Vec<u8>, prefix: &[u8], number: u16) -> Result<(), N
 }
 
 /// Puts the word of a type behind a text; the text stays where memory runs out.
-#[tactic(auto, unfolding(crate::specs::Codes::type_word))]
+#[tactic(auto, unfolding(dns_record::specs::Words::type_word))]
 pub fn push_type(text: &mut Vec<u8>, record_type: RecordType) -> Result<(), NoMemory>
     ensures ok { OnOk result (text.new.items ≡ text.old.items ++ type_word record_type.0) }
     ensures err { OnErr result (text.new.items ≡ text.old.items) }
 {
-    match own_type_word(record_type.0) {
+    match record_type.own_word() {
         Some(word) => {
-            text.extend_from_slice(word)?;
+            text.extend_from_slice(word.as_bytes())?;
             Ok(())
         }
         None => push_prefixed(text, b"TYPE", record_type.0),
@@ -195,14 +95,14 @@ pub fn push_type(text: &mut Vec<u8>, record_type: RecordType) -> Result<(), NoMe
 }
 
 /// Puts the word of a class behind a text; the text stays where memory runs out.
-#[tactic(auto, unfolding(crate::specs::Codes::class_word))]
+#[tactic(auto, unfolding(dns_record::specs::Words::class_word))]
 pub fn push_class(text: &mut Vec<u8>, class: DNSClass) -> Result<(), NoMemory>
     ensures ok { OnOk result (text.new.items ≡ text.old.items ++ class_word class.0) }
     ensures err { OnErr result (text.new.items ≡ text.old.items) }
 {
-    match own_class_word(class.0) {
+    match class.own_word() {
         Some(word) => {
-            text.extend_from_slice(word)?;
+            text.extend_from_slice(word.as_bytes())?;
             Ok(())
         }
         None => push_prefixed(text, b"CLASS", class.0),
