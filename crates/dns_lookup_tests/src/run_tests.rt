@@ -66,9 +66,9 @@ fn sure_run(alloc: Global, words: &[&str], session: &[u8]) -> Result<(u8, Vec<u8
     Ok((status, text))
 }
 
-// A session whose report can't be written.
-fn slow_run(alloc: Global, session: &[u8]) -> Result<(u8, Vec<u8>), AllocError> {
-    let words = words_of(alloc, &["validate"])?;
+// Words over a sink whose second write fails.
+fn slow_run(alloc: Global, words: &[&str], session: &[u8]) -> Result<(u8, Vec<u8>), AllocError> {
+    let words = words_of(alloc, words)?;
     let mut source = SureSource::new(session.to_vec(alloc)?);
     let mut sink = Slow {
         taken: Vec::new(alloc),
@@ -89,19 +89,19 @@ fn ends_so(alloc: Global, row: &Row) -> Result<bool, AllocError> {
     Ok(is_end(&told, row.status, row.text) && is_end(&sure, row.status, row.text))
 }
 
-// Over an outside whose first read and second write fail, and whose second read fails, a row ends by its words, for the read
-// and for the write.
+// Over a sink whose second write fails a row ends for that, with what was written before; over a source whose first or second
+// read fails it ends for that, if its words ask for a reading.
 fn fails_so(alloc: Global, row: &Row) -> Result<bool, AllocError> {
+    let slow = slow_run(alloc, row.words, row.session)?;
+    let is_slow = is_end(&slow, 5, row.text.get(..1).unwrap_or_default());
     let unread = told_run(alloc, row.words, row.session, &[0])?;
     if row.words != ["validate"].as_slice() {
-        return Ok(is_end(&unread, row.status, row.text));
+        return Ok(is_slow && is_end(&unread, row.status, row.text));
     }
     // no bytes are read by one read
     let broken = told_run(alloc, row.words, row.session, &[1])?;
     let is_broken = row.session.is_empty() || is_end(&broken, 4, b"");
-    let slow = slow_run(alloc, row.session)?;
-    let first = row.text.get(..1).unwrap_or_default();
-    Ok(is_end(&unread, 4, b"") && is_broken && is_end(&slow, 5, first))
+    Ok(is_slow && is_end(&unread, 4, b"") && is_broken)
 }
 
 #[test]
