@@ -19,6 +19,3 @@ pub use source::{Failed, INPUT_LIMIT, ReadStop, Source, read_all};
 pub use standard::{InputSource, OutputSink};
 pub use text_sink::{SureSink, TextSink};
 pub use text_source::{SureSource, TextSource};
-
-#[cfg(test)]
-mod tests;

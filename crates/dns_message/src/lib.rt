@@ -19,10 +19,3 @@ mod step;
 pub use decode_error::{DecodeError, DecodeKind};
 pub use encode_error::EncodeError;
 pub use message::{Edns, Message};
-
-#[cfg(test)]
-mod pointer_tests;
-#[cfg(test)]
-mod tests;
-#[cfg(test)]
-mod writing_tests;

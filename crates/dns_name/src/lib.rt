@@ -13,12 +13,8 @@ mod octets;
 mod printing;
 mod reading;
 mod shown;
-#[cfg(test)]
-mod tests;
 mod text;
 mod text_reading;
-#[cfg(test)]
-mod text_tests;
 
 pub use dns_model::NameError;
 pub use laws::{

@@ -4,8 +4,6 @@
 #![tactic(auto)]
 
 mod error;
-#[cfg(test)]
-mod error_tests;
 mod handle;
 mod io_kind;
 mod letter_case;
@@ -14,13 +12,7 @@ mod link_shows;
 mod notice;
 mod recorded;
 mod request;
-#[cfg(test)]
-mod request_tests;
 mod response;
-#[cfg(test)]
-mod shown_tests;
-#[cfg(test)]
-mod tests;
 mod verifier;
 
 pub use error::{DnsError, NetError, ProtoError};

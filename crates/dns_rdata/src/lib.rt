@@ -43,8 +43,3 @@ pub use signed::{signed_data, signed_data_of};
 pub use soa::Soa;
 pub use type_set::{TypeSet, is_bitmap};
 pub use write::{push_u16, push_u32};
-
-#[cfg(test)]
-mod signed_tests;
-#[cfg(test)]
-mod tests;

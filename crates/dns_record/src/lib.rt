@@ -17,6 +17,3 @@ pub use query::Query;
 pub use rdata::Rdata;
 pub use record::{Record, clone_records};
 pub use record_set::RecordSet;
-
-#[cfg(test)]
-mod tests;

@@ -11,6 +11,3 @@ mod words;
 
 pub use fault::write_fault;
 pub use report::write_report;
-
-#[cfg(test)]
-mod tests;

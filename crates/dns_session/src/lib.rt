@@ -13,6 +13,3 @@ mod words;
 pub use reading::read_session;
 pub use session::{AcceptedSignature, Anchor, Reply, Session};
 pub use stop::SessionStop;
-
-#[cfg(test)]
-mod tests;

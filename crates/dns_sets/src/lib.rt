@@ -5,14 +5,8 @@
 mod grouping;
 mod judged_set;
 mod marking;
-#[cfg(test)]
-mod marking_tests;
 mod outcome;
-#[cfg(test)]
-mod outcome_tests;
 mod set_places;
-#[cfg(test)]
-mod tests;
 
 pub use grouping::{clear_marks, placed_sets};
 pub use judged_set::{JudgedSet, PlacedSet};

@@ -10,12 +10,6 @@ mod good;
 mod judged;
 mod keys;
 mod listed;
-#[cfg(test)]
-mod mark_tests;
-#[cfg(test)]
-mod signature_tests;
-#[cfg(test)]
-mod tests;
 mod validity;
 mod verdict;
 

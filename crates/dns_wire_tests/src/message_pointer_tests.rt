@@ -1,5 +1,5 @@
-use crate::tests::{bytes_of, error_of, read};
-use crate::{DecodeError, DecodeKind, Message};
+use crate::message_tests::{bytes_of, error_of, read};
+use dns_message::{DecodeError, DecodeKind, Message};
 use std::alloc::{AllocError, Global};
 use std::test::*;
 

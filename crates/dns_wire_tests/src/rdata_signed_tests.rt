@@ -1,6 +1,6 @@
-use super::*;
-use crate::tests::{bytes_of, name_of};
+use crate::rdata_tests::{bytes_of, name_of};
 use dns_name::{Name, NoMemory, Octets};
+use dns_rdata::*;
 use dns_record::{DNSClass, Proof, Rdata, Record, RecordSet, RecordType};
 use std::alloc::Global;
 use std::test::Fail;

@@ -1,5 +1,5 @@
-use super::*;
 use dns_name::{Name, NoMemory};
+use dns_rdata::*;
 use dns_record::RecordType;
 use std::alloc::Global;
 use std::cmp::Ordering;

@@ -1,4 +1,4 @@
-use super::*;
+use dns_io::*;
 use std::io;
 use std::io::{Read, Write};
 use std::test::Fail;

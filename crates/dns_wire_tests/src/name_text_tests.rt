@@ -1,5 +1,5 @@
-use super::*;
-use crate::tests::is_printed;
+use crate::name_tests::is_printed;
+use dns_name::*;
 use std::alloc::Global;
 use std::test::Fail;
 

@@ -1,5 +1,5 @@
-use super::*;
 use dns_name::NameError;
+use dns_record::*;
 use std::alloc::Global;
 use std::cmp::Ordering;
 use std::hash::{DefaultHasher, Hash, Hasher};

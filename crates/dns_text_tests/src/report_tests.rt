@@ -1,8 +1,8 @@
-use super::*;
 use dns_message::Message;
 use dns_name::{Name, NoMemory};
 use dns_net::{Chain, DnsResponse, Link, NetError};
 use dns_record::{DNSClass, Denial, Proof, Rdata, Section};
+use dns_report::*;
 use std::alloc::Global;
 use std::test::Fail;
 

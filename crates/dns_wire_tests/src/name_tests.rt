@@ -1,4 +1,4 @@
-use super::*;
+use dns_name::*;
 use std::alloc::Global;
 use std::cmp::Ordering;
 use std::hash::{DefaultHasher, Hash, Hasher};

@@ -1,5 +1,5 @@
-use super::*;
 use dns_message::DecodeKind;
+use dns_session::*;
 use std::alloc::Global;
 use std::test::Fail;
 

@@ -1,6 +1,6 @@
-use crate::tests::*;
-use crate::*;
+use crate::trust_tests::*;
 use dns_record::{Record, RecordType};
+use dns_trust::*;
 use std::alloc::Global;
 use std::test::Fail;
 

@@ -1,5 +1,5 @@
-use super::*;
 use dns_record::{DNSClass, RecordType};
+use dns_words::*;
 use std::test::Fail;
 
 #[test]

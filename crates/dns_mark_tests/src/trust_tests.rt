@@ -1,7 +1,7 @@
-use crate::*;
 use dns_name::{Name, Octets};
 use dns_net::Verifier;
 use dns_record::{DNSClass, Proof, Rdata, Record, RecordSet, RecordType};
+use dns_trust::*;
 use std::alloc::Global;
 use std::test::Fail;
 

@@ -1,6 +1,8 @@
-use crate::tests::{A, CNAME, Met, OVER_CNAME, OVER_EXPANDED, RRSIG, TXT, message, query, record};
-use crate::*;
+use crate::sets_tests::{
+    A, CNAME, Met, OVER_CNAME, OVER_EXPANDED, RRSIG, TXT, message, query, record,
+};
 use dns_record::{DNSClass, Denial, Proof, Section};
+use dns_sets::*;
 use std::alloc::Global;
 use std::test::Fail;
 

@@ -1,4 +1,4 @@
-use super::*;
+use dns_message::*;
 use dns_record::{DNSClass, Proof, RecordType};
 use std::alloc::{AllocError, Global};
 use std::test::*;

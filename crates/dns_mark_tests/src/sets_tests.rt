@@ -1,8 +1,8 @@
-use crate::*;
 use dns_message::Message;
 use dns_name::Name;
 use dns_net::{DnsRequest, DnsRequestOptions};
 use dns_record::{DNSClass, Proof, Query, Rdata, Record, RecordType, Section};
+use dns_sets::*;
 use std::alloc::Global;
 use std::test::Fail;
 

@@ -1,5 +1,5 @@
-use crate::tests::{query, request};
-use crate::{DnsRequest, DnsRequestOptions};
+use crate::net_tests::{query, request};
+use dns_net::{DnsRequest, DnsRequestOptions};
 use dns_record::Query;
 use std::alloc::Global;
 use std::test::Fail;

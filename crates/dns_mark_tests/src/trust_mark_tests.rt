@@ -1,8 +1,8 @@
-use crate::tests::*;
-use crate::*;
+use crate::trust_tests::*;
 use dns_name::{Name, Octets};
 use dns_record::{Proof, Record, RecordSet, RecordType, Section};
 use dns_sets::{JudgedSet, PlacedSet};
+use dns_trust::*;
 use std::alloc::Global;
 use std::test::Fail;
 

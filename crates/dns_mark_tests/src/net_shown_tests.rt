@@ -1,5 +1,5 @@
-use crate::*;
 use dns_name::Name;
+use dns_net::*;
 use dns_record::{DNSClass, Rdata, RecordType, Section};
 use std::alloc::Global;
 use std::test::Fail;

@@ -1,7 +1,7 @@
-use crate::tests::{query, response, shows};
-use crate::{DnsError, IoKind, NetError, Notice, ProtoError};
+use crate::net_tests::{query, response, shows};
 use dns_message::{DecodeError, DecodeKind};
 use dns_name::{Name, NoMemory, Text};
+use dns_net::{DnsError, IoKind, NetError, Notice, ProtoError};
 use dns_record::{DNSClass, Proof, RecordType, ResponseCode};
 use std::alloc::Global;
 use std::test::Fail;

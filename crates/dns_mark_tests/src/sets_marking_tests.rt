@@ -1,8 +1,8 @@
-use crate::tests::{A, Met, OVER_A, OVER_A_TOO, RRSIG, TXT, message, record};
-use crate::*;
+use crate::sets_tests::{A, Met, OVER_A, OVER_A_TOO, RRSIG, TXT, message, record};
 use dns_name::Name;
 use dns_net::{Chain, DnsResponse, Link};
 use dns_record::{DNSClass, Denial, Proof, Rdata, Record, RecordSet, Section};
+use dns_sets::*;
 use std::alloc::Global;
 use std::test::Fail;
 

@@ -1,5 +1,5 @@
-use crate::tests::{POINTERS, SHAPES, WITH_OPT, bytes_of, message_of, read, with_rdata};
-use crate::{Edns, EncodeError, Message};
+use crate::message_tests::{POINTERS, SHAPES, WITH_OPT, bytes_of, message_of, read, with_rdata};
+use dns_message::{Edns, EncodeError, Message};
 use dns_record::{Query, Record};
 use std::alloc::{AllocError, Global};
 use std::test::*;

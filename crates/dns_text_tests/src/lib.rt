@@ -1,0 +1,13 @@
+//! Tests of words, sessions, reports, sources and sinks, by what their crates give.
+//!
+//! They stand apart, since a crate with tests of its own is proved twice.
+#![tactic(auto)]
+
+#[cfg(test)]
+mod io_tests;
+#[cfg(test)]
+mod report_tests;
+#[cfg(test)]
+mod session_tests;
+#[cfg(test)]
+mod words_tests;
