@@ -1,5 +1,5 @@
 -- Lists whose elements change by themselves and what stands before them.
-use Rattle.std.proofs.Common.{◌≡◌, Bool, true, false, not, ◌&&◌, ◌==◌, cond, List, [], ◌∷◌, ◌++◌, map, refl, sym, ap, ◌∙◌, subst}
+use Rattle.std.proofs.Common.{◌≡◌, suc, Bool, true, false, not, ◌&&◌, ◌==◌, cond, List, [], ◌∷◌, ◌++◌, map, length, refl, sym, ap, ◌∙◌, subst}
 use Rattle.std.specs.List.{filter, find, AllByRecursion}
 use Rattle.std.proofs.lemmas.Bool.{not-true, and_parts}
 use Rattle.std.proofs.lemmas.List.{append-nil, append_assoc}
@@ -22,6 +22,11 @@ after-push f before [] x = ap (λ b. f b x ∷ []) (sym (append-nil before))
 after-push f before (y ∷ xs) x =
     ap (λ zs. f before y ∷ zs)
     (after-push f (before ++ y ∷ []) xs x ∙ ap (λ b. map_after f (before ++ y ∷ []) xs ++ f b x ∷ []) (append_assoc before (y ∷ []) xs))
+
+pub length-after : {X Y : Type 0} (f : List X → X → Y) (before xs : List X) → length (map_after f before xs) ≡ length xs
+unfolding map_after
+length-after f before [] = refl
+length-after f before (x ∷ xs) = ap suc (length-after f (before ++ x ∷ []) xs)
 
 -- ---- what passes a test that the place doesn't matter to
 

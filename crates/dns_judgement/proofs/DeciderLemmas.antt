@@ -2,7 +2,7 @@
 use Rattle.std.proofs.Common.{◌≡◌, ℕ, Bool, true, false, not, ◌==◌, ◌&&◌, cond, List, [], ◌∷◌, ◌++◌, length, Option, None, Some, refl, sym, ap, ◌∙◌}
 use Rattle.std.specs.Prelude.{slice_get}
 use Rattle.std.specs.List.{filter}
-use Rattle.std.proofs.lemmas.Bool.{and_from}
+use Rattle.std.proofs.lemmas.Bool.{and_parts, and_from}
 use Rattle.std.proofs.lemmas.List.Sums.{length-filter}
 use Rattle.std.proofs.lemmas.List.Elements.{filter_agree}
 use Rattle.dns_model.specs.declared.section.Section.{Section}
@@ -52,9 +52,25 @@ about_agrees section r s about b =
     ap (λ x. is_signature b && (x && covers_rtype (set_rtype r) (rrsig_in b.rdata))) (sym (name_left s.set.owner r.owner b.owner about.owner))
     ∙ ap (λ k. is_signature b && (name_eq s.set.owner b.owner && covers_rtype k (rrsig_in b.rdata))) (sym about.rtype)
 
+-- what a signature that covers a record says
+pub record IsCovered (l r : Rr) : Type 0 where
+  pub signs : is_signature r ≡ true
+  pub owner : name_eq l.owner r.owner ≡ true
+  pub rtype : set_rtype r ≡ l.rtype
+
+rtype_is : (rtype own : ℕ) (o : Option RrsigValue) → covers_rtype rtype o ≡ true → covered_rtype o own ≡ rtype
+rtype_is rtype own None h = cc
+rtype_is rtype own (Some sig) h = number_same sig.covered rtype h
+
+pub covered_parts : (l r : Rr) → covers l r ≡ true → IsCovered l r
+covered_parts l r h =
+    let one = and_parts (is_signature r) (name_eq l.owner r.owner && covers_rtype l.rtype (rrsig_in r.rdata)) h in
+    let two = and_parts (name_eq l.owner r.owner) (covers_rtype l.rtype (rrsig_in r.rdata)) one.1 in
+    record { signs = one.0; owner = two.0; rtype = kind_of r one.0 ∙ rtype_is l.rtype r.rtype (rrsig_in r.rdata) two.1 }
+
 -- ---- the signature that decided
 
-place_same : (o : Option ℕ) (n : ℕ) → is_place o n ≡ true → o ≡ Some n
+pub place_same : (o : Option ℕ) (n : ℕ) → is_place o n ≡ true → o ≡ Some n
 place_same None n h = cc
 place_same (Some m) n h = ap Some (number_same m n h)
 

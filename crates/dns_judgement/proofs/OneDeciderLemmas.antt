@@ -17,7 +17,7 @@ use Rattle.dns_model.proofs.SetLemmas.{name_left, number_same, covered-kept}
 use Rattle.dns_judgement.specs.Judged.{Judged}
 use Rattle.dns_judgement.specs.Marking.{is_about, covered, signature_place, map_after, marked, marked_section}
 use Rattle.dns_judgement.proofs.MarkedLemmas.{marked-keeps, made_secure}
-use Rattle.dns_judgement.proofs.DeciderLemmas.{kind_of, marked_place}
+use Rattle.dns_judgement.proofs.DeciderLemmas.{IsCovered, covered_parts, marked_place}
 
 -- ---- a list in which what is marked stands at one place
 
@@ -103,21 +103,6 @@ one_chosen p pass chosen f place is before (x ∷ xs) =
     (one_step (p x && chosen (f before x)) (f before x) rest none (one_chosen p pass chosen f place is (before ++ x ∷ []) xs))
 
 -- ---- the signatures that cover one set
-
-record IsCovered (l r : Rr) : Type 0 where
-  signs : is_signature r ≡ true
-  owner : name_eq l.owner r.owner ≡ true
-  rtype : set_rtype r ≡ l.rtype
-
-rtype_is : (rtype own : ℕ) (o : Option RrsigValue) → covers_rtype rtype o ≡ true → covered_rtype o own ≡ rtype
-rtype_is rtype own None h = cc
-rtype_is rtype own (Some sig) h = number_same sig.covered rtype h
-
-covered_parts : (l r : Rr) → covers l r ≡ true → IsCovered l r
-covered_parts l r h =
-    let one = and_parts (is_signature r) (name_eq l.owner r.owner && covers_rtype l.rtype (rrsig_in r.rdata)) h in
-    let two = and_parts (name_eq l.owner r.owner) (covers_rtype l.rtype (rrsig_in r.rdata)) one.1 in
-    record { signs = one.0; owner = two.0; rtype = kind_of r one.0 ∙ rtype_is l.rtype r.rtype (rrsig_in r.rdata) two.1 }
 
 -- a judged set of a section, of this record's owner and type
 abbrev is_set_of : Section → Rr → Judged → Bool

@@ -125,6 +125,37 @@ fn records_are_marked_by_their_sets(rt: HostRuntime) -> Result<(), Fail> {
     Ok(())
 }
 
+/// The address, a signature, and another one twice.
+const TOLD_TWICE: [Met; 4] = [ADDRESS, SIGNATURE, DECIDER, DECIDER];
+
+/// The records of an answer whose set has a signature twice and was decided by the signature at this place.
+fn answers_decided_by(alloc: Global, place: u32) -> Result<Vec<Record>, Fail> {
+    let mut set = signed_set(alloc)?;
+    set.rrsigs.push(record(alloc, &DECIDER)?)?;
+    let mut sets = Vec::new(alloc);
+    sets.push(JudgedSet {
+        section: Section::Answer,
+        set,
+        mark: Proof::Secure,
+        sig: Some(place),
+        chain: links(alloc, Section::Answer)?,
+    })?;
+    let message = message(alloc, &TOLD_TWICE)?;
+    let answer = finished(alloc, 500, sets, message, Denial::None)?;
+    Ok(answer.message.answers)
+}
+
+#[test]
+fn a_copy_of_the_deciding_signature_is_not_marked(rt: HostRuntime) -> Result<(), Fail> {
+    let first = answers_decided_by(rt.alloc(), 1)?;
+    assert!(rt; is_marked(first.get(2), Proof::Secure, 200));
+    assert!(rt; is_marked(first.get(3), Proof::Indeterminate, 300));
+    let second = answers_decided_by(rt.alloc(), 2)?;
+    assert!(rt; is_marked(second.get(2), Proof::Indeterminate, 300));
+    assert!(rt; is_marked(second.get(3), Proof::Secure, 200));
+    Ok(())
+}
+
 fn is_chain_of(chain: &Chain, section: Section, key: &[u8]) -> bool {
     match chain.links.first() {
         Some(Link::Anchored { key: found, .. }) => {

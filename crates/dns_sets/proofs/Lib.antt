@@ -5,3 +5,5 @@ pub mod Signing
 pub mod JoinSteps
 pub mod DepthLemmas
 pub mod MarkSteps
+pub mod CountSteps
+pub mod MarkLoop

@@ -1,12 +1,13 @@
 -- How a record is marked by the place of its set.
 use Rattle.std.proofs.Common.{◌≡◌, ℕ, ◌+◌, ◌<◌, cond, List, [], ◌∷◌, ◌++◌, length, take, get_or, None, Some, sym, ap, ◌∙◌, subst, arith}
+use Rattle.std.specs.List.{find}
 use Rattle.std.proofs.lemmas.List.{take_more, length-take-le}
 use Rattle.dns_model.specs.declared.section.Section.{Section}
 use Rattle.dns_model.specs.Names.{Labels}
 use Rattle.dns_model.specs.Records.{Rr}
 use Rattle.dns_model.specs.SoundAnswers.{set_rtype}
 use Rattle.dns_judgement.specs.Judged.{Judged}
-use Rattle.dns_judgement.specs.Marking.{cleared, marked, marked_by}
+use Rattle.dns_judgement.specs.Marking.{cleared, is_about, marked_by}
 use Rattle.dns_sets.specs.declared.set_places.SetPlaces.{SetPlaces}
 use Rattle.dns_sets.specs.SetPlaces.{place_of, or_place, with_judged, place_in, is_placed, ArePlacedIn}
 use Rattle.dns_sets.proofs.PlaceLemmas.{IsPlace, is_place, is_absent, place-push}
@@ -15,17 +16,16 @@ pub set_at : (p : SetPlaces) (section : Section) (sets : List Judged) (owner : L
     → IsPlace (is_placed section owner rtype) sets n
 set_at p section sets owner rtype n are is = is_place (is_placed section owner rtype) sets n (sym (are.each owner rtype) ∙ sym is)
 
-pub marked_at : (p : SetPlaces) (now : ℕ) (section : Section) (sets : List Judged) (r s : Rr) (n : ℕ) (x : Judged) → ArePlacedIn p section sets
-    → Some n ≡ place_of p r.owner (set_rtype r) → x ≡ get_or sets n x → s ≡ marked_by now r (Some x) → s ≡ marked now sets section r
-unfolding marked
-marked_at p now section sets r s n x are is read made =
-    made ∙ ap (marked_by now r) (sym ((set_at p section sets r.owner (set_rtype r) n are is).found x read))
+pub marked_at : (p : SetPlaces) (now : ℕ) (section : Section) (sets : List Judged) (r s : Rr) (n place : ℕ) (x : Judged) → ArePlacedIn p section sets
+    → Some n ≡ place_of p r.owner (set_rtype r) → x ≡ get_or sets n x → s ≡ marked_by now place r (Some x)
+    → s ≡ marked_by now place r (find (is_about section r) sets)
+marked_at p now section sets r s n place x are is read made =
+    made ∙ ap (marked_by now place r) (sym ((set_at p section sets r.owner (set_rtype r) n are is).found x read))
 
-pub marked_none : (p : SetPlaces) (now : ℕ) (section : Section) (sets : List Judged) (r s : Rr) → ArePlacedIn p section sets
-    → None ≡ place_of p r.owner (set_rtype r) → s ≡ cleared r → s ≡ marked now sets section r
-unfolding marked
-marked_none p now section sets r s are is made =
-    made ∙ ap (marked_by now r) (sym (is_absent (is_placed section r.owner (set_rtype r)) sets (sym (are.each r.owner (set_rtype r)) ∙ sym is)).missing)
+pub marked_none : (p : SetPlaces) (now : ℕ) (section : Section) (sets : List Judged) (r s : Rr) (place : ℕ) → ArePlacedIn p section sets
+    → None ≡ place_of p r.owner (set_rtype r) → s ≡ cleared r → s ≡ marked_by now place r (find (is_about section r) sets)
+marked_none p now section sets r s place are is made =
+    made ∙ ap (marked_by now place r) (sym (is_absent (is_placed section r.owner (set_rtype r)) sets (sym (are.each r.owner (set_rtype r)) ∙ sym is)).missing)
 
 -- ---- the places of judged sets
 

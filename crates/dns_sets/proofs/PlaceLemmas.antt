@@ -14,7 +14,7 @@ lookup_agree p q same [] = refl
 lookup_agree p q same (e ∷ es) = ap (λ b. cond b (Some e.1) (lookup p es)) (same e.0) ∙ ap (cond (q e.0) (Some e.1)) (lookup_agree p q same es)
 
 -- equal owners and types have one place
-alike_place : (p : SetPlaces) (owner o : Labels) (rtype k : ℕ) → (name_eq owner o && (rtype == k)) ≡ true → place_of p o k ≡ place_of p owner rtype
+pub alike_place : (p : SetPlaces) (owner o : Labels) (rtype k : ℕ) → (name_eq owner o && (rtype == k)) ≡ true → place_of p o k ≡ place_of p owner rtype
 alike_place p owner o rtype k h =
     let parts = and_parts (name_eq owner o) (rtype == k) h in
     sym (lookup_agree (λ s. name_eq owner s.0.now && (rtype == s.1.0)) (λ s. name_eq o s.0.now && (k == s.1.0))

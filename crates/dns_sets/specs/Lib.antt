@@ -2,3 +2,4 @@ pub mod Outcome
 pub mod Joining
 pub mod SetPlaces
 pub mod Depth
+pub mod Counting

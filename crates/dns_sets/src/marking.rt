@@ -1,11 +1,13 @@
-ghost use Rattle.std.specs.Prelude.{◌≡◌, ℕ, IfOk, OnOk, map, Some};
+ghost use Rattle.std.specs.Prelude.{◌≡◌, ◌<◌, ◌^◌, ℕ, IfOk, OnOk, Some, length};
+ghost use Rattle.std.specs.List.{find};
 ghost use Rattle.dns_model.specs.Names.{Labels};
 ghost use Rattle.dns_model.specs.Views.{rrsig_in};
 ghost use Rattle.dns_model.specs.Serial.{distance, moment_number};
 ghost use Rattle.dns_model.specs.SoundAnswers.{section_eq, ttl_of, set_rtype as set_rtype_of, signed_ttl as signed_ttl_of};
 ghost use Rattle.dns_judgement.specs.Judged.{decider as decider_of};
-ghost use Rattle.dns_judgement.specs.Marking.{finished as finished_value, marked, marked_by, is_record, first_record, adjusted_ttl as adjusted_ttl_of, chains_of as chains_in};
+ghost use Rattle.dns_judgement.specs.Marking.{finished as finished_value, marked_section, marked_by, is_about, is_place as is_same_place, first_record, adjusted_ttl as adjusted_ttl_of, chains_of as chains_in};
 ghost use Rattle.dns_sets.specs.SetPlaces.{ArePlacedIn, place_of, with_judged};
+ghost use Rattle.dns_sets.specs.Counting.{is_readable, count_at, counted};
 
 use crate::JudgedSet;
 use crate::grouping::clear_one;
@@ -77,11 +79,13 @@ fn mark_section(
     section: Section,
     records: &mut [Record],
 ) -> Result<(), NoMemory>
-    ensures { OnOk result (records.new ≡ map (marked now sets.now section) records.old) }
+    ensures { OnOk result (records.new ≡ marked_section now sets.now section records.old) }
 {
     let places = judged_places(alloc, sets, section)?;
+    // how many signatures of each set were met
+    let mut counts = vec![in alloc; 0usize; sets.len()]?;
     for next in records.iter_mut() {
-        mark(now, sets, &places, section, next);
+        mark(now, sets, &places, section, &mut counts, next);
     }
     Ok(())
 }
@@ -122,39 +126,49 @@ fn is_section(one: Section, other: Section) -> bool
     one == other
 }
 
-// The type of the set that a record belongs to, or that it covers as a signature.
-fn set_rtype(of: &Record) -> RecordType
-    ensures { result.0 ≡ set_rtype_of of.now }
+// The type of the set that a record belongs to, or that it covers as a signature; and whether it is one that can be read.
+fn set_rtype(of: &Record) -> (RecordType, bool)
+    ensures rtype { result.0.0 ≡ set_rtype_of of.now }
+    ensures readable { result.1 ≡ is_readable of.now }
 {
     match Rrsig::of(of) {
-        Some(sig) => sig.type_covered,
-        None => of.record_type,
+        Some(sig) => (sig.type_covered, true),
+        None => (of.record_type, false),
     }
 }
 
-// Gives a record the mark of its set, by the place of the set.
-fn mark(now: u64, sets: &[JudgedSet], places: &SetPlaces, section: Section, next: &mut Record)
-    requires { ArePlacedIn places.now section sets.now }
-    ensures { next.new ≡ marked now sets.now section next.old }
+// Gives a record the mark of its set. Of a set's signatures only the one that decided has it, so they are counted.
+fn mark(
+    now: u64,
+    sets: &[JudgedSet],
+    places: &SetPlaces,
+    section: Section,
+    counts: &mut [usize],
+    next: &mut Record,
+)
+    requires placed { ArePlacedIn places.now section sets.now }
+    requires each { length counts.old ≡ length sets.now }
+    requires few { count_at counts.old (place_of places.now next.old.owner (set_rtype_of next.old)) < 2 ^ 63 }
+    ensures mark { next.new ≡ marked_by now (count_at counts.old (place_of places.now next.old.owner (set_rtype_of next.old))) next.old (find (is_about section next.old) sets.now) }
+    ensures counts { counts.new ≡ counted counts.old (place_of places.now next.old.owner (set_rtype_of next.old)) next.old }
 {
-    match place_of_set(places, next) {
-        Some(place) => mark_by(now, &sets[place], next),
+    let (record_type, readable) = set_rtype(next);
+    match places.get(&next.name, record_type) {
+        Some(place) => {
+            mark_by(now, &sets[place], counts[place], next);
+            if readable {
+                counts[place] += 1;
+            }
+        }
         None => clear_one(next),
     }
 }
 
-// The place of the set that a record belongs to, or that it covers.
-fn place_of_set(places: &SetPlaces, next: &Record) -> Option<usize>
-    ensures { result ≡ place_of places.now next.now.owner (set_rtype_of next.now) }
+// Gives a record the mark of this set; a signature, behind so many of the set, only where it is the one that decided.
+fn mark_by(now: u64, judged: &JudgedSet, before: usize, next: &mut Record)
+    ensures { next.new ≡ marked_by now before next.old (Some judged.now) }
 {
-    places.get(&next.name, set_rtype(next))
-}
-
-// Gives a record the mark of this set; a signature only where it decided.
-fn mark_by(now: u64, judged: &JudgedSet, next: &mut Record)
-    ensures { next.new ≡ marked_by now next.old (Some judged.now) }
-{
-    if next.record_type == RecordType::RRSIG && !is_decider(judged, next) {
+    if next.record_type == RecordType::RRSIG && !is_place(judged.sig, before) {
         clear_one(next);
     } else {
         next.ttl = adjusted_ttl(now, judged, next);
@@ -162,12 +176,12 @@ fn mark_by(now: u64, judged: &JudgedSet, next: &mut Record)
     }
 }
 
-// Whether a signature is the one that decided.
-fn is_decider(judged: &JudgedSet, next: &Record) -> bool
-    ensures { result ≡ is_record next.now (decider_of judged.now) }
+// Whether the signature that decided stands at a place.
+fn is_place(decided: Option<u32>, place: usize) -> bool
+    ensures { result ≡ is_same_place decided place }
 {
-    match decider(judged) {
-        Some(signature) => signature.rdata == next.rdata,
+    match decided {
+        Some(decider) => decider as usize == place,
         None => false,
     }
 }

@@ -1,0 +1,32 @@
+-- The signatures that marking has met of each judged set. Private functions alone need this.
+use Rattle.std.specs.Prelude.{◌≡◌, ℕ, ◌+◌, ◌<◌, Bool, ◌&&◌, List, get_or, set, length, count_by, Option, None, Some, is_some, if◌then◌else◌}
+use Rattle.dns_model.specs.Views.{rrsig_in}
+use Rattle.dns_model.specs.Records.{Rr}
+use Rattle.dns_model.specs.Sections.{is_signature}
+use Rattle.dns_model.specs.SoundAnswers.{set_rtype}
+use Rattle.dns_judgement.specs.Judged.{Judged}
+use Rattle.dns_judgement.specs.Marking.{is_place}
+use Rattle.dns_sets.specs.declared.set_places.SetPlaces.{SetPlaces}
+use Rattle.dns_sets.specs.SetPlaces.{place_of}
+
+abbrev pub is_readable : Rr → Bool
+is_readable r = is_signature r && is_some (rrsig_in r.rdata)
+
+-- the count of the set at a place
+abbrev pub count_at : List ℕ → Option ℕ → ℕ
+count_at counts None = 0
+count_at counts (Some n) = get_or counts n 0
+
+-- the counts with one more record, of the set at this place
+abbrev pub counted : List ℕ → Option ℕ → Rr → List ℕ
+counted counts None r = counts
+counted counts (Some n) r = if is_readable r then set counts n (get_or counts n 0 + 1) else counts
+
+-- a signature of the set at a place
+abbrev pub is_signature_at : SetPlaces → ℕ → Rr → Bool
+is_signature_at p n r = is_readable r && is_place (place_of p r.owner (set_rtype r)) n
+
+-- each set has the count of the signatures of it that were met
+pub record AreCounted (p : SetPlaces) (sets : List Judged) (counts : List ℕ) (met : List Rr) : Type 0 where
+  pub long : length counts ≡ length sets
+  pub each : (n : ℕ) → n < length sets → get_or counts n 0 ≡ count_by (is_signature_at p n) met
