@@ -104,11 +104,14 @@ fn signed_octets(
     Ok(Octets::from_vec(text))
 }
 
+// Room for the signed bytes of a small set at once.
+const ROOM: usize = 512;
+
 // A signature's rdata without the signature itself, the signer lower-cased.
 fn signed_head(alloc: Global, sig: &Rrsig) -> Result<Vec<u8>, NoMemory>
     ensures { IfOk result (λ v. v.items ≡ head_of sig.now) }
 {
-    let mut head = Vec::new(alloc);
+    let mut head = Vec::with_capacity(alloc, ROOM)?;
     push_u16(&mut head, sig.type_covered.0)?;
     head.extend_from_slice(&[sig.algorithm, sig.labels])?;
     push_u32(&mut head, sig.original_ttl)?;
@@ -140,7 +143,7 @@ fn record_front(
 fn owner_front(alloc: Global, owner: &Name, labels: u8) -> Result<Vec<u8>, NoMemory>
     ensures { IfOk result (λ v. v.items ≡ wire (signed_owner owner.now labels)) }
 {
-    let mut front = Vec::new(alloc);
+    let mut front = Vec::with_capacity(alloc, owner.wire().len().saturating_add(8))?;
     let name = owner.borrowed();
     if labels < name.num_labels() {
         front.extend_from_slice(&[1, b'*'])?;
