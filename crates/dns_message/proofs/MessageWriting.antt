@@ -1,11 +1,10 @@
 -- A message that was read is read again where it is written.
-use Rattle.std.proofs.Common.{◌≡◌, ℕ, zero, suc, ◌+◌, ◌-◌, ◌*◌, ◌/◌, ◌%◌, ◌≤◌, ◌<◌, Bool, true, false, ◌&&◌, cond, List, [], ◌∷◌, ◌++◌, length, get_or, Option, None, Some, Result, Ok, Err, refl, sym, ap, ◌∙◌, subst, arith, length-append, append_assoc}
+use Rattle.std.proofs.Common.{◌≡◌, ℕ, zero, suc, ◌+◌, ◌*◌, ◌/◌, ◌%◌, ◌≤◌, ◌<◌, Bool, true, false, cond, List, [], ◌∷◌, ◌++◌, length, Option, None, Some, Result, Ok, Err, refl, sym, ap, ◌∙◌, subst, arith, length-append}
 use Rattle.std.specs.Prelude.{nat_le, nat_lt, ◌==◌, IfSome, IfOk}
 use Rattle.std.specs.List.{flat_map, AllByRecursion}
 use Rattle.std.proofs.lemmas.Bool.Decides.{nat_tests}
-use Rattle.std.proofs.lemmas.List.{append-nil}
 use Rattle.std.proofs.lemmas.List.Concat.{flat_map-cons}
-use Rattle.dns_model.specs.Names.{Labels, wire, is_name}
+use Rattle.dns_model.specs.Names.{wire, is_name}
 use Rattle.dns_model.specs.Gives.{Gives}
 use Rattle.dns_model.specs.Bytes.{u16_bytes}
 use Rattle.dns_model.specs.Records.{Rr, EdnsValue, Question, MessageValue}
@@ -13,15 +12,15 @@ use Rattle.dns_message.specs.declared.decode_error.DecodeError.{DecodeError}
 use Rattle.dns_message.specs.declared.decode_error.DecodeKind.TheVariants.{Trailing}
 use Rattle.dns_message.specs.Reading.{◌>>=◌, fault, u16_field}
 use Rattle.dns_message.specs.NameAt.{name_at}
-use Rattle.dns_message.specs.RecordAt.{Listed, section_at}
+use Rattle.dns_message.specs.RecordAt.{section_at}
 use Rattle.dns_message.specs.MessageAt.{HeaderValue, header_at, question_at, questions_at, edns_in, upper_code_in, message_of, message_at}
 use Rattle.dns_message.specs.WrittenAs.{AreBytes, IsReadAgain, encoded, flag_bit, question_bytes, record_bytes, edns_bytes, edns_count, flags_of, header_bytes, written}
 use Rattle.dns_message.specs.declared.encode_error.EncodeError.{EncodeError}
 use Rattle.dns_message.specs.declared.encode_error.EncodeError.TheVariants.{TooLong, NoMemory}
 use Rattle.dns_message.proofs.RecordReading.{bind_ok}
-use Rattle.dns_message.proofs.NameWriting.{name_good, name_again, first_of_ok}
+use Rattle.dns_message.proofs.NameWriting.{name_good, name_again}
 use Rattle.dns_message.proofs.RecordWriting.{IsRecordAgain, IsOptAgain, IsSectionAgain, section_good, section_again, additional_again, opt_with, stands_at, do_bit, number_small}
-use Rattle.dns_message.proofs.Standing.{Stands, stands_whole, stands_front, stands_back, stands_inside, stands_u16}
+use Rattle.dns_message.proofs.Standing.{Stands, stands_whole, stands_front, stands_back, stands_u16}
 
 -- ---- questions
 

@@ -1,24 +1,24 @@
 -- Reading a name step by step: each step leaves the rest of the name, and what was read is in wire form.
-use Rattle.std.proofs.Common.{◌≡◌, ℕ, zero, suc, ◌+◌, ◌-◌, ◌≤◌, ◌<◌, Bool, true, false, ◌&&◌, cond, List, [], ◌∷◌, ◌++◌, length, get_or, take, drop, Option, None, Some, Result, Ok, Err, refl, sym, ap, ◌∙◌, subst, arith, length-append, length-drop, append_assoc, add-one, drop-cons}
-use Rattle.std.specs.Prelude.{IfSome, nat_le, nat_lt, slice_range, slice_index, ◌==◌}
+use Rattle.std.proofs.Common.{◌≡◌, ℕ, zero, suc, ◌+◌, ◌-◌, ◌≤◌, ◌<◌, true, List, [], ◌∷◌, ◌++◌, length, get_or, take, drop, Option, None, Some, Result, Ok, Err, refl, sym, ap, ◌∙◌, subst, arith, length-append, length-drop, append_assoc, add-one, drop-cons}
+use Rattle.std.specs.Prelude.{IfSome, nat_le, nat_lt, slice_range}
 use Rattle.std.specs.List.{list_all}
 use Rattle.std.proofs.lemmas.Bool.Decides.{nat_tests}
 use Rattle.std.proofs.lemmas.Bool.{and_from}
 use Rattle.std.proofs.lemmas.List.Folds.{list_all-append}
-use Rattle.std.proofs.lemmas.List.{append-nil, length-take-le}
-use Rattle.dns_model.specs.Names.{Label, Labels, wire, is_label, is_name}
+use Rattle.std.proofs.lemmas.List.{append-nil, length-take-le, drop-drop}
+use Rattle.dns_model.specs.Names.{Label, Labels, wire, is_label}
 use Rattle.dns_model.specs.NameForm.{labels_of, IsWire}
 use Rattle.dns_model.proofs.WireLemmas.{IsWire-wire, labels_of-wire}
 use Rattle.dns_message.specs.declared.decode_error.DecodeError.{DecodeError}
-use Rattle.dns_message.specs.declared.decode_error.DecodeKind.TheVariants.{Short, BadName}
 use Rattle.dns_message.specs.declared.step.Step.{Step}
 use Rattle.dns_message.specs.declared.step.Step.TheVariants as step
 use Rattle.dns_message.specs.declared.decode_error.DecodeKind.{DecodeKind}
-use Rattle.dns_message.specs.Reading.{◌>>=◌, fault, FailsWith}
+use Rattle.dns_message.specs.Reading.{◌>>=◌, FailsWith}
 use Rattle.dns_message.proofs.Faults.{fails_on}
-use Rattle.dns_message.specs.NameAt.{step_of, target_at, with_label, ending_at, after_step, labels_from, steps_left, labels_at, name_at, spelled_at}
+use Rattle.dns_message.specs.NameAt.{step_of, with_label, ending_at, after_step, labels_from, steps_left, labels_at, name_at, spelled_at}
 use Rattle.dns_message.specs.Pointers.{IsPointerEnd}
-use Rattle.dns_message.specs.Fitting.{FitsStep, IsSpelled, ending_or}
+use Rattle.dns_message.specs.Fitting.{IsSpelled, IsAppended, ending_or}
+use Rattle.dns_message.specs.RdataAt.{without_fault}
 
 -- what a label step says
 pub record IsLabelStep (bytes : List ℕ) (pos size n : ℕ) : Type 0 where
@@ -209,7 +209,7 @@ ended (Some first) labels place = ap (λ (n : Labels). Ok (n, first)) (append-ni
 
 pub walked_root : (bytes : List ℕ) (at start pos : ℕ) (ending : Option ℕ) (read : List ℕ) → Walked bytes at start pos ending read
     → length read ≤ 254 → step_of bytes start pos (length read) ≡ Ok step.Root
-    → IsSpelled (name_at bytes at) (read ++ 0 ∷ []) (ending_or ending (pos + 1))
+    → IsSpelled (name_at bytes at) [] (read ++ 0 ∷ []) (ending_or ending (pos + 1))
 walked_root bytes at start pos ending read w room is =
     let rest : labels_at bytes start pos (length read) ≡ Ok ([], pos + 1) = one_step (Ok step.Root) bytes start pos (length read) is in
     let written : read ++ 0 ∷ [] ≡ wire w.labels = ap (λ (x : List ℕ). x ++ 0 ∷ []) w.spelled ∙ sym (wire-row w.labels) in
@@ -218,7 +218,7 @@ walked_root bytes at start pos ending read w room is =
     record {
       labels = w.labels;
       told = sym w.so_far ∙ ap (λ (r : Result (Labels × ℕ) DecodeError). finish ending (with_labels w.labels r)) rest ∙ ended ending w.labels (pos + 1);
-      spelled = written;
+      grown = written;
       good = and_from (list_all is_label w.labels) (nat_le (length (wire w.labels)) 255) w.good short;
     }
 
@@ -232,15 +232,101 @@ walked_fault bytes at start pos ending read e w is =
     let rest : labels_at bytes start pos (length read) ≡ Err e = one_step (Err e) bytes start pos (length read) is in
     sym w.so_far ∙ ap (λ (r : Result (Labels × ℕ) DecodeError). finish ending (with_labels w.labels r)) rest ∙ failed ending w.labels e
 
--- the step that was taken, by the length of what was read
-pub step_is : (bytes : List ℕ) (start pos size : ℕ) (read : List ℕ) (len : ℕ) (r s : Result Step DecodeError) → len ≡ length read → size ≡ len
-    → step_of bytes start pos size ≡ r → r ≡ s → step_of bytes start pos (length read) ≡ s
-step_is bytes start pos size read len r s a b is same = ap (step_of bytes start pos) (sym a ∙ sym b) ∙ is ∙ same
+-- ---- labels are copied row by row
+
+-- labels were read, of which those of the row that began at `start` are still to be copied behind `new`
+pub record Row (bytes : List ℕ) (at start pos : ℕ) (ending : Option ℕ) (old new : List ℕ) (size : ℕ) : Type 0 where
+  pub read : List ℕ
+  pub walk : Walked bytes at start pos ending read
+  pub grown : new ++ slice_range bytes start pos ≡ old ++ read
+  pub long : length read ≡ size
+
+take_nil : (n : ℕ) → take {A = ℕ} n [] ≡ []
+take_nil zero = refl
+take_nil (suc n) = refl
+
+take_two : (m n : ℕ) (xs : List ℕ) → take (m + n) xs ≡ take m xs ++ take n (drop m xs)
+take_two zero n xs = let e : zero + n ≡ n = omega arith in rw e refl
+take_two (suc m) n [] = take_nil (suc m + n) ∙ sym (take_nil n)
+take_two (suc m) n (x ∷ xs) = let e : suc m + n ≡ suc (m + n) = omega arith in rw e (ap (λ (t : List ℕ). x ∷ t) (take_two m n xs))
+
+-- two ranges that meet
+two_ranges : (bytes : List ℕ) (start pos next : ℕ) → start ≤ pos → pos ≤ next → slice_range bytes start next ≡ slice_range bytes start pos ++ slice_range bytes pos next
+two_ranges bytes start pos next a b =
+    let whole : next - start ≡ (pos - start) + (next - pos) = omega arith in
+    let there : start + (pos - start) ≡ pos = omega arith in
+    let rest : drop (pos - start) (drop start bytes) ≡ drop pos bytes = drop-drop (pos - start) start bytes ∙ ap (λ (k : ℕ). drop k bytes) there in
+    ap (λ (k : ℕ). take k (drop start bytes)) whole
+    ∙ take_two (pos - start) (next - pos) (drop start bytes)
+    ∙ ap (λ (xs : List ℕ). take (pos - start) (drop start bytes) ++ take (next - pos) xs) rest
+
+no_range : (bytes : List ℕ) (pos : ℕ) → slice_range bytes pos pos ≡ []
+no_range bytes pos = let none : pos - pos ≡ zero = omega arith in rw none refl
+
+pub row_none : (bytes : List ℕ) (at : ℕ) (old : List ℕ) → Row bytes at at at None old old 0
+row_none bytes at old = record { read = []; walk = walked_none bytes at; grown = ap (λ (x : List ℕ). old ++ x) (no_range bytes at); long = refl }
+
+pub row_label : (bytes : List ℕ) (at start pos : ℕ) (ending : Option ℕ) (old new : List ℕ) (size n : ℕ) → Row bytes at start pos ending old new size → start ≤ pos
+    → step_of bytes start pos size ≡ Ok (step.Label n) → Row bytes at start (pos + 1 + n) ending old new (size + 1 + n)
+row_label bytes at start pos ending old new size n r begun is =
+    let s = label_step bytes start pos size n is in
+    let part : List ℕ = slice_range bytes pos (pos + 1 + n) in
+    let l = label_at bytes pos n s.byte s.inside in
+    record {
+      read = r.read ++ part;
+      walk = walked_label bytes at start pos ending r.read n r.walk (ap (step_of bytes start pos) r.long ∙ is);
+      grown = ap (λ (x : List ℕ). new ++ x) (two_ranges bytes start pos (pos + 1 + n) begun (omega arith))
+          ∙ sym (append_assoc new (slice_range bytes start pos) part)
+          ∙ ap (λ (x : List ℕ). x ++ part) r.grown
+          ∙ append_assoc old r.read part;
+      long = length-append r.read part ∙ ap (λ (x : List ℕ). length r.read + length x) l.parts ∙ omega (arith, l.long, r.long);
+    }
+
+pub row_pointer : (bytes : List ℕ) (at start pos : ℕ) (ending : Option ℕ) (old new : List ℕ) (size target to : ℕ) (copied : List ℕ) → Row bytes at start pos ending old new size
+    → step_of bytes start pos size ≡ Ok (step.Pointer target) → IsPointerEnd bytes target to → copied ≡ new ++ slice_range bytes start pos
+    → Row bytes at to to (Some (ending_or ending (pos + 2))) old copied size
+row_pointer bytes at start pos ending old new size target to copied r is pointer_end row = record {
+  read = r.read;
+  walk = walked_pointer bytes at start pos ending r.read target to r.walk (ap (step_of bytes start pos) r.long ∙ is) pointer_end;
+  grown = ap (λ (x : List ℕ). copied ++ x) (no_range bytes to) ∙ append-nil copied ∙ row ∙ r.grown;
+  long = r.long;
+}
+
+-- what the root's zero byte says
+record IsRootStep (bytes : List ℕ) (pos : ℕ) : Type 0 where
+  byte : get_or bytes pos 0 ≡ 0
+  inside : pos < length bytes
+
+root_step : (bytes : List ℕ) (start pos size : ℕ) → step_of bytes start pos size ≡ Ok step.Root → IsRootStep bytes pos
+unfolding step_of
+root_step bytes start pos size h = record { byte = grind (arith, nat_tests); inside = grind (arith, nat_tests) }
+
+pub row_root : (bytes : List ℕ) (at start pos : ℕ) (ending : Option ℕ) (old new : List ℕ) (size : ℕ) (copied : List ℕ) → Row bytes at start pos ending old new size → start ≤ pos
+    → size ≤ 254 → step_of bytes start pos size ≡ Ok step.Root → copied ≡ new ++ slice_range bytes start (pos + 1)
+    → IsSpelled (name_at bytes at) old copied (ending_or ending (pos + 1))
+row_root bytes at start pos ending old new size copied r begun room is row =
+    let whole = walked_root bytes at start pos ending r.read r.walk (omega (arith, r.long)) (ap (step_of bytes start pos) r.long ∙ is) in
+    let s = root_step bytes start pos size is in
+    let one : pos + 1 - pos ≡ suc zero = omega arith in
+    let d : drop pos bytes ≡ get_or bytes pos 0 ∷ drop (suc pos) bytes = drop-cons bytes pos 0 s.inside in
+    let last : slice_range bytes pos (pos + 1) ≡ 0 ∷ [] = rw (one, d) (ap (λ (b : ℕ). b ∷ []) s.byte) in
+    record {
+      labels = whole.labels;
+      told = whole.told;
+      grown = row
+          ∙ ap (λ (x : List ℕ). new ++ x) (two_ranges bytes start pos (pos + 1) begun (omega arith))
+          ∙ sym (append_assoc new (slice_range bytes start pos) (slice_range bytes pos (pos + 1)))
+          ∙ ap (λ (x : List ℕ). x ++ slice_range bytes pos (pos + 1)) r.grown
+          ∙ ap (λ (x : List ℕ). (old ++ r.read) ++ x) last
+          ∙ append_assoc old r.read (0 ∷ [])
+          ∙ ap (λ (x : List ℕ). old ++ x) whole.grown;
+      good = whole.good;
+    }
 
 -- what a spelled name is read as
-pub spelled_is : (bytes : List ℕ) (at : ℕ) (written : List ℕ) (next : ℕ) → IsSpelled (name_at bytes at) written next → spelled_at bytes at ≡ Ok (written, next)
+pub spelled_is : (bytes : List ℕ) (at : ℕ) (old new : List ℕ) (next : ℕ) → IsSpelled (name_at bytes at) old new next → IsAppended (without_fault (spelled_at bytes at)) old new next
 unfolding spelled_at
-spelled_is bytes at written next s = rw (s.told, s.spelled) refl
+spelled_is bytes at old new next s = record { front = wire s.labels; told = rw s.told refl; grown = s.grown }
 
 pub not_spelled : (bytes : List ℕ) (at : ℕ) (e : DecodeError) → name_at bytes at ≡ Err e → spelled_at bytes at ≡ Err e
 unfolding spelled_at
@@ -255,20 +341,22 @@ unfolding spelled_at
 not_named bytes at e h = not_named_at (name_at bytes at) e h
 
 -- a fault of a step is the fault of the name
-pub step_fails : (kind : DecodeKind) (place : ℕ) (bytes : List ℕ) (at start pos : ℕ) (ending : Option ℕ) (read : List ℕ) (size len : ℕ)
-    → Walked bytes at start pos ending read → len ≡ length read → size ≡ len
+pub row_fails : (kind : DecodeKind) (place : ℕ) (bytes : List ℕ) (at start pos : ℕ) (ending : Option ℕ) (old new : List ℕ) (size : ℕ) → Row bytes at start pos ending old new size
     → FailsWith kind place (step_of bytes start pos size) → FailsWith kind place (spelled_at bytes at)
-step_fails kind place bytes at start pos ending read size len w a b =
+row_fails kind place bytes at start pos ending old new size r =
     let told : (e : DecodeError) → step_of bytes start pos size ≡ Err e → spelled_at bytes at ≡ Err e =
-    λ e h. not_spelled bytes at e (walked_fault bytes at start pos ending read e w (step_is bytes start pos size read len (Err e) (Err e) a b h refl)) in
+    λ e h. not_spelled bytes at e (walked_fault bytes at start pos ending r.read e r.walk (ap (step_of bytes start pos) r.long ∙ h)) in
     fails_on kind place (step_of bytes start pos size) (spelled_at bytes at) told
 
--- the bytes of a name that was spelled are its wire form
-pub wire_form : (read : Result (Labels × ℕ) DecodeError) (written : List ℕ) (next : ℕ) → IsSpelled read written next → IsWire written
-wire_form read written next s = rw s.spelled (IsWire-wire s.labels s.good)
+-- where nothing stood before, the bytes are the name's wire form
+pub spelled_alone : (read : Result (Labels × ℕ) DecodeError) (old new : List ℕ) (next : ℕ) → old ≡ [] → IsSpelled read old new next → IsSpelled read [] new next
+spelled_alone read old new next none s = subst (λ (o : List ℕ). IsSpelled read o new next) none s
 
-pub named : (read : Result (Labels × ℕ) DecodeError) (written : List ℕ) (next : ℕ) → IsSpelled read written next → read ≡ Ok (labels_of written, next)
-named read written next s = s.told ∙ ap (λ (n : Labels). Ok (n, next)) (sym (ap labels_of s.spelled ∙ labels_of-wire s.labels s.good))
+pub wire_form : (read : Result (Labels × ℕ) DecodeError) (written : List ℕ) (next : ℕ) → IsSpelled read [] written next → IsWire written
+wire_form read written next s = rw s.grown (IsWire-wire s.labels s.good)
+
+pub named : (read : Result (Labels × ℕ) DecodeError) (written : List ℕ) (next : ℕ) → IsSpelled read [] written next → read ≡ Ok (labels_of written, next)
+named read written next s = s.told ∙ ap (λ (n : Labels). Ok (n, next)) (sym (ap labels_of s.grown ∙ labels_of-wire s.labels s.good))
 
 pub name_fails : (kind : DecodeKind) (place : ℕ) (bytes : List ℕ) (at : ℕ) → FailsWith kind place (spelled_at bytes at) → FailsWith kind place (name_at bytes at)
 name_fails kind place bytes at h = fails_on kind place (spelled_at bytes at) (name_at bytes at) (λ e k. not_named bytes at e k) h

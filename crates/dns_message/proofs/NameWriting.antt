@@ -1,6 +1,6 @@
 -- A name that was read is one, and in wire form it is read again.
-use Rattle.std.proofs.Common.{◌≡◌, ℕ, zero, suc, ◌+◌, ◌-◌, ◌≤◌, ◌<◌, Bool, true, false, ◌&&◌, cond, List, [], ◌∷◌, ◌++◌, length, get_or, Result, Ok, Err, refl, sym, ap, ◌∙◌, subst, arith, length-append, add-zero}
-use Rattle.std.specs.Prelude.{nat_le, nat_lt, slice_range, slice_index, ◌==◌}
+use Rattle.std.proofs.Common.{◌≡◌, ℕ, zero, suc, ◌+◌, ◌≤◌, ◌<◌, true, List, [], ◌∷◌, ◌++◌, length, get_or, Result, Ok, Err, refl, sym, ap, ◌∙◌, subst, arith, length-append, add-zero}
+use Rattle.std.specs.Prelude.{nat_le, nat_lt, slice_range}
 use Rattle.std.specs.List.{list_all}
 use Rattle.std.proofs.lemmas.Bool.Decides.{nat_tests}
 use Rattle.std.proofs.lemmas.Bool.{and_from, and_parts}
@@ -8,8 +8,7 @@ use Rattle.dns_model.specs.Names.{Label, Labels, wire, is_label, is_name}
 use Rattle.dns_message.specs.declared.decode_error.DecodeError.{DecodeError}
 use Rattle.dns_message.specs.declared.step.Step.{Step}
 use Rattle.dns_message.specs.declared.step.Step.TheVariants as step
-use Rattle.dns_message.specs.Reading.{◌>>=◌}
-use Rattle.dns_message.specs.NameAt.{step_of, with_label, ending_at, after_step, labels_from, steps_left, labels_at, name_at, spelled_at}
+use Rattle.dns_message.specs.NameAt.{step_of, with_label, ending_at, after_step, labels_from, steps_left, labels_at, name_at}
 use Rattle.dns_message.proofs.NameReading.{label_step, label_at, one_step}
 use Rattle.dns_message.proofs.Standing.{Stands, stands_front, stands_back, stands_inside, stands_range, stands_byte}
 

@@ -1,12 +1,11 @@
 -- A name at the front of a row of bare pointers is the name at its end.
-use Rattle.std.proofs.Common.{◌≡◌, ℕ, ◌+◌, ◌≤◌, ◌<◌, Bool, true, false, cond, List, [], ◌∷◌, ◌++◌, length, get_or, Result, Ok, Err, refl, sym, ap, ◌∙◌, subst, arith, length-append, inl, inr}
+use Rattle.std.proofs.Common.{◌≡◌, ℕ, ◌+◌, ◌<◌, Bool, true, false, cond, List, [], ◌∷◌, ◌++◌, length, get_or, Result, Ok, Err, refl, sym, ap, ◌∙◌, subst, arith, length-append, inl, inr}
 use Rattle.std.specs.Prelude.{nat_lt}
 use Rattle.std.proofs.lemmas.Bool.{cases_lt}
 use Rattle.std.proofs.lemmas.Bool.Decides.{nat_tests}
 use Rattle.std.proofs.lemmas.List.{get_or_push, get_or_append_left}
 use Rattle.dns_model.specs.Names.{Labels}
 use Rattle.dns_message.specs.declared.decode_error.DecodeError.{DecodeError}
-use Rattle.dns_message.specs.declared.step.Step.{Step}
 use Rattle.dns_message.specs.declared.step.Step.TheVariants as step
 use Rattle.dns_message.specs.NameAt.{step_of, ending_at, labels_at}
 use Rattle.dns_message.specs.Pointers.{IsPointerEnd, ArePointerEnds, pointer_end_in}

@@ -1,7 +1,6 @@
 -- Reading an rdata field by field.
 use Rattle.std.proofs.Common.{◌≡◌, ℕ, zero, suc, ◌+◌, ◌<◌, ◌≤◌, Bool, true, false, cond, List, [], ◌∷◌, ◌++◌, length, get_or, drop, map, Option, None, Some, refl, sym, ap, ◌∙◌, append_assoc, arith, drop-cons, add-one}
-use Rattle.std.specs.Prelude.{nat_eq, ◌==◌}
-use Rattle.std.proofs.lemmas.Bool.Decides.{nat_tests}
+use Rattle.std.specs.Prelude.{◌==◌}
 use Rattle.std.proofs.lemmas.List.{append-nil}
 use Rattle.dns_model.specs.Shapes as shapes
 use Rattle.dns_rdata.specs.declared.shape.Field.{Field}

@@ -1,20 +1,20 @@
 -- An rdata that was read is read again where its bytes stand, names spelled out.
-use Rattle.std.proofs.Common.{◌≡◌, ℕ, zero, suc, ◌+◌, ◌-◌, ◌≤◌, ◌<◌, Bool, true, false, ◌&&◌, cond, List, [], ◌∷◌, ◌++◌, length, get_or, take, drop, Option, None, Some, Result, Ok, Err, refl, sym, ap, ◌∙◌, subst, arith, length-append, length-drop, add-zero, drop-cons}
+use Rattle.std.proofs.Common.{◌≡◌, ℕ, suc, ◌+◌, ◌-◌, ◌≤◌, ◌<◌, Bool, true, false, ◌&&◌, cond, List, [], ◌∷◌, ◌++◌, length, get_or, drop, Option, None, Some, Result, Ok, Err, refl, sym, ap, ◌∙◌, subst, arith, length-append, length-drop, add-zero, drop-cons}
 use Rattle.std.specs.Prelude.{nat_le, nat_lt, slice_range, slice_index, ◌==◌, not}
 use Rattle.std.proofs.lemmas.Bool.Decides.{nat_tests}
-use Rattle.std.proofs.lemmas.Bool.{and_from, and_parts}
+use Rattle.std.proofs.lemmas.Bool.{and_parts}
 use Rattle.std.proofs.lemmas.List.{length-take-le, append-nil}
-use Rattle.dns_model.specs.Names.{Label, Labels, wire, is_name}
+use Rattle.dns_model.specs.Names.{Labels, wire, is_name}
 use Rattle.dns_model.specs.Types.{has_shapes}
 use Rattle.dns_model.specs.Gives.{or_error}
 use Rattle.dns_model.specs.Shapes.{Field, Octets, DomainName, CharacterString, TypeBitmap, Remainder, is_bitmap, shape_of}
-use Rattle.dns_model.proofs.WireLemmas.{first_of_some, second_of_some}
+use Rattle.dns_model.proofs.WireLemmas.{first_of_some}
 use Rattle.dns_message.specs.declared.decode_error.DecodeError.{DecodeError}
 use Rattle.dns_message.specs.declared.decode_error.DecodeKind.TheVariants.{Short, BadRdata}
 use Rattle.dns_message.specs.Reading.{◌>>=◌, fault}
 use Rattle.dns_message.specs.NameAt.{name_at, spelled_at}
 use Rattle.dns_message.specs.RdataAt.{octets_at, counted_at, rest_at, bitmap_at, without_fault, field_at, with_bytes, after_field, fields_at, within_limit, shaped_at, rdata_at}
-use Rattle.dns_message.proofs.NameWriting.{name_good, name_again, first_of_ok, second_of_ok}
+use Rattle.dns_message.proofs.NameWriting.{name_good, name_again}
 use Rattle.dns_message.proofs.Standing.{Stands, stands_front, stands_back, stands_inside, stands_range, stands_byte}
 
 -- a test that chose a value

@@ -1,27 +1,26 @@
 -- Records and questions that were read are read again where they are written.
-use Rattle.std.proofs.Common.{◌≡◌, ℕ, zero, suc, ◌+◌, ◌-◌, ◌*◌, ◌/◌, ◌%◌, ◌≤◌, ◌<◌, Bool, true, false, ◌&&◌, cond, List, [], ◌∷◌, ◌++◌, length, get_or, Option, None, Some, Result, Ok, Err, refl, sym, ap, ◌∙◌, subst, arith, length-append, append_assoc}
-use Rattle.std.specs.Prelude.{nat_le, nat_lt, ◌==◌, IfSome}
+use Rattle.std.proofs.Common.{◌≡◌, ℕ, zero, suc, ◌+◌, ◌*◌, ◌/◌, ◌%◌, ◌≤◌, ◌<◌, Bool, true, false, ◌&&◌, cond, List, [], ◌∷◌, ◌++◌, length, Option, None, Some, Result, Ok, Err, refl, sym, ap, ◌∙◌, subst, arith, length-append}
+use Rattle.std.specs.Prelude.{nat_lt, ◌==◌, IfSome}
 use Rattle.std.specs.List.{flat_map, AllByRecursion}
 use Rattle.std.proofs.lemmas.Bool.Decides.{nat_tests}
 use Rattle.std.proofs.lemmas.List.{append-nil}
 use Rattle.std.proofs.lemmas.List.Concat.{flat_map-cons}
 use Rattle.dns_model.specs.Names.{Labels, wire, is_name}
-use Rattle.dns_model.specs.Bytes.{u16_at, u32_at, u16_bytes, u32_bytes}
+use Rattle.dns_model.specs.Bytes.{u32_at, u16_bytes, u32_bytes}
 use Rattle.dns_model.specs.Types.{type_opt}
-use Rattle.dns_model.specs.Records.{Rr, EdnsValue, Question}
+use Rattle.dns_model.specs.Records.{Rr, EdnsValue}
 use Rattle.dns_model.specs.declared.proof.Proof.{Proof}
 use Rattle.dns_model.specs.declared.proof.Proof.TheVariants.{Indeterminate}
 use Rattle.dns_message.specs.declared.decode_error.DecodeError.{DecodeError}
 use Rattle.dns_message.specs.declared.decode_error.DecodeKind.TheVariants.{Short, BadOpt}
 use Rattle.dns_message.specs.declared.item.Item.{Item}
 use Rattle.dns_message.specs.declared.item.Item.TheVariants as item
-use Rattle.dns_message.specs.Reading.{◌>>=◌, fault, u16_field, u32_field}
+use Rattle.dns_message.specs.Reading.{fault, u16_field, u32_field}
 use Rattle.dns_message.specs.NameAt.{name_at}
 use Rattle.dns_message.specs.RdataAt.{rdata_at, opaque_at}
 use Rattle.dns_message.specs.RecordAt.{record_at, edns_of, opt_at, is_root, item_at, Listed, with_item, allow_opt_after, section_at}
-use Rattle.dns_message.specs.MessageAt.{question_at, questions_at}
-use Rattle.dns_message.specs.WrittenAs.{AreBytes, flag_bit, question_bytes, record_bytes, opt_ttl, opt_bytes, edns_bytes, edns_count}
-use Rattle.dns_message.proofs.RecordReading.{bind_ok, is_kept, record_kept, with_front, section_start, with_questions, questions_start}
+use Rattle.dns_message.specs.WrittenAs.{AreBytes, flag_bit, record_bytes, opt_ttl, opt_bytes, edns_bytes, edns_count}
+use Rattle.dns_message.proofs.RecordReading.{bind_ok, is_kept, record_kept, with_front, section_start}
 use Rattle.dns_message.proofs.NameWriting.{name_good, name_again, first_of_ok}
 use Rattle.dns_message.proofs.RdataWriting.{IsRdataAgain, rdata_again}
 use Rattle.dns_message.proofs.Standing.{Stands, stands_front, stands_back, stands_inside, stands_range, stands_u16, stands_u32}

@@ -1,5 +1,5 @@
 -- How long a message is that is written.
-use Rattle.std.proofs.Common.{◌≡◌, ℕ, ◌+◌, ◌≤◌, ◌<◌, Bool, true, false, ◌||◌, List, [], ◌∷◌, ◌++◌, length, Option, None, Some, Result, Ok, Err, refl, sym, ap, ◌∙◌, arith, length-append}
+use Rattle.std.proofs.Common.{◌≡◌, ℕ, ◌+◌, ◌≤◌, ◌<◌, Bool, true, false, ◌||◌, List, [], ◌∷◌, ◌++◌, length, Option, None, Some, Err, refl, ap, arith, length-append}
 use Rattle.std.specs.Prelude.{nat_le, nat_lt}
 use Rattle.std.specs.List.{flat_map}
 use Rattle.std.proofs.lemmas.Bool.Decides.{nat_tests}
@@ -9,7 +9,7 @@ use Rattle.dns_model.specs.Bytes.{u16_bytes, u32_bytes}
 use Rattle.dns_model.specs.Records.{Rr, Question, EdnsValue, MessageValue}
 use Rattle.dns_model.proofs.WireLemmas.{length-wire}
 use Rattle.dns_message.specs.declared.encode_error.EncodeError.TheVariants.{TooLong}
-use Rattle.dns_message.specs.WrittenAs.{question_bytes, record_bytes, edns_bytes, edns_count, header_bytes, has_long_options, has_many, written, encoded, opt_ttl, flags_of}
+use Rattle.dns_message.specs.WrittenAs.{question_bytes, record_bytes, edns_bytes, edns_count, has_long_options, has_many, written, encoded, opt_ttl}
 
 -- no piece is empty
 pub long_enough : {X : Type 0} (f : X → List ℕ) → ((x : X) → 0 < length (f x)) → (xs : List X) → length xs ≤ length (flat_map f xs)

@@ -14,11 +14,11 @@ FitsStep end start pos size step.Root = pos + 1 ≤ end
 FitsStep end start pos size (step.Label n) = (0 < n) × (n ≤ 63) × (pos + 1 + n ≤ end) × (size + 1 + n ≤ 254)
 FitsStep end start pos size (step.Pointer target) = (target < start) × (pos + 2 ≤ end)
 
--- the bytes are the wire form of the name that was read
-pub record IsSpelled (read : Result (Labels × ℕ) DecodeError) (bytes : List ℕ) (next : ℕ) : Type 0 where
+-- the wire form of the name that was read was appended
+pub record IsSpelled (read : Result (Labels × ℕ) DecodeError) (old new : List ℕ) (next : ℕ) : Type 0 where
   pub labels : Labels
   pub told : read ≡ Ok (labels, next)
-  pub spelled : bytes ≡ wire labels
+  pub grown : new ≡ old ++ wire labels
   pub good : is_name labels ≡ true
 
 -- where the name's bytes end: after its first pointer, or at this place

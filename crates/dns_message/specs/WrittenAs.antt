@@ -1,5 +1,5 @@
 -- A message as it is written: names spelled out, the OPT last (RFC 1035, 4.1; RFC 6891, 6.1).
-use Rattle.std.specs.Prelude.{◌≡◌, ◌<◌, slice_index, ℕ, ◌+◌, ◌*◌, ◌/◌, ◌%◌, Bool, true, false, List, [], ◌∷◌, ◌++◌, length, nat_le, nat_lt, ◌||◌, Option, None, Some, Result, Ok, Err, if◌then◌else◌}
+use Rattle.std.specs.Prelude.{◌≡◌, ◌<◌, slice_index, ℕ, ◌+◌, ◌*◌, ◌/◌, ◌%◌, Bool, true, false, List, [], ◌++◌, length, nat_le, nat_lt, ◌||◌, Option, None, Some, Result, Ok, Err, if◌then◌else◌}
 use Rattle.std.specs.List.{flat_map}
 use Rattle.dns_model.specs.Names.{wire}
 use Rattle.dns_model.specs.Bytes.{u16_bytes, u32_bytes}

@@ -71,6 +71,9 @@ fn question_of(
     Ok((query, next))
 }
 
+/// A question for the root (RFC 1035, 4.1.2), so that a count alone takes no memory.
+const SMALLEST_QUESTION: usize = 5;
+
 /// So many questions, and the place after them.
 fn questions_of(
     alloc: Global,
@@ -85,7 +88,8 @@ fn questions_of(
     ensures reads { Reads (λ x. (x.0.items, x.1)) result (questions_at count bytes.now at) }
     ensures fits { IfOk result (λ x. x.1 ≤ length bytes.now) }
 {
-    let mut queries = Vec::new(alloc);
+    let room = usize::from(count).min((bytes.len() - at) / SMALLEST_QUESTION);
+    let mut queries = Vec::with_capacity(alloc, room)?;
     let mut pos = at;
     'questions: for _ in 0..count {
         let (query, next) = question_of(alloc, bytes, pointer_ends, pos)?;

@@ -1,13 +1,14 @@
-ghost use Rattle.std.specs.Prelude.{◌≡◌, ◌+◌, ◌<◌, ◌≤◌, ◌^◌, length, IfOk};
-ghost use Rattle.dns_message.specs.Reading.{Reads};
+ghost use Rattle.std.specs.Prelude.{◌≡◌, ◌+◌, ◌<◌, ◌≤◌, ◌^◌, ◌++◌, length, slice_range, IfOk, IfErr, OnOk};
+ghost use Rattle.dns_message.specs.Reading.{Reads, FailsWith};
+ghost use Rattle.dns_message.specs.RdataAt.{without_fault};
 ghost use Rattle.dns_message.specs.NameAt.{name_at, spelled_at};
 ghost use Rattle.dns_message.specs.Pointers.{ArePointerEnds};
-ghost use Rattle.dns_message.specs.Fitting.{IsSpelled, ending_or};
+ghost use Rattle.dns_message.specs.Fitting.{IsSpelled, IsAppended, ending_or};
 
 use crate::decode_error::DecodeError;
 use crate::pointers::pointer_end_in;
 use crate::step::{Step, step_at};
-use dns_name::{Name, Octets};
+use dns_name::{Name, NoMemory, Octets};
 use std::alloc::Global;
 
 /// Where a name's bytes end: after its first pointer, or at this place.
@@ -20,36 +21,55 @@ fn ending_or(ending: Option<usize>, place: usize) -> usize
     }
 }
 
-/// The wire form of the name at a place, spelled out, and the place after its bytes.
-pub(crate) fn spelled_of(
-    alloc: Global,
+/// How much room is made for the labels that a pointer leads to; most names need no more.
+const ROOM: usize = 32;
+
+/// Appends the labels before a pointer, with room for those behind it.
+fn push_row(bytes: &[u8], start: usize, end: usize, into: &mut Vec<u8>) -> Result<(), NoMemory>
+    requires short { length bytes.now < 2 ^ 32 }
+    requires rises { start ≤ end }
+    requires inside { end ≤ length bytes.now }
+    ensures { OnOk result (into.new.items ≡ into.old.items ++ slice_range bytes.now start end) }
+{
+    let room = if start < end { end - start + ROOM } else { 0 };
+    into.reserve(room)?;
+    into.extend_from_slice(&bytes[start..end])?;
+    Ok(())
+}
+
+/// Appends the wire form of the name at a place, spelled out, and answers the place after its bytes. The labels between two
+/// pointers are copied at once. After an `Err`, what was appended means nothing.
+pub(crate) fn push_spelled(
     bytes: &[u8],
     pointer_ends: &[u16],
     at: usize,
-) -> Result<(Vec<u8>, usize), DecodeError>
+    into: &mut Vec<u8>,
+) -> Result<usize, DecodeError>
     requires pointer_ends { ArePointerEnds bytes.now pointer_ends.now }
     requires short { length bytes.now < 2 ^ 32 }
     requires at { at ≤ length bytes.now }
-    ensures reads { Reads (λ x. (x.0.items, x.1)) result (spelled_at bytes.now at) }
-    ensures name { IfOk result (λ x. IsSpelled (name_at bytes.now at) x.0.items x.1) }
-    ensures fits { IfOk result (λ x. x.1 ≤ length bytes.now) }
+    ensures name { IfOk result (λ next. IsSpelled (name_at bytes.now at) into.old.items into.new.items next) }
+    ensures field { IfOk result (λ next. IsAppended (without_fault (spelled_at bytes.now at)) into.old.items into.new.items next) }
+    ensures fault { IfErr result (λ e. FailsWith e.kind e.offset (spelled_at bytes.now at)) }
+    ensures fits { IfOk result (λ next. next ≤ length bytes.now) }
 {
-    let mut wire = Vec::new(alloc);
     let mut start = at;
     let mut pos = at;
+    let mut size = 0;
     let mut ending = None;
     'steps: loop {
-        match step_at(bytes, start, pos, wire.len())? {
+        match step_at(bytes, start, pos, size)? {
             Step::Root => {
-                wire.push(0)?;
-                return Ok((wire, ending_or(ending, pos + 1)));
+                into.extend_from_slice(&bytes[start..pos + 1])?;
+                return Ok(ending_or(ending, pos + 1));
             }
-            Step::Label(size) => {
-                let next = pos + 1 + usize::from(size);
-                wire.extend_from_slice(&bytes[pos..next])?;
-                pos = next;
+            Step::Label(label) => {
+                let label = usize::from(label);
+                pos = pos + 1 + label;
+                size = size + 1 + label;
             }
             Step::Pointer(target) => {
+                push_row(bytes, start, pos, into)?;
                 ending = Some(ending_or(ending, pos + 2));
                 start = pointer_end_in(pointer_ends, target);
                 pos = start;
@@ -71,7 +91,8 @@ pub(crate) fn name_of(
     ensures reads { Reads (λ x. (x.0, x.1)) result (name_at bytes.now at) }
     ensures fits { IfOk result (λ x. x.1 ≤ length bytes.now) }
 {
-    let (wire, next) = spelled_of(alloc, bytes, pointer_ends, at)?;
+    let mut wire = Vec::new(alloc);
+    let next = push_spelled(bytes, pointer_ends, at, &mut wire)?;
     let name = Name::from_octets(Octets::from_vec(wire));
     Ok((name, next))
 }

@@ -27,12 +27,19 @@ fn pointer_end_at(bytes: &[u8], pointer_ends: &[u16], place: usize) -> u16
     }
 }
 
+/// In a message of up to so many bytes rows of bare pointers are short enough to be walked.
+const SHORT: usize = 1024;
+
 /// For each place that a pointer can name, where the row of bare pointers there ends. So a name is read in as many steps as it
-/// has labels, twice over at most, however long a row of pointers it goes through.
+/// has labels, twice over at most, however long a row of pointers it goes through. A short message needs no table.
+#[tactic(auto, using(crate::proofs::PointerReading::no_pointer_ends))]
 pub(crate) fn pointer_ends_of(alloc: Global, bytes: &[u8]) -> Result<Vec<u16>, NoMemory>
     requires { length bytes.now < 2 ^ 32 }
     ensures { IfOk result (λ pointer_ends. ArePointerEnds bytes.now pointer_ends.items) }
 {
+    if bytes.len() <= SHORT {
+        return Ok(Vec::new(alloc));
+    }
     let count = bytes.len().min(PLACES);
     let mut pointer_ends = Vec::with_capacity(alloc, count)?;
     'places: for place in 0..count {

@@ -13,6 +13,14 @@ use dns_rdata::{Field, fields_of};
 use dns_record::{Rdata, RecordType};
 use std::alloc::Global;
 
+/// How many bytes to make room for at first, where the rdata has this size: the reader of names makes room for a name alone.
+fn room_of(shape: &[Field], size: usize) -> usize {
+    match shape {
+        [Field::DomainName] => 0,
+        _ => size,
+    }
+}
+
 /// The bytes of the rdata from `at` up to `stop`, names spelled out, or `None` where they aren't exactly these fields.
 fn spelled_fields(
     alloc: Global,
@@ -28,10 +36,10 @@ fn spelled_fields(
     requires stop { stop ≤ length bytes.now }
     ensures { IfOk result (λ o. items_in o ≡ fields_at (map field_value shape.now) bytes.now at stop) }
 {
-    let mut into = Vec::new(alloc);
+    let mut into = Vec::with_capacity(alloc, room_of(shape, stop.saturating_sub(at)))?;
     let mut pos = at;
     for field in shape {
-        match push_field(alloc, *field, bytes, pointer_ends, pos, stop, &mut into)? {
+        match push_field(*field, bytes, pointer_ends, pos, stop, &mut into)? {
             None => return Ok(None),
             Some(next) => pos = next,
         }

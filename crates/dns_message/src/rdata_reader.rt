@@ -6,10 +6,9 @@ ghost use Rattle.dns_message.specs.Fitting.{FieldRead};
 ghost use Rattle.dns_rdata.specs.Fields.{field_value};
 
 use crate::decode_error::DecodeKind;
-use crate::name_reader::spelled_of;
+use crate::name_reader::push_spelled;
 use dns_name::NoMemory;
 use dns_rdata::{Field, is_bitmap};
-use std::alloc::Global;
 
 /// Appends the bytes from `pos` up to `next`, where they stand before `stop`.
 #[tactic(auto, unfolding(crate::specs::RdataAt::octets_at))]
@@ -39,7 +38,6 @@ fn push_octets(
 /// or `None` where the field doesn't stand there.
 #[tactic(auto, unfolding(crate::specs::RdataAt::field_at))]
 pub(crate) fn push_field(
-    alloc: Global,
     field: Field,
     bytes: &[u8],
     pointer_ends: &[u16],
@@ -56,7 +54,7 @@ pub(crate) fn push_field(
 {
     match field {
         Field::Octets(size) => push_octets(bytes, usize::from(size), pos, stop, into),
-        Field::DomainName => push_name(alloc, bytes, pointer_ends, pos, into),
+        Field::DomainName => push_name(bytes, pointer_ends, pos, into),
         Field::CharacterString => push_counted(bytes, pos, stop, into),
         Field::TypeBitmap => push_bitmap(bytes, pos, stop, into),
         Field::Remainder => push_rest(bytes, pos, stop, into),
@@ -64,7 +62,6 @@ pub(crate) fn push_field(
 }
 
 fn push_name(
-    alloc: Global,
     bytes: &[u8],
     pointer_ends: &[u16],
     pos: usize,
@@ -76,11 +73,8 @@ fn push_name(
     ensures reads { IfOk result (λ next. FieldRead (without_fault (spelled_at bytes.now pos)) into.old.items into.new.items next) }
     ensures fits { IfOk result (λ next. IfSome next (λ n. n ≤ length bytes.now)) }
 {
-    match spelled_of(alloc, bytes, pointer_ends, pos) {
-        Ok((wire, next)) => {
-            into.extend_from_slice(&wire)?;
-            Ok(Some(next))
-        }
+    match push_spelled(bytes, pointer_ends, pos, into) {
+        Ok(next) => Ok(Some(next)),
         Err(error) => {
             if error.kind == DecodeKind::NoMemory {
                 Err(NoMemory)

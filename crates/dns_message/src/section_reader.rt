@@ -10,6 +10,9 @@ use crate::record_reader::item_of;
 use dns_record::Record;
 use std::alloc::Global;
 
+/// A record at the root without rdata (RFC 1035, 4.1.3), so that a count alone takes no memory.
+const SMALLEST_RECORD: usize = 11;
+
 /// So many records of a section, its OPT with the upper bits of the code, and the place after the section. An OPT is taken
 /// where `may` is set, and once.
 pub(crate) fn section_of(
@@ -26,7 +29,8 @@ pub(crate) fn section_of(
     ensures reads { Reads (λ x. (x.0.items, x.1, x.2)) result (section_at count allow_opt bytes.now at) }
     ensures fits { IfOk result (λ x. x.2 ≤ length bytes.now) }
 {
-    let mut records = Vec::new(alloc);
+    let room = usize::from(count).min((bytes.len() - at) / SMALLEST_RECORD);
+    let mut records = Vec::with_capacity(alloc, room)?;
     let mut opt = None;
     let mut allowed = allow_opt;
     let mut pos = at;

@@ -1,4 +1,4 @@
-use Rattle.std.proofs.Common.{append_assoc, ◌≡◌, ◌∙◌, ap}
+use Rattle.std.proofs.Common.{append_assoc, ◌≡◌, ap}
 use Rattle.dns_model.specs.Records.{EdnsValue}
 use Rattle.dns_message.proofs.message_writer.push_opt.Goals as goal
 

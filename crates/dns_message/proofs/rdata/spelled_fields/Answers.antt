@@ -1,10 +1,7 @@
-use Rattle.std.proofs.Common.{rules, ◌≡◌, ◌+◌, ◌≤◌, ◌<◌, ℕ, Bool, true, false, cond, List, [], ◌∷◌, length, map, drop, get_or, Option, None, Some, ap, sym, ◌∙◌, arith, refl}
+use Rattle.std.proofs.Common.{◌≡◌, Bool, true, false, cond, None, Some, ap, sym, ◌∙◌, arith}
 use Rattle.std.specs.Prelude.{◌==◌}
 use Rattle.std.proofs.lemmas.Bool.Decides.{nat_tests}
-use Rattle.dns_message.specs.RdataAt.{field_at, fields_at, with_bytes}
-use Rattle.dns_rdata.specs.Fields.{field_value}
-use Rattle.dns_message.specs.Fitting.{IsAppended, FieldRead}
-use Rattle.dns_message.proofs.RdataReading.{next_field, fields_more, fields_none, fields_done, fields_start}
+use Rattle.dns_message.proofs.RdataReading.{next_field, fields_more, fields_none, fields_done}
 use Rattle.dns_message.proofs.rdata.spelled_fields.Goals as goal
 
 pub returns-in-None : goal.returns-in-None

@@ -1,16 +1,15 @@
-use Rattle.std.proofs.Common.{rules, ◌≡◌, ◌+◌, ◌-◌, ◌≤◌, ◌<◌, ℕ, Bool, true, false, List, [], ◌∷◌, ◌++◌, length, Option, None, Some, Result, Ok, Err, ap, sym, ◌∙◌, arith, refl}
+use Rattle.std.proofs.Common.{◌≡◌, ◌-◌, Option, None, Ok, ap, sym, ◌∙◌, refl}
 use Rattle.std.proofs.lemmas.Result.{err_from_is_err_and}
-use Rattle.dns_message.specs.declared.decode_error.DecodeError.{DecodeError}
 use Rattle.dns_message.specs.declared.item.Item.{Item}
 use Rattle.dns_message.specs.declared.item.Item.TheVariants as item
-use Rattle.dns_message.specs.RecordAt.{item_at, section_at, Listed}
-use Rattle.dns_message.proofs.RecordReading.{with_front, section_start, section_kept, section_opt, section_fails, section_done, opt_allowed, none_before}
+use Rattle.dns_message.specs.RecordAt.{item_at, section_at}
+use Rattle.dns_message.proofs.RecordReading.{with_front, section_kept, section_opt, section_fails, section_done, opt_allowed, none_before}
 use Rattle.dns_message.proofs.section_reader.section_of.Goals as goal
 use Rattle.dns_message.proofs.section_reader.section_of.Goals.{in-Kept+in_ok-push-in-Kept, in-Opt, in-Some-3, in-None-3}
 
 pub returns-in_err-item-clause-reads : goal.returns-in_err-item-clause-reads
 returns-in_err-item-clause-reads c =
-    let p = err_from_is_err_and c.from_residual.result c.from_residual.ensures.1 in
+    let p = err_from_is_err_and c.from_residual-in_err-item.result c.from_residual-in_err-item.ensures.1 in
     rw (p.1, p.2) (section_fails c.in_err-item.field-0.0.kind c.in_err-item.field-0.0.offset c.args.count c.records.counter c.records.allowed c.args.bytes.now c.records.pos c.records.records.items c.records.opt
     (section_at c.args.count c.args.allow_opt c.args.bytes.now c.args.at) c.records-test.true c.records.invariant.so_far c.in_err-item.ensures.reads)
 
