@@ -9,5 +9,5 @@ mod looking;
 mod walk;
 
 pub use dns_net::Verifier;
-pub use dns_trust::TrustAnchors;
+pub use dns_trust::{Listed, TrustAnchors};
 pub use handle::DnssecDnsHandle;

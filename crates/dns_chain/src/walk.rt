@@ -15,13 +15,14 @@ use crate::inquiry::{Inquiry, MOST_SENDS};
 use dns_message::Message;
 use dns_name::NoMemory;
 use dns_net::{DnsHandle, NetError, Verifier};
+use dns_rdata::Rrsig;
 use dns_record::{Query, Record, RecordSet, RecordType};
 use dns_sets::{JudgedSet, Outcome, PlacedSet, foreign_record, outcome_of, placed_sets};
-use dns_trust::{TrustAnchors, Verdict, ask_of, is_skipped, judged_by, judged_keys, verdict_of};
+use dns_trust::{
+    Judge, TrustAnchors, Verdict, ask_of, first_signatures, is_skipped, judged_by, judged_keys,
+    verdict_of,
+};
 use std::alloc::Global;
-
-// How many signatures of a set are tried.
-const MOST_SIGNATURES: usize = 8;
 
 /// Judges the sets of a step at a depth, in order.
 #[cycle(walk)]
@@ -74,7 +75,12 @@ fn judge_set<H: DnsHandle, V: Verifier>(
         query.now depth placed sends.old s sends.new) }
 {
     if is_key_set(&placed) {
-        let judged = judged_keys(alloc, verifier, anchors, inquiry.now, placed)?;
+        let judge = Judge {
+            verifier,
+            anchors,
+            moment: inquiry.now,
+        };
+        let judged = judged_keys(alloc, &judge, placed)?;
         return Ok(judged);
     }
     let verdicts = judge_signatures(
@@ -141,14 +147,6 @@ fn judge_signatures<H: DnsHandle, V: Verifier>(
     Ok(verdicts)
 }
 
-// The signatures of a set that are tried.
-fn first_signatures(set: &RecordSet) -> &[Record]
-    ensures { result.now ≡ take most_signatures set.now.signatures }
-{
-    let signatures = set.rrsigs.as_slice();
-    &signatures[..signatures.len().min(MOST_SIGNATURES)]
-}
-
 /// The verdict of one signature, after the ask for its signer's keys.
 #[cycle(walk)]
 fn judge_signature<H: DnsHandle, V: Verifier>(
@@ -170,13 +168,14 @@ fn judge_signature<H: DnsHandle, V: Verifier>(
     ensures step { IfOk result (λ v. (tells : Tells) → H.told handle.old ≡ tells → SignatureStep (judge (V.answers verifier.now) anchors.now inquiry.now) inquiry.limit (says_of tells)
         query.now depth set.now sig.now sends.old (verdict_value v) sends.new) }
 {
-    let skipped = is_skipped(query, set, sig)?;
+    let Some(read) = Rrsig::of(sig) else {
+        return Ok(Verdict::Failed);
+    };
+    let skipped = is_skipped(query, set, &read);
     if skipped {
         return Ok(Verdict::Failed);
     }
-    let Some(question) = ask_of(alloc, set, sig)? else {
-        return Ok(Verdict::Failed);
-    };
+    let question = ask_of(alloc, set, &read)?;
     let answer = ask(
         alloc,
         verifier,
@@ -187,7 +186,12 @@ fn judge_signature<H: DnsHandle, V: Verifier>(
         &question,
         depth + 1,
     )?;
-    let verdict = verdict_of(alloc, verifier, anchors, inquiry.now, set, sig, &answer)?;
+    let judge = Judge {
+        verifier,
+        anchors,
+        moment: inquiry.now,
+    };
+    let verdict = verdict_of(alloc, &judge, set, sig, &read, &answer)?;
     Ok(verdict)
 }
 

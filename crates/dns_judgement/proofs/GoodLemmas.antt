@@ -4,17 +4,17 @@ use Rattle.std.specs.Prelude.{nat_le, if◌then◌else◌}
 use Rattle.std.proofs.lemmas.Bool.{and_parts, and_from}
 use Rattle.dns_judgement.specs.declared.rrsig_validity.RrsigValidity.{RrsigValidity}
 use Rattle.dns_judgement.specs.declared.rrsig_validity.RrsigValidity.TheVariants.{ValidRrsig, ExpiredRrsig, WrongDnskey, WrongRrsig}
-use Rattle.dns_model.specs.Names.{name_eq, at_or_above, num_labels, parent}
-use Rattle.dns_model.specs.Types.{type_rrsig, type_nsec, type_nsec3, type_dnskey}
-use Rattle.dns_model.specs.Views.{RrsigValue, DnskeyValue, rrsig_in, dnskey_in, is_zone_key, is_revoked}
+use Rattle.dns_model.specs.Names.{Labels, name_eq, at_or_above, num_labels}
+use Rattle.dns_model.specs.Types.{type_rrsig, type_dnskey}
+use Rattle.dns_model.specs.Views.{RrsigValue, DnskeyValue, rrsig_in, dnskey_in, is_zone_key}
 use Rattle.dns_model.specs.RecordViews.{rrsig_of, dnskey_of}
 use Rattle.dns_model.proofs.RecordViewLemmas.{rrsig_read, dnskey_read}
 use Rattle.dns_model.specs.Signing.{signed_bytes, key_tag_of}
 use Rattle.dns_model.specs.Records.{Rr, RrSet}
-use Rattle.dns_model.specs.Chains.{LinkValue, Signed, Judge, is_nonempty, rdatas_of, signer_fits, labels_fit, parent_fits, is_good, key_comes, is_signed, link_holds}
+use Rattle.dns_model.specs.Keys.{usable_key}
+use Rattle.dns_model.specs.Chains.{LinkValue, Signed, Judge, is_nonempty, rdatas_of, signer_fits, never_expanded, right_below_signer, is_good, key_comes, is_signed, link_holds}
 use Rattle.dns_model.proofs.SetLemmas.{number_same, IsProper}
 use Rattle.dns_judgement.specs.Validity.{is_of_set, is_by_key, key_validity, sig_validity, validity, is_valid, is_accepted, is_good_by}
-use Rattle.dns_judgement.specs.Marks.{is_kept_whole}
 
 -- ---- what a good signature is
 
@@ -76,10 +76,9 @@ and_four a b c d h =
     let three = and_parts c d two.1 in
     (one.0, two.0, three.0, three.1)
 
-good_again : (zone unrevoked protocol supported algorithm tag timely accepts : Bool)
-    → zone ≡ true → unrevoked ≡ true → protocol ≡ true → supported ≡ true → algorithm ≡ true → tag ≡ true → timely ≡ true → accepts ≡ true
-    → ((zone && (unrevoked && (protocol && supported))) && (algorithm && (tag && (timely && accepts)))) ≡ true
-good_again zone unrevoked protocol supported algorithm tag timely accepts a b c d e f g h = rw (a, b, c, d, e, f, g, h) refl
+good_again : (usable algorithm tag timely accepts : Bool) → usable ≡ true → algorithm ≡ true → tag ≡ true → timely ≡ true → accepts ≡ true
+    → (usable && (algorithm && (tag && (timely && accepts)))) ≡ true
+good_again usable algorithm tag timely accepts a b c d e = rw (a, b, c, d, e) refl
 
 pub good_in_link : (j : Judge) (set : RrSet) (r key : Rr) (sig : RrsigValue) → IsGoodRead j set r key sig
     → is_good j set.owner set.class set.rtype (rdatas_of set.records) sig key.rdata (dnskey_in key.rdata) ≡ true
@@ -87,11 +86,10 @@ good_in_link j set r key sig good =
     let text = good.text in
     let accepts = j.answers.accepts sig.algorithm text.key (signed_bytes set.owner set.rtype set.class (rdatas_of set.records) sig) sig.signature in
     let by = and_four (name_eq sig.signer key.owner) (text.algorithm == sig.algorithm) (key_tag_of key.rdata == sig.key_tag) (is_zone_key text) good.by_key in
-    let to = and_four (not (is_revoked text)) (text.protocol == 3) (j.answers.supports text.algorithm) accepts good.accepted in
+    let to = and_parts (usable_key j.answers text) accepts good.accepted in
     ap (is_good j set.owner set.class set.rtype (rdatas_of set.records) sig key.rdata) (dnskey_read key text good.read)
-    ∙ good_again (is_zone_key text) (not (is_revoked text)) (text.protocol == 3) (j.answers.supports text.algorithm)
-    (text.algorithm == sig.algorithm) (key_tag_of key.rdata == sig.key_tag) (j.is_timely sig) accepts
-    by.3 to.0 to.1 to.2 by.1 by.2 good.timely to.3
+    ∙ good_again (usable_key j.answers text) (text.algorithm == sig.algorithm) (key_tag_of key.rdata == sig.key_tag) (j.is_timely sig) accepts
+    to.0 by.1 by.2 good.timely to.1
 
 -- the parts of a test that a signature is of a set
 pub record IsOfSet (set : RrSet) (r : Rr) (sig : RrsigValue) : Type 0 where
@@ -108,38 +106,25 @@ of_set_parts set r sig h =
     let back = and_parts (sig.covered == set.rtype) (nat_le sig.labels (num_labels set.owner)) front.3 in
     record { owner = front.0; class = front.1; above = front.2; covered = back.0; labels = back.1 }
 
-labels_step : (nsec nsec3 full at_parent within : Bool) → (nsec ≡ true → nsec3 ≡ false)
-    → (if nsec then full else if nsec3 then full && at_parent else true) ≡ true → within ≡ true
-    → ((if nsec then full else if nsec3 then full else within) ≡ true) × ((if nsec3 then at_parent else true) ≡ true)
-labels_step true true full at_parent within apart h w = cc (apart refl)
-labels_step true false full at_parent within apart h w = (h, refl)
-labels_step false true full at_parent within apart h w = and_parts full at_parent h
-labels_step false false full at_parent within apart h w = (w, refl)
+-- a key set is neither NSEC nor NSEC3
+pub keys_unexpanded : (rtype labels : ℕ) (owner : Labels) → (rtype == type_dnskey) ≡ true → never_expanded rtype labels owner ≡ true
+keys_unexpanded rtype labels owner keys = rw (number_same rtype type_dnskey keys) refl
 
-rtypes_differ : (rtype : ℕ) → (rtype == type_nsec) ≡ true → (rtype == type_nsec3) ≡ false
-rtypes_differ rtype h = ap (λ n. n == type_nsec3) (number_same rtype type_nsec h)
-
--- Labels and the parent fit where a set isn't expanded
-pub labels_and_parent : (set : RrSet) (sig : RrsigValue) → is_kept_whole set sig ≡ true → nat_le sig.labels (num_labels set.owner) ≡ true
-    → (labels_fit set.rtype sig.labels set.owner ≡ true) × (parent_fits set.rtype sig.signer set.owner ≡ true)
-labels_and_parent set sig whole within =
-    labels_step (set.rtype == type_nsec) (set.rtype == type_nsec3) (sig.labels == num_labels set.owner) (name_eq (parent set.owner) sig.signer)
-    (nat_le sig.labels (num_labels set.owner)) (rtypes_differ set.rtype) whole within
-
--- a key set is always kept whole
-pub keys_kept_whole : (set : RrSet) (sig : RrsigValue) → (set.rtype == type_dnskey) ≡ true → is_kept_whole set sig ≡ true
-keys_kept_whole set sig keys = rw (number_same set.rtype type_dnskey keys) refl
+pub keys_anywhere : (rtype : ℕ) (signer owner : Labels) → (rtype == type_dnskey) ≡ true → right_below_signer rtype signer owner ≡ true
+keys_anywhere rtype signer owner keys = rw (number_same rtype type_dnskey keys) refl
 
 -- ---- the link
 
 -- what stands beside a good signature in a link
 pub record Fits (earlier : List LinkValue) (set : RrSet) (sig : RrsigValue) (key_link : ℕ) (key : List ℕ) : Type 0 where
-  pub whole : is_kept_whole set sig ≡ true
+  pub unexpanded : never_expanded set.rtype sig.labels set.owner ≡ true
+  pub below : right_below_signer set.rtype sig.signer set.owner ≡ true
   pub signer : signer_fits set.rtype sig.signer set.owner ≡ true
   pub comes : key_comes earlier set.owner set.class set.rtype (rdatas_of set.records) sig.signer key_link key ≡ true
 
-and_six : (a b c d e f : Bool) → a ≡ true → b ≡ true → c ≡ true → d ≡ true → e ≡ true → f ≡ true → (a && (b && (c && (d && (e && f))))) ≡ true
-and_six a b c d e f p q r s t u = rw (p, q, r, s, t, u) refl
+and_seven : (a b c d e f g : Bool) → a ≡ true → b ≡ true → c ≡ true → d ≡ true → e ≡ true → f ≡ true → g ≡ true
+    → (a && (b && (c && (d && (e && (f && g)))))) ≡ true
+and_seven a b c d e f g p q r s t u v = rw (p, q, r, s, t, u, v) refl
 
 -- the signed link of a proper set holds where the signature is good and the rest fits
 pub signed_holds : (j : Judge) (earlier : List LinkValue) (set : RrSet) (r key : Rr) (sig : RrsigValue) (key_link : ℕ)
@@ -150,12 +135,12 @@ signed_holds j earlier set r key sig key_link proper is good fits =
     let rdatas = rdatas_of set.records in
     let text = good_parts j set r key sig is good in
     let of_set = of_set_parts set r sig text.of_set in
-    let fit = labels_and_parent set sig fits.whole of_set.labels in
     let signed : is_signed j earlier set.owner set.class set.rtype rdatas key_link key.rdata (Some sig) ≡ true =
-    and_six (sig.covered == set.rtype) (signer_fits set.rtype sig.signer set.owner) (labels_fit set.rtype sig.labels set.owner)
-    (parent_fits set.rtype sig.signer set.owner) (is_good j set.owner set.class set.rtype rdatas sig key.rdata (dnskey_in key.rdata))
+    and_seven (sig.covered == set.rtype) (signer_fits set.rtype sig.signer set.owner) (nat_le sig.labels (num_labels set.owner))
+    (never_expanded set.rtype sig.labels set.owner) (right_below_signer set.rtype sig.signer set.owner)
+    (is_good j set.owner set.class set.rtype rdatas sig key.rdata (dnskey_in key.rdata))
     (key_comes earlier set.owner set.class set.rtype rdatas sig.signer key_link key.rdata)
-    of_set.covered fits.signer fit.0 fit.1 (good_in_link j set r key sig text) fits.comes in
+    of_set.covered fits.signer of_set.labels fits.unexpanded fits.below (good_in_link j set r key sig text) fits.comes in
     let read : is_signed j earlier set.owner set.class set.rtype rdatas key_link key.rdata (rrsig_in r.rdata) ≡ true =
     ap (is_signed j earlier set.owner set.class set.rtype rdatas key_link key.rdata) (rrsig_read r sig is) ∙ signed in
     and_from (not (set.rtype == type_rrsig)) (is_nonempty rdatas && is_signed j earlier set.owner set.class set.rtype rdatas key_link key.rdata (rrsig_in r.rdata))

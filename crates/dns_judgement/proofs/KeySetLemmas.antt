@@ -17,8 +17,9 @@ use Rattle.dns_model.proofs.SetLemmas.{name_back, name_trans, number_same, is_of
 use Rattle.dns_model.proofs.ChainLemmas.{links_hold-append, is_chain-append, last_link-append, justified_extends, bytes_refl, each_member, signed_is_for, keys_are_for, anchor_shown, slice_get_at}
 use Rattle.dns_judgement.specs.Validity.{sig_validity, validity, is_valid, is_accepted, is_good_by}
 use Rattle.dns_judgement.specs.Judged.{names_decider, stands}
-use Rattle.dns_judgement.specs.Marks.{most_signatures, is_anchored_key, anchored_signer, SignedKeys, signed_keys_or, first_signed, numbers_from, anchored_chain, self_signed_chain, keys_by, judged_keys}
-use Rattle.dns_judgement.proofs.GoodLemmas.{good_parts, signer_is_owner, of_set_parts, keys_kept_whole, Fits, signed_holds}
+use Rattle.dns_judgement.specs.Marks.{most_signatures, is_anchored_key, anchored_signer, SignedKeys, first_signed, numbers_from, anchored_chain, self_signed_chain, keys_by, judged_keys}
+use Rattle.dns_judgement.proofs.GoodLemmas.{good_parts, signer_is_owner, of_set_parts, keys_unexpanded, keys_anywhere, Fits, signed_holds}
+use Rattle.dns_judgement.proofs.FirstLemmas.{signed_from, first_signed-from, signed_or, signed_none, signed_more}
 use Rattle.dns_judgement.proofs.StandLemmas.{IsChainFor, stands_from, slice_get-take}
 
 -- ---- the first signature that is good by an anchored key
@@ -31,7 +32,7 @@ record IsSignedAt (j : Judge) (set : RrSet) (rs : List Rr) (n : ℕ) (s : Signed
   by : anchored_signer j set s.signature ≡ Some s.key
 
 signed_step : (j : Judge) (set : RrSet) (n : ℕ) (r : Rr) (rs : List Rr) (o : Option Rr) (rest : Option SignedKeys) (s : SignedKeys)
-    → anchored_signer j set r ≡ o → (rest ≡ Some s → IsSignedAt j set rs (n + 1) s) → signed_keys_or n r o rest ≡ Some s
+    → anchored_signer j set r ≡ o → (rest ≡ Some s → IsSignedAt j set rs (n + 1) s) → signed_or n r o rest ≡ Some s
     → IsSignedAt j set (r ∷ rs) n s
 signed_step j set n r rs None rest s is later h =
     let l = later h in
@@ -46,11 +47,11 @@ signed_step j set n r rs (Some key) rest s is later h =
       by = ap (λ x. anchored_signer j set x.signature) (sym same) ∙ is ∙ ap (λ x. Some x.key) same;
     }
 
-first_signed_at : (j : Judge) (set : RrSet) (n : ℕ) (rs : List Rr) (s : SignedKeys) → first_signed j set n rs ≡ Some s → IsSignedAt j set rs n s
-unfolding first_signed
-first_signed_at j set n [] s h = cc
-first_signed_at j set n (r ∷ rs) s h =
-    signed_step j set n r rs (anchored_signer j set r) (first_signed j set (n + 1) rs) s refl (first_signed_at j set (n + 1) rs s) h
+signed_at : (j : Judge) (set : RrSet) (n : ℕ) (rs : List Rr) (s : SignedKeys) → signed_from j set n rs ≡ Some s → IsSignedAt j set rs n s
+signed_at j set n [] s h = let none : signed_from j set n [] ≡ None = signed_none j set n in cc
+signed_at j set n (r ∷ rs) s h =
+    signed_step j set n r rs (anchored_signer j set r) (signed_from j set (n + 1) rs) s refl (signed_at j set (n + 1) rs s)
+    (sym (signed_more j set n r rs) ∙ h)
 
 -- a good signature can be read
 record IsRead (r : Rr) : Type 0 where
@@ -105,7 +106,8 @@ self_signed j set rs s proper keys at =
     comes_of_keys (set.rtype == type_dnskey) (name_eq set.owner read.sig.signer) (has_bytes rdatas s.key.rdata)
     (shows_key set.owner set.class s.key.rdata (Some anchor)) false keys owner found.known.0 (anchor_shown set.owner set.class s.key.rdata) in
     let fits : Fits (anchor ∷ []) set read.sig 0 s.key.rdata = record {
-      whole = keys_kept_whole set read.sig keys;
+      unexpanded = keys_unexpanded set.rtype read.sig.labels set.owner keys;
+      below = keys_anywhere set.rtype read.sig.signer set.owner keys;
       signer = signer_of_keys set.rtype read.sig.signer set.owner keys above;
       comes = comes;
     } in
@@ -176,11 +178,11 @@ unsigned_step j placed true h =
 unsigned_step j placed false h = refl
 
 keys_step : (j : Judge) (placed : Placed) (n : ℕ) (o : Option SignedKeys) → IsProper placed.set → (placed.set.rtype == type_dnskey) ≡ true
-    → first_signed j placed.set 0 (take n placed.set.signatures) ≡ o → stands j (keys_by j placed o) ≡ true
+    → first_signed j placed.set (take n placed.set.signatures) ≡ o → stands j (keys_by j placed o) ≡ true
 keys_step j placed n None proper keys is =
     unsigned_step j placed (list_all (is_anchored_key j placed.set) placed.set.records) (anchored j placed.set proper keys)
 keys_step j placed n (Some s) proper keys is =
-    let found = first_signed_at j placed.set 0 (take n placed.set.signatures) s is in
+    let found = signed_at j placed.set 0 (take n placed.set.signatures) s (sym (first_signed-from j placed.set (take n placed.set.signatures)) ∙ is) in
     let chain = self_signed j placed.set (take n placed.set.signatures) s proper keys found in
     let place_is : s.place ≡ found.k = found.place_is ∙ omega arith in
     let at : slice_get placed.set.signatures s.place ≡ Some s.signature =
@@ -191,4 +193,4 @@ keys_step j placed n (Some s) proper keys is =
 pub judged_keys-stands : (j : Judge) (placed : Placed) → IsProper placed.set → (placed.set.rtype == type_dnskey) ≡ true → stands j (judged_keys j placed) ≡ true
 unfolding judged_keys
 judged_keys-stands j placed proper keys =
-    keys_step j placed most_signatures (first_signed j placed.set 0 (take most_signatures placed.set.signatures)) proper keys refl
+    keys_step j placed most_signatures (first_signed j placed.set (take most_signatures placed.set.signatures)) proper keys refl

@@ -1,4 +1,5 @@
 pub mod GoodLemmas
+pub mod FirstLemmas
 pub mod StandLemmas
 pub mod KeySetLemmas
 pub mod RunLemmas

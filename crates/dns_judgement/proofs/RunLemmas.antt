@@ -55,7 +55,7 @@ keys_placed j p (Some s) = refl
 
 pub placed_of-judged_keys : (j : Judge) (p : Placed) → placed_of (judged_keys j p) ≡ p
 unfolding judged_keys
-placed_of-judged_keys j p = keys_placed j p (first_signed j p.set 0 (take most_signatures p.set.signatures))
+placed_of-judged_keys j p = keys_placed j p (first_signed j p.set (take most_signatures p.set.signatures))
 
 pub placed_of-judged_by : (p : Placed) (vs : List Verdict) → placed_of (judged_by p vs) ≡ p
 unfolding judged_by

@@ -12,15 +12,16 @@ use Rattle.dns_model.specs.Types.{type_dnskey}
 use Rattle.dns_model.specs.Views.{RrsigValue}
 use Rattle.dns_model.specs.RecordViews.{rrsig_of}
 use Rattle.dns_model.specs.Records.{Rr, RrSet, Question, question_eq}
-use Rattle.dns_model.specs.Chains.{LinkValue, Signed, Judge, has_bytes, rdatas_of, signer_fits, key_comes, shows_key, shows_member, justified, last_link, ends_at, link_is_for}
+use Rattle.dns_model.specs.Chains.{LinkValue, Signed, Judge, has_bytes, rdatas_of, signer_fits, never_expanded, right_below_signer, key_comes, shows_key, shows_member, justified, last_link, ends_at, link_is_for}
 use Rattle.dns_model.specs.SoundAnswers.{Placed, is_secure, section_eq}
 use Rattle.dns_model.proofs.EachLemmas.{each_filter, find_known}
 use Rattle.dns_model.proofs.SetLemmas.{IsProper}
 use Rattle.dns_model.proofs.ChainLemmas.{last_link-append, slice_get-last, justified_extends, bytes_refl, each_member, member_shown, signed_is_for}
 use Rattle.dns_judgement.specs.Validity.{is_good_by}
 use Rattle.dns_judgement.specs.Judged.{Judged, decider, names_decider, stands}
-use Rattle.dns_judgement.specs.Marks.{is_skipped, is_skipped_read, key_question, first_two, counted_keys, is_key_of, same_tag, is_key_set_of, Verdict, Proved, Excused, Failed, is_proved, is_excused, signed_chain, by_secure_key, by_insecure_key, by_keys, by_key_set, is_kept_whole, verdict_by, verdict_of, mark_at, proved_chain, judged_by}
+use Rattle.dns_judgement.specs.Marks.{is_skipped, is_skipped_read, key_question, first_two, counted_keys, is_key_of, same_tag, is_key_set_of, Verdict, Proved, Excused, Failed, is_proved, is_excused, signed_chain, by_secure_key, by_insecure_key, by_keys, by_key_set, verdict_by, verdict_of, mark_at, proved_chain, judged_by}
 use Rattle.dns_judgement.proofs.GoodLemmas.{Fits, signed_holds}
+use Rattle.dns_judgement.proofs.FirstLemmas.{early_after, first_two-after}
 
 -- ---- a chain for a set
 
@@ -59,7 +60,8 @@ pub record IsProof (j : Judge) (set : RrSet) (r : Rr) (answer : List Judged) (ch
   pub keys : Judged
   pub key : Rr
   pub read : rrsig_of r ≡ Some sig
-  pub whole : is_kept_whole set sig ≡ true
+  pub unexpanded : never_expanded set.rtype sig.labels set.owner ≡ true
+  pub below : right_below_signer set.rtype sig.signer set.owner ≡ true
   pub found : find (is_key_set_of set.class sig.signer) answer ≡ Some keys
   pub secure : is_secure keys.mark ≡ true
   pub good : find (is_good_by j set r) (counted_keys sig.signer keys.set.records) ≡ Some key
@@ -113,14 +115,18 @@ proved_read : (j : Judge) (set : RrSet) (r : Rr) (answer : List Judged) (o : Opt
 proved_read j set r answer None chain is h = cc
 proved_read j set r answer (Some sig) chain is h =
     let found = find (is_key_set_of set.class sig.signer) answer in
-    let parts = whole_step (is_kept_whole set sig) (by_key_set j set r sig.signer found) chain h in
+    let unexpanded = never_expanded set.rtype sig.labels set.owner in
+    let below = right_below_signer set.rtype sig.signer set.owner in
+    let parts = whole_step (unexpanded && below) (by_key_set j set r sig.signer found) chain h in
+    let both = and_parts unexpanded below parts.0 in
     let by = proved_set j set r sig.signer found chain parts.1 in
     record {
       sig = sig;
       keys = by.keys;
       key = by.by.by.key;
       read = is;
-      whole = parts.0;
+      unexpanded = both.0;
+      below = both.1;
       found = by.is;
       secure = by.by.secure;
       good = by.by.by.is;
@@ -149,15 +155,16 @@ two_step : (P : Rr → Type 0) (b : Bool) (x : Rr) (xs : List Rr) → P x → Al
 two_step P true x xs h k = (h, k)
 two_step P false x xs h k = k
 
-each_first_two : (P : Rr → Type 0) (earlier records : List Rr) → AllByRecursion P records → AllByRecursion P (first_two earlier records)
-unfolding first_two
-each_first_two P earlier [] h = tt
-each_first_two P earlier (r ∷ rs) h =
-    two_step P (nat_lt (count_by (same_tag r) earlier) 2) r (first_two (earlier ++ r ∷ []) rs) h.0 (each_first_two P (earlier ++ r ∷ []) rs h.1)
+each_early : (P : Rr → Type 0) (met records : List Rr) → AllByRecursion P records → AllByRecursion P (early_after met records)
+unfolding early_after
+each_early P met [] h = tt
+each_early P met (r ∷ rs) h =
+    two_step P (nat_lt (count_by (same_tag r) met) 2) r (early_after (met ++ r ∷ []) rs) h.0 (each_early P (met ++ r ∷ []) rs h.1)
 
 -- what is shown of each record is shown of each counted key
 pub each_counted : (P : Rr → Type 0) (zone : Labels) (records : List Rr) → AllByRecursion P records → AllByRecursion P (counted_keys zone records)
-each_counted P zone records h = each_first_two P [] (filter (is_key_of zone) records) (each_filter P (is_key_of zone) records h)
+each_counted P zone records h =
+    rw (first_two-after (filter (is_key_of zone) records)) (each_early P [] (filter (is_key_of zone) records) (each_filter P (is_key_of zone) records h))
 
 -- the parts of a test that a set is a signer's key set
 record IsKeySetOf (class : ℕ) (signer : Labels) (s : Judged) : Type 0 where
@@ -197,7 +204,7 @@ proof_is_chain j set asked r answer chain proper other asked_for stand is =
     comes_step (set.rtype == type_dnskey) (shows_member p.sig.signer set.class p.key.rdata (slice_get p.keys.chain last))
     (name_eq set.owner p.sig.signer && (has_bytes (rdatas_of set.records) p.key.rdata && shows_key set.owner set.class p.key.rdata (slice_get p.keys.chain last)))
     other shown in
-    let fits : Fits p.keys.chain set p.sig last p.key.rdata = record { whole = p.whole; signer = asked_fits set asked r p.sig p.read asked_for; comes = comes } in
+    let fits : Fits p.keys.chain set p.sig last p.key.rdata = record { unexpanded = p.unexpanded; below = p.below; signer = asked_fits set asked r p.sig p.read asked_for; comes = comes } in
     let holds = signed_holds j p.keys.chain set r p.key p.sig last proper p.read key.passes fits in
     let ended = last_link-append p.keys.chain link in
     record {

@@ -1,17 +1,18 @@
 -- The marks of sets, from the finished answers of their asks (RFC 4035, 4.3, 5.2 and 5.3).
-use Rattle.std.specs.Prelude.{ℕ, ◌+◌, ◌-◌, Bool, true, false, not, ◌==◌, ◌&&◌, ◌||◌, nat_lt, List, [], ◌∷◌, ◌++◌, map, length, take, Option, None, Some, is_some, if◌then◌else◌}
-use Rattle.std.specs.List.{filter, find, list_all, list_any, count_by, position}
+use Rattle.std.specs.Prelude.{ℕ, ◌+◌, ◌-◌, Bool, true, false, not, ◌==◌, ◌&&◌, ◌||◌, nat_lt, List, [], ◌∷◌, ◌++◌, map, length, take, Option, None, Some, is_some, slice_get, if◌then◌else◌}
+use Rattle.std.specs.Option.{option_map}
+use Rattle.std.specs.List.{filter, filter_map, find, list_all, count_by, position, enumerate_from}
 use Rattle.dns_model.specs.declared.proof.Proof.{Proof}
 use Rattle.dns_model.specs.declared.proof.Proof.TheVariants.{Secure, Insecure, Bogus, Indeterminate}
 use Rattle.dns_model.specs.declared.section.Section.{Section}
 use Rattle.dns_model.specs.declared.section.Section.TheVariants.{Answer}
-use Rattle.dns_model.specs.Names.{Labels, name_eq, at_or_above, num_labels, parent}
-use Rattle.dns_model.specs.Types.{type_ds, type_nsec, type_nsec3, type_dnskey}
+use Rattle.dns_model.specs.Names.{Labels, name_eq}
+use Rattle.dns_model.specs.Types.{type_dnskey}
 use Rattle.dns_model.specs.Views.{RrsigValue}
 use Rattle.dns_model.specs.Records.{Rr, RrSet, Question, question_eq}
 use Rattle.dns_model.specs.RecordViews.{rrsig_of, dnskey_of}
 use Rattle.dns_model.specs.Signing.{key_tag_of}
-use Rattle.dns_model.specs.Chains.{LinkValue, Anchored, KeySet, Signed, Judge, signer_fits, rdatas_of}
+use Rattle.dns_model.specs.Chains.{LinkValue, Anchored, KeySet, Signed, Judge, signer_fits, never_expanded, right_below_signer, rdatas_of}
 use Rattle.dns_model.specs.SoundAnswers.{Placed, section_eq}
 use Rattle.dns_judgement.specs.Validity.{is_good_by}
 use Rattle.dns_judgement.specs.Judged.{Judged}
@@ -40,17 +41,17 @@ is_key_of zone r = name_eq zone r.owner && is_some (dnskey_of r)
 abbrev pub same_tag : Rr → Rr → Bool
 same_tag a b = key_tag_of a.rdata == key_tag_of b.rdata
 
--- the first two of each tag; the first list are those before
-unfoldable pub first_two : List Rr → List Rr → List Rr
-first_two earlier [] = []
-first_two earlier (r ∷ rs) =
-    if nat_lt (count_by (same_tag r) earlier) 2
-    then r ∷ first_two (earlier ++ r ∷ []) rs
-    else first_two (earlier ++ r ∷ []) rs
+-- fewer than two of the keys before this one have its tag
+abbrev pub is_early : List Rr → ℕ × Rr → Bool
+is_early keys (n, key) = nat_lt (count_by (same_tag key) (take n keys)) 2
+
+-- the first two keys of each tag
+unfoldable pub first_two : List Rr → List Rr
+first_two keys = map (λ p. p.1) (filter (is_early keys) (enumerate_from 0 keys))
 
 -- the keys of a zone that may sign its sets, of whatever records: the first two of each tag
 abbrev pub counted_keys : Labels → List Rr → List Rr
-counted_keys zone records = first_two [] (filter (is_key_of zone) records)
+counted_keys zone records = first_two (filter (is_key_of zone) records)
 
 -- the key set of a question in the answer section of a finished ask
 abbrev pub is_key_set_of : ℕ → Labels → Judged → Bool
@@ -97,17 +98,12 @@ abbrev pub by_key_set : Judge → RrSet → Rr → Labels → Option Judged → 
 by_key_set j set r signer None = Failed
 by_key_set j set r signer (Some keys) = by_keys j set r keys.chain keys.mark (counted_keys signer keys.set.records)
 
--- an NSEC or NSEC3 is never expanded, and an NSEC3 stands right below its signer
-abbrev pub is_kept_whole : RrSet → RrsigValue → Bool
-is_kept_whole set sig =
-    if set.rtype == type_nsec then sig.labels == num_labels set.owner
-    else if set.rtype == type_nsec3 then (sig.labels == num_labels set.owner) && name_eq (parent set.owner) sig.signer
-    else true
-
 abbrev pub verdict_by : Judge → RrSet → Rr → List Judged → Option RrsigValue → Verdict
 verdict_by j set r answer None = Failed
 verdict_by j set r answer (Some sig) =
-    if is_kept_whole set sig then by_key_set j set r sig.signer (find (is_key_set_of set.class sig.signer) answer) else Failed
+    if never_expanded set.rtype sig.labels set.owner && right_below_signer set.rtype sig.signer set.owner
+    then by_key_set j set r sig.signer (find (is_key_set_of set.class sig.signer) answer)
+    else Failed
 
 -- the verdict of one signature, with the sets of the answer to its ask; none where the ask failed or was refused
 unfoldable pub verdict_of : Judge → RrSet → Rr → Option (List Judged) → Verdict
@@ -157,20 +153,19 @@ is_anchored_key j set key = (key.rtype == type_dnskey) && j.is_anchored set.owne
 abbrev pub anchored_signer : Judge → RrSet → Rr → Option Rr
 anchored_signer j set r = find (λ key. is_anchored_key j set key && is_good_by j set r key) set.records
 
--- the first signature of a list that is good by an anchored key: its place, itself and the key
+-- a signature of a key set that is good by an anchored key of it: its place, itself and the key
 pub record SignedKeys : Type 0 where
   pub place : ℕ
   pub signature : Rr
   pub key : Rr
 
-abbrev pub signed_keys_or : ℕ → Rr → Option Rr → Option SignedKeys → Option SignedKeys
-signed_keys_or n signature None rest = rest
-signed_keys_or n signature (Some key) rest = Some (record { place = n; signature = signature; key = key })
+abbrev pub signed_keys : Judge → RrSet → ℕ × Rr → Option SignedKeys
+signed_keys j set (n, signature) =
+    option_map (λ key. record { place = n; signature = signature; key = key }) (anchored_signer j set signature)
 
-unfoldable pub first_signed : Judge → RrSet → ℕ → List Rr → Option SignedKeys
-first_signed j set n [] = None
-first_signed j set n (signature ∷ signatures) =
-    signed_keys_or n signature (anchored_signer j set signature) (first_signed j set (n + 1) signatures)
+-- the first of some signatures that is good by an anchored key
+unfoldable pub first_signed : Judge → RrSet → List Rr → Option SignedKeys
+first_signed j set signatures = slice_get (filter_map (signed_keys j set) (enumerate_from 0 signatures)) 0
 
 -- n, n + 1 and so on, one for each
 abbrev pub numbers_from : ℕ → List (List ℕ) → List ℕ
@@ -206,4 +201,4 @@ keys_by j placed None = keys_unsigned j placed
 
 -- a DNSKEY set: signed by an anchored key of it, or wholly anchored; until DS sets are asked for, else Bogus
 unfoldable pub judged_keys : Judge → Placed → Judged
-judged_keys j placed = keys_by j placed (first_signed j placed.set 0 (take most_signatures placed.set.signatures))
+judged_keys j placed = keys_by j placed (first_signed j placed.set (take most_signatures placed.set.signatures))

@@ -3,10 +3,11 @@ use Rattle.std.specs.Prelude.{ℕ, Bool, true, false, not, ◌==◌, ◌&&◌, n
 use Rattle.dns_judgement.specs.declared.rrsig_validity.RrsigValidity.{RrsigValidity}
 use Rattle.dns_judgement.specs.declared.rrsig_validity.RrsigValidity.TheVariants.{ValidRrsig, ExpiredRrsig, WrongDnskey, WrongRrsig}
 use Rattle.dns_model.specs.Names.{name_eq, at_or_above, num_labels}
-use Rattle.dns_model.specs.Views.{RrsigValue, DnskeyValue, is_zone_key, is_revoked}
+use Rattle.dns_model.specs.Views.{RrsigValue, DnskeyValue, is_zone_key}
 use Rattle.dns_model.specs.Records.{Rr, RrSet}
 use Rattle.dns_model.specs.RecordViews.{rrsig_of, dnskey_of}
 use Rattle.dns_model.specs.Signing.{signed_bytes, key_tag_of}
+use Rattle.dns_model.specs.Keys.{usable_key}
 use Rattle.dns_model.specs.Chains.{Judge, rdatas_of}
 
 -- the signature stands at the set's owner and class, under a signer at or above it, over the set's type and no more labels
@@ -41,12 +42,13 @@ is_valid ExpiredRrsig = false
 is_valid WrongDnskey = false
 is_valid WrongRrsig = false
 
+-- the key may sign, and the verifier accepts its signature
 abbrev pub is_accepted : Judge → RrSet → Option RrsigValue → Option DnskeyValue → Bool
 is_accepted j set None key = false
 is_accepted j set (Some sig) None = false
 is_accepted j set (Some sig) (Some key) =
-    not (is_revoked key) && ((key.protocol == 3) && (j.answers.supports key.algorithm
-    && j.answers.accepts sig.algorithm key.key (signed_bytes set.owner set.rtype set.class (rdatas_of set.records) sig) sig.signature))
+    usable_key j.answers key
+    && j.answers.accepts sig.algorithm key.key (signed_bytes set.owner set.rtype set.class (rdatas_of set.records) sig) sig.signature
 
 -- the signature (second) of a set is good by a key (third)
 unfoldable pub is_good_by : Judge → RrSet → Rr → Rr → Bool

@@ -128,7 +128,7 @@ fn handle_over(
         upstream.replies.push(query_of(alloc, given)?, response)?;
     }
     let anchors = TrustAnchors::empty(alloc);
-    Ok(DnssecDnsHandle::new(upstream, anchors, Listed::new(alloc))?)
+    Ok(DnssecDnsHandle::with_trust_anchor(upstream, anchors, Listed::new(alloc))?)
 }
 
 /// An ask of the lookup of `. NS` with default options.

@@ -1,5 +1,6 @@
 use crate::trust_tests::*;
 use dns_name::{Name, Octets};
+use dns_rdata::Rrsig;
 use dns_record::{Proof, Record, RecordSet, RecordType, Section};
 use dns_sets::{JudgedSet, PlacedSet};
 use dns_trust::*;
@@ -53,7 +54,12 @@ fn keys_mark(
         set,
     };
     let anchors = anchors(alloc, is_trusted)?;
-    let judged = judged_keys(alloc, &verifier(alloc)?, &anchors, 1500, placed)?;
+    let judge = Judge {
+        verifier: &verifier(alloc)?,
+        anchors: &anchors,
+        moment: 1500,
+    };
+    let judged = judged_keys(alloc, &judge, placed)?;
     Ok((judged.mark, judged.sig, judged.chain.len()))
 }
 
@@ -106,7 +112,15 @@ fn verdict(alloc: Global, now: u64, answer: Option<Vec<JudgedSet>>) -> Result<Ve
     let sig = signature_of(alloc, ".", OVER_NS)?;
     let anchors = anchors(alloc, true)?;
     let verifier = verifier(alloc)?;
-    Ok(verdict_of(alloc, &verifier, &anchors, now, &set, &sig, &answer)?)
+    let judge = Judge {
+        verifier: &verifier,
+        anchors: &anchors,
+        moment: now,
+    };
+    let Some(read) = Rrsig::of(&sig) else {
+        return Err("no signature".into());
+    };
+    Ok(verdict_of(alloc, &judge, &set, &sig, &read, &answer)?)
 }
 
 fn proves(
@@ -238,7 +252,12 @@ fn unsigned_mark(alloc: Global, letters: &[u8]) -> Result<Proof, Fail> {
         set: keys_by_letters(alloc, letters)?,
     };
     let anchors = anchors(alloc, true)?;
-    Ok(judged_keys(alloc, &verifier(alloc)?, &anchors, 1500, placed)?.mark)
+    let judge = Judge {
+        verifier: &verifier(alloc)?,
+        anchors: &anchors,
+        moment: 1500,
+    };
+    Ok(judged_keys(alloc, &judge, placed)?.mark)
 }
 
 #[test]

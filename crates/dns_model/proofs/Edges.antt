@@ -1,5 +1,6 @@
 -- The definitions at their edges: the root, wildcards, cut bytes, letters in either case.
 use Rattle.std.specs.Prelude.{◌≡◌, ℕ, true, false, List, [], ◌∷◌, ◌++◌, map, replicate, None, Some, is_some, refl}
+use Rattle.std.specs.Prelude.{nat_le}
 use Rattle.dns_model.specs.Names.{Labels, at_or_above, strictly_above, parent, num_labels, last_labels, star, wire}
 use Rattle.dns_model.specs.NameForm.{label_in, labels_in, name_in}
 use Rattle.dns_model.specs.Shapes.{counted_in, window_in, windows_in, is_bitmap, bitmap_has, parts_in, shape_of, is_lowered_type, canonical_form}
@@ -8,7 +9,7 @@ use Rattle.dns_model.specs.Views.{rrsig_in, dnskey_in, ns_in}
 use Rattle.dns_model.specs.Records.{Rr}
 use Rattle.dns_model.specs.Sections.{leaders, sets_of}
 use Rattle.dns_model.specs.Keys.{usable}
-use Rattle.dns_model.specs.Chains.{signer_fits, labels_fit, parent_fits}
+use Rattle.dns_model.specs.Chains.{signer_fits, never_expanded, right_below_signer}
 use Rattle.dns_model.specs.declared.proof.Proof.TheVariants.{Indeterminate}
 use Rattle.dns_model.proofs.Worked.{example, upper_example, letter_a, key, revoked_key, signature, name_a, verifier}
 
@@ -172,16 +173,16 @@ expanded_from_root = refl
 pub ds_of_root : signer_fits 43 [] [] ≡ false
 ds_of_root = refl
 
-pub nsec_expanded : labels_fit 47 1 (letter_a ∷ example ∷ []) ≡ false
+pub nsec_expanded : never_expanded 47 1 (letter_a ∷ example ∷ []) ≡ false
 nsec_expanded = refl
 
-pub nsec_of_wildcard : labels_fit 47 1 (star (example ∷ [])) ≡ true
+pub nsec_of_wildcard : never_expanded 47 1 (star (example ∷ [])) ≡ true
 nsec_of_wildcard = refl
 
-pub too_many_labels : labels_fit 1 2 (star (example ∷ [])) ≡ false
+pub too_many_labels : nat_le 2 (num_labels (star (example ∷ []))) ≡ false
 too_many_labels = refl
 
-pub nsec3_far_below : parent_fits 50 [] (letter_a ∷ example ∷ []) ≡ false
+pub nsec3_far_below : right_below_signer 50 [] (letter_a ∷ example ∷ []) ≡ false
 nsec3_far_below = refl
 
 -- ---- usable keys

@@ -1,5 +1,5 @@
 -- Chains of trust (RFC 4035, 5.2 and 5.3).
-use Rattle.std.specs.Prelude.{ℕ, ◌-◌, Bool, true, false, not, ◌==◌, ◌&&◌, nat_le, nat_lt, List, [], ◌∷◌, ◌++◌, map, length, Option, None, Some, is_some, slice_get, if◌then◌else◌}
+use Rattle.std.specs.Prelude.{ℕ, ◌-◌, Bool, true, false, not, ◌==◌, ◌&&◌, ◌||◌, nat_le, nat_lt, List, [], ◌∷◌, ◌++◌, map, length, Option, None, Some, is_some, slice_get, if◌then◌else◌}
 use Rattle.std.specs.List.{list_any}
 use Rattle.dns_model.specs.Names.{Labels, name_eq, at_or_above, strictly_above, parent, num_labels}
 use Rattle.dns_model.specs.Types.{type_ds, type_rrsig, type_nsec, type_dnskey, type_nsec3}
@@ -83,16 +83,13 @@ is_nonempty (x ∷ xs) = true
 abbrev pub signer_fits : ℕ → Labels → Labels → Bool
 signer_fits rtype signer owner = if rtype == type_ds then strictly_above signer owner else at_or_above signer owner
 
--- Labels counts no more labels than the owner has; an NSEC or NSEC3 is never expanded
-abbrev pub labels_fit : ℕ → ℕ → Labels → Bool
-labels_fit rtype labels owner =
-    if (rtype == type_nsec) then labels == num_labels owner
-    else if rtype == type_nsec3 then labels == num_labels owner
-    else nat_le labels (num_labels owner)
+-- an NSEC or NSEC3 is never expanded from a wildcard: Labels counts all labels of its owner (RFC 4035, 5.3.4; RFC 5155, 3)
+abbrev pub never_expanded : ℕ → ℕ → Labels → Bool
+never_expanded rtype labels owner = if (rtype == type_nsec) || (rtype == type_nsec3) then labels == num_labels owner else true
 
--- an NSEC3 stands right below its zone's apex
-abbrev pub parent_fits : ℕ → Labels → Labels → Bool
-parent_fits rtype signer owner = if rtype == type_nsec3 then name_eq (parent owner) signer else true
+-- an NSEC3 stands right below its signer (RFC 5155, 3)
+abbrev pub right_below_signer : ℕ → Labels → Labels → Bool
+right_below_signer rtype signer owner = if rtype == type_nsec3 then name_eq (parent owner) signer else true
 
 -- the signature is the key's, good and timely
 abbrev pub is_good : Judge → Labels → ℕ → ℕ → List (List ℕ) → RrsigValue → List ℕ → Option DnskeyValue → Bool
@@ -111,9 +108,9 @@ key_comes earlier owner class rtype rdatas signer key_link key =
 abbrev pub is_signed : Judge → List LinkValue → Labels → ℕ → ℕ → List (List ℕ) → ℕ → List ℕ → Option RrsigValue → Bool
 is_signed j earlier owner class rtype rdatas key_link key None = false
 is_signed j earlier owner class rtype rdatas key_link key (Some sig) =
-    (sig.covered == rtype) && (signer_fits rtype sig.signer owner && (labels_fit rtype sig.labels owner
-    && (parent_fits rtype sig.signer owner && (is_good j owner class rtype rdatas sig key (dnskey_in key)
-    && key_comes earlier owner class rtype rdatas sig.signer key_link key))))
+    (sig.covered == rtype) && (signer_fits rtype sig.signer owner && (nat_le sig.labels (num_labels owner)
+    && (never_expanded rtype sig.labels owner && (right_below_signer rtype sig.signer owner
+    && (is_good j owner class rtype rdatas sig key (dnskey_in key) && key_comes earlier owner class rtype rdatas sig.signer key_link key)))))
 
 -- a link holds by the anchors or by links before it
 unfoldable pub link_holds : Judge → List LinkValue → LinkValue → Bool

@@ -7,7 +7,7 @@ use Rattle.dns_model.specs.declared.section.Section.{Section}
 use Rattle.dns_model.specs.declared.section.Section.TheVariants.{Answer, Authority, Additional}
 use Rattle.dns_model.specs.declared.denial.Denial.{Denial}
 use Rattle.dns_model.specs.Names.{Labels, name_eq}
-use Rattle.dns_model.specs.Types.{type_rrsig}
+use Rattle.dns_model.specs.Types.{type_dnskey}
 use Rattle.dns_model.specs.Views.{RrsigValue, rrsig_in}
 use Rattle.dns_model.specs.Serial.{seconds_left}
 use Rattle.dns_model.specs.Records.{Rr, RrSet, MessageValue}
@@ -128,7 +128,7 @@ abbrev pub link_is_of : Labels → ℕ → Option LinkValue → Bool
 link_is_of owner rtype None = false
 link_is_of owner rtype (Some (Anchored o c key)) = false
 link_is_of owner rtype (Some (Matched o c key ds_link ds)) = false
-link_is_of owner rtype (Some (KeySet o c keys links)) = name_eq owner o && (rtype == 48)
+link_is_of owner rtype (Some (KeySet o c keys links)) = name_eq owner o && (rtype == type_dnskey)
 link_is_of owner rtype (Some (Signed o c k rdatas sig key_link key)) = name_eq owner o && (rtype == k)
 
 abbrev pub chain_is_of : Section → Labels → ℕ → ChainValue → Bool

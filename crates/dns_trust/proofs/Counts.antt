@@ -13,6 +13,7 @@ use Rattle.dns_model.specs.Names.{Labels}
 use Rattle.dns_model.specs.Records.{Rr}
 use Rattle.dns_model.specs.Signing.{key_tag_of}
 use Rattle.dns_judgement.specs.Marks.{is_key_of, same_tag, first_two, counted_keys, by_insecure_key, Excused, Failed}
+use Rattle.dns_judgement.proofs.FirstLemmas.{early_after, first_two-after}
 use Rattle.dns_trust.specs.Counting.{count_in, tag_count_after, count_after, is_tried}
 
 nat_at : (k q : ℕ) → is_at (nat_cmp k) q ≡ (k == q)
@@ -30,7 +31,7 @@ zone_keys zone keys = filter (is_key_of zone) keys
 
 -- the keys that are left, after those before
 abbrev left_after : Labels → List Rr → ℕ → List Rr
-left_after zone keys i = first_two (zone_keys zone (take i keys)) (zone_keys zone (drop i keys))
+left_after zone keys i = early_after (zone_keys zone (take i keys)) (zone_keys zone (drop i keys))
 
 -- the tags of the keys so far are counted, and a search goes on among the keys that are left
 pub record Tried (p : Rr → Bool) (zone : Labels) (keys : List Rr) (i : ℕ) (m : BTreeMap ℕ ℕ) : Type 0 where
@@ -40,15 +41,15 @@ pub record Tried (p : Rr → Bool) (zone : Labels) (keys : List Rr) (i : ℕ) (m
 -- no key was met
 pub none_tried : (p : Rr → Bool) (zone : Labels) (keys : List Rr) (m : BTreeMap ℕ ℕ) → m.entries ≡ [] → Tried p zone keys 0 m
 unfolding count_in
-none_tried p zone keys m empty = record { counted = λ r. rw empty refl; searched = refl }
+none_tried p zone keys m empty = record { counted = λ r. rw empty refl; searched = ap (find p) (sym (first_two-after (zone_keys zone keys))) }
 
 least_below : (n : ℕ) → nat_lt (min 2 n) 2 ≡ nat_lt n 2
 least_below n = grind (arith, nat_tests)
 
 -- what is left once one key more was met
-next_of : (earlier : List Rr) (key : Rr) (rest : List Rr) → first_two earlier (key ∷ rest)
-    ≡ cond (nat_lt (count_by (same_tag key) earlier) 2) (key ∷ first_two (earlier ++ key ∷ []) rest) (first_two (earlier ++ key ∷ []) rest)
-unfolding first_two
+next_of : (earlier : List Rr) (key : Rr) (rest : List Rr) → early_after earlier (key ∷ rest)
+    ≡ cond (nat_lt (count_by (same_tag key) earlier) 2) (key ∷ early_after (earlier ++ key ∷ []) rest) (early_after (earlier ++ key ∷ []) rest)
+unfolding early_after
 next_of earlier key rest = refl
 
 -- the zone's keys, once one record more was met
@@ -71,14 +72,14 @@ left_step : (zone : Labels) (keys : List Rr) (i : ℕ) (key : Rr) (can few : Boo
 left_step zone keys i key true few h is can tried =
     let here : zone_keys zone (drop i keys) ≡ key ∷ zone_keys zone (drop (i + 1) keys) = readable_from zone keys i key h is ∙ ap (λ b. cond b (key ∷ zone_keys zone (drop (i + 1) keys)) (zone_keys zone (drop (i + 1) keys))) (sym can) in
     let more : zone_keys zone (take (i + 1) keys) ≡ zone_keys zone (take i keys) ++ key ∷ [] = readable_more zone keys i key h is ∙ ap (λ b. zone_keys zone (take i keys) ++ cond b (key ∷ []) []) (sym can) in
-    ap (first_two (zone_keys zone (take i keys))) here
+    ap (early_after (zone_keys zone (take i keys))) here
     ∙ next_of (zone_keys zone (take i keys)) key (zone_keys zone (drop (i + 1) keys))
-    ∙ ap (λ b. cond b (key ∷ first_two (zone_keys zone (take i keys) ++ key ∷ []) (zone_keys zone (drop (i + 1) keys))) (first_two (zone_keys zone (take i keys) ++ key ∷ []) (zone_keys zone (drop (i + 1) keys)))) (sym tried)
-    ∙ ap (λ earlier. cond few (key ∷ first_two earlier (zone_keys zone (drop (i + 1) keys))) (first_two earlier (zone_keys zone (drop (i + 1) keys)))) (sym more)
+    ∙ ap (λ b. cond b (key ∷ early_after (zone_keys zone (take i keys) ++ key ∷ []) (zone_keys zone (drop (i + 1) keys))) (early_after (zone_keys zone (take i keys) ++ key ∷ []) (zone_keys zone (drop (i + 1) keys)))) (sym tried)
+    ∙ ap (λ earlier. cond few (key ∷ early_after earlier (zone_keys zone (drop (i + 1) keys))) (early_after earlier (zone_keys zone (drop (i + 1) keys)))) (sym more)
 left_step zone keys i key false few h is can tried =
     let here : zone_keys zone (drop i keys) ≡ zone_keys zone (drop (i + 1) keys) = readable_from zone keys i key h is ∙ ap (λ b. cond b (key ∷ zone_keys zone (drop (i + 1) keys)) (zone_keys zone (drop (i + 1) keys))) (sym can) in
     let more : zone_keys zone (take (i + 1) keys) ≡ zone_keys zone (take i keys) = readable_more zone keys i key h is ∙ ap (λ b. zone_keys zone (take i keys) ++ cond b (key ∷ []) []) (sym can) ∙ append-nil (zone_keys zone (take i keys)) in
-    ap (first_two (zone_keys zone (take i keys))) here ∙ ap (λ earlier. first_two earlier (zone_keys zone (drop (i + 1) keys))) (sym more)
+    ap (early_after (zone_keys zone (take i keys))) here ∙ ap (λ earlier. early_after earlier (zone_keys zone (drop (i + 1) keys))) (sym more)
 
 -- the same by the counts
 left_by : (p : Rr → Bool) (zone : Labels) (keys : List Rr) (i : ℕ) (m : BTreeMap ℕ ℕ) (key : Rr) → i < length keys → key ≡ slice_index_or keys i key → Tried p zone keys i m
@@ -96,13 +97,13 @@ tried_here p zone keys i m key h is t can good =
     ∙ ap (λ b. find p (cond b (key ∷ left_after zone keys (i + 1)) (left_after zone keys (i + 1)))) can
     ∙ ap (λ b. cond b (Some key) (find p (left_after zone keys (i + 1)))) good
 
-none_left : (p : Rr → Bool) (earlier : List Rr) → find p (first_two earlier []) ≡ None
-unfolding first_two
+none_left : (p : Rr → Bool) (earlier : List Rr) → find p (early_after earlier []) ≡ None
+unfolding early_after
 none_left p earlier = refl
 
 -- no key is left
 pub tried_end : (p : Rr → Bool) (zone : Labels) (keys : List Rr) (i : ℕ) (m : BTreeMap ℕ ℕ) → length keys ≤ i → Tried p zone keys i m → find p (counted_keys zone keys) ≡ None
-tried_end p zone keys i m h t = sym t.searched ∙ ap (λ rest. find p (first_two (zone_keys zone (take i keys)) (zone_keys zone rest))) (drop_all i keys h) ∙ none_left p (zone_keys zone (take i keys))
+tried_end p zone keys i m h t = sym t.searched ∙ ap (λ rest. find p (early_after (zone_keys zone (take i keys)) (zone_keys zone rest))) (drop_all i keys h) ∙ none_left p (zone_keys zone (take i keys))
 
 count_push : (p : Rr → Bool) (rs : List Rr) (key : Rr) → count_by p (rs ++ key ∷ []) ≡ count_by p rs + cond (p key) 1 0
 count_push p rs key = sum_by-append (λ r. cond (p r) 1 0) rs (key ∷ []) ∙ ap (λ n. count_by p rs + n) (zero-add (cond (p key) 1 0))
@@ -154,14 +155,18 @@ tried_fail p zone keys i m n key h is t after can bad = record {
 }
 
 any_case : (zone : Labels) (can : Bool) (key : Rr) (keys : List Rr)
-    → by_insecure_key (first_two [] (zone_keys zone keys)) ≡ cond (list_any (is_key_of zone) keys) Excused Failed
-    → by_insecure_key (first_two [] (cond can (key ∷ zone_keys zone keys) (zone_keys zone keys))) ≡ cond (can || list_any (is_key_of zone) keys) Excused Failed
-unfolding first_two
+    → by_insecure_key (early_after [] (zone_keys zone keys)) ≡ cond (list_any (is_key_of zone) keys) Excused Failed
+    → by_insecure_key (early_after [] (cond can (key ∷ zone_keys zone keys) (zone_keys zone keys))) ≡ cond (can || list_any (is_key_of zone) keys) Excused Failed
+unfolding early_after
 any_case zone true key keys rest = refl
 any_case zone false key keys rest = rest
 
+any_early : (zone : Labels) (keys : List Rr)
+    → by_insecure_key (early_after [] (zone_keys zone keys)) ≡ cond (list_any (is_key_of zone) keys) Excused Failed
+unfolding early_after
+any_early zone [] = refl
+any_early zone (key ∷ keys) = any_case zone (is_key_of zone key) key keys (any_early zone keys)
+
 -- a key set that is Insecure excuses where it has a key of the zone
 pub any_counted : (zone : Labels) (keys : List Rr) → by_insecure_key (counted_keys zone keys) ≡ cond (list_any (is_key_of zone) keys) Excused Failed
-unfolding first_two
-any_counted zone [] = refl
-any_counted zone (key ∷ keys) = any_case zone (is_key_of zone key) key keys (any_counted zone keys)
+any_counted zone keys = ap by_insecure_key (first_two-after (zone_keys zone keys)) ∙ any_early zone keys

@@ -1,5 +1,6 @@
 pub mod ChainOf
 pub mod Searching
+pub mod Reading
 pub mod Counts
 pub mod Found
 pub mod Alike

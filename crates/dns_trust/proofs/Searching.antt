@@ -5,7 +5,8 @@ use Rattle.std.specs.Prelude.{Option, None, Some, slice_index_or, nat_lt, not}
 use Rattle.std.specs.List.{find, position, prefix_len, position_or_len}
 use Rattle.dns_model.specs.Records.{Rr, RrSet}
 use Rattle.dns_model.specs.Chains.{Judge}
-use Rattle.dns_judgement.specs.Marks.{SignedKeys, signed_keys_or, anchored_signer, first_signed}
+use Rattle.dns_judgement.specs.Marks.{SignedKeys, anchored_signer}
+use Rattle.dns_judgement.proofs.FirstLemmas.{signed_from, signed_or, signed_none, signed_more}
 
 -- the element at the place is the one
 pub find_here : {X : Type 0} (p : X → Bool) (xs : List X) (i : ℕ) (x : X) → i < length xs → x ≡ slice_index_or xs i x → p x ≡ true
@@ -34,24 +35,23 @@ position-map p f xs = rw (prefix_len-map (λ y. not (p y)) f xs, length-map xs f
 -- the signature at the place is good by an anchored key
 pub signed_here : (j : Judge) (set : RrSet) (rs : List Rr) (i : ℕ) (r key : Rr) → i < length rs → r ≡ slice_index_or rs i r
     → anchored_signer j set r ≡ Some key
-    → first_signed j set i (drop i rs) ≡ Some (record { place = i; signature = r; key = key })
-unfolding first_signed
+    → signed_from j set i (drop i rs) ≡ Some (record { place = i; signature = r; key = key })
 signed_here j set rs i r key h is passed =
-    ap (first_signed j set i) (drop_more rs i r h)
-    ∙ ap (λ y. first_signed j set i (y ∷ drop (i + 1) rs)) (sym is)
-    ∙ ap (λ o. signed_keys_or i r o (first_signed j set (i + 1) (drop (i + 1) rs))) passed
+    ap (signed_from j set i) (drop_more rs i r h)
+    ∙ ap (λ y. signed_from j set i (y ∷ drop (i + 1) rs)) (sym is)
+    ∙ signed_more j set i r (drop (i + 1) rs)
+    ∙ ap (λ o. signed_or i r o (signed_from j set (i + 1) (drop (i + 1) rs))) passed
 
 -- it is good by no key
 pub signed_past : (j : Judge) (set : RrSet) (rs : List Rr) (i : ℕ) (r : Rr) → i < length rs → r ≡ slice_index_or rs i r
     → anchored_signer j set r ≡ None
-    → first_signed j set (i + 1) (drop (i + 1) rs) ≡ first_signed j set i (drop i rs)
-unfolding first_signed
+    → signed_from j set (i + 1) (drop (i + 1) rs) ≡ signed_from j set i (drop i rs)
 signed_past j set rs i r h is failed =
-    sym (ap (first_signed j set i) (drop_more rs i r h)
-    ∙ ap (λ y. first_signed j set i (y ∷ drop (i + 1) rs)) (sym is)
-    ∙ ap (λ o. signed_keys_or i r o (first_signed j set (i + 1) (drop (i + 1) rs))) failed)
+    sym (ap (signed_from j set i) (drop_more rs i r h)
+    ∙ ap (λ y. signed_from j set i (y ∷ drop (i + 1) rs)) (sym is)
+    ∙ signed_more j set i r (drop (i + 1) rs)
+    ∙ ap (λ o. signed_or i r o (signed_from j set (i + 1) (drop (i + 1) rs))) failed)
 
 -- no signature is left
-pub signed_end : (j : Judge) (set : RrSet) (rs : List Rr) (i : ℕ) → length rs ≤ i → first_signed j set i (drop i rs) ≡ None
-unfolding first_signed
-signed_end j set rs i h = ap (first_signed j set i) (drop_all i rs h)
+pub signed_end : (j : Judge) (set : RrSet) (rs : List Rr) (i : ℕ) → length rs ≤ i → signed_from j set i (drop i rs) ≡ None
+signed_end j set rs i h = ap (signed_from j set i) (drop_all i rs h) ∙ signed_none j set i

@@ -11,7 +11,7 @@ use Rattle.std.proofs.lemmas.Slice.Eq.{bytes_eq-Decides}
 use Rattle.std.specs.Cmp.Derive.{both_true}
 use Rattle.dns_model.specs.Keys.{VerifierAnswers, bytes_eq}
 use Rattle.dns_net.specs.Verifiers.{AnswerAlike}
-use Rattle.dns_trust.specs.Listing.{ListedSignatureValue, ListedValue, SameAnswers, answers_of, holds_entry, is_entry, is_listed, is_within}
+use Rattle.dns_trust.specs.Listing.{ListedSignatureValue, ListedValue, answers_of, holds_entry, is_entry, is_listed, is_within}
 use Rattle.dns_trust.proofs.Found.{same_test}
 
 -- a test that is true or false
@@ -67,7 +67,7 @@ accepts_from one other within n key bytes signature h =
     (or_cases (some.1.algorithm == 1) (holds_entry other some.1) test))
 
 -- the tests of a list whose answers are all the other's
-within_to : (one other : ListedValue) → SameAnswers (answers_of one) (answers_of other) → is_within one other ≡ true
+within_to : (one other : ListedValue) → AnswerAlike (answers_of one) (answers_of other) → is_within one other ≡ true
 within_to one other s =
     both_true
     (list_all-from_AllPass (λ a. (a == 1) || is_listed other a) one.algorithms (λ k d below.
@@ -83,7 +83,7 @@ within_to one other s =
     ∙ both_true (not_from_false (e.algorithm == 1) h) (list_any_at (is_entry e.algorithm e.key e.bytes e.signature) one.accepted k d below (entry_itself e)))).1)))
 
 -- both hold what the other holds exactly where they answer the same
-pub same_decides : (one other : ListedValue) → Decides (is_within one other && is_within other one) (SameAnswers (answers_of one) (answers_of other))
+pub same_decides : (one other : ListedValue) → Decides (is_within one other && is_within other one) (AnswerAlike (answers_of one) (answers_of other))
 same_decides one other = (
   λ h.
       let parts = and_parts (is_within one other) (is_within other one) h in
@@ -94,7 +94,3 @@ same_decides one other = (
       },
   λ s. both_true (within_to one other s) (within_to other one (record { supports = λ n. sym (s.supports n); accepts = λ n key bytes signature. sym (s.accepts n key bytes signature) })),
 )
-
--- and then they answer alike
-pub alike_from : (a b : VerifierAnswers) → SameAnswers a b → AnswerAlike a b
-alike_from a b s = record { supports = λ n _. s.supports n; accepts = λ n key bytes signature _. s.accepts n key bytes signature }

@@ -1,4 +1,6 @@
+pub mod Judge
 pub mod Verdicts
+pub mod Built
 pub mod Counting
 pub mod Finding
 pub mod Listing

@@ -1,5 +1,5 @@
 -- What a list of accepted signatures supports and accepts.
-use Rattle.std.specs.Prelude.{ℕ, ◌≡◌, Bool, true, false, not, ◌==◌, ◌&&◌, ◌||◌, List, [], ◌∷◌, ◌++◌, if◌then◌else◌}
+use Rattle.std.specs.Prelude.{ℕ, Bool, true, false, not, ◌==◌, ◌&&◌, ◌||◌, List, [], ◌∷◌, ◌++◌, if◌then◌else◌}
 use Rattle.std.specs.List.{list_all, list_any}
 use Rattle.dns_model.specs.Keys.{VerifierAnswers, bytes_eq}
 use Rattle.dns_trust.specs.Finding.{mixed}
@@ -56,8 +56,3 @@ abbrev pub is_within : ListedValue → ListedValue → Bool
 is_within one other =
     list_all (λ a. (a == 1) || is_listed other a) one.algorithms
     && list_all (λ e. (e.algorithm == 1) || holds_entry other e) one.accepted
-
--- both support and accept the same
-pub record SameAnswers (a b : VerifierAnswers) : Type 0 where
-  pub supports : (algorithm : ℕ) → a.supports algorithm ≡ b.supports algorithm
-  pub accepts : (algorithm : ℕ) (key bytes signature : List ℕ) → a.accepts algorithm key bytes signature ≡ b.accepts algorithm key bytes signature

@@ -1,54 +1,56 @@
-ghost use Rattle.std.specs.Prelude.{◌≡◌, ℕ, IfOk, OnOk, nat_lt};
+ghost use Rattle.std.specs.Prelude.{◌≡◌, ℕ, IfOk, OnOk, Some, nat_lt};
 ghost use Rattle.std.specs.List.{find, list_any};
 ghost use Rattle.std.specs.Option.{option_copied};
-ghost use Rattle.dns_model.specs.Chains.{judge};
+ghost use Rattle.dns_model.specs.RecordViews.{rrsig_of};
 ghost use Rattle.dns_judgement.specs.Validity.{is_good_by as is_good_in};
 ghost use Rattle.dns_judgement.specs.Marks.{counted_keys, is_key_of as is_zone_key};
+ghost use Rattle.dns_trust.specs.Judge.{judge_of};
 ghost use Rattle.dns_trust.specs.Counting.{count_in, tag_count_after, count_after, tag_in, is_tried as is_tried_in};
 
-use crate::{TrustAnchors, is_good_by};
+use crate::Judge;
+use crate::good::is_good_read;
 use dns_name::{NameRef, NoMemory};
 use dns_net::Verifier;
-use dns_rdata::{Dnskey, key_tag};
+use dns_rdata::{Dnskey, Rrsig, key_tag};
 use dns_record::{Record, RecordSet};
 use std::alloc::Global;
 use std::collections::BTreeMap;
 
-// The first counted key of a zone by which a signature of another set is good; the first two keys of a tag count.
+// The first counted key of its signer by which a signature of a set is good; the first two keys of a tag count.
 pub(crate) fn first_good<'a, V: Verifier>(
     alloc: Global,
-    verifier: &V,
-    anchors: &TrustAnchors,
-    now: u64,
+    judge: &Judge<'_, V>,
     set: &RecordSet,
     sig: &Record,
-    zone: &NameRef<'_>,
+    read: &Rrsig<'_>,
     keys: &'a [Record],
 ) -> Result<Option<&'a Record>, NoMemory>
-    ensures { IfOk result (λ k. option_copied k ≡ find (is_good_in (judge (V.answers verifier.now) anchors.now now) set.now sig.now) (counted_keys zone.now keys.now)) }
+    requires { rrsig_of sig.now ≡ Some read.now }
+    ensures { IfOk result (λ k. option_copied k ≡ find (is_good_in (judge_of V.answers judge.now) set.now sig.now) (counted_keys read.now.signer keys.now)) }
 {
     let mut counts = BTreeMap::new(alloc);
+    let mut built = None;
     for key in keys {
-        if !is_tried(&mut counts, zone, key)? {
+        if !is_tried(&mut counts, read, key)? {
             continue;
         }
-        if is_good_by(alloc, verifier, now, set, sig, key)? {
+        if is_good_read(alloc, judge, set, sig, read, key, &mut built)? {
             return Ok(Some(key));
         }
     }
     Ok(None)
 }
 
-// Counts the tag of a zone's key; whether the key is one of the first two of its tag.
+// Counts the tag of a key of a signature's signer; whether the key is one of the first two of its tag.
 fn is_tried(
     counts: &mut BTreeMap<u16, u8>,
-    zone: &NameRef<'_>,
+    read: &Rrsig<'_>,
     key: &Record,
 ) -> Result<bool, NoMemory>
-    ensures tried { IfOk result (λ b. b ≡ is_tried_in zone.now counts.old key.now) }
-    ensures counted { OnOk result ((t : ℕ) → count_in counts.new t ≡ count_after zone.now counts.old key.now t) }
+    ensures tried { IfOk result (λ b. b ≡ is_tried_in read.now.signer counts.old key.now) }
+    ensures counted { OnOk result ((t : ℕ) → count_in counts.new t ≡ count_after read.now.signer counts.old key.now t) }
 {
-    match tag_of(zone, key) {
+    match tag_of(&read.signer, key) {
         Some(tag) => count(counts, tag),
         None => Ok(false),
     }

@@ -1,55 +1,110 @@
-ghost use Rattle.std.specs.Prelude.{◌≡◌, IfOk, List};
-ghost use Rattle.dns_model.specs.RecordViews.{rrsig_of, dnskey_of};
-ghost use Rattle.dns_model.specs.Keys.{AnchorValue};
-ghost use Rattle.dns_model.specs.Chains.{judge, judge_alone};
-ghost use Rattle.dns_judgement.specs.Validity.{is_good_by as is_good_in, is_accepted as is_accepted_in};
+ghost use Rattle.std.specs.Prelude.{◌≡◌, IfOk, OnOk, Some};
+ghost use Rattle.dns_model.specs.RecordViews.{rrsig_of};
+ghost use Rattle.dns_model.specs.Keys.{usable_key};
+ghost use Rattle.dns_model.specs.Signing.{signed_bytes};
+ghost use Rattle.dns_model.specs.Chains.{rdatas_of};
+ghost use Rattle.dns_model.specs.Serial.{timely};
+ghost use Rattle.dns_judgement.specs.Validity.{is_good_by as is_good_in, is_valid as is_valid_in, sig_validity};
+ghost use Rattle.dns_trust.specs.Judge.{judge_of};
+ghost use Rattle.dns_trust.specs.Built.{IsBuilt};
 
-use crate::validity::check;
+use crate::Judge;
+use crate::validity::check_read;
 use dns_judgement::RrsigValidity;
-use dns_name::NoMemory;
+use dns_name::{NoMemory, Octets};
 use dns_net::Verifier;
 use dns_rdata::{Dnskey, Rrsig, signed_data};
 use dns_record::{Record, RecordSet};
 use std::alloc::Global;
 
-/// Whether a signature of a set is good by a key at a moment: it fits, the key isn't revoked, and the verifier accepts it
+/// Whether a signature of a set is good by a key at a moment: it fits, the key may sign, and the verifier accepts it
 /// (RFC 4035, 5.3.3).
-#[tactic(auto, unfolding(dns_judgement::specs::Validity::is_good_by))]
+#[tactic(auto, using(crate::proofs::Reading::unread_good))]
 pub fn is_good_by<V: Verifier>(
     alloc: Global,
-    verifier: &V,
-    now: u64,
+    judge: &Judge<'_, V>,
     set: &RecordSet,
     sig: &Record,
     key: &Record,
 ) -> Result<bool, NoMemory>
-    ensures { IfOk result (λ b. (anchors : List AnchorValue) → b ≡ is_good_in (judge (V.answers verifier.now) anchors now) set.now sig.now key.now) }
-{
-    match check(sig, set, key, now) {
-        RrsigValidity::ValidRrsig => is_accepted(alloc, verifier, set, sig, key),
-        _ => Ok(false),
-    }
-}
-
-// The key isn't revoked, counts for DNSSEC, and has an algorithm by which the verifier accepts the signature.
-fn is_accepted<V: Verifier>(
-    alloc: Global,
-    verifier: &V,
-    set: &RecordSet,
-    sig: &Record,
-    key: &Record,
-) -> Result<bool, NoMemory>
-    ensures { IfOk result (λ b. b ≡ is_accepted_in (judge_alone (V.answers verifier.now)) set.now (rrsig_of sig.now) (dnskey_of key.now)) }
+    ensures { IfOk result (λ b. b ≡ is_good_in (judge_of V.answers judge.now) set.now sig.now key.now) }
 {
     let Some(read) = Rrsig::of(sig) else {
         return Ok(false);
     };
+    let mut built = None;
+    is_good_read(alloc, judge, set, sig, &read, key, &mut built)
+}
+
+// The same of a signature that is read. The bytes that it is over are built for the first key that comes so far, and kept.
+#[tactic(auto, using(crate::proofs::Reading::read_good))]
+pub(crate) fn is_good_read<V: Verifier>(
+    alloc: Global,
+    judge: &Judge<'_, V>,
+    set: &RecordSet,
+    sig: &Record,
+    read: &Rrsig<'_>,
+    key: &Record,
+    built: &mut Option<Octets>,
+) -> Result<bool, NoMemory>
+    requires read { rrsig_of sig.now ≡ Some read.now }
+    requires built { IsBuilt set.now read.now built.old }
+    ensures good { IfOk result (λ b. b ≡ is_good_in (judge_of V.answers judge.now) set.now sig.now key.now) }
+    ensures built { OnOk result (IsBuilt set.now read.now built.new) }
+{
     let Some(dnskey) = Dnskey::of(key) else {
         return Ok(false);
     };
-    if dnskey.is_revoked() || dnskey.protocol != 3 || !verifier.supports(dnskey.algorithm) {
+    if !is_valid(sig, read, set, key, judge.moment) {
         return Ok(false);
     }
-    let bytes = signed_data(alloc, set, &read)?;
-    Ok(verifier.accepts(read.algorithm, dnskey.key, bytes.as_slice(), read.signature))
+    if !is_usable(judge.verifier, &dnskey) {
+        return Ok(false);
+    }
+    let bytes = bytes_of(alloc, set, read, built.take())?;
+    let accepted = is_accepted(judge.verifier, read, &dnskey, &bytes);
+    *built = Some(bytes);
+    Ok(accepted)
+}
+
+// The signature fits the set, the key and the moment.
+fn is_valid(sig: &Record, read: &Rrsig<'_>, set: &RecordSet, key: &Record, now: u64) -> bool
+    ensures { result ≡ is_valid_in (sig_validity (λ s. timely s now) set.now sig.now key.now (Some read.now)) }
+{
+    check_read(sig, read, set, key, now) == RrsigValidity::ValidRrsig
+}
+
+// The key may sign: a zone's key that isn't revoked, of DNSSEC's protocol, under an algorithm that is supported.
+fn is_usable<V: Verifier>(verifier: &V, key: &Dnskey<'_>) -> bool
+    ensures { result ≡ usable_key (V.answers verifier.now) key.now }
+{
+    key.is_zone_key() && !key.is_revoked() && key.protocol == 3 && verifier.supports(key.algorithm)
+}
+
+// The verifier accepts the signature over these bytes as the key's.
+fn is_accepted<V: Verifier>(
+    verifier: &V,
+    read: &Rrsig<'_>,
+    key: &Dnskey<'_>,
+    bytes: &Octets,
+) -> bool
+    ensures { result ≡ (V.answers verifier.now).accepts read.now.algorithm key.now.key bytes.now read.now.signature }
+{
+    verifier.accepts(read.algorithm, key.key, bytes.as_slice(), read.signature)
+}
+
+// The bytes that the signature is over, as they were kept or built now.
+fn bytes_of(
+    alloc: Global,
+    set: &RecordSet,
+    read: &Rrsig<'_>,
+    built: Option<Octets>,
+) -> Result<Octets, NoMemory>
+    requires { IsBuilt set.now read.now built }
+    ensures { IfOk result (λ bytes. bytes ≡ signed_bytes set.now.owner set.now.rtype set.now.class (rdatas_of set.now.records) read.now) }
+{
+    match built {
+        Some(bytes) => Ok(bytes),
+        None => signed_data(alloc, set, read),
+    }
 }

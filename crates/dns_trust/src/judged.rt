@@ -4,11 +4,12 @@ ghost use Rattle.dns_model.specs.Keys.{VerifierAnswers};
 ghost use Rattle.dns_model.specs.Chains.{judge};
 ghost use Rattle.dns_net.specs.Link.{link_value};
 ghost use Rattle.dns_judgement.specs.Marks.{is_proved, is_excused, proved_chain, judged_by as judged_by_verdicts, judged_keys as judged_key_set, keys_unsigned as unsigned_keys};
+ghost use Rattle.dns_trust.specs.Judge.{judge_of};
 ghost use Rattle.dns_trust.specs.Verdicts.{verdict_value};
 
 use crate::chains::{anchored_chain, self_signed_chain};
 use crate::keys::{first_signed, is_wholly_anchored};
-use crate::{TrustAnchors, Verdict};
+use crate::{Judge, TrustAnchors, Verdict};
 use dns_name::NoMemory;
 use dns_net::{Link, Verifier};
 use dns_record::Proof;
@@ -94,15 +95,13 @@ fn chain_of(mut verdicts: Vec<Verdict>) -> Vec<Link>
 #[tactic(auto, unfolding(dns_judgement::specs::Marks::judged_keys))]
 pub fn judged_keys<V: Verifier>(
     alloc: Global,
-    verifier: &V,
-    anchors: &TrustAnchors,
-    now: u64,
+    judge: &Judge<'_, V>,
     placed: PlacedSet,
 ) -> Result<JudgedSet, NoMemory>
-    ensures { IfOk result (λ j. j ≡ judged_key_set (judge (V.answers verifier.now) anchors.now now) placed) }
+    ensures { IfOk result (λ j. j ≡ judged_key_set (judge_of V.answers judge.now) placed) }
 {
-    let Some(by) = first_signed(alloc, verifier, anchors, now, &placed.set)? else {
-        return unsigned_key_set(alloc, anchors, placed);
+    let Some(by) = first_signed(alloc, judge, &placed.set)? else {
+        return unsigned_key_set(alloc, judge.anchors, placed);
     };
     let chain = self_signed_chain(alloc, &placed.set, &by)?;
     let sig = Some(by.place);

@@ -1,16 +1,19 @@
-ghost use Rattle.std.specs.Prelude.{◌≡◌, ◌≤◌, ◌==◌, ◌&&◌, IfOk, length, take};
+ghost use Rattle.std.specs.Prelude.{◌≡◌, ◌≤◌, ◌==◌, ◌&&◌, IfOk, OnOk, Some, length, take};
 ghost use Rattle.std.specs.List.{find, list_all};
 ghost use Rattle.std.specs.Option.{option_map, option_copied};
 ghost use Rattle.dns_model.specs.Types.{type_dnskey};
+ghost use Rattle.dns_model.specs.RecordViews.{rrsig_of};
 ghost use Rattle.dns_model.specs.Keys.{anchored};
-ghost use Rattle.dns_model.specs.Chains.{judge};
 ghost use Rattle.dns_judgement.specs.Marks.{most_signatures, first_signed as first_signed_of, anchored_signer as anchored_signer_of};
+ghost use Rattle.dns_trust.specs.Judge.{judge_of};
+ghost use Rattle.dns_trust.specs.Built.{IsBuilt};
 ghost use Rattle.dns_trust.specs.Verdicts.{signed_value, is_signer as is_signer_of};
 
-use crate::{TrustAnchors, is_good_by};
-use dns_name::{Name, NoMemory};
+use crate::good::is_good_read;
+use crate::{Judge, TrustAnchors};
+use dns_name::{Name, NoMemory, Octets};
 use dns_net::Verifier;
-use dns_rdata::Dnskey;
+use dns_rdata::{Dnskey, Rrsig};
 use dns_record::{Record, RecordSet};
 use std::alloc::Global;
 
@@ -28,17 +31,15 @@ pub(crate) struct SignedBy<'a> {
 // The first signature of a key set that is good by an anchored key of it, among the first eight.
 pub(crate) fn first_signed<'a, V: Verifier>(
     alloc: Global,
-    verifier: &V,
-    anchors: &TrustAnchors,
-    now: u64,
+    judge: &Judge<'_, V>,
     set: &'a RecordSet,
 ) -> Result<Option<SignedBy<'a>>, NoMemory>
     ensures { IfOk result (λ s. option_map signed_value s ≡
-        first_signed_of (judge (V.answers verifier.now) anchors.now now) set.now 0 (take most_signatures set.now.signatures)) }
+        first_signed_of (judge_of V.answers judge.now) set.now (take most_signatures set.now.signatures)) }
 {
     let signatures = first_signatures(set);
     for (place, signature) in signatures.iter().enumerate() {
-        if let Some(key) = anchored_signer(alloc, verifier, anchors, now, set, signature)? {
+        if let Some(key) = anchored_signer(alloc, judge, set, signature)? {
             return Ok(Some(SignedBy {
                 place: place as u32,
                 signature,
@@ -49,8 +50,8 @@ pub(crate) fn first_signed<'a, V: Verifier>(
     Ok(None)
 }
 
-// The signatures of a set that are tried.
-fn first_signatures(set: &RecordSet) -> &[Record]
+/// The signatures of a set that are tried: the first eight.
+pub fn first_signatures(set: &RecordSet) -> &[Record]
     ensures first { result.now ≡ take most_signatures set.now.signatures }
     ensures few { length result.now ≤ most_signatures }
 {
@@ -59,33 +60,36 @@ fn first_signatures(set: &RecordSet) -> &[Record]
 }
 
 // The first anchored key of a key set by which a signature of that set is good.
+#[tactic(auto, using(crate::proofs::Reading::unread_signer))]
 fn anchored_signer<'a, V: Verifier>(
     alloc: Global,
-    verifier: &V,
-    anchors: &TrustAnchors,
-    now: u64,
+    judge: &Judge<'_, V>,
     set: &'a RecordSet,
     sig: &Record,
 ) -> Result<Option<&'a Record>, NoMemory>
-    ensures { IfOk result (λ k. option_copied k ≡ anchored_signer_of (judge (V.answers verifier.now) anchors.now now) set.now sig.now) }
+    ensures { IfOk result (λ k. option_copied k ≡ anchored_signer_of (judge_of V.answers judge.now) set.now sig.now) }
 {
-    first_signer(alloc, verifier, anchors, now, set, sig, &set.records)
+    let Some(read) = Rrsig::of(sig) else {
+        return Ok(None);
+    };
+    first_signer(alloc, judge, set, sig, &read, &set.records)
 }
 
 // The first of some keys that is anchored and by which a signature of a key set is good.
 fn first_signer<'a, V: Verifier>(
     alloc: Global,
-    verifier: &V,
-    anchors: &TrustAnchors,
-    now: u64,
+    judge: &Judge<'_, V>,
     set: &RecordSet,
     sig: &Record,
+    read: &Rrsig<'_>,
     keys: &'a [Record],
 ) -> Result<Option<&'a Record>, NoMemory>
-    ensures { IfOk result (λ k. option_copied k ≡ find (is_signer_of (judge (V.answers verifier.now) anchors.now now) set.now sig.now) keys.now) }
+    requires { rrsig_of sig.now ≡ Some read.now }
+    ensures { IfOk result (λ k. option_copied k ≡ find (is_signer_of (judge_of V.answers judge.now) set.now sig.now) keys.now) }
 {
+    let mut built = None;
     for key in keys {
-        if is_signer(alloc, verifier, anchors, now, set, sig, key)? {
+        if is_signer(alloc, judge, set, sig, read, key, &mut built)? {
             return Ok(Some(key));
         }
     }
@@ -95,19 +99,22 @@ fn first_signer<'a, V: Verifier>(
 // The key is anchored, and the signature is good by it.
 fn is_signer<V: Verifier>(
     alloc: Global,
-    verifier: &V,
-    anchors: &TrustAnchors,
-    now: u64,
+    judge: &Judge<'_, V>,
     set: &RecordSet,
     sig: &Record,
+    read: &Rrsig<'_>,
     key: &Record,
+    built: &mut Option<Octets>,
 ) -> Result<bool, NoMemory>
-    ensures { IfOk result (λ b. b ≡ is_signer_of (judge (V.answers verifier.now) anchors.now now) set.now sig.now key.now) }
+    requires read { rrsig_of sig.now ≡ Some read.now }
+    requires built { IsBuilt set.now read.now built.old }
+    ensures signer { IfOk result (λ b. b ≡ is_signer_of (judge_of V.answers judge.now) set.now sig.now key.now) }
+    ensures built { OnOk result (IsBuilt set.now read.now built.new) }
 {
-    if !is_anchored(anchors, &set.name, key) {
+    if !is_anchored(judge.anchors, &set.name, key) {
         return Ok(false);
     }
-    is_good_by(alloc, verifier, now, set, sig, key)
+    is_good_read(alloc, judge, set, sig, read, key, built)
 }
 
 // Every key of a key set is an anchor of its owner.

@@ -2,7 +2,7 @@ ghost use Rattle.std.specs.Prelude.{◌≡◌, ◌↔◌, ◌==◌, ◌&&◌, �
 ghost use Rattle.std.specs.List.{list_all, list_any};
 ghost use Rattle.dns_net.specs.Verifiers.{AnswerAlike};
 ghost use Rattle.dns_trust.specs.Finding.{passes_at};
-ghost use Rattle.dns_trust.specs.Listing.{SameAnswers, answers_of, holds_entry as holds_entry_in, is_entry as is_entry_of, is_listed, is_within as is_within_of, signature_number as number_in, with_accepted, with_algorithm};
+ghost use Rattle.dns_trust.specs.Listing.{answers_of, holds_entry as holds_entry_in, is_entry as is_entry_of, is_listed, is_within as is_within_of, signature_number as number_in, with_accepted, with_algorithm};
 
 use crate::finding::{PlacesByNumber, add_place, mix, places_of};
 use dns_name::{NoMemory, Octets};
@@ -111,7 +111,7 @@ impl Verifier for Listed {
     /// Both hold the same, in whatever order and however often.
     fn same(&self, other: &Listed) -> bool
         ensures alike { IsTrue result → AnswerAlike (answers_of self.now) (answers_of other.now) }
-        ensures exact { IsTrue result ↔ SameAnswers (answers_of self.now) (answers_of other.now) }
+        ensures exact { IsTrue result ↔ AnswerAlike (answers_of self.now) (answers_of other.now) }
     {
         holds_same(self, other)
     }

@@ -1,7 +1,7 @@
-ghost use Rattle.std.specs.Prelude.{◌≡◌};
+ghost use Rattle.std.specs.Prelude.{◌≡◌, Some};
 ghost use Rattle.dns_model.specs.Serial.{timely};
 ghost use Rattle.dns_model.specs.RecordViews.{dnskey_of};
-ghost use Rattle.dns_judgement.specs.Validity.{validity, is_of_set as is_set_signature, key_validity as key_fits};
+ghost use Rattle.dns_judgement.specs.Validity.{validity, sig_validity, is_of_set as is_set_signature, key_validity as key_fits};
 
 use dns_judgement::RrsigValidity;
 use dns_rdata::{Dnskey, Rrsig, SerialNumber, key_tag};
@@ -17,13 +17,26 @@ pub fn check(sig: &Record, set: &RecordSet, key: &Record, now: u64) -> RrsigVali
     let Some(read) = Rrsig::of(sig) else {
         return RrsigValidity::WrongRrsig;
     };
-    if !is_of_set(set, sig, &read) {
+    check_read(sig, &read, set, key, now)
+}
+
+// The same of a signature that is read.
+pub(crate) fn check_read(
+    sig: &Record,
+    read: &Rrsig<'_>,
+    set: &RecordSet,
+    key: &Record,
+    now: u64,
+) -> RrsigValidity
+    ensures { result ≡ sig_validity (λ s. timely s now) set.now sig.now key.now (Some read.now) }
+{
+    if !is_of_set(set, sig, read) {
         return RrsigValidity::WrongRrsig;
     }
-    if !is_timely(&read, now) {
+    if !is_timely(read, now) {
         return RrsigValidity::ExpiredRrsig;
     }
-    key_validity(&read, key)
+    key_validity(read, key)
 }
 
 // The signature stands at the set's owner and class, under a signer at or above it, over the set's type and no more labels.

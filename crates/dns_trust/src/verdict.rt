@@ -1,13 +1,14 @@
-ghost use Rattle.std.specs.Prelude.{◌≡◌, IfOk, map};
+ghost use Rattle.std.specs.Prelude.{◌≡◌, IfOk, Some, map};
 ghost use Rattle.std.specs.List.{find};
 ghost use Rattle.std.specs.Option.{option_copied};
-ghost use Rattle.dns_model.specs.Chains.{judge, signer_fits as signer_is_above};
-ghost use Rattle.dns_judgement.specs.Marks.{verdict_of as verdict_in, by_key_set as verdict_by_set, by_keys, by_insecure_key, counted_keys, is_kept_whole as is_whole, is_key_set_of, is_skipped as is_skipped_by, is_proved as is_proof, is_excused as is_excuse};
-ghost use Rattle.dns_judgement.specs.Run.{ask_of as asked_by};
+ghost use Rattle.dns_model.specs.RecordViews.{rrsig_of};
+ghost use Rattle.dns_model.specs.Chains.{signer_fits as signer_is_above, never_expanded, right_below_signer};
+ghost use Rattle.dns_judgement.specs.Marks.{verdict_of as verdict_in, by_key_set as verdict_by_set, by_keys, by_insecure_key, counted_keys, key_question, is_key_set_of, is_skipped_read, is_proved as is_proof, is_excused as is_excuse};
 ghost use Rattle.dns_net.specs.Link.{link_value};
+ghost use Rattle.dns_trust.specs.Judge.{judge_of};
 ghost use Rattle.dns_trust.specs.Verdicts.{verdict_value, listed};
 
-use crate::TrustAnchors;
+use crate::Judge;
 use crate::chains::signed_chain;
 use crate::counted::{first_good, has_key_of};
 use dns_name::{NameRef, NoMemory};
@@ -51,64 +52,49 @@ impl Verdict {
 }
 
 /// The verdict of a signature of a set that isn't DNSKEY, with the judged sets of the answer to its ask; None where the ask
-/// failed or was refused (RFC 4035, 5.3).
+/// failed or was refused (RFC 4035, 5.3). The signature's view is handed in.
 #[tactic(auto, unfolding(dns_judgement::specs::Marks::verdict_of))]
 pub fn verdict_of<V: Verifier>(
     alloc: Global,
-    verifier: &V,
-    anchors: &TrustAnchors,
-    now: u64,
+    judge: &Judge<'_, V>,
     set: &RecordSet,
     sig: &Record,
+    read: &Rrsig<'_>,
     answer: &Option<Vec<JudgedSet>>,
 ) -> Result<Verdict, NoMemory>
-    ensures { IfOk result (λ v. verdict_value v ≡
-        verdict_in (judge (V.answers verifier.now) anchors.now now) set.now sig.now (listed answer.now)) }
+    requires { rrsig_of sig.now ≡ Some read.now }
+    ensures { IfOk result (λ v. verdict_value v ≡ verdict_in (judge_of V.answers judge.now) set.now sig.now (listed answer.now)) }
 {
     let Some(sets) = answer else {
         return Ok(Verdict::Failed);
     };
-    let Some(read) = Rrsig::of(sig) else {
-        return Ok(Verdict::Failed);
-    };
-    if !is_kept_whole(set, &read) {
+    if !is_never_expanded(set, read) || !is_right_below_signer(set, read) {
         return Ok(Verdict::Failed);
     }
     let Some(keys) = key_set_of(set.dns_class, &read.signer, sets) else {
         return Ok(Verdict::Failed);
     };
-    by_key_set(alloc, verifier, anchors, now, set, sig, &read.signer, keys)
+    by_key_set(alloc, judge, set, sig, read, keys)
 }
 
 // The verdict by the key set that was asked for.
 fn by_key_set<V: Verifier>(
     alloc: Global,
-    verifier: &V,
-    anchors: &TrustAnchors,
-    now: u64,
+    judge: &Judge<'_, V>,
     set: &RecordSet,
     sig: &Record,
-    signer: &NameRef<'_>,
+    read: &Rrsig<'_>,
     keys: &JudgedSet,
 ) -> Result<Verdict, NoMemory>
-    ensures { IfOk result (λ v. verdict_value v ≡ verdict_by_set (judge (V.answers verifier.now) anchors.now now) set.now sig.now signer.now (Some keys.now)) }
+    requires { rrsig_of sig.now ≡ Some read.now }
+    ensures { IfOk result (λ v. verdict_value v ≡ verdict_by_set (judge_of V.answers judge.now) set.now sig.now read.now.signer (Some keys.now)) }
 {
     match keys.mark {
         Proof::Secure => {
             let records = keys.set.records.as_slice();
-            by_secure_keys(
-                alloc,
-                verifier,
-                anchors,
-                now,
-                set,
-                sig,
-                &keys.chain,
-                signer,
-                records,
-            )
+            by_secure_keys(alloc, judge, set, sig, read, &keys.chain, records)
         }
-        Proof::Insecure => Ok(by_insecure_keys(signer, &keys.set.records)),
+        Proof::Insecure => Ok(by_insecure_keys(&read.signer, &keys.set.records)),
         Proof::Bogus => Ok(Verdict::Failed),
         Proof::Indeterminate => Ok(Verdict::Failed),
     }
@@ -117,18 +103,18 @@ fn by_key_set<V: Verifier>(
 // The verdict by the counted keys of a Secure key set.
 fn by_secure_keys<V: Verifier>(
     alloc: Global,
-    verifier: &V,
-    anchors: &TrustAnchors,
-    now: u64,
+    judge: &Judge<'_, V>,
     set: &RecordSet,
     sig: &Record,
+    read: &Rrsig<'_>,
     chain: &Vec<Link>,
-    zone: &NameRef<'_>,
     keys: &[Record],
 ) -> Result<Verdict, NoMemory>
-    ensures { IfOk result (λ v. verdict_value v ≡ by_keys (judge (V.answers verifier.now) anchors.now now) set.now sig.now (map link_value chain.now.items) Proof.Secure (counted_keys zone.now keys.now)) }
+    requires { rrsig_of sig.now ≡ Some read.now }
+    ensures { IfOk result (λ v. verdict_value v ≡
+        by_keys (judge_of V.answers judge.now) set.now sig.now (map link_value chain.now.items) Proof.Secure (counted_keys read.now.signer keys.now)) }
 {
-    match first_good(alloc, verifier, anchors, now, set, sig, zone, keys)? {
+    match first_good(alloc, judge, set, sig, read, keys)? {
         Some(key) => {
             let links = signed_chain(alloc, set, sig, chain, key)?;
             Ok(Verdict::Proved(links))
@@ -171,32 +157,37 @@ fn is_keys(class: DNSClass, signer: &NameRef<'_>, judged: &JudgedSet) -> bool
         && class == set.dns_class
 }
 
-// An NSEC or NSEC3 is never expanded, and an NSEC3 stands right below its signer.
-fn is_kept_whole(set: &RecordSet, read: &Rrsig<'_>) -> bool
-    ensures { result ≡ is_whole set.now read.now }
+// An NSEC or NSEC3 isn't expanded from a wildcard.
+fn is_never_expanded(set: &RecordSet, read: &Rrsig<'_>) -> bool
+    ensures { result ≡ never_expanded set.now.rtype read.now.labels set.now.owner }
 {
-    let owner = set.name.borrowed();
-    if set.record_type == RecordType::NSEC {
-        read.labels == owner.num_labels()
-    } else if set.record_type == RecordType::NSEC3 {
-        read.labels == owner.num_labels() && owner.parent().eq_name(&read.signer)
+    if set.record_type == RecordType::NSEC || set.record_type == RecordType::NSEC3 {
+        read.labels == set.name.borrowed().num_labels()
     } else {
         true
     }
 }
 
-/// Whether a signature isn't asked for: it can't be read, its signer doesn't fit, or it asks what is being asked.
-pub fn is_skipped(asked: &Query, set: &RecordSet, sig: &Record) -> Result<bool, NoMemory>
-    ensures { IfOk result (λ b. b ≡ is_skipped_by asked.now set.now sig.now) }
+// An NSEC3 stands right below its signer.
+fn is_right_below_signer(set: &RecordSet, read: &Rrsig<'_>) -> bool
+    ensures { result ≡ right_below_signer set.now.rtype read.now.signer set.now.owner }
 {
-    let Some(read) = Rrsig::of(sig) else {
-        return Ok(true);
-    };
+    if set.record_type == RecordType::NSEC3 {
+        set.name.borrowed().parent().eq_name(&read.signer)
+    } else {
+        true
+    }
+}
+
+/// Whether a signature that is read isn't asked for: its signer doesn't fit, or it asks what is being asked.
+pub fn is_skipped(asked: &Query, set: &RecordSet, read: &Rrsig<'_>) -> bool
+    ensures { result ≡ is_skipped_read asked.now set.now (Some read.now) }
+{
     let fits = signer_fits(set, &read.signer);
     let is_asked = read.signer.eq_name(&asked.name.borrowed())
         && asked.query_type == RecordType::DNSKEY
         && set.dns_class == asked.query_class;
-    Ok(!fits || is_asked)
+    !fits || is_asked
 }
 
 // The signer stands at the owner or above it; a DS stands in the zone above.
@@ -211,17 +202,14 @@ fn signer_fits(set: &RecordSet, signer: &NameRef<'_>) -> bool
     }
 }
 
-/// The question for the keys of a signature's signer; None where the signature can't be read.
-pub fn ask_of(alloc: Global, set: &RecordSet, sig: &Record) -> Result<Option<Query>, NoMemory>
-    ensures { IfOk result (λ q. q ≡ asked_by set.now sig.now) }
+/// The question for the keys of a signature's signer.
+pub fn ask_of(alloc: Global, set: &RecordSet, read: &Rrsig<'_>) -> Result<Query, NoMemory>
+    ensures { IfOk result (λ q. q ≡ key_question set.now.class read.now.signer) }
 {
-    let Some(read) = Rrsig::of(sig) else {
-        return Ok(None);
-    };
     let name = read.signer.to_name(alloc)?;
-    Ok(Some(Query {
+    Ok(Query {
         name,
         query_type: RecordType::DNSKEY,
         query_class: set.dns_class,
-    }))
+    })
 }

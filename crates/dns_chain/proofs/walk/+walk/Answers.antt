@@ -1,8 +1,9 @@
-use Rattle.std.proofs.Common.{◌≡◌, arith, inl, inr, refl, ◌∙◌, sym}
+use Rattle.std.proofs.Common.{◌≡◌, arith, ap, Some, inl, inr, refl, ◌∙◌, sym}
 use Rattle.std.proofs.lemmas.List.{map-append, map-id}
 use Rattle.std.proofs.lemmas.Iterator.Consumers.{YieldsList-end}
 use Rattle.std.proofs.lemmas.Iterator.Adapters.{YieldsList-from_vec}
-use Rattle.dns_judgement.specs.Run.{Refused, Fault, Foreign}
+use Rattle.dns_judgement.specs.Marks.{is_skipped_read}
+use Rattle.dns_judgement.specs.Run.{signer_question, Refused, Fault, Foreign}
 use Rattle.dns_chain.specs.Steps.{KeysStep, SkippedStep, AskedStep}
 use Rattle.dns_chain.proofs.StepLemmas.{then_way, set_done, sets_done, proved_at, failed_at, all_failed, other_step}
 use Rattle.dns_chain.proofs.HeardLemmas.{said_some, said_none, answered_ask}
@@ -80,13 +81,19 @@ judge_sets-returns-clause-run g t c =
     let e : c.loop-next.yielded ≡ c.args.placed.items = sym (map-id c.loop-next.yielded) ∙ all.0 in
     λ tells told. rw (← e) (sets_done _ _ _ _ _ _ _ _ _ (c.loop-next.invariant.3 tells told))
 
+pub judge_signature-returns-in_default-clause-step : goal.judge_signature-returns-in_default-clause-step
+judge_signature-returns-in_default-clause-step g t c = λ tells told.
+    SkippedStep _ _ (ap (is_skipped_read c.args.query.now c.args.set.now) (sym c.of.ensures ∙ c.in_default.is)) refl
+
 pub judge_signature-returns-then-skipped-clause-step : goal.judge_signature-returns-then-skipped-clause-step
 judge_signature-returns-then-skipped-clause-step g t c = λ tells told.
-    SkippedStep _ _ (sym c.in_ok-skipped.ensures ∙ c.if-skipped.true) refl
+    SkippedStep _ _ (ap (is_skipped_read c.args.query.now c.args.set.now) (sym c.of.ensures ∙ c.in-Some.is) ∙ sym c.is_skipped-skipped.ensures ∙ c.if-skipped.true) refl
 
 pub judge_signature-returns-clause-step : goal.judge_signature-returns-clause-step
 judge_signature-returns-clause-step g t c = λ tells told.
-    AskedStep _ _ _ _ _ _ (sym c.in_ok-skipped.ensures ∙ c.if-skipped.false) (sym c.in_ok-question.ensures ∙ c.in-Some.is) refl
+    AskedStep _ _ _ _ _ _
+    (ap (is_skipped_read c.args.query.now c.args.set.now) (sym c.of.ensures ∙ c.in-Some.is) ∙ sym c.is_skipped-skipped.ensures ∙ c.if-skipped.false)
+    (ap (signer_question c.args.set.now.class) (sym c.of.ensures ∙ c.in-Some.is) ∙ ap Some (sym c.in_ok-question.ensures)) refl
     (c.in_ok-answer.ensures.run tells told) c.in_ok-verdict.ensures
 
 pub judge_signatures-returns-in_err-verdict-clause-went : goal.judge_signatures-returns-in_err-verdict-clause-went

@@ -1,10 +1,10 @@
 use Rattle.std.proofs.Common.{◌≡◌, drop}
-use Rattle.dns_model.specs.Chains.{judge}
-use Rattle.dns_judgement.specs.Marks.{first_signed}
+use Rattle.dns_judgement.proofs.FirstLemmas.{signed_from}
+use Rattle.dns_trust.specs.Judge.{judge_of}
 use Rattle.dns_trust.proofs.keys.first_signed.Given as goal
 
 -- the search goes on among the signatures that are left
 abbrev pub invariant-loop-place : goal.invariant-loop-place
 invariant-loop-place g l =
-    first_signed (judge (g.V.Verifier.answers l.verifier) l.anchors l.now) l.set l.place (drop l.place l.signatures)
-    ≡ first_signed (judge (g.V.Verifier.answers l.verifier) l.anchors l.now) l.set 0 l.signatures
+    signed_from (judge_of g.V.Verifier.answers l.judge) l.set l.place (drop l.place l.signatures)
+    ≡ signed_from (judge_of g.V.Verifier.answers l.judge) l.set 0 l.signatures

@@ -1,0 +1,73 @@
+-- The first two keys of each tag, and the first signature that is good by an anchored key, found one after the other.
+use Rattle.std.proofs.Common.{◌≡◌, ℕ, suc, ◌+◌, Bool, true, false, cond, List, [], ◌∷◌, ◌++◌, map, length, take, Option, None, Some, refl, sym, ap, ◌∙◌, arith, append_assoc, length-append}
+use Rattle.std.specs.Prelude.{nat_lt, slice_get}
+use Rattle.std.specs.List.{filter, filter_map, cons_option, count_by, enumerate_from}
+use Rattle.std.specs.Option.{option_map}
+use Rattle.std.proofs.lemmas.List.{append-nil}
+use Rattle.dns_model.specs.Records.{Rr, RrSet}
+use Rattle.dns_model.specs.Chains.{Judge}
+use Rattle.dns_judgement.specs.Marks.{same_tag, is_early, first_two, anchored_signer, SignedKeys, signed_keys, first_signed}
+
+-- ---- the first two of each tag
+
+-- the keys that count of a list, after those that were met
+unfoldable pub early_after : List Rr → List Rr → List Rr
+early_after met [] = []
+early_after met (key ∷ keys) =
+    cond (nat_lt (count_by (same_tag key) met) 2) (key ∷ early_after (met ++ key ∷ []) keys) (early_after (met ++ key ∷ []) keys)
+
+take_met : (met rest : List Rr) → take (length met) (met ++ rest) ≡ met
+take_met [] rest = refl
+take_met (x ∷ met) rest = ap (λ xs. x ∷ xs) (take_met met rest)
+
+early_step : (b : Bool) (n : ℕ) (key : Rr) (numbered : List (ℕ × Rr)) (keys : List Rr) → map (λ p. p.1) numbered ≡ keys
+    → map (λ p. p.1) (cond b ((n, key) ∷ numbered) numbered) ≡ cond b (key ∷ keys) keys
+early_step true n key numbered keys h = ap (λ ks. key ∷ ks) h
+early_step false n key numbered keys h = h
+
+early_from : (all met rest : List Rr) (n : ℕ) → met ++ rest ≡ all → n ≡ length met
+    → map (λ p. p.1) (filter (is_early all) (enumerate_from n rest)) ≡ early_after met rest
+unfolding early_after
+early_from all met [] n is at = refl
+early_from all met (key ∷ keys) n is at =
+    let before : take n all ≡ met = ap (λ k. take k all) at ∙ ap (take (length met)) (sym is) ∙ take_met met (key ∷ keys) in
+    let next : (met ++ key ∷ []) ++ keys ≡ all = append_assoc met (key ∷ []) keys ∙ is in
+    let longer : n + 1 ≡ length (met ++ key ∷ []) = omega (arith, length-append met (key ∷ [])) in
+    early_step (is_early all (n, key)) n key (filter (is_early all) (enumerate_from (n + 1) keys)) (early_after (met ++ key ∷ []) keys)
+    (early_from all (met ++ key ∷ []) keys (n + 1) next longer)
+    ∙ ap (λ ks. cond (nat_lt (count_by (same_tag key) ks) 2) (key ∷ early_after (met ++ key ∷ []) keys) (early_after (met ++ key ∷ []) keys)) before
+
+pub first_two-after : (keys : List Rr) → first_two keys ≡ early_after [] keys
+unfolding first_two
+first_two-after keys = early_from keys [] keys 0 refl refl
+
+-- ---- the first signature
+
+-- the first of some signatures, the number of the first of them given, that is good by an anchored key
+unfoldable pub signed_from : Judge → RrSet → ℕ → List Rr → Option SignedKeys
+signed_from j set n signatures = slice_get (filter_map (signed_keys j set) (enumerate_from n signatures)) 0
+
+pub first_signed-from : (j : Judge) (set : RrSet) (signatures : List Rr) → first_signed j set signatures ≡ signed_from j set 0 signatures
+unfolding first_signed signed_from
+first_signed-from j set signatures = refl
+
+abbrev pub signed_or : ℕ → Rr → Option Rr → Option SignedKeys → Option SignedKeys
+signed_or n signature None rest = rest
+signed_or n signature (Some key) rest = Some (record { place = n; signature = signature; key = key })
+
+signed_step : (n : ℕ) (signature : Rr) (o : Option Rr) (rest : List SignedKeys)
+    → slice_get (cons_option (option_map (λ key. record { place = n; signature = signature; key = key }) o) rest) 0
+    ≡ signed_or n signature o (slice_get rest 0)
+signed_step n signature None rest = refl
+signed_step n signature (Some key) rest = refl
+
+pub signed_none : (j : Judge) (set : RrSet) (n : ℕ) → signed_from j set n [] ≡ None
+unfolding signed_from
+signed_none j set n = refl
+
+-- the first signature decides, or one of the others
+pub signed_more : (j : Judge) (set : RrSet) (n : ℕ) (signature : Rr) (signatures : List Rr)
+    → signed_from j set n (signature ∷ signatures) ≡ signed_or n signature (anchored_signer j set signature) (signed_from j set (n + 1) signatures)
+unfolding signed_from
+signed_more j set n signature signatures =
+    signed_step n signature (anchored_signer j set signature) (filter_map (signed_keys j set) (enumerate_from (n + 1) signatures))

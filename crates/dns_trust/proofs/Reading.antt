@@ -1,0 +1,71 @@
+-- What a signature is good by, where it is read, and where it can't be.
+use Rattle.std.proofs.Common.{◌≡◌, ℕ, Bool, true, false, ◌&&◌, List, [], ◌∷◌, Option, None, Some, refl, sym, ap, ◌∙◌}
+use Rattle.std.specs.Prelude.{if◌then◌else◌}
+use Rattle.std.specs.List.{find}
+use Rattle.dns_model.specs.Views.{RrsigValue, DnskeyValue}
+use Rattle.dns_model.specs.Records.{Rr, RrSet}
+use Rattle.dns_model.specs.RecordViews.{rrsig_of, dnskey_of}
+use Rattle.dns_model.specs.Signing.{signed_bytes}
+use Rattle.dns_model.specs.Keys.{usable_key}
+use Rattle.dns_model.specs.Chains.{Judge, rdatas_of}
+use Rattle.dns_judgement.specs.Validity.{sig_validity, validity, is_valid, is_accepted, is_good_by}
+use Rattle.dns_judgement.specs.Marks.{is_anchored_key}
+use Rattle.dns_trust.specs.Verdicts.{is_signer}
+
+-- by a key, where the signature is read
+pub read_good : (j : Judge) (set : RrSet) (r key : Rr) (sig : RrsigValue) → rrsig_of r ≡ Some sig
+    → is_good_by j set r key ≡ (is_valid (sig_validity j.is_timely set r key (Some sig)) && is_accepted j set (Some sig) (dnskey_of key))
+unfolding is_good_by validity
+read_good j set r key sig h = ap (λ o. is_valid (sig_validity j.is_timely set r key o) && is_accepted j set o (dnskey_of key)) h
+
+-- by no key, where it can't be
+pub unread_good : (j : Judge) (set : RrSet) (r key : Rr) → rrsig_of r ≡ None → is_good_by j set r key ≡ false
+unfolding is_good_by validity
+unread_good j set r key h = ap (λ o. is_valid (sig_validity j.is_timely set r key o) && is_accepted j set o (dnskey_of key)) h
+
+and_false : (b c : Bool) → c ≡ false → (b && c) ≡ false
+and_false true c h = h
+and_false false c h = refl
+
+-- a record that is no key makes nothing good
+pub good_no_key : (j : Judge) (set : RrSet) (r key : Rr) (sig : RrsigValue) → rrsig_of r ≡ Some sig → dnskey_of key ≡ None → false ≡ is_good_by j set r key
+good_no_key j set r key sig read none =
+    sym (read_good j set r key sig read
+    ∙ and_false (is_valid (sig_validity j.is_timely set r key (Some sig))) (is_accepted j set (Some sig) (dnskey_of key)) (ap (is_accepted j set (Some sig)) none))
+
+-- nor does a signature that doesn't fit
+pub good_invalid : (j : Judge) (set : RrSet) (r key : Rr) (sig : RrsigValue) → rrsig_of r ≡ Some sig
+    → is_valid (sig_validity j.is_timely set r key (Some sig)) ≡ false → false ≡ is_good_by j set r key
+good_invalid j set r key sig read invalid =
+    sym (read_good j set r key sig read ∙ ap (λ b. b && is_accepted j set (Some sig) (dnskey_of key)) invalid)
+
+-- nor a key that may not sign
+pub good_unusable : (j : Judge) (set : RrSet) (r key : Rr) (sig : RrsigValue) (text : DnskeyValue) → rrsig_of r ≡ Some sig
+    → dnskey_of key ≡ Some text → usable_key j.answers text ≡ false → false ≡ is_good_by j set r key
+good_unusable j set r key sig text read is unusable =
+    sym (read_good j set r key sig read
+    ∙ and_false (is_valid (sig_validity j.is_timely set r key (Some sig))) (is_accepted j set (Some sig) (dnskey_of key))
+    (ap (is_accepted j set (Some sig)) is
+    ∙ ap (λ b. b && j.answers.accepts sig.algorithm text.key (signed_bytes set.owner set.rtype set.class (rdatas_of set.records) sig) sig.signature) unusable))
+
+-- else the verifier decides
+pub good_accepted : (j : Judge) (set : RrSet) (r key : Rr) (sig : RrsigValue) (text : DnskeyValue) (bytes : List ℕ) → rrsig_of r ≡ Some sig
+    → is_valid (sig_validity j.is_timely set r key (Some sig)) ≡ true → dnskey_of key ≡ Some text → usable_key j.answers text ≡ true
+    → bytes ≡ signed_bytes set.owner set.rtype set.class (rdatas_of set.records) sig
+    → j.answers.accepts sig.algorithm text.key bytes sig.signature ≡ is_good_by j set r key
+good_accepted j set r key sig text bytes read valid is usable built =
+    sym (read_good j set r key sig read
+    ∙ ap (λ b. b && is_accepted j set (Some sig) (dnskey_of key)) valid
+    ∙ ap (is_accepted j set (Some sig)) is
+    ∙ ap (λ b. b && j.answers.accepts sig.algorithm text.key (signed_bytes set.owner set.rtype set.class (rdatas_of set.records) sig) sig.signature) usable
+    ∙ ap (λ bs. j.answers.accepts sig.algorithm text.key bs sig.signature) (sym built))
+
+find_step : (b : Bool) (x : Rr) (o : Option Rr) → b ≡ false → o ≡ None → (if b then Some x else o) ≡ None
+find_step true x o b_is h = cc
+find_step false x o b_is h = h
+
+pub unread_signer : (j : Judge) (set : RrSet) (r : Rr) (keys : List Rr) → rrsig_of r ≡ None → find (is_signer j set r) keys ≡ None
+unread_signer j set r [] h = refl
+unread_signer j set r (key ∷ keys) h =
+    find_step (is_signer j set r key) key (find (is_signer j set r) keys)
+    (and_false (is_anchored_key j set key) (is_good_by j set r key) (unread_good j set r key h)) (unread_signer j set r keys h)
