@@ -63,23 +63,18 @@ const CASED: [Cased; 9] = [
 ];
 
 /// The question is this one, also in case.
-fn asks(
-    alloc: Global,
-    question: Option<&Query>,
-    name: &str,
-    record_type: u16,
-) -> Result<bool, Fail> {
+fn asks(question: Option<&Query>, name: &str, record_type: u16) -> Result<bool, Fail> {
     let Some(question) = question else {
         return Ok(false);
     };
-    let printed = question.name.to_ascii(alloc)?;
+    let printed = question.name.to_ascii()?;
     Ok(printed.as_str() == name && question.query_type.0 == record_type)
 }
 
 fn is_cased(alloc: Global, row: &Cased) -> Result<bool, Fail> {
     let request = request(alloc, row.name, 48)?.with_case(row.bits)?;
-    let asked = asks(alloc, request.message.queries.first(), row.changed, 48)?;
-    let kept = asks(alloc, request.original.as_ref(), row.name, 48)?;
+    let asked = asks(request.message.queries.first(), row.changed, 48)?;
+    let kept = asks(request.original.as_ref(), row.name, 48)?;
     Ok(asked && kept)
 }
 
@@ -97,7 +92,7 @@ fn changes_the_first(alloc: Global) -> Result<bool, Fail> {
     request.message.queries.push(query(alloc, "b.", 2)?)?;
     let request = request.with_case(bits())?;
     let queries = request.message.queries.as_slice();
-    Ok(asks(alloc, queries.first(), "A.", 1)? && asks(alloc, queries.last(), "b.", 2)?)
+    Ok(asks(queries.first(), "A.", 1)? && asks(queries.last(), "b.", 2)?)
 }
 
 /// A request without a question stays without one, and has no original.
@@ -112,8 +107,8 @@ fn stays_without_a_question(alloc: Global) -> Result<bool, Fail> {
 fn keeps_what_was_before(alloc: Global) -> Result<bool, Fail> {
     let once = request(alloc, "ab.", 1)?.with_case(bits())?;
     let twice = once.with_case(bits())?.try_clone()?;
-    let asked = asks(alloc, twice.message.queries.first(), "ab.", 1)?;
-    Ok(asked && asks(alloc, twice.original.as_ref(), "AB.", 1)?)
+    let asked = asks(twice.message.queries.first(), "ab.", 1)?;
+    Ok(asked && asks(twice.original.as_ref(), "AB.", 1)?)
 }
 
 fn bits() -> &'static [u8] {

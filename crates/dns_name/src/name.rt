@@ -73,6 +73,11 @@ impl Name {
         self.borrowed().push_folded(into)
     }
 
+    /// The allocator that the name's bytes came from.
+    pub(crate) fn allocator(&self) -> Global {
+        self.wire.allocator()
+    }
+
     /// The root, which has no label.
     pub fn root(alloc: Global) -> Result<Name, NoMemory>
         ensures { IfOk result (λ n. n ≡ []) }
@@ -119,17 +124,18 @@ impl Name {
     }
 
     /// The name without its first label; the root's is the root.
-    pub fn base_name(&self, alloc: Global) -> Result<Name, NoMemory>
+    pub fn base_name(&self) -> Result<Name, NoMemory>
         ensures { IfOk result (λ n. n ≡ parent self.now) }
     {
-        self.borrowed().parent().to_name(alloc)
+        self.borrowed().parent().to_name(self.allocator())
     }
 
     /// The name that the last labels make, this many, or all.
-    pub fn trim_to(&self, alloc: Global, labels: u8) -> Result<Name, NoMemory>
+    pub fn trim_to(&self, labels: u8) -> Result<Name, NoMemory>
         ensures { IfOk result (λ n. n ≡ last_labels labels self.now) }
     {
-        self.borrowed().last_labels(labels).to_name(alloc)
+        let last = self.borrowed().last_labels(labels);
+        last.to_name(self.allocator())
     }
 
     /// Whether this name is at or above the other: its labels are the other's last, with A to Z as a to z.

@@ -55,21 +55,21 @@ impl Name {
     }
 
     /// The name with one more label in front, which is checked as by `from_labels`.
-    pub fn prepend_label(&self, alloc: Global, label: &[u8]) -> Result<Name, NameError>
+    pub fn prepend_label(&self, label: &[u8]) -> Result<Name, NameError>
         ensures { Gives (λ n. n) no_memory result (name_with label.now self.now) }
     {
-        let mut wire = Vec::new(alloc);
+        let mut wire = Vec::new(self.allocator());
         push_label(&mut wire, label)?;
         name_of_run(wire, &self.borrowed())
     }
 
     /// The printed form: every label with a dot after it, and a dot for the root. `.` and `\` stand after a backslash, a
     /// byte outside 0x21 to 0x7e is a backslash with three decimal digits. `from_ascii` reads it as the same labels.
-    pub fn to_ascii(&self, alloc: Global) -> Result<Text, NoMemory>
+    pub fn to_ascii(&self) -> Result<Text, NoMemory>
         ensures value { IfOk result (λ t. t ≡ printed self.now) }
         ensures back { IfOk result (λ t. read_name t ≡ Ok self.now) }
     {
-        self.borrowed().to_ascii(alloc)
+        self.borrowed().to_ascii(self.allocator())
     }
 }
 

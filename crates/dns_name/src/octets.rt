@@ -74,6 +74,11 @@ impl Octets {
         self.bytes
     }
 
+    /// The allocator that the bytes came from.
+    pub fn allocator(&self) -> Global {
+        *self.bytes.allocator()
+    }
+
     /// An equal value in memory of its own.
     pub fn try_clone(&self) -> Result<Octets, NoMemory>
         ensures { IfOk result (λ o. o ≡ self.now) }

@@ -113,7 +113,8 @@ pub(crate) fn push_label(wire: &mut Vec<u8>, label: &[u8]) -> Result<(), NameErr
 fn labels_of_text(alloc: Global, text: &[u8]) -> Result<(Vec<u8>, bool), NameError>
     ensures { MatchResult result (λ r. IsLabels (read_at [] text.now) r.0.items r.1) (λ fault. FailsAs fault (read_at [] text.now)) }
 {
-    let mut wire = Vec::new(alloc);
+    // Each label is as long in wire form as with its dot, the last one a byte longer; the closing zero byte comes with the name above.
+    let mut wire = Vec::with_capacity(alloc, text.len().min(253) + 2)?;
     let mut left = text;
     'labels: loop {
         let mut label = Vec::new(alloc);

@@ -11,8 +11,8 @@ fn hash_of<T: Hash>(value: &T) -> u64 {
 }
 
 /// Whether a name is printed so.
-pub(crate) fn is_printed(alloc: Global, name: &Name, text: &str) -> Result<bool, NameError> {
-    let printed = name.to_ascii(alloc)?;
+pub(crate) fn is_printed(name: &Name, text: &str) -> Result<bool, NameError> {
+    let printed = name.to_ascii()?;
     Ok(printed.as_str() == text)
 }
 
@@ -43,7 +43,7 @@ fn in_place(alloc: Global, texts: &[&str]) -> Result<usize, NameError> {
     let names = names_of(alloc, texts)?;
     let mut count: usize = 0;
     for (name, text) in names.iter().zip(texts.iter()) {
-        if is_printed(alloc, name, text)? {
+        if is_printed(name, text)? {
             count = count.saturating_add(1);
         }
     }
@@ -139,7 +139,7 @@ fn front_is(
     match (NameRef::front(bytes), want) {
         (Some((name, rest)), Some((text, left))) => {
             let owned = name.to_name(alloc)?;
-            Ok(is_printed(alloc, &owned, text)? && rest.len() == *left)
+            Ok(is_printed(&owned, text)? && rest.len() == *left)
         }
         (None, None) => Ok(true),
         _ => Ok(false),
@@ -185,13 +185,9 @@ fn is_counted(name: &Name, labels: u8, without: u8) -> bool {
 fn has_labels(alloc: Global, row: &Counted) -> Result<bool, NameError> {
     let (text, labels, without, parent, last) = *row;
     let name = Name::from_ascii(alloc, text)?;
-    let above = name.base_name(alloc)?;
-    let two = name.trim_to(alloc, 2)?;
-    Ok(
-        is_counted(&name, labels, without)
-            && is_printed(alloc, &above, parent)?
-            && is_printed(alloc, &two, last)?,
-    )
+    let above = name.base_name()?;
+    let two = name.trim_to(2)?;
+    Ok(is_counted(&name, labels, without) && is_printed(&above, parent)? && is_printed(&two, last)?)
 }
 
 #[test]

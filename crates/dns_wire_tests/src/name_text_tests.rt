@@ -46,7 +46,7 @@ fn is_read(alloc: Global, text: &str, printed: &str) -> Result<bool, NameError> 
     let name = Name::from_ascii(alloc, text)?;
     let again = Name::from_bytes(alloc, text.as_bytes())?;
     let shown = format!(in alloc; "{name}")?;
-    Ok(is_printed(alloc, &name, printed)? && again.eq_case(&name) && shown.as_str() == printed)
+    Ok(is_printed(&name, printed)? && again.eq_case(&name) && shown.as_str() == printed)
 }
 
 #[test]
@@ -115,7 +115,7 @@ fn long_name(alloc: Global) -> Result<Name, NameError> {
 /// The fault of a label in front of a long name.
 fn prepended(alloc: Global, label: &[u8]) -> Result<Option<NameError>, NameError> {
     let long = long_name(alloc)?;
-    Ok(fault_of(long.prepend_label(alloc, label)))
+    Ok(fault_of(long.prepend_label(label)))
 }
 
 /// The fault of a text below a long name.
@@ -146,7 +146,7 @@ fn pair_of(alloc: Global, label: &[u8]) -> Result<Vec<Octets>, NameError> {
 fn comes_back(alloc: Global, label: &[u8]) -> Result<bool, NameError> {
     let labels = pair_of(alloc, label)?;
     let name = Name::from_labels(alloc, labels.as_slice())?;
-    let text = name.to_ascii(alloc)?;
+    let text = name.to_ascii()?;
     let again = Name::from_ascii(alloc, text.as_str())?;
     Ok(again.eq_case(&name))
 }
@@ -194,7 +194,7 @@ fn is_parsed(alloc: Global, text: &str, below: &str, alone: &str) -> Result<bool
     let origin = Name::from_ascii(alloc, "Example.org")?;
     let joined = Name::parse(alloc, text, Some(&origin))?;
     let name = Name::parse(alloc, text, None)?;
-    Ok(is_printed(alloc, &joined, below)? && is_printed(alloc, &name, alone)?)
+    Ok(is_printed(&joined, below)? && is_printed(&name, alone)?)
 }
 
 #[test]
