@@ -12,7 +12,7 @@ use Rattle.dns_judgement.specs.Judged.{Judged}
 use Rattle.dns_judgement.specs.Outcome.{Outcome, Unjudged, Accepted, Denied, outcome_of, has_answer, needs_denial, is_wildcard_signature, foreign_record}
 use Rattle.dns_judgement.specs.Marking.{cleared_message, finished}
 use Rattle.dns_judgement.specs.Run.{Run, Sets, most_sends}
-use Rattle.dns_net.specs.Causes.{Rose}
+use Rattle.dns_model.specs.Counts.{Rose}
 use Rattle.dns_net.specs.Errors as seen
 use Rattle.dns_net.specs.Errors.{Reply, ErrorValue, Dns, Message, ForeignClassRecord, Nsec}
 use Rattle.dns_net.specs.Handles.{ReplyIsTold}

@@ -6,7 +6,7 @@ use Rattle.dns_model.specs.SoundAnswers.{Placed, told_by, placed_sets}
 use Rattle.dns_judgement.specs.Judged.{Judged}
 use Rattle.dns_judgement.specs.Outcome.{foreign_record}
 use Rattle.dns_judgement.specs.Run.{Run, Sets}
-use Rattle.dns_net.specs.Causes.{Rose}
+use Rattle.dns_model.specs.Counts.{Rose}
 use Rattle.dns_net.specs.Errors as seen
 use Rattle.dns_net.specs.Errors.{Reply}
 use Rattle.dns_net.specs.Replies.{error_of}

@@ -12,7 +12,7 @@ use Rattle.dns_judgement.specs.Judged.{Judged}
 use Rattle.dns_judgement.specs.Outcome.{has_answer, needs_denial, is_wildcard_signature, foreign_record}
 use Rattle.dns_judgement.specs.Marking.{finished}
 use Rattle.dns_judgement.specs.Run.{Run, Sets, most_sends}
-use Rattle.dns_net.specs.Causes.{Rose}
+use Rattle.dns_model.specs.Counts.{Rose}
 use Rattle.dns_net.specs.Errors.{Reply, ErrorValue, DnsErrorValue, Busy, Dns, Message, Msg, NoConnections, Proto, Io, Timeout, QueryCaseMismatch, ForeignClassRecord, Truncated, NoMemory, ResponseCode, Nsec, DnssecBogus}
 use Rattle.dns_net.specs.Handles.{reply_to}
 use Rattle.dns_net.specs.Walks.{Walked}

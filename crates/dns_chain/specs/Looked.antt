@@ -8,7 +8,7 @@ use Rattle.dns_judgement.specs.Judged.{Judged}
 use Rattle.dns_judgement.specs.Outcome.{Outcome, Unjudged, Accepted, Denied, outcome_of, foreign_record}
 use Rattle.dns_judgement.specs.Marking.{cleared_message, finished}
 use Rattle.dns_judgement.specs.Run.{Run, Sets, most_sends}
-use Rattle.dns_net.specs.Causes.{Rose}
+use Rattle.dns_model.specs.Counts.{Rose}
 use Rattle.dns_net.specs.Errors as seen
 use Rattle.dns_net.specs.Errors.{Reply, ErrorValue, DnsErrorValue, Busy, Dns, Message, Msg, NoConnections, Proto, Io, Timeout, QueryCaseMismatch, ForeignClassRecord, Truncated, ResponseCode, Nsec, DnssecBogus}
 use Rattle.dns_net.specs.Walks.{Walked}

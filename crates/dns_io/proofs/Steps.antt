@@ -4,7 +4,8 @@ use Rattle.std.proofs.lemmas.List.{length-append, length-drop, take_all}
 use Rattle.std.specs.Io.KnownBytes.{Appends, Consumes}
 use Rattle.std.proofs.KnownBytes.{Appends-trans, Consumes-trans}
 use Rattle.std.proofs.Math.Seq.{take-add}
-use Rattle.dns_io.specs.Reading.{ReadsFront, ReadsOnto}
+use Rattle.dns_io.specs.Reading.{ReadsFront}
+use Rattle.dns_io.specs.Pieces.{ReadsOnto}
 
 -- what was read so far, and what a piece put behind it
 pub reads_more : (first before now : Option (List ℕ)) (old new : List ℕ)

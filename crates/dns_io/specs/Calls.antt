@@ -1,7 +1,7 @@
 -- The calls of an object in memory, of which some are set to fail.
 use Rattle.std.specs.Prelude.{ℕ, Bool, ◌==◌, List, if◌then◌else◌}
 use Rattle.std.specs.List.{list_any}
-use Rattle.dns_io.specs.Faults.{one_more}
+use Rattle.dns_model.specs.Counts.{one_more}
 
 -- the numbers, from 0, of the calls that fail; how many calls were made; and how many of those failed
 pub record CallLog : Type 0 where

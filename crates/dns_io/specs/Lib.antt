@@ -1,4 +1,5 @@
 pub mod Calls
-pub mod Faults
 pub mod Reading
+pub mod Pieces
 pub mod Writing
+pub mod Standard

@@ -1,5 +1,5 @@
 -- What a reading to the end leaves of a source, where the source tells its bytes.
-use Rattle.std.specs.Prelude.{◌≡◌, ℕ, ◌^◌, ◌≤◌, List, [], ◌++◌, length, ⊤, Option, None, Some}
+use Rattle.std.specs.Prelude.{◌≡◌, ℕ, ◌^◌, ◌≤◌, List, [], length, ⊤, Option, None, Some}
 use Rattle.std.specs.Io.KnownBytes.{Consumes}
 
 -- the most bytes that an input may have
@@ -16,9 +16,3 @@ pub record ReadsFront (most : ℕ) (before now : Option (List ℕ)) : Type 0 whe
   pub bytes : List ℕ
   pub bound : length bytes ≤ most
   pub read : Consumes before now bytes
-
--- bytes were read, and stand in new behind those of old
-pub record ReadsOnto (before now : Option (List ℕ)) (old new : List ℕ) : Type 0 where
-  pub bytes : List ℕ
-  pub read : Consumes before now bytes
-  pub appended : new ≡ old ++ bytes

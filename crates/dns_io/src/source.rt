@@ -2,8 +2,9 @@
 ghost use Rattle.std.specs.Prelude.{◌≡◌, ◌≢◌, ℕ, ◌+◌, ◌<◌, ◌≤◌, List, length, vec_len, Option, IfSome, IfOk, OnOk, OnErr, IsErr};
 ghost use Rattle.std.specs.Io.{ReadsAtMost};
 ghost use Rattle.std.specs.Io.KnownBytes.{IsAtEnd, ReadConsumes};
-ghost use Rattle.dns_io.specs.Faults.{Rose};
-ghost use Rattle.dns_io.specs.Reading.{input_limit, IsEnded, ReadsFront, ReadsOnto};
+ghost use Rattle.dns_model.specs.Counts.{Rose};
+ghost use Rattle.dns_io.specs.Reading.{input_limit, IsEnded, ReadsFront};
+ghost use Rattle.dns_io.specs.Pieces.{ReadsOnto};
 ghost use Rattle.dns_io.specs.declared.source.ReadStop.TheVariants.{NoMemory};
 
 use std::alloc::{AllocError, Global};

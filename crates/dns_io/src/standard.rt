@@ -13,19 +13,23 @@ pub struct InputSource<R: Read + Drop> {
 }
 
 impl<R: Read + Drop> InputSource<R> {
+    ghost use Rattle.dns_io.specs.Standard.{reader_of, failed_reads};
+
     /// A source of what the reader gives, with no fault.
     pub fn new(input: R) -> InputSource<R>
-        ensures input { result.input ≡ input }
-        ensures faults { result.faults ≡ 0 }
+        ensures reader { reader_of result ≡ input }
+        ensures faults { failed_reads result ≡ 0 }
     {
         InputSource { input, faults: 0 }
     }
 }
 
 impl<R: Read + Drop> Source for InputSource<R> {
-    ghost left = { λ s. R.remaining s.input };
+    ghost use Rattle.dns_io.specs.Standard.{reader_of, failed_reads};
 
-    ghost faults = { λ s. s.faults };
+    ghost left = { λ s. R.remaining (reader_of s) };
+
+    ghost faults = { failed_reads };
 
     fn read(&mut self, buf: &mut [u8]) -> Result<usize, Failed> {
         match self.input.read(buf) {
@@ -46,19 +50,23 @@ pub struct OutputSink<W: Write + Drop> {
 }
 
 impl<W: Write + Drop> OutputSink<W> {
+    ghost use Rattle.dns_io.specs.Standard.{writer_of, failed_writes};
+
     /// A sink that hands bytes to the writer, with no fault.
     pub fn new(output: W) -> OutputSink<W>
-        ensures output { result.output ≡ output }
-        ensures faults { result.faults ≡ 0 }
+        ensures writer { writer_of result ≡ output }
+        ensures faults { failed_writes result ≡ 0 }
     {
         OutputSink { output, faults: 0 }
     }
 }
 
 impl<W: Write + Drop> Sink for OutputSink<W> {
-    ghost taken = { λ s. W.contents s.output };
+    ghost use Rattle.dns_io.specs.Standard.{writer_of, failed_writes};
 
-    ghost faults = { λ s. s.faults };
+    ghost taken = { λ s. W.contents (writer_of s) };
+
+    ghost faults = { failed_writes };
 
     fn write(&mut self, bytes: &[u8]) -> Result<usize, SinkFault> {
         match self.output.write(bytes) {

@@ -3,7 +3,7 @@ ghost use Rattle.std.specs.Prelude.{◌≡◌, ℕ, ◌<◌, ◌≤◌, ◌↔�
 ghost use Rattle.std.specs.Io.{WritesAtMost};
 ghost use Rattle.std.specs.Io.KnownBytes.{WriteAppends};
 ghost use Rattle.dns_io.specs.Calls.{no_calls, next_fails, with_call};
-ghost use Rattle.dns_io.specs.Faults.{Rose};
+ghost use Rattle.dns_model.specs.Counts.{Rose};
 
 use crate::calls::Calls;
 use crate::sink::{Sink, SinkFault};

@@ -3,33 +3,34 @@ ghost use Rattle.std.specs.Prelude.{◌≡◌, ℕ, ◌≤◌, ◌↔◌, List, 
 ghost use Rattle.std.specs.Io.{ReadsAtMost};
 ghost use Rattle.std.specs.Io.KnownBytes.{ReadConsumes};
 ghost use Rattle.dns_io.specs.Calls.{no_calls, next_fails, with_call};
-ghost use Rattle.dns_io.specs.Faults.{Rose};
+ghost use Rattle.dns_model.specs.Counts.{Rose};
 
 use crate::calls::Calls;
 use crate::source::{Failed, Source};
+use dns_name::Octets;
 use std::marker::Model;
 
 /// A source in memory that never fails. Contracts see it as the bytes that are left.
 #[derive(Drop)]
 pub struct SureSource {
-    bytes: Vec<u8>,
+    bytes: Octets,
     at: usize,
 }
 
 impl Model for SureSource {
-    ghost use Rattle.std.specs.Prelude.{ℕ, ◌≤◌, List, drop, vec_len};
+    ghost use Rattle.std.specs.Prelude.{ℕ, ◌≤◌, List, drop, length};
 
     ghost Value = { List ℕ };
 
-    ghost view = { λ s. drop s.at s.bytes.items };
+    ghost view = { λ s. drop s.at s.bytes };
 
-    ghost invariant = { λ s. s.at ≤ vec_len s.bytes };
+    ghost invariant = { λ s. s.at ≤ length s.bytes };
 }
 
 impl SureSource {
     /// A source of these bytes.
-    pub fn new(bytes: Vec<u8>) -> SureSource
-        ensures { result ≡ bytes.items }
+    pub fn new(bytes: Octets) -> SureSource
+        ensures { result ≡ bytes }
     {
         SureSource { bytes, at: 0 }
     }
@@ -45,7 +46,7 @@ impl Source for SureSource {
         ensures bytes { ReadConsumes (Some self.old) (Some self.new) result buf.new }
         ensures ok { result ≡ Ok (min (length buf.new) (length self.old)) }
     {
-        let count = copy_front(&self.bytes[self.at..], buf);
+        let count = copy_front(&self.bytes.as_slice()[self.at..], buf);
         self.at += count;
         Ok(count)
     }
@@ -78,8 +79,8 @@ impl Model for TextSource {
 
 impl TextSource {
     /// A source of these bytes. `fails` are the numbers, from 0, of the reads that fail.
-    pub fn new(bytes: Vec<u8>, fails: Vec<u64>) -> TextSource
-        ensures { result ≡ record { left = bytes.items; calls = no_calls fails.items } }
+    pub fn new(bytes: Octets, fails: Vec<u64>) -> TextSource
+        ensures { result ≡ record { left = bytes; calls = no_calls fails.items } }
     {
         TextSource {
             text: SureSource::new(bytes),

@@ -1,6 +1,7 @@
 //! `run` over sources and sinks in memory.
 use crate::worked_rows::{ROWS, Row};
 use dns_io::{Sink, SinkFault, SureSink, SureSource, TextSink, TextSource};
+use dns_name::Octets;
 use dns_run::run;
 use std::alloc::{AllocError, Global};
 use std::test::Fail;
@@ -49,7 +50,10 @@ fn told_run(
     failing: &[u64],
 ) -> Result<(u8, Vec<u8>), AllocError> {
     let words = words_of(alloc, words)?;
-    let mut source = TextSource::new(session.to_vec(alloc)?, failing.to_vec(alloc)?);
+    let mut source = TextSource::new(
+        Octets::from_vec(session.to_vec(alloc)?),
+        failing.to_vec(alloc)?,
+    );
     let mut sink = TextSink::new(alloc, Vec::new(alloc));
     let status = run(alloc, &words, &mut source, &mut sink);
     let text = sink.taken().to_vec(alloc)?;
@@ -59,7 +63,7 @@ fn told_run(
 // Words over a source and a sink that never fail.
 fn sure_run(alloc: Global, words: &[&str], session: &[u8]) -> Result<(u8, Vec<u8>), AllocError> {
     let words = words_of(alloc, words)?;
-    let mut source = SureSource::new(session.to_vec(alloc)?);
+    let mut source = SureSource::new(Octets::from_vec(session.to_vec(alloc)?));
     let mut sink = SureSink::new(alloc);
     let status = run(alloc, &words, &mut source, &mut sink);
     let text = sink.taken().to_vec(alloc)?;
@@ -69,7 +73,7 @@ fn sure_run(alloc: Global, words: &[&str], session: &[u8]) -> Result<(u8, Vec<u8
 // Words over a sink whose second write fails.
 fn slow_run(alloc: Global, words: &[&str], session: &[u8]) -> Result<(u8, Vec<u8>), AllocError> {
     let words = words_of(alloc, words)?;
-    let mut source = SureSource::new(session.to_vec(alloc)?);
+    let mut source = SureSource::new(Octets::from_vec(session.to_vec(alloc)?));
     let mut sink = Slow {
         taken: Vec::new(alloc),
         faults: 0,

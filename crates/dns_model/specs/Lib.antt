@@ -1,4 +1,5 @@
 pub mod Gives
+pub mod Counts
 pub mod Bytes
 pub mod Names
 pub mod NameForm

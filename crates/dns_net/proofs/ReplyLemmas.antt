@@ -21,7 +21,7 @@ use Rattle.dns_model.specs.Names.{name_cmp}
 use Rattle.dns_model.proofs.NameLemmas.{name_equiv}
 use Rattle.dns_net.specs.Errors.{Reply}
 use Rattle.dns_net.specs.Handles.{reply_to}
-use Rattle.dns_net.specs.Recording.{reply_at, reply_of_place, first_place, place_or, Noted, IndexesFirst, question_cmp}
+use Rattle.dns_net.specs.RecordedPlaces.{reply_at, reply_of_place, first_place, place_or, Noted, IndexesFirst, question_cmp}
 
 -- ---- places in a list
 

@@ -8,5 +8,6 @@ pub mod Conversions
 pub mod Causes
 pub mod Handles
 pub mod Recording
+pub mod RecordedPlaces
 pub mod Walks
 pub mod Notices

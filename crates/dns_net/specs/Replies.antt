@@ -1,7 +1,5 @@
 -- What contracts see of an error and of a reply.
-use Rattle.std.specs.Prelude.{◌≡◌, Result, Ok, Err}
-use Rattle.dns_model.specs.declared.proof.Proof.{Proof}
-use Rattle.dns_model.specs.Records.{Question}
+use Rattle.std.specs.Prelude.{Result, Ok, Err}
 use Rattle.dns_model.specs.SoundAnswers.{ResponseValue}
 use Rattle.dns_net.specs.Errors as seen
 use Rattle.dns_net.specs.Errors.{DnsErrorValue, ErrorValue, Reply}
@@ -33,12 +31,3 @@ error_of NoMemory = seen.NoMemory
 abbrev pub reply_of : Result ResponseValue NetError → Reply
 reply_of (Ok response) = Ok response
 reply_of (Err error) = Err (error_of error)
-
--- the error is a denial of this question, with this response and proof
-abbrev pub DeniesWith : Question → ResponseValue → Proof → NetError → Type 0
-DeniesWith query response proof error = error_of error ≡ seen.Dns (seen.Nsec query response proof)
-
--- a fact of the question, the response and the proof of a denial; other errors have none
-abbrev pub IfDenied : NetError → (Question → ResponseValue → Proof → Type 0) → Type 0
-IfDenied (Dns (Nsec query response proof)) Fact = Fact query response.value proof
-IfDenied _ Fact = Unit {0}

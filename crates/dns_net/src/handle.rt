@@ -3,7 +3,8 @@ ghost use Rattle.dns_model.specs.Records.{Question};
 ghost use Rattle.dns_net.specs.Errors.{Reply};
 ghost use Rattle.dns_net.specs.Replies.{reply_of};
 ghost use Rattle.dns_net.specs.Requests.{RequestValue, first_question, request_of};
-ghost use Rattle.dns_net.specs.Causes.{Rose, HasCause};
+ghost use Rattle.dns_model.specs.Counts.{Rose};
+ghost use Rattle.dns_net.specs.Causes.{HasCause};
 ghost use Rattle.dns_net.specs.Handles.{ReplyIsTold, OrUnsent};
 
 use crate::{DnsRequest, DnsRequestOptions, DnsResponse, NetError};

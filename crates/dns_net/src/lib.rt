@@ -15,6 +15,7 @@ mod request;
 mod response;
 mod verifier;
 
+pub use dns_record::{Denial, Section};
 pub use error::{DnsError, NetError, ProtoError};
 pub use handle::DnsHandle;
 pub use io_kind::IoKind;

@@ -3,7 +3,8 @@ ghost use Rattle.dns_net.specs.Errors as seen;
 ghost use Rattle.dns_net.specs.Replies.{reply_of};
 ghost use Rattle.dns_net.specs.Requests.{first_question};
 ghost use Rattle.dns_net.specs.Handles.{reply_to};
-ghost use Rattle.dns_net.specs.Recording.{AnswersFrom, Noted, question_cmp, reply_at};
+ghost use Rattle.dns_net.specs.Recording.{AnswersFrom};
+ghost use Rattle.dns_net.specs.RecordedPlaces.{Noted, question_cmp, reply_at};
 
 use crate::{DnsHandle, DnsRequest, DnsResponse, NetError};
 use dns_name::NoMemory;
@@ -40,7 +41,8 @@ pub struct Recorded {
 }
 
 impl Model for Recorded {
-    ghost use Rattle.dns_net.specs.Recording.{RecordedValue, IndexesFirst, question_cmp};
+    ghost use Rattle.dns_net.specs.Recording.{RecordedValue};
+    ghost use Rattle.dns_net.specs.RecordedPlaces.{IndexesFirst, question_cmp};
 
     ghost Value = { RecordedValue };
 

@@ -4,7 +4,7 @@ ghost use Rattle.std.specs.Io.KnownBytes.{Appends};
 ghost use Rattle.dns_net.specs.Errors.{ErrorValue, Message};
 ghost use Rattle.dns_net.specs.declared.notice.Notice.TheVariants.{NotJudgedYet};
 ghost use Rattle.dns_report.specs.Faults.{fault_text};
-ghost use Rattle.dns_io.specs.Faults.{Rose};
+ghost use Rattle.dns_model.specs.Counts.{Rose};
 ghost use Rattle.dns_io.specs.Reading.{input_limit, IsEnded, ReadsFront};
 ghost use Rattle.dns_io.specs.Writing.{TakesPrefix};
 ghost use Rattle.dns_run.specs.Causes.{HasNoMessage, HasForeign, HasNoAnswer, EndsWith, EndsAsJudged, IfSession, IfBadLine};

@@ -1,4 +1,5 @@
 use dns_io::*;
+use dns_name::Octets;
 use std::io;
 use std::io::{Read, Write};
 use std::test::Fail;
@@ -130,7 +131,7 @@ fn a_source_is_read_to_its_end_or_to_its_fault(rt: HostRuntime) -> Result<(), Fa
         } else {
             Err(ReadStop::Failed)
         };
-        let mut source = TextSource::new(bytes, fails.to_vec(alloc)?);
+        let mut source = TextSource::new(Octets::from_vec(bytes), fails.to_vec(alloc)?);
         assert!(rt; read_all(alloc, &mut source) == want, "{len} bytes");
     }
     Ok(())
@@ -139,7 +140,7 @@ fn a_source_is_read_to_its_end_or_to_its_fault(rt: HostRuntime) -> Result<(), Fa
 #[test]
 fn a_failed_read_loses_nothing(rt: HostRuntime) -> Result<(), Fail> {
     let alloc = rt.alloc();
-    let mut source = TextSource::new(b"abc".to_vec(alloc)?, vec![in alloc; 1]?);
+    let mut source = TextSource::new(Octets::from_vec(b"abc".to_vec(alloc)?), vec![in alloc; 1]?);
     let mut buf = [0; 2];
     assert_eq!(rt; source.read(&mut buf), Ok(2));
     assert_eq!(rt; buf, *b"ab");
@@ -219,7 +220,7 @@ fn a_sink_that_takes_nothing_has_failed(rt: HostRuntime) {
 #[test]
 fn the_sure_ones_pass_all_on(rt: HostRuntime) -> Result<(), Fail> {
     let alloc = rt.alloc();
-    let mut source = SureSource::new(b"report".to_vec(alloc)?);
+    let mut source = SureSource::new(Octets::from_vec(b"report".to_vec(alloc)?));
     let mut sink = SureSink::new(alloc);
     assert!(rt; read_all(alloc, &mut source) == Ok(b"report".to_vec(alloc)?));
     assert!(rt; read_all(alloc, &mut source) == Ok(Vec::new(alloc)));

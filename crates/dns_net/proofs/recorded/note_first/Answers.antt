@@ -1,5 +1,5 @@
 use Rattle.std.proofs.Common.{sym, ◌∙◌}
-use Rattle.dns_net.specs.Recording.{question_cmp}
+use Rattle.dns_net.specs.RecordedPlaces.{question_cmp}
 use Rattle.dns_net.proofs.ReplyLemmas.{noted_absent, noted_present, none_found, question_orders}
 use Rattle.dns_net.proofs.recorded.note_first.Goals as goal
 

@@ -1,6 +1,6 @@
 use Rattle.std.proofs.Common.{◌≡◌, rules, length}
 use Rattle.dns_net.specs.Replies.{reply_of}
-use Rattle.dns_net.specs.Recording.{question_cmp}
+use Rattle.dns_net.specs.RecordedPlaces.{question_cmp}
 use Rattle.dns_net.proofs.ReplyLemmas.{index_more}
 use Rattle.dns_net.proofs.recorded.Recorded.push.Goals as goal
 

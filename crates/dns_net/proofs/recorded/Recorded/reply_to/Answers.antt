@@ -1,6 +1,6 @@
 use Rattle.std.proofs.Common.{◌≡◌, sym, inr, None, Some}
 use Rattle.dns_net.specs.Handles.{reply_to}
-use Rattle.dns_net.specs.Recording.{reply_at}
+use Rattle.dns_net.specs.RecordedPlaces.{reply_at}
 use Rattle.dns_net.proofs.ReplyLemmas.{reply_found}
 use Rattle.dns_net.proofs.recorded.Recorded.reply_to.Goals as goal
 

@@ -1,4 +1,4 @@
--- Counts of faults. They never fall, and stop at the greatest 64-bit number.
+-- Counts of events, as sends and faults. They never fall, and stop at the greatest 64-bit number.
 use Rattle.std.specs.Prelude.{ℕ, ◌+◌, ◌-◌, ◌^◌, ◌≤◌, min}
 
 -- the count is greater than before, or stands at the greatest
