@@ -4,3 +4,4 @@ pub mod Sends
 pub mod Steps
 pub mod Looked
 pub mod Causes
+pub mod Validators

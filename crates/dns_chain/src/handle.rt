@@ -1,9 +1,8 @@
 ghost use Rattle.std.specs.Prelude.{◌≡◌, ◌≤◌, IfOk, true};
-ghost use Rattle.dns_model.specs.Chains.{judge};
 ghost use Rattle.dns_net.specs.Replies.{reply_of};
 ghost use Rattle.dns_net.specs.Handles.{OrUnsent};
 ghost use Rattle.dns_chain.specs.Inquiries.{depth_limit};
-ghost use Rattle.dns_chain.specs.Sends.{Asking, SendsFor};
+ghost use Rattle.dns_chain.specs.Sends.{SendsFor};
 ghost use Rattle.dns_chain.specs.Causes.{PassesOnly, PassesOn, ForeignOnly, ForeignNamed, UnjudgedOnly, UnansweredUnjudged, DeniedOnly, AcceptedOnly, Judges};
 ghost use Rattle.dns_chain.specs.Looked.{UnlessNoMemory, IsLookup, IsSoundAnswer};
 
@@ -24,11 +23,13 @@ pub struct DnssecDnsHandle<H: Drop, V: Drop> {
 }
 
 impl<H: DnsHandle + Drop, V: Verifier + Drop> DnssecDnsHandle<H, V> {
+    ghost use Rattle.dns_chain.specs.Validators.{inner_of, anchors_of, verifier_of, judge_of, ask_of};
+
     /// A validator that trusts these anchors and tests signatures by this verifier.
     pub fn new(handle: H, anchors: TrustAnchors, verifier: V) -> Result<Self, NoMemory>
-        ensures handle { IfOk result (λ h. h.handle ≡ handle) }
-        ensures anchors { IfOk result (λ h. h.anchors ≡ anchors) }
-        ensures verifier { IfOk result (λ h. h.verifier ≡ verifier) }
+        ensures handle { IfOk result (λ h. inner_of h ≡ handle) }
+        ensures anchors { IfOk result (λ h. anchors_of h ≡ anchors) }
+        ensures verifier { IfOk result (λ h. verifier_of h ≡ verifier) }
     {
         Ok(DnssecDnsHandle {
             handle,
@@ -43,9 +44,9 @@ impl<H: DnsHandle + Drop, V: Verifier + Drop> DnssecDnsHandle<H, V> {
         anchors: TrustAnchors,
         verifier: V,
     ) -> Result<Self, NoMemory>
-        ensures handle { IfOk result (λ h. h.handle ≡ handle) }
-        ensures anchors { IfOk result (λ h. h.anchors ≡ anchors) }
-        ensures verifier { IfOk result (λ h. h.verifier ≡ verifier) }
+        ensures handle { IfOk result (λ h. inner_of h ≡ handle) }
+        ensures anchors { IfOk result (λ h. anchors_of h ≡ anchors) }
+        ensures verifier { IfOk result (λ h. verifier_of h ≡ verifier) }
     {
         DnssecDnsHandle::new(handle, anchors, verifier)
     }
@@ -72,37 +73,50 @@ impl<H: DnsHandle + Drop, V: Verifier + Drop> DnssecDnsHandle<H, V> {
         now: u64,
     ) -> Result<DnsResponse, NetError>
         // The next lookup is by the same anchors and the same verifier.
-        ensures anchors { self.new.anchors ≡ self.old.anchors }
-        ensures verifier { self.new.verifier ≡ self.old.verifier }
-        ensures later { H.faults self.old.handle ≤ H.faults self.new.handle }
-        ensures told { H.told self.new.handle ≡ H.told self.old.handle }
+        ensures anchors { anchors_of self.new ≡ anchors_of self.old }
+        ensures verifier { verifier_of self.new ≡ verifier_of self.old }
+        ensures later { H.faults (inner_of self.old) ≤ H.faults (inner_of self.new) }
+        ensures told { H.told (inner_of self.new) ≡ H.told (inner_of self.old) }
 
         // Whatever the result, each send is an ask with these options at this moment, the first one for the query.
-        ensures sends { OrUnsent self.old.handle self.new.handle result (SendsFor (Asking H.sent H.requested options now) self.old.handle self.new.handle query) }
+        ensures sends { OrUnsent (inner_of self.old) (inner_of self.new) result
+            (SendsFor (ask_of H.DnsHandle options now) (inner_of self.old) (inner_of self.new) query) }
 
         // What is sound of the answer, and how it came about.
-        ensures sound { IsSoundAnswer (judge (V.answers self.old.verifier) self.old.anchors now) now (H.told self.old.handle) query (reply_of result) }
-        ensures lookup { UnlessNoMemory result (IsLookup (Asking H.sent H.requested options now) H.faults self.old.handle self.new.handle (H.told self.old.handle)
-            (judge (V.answers self.old.verifier) self.old.anchors now) now (depth_limit options) query (reply_of result)) }
+        ensures sound { IsSoundAnswer (judge_of V.Verifier self.old now) now (H.told (inner_of self.old)) query
+            (reply_of result) }
+        ensures lookup { UnlessNoMemory result
+            (IsLookup (ask_of H.DnsHandle options now) H.faults (inner_of self.old) (inner_of self.new)
+            (H.told (inner_of self.old)) (judge_of V.Verifier self.old now) now (depth_limit options) query
+            (reply_of result)) }
 
         // An error that only the handle makes is passed on, after one send that met a fault; and whatever error it replies is.
-        ensures passed { PassesOnly (Asking H.sent H.requested options now) H.faults self.old.handle self.new.handle (H.told self.old.handle) query (reply_of result) }
-        ensures passes { UnlessNoMemory result (PassesOn (H.told self.old.handle) query (reply_of result)) }
+        ensures passed { PassesOnly (ask_of H.DnsHandle options now) H.faults (inner_of self.old) (inner_of self.new)
+            (H.told (inner_of self.old)) query (reply_of result) }
+        ensures passes { UnlessNoMemory result (PassesOn (H.told (inner_of self.old)) query (reply_of result)) }
 
         // Else the first record of another class than the query's is named, and nothing else is complained of so.
-        ensures foreign { ForeignOnly (Asking H.sent H.requested options now) H.faults self.old.handle self.new.handle (H.told self.old.handle) query (reply_of result) }
-        ensures names_foreign { UnlessNoMemory result (ForeignNamed (H.told self.old.handle) query (reply_of result)) }
+        ensures foreign { ForeignOnly (ask_of H.DnsHandle options now) H.faults (inner_of self.old) (inner_of self.new)
+            (H.told (inner_of self.old)) query (reply_of result) }
+        ensures names_foreign { UnlessNoMemory result
+            (ForeignNamed (H.told (inner_of self.old)) query (reply_of result)) }
 
         // Else the sets are judged, and there are three answers: denial would have to be judged, is lacking, or isn't needed.
-        ensures unjudged { UnjudgedOnly (Asking H.sent H.requested options now) H.faults self.old.handle self.new.handle (H.told self.old.handle)
-            (judge (V.answers self.old.verifier) self.old.anchors now) (depth_limit options) query (reply_of result) }
-        ensures unanswered { UnlessNoMemory result (UnansweredUnjudged (H.told self.old.handle) query (reply_of result)) }
-        ensures denied { DeniedOnly (Asking H.sent H.requested options now) self.old.handle self.new.handle (H.told self.old.handle)
-            (judge (V.answers self.old.verifier) self.old.anchors now) now (depth_limit options) query (reply_of result) }
-        ensures accepted { AcceptedOnly (Asking H.sent H.requested options now) self.old.handle self.new.handle (H.told self.old.handle)
-            (judge (V.answers self.old.verifier) self.old.anchors now) now (depth_limit options) query (reply_of result) }
-        ensures judges { UnlessNoMemory result (Judges (Asking H.sent H.requested options now) self.old.handle self.new.handle (H.told self.old.handle)
-            (judge (V.answers self.old.verifier) self.old.anchors now) now (depth_limit options) query (reply_of result)) }
+        ensures unjudged { UnjudgedOnly (ask_of H.DnsHandle options now) H.faults (inner_of self.old)
+            (inner_of self.new) (H.told (inner_of self.old)) (judge_of V.Verifier self.old now) (depth_limit options)
+            query (reply_of result) }
+        ensures unanswered { UnlessNoMemory result
+            (UnansweredUnjudged (H.told (inner_of self.old)) query (reply_of result)) }
+        ensures denied { DeniedOnly (ask_of H.DnsHandle options now) (inner_of self.old) (inner_of self.new)
+            (H.told (inner_of self.old)) (judge_of V.Verifier self.old now) now (depth_limit options) query
+            (reply_of result) }
+        ensures accepted { AcceptedOnly (ask_of H.DnsHandle options now) (inner_of self.old) (inner_of self.new)
+            (H.told (inner_of self.old)) (judge_of V.Verifier self.old now) now (depth_limit options) query
+            (reply_of result) }
+        ensures judges { UnlessNoMemory result
+            (Judges (ask_of H.DnsHandle options now) (inner_of self.old) (inner_of self.new)
+            (H.told (inner_of self.old)) (judge_of V.Verifier self.old now) now (depth_limit options) query
+            (reply_of result)) }
     {
         let inquiry = Inquiry {
             options,
@@ -121,7 +135,7 @@ impl<H: DnsHandle + Drop, V: Verifier + Drop> DnssecDnsHandle<H, V> {
 
     /// The handle that is asked.
     pub fn inner(&self) -> &H
-        ensures { result.now ≡ self.now.handle }
+        ensures { result.now ≡ inner_of self.now }
     {
         &self.handle
     }
