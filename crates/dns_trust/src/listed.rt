@@ -87,10 +87,40 @@ impl Listed {
             return Ok(());
         }
         let alloc = *self.accepted.allocator();
-        let entry = entry_of(alloc, algorithm, key, bytes, signature)?;
-        let number = signature_number(algorithm, key, bytes, signature);
+        let key = Octets::from_slice(alloc, key)?;
+        let bytes = Octets::from_slice(alloc, bytes)?;
+        let signature = Octets::from_slice(alloc, signature)?;
+        self.accept_octets(algorithm, key, bytes, signature)
+    }
+
+    /// The same as `accept`, of bytes that are handed over, so that none is copied.
+    pub fn accept_octets(
+        &mut self,
+        algorithm: u8,
+        key: Octets,
+        bytes: Octets,
+        signature: Octets,
+    ) -> Result<(), NoMemory>
+        ensures ok { OnOk result (self.new ≡ with_accepted self.old (record { algorithm = algorithm; key = key; bytes = bytes; signature = signature })) }
+        ensures err { OnErr result (self.new ≡ self.old) }
+    {
+        if algorithm == 1 {
+            return Ok(());
+        }
+        let alloc = *self.accepted.allocator();
+        let number = signature_number(
+            algorithm,
+            key.as_slice(),
+            bytes.as_slice(),
+            signature.as_slice(),
+        );
         add_place(alloc, &mut self.places, number, self.accepted.len())?;
-        self.accepted.push(entry)?;
+        self.accepted.push(ListedSignature {
+            algorithm,
+            key,
+            bytes,
+            signature,
+        })?;
         Ok(())
     }
 }
@@ -233,27 +263,6 @@ fn is_entry(
         && key == entry.key.as_slice()
         && bytes == entry.bytes.as_slice()
         && signature == entry.signature.as_slice()
-}
-
-// An entry of copies.
-fn entry_of(
-    alloc: Global,
-    algorithm: u8,
-    key: &[u8],
-    bytes: &[u8],
-    signature: &[u8],
-) -> Result<ListedSignature, NoMemory>
-    ensures { IfOk result (λ a. a ≡ record { algorithm = algorithm; key = key.now; bytes = bytes.now; signature = signature.now }) }
-{
-    let key = Octets::from_slice(alloc, key)?;
-    let bytes = Octets::from_slice(alloc, bytes)?;
-    let signature = Octets::from_slice(alloc, signature)?;
-    Ok(ListedSignature {
-        algorithm,
-        key,
-        bytes,
-        signature,
-    })
 }
 
 // The number by which a signature is found.
