@@ -110,7 +110,7 @@ judge_signatures-returns-then-proved-clause-went g t c =
 
 pub judge_signatures-returns-then-proved-clause-run : goal.judge_signatures-returns-then-proved-clause-run
 judge_signatures-returns-then-proved-clause-run g t c = λ tells told.
-    rw c.in_ok-push.ensures.items (rw map-append (proved_at _ _ _ _ _ _ _ _ _ _ _ _ _ _ _ c.first_signatures-tried.ensures c.loop-sig-test.true c.sig-item.is
+    rw c.in_ok-push.ensures.items (rw map-append (proved_at _ _ _ _ _ _ _ _ _ _ _ _ _ _ _ c.first_signatures-tried.ensures.first c.loop-sig-test.true c.sig-item.is
     (c.loop-sig.invariant.1 tells told) (c.in_ok-verdict.ensures.step tells (c.loop-sig.invariant.0.told ∙ told)) (sym c.is_proved-proved.ensures ∙ c.if-proved.true)))
 
 pub judge_signatures-loop-sig-preserved : goal.judge_signatures-loop-sig-preserved
@@ -122,4 +122,4 @@ judge_signatures-loop-sig-preserved g t c = (
 
 pub judge_signatures-returns-clause-run : goal.judge_signatures-returns-clause-run
 judge_signatures-returns-clause-run g t c = λ tells told.
-    all_failed _ _ _ _ _ _ _ _ _ _ _ _ c.first_signatures-tried.ensures c.loop-sig-test.false (c.loop-sig.invariant.1 tells told)
+    all_failed _ _ _ _ _ _ _ _ _ _ _ _ c.first_signatures-tried.ensures.first c.loop-sig-test.false (c.loop-sig.invariant.1 tells told)
