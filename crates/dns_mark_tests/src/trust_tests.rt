@@ -82,7 +82,7 @@ pub(crate) fn key_record(alloc: Global, owner: &str, rdata: &[u8]) -> Result<Rec
 /// A verifier that accepts these signatures of algorithm 13.
 pub(crate) fn verifier(alloc: Global) -> Result<Listed, Fail> {
     let mut listed = Listed::new(alloc);
-    listed.support(13)?;
+    listed.support(13);
     listed.accept(13, public_key(), NS_BYTES, signature())?;
     listed.accept(13, public_key(), NS_BYTES_REVOKED, signature())?;
     listed.accept(13, public_key(), KEYS_BYTES, keys_signature())?;
@@ -98,7 +98,7 @@ fn accepts_under(alloc: Global, algorithm: u8) -> Result<bool, Fail> {
 /// Algorithm 1 is neither supported nor accepted, also where it was listed.
 fn lists_algorithm_1(alloc: Global) -> Result<bool, Fail> {
     let mut listed = Listed::new(alloc);
-    listed.support(1)?;
+    listed.support(1);
     listed.accept(1, public_key(), NS_BYTES, signature())?;
     Ok(listed.supports(1) || listed.accepts(1, public_key(), NS_BYTES, signature()))
 }
@@ -111,8 +111,8 @@ fn is_same_as_itself_in_another_order(alloc: Global) -> Result<bool, Fail> {
     other.accept(13, public_key(), NS_BYTES, signature())?;
     other.accept(13, public_key(), NS_BYTES, signature())?;
     let before = listed.same(&other);
-    other.support(13)?;
-    other.support(1)?;
+    other.support(13);
+    other.support(1);
     Ok(!before && listed.same(&other) && other.same(&listed))
 }
 

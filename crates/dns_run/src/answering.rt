@@ -49,22 +49,21 @@ fn listed_by(
     ensures { IfOk result (λ l. l ≡ listed_by algorithms.now accepts.now) }
 {
     let mut verifier = Listed::new(alloc);
-    add_algorithms(&mut verifier, algorithms)?;
+    add_algorithms(&mut verifier, algorithms);
     add_accepts(&mut verifier, accepts)?;
     Ok(verifier)
 }
 
 /// Supports each algorithm.
 #[tactic(auto, unfolding(crate::specs::Adding::with_algorithms))]
-fn add_algorithms(verifier: &mut Listed, algorithms: &[u8]) -> Result<(), NoMemory>
-    ensures { OnOk result (verifier.new ≡ with_algorithms verifier.old algorithms.now) }
+fn add_algorithms(verifier: &mut Listed, algorithms: &[u8])
+    ensures { verifier.new ≡ with_algorithms verifier.old algorithms.now }
 {
     let mut left = algorithms;
     'algorithms: while let Some((algorithm, more)) = left.split_first() {
-        verifier.support(*algorithm)?;
+        verifier.support(*algorithm);
         left = more;
     }
-    Ok(())
 }
 
 /// Accepts each signature.

@@ -3,5 +3,6 @@ pub mod Verdicts
 pub mod Built
 pub mod Counting
 pub mod Finding
+pub mod ByteSets
 pub mod Listing
 pub mod Anchoring

@@ -1,10 +1,12 @@
-ghost use Rattle.std.specs.Prelude.{◌≡◌, ◌↔◌, ◌==◌, ◌&&◌, ◌||◌, [], IsTrue, IfOk, OnOk, OnErr};
+ghost use Rattle.std.specs.Prelude.{◌≡◌, ◌↔◌, ◌==◌, ◌&&◌, ◌||◌, ◌++◌, ◌∷◌, [], false, IsTrue, IfOk, OnOk, OnErr};
 ghost use Rattle.std.specs.List.{list_all, list_any};
 ghost use Rattle.dns_net.specs.Verifiers.{AnswerAlike};
+ghost use Rattle.dns_trust.specs.ByteSets.{IsByteSet};
 ghost use Rattle.dns_trust.specs.Finding.{passes_at};
 ghost use Rattle.dns_trust.specs.Listing.{answers_of, holds_entry as holds_entry_in, is_entry as is_entry_of, is_listed, is_within as is_within_of, signature_number as number_in, with_accepted, with_algorithm};
 
 use crate::finding::{PlacesByNumber, add_place, mix, places_of};
+use arrayvec::ArrayVec;
 use dns_name::{NoMemory, Octets};
 use dns_net::Verifier;
 use std::alloc::Global;
@@ -31,20 +33,21 @@ impl Model for ListedSignature {
 /// A verifier that supports and accepts what was listed, and nothing else; algorithm 1 never. It computes nothing.
 #[derive(Drop)]
 pub struct Listed {
-    algorithms: Vec<u8>,
+    algorithms: ArrayVec<u8, 256>,
     accepted: Vec<ListedSignature>,
     places: PlacesByNumber,
 }
 
 impl Model for Listed {
     ghost use Rattle.dns_trust.specs.Listing.{ListedValue, entry_number};
+    ghost use Rattle.dns_trust.specs.ByteSets.{IsByteSet};
     ghost use Rattle.dns_trust.specs.Finding.{Covers};
 
     ghost Value = { ListedValue };
 
     ghost view = { λ l. record { algorithms = l.algorithms.items; accepted = l.accepted.items } };
 
-    ghost invariant = { λ l. Covers entry_number l.places l.accepted.items };
+    ghost invariant = { λ l. Covers entry_number l.places l.accepted.items × IsByteSet l.algorithms.items };
 }
 
 impl Listed {
@@ -53,22 +56,20 @@ impl Listed {
         ensures { result ≡ record { algorithms = []; accepted = [] } }
     {
         Listed {
-            algorithms: Vec::new(alloc),
+            algorithms: ArrayVec::new(),
             accepted: Vec::new(alloc),
             places: BTreeMap::new(alloc),
         }
     }
 
-    /// Supports an algorithm from now on; algorithm 1 changes nothing. For want of memory all stays as it was.
-    pub fn support(&mut self, algorithm: u8) -> Result<(), NoMemory>
-        ensures ok { OnOk result (self.new ≡ with_algorithm self.old algorithm) }
-        ensures err { OnErr result (self.new ≡ self.old) }
+    /// Supports an algorithm from now on; algorithm 1 changes nothing.
+    pub fn support(&mut self, algorithm: u8)
+        ensures { self.new ≡ with_algorithm self.old algorithm }
     {
-        if algorithm == 1 || has_algorithm(&self.algorithms, algorithm) {
-            return Ok(());
+        if algorithm == 1 || has_algorithm(self.algorithms.as_slice(), algorithm) {
+            return;
         }
-        self.algorithms.push(algorithm)?;
-        Ok(())
+        add_algorithm(&mut self.algorithms, algorithm);
     }
 
     /// Accepts a signature over bytes by a key under an algorithm from now on; algorithm 1 changes nothing. For want of
@@ -163,14 +164,14 @@ impl Listed {
     fn is_within(&self, other: &Listed) -> bool
         ensures { result ≡ is_within_of self.now other.now }
     {
-        supports_all(other, &self.algorithms) && accepts_all(other, &self.accepted)
+        supports_all(other, self.algorithms.as_slice()) && accepts_all(other, &self.accepted)
     }
 
     // An algorithm is listed.
     fn lists(&self, algorithm: u8) -> bool
         ensures { result ≡ is_listed self.now algorithm }
     {
-        has_algorithm(&self.algorithms, algorithm)
+        has_algorithm(self.algorithms.as_slice(), algorithm)
     }
 
     // An entry is listed.
@@ -209,6 +210,16 @@ fn accepts_all(listed: &Listed, entries: &[ListedSignature]) -> bool
     entries
         .iter()
         .all(|entry| entry.algorithm == 1 || listed.holds_entry(entry))
+}
+
+// One algorithm more, for which there is room, since each has another number of a byte.
+fn add_algorithm(algorithms: &mut ArrayVec<u8, 256>, algorithm: u8)
+    requires set { IsByteSet algorithms.old.items }
+    requires new { list_any (λ a. algorithm == a) algorithms.old.items ≡ false }
+    ensures items { algorithms.new.items ≡ algorithms.old.items ++ algorithm ∷ [] }
+    ensures set { IsByteSet algorithms.new.items }
+{
+    algorithms.push(algorithm);
 }
 
 // An algorithm is listed.

@@ -8,4 +8,4 @@ pub returns : goal.returns
 returns c =
     rw (c.is_at.ensures, c.deref.ensures.value, c.places_of-places.ensures, c.signature_number.ensures, ← c.self.view_is)
     (found entry_number (is_entry c.args.algorithm c.args.key.now c.args.bytes.now c.args.signature.now) (signature_number c.args.algorithm c.args.key.now c.args.bytes.now c.args.signature.now) c.self.inside.places c.self.inside.accepted.items
-    (entry_alike c.args.algorithm c.args.key.now c.args.bytes.now c.args.signature.now) c.self.invariant)
+    (entry_alike c.args.algorithm c.args.key.now c.args.bytes.now c.args.signature.now) c.self.invariant.0)
