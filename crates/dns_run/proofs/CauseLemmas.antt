@@ -1,8 +1,7 @@
 -- Why a session is answered so, out of the causes of its lookup.
-use Rattle.std.proofs.Common.{ℕ, ◌≡◌, ◌≢◌, ◌⊎◌, ◌∙◌, Bool, true, false, cond, List, [], ◌∷◌, map, Option, None, Some, Result, Ok, Err, refl, sym, ap, inl, inr}
+use Rattle.std.proofs.Common.{ℕ, ◌≡◌, ◌≢◌, ◌⊎◌, ◌∙◌, Bool, false, List, map, Option, None, Some, Result, Ok, Err, refl, sym, ap, inl, inr}
 use Rattle.std.specs.Prelude.{IsTrue, ◌↔◌}
-use Rattle.std.specs.List.{find}
-use Rattle.dns_model.specs.Records.{Question, MessageValue, question_eq}
+use Rattle.dns_model.specs.Records.{MessageValue}
 use Rattle.dns_message.specs.declared.decode_error.DecodeError.{DecodeError}
 use Rattle.dns_net.specs.Errors as seen
 use Rattle.dns_net.specs.Replies.{error_of}
@@ -12,43 +11,16 @@ use Rattle.dns_net.specs.Errors.{Reply, ErrorValue, Proto, Timeout, ForeignClass
 use Rattle.dns_net.specs.Handles.{reply_to}
 use Rattle.dns_net.specs.Recording.{RecordedValue, AnswersFrom}
 use Rattle.dns_net.specs.Requests.{plain_options}
-use Rattle.dns_chain.specs.Heard.{heard_message, heard, told_of}
+use Rattle.dns_chain.specs.Heard.{heard_message, heard}
 use Rattle.dns_chain.specs.Inquiries.{depth_limit}
 use Rattle.dns_chain.proofs.CauseLemmas.{Caused, lookup_caused, ByUpstream, ByClass, ByUnjudged, ByDenied, ByAccepted, err_same, err_ok, no_both}
 use Rattle.dns_session.specs.SessionValue.{SessionValue, ReplyValue}
 use Rattle.dns_report.specs.Faults.{fault_text}
 use Rattle.dns_run.specs.Outcomes.{IsFault}
-use Rattle.dns_run.specs.Answering.{recorded, recorded_by, reply_from, session_judge, AnswersSession}
-use Rattle.dns_run.specs.Causes.{session_reply, message_in, message_of, session_records, HasNoMessage, NoReply, BadMessage, FaultCause, NoMessage, OtherClass, NotJudged, NotDenied}
-
--- ---- the reply to the query
-
-abbrev pub reply_found : Option ReplyValue → Reply
-reply_found None = Err Timeout
-reply_found (Some reply) = reply_from reply.message
-
--- the recorded reply to a question is that of the first with it
-recorded_reply : (replies : List ReplyValue) (q : Question)
-    → reply_to (map recorded replies) q ≡ reply_found (find (λ reply. question_eq reply.question q) replies)
-unfolding reply_to
-recorded_reply [] q = refl
-recorded_reply (r ∷ rs) q =
-    elim (question_eq r.question q) as (λ b. cond b (reply_from r.message) (reply_to (map recorded rs) q) ≡ reply_found (cond b (Some r) (find (λ reply. question_eq reply.question q) rs))) [
-      | true ↦ refl
-      | false ↦ recorded_reply rs q
-    ]
-
--- what is told of it
-told_from : (m : Result MessageValue DecodeError) → heard (reply_from m) ≡ told_of (message_in m)
-told_from (Ok message) = refl
-told_from (Err fault) = refl
-
-told_found : (o : Option ReplyValue) → heard (reply_found o) ≡ told_of (message_of o)
-told_found None = refl
-told_found (Some reply) = told_from reply.message
-
-pub session_told : (s : SessionValue) → heard (reply_to (map recorded s.replies) s.query) ≡ session_records s
-session_told s = ap heard (recorded_reply s.replies s.query) ∙ told_found (session_reply s)
+use Rattle.dns_run.specs.Soundness.{session_judge, session_reply}
+use Rattle.dns_run.specs.Answering.{recorded, recorded_by, reply_from, AnswersSession}
+use Rattle.dns_run.proofs.ReplyLemmas.{reply_found, recorded_reply, session_told}
+use Rattle.dns_run.specs.Causes.{HasNoMessage, NoReply, BadMessage, FaultCause, NoMessage, OtherClass, NotJudged, NotDenied}
 
 -- ---- an error in place of a message
 

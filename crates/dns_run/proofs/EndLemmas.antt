@@ -16,24 +16,28 @@ use Rattle.dns_report.specs.Report.{report_text}
 use Rattle.dns_report.specs.Faults.{fault_text}
 use Rattle.dns_session.specs.SessionValue.{SessionValue}
 use Rattle.dns_session.specs.Grammar.{session_of}
+use Rattle.dns_run.specs.declared.form.Form.{Form}
 use Rattle.dns_run.specs.Forms.{bad_line_text}
-use Rattle.dns_run.specs.Answering.{recorded, recorded_by, session_judge}
-use Rattle.dns_run.specs.Causes.{session_records, HasNoMessage, HasForeign, HasNoAnswer, EndsWith, Ended, Stopped, EndsByCase, EndsAsJudged, IfSession, IfBadLine}
-use Rattle.dns_run.specs.Outcomes.{IsReport, IsFault, Reports, Fails, Refuses, Wrote, Leaves}
-use Rattle.dns_run.proofs.CauseLemmas.{SessionCaused, session_caused, session_told, no_message_reply, no_message_silent}
+use Rattle.dns_run.specs.Soundness.{session_judge}
+use Rattle.dns_run.specs.Answering.{recorded, recorded_by}
+use Rattle.dns_run.specs.Causes.{session_records, HasNoMessage, HasForeign, HasNoAnswer}
+use Rattle.dns_run.specs.Outcomes.{IsLookupReport, IsFault, LooksUp, Fails, Refuses, Wrote, Leaves}
+use Rattle.dns_run.specs.Runs.{EndsWith, Ended, Stopped, EndsByCase, EndsAsSession, EndsByGrammar, EndsByWords, IfSession, IfBadLine}
+use Rattle.dns_run.proofs.ReplyLemmas.{session_told}
+use Rattle.dns_run.proofs.CauseLemmas.{SessionCaused, session_caused, no_message_reply, no_message_silent}
 
 -- ---- the ways to end
 
 -- a status below 4 says what was written
 data Ending (bytes : List ℕ) (status : ℕ) (before now : Option (List ℕ)) : Type 0 where
-  Reported : status ≡ 0 → Wrote before now (Reports bytes) → Ending bytes status before now
+  Reported : status ≡ 0 → Wrote before now (LooksUp bytes) → Ending bytes status before now
   Failed : status ≡ 1 → Wrote before now (Fails bytes) → Ending bytes status before now
   Refused : status ≡ 3 → Wrote before now (Refuses bytes) → Ending bytes status before now
   Later : 4 ≤ status → Ending bytes status before now
 
 -- what a run says of its statuses
 pub record Says (status : ℕ) (told before now : Option (List ℕ)) : Type 0 where
-  pub report : status ≡ 0 → Leaves Reports told before now
+  pub report : status ≡ 0 → Leaves LooksUp told before now
   pub fault : status ≡ 1 → Leaves Fails told before now
   pub form : status ≢ 2
   pub grammar : status ≡ 3 → Leaves Refuses told before now
@@ -72,12 +76,12 @@ data Session (s : SessionValue) (status : ℕ) (before now : Option (List ℕ)) 
   GivesLater : 4 ≤ status → Session s status before now
 
 gives_report : (s : SessionValue) (status : ℕ) (before now : Option (List ℕ)) (text : List ℕ)
-    → IsReport s text → status ≡ 0 → Appends before now text → Session s status before now
+    → IsLookupReport s text → status ≡ 0 → Appends before now text → Session s status before now
 gives_report s status before now text r is written =
     let P : List ℕ → Type 0 = λ t. Appends before now t in
-    elim (session_caused s (Ok r.answer) r.given) [
-      | inl memory ↦ absurd (err_ok (Ok r.answer) r.answer seen.NoMemory memory refl)
-      | inr caused ↦ GivesReport r.answer r.given.after caused is (subst P r.spelled written)
+    elim (session_caused s (Ok r.report.answer) r.given) [
+      | inl memory ↦ absurd (err_ok (Ok r.report.answer) r.report.answer seen.NoMemory memory refl)
+      | inr caused ↦ GivesReport r.report.answer r.given.after caused is (subst P r.report.spelled written)
     ]
 
 gives_fault : (s : SessionValue) (status : ℕ) (before now : Option (List ℕ)) (text : List ℕ)
@@ -93,7 +97,7 @@ gives_fault s status before now text f is written =
 session_ends : (bytes : List ℕ) (s : SessionValue) (status : ℕ) (before now : Option (List ℕ))
     → session_of bytes ≡ Ok s → Ending bytes status before now → Session s status before now
 session_ends bytes s status before now read (Reported is wrote) =
-    let P : SessionValue → Type 0 = λ x. IsReport x wrote.text in
+    let P : SessionValue → Type 0 = λ x. IsLookupReport x wrote.text in
     gives_report s status before now wrote.text (subst P (session_same bytes s wrote.fact.session read wrote.fact.read) wrote.fact.report) is wrote.written
 session_ends bytes s status before now read (Failed is wrote) =
     let P : SessionValue → Type 0 = λ x. IsFault x wrote.text in
@@ -115,38 +119,35 @@ ends_fault s status before now error only (GivesFault x after caused is written)
 ends_fault s status before now error only (GivesLater late) = Stopped late
 
 -- a session without a message in reply to its query
-pub ends_without_message : (status : ℕ) (told before now : Option (List ℕ)) → Says status told before now
-    → IfSession told (λ s. (error : ErrorValue) → HasNoMessage s error → EndsWith status 1 before now (fault_text error))
-ends_without_message status None before now says = tt
-ends_without_message status (Some bytes) before now says = λ s read error none.
+ends_without_message : (s : SessionValue) (status : ℕ) (before now : Option (List ℕ)) → Session s status before now
+    → (error : ErrorValue) → HasNoMessage s error → EndsWith status 1 before now (fault_text error)
+ends_without_message s status before now ended error none =
     ends_fault s status before now error
     (λ after answer caused.
     passes_on AnswersFrom (λ r. r.faults) (recorded_by s.replies) after (Some (map recorded s.replies)) (session_judge s) s.moment
     (depth_limit plain_options) s.query answer caused (no_message_silent s error none) ∙ no_message_reply s error none)
-    (session_ends bytes s status before now read (ending bytes status before now says))
+    ended
 
 -- a session whose reply has a record of another class
-pub ends_foreign : (status : ℕ) (told before now : Option (List ℕ)) → Says status told before now
-    → IfSession told (λ s. (error : ErrorValue) → HasForeign s error → EndsWith status 1 before now (fault_text error))
-ends_foreign status None before now says = tt
-ends_foreign status (Some bytes) before now says = λ s read error foreign.
+ends_foreign : (s : SessionValue) (status : ℕ) (before now : Option (List ℕ)) → Session s status before now
+    → (error : ErrorValue) → HasForeign s error → EndsWith status 1 before now (fault_text error)
+ends_foreign s status before now ended error foreign =
     ends_fault s status before now error
     (λ after answer caused.
     foreign_named AnswersFrom (λ r. r.faults) (recorded_by s.replies) after (Some (map recorded s.replies)) (session_judge s) s.moment
     (depth_limit plain_options) s.query answer caused foreign.records foreign.first (session_told s ∙ foreign.told) foreign.found
     ∙ ap (λ y. Err y) (sym foreign.named))
-    (session_ends bytes s status before now read (ending bytes status before now says))
+    ended
 
 -- a session whose reply has no answer
-pub ends_unanswered : (status : ℕ) (told before now : Option (List ℕ)) → Says status told before now
-    → IfSession told (λ s. HasNoAnswer s → EndsWith status 1 before now (fault_text (Message NotJudgedYet)))
-ends_unanswered status None before now says = tt
-ends_unanswered status (Some bytes) before now says = λ s read h.
+ends_unanswered : (s : SessionValue) (status : ℕ) (before now : Option (List ℕ)) → Session s status before now
+    → HasNoAnswer s → EndsWith status 1 before now (fault_text (Message NotJudgedYet))
+ends_unanswered s status before now ended h =
     ends_fault s status before now (Message NotJudgedYet)
     (λ after answer caused.
     unanswered_unjudged AnswersFrom (λ r. r.faults) (recorded_by s.replies) after (Some (map recorded s.replies)) (session_judge s) s.moment
     (depth_limit plain_options) s.query answer caused h.records (session_told s ∙ h.told) h.own h.none)
-    (session_ends bytes s status before now read (ending bytes status before now says))
+    ended
 
 -- the judged sets of an answer with a cause
 sets_of_cause : (s : SessionValue) (after : RecordedValue) (answer : Reply) (records : Told)
@@ -185,12 +186,20 @@ ends_by_case s status before now records told own (GivesFault error after caused
     })
 ends_by_case s status before now records told own (GivesLater late) = inl late
 
--- a session whose reply's sets are judged
-pub ends_judged : (status : ℕ) (told before now : Option (List ℕ)) → Says status told before now
-    → IfSession told (λ s. EndsAsJudged s status before now)
-ends_judged status None before now says = tt
-ends_judged status (Some bytes) before now says = λ s read records told own.
-    ends_by_case s status before now records told own (session_ends bytes s status before now read (ending bytes status before now says))
+-- what a run over a session ends with
+ends_session : (s : SessionValue) (status : ℕ) (before now : Option (List ℕ)) → Session s status before now → EndsAsSession s status before now
+ends_session s status before now ended = record {
+  no_message = ends_without_message s status before now ended;
+  other_class = ends_foreign s status before now ended;
+  no_answer = ends_unanswered s status before now ended;
+  judged = λ records told own. ends_by_case s status before now records told own ended;
+}
+
+pub ends_as_session : (status : ℕ) (told before now : Option (List ℕ)) → Says status told before now
+    → IfSession told (λ s. EndsAsSession s status before now)
+ends_as_session status None before now says = tt
+ends_as_session status (Some bytes) before now says = λ s read.
+    ends_session s status before now (session_ends bytes s status before now read (ending bytes status before now says))
 
 line_ends : (bytes : List ℕ) (number status : ℕ) (before now : Option (List ℕ))
     → session_of bytes ≡ Err number → Ending bytes status before now → EndsWith status 3 before now (bad_line_text number)
@@ -203,8 +212,20 @@ line_ends bytes number status before now read (Refused is wrote) =
 line_ends bytes number status before now read (Later late) = Stopped late
 
 -- an input that is no session
-pub ends_bad_line : (status : ℕ) (told before now : Option (List ℕ)) → Says status told before now
+ends_bad_line : (status : ℕ) (told before now : Option (List ℕ)) → Says status told before now
     → IfBadLine told (λ number. EndsWith status 3 before now (bad_line_text number))
 ends_bad_line status None before now says = tt
 ends_bad_line status (Some bytes) before now says = λ number read.
     line_ends bytes number status before now read (ending bytes status before now says)
+
+pub ends_by_grammar : (status : ℕ) (told before now : Option (List ℕ)) → Says status told before now → EndsByGrammar status told before now
+ends_by_grammar status told before now says = record { only = says.grammar; always = ends_bad_line status told before now says }
+
+-- ---- by the words
+
+-- a form that was found is the one that was asked for
+pub words_are : (asked found : Option Form) (status : ℕ) (before now : Option (List ℕ)) → found ≡ asked
+    → EndsByWords found status before now → EndsByWords asked status before now
+words_are asked found status before now same ends =
+    let P : Option Form → Type 0 = λ form. EndsByWords form status before now in
+    subst P same ends

@@ -27,7 +27,8 @@ use Rattle.dns_chain.specs.Inquiries.{depth_limit}
 use Rattle.dns_chain.specs.Looked.{IsLookup, UnlessNoMemory}
 use Rattle.dns_session.specs.SessionValue.{AcceptedSignatureValue, SessionValue}
 use Rattle.dns_run.specs.Adding.{with_algorithms, with_accepts, listed_by, with_anchors, trusted_by}
-use Rattle.dns_run.specs.Answering.{listed_signature, recorded, recorded_by, session_listing, session_judge, AnswersSession}
+use Rattle.dns_run.specs.Soundness.{listed_signature, listing, session_judge}
+use Rattle.dns_run.specs.Answering.{recorded, recorded_by, AnswersSession}
 
 -- an element that doesn't count, or that is there already, may be left out of a test of a list
 left_out : (counts is here rest : Bool) → (is ≡ true → (counts ≡ false) ⊎ (here ≡ true))
@@ -153,21 +154,38 @@ accepts_same algorithms accepts n key bytes signature =
     accepts_added (with_algorithms none_listed algorithms) accepts n key bytes signature
     ∙ ap (λ xs. accepts_in (xs ++ map listed_signature accepts) n key bytes signature) (accepted_kept none_listed algorithms)
 
-supports_all : (s : SessionValue) → (answers_of (listed_by s.algorithms s.accepts)).supports ≡ (answers_of (session_listing s)).supports
+supports_all : (algorithms : List ℕ) (accepts : List AcceptedSignatureValue)
+    → (answers_of (listed_by algorithms accepts)).supports ≡ (answers_of (listing algorithms accepts)).supports
 unfolding supports_in
-supports_all s = fun_ext λ n. supports_same s.algorithms s.accepts n
+supports_all algorithms accepts = fun_ext λ n. supports_same algorithms accepts n
 
-accepts_all : (s : SessionValue) → (answers_of (listed_by s.algorithms s.accepts)).accepts ≡ (answers_of (session_listing s)).accepts
+accepts_all : (algorithms : List ℕ) (accepts : List AcceptedSignatureValue)
+    → (answers_of (listed_by algorithms accepts)).accepts ≡ (answers_of (listing algorithms accepts)).accepts
 unfolding accepts_in
-accepts_all s = fun_ext λ n. fun_ext λ key. fun_ext λ bytes. fun_ext λ signature. accepts_same s.algorithms s.accepts n key bytes signature
+accepts_all algorithms accepts =
+    fun_ext λ n. fun_ext λ key. fun_ext λ bytes. fun_ext λ signature. accepts_same algorithms accepts n key bytes signature
 
 answering : (ℕ → Bool) → (ℕ → List ℕ → List ℕ → List ℕ → Bool) → keys.VerifierAnswers
 answering supports accepts = record { supports = supports; accepts = accepts }
 
--- the verifier answers as the session's lists say
-listed_plain : (s : SessionValue) → answers_of (listed_by s.algorithms s.accepts) ≡ answers_of (session_listing s)
+-- the verifier that the loops make answers as the plain lists say
+listed_plain : (algorithms : List ℕ) (accepts : List AcceptedSignatureValue)
+    → answers_of (listed_by algorithms accepts) ≡ answers_of (listing algorithms accepts)
 unfolding answering
-listed_plain s = ap₂ answering (supports_all s) (accepts_all s)
+listed_plain algorithms accepts = ap₂ answering (supports_all algorithms accepts) (accepts_all algorithms accepts)
+
+-- the verifier that the two loops made, one after the other
+pub listed_made : (none made all : ListedValue) (algorithms : List ℕ) (accepts : List AcceptedSignatureValue)
+    → none ≡ record { algorithms = []; accepted = [] } → made ≡ with_algorithms none algorithms → all ≡ with_accepts made accepts
+    → answers_of all ≡ answers_of (listing algorithms accepts)
+listed_made none made all algorithms accepts is first second = rw (second, first, is) (listed_plain algorithms accepts)
+
+-- one more signature
+pub accepts_more : (listed : ListedValue) (accepts : List AcceptedSignatureValue) (a : AcceptedSignatureValue)
+    → with_accepts listed (accepts ++ a ∷ []) ≡ with_accepted (with_accepts listed accepts) (listed_signature a)
+unfolding with_accepts
+accepts_more listed [] a = refl
+accepts_more listed (x ∷ more) a = accepts_more (with_accepted listed (listed_signature x)) more a
 
 -- ---- anchors
 
@@ -202,9 +220,20 @@ anchored_read : (anchors : List AnchorValue) (owner : Labels) (key : Option Dnsk
 anchored_read anchors owner None = refl
 anchored_read anchors owner (Some key) = anchors_added [] anchors owner key.algorithm key.key
 
--- a key is trusted as the session's anchors say
+-- one more anchor
+pub anchors_more : (trusted anchors : List AnchorValue) (a : AnchorValue)
+    → with_anchors trusted (anchors ++ a ∷ []) ≡ with_anchor (with_anchors trusted anchors) a
+unfolding with_anchors
+anchors_more trusted [] a = refl
+anchors_more trusted (x ∷ more) a = anchors_more (with_anchor trusted x) more a
+
+-- a key is trusted as the plain list says
 trusted_plain : (anchors : List AnchorValue) → anchored (trusted_by anchors) ≡ anchored anchors
 trusted_plain anchors = fun_ext λ owner. fun_ext λ key. anchored_read anchors owner (dnskey_in key)
+
+-- the keys that the loop made
+pub trusted_made : (trusted anchors : List AnchorValue) → trusted ≡ trusted_by anchors → anchored trusted ≡ anchored anchors
+trusted_made trusted anchors is = rw is (trusted_plain anchors)
 
 -- ---- the judge
 
@@ -215,36 +244,40 @@ judged_by answers is_anchored now = record {
   is_timely = λ sig. timely sig now;
 }
 
-judge_plain : (s : SessionValue) → judge (answers_of (listed_by s.algorithms s.accepts)) (trusted_by s.anchors) s.moment ≡ session_judge s
+judge_plain : (s : SessionValue) (answers : keys.VerifierAnswers) (anchors : List AnchorValue)
+    → answers ≡ answers_of (listing s.algorithms s.accepts) → anchored anchors ≡ anchored s.anchors
+    → judge answers anchors s.moment ≡ session_judge s
 unfolding judged_by
-judge_plain s = ap₂ (λ answers is_anchored. judged_by answers is_anchored s.moment) (listed_plain s) (trusted_plain s.anchors)
+judge_plain s answers anchors listed by = ap₂ (λ answers is_anchored. judged_by answers is_anchored s.moment) listed by
 
--- a lookup over what the loops made is one for the session
-lookup_plain : (s : SessionValue) (after : RecordedValue) (answer : Reply)
-    → IsLookup AnswersFrom (λ r. r.faults) (recorded_by s.replies) after (Some (map recorded s.replies))
-    (judge (answers_of (listed_by s.algorithms s.accepts)) (trusted_by s.anchors) s.moment) s.moment (depth_limit plain_options) s.query answer
+-- a lookup over what was made of a session is one for it
+lookup_plain : (s : SessionValue) (j : Judge) (after : RecordedValue) (answer : Reply) → j ≡ session_judge s
+    → IsLookup AnswersFrom (λ r. r.faults) (recorded_by s.replies) after (Some (map recorded s.replies)) j s.moment
+    (depth_limit plain_options) s.query answer
     → AnswersSession s answer
-lookup_plain s after answer given =
+lookup_plain s j after answer same given =
     let P : Judge → Type 0 = λ j. IsLookup AnswersFrom (λ r. r.faults) (recorded_by s.replies) after (Some (map recorded s.replies))
     j s.moment (depth_limit plain_options) s.query answer in
-    record { after = after; lookup = subst P (judge_plain s) given }
+    record { after = after; lookup = subst P same given }
 
-unless_plain : (s : SessionValue) (result : Result ResponseValue NetError) (after : RecordedValue)
-    → UnlessNoMemory result (IsLookup AnswersFrom (λ r. r.faults) (recorded_by s.replies) after (Some (map recorded s.replies))
-    (judge (answers_of (listed_by s.algorithms s.accepts)) (trusted_by s.anchors) s.moment) s.moment (depth_limit plain_options) s.query (reply_of result))
+unless_plain : (s : SessionValue) (j : Judge) (result : Result ResponseValue NetError) (after : RecordedValue) → j ≡ session_judge s
+    → UnlessNoMemory result (IsLookup AnswersFrom (λ r. r.faults) (recorded_by s.replies) after (Some (map recorded s.replies)) j s.moment
+    (depth_limit plain_options) s.query (reply_of result))
     → UnlessNoMemory result (AnswersSession s (reply_of result))
-unless_plain s (Ok response) after given = lookup_plain s after (Ok response) given
-unless_plain s (Err error) after given = elim given [
+unless_plain s j (Ok response) after same given = lookup_plain s j after (Ok response) same given
+unless_plain s j (Err error) after same given = elim given [
   | inl memory ↦ inl memory
-  | inr looked ↦ inr (lookup_plain s after (reply_of (Err error)) looked)
+  | inr looked ↦ inr (lookup_plain s j after (reply_of (Err error)) same looked)
 ]
 
 -- what a lookup over the handle, the keys and the verifier that were made of a session answered
 pub answers_looked : (s : SessionValue) (result : Result ResponseValue NetError) (handle after : RecordedValue) (anchors : List AnchorValue)
     (verifier : ListedValue) (options : DnsRequestOptions)
-    → handle ≡ recorded_by s.replies → anchors ≡ trusted_by s.anchors → verifier ≡ listed_by s.algorithms s.accepts → options ≡ plain_options
+    → handle ≡ recorded_by s.replies → anchored anchors ≡ anchored s.anchors
+    → answers_of verifier ≡ answers_of (listing s.algorithms s.accepts) → options ≡ plain_options
     → UnlessNoMemory result (IsLookup AnswersFrom (λ r. r.faults) handle after (Some handle.replies)
     (judge (answers_of verifier) anchors s.moment) s.moment (depth_limit options) s.query (reply_of result))
     → UnlessNoMemory result (AnswersSession s (reply_of result))
 answers_looked s result handle after anchors verifier options over by listed plain given =
-    unless_plain s result after (rw (over, by, listed, plain) at given)
+    unless_plain s (judge (answers_of verifier) anchors s.moment) result after (judge_plain s (answers_of verifier) anchors listed by)
+    (rw (over, plain) at given)

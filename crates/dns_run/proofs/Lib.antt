@@ -1,4 +1,5 @@
 pub mod OutcomeLemmas
+pub mod ReplyLemmas
 pub mod SoundLemmas
 pub mod JudgeLemmas
 pub mod CauseLemmas

@@ -5,7 +5,7 @@ use Rattle.std.specs.Io.KnownBytes.{Appends, Consumes}
 use Rattle.dns_io.specs.Reading.{input_limit, ReadsFront}
 use Rattle.dns_io.specs.Writing.{TakesPrefix}
 use Rattle.dns_run.specs.Forms.{too_long_text}
-use Rattle.dns_run.specs.Outcomes.{Wrote, Leaves, WrotePrefix, LeavesPrefix, ComesTo, Reports, Fails, Refuses, Reported, Failed, Refused, TooLong, Nothing}
+use Rattle.dns_run.specs.Outcomes.{Wrote, Leaves, WrotePrefix, LeavesPrefix, ComesTo, Reports, LooksUp, Fails, Refuses, Reported, Failed, Refused, TooLong, Nothing}
 
 -- the bytes that were read are those that the source told
 pub leaves_told : (Fact : List ℕ → List ℕ → Type 0) (told before now : Option (List ℕ)) (bytes : List ℕ)
@@ -17,6 +17,16 @@ pub prefix_told : (told before now : Option (List ℕ)) (bytes : List ℕ)
     → IfSome told (λ left. bytes ≡ left) → WrotePrefix before now (ComesTo bytes) → LeavesPrefix told before now
 prefix_told None before now bytes same wrote = record { bytes = bytes; fact = wrote }
 prefix_told (Some left) before now bytes same wrote = rw (sym same) wrote
+
+-- a report of an answer that a lookup gives is a report
+report_looked : (before now : Option (List ℕ)) (bytes : List ℕ) → Wrote before now (LooksUp bytes) → Wrote before now (Reports bytes)
+report_looked before now bytes wrote =
+    let l : LooksUp bytes wrote.text = wrote.fact in
+    record { text = wrote.text; fact = record { session = l.session; read = l.read; report = l.report.report }; written = wrote.written }
+
+pub leaves_reports : (told before now : Option (List ℕ)) → Leaves LooksUp told before now → Leaves Reports told before now
+leaves_reports None before now some = record { bytes = some.bytes; fact = report_looked before now some.bytes some.fact }
+leaves_reports (Some bytes) before now wrote = report_looked before now bytes wrote
 
 no_more : (xs : List ℕ) → xs ≡ xs ++ []
 no_more xs = sym (append-nil xs)
@@ -46,7 +56,7 @@ nothing_told None before = record { bytes = []; fact = nothing_written before []
 nothing_told (Some bytes) before = nothing_written before bytes
 
 pub report_prefix : (before now : Option (List ℕ)) (bytes text : List ℕ)
-    → Reports bytes text → TakesPrefix before now text → WrotePrefix before now (ComesTo bytes)
+    → LooksUp bytes text → TakesPrefix before now text → WrotePrefix before now (ComesTo bytes)
 report_prefix before now bytes text is taken = record { text = text; fact = Reported is; written = taken }
 
 pub fault_prefix : (before now : Option (List ℕ)) (bytes text : List ℕ)

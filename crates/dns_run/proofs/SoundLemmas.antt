@@ -18,9 +18,10 @@ use Rattle.dns_chain.specs.Looked.{Looked, PassedOn, NamesForeign, Answered, ans
 use Rattle.dns_session.specs.SessionValue.{SessionValue}
 use Rattle.dns_report.specs.View.{View, view_of, fitting_view}
 use Rattle.dns_report.specs.Report.{report_text, view_text}
-use Rattle.dns_run.specs.Answering.{recorded, session_judge, AnswersSession}
-use Rattle.dns_run.specs.Soundness.{IsSound}
-use Rattle.dns_run.specs.Outcomes.{IsReport}
+use Rattle.dns_run.specs.Soundness.{session_judge, IsSound}
+use Rattle.dns_run.specs.Answering.{recorded, AnswersSession}
+use Rattle.dns_run.specs.Outcomes.{IsLookupReport}
+use Rattle.dns_run.proofs.ReplyLemmas.{IsReplied, session_replied}
 
 -- a message whose judged sets make the answer
 record IsFinished (now : ℕ) (sets : List Judged) (message : MessageValue) (answer : ResponseValue) : Type 0 where
@@ -67,21 +68,16 @@ sound_answer s answer given =
     let h : HeardSound (session_judge s) s.moment given.lookup.reply answer =
     sound_looked (session_judge s) s.moment (depth_limit plain_options) (says_of (Some (map recorded s.replies))) s.query
     given.lookup.looked answer refl in
-    record {
-      message = h.message;
-      told = heard_told (map recorded s.replies) s.query given.lookup.reply h.message given.lookup.told h.heard;
-      sound = h.sound;
-    }
+    let r : IsReplied s h.message =
+    session_replied s h.message
+    (heard_told (map recorded s.replies) s.query given.lookup.reply h.message given.lookup.told h.heard) in
+    record { reply = r.reply; message = h.message; first = r.first; told = r.told; sound = h.sound }
 
 -- a report on the answer to a session
 pub report_given : (s : SessionValue) (answer : ResponseValue) (text : List ℕ)
     → AnswersSession s (Ok answer) → text ≡ report_text answer → IsTrue (fitting_view (view_of answer))
-    → ((other : View) → IsTrue (fitting_view other) → view_text other ≡ text → other ≡ view_of answer) → IsReport s text
+    → ((other : View) → IsTrue (fitting_view other) → view_text other ≡ text → other ≡ view_of answer) → IsLookupReport s text
 report_given s answer text given is fits tells = record {
-  answer = answer;
+  report = record { answer = answer; sound = sound_answer s answer given; spelled = is; fits = fits; tells = tells };
   given = given;
-  sound = sound_answer s answer given;
-  spelled = is;
-  fits = fits;
-  tells = tells;
 }

@@ -1,11 +1,11 @@
--- What the lists of a verifier and of trusted keys become when a session's lines are added one by one, for the contracts of the
--- functions that do it. What a session's judge is stands in Answering.
+-- For private functions of this crate only: what the lists of a verifier and of trusted keys become when a session's lines are
+-- added one by one. What a session's judge is stands in Soundness.
 use Rattle.std.specs.Prelude.{ℕ, List, [], ◌∷◌}
 use Rattle.dns_model.specs.Keys.{AnchorValue}
 use Rattle.dns_trust.specs.Listing.{ListedValue, with_algorithm, with_accepted}
 use Rattle.dns_trust.specs.Anchoring.{with_anchor}
 use Rattle.dns_session.specs.SessionValue.{AcceptedSignatureValue}
-use Rattle.dns_run.specs.Answering.{listed_signature}
+use Rattle.dns_run.specs.Soundness.{listed_signature}
 
 unfoldable pub with_algorithms : ListedValue → List ℕ → ListedValue
 with_algorithms listed [] = listed

@@ -2,17 +2,16 @@
 use Rattle.std.specs.Prelude.{List, [], map, Some, Result, Ok, Err}
 use Rattle.dns_model.specs.declared.denial.Denial.TheVariants as denied
 use Rattle.dns_model.specs.Records.{Question, MessageValue}
-use Rattle.dns_model.specs.Chains.{Judge, judge}
 use Rattle.dns_message.specs.declared.decode_error.DecodeError.{DecodeError}
 use Rattle.dns_net.specs.declared.error.ProtoError.TheVariants.{Decode}
 use Rattle.dns_net.specs.Errors as seen
 use Rattle.dns_net.specs.Errors.{Reply}
 use Rattle.dns_net.specs.Requests.{plain_options}
 use Rattle.dns_net.specs.Recording.{RecordedValue, AnswersFrom}
-use Rattle.dns_trust.specs.Listing.{ListedValue, ListedSignatureValue, answers_of}
 use Rattle.dns_chain.specs.Inquiries.{depth_limit}
 use Rattle.dns_chain.specs.Looked.{IsLookup}
-use Rattle.dns_session.specs.SessionValue.{AcceptedSignatureValue, ReplyValue, SessionValue}
+use Rattle.dns_session.specs.SessionValue.{ReplyValue, SessionValue}
+use Rattle.dns_run.specs.Soundness.{session_judge}
 
 -- what an upstream answers with a message, or with bytes that are none
 abbrev pub reply_from : Result MessageValue DecodeError → Reply
@@ -27,21 +26,8 @@ recorded reply = (reply.question, reply_from reply.message)
 abbrev pub recorded_by : List ReplyValue → RecordedValue
 recorded_by replies = record { sends = 0; faults = 0; replies = map recorded replies }
 
--- a signature that a session's verifier accepts
-abbrev pub listed_signature : AcceptedSignatureValue → ListedSignatureValue
-listed_signature a = record { algorithm = a.algorithm; key = a.key; bytes = a.bytes; signature = a.signature }
-
--- what a session's verifier lists
-abbrev pub session_listing : SessionValue → ListedValue
-session_listing s = record { algorithms = s.algorithms; accepted = map listed_signature s.accepts }
-
--- by what a session's chains are judged: its verifier supports the algorithms and accepts the signatures that it lists, under
--- algorithm 1 none; its anchors are trusted; and signatures count at its moment
-abbrev pub session_judge : SessionValue → Judge
-session_judge s = judge (answers_of (session_listing s)) s.anchors s.moment
-
 -- a lookup of the session's query, over its replies, gives this answer
 pub record AnswersSession (s : SessionValue) (answer : Reply) : Type 0 where
   pub after : RecordedValue
-  pub lookup : IsLookup AnswersFrom (λ r. r.faults) (recorded_by s.replies) after (Some (map recorded s.replies)) (session_judge s) s.moment
-      (depth_limit plain_options) s.query answer
+  pub lookup : IsLookup AnswersFrom (λ r. r.faults) (recorded_by s.replies) after (Some (map recorded s.replies))
+      (session_judge s) s.moment (depth_limit plain_options) s.query answer

@@ -1,5 +1,5 @@
 -- The words that the program takes, and its fixed texts.
-use Rattle.std.specs.Prelude.{ℕ, List, [], ◌∷◌, ◌++◌, codes, Option, None, Some, if◌then◌else◌}
+use Rattle.std.specs.Prelude.{ℕ, ◌≡◌, List, [], ◌∷◌, ◌++◌, map, codes, Vec, Option, None, Some, if◌then◌else◌}
 use Rattle.std.specs.Fmt.{decimal}
 use Rattle.dns_model.specs.Keys.{bytes_eq}
 use Rattle.dns_run.specs.declared.form.Form.{Form}
@@ -19,9 +19,12 @@ form_in [] = None
 form_in (word ∷ []) = form_named word
 form_in (word ∷ next ∷ more) = None
 
--- a line
-abbrev pub spelled : List ℕ → List ℕ
-spelled text = text ++ 10 ∷ []
+-- what the words of a call ask for
+abbrev pub asked_form : {Z : Type 0} → List (Vec ℕ Z) → Option Form
+asked_form words = form_in (map (λ w. w.items) words)
+
+abbrev pub AsksFor : {Z : Type 0} → List (Vec ℕ Z) → Form → Type 0
+AsksFor words form = asked_form words ≡ Some form
 
 abbrev pub help_text : List ℕ
 help_text =

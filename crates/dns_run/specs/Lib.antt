@@ -1,6 +1,8 @@
 pub mod Forms
+pub mod Soundness
 pub mod Answering
 pub mod Adding
-pub mod Soundness
 pub mod Causes
 pub mod Outcomes
+pub mod Endings
+pub mod Runs

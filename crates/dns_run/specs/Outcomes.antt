@@ -15,18 +15,19 @@ use Rattle.dns_run.specs.Forms.{bad_line_text, too_long_text}
 use Rattle.dns_run.specs.Answering.{AnswersSession}
 use Rattle.dns_run.specs.Soundness.{IsSound}
 use Rattle.dns_run.specs.Causes.{FaultCause}
-use Rattle.dns_run.specs.declared.outcome.Ending.{Ending}
-use Rattle.dns_run.specs.declared.outcome.Ending.TheVariants.{Report, Fault, BadLine}
 
--- the text is the report of one answer; a lookup for the session gives that answer, and it is sound; what is shown of it, its
--- view, fits, and no other fitting view has this text
+-- the text is the report of one answer, which is sound; what is shown of it, its view, fits, and no other fitting view has this text
 pub record IsReport (session : SessionValue) (text : List ℕ) : Type 0 where
   pub answer : ResponseValue
-  pub given : AnswersSession session (Ok answer)
   pub sound : IsSound session answer
   pub spelled : text ≡ report_text answer
   pub fits : IsTrue (fitting_view (view_of answer))
   pub tells : (other : View) → IsTrue (fitting_view other) → view_text other ≡ text → other ≡ view_of answer
+
+-- the text is the report of an answer that a lookup for the session gives
+pub record IsLookupReport (session : SessionValue) (text : List ℕ) : Type 0 where
+  pub report : IsReport session text
+  pub given : AnswersSession session (Ok report.answer)
 
 -- the text is the line of one error, which has its cause in the session and isn't want of memory, and a lookup for the session
 -- gives that error
@@ -37,17 +38,17 @@ pub record IsFault (session : SessionValue) (text : List ℕ) : Type 0 where
   pub given : AnswersSession session (Err error)
   pub spelled : text ≡ fault_text error
 
--- how a session is answered
-abbrev pub IsAnswered : SessionValue → Ending → List ℕ → Type 0
-IsAnswered session Report text = IsReport session text
-IsAnswered session Fault text = IsFault session text
-IsAnswered session BadLine text = ⊥
-
 -- the bytes are a session, and the text is the report of an answer to it
 pub record Reports (bytes text : List ℕ) : Type 0 where
   pub session : SessionValue
   pub read : session_of bytes ≡ Ok session
   pub report : IsReport session text
+
+-- the bytes are a session, and the text is the report of an answer that a lookup for it gives
+pub record LooksUp (bytes text : List ℕ) : Type 0 where
+  pub session : SessionValue
+  pub read : session_of bytes ≡ Ok session
+  pub report : IsLookupReport session text
 
 -- the bytes are a session, and the text is the line of an error in answer to it
 pub record Fails (bytes text : List ℕ) : Type 0 where
@@ -60,12 +61,6 @@ pub record Refuses (bytes text : List ℕ) : Type 0 where
   pub number : ℕ
   pub read : session_of bytes ≡ Err number
   pub spelled : text ≡ bad_line_text number
-
--- what bytes come to
-abbrev pub IsOutcome : List ℕ → Ending → List ℕ → Type 0
-IsOutcome bytes Report text = Reports bytes text
-IsOutcome bytes Fault text = Fails bytes text
-IsOutcome bytes BadLine text = Refuses bytes text
 
 -- a text of which a fact holds was written
 pub record Wrote (before now : Option (List ℕ)) (Fact : List ℕ → Type 0) : Type 0 where
@@ -85,7 +80,7 @@ Leaves Fact (Some bytes) before now = Wrote before now (Fact bytes)
 
 -- what a run over bytes may write: nothing, where memory runs out before a text is there
 pub data ComesTo (bytes text : List ℕ) : Type 0 where
-  Reported : Reports bytes text → ComesTo bytes text
+  Reported : LooksUp bytes text → ComesTo bytes text
   Failed : Fails bytes text → ComesTo bytes text
   Refused : Refuses bytes text → ComesTo bytes text
   TooLong : input_limit < length bytes → text ≡ too_long_text → ComesTo bytes text

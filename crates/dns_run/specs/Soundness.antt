@@ -1,15 +1,34 @@
--- What the answer to a session is worth (RFC 4035, 5).
-use Rattle.std.specs.Prelude.{◌≡◌, map, Some}
-use Rattle.dns_model.specs.Records.{MessageValue}
+-- What the answer to a session is worth (RFC 4035, 5): by what it is judged, and what its upstream replies to its query.
+use Rattle.std.specs.Prelude.{ℕ, ◌≡◌, List, map, Option, Some, Ok}
+use Rattle.std.specs.List.{find}
+use Rattle.dns_model.specs.Records.{MessageValue, question_eq}
+use Rattle.dns_model.specs.Chains.{Judge, judge}
 use Rattle.dns_model.specs.SoundAnswers.{told_by, Sound, ResponseValue}
-use Rattle.dns_net.specs.Handles.{reply_to}
-use Rattle.dns_chain.specs.Heard.{heard_message}
-use Rattle.dns_session.specs.SessionValue.{SessionValue}
-use Rattle.dns_run.specs.Answering.{recorded, session_judge}
+use Rattle.dns_trust.specs.Listing.{ListedValue, ListedSignatureValue, answers_of}
+use Rattle.dns_session.specs.SessionValue.{AcceptedSignatureValue, ReplyValue, SessionValue}
 
--- the answer is sound for the records that the session's reply to its query tells, by the session's trusted keys, algorithms and
--- accepted signatures, at its moment
+-- a signature that a session's verifier accepts
+abbrev pub listed_signature : AcceptedSignatureValue → ListedSignatureValue
+listed_signature a = record { algorithm = a.algorithm; key = a.key; bytes = a.bytes; signature = a.signature }
+
+-- what a session's verifier lists
+abbrev pub listing : List ℕ → List AcceptedSignatureValue → ListedValue
+listing algorithms accepts = record { algorithms = algorithms; accepted = map listed_signature accepts }
+
+-- by what a session's chains are judged: its verifier supports the algorithms and accepts the signatures that it lists, under
+-- algorithm 1 none; its anchors are trusted; and signatures count at its moment
+abbrev pub session_judge : SessionValue → Judge
+session_judge s = judge (answers_of (listing s.algorithms s.accepts)) s.anchors s.moment
+
+-- the first reply to the query
+abbrev pub session_reply : SessionValue → Option ReplyValue
+session_reply s = find (λ reply. question_eq reply.question s.query) s.replies
+
+-- the answer is sound for the records of the message that is the session's reply to its query, by the session's trusted keys,
+-- algorithms and accepted signatures, at its moment
 pub record IsSound (s : SessionValue) (answer : ResponseValue) : Type 0 where
+  pub reply : ReplyValue
   pub message : MessageValue
-  pub told : heard_message (reply_to (map recorded s.replies) s.query) ≡ Some message
+  pub first : session_reply s ≡ Some reply
+  pub told : reply.message ≡ Ok message
   pub sound : Sound (session_judge s) s.moment (told_by message) answer

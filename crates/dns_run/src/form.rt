@@ -1,6 +1,6 @@
 //! The words that the program takes, and its fixed texts.
-ghost use Rattle.std.specs.Prelude.{◌≡◌, map};
-ghost use Rattle.dns_run.specs.Forms.{form_named, form_in, help_text, version_text};
+ghost use Rattle.std.specs.Prelude.{◌≡◌};
+ghost use Rattle.dns_run.specs.Forms.{asked_form, form_named, help_text, version_text};
 
 /// What the program is asked for.
 #[derive(Clone, Copy, Debug, PartialEq, Eq)]
@@ -31,7 +31,7 @@ fn form_named(word: &[u8]) -> Option<Form>
 
 /// What words ask for.
 pub(crate) fn form_of(words: &[Vec<u8>]) -> Option<Form>
-    ensures { result ≡ form_in (map (λ w. w.items) words.now) }
+    ensures { result ≡ asked_form words.now }
 {
     match words {
         [word] => form_named(word),

@@ -1,6 +1,8 @@
-//! The library behind the program: [`run`] reads a session from any source, looks its query up, and writes a report to any sink.
+//! The library behind the program: [`run`] reads a session from any source, looks its query up, and writes a report to any
+//! sink.
 //!
-//! The layer above gives the words after its name, a source and a sink, and ends with the status that [`run`] answers.
+//! A program gives the words after its name, a source and a sink, and ends with the status that [`run`] answers. Other
+//! crates may make of a session its upstream, its verifier and its trusted keys, or the whole answer to it.
 #![tactic(auto)]
 
 mod answering;
@@ -8,4 +10,5 @@ mod form;
 mod outcome;
 mod program;
 
+pub use answering::{session_anchors, session_answer, session_upstream, session_verifier};
 pub use program::run;

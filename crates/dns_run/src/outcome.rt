@@ -3,9 +3,9 @@ ghost use Rattle.std.specs.Prelude.{◌≡◌, ◌++◌, ◌<◌, ◌^◌, ◌�
 ghost use Rattle.dns_net.specs.Errors as seen;
 ghost use Rattle.dns_net.specs.Replies.{error_of};
 ghost use Rattle.dns_run.specs.Forms.{bad_line_text};
-ghost use Rattle.dns_run.specs.Outcomes.{IsOutcome, IsAnswered};
+ghost use Rattle.dns_run.specs.Endings.{IsOutcome, IsAnswered};
 
-use crate::answering::looked_up;
+use crate::answering::session_answer;
 use dns_name::NoMemory;
 use dns_net::NetError;
 use dns_report::{write_fault, write_report};
@@ -35,11 +35,10 @@ fn bad_line(alloc: Global, number: u64) -> Result<Vec<u8>, NoMemory>
 }
 
 /// The report of a session's lookup, or the line of its fault.
-#[tactic(auto, using(crate::proofs::SoundLemmas::report_given))]
 fn answered(alloc: Global, session: Session) -> Result<(Ending, Vec<u8>), NoMemory>
     ensures { IfOk result (λ x. IsAnswered session x.0 x.1.items) }
 {
-    match looked_up(alloc, session) {
+    match session_answer(alloc, session) {
         Ok(answer) => {
             let text = write_report(alloc, &answer)?;
             Ok((Ending::Report, text))

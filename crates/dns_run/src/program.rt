@@ -1,16 +1,13 @@
 //! The program over any source and any sink.
-ghost use Rattle.std.specs.Prelude.{◌≡◌, ◌≢◌, ◌<◌, ◌≤◌, ◌+◌, map, length, Some, None, IfSome};
+ghost use Rattle.std.specs.Prelude.{◌≡◌, ◌≢◌, ◌<◌, ◌≤◌, ◌+◌, length, Some, IfSome};
 ghost use Rattle.std.specs.Io.KnownBytes.{Appends};
-ghost use Rattle.dns_net.specs.Errors.{ErrorValue, Message};
-ghost use Rattle.dns_net.specs.declared.notice.Notice.TheVariants.{NotJudgedYet};
-ghost use Rattle.dns_report.specs.Faults.{fault_text};
 ghost use Rattle.dns_model.specs.Counts.{Rose};
 ghost use Rattle.dns_io.specs.Reading.{input_limit, IsEnded, ReadsFront};
 ghost use Rattle.dns_io.specs.Writing.{TakesPrefix};
-ghost use Rattle.dns_run.specs.Causes.{HasNoMessage, HasForeign, HasNoAnswer, EndsWith, EndsAsJudged, IfSession, IfBadLine};
-ghost use Rattle.dns_run.specs.Forms.{form_in, help_text, version_text, bad_line_text, bad_words_text, too_long_text};
-ghost use Rattle.dns_run.specs.Outcomes.{Leaves, LeavesPrefix, Wrote, WrotePrefix, ComesTo, Reports, Fails, Refuses};
-ghost use Rattle.dns_run.specs.declared.form.Form.TheVariants.{Validate, Help, Version};
+ghost use Rattle.dns_run.specs.Forms.{AsksFor, asked_form, too_long_text};
+ghost use Rattle.dns_run.specs.Outcomes.{Leaves, LeavesPrefix, Wrote, WrotePrefix, ComesTo, Reports, LooksUp, Fails, Refuses};
+ghost use Rattle.dns_run.specs.Runs.{EndsAsSession, EndsByGrammar, EndsByLength, EndsByWords, IfSession, WritesText};
+ghost use Rattle.dns_run.specs.declared.form.Form.TheVariants.{Validate};
 
 use crate::form::{Form, form_of, help_text, version_text};
 use crate::outcome::{Ending, session_ending};
@@ -34,6 +31,7 @@ fn sink_status(fault: SinkFault) -> u8
 fn write_text<W: Sink>(status: u8, text: &[u8], output: &mut W) -> u8
     ensures written { result < 5 → Appends (W.taken output.old) (W.taken output.new) text.now }
     ensures kept { result < 5 → result ≡ status }
+    ensures text { status < 5 → WritesText result status (W.taken output.old) (W.taken output.new) text.now }
     ensures sink { result ≡ 5 → status < 5 → Rose (W.faults output.old) (W.faults output.new) }
     ensures prefix { TakesPrefix (W.taken output.old) (W.taken output.new) text.now }
     ensures most { status < 5 → result ≤ 6 }
@@ -49,7 +47,7 @@ fn write_text<W: Sink>(status: u8, text: &[u8], output: &mut W) -> u8
 #[tactic(auto, using(crate::proofs::OutcomeLemmas::report_prefix, crate::proofs::OutcomeLemmas::fault_prefix, crate::proofs::OutcomeLemmas::refused_prefix, crate::proofs::OutcomeLemmas::nothing_written))]
 fn answer<W: Sink>(alloc: Global, bytes: &[u8], output: &mut W) -> u8
     requires { length bytes.now ≤ input_limit }
-    ensures report { result ≡ 0 → Wrote (W.taken output.old) (W.taken output.new) (Reports bytes.now) }
+    ensures looked_up { result ≡ 0 → Wrote (W.taken output.old) (W.taken output.new) (LooksUp bytes.now) }
     ensures fault { result ≡ 1 → Wrote (W.taken output.old) (W.taken output.new) (Fails bytes.now) }
     ensures form { result ≢ 2 }
     ensures grammar { result ≡ 3 → Wrote (W.taken output.old) (W.taken output.new) (Refuses bytes.now) }
@@ -85,7 +83,7 @@ fn refuse_long<W: Sink>(output: &mut W) -> u8
 /// Reads a session and answers it.
 #[tactic(auto, using(crate::proofs::OutcomeLemmas::leaves_told, crate::proofs::OutcomeLemmas::prefix_told, crate::proofs::OutcomeLemmas::nothing_told, crate::proofs::OutcomeLemmas::long_prefix))]
 fn validate<S: Source, W: Sink>(alloc: Global, input: &mut S, output: &mut W) -> u8
-    ensures report { result ≡ 0 → Leaves Reports (S.left input.old) (W.taken output.old) (W.taken output.new) }
+    ensures looked_up { result ≡ 0 → Leaves LooksUp (S.left input.old) (W.taken output.old) (W.taken output.new) }
     ensures fault { result ≡ 1 → Leaves Fails (S.left input.old) (W.taken output.old) (W.taken output.new) }
     ensures form { result ≢ 2 }
     ensures grammar { result ≡ 3 → Leaves Refuses (S.left input.old) (W.taken output.old) (W.taken output.new) }
@@ -116,78 +114,53 @@ fn validate<S: Source, W: Sink>(alloc: Global, input: &mut S, output: &mut W) ->
 /// form, and nothing was read. 3: the input isn't in the grammar; the first bad line is named. 4: a read failed, and nothing
 /// is written. 5: a write failed after a prefix of the text. 6: memory ran out. 7: the input has more than 16,777,216 bytes.
 /// Words are judged first, then reading, then the grammar, then the lookup.
-#[tactic(auto, using(crate::proofs::OutcomeLemmas::nothing_read))]
+#[tactic(auto, using(crate::proofs::OutcomeLemmas::nothing_read, crate::proofs::OutcomeLemmas::leaves_reports))]
 pub fn run<S: Source, W: Sink>(
     alloc: Global,
     words: &[Vec<u8>],
     input: &mut S,
     output: &mut W,
 ) -> u8
-    // A report is that of the sound answer that a lookup for the session gives, and its text fixes what it shows of the answer:
-    // the `View`, which is code, denial, sections and chains. Where the source tells no bytes, it is the report for some session.
-    ensures report { result ≡ 0 → form_in (map (λ w. w.items) words.now) ≡ Some Validate
+    // A report is that of a sound answer to the session, and its text fixes what it shows of the answer: the `View`, which is
+    // code, denial, sections and chains. Where the source tells no bytes, it is the report for some session.
+    ensures report { AsksFor words.now Validate → result ≡ 0
         → Leaves Reports (S.left input.old) (W.taken output.old) (W.taken output.new) }
-    ensures help { result ≡ 0 → form_in (map (λ w. w.items) words.now) ≡ Some Help → Appends (W.taken output.old) (W.taken output.new) help_text }
-    ensures version { result ≡ 0 → form_in (map (λ w. w.items) words.now) ≡ Some Version → Appends (W.taken output.old) (W.taken output.new) version_text }
 
-    // The fixed texts end with 0, or at the sink.
-    ensures help_ends { form_in (map (λ w. w.items) words.now) ≡ Some Help → result ≢ 5 → result ≢ 6 → result ≡ 0 }
-    ensures version_ends { form_in (map (λ w. w.items) words.now) ≡ Some Version → result ≢ 5 → result ≢ 6 → result ≡ 0 }
+    // A lookup for the session gives that answer.
+    ensures looked_up { AsksFor words.now Validate → result ≡ 0
+        → Leaves LooksUp (S.left input.old) (W.taken output.old) (W.taken output.new) }
 
     // 1 is answered only with the line of an error that has its cause in the session.
     ensures fault { result ≡ 1 → Leaves Fails (S.left input.old) (W.taken output.old) (W.taken output.new) }
 
-    // A session without a message in reply to its query ends with that error's line, one whose reply has a record of another
-    // class with the first of these, and one whose reply has no answer isn't judged yet; unless the status is 4 or more.
-    ensures no_message { form_in (map (λ w. w.items) words.now) ≡ Some Validate → IfSession (S.left input.old) (λ s.
-        (error : ErrorValue) → HasNoMessage s error → EndsWith result 1 (W.taken output.old) (W.taken output.new) (fault_text error)) }
-    ensures other_class { form_in (map (λ w. w.items) words.now) ≡ Some Validate → IfSession (S.left input.old) (λ s.
-        (error : ErrorValue) → HasForeign s error → EndsWith result 1 (W.taken output.old) (W.taken output.new) (fault_text error)) }
-    ensures no_answer { form_in (map (λ w. w.items) words.now) ≡ Some Validate → IfSession (S.left input.old) (λ s.
-        HasNoAnswer s → EndsWith result 1 (W.taken output.old) (W.taken output.new) (fault_text (Message NotJudgedYet))) }
+    // What each session must end with, unless the status is 4 or more.
+    ensures session { AsksFor words.now Validate
+        → IfSession (S.left input.old) (λ s. EndsAsSession s result (W.taken output.old) (W.taken output.new)) }
 
-    // Where the records of the reply have the query's class, its sets are judged, and the run ends as each case of them asks
-    // for: with 0 and the report, with `fault nsec bogus`, or as not judged yet.
-    ensures judged { form_in (map (λ w. w.items) words.now) ≡ Some Validate → IfSession (S.left input.old) (λ s.
-        EndsAsJudged s result (W.taken output.old) (W.taken output.new)) }
+    // 3, and an input that is no session.
+    ensures grammar { AsksFor words.now Validate
+        → EndsByGrammar result (S.left input.old) (W.taken output.old) (W.taken output.new) }
 
-    // 2 is answered only for words that are no form, and such words end with 2 or at the sink.
-    ensures words { result ≡ 2 → form_in (map (λ w. w.items) words.now) ≡ None }
-    ensures no_form { form_in (map (λ w. w.items) words.now) ≡ None → result ≢ 5 → result ≢ 6 → result ≡ 2 }
-    ensures bad_words { result ≡ 2 → Appends (W.taken output.old) (W.taken output.new) bad_words_text }
-    ensures unread { form_in (map (λ w. w.items) words.now) ≢ Some Validate → input.new ≡ input.old }
+    // 7, and an input that is too long.
+    ensures length { AsksFor words.now Validate
+        → EndsByLength result (S.left input.old) (W.taken output.old) (W.taken output.new) }
 
-    // 3 is answered only for an input that is no session, and such an input ends with 3, or with 4 or more.
-    ensures grammar { result ≡ 3 → Leaves Refuses (S.left input.old) (W.taken output.old) (W.taken output.new) }
-    ensures bad_line { form_in (map (λ w. w.items) words.now) ≡ Some Validate → IfBadLine (S.left input.old) (λ number.
-        EndsWith result 3 (W.taken output.old) (W.taken output.new) (bad_line_text number)) }
+    // Words that ask for a text, or for nothing: 2 is for the latter alone, and neither reads anything.
+    ensures words { EndsByWords (asked_form words.now) result (W.taken output.old) (W.taken output.new) }
+    ensures unread { asked_form words.now ≢ Some Validate → input.new ≡ input.old }
 
     // 4 and 5 are answered only where the count of faults rose.
     ensures source { result ≡ 4 → Rose (S.faults input.old) (S.faults input.new) }
     ensures untouched { result ≡ 4 → output.new ≡ output.old }
     ensures sink { result ≡ 5 → Rose (W.faults output.old) (W.faults output.new) }
 
-    // 7 is answered only for an input that is too long, and such an input ends with 7, at the source, at the sink or for
-    // want of memory.
-    ensures long { result ≡ 7 → IfSome (S.left input.old) (λ left. input_limit < length left) }
-    ensures too_long { result ≡ 7 → Appends (W.taken output.old) (W.taken output.new) too_long_text }
-    ensures refused { form_in (map (λ w. w.items) words.now) ≡ Some Validate
-        → IfSome (S.left input.old) (λ left. input_limit < length left → 4 ≤ result) }
-
-    // Whatever the status, a prefix of a text that the input comes to was written, or of the text that the words ask for.
-    ensures prefix { form_in (map (λ w. w.items) words.now) ≡ Some Validate
+    // Whatever the status, a prefix of a text that the input comes to was written.
+    ensures prefix { AsksFor words.now Validate
         → LeavesPrefix (S.left input.old) (W.taken output.old) (W.taken output.new) }
-    ensures no_prefix { form_in (map (λ w. w.items) words.now) ≡ None
-        → TakesPrefix (W.taken output.old) (W.taken output.new) bad_words_text }
-    ensures help_prefix { form_in (map (λ w. w.items) words.now) ≡ Some Help
-        → TakesPrefix (W.taken output.old) (W.taken output.new) help_text }
-    ensures version_prefix { form_in (map (λ w. w.items) words.now) ≡ Some Version
-        → TakesPrefix (W.taken output.old) (W.taken output.new) version_text }
 
     // An input that is answered, or refused by the grammar, was read to its end; and one byte past the limit is the most that
     // is read.
-    ensures ended { form_in (map (λ w. w.items) words.now) ≡ Some Validate → result < 4
-        → IsEnded (S.left input.old) (S.left input.new) }
+    ensures ended { AsksFor words.now Validate → result < 4 → IsEnded (S.left input.old) (S.left input.new) }
     ensures reads { ReadsFront (input_limit + 1) (S.left input.old) (S.left input.new) }
 
     ensures most { result ≤ 7 }

@@ -1,9 +1,6 @@
-use Rattle.std.proofs.Common.{◌≡◌, length}
+use Rattle.std.proofs.Common.{◌≡◌}
 use Rattle.dns_run.specs.Adding.{with_accepts}
 use Rattle.dns_run.proofs.answering.add_accepts.Given as goal
 
-abbrev pub invariant-accepts : goal.invariant-accepts
-invariant-accepts l = with_accepts l.verifier l.left ≡ with_accepts l.initial.verifier l.accepts
-
-abbrev pub decreases-accepts : goal.decreases-accepts
-decreases-accepts l = length l.left
+abbrev pub invariant-loop-next : goal.invariant-loop-next
+invariant-loop-next l = l.verifier ≡ with_accepts l.initial.verifier l.yielded

@@ -1,7 +1,7 @@
 use Rattle.std.proofs.Common.{rules}
 use Rattle.dns_chain.proofs.SendLemmas.{result_made}
 use Rattle.dns_run.proofs.JudgeLemmas.{answers_looked}
-use Rattle.dns_run.proofs.answering.looked_up.Goals as goal
+use Rattle.dns_run.proofs.answering.session_answer.Goals as goal
 
 pub returns : goal.returns
 returns c =
