@@ -1,4 +1,4 @@
--- One set, and one signature, of the walk of asks.
+-- For private functions of this crate only: one set, and one signature, of the walk of asks.
 use Rattle.std.specs.Prelude.{ℕ, ◌≡◌, ◌≤◌, ◌+◌, ◌==◌, true, false, take, List, Option, Some}
 use Rattle.dns_model.specs.Types.{type_dnskey}
 use Rattle.dns_model.specs.Records.{Rr, RrSet, Question}

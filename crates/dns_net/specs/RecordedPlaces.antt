@@ -1,4 +1,4 @@
--- Only private functions and the invariant of `Recorded` need this: the places at which its replies are found.
+-- For private functions of this crate and the invariant of `Recorded` only: the places at which its replies are found.
 use Rattle.std.specs.Prelude.{ℕ, ◌≡◌, Bool, List, Option, None, Some, Err, slice_get, if◌then◌else◌}
 use Rattle.std.specs.List.{position_from}
 use Rattle.std.specs.declared.cmp.Ordering.{Ordering}

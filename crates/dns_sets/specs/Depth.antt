@@ -1,4 +1,4 @@
--- Which sets are judged at a depth.
+-- For private functions of this crate only: which sets are judged at a depth.
 use Rattle.std.specs.Prelude.{ℕ, Bool, ◌==◌, ◌||◌, List}
 use Rattle.std.specs.List.{filter}
 use Rattle.dns_model.specs.SoundAnswers.{Placed}

@@ -1,4 +1,4 @@
--- Places of sets by owner and type.
+-- For private functions of this crate only: places of sets by owner and type.
 use Rattle.std.specs.Prelude.{◌≡◌, ℕ, suc, Bool, ◌==◌, ◌&&◌, List, [], ◌∷◌, Option, None, Some, if◌then◌else◌}
 use Rattle.indexmap.specs.IndexMap.{get_by}
 use Rattle.dns_model.specs.declared.section.Section.{Section}

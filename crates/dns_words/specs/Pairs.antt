@@ -1,4 +1,4 @@
--- Pairs of hexadecimal digits as bytes.
+-- For private functions of this crate only: pairs of hexadecimal digits as bytes.
 use Rattle.std.specs.Prelude.{ℕ, ◌+◌, ◌*◌, List, [], ◌∷◌, Option, None, Some}
 use Rattle.hex.specs.Hex.{hex_digit_value}
 
