@@ -263,6 +263,10 @@ two_ranges bytes start pos next a b =
 no_range : (bytes : List ℕ) (pos : ℕ) → slice_range bytes pos pos ≡ []
 no_range bytes pos = let none : pos - pos ≡ zero = omega arith in rw none refl
 
+-- a row with no label adds nothing
+pub no_row : (bytes into : List ℕ) (start end : ℕ) → start ≡ end → into ≡ into ++ slice_range bytes start end
+no_row bytes into start end same = sym (ap (λ (k : ℕ). into ++ slice_range bytes start k) (sym same) ∙ ap (λ (x : List ℕ). into ++ x) (no_range bytes start) ∙ append-nil into)
+
 pub row_none : (bytes : List ℕ) (at : ℕ) (old : List ℕ) → Row bytes at at at None old old 0
 row_none bytes at old = record { read = []; walk = walked_none bytes at; grown = ap (λ (x : List ℕ). old ++ x) (no_range bytes at); long = refl }
 

@@ -24,15 +24,18 @@ fn ending_or(ending: Option<usize>, place: usize) -> usize
 /// How much room is made for the labels that a pointer leads to; most names need no more.
 const ROOM: usize = 32;
 
-/// Appends the labels before a pointer, with room for those behind it.
+/// Appends the labels before a pointer, with room for those behind it. Before a bare pointer there is none.
+#[tactic(auto, using(crate::proofs::NameReading::no_row))]
 fn push_row(bytes: &[u8], start: usize, end: usize, into: &mut Vec<u8>) -> Result<(), NoMemory>
     requires short { length bytes.now < 2 ^ 32 }
     requires rises { start ≤ end }
     requires inside { end ≤ length bytes.now }
     ensures { OnOk result (into.new.items ≡ into.old.items ++ slice_range bytes.now start end) }
 {
-    let room = if start < end { end - start + ROOM } else { 0 };
-    into.reserve(room)?;
+    if start == end {
+        return Ok(());
+    }
+    into.reserve(end - start + ROOM)?;
     into.extend_from_slice(&bytes[start..end])?;
     Ok(())
 }
