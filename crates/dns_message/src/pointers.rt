@@ -28,7 +28,7 @@ fn pointer_end_at(bytes: &[u8], pointer_ends: &[u16], place: usize) -> u16
 }
 
 /// In a message of up to so many bytes rows of bare pointers are short enough to be walked.
-const SHORT: usize = 384;
+const SHORT: usize = 1024;
 
 /// For each place that a pointer can name, where the row of bare pointers there ends. So a name is read in as many steps as it
 /// has labels, twice over at most, however long a row of pointers it goes through. A short message needs no table.
