@@ -1,3 +1,4 @@
 pub mod WalkLemmas
+pub mod KeyLemmas
 pub mod ReplyLemmas
 pub mod CaseLemmas

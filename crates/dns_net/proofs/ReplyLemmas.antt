@@ -5,23 +5,17 @@ use Rattle.std.specs.Ordering.{is_eq}
 use Rattle.std.specs.declared.cmp.Ordering.{Ordering}
 use Rattle.std.specs.declared.cmp.Ordering.TheVariants.{Less, Equal, Greater}
 use Rattle.std.specs.List.{position_from}
-use Rattle.std.specs.Cmp.{IsEquivalence, IsTotalOrder}
 use Rattle.std.specs.Map.{lookup}
 use Rattle.std.specs.BTreeMap as tree
 use Rattle.std.specs.BTreeMap.{BTreeMap}
-use Rattle.std.specs.Cmp.{tied_then}
-use Rattle.std.specs.Ordering.{nat_cmp, ordering_then}
-use Rattle.std.proofs.lemmas.Bool.Decides.{nat_tests}
-use Rattle.dns_model.proofs.OrderLemmas.{name_total, name_ties}
-use Rattle.std.proofs.lemmas.Cmp.{then_total, on_total, nat_cmp_total, and_equiv, on_equiv, nat_eq_equiv}
 use Rattle.std.proofs.lemmas.Option.{slice_get-get_or}
 use Rattle.std.proofs.Math.Seq.{get_or-append_seam}
 use Rattle.dns_model.specs.Records.{Question, question_eq}
-use Rattle.dns_model.specs.Names.{name_cmp}
-use Rattle.dns_model.proofs.NameLemmas.{name_equiv}
+use Rattle.dns_net.specs.declared.query_key.QueryKey.{QueryKey}
 use Rattle.dns_net.specs.Errors.{Reply}
 use Rattle.dns_net.specs.Handles.{reply_to}
-use Rattle.dns_net.specs.RecordedPlaces.{reply_at, reply_of_place, first_place, place_or, Noted, IndexesFirst, question_cmp}
+use Rattle.dns_net.specs.RecordedPlaces.{reply_at, reply_of_place, first_place, place_or, key_of, key_cmp, Noted, IndexesFirst}
+use Rattle.dns_net.proofs.KeyLemmas.{key_total, key_ties}
 
 -- ---- places in a list
 
@@ -73,95 +67,56 @@ pub first_place-push : (told : List (Question × Reply)) (k : Question) (r : Rep
 first_place-push told k r q =
     position-push (λ t. question_eq t.0 q) 0 told (k, r) ∙ ap (place_or (first_place told q) (question_eq k q)) (zero-add (length told))
 
--- ---- equal questions
-
-pub question_equiv : IsEquivalence question_eq
-question_equiv =
-    and_equiv (on_equiv (λ q. q.owner) name_equiv) (and_equiv (on_equiv (λ q. q.rtype) nat_eq_equiv) (on_equiv (λ q. q.class) nat_eq_equiv))
-
--- ---- the map from questions to places
+-- ---- the map from keys to places
 
 -- equal keys find one value
 lookup-same : {K X : Type 0} (p r : K → Bool) → ((x : K) → p x ≡ r x) → (es : List (K × X)) → lookup p es ≡ lookup r es
 lookup-same p r alike [] = refl
 lookup-same p r alike (e ∷ es) = rw (alike e.0, lookup-same p r alike es) refl
 
-get-same : {X : Type 0} (C : Question → Question → Ordering) → IsTotalOrder C → (m : BTreeMap Question X) (k q : Question)
-    → C k q ≡ Equal → tree.get C m k ≡ tree.get C m q
-get-same C total m k q same = lookup-same _ _ (λ x. ap is_eq (total.congr k q x same)) m.entries
-
--- an order that ties exactly equal questions
-pub record Orders (C : Question → Question → Ordering) : Type 0 where
-  pub total : IsTotalOrder C
-  pub tied : (a b : Question) → question_eq a b ≡ is_eq (C a b)
+get-same : (m : BTreeMap QueryKey ℕ) (k q : QueryKey) → key_cmp k q ≡ Equal → tree.get key_cmp m k ≡ tree.get key_cmp m q
+get-same m k q same = lookup-same _ _ (λ x. ap is_eq (key_total.congr k q x same)) m.entries
 
 equal-is_eq : (o : Ordering) → is_eq o ≡ true → o ≡ Equal
 equal-is_eq Less h = cc
 equal-is_eq Equal h = refl
 equal-is_eq Greater h = cc
 
-absent-case : (C : Question → Question → Ordering) → Orders C → (old : BTreeMap Question ℕ) (k q : Question) (place : ℕ)
-    → tree.get C old k ≡ None → (b : Bool) → is_eq (C k q) ≡ b
-    → cond b (Some place) (tree.get C old q) ≡ place_or (tree.get C old q) b place
-absent-case C laws old k q place none true tied =
-    let e : tree.get C old q ≡ None = sym (get-same C laws.total old k q (equal-is_eq (C k q) tied)) ∙ none in rw e refl
-absent-case C laws old k q place none false tied = sym (place_or-false (tree.get C old q) place)
+absent-case : (old : BTreeMap QueryKey ℕ) (k q : QueryKey) (place : ℕ) → tree.get key_cmp old k ≡ None → (b : Bool) → is_eq (key_cmp k q) ≡ b
+    → cond b (Some place) (tree.get key_cmp old q) ≡ place_or (tree.get key_cmp old q) b place
+absent-case old k q place none true tied =
+    let e : tree.get key_cmp old q ≡ None = sym (get-same old k q (equal-is_eq (key_cmp k q) tied)) ∙ none in rw e refl
+absent-case old k q place none false tied = sym (place_or-false (tree.get key_cmp old q) place)
 
 -- a new key is noted
-pub noted_absent : (C : Question → Question → Ordering) → Orders C → (old new : BTreeMap Question ℕ) (k : Question) (place : ℕ)
-    → tree.get C old k ≡ None → tree.Updates C old new k (Some place) → Noted C old new k place
-noted_absent C laws old new k place none updates q =
-    updates.0 q ∙ absent-case C laws old k q place none (is_eq (C k q)) refl
-    ∙ ap (λ b. place_or (tree.get C old q) b place) (sym (laws.tied k q))
+pub noted_absent : (old new : BTreeMap QueryKey ℕ) (k : QueryKey) (place : ℕ) → tree.get key_cmp old k ≡ None
+    → tree.Updates key_cmp old new k (Some place) → Noted old new k place
+noted_absent old new k place none updates q = updates.0 q ∙ absent-case old k q place none (is_eq (key_cmp k q)) refl
 
 some-stays : (o : Option ℕ) (b : Bool) (n : ℕ) → IsSome o → o ≡ place_or o b n
 some-stays None b n h = cc
 some-stays (Some i) b n h = refl
 
-present-case : (C : Question → Question → Ordering) → Orders C → (m : BTreeMap Question ℕ) (k q : Question) (place : ℕ)
-    → IsSome (tree.get C m k) → (b : Bool) → is_eq (C k q) ≡ b → tree.get C m q ≡ place_or (tree.get C m q) b place
-present-case C laws m k q place some true tied =
-    some-stays (tree.get C m q) true place (subst IsSome (get-same C laws.total m k q (equal-is_eq (C k q) tied)) some)
-present-case C laws m k q place some false tied = sym (place_or-false (tree.get C m q) place)
+present-case : (m : BTreeMap QueryKey ℕ) (k q : QueryKey) (place : ℕ) → IsSome (tree.get key_cmp m k) → (b : Bool) → is_eq (key_cmp k q) ≡ b
+    → tree.get key_cmp m q ≡ place_or (tree.get key_cmp m q) b place
+present-case m k q place some true tied =
+    some-stays (tree.get key_cmp m q) true place (subst IsSome (get-same m k q (equal-is_eq (key_cmp k q) tied)) some)
+present-case m k q place some false tied = sym (place_or-false (tree.get key_cmp m q) place)
 
 -- a key that is there keeps its place
-pub noted_present : (C : Question → Question → Ordering) → Orders C → (m : BTreeMap Question ℕ) (k : Question) (place : ℕ)
-    → IsSome (tree.get C m k) → Noted C m m k place
-noted_present C laws m k place some q =
-    present-case C laws m k q place some (is_eq (C k q)) refl
-    ∙ ap (λ b. place_or (tree.get C m q) b place) (sym (laws.tied k q))
+pub noted_present : (m : BTreeMap QueryKey ℕ) (k : QueryKey) (place : ℕ) → IsSome (tree.get key_cmp m k) → Noted m m k place
+noted_present m k place some q = present-case m k q place some (is_eq (key_cmp k q)) refl
 
--- a reply at the end of the list, noted in the map under an equal key
-pub index_more : (C : Question → Question → Ordering) (old new : BTreeMap Question ℕ) (told : List (Question × Reply)) (k key : Question) (place : ℕ) (r : Reply)
-    → IndexesFirst C old told → key ≡ k → place ≡ length told → Noted C old new key place → IndexesFirst C new (told ++ (k, r) ∷ [])
-index_more C old new told k key place r before same end noted q =
-    noted q ∙ ap (λ o. place_or o (question_eq key q) place) (before q)
-    ∙ ap (λ x. place_or (first_place told q) (question_eq x q) place) same
+-- a reply at the end of the list, noted in the map under its question's key
+pub index_more : (old new : BTreeMap QueryKey ℕ) (told : List (Question × Reply)) (k : Question) (key : QueryKey) (place : ℕ) (r : Reply)
+    → IndexesFirst old told → key ≡ key_of k → place ≡ length told → Noted old new key place → IndexesFirst new (told ++ (k, r) ∷ [])
+index_more old new told k key place r before same end noted q =
+    noted (key_of q) ∙ ap (λ o. place_or o (is_eq (key_cmp key (key_of q))) place) (before q)
+    ∙ ap (λ x. place_or (first_place told q) (is_eq (key_cmp x (key_of q))) place) same
+    ∙ ap (λ b. place_or (first_place told q) b place) (sym (key_ties k q))
     ∙ ap (place_or (first_place told q) (question_eq k q)) end ∙ sym (first_place-push told k r q)
-
-nat_ties : (x y : ℕ) → nat_eq x y ≡ is_eq (nat_cmp x y)
-nat_ties x y = grind (arith, nat_tests)
-
-pub question_orders : Orders question_cmp
-question_orders = record {
-  total = then_total (on_total (λ q. q.owner) name_total) (then_total (on_total (λ q. q.rtype) nat_cmp_total) (on_total (λ q. q.class) nat_cmp_total));
-  tied = λ a b.
-      let n = name_ties a.owner b.owner in
-      let k = nat_ties a.rtype b.rtype in
-      let l = nat_ties a.class b.class in
-      ap (λ x. x && (nat_eq a.rtype b.rtype && nat_eq a.class b.class)) n
-      ∙ ap (λ x. is_eq (name_cmp a.owner b.owner) && (x && nat_eq a.class b.class)) k
-      ∙ ap (λ x. is_eq (name_cmp a.owner b.owner) && (is_eq (nat_cmp a.rtype b.rtype) && x)) l
-      ∙ ap (λ x. is_eq (name_cmp a.owner b.owner) && x) (tied_then (nat_cmp a.rtype b.rtype) (nat_cmp a.class b.class))
-      ∙ tied_then (name_cmp a.owner b.owner) (ordering_then (nat_cmp a.rtype b.rtype) (nat_cmp a.class b.class));
-}
 
 -- what isn't there is None
 pub none_found : {X : Type 0} (o : Option X) → is_some o ≡ false → o ≡ None
 none_found None h = refl
 none_found (Some x) h = cc
-
--- the reply to a question, by what the map finds
-pub reply_found : (first : BTreeMap Question ℕ) (told : List (Question × Reply)) (q : Question) (o : Option ℕ)
-    → IndexesFirst question_cmp first told → tree.get question_cmp first q ≡ o → reply_to told q ≡ reply_at told o
-reply_found first told q o index found = reply_to-place told q ∙ ap (reply_at told) (sym (index q) ∙ found)

@@ -2,17 +2,23 @@
 use Rattle.std.specs.Prelude.{ℕ, ◌≡◌, Bool, List, Option, None, Some, Err, slice_get, if◌then◌else◌}
 use Rattle.std.specs.List.{position_from}
 use Rattle.std.specs.declared.cmp.Ordering.{Ordering}
-use Rattle.std.specs.Ordering.{nat_cmp, ordering_then}
+use Rattle.std.specs.Ordering.{is_eq, nat_cmp, ordering_then}
+use Rattle.std.specs.Cmp.Lexicographic.{slice_cmp}
 use Rattle.std.specs.BTreeMap as tree
 use Rattle.std.specs.BTreeMap.{BTreeMap}
-use Rattle.dns_model.specs.Names.{name_cmp}
+use Rattle.dns_model.specs.Names.{folded, wire}
 use Rattle.dns_model.specs.Records.{Question, question_eq}
+use Rattle.dns_net.specs.declared.query_key.QueryKey.{QueryKey}
 use Rattle.dns_net.specs.Errors as seen
 use Rattle.dns_net.specs.Errors.{Reply}
 
--- questions in order: by name in canonical order, then by type and class
-abbrev pub question_cmp : Question → Question → Ordering
-question_cmp a b = ordering_then (name_cmp a.owner b.owner) (ordering_then (nat_cmp a.rtype b.rtype) (nat_cmp a.class b.class))
+-- a question as a key: the wire form of its name with A to Z as a to z (RFC 4343, 3), its type and its class
+abbrev pub key_of : Question → QueryKey
+key_of q = record { name = wire (folded q.owner); record_type = q.rtype; class = q.class }
+
+-- keys in order: by the bytes of the name, then by type and class
+abbrev pub key_cmp : QueryKey → QueryKey → Ordering
+key_cmp a b = ordering_then (slice_cmp nat_cmp a.name b.name) (ordering_then (nat_cmp a.record_type b.record_type) (nat_cmp a.class b.class))
 
 -- the reply at a place of the list; none is Timeout
 abbrev pub reply_of_place : Option (Question × Reply) → Reply
@@ -32,10 +38,10 @@ abbrev pub place_or : Option ℕ → Bool → ℕ → Option ℕ
 place_or (Some place) same end = Some place
 place_or None same end = if same then Some end else None
 
--- a map from questions to places has one more place, where it had none for that question
-abbrev pub Noted : (Question → Question → Ordering) → BTreeMap Question ℕ → BTreeMap Question ℕ → Question → ℕ → Type 0
-Noted C old new k place = (q : Question) → tree.get C new q ≡ place_or (tree.get C old q) (question_eq k q) place
+-- a map from keys to places has one more place, where it had none for that key
+abbrev pub Noted : BTreeMap QueryKey ℕ → BTreeMap QueryKey ℕ → QueryKey → ℕ → Type 0
+Noted old new key place = (k : QueryKey) → tree.get key_cmp new k ≡ place_or (tree.get key_cmp old k) (is_eq (key_cmp key k)) place
 
 -- the map finds the first reply to each question
-abbrev pub IndexesFirst : (Question → Question → Ordering) → BTreeMap Question ℕ → List (Question × Reply) → Type 0
-IndexesFirst C first told = (q : Question) → tree.get C first q ≡ first_place told q
+abbrev pub IndexesFirst : BTreeMap QueryKey ℕ → List (Question × Reply) → Type 0
+IndexesFirst first told = (q : Question) → tree.get key_cmp first (key_of q) ≡ first_place told q

@@ -10,6 +10,7 @@ mod letter_case;
 mod link;
 mod link_shows;
 mod notice;
+mod query_key;
 mod recorded;
 mod request;
 mod response;

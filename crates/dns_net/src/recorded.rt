@@ -4,8 +4,9 @@ ghost use Rattle.dns_net.specs.Replies.{reply_of};
 ghost use Rattle.dns_net.specs.Requests.{first_question};
 ghost use Rattle.dns_net.specs.Handles.{reply_to};
 ghost use Rattle.dns_net.specs.Recording.{AnswersFrom};
-ghost use Rattle.dns_net.specs.RecordedPlaces.{Noted, question_cmp, reply_at};
+ghost use Rattle.dns_net.specs.RecordedPlaces.{Noted, first_place, reply_at};
 
+use crate::query_key::QueryKey;
 use crate::{DnsHandle, DnsRequest, DnsResponse, NetError};
 use dns_name::NoMemory;
 use dns_record::Query;
@@ -35,35 +36,35 @@ impl Model for Recording {
 pub struct Recorded {
     replies: Vec<Recording>,
     /// Where the first reply to a query stands.
-    first: BTreeMap<Query, usize>,
+    first: BTreeMap<QueryKey, usize>,
     sends: u64,
     faults: u64,
 }
 
 impl Model for Recorded {
     ghost use Rattle.dns_net.specs.Recording.{RecordedValue};
-    ghost use Rattle.dns_net.specs.RecordedPlaces.{IndexesFirst, question_cmp};
+    ghost use Rattle.dns_net.specs.RecordedPlaces.{IndexesFirst};
 
     ghost Value = { RecordedValue };
 
     ghost view = { λ r. record { sends = r.sends; faults = r.faults; replies = r.replies.items } };
 
-    ghost invariant = { λ r. IndexesFirst question_cmp r.first r.replies.items };
+    ghost invariant = { λ r. IndexesFirst r.first r.replies.items };
 }
 
-/// Notes the place of a query's reply, unless the query has one. After an error nothing has changed.
+/// Notes the place of a reply, unless its query has one. After an error nothing has changed.
 fn note_first(
-    first: &mut BTreeMap<Query, usize>,
-    query: Query,
+    first: &mut BTreeMap<QueryKey, usize>,
+    key: QueryKey,
     place: usize,
 ) -> Result<(), NoMemory>
-    ensures ok { OnOk result (Noted question_cmp first.old first.new query place) }
+    ensures ok { OnOk result (Noted first.old first.new key place) }
     ensures err { OnErr result (first.new.entries ≡ first.old.entries) }
 {
-    if first.contains_key(&query) {
+    if first.contains_key(&key) {
         return Ok(());
     }
-    first.insert(query, place)?;
+    first.insert(key, place)?;
     Ok(())
 }
 
@@ -116,7 +117,7 @@ impl Recorded {
         ensures ok { OnOk result (self.new ≡ record self.old { replies = self.old.replies ++ (query, reply_of reply) ∷ [] }) }
         ensures err { OnErr result (self.new ≡ self.old) }
     {
-        let key = query.try_clone()?;
+        let key = QueryKey::of(*self.replies.allocator(), &query)?;
         let place = self.replies.len();
         self.replies.push(Recording { query, reply })?;
         match note_first(&mut self.first, key, place) {
@@ -128,13 +129,21 @@ impl Recorded {
         }
     }
 
+    /// Where the first reply to a query stands.
+    fn place_of(&self, query: &Query) -> Result<Option<usize>, NoMemory>
+        ensures { IfOk result (λ place. place ≡ first_place self.now.replies query.now) }
+    {
+        let key = QueryKey::of(*self.replies.allocator(), query)?;
+        Ok(self.first.get(&key).copied())
+    }
+
     /// The first reply to a query, or `Timeout`.
     fn reply_to(&self, query: &Query) -> Result<DnsResponse, NetError>
         ensures { (reply_of result ≡ Err seen.NoMemory) ⊎ (reply_of result ≡ reply_to self.now.replies query.now) }
     {
-        match self.first.get(query) {
+        match self.place_of(query)? {
             None => Err(NetError::Timeout),
-            Some(place) => reply_at(&self.replies, *place),
+            Some(place) => reply_at(&self.replies, place),
         }
     }
 }
