@@ -8,9 +8,9 @@ use Rattle.dns_model.specs.Bytes.{is_bytes}
 use Rattle.dns_model.specs.Names.{Labels, is_name}
 use Rattle.dns_model.specs.NameText.{printed}
 use Rattle.dns_record.specs.Words.{type_word, class_word}
-use Rattle.dns_words.specs.OctetWords.{octets_word}
+use Rattle.dns_words.specs.Words.{octets_word}
+use Rattle.dns_report.specs.LineWords.{Words}
 use Rattle.dns_words.proofs.WordShapes.{is_word, decimal_word, type_is_word, class_is_word, octets_is_word, type_injective, class_injective, octets_injective}
-use Rattle.dns_report.specs.Lines.{Words}
 use Rattle.dns_report.specs.View.{Numbered, fitting_name, is_u16, is_u32, fitting_key}
 use Rattle.dns_report.specs.Report.{key_words}
 use Rattle.dns_report.proofs.NameShapes.{printed_injective}

@@ -5,7 +5,7 @@ use Rattle.std.proofs.lemmas.Bool.{and_parts}
 use Rattle.std.proofs.lemmas.Bool.Decides.{nat_tests}
 use Rattle.std.proofs.lemmas.List.{append_assoc}
 use Rattle.dns_words.proofs.WordShapes.{is_word}
-use Rattle.dns_report.specs.Lines.{Words, line, line_rest}
+use Rattle.dns_report.specs.LineWords.{Words, line, line_rest}
 
 pub head_same : {x y : ℕ} {xs ys : List ℕ} → x ∷ xs ≡ y ∷ ys → x ≡ y
 head_same h = ap (λ l. slice_index l 0) h

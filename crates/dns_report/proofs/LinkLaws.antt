@@ -7,9 +7,9 @@ use Rattle.std.proofs.lemmas.Fmt.{decimal_injective}
 use Rattle.dns_model.specs.Bytes.{is_bytes}
 use Rattle.dns_model.specs.Names.{Labels}
 use Rattle.dns_model.specs.declared.section.Section.{Section}
-use Rattle.dns_words.specs.OctetWords.{octets_word}
+use Rattle.dns_words.specs.Words.{octets_word}
+use Rattle.dns_report.specs.LineWords.{section_word}
 use Rattle.dns_words.proofs.WordShapes.{decimal_word}
-use Rattle.dns_report.specs.Marks.{section_word}
 use Rattle.dns_report.specs.View.{Numbered, Shown, Anchored, Matched, KeySet, Signed, ChainView, fitting_name, is_u16, is_u32, fitting_key, fitting_link, fitting_chain}
 use Rattle.dns_report.specs.Report.{key_words}
 use Rattle.dns_report.proofs.LineLaws.{Line, is_line}

@@ -8,8 +8,7 @@ use Rattle.dns_model.specs.declared.section.Section.TheVariants.{Answer, Authori
 use Rattle.dns_model.specs.declared.denial.Denial.{Denial}
 use Rattle.dns_model.specs.declared.denial.Denial.TheVariants.{None, Absent, Expanded}
 use Rattle.dns_words.proofs.WordShapes.{is_word}
-use Rattle.dns_report.specs.Lines.{Words}
-use Rattle.dns_report.specs.Marks.{mark_word, section_word, denial_words}
+use Rattle.dns_report.specs.LineWords.{Words, mark_word, section_word, denial_words}
 
 -- the words differ in length
 abbrev mark_of : List ℕ → Proof

@@ -12,8 +12,8 @@ use Rattle.dns_model.specs.Records.{Rr}
 use Rattle.dns_model.specs.declared.proof.Proof.{Proof}
 use Rattle.dns_model.specs.declared.section.Section.{Section}
 use Rattle.dns_record.specs.Words.{type_word, class_word}
-use Rattle.dns_words.specs.OctetWords.{octets_word}
-use Rattle.dns_report.specs.Marks.{mark_word, section_word}
+use Rattle.dns_words.specs.Words.{octets_word}
+use Rattle.dns_report.specs.LineWords.{mark_word, section_word}
 use Rattle.dns_report.specs.View.{fitting_name, is_u16, is_u32, fitting_record}
 use Rattle.dns_report.proofs.LineLaws.{Line, is_line}
 use Rattle.dns_report.proofs.NameShapes.{printed_word}

@@ -7,7 +7,7 @@ use Rattle.dns_model.specs.declared.section.Section.{Section}
 use Rattle.dns_model.specs.declared.section.Section.TheVariants.{Answer, Authority, Additional}
 use Rattle.dns_model.specs.declared.denial.Denial.{Denial}
 use Rattle.dns_model.specs.Records.{Rr}
-use Rattle.dns_report.specs.Marks.{section_word, denial_words}
+use Rattle.dns_report.specs.LineWords.{section_word, denial_words}
 use Rattle.dns_report.specs.View.{ChainView, View, is_u16, fitting_record, fitting_chain, fitting_view}
 use Rattle.dns_report.specs.Report.{view_text}
 use Rattle.dns_report.proofs.LineLaws.{Line, is_line, lines_same}

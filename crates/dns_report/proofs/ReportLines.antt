@@ -8,8 +8,8 @@ use Rattle.dns_model.specs.declared.section.Section.TheVariants.{Answer, Authori
 use Rattle.dns_model.specs.NameText.{printed}
 use Rattle.dns_model.specs.Records.{Rr}
 use Rattle.dns_record.specs.Words.{type_word, class_word}
-use Rattle.dns_words.specs.OctetWords.{octets_word}
-use Rattle.dns_report.specs.Marks.{mark_word, section_word, denial_words}
+use Rattle.dns_words.specs.Words.{octets_word}
+use Rattle.dns_report.specs.LineWords.{mark_word, section_word, denial_words}
 use Rattle.dns_report.specs.View.{Shown, Anchored, Matched, KeySet, Signed, ChainView, View}
 use Rattle.dns_report.specs.Report.{key_words, header_line, code_line, denial_line, record_line, section_text, link_line, chain_line, chain_text, records_text, head_text, view_body, end_line, view_text}
 use Rattle.dns_report.proofs.LineLaws.{Line, text_of}

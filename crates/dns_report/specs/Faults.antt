@@ -12,8 +12,7 @@ use Rattle.dns_net.specs.declared.notice.Notice.{Notice}
 use Rattle.dns_net.specs.declared.notice.Notice.TheVariants.{NotJudgedYet}
 use Rattle.dns_net.specs.Errors.{DnsErrorValue, ResponseCode, Nsec, DnssecBogus, ErrorValue, Busy, Dns, Message, Msg, NoConnections, Proto, Io, Timeout, QueryCaseMismatch, ForeignClassRecord, Truncated, NoMemory}
 use Rattle.dns_record.specs.Words.{type_word, class_word}
-use Rattle.dns_report.specs.Lines.{Words, line}
-use Rattle.dns_report.specs.Marks.{mark_word}
+use Rattle.dns_report.specs.LineWords.{Words, line, mark_word}
 
 -- the word of a kind is its name
 abbrev pub io_word : IoKind → List ℕ

@@ -9,9 +9,8 @@ use Rattle.dns_model.specs.NameText.{printed}
 use Rattle.dns_model.specs.Records.{Rr}
 use Rattle.dns_model.specs.SoundAnswers.{ResponseValue}
 use Rattle.dns_record.specs.Words.{type_word, class_word}
-use Rattle.dns_words.specs.OctetWords.{octets_word}
-use Rattle.dns_report.specs.Lines.{Words, line}
-use Rattle.dns_report.specs.Marks.{mark_word, section_word, denial_words}
+use Rattle.dns_words.specs.Words.{octets_word}
+use Rattle.dns_report.specs.LineWords.{Words, line, mark_word, section_word, denial_words}
 use Rattle.dns_report.specs.View.{Numbered, Shown, Anchored, Matched, KeySet, Signed, ChainView, View, view_of}
 
 -- the first line names the form and its version

@@ -1,7 +1,7 @@
 //! The line of an error.
 ghost use Rattle.std.specs.Prelude.{◌≡◌, ◌++◌, ◌∷◌, [], OnOk, IfOk};
 ghost use Rattle.dns_net.specs.Replies.{dns_error_of, error_of};
-ghost use Rattle.dns_report.specs.Lines.{line_rest};
+ghost use Rattle.dns_report.specs.LineWords.{line_rest};
 ghost use Rattle.dns_report.specs.Faults.{io_word, decode_word, proto_words, dns_words, notice_text, fault_text, fault_line};
 
 use crate::words::{

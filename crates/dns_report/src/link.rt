@@ -5,9 +5,9 @@ ghost use Rattle.std.specs.Fmt.{decimal};
 ghost use Rattle.dns_model.specs.Bytes.{is_bytes};
 ghost use Rattle.dns_model.specs.NameText.{printed};
 ghost use Rattle.dns_record.specs.Words.{type_word, class_word};
-ghost use Rattle.dns_words.specs.OctetWords.{octets_word};
+ghost use Rattle.dns_words.specs.Words.{octets_word};
 ghost use Rattle.dns_net.specs.Link.{link_value};
-ghost use Rattle.dns_report.specs.Lines.{line, line_rest};
+ghost use Rattle.dns_report.specs.LineWords.{line, line_rest};
 ghost use Rattle.dns_report.specs.View.{numbered, shown, chain_view, is_u16, is_u32, fitting_key, fitting_link, fitting_chain};
 ghost use Rattle.dns_report.specs.Report.{key_words, link_line, chain_line, chain_text};
 

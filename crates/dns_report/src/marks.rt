@@ -1,6 +1,6 @@
 //! The words of marks and sections.
 ghost use Rattle.std.specs.Prelude.{◌≡◌};
-ghost use Rattle.dns_report.specs.Marks.{mark_word, section_word};
+ghost use Rattle.dns_report.specs.LineWords.{mark_word, section_word};
 
 use dns_record::{Proof, Section};
 

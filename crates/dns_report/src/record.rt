@@ -4,9 +4,9 @@ ghost use Rattle.std.specs.Fmt.{decimal};
 ghost use Rattle.std.specs.List.{list_all};
 ghost use Rattle.dns_model.specs.Bytes.{is_bytes};
 ghost use Rattle.dns_record.specs.Words.{type_word};
-ghost use Rattle.dns_words.specs.OctetWords.{octets_word};
-ghost use Rattle.dns_report.specs.Lines.{line_rest};
-ghost use Rattle.dns_report.specs.Marks.{mark_word};
+ghost use Rattle.dns_words.specs.Words.{octets_word};
+ghost use Rattle.dns_report.specs.LineWords.{line_rest};
+ghost use Rattle.dns_report.specs.LineWords.{mark_word};
 ghost use Rattle.dns_report.specs.View.{is_u16, is_u32, fitting_record};
 ghost use Rattle.dns_report.specs.Report.{record_line, section_text};
 

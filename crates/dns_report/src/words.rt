@@ -4,8 +4,8 @@ ghost use Rattle.std.specs.Fmt.{decimal};
 ghost use Rattle.dns_model.specs.Bytes.{is_bytes};
 ghost use Rattle.dns_model.specs.NameText.{printed};
 ghost use Rattle.dns_record.specs.Words.{type_word, class_word};
-ghost use Rattle.dns_words.specs.OctetWords.{octets_word};
-ghost use Rattle.dns_report.specs.Marks.{mark_word};
+ghost use Rattle.dns_words.specs.Words.{octets_word};
+ghost use Rattle.dns_report.specs.LineWords.{mark_word};
 ghost use Rattle.dns_report.specs.View.{fitting_name, is_u16};
 
 use crate::marks::mark_word;

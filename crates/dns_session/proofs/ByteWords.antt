@@ -1,8 +1,7 @@
 -- Reading numbers of eight bits, word by word.
 use Rattle.std.proofs.Common.{◌≡◌, ℕ, ◌+◌, List, [], ◌∷◌, ◌++◌, length, Option, None, Some, refl, ap, ◌∙◌, append_assoc, append-nil, Bor}
 use Rattle.std.specs.Option.{option_map}
-use Rattle.dns_words.specs.Steps.{◌>>=◌}
-use Rattle.dns_words.specs.Decimals.{decimal_in}
+use Rattle.dns_words.specs.Words.{◌>>=◌, decimal_in}
 use Rattle.dns_session.specs.Lines.{words, words_left, bytes_in}
 
 -- the numbers that were read, before those that follow

@@ -4,11 +4,8 @@ use Rattle.dns_model.specs.Keys.{AnchorValue, bytes_eq}
 use Rattle.dns_model.specs.Records.{Question}
 use Rattle.dns_model.specs.Types.{class_in}
 use Rattle.dns_message.specs.MessageAt.{message_at}
-use Rattle.dns_words.specs.NameWords.{name_word_in}
-use Rattle.dns_words.specs.Steps.{◌>>=◌}
-use Rattle.dns_words.specs.Decimals.{decimal_in}
+use Rattle.dns_words.specs.Words.{name_word_in, ◌>>=◌, decimal_in, octets_in}
 use Rattle.dns_words.specs.Codes.{type_in}
-use Rattle.dns_words.specs.OctetWords.{octets_in}
 use Rattle.dns_session.specs.SessionValue.{AcceptedSignatureValue, ReplyValue}
 use Rattle.dns_session.specs.LinePlaces.{pieces}
 

@@ -6,8 +6,8 @@ use Rattle.std.specs.Str.Parse.{digits_value, digits_value_after}
 use Rattle.std.proofs.lemmas.Bool.Decides.{nat_tests}
 use Rattle.std.proofs.lemmas.Bool.{cases_lt, cases_Bool, le-leb, lt-leb}
 use Rattle.std.proofs.Math.ListN.{drop_of_length-le}
-use Rattle.dns_words.specs.Steps.{◌>>=◌}
-use Rattle.dns_words.specs.Decimals.{is_unpadded, decimal_in, with_digit, read_after}
+use Rattle.dns_words.specs.Words.{◌>>=◌, is_unpadded, decimal_in}
+use Rattle.dns_words.specs.Digits.{with_digit, read_after}
 
 -- more digits never make a number smaller
 digits_after_grow : (n : ℕ) (cs : List ℕ) → n ≤ digits_value_after 10 n cs

@@ -7,7 +7,7 @@ use Rattle.hex.specs.Hex.{decode_of, decode_pairs, pair_value, encode_lower, low
 use Rattle.hex.specs.declared.error.FromHexError.{FromHexError}
 use Rattle.hex.proofs.HexLemmas.{decode_of-encode_lower, length-encode_with}
 use Rattle.dns_model.specs.Keys.{bytes_eq}
-use Rattle.dns_words.specs.OctetWords.{octets_word, octets_in, hex_in, if_decoded}
+use Rattle.dns_words.specs.Words.{octets_word, octets_in, hex_in, if_decoded}
 
 ok_same : (xs ys : List ℕ) → ◌≡◌ {A = Result (List ℕ) FromHexError} (Ok xs) (Ok ys) → xs ≡ ys
 ok_same xs ys h = ap (λ r. result_unwrap_or r xs) h

@@ -7,7 +7,7 @@ use Rattle.hex.specs.declared.error.FromHexError.{FromHexError}
 use Rattle.hex.proofs.HexLemmas.{decode_of-even, decode_of-odd}
 use Rattle.hex.proofs.Pairs.{drop-pair}
 use Rattle.dns_model.specs.Keys.{bytes_eq}
-use Rattle.dns_words.specs.OctetWords.{if_decoded, octets_in}
+use Rattle.dns_words.specs.Words.{if_decoded, octets_in}
 use Rattle.dns_words.specs.Pairs.{with_byte, with_pair, pairs_in}
 
 -- pairs are read as the crate for hexadecimal digits defines it, but for what an error says

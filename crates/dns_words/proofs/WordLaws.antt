@@ -12,8 +12,7 @@ use Rattle.std.proofs.lemmas.List.{take-append-drop}
 use Rattle.std.proofs.lemmas.Fmt.{decimal_digit, decimal_nonempty, first_decimal, digits_decimal, digits_value-decimal, decimal-digits_value}
 use Rattle.std.proofs.lemmas.Str.Parse.{IsNumeralModel, numerals_by_value}
 use Rattle.dns_model.specs.Keys.{bytes_eq}
-use Rattle.dns_words.specs.Steps.{◌>>=◌}
-use Rattle.dns_words.specs.Decimals.{is_unpadded, is_decimal, decimal_in}
+use Rattle.dns_words.specs.Words.{◌>>=◌, is_unpadded, is_decimal, decimal_in}
 use Rattle.dns_record.specs.Words.{Row, type_rows, class_rows, own_word, own_number, code_word, type_word, class_word}
 use Rattle.dns_words.specs.Codes.{after_prefix, if_unnamed, prefixed_in, code_in, type_in, class_in}
 

@@ -14,7 +14,7 @@ use Rattle.hex.proofs.HexLemmas.{decode_of-encode_lower, decode_of-ok}
 use Rattle.dns_model.specs.Bytes.{is_bytes}
 use Rattle.dns_record.specs.Words.{Row, type_rows, class_rows, own_word, type_word, class_word}
 use Rattle.dns_words.specs.Codes.{type_in, class_in}
-use Rattle.dns_words.specs.OctetWords.{octets_word, octets_in}
+use Rattle.dns_words.specs.Words.{octets_word, octets_in}
 use Rattle.dns_words.proofs.WordLaws.{own, type_back, class_back}
 use Rattle.dns_words.proofs.OctetLaws.{octets_back}
 

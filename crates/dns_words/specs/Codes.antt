@@ -3,8 +3,7 @@ use Rattle.std.specs.Prelude.{ℕ, List, length, take, drop, codes, Option, None
 use Rattle.std.specs.Option.{option_or}
 use Rattle.dns_model.specs.Keys.{bytes_eq}
 use Rattle.dns_record.specs.Words.{Row, type_rows, class_rows, own_word, own_number}
-use Rattle.dns_words.specs.Steps.{◌>>=◌}
-use Rattle.dns_words.specs.Decimals.{decimal_in}
+use Rattle.dns_words.specs.Words.{◌>>=◌, decimal_in}
 
 -- what follows the prefix
 abbrev pub after_prefix : List ℕ → List ℕ → Option (List ℕ)

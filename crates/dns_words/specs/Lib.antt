@@ -1,6 +1,4 @@
-pub mod Steps
-pub mod Decimals
+pub mod Words
+pub mod Digits
 pub mod Codes
 pub mod Pairs
-pub mod OctetWords
-pub mod NameWords

@@ -2,13 +2,14 @@ ghost use Rattle.std.specs.Prelude.{◌≡◌, ◌++◌, ◌≤◌, ◌<◌, ◌
 ghost use Rattle.std.specs.Fmt.{decimal};
 ghost use Rattle.std.specs.Int.{IsInRange};
 ghost use Rattle.std.specs.Option.{SomeIff, option_map};
-ghost use Rattle.dns_words.specs.Decimals.{is_unpadded, decimal_in, with_digit, read_after};
+ghost use Rattle.dns_words.specs.Words.{is_unpadded, decimal_in};
+ghost use Rattle.dns_words.specs.Digits.{with_digit, read_after};
 
 use dns_name::NoMemory;
 use itoa::Buffer;
 
 /// The number with one more digit, if that is a number of 64 bits.
-#[tactic(auto, unfolding(crate::specs::Decimals::with_digit))]
+#[tactic(auto, unfolding(crate::specs::Digits::with_digit))]
 fn with_digit(number: u64, byte: u8) -> Option<u64>
     ensures { result ≡ with_digit number byte }
 {

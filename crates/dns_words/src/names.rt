@@ -1,5 +1,5 @@
 ghost use Rattle.std.specs.Prelude.{◌≡◌, IfOk};
-ghost use Rattle.dns_words.specs.NameWords.{name_word_in};
+ghost use Rattle.dns_words.specs.Words.{name_word_in};
 
 use dns_name::{Name, NameError, NoMemory};
 use std::alloc::Global;

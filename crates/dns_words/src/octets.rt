@@ -1,12 +1,12 @@
 ghost use Rattle.std.specs.Prelude.{◌≡◌, ◌++◌, ◌<◌, ◌≤◌, ◌^◌, IfOk, OnOk, OnErr};
-ghost use Rattle.dns_words.specs.OctetWords.{octets_word, octets_in};
+ghost use Rattle.dns_words.specs.Words.{octets_word, octets_in};
 
 use crate::digits::bytes_of_pairs;
 use dns_name::{NoMemory, Octets};
 use std::alloc::Global;
 
 /// The bytes that a word is: two hexadecimal digits of either case for each, or `-` for none.
-#[tactic(auto, unfolding(crate::specs::OctetWords::octets_in), using(crate::proofs::PairSteps::even_word, crate::proofs::PairSteps::odd_word))]
+#[tactic(auto, unfolding(crate::specs::Words::octets_in), using(crate::proofs::PairSteps::even_word, crate::proofs::PairSteps::odd_word))]
 pub fn octets_in(alloc: Global, word: &[u8]) -> Result<Option<Octets>, NoMemory>
     ensures { IfOk result (λ o. o ≡ octets_in word.now) }
 {
@@ -23,7 +23,7 @@ pub fn octets_in(alloc: Global, word: &[u8]) -> Result<Option<Octets>, NoMemory>
 }
 
 /// Puts the word of bytes, in lower case, behind a text; the text stays where memory runs out.
-#[tactic(auto, unfolding(crate::specs::OctetWords::octets_word))]
+#[tactic(auto, unfolding(crate::specs::Words::octets_word))]
 pub fn push_octets(text: &mut Vec<u8>, bytes: &[u8]) -> Result<(), NoMemory>
     ensures ok { OnOk result (text.new.items ≡ text.old.items ++ octets_word bytes.now) }
     ensures err { OnErr result (text.new.items ≡ text.old.items) }

@@ -1,5 +1,5 @@
 use Rattle.std.proofs.Common.{◌≡◌, true}
-use Rattle.dns_words.specs.Decimals.{is_unpadded}
+use Rattle.dns_words.specs.Words.{is_unpadded}
 use Rattle.dns_words.proofs.DecimalLemmas.{decimal_within, decimal_above}
 use Rattle.dns_words.proofs.decimals.decimal_in.Goals as goal
 

@@ -1,5 +1,5 @@
 use Rattle.std.proofs.Common.{◌≡◌, drop}
-use Rattle.dns_words.specs.Decimals.{read_after}
+use Rattle.dns_words.specs.Digits.{read_after}
 use Rattle.dns_words.proofs.decimals.read_digits.Given as goal
 
 abbrev pub invariant-loop-byte : goal.invariant-loop-byte
