@@ -1,4 +1,4 @@
-//! Tests of names, records, rdata and messages, by what their crates give.
+//! Tests of messages, by what `dns_message` gives.
 //!
 //! They stand apart, since a crate with tests of its own is proved twice.
 #![tactic(auto)]
@@ -11,13 +11,3 @@ mod message_pointer_tests;
 mod message_tests;
 #[cfg(test)]
 mod message_writing_tests;
-#[cfg(test)]
-mod name_tests;
-#[cfg(test)]
-mod name_text_tests;
-#[cfg(test)]
-mod rdata_signed_tests;
-#[cfg(test)]
-mod rdata_tests;
-#[cfg(test)]
-mod record_tests;
