@@ -1,14 +1,14 @@
 -- The signatures that were met of each judged set, by the places of the sets.
 use Rattle.std.proofs.Common.{◌≡◌, ℕ, ◌+◌, ◌<◌, ◌≤◌, ◌⊎◌, inl, inr, ◌≢◌, Bool, true, false, ◌&&◌, ◌==◌, cond, List, [], ◌∷◌, ◌++◌, length, get_or, set, Option, None, Some, is_some, refl, sym, ap, ◌∙◌, subst, arith}
 use Rattle.std.specs.Prelude.{count_by, slice_get}
-use Rattle.std.specs.List.{filter, find, AllByRecursion}
+use Rattle.std.specs.List.{filter}
 use Rattle.std.proofs.lemmas.Bool.{and_parts, and_from}
 use Rattle.std.proofs.lemmas.Option.{slice_get_cases}
 use Rattle.std.proofs.lemmas.List.{length-append, length-set, get_or-set_same, get_or-set_other}
 use Rattle.std.proofs.lemmas.List.Elements.{filter-append, filter_agree}
 use Rattle.std.proofs.lemmas.List.Sums.{length-filter}
 use Rattle.dns_model.specs.declared.section.Section.{Section}
-use Rattle.dns_model.specs.Names.{Labels, name_eq}
+use Rattle.dns_model.specs.Names.{name_eq}
 use Rattle.dns_model.specs.Views.{RrsigValue, rrsig_in}
 use Rattle.dns_model.specs.Records.{Rr}
 use Rattle.dns_model.specs.Sections.{is_signature, covers, covers_rtype}
@@ -20,7 +20,7 @@ use Rattle.dns_judgement.specs.Marking.{covered, signature_place, is_place}
 use Rattle.dns_judgement.proofs.DeciderLemmas.{kind_of, covered_parts, place_same}
 use Rattle.dns_sets.specs.declared.set_places.SetPlaces.{SetPlaces}
 use Rattle.dns_sets.specs.SetPlaces.{place_of, is_placed, ArePlacedIn}
-use Rattle.dns_sets.specs.Counting.{is_readable, count_at, counted, is_signature_at, AreCounted}
+use Rattle.dns_sets.specs.Counting.{is_readable, counted, is_signature_at, AreCounted}
 use Rattle.dns_sets.proofs.PlaceLemmas.{IsPlace, alike_place}
 use Rattle.dns_sets.proofs.MarkSteps.{set_at}
 

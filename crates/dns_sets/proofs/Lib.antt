@@ -1,4 +1,5 @@
 pub mod Positions
+pub mod KeyLemmas
 pub mod PlaceLemmas
 pub mod Joining
 pub mod Signing

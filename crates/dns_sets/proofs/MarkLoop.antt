@@ -1,6 +1,5 @@
 -- The records of a section are marked one after the other.
 use Rattle.std.proofs.Common.{◌≡◌, ℕ, ◌+◌, ◌<◌, ◌^◌, List, [], ◌∷◌, ◌++◌, length, take, drop, get_or, set, replicate, Option, None, Some, refl, sym, ap, ◌∙◌, subst, arith}
-use Rattle.std.specs.Prelude.{count_by}
 use Rattle.std.specs.List.{find}
 use Rattle.std.proofs.lemmas.List.{append-nil, append_assoc, take_all, drop_all, set_at, get_or_at, take_more, drop_more, length-take-le, length-replicate, get_or-replicate}
 use Rattle.std.proofs.lemmas.List.Sums.{count_by-le-length}
@@ -13,7 +12,7 @@ use Rattle.dns_judgement.specs.Marking.{covered, signature_place, is_about, mark
 use Rattle.dns_judgement.proofs.AfterLemmas.{after-push, length-after}
 use Rattle.dns_sets.specs.declared.set_places.SetPlaces.{SetPlaces}
 use Rattle.dns_sets.specs.SetPlaces.{place_of, is_placed, ArePlacedIn}
-use Rattle.dns_sets.specs.Counting.{count_at, counted, is_signature_at, AreCounted}
+use Rattle.dns_sets.specs.Counting.{count_at, counted, AreCounted}
 use Rattle.dns_sets.proofs.PlaceLemmas.{is_absent}
 use Rattle.dns_sets.proofs.CountSteps.{length-counted, counted_more, count_is}
 

@@ -1,25 +1,29 @@
 -- The places of sets in a list, as one more set is met.
-use Rattle.std.proofs.Common.{◌≡◌, ℕ, suc, ◌+◌, ◌<◌, Bool, true, false, ◌&&◌, ◌||◌, ◌==◌, cond, List, [], ◌∷◌, ◌++◌, length, get_or, set, Option, None, Some, refl, sym, ap, ◌∙◌, subst, arith}
+use Rattle.std.proofs.Common.{◌≡◌, ℕ, suc, ◌<◌, Bool, true, false, ◌&&◌, ◌||◌, ◌==◌, cond, List, [], ◌∷◌, ◌++◌, length, get_or, set, Option, None, Some, refl, sym, ap, ◌∙◌, subst, arith}
 use Rattle.std.specs.List.{list_any, find}
 use Rattle.std.specs.Map.{lookup}
-use Rattle.std.proofs.lemmas.Bool.{and_parts}
+use Rattle.std.specs.Ordering.{is_eq}
+use Rattle.std.specs.BTreeMap as tree
 use Rattle.dns_model.specs.Names.{Labels, name_eq}
-use Rattle.dns_model.proofs.SetLemmas.{name_left, number_same}
+use Rattle.dns_sets.specs.declared.set_key.SetKey.{SetKey}
 use Rattle.dns_sets.specs.declared.set_places.SetPlaces.{SetPlaces}
 use Rattle.dns_sets.specs.Joining.{touched}
-use Rattle.dns_sets.specs.SetPlaces.{place_of, or_place, with_place, next_place, place_in}
+use Rattle.dns_sets.specs.SetKeys.{set_key, set_key_cmp, set_key_total}
+use Rattle.dns_sets.specs.SetPlaces.{place_at_key, place_of, or_place, with_place, next_place, place_in}
+use Rattle.dns_sets.proofs.KeyLemmas.{tied_equal, set_key_ties}
 
 lookup_agree : {K X : Type 0} (p q : K → Bool) → ((k : K) → p k ≡ q k) → (es : List (K × X)) → lookup p es ≡ lookup q es
 lookup_agree p q same [] = refl
 lookup_agree p q same (e ∷ es) = ap (λ b. cond b (Some e.1) (lookup p es)) (same e.0) ∙ ap (cond (q e.0) (Some e.1)) (lookup_agree p q same es)
 
+-- keys that the order doesn't tell apart have one place
+key_place : (p : SetPlaces) (key other : SetKey) → is_eq (set_key_cmp key other) ≡ true → place_at_key p other ≡ place_at_key p key
+key_place p key other tied =
+    sym (lookup_agree (λ x. is_eq (set_key_cmp key x)) (λ x. is_eq (set_key_cmp other x)) (λ x. ap is_eq (set_key_total.congr key other x (tied_equal (set_key_cmp key other) tied))) p.places.entries)
+
 -- equal owners and types have one place
 pub alike_place : (p : SetPlaces) (owner o : Labels) (rtype k : ℕ) → (name_eq owner o && (rtype == k)) ≡ true → place_of p o k ≡ place_of p owner rtype
-alike_place p owner o rtype k h =
-    let parts = and_parts (name_eq owner o) (rtype == k) h in
-    sym (lookup_agree (λ s. name_eq owner s.0.now && (rtype == s.1.0)) (λ s. name_eq o s.0.now && (k == s.1.0))
-    (λ s. ap (λ b. b && (rtype == s.1.0)) (name_left owner o s.0.now parts.0) ∙ ap (λ n. name_eq o s.0.now && (n == s.1.0)) (number_same rtype k parts.1))
-    p.places.entries)
+alike_place p owner o rtype k h = key_place p (set_key owner rtype) (set_key o k) (sym (set_key_ties owner o rtype k) ∙ h)
 
 pub or_none : (o : Option ℕ) → o ≡ or_place o None
 or_none None = refl
@@ -30,21 +34,26 @@ written_step true n before after absent is = is ∙ ap (λ o. or_place o (Some n
 written_step false n before after absent is = is ∙ or_none before
 
 -- a set that had no place is given one
-pub placed_anew : (old new : SetPlaces) (owner : Labels) (rtype n : ℕ) → None ≡ place_of old owner rtype
-    → ((o : Labels) (k : ℕ) → place_of new o k ≡ cond (name_eq owner o && (rtype == k)) (Some n) (place_of old o k))
+pub placed_anew : (old new : SetPlaces) (key : SetKey) (owner : Labels) (rtype n : ℕ) → key ≡ set_key owner rtype → None ≡ place_at_key old key
+    → tree.Updates set_key_cmp old.places new.places key (Some n)
     → (o : Labels) (k : ℕ) → place_of new o k ≡ with_place (place_of old) owner rtype n o k
-placed_anew old new owner rtype n absent is o k =
-    written_step (name_eq owner o && (rtype == k)) n (place_of old o k) (place_of new o k) (λ h. alike_place old owner o rtype k h ∙ sym absent) (is o k)
+placed_anew old new key owner rtype n is absent updates o k =
+    let none : None ≡ place_of old owner rtype = absent ∙ ap (place_at_key old) is in
+    let written : place_of new o k ≡ cond (name_eq owner o && (rtype == k)) (Some n) (place_of old o k) =
+    updates.0 (set_key o k) ∙ ap (λ x. cond (is_eq (set_key_cmp x (set_key o k))) (Some n) (place_of old o k)) is
+    ∙ ap (λ b. cond b (Some n) (place_of old o k)) (sym (set_key_ties owner o rtype k)) in
+    written_step (name_eq owner o && (rtype == k)) n (place_of old o k) (place_of new o k) (λ h. alike_place old owner o rtype k h ∙ sym none) written
 
 present_step : (b : Bool) (n m : ℕ) (o : Option ℕ) → (b ≡ true → o ≡ Some m) → o ≡ or_place o (cond b (Some n) None)
 present_step true n m o is = is refl ∙ ap (λ p. or_place p (Some n)) (sym (is refl))
 present_step false n m o is = or_none o
 
 -- a set that has a place keeps it
-pub placed_before : (p : SetPlaces) (owner : Labels) (rtype n m : ℕ) → Some m ≡ place_of p owner rtype
+pub placed_before : (p : SetPlaces) (key : SetKey) (owner : Labels) (rtype n m : ℕ) → key ≡ set_key owner rtype → Some m ≡ place_at_key p key
     → (o : Labels) (k : ℕ) → place_of p o k ≡ with_place (place_of p) owner rtype n o k
-placed_before p owner rtype n m is o k =
-    present_step (name_eq owner o && (rtype == k)) n m (place_of p o k) (λ h. alike_place p owner o rtype k h ∙ sym is)
+placed_before p key owner rtype n m is found o k =
+    let there : Some m ≡ place_of p owner rtype = found ∙ ap (place_at_key p) is in
+    present_step (name_eq owner o && (rtype == k)) n m (place_of p o k) (λ h. alike_place p owner o rtype k h ∙ sym there)
 
 -- ---- places in lists
 

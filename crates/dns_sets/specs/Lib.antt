@@ -1,5 +1,6 @@
 pub mod Outcome
 pub mod Joining
+pub mod SetKeys
 pub mod SetPlaces
 pub mod Depth
 pub mod Counting

@@ -1,18 +1,24 @@
 -- For private functions of this crate only: places of sets by owner and type.
 use Rattle.std.specs.Prelude.{◌≡◌, ℕ, suc, Bool, ◌==◌, ◌&&◌, List, [], ◌∷◌, Option, None, Some, if◌then◌else◌}
-use Rattle.indexmap.specs.IndexMap.{get_by}
+use Rattle.std.specs.BTreeMap as tree
 use Rattle.dns_model.specs.declared.section.Section.{Section}
 use Rattle.dns_model.specs.Names.{Labels, name_eq}
 use Rattle.dns_model.specs.Views.{RrsigValue}
 use Rattle.dns_model.specs.Records.{RrSet}
 use Rattle.dns_model.specs.SoundAnswers.{section_eq}
 use Rattle.dns_judgement.specs.Judged.{Judged}
+use Rattle.dns_sets.specs.declared.set_key.SetKey.{SetKey}
 use Rattle.dns_sets.specs.declared.set_places.SetPlaces.{SetPlaces}
+use Rattle.dns_sets.specs.SetKeys.{set_key, set_key_cmp}
 use Rattle.dns_sets.specs.Joining.{is_at}
+
+-- the place that a key has
+abbrev pub place_at_key : SetPlaces → SetKey → Option ℕ
+place_at_key p key = tree.get set_key_cmp p.places key
 
 -- the place that an owner and type have
 abbrev pub place_of : SetPlaces → Labels → ℕ → Option ℕ
-place_of p owner rtype = get_by (λ k. name_eq owner k.0.now && (rtype == k.1.0)) p.places
+place_of p owner rtype = place_at_key p (set_key owner rtype)
 
 -- the place of the set of an owner that a signature covers
 abbrev pub place_covered : (Labels → ℕ → Option ℕ) → Labels → Option RrsigValue → Option ℕ

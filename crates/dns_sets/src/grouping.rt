@@ -84,11 +84,11 @@ fn add_signature(set: &mut RecordSet, next: Record) -> Result<(), NoMemory>
 }
 
 // Puts a record that is no signature into the set of its owner and type, or into a set of its own.
-fn join<'a>(
+fn join(
     alloc: Global,
     sets: &mut Vec<RecordSet>,
-    places: &mut SetPlaces<'a>,
-    met: &'a Record,
+    places: &mut SetPlaces,
+    met: &Record,
 ) -> Result<(), NoMemory>
     requires { ArePlaces places.old sets.old.items }
     ensures sets { OnOk result (sets.new.items ≡ joined_by met.now sets.old.items) }
@@ -110,11 +110,11 @@ fn join<'a>(
 }
 
 // Meets the next record of a section: a signature joins no set.
-fn meet<'a>(
+fn meet(
     alloc: Global,
     sets: &mut Vec<RecordSet>,
-    places: &mut SetPlaces<'a>,
-    met: &'a Record,
+    places: &mut SetPlaces,
+    met: &Record,
 ) -> Result<(), NoMemory>
     requires { ArePlaces places.old sets.old.items }
     ensures sets { OnOk result (sets.new.items ≡ met_by met.now sets.old.items) }
@@ -127,11 +127,7 @@ fn meet<'a>(
 }
 
 // Gives a signature that can be read to the set that it covers.
-fn give<'a>(
-    sets: &mut Vec<RecordSet>,
-    places: &SetPlaces<'a>,
-    met: &'a Record,
-) -> Result<(), NoMemory>
+fn give(sets: &mut Vec<RecordSet>, places: &SetPlaces, met: &Record) -> Result<(), NoMemory>
     requires { ArePlaces places.now sets.old.items }
     ensures sets { OnOk result (sets.new.items ≡ given met.now sets.old.items) }
     ensures places { OnOk result (ArePlaces places.now sets.new.items) }
@@ -147,7 +143,7 @@ fn give<'a>(
 }
 
 // The place of the set that a signature covers.
-fn covered_place<'a>(places: &SetPlaces<'a>, met: &'a Record) -> Option<usize>
+fn covered_place(places: &SetPlaces, met: &Record) -> Option<usize>
     ensures { result ≡ place_covered (place_of places.now) met.now.owner (read_as type_rrsig rrsig_in met.now) }
 {
     let sig = Rrsig::of(met)?;
@@ -155,7 +151,7 @@ fn covered_place<'a>(places: &SetPlaces<'a>, met: &'a Record) -> Option<usize>
 }
 
 // The RRsets of a section. Signatures come second, since one may stand before its set.
-fn sets_in<'a>(alloc: Global, section: &'a [Record]) -> Result<Vec<RecordSet>, NoMemory>
+fn sets_in(alloc: Global, section: &[Record]) -> Result<Vec<RecordSet>, NoMemory>
     ensures { IfOk result (λ v. v.items ≡ sets_of section.now) }
 {
     let mut sets = Vec::new(alloc);

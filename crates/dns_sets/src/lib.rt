@@ -6,6 +6,7 @@ mod grouping;
 mod judged_set;
 mod marking;
 mod outcome;
+mod set_key;
 mod set_places;
 
 pub use grouping::{clear_marks, placed_sets};

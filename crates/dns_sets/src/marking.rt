@@ -91,11 +91,7 @@ fn mark_section(
 }
 
 // The places of the sets of a section.
-fn judged_places<'a>(
-    alloc: Global,
-    sets: &'a [JudgedSet],
-    section: Section,
-) -> Result<SetPlaces<'a>, NoMemory>
+fn judged_places(alloc: Global, sets: &[JudgedSet], section: Section) -> Result<SetPlaces, NoMemory>
     ensures { IfOk result (λ p. ArePlacedIn p section sets.now) }
 {
     let mut places = SetPlaces::new(alloc);
@@ -106,10 +102,10 @@ fn judged_places<'a>(
 }
 
 // Gives a set of the section its place.
-fn add_judged<'a>(
-    places: &mut SetPlaces<'a>,
+fn add_judged(
+    places: &mut SetPlaces,
     section: Section,
-    judged: &'a JudgedSet,
+    judged: &JudgedSet,
     place: usize,
 ) -> Result<(), NoMemory>
     ensures { OnOk result ((o : Labels) (k : ℕ) → place_of places.new o k ≡ with_judged (place_of places.old) section judged.now place o k) }

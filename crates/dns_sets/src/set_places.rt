@@ -1,25 +1,26 @@
 ghost use Rattle.std.specs.Prelude.{◌≡◌, ℕ, None, OnOk};
 ghost use Rattle.dns_model.specs.Names.{Labels};
-ghost use Rattle.dns_sets.specs.SetPlaces.{place_of, with_place};
+ghost use Rattle.dns_sets.specs.SetPlaces.{place_at_key, place_of, with_place};
 
+use crate::set_key::SetKey;
 use dns_name::{Name, NoMemory};
 use dns_record::{Record, RecordType};
-use indexmap::IndexMap;
 use std::alloc::Global;
+use std::collections::BTreeMap;
 
 /// The places of sets in a list, by owner and type, so that a record's set is found without a walk. Contracts see it as the
 /// place of each owner, folded, and type.
 #[derive(Drop)]
-pub(crate) struct SetPlaces<'a> {
-    places: IndexMap<(&'a Name, RecordType), usize>,
+pub(crate) struct SetPlaces {
+    places: BTreeMap<SetKey, usize>,
 }
 
-impl<'a> SetPlaces<'a> {
-    pub(crate) fn new(alloc: Global) -> SetPlaces<'a>
+impl SetPlaces {
+    pub(crate) fn new(alloc: Global) -> SetPlaces
         ensures { (owner : Labels) (rtype : ℕ) → place_of result owner rtype ≡ None }
     {
         SetPlaces {
-            places: IndexMap::new(alloc),
+            places: BTreeMap::new(alloc),
         }
     }
 
@@ -27,22 +28,30 @@ impl<'a> SetPlaces<'a> {
     pub(crate) fn get(&self, owner: &Name, record_type: RecordType) -> Option<usize>
         ensures { result ≡ place_of self.now owner.now record_type.0 }
     {
-        self.places.get(&(owner, record_type)).copied()
+        self.at_key(&SetKey::of(owner, record_type))
+    }
+
+    // The place of the set of a key.
+    fn at_key(&self, key: &SetKey) -> Option<usize>
+        ensures { result ≡ place_at_key self.now key.now }
+    {
+        self.places.get(key).copied()
     }
 
     /// Gives a set's owner and type a place, unless they have one.
     pub(crate) fn add(
         &mut self,
-        owner: &'a Name,
+        owner: &Name,
         record_type: RecordType,
         place: usize,
     ) -> Result<(), NoMemory>
         ensures { OnOk result ((o : Labels) (k : ℕ) → place_of self.new o k ≡ with_place (place_of self.old) owner.now record_type.0 place o k) }
     {
-        match self.get(owner, record_type) {
+        let key = SetKey::of(owner, record_type);
+        match self.at_key(&key) {
             Some(_) => Ok(()),
             None => {
-                self.places.insert((owner, record_type), place)?;
+                self.places.insert(key, place)?;
                 Ok(())
             }
         }
@@ -56,7 +65,7 @@ impl<'a> SetPlaces<'a> {
     }
 
     /// Gives a record's set a place, unless it has one.
-    pub(crate) fn add_record(&mut self, met: &'a Record, place: usize) -> Result<(), NoMemory>
+    pub(crate) fn add_record(&mut self, met: &Record, place: usize) -> Result<(), NoMemory>
         ensures { OnOk result ((o : Labels) (k : ℕ) → place_of self.new o k ≡ with_place (place_of self.old) met.now.owner met.now.rtype place o k) }
     {
         self.add(&met.name, met.record_type, place)

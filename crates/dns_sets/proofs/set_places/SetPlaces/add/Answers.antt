@@ -3,8 +3,10 @@ use Rattle.dns_sets.proofs.set_places.SetPlaces.add.Goals as goal
 
 pub returns-in_ok-insert-in-None : goal.returns-in_ok-insert-in-None
 returns-in_ok-insert-in-None c =
-    placed_anew c.args.self.now (record { places = c.insert.new.self }) c.args.owner.now c.args.record_type.0 c.args.place c.in-None.ensures
-    (λ o k. c.in_ok-insert-in-None.ensures.updates.0 (record c.args.owner { now = o }, record { 0 = k }))
+    placed_anew c.args.self.now (record { places = c.insert.new.self }) c.of-key.result c.args.owner.now c.args.record_type.0 c.args.place
+    c.of-key.ensures c.in-None.ensures c.in_ok-insert-in-None.ensures.updates
 
 pub returns-in-Some : goal.returns-in-Some
-returns-in-Some c = placed_before c.args.self.now c.args.owner.now c.args.record_type.0 c.args.place c.in-Some.field-0 c.in-Some.ensures
+returns-in-Some c =
+    placed_before c.args.self.now c.of-key.result c.args.owner.now c.args.record_type.0 c.args.place c.in-Some.field-0
+    c.of-key.ensures c.in-Some.ensures
