@@ -1,4 +1,4 @@
-ghost use Rattle.std.specs.Prelude.{Some};
+ghost use Rattle.std.specs.Prelude.{◌≡◌, Some};
 ghost use Rattle.dns_net.specs.Notices.{notice_text};
 
 use std::fmt;
@@ -10,12 +10,21 @@ pub enum Notice {
     NotJudgedYet,
 }
 
+impl Notice {
+    /// The text, as Display writes it.
+    pub fn text(self) -> &'static str
+        ensures { result.now ≡ notice_text self }
+    {
+        match self {
+            Notice::NotJudgedYet => "not judged yet",
+        }
+    }
+}
+
 impl fmt::Display for Notice {
     ghost output = { λ notice. Some (notice_text notice) };
 
     fn fmt<W: fmt::Write>(&self, f: &mut fmt::Formatter<W>) -> fmt::Result {
-        match self {
-            Notice::NotJudgedYet => f.write_str("not judged yet"),
-        }
+        f.write_str(self.text())
     }
 }

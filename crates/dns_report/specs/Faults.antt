@@ -8,8 +8,7 @@ use Rattle.dns_net.specs.declared.io_kind.IoKind.{IoKind}
 use Rattle.dns_net.specs.declared.io_kind.IoKind.TheVariants.{PermissionDenied, ConnectionRefused, ConnectionReset, ConnectionAborted, NotConnected, AddrInUse, AddrNotAvailable, BrokenPipe, InvalidData, TimedOut, UnexpectedEof, RequestTooLong, Other}
 use Rattle.dns_net.specs.declared.error.ProtoError.{ProtoError}
 use Rattle.dns_net.specs.declared.error.ProtoError.TheVariants.{Decode, TooLong}
-use Rattle.dns_net.specs.declared.notice.Notice.{Notice}
-use Rattle.dns_net.specs.declared.notice.Notice.TheVariants.{NotJudgedYet}
+use Rattle.dns_net.specs.Notices.{notice_text}
 use Rattle.dns_net.specs.Errors.{DnsErrorValue, ResponseCode, Nsec, DnssecBogus, ErrorValue, Busy, Dns, Message, Msg, NoConnections, Proto, Io, Timeout, QueryCaseMismatch, ForeignClassRecord, Truncated, NoMemory}
 use Rattle.dns_record.specs.Words.{type_word, class_word}
 use Rattle.dns_report.specs.LineWords.{Words, line, mark_word}
@@ -47,10 +46,6 @@ abbrev pub dns_words : DnsErrorValue → Words
 dns_words (ResponseCode code) = codes "code" ∷ decimal code ∷ []
 dns_words (Nsec query response proof) = codes "nsec" ∷ mark_word proof ∷ []
 dns_words DnssecBogus = codes "bogus" ∷ []
-
--- a fixed text
-abbrev pub notice_text : Notice → List ℕ
-notice_text NotJudgedYet = codes "not judged yet"
 
 -- a fault's line
 abbrev pub fault_line : Words → List ℕ

@@ -2,7 +2,7 @@
 ghost use Rattle.std.specs.Prelude.{◌≡◌, ◌++◌, ◌∷◌, [], OnOk, IfOk};
 ghost use Rattle.dns_net.specs.Replies.{dns_error_of, error_of};
 ghost use Rattle.dns_report.specs.LineWords.{line_rest};
-ghost use Rattle.dns_report.specs.Faults.{io_word, decode_word, proto_words, dns_words, notice_text, fault_text, fault_line};
+ghost use Rattle.dns_report.specs.Faults.{io_word, decode_word, proto_words, dns_words, fault_text, fault_line};
 
 use crate::words::{
     end_line, push_class_word, push_mark, push_name, push_number, push_text, push_type_word,
@@ -10,7 +10,7 @@ use crate::words::{
 };
 use dns_message::DecodeKind;
 use dns_name::NoMemory;
-use dns_net::{DnsError, IoKind, NetError, Notice, ProtoError};
+use dns_net::{DnsError, IoKind, NetError, ProtoError};
 use std::alloc::Global;
 
 /// The name of a kind of fault outside.
@@ -45,15 +45,6 @@ fn decode_word(kind: DecodeKind) -> &'static [u8]
         DecodeKind::BadOpt => b"BadOpt",
         DecodeKind::Trailing => b"Trailing",
         DecodeKind::NoMemory => b"NoMemory",
-    }
-}
-
-/// A fixed text.
-fn notice_text(notice: Notice) -> &'static [u8]
-    ensures { result.now ≡ notice_text notice }
-{
-    match notice {
-        Notice::NotJudgedYet => b"not judged yet",
     }
 }
 
@@ -129,7 +120,7 @@ fn push_fault(into: &mut Vec<u8>, error: &NetError) -> Result<(), NoMemory>
             push_text(into, b"fault")?;
             push_dns(into, error)
         }
-        NetError::Message(notice) => push_double(into, b"message", notice_text(*notice)),
+        NetError::Message(notice) => push_double(into, b"message", notice.text().as_bytes()),
         NetError::Msg(text) => push_double(into, b"message", text.as_bytes()),
         NetError::NoConnections => push_single(into, b"no-connections"),
         NetError::Proto(error) => {
