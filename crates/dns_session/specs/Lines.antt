@@ -5,7 +5,7 @@ use Rattle.dns_model.specs.Records.{Question}
 use Rattle.dns_model.specs.Types.{class_in}
 use Rattle.dns_message.specs.MessageAt.{message_at}
 use Rattle.dns_words.specs.Words.{name_word_in, ◌>>=◌, decimal_in, octets_in}
-use Rattle.dns_words.specs.Codes.{type_in}
+use Rattle.dns_words.specs.Codes.{type_word_in}
 use Rattle.dns_session.specs.SessionValue.{AcceptedSignatureValue, ReplyValue}
 use Rattle.dns_session.specs.LinePlaces.{pieces}
 
@@ -112,7 +112,7 @@ end_line = fixed (codes "end")
 abbrev pub question_in : List ℕ → List ℕ → Option Question
 question_in name rtype = do
   owner ← name_word_in name
-  number ← type_in rtype
+  number ← type_word_in rtype
   Some (record { owner = owner; rtype = number; class = class_in })
 
 -- `query NAME TYPE`

@@ -7,7 +7,7 @@ use crate::words::{after, double, triple};
 use dns_message::{DecodeKind, Message};
 use dns_name::NoMemory;
 use dns_record::{DNSClass, Query};
-use dns_words::{name_in, octets_in, type_in, u8_in};
+use dns_words::{name_in, octets_in, type_word_in, u8_in};
 use std::alloc::Global;
 
 /// A question of class IN by its words.
@@ -17,7 +17,7 @@ fn question_of(alloc: Global, name: &[u8], record_type: &[u8]) -> Result<Option<
     let Some(name) = name_in(alloc, name)? else {
         return Ok(None);
     };
-    let Some(query_type) = type_in(record_type) else {
+    let Some(query_type) = type_word_in(record_type) else {
         return Ok(None);
     };
     Ok(Some(Query {

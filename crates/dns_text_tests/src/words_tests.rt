@@ -42,7 +42,7 @@ fn words_of_types_and_classes(rt: HostRuntime) -> Result<(), Fail> {
         push_type(&mut text, RecordType(number))?;
         assert!(rt; text.as_slice() == word.as_bytes(), "{word}");
         assert!(rt;
-            type_in(word.as_bytes()) == Some(RecordType(number)),
+            type_word_in(word.as_bytes()) == Some(RecordType(number)),
             "{word}"
         );
     }
@@ -60,7 +60,7 @@ fn words_of_types_and_classes(rt: HostRuntime) -> Result<(), Fail> {
         push_class(&mut text, DNSClass(number))?;
         assert!(rt; text.as_slice() == word.as_bytes(), "{word}");
         assert!(rt;
-            class_in(word.as_bytes()) == Some(DNSClass(number)),
+            class_word_in(word.as_bytes()) == Some(DNSClass(number)),
             "{word}"
         );
     }
@@ -77,11 +77,11 @@ fn words_of_types_and_classes(rt: HostRuntime) -> Result<(), Fail> {
         "AA",
     ];
     for word in none {
-        assert!(rt; type_in(word.as_bytes()) == None, "{word}");
+        assert!(rt; type_word_in(word.as_bytes()) == None, "{word}");
     }
     let none: [&str; 5] = ["", "in", "CLASS1", "CLASS", "CLASS255"];
     for word in none {
-        assert!(rt; class_in(word.as_bytes()) == None, "{word}");
+        assert!(rt; class_word_in(word.as_bytes()) == None, "{word}");
     }
     Ok(())
 }

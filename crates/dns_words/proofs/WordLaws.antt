@@ -14,7 +14,7 @@ use Rattle.std.proofs.lemmas.Str.Parse.{IsNumeralModel, numerals_by_value}
 use Rattle.dns_model.specs.Keys.{bytes_eq}
 use Rattle.dns_words.specs.Words.{◌>>=◌, is_unpadded, is_decimal, decimal_in}
 use Rattle.dns_record.specs.Words.{Row, type_rows, class_rows, own_word, own_number, code_word, type_word, class_word}
-use Rattle.dns_words.specs.Codes.{after_prefix, if_unnamed, prefixed_in, code_in, type_in, class_in}
+use Rattle.dns_words.specs.Codes.{after_prefix, if_unnamed, prefixed_in, code_in, type_word_in, class_word_in}
 
 -- ---- numbers
 
@@ -197,19 +197,19 @@ code_from : (rows : List Row) (prefix word : List ℕ) (n : ℕ) → NumbersDiff
 code_from rows prefix word n differ h = code_from_at rows prefix word n differ (own_number rows word) refl h
 
 -- the type that a printed type word is
-pub type_back : (n : ℕ) → n ≤ 65535 → type_in (type_word n) ≡ Some n
-unfolding type_in type_word own_word own_number
+pub type_back : (n : ℕ) → n ≤ 65535 → type_word_in (type_word n) ≡ Some n
+unfolding type_word_in type_word own_word own_number
 type_back n within = code_back type_rows (codes "TYPE") n (search rules) (search rules) within
 
-pub class_back : (n : ℕ) → n ≤ 65535 → class_in (class_word n) ≡ Some n
-unfolding class_in class_word own_word own_number
+pub class_back : (n : ℕ) → n ≤ 65535 → class_word_in (class_word n) ≡ Some n
+unfolding class_word_in class_word own_word own_number
 class_back n within = code_back class_rows (codes "CLASS") n (search rules) (search rules) within
 
 -- a word that is read is the one that is printed
-pub type_from : (word : List ℕ) (n : ℕ) → type_in word ≡ Some n → word ≡ type_word n
-unfolding type_in type_word own_word own_number
+pub type_from : (word : List ℕ) (n : ℕ) → type_word_in word ≡ Some n → word ≡ type_word n
+unfolding type_word_in type_word own_word own_number
 type_from word n h = code_from type_rows (codes "TYPE") word n (search rules) h
 
-pub class_from : (word : List ℕ) (n : ℕ) → class_in word ≡ Some n → word ≡ class_word n
-unfolding class_in class_word own_word own_number
+pub class_from : (word : List ℕ) (n : ℕ) → class_word_in word ≡ Some n → word ≡ class_word n
+unfolding class_word_in class_word own_word own_number
 class_from word n h = code_from class_rows (codes "CLASS") word n (search rules) h

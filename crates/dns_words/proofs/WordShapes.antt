@@ -13,7 +13,7 @@ use Rattle.hex.specs.Hex.{encode_lower, is_hex_digit, IsBytes}
 use Rattle.hex.proofs.HexLemmas.{decode_of-encode_lower, decode_of-ok}
 use Rattle.dns_model.specs.Bytes.{is_bytes}
 use Rattle.dns_record.specs.Words.{Row, type_rows, class_rows, own_word, type_word, class_word}
-use Rattle.dns_words.specs.Codes.{type_in, class_in}
+use Rattle.dns_words.specs.Codes.{type_word_in, class_word_in}
 use Rattle.dns_words.specs.Words.{octets_word, octets_in}
 use Rattle.dns_words.proofs.WordLaws.{own, type_back, class_back}
 use Rattle.dns_words.proofs.OctetLaws.{octets_back}
@@ -84,10 +84,10 @@ some_same : {X : Type 0} (x y : X) → Some x ≡ Some y → x ≡ y
 some_same x y h = ap (λ o. unwrap_or o x) h
 
 pub type_injective : (m n : ℕ) → m ≤ 65535 → n ≤ 65535 → type_word m ≡ type_word n → m ≡ n
-type_injective m n first second h = some_same m n (sym (type_back m first) ∙ ap type_in h ∙ type_back n second)
+type_injective m n first second h = some_same m n (sym (type_back m first) ∙ ap type_word_in h ∙ type_back n second)
 
 pub class_injective : (m n : ℕ) → m ≤ 65535 → n ≤ 65535 → class_word m ≡ class_word n → m ≡ n
-class_injective m n first second h = some_same m n (sym (class_back m first) ∙ ap class_in h ∙ class_back n second)
+class_injective m n first second h = some_same m n (sym (class_back m first) ∙ ap class_word_in h ∙ class_back n second)
 
 pub octets_injective : (a b : List ℕ) → is_bytes a ≡ true → is_bytes b ≡ true → octets_word a ≡ octets_word b → a ≡ b
 octets_injective a b first second h = some_same a b (sym (octets_back a (bytes_below a first)) ∙ ap octets_in h ∙ octets_back b (bytes_below b second))

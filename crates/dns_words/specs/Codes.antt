@@ -25,9 +25,9 @@ abbrev pub code_in : List Row → List ℕ → List ℕ → Option ℕ
 code_in rows prefix word = option_or (own_number rows word) (prefixed_in rows prefix word)
 
 -- the type that a word is
-unfoldable pub type_in : List ℕ → Option ℕ
-type_in word = code_in type_rows (codes "TYPE") word
+unfoldable pub type_word_in : List ℕ → Option ℕ
+type_word_in word = code_in type_rows (codes "TYPE") word
 
 -- the class that a word is
-unfoldable pub class_in : List ℕ → Option ℕ
-class_in word = code_in class_rows (codes "CLASS") word
+unfoldable pub class_word_in : List ℕ → Option ℕ
+class_word_in word = code_in class_rows (codes "CLASS") word

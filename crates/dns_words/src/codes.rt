@@ -3,7 +3,7 @@ ghost use Rattle.std.specs.Prelude.{◌≡◌, ◌++◌, codes, OnOk, OnErr};
 ghost use Rattle.std.specs.Fmt.{decimal};
 ghost use Rattle.std.specs.Option.{option_map, option_copied};
 ghost use Rattle.dns_record.specs.Words.{class_rows, class_word, type_rows, type_word};
-ghost use Rattle.dns_words.specs.Codes.{after_prefix, class_in, prefixed_in, type_in};
+ghost use Rattle.dns_words.specs.Codes.{after_prefix, class_word_in, prefixed_in, type_word_in};
 
 use crate::{push_decimal, u16_in};
 use dns_name::NoMemory;
@@ -41,9 +41,9 @@ fn prefixed_class(word: &[u8]) -> Option<u16>
 }
 
 /// The type that a word is: a type's own word, or `TYPE` and the number of a type without one. Case counts (RFC 3597, 5).
-#[tactic(auto, unfolding(crate::specs::Codes::type_in))]
-pub fn type_in(word: &[u8]) -> Option<RecordType>
-    ensures { option_map (λ t. t.0) result ≡ type_in word.now }
+#[tactic(auto, unfolding(crate::specs::Codes::type_word_in))]
+pub fn type_word_in(word: &[u8]) -> Option<RecordType>
+    ensures { option_map (λ t. t.0) result ≡ type_word_in word.now }
 {
     match RecordType::of_own_word(word) {
         Some(record_type) => Some(record_type),
@@ -55,9 +55,9 @@ pub fn type_in(word: &[u8]) -> Option<RecordType>
 }
 
 /// The class that a word is: a class's own word, or `CLASS` and the number of a class without one. Case counts.
-#[tactic(auto, unfolding(crate::specs::Codes::class_in))]
-pub fn class_in(word: &[u8]) -> Option<DNSClass>
-    ensures { option_map (λ c. c.0) result ≡ class_in word.now }
+#[tactic(auto, unfolding(crate::specs::Codes::class_word_in))]
+pub fn class_word_in(word: &[u8]) -> Option<DNSClass>
+    ensures { option_map (λ c. c.0) result ≡ class_word_in word.now }
 {
     match DNSClass::of_own_word(word) {
         Some(class) => Some(class),

@@ -8,7 +8,7 @@ mod digits;
 mod names;
 mod octets;
 
-pub use codes::{class_in, push_class, push_type, type_in};
+pub use codes::{class_word_in, push_class, push_type, type_word_in};
 pub use decimals::{decimal_in, push_decimal, u8_in, u16_in};
 pub use names::name_in;
 pub use octets::{octets_in, push_octets};
