@@ -17,7 +17,7 @@ impl Model for PlacedSet {
     ghost view = { λ p. record { section = p.section; set = p.set } };
 }
 
-/// A set with what was found out of it.
+/// An RRset with its mark, the signature that decided and its chain.
 #[derive(Drop)]
 pub struct JudgedSet {
     pub section: Section,
