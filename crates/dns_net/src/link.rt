@@ -1,4 +1,5 @@
 ghost use Rattle.std.specs.Prelude.{◌≡◌, IfOk, map};
+ghost use Rattle.dns_model.specs.Chains.{Matched as matched, KeySet as key_set, Signed as signed};
 ghost use Rattle.dns_net.specs.Link.{link_value};
 
 use dns_name::{Name, NoMemory};
@@ -83,6 +84,75 @@ pub fn clone_links(links: &Vec<Link>) -> Result<Vec<Link>, NoMemory>
     Ok(all)
 }
 
+/// A link to a key that matches a DS record, in memory of its own.
+fn clone_matched(
+    owner: &Name,
+    class: DNSClass,
+    key: &Rdata,
+    ds_link: u32,
+    ds: &Rdata,
+) -> Result<Link, NoMemory>
+    ensures { IfOk result (λ l. link_value l ≡ matched owner.now class.0 key.now ds_link ds.now) }
+{
+    let owner = owner.try_clone()?;
+    let key = key.try_clone()?;
+    let ds = ds.try_clone()?;
+    Ok(Link::Matched {
+        owner,
+        class,
+        key,
+        ds_link,
+        ds,
+    })
+}
+
+/// A link to a key set, in memory of its own.
+fn clone_key_set(
+    owner: &Name,
+    class: DNSClass,
+    keys: &Vec<Rdata>,
+    links: &Vec<u32>,
+) -> Result<Link, NoMemory>
+    ensures { IfOk result (λ l. link_value l ≡ key_set owner.now class.0 keys.now.items links.now.items) }
+{
+    let owner = owner.try_clone()?;
+    let keys = clone_rdatas(keys)?;
+    let links = links.clone()?;
+    Ok(Link::KeySet {
+        owner,
+        class,
+        keys,
+        links,
+    })
+}
+
+/// A link to a signed set, in memory of its own.
+fn clone_signed(
+    owner: &Name,
+    class: DNSClass,
+    record_type: RecordType,
+    rdatas: &Vec<Rdata>,
+    sig: &Rdata,
+    key_link: u32,
+    key: &Rdata,
+) -> Result<Link, NoMemory>
+    ensures { IfOk result (λ l. link_value l ≡ signed owner.now class.0 record_type.0 rdatas.now.items sig.now key_link key.now) }
+{
+    let owner = owner.try_clone()?;
+    let rdatas = clone_rdatas(rdatas)?;
+    let sig = sig.try_clone()?;
+    let key = key.try_clone()?;
+    Ok(Link::Signed {
+        owner,
+        class,
+        record_type,
+        rdatas,
+        sig,
+        key_link,
+        key,
+    })
+}
+
 impl Link {
     /// A link that says the same, in memory of its own.
     pub fn try_clone(&self) -> Result<Link, NoMemory>
@@ -101,34 +171,13 @@ impl Link {
                 key,
                 ds_link,
                 ds,
-            } => {
-                let owner = owner.try_clone()?;
-                let key = key.try_clone()?;
-                let ds = ds.try_clone()?;
-                Ok(Link::Matched {
-                    owner,
-                    class: *class,
-                    key,
-                    ds_link: *ds_link,
-                    ds,
-                })
-            }
+            } => clone_matched(owner, *class, key, *ds_link, ds),
             Link::KeySet {
                 owner,
                 class,
                 keys,
                 links,
-            } => {
-                let owner = owner.try_clone()?;
-                let keys = clone_rdatas(keys)?;
-                let links = links.clone()?;
-                Ok(Link::KeySet {
-                    owner,
-                    class: *class,
-                    keys,
-                    links,
-                })
-            }
+            } => clone_key_set(owner, *class, keys, links),
             Link::Signed {
                 owner,
                 class,
@@ -137,21 +186,7 @@ impl Link {
                 sig,
                 key_link,
                 key,
-            } => {
-                let owner = owner.try_clone()?;
-                let rdatas = clone_rdatas(rdatas)?;
-                let sig = sig.try_clone()?;
-                let key = key.try_clone()?;
-                Ok(Link::Signed {
-                    owner,
-                    class: *class,
-                    record_type: *record_type,
-                    rdatas,
-                    sig,
-                    key_link: *key_link,
-                    key,
-                })
-            }
+            } => clone_signed(owner, *class, *record_type, rdatas, sig, *key_link, key),
         }
     }
 }

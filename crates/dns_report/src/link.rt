@@ -8,16 +8,16 @@ ghost use Rattle.dns_record.specs.Words.{type_word, class_word};
 ghost use Rattle.dns_words.specs.Words.{octets_word};
 ghost use Rattle.dns_net.specs.Link.{link_value};
 ghost use Rattle.dns_report.specs.LineWords.{line, line_rest};
-ghost use Rattle.dns_report.specs.View.{numbered, shown, chain_view, is_u16, is_u32, fitting_key, fitting_link, fitting_chain};
+ghost use Rattle.dns_report.specs.View.{KeySet, Matched, numbered, shown, chain_view, is_u16, is_u32, fitting_key, fitting_link, fitting_chain};
 ghost use Rattle.dns_report.specs.Report.{key_words, link_line, chain_line, chain_text};
 
 use crate::marks::section_word;
 use crate::words::{
     end_line, push_front, push_number, push_octets_word, push_text, push_type_word, push_word,
 };
-use dns_name::NoMemory;
+use dns_name::{Name, NoMemory};
 use dns_net::{Chain, Link};
-use dns_record::{Rdata, RecordType};
+use dns_record::{DNSClass, Rdata, RecordType};
 
 /// Appends the words of numbered keys, and ends the line.
 #[tactic(auto, unfolding(crate::specs::Report::key_words, crate::specs::View::numbered))]
@@ -57,9 +57,9 @@ fn push_signed(
     into: &mut Vec<u8>,
     record_type: RecordType,
     rdatas: &[Rdata],
-    sig: &[u8],
+    sig: &Rdata,
     key_link: u32,
-    key: &[u8],
+    key: &Rdata,
 ) -> Result<(), NoMemory>
     ensures ok { OnOk result (into.new.items ≡ into.old.items ++ line_rest
         (type_word record_type.0 ∷ decimal key_link ∷ octets_word key.now ∷ octets_word sig.now ∷ map octets_word rdatas.now)) }
@@ -68,9 +68,43 @@ fn push_signed(
 {
     push_type_word(into, record_type)?;
     push_number(into, u64::from(key_link))?;
-    push_octets_word(into, key)?;
-    push_octets_word(into, sig)?;
+    push_octets_word(into, key.as_slice())?;
+    push_octets_word(into, sig.as_slice())?;
     push_rdatas(into, rdatas)
+}
+
+/// Appends the line of a key that matches a DS record.
+fn push_matched(
+    into: &mut Vec<u8>,
+    owner: &Name,
+    class: DNSClass,
+    key: &Rdata,
+    ds_link: u32,
+    ds: &Rdata,
+) -> Result<(), NoMemory>
+    ensures ok { OnOk result (into.new.items ≡ into.old.items ++ link_line (Matched owner.now class.0 key.now ds_link ds.now)) }
+    ensures fits { OnOk result (IsTrue (fitting_link (Matched owner.now class.0 key.now ds_link ds.now))) }
+{
+    push_front(into, b"matched", owner, class)?;
+    push_octets_word(into, key.as_slice())?;
+    push_number(into, u64::from(ds_link))?;
+    push_octets_word(into, ds.as_slice())?;
+    end_line(into)
+}
+
+/// Appends the line of a key set.
+fn push_key_set(
+    into: &mut Vec<u8>,
+    owner: &Name,
+    class: DNSClass,
+    keys: &[Rdata],
+    links: &[u32],
+) -> Result<(), NoMemory>
+    ensures ok { OnOk result (into.new.items ≡ into.old.items ++ link_line (KeySet owner.now class.0 (numbered keys.now links.now))) }
+    ensures fits { OnOk result (IsTrue (fitting_link (KeySet owner.now class.0 (numbered keys.now links.now)))) }
+{
+    push_front(into, b"keyset", owner, class)?;
+    push_keys(into, keys, links)
 }
 
 /// Appends the line of a link.
@@ -90,22 +124,13 @@ fn push_link(into: &mut Vec<u8>, link: &Link) -> Result<(), NoMemory>
             key,
             ds_link,
             ds,
-        } => {
-            push_front(into, b"matched", owner, *class)?;
-            push_octets_word(into, key.as_slice())?;
-            push_number(into, u64::from(*ds_link))?;
-            push_octets_word(into, ds.as_slice())?;
-            end_line(into)
-        }
+        } => push_matched(into, owner, *class, key, *ds_link, ds),
         Link::KeySet {
             owner,
             class,
             keys,
             links,
-        } => {
-            push_front(into, b"keyset", owner, *class)?;
-            push_keys(into, keys, links)
-        }
+        } => push_key_set(into, owner, *class, keys, links),
         Link::Signed {
             owner,
             class,
@@ -116,14 +141,7 @@ fn push_link(into: &mut Vec<u8>, link: &Link) -> Result<(), NoMemory>
             key,
         } => {
             push_front(into, b"signed", owner, *class)?;
-            push_signed(
-                into,
-                *record_type,
-                rdatas,
-                sig.as_slice(),
-                *key_link,
-                key.as_slice(),
-            )
+            push_signed(into, *record_type, rdatas, sig, *key_link, key)
         }
     }
 }
