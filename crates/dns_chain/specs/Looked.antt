@@ -49,27 +49,10 @@ pub record Heard (reply : Reply) (message : MessageValue) : Type 0 where
   pub is : heard_message reply ≡ Some from
   pub cleared : message ≡ cleared_message from
 
--- the reply has no message, and is this error
-pub record Unheard (reply : Reply) (error : NetError) : Type 0 where
-  pub none : heard_message reply ≡ None
-  pub is : reply ≡ Err (error_of error)
-
-abbrev pub HeardAs : Reply → Result MessageValue NetError → Type 0
-HeardAs reply (Ok message) = Heard reply message
-HeardAs reply (Err error) = Unheard reply error
-
 -- a fact, unless memory ran out
 abbrev pub UnlessNoMemory : {X : Type 0} → Result X NetError → Type 0 → Type 0
 UnlessNoMemory (Ok x) Fact = Fact
 UnlessNoMemory (Err e) Fact = (e ≡ NoMemory) ⊎ Fact
-
--- one send of a query, its reply, and what was heard of it
-pub record Asked {H : Type 0} (sent : H → Option Question → H → Reply → Type 0) (old new : H)
-    (tells : Option (List (Question × Reply))) (q : Question) (result : Result MessageValue NetError) : Type 0 where
-  pub reply : Reply
-  pub step : sent old (Some q) new reply
-  pub told : ReplyIsTold tells (Some q) reply
-  pub heard : HeardAs reply result
 
 -- a whole lookup: the first send, which met a fault where it was answered an error without a message, the walk of the asks
 -- after it, and why it answers as it does
@@ -115,3 +98,22 @@ IsSoundError j now tells q seen.NoMemory = Unit {0}
 abbrev pub IsSoundAnswer : Judge → ℕ → Tells → Question → Reply → Type 0
 IsSoundAnswer j now tells q (Ok a) = IsSoundFor j now tells q a
 IsSoundAnswer j now tells q (Err e) = IsSoundError j now tells q e
+
+-- for private functions of this crate only
+
+-- the reply has no message, and is this error
+pub record Unheard (reply : Reply) (error : NetError) : Type 0 where
+  pub none : heard_message reply ≡ None
+  pub is : reply ≡ Err (error_of error)
+
+abbrev pub HeardAs : Reply → Result MessageValue NetError → Type 0
+HeardAs reply (Ok message) = Heard reply message
+HeardAs reply (Err error) = Unheard reply error
+
+-- one send of a query, its reply, and what was heard of it
+pub record Asked {H : Type 0} (sent : H → Option Question → H → Reply → Type 0) (old new : H)
+    (tells : Option (List (Question × Reply))) (q : Question) (result : Result MessageValue NetError) : Type 0 where
+  pub reply : Reply
+  pub step : sent old (Some q) new reply
+  pub told : ReplyIsTold tells (Some q) reply
+  pub heard : HeardAs reply result

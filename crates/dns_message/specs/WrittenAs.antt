@@ -83,6 +83,8 @@ empty_query = record {
   edns = None;
 }
 
+-- for private functions of this crate only
+
 abbrev pub has_long_options : Option EdnsValue → Bool
 has_long_options None = false
 has_long_options (Some e) = nat_lt 65535 (length e.options)

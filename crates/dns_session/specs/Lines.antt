@@ -15,11 +15,6 @@ Words = List (List ℕ)
 abbrev pub words : List ℕ → Words
 words line = pieces 32 line
 
--- the words of what is left of a line, if something is
-abbrev pub words_left : Option (List ℕ) → Words
-words_left None = []
-words_left (Some rest) = words rest
-
 -- the words after the first, where that is this word
 abbrev pub after : List ℕ → Words → Option Words
 after word [] = None
@@ -135,3 +130,10 @@ reply_line line = do
   rest ← after (codes "reply") (words line)
   fields ← triple rest
   reply_in fields.0 fields.1 fields.2
+
+-- for private functions of this crate only
+
+-- the words of what is left of a line, if something is
+abbrev pub words_left : Option (List ℕ) → Words
+words_left None = []
+words_left (Some rest) = words rest

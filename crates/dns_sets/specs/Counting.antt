@@ -1,4 +1,4 @@
--- The signatures that marking has met of each judged set. Private functions alone need this.
+-- For private functions of this crate only: the signatures that marking has met of each judged set.
 use Rattle.std.specs.Prelude.{◌≡◌, ℕ, ◌+◌, ◌<◌, Bool, ◌&&◌, List, get_or, set, length, count_by, Option, None, Some, is_some, if◌then◌else◌}
 use Rattle.dns_model.specs.Views.{rrsig_in}
 use Rattle.dns_model.specs.Records.{Rr}

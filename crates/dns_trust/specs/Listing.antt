@@ -22,10 +22,6 @@ is_entry algorithm key bytes signature entry =
 abbrev pub is_listed : ListedValue → ℕ → Bool
 is_listed listed algorithm = list_any (λ a. algorithm == a) listed.algorithms
 
--- an entry of another list is listed
-abbrev pub holds_entry : ListedValue → ListedSignatureValue → Bool
-holds_entry listed entry = list_any (is_entry entry.algorithm entry.key entry.bytes entry.signature) listed.accepted
-
 -- what is listed is supported and accepted, but never algorithm 1 (RFC 8624, 3.1)
 abbrev pub answers_of : ListedValue → VerifierAnswers
 answers_of listed = record {
@@ -50,6 +46,12 @@ signature_number algorithm key bytes signature = mixed (mixed (mixed algorithm k
 
 abbrev pub entry_number : ListedSignatureValue → ℕ
 entry_number entry = signature_number entry.algorithm entry.key entry.bytes entry.signature
+
+-- for private functions of this crate only
+
+-- an entry of another list is listed
+abbrev pub holds_entry : ListedValue → ListedSignatureValue → Bool
+holds_entry listed entry = list_any (is_entry entry.algorithm entry.key entry.bytes entry.signature) listed.accepted
 
 -- all that one list holds, the other holds, algorithm 1 aside
 abbrev pub is_within : ListedValue → ListedValue → Bool

@@ -19,6 +19,8 @@ abbrev pub listed : {X Z : Type 0} → Option (Vec X Z) → Option (List X)
 listed None = None
 listed (Some sets) = Some sets.items
 
+-- for private functions of this crate only
+
 abbrev pub signed_value : SignedBy → marks.SignedKeys
 signed_value by = record { place = by.place; signature = by.signature.now; key = by.key.now }
 
