@@ -7,6 +7,12 @@ use crate::bytes::u16_at;
 use dns_record::{Record, RecordType};
 use std::marker::Model;
 
+/// The flag of a zone's key (RFC 4034, 2.1.1).
+const ZONE_KEY: u16 = 0x0100;
+
+/// The flag of a revoked key (RFC 5011, 2.1).
+const REVOKED: u16 = 0x0080;
+
 /// What a DNSKEY rdata says (RFC 4034, 2.1).
 #[derive(Drop)]
 pub struct Dnskey<'a> {
@@ -58,13 +64,13 @@ impl<'a> Dnskey<'a> {
     pub fn is_zone_key(&self) -> bool
         ensures { result ≡ is_zone_key self.now }
     {
-        self.flags / 256 % 2 == 1
+        self.flags / ZONE_KEY % 2 == 1
     }
 
     /// Whether it is revoked (RFC 5011, 2.1).
     pub fn is_revoked(&self) -> bool
         ensures { result ≡ is_revoked self.now }
     {
-        self.flags / 128 % 2 == 1
+        self.flags / REVOKED % 2 == 1
     }
 }

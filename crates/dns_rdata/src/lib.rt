@@ -1,5 +1,5 @@
 //! Rdata: what each type's is made of, numbers and type bitmaps in it, views of it, canonical forms, and the bytes that
-//! signatures and digests are over. The layer above may use each view as the text of `dns_model` that has its name, and
+//! signatures and digests are over. The layer above may use each view as the value of `dns_model` that has its name, and
 //! each call as the definition that its clause names.
 #![tactic(auto)]
 
