@@ -1,0 +1,13 @@
+//! Tests of requests, errors and links, by what `dns_net` gives.
+//!
+//! They stand apart, since a crate with tests of its own is proved twice.
+#![tactic(auto)]
+
+#[cfg(test)]
+mod net_error_tests;
+#[cfg(test)]
+mod net_request_tests;
+#[cfg(test)]
+mod net_shown_tests;
+#[cfg(test)]
+mod net_tests;

@@ -1,0 +1,11 @@
+//! Tests of the sets of a message, of how a step ends, and of marking, by what `dns_sets` gives.
+//!
+//! They stand apart, since a crate with tests of its own is proved twice.
+#![tactic(auto)]
+
+#[cfg(test)]
+mod sets_marking_tests;
+#[cfg(test)]
+mod sets_outcome_tests;
+#[cfg(test)]
+mod sets_tests;
