@@ -5,7 +5,7 @@ use Rattle.std.proofs.lemmas.Bool.{cases_Bool}
 use Rattle.std.specs.Cmp.Lexicographic.{bytes_decides}
 use Rattle.dns_model.specs.Keys.{AnchorValue, bytes_eq}
 use Rattle.dns_model.specs.Records.{Question}
-use Rattle.dns_words.specs.Steps as steps
+use Rattle.dns_words.specs.Words as steps
 use Rattle.dns_session.specs.SessionValue.{SessionValue, AcceptedSignatureValue, ReplyValue}
 use Rattle.dns_session.specs.LinePlaces.{place, pieces, start_of, one, many_in}
 use Rattle.dns_session.specs.Lines.{Words, words, after, header_line, moment_line, algorithms_line, anchor_line, accept_line, query_line, reply_line}
