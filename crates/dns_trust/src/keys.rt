@@ -28,7 +28,7 @@ pub(crate) struct SignedBy<'a> {
     pub(crate) key: &'a Record,
 }
 
-// The first signature of a key set that is good by an anchored key of it, among the first eight.
+// The first signature of a key set that is good by an anchored key of it, among its first eight signatures.
 pub(crate) fn first_signed<'a, V: Verifier>(
     alloc: Global,
     judge: &Judge<'_, V>,
@@ -50,7 +50,7 @@ pub(crate) fn first_signed<'a, V: Verifier>(
     Ok(None)
 }
 
-/// The signatures of a set that are tried: the first eight.
+/// The signatures of a set that are tried: the first eight signatures.
 pub fn first_signatures(set: &RecordSet) -> &[Record]
     ensures first { result.now ≡ take most_signatures set.now.signatures }
     ensures few { length result.now ≤ most_signatures }
