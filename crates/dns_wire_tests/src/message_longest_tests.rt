@@ -1,5 +1,5 @@
 //! The longest message that can be written, read again (RFC 1035, 4.2.2).
-use dns_message::Message;
+use dns_wire::Message;
 use std::alloc::{AllocError, Global};
 use std::test::Fail;
 

@@ -1,7 +1,7 @@
 //! Names with compression pointers: long ones, rows of pointers, and each pointer at a place, with what exactly is read (RFC 1035,
 //! 4.1.4).
 use crate::message_tests::{bytes_of, error_of, read};
-use dns_message::{DecodeError, DecodeKind, Message};
+use dns_wire::{DecodeError, DecodeKind, Message};
 use std::alloc::{AllocError, Global};
 use std::test::*;
 
@@ -210,8 +210,7 @@ fn is_seen(read: &Result<Message, DecodeError>, seen: &Seen) -> bool {
             [record] => record.rdata.as_slice() == *bytes,
             _ => false,
         },
-        (Err(error), Seen::Fault(record_type, offset)) => error.kind == *record_type
-            && error.offset == *offset,
+        (Err(error), Seen::Fault(kind, offset)) => error.kind == *kind && error.offset == *offset,
         _ => false,
     }
 }

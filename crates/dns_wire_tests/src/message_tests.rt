@@ -1,5 +1,4 @@
-use dns_message::*;
-use dns_record::{DNSClass, Proof, RecordType};
+use dns_wire::*;
 use std::alloc::{AllocError, Global};
 use std::test::*;
 

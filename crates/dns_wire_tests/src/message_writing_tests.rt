@@ -1,6 +1,5 @@
 use crate::message_tests::{POINTERS, SHAPES, WITH_OPT, bytes_of, message_of, read, with_rdata};
-use dns_message::{Edns, EncodeError, Message};
-use dns_record::{Query, Record};
+use dns_wire::{Edns, EncodeError, Message, Query, Record};
 use std::alloc::{AllocError, Global};
 use std::test::*;
 
