@@ -4,7 +4,6 @@ pub mod ViewLaws
 pub mod RecordViewLemmas
 pub mod Lists
 pub mod WireLemmas
-pub mod NameSteps
 pub mod NameLemmas
 pub mod Edges
 pub mod Delegation
@@ -13,5 +12,3 @@ pub mod EachLemmas
 pub mod SetLemmas
 pub mod OrderLemmas
 pub mod LabelSteps
-pub mod TextLemmas
-pub mod ReadSteps

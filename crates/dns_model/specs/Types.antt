@@ -1,9 +1,5 @@
 -- Numbers of types and classes (RFC 1035, 3.2; RFC 4034; RFC 5155; the IANA registry of DNS parameters).
-use Rattle.std.specs.Prelude.{ℕ, Bool, ◌==◌, ◌||◌, List, [], ◌∷◌}
-use Rattle.std.specs.List.{list_any}
-
-abbrev pub type_a : ℕ
-type_a = 1
+use Rattle.std.specs.Prelude.{ℕ, Bool, ◌==◌, ◌||◌}
 
 abbrev pub type_ns : ℕ
 type_ns = 2
@@ -31,9 +27,6 @@ type_dnskey = 48
 
 abbrev pub type_nsec3 : ℕ
 type_nsec3 = 50
-
-abbrev pub type_any : ℕ
-type_any = 255
 
 abbrev pub class_in : ℕ
 class_in = 1

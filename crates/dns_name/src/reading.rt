@@ -2,7 +2,7 @@ ghost use Rattle.std.specs.Prelude.{◌≡◌, ◌≤◌, ◌<◌, ◌+◌, ◌+
 ghost use Rattle.std.specs.Char.{to_ascii_lowercase};
 ghost use Rattle.dns_model.specs.Bytes.{is_bytes};
 ghost use Rattle.dns_model.specs.NameForm.{name_in, label_in};
-ghost use Rattle.dns_model.proofs.NameSteps.{end_in, IsFront};
+ghost use Rattle.dns_name.specs.NameEnds.{end_in, IsFront};
 
 use crate::NoMemory;
 

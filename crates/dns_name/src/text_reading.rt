@@ -3,8 +3,7 @@ ghost use Rattle.dns_model.specs.Gives.{Gives};
 ghost use Rattle.dns_model.specs.Names.{Labels};
 ghost use Rattle.dns_model.specs.NameText.{byte_in, ended, escape_in, label_checked, is_digit, is_printable, number_in, number_of_digits, text_read, within};
 ghost use Rattle.dns_model.specs.declared.name_error.NameError.TheVariants.{NoMemory as no_memory};
-ghost use Rattle.dns_model.proofs.TextLemmas.{read_at};
-ghost use Rattle.dns_model.proofs.ReadSteps.{FailsAs, HasRun, IsLabels, IsRun, rest_read};
+ghost use Rattle.dns_name.specs.LabelRuns.{read_at, FailsAs, HasRun, IsLabels, IsRun, rest_read};
 
 use crate::{Name, NameError, NameRef, Octets};
 use std::alloc::Global;

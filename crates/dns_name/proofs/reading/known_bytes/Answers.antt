@@ -1,5 +1,5 @@
 use Rattle.std.proofs.Math.Facts.{Fits-lt-pow}
-use Rattle.dns_model.proofs.ReadSteps.{is_bytes-from_reads}
+use Rattle.dns_name.proofs.ReadSteps.{is_bytes-from_reads}
 use Rattle.dns_name.proofs.reading.known_bytes.Goals as goal
 
 pub returns-clause-bytes : goal.returns-clause-bytes

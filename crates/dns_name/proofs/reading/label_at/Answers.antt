@@ -1,4 +1,4 @@
-use Rattle.dns_model.proofs.NameSteps.{label_in-nil}
+use Rattle.dns_name.proofs.NameSteps.{label_in-nil}
 use Rattle.dns_name.proofs.reading.label_at.Goals as goal
 
 pub returns-in-None-clause-value : goal.returns-in-None-clause-value

@@ -1,5 +1,5 @@
 use Rattle.std.proofs.Common.{sym, arith}
-use Rattle.dns_model.proofs.NameSteps.{end_broken, end_here, end_more}
+use Rattle.dns_name.proofs.NameSteps.{end_broken, end_here, end_more}
 use Rattle.dns_name.proofs.reading.labels_end.Goals as goal
 
 pub returns-in_default : goal.returns-in_default

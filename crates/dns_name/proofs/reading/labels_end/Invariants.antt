@@ -1,5 +1,5 @@
 use Rattle.std.proofs.Common.{length}
-use Rattle.dns_model.proofs.NameSteps.{IsEnd}
+use Rattle.dns_name.proofs.NameSteps.{IsEnd}
 use Rattle.dns_name.proofs.reading.labels_end.Given as goal
 
 abbrev pub invariant-labels : goal.invariant-labels

@@ -1,5 +1,5 @@
 use Rattle.std.proofs.Common.{sym, rules}
-use Rattle.dns_model.proofs.NameSteps.{front_found, front_none, front_too_long}
+use Rattle.dns_name.proofs.NameSteps.{front_found, front_none, front_too_long}
 use Rattle.dns_name.proofs.reading.name_end.Goals as goal
 
 pub returns-in-Some : goal.returns-in-Some

@@ -1,8 +1,8 @@
 use Rattle.std.proofs.Common.{◌≡◌, ◌<◌, List, ℕ, length, sym, ◌∙◌, ap, arith}
 use Rattle.std.proofs.lemmas.Bool.Decides.{nat_tests}
 use Rattle.dns_model.specs.NameText.{ended, after_dot}
-use Rattle.dns_model.proofs.TextLemmas.{read_at}
-use Rattle.dns_model.proofs.ReadSteps.{label_more}
+use Rattle.dns_name.specs.LabelRuns.{read_at}
+use Rattle.dns_name.proofs.ReadSteps.{label_more}
 use Rattle.dns_name.proofs.text_reading.labels_of_text.Goals as goal
 
 pub labels-preserved : goal.labels-preserved

@@ -1,5 +1,5 @@
 use Rattle.std.proofs.Common.{length}
-use Rattle.dns_model.proofs.ReadSteps.{IsReading}
+use Rattle.dns_name.proofs.ReadSteps.{IsReading}
 use Rattle.dns_name.proofs.text_reading.labels_of_text.Given as goal
 
 abbrev pub invariant-labels : goal.invariant-labels

@@ -1,5 +1,5 @@
 use Rattle.std.proofs.Common.{◌≡◌, ◌≤◌, length}
-use Rattle.dns_model.proofs.TextLemmas.{read_at}
+use Rattle.dns_name.specs.LabelRuns.{read_at}
 use Rattle.dns_name.proofs.text_reading.read_label.Given as goal
 
 abbrev pub invariant-bytes : goal.invariant-bytes

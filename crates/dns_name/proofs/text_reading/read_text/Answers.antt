@@ -1,7 +1,7 @@
 use Rattle.std.proofs.Common.{[], sym, ◌∙◌, ap}
 use Rattle.std.specs.Prelude.{nat_eq}
 use Rattle.std.specs.Cmp.Lexicographic.{pointwise}
-use Rattle.dns_model.proofs.ReadSteps.{no_run, text_root, text_labels}
+use Rattle.dns_name.proofs.ReadSteps.{no_run, text_root, text_labels}
 use Rattle.dns_name.proofs.text_reading.read_text.Goals as goal
 
 pub returns-then-eq : goal.returns-then-eq

@@ -1,6 +1,7 @@
 use Rattle.std.proofs.Common.{sym, ap, ◌∙◌, arith}
 use Rattle.std.proofs.lemmas.List.{take_all}
-use Rattle.dns_model.proofs.ReadSteps.{IsRun, label_at_fails, name_from_run}
+use Rattle.dns_name.specs.LabelRuns.{IsRun}
+use Rattle.dns_name.proofs.ReadSteps.{label_at_fails, name_from_run}
 use Rattle.dns_name.proofs.name.Name.from_labels.Goals as goal
 
 pub returns-in-Err : goal.returns-in-Err

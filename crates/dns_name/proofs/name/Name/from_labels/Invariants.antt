@@ -1,5 +1,5 @@
 use Rattle.std.proofs.Common.{take}
-use Rattle.dns_model.proofs.ReadSteps.{IsRun}
+use Rattle.dns_name.specs.LabelRuns.{IsRun}
 use Rattle.dns_name.proofs.name.Name.from_labels.Given as goal
 
 abbrev pub invariant-loop-label : goal.invariant-loop-label

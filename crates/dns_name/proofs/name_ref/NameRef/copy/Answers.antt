@@ -4,7 +4,7 @@ use Rattle.dns_model.specs.Bytes.{is_bytes}
 use Rattle.dns_model.specs.Names.{is_name}
 use Rattle.dns_model.specs.NameForm.{IsWire, labels_of}
 use Rattle.dns_model.proofs.WireLemmas.{is_name-labels_of, wire-labels_of}
-use Rattle.dns_model.proofs.ReadSteps.{is_bytes-labels}
+use Rattle.dns_name.proofs.ReadSteps.{is_bytes-labels}
 use Rattle.dns_name.proofs.name_ref.NameRef.copy.Goals as goal
 
 pub invariant_of-result : goal.invariant_of-result

@@ -4,7 +4,7 @@ use Rattle.std.specs.String.{string_bytes}
 use Rattle.std.proofs.lemmas.Bool.{false≢true}
 use Rattle.std.proofs.lemmas.Str.{IsUtf8-from_ascii}
 use Rattle.dns_model.specs.NameText.{printed, read_name}
-use Rattle.dns_model.proofs.TextLemmas.{printed_ascii, read_printed}
+use Rattle.dns_name.proofs.TextLemmas.{printed_ascii, read_printed}
 use Rattle.dns_name.proofs.name_ref.NameRef.to_ascii.Goals as goal
 
 pub unreachable-requires : goal.unreachable-requires

@@ -14,6 +14,7 @@ use Rattle.dns_model.specs.Names.{Label, Labels, wire, is_label, is_name}
 use Rattle.dns_model.specs.NameText.{dot, backslash, is_special, is_printable, is_digit, three_digits, printed_byte, printed_label, printed, number_of_digits, number_in, escape_in, byte_in, Read, and_then, label_checked, ended, after_dot, after_byte, step_in, labels_read, text_read, within, read_name}
 use Rattle.dns_model.specs.declared.name_error.NameError.{NameError}
 use Rattle.dns_model.specs.declared.name_error.NameError.TheVariants.{EmptyLabel, LongLabel, LongName, BadEscape, NoMemory}
+use Rattle.dns_name.specs.LabelRuns.{read_at}
 use Rattle.dns_model.proofs.WireLemmas.{second_of_some}
 
 -- ---- each step takes a byte at least
@@ -71,10 +72,6 @@ bound_same [] two label text p q = absurd (omega arith)
 bound_same (x ∷ one) [] label text p q = absurd (omega arith)
 bound_same (x ∷ one) (y ∷ two) label text p q =
     step_same (labels_read one) (labels_read two) label text (λ l rest lt. bound_same one two l rest (omega arith) (omega arith))
-
--- the labels of a text after those bytes of a label that were read
-unfoldable pub read_at : Label → List ℕ → Read
-read_at label text = labels_read (0 ∷ text) label text
 
 pub read_at-step : (label : Label) (text : List ℕ) → read_at label text ≡ step_in read_at label text
 unfolding read_at labels_read

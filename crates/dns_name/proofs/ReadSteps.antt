@@ -14,17 +14,10 @@ use Rattle.dns_model.specs.NameText.{dot, byte_in, Read, and_then, label_checked
 use Rattle.dns_model.specs.declared.name_error.NameError.{NameError}
 use Rattle.dns_model.specs.declared.name_error.NameError.TheVariants.{EmptyLabel, LongLabel, LongName, BadEscape, NoMemory}
 use Rattle.dns_model.proofs.WireLemmas.{IsWire-wire, labels_of-wire}
-use Rattle.dns_model.proofs.TextLemmas.{read_at, read_at-step}
+use Rattle.dns_name.specs.LabelRuns.{read_at, rest_read, FailsAs, IsRun, HasRun, IsLabels}
+use Rattle.dns_name.proofs.TextLemmas.{read_at-step}
 
 -- ---- bytes that labels in wire form make, with no closing zero byte
-
-pub record IsRun (labels : Labels) (bytes : List ℕ) : Type 0 where
-  pub good : list_all is_label labels ≡ true
-  pub spelled : (above : Labels) → bytes ++ wire above ≡ wire (labels ++ above)
-
-pub record HasRun (bytes : List ℕ) : Type 0 where
-  pub labels : Labels
-  pub run : IsRun labels bytes
 
 pub no_run : IsRun [] []
 no_run = record { good = refl; spelled = λ above. refl }
@@ -82,15 +75,6 @@ run_long bytes above labels run long =
 
 -- ---- one label of a text
 
--- what stands after a label: the end, or a dot and more
-abbrev pub rest_read : Option (List ℕ) → Read
-rest_read None = Ok ([], false)
-rest_read (Some rest) = after_dot read_at rest
-
--- an error of a call that reads
-abbrev pub FailsAs : {X : Type 0} → NameError → Result X NameError → Type 0
-FailsAs fault read = (fault ≡ NoMemory) ⊎ (read ≡ Err fault)
-
 pub text_end : (label : Label) (text : List ℕ) → length text ≡ 0 → read_at label text ≡ ended label (rest_read None)
 text_end label [] none = read_at-step label []
 text_end label (b ∷ text) none = absurd (omega arith)
@@ -121,12 +105,6 @@ pub record IsReading (text bytes left : List ℕ) : Type 0 where
   pub labels : Labels
   pub run : IsRun labels bytes
   pub so_far : fronted labels (read_at [] left) ≡ read_at [] text
-
--- the labels that a reading gave, in wire form
-pub record IsLabels (read : Read) (bytes : List ℕ) (dotted : Bool) : Type 0 where
-  pub labels : Labels
-  pub run : IsRun labels bytes
-  pub whole : read ≡ Ok (labels, dotted)
 
 fronted_none : (read : Read) → fronted [] read ≡ read
 fronted_none (Ok r) = refl

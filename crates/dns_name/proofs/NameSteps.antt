@@ -7,6 +7,7 @@ use Rattle.std.proofs.lemmas.Bool.Decides.{nat_tests}
 use Rattle.std.proofs.lemmas.List.{append-nil, length-take-le, take_at, drop_at}
 use Rattle.dns_model.specs.Names.{Label, Labels, wire, is_label, is_name}
 use Rattle.dns_model.specs.NameForm.{label_in, with_label, after_label, labels_in, within_limit, name_in, labels_of, IsWire}
+use Rattle.dns_name.specs.NameEnds.{labels_at, end_of, end_in, IsFront}
 use Rattle.dns_model.proofs.Lists.{take-front, drop-front}
 use Rattle.dns_model.proofs.WireLemmas.{IsLabelIn, label_in_inverse, IsNameIn, labels_in_inverse, name_in-wire, labels_of-wire, IsWire-wire}
 
@@ -31,23 +32,12 @@ same_bound (x ∷ one) [] (b ∷ bytes) p q = absurd (omega arith)
 same_bound (x ∷ one) (y ∷ two) bytes p q =
     same_after bytes (label_in bytes) (labels_in one) (labels_in two) refl (λ rest lt. same_bound one two rest (omega arith) (omega arith))
 
--- the labels at the front of bytes, with no limit on their length
-abbrev pub labels_at : List ℕ → Option (Labels × List ℕ)
-labels_at bytes = labels_in bytes bytes
-
 pub labels_at-cons : (size : ℕ) (bytes : List ℕ) → labels_at (size ∷ bytes) ≡ after_label (label_in (size ∷ bytes)) labels_at
 unfolding labels_in
 labels_at-cons size bytes =
     same_after (size ∷ bytes) (label_in (size ∷ bytes)) (labels_in bytes) labels_at refl (λ rest lt. same_bound bytes rest rest (omega arith) (omega arith))
 
 -- ---- where a wire form ends
-
-abbrev pub end_of : Option (Labels × List ℕ) → Option ℕ
-end_of read = option_map (λ (p : Labels × List ℕ). length (wire p.0)) read
-
--- how many bytes the labels at the front of bytes take
-unfoldable pub end_in : List ℕ → Option ℕ
-end_in bytes = end_of (labels_at bytes)
 
 end_of-with : (label : Label) (read : Option (Labels × List ℕ)) → end_of (with_label label read) ≡ option_map (λ (n : ℕ). length label + 1 + n) (end_of read)
 end_of-with label None = refl
@@ -77,12 +67,6 @@ end_in-step [] = refl
 end_in-step (size ∷ bytes) = ap end_of (labels_at-cons size bytes) ∙ end_of-after (label_in (size ∷ bytes))
 
 -- ---- the name in front, by where it ends
-
--- the first n bytes are a name's wire form, and the name at the front is that one
-pub record IsFront (bytes : List ℕ) (n : ℕ) : Type 0 where
-  pub fits : n ≤ length bytes
-  pub form : IsWire (take n bytes)
-  pub read : name_in bytes ≡ Some (labels_of (take n bytes), drop n bytes)
 
 front_at : (bytes rest : List ℕ) (name : Labels) (n : ℕ) → n ≡ length (wire name) → bytes ≡ wire name ++ rest → is_name name ≡ true → IsFront bytes n
 front_at bytes rest name n long whole good =
