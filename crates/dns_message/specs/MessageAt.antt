@@ -45,7 +45,7 @@ abbrev pub edns_in : Option (EdnsValue × ℕ) → Option EdnsValue
 edns_in None = None
 edns_in (Some opt) = Some opt.0
 
--- the upper eight bits of the code
+-- the upper eight bits of the extended response code (RFC 6891, 6.1.3)
 abbrev pub upper_code_in : Option (EdnsValue × ℕ) → ℕ
 upper_code_in None = 0
 upper_code_in (Some opt) = opt.1

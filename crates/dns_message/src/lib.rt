@@ -3,6 +3,7 @@
 
 mod decode_error;
 mod encode_error;
+mod header_flags;
 mod item;
 mod message;
 mod message_reader;

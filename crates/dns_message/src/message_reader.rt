@@ -5,6 +5,7 @@ ghost use Rattle.dns_message.specs.Pointers.{ArePointerEnds};
 ghost use Rattle.dns_message.specs.Fitting.{header_value};
 
 use crate::decode_error::{DecodeError, DecodeKind, fault};
+use crate::header_flags::*;
 use crate::message::{Edns, Message};
 use crate::name_reader::name_of;
 use crate::number_reader::u16_of;
@@ -117,14 +118,14 @@ fn message_of(
     };
     Message {
         id: header.id,
-        response: flags / 32768 % 2 == 1,
-        op_code: OpCode((flags / 2048 % 16) as u8),
-        authoritative: flags / 1024 % 2 == 1,
-        truncated: flags / 512 % 2 == 1,
-        recursion_desired: flags / 256 % 2 == 1,
-        recursion_available: flags / 128 % 2 == 1,
-        authentic_data: flags / 32 % 2 == 1,
-        checking_disabled: flags / 16 % 2 == 1,
+        response: flags / RESPONSE % 2 == 1,
+        op_code: OpCode((flags / OP_CODE % 16) as u8),
+        authoritative: flags / AUTHORITATIVE % 2 == 1,
+        truncated: flags / TRUNCATED % 2 == 1,
+        recursion_desired: flags / RECURSION_DESIRED % 2 == 1,
+        recursion_available: flags / RECURSION_AVAILABLE % 2 == 1,
+        authentic_data: flags / AUTHENTIC_DATA % 2 == 1,
+        checking_disabled: flags / CHECKING_DISABLED % 2 == 1,
         response_code: ResponseCode(upper * 16 + flags % 16),
         queries,
         answers,

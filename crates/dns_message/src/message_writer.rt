@@ -5,6 +5,7 @@ ghost use Rattle.dns_message.specs.declared.encode_error.EncodeError.TheVariants
 ghost use Rattle.dns_message.specs.WrittenAs.{flag_bit, question_bytes, record_bytes, opt_ttl, opt_bytes, edns_bytes, flags_of, header_bytes, edns_count, has_long_options, has_many, encoded, empty_query, IsReadAgain};
 
 use crate::encode_error::EncodeError;
+use crate::header_flags::*;
 use crate::message::{Edns, Message};
 use dns_name::{NoMemory, Octets};
 use dns_rdata::{push_u16, push_u32};
@@ -62,9 +63,9 @@ fn push_records(out: &mut Vec<u8>, records: &[Record]) -> Result<(), NoMemory>
 fn opt_ttl(code: u16, edns: &Edns) -> u32
     ensures { result ≡ opt_ttl code edns.now }
 {
-    u32::from(code / 16 % 256) * 16777216
-        + u32::from(edns.version) * 65536
-        + u32::from(flag_bit(edns.dnssec_ok)) * 32768
+    u32::from(code / 16 % 256) * EXTENDED_CODE
+        + u32::from(edns.version) * EDNS_VERSION
+        + u32::from(flag_bit(edns.dnssec_ok)) * DNSSEC_OK
         + u32::from(edns.flags % 32768)
 }
 
@@ -96,14 +97,14 @@ fn push_edns(out: &mut Vec<u8>, message: &Message) -> Result<(), NoMemory>
 fn flags_of(message: &Message) -> u16
     ensures { result ≡ flags_of message.now }
 {
-    flag_bit(message.response) * 32768
-        + u16::from(message.op_code.0 % 16) * 2048
-        + flag_bit(message.authoritative) * 1024
-        + flag_bit(message.truncated) * 512
-        + flag_bit(message.recursion_desired) * 256
-        + flag_bit(message.recursion_available) * 128
-        + flag_bit(message.authentic_data) * 32
-        + flag_bit(message.checking_disabled) * 16
+    flag_bit(message.response) * RESPONSE
+        + u16::from(message.op_code.0 % 16) * OP_CODE
+        + flag_bit(message.authoritative) * AUTHORITATIVE
+        + flag_bit(message.truncated) * TRUNCATED
+        + flag_bit(message.recursion_desired) * RECURSION_DESIRED
+        + flag_bit(message.recursion_available) * RECURSION_AVAILABLE
+        + flag_bit(message.authentic_data) * AUTHENTIC_DATA
+        + flag_bit(message.checking_disabled) * CHECKING_DISABLED
         + message.response_code.0 % 16
 }
 

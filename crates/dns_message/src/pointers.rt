@@ -5,7 +5,7 @@ use crate::step::{Step, step_at};
 use dns_name::NoMemory;
 use std::alloc::Global;
 
-/// A pointer has 14 bits.
+/// A compression pointer (RFC 1035, 4.1.4) has 14 bits.
 const PLACES: usize = 16384;
 
 /// Where the row of bare pointers that begins at a place ends, by the table of the places before it.

@@ -4,6 +4,7 @@ ghost use Rattle.dns_message.specs.Pointers.{ArePointerEnds};
 ghost use Rattle.dns_message.specs.RecordAt.{record_at, opt_at, item_at, edns_of, is_root};
 
 use crate::decode_error::{DecodeError, DecodeKind, fault};
+use crate::header_flags::{DNSSEC_OK, EDNS_VERSION, EXTENDED_CODE};
 use crate::item::Item;
 use crate::message::Edns;
 use crate::name_reader::name_of;
@@ -50,9 +51,9 @@ fn edns_of(payload: u16, ttl: u32, options: Octets) -> Edns
 {
     Edns {
         max_payload: payload,
-        version: (ttl / 65536 % 256) as u8,
-        dnssec_ok: ttl / 32768 % 2 == 1,
-        flags: (ttl % 32768) as u16,
+        version: (ttl / EDNS_VERSION % 256) as u8,
+        dnssec_ok: ttl / DNSSEC_OK % 2 == 1,
+        flags: (ttl % DNSSEC_OK) as u16,
         options,
     }
 }
@@ -71,7 +72,7 @@ fn opt_of(alloc: Global, bytes: &[u8], at: usize) -> Result<(Item, usize), Decod
     let options = opaque_of(alloc, bytes, size, next)?;
     let edns = edns_of(payload, ttl, options);
     Ok((
-        Item::Opt(edns, (ttl / 16777216) as u8),
+        Item::Opt(edns, (ttl / EXTENDED_CODE) as u8),
         next + usize::from(size),
     ))
 }
