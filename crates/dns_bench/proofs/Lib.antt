@@ -1,0 +1,4 @@
+mod FrameLemmas
+mod CountingLemmas
+mod SignedLemmas
+mod LookupLemmas

@@ -1,0 +1,74 @@
+//! The words that the program takes.
+ghost use Rattle.std.specs.Prelude.{◌≡◌};
+ghost use Rattle.dns_words.specs.Words.{decimal_in};
+ghost use Rattle.dns_bench.specs.Forms.{asked_form, passes_in as passes_of_word, reading_form, signed_form};
+
+use dns_words::{decimal_in, u16_in};
+
+/// What is done with an input.
+#[derive(Clone, Copy, Debug, PartialEq, Eq)]
+pub enum Work {
+    /// Its messages are decoded.
+    Decode,
+    /// The session's query is looked up.
+    LookUp,
+}
+
+/// What the program is asked for.
+#[derive(Clone, Copy, Debug, PartialEq, Eq)]
+pub enum Form {
+    /// To read an input and to work on it so many times.
+    Reading(Work, u32),
+    /// To make the signed bytes of a set of so many records so many times.
+    Signed(u16, u32),
+}
+
+// How often.
+fn passes_in(word: &[u8]) -> Option<u32>
+    ensures { result ≡ passes_of_word word.now }
+{
+    let passes = decimal_in(word, 4_294_967_295)?;
+    Some(passes as u32)
+}
+
+// To work on an input as often as a word says.
+fn reading_form(work: Work, passes: &[u8]) -> Option<Form>
+    ensures { result ≡ reading_form work (passes_of_word passes.now) }
+{
+    let passes = passes_in(passes)?;
+    Some(Form::Reading(work, passes))
+}
+
+// To make signed bytes as two words say.
+fn signed_form(records: &[u8], passes: &[u8]) -> Option<Form>
+    ensures { result ≡ signed_form (decimal_in 65535 records.now) (passes_of_word passes.now) }
+{
+    let records = u16_in(records)?;
+    let passes = passes_in(passes)?;
+    Some(Form::Signed(records, passes))
+}
+
+/// What words ask for.
+pub(crate) fn form_of(words: &[Vec<u8>]) -> Option<Form>
+    ensures { result ≡ asked_form words.now }
+{
+    match words {
+        [name, passes] => {
+            if name.as_slice() == b"decode".as_slice() {
+                return reading_form(Work::Decode, passes);
+            }
+            if name.as_slice() == b"lookup".as_slice() {
+                return reading_form(Work::LookUp, passes);
+            }
+            None
+        }
+        [name, records, passes] => {
+            if name.as_slice() == b"signed".as_slice() {
+                signed_form(records, passes)
+            } else {
+                None
+            }
+        }
+        _ => None,
+    }
+}

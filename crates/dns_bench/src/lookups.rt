@@ -1,0 +1,113 @@
+//! Lookups of a session's query, one after another.
+ghost use Rattle.std.specs.Prelude.{Some, IfOk};
+ghost use Rattle.dns_net.specs.Replies.{reply_of};
+ghost use Rattle.dns_net.specs.Requests.{plain_options};
+ghost use Rattle.dns_net.specs.Recording.{AnswersFrom};
+ghost use Rattle.dns_chain.specs.Inquiries.{depth_limit};
+ghost use Rattle.dns_chain.specs.Looked.{UnlessNoMemory, IsLookup};
+ghost use Rattle.dns_chain.specs.Validators.{inner_of};
+ghost use Rattle.dns_bench.specs.Lookups.{with_answer, Repeats, RepeatsSession};
+ghost use Rattle.dns_bench.specs.Steps.{OneMore, SameValidator, validator_judge};
+
+use dns_chain::{DnssecDnsHandle, Listed};
+use dns_name::NoMemory;
+use dns_net::{DnsRequestOptions, DnsResponse, NetError, Recorded};
+use dns_record::Query;
+use dns_run::{session_anchors, session_upstream, session_verifier};
+use dns_session::Session;
+use std::alloc::Global;
+
+/// How many lookups gave an answer, and how many a fault. A count stops at the greatest `u64`.
+#[derive(Clone, Copy, Debug, PartialEq, Eq)]
+pub struct Lookups {
+    pub answers: u64,
+    pub faults: u64,
+}
+
+// Looks a query up, with default options.
+#[tactic(auto, using(crate::proofs::LookupLemmas::same_none))]
+fn look_up(
+    alloc: Global,
+    handle: &mut DnssecDnsHandle<Recorded, Listed>,
+    query: &Query,
+    now: u64,
+) -> Result<DnsResponse, NetError>
+    ensures same { SameValidator handle.old handle.new }
+    ensures lookup { UnlessNoMemory result (IsLookup AnswersFrom (λ r. r.faults) (inner_of handle.old) (inner_of handle.new)
+        (Some (inner_of handle.old).replies) (validator_judge handle.old now) now
+        (depth_limit plain_options) query.now (reply_of result)) }
+{
+    let query = query.try_clone()?;
+    handle.lookup(alloc, query, DnsRequestOptions::default(), now)
+}
+
+// Looks a query up, and counts what came of it.
+#[tactic(auto, using(crate::proofs::LookupLemmas::answer_counted, crate::proofs::LookupLemmas::fault_counted))]
+fn count_one(
+    alloc: Global,
+    handle: &mut DnssecDnsHandle<Recorded, Listed>,
+    query: &Query,
+    now: u64,
+    counts: Lookups,
+) -> Result<Lookups, NoMemory>
+    ensures same { SameValidator handle.old handle.new }
+    ensures more { IfOk result (λ after. OneMore (validator_judge handle.old now) (inner_of handle.old).replies now query.now counts after) }
+{
+    match look_up(alloc, handle, query, now) {
+        Ok(_) => Ok(Lookups {
+            answers: counts.answers.saturating_add(1),
+            faults: counts.faults,
+        }),
+        Err(NetError::NoMemory) => Err(NoMemory),
+        Err(_) => Ok(Lookups {
+            answers: counts.answers,
+            faults: counts.faults.saturating_add(1),
+        }),
+    }
+}
+
+// Looks a query up so many times.
+#[tactic(auto, using(crate::proofs::LookupLemmas::none_made, crate::proofs::LookupLemmas::one_made, crate::proofs::LookupLemmas::all_made))]
+fn count_all(
+    alloc: Global,
+    handle: &mut DnssecDnsHandle<Recorded, Listed>,
+    query: &Query,
+    now: u64,
+    times: u32,
+) -> Result<Lookups, NoMemory>
+    ensures { IfOk result (λ n. Repeats (validator_judge handle.old now) (inner_of handle.old).replies now query.now times n) }
+{
+    let mut counts = Lookups {
+        answers: 0,
+        faults: 0,
+    };
+    let mut left = times;
+    'times: while left > 0 {
+        counts = count_one(alloc, handle, query, now, counts)?;
+        left -= 1;
+    }
+    Ok(counts)
+}
+
+/// Looks a session's query up so many times, over one validator, and counts what came of it.
+pub(crate) fn count_lookups(
+    alloc: Global,
+    session: Session,
+    times: u32,
+) -> Result<Lookups, NoMemory>
+    ensures { IfOk result (λ n. RepeatsSession session times n) }
+{
+    let Session {
+        moment,
+        algorithms,
+        anchors,
+        accepts,
+        query,
+        replies,
+    } = session;
+    let verifier = session_verifier(alloc, &algorithms, accepts)?;
+    let anchors = session_anchors(alloc, anchors)?;
+    let upstream = session_upstream(alloc, replies)?;
+    let mut handle = DnssecDnsHandle::new(upstream, anchors, verifier)?;
+    count_all(alloc, &mut handle, &query, moment, times)
+}
