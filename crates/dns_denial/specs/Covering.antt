@@ -1,0 +1,71 @@
+-- Which NSEC record covers a name (RFC 4034, 4.1.1 and 6.1; RFC 4035, 5.4; RFC 6840, 4.1).
+use Rattle.std.specs.Prelude.{ℕ, Bool, not, ◌==◌, ◌&&◌, ◌||◌, List, Option, None, Some, if◌then◌else◌}
+use Rattle.std.specs.List.{list_all, find, position}
+use Rattle.std.specs.Ordering.{is_lt, is_le}
+use Rattle.dns_model.specs.Names.{Labels, name_cmp, at_or_above, strictly_above}
+use Rattle.dns_model.specs.Shapes.{bitmap_has}
+use Rattle.dns_model.specs.Types.{type_ns, type_soa, type_rrsig, type_nsec}
+use Rattle.dns_model.specs.Owned.{OwnedNsec}
+
+-- ---- the types at a record's owner
+
+-- DNAME (RFC 6672, 2.1)
+abbrev pub type_dname : ℕ
+type_dname = 39
+
+-- NSEC and RRSIG stand at the owner of each NSEC record, so their bits tell nothing (RFC 4035, 2.2 and 2.3)
+abbrev pub is_at_every_owner : ℕ → Bool
+is_at_every_owner rtype = (rtype == type_nsec) || (rtype == type_rrsig)
+
+-- the type stands at the owner (RFC 4034, 4.1.2)
+abbrev pub has_type : ℕ → OwnedNsec → Bool
+has_type rtype nsec = bitmap_has nsec.text.types rtype && not (is_at_every_owner rtype)
+
+-- the record stands above a zone cut: its owner is a delegation, and no apex (RFC 6840, 4.1)
+abbrev pub is_cut : OwnedNsec → Bool
+is_cut nsec = has_type type_ns nsec && not (has_type type_soa nsec)
+
+-- ---- the names between an owner and the next one
+
+-- the first name comes before the second in canonical order (RFC 4034, 6.1)
+abbrev pub before : Labels → Labels → Bool
+before one two = is_lt (name_cmp one two)
+
+-- the last record of a zone leads back to the apex, which sorts at or before its owner (RFC 4034, 4.1.1)
+abbrev pub leads_back : OwnedNsec → Bool
+leads_back nsec = is_le (name_cmp nsec.text.next nsec.owner)
+
+-- the name comes after the owner and before the next owner; after the last owner, it is at or below the apex (RFC 4035, 5.4)
+abbrev pub spans : Labels → OwnedNsec → Bool
+spans name nsec = before nsec.owner name && (before name nsec.text.next || (leads_back nsec && at_or_above nsec.text.next name))
+
+-- no record of the list that spans the name has an owner nearer to it
+abbrev pub is_nearest : Labels → List OwnedNsec → OwnedNsec → Bool
+is_nearest name nsecs nsec = list_all (λ other. not (spans name other && before nsec.owner other.owner)) nsecs
+
+-- of the records that span the name, one with the greatest owner
+abbrev pub counts_for : Labels → List OwnedNsec → OwnedNsec → Bool
+counts_for name nsecs nsec = spans name nsec && is_nearest name nsecs nsec
+
+-- ---- below a zone cut or a DNAME
+
+-- the record tells nothing of the name: it is below the owner, which is a delegation or has DNAME (RFC 6840, 4.1)
+abbrev pub is_silent_on : Labels → OwnedNsec → Bool
+is_silent_on name nsec = strictly_above nsec.owner name && (is_cut nsec || has_type type_dname nsec)
+
+abbrev pub unless_silent : Labels → Option OwnedNsec → Option OwnedNsec
+unless_silent name None = None
+unless_silent name (Some nsec) = if is_silent_on name nsec then None else Some nsec
+
+-- the record that covers the name: of those that span it the first with the greatest owner; where that one tells nothing
+-- of the name, none
+unfoldable pub covering : Labels → List OwnedNsec → Option OwnedNsec
+covering name nsecs = unless_silent name (find (counts_for name nsecs) nsecs)
+
+abbrev pub number_of : Option ℕ → Option OwnedNsec → Option ℕ
+number_of number None = None
+number_of number (Some nsec) = number
+
+-- the number of the record that covers the name, from 0
+unfoldable pub covering_number : Labels → List OwnedNsec → Option ℕ
+covering_number name nsecs = number_of (position (counts_for name nsecs) nsecs) (covering name nsecs)

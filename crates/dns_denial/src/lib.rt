@@ -1,0 +1,7 @@
+//! Denial of existence (RFC 4034, 4; RFC 4035, 5.4): what the NSEC records of a signed zone prove of a query. The layer above
+//! may use each call as the definition that its clause names. No call here takes memory.
+#![tactic(auto)]
+
+mod answered;
+
+pub use answered::Answered;
