@@ -1,3 +1,4 @@
 pub mod Covering
 pub mod NsecVerdict
 pub mod Zones
+pub mod DenialInZones

@@ -1,0 +1,39 @@
+-- What a Secure verdict on NSEC records promises of each zone in which the records are true (RFC 4035, 5.3.4 and 5.4; RFC 4592).
+use Rattle.std.specs.Prelude.{◌≡◌, ◌⊎◌, ℕ, ◌<◌, true, false, List, length}
+use Rattle.std.specs.List.{AllByRecursion}
+use Rattle.dns_model.specs.Names.{Labels, name_eq, at_or_above}
+use Rattle.dns_model.specs.Records.{Question}
+use Rattle.dns_model.specs.Owned.{OwnedNsec}
+use Rattle.dns_denial.specs.NsecVerdict.{holds_query, code_nx_domain}
+use Rattle.dns_denial.specs.Zones.{Zone, is_zone, is_owner, exists_in, is_data_type, lookup, NoData, NxDomain, IsTrueNsec}
+
+-- a well-formed zone with this apex in which each of the records is true
+pub record IsShownBy (nsecs : List OwnedNsec) (apex : Labels) (zone : Zone) : Type 0 where
+  pub formed : is_zone zone ≡ true
+  pub apex_is : name_eq zone.apex apex ≡ true
+  pub each_true : AllByRecursion (IsTrueNsec zone) nsecs
+
+-- the zone has no data for the query; where the code is a name error, its name doesn't exist
+pub record HasNone (query : Question) (code : ℕ) (zone : Zone) : Type 0 where
+  pub holds : holds_query zone.apex query ≡ true
+  pub answer : (lookup zone query.owner query.rtype ≡ NoData) ⊎ (lookup zone query.owner query.rtype ≡ NxDomain)
+  pub name : code ≡ code_nx_domain → exists_in zone query.owner ≡ false
+
+-- neither the name nor an ancestor of it with more labels exists in the zone, so no wildcard below such an ancestor does
+pub record HasNoneCloser (name : Labels) (labels : ℕ) (zone : Zone) : Type 0 where
+  pub missing : exists_in zone name ≡ false
+  pub ancestors : (ancestor : Labels) → at_or_above ancestor name ≡ true → labels < length ancestor → exists_in zone ancestor ≡ false
+
+-- a denial holds in each such zone
+abbrev pub IsDeniedIn : Question → Labels → ℕ → List OwnedNsec → Type 0
+IsDeniedIn query apex code nsecs =
+    is_data_type query.rtype ≡ true → (zone : Zone) → IsShownBy nsecs apex zone → HasNone query code zone
+
+-- an expansion from the wildcard below the name's last labels, this many, is right in each such zone
+abbrev pub IsExpandedIn : Question → Labels → ℕ → List OwnedNsec → Type 0
+IsExpandedIn query apex labels nsecs =
+    is_data_type query.rtype ≡ true → (zone : Zone) → IsShownBy nsecs apex zone → HasNoneCloser query.owner labels zone
+
+-- the name owns no RRset in any zone in which each of the records is true
+abbrev pub IsOwnerless : Labels → List OwnedNsec → Type 0
+IsOwnerless name nsecs = (zone : Zone) → AllByRecursion (IsTrueNsec zone) nsecs → is_owner zone name ≡ false
