@@ -5,3 +5,7 @@ pub mod ZoneLemmas
 pub mod EncloserLemmas
 pub mod ReachLemmas
 pub mod Promises
+pub mod Best
+pub mod NameOrder
+pub mod Ancestors
+pub mod Enclosers

@@ -3,5 +3,11 @@
 #![tactic(auto)]
 
 mod answered;
+mod covering;
+mod encloser;
+mod listed_types;
+mod verdict;
 
 pub use answered::Answered;
+pub use covering::nsec_covering;
+pub use verdict::verify_nsec;

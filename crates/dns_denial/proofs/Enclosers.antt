@@ -1,0 +1,111 @@
+-- The closest encloser of a covered name is above it, so the wildcard below that is a name too.
+use Rattle.std.proofs.Common.{◌≡◌, ◌+◌, ◌≤◌, Bool, true, false, not, ◌&&◌, ◌||◌, cond, List, [], ◌∷◌, length, Option, None, Some, refl, sym, ap, ◌∙◌, arith, length-append, ⊎_elim, Ordering}
+use Rattle.std.specs.Prelude.{nat_lt, nat_le}
+use Rattle.std.specs.List.{list_all, find}
+use Rattle.std.specs.Ordering.{is_lt, is_le, ordering_reverse}
+use Rattle.std.specs.declared.cmp.Ordering.TheVariants.{Less, Equal, Greater}
+use Rattle.std.proofs.lemmas.Bool.{and_parts, and_from, and_cases, or_cases, not-false, cond_both, both_ways, false_from_ne_true}
+use Rattle.std.proofs.lemmas.Bool.Decides.{nat_tests}
+use Rattle.std.proofs.lemmas.List.{append-nil}
+use Rattle.dns_model.specs.Names.{Label, Labels, name_eq, name_cmp, at_or_above, strictly_above, is_name, is_label, wire, star}
+use Rattle.dns_model.specs.NameForm.{name_in}
+use Rattle.dns_model.specs.Owned.{OwnedNsec}
+use Rattle.dns_model.proofs.LabelSteps.{is_name-above, label_size}
+use Rattle.dns_model.proofs.WireLemmas.{name_in-wire}
+use Rattle.dns_model.proofs.OrderLemmas.{name_total}
+use Rattle.dns_denial.specs.Covering.{before, leads_back, spans, is_nearest, counts_for, is_silent_on, unless_silent, covering}
+use Rattle.dns_denial.specs.NsecVerdict.{common_ancestor, closest_encloser}
+use Rattle.dns_denial.proofs.NameOrder.{above_is_first, name_cmp-equal}
+
+-- ---- the wildcard beside a name
+
+pub star_fits : (label : Label) (name : Labels) → is_name (label ∷ name) ≡ true → is_name (star name) ≡ true
+star_fits label name good =
+    let parts = and_parts (list_all is_label (label ∷ name)) (nat_le (length (wire (label ∷ name))) 255) good in
+    let halves = and_parts (is_label label) (list_all is_label name) parts.0 in
+    let size = label_size label halves.0 in
+    let whole : length (wire (label ∷ name)) ≤ 255 = grind (arith, nat_tests, parts.1) in
+    let fits : 2 + length (wire name) ≤ 255 = omega (arith, whole, size.0, length-append label (wire name)) in
+    let limit : nat_le (length (wire (star name))) 255 ≡ true = grind (arith, nat_tests, fits) in
+    and_from (list_all is_label (star name)) (nat_le (length (wire (star name))) 255) halves.1 limit
+
+star_below : (label : Label) (name other : Labels) → is_name (label ∷ name) ≡ true → is_name (star (common_ancestor name other)) ≡ true
+unfolding common_ancestor
+star_below label [] other good = refl
+star_below label (next ∷ name) other good =
+    cond_both (at_or_above (next ∷ name) other) (next ∷ name) (common_ancestor name other) (λ n. is_name (star n) ≡ true)
+    (λ h. star_fits label (next ∷ name) good) (λ h. star_below next name other (is_name-above label (next ∷ name) good))
+
+star_of_common : (name other : Labels) → is_name name ≡ true → at_or_above name other ≡ false → is_name (star (common_ancestor name other)) ≡ true
+unfolding common_ancestor
+star_of_common [] other good differs = refl
+star_of_common (label ∷ name) other good differs =
+    ap (λ b. is_name (star (cond b (label ∷ name) (common_ancestor name other)))) differs ∙ star_below label name other good
+
+-- ---- what a record that spans a name says of it
+
+not_less : (o : Ordering) → is_lt (ordering_reverse o) ≡ true → is_le o ≡ false
+not_less Less h = cc
+not_less Equal h = cc
+not_less Greater h = refl
+
+untrue : {P : Type 0} {b : Bool} → b ≡ false → b ≡ true → P
+untrue {P} {b} differs holds = absurd (both_ways b differs holds)
+
+owner_is_not_below : (name : Labels) (nsec : OwnedNsec) → spans name nsec ≡ true → at_or_above name nsec.owner ≡ false
+owner_is_not_below name nsec h =
+    let parts = and_parts (before nsec.owner name) (before name nsec.text.next || (leads_back nsec && at_or_above nsec.text.next name)) h in
+    false_from_ne_true (at_or_above name nsec.owner) (λ above. both_ways (before nsec.owner name) (above_is_first name nsec.owner above) parts.0)
+
+next_is_not : (name : Labels) (nsec : OwnedNsec) → spans name nsec ≡ true → name_eq name nsec.text.next ≡ false
+next_is_not name nsec h =
+    let parts = and_parts (before nsec.owner name) (before name nsec.text.next || (leads_back nsec && at_or_above nsec.text.next name)) h in
+    false_from_ne_true (name_eq name nsec.text.next) (λ same.
+    let tied : name_cmp name nsec.text.next ≡ Equal = name_cmp-equal name nsec.text.next same in
+    let later : is_lt (ordering_reverse (name_cmp name nsec.owner)) ≡ true = ap is_lt (sym (name_total.antisymm nsec.owner name)) ∙ parts.0 in
+    let back : leads_back nsec ≡ false = ap is_le (sym (name_total.congr name nsec.text.next nsec.owner tied)) ∙ not_less (name_cmp name nsec.owner) later in
+    ⊎_elim (λ less. both_ways (before name nsec.text.next) (ap is_lt tied) less)
+    (λ both. let halves = and_parts (leads_back nsec) (at_or_above nsec.text.next name) both in both_ways (leads_back nsec) back halves.0)
+    (or_cases (before name nsec.text.next) (leads_back nsec && at_or_above nsec.text.next name) parts.1))
+
+-- the wildcard below the closest encloser is a name
+pub wildcard_is_name : (name : Labels) (nsec : OwnedNsec) → is_name name ≡ true → spans name nsec ≡ true → strictly_above name nsec.text.next ≡ false
+    → is_name (star (closest_encloser name nsec)) ≡ true
+unfolding closest_encloser
+wildcard_is_name name nsec good h differs =
+    let apart : at_or_above name nsec.text.next ≡ false =
+    ⊎_elim (λ e. e) (λ e. untrue {P = at_or_above name nsec.text.next ≡ false} (next_is_not name nsec h) (not-false (name_eq name nsec.text.next) e))
+    (and_cases (at_or_above name nsec.text.next) (not (name_eq name nsec.text.next)) differs) in
+    cond_both (nat_lt (length (common_ancestor name nsec.owner)) (length (common_ancestor name nsec.text.next)))
+    (common_ancestor name nsec.text.next) (common_ancestor name nsec.owner) (λ n. is_name (star n) ≡ true)
+    (λ _. star_of_common name nsec.text.next good apart) (λ _. star_of_common name nsec.owner good (owner_is_not_below name nsec h))
+
+find_passes : {X : Type 0} (test : X → Bool) (xs : List X) (x : X) → find test xs ≡ Some x → test x ≡ true
+find_passes test [] x is = cc
+find_passes test (y ∷ ys) x is = find_step test y ys x (test y) refl is (find_passes test ys x)
+  where
+    find_step : {X : Type 0} (test : X → Bool) (y : X) (ys : List X) (x : X) (b : Bool) → test y ≡ b → cond b (Some y) (find test ys) ≡ Some x → (find test ys ≡ Some x → test x ≡ true) → test x ≡ true
+    find_step test y ys x true holds is more = let same : y ≡ x = cc in ap test (sym same) ∙ holds
+    find_step test y ys x false differs is more = more is
+
+-- ---- the record that covers a name spans it
+
+loud : (name : Labels) (found : Option OwnedNsec) (nsec : OwnedNsec) → unless_silent name found ≡ Some nsec → found ≡ Some nsec
+loud name None nsec is = cc
+loud name (Some one) nsec is = loud_by (is_silent_on name one) one nsec is
+  where
+    loud_by : (b : Bool) (one nsec : OwnedNsec) → cond b None (Some one) ≡ Some nsec → Some one ≡ Some nsec
+    loud_by true one nsec is = cc
+    loud_by false one nsec is = is
+
+pub covering_spans : (name : Labels) (nsecs : List OwnedNsec) (nsec : OwnedNsec) → covering name nsecs ≡ Some nsec → spans name nsec ≡ true
+unfolding covering
+covering_spans name nsecs nsec is =
+    let passed = find_passes (counts_for name nsecs) nsecs nsec (loud name (find (counts_for name nsecs) nsecs) nsec is) in
+    let parts = and_parts (spans name nsec) (is_nearest name nsecs nsec) passed in
+    parts.0
+
+-- ---- the wildcard in wire form
+
+pub star_read : (name : Labels) → is_name (star name) ≡ true → name_in (wire (star name)) ≡ Some (star name, [])
+star_read name good = ap name_in (sym (append-nil (wire (star name)))) ∙ name_in-wire (star name) [] good

@@ -1,0 +1,193 @@
+//! What NSEC records prove of a query that a response denies or answers from a wildcard (RFC 4035, 5.3.4 and 5.4).
+ghost use Rattle.std.specs.Prelude.{◌≡◌, ◌==◌, ◌&&◌, true, Some, is_some, if◌then◌else◌};
+ghost use Rattle.std.specs.List.{list_any, find};
+ghost use Rattle.std.specs.Option.{option_copied};
+ghost use Rattle.dns_model.specs.Names.{is_name, star};
+ghost use Rattle.dns_denial.specs.declared.answered.Answered.TheVariants.{No};
+ghost use Rattle.dns_denial.specs.Covering.{covering as covering_in};
+ghost use Rattle.dns_denial.specs.NsecVerdict.{nsec_verdict, code_nx_domain, can_deny as can_deny_in, holds_query as holds_query_in, is_unanswered as is_unanswered_in, is_owned_by as is_owned_by_in, denies_at_owner as denies_at_owner_in, wildcard_lacks as wildcard_lacks_in, wildcard_denies as wildcard_denies_in, missing_name as missing_name_in, proved_by_covering as proved_by_covering_in, proved_at_name as proved_at_name_in, closest_encloser as closest_encloser_of};
+
+use crate::Answered;
+use crate::covering::covering;
+use crate::encloser::{closest_encloser, wildcard_below};
+use crate::listed_types::{has_type, is_cut, lacks_data};
+use dns_name::{Name, NameRef};
+use dns_rdata::NsecRecord;
+use dns_record::{Proof, Query, RecordType, ResponseCode};
+
+/// What the NSEC records of a zone prove of a response to a query (RFC 4035, 5.3.4 and 5.4; RFC 4592; RFC 6840, 4).
+///
+/// With `No` and `Secure` the data isn't there, and with `NXDomain` the name isn't. With `Expanded` and `Secure` no closer
+/// name is there than the wildcard that the answer was made from. Anything else is `Bogus`. The records are taken as true
+/// records of that zone; whether they are is for the caller to know.
+#[tactic(auto, unfolding(crate::specs::NsecVerdict::nsec_verdict))]
+pub fn verify_nsec(
+    query: &Query,
+    zone: &Name,
+    code: ResponseCode,
+    answered: Answered,
+    nsecs: &[NsecRecord],
+) -> Proof
+    ensures { result ≡ nsec_verdict query.now zone.now code.0 answered nsecs.now }
+{
+    if !can_deny(code) {
+        return Proof::Bogus;
+    }
+    if !holds_query(zone, query) {
+        return Proof::Bogus;
+    }
+    if answered == Answered::Plain {
+        return Proof::Bogus;
+    }
+    if is_proved(query, code, answered, nsecs) {
+        Proof::Secure
+    } else {
+        Proof::Bogus
+    }
+}
+
+/// Whether a response with this code can deny (RFC 2308, 2).
+fn can_deny(code: ResponseCode) -> bool
+    ensures { result ≡ can_deny_in code.0 }
+{
+    code == ResponseCode::NO_ERROR || code == ResponseCode::NX_DOMAIN
+}
+
+/// Whether the zone holds the query's name; DS records stand in the zone above the cut (RFC 4035, 2.4).
+fn holds_query(zone: &Name, query: &Query) -> bool
+    ensures { result ≡ holds_query_in zone.now query.now }
+{
+    if query.query_type == RecordType::DS {
+        zone.borrowed().strictly_above(&query.name.borrowed())
+    } else {
+        zone.zone_of(&query.name)
+    }
+}
+
+/// Whether the records prove what such a response says: by the record at the name, or by the one that covers it.
+fn is_proved(query: &Query, code: ResponseCode, answered: Answered, nsecs: &[NsecRecord]) -> bool
+    ensures { result ≡ proved_at_name_in query.now code.0 answered nsecs.now (find (is_owned_by_in query.now.owner) nsecs.now) }
+{
+    let name = query.name.borrowed();
+    match owned_by(&name, nsecs) {
+        // the name exists, so only its data can be denied
+        Some(nsec) => {
+            answered == Answered::No
+                && code == ResponseCode::NO_ERROR
+                && denies_at_owner(nsec, query.query_type)
+        }
+        None => match covering(&name, nsecs) {
+            Some(nsec) => is_proved_by(query, code, answered, nsecs, nsec),
+            None => false,
+        },
+    }
+}
+
+/// The first record that the name owns.
+fn owned_by<'a>(name: &NameRef<'_>, nsecs: &'a [NsecRecord]) -> Option<&'a NsecRecord>
+    ensures { option_copied result ≡ find (is_owned_by_in name.now) nsecs.now }
+{
+    nsecs.iter().find(|nsec| is_owned_by(name, nsec))
+}
+
+fn is_owned_by(name: &NameRef<'_>, nsec: &NsecRecord) -> bool
+    ensures { result ≡ is_owned_by_in name.now nsec.now }
+{
+    nsec.owner.borrowed().eq_name(name)
+}
+
+/// Whether a record denies the type at its owner: for DS it may not be the child's, and for others not the parent's.
+fn denies_at_owner(nsec: &NsecRecord, record_type: RecordType) -> bool
+    ensures { result ≡ denies_at_owner_in record_type.0 nsec.now }
+{
+    lacks_data(nsec, record_type)
+        && if record_type == RecordType::DS {
+            !has_type(nsec, RecordType::SOA)
+        } else {
+            !is_cut(nsec)
+        }
+}
+
+/// Whether the records prove what the response says of a name that this one covers.
+fn is_proved_by(
+    query: &Query,
+    code: ResponseCode,
+    answered: Answered,
+    nsecs: &[NsecRecord],
+    nsec: &NsecRecord,
+) -> bool
+    requires { covering_in query.now.owner nsecs.now ≡ Some nsec.now }
+    ensures { result ≡ proved_by_covering_in query.now code.0 answered nsecs.now (Some nsec.now) }
+{
+    // `copy` tells that its labels are a name, as those of the wildcard then are
+    let name = query.name.borrowed().copy();
+    // an empty non-terminal (RFC 4592, 2.2.2)
+    if name.strictly_above(&nsec.next.borrowed()) {
+        return answered == Answered::No && code == ResponseCode::NO_ERROR;
+    }
+    let encloser = closest_encloser(&name, nsec);
+    match answered {
+        Answered::Expanded(labels) => {
+            code == ResponseCode::NO_ERROR && encloser.label_count() == labels
+        }
+        Answered::Plain => false,
+        Answered::No => is_wildcard_denied(&encloser, code, query.query_type, nsecs),
+    }
+}
+
+/// Whether no wildcard below the closest encloser answers: it doesn't exist, or it has no data of the type.
+fn is_wildcard_denied(
+    encloser: &NameRef<'_>,
+    code: ResponseCode,
+    record_type: RecordType,
+    nsecs: &[NsecRecord],
+) -> bool
+    requires { is_name (star encloser.now) ≡ true }
+    ensures { result ≡ missing_name_in No code.0 record_type.0 encloser.now nsecs.now }
+{
+    let bytes = wildcard_below(encloser);
+    match NameRef::front(bytes.as_slice()) {
+        Some((wildcard, _)) => denies_wildcard(&wildcard, code, record_type, nsecs),
+        None => false,
+    }
+}
+
+/// Whether the records show that a wildcard doesn't exist, or with NoError that it has no data of the type.
+fn denies_wildcard(
+    wildcard: &NameRef<'_>,
+    code: ResponseCode,
+    record_type: RecordType,
+    nsecs: &[NsecRecord],
+) -> bool
+    ensures { result ≡ if code.0 == code_nx_domain then is_some (covering_in wildcard.now nsecs.now) else wildcard_denies_in record_type.0 wildcard.now nsecs.now }
+{
+    if code == ResponseCode::NX_DOMAIN {
+        covering(wildcard, nsecs).is_some()
+    } else {
+        lacks_at_wildcard(wildcard, record_type, nsecs)
+    }
+}
+
+/// Whether some record of a wildcard shows that it has no data of the type.
+fn lacks_at_wildcard(wildcard: &NameRef<'_>, record_type: RecordType, nsecs: &[NsecRecord]) -> bool
+    ensures { result ≡ wildcard_denies_in record_type.0 wildcard.now nsecs.now }
+{
+    nsecs
+        .iter()
+        .any(|nsec| is_denied_wildcard(wildcard, record_type, nsec))
+}
+
+/// Whether a record is the wildcard's, and shows that it has no data of the type.
+fn is_denied_wildcard(wildcard: &NameRef<'_>, record_type: RecordType, nsec: &NsecRecord) -> bool
+    ensures { result ≡ (is_owned_by_in wildcard.now nsec.now && wildcard_lacks_in record_type.0 nsec.now) }
+{
+    is_owned_by(wildcard, nsec) && wildcard_lacks(nsec, record_type)
+}
+
+/// Whether nothing at a wildcard answers for the type, and it is no delegation and has no DNAME (RFC 4592, 4.2 and 4.4).
+fn wildcard_lacks(nsec: &NsecRecord, record_type: RecordType) -> bool
+    ensures { result ≡ wildcard_lacks_in record_type.0 nsec.now }
+{
+    lacks_data(nsec, record_type)
+        && !(has_type(nsec, RecordType::NS) || has_type(nsec, RecordType::DNAME))
+}
