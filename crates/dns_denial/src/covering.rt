@@ -4,6 +4,7 @@ ghost use Rattle.std.specs.List.{find};
 ghost use Rattle.std.specs.Option.{option_copied};
 ghost use Rattle.std.specs.Ordering.{is_le};
 ghost use Rattle.dns_model.specs.Names.{name_cmp};
+ghost use Rattle.dns_denial.specs.DenialInZones.{IsOwnerless};
 ghost use Rattle.dns_denial.specs.Covering.{before, spans as spans_in, counts_for, is_silent_on as is_silent_in, covering as covering_in, covering_number};
 ghost use Rattle.dns_denial.specs.Best.{owned_before, is_better, next_best};
 
@@ -16,8 +17,17 @@ use std::cmp::Ordering;
 /// The number of the NSEC record, from 0, that covers a name (RFC 4035, 5.4): of those whose owner comes before the name in
 /// canonical order and whose next owner after it, the first with the greatest owner. `None` where there is none, and where
 /// that one's owner is above the name and is a delegation or has DNAME: it tells nothing of the names below (RFC 6840, 4.1).
-#[tactic(auto, unfolding(crate::specs::Covering::covering, crate::specs::Covering::covering_number))]
 pub fn nsec_covering(name: &Name, nsecs: &[NsecRecord]) -> Option<u32>
+    requires { length nsecs.now < 2 ^ 32 }
+    ensures number { result ≡ covering_number name.now nsecs.now }
+    ensures ownerless { (number : ℕ) → result ≡ Some number → IsOwnerless name.now nsecs.now }
+{
+    covering_place(name, nsecs)
+}
+
+/// The number of that record.
+#[tactic(auto, unfolding(crate::specs::Covering::covering, crate::specs::Covering::covering_number))]
+fn covering_place(name: &Name, nsecs: &[NsecRecord]) -> Option<u32>
     requires { length nsecs.now < 2 ^ 32 }
     ensures { result ≡ covering_number name.now nsecs.now }
 {

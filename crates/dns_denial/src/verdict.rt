@@ -1,9 +1,11 @@
 //! What NSEC records prove of a query that a response denies or answers from a wildcard (RFC 4035, 5.3.4 and 5.4).
-ghost use Rattle.std.specs.Prelude.{◌≡◌, ◌==◌, ◌&&◌, true, Some, is_some, if◌then◌else◌};
+ghost use Rattle.std.specs.Prelude.{◌≡◌, ℕ, ◌==◌, ◌&&◌, true, Some, is_some, if◌then◌else◌};
 ghost use Rattle.std.specs.List.{list_any, find};
 ghost use Rattle.std.specs.Option.{option_copied};
 ghost use Rattle.dns_model.specs.Names.{is_name, star};
-ghost use Rattle.dns_denial.specs.declared.answered.Answered.TheVariants.{No};
+ghost use Rattle.dns_denial.specs.declared.answered.Answered.TheVariants.{No, Expanded};
+ghost use Rattle.dns_model.specs.declared.proof.Proof.TheVariants.{Secure};
+ghost use Rattle.dns_denial.specs.DenialInZones.{IsDeniedIn, IsExpandedIn};
 ghost use Rattle.dns_denial.specs.Covering.{covering as covering_in};
 ghost use Rattle.dns_denial.specs.NsecVerdict.{nsec_verdict, code_nx_domain, can_deny as can_deny_in, holds_query as holds_query_in, is_unanswered as is_unanswered_in, is_owned_by as is_owned_by_in, denies_at_owner as denies_at_owner_in, wildcard_lacks as wildcard_lacks_in, wildcard_denies as wildcard_denies_in, missing_name as missing_name_in, proved_by_covering as proved_by_covering_in, proved_at_name as proved_at_name_in, closest_encloser as closest_encloser_of};
 
@@ -20,8 +22,23 @@ use dns_record::{Proof, Query, RecordType, ResponseCode};
 /// With `No` and `Secure` the data isn't there, and with `NXDomain` the name isn't. With `Expanded` and `Secure` no closer
 /// name is there than the wildcard that the answer was made from. Anything else is `Bogus`. The records are taken as true
 /// records of that zone; whether they are is for the caller to know.
-#[tactic(auto, unfolding(crate::specs::NsecVerdict::nsec_verdict))]
 pub fn verify_nsec(
+    query: &Query,
+    zone: &Name,
+    code: ResponseCode,
+    answered: Answered,
+    nsecs: &[NsecRecord],
+) -> Proof
+    ensures verdict { result ≡ nsec_verdict query.now zone.now code.0 answered nsecs.now }
+    ensures denial { result ≡ Secure → answered ≡ No → IsDeniedIn query.now zone.now code.0 nsecs.now }
+    ensures expansion { (labels : ℕ) → result ≡ Secure → answered ≡ Expanded labels → IsExpandedIn query.now zone.now labels nsecs.now }
+{
+    verdict_of(query, zone, code, answered, nsecs)
+}
+
+/// The verdict, row by row.
+#[tactic(auto, unfolding(crate::specs::NsecVerdict::nsec_verdict))]
+fn verdict_of(
     query: &Query,
     zone: &Name,
     code: ResponseCode,
