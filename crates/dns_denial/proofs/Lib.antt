@@ -9,3 +9,4 @@ pub mod Best
 pub mod NameOrder
 pub mod Ancestors
 pub mod Enclosers
+pub mod ExampleRecords

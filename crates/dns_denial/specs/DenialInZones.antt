@@ -1,11 +1,16 @@
--- What a Secure verdict on NSEC records promises of each zone in which the records are true (RFC 4035, 5.3.4 and 5.4; RFC 4592).
-use Rattle.std.specs.Prelude.{◌≡◌, ◌⊎◌, ℕ, ◌<◌, true, false, List, length}
+-- What a Secure verdict on NSEC records promises of each zone in which they are true (RFC 4035, 5.3.4 and 5.4; RFC 4592).
+use Rattle.std.specs.Prelude.{◌≡◌, ◌⊎◌, ℕ, ◌<◌, Bool, true, false, not, ◌==◌, ◌||◌, ◌/◌, List, length}
 use Rattle.std.specs.List.{AllByRecursion}
 use Rattle.dns_model.specs.Names.{Labels, name_eq, at_or_above}
+use Rattle.dns_model.specs.Types.{type_opt}
 use Rattle.dns_model.specs.Records.{Question}
 use Rattle.dns_model.specs.Owned.{OwnedNsec}
 use Rattle.dns_denial.specs.NsecVerdict.{holds_query, code_nx_domain}
-use Rattle.dns_denial.specs.Zones.{Zone, is_zone, is_owner, exists_in, is_data_type, lookup, NoData, NxDomain, IsTrueNsec}
+use Rattle.dns_denial.specs.Zones.{Zone, is_zone, is_owner, exists_in, is_signing_type, lookup, NoData, NxDomain, IsTrueNsec}
+
+-- the types whose RRsets a zone holds as data: not those of its signing, nor those of queries and of messages (RFC 6895, 3.1)
+abbrev pub is_data_type : ℕ → Bool
+is_data_type rtype = not (is_signing_type rtype || (rtype == type_opt) || (rtype / 128 == 1))
 
 -- a well-formed zone with this apex in which each of the records is true
 pub record IsShownBy (nsecs : List OwnedNsec) (apex : Labels) (zone : Zone) : Type 0 where

@@ -1,11 +1,10 @@
--- Zones: what a zone holds, how it answers, and when an NSEC record is true of it (RFC 1034, 4.2 and 4.3.2; RFC 4592;
--- RFC 6672; RFC 4034, 4).
-use Rattle.std.specs.Prelude.{◌≡◌, ℕ, Bool, true, not, ◌==◌, ◌&&◌, ◌||◌, ◌/◌, List, [], ◌∷◌, Option, None, Some, if◌then◌else◌}
+-- Zones, their answers, and true NSEC records (RFC 1034, 4.2 and 4.3.2; RFC 4034, 4; RFC 4592; RFC 6672).
+use Rattle.std.specs.Prelude.{◌≡◌, ℕ, Bool, true, not, ◌==◌, ◌&&◌, ◌||◌, List, [], ◌∷◌, Option, None, Some, if◌then◌else◌}
 use Rattle.std.specs.List.{list_any, list_all, find}
 use Rattle.std.specs.Ordering.{is_lt}
 use Rattle.dns_model.specs.Names.{Labels, name_eq, name_cmp, at_or_above, strictly_above, star}
 use Rattle.dns_model.specs.Shapes.{bitmap_has}
-use Rattle.dns_model.specs.Types.{type_ns, type_soa, type_cname, type_opt, type_ds, type_rrsig, type_nsec, type_nsec3}
+use Rattle.dns_model.specs.Types.{type_ns, type_soa, type_cname, type_ds, type_rrsig, type_nsec, type_nsec3}
 use Rattle.dns_model.specs.Owned.{OwnedNsec}
 use Rattle.dns_denial.specs.Covering.{type_dname}
 
@@ -74,10 +73,6 @@ is_zone zone = has_set zone zone.apex type_soa && (has_set zone zone.apex type_n
 
 -- ---- how a zone answers (RFC 1034, 4.3.2)
 
--- the types whose RRsets a zone holds as data: not those of its signing, nor those of queries and of messages (RFC 6895, 3.1)
-abbrev pub is_data_type : ℕ → Bool
-is_data_type rtype = not (is_signing_type rtype || (rtype == type_opt) || (rtype / 128 == 1))
-
 pub data ZoneAnswer : Type 0 where
   -- the zone below this cut answers
   Referral : (cut : Labels) → ZoneAnswer
@@ -135,12 +130,14 @@ is_last zone name = list_all (λ set. not (is_lt (name_cmp name set.owner))) zon
 
 -- no owner comes after the one name and before the other
 unfoldable pub none_between : Zone → Labels → Labels → Bool
-none_between zone name next = list_all (λ set. not (is_lt (name_cmp name set.owner) && is_lt (name_cmp set.owner next))) zone.sets
+none_between zone name next =
+    list_all (λ set. not (is_lt (name_cmp name set.owner) && is_lt (name_cmp set.owner next))) zone.sets
 
 -- the next name is the owner that comes next, and after the last one the apex (RFC 4034, 4.1.1)
 unfoldable pub is_next : Zone → Labels → Labels → Bool
 is_next zone name next =
-    if is_last zone name then name_eq next zone.apex else is_owner zone next && (is_lt (name_cmp name next) && none_between zone name next)
+    if is_last zone name then name_eq next zone.apex
+    else is_owner zone next && (is_lt (name_cmp name next) && none_between zone name next)
 
 pub record IsTrueNsec (zone : Zone) (nsec : OwnedNsec) : Type 0 where
   pub owner : is_owner zone nsec.owner ≡ true
