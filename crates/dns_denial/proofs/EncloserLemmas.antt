@@ -14,8 +14,8 @@ use Rattle.dns_denial.specs.Covering.{type_dname, has_type, is_cut, spans, is_si
 use Rattle.dns_denial.specs.NsecVerdict.{common_ancestor, longer, closest_encloser}
 use Rattle.dns_denial.specs.Zones.{SetKey, Zone, has_set, is_owner, is_delegation, exists_in, ends_at, is_zone, encloser, IsTrueNsec}
 use Rattle.dns_denial.proofs.Members.{not_true, or_true, or_cases, IsMember, IsPicked, picked}
-use Rattle.dns_denial.proofs.NamesTogether.{le_from_Less, le_trans, above_comes_first, between_is_below, above_alike, below_alike, above_itself, root_above, above_trans, above_is_shorter, above_tail, above_one_more, above_nested, strictly_made, strictly_parts, alike_if_not_strictly}
-use Rattle.dns_denial.proofs.ZoneLemmas.{has_set_alike, is_delegation_alike, order_if_alike, not_both, fits, none_below, soa_at_apex, Side, AtOrBefore, After, spans_after, sided, next_is_owner}
+use Rattle.dns_denial.proofs.NamesTogether.{le_from_Less, le_trans, above_comes_first, between_is_below, above_alike, below_alike, above_itself, root_above, above_trans, above_is_shorter, above_tail, above_one_more, above_nested, strictly_made, strictly_parts, alike_if_not_strictly, order_if_alike, not_both}
+use Rattle.dns_denial.proofs.ZoneLemmas.{has_set_alike, is_delegation_alike, fits, none_below, soa_at_apex, Side, AtOrBefore, After, spans_after, sided, next_is_owner}
 
 -- ---- the common ancestor of two names
 

@@ -15,7 +15,8 @@ use Rattle.dns_model.proofs.WireLemmas.{name_in-wire}
 use Rattle.dns_model.proofs.OrderLemmas.{name_total}
 use Rattle.dns_denial.specs.Covering.{before, leads_back, spans, is_nearest, counts_for, is_silent_on, unless_silent, covering}
 use Rattle.dns_denial.specs.NsecVerdict.{common_ancestor, closest_encloser}
-use Rattle.dns_denial.proofs.NameOrder.{above_is_first, name_cmp-equal}
+use Rattle.dns_denial.proofs.NameOrder.{above_is_first}
+use Rattle.dns_denial.proofs.NamesTogether.{order_if_alike}
 
 -- ---- the wildcard beside a name
 
@@ -61,7 +62,7 @@ next_is_not : (name : Labels) (nsec : OwnedNsec) → spans name nsec ≡ true �
 next_is_not name nsec h =
     let parts = and_parts (before nsec.owner name) (before name nsec.text.next || (leads_back nsec && at_or_above nsec.text.next name)) h in
     false_from_ne_true (name_eq name nsec.text.next) (λ same.
-    let tied : name_cmp name nsec.text.next ≡ Equal = name_cmp-equal name nsec.text.next same in
+    let tied : name_cmp name nsec.text.next ≡ Equal = order_if_alike name nsec.text.next same in
     let later : is_lt (ordering_reverse (name_cmp name nsec.owner)) ≡ true = ap is_lt (sym (name_total.antisymm nsec.owner name)) ∙ parts.0 in
     let back : leads_back nsec ≡ false = ap is_le (sym (name_total.congr name nsec.text.next nsec.owner tied)) ∙ not_less (name_cmp name nsec.owner) later in
     ⊎_elim (λ less. both_ways (before name nsec.text.next) (ap is_lt tied) less)

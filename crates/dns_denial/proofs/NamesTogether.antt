@@ -3,7 +3,7 @@ use Rattle.std.proofs.Common.{◌≡◌, ◌+◌, ◌-◌, ◌≤◌, true, fals
 use Rattle.std.specs.Prelude.{nat_le, nat_eq}
 use Rattle.std.specs.Cmp.Lexicographic.{slice_cmp, pointwise}
 use Rattle.std.specs.List.{ends_with}
-use Rattle.std.specs.Ordering.{nat_cmp, is_lt, is_le, ordering_then, ordering_reverse}
+use Rattle.std.specs.Ordering.{nat_cmp, is_lt, is_le, is_eq, ordering_then, ordering_reverse}
 use Rattle.std.specs.declared.cmp.Ordering.TheVariants.{Less, Equal, Greater}
 use Rattle.std.specs.FinMap.{slice_cmp-IsAntisymmetric, nat_cmp-IsAntisymmetric}
 use Rattle.std.proofs.lemmas.Bool.{and_parts}
@@ -14,7 +14,7 @@ use Rattle.dns_denial.proofs.Members.{unnot, unnot_true, and_rest}
 use Rattle.dns_model.specs.Names.{Label, Labels, lowered, folded, name_eq, name_cmp, at_or_above, strictly_above}
 use Rattle.dns_model.proofs.LabelSteps.{at_or_above-shorter}
 use Rattle.dns_model.proofs.NameLemmas.{name_eq-Decides}
-use Rattle.dns_model.proofs.OrderLemmas.{name_total}
+use Rattle.dns_model.proofs.OrderLemmas.{name_total, name_ties}
 
 -- the one list ends the other
 record Nests (back more : Labels) : Type 0 where
@@ -176,6 +176,22 @@ le_trans x y z p q = by (name_cmp x y) refl
     by Less e = le_from_Less (name_cmp x z) (lt_le_trans x y z e q)
     by Equal e = ap is_le (name_total.congr x y z e) ∙ q
     by Greater e = absurd (true≢false (sym p ∙ ap is_le e))
+
+-- equal names have one place
+pub order_if_alike : (one two : Labels) → name_eq one two ≡ true → name_cmp one two ≡ Equal
+order_if_alike one two same = tied (name_cmp one two) (sym (name_ties one two) ∙ same)
+  where
+    tied : (r : Ordering) → is_eq r ≡ true → r ≡ Equal
+    tied Less h = absurd (true≢false (sym h))
+    tied Equal h = refl
+    tied Greater h = absurd (true≢false (sym h))
+
+pub le_if_alike : (one two : Labels) → name_eq one two ≡ true → is_le (name_cmp one two) ≡ true
+le_if_alike one two same = ap is_le (order_if_alike one two same)
+
+-- a name doesn't come before one that comes before it, or is it
+pub not_both : (one two : Labels) → name_cmp one two ≡ Less → is_le (name_cmp two one) ≡ true → ⊥
+not_both one two lt le = true≢false (sym (ap is_lt lt) ∙ not_lt_from_le two one le)
 
 -- ---- names below a name lie together
 

@@ -1,18 +1,17 @@
 -- What a true NSEC record says of its zone: no owner lies between its owner and its next name (RFC 4034, 4.1.1).
-use Rattle.std.proofs.Common.{◌≡◌, ℕ, Bool, true, false, cond, not, ◌==◌, ◌&&◌, ◌||◌, refl, sym, ap, ◌∙◌, true≢false, Ordering, ◌⊎◌, inl, inr}
+use Rattle.std.proofs.Common.{◌≡◌, ℕ, Bool, true, false, cond, not, ◌==◌, ◌&&◌, ◌||◌, refl, sym, ap, ◌∙◌, ◌⊎◌, inl, inr}
 use Rattle.std.specs.List.{list_all}
-use Rattle.std.specs.Ordering.{is_lt, is_le, is_eq}
-use Rattle.std.specs.declared.cmp.Ordering.TheVariants.{Less, Equal, Greater}
+use Rattle.std.specs.Ordering.{is_lt, is_le}
+use Rattle.std.specs.declared.cmp.Ordering.TheVariants.{Less}
 use Rattle.std.proofs.lemmas.Bool.{and_parts}
 use Rattle.dns_model.specs.Names.{Labels, name_eq, name_cmp, at_or_above, strictly_above}
 use Rattle.dns_model.specs.Types.{type_ns, type_soa, type_ds}
 use Rattle.dns_model.specs.Owned.{OwnedNsec}
 use Rattle.dns_model.proofs.NameLemmas.{name_equiv}
-use Rattle.dns_model.proofs.OrderLemmas.{name_ties}
 use Rattle.dns_denial.specs.Covering.{before, leads_back, spans}
 use Rattle.dns_denial.specs.Zones.{SetKey, Zone, has_set, is_owner, is_delegation, ends_at, fits_in, is_zone, is_signing_type, is_last, none_between, is_next, IsTrueNsec}
 use Rattle.dns_denial.proofs.Members.{unnot, after_not, not_and, not_true, or_cases, IsMember, picked, any_agree}
-use Rattle.dns_denial.proofs.NamesTogether.{lt_from, le_from_not_lt, not_lt_from_le, le_trans}
+use Rattle.dns_denial.proofs.NamesTogether.{lt_from, le_from_not_lt, le_trans, le_if_alike, not_both}
 
 -- ---- equal names
 
@@ -33,21 +32,6 @@ unfolding is_delegation
 is_delegation_alike zone one two same =
     ap (λ b. b && not (name_eq one zone.apex)) (has_set_alike zone one two type_ns same)
     ∙ ap (λ b. has_set zone two type_ns && not b) (name_equiv.congr one two zone.apex same)
-
-pub order_if_alike : (one two : Labels) → name_eq one two ≡ true → name_cmp one two ≡ Equal
-order_if_alike one two same = tied (name_cmp one two) (sym (name_ties one two) ∙ same)
-  where
-    tied : (r : Ordering) → is_eq r ≡ true → r ≡ Equal
-    tied Less h = absurd (true≢false (sym h))
-    tied Equal h = refl
-    tied Greater h = absurd (true≢false (sym h))
-
-pub le_if_alike : (one two : Labels) → name_eq one two ≡ true → is_le (name_cmp one two) ≡ true
-le_if_alike one two same = ap is_le (order_if_alike one two same)
-
--- a name doesn't come before one that comes before it, or is it
-pub not_both : (one two : Labels) → name_cmp one two ≡ Less → is_le (name_cmp two one) ≡ true → ⊥
-not_both one two lt le = true≢false (sym (ap is_lt lt) ∙ not_lt_from_le two one le)
 
 -- ---- the owners of a zone
 
