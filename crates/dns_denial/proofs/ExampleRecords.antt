@@ -6,7 +6,7 @@ use Rattle.std.proofs.lemmas.Bool.Decides.{nat_tests}
 use Rattle.std.proofs.lemmas.List.{get_or_past}
 use Rattle.std.proofs.Math.Nat.{zero-div}
 use Rattle.dns_model.specs.Names.{star}
-use Rattle.dns_model.specs.Types.{type_a, type_nsec, type_rrsig}
+use Rattle.dns_model.specs.Types.{type_nsec, type_rrsig}
 use Rattle.dns_model.specs.Shapes.{window_in, windows_in, has_bit, window_has, bitmap_has}
 use Rattle.dns_model.specs.Records.{Question}
 use Rattle.dns_model.specs.Owned.{OwnedNsec}
@@ -17,7 +17,7 @@ use Rattle.dns_denial.specs.NsecVerdict.{common_ancestor, closest_encloser, nsec
 use Rattle.dns_denial.specs.Zones.{has_set, is_owner, is_delegation, exists_in, encloser, from_wildcard, lookup, Data, is_last, none_between, is_next, IsTrueNsec}
 use Rattle.dns_denial.specs.DenialInZones.{IsShownBy, HasNone}
 use Rattle.dns_denial.proofs.Promises.{denial_holds}
-use Rattle.dns_denial.proofs.ExampleZones.{letter, apex, below, zone, well_formed}
+use Rattle.dns_denial.proofs.ExampleZones.{type_a, letter, apex, below, zone, well_formed}
 
 -- ---- bits of all types
 
