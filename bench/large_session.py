@@ -2,6 +2,8 @@
 """Seconds of the program over sessions of 1 to 16 MiB, beside those of bytes.fromhex over the same hexadecimal.
 
     python3 bench/large_session.py [PROGRAM]
+
+Three kinds of lines fill a session: `accept`, `reply` with messages of 30,000 bytes, and `reply` with messages of 300.
 """
 import random
 import re
@@ -12,10 +14,13 @@ from sessions import DNSKEY, NS, RUNS
 
 MIB = 1_048_576
 SIZES = (1, 2, 4, 8, 16)
-MOST_RATIO = 2.4
+MOST_RATIO = 2.2
 MOST_FACTOR = 10
 LARGE_MESSAGE = 30_000
-SMALL_MESSAGE = 100
+SMALL_MESSAGE = 300
+LEAST_MESSAGE = 100
+# MB of text a second
+LEAST_RATE = {"accept": 200, "small": 150}
 A = 1
 
 draw = random.Random(1)
@@ -37,7 +42,7 @@ def accept_lines(room):
         yield line
 
 
-def large_message(owner, most):
+def long_message(owner, most):
     """A response of at most so many bytes: NS, A and DNSKEY records in turn, no pointers."""
     shapes = ((NS, lambda: sessions.name(draw.randbytes(12).hex().encode(), b"example")),
               (A, lambda: draw.randbytes(4)),
@@ -53,16 +58,16 @@ def large_message(owner, most):
         answers.append(record)
 
 
-def reply_lines(room):
-    """Lines for one query name each, with messages of about 30,000 bytes; the last is as long as there is room."""
+def reply_lines(room, size):
+    """Lines for one query name each, with messages of about so many bytes; the last is as long as there is room."""
     count = 0
     while True:
         label = "zone-%d" % count
         words = f"reply {label}.example. NS "
-        most = min(LARGE_MESSAGE, (room - len(words) - 1) // 2)
-        if most < SMALL_MESSAGE:
+        most = min(size, (room - len(words) - 1) // 2)
+        if most < LEAST_MESSAGE:
             return
-        line = words + large_message(sessions.name(label.encode(), b"example"), most).hex() + "\n"
+        line = words + long_message(sessions.name(label.encode(), b"example"), most).hex() + "\n"
         room -= len(line)
         count += 1
         yield line
@@ -72,7 +77,7 @@ def of_size(kind, mib):
     room = mib * MIB - len(sessions.session())
     if kind == "accept":
         return sessions.session(accepts=accept_lines(room))
-    return sessions.session(replies=reply_lines(room))
+    return sessions.session(replies=reply_lines(room, SMALL_MESSAGE if kind == "small" else LARGE_MESSAGE))
 
 
 def from_hex(text):
@@ -93,8 +98,8 @@ def verdict(value, most):
 
 def main():
     path = sessions.program()
-    for kind in ("accept", "reply"):
-        before = ratio = None
+    for kind in ("accept", "reply", "small"):
+        before = ratio = rate = None
         print(f"{'kind':8}{'MiB':>4}{'seconds':>10}{'MB/s':>8}{'ratio':>8}{'fromhex':>10}{'times':>8}", flush=True)
         for mib in SIZES:
             text = of_size(kind, mib)
@@ -106,7 +111,10 @@ def main():
             print(f"{kind:8}{mib:4}{taken:10.4f}{rate:8.1f}{shown:>8}{python:10.4f}{taken / python:8.1f}", flush=True)
             before = taken
         print(f"{kind}: {SIZES[-1]} MiB to {SIZES[-2]} MiB: {verdict(ratio, MOST_RATIO)}")
-        print(f"{kind}: {SIZES[-1]} MiB to bytes.fromhex: {verdict(taken / python, MOST_FACTOR)}\n", flush=True)
+        print(f"{kind}: {SIZES[-1]} MiB to bytes.fromhex: {verdict(taken / python, MOST_FACTOR)}")
+        if kind in LEAST_RATE:
+            print(f"{kind}: {rate:.0f} MB a second {'ok' if rate >= LEAST_RATE[kind] else 'under'} (wanted: at least {LEAST_RATE[kind]})")
+        print(flush=True)
 
 
 main()
