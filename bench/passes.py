@@ -7,6 +7,8 @@ import time
 TOP = os.path.join(os.path.dirname(os.path.realpath(__file__)), "..")
 PROGRAM = os.path.join(TOP, "crates", "dns_bench", "out", "dns_bench")
 TURNS = 9
+# the passes must take at least this part of a run
+LEAST_SHARE = 4
 
 
 def checked(path):
@@ -48,8 +50,11 @@ class Timing:
             self.best[place] = min(self.best[place], taken)
 
     def seconds(self):
-        """Seconds of one pass, with start and reading taken off."""
-        return max(self.best[1] - self.best[0], 1e-9) / self.passes
+        """Seconds of one pass, with start and reading taken off; the end where the passes are lost in these."""
+        taken = self.best[1] - self.best[0]
+        if taken < self.best[0] / LEAST_SHARE:
+            sys.exit(f"too few passes: {self.passes} take {taken:.4f} s of {self.best[1]:.4f} s")
+        return taken / self.passes
 
 
 def decoding(path, frames, passes):
