@@ -78,6 +78,7 @@ answer_of records chains = record {
   };
   chains = map (λ links. record { section = Answer; links = links }) chains;
   denial = Nothing;
+  trail = [];
 }
 
 -- the root's NS set Secure until 2000, seen at 1000

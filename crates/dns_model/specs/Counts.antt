@@ -8,3 +8,7 @@ Rose before now = min (before + 1) (2 ^ 64 - 1) ≤ now
 -- one more, or the greatest
 abbrev pub one_more : ℕ → ℕ
 one_more count = min (count + 1) (2 ^ 64 - 1)
+
+-- the count is greater by so many at least, or stands at the greatest
+abbrev pub RoseBy : ℕ → ℕ → ℕ → Type 0
+RoseBy n before now = min (before + n) (2 ^ 64 - 1) ≤ now

@@ -15,4 +15,6 @@ pub mod Serial
 pub mod Signing
 pub mod Keys
 pub mod Chains
+pub mod Told
+pub mod Trails
 pub mod SoundAnswers

@@ -13,33 +13,20 @@ use Rattle.dns_model.specs.Serial.{seconds_left}
 use Rattle.dns_model.specs.Records.{Rr, RrSet, MessageValue}
 use Rattle.dns_model.specs.Sections.{sets_of, is_signature}
 use Rattle.dns_model.specs.Chains.{LinkValue, Judge, Anchored, Matched, KeySet, Signed, justified, ends_at, last_link}
-
--- the records that a reply tells
-pub record Told : Type 0 where
-  pub code : ℕ
-  pub answers : List Rr
-  pub authorities : List Rr
-  pub additionals : List Rr
-
--- a message tells its code and its three sections; an OPT is no record
-abbrev pub told_by : MessageValue → Told
-told_by message = record {
-  code = message.response_code;
-  answers = message.answers;
-  authorities = message.authorities;
-  additionals = message.additionals;
-}
+use Rattle.dns_model.specs.Trails.{AskedValue}
+pub use Rattle.dns_model.specs.Told.{Told, told_by}
 
 -- a chain, and the section that its set stands in
 pub record ChainValue : Type 0 where
   pub section : Section
   pub links : List LinkValue
 
--- an answer: a message, the chains of its Secure sets, and what it denies
+-- an answer: a message, the chains of its Secure sets, what it denies, and how it came about, step by step
 pub record ResponseValue : Type 0 where
   pub message : MessageValue
   pub chains : List ChainValue
   pub denial : Denial
+  pub trail : List AskedValue
 
 abbrev pub is_secure : Proof → Bool
 is_secure Secure = true

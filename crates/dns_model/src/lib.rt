@@ -6,8 +6,10 @@ mod denial;
 mod name_error;
 mod proof;
 mod section;
+mod trail;
 
 pub use denial::Denial;
 pub use name_error::NameError;
 pub use proof::Proof;
 pub use section::Section;
+pub use trail::{AskRef, MarkOrigin};
