@@ -3,4 +3,6 @@ pub mod Judged
 pub mod Marks
 pub mod Outcome
 pub mod Marking
-pub mod Run
+pub mod Asking
+pub mod Chained
+pub mod Derivation

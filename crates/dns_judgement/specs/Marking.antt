@@ -1,16 +1,15 @@
--- The records of an answer with their marks, and its chains (RFC 4035, 4.3 and 5.3.3).
+-- The records of an answer with their marks (RFC 4035, 4.3 and 5.3.3).
 use Rattle.std.specs.Prelude.{ℕ, Bool, true, false, not, ◌==◌, ◌&&◌, min, List, [], ◌∷◌, ◌++◌, map, count_by, Option, None, Some, if◌then◌else◌}
 use Rattle.std.specs.List.{filter, find}
 use Rattle.dns_model.specs.declared.proof.Proof.{Proof}
 use Rattle.dns_model.specs.declared.proof.Proof.TheVariants.{Secure, Insecure, Bogus, Indeterminate}
 use Rattle.dns_model.specs.declared.section.Section.{Section}
 use Rattle.dns_model.specs.declared.section.Section.TheVariants.{Answer, Authority, Additional}
-use Rattle.dns_model.specs.declared.denial.Denial.{Denial}
 use Rattle.dns_model.specs.Names.{name_eq}
 use Rattle.dns_model.specs.Views.{rrsig_in}
 use Rattle.dns_model.specs.Records.{Rr, RrSet, MessageValue}
 use Rattle.dns_model.specs.Sections.{is_signature, covers}
-use Rattle.dns_model.specs.SoundAnswers.{ChainValue, ResponseValue, Told, section_eq, is_secure, set_rtype, signed_ttl, ttl_of}
+use Rattle.dns_model.specs.SoundAnswers.{section_eq, is_secure, set_rtype, signed_ttl, ttl_of}
 use Rattle.dns_judgement.specs.Judged.{Judged, decider}
 
 -- a record that nothing was found out of
@@ -79,14 +78,3 @@ marked_message now sets m = record m {
   authorities = marked_section now sets Authority m.authorities;
   additionals = marked_section now sets Additional m.additionals;
 }
-
-abbrev pub chain_value : Judged → ChainValue
-chain_value judged = record { section = judged.section; links = judged.chain }
-
--- the chains of the Secure sets, in order
-abbrev pub chains_of : List Judged → List ChainValue
-chains_of sets = map chain_value (filter (λ s. is_secure s.mark) sets)
-
--- the answer of a judged step
-abbrev pub finished : ℕ → List Judged → MessageValue → Denial → ResponseValue
-finished now sets m denial = record { message = marked_message now sets m; chains = chains_of sets; denial = denial }

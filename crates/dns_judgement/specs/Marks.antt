@@ -12,7 +12,7 @@ use Rattle.dns_model.specs.Views.{RrsigValue}
 use Rattle.dns_model.specs.Records.{Rr, RrSet, Question, question_eq}
 use Rattle.dns_model.specs.RecordViews.{rrsig_of, dnskey_of}
 use Rattle.dns_model.specs.Signing.{key_tag_of}
-use Rattle.dns_model.specs.Chains.{LinkValue, Anchored, KeySet, Signed, Judge, signer_fits, never_expanded, right_below_signer, rdatas_of}
+use Rattle.dns_model.specs.Chains.{Judge, signer_fits, never_expanded, right_below_signer}
 use Rattle.dns_model.specs.SoundAnswers.{Placed, section_eq}
 use Rattle.dns_judgement.specs.Validity.{is_good_by}
 use Rattle.dns_judgement.specs.Judged.{Judged}
@@ -58,45 +58,41 @@ abbrev pub is_key_set_of : ℕ → Labels → Judged → Bool
 is_key_set_of class signer judged =
     section_eq Answer judged.section && (name_eq signer judged.set.owner && ((judged.set.rtype == type_dnskey) && (class == judged.set.class)))
 
--- what one signature does for its set: it proves it by a chain, it excuses it, or neither
+-- what one signature does for its set: it proves it, it excuses it, or neither
 pub data Verdict : Type 0 where
-  Proved : List LinkValue → Verdict
+  Proved : Verdict
   Excused : Verdict
   Failed : Verdict
 
 abbrev pub is_proved : Verdict → Bool
-is_proved (Proved chain) = true
+is_proved Proved = true
 is_proved Excused = false
 is_proved Failed = false
 
 abbrev pub is_excused : Verdict → Bool
-is_excused (Proved chain) = false
+is_excused Proved = false
 is_excused Excused = true
 is_excused Failed = false
 
--- the chain of a key set, and the link that a signature by one of its keys adds
-abbrev pub signed_chain : RrSet → Rr → List LinkValue → Rr → List LinkValue
-signed_chain set r chain key =
-    chain ++ Signed set.owner set.class set.rtype (rdatas_of set.records) r.rdata (length chain - 1) key.rdata ∷ []
-
-abbrev pub by_secure_key : RrSet → Rr → List LinkValue → Option Rr → Verdict
-by_secure_key set r chain None = Failed
-by_secure_key set r chain (Some key) = Proved (signed_chain set r chain key)
+-- by the counted key of a Secure key set that the signature is good by, if there is one
+abbrev pub by_secure_key : Option Rr → Verdict
+by_secure_key None = Failed
+by_secure_key (Some key) = Proved
 
 abbrev pub by_insecure_key : List Rr → Verdict
 by_insecure_key [] = Failed
 by_insecure_key (key ∷ keys) = Excused
 
 -- by the mark of the key set that was asked for
-abbrev pub by_keys : Judge → RrSet → Rr → List LinkValue → Proof → List Rr → Verdict
-by_keys j set r chain Secure keys = by_secure_key set r chain (find (is_good_by j set r) keys)
-by_keys j set r chain Insecure keys = by_insecure_key keys
-by_keys j set r chain Bogus keys = Failed
-by_keys j set r chain Indeterminate keys = Failed
+abbrev pub by_keys : Judge → RrSet → Rr → Proof → List Rr → Verdict
+by_keys j set r Secure keys = by_secure_key (find (is_good_by j set r) keys)
+by_keys j set r Insecure keys = by_insecure_key keys
+by_keys j set r Bogus keys = Failed
+by_keys j set r Indeterminate keys = Failed
 
 abbrev pub by_key_set : Judge → RrSet → Rr → Labels → Option Judged → Verdict
 by_key_set j set r signer None = Failed
-by_key_set j set r signer (Some keys) = by_keys j set r keys.chain keys.mark (counted_keys signer keys.set.records)
+by_key_set j set r signer (Some keys) = by_keys j set r keys.mark (counted_keys signer keys.set.records)
 
 abbrev pub verdict_by : Judge → RrSet → Rr → List Judged → Option RrsigValue → Verdict
 verdict_by j set r answer None = Failed
@@ -129,12 +125,6 @@ abbrev pub set_mark : List Verdict → Mark
 set_mark [] = unsigned_mark
 set_mark (v ∷ vs) = mark_at (position is_proved (v ∷ vs)) (position is_excused (v ∷ vs))
 
-abbrev pub proved_chain : List Verdict → List LinkValue
-proved_chain [] = []
-proved_chain (Proved chain ∷ vs) = chain
-proved_chain (Excused ∷ vs) = proved_chain vs
-proved_chain (Failed ∷ vs) = proved_chain vs
-
 -- a set that isn't DNSKEY, judged by the verdicts of its signatures
 unfoldable pub judged_by : Placed → List Verdict → Judged
 judged_by placed verdicts = record {
@@ -142,7 +132,6 @@ judged_by placed verdicts = record {
   set = placed.set;
   mark = (set_mark verdicts).mark;
   sig = (set_mark verdicts).sig;
-  chain = proved_chain verdicts;
 }
 
 -- a record of another type than DNSKEY is never anchored
@@ -167,27 +156,11 @@ signed_keys j set (n, signature) =
 unfoldable pub first_signed : Judge → RrSet → List Rr → Option SignedKeys
 first_signed j set signatures = slice_get (filter_map (signed_keys j set) (enumerate_from 0 signatures)) 0
 
--- n, n + 1 and so on, one for each
-abbrev pub numbers_from : ℕ → List (List ℕ) → List ℕ
-numbers_from n [] = []
-numbers_from n (key ∷ keys) = n ∷ numbers_from (n + 1) keys
-
--- a link for each anchored key, and then their set
-abbrev pub anchored_chain : RrSet → List LinkValue
-anchored_chain set =
-    map (Anchored set.owner set.class) (rdatas_of set.records)
-    ++ KeySet set.owner set.class (rdatas_of set.records) (numbers_from 0 (rdatas_of set.records)) ∷ []
-
-abbrev pub self_signed_chain : RrSet → SignedKeys → List LinkValue
-self_signed_chain set signed =
-    Anchored set.owner set.class signed.key.rdata
-    ∷ Signed set.owner set.class set.rtype (rdatas_of set.records) signed.signature.rdata 0 signed.key.rdata ∷ []
-
 abbrev pub keys_unsigned : Judge → Placed → Judged
 keys_unsigned j placed =
     if list_all (is_anchored_key j placed.set) placed.set.records
-    then record { section = placed.section; set = placed.set; mark = Secure; sig = None; chain = anchored_chain placed.set }
-    else record { section = placed.section; set = placed.set; mark = Bogus; sig = None; chain = [] }
+    then record { section = placed.section; set = placed.set; mark = Secure; sig = None }
+    else record { section = placed.section; set = placed.set; mark = Bogus; sig = None }
 
 abbrev pub keys_by : Judge → Placed → Option SignedKeys → Judged
 keys_by j placed (Some signed) = record {
@@ -195,7 +168,6 @@ keys_by j placed (Some signed) = record {
   set = placed.set;
   mark = Secure;
   sig = Some signed.place;
-  chain = self_signed_chain placed.set signed;
 }
 keys_by j placed None = keys_unsigned j placed
 

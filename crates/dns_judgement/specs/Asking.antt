@@ -1,0 +1,34 @@
+-- What a step of a lookup judges and asks (RFC 4035, 4.3 and 5).
+use Rattle.std.specs.Prelude.{ℕ, Bool, ◌==◌, ◌||◌, min, List, Option, None, Some}
+use Rattle.std.specs.List.{filter}
+use Rattle.dns_model.specs.Types.{type_soa, type_ds, type_nsec, type_dnskey, type_nsec3}
+use Rattle.dns_model.specs.Views.{RrsigValue}
+use Rattle.dns_model.specs.Records.{Rr, RrSet, Question}
+use Rattle.dns_model.specs.RecordViews.{rrsig_of}
+use Rattle.dns_model.specs.SoundAnswers.{Told, Placed, placed_sets}
+use Rattle.dns_judgement.specs.Marks.{key_question}
+
+-- how many sends a lookup makes at the most
+abbrev pub most_sends : ℕ
+most_sends = 1024
+
+-- how deep nested asks go, where they may go so deep
+abbrev pub depth_limit : ℕ → ℕ
+depth_limit depth = min depth 255
+
+-- the types whose sets are judged: all at the top, below it those by which others are judged
+abbrev pub is_judged_at : ℕ → ℕ → Bool
+is_judged_at depth rtype =
+    (depth == 0) || (rtype == type_dnskey) || (rtype == type_ds) || (rtype == type_nsec) || (rtype == type_nsec3) || (rtype == type_soa)
+
+-- the sets of a step at a depth that are judged, in order
+abbrev pub judged_part : ℕ → Told → List Placed
+judged_part depth told = filter (λ p. is_judged_at depth p.set.rtype) (placed_sets told)
+
+abbrev pub signer_question : ℕ → Option RrsigValue → Option Question
+signer_question class None = None
+signer_question class (Some sig) = Some (key_question class sig.signer)
+
+-- the ask of a signature for its signer's keys
+abbrev pub ask_of : RrSet → Rr → Option Question
+ask_of set r = signer_question set.class (rrsig_of r)

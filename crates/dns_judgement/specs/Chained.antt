@@ -1,0 +1,148 @@
+-- For private functions and for proofs only: judged sets with their chains (RFC 4035, 5.2 and 5.3). The rules of marks don't
+-- look at chains; which key decided, and so the link that is added, is found beside them.
+use Rattle.std.specs.Prelude.{ℕ, ◌+◌, ◌-◌, Bool, true, false, ◌&&◌, List, [], ◌∷◌, ◌++◌, map, length, take, Option, None, Some, if◌then◌else◌}
+use Rattle.std.specs.Option.{option_map}
+use Rattle.std.specs.List.{filter, find, list_all}
+use Rattle.dns_model.specs.declared.denial.Denial.{Denial}
+use Rattle.dns_model.specs.Keys.{bytes_eq}
+use Rattle.dns_model.specs.Names.{Labels}
+use Rattle.dns_model.specs.Views.{RrsigValue}
+use Rattle.dns_model.specs.Records.{Rr, RrSet, MessageValue}
+use Rattle.dns_model.specs.RecordViews.{rrsig_of}
+use Rattle.dns_model.specs.Chains.{LinkValue, Judge, KeySet, Anchored, Matched, Signed, justified, ends_at, last_link, rdatas_of}
+use Rattle.dns_model.specs.Trails.{AskedValue}
+use Rattle.dns_model.specs.SoundAnswers.{ChainValue, ResponseValue, Placed, is_secure}
+use Rattle.dns_judgement.specs.Validity.{is_good_by}
+use Rattle.dns_judgement.specs.Judged.{Judged, decider}
+use Rattle.dns_judgement.specs.Marks.{Verdict, Proved, Excused, Failed, SignedKeys, most_signatures, counted_keys, is_key_set_of, is_anchored_key, first_signed, verdict_of, judged_by, judged_keys}
+use Rattle.dns_judgement.specs.Marking.{marked_message}
+
+-- a judged set, and its chain where it is Secure
+pub record Chained : Type 0 where
+  pub judged : Judged
+  pub chain : List LinkValue
+
+-- without their chains
+abbrev pub bare : List Chained → List Judged
+bare sets = map (λ c. c.judged) sets
+
+-- the last link names the signature that decided, or is a key set where none did
+abbrev pub names_decider : Option LinkValue → Option Rr → Bool
+names_decider None signature = false
+names_decider (Some (Anchored owner class key)) signature = false
+names_decider (Some (Matched owner class key ds_link ds)) signature = false
+names_decider (Some (KeySet owner class keys links)) None = true
+names_decider (Some (KeySet owner class keys links)) (Some r) = false
+names_decider (Some (Signed owner class rtype rdatas sig key_link key)) None = false
+names_decider (Some (Signed owner class rtype rdatas sig key_link key)) (Some r) = bytes_eq sig r.rdata
+
+-- a Secure set has a justified chain that ends at it and names the signature that decided
+abbrev pub stands : Judge → Chained → Bool
+stands j c =
+    if is_secure c.judged.mark
+    then justified j c.chain && (ends_at c.chain c.judged.set && names_decider (last_link c.chain) (decider c.judged))
+    else true
+
+-- ---- a set that isn't DNSKEY
+
+-- the chain of a key set, and the link that a signature by one of its keys adds
+abbrev pub signed_chain : RrSet → Rr → List LinkValue → Rr → List LinkValue
+signed_chain set r chain key =
+    chain ++ Signed set.owner set.class set.rtype (rdatas_of set.records) r.rdata (length chain - 1) key.rdata ∷ []
+
+abbrev pub chain_by_key : RrSet → Rr → List LinkValue → Option Rr → List LinkValue
+chain_by_key set r chain None = []
+chain_by_key set r chain (Some key) = signed_chain set r chain key
+
+abbrev pub chain_by_set : Judge → RrSet → Rr → Labels → Option Chained → List LinkValue
+chain_by_set j set r signer None = []
+chain_by_set j set r signer (Some keys) =
+    chain_by_key set r keys.chain (find (is_good_by j set r) (counted_keys signer keys.judged.set.records))
+
+abbrev pub chain_by_read : Judge → RrSet → Rr → List Chained → Option RrsigValue → List LinkValue
+chain_by_read j set r answer None = []
+chain_by_read j set r answer (Some sig) =
+    chain_by_set j set r sig.signer (find (λ c. is_key_set_of set.class sig.signer c.judged) answer)
+
+-- the chain that a signature makes from that of the key set that was asked for
+abbrev pub chain_by : Judge → RrSet → Rr → Option (List Chained) → List LinkValue
+chain_by j set r None = []
+chain_by j set r (Some answer) = chain_by_read j set r answer (rrsig_of r)
+
+-- a verdict, with the chain by which it proves its set
+pub record ChainedVerdict : Type 0 where
+  pub verdict : Verdict
+  pub chain : List LinkValue
+
+abbrev pub with_chain : Verdict → List LinkValue → ChainedVerdict
+with_chain Proved chain = record { verdict = Proved; chain = chain }
+with_chain Excused chain = record { verdict = Excused; chain = [] }
+with_chain Failed chain = record { verdict = Failed; chain = [] }
+
+-- the verdict of one signature, with the sets of the answer to its ask; none where the ask failed or was refused
+unfoldable pub chained_verdict : Judge → RrSet → Rr → Option (List Chained) → ChainedVerdict
+chained_verdict j set r answer = with_chain (verdict_of j set r (option_map bare answer)) (chain_by j set r answer)
+
+abbrev pub bare_verdicts : List ChainedVerdict → List Verdict
+bare_verdicts verdicts = map (λ v. v.verdict) verdicts
+
+abbrev pub chain_if_proved : Verdict → List LinkValue → List LinkValue → List LinkValue
+chain_if_proved Proved chain others = chain
+chain_if_proved Excused chain others = others
+chain_if_proved Failed chain others = others
+
+-- the chain of the first verdict that proves the set
+abbrev pub proved_chain : List ChainedVerdict → List LinkValue
+proved_chain [] = []
+proved_chain (v ∷ vs) = chain_if_proved v.verdict v.chain (proved_chain vs)
+
+-- a set that isn't DNSKEY, judged by the verdicts of its signatures
+abbrev pub chained_by : Placed → List ChainedVerdict → Chained
+chained_by placed verdicts = record { judged = judged_by placed (bare_verdicts verdicts); chain = proved_chain verdicts }
+
+-- ---- a DNSKEY set
+
+-- n, n + 1 and so on, one for each
+abbrev pub numbers_from : ℕ → List (List ℕ) → List ℕ
+numbers_from n [] = []
+numbers_from n (key ∷ keys) = n ∷ numbers_from (n + 1) keys
+
+-- a link for each anchored key, and then their set
+abbrev pub anchored_chain : RrSet → List LinkValue
+anchored_chain set =
+    map (Anchored set.owner set.class) (rdatas_of set.records)
+    ++ KeySet set.owner set.class (rdatas_of set.records) (numbers_from 0 (rdatas_of set.records)) ∷ []
+
+abbrev pub self_signed_chain : RrSet → SignedKeys → List LinkValue
+self_signed_chain set signed =
+    Anchored set.owner set.class signed.key.rdata
+    ∷ Signed set.owner set.class set.rtype (rdatas_of set.records) signed.signature.rdata 0 signed.key.rdata ∷ []
+
+abbrev pub keys_chain_by : Judge → RrSet → Option SignedKeys → List LinkValue
+keys_chain_by j set (Some signed) = self_signed_chain set signed
+keys_chain_by j set None = if list_all (is_anchored_key j set) set.records then anchored_chain set else []
+
+-- a DNSKEY set with the chain by which it is Secure
+unfoldable pub chained_keys : Judge → Placed → Chained
+chained_keys j placed = record {
+  judged = judged_keys j placed;
+  chain = keys_chain_by j placed.set (first_signed j placed.set (take most_signatures placed.set.signatures));
+}
+
+-- ---- an answer
+
+abbrev pub chain_value : Chained → ChainValue
+chain_value c = record { section = c.judged.section; links = c.chain }
+
+-- the chains of the Secure sets, in order
+abbrev pub chains_of : List Chained → List ChainValue
+chains_of sets = map chain_value (filter (λ c. is_secure c.judged.mark) sets)
+
+-- the answer of a judged step, with the trail that led to it
+abbrev pub finished : ℕ → List Chained → MessageValue → Denial → List AskedValue → ResponseValue
+finished now sets m denial trail = record {
+  message = marked_message now (bare sets) m;
+  chains = chains_of sets;
+  denial = denial;
+  trail = trail;
+}
