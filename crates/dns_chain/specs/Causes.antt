@@ -1,31 +1,27 @@
--- Why a lookup gives each of its answers (RFC 4035, 4.3 and 5.4; RFC 1035, 3.2.4).
-use Rattle.std.specs.Prelude.{ℕ, ◌≡◌, ◌⊎◌, ◌≤◌, Bool, true, false, List, Option, None, Some, Ok, Err}
+-- Why a lookup gives each answer that has no response (RFC 4035, 4.3 and 5.4; RFC 1035, 3.2.4).
+use Rattle.std.specs.Prelude.{ℕ, ◌≡◌, ◌⊎◌, Bool, true, false, List, Option, None, Some, Ok, Err}
 use Rattle.std.specs.List.{list_any}
-use Rattle.dns_model.specs.declared.proof.Proof.{Proof}
-use Rattle.dns_model.specs.declared.proof.Proof.TheVariants.{Bogus}
-use Rattle.dns_model.specs.declared.denial.Denial.TheVariants as denial
-use Rattle.dns_model.specs.Names.{Labels}
-use Rattle.dns_model.specs.Records.{Rr, Question, MessageValue}
-use Rattle.dns_model.specs.Chains.{Judge}
-use Rattle.dns_model.specs.SoundAnswers.{Told, told_by, placed_sets, ResponseValue}
-use Rattle.dns_judgement.specs.Judged.{Judged}
-use Rattle.dns_judgement.specs.Outcome.{has_answer, needs_denial, is_wildcard_signature, foreign_record}
-use Rattle.dns_judgement.specs.Marking.{finished}
-use Rattle.dns_judgement.specs.Run.{Run, Sets, most_sends}
 use Rattle.dns_model.specs.Counts.{Rose}
+use Rattle.dns_model.specs.Names.{Labels}
+use Rattle.dns_model.specs.Records.{Rr, Question}
+use Rattle.dns_model.specs.Trails.{AskedValue, Records, Failed}
+use Rattle.dns_model.specs.SoundAnswers.{Told}
+use Rattle.dns_judgement.specs.Judged.{Judged}
+use Rattle.dns_judgement.specs.Derivation.{judged_sets}
+use Rattle.dns_judgement.specs.Outcome.{has_answer, needs_denial, foreign_record}
 use Rattle.dns_net.specs.Errors.{Reply, ErrorValue, DnsErrorValue, Busy, Dns, Message, Msg, NoConnections, Proto, Io, Timeout, QueryCaseMismatch, ForeignClassRecord, Truncated, NoMemory, ResponseCode, Nsec, DnssecBogus}
-use Rattle.dns_net.specs.Handles.{reply_to}
-use Rattle.dns_net.specs.Walks.{Walked}
+use Rattle.dns_net.specs.Handles.{Replies, reply_to}
+use Rattle.dns_net.specs.declared.handle.DnsHandle as handle
 use Rattle.dns_net.specs.declared.notice.Notice.TheVariants.{NotJudgedYet}
-use Rattle.dns_chain.specs.Heard.{heard_message, heard, says_of, Tells}
-use Rattle.dns_chain.specs.Looked.{Heard}
+use Rattle.dns_chain.specs.Heard.{heard_message, heard}
+use Rattle.dns_chain.specs.Calls.{Call, ask_of}
+use Rattle.dns_chain.specs.Sends.{Tells}
+use Rattle.dns_chain.specs.Looked.{IsTrail}
 
--- ---- what an upstream replied
-
--- the reply to the question, where the upstream tells its replies
+-- the reply to a question at the start of a call, where the upstream tells its replies
 abbrev pub IsReplyTo : Tells → Question → Reply → Type 0
 IsReplyTo None q reply = Unit {0}
-IsReplyTo (Some replies) q reply = reply_to replies q ≡ reply
+IsReplyTo (Some replies) q reply = reply_to replies.list q ≡ reply
 
 -- ---- an error that the upstream answered
 
@@ -50,149 +46,100 @@ is_upstreams Truncated = true
 is_upstreams NoMemory = false
 
 -- the call made one send and no other, it was answered this error, which has no message, and a fault was met
-pub record PassedOn {H : Type 0} (sent : H → Option Question → H → Reply → Type 0) (faults : H → ℕ) (old new : H)
-    (tells : Tells) (q : Question) (error : ErrorValue) : Type 0 where
-  pub step : sent old (Some q) new (Err error)
-  pub told : IsReplyTo tells q (Err error)
+pub record PassedOn {H : Type 0} (meanings : handle.Ghosts H) (call : Call H) (error : ErrorValue) : Type 0 where
+  pub made : ask_of meanings call call.old call.query call.new (Err error)
+  pub told : IsReplyTo (meanings.told call.old) call.query (Err error)
   pub silent : heard_message (Err error) ≡ None
-  pub rose : Rose (faults old) (faults new)
+  pub rose : Rose (meanings.faults call.old) (meanings.faults call.new)
 
 -- an error that only an upstream makes is passed on
-abbrev pub PassesOnly : {H : Type 0} → (H → Option Question → H → Reply → Type 0) → (H → ℕ) → H → H → Tells → Question → Reply → Type 0
-PassesOnly sent faults old new tells q answer = (error : ErrorValue) → is_upstreams error ≡ true → answer ≡ Err error → PassedOn sent faults old new tells q error
+abbrev pub PassesOnly : {H : Type 0} → handle.Ghosts H → Call H → Reply → Type 0
+PassesOnly meanings call answer =
+    (error : ErrorValue) → is_upstreams error ≡ true → answer ≡ Err error → PassedOn meanings call error
 
 -- whatever error without a message a known upstream replies is the answer
 abbrev pub PassesOn : Tells → Question → Reply → Type 0
 PassesOn None q answer = Unit {0}
-PassesOn (Some replies) q answer = heard_message (reply_to replies q) ≡ None → answer ≡ reply_to replies q
+PassesOn (Some replies) q answer = heard_message (reply_to replies.list q) ≡ None → answer ≡ reply_to replies.list q
 
 -- ---- a record of another class
 
 -- the call made one send and no other, and the error names the first record of its reply, in section order, that has
 -- another class than the query
-pub record NamesForeign {H : Type 0} (sent : H → Option Question → H → Reply → Type 0) (old new : H)
-    (tells : Tells) (q : Question) (error : ErrorValue) : Type 0 where
+pub record NamesForeign {H : Type 0} (meanings : handle.Ghosts H) (call : Call H) (error : ErrorValue) : Type 0 where
   pub reply : Reply
   pub records : Told
   pub first : Rr
-  pub step : sent old (Some q) new reply
-  pub told : IsReplyTo tells q reply
+  pub made : ask_of meanings call call.old call.query call.new reply
+  pub told : IsReplyTo (meanings.told call.old) call.query reply
   pub heard : heard reply ≡ Some records
-  pub found : foreign_record q records ≡ Some first
+  pub found : foreign_record call.query records ≡ Some first
   pub named : error ≡ ForeignClassRecord first.owner first.class first.rtype
 
 -- a class is complained of where the upstream did so, or for such a record
-abbrev pub ForeignOnly : {H : Type 0} → (H → Option Question → H → Reply → Type 0) → (H → ℕ) → H → H → Tells → Question → Reply → Type 0
-ForeignOnly sent faults old new tells q answer =
+abbrev pub ForeignOnly : {H : Type 0} → handle.Ghosts H → Call H → Reply → Type 0
+ForeignOnly meanings call answer =
     (owner : Labels) (class rtype : ℕ) → answer ≡ Err (ForeignClassRecord owner class rtype)
-    → PassedOn sent faults old new tells q (ForeignClassRecord owner class rtype) ⊎ NamesForeign sent old new tells q (ForeignClassRecord owner class rtype)
+    → PassedOn meanings call (ForeignClassRecord owner class rtype) ⊎ NamesForeign meanings call (ForeignClassRecord owner class rtype)
 
 -- the first such record of a known upstream's reply is named
 abbrev pub ForeignNamed : Tells → Question → Reply → Type 0
 ForeignNamed None q answer = Unit {0}
 ForeignNamed (Some replies) q answer =
-    (records : Told) (first : Rr) → heard (reply_to replies q) ≡ Some records → foreign_record q records ≡ Some first
+    (records : Told) (first : Rr) → heard (reply_to replies.list q) ≡ Some records → foreign_record q records ≡ Some first
     → answer ≡ Err (ForeignClassRecord first.owner first.class first.rtype)
 
--- ---- judged sets
-
--- the first send was answered this message, whose records have the query's class, and its sets were judged so, by a walk of
--- further sends
-pub record IsJudged {H : Type 0} (sent : H → Option Question → H → Reply → Type 0) (old new : H)
-    (tells : Tells) (j : Judge) (limit : ℕ) (q : Question) (message : MessageValue) (sets : List Judged) : Type 0 where
-  pub reply : Reply
-  pub middle : H
-  pub sends : ℕ
-  pub step : sent old (Some q) middle reply
-  pub told : IsReplyTo tells q reply
-  pub heard : Heard reply message
-  pub own : foreign_record q (told_by message) ≡ None
-  pub walk : Walked sent middle new 1 sends
-  pub few : sends ≤ most_sends
-  pub run : Run j limit (says_of tells) 1 (Sets q 0 (placed_sets (told_by message)) sets) sends
+-- ---- what isn't judged yet
 
 -- denial of existence would have to be judged: no record answers the query, or a Secure set needs it
 abbrev pub WantsDenial : Question → Told → List Judged → Type 0
 WantsDenial q told sets = (has_answer q told ≡ false) ⊎ (list_any needs_denial sets ≡ true)
 
--- an answer that may be expanded from a wildcard, with nothing Secure that could deny the name itself
-pub record LacksDenial (q : Question) (told : Told) (sets : List Judged) : Type 0 where
-  pub answered : has_answer q told ≡ true
-  pub none : list_any needs_denial sets ≡ false
-  pub wildcard : list_any is_wildcard_signature told.answers ≡ true
+-- there is a trail whose last step fails, since denial of existence would have to be judged
+pub record IsUnjudged {H : Type 0} (meanings : handle.Ghosts H) (call : Call H) : Type 0 where
+  pub trail : List AskedValue
+  pub is : IsTrail meanings call trail Failed
+  pub told : Told
+  pub heard : is.top.reply ≡ Records told false
+  pub wants : WantsDenial call.query told (judged_sets is.top)
 
--- an answer that needs no denial
-pub record NeedsNone (q : Question) (told : Told) (sets : List Judged) : Type 0 where
-  pub answered : has_answer q told ≡ true
-  pub none : list_any needs_denial sets ≡ false
-  pub plain : list_any is_wildcard_signature told.answers ≡ false
-
--- the sets were judged, and denial would have to be
-pub record IsUnjudged {H : Type 0} (sent : H → Option Question → H → Reply → Type 0) (old new : H)
-    (tells : Tells) (j : Judge) (limit : ℕ) (q : Question) : Type 0 where
-  pub message : MessageValue
-  pub sets : List Judged
-  pub judged : IsJudged sent old new tells j limit q message sets
-  pub wants : WantsDenial q (told_by message) sets
-
--- `not judged yet` is answered where the upstream did so, or where denial would have to be judged
-abbrev pub UnjudgedOnly : {H : Type 0} → (H → Option Question → H → Reply → Type 0) → (H → ℕ) → H → H → Tells → Judge → ℕ → Question → Reply → Type 0
-UnjudgedOnly sent faults old new tells j limit q answer =
-    answer ≡ Err (Message NotJudgedYet) → PassedOn sent faults old new tells q (Message NotJudgedYet) ⊎ IsUnjudged sent old new tells j limit q
+-- `not judged yet` is answered where the upstream did so, or with such a trail
+abbrev pub UnjudgedOnly : {H : Type 0} → handle.Ghosts H → Call H → Reply → Type 0
+UnjudgedOnly meanings call answer =
+    answer ≡ Err (Message NotJudgedYet) → PassedOn meanings call (Message NotJudgedYet) ⊎ IsUnjudged meanings call
 
 -- where a known upstream's reply has records of the query's class alone and none that answers the query, that isn't judged yet
 abbrev pub UnansweredUnjudged : Tells → Question → Reply → Type 0
 UnansweredUnjudged None q answer = Unit {0}
 UnansweredUnjudged (Some replies) q answer =
-    (records : Told) → heard (reply_to replies q) ≡ Some records → foreign_record q records ≡ None → has_answer q records ≡ false
+    (records : Told) → heard (reply_to replies.list q) ≡ Some records → foreign_record q records ≡ None → has_answer q records ≡ false
     → answer ≡ Err (Message NotJudgedYet)
 
--- the sets were judged, the answer lacks a denial, and its records are inside the error as they were judged
-pub record IsDenied {H : Type 0} (sent : H → Option Question → H → Reply → Type 0) (old new : H)
-    (tells : Tells) (j : Judge) (now limit : ℕ) (q : Question) (asked : Question) (response : ResponseValue) (proof : Proof) : Type 0 where
-  pub message : MessageValue
-  pub sets : List Judged
-  pub judged : IsJudged sent old new tells j limit q message sets
-  pub lacks : LacksDenial q (told_by message) sets
-  pub query : asked ≡ q
-  pub bogus : proof ≡ Bogus
-  pub marked : response ≡ finished now sets message denial.None
+-- ---- all else has a trail
 
--- an error with an answer inside comes only where that answer lacks a denial
-abbrev pub DeniedOnly : {H : Type 0} → (H → Option Question → H → Reply → Type 0) → H → H → Tells → Judge → ℕ → ℕ → Question → Reply → Type 0
-DeniedOnly sent old new tells j now limit q answer =
-    (asked : Question) (response : ResponseValue) (proof : Proof) → answer ≡ Err (Dns (Nsec asked response proof))
-    → IsDenied sent old new tells j now limit q asked response proof
+abbrev pub is_denial : ErrorValue → Bool
+is_denial Busy = false
+is_denial (Dns (ResponseCode code)) = false
+is_denial (Dns (Nsec asked response proof)) = true
+is_denial (Dns DnssecBogus) = false
+is_denial (Message NotJudgedYet) = true
+is_denial (Msg text) = false
+is_denial NoConnections = false
+is_denial (Proto error) = false
+is_denial (Io kind) = false
+is_denial Timeout = false
+is_denial QueryCaseMismatch = false
+is_denial (ForeignClassRecord owner class rtype) = false
+is_denial Truncated = false
+is_denial NoMemory = false
 
--- the sets were judged, and the answer, which needs no denial, is given with its records as they were judged
-pub record IsAccepted {H : Type 0} (sent : H → Option Question → H → Reply → Type 0) (old new : H)
-    (tells : Tells) (j : Judge) (now limit : ℕ) (q : Question) (response : ResponseValue) : Type 0 where
-  pub message : MessageValue
-  pub sets : List Judged
-  pub judged : IsJudged sent old new tells j limit q message sets
-  pub needs : NeedsNone q (told_by message) sets
-  pub marked : response ≡ finished now sets message denial.None
+-- an answer that ends a trail: an Ok one, a denial, or that it isn't judged yet
+abbrev pub ends_trail : Reply → Bool
+ends_trail (Ok response) = true
+ends_trail (Err error) = is_denial error
 
--- an answer is given only so
-abbrev pub AcceptedOnly : {H : Type 0} → (H → Option Question → H → Reply → Type 0) → H → H → Tells → Judge → ℕ → ℕ → Question → Reply → Type 0
-AcceptedOnly sent old new tells j now limit q answer =
-    (response : ResponseValue) → answer ≡ Ok response → IsAccepted sent old new tells j now limit q response
-
--- the sets of a message were judged, what was said allows no other judgement of them, and the answer is the one that their
--- case asks for
-pub record AnswersSets {H : Type 0} (sent : H → Option Question → H → Reply → Type 0) (old new : H)
-    (tells : Tells) (j : Judge) (now limit : ℕ) (q : Question) (answer : Reply) : Type 0 where
-  pub message : MessageValue
-  pub sets : List Judged
-  pub judged : IsJudged sent old new tells j limit q message sets
-  pub only : (others : List Judged) (sends : ℕ) → Run j limit (says_of tells) 1 (Sets q 0 (placed_sets (told_by message)) others) sends → others ≡ sets
-  pub unjudged : WantsDenial q (told_by message) sets → answer ≡ Err (Message NotJudgedYet)
-  pub denied : LacksDenial q (told_by message) sets → answer ≡ Err (Dns (Nsec q (finished now sets message denial.None) Bogus))
-  pub accepted : NeedsNone q (told_by message) sets → answer ≡ Ok (finished now sets message denial.None)
-
--- where a known upstream's reply has records of the query's class alone, its sets are judged and answered
-abbrev pub Judges : {H : Type 0} → (H → Option Question → H → Reply → Type 0) → H → H → Tells → Judge → ℕ → ℕ → Question → Reply → Type 0
-Judges sent old new None j now limit q answer = Unit {0}
-Judges sent old new (Some replies) j now limit q answer =
-    (records : Told) → heard (reply_to replies q) ≡ Some records → foreign_record q records ≡ None
-    → AnswersSets sent old new (Some replies) j now limit q answer
+-- where a known upstream's reply has records of the query's class alone, its sets are judged, whatever nested asks meet
+abbrev pub JudgesTold : Tells → Question → Reply → Type 0
+JudgesTold None q answer = Unit {0}
+JudgesTold (Some replies) q answer =
+    (records : Told) → heard (reply_to replies.list q) ≡ Some records → foreign_record q records ≡ None → ends_trail answer ≡ true

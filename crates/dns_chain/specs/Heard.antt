@@ -1,10 +1,10 @@
 -- What a lookup hears of a reply (RFC 4035, 4.2 and 5).
-use Rattle.std.specs.Prelude.{◌≡◌, List, Option, None, Some, Ok, Err}
-use Rattle.dns_model.specs.Records.{Question, MessageValue}
+use Rattle.std.specs.Prelude.{false, Option, None, Some, Ok, Err}
+use Rattle.dns_model.specs.Records.{MessageValue}
+use Rattle.dns_model.specs.Trails.{HeardValue, Records, Fault}
 use Rattle.dns_model.specs.SoundAnswers.{Told, told_by}
 use Rattle.dns_judgement.specs.Marking.{cleared_message}
 use Rattle.dns_net.specs.Errors.{Reply, ErrorValue, DnsErrorValue, Busy, Dns, Message, Msg, NoConnections, Proto, Io, Timeout, QueryCaseMismatch, ForeignClassRecord, Truncated, NoMemory, ResponseCode, Nsec, DnssecBogus}
-use Rattle.dns_net.specs.Handles.{reply_to}
 
 abbrev pub heard_dns : DnsErrorValue → Option MessageValue
 heard_dns (ResponseCode code) = None
@@ -38,11 +38,10 @@ told_of (Some message) = Some (told_by (cleared_message message))
 abbrev pub heard : Reply → Option Told
 heard reply = told_of (heard_message reply)
 
--- what an upstream tells: its replies, or nothing
-abbrev pub Tells : Type 0
-Tells = Option (List (Question × Reply))
+abbrev pub heard_told : Option Told → HeardValue
+heard_told None = Fault
+heard_told (Some told) = Records told false
 
--- what an upstream that tells its replies says to a question; one that doesn't tell may say anything
-abbrev pub says_of : Tells → Question → Option Told → Type 0
-says_of None q told = Unit {0}
-says_of (Some replies) q told = told ≡ heard (reply_to replies q)
+-- what a step of a trail says of a reply: its records, or a fault
+abbrev pub heard_value : Reply → HeardValue
+heard_value reply = heard_told (heard reply)

@@ -1,5 +1,5 @@
 -- The requests of a lookup (RFC 4035, 4.1, 4.6 and 4.9.2; RFC 6840, 5.7).
-use Rattle.std.specs.Prelude.{ℕ, true, min, None, if◌then◌else◌}
+use Rattle.std.specs.Prelude.{true, None, if◌then◌else◌}
 use Rattle.dns_model.specs.Records.{Question}
 use Rattle.dns_net.specs.Requests.{RequestValue, query_message}
 use Rattle.dns_net.specs.declared.request.DnsRequestOptions.{DnsRequestOptions}
@@ -19,7 +19,3 @@ asking_request query options = record {
   options = asking_options options;
   original = None;
 }
-
--- how deep nested asks go
-abbrev pub depth_limit : DnsRequestOptions → ℕ
-depth_limit options = min options.max_request_depth 255

@@ -1,7 +1,6 @@
-pub mod Heard
 pub mod Inquiries
+pub mod Heard
+pub mod Calls
 pub mod Sends
-pub mod Steps
 pub mod Looked
 pub mod Causes
-pub mod Validators

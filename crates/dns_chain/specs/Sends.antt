@@ -1,26 +1,55 @@
--- The sends of a lookup (RFC 4035, 4.1, 4.6 and 4.9.2; RFC 6840, 5.7).
-use Rattle.std.specs.Prelude.{ℕ, ◌≡◌, ◌≤◌, Option, Some}
+-- The sends of a lookup: one for each step of its trail, in the order in which they were made (RFC 4035, 4.2 and 5).
+use Rattle.std.specs.Prelude.{ℕ, ◌≡◌, ◌≢◌, ◌≤◌, Bool, true, false, List, [], ◌∷◌, Option, None, Some, Err}
+use Rattle.std.specs.List.{count_by}
 use Rattle.dns_model.specs.Records.{Question}
-use Rattle.dns_judgement.specs.Run.{most_sends}
+use Rattle.dns_model.specs.Trails.{AskedValue, HeardValue, Records, Fault}
+use Rattle.dns_judgement.specs.Asking.{most_sends}
+use Rattle.dns_net.specs.Errors as seen
 use Rattle.dns_net.specs.Errors.{Reply}
-use Rattle.dns_net.specs.Requests.{RequestValue}
+use Rattle.dns_net.specs.Handles.{Replies, reply_to, left_after}
 use Rattle.dns_net.specs.Walks.{Walked}
-use Rattle.dns_net.specs.declared.request.DnsRequestOptions.{DnsRequestOptions}
-use Rattle.dns_chain.specs.Inquiries.{asking_request}
+use Rattle.dns_chain.specs.Heard.{heard_value}
 
--- a send of a lookup with these options at this moment: what is sent is the request of its question as a judged ask
-pub record Asking {H : Type 0} (sent : H → Option Question → H → Reply → Type 0) (requested : H → RequestValue → ℕ → H → Reply → Type 0)
-    (options : DnsRequestOptions) (now : ℕ) (from : H) (asked : Option Question) (to : H) (reply : Reply) : Type 0 where
-  pub question : Question
-  pub is : asked ≡ Some question
-  pub made : sent from asked to reply
-  pub request : requested from (asking_request question options) now to reply
+-- one ask for a step of a trail: what the step heard follows from the reply, which is never want of memory
+pub record SendOf {H : Type 0} (ask : H → Question → H → Reply → Type 0) (from : H) (step : AskedValue) (to : H) : Type 0 where
+  pub reply : Reply
+  pub made : ask from step.query to reply
+  pub heard : step.reply ≡ heard_value reply
+  pub remembered : reply ≢ Err seen.NoMemory
 
--- a handle went from one state to another by a send for the query and others after it, at most so many in all
-pub record SendsFor {H : Type 0} (sent : H → Option Question → H → Reply → Type 0) (old new : H) (q : Question) : Type 0 where
+-- a handle went from one state to another by one ask for each step, in order
+abbrev pub SendsAlong : {H : Type 0} → (H → Question → H → Reply → Type 0) → H → List AskedValue → H → Type 0
+SendsAlong ask from [] to = from ≡ to
+SendsAlong {H} ask from (step ∷ steps) to = (middle : H) × SendOf ask from step middle × SendsAlong ask middle steps to
+
+-- each step heard what an upstream that tells its replies replies, one send after another
+abbrev pub IsFromReplies : Replies → List AskedValue → Type 0
+IsFromReplies replies [] = Unit {0}
+IsFromReplies replies (step ∷ steps) =
+    (step.reply ≡ heard_value (reply_to replies.list step.query)) × IsFromReplies (left_after replies step.query) steps
+
+-- what an upstream tells: its replies, or nothing
+abbrev pub Tells : Type 0
+Tells = Option Replies
+
+-- the steps, in send order, heard what the upstream replies, where it tells that
+abbrev pub IsFrom : Tells → List AskedValue → Type 0
+IsFrom None steps = Unit {0}
+IsFrom (Some replies) steps = IsFromReplies replies steps
+
+abbrev pub is_fault : HeardValue → Bool
+is_fault (Records told empty) = false
+is_fault Fault = true
+
+-- how many steps heard a fault
+abbrev pub faults_in : List AskedValue → ℕ
+faults_in trail = count_by (λ step. is_fault step.reply) trail
+
+-- a handle went from one state to another by an ask for the query and others after it, at most so many in all
+pub record SendsFor {H : Type 0} (ask : H → Question → H → Reply → Type 0) (old new : H) (q : Question) : Type 0 where
   pub middle : H
   pub reply : Reply
   pub sends : ℕ
-  pub first : sent old (Some q) middle reply
-  pub others : Walked sent middle new 1 sends
+  pub first : ask old q middle reply
+  pub others : Walked ask middle new 1 sends
   pub few : sends ≤ most_sends

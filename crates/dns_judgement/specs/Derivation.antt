@@ -1,7 +1,7 @@
 -- When a trail is a derivation: each mark and each ending follows from what was told and from the steps before
 -- (RFC 4035, 4.3, 5.2 and 5.3). No chain occurs in it, so that it can be checked with the trail alone.
 use Rattle.std.specs.Prelude.{ℕ, ◌+◌, ◌-◌, zero, suc, Bool, true, false, ◌==◌, ◌&&◌, nat_lt, nat_le, List, [], ◌∷◌, ◌++◌, map, length, take, Option, None, Some, slice_get, if◌then◌else◌}
-use Rattle.std.specs.List.{flat_map, list_any, list_all, zip, count_by, range_with_len}
+use Rattle.std.specs.List.{filter_map, flat_map, list_any, list_all, zip, count_by, range_with_len}
 use Rattle.dns_model.specs.declared.proof.Proof.{Proof}
 use Rattle.dns_model.specs.declared.proof.Proof.TheVariants.{Secure, Insecure, Bogus, Indeterminate}
 use Rattle.dns_model.specs.declared.denial.Denial.{Denial}
@@ -319,6 +319,14 @@ order_step (suc above) trail n met =
 -- the numbers of the steps in the order in which they were sent, from the last step on
 abbrev pub send_order : List AskedValue → Option (List ℕ)
 send_order trail = order_step (length trail) trail (length trail - 1) []
+
+abbrev pub steps_at : List AskedValue → Option (List ℕ) → List AskedValue
+steps_at trail None = []
+steps_at trail (Some order) = filter_map (slice_get trail) order
+
+-- the steps in the order in which they were sent
+abbrev pub in_send_order : List AskedValue → List AskedValue
+in_send_order trail = steps_at trail (send_order trail)
 
 -- each step has one place in the order: it is named by one ask, and the last step by none
 abbrev pub is_each_once : ℕ → Option (List ℕ) → Bool

@@ -9,7 +9,7 @@ use Rattle.dns_model.specs.Names.{name_eq}
 use Rattle.dns_model.specs.Views.{rrsig_in}
 use Rattle.dns_model.specs.Records.{Rr, RrSet, MessageValue}
 use Rattle.dns_model.specs.Sections.{is_signature, covers}
-use Rattle.dns_model.specs.SoundAnswers.{section_eq, is_secure, set_rtype, signed_ttl, ttl_of}
+use Rattle.dns_model.specs.SoundAnswers.{Told, section_eq, is_secure, set_rtype, signed_ttl, ttl_of}
 use Rattle.dns_judgement.specs.Judged.{Judged, decider}
 
 -- a record that nothing was found out of
@@ -77,4 +77,12 @@ marked_message now sets m = record m {
   answers = marked_section now sets Answer m.answers;
   authorities = marked_section now sets Authority m.authorities;
   additionals = marked_section now sets Additional m.additionals;
+}
+
+-- the records of a reply with the marks that sets leave to each, and their code
+abbrev pub marked_told : ℕ → List Judged → Told → Told
+marked_told now sets told = record told {
+  answers = marked_section now sets Answer told.answers;
+  authorities = marked_section now sets Authority told.authorities;
+  additionals = marked_section now sets Additional told.additionals;
 }

@@ -1,0 +1,66 @@
+-- What the clauses of a lookup speak of: the call, its asks, and its validator's parts (RFC 4035, 4.1 and 5).
+use Rattle.std.specs.Prelude.{ℕ, ◌≡◌, ◌⊎◌, ◌≤◌, List, Option, Some, Ok, Err}
+use Rattle.dns_model.specs.Counts.{Rose}
+use Rattle.dns_model.specs.Records.{Question}
+use Rattle.dns_model.specs.Keys.{AnchorValue}
+use Rattle.dns_model.specs.Chains.{Judge, judge}
+use Rattle.dns_net.specs.Errors as seen
+use Rattle.dns_net.specs.Errors.{Reply}
+use Rattle.dns_net.specs.Handles.{ReplyIsTold, IsLeft}
+use Rattle.dns_net.specs.declared.request.DnsRequestOptions.{DnsRequestOptions}
+use Rattle.dns_net.specs.declared.handle.DnsHandle as handle
+use Rattle.dns_net.specs.declared.verifier.Verifier as verifier
+use Rattle.dns_chain.specs.Inquiries.{asking_request}
+use Rattle.dns_chain.specs.declared.handle.DnssecDnsHandle.{DnssecDnsHandle}
+
+-- the handle that a validator asks
+abbrev pub inner_of : {H V : Type 0} → DnssecDnsHandle H V → H
+inner_of validator = validator.handle
+
+-- the keys that it trusts
+abbrev pub anchors_of : {H V : Type 0} → DnssecDnsHandle H V → List AnchorValue
+anchors_of validator = validator.anchors
+
+-- what tests its signatures
+abbrev pub verifier_of : {H V : Type 0} → DnssecDnsHandle H V → V
+verifier_of validator = validator.verifier
+
+-- a lookup: by what it judges, its query, its options and its moment in seconds, and the handle before it and after it
+pub record Call (H : Type 0) : Type 0 where
+  pub judge : Judge
+  pub query : Question
+  pub options : DnsRequestOptions
+  pub now : ℕ
+  pub old : H
+  pub new : H
+
+-- a call of a validator
+abbrev pub call_of : {H V : Type 0} → verifier.Ghosts V → DnssecDnsHandle H V → DnssecDnsHandle H V → Question → DnsRequestOptions → ℕ → Call H
+call_of tests old new q options now = record {
+  judge = judge (tests.answers (verifier_of old)) (anchors_of old) now;
+  query = q;
+  options = options;
+  now = now;
+  old = inner_of old;
+  new = inner_of new;
+}
+
+-- an error other than want of memory comes only where the count of faults rose
+abbrev pub IsCaused : ℕ → ℕ → Reply → Type 0
+IsCaused before after (Ok response) = Unit {0}
+IsCaused before after (Err error) = (error ≡ seen.NoMemory) ⊎ Rose before after
+
+-- one ask of a lookup: the request of its question as a judged ask, at the moment of the call; its reply is the one that the
+-- handle tells at that send, where it tells its replies
+pub record Asking {H : Type 0} (meanings : handle.Ghosts H) (options : DnsRequestOptions) (now : ℕ)
+    (from : H) (q : Question) (to : H) (reply : Reply) : Type 0 where
+  pub made : meanings.sent from (Some q) to reply
+  pub request : meanings.requested from (asking_request q options) now to reply
+  pub told : ReplyIsTold (meanings.told from) (Some q) reply
+  pub left : IsLeft (meanings.told from) (Some q) reply (meanings.told to)
+  pub later : meanings.faults from ≤ meanings.faults to
+  pub cause : IsCaused (meanings.faults from) (meanings.faults to) reply
+
+-- an ask of a call
+abbrev pub ask_of : {H : Type 0} → handle.Ghosts H → Call H → H → Question → H → Reply → Type 0
+ask_of meanings call = Asking meanings call.options call.now
