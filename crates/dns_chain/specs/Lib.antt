@@ -4,3 +4,4 @@ pub mod Calls
 pub mod Sends
 pub mod Looked
 pub mod Causes
+pub mod Walking
