@@ -5,3 +5,4 @@ pub mod Sends
 pub mod Looked
 pub mod Causes
 pub mod Walking
+pub mod Answering

@@ -66,7 +66,7 @@ pub record IsTrail {H : Type 0} (meanings : handle.Ghosts H) (call : Call H) (tr
   pub ending : top.ending ≡ ending
   pub walked : SendsAlong (ask_of meanings call) call.old (in_send_order trail) call.new
   pub from : IsFrom (meanings.told call.old) (in_send_order trail)
-  pub faults : RoseBy (faults_in trail) (meanings.faults call.old) (meanings.faults call.new)
+  pub faults : RoseBy (faults_in (in_send_order trail)) (meanings.faults call.old) (meanings.faults call.new)
 
 -- the records of the response are those that the last step of its trail heard, with the marks that the step gives its sets
 pub record HasMarksOfTrail (now : ℕ) (a : ResponseValue) : Type 0 where
