@@ -1,14 +1,10 @@
 -- The set whose signed bytes are made many times (RFC 4034, 3.1.8.1), and how many bytes that are.
 use Rattle.std.specs.Prelude.{ℕ, zero, suc, List, [], ◌∷◌, length, Option, None, Some}
 use Rattle.dns_model.specs.Bytes.{u32_bytes}
-use Rattle.dns_model.specs.Types.{class_in}
+use Rattle.dns_model.specs.Types.{type_a, class_in}
 use Rattle.dns_model.specs.Views.{RrsigValue, rrsig_in}
 use Rattle.dns_model.specs.Signing.{signed_bytes}
 use Rattle.dns_bench.specs.Counting.{raised}
-
--- an address (RFC 1035, 3.4.1)
-abbrev pub type_a : ℕ
-type_a = 1
 
 -- the IPv4 addresses of the numbers below this one, the greatest first
 unfoldable pub addresses : ℕ → List (List ℕ)

@@ -4,75 +4,23 @@ use Rattle.std.specs.Prelude.{nat_lt}
 use Rattle.std.specs.List.{list_any}
 use Rattle.std.specs.Ordering.{is_eq}
 use Rattle.std.specs.declared.cmp.Ordering.TheVariants.{Less}
-use Rattle.std.proofs.lemmas.Bool.{and_parts}
-use Rattle.std.proofs.lemmas.Bool.Decides.{nat_tests}
-use Rattle.dns_model.specs.Names.{Label, Labels, name_eq, name_cmp, at_or_above, strictly_above}
-use Rattle.dns_model.specs.Types.{type_ns, type_soa}
+use Rattle.std.proofs.lemmas.Bool.{and_parts, false_from_ne_true, or_right, or_cases}
+use Rattle.dns_model.specs.Names.{Label, Labels, name_eq, name_cmp, at_or_above, strictly_above, common_ancestor}
+use Rattle.dns_model.specs.Types.{type_ns, type_soa, type_dname}
 use Rattle.dns_model.specs.Owned.{OwnedNsec}
 use Rattle.dns_model.proofs.NameLemmas.{name_equiv}
-use Rattle.dns_denial.specs.Covering.{type_dname, has_type, is_cut, spans, is_silent_on}
-use Rattle.dns_denial.specs.NsecVerdict.{common_ancestor, longer, closest_encloser}
+use Rattle.dns_model.proofs.NamesInOrder.{le_from_Less, le_trans, above_comes_first, between_is_below, order_if_alike, not_both}
+use Rattle.dns_model.proofs.AboveLemmas.{above_alike, below_alike, above_itself, above_is_shorter, above_one_more, strictly_made, strictly_parts, alike_if_not_strictly}
+use Rattle.dns_model.proofs.CommonAncestors.{Ends, common_ends, common_above, common_below, ends_above, longer_below}
+use Rattle.dns_denial.specs.Covering.{has_type, is_cut, spans, is_silent_on}
+use Rattle.dns_denial.specs.NsecVerdict.{closest_encloser}
 use Rattle.dns_denial.specs.Zones.{SetKey, Zone, has_set, is_owner, is_delegation, exists_in, ends_at, is_zone, encloser, IsTrueNsec}
-use Rattle.dns_denial.proofs.Members.{not_true, or_true, or_cases, IsMember, IsPicked, picked}
-use Rattle.dns_denial.proofs.NamesTogether.{le_from_Less, le_trans, above_comes_first, between_is_below, above_alike, below_alike, above_itself, root_above, above_trans, above_is_shorter, above_tail, above_one_more, above_nested, strictly_made, strictly_parts, alike_if_not_strictly, order_if_alike, not_both}
+use Rattle.dns_denial.proofs.Members.{IsMember, IsPicked, picked}
 use Rattle.dns_denial.proofs.ZoneLemmas.{has_set_alike, is_delegation_alike, fits, none_below, soa_at_apex, Side, AtOrBefore, After, spans_after, sided, next_is_owner}
-
--- ---- the common ancestor of two names
-
--- the last labels of a name
-pub record Ends (last name : Labels) : Type 0 where
-  pub front : Labels
-  pub whole : name ≡ front ++ last
-
-common_ends_by : (label : Label) (name other : Labels) (b : Bool) → Ends (common_ancestor name other) name
-    → Ends (cond b (label ∷ name) (common_ancestor name other)) (label ∷ name)
-common_ends_by label name other true e = record { front = []; whole = refl }
-common_ends_by label name other false e = record { front = label ∷ e.front; whole = ap (λ (rest : Labels). label ∷ rest) e.whole }
-
-pub common_ends : (name other : Labels) → Ends (common_ancestor name other) name
-unfolding common_ancestor
-common_ends [] other = record { front = []; whole = refl }
-common_ends (label ∷ name) other = common_ends_by label name other (at_or_above (label ∷ name) other) (common_ends name other)
-
-common_above_by : (label : Label) (name other : Labels) (b : Bool) → at_or_above (label ∷ name) other ≡ b
-    → at_or_above (common_ancestor name other) other ≡ true → at_or_above (cond b (label ∷ name) (common_ancestor name other)) other ≡ true
-common_above_by label name other true e h = e
-common_above_by label name other false e h = h
-
-pub common_above : (name other : Labels) → at_or_above (common_ancestor name other) other ≡ true
-unfolding common_ancestor
-common_above [] other = root_above other
-common_above (label ∷ name) other = common_above_by label name other (at_or_above (label ∷ name) other) refl (common_above name other)
-
-common_below_by : (above : Labels) (label : Label) (name other : Labels) (b : Bool) → at_or_above (label ∷ name) other ≡ b
-    → at_or_above above (label ∷ name) ≡ true → at_or_above above other ≡ true
-    → (at_or_above above name ≡ true → at_or_above above (common_ancestor name other) ≡ true)
-    → at_or_above above (cond b (label ∷ name) (common_ancestor name other)) ≡ true
-common_below_by above label name other true e h k more = h
-common_below_by above label name other false e h k more = by (above_tail above label name h)
-  where
-    by : (name_eq above (label ∷ name) ≡ true) ⊎ (at_or_above above name ≡ true) → at_or_above above (common_ancestor name other) ≡ true
-    by (inl same) = absurd (true≢false (sym (above_alike above (label ∷ name) other same k) ∙ e))
-    by (inr lower) = more lower
-
--- a name above both is above their common ancestor
-pub common_below : (above name other : Labels) → at_or_above above name ≡ true → at_or_above above other ≡ true
-    → at_or_above above (common_ancestor name other) ≡ true
-unfolding common_ancestor
-common_below above [] other h k = h
-common_below above (label ∷ name) other h k =
-    common_below_by above label name other (at_or_above (label ∷ name) other) refl h k (λ lower. common_below above name other lower k)
-
-above_front : (front last : Labels) → at_or_above last (front ++ last) ≡ true
-above_front [] last = above_itself last
-above_front (label ∷ front) last = above_one_more last label (front ++ last) (above_front front last)
-
-pub ends_above : (last name : Labels) → Ends last name → at_or_above last name ≡ true
-ends_above last name e = ap (at_or_above last) e.whole ∙ above_front e.front last
 
 -- ---- the closest encloser by the record
 
-pub encloser_ends : (name : Labels) (nsec : OwnedNsec) → Ends (closest_encloser name nsec) name
+encloser_ends : (name : Labels) (nsec : OwnedNsec) → Ends (closest_encloser name nsec) name
 unfolding closest_encloser
 encloser_ends name nsec = by (nat_lt (length (common_ancestor name nsec.owner)) (length (common_ancestor name nsec.text.next)))
   where
@@ -81,7 +29,7 @@ encloser_ends name nsec = by (nat_lt (length (common_ancestor name nsec.owner)) 
     by false = common_ends name nsec.owner
 
 -- it is above the owner or the next name
-pub encloser_above : (name : Labels) (nsec : OwnedNsec)
+encloser_above : (name : Labels) (nsec : OwnedNsec)
     → (at_or_above (closest_encloser name nsec) nsec.owner ≡ true) ⊎ (at_or_above (closest_encloser name nsec) nsec.text.next ≡ true)
 unfolding closest_encloser
 encloser_above name nsec = by (nat_lt (length (common_ancestor name nsec.owner)) (length (common_ancestor name nsec.text.next)))
@@ -91,24 +39,8 @@ encloser_above name nsec = by (nat_lt (length (common_ancestor name nsec.owner))
     by true = inr (common_above name nsec.text.next)
     by false = inl (common_above name nsec.owner)
 
--- what is above one of two names, both above a name, is above the longer one
-longer_below : (above one two name : Labels) → at_or_above one name ≡ true → at_or_above two name ≡ true
-    → (at_or_above above one ≡ true) ⊎ (at_or_above above two ≡ true) → at_or_above above (longer one two) ≡ true
-longer_below above one two name h k either = by (nat_lt (length one) (length two)) refl either
-  where
-    by : (b : Bool) → nat_lt (length one) (length two) ≡ b → (at_or_above above one ≡ true) ⊎ (at_or_above above two ≡ true)
-        → at_or_above above (cond b two one) ≡ true
-    by true e (inl first) =
-        let short : length one ≤ length two = grind (arith, nat_tests, e) in
-        above_trans above one two first (above_nested one two name h k short)
-    by true e (inr second) = second
-    by false e (inl first) = first
-    by false e (inr second) =
-        let short : length two ≤ length one = grind (arith, nat_tests, e) in
-        above_trans above two one second (above_nested two one name k h short)
-
 -- what is above the name, and above the owner or the next name, is above the closest encloser
-pub encloser_below : (above name : Labels) (nsec : OwnedNsec) → at_or_above above name ≡ true
+encloser_below : (above name : Labels) (nsec : OwnedNsec) → at_or_above above name ≡ true
     → (at_or_above above nsec.owner ≡ true) ⊎ (at_or_above above nsec.text.next ≡ true) → at_or_above above (closest_encloser name nsec) ≡ true
 unfolding closest_encloser
 encloser_below above name nsec h either =
@@ -134,7 +66,7 @@ exists_above zone name owner h own above =
     rw (h, there) refl
 
 -- every owner is in the zone
-pub owner_inside : (zone : Zone) (owner : Labels) → is_zone zone ≡ true → is_owner zone owner ≡ true → at_or_above zone.apex owner ≡ true
+owner_inside : (zone : Zone) (owner : Labels) → is_zone zone ≡ true → is_owner zone owner ≡ true → at_or_above zone.apex owner ≡ true
 unfolding is_owner
 owner_inside zone owner h own =
     let k = picked (λ set. name_eq set.owner owner) zone.sets own in
@@ -147,7 +79,7 @@ existing zone name h = picked (λ set. at_or_above name set.owner) zone.sets (an
 -- a name that is spanned and isn't above the next one doesn't exist
 pub spanned_is_missing : (zone : Zone) (nsec : OwnedNsec) (name : Labels) → IsTrueNsec zone nsec → spans name nsec ≡ true
     → strictly_above name nsec.text.next ≡ false → exists_in zone name ≡ false
-spanned_is_missing zone nsec name t spanned leaf = not_true (exists_in zone name) (λ h.
+spanned_is_missing zone nsec name t spanned leaf = false_from_ne_true (exists_in zone name) (λ h.
     let k = existing zone name h in
     by k.it.owner k.passes (sided zone nsec name k.it t spanned k.member))
   where
@@ -176,7 +108,7 @@ existing_encloses zone nsec name above t spanned h there =
         (le_trans above name nsec.text.next (above_comes_first above name h) (le_from_Less (name_cmp name nsec.text.next) lt)) le)
 
 -- the closest encloser exists
-pub encloser_exists : (zone : Zone) (nsec : OwnedNsec) (name : Labels) → is_zone zone ≡ true → IsTrueNsec zone nsec → at_or_above zone.apex name ≡ true
+encloser_exists : (zone : Zone) (nsec : OwnedNsec) (name : Labels) → is_zone zone ≡ true → IsTrueNsec zone nsec → at_or_above zone.apex name ≡ true
     → exists_in zone (closest_encloser name nsec) ≡ true
 encloser_exists zone nsec name formed t h = by (encloser_above name nsec)
   where
@@ -198,7 +130,7 @@ encloser_of zone [] [] there only = refl
 encloser_of zone [] (label ∷ last) there only = ap (λ b. cond b (label ∷ last) (encloser zone last)) there
 encloser_of zone (label ∷ front) last there only =
     let missing : exists_in zone (label ∷ (front ++ last)) ≡ false =
-    not_true (exists_in zone (label ∷ (front ++ last))) (λ h.
+    false_from_ne_true (exists_in zone (label ∷ (front ++ last))) (λ h.
     let up = only (label ∷ (front ++ last)) (above_itself (label ∷ (front ++ last))) h in
     too_long front last label (above_is_shorter (label ∷ (front ++ last)) last up)) in
     ap (λ b. cond b (label ∷ (front ++ last)) (encloser zone (front ++ last))) missing
@@ -225,7 +157,7 @@ delegation_is_cut zone nsec formed t h =
     let parts = and_parts (has_set zone nsec.owner type_ns) (not (name_eq nsec.owner zone.apex)) h in
     let ns : has_type type_ns nsec ≡ true = sym (t.types type_ns) ∙ parts.0 in
     let soa : has_type type_soa nsec ≡ false =
-    not_true (has_type type_soa nsec) (λ is.
+    false_from_ne_true (has_type type_soa nsec) (λ is.
     let top = soa_at_apex zone nsec.owner formed (t.types type_soa ∙ is) in
     true≢false (sym parts.1 ∙ ap not top)) in
     rw (ns, soa) refl
@@ -236,7 +168,7 @@ ends_told zone nsec formed t h = by (or_cases (is_delegation zone nsec.owner) (h
   where
     by : (is_delegation zone nsec.owner ≡ true) ⊎ (has_set zone nsec.owner type_dname ≡ true) → (is_cut nsec || has_type type_dname nsec) ≡ true
     by (inl cut) = ap (λ b. b || has_type type_dname nsec) (delegation_is_cut zone nsec formed t cut)
-    by (inr dname) = or_true (is_cut nsec) (has_type type_dname nsec) (sym (t.types type_dname) ∙ dname)
+    by (inr dname) = or_right (is_cut nsec) (has_type type_dname nsec) (sym (t.types type_dname) ∙ dname)
 
 ends_alike : (zone : Zone) (one two : Labels) → name_eq one two ≡ true → ends_at zone one ≡ ends_at zone two
 ends_alike zone one two same =
@@ -272,7 +204,7 @@ no_end_above zone nsec name set formed t spanned speaks m ends above = by (sided
         let same = end_is_owner zone set nsec.owner formed m ends t.owner over in
         let told = ends_told zone nsec formed t (sym (ends_alike zone set.owner nsec.owner same) ∙ ends) in
         let apart : name_eq nsec.owner name ≡ false =
-        not_true (name_eq nsec.owner name) (λ e. true≢false (ap is_eq (sym (order_if_alike nsec.owner name e) ∙ lt))) in
+        false_from_ne_true (name_eq nsec.owner name) (λ e. true≢false (ap is_eq (sym (order_if_alike nsec.owner name e) ∙ lt))) in
         let strict = strictly_made nsec.owner name (above_alike set.owner nsec.owner name same higher) apart in
         let silent : is_silent_on name nsec ≡ true = ap (λ b. b && (is_cut nsec || has_type type_dname nsec)) strict ∙ told in
         true≢false (sym silent ∙ speaks)

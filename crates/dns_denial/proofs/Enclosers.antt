@@ -1,47 +1,17 @@
 -- The closest encloser of a covered name is above it, so the wildcard below that is a name too.
-use Rattle.std.proofs.Common.{◌≡◌, ◌+◌, ◌≤◌, Bool, true, false, not, ◌&&◌, ◌||◌, cond, List, [], ◌∷◌, length, Option, None, Some, refl, sym, ap, ◌∙◌, arith, length-append, ⊎_elim, Ordering}
-use Rattle.std.specs.Prelude.{nat_lt, nat_le}
-use Rattle.std.specs.List.{list_all, find}
+use Rattle.std.proofs.Common.{◌≡◌, Bool, true, false, not, ◌&&◌, ◌||◌, cond, List, [], ◌∷◌, length, Option, None, Some, refl, sym, ap, ◌∙◌, ⊎_elim, Ordering}
+use Rattle.std.specs.Prelude.{nat_lt}
+use Rattle.std.specs.List.{find}
 use Rattle.std.specs.Ordering.{is_lt, is_le, ordering_reverse}
 use Rattle.std.specs.declared.cmp.Ordering.TheVariants.{Less, Equal, Greater}
-use Rattle.std.proofs.lemmas.Bool.{and_parts, and_from, and_cases, or_cases, not-false, cond_both, both_ways, false_from_ne_true}
-use Rattle.std.proofs.lemmas.Bool.Decides.{nat_tests}
-use Rattle.std.proofs.lemmas.List.{append-nil}
-use Rattle.dns_model.specs.Names.{Label, Labels, name_eq, name_cmp, at_or_above, strictly_above, is_name, is_label, wire, star}
-use Rattle.dns_model.specs.NameForm.{name_in}
+use Rattle.std.proofs.lemmas.Bool.{and_parts, and_cases, or_cases, not-false, cond_both, both_ways, false_from_ne_true}
+use Rattle.dns_model.specs.Names.{Labels, name_eq, name_cmp, at_or_above, strictly_above, is_name, star, before, common_ancestor}
 use Rattle.dns_model.specs.Owned.{OwnedNsec}
-use Rattle.dns_model.proofs.LabelSteps.{is_name-above, label_size}
-use Rattle.dns_model.proofs.WireLemmas.{name_in-wire}
 use Rattle.dns_model.proofs.OrderLemmas.{name_total}
-use Rattle.dns_denial.specs.Covering.{before, leads_back, spans, is_nearest, counts_for, is_silent_on, unless_silent, covering}
-use Rattle.dns_denial.specs.NsecVerdict.{common_ancestor, closest_encloser}
-use Rattle.dns_denial.proofs.NameOrder.{above_is_first}
-use Rattle.dns_denial.proofs.NamesTogether.{order_if_alike}
-
--- ---- the wildcard beside a name
-
-pub star_fits : (label : Label) (name : Labels) → is_name (label ∷ name) ≡ true → is_name (star name) ≡ true
-star_fits label name good =
-    let parts = and_parts (list_all is_label (label ∷ name)) (nat_le (length (wire (label ∷ name))) 255) good in
-    let halves = and_parts (is_label label) (list_all is_label name) parts.0 in
-    let size = label_size label halves.0 in
-    let whole : length (wire (label ∷ name)) ≤ 255 = grind (arith, nat_tests, parts.1) in
-    let fits : 2 + length (wire name) ≤ 255 = omega (arith, whole, size.0, length-append label (wire name)) in
-    let limit : nat_le (length (wire (star name))) 255 ≡ true = grind (arith, nat_tests, fits) in
-    and_from (list_all is_label (star name)) (nat_le (length (wire (star name))) 255) halves.1 limit
-
-star_below : (label : Label) (name other : Labels) → is_name (label ∷ name) ≡ true → is_name (star (common_ancestor name other)) ≡ true
-unfolding common_ancestor
-star_below label [] other good = refl
-star_below label (next ∷ name) other good =
-    cond_both (at_or_above (next ∷ name) other) (next ∷ name) (common_ancestor name other) (λ n. is_name (star n) ≡ true)
-    (λ h. star_fits label (next ∷ name) good) (λ h. star_below next name other (is_name-above label (next ∷ name) good))
-
-star_of_common : (name other : Labels) → is_name name ≡ true → at_or_above name other ≡ false → is_name (star (common_ancestor name other)) ≡ true
-unfolding common_ancestor
-star_of_common [] other good differs = refl
-star_of_common (label ∷ name) other good differs =
-    ap (λ b. is_name (star (cond b (label ∷ name) (common_ancestor name other)))) differs ∙ star_below label name other good
+use Rattle.dns_model.proofs.NamesInOrder.{above_is_first, order_if_alike}
+use Rattle.dns_model.proofs.WildcardLemmas.{star_of_common}
+use Rattle.dns_denial.specs.Covering.{leads_back, spans, is_nearest, counts_for, is_silent_on, unless_silent, covering}
+use Rattle.dns_denial.specs.NsecVerdict.{closest_encloser}
 
 -- ---- what a record that spans a name says of it
 
@@ -105,8 +75,3 @@ covering_spans name nsecs nsec is =
     let passed = find_passes (counts_for name nsecs) nsecs nsec (loud name (find (counts_for name nsecs) nsecs) nsec is) in
     let parts = and_parts (spans name nsec) (is_nearest name nsecs nsec) passed in
     parts.0
-
--- ---- the wildcard in wire form
-
-pub star_read : (name : Labels) → is_name (star name) ≡ true → name_in (wire (star name)) ≡ Some (star name, [])
-star_read name good = ap name_in (sym (append-nil (wire (star name)))) ∙ name_in-wire (star name) [] good

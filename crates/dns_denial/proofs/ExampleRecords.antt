@@ -5,19 +5,19 @@ use Rattle.std.proofs.lemmas.Bool.{and_parts}
 use Rattle.std.proofs.lemmas.Bool.Decides.{nat_tests}
 use Rattle.std.proofs.lemmas.List.{get_or_past}
 use Rattle.std.proofs.Math.Nat.{zero-div}
-use Rattle.dns_model.specs.Names.{star}
-use Rattle.dns_model.specs.Types.{type_nsec, type_rrsig}
+use Rattle.dns_model.specs.Names.{star, common_ancestor}
+use Rattle.dns_model.specs.Types.{type_nsec, type_rrsig, type_a}
 use Rattle.dns_model.specs.Shapes.{window_in, windows_in, has_bit, window_has, bitmap_has}
 use Rattle.dns_model.specs.Records.{Question}
 use Rattle.dns_model.specs.Owned.{OwnedNsec}
 use Rattle.dns_model.specs.declared.proof.Proof.TheVariants.{Secure, Bogus}
 use Rattle.dns_denial.specs.declared.answered.Answered.TheVariants.{No, Expanded}
 use Rattle.dns_denial.specs.Covering.{covering}
-use Rattle.dns_denial.specs.NsecVerdict.{common_ancestor, closest_encloser, nsec_verdict}
+use Rattle.dns_denial.specs.NsecVerdict.{closest_encloser, nsec_verdict}
 use Rattle.dns_denial.specs.Zones.{has_set, is_owner, is_delegation, exists_in, encloser, from_wildcard, lookup, Data, is_last, none_between, is_next, IsTrueNsec}
 use Rattle.dns_denial.specs.DenialInZones.{IsShownBy, HasNone}
 use Rattle.dns_denial.proofs.Promises.{denial_holds}
-use Rattle.dns_denial.proofs.ExampleZones.{type_a, letter, apex, below, zone, well_formed}
+use Rattle.dns_denial.proofs.ExampleZones.{letter, apex, below, zone, well_formed}
 
 -- ---- bits of all types
 

@@ -1,13 +1,8 @@
 -- A zone with each kind of answer, worked out, and what isn't a zone.
 use Rattle.std.specs.Prelude.{◌≡◌, ℕ, true, false, [], ◌∷◌, ◌++◌, refl}
 use Rattle.dns_model.specs.Names.{Label, Labels, star}
-use Rattle.dns_model.specs.Types.{type_ns, type_soa, type_cname, type_ds, type_nsec}
-use Rattle.dns_denial.specs.Covering.{type_dname}
+use Rattle.dns_model.specs.Types.{type_a, type_ns, type_soa, type_cname, type_ds, type_nsec, type_dname}
 use Rattle.dns_denial.specs.Zones.{Zone, has_set, is_owner, is_delegation, is_signed_delegation, is_unsigned_delegation, exists_in, is_zone, encloser, from_wildcard, lookup, is_last, none_between, is_next, Referral, Data, NoData, NxDomain}
-
--- an address (RFC 1035, 3.4.1)
-abbrev pub type_a : ℕ
-type_a = 1
 
 -- ---- the zone `example.`
 

@@ -1,6 +1,5 @@
 pub mod ExampleZones
 pub mod Members
-pub mod NamesTogether
 pub mod ZoneLemmas
 pub mod EncloserLemmas
 pub mod ReachLemmas

@@ -1,41 +1,17 @@
 -- Tests that are true or false, and elements that a test picks from a list.
-use Rattle.std.proofs.Common.{◌≡◌, Bool, true, false, cond, not, ◌&&◌, ◌||◌, List, [], ◌∷◌, None, Some, refl, sym, ap, ◌∙◌, true≢false, ◌⊎◌, inl, inr}
+use Rattle.std.proofs.Common.{◌≡◌, Bool, true, false, cond, not, ◌&&◌, ◌||◌, List, [], ◌∷◌, None, Some, refl, sym, ap, ◌∙◌, true≢false}
 use Rattle.std.specs.List.{list_any, list_all, find, AllByRecursion}
-use Rattle.std.proofs.lemmas.Bool.{and_parts, or_parts}
+use Rattle.std.proofs.lemmas.Bool.{and_parts, or_parts, or_right, not-true}
 
 -- ---- tests
-
-pub unnot : (b : Bool) → not b ≡ true → b ≡ false
-unnot true h = sym h
-unnot false h = refl
-
-pub unnot_true : (b : Bool) → not b ≡ false → b ≡ true
-unnot_true true h = refl
-unnot_true false h = sym h
-
-pub and_rest : (a b : Bool) → a ≡ true → (a && b) ≡ false → b ≡ false
-and_rest true b h k = k
-and_rest false b h k = absurd (true≢false (sym h))
 
 pub after_not : (a b : Bool) → a ≡ true → (not a || b) ≡ true → b ≡ true
 after_not true b h k = k
 after_not false b h k = absurd (true≢false (sym h))
 
 pub not_and : (a b : Bool) → not (a && b) ≡ true → a ≡ true → b ≡ false
-not_and true b h e = unnot b h
+not_and true b h e = not-true b h
 not_and false b h e = absurd (true≢false (sym e))
-
-pub not_true : (b : Bool) → (b ≡ true → ⊥) → b ≡ false
-not_true true h = absurd (h refl)
-not_true false h = refl
-
-pub or_true : (a b : Bool) → b ≡ true → (a || b) ≡ true
-or_true true b h = refl
-or_true false b h = h
-
-pub or_cases : (a b : Bool) → (a || b) ≡ true → (a ≡ true) ⊎ (b ≡ true)
-or_cases true b h = inl refl
-or_cases false b h = inr h
 
 -- ---- members of a list
 
@@ -55,7 +31,7 @@ member_here x xs = record { all = λ p h. (and_parts (p x) (list_all p xs) h).0;
 member_later : {X : Type 0} (x y : X) (xs : List X) → IsMember y xs → IsMember y (x ∷ xs)
 member_later x y xs m = record {
   all = λ p h. m.all p ((and_parts (p x) (list_all p xs) h).1);
-  any = λ p h. or_true (p x) (list_any p xs) (m.any p h);
+  any = λ p h. or_right (p x) (list_any p xs) (m.any p h);
 }
 
 later : {X : Type 0} (p : X → Bool) (x : X) (xs : List X) → IsPicked p xs → IsPicked p (x ∷ xs)

@@ -1,24 +1,24 @@
 -- A Secure verdict holds in each zone in which the records are true.
 use Rattle.std.proofs.Common.{◌≡◌, ℕ, Bool, true, false, cond, not, ◌==◌, ◌&&◌, ◌||◌, List, length, Option, None, Some, is_some, refl, sym, ap, ◌∙◌, arith, true≢false, ◌⊎◌, inl, inr}
 use Rattle.std.specs.List.{find, position, AllByRecursion}
-use Rattle.std.proofs.lemmas.Bool.{and_parts, or_parts}
+use Rattle.std.proofs.lemmas.Bool.{and_parts, or_parts, not-true, false_from_ne_true}
 use Rattle.std.proofs.lemmas.Bool.Decides.{nat_tests}
 use Rattle.dns_model.specs.Names.{Labels, name_eq, at_or_above, strictly_above, star}
-use Rattle.dns_model.specs.Types.{type_ns, type_ds}
+use Rattle.dns_model.specs.Types.{type_ns, type_ds, type_dname}
 use Rattle.dns_model.specs.Records.{Question}
 use Rattle.dns_model.specs.Owned.{OwnedNsec}
 use Rattle.dns_model.specs.declared.proof.Proof.{Proof}
 use Rattle.dns_model.specs.declared.proof.Proof.TheVariants.{Secure, Bogus}
 use Rattle.dns_model.proofs.EachLemmas.{find_known}
 use Rattle.dns_model.proofs.NameLemmas.{name_equiv}
+use Rattle.dns_model.proofs.AboveLemmas.{above_alike, above_itself, above_is_shorter, strictly_made, strictly_parts}
 use Rattle.dns_denial.specs.declared.answered.Answered.{Answered}
 use Rattle.dns_denial.specs.declared.answered.Answered.TheVariants.{No, Expanded}
-use Rattle.dns_denial.specs.Covering.{type_dname, has_type, counts_for, covering, number_of, covering_number}
+use Rattle.dns_denial.specs.Covering.{has_type, counts_for, covering, number_of, covering_number}
 use Rattle.dns_denial.specs.NsecVerdict.{can_deny, holds_query, code_nx_domain, code_no_error, is_plain, is_owned_by, lacks_data, is_right_side, denies_at_owner, closest_encloser, wildcard_lacks, wildcard_denies, missing_name, proved_by_covering, proved_at_name, nsec_verdict}
 use Rattle.dns_denial.specs.Zones.{Zone, has_set, is_delegation, exists_in, is_zone, encloser, has_data, from_wildcard, lookup, Referral, Data, NoData, NxDomain, IsTrueNsec}
 use Rattle.dns_denial.specs.DenialInZones.{HasNone, HasNoneCloser, IsDeniedIn, IsExpandedIn, IsOwnerless}
-use Rattle.dns_denial.proofs.Members.{unnot, not_true, picked_known}
-use Rattle.dns_denial.proofs.NamesTogether.{above_alike, above_itself, above_is_shorter, strictly_made, strictly_parts}
+use Rattle.dns_denial.proofs.Members.{picked_known}
 use Rattle.dns_denial.proofs.ZoneLemmas.{has_set_alike, is_owner_alike, spans_no_owner, next_is_owner}
 use Rattle.dns_denial.proofs.EncloserLemmas.{exists_above, spanned_is_missing, existing_encloses, same_encloser}
 use Rattle.dns_denial.proofs.ReachLemmas.{IsCovering, covered, IsReached, reached, covered_reach, owner_reach, no_data, no_set, no_delegation, lacking}
@@ -125,7 +125,7 @@ mute_listed zone nsecs wildcard rtype each h =
     by : (nsec : OwnedNsec) → IsTrueNsec zone nsec → (is_owned_by wildcard nsec ≡ true) × (wildcard_lacks rtype nsec ≡ true) → IsMute zone wildcard rtype
     by nsec t parts =
         let lacks = and_parts (lacks_data rtype nsec) (not (has_type type_ns nsec || has_type type_dname nsec)) parts.1 in
-        let ends = or_parts (has_type type_ns nsec) (has_type type_dname nsec) (unnot (has_type type_ns nsec || has_type type_dname nsec) lacks.1) in
+        let ends = or_parts (has_type type_ns nsec) (has_type type_dname nsec) (not-true (has_type type_ns nsec || has_type type_dname nsec) lacks.1) in
         let ns : has_set zone wildcard type_ns ≡ false = sym (has_set_alike zone nsec.owner wildcard type_ns parts.0) ∙ t.types type_ns ∙ ends.0 in
         record {
           delegation = no_delegation zone wildcard ns;
@@ -224,7 +224,7 @@ none_closer zone name labels nsec c leaf h =
     let long : length (closest_encloser name nsec) ≡ labels = grind (arith, nat_tests, h) in
     record {
       missing = spanned_is_missing zone nsec name c.is_true c.spanned leaf;
-      ancestors = λ ancestor above more. not_true (exists_in zone ancestor) (λ there.
+      ancestors = λ ancestor above more. false_from_ne_true (exists_in zone ancestor) (λ there.
           let up = above_is_shorter ancestor (closest_encloser name nsec) (existing_encloses zone nsec name ancestor c.is_true c.spanned above there) in
           omega arith);
     }
@@ -249,7 +249,7 @@ expanded zone query code labels nsecs None each h = expanded_by zone query code 
 expanded zone query code labels nsecs (Some nsec) each h = absurd (true≢false (sym h))
 
 -- a Secure verdict on an expanded answer holds in each zone
-pub expansion_holds : (query : Question) (apex : Labels) (code labels : ℕ) (nsecs : List OwnedNsec) → nsec_verdict query apex code (Expanded labels) nsecs ≡ Secure
+expansion_holds : (query : Question) (apex : Labels) (code labels : ℕ) (nsecs : List OwnedNsec) → nsec_verdict query apex code (Expanded labels) nsecs ≡ Secure
     → IsExpandedIn query apex labels nsecs
 unfolding nsec_verdict
 expansion_holds query apex code labels nsecs h =
@@ -272,7 +272,7 @@ expansion_of query apex code answered nsecs proof labels is secure expanded =
 -- ---- covered names
 
 -- a name that a record covers owns no RRset
-pub covered_is_ownerless : (name : Labels) (nsecs : List OwnedNsec) (nsec : OwnedNsec) → covering name nsecs ≡ Some nsec → IsOwnerless name nsecs
+covered_is_ownerless : (name : Labels) (nsecs : List OwnedNsec) (nsec : OwnedNsec) → covering name nsecs ≡ Some nsec → IsOwnerless name nsecs
 covered_is_ownerless name nsecs nsec h =
     λ zone each. let c = covered zone name nsecs nsec each h in spans_no_owner zone nsec name c.is_true c.spanned
 

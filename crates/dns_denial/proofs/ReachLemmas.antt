@@ -1,19 +1,19 @@
 -- How a zone answers for a name of which a true NSEC record speaks: past its cuts and DNAMEs, without data (RFC 1034, 4.3.2).
 use Rattle.std.proofs.Common.{◌≡◌, ℕ, Bool, true, false, cond, not, ◌==◌, ◌&&◌, ◌||◌, List, Option, None, Some, refl, sym, ap, ◌∙◌, subst, arith, true≢false, ◌⊎◌, inl, inr}
 use Rattle.std.specs.List.{list_any, find, AllByRecursion}
-use Rattle.std.proofs.lemmas.Bool.{and_parts, or_parts}
+use Rattle.std.proofs.lemmas.Bool.{and_parts, or_parts, not-true, false_from_ne_true, or_right, or_cases}
 use Rattle.std.proofs.lemmas.Bool.Decides.{nat_tests}
 use Rattle.dns_model.specs.Names.{Labels, name_eq, strictly_above, star}
-use Rattle.dns_model.specs.Types.{type_ns, type_soa, type_cname, type_ds}
+use Rattle.dns_model.specs.Types.{type_ns, type_soa, type_cname, type_ds, type_dname}
 use Rattle.dns_model.specs.Records.{Question}
 use Rattle.dns_model.specs.Owned.{OwnedNsec}
 use Rattle.dns_model.proofs.EachLemmas.{find_known}
 use Rattle.dns_model.proofs.NameLemmas.{name_equiv}
-use Rattle.dns_denial.specs.Covering.{type_dname, has_type, is_cut, spans, is_nearest, counts_for, is_silent_on, unless_silent, covering}
+use Rattle.dns_model.proofs.AboveLemmas.{strictly_parts}
+use Rattle.dns_denial.specs.Covering.{has_type, is_cut, spans, is_nearest, counts_for, is_silent_on, unless_silent, covering}
 use Rattle.dns_denial.specs.NsecVerdict.{lacks_data, is_right_side}
 use Rattle.dns_denial.specs.Zones.{SetKey, Zone, has_set, is_owner, is_delegation, exists_in, ends_at, is_zone, encloser, is_cut_over, is_dname_over, has_data, from_wildcard, below_cut, lookup, Data, NoData, IsTrueNsec}
-use Rattle.dns_denial.proofs.Members.{unnot, not_true, or_true, or_cases, IsMember, picked, find_none}
-use Rattle.dns_denial.proofs.NamesTogether.{strictly_parts}
+use Rattle.dns_denial.proofs.Members.{IsMember, picked, find_none}
 use Rattle.dns_denial.proofs.ZoneLemmas.{has_set_alike, is_owner_alike, is_delegation_alike, has_owner, spans_no_owner}
 use Rattle.dns_denial.proofs.EncloserLemmas.{delegation_is_cut, end_is_owner, no_end_above}
 
@@ -69,7 +69,7 @@ has_own zone set m = m.any (λ other. name_eq other.owner set.owner && (other.rt
 dname_ends : (zone : Zone) (set : SetKey) → IsMember set zone.sets → (set.rtype == type_dname) ≡ true → ends_at zone set.owner ≡ true
 dname_ends zone set m is =
     let same : set.rtype ≡ type_dname = grind (arith, nat_tests, is) in
-    or_true (is_delegation zone set.owner) (has_set zone set.owner type_dname) (ap (has_set zone set.owner) (sym same) ∙ has_own zone set m)
+    or_right (is_delegation zone set.owner) (has_set zone set.owner type_dname) (ap (has_set zone set.owner) (sym same) ∙ has_own zone set m)
 
 cut_ends : (zone : Zone) (set : SetKey) → is_delegation zone set.owner ≡ true → ends_at zone set.owner ≡ true
 cut_ends zone set h = ap (λ b. b || has_set zone set.owner type_dname) h
@@ -82,7 +82,7 @@ pub record IsReached (zone : Zone) (name : Labels) (rtype : ℕ) : Type 0 where
 pub reached : (zone : Zone) (name : Labels) (rtype : ℕ) → IsReached zone name rtype
     → lookup zone name rtype
     ≡ cond (exists_in zone name) (cond (has_data zone name rtype) Data NoData) (from_wildcard zone (star (encloser zone name)) rtype)
-reached zone name rtype r = lookup_past zone name rtype (not_true _ no_cut) (not_true _ no_dname)
+reached zone name rtype r = lookup_past zone name rtype (false_from_ne_true _ no_cut) (false_from_ne_true _ no_dname)
   where
     no_cut : list_any (is_cut_over zone name rtype) zone.sets ≡ true → ⊥
     no_cut h =
@@ -106,14 +106,14 @@ reached zone name rtype r = lookup_past zone name rtype (not_true _ no_cut) (not
 -- a name without an RRset has no data
 pub no_data : (zone : Zone) (name : Labels) (rtype : ℕ) → is_owner zone name ≡ false → has_data zone name rtype ≡ false
 no_data zone name rtype none =
-    not_true (has_data zone name rtype) (λ h. by (or_cases (has_set zone name rtype) (has_set zone name type_cname) h))
+    false_from_ne_true (has_data zone name rtype) (λ h. by (or_cases (has_set zone name rtype) (has_set zone name type_cname) h))
   where
     by : (has_set zone name rtype ≡ true) ⊎ (has_set zone name type_cname ≡ true) → ⊥
     by (inl here) = true≢false (sym (has_owner zone name rtype here) ∙ none)
     by (inr here) = true≢false (sym (has_owner zone name type_cname here) ∙ none)
 
 pub no_set : (zone : Zone) (name : Labels) (rtype : ℕ) → is_owner zone name ≡ false → has_set zone name rtype ≡ false
-no_set zone name rtype none = not_true (has_set zone name rtype) (λ h. true≢false (sym (has_owner zone name rtype h) ∙ none))
+no_set zone name rtype none = false_from_ne_true (has_set zone name rtype) (λ h. true≢false (sym (has_owner zone name rtype h) ∙ none))
 
 pub no_delegation : (zone : Zone) (name : Labels) → has_set zone name type_ns ≡ false → is_delegation zone name ≡ false
 unfolding is_delegation
@@ -149,7 +149,7 @@ owner_reach zone query nsec formed t same right = record {
 pub lacking : (zone : Zone) (nsec : OwnedNsec) (name : Labels) (rtype : ℕ) → IsTrueNsec zone nsec → name_eq nsec.owner name ≡ true
     → lacks_data rtype nsec ≡ true → has_data zone name rtype ≡ false
 lacking zone nsec name rtype t same h =
-    let parts = or_parts (has_type rtype nsec) (has_type type_cname nsec) (unnot (has_type rtype nsec || has_type type_cname nsec) h) in
+    let parts = or_parts (has_type rtype nsec) (has_type type_cname nsec) (not-true (has_type rtype nsec || has_type type_cname nsec) h) in
     let one : has_set zone name rtype ≡ false = sym (has_set_alike zone nsec.owner name rtype same) ∙ t.types rtype ∙ parts.0 in
     let two : has_set zone name type_cname ≡ false = sym (has_set_alike zone nsec.owner name type_cname same) ∙ t.types type_cname ∙ parts.1 in
     rw (one, two) refl

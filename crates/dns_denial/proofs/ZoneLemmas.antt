@@ -3,19 +3,19 @@ use Rattle.std.proofs.Common.{◌≡◌, ℕ, Bool, true, false, cond, not, ◌=
 use Rattle.std.specs.List.{list_all}
 use Rattle.std.specs.Ordering.{is_lt, is_le}
 use Rattle.std.specs.declared.cmp.Ordering.TheVariants.{Less}
-use Rattle.std.proofs.lemmas.Bool.{and_parts}
-use Rattle.dns_model.specs.Names.{Labels, name_eq, name_cmp, at_or_above, strictly_above}
+use Rattle.std.proofs.lemmas.Bool.{and_parts, not-true, false_from_ne_true, or_cases}
+use Rattle.dns_model.specs.Names.{Labels, name_eq, name_cmp, at_or_above, strictly_above, before}
 use Rattle.dns_model.specs.Types.{type_ns, type_soa, type_ds}
 use Rattle.dns_model.specs.Owned.{OwnedNsec}
 use Rattle.dns_model.proofs.NameLemmas.{name_equiv}
-use Rattle.dns_denial.specs.Covering.{before, leads_back, spans}
+use Rattle.dns_model.proofs.NamesInOrder.{lt_from, le_from_not_lt, le_trans, le_if_alike, not_both}
+use Rattle.dns_denial.specs.Covering.{leads_back, spans}
 use Rattle.dns_denial.specs.Zones.{SetKey, Zone, has_set, is_owner, is_delegation, ends_at, fits_in, is_zone, is_signing_type, is_last, none_between, is_next, IsTrueNsec}
-use Rattle.dns_denial.proofs.Members.{unnot, after_not, not_and, not_true, or_cases, IsMember, picked, any_agree}
-use Rattle.dns_denial.proofs.NamesTogether.{lt_from, le_from_not_lt, le_trans, le_if_alike, not_both}
+use Rattle.dns_denial.proofs.Members.{after_not, not_and, IsMember, picked, any_agree}
 
 -- ---- equal names
 
-pub alike_at : (one two name : Labels) → name_eq one two ≡ true → name_eq name one ≡ name_eq name two
+alike_at : (one two name : Labels) → name_eq one two ≡ true → name_eq name one ≡ name_eq name two
 alike_at one two name same = name_equiv.symm name one ∙ name_equiv.congr one two name same ∙ name_equiv.symm two name
 
 pub has_set_alike : (zone : Zone) (one two : Labels) (rtype : ℕ) → name_eq one two ≡ true → has_set zone one rtype ≡ has_set zone two rtype
@@ -41,7 +41,7 @@ has_owner zone name rtype h =
     let k = picked (λ set. name_eq set.owner name && (set.rtype == rtype)) zone.sets h in
     k.member.any (λ set. name_eq set.owner name) ((and_parts (name_eq k.it.owner name) (k.it.rtype == rtype) k.passes).0)
 
-pub apex_is_owner : (zone : Zone) → is_zone zone ≡ true → is_owner zone zone.apex ≡ true
+apex_is_owner : (zone : Zone) → is_zone zone ≡ true → is_owner zone zone.apex ≡ true
 unfolding is_zone
 apex_is_owner zone h = has_owner zone zone.apex type_soa (and_parts (has_set zone zone.apex type_soa) _ h).0
 
@@ -67,7 +67,7 @@ pub none_below : (zone : Zone) (set other : SetKey) → is_zone zone ≡ true �
     → ends_at zone set.owner ≡ true → strictly_above set.owner other.owner ≡ false
 none_below zone set other h m k ends =
     let f = fits zone set h m in
-    unnot (strictly_above set.owner other.owner) (k.all (λ o. not (strictly_above set.owner o.owner)) (after_not (ends_at zone set.owner) _ ends f.below))
+    not-true (strictly_above set.owner other.owner) (k.all (λ o. not (strictly_above set.owner o.owner)) (after_not (ends_at zone set.owner) _ ends f.below))
 
 -- SOA is at the apex alone
 pub soa_at_apex : (zone : Zone) (name : Labels) → is_zone zone ≡ true → has_set zone name type_soa ≡ true → name_eq name zone.apex ≡ true
@@ -108,7 +108,7 @@ sided_by : (zone : Zone) (nsec : OwnedNsec) (name : Labels) (set : SetKey) (b : 
     → spans name nsec ≡ true → IsMember set zone.sets → Side nsec name set.owner
 unfolding is_last
 sided_by zone nsec name set true e next spanned m =
-    AtOrBefore (le_from_not_lt nsec.owner set.owner (unnot (is_lt (name_cmp nsec.owner set.owner)) (m.all (λ s. not (is_lt (name_cmp nsec.owner s.owner))) e)))
+    AtOrBefore (le_from_not_lt nsec.owner set.owner (not-true (is_lt (name_cmp nsec.owner set.owner)) (m.all (λ s. not (is_lt (name_cmp nsec.owner s.owner))) e)))
 sided_by zone nsec name set false e next spanned m =
     let one = and_parts (is_owner zone nsec.text.next) _ next in
     let two = and_parts (is_lt (name_cmp nsec.owner nsec.text.next)) (none_between zone nsec.owner nsec.text.next) one.1 in
@@ -124,7 +124,7 @@ sided zone nsec name set t spanned m = sided_by zone nsec name set (is_last zone
 -- a name that a true record spans is no owner
 pub spans_no_owner : (zone : Zone) (nsec : OwnedNsec) (name : Labels) → IsTrueNsec zone nsec → spans name nsec ≡ true → is_owner zone name ≡ false
 unfolding is_owner
-spans_no_owner zone nsec name t spanned = not_true _ (λ h.
+spans_no_owner zone nsec name t spanned = false_from_ne_true _ (λ h.
     let k = picked (λ set. name_eq set.owner name) zone.sets h in
     apart k.it.owner k.passes (sided zone nsec name k.it t spanned k.member))
   where

@@ -1,7 +1,7 @@
 -- For private functions alone: the best element of a list so far, as one more is met.
 use Rattle.std.specs.Prelude.{ℕ, Bool, true, ◌&&◌, Option, None, Some, if◌then◌else◌}
 use Rattle.dns_model.specs.Owned.{OwnedNsec}
-use Rattle.dns_denial.specs.Covering.{before}
+use Rattle.dns_model.specs.Names.{before}
 
 -- by the canonical order of their owners
 abbrev pub owned_before : OwnedNsec → OwnedNsec → Bool

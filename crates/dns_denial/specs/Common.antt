@@ -1,8 +1,7 @@
 -- For private functions alone: labels compared, and what two names have in common.
 use Rattle.std.specs.Prelude.{Bool, nat_eq, if◌then◌else◌}
 use Rattle.std.specs.Cmp.Lexicographic.{pointwise}
-use Rattle.dns_model.specs.Names.{Label, Labels, lowered, name_eq}
-use Rattle.dns_denial.specs.NsecVerdict.{common_ancestor}
+use Rattle.dns_model.specs.Names.{Label, Labels, lowered, name_eq, common_ancestor}
 
 -- labels compare with A to Z folded
 abbrev pub same_label : Label → Label → Bool

@@ -1,17 +1,13 @@
 -- Which NSEC record covers a name (RFC 4034, 4.1.1 and 6.1; RFC 4035, 5.4; RFC 6840, 4.1).
 use Rattle.std.specs.Prelude.{ℕ, Bool, not, ◌==◌, ◌&&◌, ◌||◌, List, Option, None, Some, if◌then◌else◌}
 use Rattle.std.specs.List.{list_all, find, position}
-use Rattle.std.specs.Ordering.{is_lt, is_le}
-use Rattle.dns_model.specs.Names.{Labels, name_cmp, at_or_above, strictly_above}
+use Rattle.std.specs.Ordering.{is_le}
+use Rattle.dns_model.specs.Names.{Labels, name_cmp, before, at_or_above, strictly_above}
 use Rattle.dns_model.specs.Shapes.{bitmap_has}
-use Rattle.dns_model.specs.Types.{type_ns, type_soa, type_rrsig, type_nsec}
+use Rattle.dns_model.specs.Types.{type_ns, type_soa, type_dname, type_rrsig, type_nsec}
 use Rattle.dns_model.specs.Owned.{OwnedNsec}
 
 -- ---- the types at a record's owner
-
--- DNAME (RFC 6672, 2.1)
-abbrev pub type_dname : ℕ
-type_dname = 39
 
 -- NSEC and RRSIG stand at the owner of each NSEC record, so their bits tell nothing (RFC 4035, 2.2 and 2.3)
 abbrev pub is_at_every_owner : ℕ → Bool
@@ -26,10 +22,6 @@ abbrev pub is_cut : OwnedNsec → Bool
 is_cut nsec = has_type type_ns nsec && not (has_type type_soa nsec)
 
 -- ---- the names between an owner and the next one
-
--- the first name comes before the second in canonical order (RFC 4034, 6.1)
-abbrev pub before : Labels → Labels → Bool
-before one two = is_lt (name_cmp one two)
 
 -- the last record of a zone leads back to the apex, which sorts at or before its owner (RFC 4034, 4.1.1)
 abbrev pub leads_back : OwnedNsec → Bool

@@ -1,17 +1,17 @@
 -- What NSEC records prove of a query that a response denies or answers from a wildcard (RFC 4035, 5.3.4 and 5.4; RFC 4592;
 -- RFC 6840, 4).
-use Rattle.std.specs.Prelude.{ℕ, Bool, true, false, not, ◌==◌, ◌&&◌, ◌||◌, nat_lt, List, [], ◌∷◌, length, Option, None, Some, if◌then◌else◌}
+use Rattle.std.specs.Prelude.{ℕ, Bool, true, false, not, ◌==◌, ◌&&◌, ◌||◌, List, length, Option, None, Some, if◌then◌else◌}
 use Rattle.std.specs.Option.{is_some}
 use Rattle.std.specs.List.{list_any, find}
-use Rattle.dns_model.specs.Names.{Labels, name_eq, at_or_above, strictly_above, star}
-use Rattle.dns_model.specs.Types.{type_ns, type_soa, type_cname, type_ds}
+use Rattle.dns_model.specs.Names.{Labels, name_eq, at_or_above, strictly_above, common_ancestor, longer, star}
+use Rattle.dns_model.specs.Types.{type_ns, type_soa, type_cname, type_ds, type_dname}
 use Rattle.dns_model.specs.Records.{Question}
 use Rattle.dns_model.specs.Owned.{OwnedNsec}
 use Rattle.dns_model.specs.declared.proof.Proof.{Proof}
 use Rattle.dns_model.specs.declared.proof.Proof.TheVariants.{Secure, Bogus}
 use Rattle.dns_denial.specs.declared.answered.Answered.{Answered}
 use Rattle.dns_denial.specs.declared.answered.Answered.TheVariants.{No, Plain, Expanded}
-use Rattle.dns_denial.specs.Covering.{type_dname, has_type, is_cut, covering}
+use Rattle.dns_denial.specs.Covering.{has_type, is_cut, covering}
 
 abbrev pub secure_if : Bool → Proof
 secure_if proved = if proved then Secure else Bogus
@@ -61,14 +61,6 @@ abbrev pub denies_at_owner : ℕ → OwnedNsec → Bool
 denies_at_owner rtype nsec = lacks_data rtype nsec && is_right_side rtype nsec
 
 -- ---- the closest encloser
-
--- the longest of the name and its ancestors that is at or above the other name: their common last labels
-unfoldable pub common_ancestor : Labels → Labels → Labels
-common_ancestor [] other = []
-common_ancestor (label ∷ name) other = if at_or_above (label ∷ name) other then label ∷ name else common_ancestor name other
-
-abbrev pub longer : Labels → Labels → Labels
-longer one two = if nat_lt (length one) (length two) then two else one
 
 -- the longest ancestor of a covered name that exists: owner and next owner exist, and so do their ancestors, and what exists
 -- between the two is neither name nor ancestor of the name (RFC 4592, 3.3.1)

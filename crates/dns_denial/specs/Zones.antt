@@ -4,9 +4,8 @@ use Rattle.std.specs.List.{list_any, list_all, find}
 use Rattle.std.specs.Ordering.{is_lt}
 use Rattle.dns_model.specs.Names.{Labels, name_eq, name_cmp, at_or_above, strictly_above, star}
 use Rattle.dns_model.specs.Shapes.{bitmap_has}
-use Rattle.dns_model.specs.Types.{type_ns, type_soa, type_cname, type_ds, type_rrsig, type_nsec, type_nsec3}
+use Rattle.dns_model.specs.Types.{type_ns, type_soa, type_cname, type_ds, type_rrsig, type_nsec, type_nsec3, type_dname}
 use Rattle.dns_model.specs.Owned.{OwnedNsec}
-use Rattle.dns_denial.specs.Covering.{type_dname}
 
 -- ---- what a zone holds
 

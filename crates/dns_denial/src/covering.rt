@@ -3,9 +3,9 @@ ghost use Rattle.std.specs.Prelude.{◌≡◌, ◌<◌, ◌^◌, ℕ, Some, leng
 ghost use Rattle.std.specs.List.{find};
 ghost use Rattle.std.specs.Option.{option_copied};
 ghost use Rattle.std.specs.Ordering.{is_le};
-ghost use Rattle.dns_model.specs.Names.{name_cmp};
+ghost use Rattle.dns_model.specs.Names.{name_cmp, before};
 ghost use Rattle.dns_denial.specs.DenialInZones.{IsOwnerless};
-ghost use Rattle.dns_denial.specs.Covering.{before, spans as spans_in, counts_for, is_silent_on as is_silent_in, covering as covering_in, covering_number};
+ghost use Rattle.dns_denial.specs.Covering.{spans as spans_in, counts_for, is_silent_on as is_silent_in, covering as covering_in, covering_number};
 ghost use Rattle.dns_denial.specs.Best.{owned_before, is_better, next_best};
 
 use crate::listed_types::{has_type, is_cut};

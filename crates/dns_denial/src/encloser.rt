@@ -1,8 +1,8 @@
 //! The closest encloser of a name that doesn't exist, and the wildcard below it (RFC 4592, 2.1.1 and 3.3.1).
 ghost use Rattle.std.specs.Prelude.{◌≡◌, length, if◌then◌else◌};
-ghost use Rattle.dns_model.specs.Names.{star, wire};
+ghost use Rattle.dns_model.specs.Names.{star, wire, common_ancestor as common_ancestor_of};
 ghost use Rattle.dns_denial.specs.Common.{same_label};
-ghost use Rattle.dns_denial.specs.NsecVerdict.{common_ancestor as common_ancestor_of, closest_encloser as closest_encloser_of};
+ghost use Rattle.dns_denial.specs.NsecVerdict.{closest_encloser as closest_encloser_of};
 
 use arrayvec::ArrayVec;
 use dns_name::NameRef;

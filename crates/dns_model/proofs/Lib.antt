@@ -12,3 +12,7 @@ pub mod EachLemmas
 pub mod SetLemmas
 pub mod OrderLemmas
 pub mod LabelSteps
+pub mod AboveLemmas
+pub mod NamesInOrder
+pub mod CommonAncestors
+pub mod WildcardLemmas

@@ -1,7 +1,7 @@
 -- Domain names as lists of labels, the leaf first, and their order (RFC 1035, 3.1; RFC 4034, 6.1).
-use Rattle.std.specs.Prelude.{ℕ, ◌-◌, ◌+◌, Bool, true, false, not, ◌&&◌, List, [], ◌∷◌, ◌++◌, map, reverse, length, take, drop, nat_eq, nat_le, nat_lt, if◌then◌else◌}
+use Rattle.std.specs.Prelude.{ℕ, ◌-◌, ◌+◌, Bool, false, not, ◌&&◌, List, [], ◌∷◌, ◌++◌, map, reverse, length, drop, nat_eq, nat_le, nat_lt, if◌then◌else◌}
 use Rattle.std.specs.Char.{to_ascii_lowercase}
-use Rattle.std.specs.Ordering.{nat_cmp, on}
+use Rattle.std.specs.Ordering.{nat_cmp, on, is_lt}
 use Rattle.std.specs.declared.cmp.Ordering.{Ordering}
 use Rattle.std.specs.Cmp.Lexicographic.{pointwise, slice_cmp}
 use Rattle.std.specs.List.{list_all, ends_with, flat_map}
@@ -29,12 +29,24 @@ name_eq = on folded (pointwise (pointwise nat_eq))
 abbrev pub name_cmp : Labels → Labels → Ordering
 name_cmp = on (λ n. reverse (folded n)) (slice_cmp (slice_cmp nat_cmp))
 
+-- the first name comes before the second
+abbrev pub before : Labels → Labels → Bool
+before one two = is_lt (name_cmp one two)
+
 -- the zone's labels are the last labels of the name
 abbrev pub at_or_above : Labels → Labels → Bool
 at_or_above zone name = nat_le (length zone) (length name) && ends_with (pointwise nat_eq) (folded name) (folded zone)
 
 abbrev pub strictly_above : Labels → Labels → Bool
 strictly_above zone name = at_or_above zone name && not (name_eq zone name)
+
+-- the longest of the name and its ancestors that is at or above the other name: their common last labels
+unfoldable pub common_ancestor : Labels → Labels → Labels
+common_ancestor [] other = []
+common_ancestor (label ∷ name) other = if at_or_above (label ∷ name) other then label ∷ name else common_ancestor name other
+
+abbrev pub longer : Labels → Labels → Labels
+longer one two = if nat_lt (length one) (length two) then two else one
 
 -- the name without its first label; the root stays
 abbrev pub parent : Labels → Labels

@@ -1,6 +1,9 @@
 -- Numbers of types and classes (RFC 1035, 3.2; RFC 4034; RFC 5155; the IANA registry of DNS parameters).
 use Rattle.std.specs.Prelude.{ℕ, Bool, ◌==◌, ◌||◌}
 
+abbrev pub type_a : ℕ
+type_a = 1
+
 abbrev pub type_ns : ℕ
 type_ns = 2
 
@@ -9,6 +12,10 @@ type_cname = 5
 
 abbrev pub type_soa : ℕ
 type_soa = 6
+
+-- RFC 6672, 2.1
+abbrev pub type_dname : ℕ
+type_dname = 39
 
 abbrev pub type_opt : ℕ
 type_opt = 41

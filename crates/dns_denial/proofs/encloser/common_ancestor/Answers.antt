@@ -1,5 +1,5 @@
 use Rattle.std.proofs.Common.{◌∙◌}
-use Rattle.dns_denial.proofs.Ancestors.{aligned}
+use Rattle.dns_model.proofs.CommonAncestors.{aligned}
 use Rattle.dns_denial.proofs.encloser.common_ancestor.Goals as goal
 
 pub returns : goal.returns

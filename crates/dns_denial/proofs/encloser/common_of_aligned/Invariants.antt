@@ -1,5 +1,5 @@
 use Rattle.std.proofs.Common.{◌≡◌, length}
-use Rattle.dns_denial.specs.NsecVerdict.{common_ancestor}
+use Rattle.dns_model.specs.Names.{common_ancestor}
 use Rattle.dns_denial.specs.Common.{common_from}
 use Rattle.dns_denial.proofs.encloser.common_of_aligned.Given as goal
 
