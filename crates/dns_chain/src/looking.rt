@@ -1,13 +1,11 @@
-ghost use Rattle.std.specs.Prelude.{◌⊎◌, ◌≡◌, ◌≤◌, IfOk};
+ghost use Rattle.std.specs.Prelude.{◌⊎◌, ◌≡◌, ◌≤◌, IfOk, map};
 ghost use Rattle.dns_model.specs.SoundAnswers.{told_by};
 ghost use Rattle.dns_net.specs.Errors as seen;
 ghost use Rattle.dns_net.specs.Handles.{OrUnsent};
 ghost use Rattle.dns_net.specs.Replies.{reply_of, error_of};
 ghost use Rattle.dns_net.specs.Trail.{ending_value};
-ghost use Rattle.dns_chain.specs.Answering.{Looked, judged_answer, top_of};
-ghost use Rattle.dns_chain.specs.Calls.{Asking};
+ghost use Rattle.dns_chain.specs.Answering.{judged_answer, top_of};
 ghost use Rattle.dns_chain.specs.Looked.{UnlessNoMemory};
-ghost use Rattle.dns_chain.specs.Sends.{SendsFor};
 
 use crate::asking::hear;
 use crate::inquiry::{Inquiry, Progress};
@@ -15,10 +13,10 @@ use crate::walk::{Judgement, judge_sets};
 use dns_message::Message;
 use dns_name::NoMemory;
 use dns_net::{
-    Asked, DnsError, DnsHandle, DnsResponse, Ending, JudgedSet, NetError, Notice, Reply, Told, Trail,
-    Verifier,
+    Asked, DnsError, DnsHandle, DnsResponse, Ending, JudgedSet, NetError, Notice, Reply, Told,
+    Trail, Verifier,
 };
-use dns_record::{Denial, Query, Record};
+use dns_record::{Denial, Proof, Query, Record};
 use dns_sets::{Outcome, finished, foreign_record, outcome_of, placed_sets};
 use std::alloc::Global;
 
@@ -28,9 +26,7 @@ pub(crate) fn look<H: DnsHandle, V: Verifier>(
     inquiry: &Inquiry<'_, V>,
     handle: &mut H,
     query: Query,
-) -> Result<DnsResponse, NetError>
-    requires limit { inquiry.now.limit ≤ 255 }
-{
+) -> Result<DnsResponse, NetError> {
     let mut progress = Progress {
         steps: Vec::new(alloc),
         sends: 0,
@@ -45,5 +41,115 @@ pub(crate) fn look<H: DnsHandle, V: Verifier>(
     }
     let placed = placed_sets(alloc, 0, &message)?;
     let judged = judge_sets(alloc, inquiry, handle, &mut progress, &query, 0, placed)?;
-    answer(alloc, inquiry.judge.moment, query, message, progress.steps, judged)
+    let now = inquiry.judge.moment;
+    answer(alloc, now, query, message, progress.steps, judged)
+}
+
+// The error that names a record of another class.
+fn foreign_error(record: &Record) -> NetError
+    ensures { (result ≡ NetError.NoMemory) ⊎ (error_of result ≡ seen.ForeignClassRecord record.now.owner record.now.class record.now.rtype) }
+{
+    match record.name.try_clone() {
+        Ok(record_name) => NetError::ForeignClassRecord {
+            record_name,
+            record_class: record.dns_class,
+            record_type: record.record_type,
+        },
+        Err(_) => NetError::NoMemory,
+    }
+}
+
+// The answer that the judged sets of a message make, behind the steps of the asks for them.
+fn answer(
+    alloc: Global,
+    now: u64,
+    query: Query,
+    message: Message,
+    steps: Vec<Asked>,
+    judged: Judgement,
+) -> Result<DnsResponse, NetError>
+    ensures { UnlessNoMemory result (reply_of result ≡ judged_answer now query (record {
+        message = message; steps = steps.items; sets = judged.sets.items; entries = judged.entries.items })) }
+{
+    let Judgement { sets, entries } = judged;
+    match outcome_of(&query, &message, &sets) {
+        Outcome::Unjudged => Err(NetError::Message(Notice::NotJudgedYet)),
+        Outcome::Accepted(denial) => {
+            let ending = Ending::Answered(denial);
+            let trail = trail_of(alloc, query, &message, steps, entries, ending)?;
+            Ok(finished(alloc, now, sets, message, denial, trail)?)
+        }
+        Outcome::Denied(proof) => {
+            let asked = query.try_clone()?;
+            let trail = trail_of(alloc, query, &message, steps, entries, Ending::Denied(proof))?;
+            let response = finished(alloc, now, sets, message, Denial::None, trail)?;
+            denied(alloc, asked, response, proof)
+        }
+    }
+}
+
+// The error that an answer is denied, with the answer inside.
+fn denied(
+    alloc: Global,
+    query: Query,
+    response: DnsResponse,
+    proof: Proof,
+) -> Result<DnsResponse, NetError>
+    ensures { UnlessNoMemory result (reply_of result ≡ Err (seen.Dns (seen.Nsec query response proof))) }
+{
+    let response = Box::new(alloc, response)?;
+    Err(NetError::Dns(DnsError::Nsec {
+        query,
+        response,
+        proof,
+    }))
+}
+
+// The steps of the asks, and then the step that asked for the query.
+fn trail_of(
+    alloc: Global,
+    query: Query,
+    message: &Message,
+    steps: Vec<Asked>,
+    entries: Vec<JudgedSet>,
+    ending: Ending,
+) -> Result<Trail, NoMemory>
+    ensures { IfOk result (λ t. t ≡ steps.items ++ top_of query (told_by message.now) entries.items (ending_value ending) ∷ []) }
+{
+    let mut steps = steps;
+    let told = told_of(alloc, message)?;
+    steps.push(Asked {
+        depth: 0,
+        judged: true,
+        query,
+        reply: Reply::Told(told),
+        sets: entries,
+        ending,
+        excuse: Vec::new(alloc),
+    })?;
+    Ok(Trail { steps })
+}
+
+// What a message tells, in memory of its own, since the answer holds the message.
+fn told_of(alloc: Global, message: &Message) -> Result<Told, NoMemory>
+{
+    Ok(Told {
+        code: message.response_code,
+        empty: false,
+        answers: clone_records(alloc, &message.answers)?,
+        authorities: clone_records(alloc, &message.authorities)?,
+        additionals: clone_records(alloc, &message.additionals)?,
+    })
+}
+
+// Equal records in memory of their own, in order.
+fn clone_records(alloc: Global, records: &[Record]) -> Result<Vec<Record>, NoMemory>
+    ensures { IfOk result (λ v. v.items ≡ records.now) }
+{
+    let mut all = Vec::with_capacity(alloc, records.len())?;
+    for next in records {
+        let copy = next.try_clone()?;
+        all.push(copy)?;
+    }
+    Ok(all)
 }
