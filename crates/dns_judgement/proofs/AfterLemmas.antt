@@ -1,6 +1,6 @@
 -- Lists whose elements change by themselves and what stands before them.
-use Rattle.std.proofs.Common.{◌≡◌, suc, Bool, true, false, not, ◌&&◌, ◌==◌, cond, List, [], ◌∷◌, ◌++◌, map, length, refl, sym, ap, ◌∙◌, subst}
-use Rattle.std.specs.List.{filter, find, AllByRecursion}
+use Rattle.std.proofs.Common.{◌≡◌, suc, Bool, true, false, not, ◌&&◌, ◌==◌, cond, List, [], ◌∷◌, ◌++◌, map, length, refl, sym, ap, ◌∙◌}
+use Rattle.std.specs.List.{filter, AllByRecursion}
 use Rattle.std.proofs.lemmas.Bool.{not-true, and_parts}
 use Rattle.std.proofs.lemmas.List.{append-nil, append_assoc}
 use Rattle.dns_model.specs.Names.{name_eq}
@@ -8,7 +8,7 @@ use Rattle.dns_model.specs.Records.{Rr, RrSet}
 use Rattle.dns_model.specs.Types.{type_rrsig}
 use Rattle.dns_model.specs.Sections.{is_signature, same_set, leaders, unsigned_part, set_of, sets_of}
 use Rattle.dns_model.specs.SoundAnswers.{AreKept}
-use Rattle.dns_model.proofs.EachLemmas.{each_more, each_of, each_passes, map_agree, map-map}
+use Rattle.dns_model.proofs.EachLemmas.{each_more, each_passes, map_agree, map-map}
 use Rattle.dns_model.proofs.SetLemmas.{KeepsKey, number_same, each_leader}
 use Rattle.dns_judgement.specs.Marking.{map_after}
 
@@ -47,8 +47,8 @@ filter-after p f g tests same before (x ∷ xs) =
 -- ---- the sets of a section
 
 -- a set without its signatures
-abbrev pub bare : RrSet → RrSet
-bare set = record set { signatures = [] }
+abbrev pub unsigned : RrSet → RrSet
+unsigned set = record set { signatures = [] }
 
 -- a change of records that keeps what they are, and that looks at what stands before signatures alone
 pub record IsPlainChange (f : List Rr → Rr → Rr) : Type 0 where
@@ -78,27 +78,27 @@ set_test l plain = record {
   plain = λ r h. ap (λ k. k == type_rrsig) (sym (number_same l.rtype r.rtype (and_parts (name_eq l.owner r.owner) (l.rtype == r.rtype) h).1)) ∙ plain;
 }
 
-bare_set_of : (f : List Rr → Rr → Rr) → IsPlainChange f → (records : List Rr) (l : Rr) → is_signature l ≡ false
-    → bare (set_of (map_after f [] records) l) ≡ bare (set_of (map (f []) records) l)
-bare_set_of f change records l plain =
-    ap (λ rs. record (bare (set_of [] l)) { records = rs }) (plain-after (same_set l) f (set_test l plain) change records)
+unsigned_set_of : (f : List Rr → Rr → Rr) → IsPlainChange f → (records : List Rr) (l : Rr) → is_signature l ≡ false
+    → unsigned (set_of (map_after f [] records) l) ≡ unsigned (set_of (map (f []) records) l)
+unsigned_set_of f change records l plain =
+    ap (λ rs. record (unsigned (set_of [] l)) { records = rs }) (plain-after (same_set l) f (set_test l plain) change records)
 
 -- the sets, signatures aside, are those of the records changed one by one
-pub bare_sets : (f : List Rr → Rr → Rr) → IsPlainChange f → (records : List Rr)
-    → map bare (sets_of (map_after f [] records)) ≡ map bare (sets_of (map (f []) records))
+pub unsigned_sets : (f : List Rr → Rr → Rr) → IsPlainChange f → (records : List Rr)
+    → map unsigned (sets_of (map_after f [] records)) ≡ map unsigned (sets_of (map (f []) records))
 unfolding sets_of
-bare_sets f change records =
+unsigned_sets f change records =
     let ys = map_after f [] records in
     let zs = map (f []) records in
     let plain = λ (r : Rr). not (is_signature r) in
     let ls = leaders (unsigned_part zs) in
-    let P = λ (l : Rr). bare (set_of ys l) ≡ bare (set_of zs l) in
-    map-map bare (set_of ys) (leaders (unsigned_part ys))
-    ∙ ap (λ rs. map (λ l. bare (set_of ys l)) (leaders rs)) (plain-after plain f unsigned_test change records)
-    ∙ map_agree (λ l. bare (set_of ys l)) (λ l. bare (set_of zs l)) ls
-    (each_more (λ l. plain l ≡ true) P (λ l h. bare_set_of f change records l (not-true (is_signature l) h)) ls
+    let P = λ (l : Rr). unsigned (set_of ys l) ≡ unsigned (set_of zs l) in
+    map-map unsigned (set_of ys) (leaders (unsigned_part ys))
+    ∙ ap (λ rs. map (λ l. unsigned (set_of ys l)) (leaders rs)) (plain-after plain f unsigned_test change records)
+    ∙ map_agree (λ l. unsigned (set_of ys l)) (λ l. unsigned (set_of zs l)) ls
+    (each_more (λ l. plain l ≡ true) P (λ l h. unsigned_set_of f change records l (not-true (is_signature l) h)) ls
     (each_leader (λ l. plain l ≡ true) (unsigned_part zs) (each_passes plain zs)))
-    ∙ sym (map-map bare (set_of zs) ls)
+    ∙ sym (map-map unsigned (set_of zs) ls)
 
 -- ---- what holds of each element
 

@@ -9,7 +9,7 @@ use Rattle.dns_model.specs.declared.section.Section.{Section}
 use Rattle.dns_model.specs.Names.{name_eq}
 use Rattle.dns_model.specs.Types.{type_rrsig}
 use Rattle.dns_model.specs.Views.{RrsigValue, rrsig_in}
-use Rattle.dns_model.specs.Records.{Rr, RrSet}
+use Rattle.dns_model.specs.Records.{Rr}
 use Rattle.dns_model.specs.Sections.{is_signature, covers_rtype, covers}
 use Rattle.dns_model.specs.SoundAnswers.{set_rtype, covered_rtype}
 use Rattle.dns_model.proofs.SetLemmas.{name_left, number_refl, number_same, IsProper, covers_set, IsSignedIn}

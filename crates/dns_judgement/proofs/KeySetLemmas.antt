@@ -16,8 +16,8 @@ use Rattle.dns_model.proofs.EachLemmas.{each_both, find_known}
 use Rattle.dns_model.proofs.SetLemmas.{name_back, name_trans, number_same, is_of, IsProper}
 use Rattle.dns_model.proofs.ChainLemmas.{links_hold-append, is_chain-append, last_link-append, justified_extends, bytes_refl, each_member, signed_is_for, keys_are_for, anchor_shown, slice_get_at}
 use Rattle.dns_judgement.specs.Validity.{sig_validity, validity, is_valid, is_accepted, is_good_by}
-use Rattle.dns_judgement.specs.Judged.{names_decider, stands}
-use Rattle.dns_judgement.specs.Marks.{most_signatures, is_anchored_key, anchored_signer, SignedKeys, first_signed, numbers_from, anchored_chain, self_signed_chain, keys_by, judged_keys}
+use Rattle.dns_judgement.specs.Marks.{most_signatures, is_anchored_key, anchored_signer, SignedKeys, first_signed, keys_by, judged_keys}
+use Rattle.dns_judgement.specs.Chained.{Chained, names_decider, stands, numbers_from, anchored_chain, self_signed_chain, keys_chain_by, chained_keys}
 use Rattle.dns_judgement.proofs.GoodLemmas.{good_parts, signer_is_owner, of_set_parts, keys_unexpanded, keys_anywhere, Fits, signed_holds}
 use Rattle.dns_judgement.proofs.FirstLemmas.{signed_from, first_signed-from, signed_or, signed_none, signed_more}
 use Rattle.dns_judgement.proofs.StandLemmas.{IsChainFor, stands_from, slice_get-take}
@@ -169,16 +169,24 @@ anchored j set proper keys all =
 
 -- ---- the table
 
+abbrev keys_at : Judge → Placed → Option SignedKeys → Chained
+keys_at j placed o = record { judged = keys_by j placed o; chain = keys_chain_by j placed.set o }
+
+abbrev unsigned_at : Placed → Bool → Chained
+unsigned_at placed all = record {
+  judged = if all
+      then record { section = placed.section; set = placed.set; mark = Secure; sig = None }
+      else record { section = placed.section; set = placed.set; mark = Bogus; sig = None };
+  chain = if all then anchored_chain placed.set else [];
+}
+
 unsigned_step : (j : Judge) (placed : Placed) (all : Bool) → (all ≡ true → IsChainFor j placed.set (anchored_chain placed.set) None)
-    → stands j (if all
-    then record { section = placed.section; set = placed.set; mark = Secure; sig = None; chain = anchored_chain placed.set }
-    else record { section = placed.section; set = placed.set; mark = Bogus; sig = None; chain = [] }) ≡ true
-unsigned_step j placed true h =
-    stands_from j (record { section = placed.section; set = placed.set; mark = Secure; sig = None; chain = anchored_chain placed.set }) (h refl)
+    → stands j (unsigned_at placed all) ≡ true
+unsigned_step j placed true h = stands_from j (unsigned_at placed true) (h refl)
 unsigned_step j placed false h = refl
 
 keys_step : (j : Judge) (placed : Placed) (n : ℕ) (o : Option SignedKeys) → IsProper placed.set → (placed.set.rtype == type_dnskey) ≡ true
-    → first_signed j placed.set (take n placed.set.signatures) ≡ o → stands j (keys_by j placed o) ≡ true
+    → first_signed j placed.set (take n placed.set.signatures) ≡ o → stands j (keys_at j placed o) ≡ true
 keys_step j placed n None proper keys is =
     unsigned_step j placed (list_all (is_anchored_key j placed.set) placed.set.records) (anchored j placed.set proper keys)
 keys_step j placed n (Some s) proper keys is =
@@ -187,10 +195,10 @@ keys_step j placed n (Some s) proper keys is =
     let place_is : s.place ≡ found.k = found.place_is ∙ omega arith in
     let at : slice_get placed.set.signatures s.place ≡ Some s.signature =
     ap (slice_get placed.set.signatures) place_is ∙ slice_get-take n placed.set.signatures found.k s.signature found.at in
-    stands_from j (record { section = placed.section; set = placed.set; mark = Secure; sig = Some s.place; chain = self_signed_chain placed.set s }) (rw at chain)
+    stands_from j (keys_at j placed (Some s)) (rw at chain)
 
 -- a proper key set that is judged stands
-pub judged_keys-stands : (j : Judge) (placed : Placed) → IsProper placed.set → (placed.set.rtype == type_dnskey) ≡ true → stands j (judged_keys j placed) ≡ true
-unfolding judged_keys
-judged_keys-stands j placed proper keys =
+pub chained_keys-stands : (j : Judge) (placed : Placed) → IsProper placed.set → (placed.set.rtype == type_dnskey) ≡ true → stands j (chained_keys j placed) ≡ true
+unfolding chained_keys judged_keys
+chained_keys-stands j placed proper keys =
     keys_step j placed most_signatures (first_signed j placed.set (take most_signatures placed.set.signatures)) proper keys refl

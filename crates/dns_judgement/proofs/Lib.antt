@@ -2,10 +2,9 @@ pub mod GoodLemmas
 pub mod FirstLemmas
 pub mod StandLemmas
 pub mod KeySetLemmas
-pub mod RunLemmas
+pub mod ChainedLemmas
 pub mod MarkedLemmas
 pub mod DeciderLemmas
 pub mod AfterLemmas
 pub mod OneDeciderLemmas
 pub mod SoundLemmas
-pub mod AloneLemmas

@@ -1,5 +1,5 @@
 -- Marking gives each record of a set, and the signature that decided, the set's own mark, and keeps the rest.
-use Rattle.std.proofs.Common.{◌≡◌, ℕ, Bool, true, false, not, ◌==◌, ◌&&◌, cond, List, [], ◌∷◌, Option, None, Some, refl, sym, ap, ◌∙◌, subst}
+use Rattle.std.proofs.Common.{◌≡◌, ℕ, Bool, true, false, not, ◌==◌, ◌&&◌, cond, List, [], ◌∷◌, map, Option, None, Some, refl, sym, ap, ◌∙◌, subst}
 use Rattle.std.specs.Prelude.{if◌then◌else◌}
 use Rattle.std.specs.Option.{option_map}
 use Rattle.std.specs.List.{filter, find, AllByRecursion}
@@ -16,10 +16,11 @@ use Rattle.dns_model.specs.Views.{rrsig_in}
 use Rattle.dns_model.proofs.NameLemmas.{name_equiv}
 use Rattle.dns_model.proofs.EachLemmas.{each_more, each_both, each_filter, each_passes, each_unmap, find_agree_each, find-map, find-filter, Apart, apart_unmap}
 use Rattle.dns_model.proofs.SetLemmas.{name_back, name_trans, name_left, number_refl, number_same, number_back, section_refl, section_same, section_back, is_of, IsProper, BeginsIn, IsSignedIn, same_key, same_place, placed_apart, proper_placed, begins_placed, signed_placed, KeepsKey}
-use Rattle.dns_judgement.specs.Judged.{Judged, placed_of, decider, stands}
-use Rattle.dns_judgement.specs.Marking.{cleared, is_about, covered, signature_place, is_place, adjusted_by, adjusted_ttl, marked_by, marked, chain_value, chains_of}
+use Rattle.dns_judgement.specs.Judged.{Judged, placed_of, decider}
+use Rattle.dns_judgement.specs.Marking.{cleared, is_about, signature_place, is_place, adjusted_by, adjusted_ttl, marked_by, marked}
+use Rattle.dns_judgement.specs.Chained.{Chained, bare, stands, chain_value, chains_of}
 use Rattle.dns_judgement.proofs.StandLemmas.{stands_parts}
-use Rattle.dns_judgement.proofs.RunLemmas.{AreJudged}
+use Rattle.dns_judgement.proofs.ChainedLemmas.{AllStand, AreJudged}
 
 -- ---- what marking keeps
 
@@ -110,20 +111,18 @@ each_found (a ∷ ss) apart =
 
 -- ---- what is known of each judged set of a message
 
-pub record IsKnown (j : Judge) (told : Told) (ss : List Judged) (s : Judged) : Type 0 where
+pub record IsKnown (told : Told) (ss : List Judged) (s : Judged) : Type 0 where
   pub proper : IsProper s.set
   pub begins : BeginsIn (section_of told s.section) s.set
   pub signed : IsSignedIn (section_of told s.section) s.set
-  pub stand : stands j s ≡ true
   pub found : IsFoundBy ss s
 
-pub each_known : (j : Judge) (told : Told) (ss : List Judged) → AreJudged j (placed_sets told) ss → AllByRecursion (IsKnown j told ss) ss
-each_known j told ss judged =
-    let back = sym judged.grouped in
+pub each_known : (told : Told) (ss : List Judged) → map placed_of ss ≡ placed_sets told → AllByRecursion (IsKnown told ss) ss
+each_known told ss grouped =
+    let back = sym grouped in
     let Proper = λ (s : Judged). IsProper s.set in
     let Begins = λ (s : Judged). BeginsIn (section_of told s.section) s.set in
     let Signed = λ (s : Judged). IsSignedIn (section_of told s.section) s.set in
-    let Stands = λ (s : Judged). stands j s ≡ true in
     let proper : AllByRecursion Proper ss =
     each_unmap (λ p. IsProper p.set) placed_of ss (subst (λ ps. AllByRecursion (λ p. IsProper p.set) ps) back (proper_placed told)) in
     let begins : AllByRecursion Begins ss =
@@ -134,11 +133,23 @@ each_known j told ss judged =
     (subst (λ ps. AllByRecursion (λ p. IsSignedIn (section_of told p.section) p.set) ps) back (signed_placed told)) in
     let apart : Apart (λ a b. same_place (placed_of a) (placed_of b)) ss =
     apart_unmap same_place placed_of ss (subst (λ ps. Apart same_place ps) back (placed_apart told)) in
-    each_more (λ s. Proper s × (Begins s × (Signed s × (Stands s × IsFoundBy ss s)))) (IsKnown j told ss)
-    (λ s h. record { proper = h.0; begins = h.1.0; signed = h.1.1.0; stand = h.1.1.1.0; found = h.1.1.1.1 }) ss
-    (each_both Proper (λ s. Begins s × (Signed s × (Stands s × IsFoundBy ss s))) ss proper
-    (each_both Begins (λ s. Signed s × (Stands s × IsFoundBy ss s)) ss begins
-    (each_both Signed (λ s. Stands s × IsFoundBy ss s) ss signed (each_both Stands (IsFoundBy ss) ss judged.stand (each_found ss apart)))))
+    each_more (λ s. Proper s × (Begins s × (Signed s × IsFoundBy ss s))) (IsKnown told ss)
+    (λ s h. record { proper = h.0; begins = h.1.0; signed = h.1.1.0; found = h.1.1.1 }) ss
+    (each_both Proper (λ s. Begins s × (Signed s × IsFoundBy ss s)) ss proper
+    (each_both Begins (λ s. Signed s × IsFoundBy ss s) ss begins (each_both Signed (IsFoundBy ss) ss signed (each_found ss apart))))
+
+-- the same of a set with its chain, which stands
+pub record IsKnownChain (j : Judge) (told : Told) (ss : List Judged) (c : Chained) : Type 0 where
+  pub known : IsKnown told ss c.judged
+  pub stand : stands j c ≡ true
+
+pub each_chain_known : (j : Judge) (told : Told) (cs : List Chained) → AreJudged j (placed_sets told) cs
+    → AllByRecursion (IsKnownChain j told (bare cs)) cs
+each_chain_known j told cs judged =
+    let Known = λ (c : Chained). IsKnown told (bare cs) c.judged in
+    let Stands = λ (c : Chained). stands j c ≡ true in
+    each_more (λ c. Known c × Stands c) (IsKnownChain j told (bare cs)) (λ c h. record { known = h.0; stand = h.1 }) cs
+    (each_both Known Stands cs (each_unmap (IsKnown told (bare cs)) (λ c. c.judged) cs (each_known told (bare cs) judged.grouped)) judged.stand)
 
 -- ---- the records of a set
 
@@ -249,23 +260,26 @@ link_agrees set (Some (Signed o c k rdatas sig key_link key)) owner rtype h =
     agrees set o owner k rtype ((set.class == c) && same_rdatas (rdatas_of set.records) rdatas) h
 
 -- a Secure set's chain is of a record exactly where the set is
-chain_agrees : (j : Judge) (told : Told) (ss : List Judged) (section : Section) (r : Rr) (s : Judged)
-    → (is_secure s.mark ≡ true) × IsKnown j told ss s → chain_is_of section r.owner (set_rtype r) (chain_value s) ≡ is_about section r s
-chain_agrees j told ss section r s h =
-    let chain = stands_parts j s h.1.stand h.0 in
-    ap (λ b. b && link_is_of r.owner (set_rtype r) (last_link s.chain)) (section_back section s.section)
-    ∙ ap (λ b. section_eq s.section section && b) (link_agrees s.set (last_link s.chain) r.owner (set_rtype r) chain.ends)
+chain_agrees : (j : Judge) (section : Section) (r : Rr) (c : Chained) → (is_secure c.judged.mark ≡ true) × (stands j c ≡ true)
+    → chain_is_of section r.owner (set_rtype r) (chain_value c) ≡ is_about section r c.judged
+chain_agrees j section r c h =
+    let chain = stands_parts j c h.1 h.0 in
+    ap (λ b. b && link_is_of r.owner (set_rtype r) (last_link c.chain)) (section_back section c.judged.section)
+    ∙ ap (λ b. section_eq c.judged.section section && b) (link_agrees c.judged.set (last_link c.chain) r.owner (set_rtype r) chain.ends)
 
 -- the deciding link of a record that is about a Secure set is the last of that set's chain
-pub decided_link : (j : Judge) (told : Told) (ss : List Judged) (section : Section) (r : Rr) (s : Judged) → AllByRecursion (IsKnown j told ss) ss
-    → find (is_about section r) ss ≡ Some s → is_secure s.mark ≡ true → deciding_link (chains_of ss) section r ≡ last_link s.chain
-decided_link j told ss section r s known found secure =
-    let secures = λ (t : Judged). is_secure t.mark in
+pub decided_link : (j : Judge) (cs : List Chained) (section : Section) (r : Rr) (c : Chained) → AllStand j cs
+    → find (λ x. is_about section r x.judged) cs ≡ Some c → is_secure c.judged.mark ≡ true
+    → deciding_link (chains_of cs) section r ≡ last_link c.chain
+decided_link j cs section r c stand found secure =
+    let about = λ (x : Chained). is_about section r x.judged in
+    let secures = λ (x : Chained). is_secure x.judged.mark in
     let test = chain_is_of section r.owner (set_rtype r) in
-    let Secures = λ (t : Judged). secures t ≡ true in
-    let each : AllByRecursion (λ t. test (chain_value t) ≡ is_about section r t) (filter secures ss) =
-    each_more (λ t. Secures t × IsKnown j told ss t) (λ t. test (chain_value t) ≡ is_about section r t) (chain_agrees j told ss section r) (filter secures ss)
-    (each_both Secures (IsKnown j told ss) (filter secures ss) (each_passes secures ss) (each_filter (IsKnown j told ss) secures ss known)) in
-    ap last_of (find-map test chain_value (filter secures ss)
-    ∙ ap (option_map chain_value) (find_agree_each (λ t. test (chain_value t)) (is_about section r) (filter secures ss) each
-    ∙ find-filter (is_about section r) secures ss s found secure))
+    let Secures = λ (x : Chained). secures x ≡ true in
+    let Stands = λ (x : Chained). stands j x ≡ true in
+    let each : AllByRecursion (λ x. test (chain_value x) ≡ about x) (filter secures cs) =
+    each_more (λ x. Secures x × Stands x) (λ x. test (chain_value x) ≡ about x) (chain_agrees j section r) (filter secures cs)
+    (each_both Secures Stands (filter secures cs) (each_passes secures cs) (each_filter Stands secures cs stand)) in
+    ap last_of (find-map test chain_value (filter secures cs)
+    ∙ ap (option_map chain_value) (find_agree_each (λ x. test (chain_value x)) about (filter secures cs) each
+    ∙ find-filter about secures cs c found secure))

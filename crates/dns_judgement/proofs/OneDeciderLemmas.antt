@@ -1,21 +1,21 @@
 -- At most one of the signatures of a set is marked Secure.
-use Rattle.std.proofs.Common.{◌≡◌, ℕ, suc, ◌+◌, ◌<◌, ◌≤◌, Bool, true, false, not, ◌==◌, ◌&&◌, cond, List, [], ◌∷◌, ◌++◌, length, Option, None, Some, refl, sym, ap, ◌∙◌, subst, arith}
-use Rattle.std.specs.List.{filter, find, AllByRecursion}
+use Rattle.std.proofs.Common.{◌≡◌, ℕ, ◌+◌, ◌<◌, ◌≤◌, Bool, true, false, ◌==◌, ◌&&◌, cond, List, [], ◌∷◌, ◌++◌, length, Option, None, Some, refl, sym, ap, ◌∙◌, subst, arith}
+use Rattle.std.specs.List.{filter, find}
 use Rattle.std.proofs.lemmas.Bool.{and_parts}
 use Rattle.std.proofs.lemmas.List.{length-append}
 use Rattle.std.proofs.lemmas.List.Elements.{filter-append, filter_agree}
 use Rattle.std.proofs.lemmas.List.Sums.{length-filter}
 use Rattle.dns_model.specs.declared.section.Section.{Section}
 use Rattle.dns_model.specs.Names.{name_eq}
-use Rattle.dns_model.specs.Views.{RrsigValue, rrsig_in}
+use Rattle.dns_model.specs.Views.{rrsig_in}
 use Rattle.dns_model.specs.Records.{Rr}
 use Rattle.dns_model.specs.Sections.{is_signature, covers_rtype, covers, leaders, unsigned_part, set_of, sets_of}
-use Rattle.dns_model.specs.SoundAnswers.{section_eq, is_secure, set_rtype, covered_rtype, HasOneDecider, HaveOneDecider}
+use Rattle.dns_model.specs.SoundAnswers.{section_eq, is_secure, set_rtype, HasOneDecider, HaveOneDecider}
 use Rattle.dns_model.proofs.EachLemmas.{each_of, each_map, find_agree}
 use Rattle.dns_model.proofs.NameLemmas.{name_equiv}
-use Rattle.dns_model.proofs.SetLemmas.{name_left, number_same, covered-kept}
+use Rattle.dns_model.proofs.SetLemmas.{name_left, covered-kept}
 use Rattle.dns_judgement.specs.Judged.{Judged}
-use Rattle.dns_judgement.specs.Marking.{is_about, covered, signature_place, map_after, marked, marked_section}
+use Rattle.dns_judgement.specs.Marking.{is_about, covered, map_after, marked, marked_section}
 use Rattle.dns_judgement.proofs.MarkedLemmas.{marked-keeps, made_secure}
 use Rattle.dns_judgement.proofs.DeciderLemmas.{IsCovered, covered_parts, marked_place}
 

@@ -1,0 +1,118 @@
+-- Sets that were judged stand, whatever the upstream said; and without their chains they are what the tables of marks say.
+use Rattle.std.proofs.Common.{◌≡◌, ℕ, Bool, true, false, ◌==◌, List, [], ◌∷◌, map, take, Option, None, Some, refl, ap}
+use Rattle.std.specs.Prelude.{if◌then◌else◌}
+use Rattle.std.specs.Option.{option_map}
+use Rattle.std.specs.List.{filter, list_all, AllByRecursion}
+use Rattle.dns_model.specs.declared.proof.Proof.TheVariants.{Secure, Bogus}
+use Rattle.dns_model.specs.Types.{type_dnskey}
+use Rattle.dns_model.specs.Records.{Rr, RrSet, Question}
+use Rattle.dns_model.specs.Chains.{LinkValue, Judge}
+use Rattle.dns_model.specs.SoundAnswers.{Told, Placed, placed_sets}
+use Rattle.dns_model.proofs.EachLemmas.{each_filter}
+use Rattle.dns_model.proofs.SetLemmas.{IsProper, proper_placed}
+use Rattle.dns_judgement.specs.Judged.{placed_of}
+use Rattle.dns_judgement.specs.Marks.{Verdict, Proved, Excused, Failed, is_skipped, verdict_of, judged_by, most_signatures, is_anchored_key, SignedKeys, first_signed, keys_by, judged_keys}
+use Rattle.dns_judgement.specs.Chained.{Chained, bare, stands, chain_by, ChainedVerdict, with_chain, chained_verdict, bare_verdicts, chained_by, chained_keys}
+use Rattle.dns_judgement.specs.Asking.{is_judged_at, judged_part}
+use Rattle.dns_judgement.proofs.StandLemmas.{IsChainFor, IsGoodVerdict, proof_is_chain}
+
+-- ---- what is shown of sets
+
+abbrev pub AllStand : Judge → List Chained → Type 0
+AllStand j cs = AllByRecursion (λ c. stands j c ≡ true) cs
+
+abbrev pub AreProper : List Placed → Type 0
+AreProper ps = AllByRecursion (λ p. IsProper p.set) ps
+
+-- sets that were judged are the sets, in order, and stand
+pub record AreJudged (j : Judge) (ps : List Placed) (cs : List Chained) : Type 0 where
+  pub grouped : map placed_of (bare cs) ≡ ps
+  pub stand : AllStand j cs
+
+-- the sets of an answer stand
+abbrev pub IsGoodAnswer : Judge → Option (List Chained) → Type 0
+IsGoodAnswer j None = Unit {0}
+IsGoodAnswer j (Some cs) = AllStand j cs
+
+-- ---- without their chains
+
+with_chain-verdict : (v : Verdict) (chain : List LinkValue) → (with_chain v chain).verdict ≡ v
+with_chain-verdict Proved chain = refl
+with_chain-verdict Excused chain = refl
+with_chain-verdict Failed chain = refl
+
+-- the verdict is that of the table
+pub chained_verdict-bare : (j : Judge) (set : RrSet) (r : Rr) (answer : Option (List Chained))
+    → (chained_verdict j set r answer).verdict ≡ verdict_of j set r (option_map bare answer)
+unfolding chained_verdict
+chained_verdict-bare j set r answer = with_chain-verdict (verdict_of j set r (option_map bare answer)) (chain_by j set r answer)
+
+-- so is the set that its verdicts judge
+pub chained_by-bare : (p : Placed) (vs : List ChainedVerdict) → (chained_by p vs).judged ≡ judged_by p (bare_verdicts vs)
+chained_by-bare p vs = refl
+
+-- and the key set
+pub chained_keys-bare : (j : Judge) (p : Placed) → (chained_keys j p).judged ≡ judged_keys j p
+unfolding chained_keys
+chained_keys-bare j p = refl
+
+-- ---- which set was judged
+
+unsigned_placed : (p : Placed) (all : Bool)
+    → placed_of (if all
+    then record { section = p.section; set = p.set; mark = Secure; sig = None }
+    else record { section = p.section; set = p.set; mark = Bogus; sig = None }) ≡ p
+unsigned_placed p true = refl
+unsigned_placed p false = refl
+
+keys_placed : (j : Judge) (p : Placed) (o : Option SignedKeys) → placed_of (keys_by j p o) ≡ p
+keys_placed j p None = unsigned_placed p (list_all (is_anchored_key j p.set) p.set.records)
+keys_placed j p (Some s) = refl
+
+pub placed_of-judged_keys : (j : Judge) (p : Placed) → placed_of (judged_keys j p) ≡ p
+unfolding judged_keys
+placed_of-judged_keys j p = keys_placed j p (first_signed j p.set (take most_signatures p.set.signatures))
+
+pub placed_of-judged_by : (p : Placed) (vs : List Verdict) → placed_of (judged_by p vs) ≡ p
+unfolding judged_by
+placed_of-judged_by p vs = refl
+
+-- ---- verdicts
+
+verdict_step : (j : Judge) (set : RrSet) (r : Rr) (v : Verdict) (chain : List LinkValue) → (v ≡ Proved → IsChainFor j set chain (Some r))
+    → IsGoodVerdict j set r (with_chain v chain)
+verdict_step j set r Proved chain h = record { chain = λ proved. h refl }
+verdict_step j set r Excused chain h = record { chain = λ proved. cc }
+verdict_step j set r Failed chain h = record { chain = λ proved. cc }
+
+-- a signature that wasn't asked for proves nothing
+pub failed_verdict : (j : Judge) (set : RrSet) (r : Rr) → IsGoodVerdict j set r (with_chain Failed [])
+failed_verdict j set r = verdict_step j set r Failed [] (λ proved. cc)
+
+none_proves : (j : Judge) (set : RrSet) (r : Rr) → verdict_of j set r None ≡ Proved → ⊥
+unfolding verdict_of
+none_proves j set r h = cc
+
+-- a verdict by an answer whose sets stand proves its set by a chain that is for it
+pub good_verdict : (j : Judge) (set : RrSet) (q : Question) (r : Rr) (answer : Option (List Chained))
+    → IsProper set → (set.rtype == type_dnskey) ≡ false → is_skipped q set r ≡ false → IsGoodAnswer j answer
+    → IsGoodVerdict j set r (chained_verdict j set r answer)
+unfolding chained_verdict
+good_verdict j set q r None proper other asked good =
+    verdict_step j set r (verdict_of j set r None) (chain_by j set r None) (λ proved. absurd (none_proves j set r proved))
+good_verdict j set q r (Some cs) proper other asked good =
+    verdict_step j set r (verdict_of j set r (Some (bare cs))) (chain_by j set r (Some cs)) (proof_is_chain j set q r cs proper other asked good)
+
+-- ---- the sets of a step
+
+filter_all : {X : Type 0} (xs : List X) → filter (λ x. true) xs ≡ xs
+filter_all [] = refl
+filter_all (x ∷ xs) = ap (λ ys. x ∷ ys) (filter_all xs)
+
+-- at the top all sets are judged
+pub judged_part-top : (told : Told) → judged_part 0 told ≡ placed_sets told
+judged_part-top told = filter_all (placed_sets told)
+
+-- the sets that are judged of a reply are proper
+pub proper_part : (depth : ℕ) (told : Told) → AreProper (judged_part depth told)
+proper_part depth told = each_filter (λ p. IsProper p.set) (λ p. is_judged_at depth p.set.rtype) (placed_sets told) (proper_placed told)
