@@ -8,16 +8,16 @@ use Rattle.dns_model.specs.declared.proof.Proof.{Proof}
 use Rattle.dns_model.specs.declared.section.Section.{Section}
 use Rattle.dns_model.specs.Names.{Labels, name_eq}
 use Rattle.dns_model.specs.Types.{type_rrsig, type_dnskey}
-use Rattle.dns_model.specs.Records.{Rr, RrSet}
+use Rattle.dns_model.specs.Records.{Rr, RrSet, MessageValue}
 use Rattle.dns_model.specs.Sections.{is_signature}
 use Rattle.dns_model.specs.Chains.{LinkValue, Anchored, Matched, KeySet, Signed, Judge, last_link, link_is_for, same_rdatas, rdatas_of}
-use Rattle.dns_model.specs.SoundAnswers.{Told, placed_sets, section_of, section_eq, is_secure, set_rtype, covered_rtype, chain_is_of, link_is_of, last_of, deciding_link}
+use Rattle.dns_model.specs.SoundAnswers.{Told, told_by, placed_sets, section_of, section_eq, is_secure, set_rtype, covered_rtype, chain_is_of, link_is_of, last_of, deciding_link}
 use Rattle.dns_model.specs.Views.{rrsig_in}
 use Rattle.dns_model.proofs.NameLemmas.{name_equiv}
 use Rattle.dns_model.proofs.EachLemmas.{each_more, each_both, each_filter, each_passes, each_unmap, find_agree_each, find-map, find-filter, Apart, apart_unmap}
 use Rattle.dns_model.proofs.SetLemmas.{name_back, name_trans, name_left, number_refl, number_same, number_back, section_refl, section_same, section_back, is_of, IsProper, BeginsIn, IsSignedIn, same_key, same_place, placed_apart, proper_placed, begins_placed, signed_placed, KeepsKey}
 use Rattle.dns_judgement.specs.Judged.{Judged, placed_of, decider}
-use Rattle.dns_judgement.specs.Marking.{cleared, is_about, signature_place, is_place, adjusted_by, adjusted_ttl, marked_by, marked}
+use Rattle.dns_judgement.specs.Marking.{cleared, is_about, signature_place, is_place, adjusted_by, adjusted_ttl, marked_by, marked, marked_message, marked_told}
 use Rattle.dns_judgement.specs.Chained.{Chained, bare, stands, chain_value, chains_of}
 use Rattle.dns_judgement.proofs.StandLemmas.{stands_parts}
 use Rattle.dns_judgement.proofs.ChainedLemmas.{AllStand, AreJudged}
@@ -63,6 +63,10 @@ marked-plain now ss section before r plain =
 
 pub cleared-keeps : KeepsKey cleared
 cleared-keeps = record { owner = λ r. refl; rtype = λ r. refl; class = λ r. refl; rdata = λ r. refl }
+
+-- what a marked message tells
+pub told_by-marked : (now : ℕ) (ss : List Judged) (m : MessageValue) → told_by (marked_message now ss m) ≡ marked_told now ss (told_by m)
+told_by-marked now ss m = refl
 
 -- ---- the set that a record is about
 
