@@ -3,7 +3,7 @@ use Rattle.std.specs.Prelude.{◌≡◌, ℕ, true, false, ◌==◌, List, [], �
 use Rattle.dns_model.specs.NameForm.{label_in, labels_in, name_in}
 use Rattle.dns_model.specs.Keys.{bytes_eq}
 use Rattle.dns_model.specs.Chains.{LinkValue, judge, last_link, ends_at}
-use Rattle.dns_model.specs.SoundAnswers.{Told, ResponseValue, Sound, SoundAlone}
+use Rattle.dns_model.specs.SoundAnswers.{Told, ResponseValue, Sound}
 use Rattle.dns_model.specs.declared.proof.Proof.{Proof}
 use Rattle.dns_model.specs.declared.proof.Proof.TheVariants.{Secure, Bogus, Indeterminate}
 use Rattle.dns_model.specs.declared.section.Section.TheVariants.{Answer}
@@ -125,33 +125,14 @@ sound_answer = record {
   chains = (record { named = refl; ends = refl; holds = justified_at_1000 }, tt);
 }
 
--- the same answer, where nothing tells what the upstream said
-pub sound_alone : SoundAlone (judge verifier anchors 1000) 1000 answer
-unfolding sets_of leaders rrsig_in name_in labels_in label_in last_link
-sound_alone = record {
-  answers = (
-    (λ yes. (λ signs. absurd (true≢false (sym signs)), refl, lit≤ tt)),
-    ((λ yes. (λ signs. refl, refl, lit≤ tt)), tt),
-  );
-  authorities = tt;
-  additionals = tt;
-  marks_of_answers = ((refl, tt), tt);
-  marks_of_authorities = tt;
-  marks_of_additionals = tt;
-  deciders_of_answers = (lit≤ tt, tt);
-  deciders_of_authorities = tt;
-  deciders_of_additionals = tt;
-  chains = (record { named = refl; ends = refl; holds = justified_at_1000 }, tt);
-}
-
 -- ---- what no answer to these records may be
 
--- a signature's ttl is its set's, also where nothing is told
+-- a signature's ttl is its set's
 pub not_with_two_ttls :
-    SoundAlone (judge verifier anchors 1000) 1000
+    Sound (judge verifier anchors 1000) 1000 told_records
     (answer_of (record_of 2 1000 name_a Secure ∷ record_of 46 999 signature Secure ∷ []) (chain_by key ∷ [])) → ⊥
 unfolding sets_of leaders rrsig_in name_in labels_in label_in last_link
-not_with_two_ttls s = absurd (true≢false (sym (ap (λ n. n == 1000) (s.answers.1.0 refl).1)))
+not_with_two_ttls s = absurd (true≢false (sym (ap (λ n. n == 1000) (s.answers.1.0.secure refl).1)))
 
 pub not_without_a_chain :
     Sound (judge verifier anchors 1000) 1000 told_records (answer_of (record_of 2 1000 name_a Secure ∷ record_of 46 1000 signature Secure ∷ []) []) → ⊥

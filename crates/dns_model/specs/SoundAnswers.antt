@@ -183,32 +183,3 @@ pub record Sound (j : Judge) (now : ℕ) (told : Told) (a : ResponseValue) : Typ
   pub deciders_of_authorities : HaveOneDecider a.message.authorities
   pub deciders_of_additionals : HaveOneDecider a.message.additionals
   pub chains : AreChainsOf j a.chains (secure_sets (told_by a.message))
-
--- a Secure record's ttl where nothing tells what the upstream said: under a signature that of its set, and no more than the
--- signature leaves
-abbrev pub IsBoundedTtl : ℕ → List Rr → Rr → Option LinkValue → Type 0
-IsBoundedTtl now section r None = ⊥
-IsBoundedTtl now section r (Some (Anchored owner class key)) = ⊥
-IsBoundedTtl now section r (Some (Matched owner class key ds_link ds)) = ⊥
-IsBoundedTtl now section r (Some (KeySet owner class keys links)) = is_signature r ≡ false
-IsBoundedTtl now section r (Some (Signed owner class rtype rdatas sig key_link key)) =
-    (is_signature r ≡ true → r.rdata ≡ sig)
-    × (r.ttl ≡ first_ttl section r.owner (set_rtype r))
-    × (r.ttl ≤ signed_ttl (rrsig_in sig) now)
-
-abbrev pub AreBounded : ℕ → List ChainValue → Section → List Rr → Type 0
-AreBounded now chains section records =
-    AllByRecursion (λ r. is_secure r.proof ≡ true → IsBoundedTtl now records r (deciding_link chains section r)) records
-
--- the part of `Sound` that speaks of the answer alone, for an upstream that doesn't tell
-pub record SoundAlone (j : Judge) (now : ℕ) (a : ResponseValue) : Type 0 where
-  pub answers : AreBounded now a.chains Answer a.message.answers
-  pub authorities : AreBounded now a.chains Authority a.message.authorities
-  pub additionals : AreBounded now a.chains Additional a.message.additionals
-  pub marks_of_answers : HaveOneMark a.message.answers
-  pub marks_of_authorities : HaveOneMark a.message.authorities
-  pub marks_of_additionals : HaveOneMark a.message.additionals
-  pub deciders_of_answers : HaveOneDecider a.message.answers
-  pub deciders_of_authorities : HaveOneDecider a.message.authorities
-  pub deciders_of_additionals : HaveOneDecider a.message.additionals
-  pub chains : AreChainsOf j a.chains (secure_sets (told_by a.message))
