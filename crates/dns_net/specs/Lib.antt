@@ -1,4 +1,5 @@
 pub mod Link
+pub mod Trail
 pub mod Verifiers
 pub mod LetterCase
 pub mod Requests

@@ -14,8 +14,11 @@ mod query_key;
 mod recorded;
 mod request;
 mod response;
+mod trail;
+mod trail_copies;
 mod verifier;
 
+pub use dns_model::{AskRef, MarkOrigin};
 pub use dns_record::{Denial, Section};
 pub use error::{DnsError, NetError, ProtoError};
 pub use handle::DnsHandle;
@@ -26,4 +29,5 @@ pub use notice::Notice;
 pub use recorded::Recorded;
 pub use request::{DnsRequest, DnsRequestOptions};
 pub use response::DnsResponse;
+pub use trail::{Asked, Ending, JudgedSet, Reply, Told, Trail};
 pub use verifier::Verifier;

@@ -1,18 +1,19 @@
 ghost use Rattle.std.specs.Prelude.{◌≡◌, IfOk};
 
-use crate::Chain;
+use crate::{Chain, Trail};
 use dns_message::Message;
 use dns_name::NoMemory;
 use dns_record::Denial;
 use std::marker::Model;
 
-/// A response, with the chains of its Secure sets and what it denies.
+/// A response, with the chains of its Secure sets, what it denies and how it came about.
 #[derive(Drop)]
 pub struct DnsResponse {
     pub message: Message,
     /// One for each Secure set, in the order of the sets.
     pub chains: Vec<Chain>,
     pub denial: Denial,
+    pub trail: Trail,
 }
 
 impl Model for DnsResponse {
@@ -20,7 +21,7 @@ impl Model for DnsResponse {
 
     ghost Value = { ResponseValue };
 
-    ghost view = { λ r. record { message = r.message; chains = r.chains.items; denial = r.denial } };
+    ghost view = { λ r. record { message = r.message; chains = r.chains.items; denial = r.denial; trail = r.trail } };
 }
 
 fn clone_chains(chains: &Vec<Chain>) -> Result<Vec<Chain>, NoMemory>
@@ -41,10 +42,12 @@ impl DnsResponse {
     {
         let message = self.message.try_clone()?;
         let chains = clone_chains(&self.chains)?;
+        let trail = self.trail.try_clone()?;
         Ok(DnsResponse {
             message,
             chains,
             denial: self.denial,
+            trail,
         })
     }
 }
