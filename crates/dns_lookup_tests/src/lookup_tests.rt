@@ -3,7 +3,7 @@ use dns_chain::DnssecDnsHandle;
 use dns_message::Message;
 use dns_name::Name;
 use dns_net::{
-    DnsError, DnsHandle, DnsRequest, DnsRequestOptions, DnsResponse, NetError, Recorded,
+    DnsError, DnsHandle, DnsRequest, DnsRequestOptions, DnsResponse, NetError, Recorded, Trail,
 };
 use dns_record::{DNSClass, Denial, Octets, Proof, Query, Record, RecordType};
 use dns_trust::{Listed, TrustAnchors};
@@ -109,6 +109,7 @@ fn response_of(alloc: Global, message: &[u8]) -> Result<DnsResponse, NetError> {
             message,
             chains: Vec::new(alloc),
             denial: Denial::None,
+            trail: Trail::new(alloc),
         }),
         Err(_) => Err(NetError::Timeout),
     }

@@ -15,7 +15,7 @@ use Rattle.dns_run.specs.Soundness.{session_judge}
 
 -- what an upstream answers with a message, or with bytes that are none
 abbrev pub reply_from : Result MessageValue DecodeError → Reply
-reply_from (Ok message) = Ok (record { message = message; chains = []; denial = denied.None })
+reply_from (Ok message) = Ok (record { message = message; chains = []; denial = denied.None; trail = [] })
 reply_from (Err error) = Err (seen.Proto (Decode error))
 
 -- a question and what is answered

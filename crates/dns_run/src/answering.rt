@@ -11,7 +11,7 @@ ghost use Rattle.dns_run.specs.Soundness.{listing};
 use dns_chain::DnssecDnsHandle;
 use dns_message::{DecodeError, Message};
 use dns_name::NoMemory;
-use dns_net::{DnsRequestOptions, DnsResponse, NetError, ProtoError, Recorded};
+use dns_net::{DnsRequestOptions, DnsResponse, NetError, ProtoError, Recorded, Trail};
 use dns_record::Denial;
 use dns_session::{AcceptedSignature, Anchor, Reply, Session};
 use dns_trust::{Listed, TrustAnchors};
@@ -89,6 +89,7 @@ fn reply_from(alloc: Global, message: Result<Message, DecodeError>) -> Result<Dn
             message,
             chains: Vec::new(alloc),
             denial: Denial::None,
+            trail: Trail::new(alloc),
         }),
         Err(error) => Err(NetError::Proto(ProtoError::Decode(error))),
     }

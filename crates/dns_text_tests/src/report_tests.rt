@@ -1,6 +1,6 @@
 use dns_message::Message;
 use dns_name::{Name, NoMemory};
-use dns_net::{Chain, DnsResponse, Link, NetError};
+use dns_net::{Chain, DnsResponse, Link, NetError, Trail};
 use dns_record::{DNSClass, Denial, Proof, Rdata, Section};
 use dns_report::*;
 use std::alloc::Global;
@@ -65,6 +65,7 @@ fn reports(alloc: Global, bytes: &[u8], owner: &str, key: &[u8], text: &str) -> 
         message,
         chains: chains_of(alloc, owner, key)?,
         denial: Denial::Absent(Proof::Bogus),
+        trail: Trail::new(alloc),
     };
     let written = write_report(alloc, &answer)?;
     Ok(written.as_slice() == text.as_bytes())
