@@ -1,11 +1,11 @@
-ghost use Rattle.std.specs.Prelude.{◌≡◌, ◌≤◌, ⊤, ℕ, Bool, true, false, List, Option, Some};
+ghost use Rattle.std.specs.Prelude.{◌≡◌, ◌≤◌, ⊤, ℕ, Bool, true, false, Option, Some};
 ghost use Rattle.dns_model.specs.Records.{Question};
 ghost use Rattle.dns_net.specs.Errors.{Reply};
 ghost use Rattle.dns_net.specs.Replies.{reply_of};
 ghost use Rattle.dns_net.specs.Requests.{RequestValue, first_question, request_of};
 ghost use Rattle.dns_model.specs.Counts.{Rose};
 ghost use Rattle.dns_net.specs.Causes.{HasCause};
-ghost use Rattle.dns_net.specs.Handles.{ReplyIsTold, OrUnsent};
+ghost use Rattle.dns_net.specs.Handles.{Replies, ReplyIsTold, IsLeft, OrUnsent};
 
 use crate::{DnsRequest, DnsRequestOptions, DnsResponse, NetError};
 use dns_record::Query;
@@ -22,8 +22,9 @@ pub trait DnsHandle {
     /// The handle before a `send`, the request's first question, the handle after, the reply.
     ghost sent: { Self → Option Question → Self → Reply → Type 0 };
 
-    /// The replies in order, where the handle tells them: the reply to a question is the first with that question.
-    ghost told: { Self → Option (List (Question × Reply)) };
+    /// The replies in order and whether they are served by turn, where the handle tells them: the reply to a question is the
+    /// first with that question.
+    ghost told: { Self → Option Replies };
 
     /// The handle before a `send`, the whole request, the moment, the handle after, the reply; a handle may leave it open.
     ghost requested: { Self → RequestValue → ℕ → Self → Reply → Type 0 } = { λ _ _ _ _ _. ⊤ };
@@ -47,7 +48,7 @@ pub trait DnsHandle {
         ensures requested { requested self.old request now self.new (reply_of result) }
         ensures later { faults self.old ≤ faults self.new }
         ensures cause { HasCause (faults self.old) (faults self.new) result }
-        ensures told { told self.new ≡ told self.old }
+        ensures told { IsLeft (told self.old) (first_question request) (reply_of result) (told self.new) }
         ensures reply { ReplyIsTold (told self.old) (first_question request) (reply_of result) };
 
     /// Sends the request for one question at the same moment. Where memory runs out before the send, nothing is sent and nothing changes.
@@ -63,7 +64,7 @@ pub trait DnsHandle {
         ensures requested { OrUnsent self.old self.new result (requested self.old (request_of query options) now self.new (reply_of result)) }
         ensures later { faults self.old ≤ faults self.new }
         ensures cause { HasCause (faults self.old) (faults self.new) result }
-        ensures told { told self.new ≡ told self.old }
+        ensures told { IsLeft (told self.old) (Some query) (reply_of result) (told self.new) }
         ensures reply { ReplyIsTold (told self.old) (Some query) (reply_of result) }
     {
         let request = DnsRequest::from_query(alloc, query, options)?;

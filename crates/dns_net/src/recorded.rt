@@ -1,4 +1,4 @@
-ghost use Rattle.std.specs.Prelude.{◌≡◌, ◌⊎◌, ◌∷◌, ◌++◌, ℕ, [], Some, Err, OnOk, OnErr, IfOk, length};
+ghost use Rattle.std.specs.Prelude.{◌≡◌, ◌⊎◌, ◌∷◌, ◌++◌, ℕ, [], Some, false, Err, OnOk, OnErr, IfOk, length};
 ghost use Rattle.dns_net.specs.Errors as seen;
 ghost use Rattle.dns_net.specs.Replies.{reply_of};
 ghost use Rattle.dns_net.specs.Requests.{first_question};
@@ -155,7 +155,7 @@ impl DnsHandle for Recorded {
 
     ghost sent = { AnswersFrom };
 
-    ghost told = { λ h. Some h.replies };
+    ghost told = { λ h. Some (record { list = h.replies; by_turn = false }) };
 
     fn send(
         &mut self,
