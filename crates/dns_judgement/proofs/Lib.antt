@@ -8,3 +8,6 @@ pub mod DeciderLemmas
 pub mod AfterLemmas
 pub mod OneDeciderLemmas
 pub mod SoundLemmas
+pub mod AloneLemmas
+pub mod ExtendLemmas
+pub mod VerdictLemmas
