@@ -49,6 +49,22 @@ fn serial_numbers_are_ordered_around_the_circle(rt: HostRuntime) {
     }
 }
 
+/// Moments before and past 2^32 seconds, and how far expiration 2000 lies ahead of each.
+const MOMENTS: [(u64, u32); 4] = [
+    (1000, 1000),
+    (2000, 0),
+    (2001, 4294967295),
+    (4294968296, 1000),
+];
+
+#[test]
+fn moments_count_around_the_circle(rt: HostRuntime) {
+    for (now, left) in &MOMENTS {
+        let steps = SerialNumber::of_moment(*now).distance_to(SerialNumber(2000));
+        assert!(rt; steps == *left, "{now}");
+    }
+}
+
 /// The key of RFC 4034, 5.4.
 const DSKEY: &str =
     "0100030501039e8a247418e318903b215a848acfd5f37f026bd4062db26c774c690968d5d56df8bfda91e6f36d9a279888f41333357c5e6029990d10fdf5663062a512763326980a615ddbf17a05ddfcce7e5fb3abcca05a31b0957452d4521e83870789063115bf97f6c308ccf57cdc9ce7fe10f6ed1bd0cc0660038c50dcdb0feb963c2f17";

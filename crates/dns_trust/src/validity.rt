@@ -54,7 +54,7 @@ fn is_of_set(set: &RecordSet, sig: &Record, read: &Rrsig<'_>) -> bool
 fn is_timely(read: &Rrsig<'_>, now: u64) -> bool
     ensures { result ≡ timely read.now now }
 {
-    let moment = SerialNumber((now % 0x1_0000_0000) as u32);
+    let moment = SerialNumber::of_moment(now);
     read.inception.at_or_before(moment) && moment.at_or_before(read.expiration)
 }
 
