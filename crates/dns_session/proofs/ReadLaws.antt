@@ -1,17 +1,18 @@
 -- What is spelled as a session is read as that session.
 use Rattle.std.proofs.Common.{◌≡◌, ℕ, ◌+◌, ◌<◌, false, List, [], ◌∷◌, ◌++◌, length, codes, Option, None, Some, Ok, refl, ap, ◌∙◌, arith, inl, inr, append_assoc}
 use Rattle.std.specs.Prelude.{◌↔◌}
+use Rattle.std.specs.Option.{option_to_list}
 use Rattle.std.proofs.lemmas.Bool.{cases_Bool}
 use Rattle.std.specs.Cmp.Lexicographic.{bytes_decides}
 use Rattle.dns_model.specs.Keys.{AnchorValue, bytes_eq}
 use Rattle.dns_model.specs.Records.{Question}
 use Rattle.dns_words.specs.Words as steps
 use Rattle.dns_session.specs.SessionValue.{SessionValue, AcceptedSignatureValue, ReplyValue}
-use Rattle.dns_session.specs.LinePlaces.{place, pieces, start_of, one, many_in}
-use Rattle.dns_session.specs.Lines.{Words, words, after, header_line, moment_line, algorithms_line, anchor_line, accept_line, query_line, reply_line}
+use Rattle.dns_session.specs.LinePlaces.{place, pieces, start_of, one, optional, many_in}
+use Rattle.dns_session.specs.Lines.{Words, words, after, header_line, moment_line, depth_line, algorithms_line, anchor_line, accept_line, query_line, reply_line}
 use Rattle.dns_session.specs.Grammar.{session_of}
-use Rattle.dns_session.specs.Spelled.{Say, Spelled}
-use Rattle.dns_session.proofs.SpelledLaws.{pieces_lines, session_spelled, ends, asks, trusts, begins, session_begins}
+use Rattle.dns_session.specs.Spelled.{Say, session_lines, Spelled}
+use Rattle.dns_session.proofs.SpelledLaws.{pieces_lines, session_spelled, session, ends, asks, trusts, begins, session_begins}
 
 one_line : {X : Type 0} (form : List ℕ → Option X) (number : ℕ) (line next : List ℕ) (rest : List (List ℕ)) (x : X)
     → form line ≡ Some x → one form (place number (line ∷ next ∷ rest)) ≡ Ok (x, place (number + 1) (next ∷ rest))
@@ -67,6 +68,22 @@ row_of form number (line ∷ lines) (x ∷ xs) rest say some other =
     longer_row form number line (lines ++ rest) x xs rest (listed_after lines rest some) (ap (first_or None) say)
     (row_of form (number + 1) lines xs rest (ap tail_of say) some other)
 
+-- a line of a form, or none, up to a line of another
+record Maybe {X : Type 0} (form : List ℕ → Option X) (number : ℕ) (ps : List (List ℕ)) (x : Option X) (rest : List (List ℕ)) : Type 0 where
+  next : ℕ
+  reads : optional form (place number ps) ≡ (x, place next rest)
+
+maybe_of : {X : Type 0} (form : List ℕ → Option X) (number : ℕ) (lines : List (List ℕ)) (x : Option X) (line next : List ℕ) (rest : List (List ℕ))
+    → Say form lines (option_to_list x) → form line ≡ None → Maybe form number (lines ++ line ∷ next ∷ rest) x (line ∷ next ∷ rest)
+unfolding optional
+maybe_of form number [] None line next rest say other = record { next = number; reads = rw other refl }
+maybe_of form number [] (Some x) line next rest say other = cc
+maybe_of form number (l ∷ lines) None line next rest say other = cc
+maybe_of form number (l ∷ []) (Some x) line next rest say other =
+    let says : form l ≡ Some x = ap (first_or None) say in
+    record { next = number + 1; reads = rw says refl }
+maybe_of form number (l ∷ m ∷ lines) (Some x) line next rest say other = cc
+
 -- ---- forms differ by their first words
 
 some_none : {X : Type 0} (x : X) → None ≡ Some x → ⊥
@@ -97,6 +114,12 @@ accept_starts line x h = starts_by (codes "accept") line (after (codes "accept")
 query_starts : (line : List ℕ) (x : Question) → query_line line ≡ Some x → Starts (codes "query") line
 query_starts line x h = starts_by (codes "query") line (after (codes "query") (words line)) _ x refl h
 
+algorithms_start : (line : List ℕ) (x : List ℕ) → algorithms_line line ≡ Some x → Starts (codes "algorithms") line
+algorithms_start line x h = starts_by (codes "algorithms") line (after (codes "algorithms") (words line)) _ x refl h
+
+algorithms_no_depth : (line : List ℕ) → Starts (codes "algorithms") line → depth_line line ≡ None
+algorithms_no_depth line s = rw (after_other (codes "algorithms") (codes "depth") (words line) s.rest refl s.begins) refl
+
 accept_no_anchor : (line : List ℕ) → Starts (codes "accept") line → anchor_line line ≡ None
 accept_no_anchor line s = rw (after_other (codes "accept") (codes "anchor") (words line) s.rest refl s.begins) refl
 
@@ -115,16 +138,14 @@ ends_gives : (s : SessionValue) (number : ℕ) → ends s (place number (codes "
 unfolding one
 ends_gives s number = refl
 
-asks_gives : (moment : ℕ) (algorithms : List ℕ) (anchors : List AnchorValue) (accepts : List AcceptedSignatureValue) (number : ℕ)
+asks_gives : (made : Question → List ReplyValue → SessionValue) (number : ℕ)
     (query : List ℕ) (question : Question) (lines : List (List ℕ)) (replies : List ReplyValue)
     → query_line query ≡ Some question → Say reply_line lines replies
-    → asks moment algorithms anchors accepts (place number (query ∷ (lines ++ codes "end" ∷ [] ∷ [])))
-    ≡ Ok (record { moment = moment; algorithms = algorithms; anchors = anchors; accepts = accepts; query = question; replies = replies })
-asks_gives moment algorithms anchors accepts number query question lines replies asked say =
+    → asks made (place number (query ∷ (lines ++ codes "end" ∷ [] ∷ []))) ≡ Ok (made question replies)
+asks_gives made number query question lines replies asked say =
     let row = row_of reply_line (number + 1) lines replies (codes "end" ∷ [] ∷ []) say (omega arith) end_no_reply in
     let first = one_listed query_line number query (lines ++ codes "end" ∷ [] ∷ []) question (listed_after lines _ (omega arith)) asked in
-    let made : SessionValue = record { moment = moment; algorithms = algorithms; anchors = anchors; accepts = accepts; query = question; replies = replies } in
-    rw (first, row.reads) (ends_gives made row.next)
+    rw (first, row.reads) (ends_gives (made question replies) row.next)
 
 -- what stands after the accept lines isn't one of them
 accepts_others : (query : List ℕ) (question : Question) (ps : List (List ℕ)) → query_line query ≡ Some question → Others accept_line (query ∷ ps)
@@ -145,44 +166,50 @@ anchors_others [] accepts query question ps say asked = query_others query quest
 anchors_others (line ∷ lines) [] query question ps say asked = cc
 anchors_others (line ∷ lines) (x ∷ accepts) query question ps say asked = accept_others line x (lines ++ query ∷ ps) (ap (first_or None) say)
 
-trusts_gives : (moment : ℕ) (algorithms : List ℕ) (number : ℕ) (s : SessionValue) (anchors accepts : List (List ℕ)) (query : List ℕ) (replies : List (List ℕ))
+trusts_gives : (made : List AnchorValue → List AcceptedSignatureValue → Question → List ReplyValue → SessionValue) (number : ℕ)
+    (s : SessionValue) (anchors accepts : List (List ℕ)) (query : List ℕ) (replies : List (List ℕ))
     → Say anchor_line anchors s.anchors → Say accept_line accepts s.accepts → query_line query ≡ Some s.query → Say reply_line replies s.replies
-    → trusts moment algorithms (place number (anchors ++ (accepts ++ query ∷ (replies ++ codes "end" ∷ [] ∷ []))))
-    ≡ Ok (record { moment = moment; algorithms = algorithms; anchors = s.anchors; accepts = s.accepts; query = s.query; replies = s.replies })
-trusts_gives moment algorithms number s anchors accepts query replies keys takes asked tells =
+    → trusts made (place number (anchors ++ (accepts ++ query ∷ (replies ++ codes "end" ∷ [] ∷ [])))) ≡ Ok (made s.anchors s.accepts s.query s.replies)
+trusts_gives made number s anchors accepts query replies keys takes asked tells =
     let body : List (List ℕ) = query ∷ (replies ++ codes "end" ∷ [] ∷ []) in
     let one = row_of anchor_line number anchors s.anchors (accepts ++ body) keys (listed_after accepts body (omega arith))
     (anchors_others accepts s.accepts query s.query (replies ++ codes "end" ∷ [] ∷ []) takes asked) in
     let two = row_of accept_line one.next accepts s.accepts body takes (omega arith) (accepts_others query s.query (replies ++ codes "end" ∷ [] ∷ []) asked) in
-    rw (one.reads, two.reads) (asks_gives moment algorithms s.anchors s.accepts two.next query s.query replies s.replies asked tells)
+    rw (one.reads, two.reads) (asks_gives (made s.anchors s.accepts) two.next query s.query replies s.replies asked tells)
 
-begins_gives : (s : SessionValue) (moment algorithms : List ℕ) (ps : List (List ℕ)) → moment_line moment ≡ Some s.moment → algorithms_line algorithms ≡ Some s.algorithms
-    → 0 < length ps → ((number : ℕ) → trusts s.moment s.algorithms (place number ps) ≡ Ok s)
-    → begins (place 1 (codes "dns-session 1" ∷ moment ∷ algorithms ∷ ps)) ≡ Ok s
-begins_gives s moment algorithms [] dated listed some more = absurd (omega arith)
-begins_gives s moment algorithms (next ∷ ps) dated listed some more =
-    let head : one header_line (place 1 (codes "dns-session 1" ∷ moment ∷ algorithms ∷ next ∷ ps)) ≡ Ok (tt, place (1 + 1) (moment ∷ algorithms ∷ next ∷ ps)) =
-    one_line header_line 1 (codes "dns-session 1") moment (algorithms ∷ next ∷ ps) tt refl in
-    let first = one_line moment_line (1 + 1) moment algorithms (next ∷ ps) s.moment dated in
-    let second = one_line algorithms_line (1 + 1 + 1) algorithms next ps s.algorithms listed in
-    rw (head, first, second) (more (1 + 1 + 1 + 1))
+begins_gives : (s : SessionValue) (head moment : List ℕ) (depth : List (List ℕ)) (algorithms : List ℕ) (ps : List (List ℕ))
+    → header_line head ≡ Some s.by_turn → moment_line moment ≡ Some s.moment → Say depth_line depth (option_to_list s.depth)
+    → algorithms_line algorithms ≡ Some s.algorithms → 0 < length ps
+    → ((number : ℕ) → trusts (session s.by_turn s.moment s.depth s.algorithms) (place number ps) ≡ Ok s)
+    → begins (place 1 (head ∷ moment ∷ (depth ++ algorithms ∷ ps))) ≡ Ok s
+begins_gives s head moment depth algorithms [] headed dated deep listed some more = absurd (omega arith)
+begins_gives s head moment depth algorithms (next ∷ ps) headed dated deep listed some more =
+    let first = one_line header_line 1 head moment (depth ++ algorithms ∷ next ∷ ps) s.by_turn headed in
+    let second = one_listed moment_line (1 + 1) moment (depth ++ algorithms ∷ next ∷ ps) s.moment (listed_after depth _ (omega arith)) dated in
+    let third = maybe_of depth_line (1 + 1 + 1) depth s.depth algorithms next ps deep
+    (algorithms_no_depth algorithms (algorithms_start algorithms s.algorithms listed)) in
+    let fourth = one_line algorithms_line third.next algorithms next ps s.algorithms listed in
+    rw (first, second, third.reads, fourth) (more (third.next + 1))
 
 -- what is spelled so is read
 pub session_read : (text : List ℕ) (s : SessionValue) → Spelled text s → session_of text ≡ Ok s
 session_read text s sp =
     let end : List (List ℕ) = codes "end" ∷ [] ∷ [] in
     let body : List (List ℕ) = sp.query ∷ (sp.replies ++ codes "end" ∷ []) in
+    let inner : List (List ℕ) = sp.anchors ++ (sp.accepts ++ body) in
     let rest : List (List ℕ) = sp.anchors ++ (sp.accepts ++ sp.query ∷ (sp.replies ++ end)) in
-    let all : List (List ℕ) = codes "dns-session 1" ∷ sp.moment ∷ sp.algorithms ∷ (sp.anchors ++ (sp.accepts ++ body)) in
-    let tail : (sp.anchors ++ (sp.accepts ++ body)) ++ [] ∷ [] ≡ rest =
+    let all : List (List ℕ) = session_lines sp.head sp.moment sp.depth sp.algorithms sp.anchors sp.accepts sp.query sp.replies in
+    let tail : inner ++ [] ∷ [] ≡ rest =
     append_assoc sp.anchors (sp.accepts ++ body) ([] ∷ []) ∙ ap (λ ps. sp.anchors ++ ps) (append_assoc sp.accepts body ([] ∷ [])
     ∙ ap (λ ps. sp.accepts ++ sp.query ∷ ps) (append_assoc sp.replies (codes "end" ∷ []) ([] ∷ []))) in
-    let cut : pieces 10 text ≡ codes "dns-session 1" ∷ sp.moment ∷ sp.algorithms ∷ rest =
-    ap (pieces 10) sp.spelled ∙ pieces_lines all sp.unbroken ∙ ap (λ ps. codes "dns-session 1" ∷ sp.moment ∷ sp.algorithms ∷ ps) tail in
+    let deep : (sp.depth ++ sp.algorithms ∷ inner) ++ [] ∷ [] ≡ sp.depth ++ sp.algorithms ∷ rest =
+    append_assoc sp.depth (sp.algorithms ∷ inner) ([] ∷ []) ∙ ap (λ ps. sp.depth ++ sp.algorithms ∷ ps) tail in
+    let cut : pieces 10 text ≡ sp.head ∷ sp.moment ∷ (sp.depth ++ sp.algorithms ∷ rest) =
+    ap (pieces 10) sp.spelled ∙ pieces_lines all sp.unbroken ∙ ap (λ ps. sp.head ∷ sp.moment ∷ ps) deep in
     session_begins (start_of text) ∙ ap (λ ps. begins (place 1 ps)) cut
-    ∙ begins_gives s sp.moment sp.algorithms rest sp.moment_says sp.algorithms_say
+    ∙ begins_gives s sp.head sp.moment sp.depth sp.algorithms rest sp.head_says sp.moment_says sp.depth_says sp.algorithms_say
     (listed_after sp.anchors _ (listed_after sp.accepts _ (omega arith)))
-    (λ number. trusts_gives s.moment s.algorithms number s sp.anchors sp.accepts sp.query sp.replies sp.anchors_say sp.accepts_say sp.query_says sp.replies_say)
+    (λ number. trusts_gives (session s.by_turn s.moment s.depth s.algorithms) number s sp.anchors sp.accepts sp.query sp.replies sp.anchors_say sp.accepts_say sp.query_says sp.replies_say)
 
 -- a text is read as a session exactly where it is spelled so
 pub session_exactly : (text : List ℕ) (s : SessionValue) → (session_of text ≡ Ok s) ↔ Spelled text s

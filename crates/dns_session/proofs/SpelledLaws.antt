@@ -1,17 +1,18 @@
 -- What is read as a session is spelled so.
-use Rattle.std.proofs.Common.{◌≡◌, ℕ, ◌+◌, true, false, ◌==◌, List, [], ◌∷◌, ◌++◌, map, codes, Option, None, Some, Result, Ok, Err, refl, sym, ap, subst, ◌∙◌, inl, inr, append-nil, append_assoc}
+use Rattle.std.proofs.Common.{◌≡◌, ℕ, ◌+◌, Bool, true, false, ◌==◌, List, [], ◌∷◌, ◌++◌, map, codes, Option, None, Some, Result, Ok, Err, refl, sym, ap, subst, ◌∙◌, inl, inr, append-nil, append_assoc}
 use Rattle.std.specs.List.{onto_first, join_with_byte, list_any}
+use Rattle.std.specs.Option.{option_to_list}
 use Rattle.std.specs.Result.{result_unwrap_or}
 use Rattle.std.proofs.lemmas.Bool.{cases_Bool, or_parts}
 use Rattle.std.proofs.lemmas.List.Splits.{join_with_byte-slice_split}
 use Rattle.std.specs.Cmp.Lexicographic.{bytes_decides}
 use Rattle.dns_model.specs.Keys.{AnchorValue, bytes_eq}
 use Rattle.dns_model.specs.Records.{Question}
-use Rattle.dns_session.specs.SessionValue.{SessionValue, AcceptedSignatureValue}
-use Rattle.dns_session.specs.LinePlaces.{Place, place, pieces, start_of, one, many, many_in, before_more, is_nothing, or_bad, ◌>>=◌}
-use Rattle.dns_session.specs.Lines.{header_line, moment_line, algorithms_line, anchor_line, accept_line, query_line, reply_line, end_line, fixed}
+use Rattle.dns_session.specs.SessionValue.{SessionValue, AcceptedSignatureValue, ReplyValue}
+use Rattle.dns_session.specs.LinePlaces.{Place, place, pieces, start_of, one, optional, form_or_none, many, many_in, before_more, is_nothing, or_bad, ◌>>=◌}
+use Rattle.dns_session.specs.Lines.{header_line, moment_line, depth_line, algorithms_line, anchor_line, accept_line, query_line, reply_line, end_line, fixed}
 use Rattle.dns_session.specs.Grammar.{session_at, session_of, if_ended}
-use Rattle.dns_session.specs.Spelled.{lines_text, Unbroken, Say, Spelled}
+use Rattle.dns_session.specs.Spelled.{lines_text, Unbroken, Say, session_lines, Spelled}
 
 -- ---- lines and pieces
 
@@ -100,6 +101,21 @@ many_at form number (line ∷ []) = record { lines = []; say = refl; cut = refl 
 many_at form number (line ∷ next ∷ rest) =
     many_by form number line next rest (form line) (many_in form (number + 1) (next ∷ rest)) refl (many_at form (number + 1) (next ∷ rest))
 
+-- a line that may be missing was read, or none
+optional_by : {X : Type 0} (form : List ℕ → Option X) (number : ℕ) (line next : List ℕ) (rest : List (List ℕ)) (said : Option X) → form line ≡ said
+    → ManyRead form (line ∷ next ∷ rest)
+    (option_to_list (form_or_none (place number (line ∷ next ∷ rest)) (place (number + 1) (next ∷ rest)) said).0)
+    (form_or_none (place number (line ∷ next ∷ rest)) (place (number + 1) (next ∷ rest)) said).1
+optional_by form number line next rest None e = record { lines = []; say = refl; cut = refl }
+optional_by form number line next rest (Some x) e = record { lines = line ∷ []; say = ap (λ said. said ∷ []) e; cut = refl }
+
+optional_at : {X : Type 0} (form : List ℕ → Option X) (number : ℕ) (ps : List (List ℕ))
+    → ManyRead form ps (option_to_list (optional form (place number ps)).0) (optional form (place number ps)).1
+unfolding optional
+optional_at form number [] = record { lines = []; say = refl; cut = refl }
+optional_at form number (line ∷ []) = record { lines = []; say = refl; cut = refl }
+optional_at form number (line ∷ next ∷ rest) = optional_by form number line next rest (form line) refl
+
 record Bound {A B : Type 0} (r : Result A ℕ) (more : A → Result B ℕ) (y : B) : Type 0 where
   value : A
   was : r ≡ Ok value
@@ -123,28 +139,38 @@ fixed_line text line h =
       | inr isnt ↦ let none : None ≡ Some tt = rw isnt at h in cc
     ]
 
--- the parts of the grammar, from a place on
+-- the parts of the grammar, from a place on, with what is made of what they say
+
+abbrev pub session : Bool → ℕ → Option ℕ → List ℕ → List AnchorValue → List AcceptedSignatureValue → Question → List ReplyValue → SessionValue
+session by_turn moment depth algorithms anchors accepts query replies = record {
+  by_turn = by_turn;
+  moment = moment;
+  depth = depth;
+  algorithms = algorithms;
+  anchors = anchors;
+  accepts = accepts;
+  query = query;
+  replies = replies;
+}
 
 abbrev pub ends : SessionValue → Place → Result SessionValue ℕ
 ends s at = one end_line at >>= λ last. if_ended last.1 s
 
-abbrev pub asks : ℕ → List ℕ → List AnchorValue → List AcceptedSignatureValue → Place → Result SessionValue ℕ
-asks moment algorithms anchors accepts at = one query_line at >>= λ query. ends
-    (record { moment = moment; algorithms = algorithms; anchors = anchors; accepts = accepts; query = query.0; replies = (many reply_line query.1).0 })
-    (many reply_line query.1).1
+abbrev pub asks : (Question → List ReplyValue → SessionValue) → Place → Result SessionValue ℕ
+asks made at = one query_line at >>= λ query. ends (made query.0 (many reply_line query.1).0) (many reply_line query.1).1
 
-abbrev pub trusts : ℕ → List ℕ → Place → Result SessionValue ℕ
-trusts moment algorithms at =
-    asks moment algorithms (many anchor_line at).0 (many accept_line (many anchor_line at).1).0 (many accept_line (many anchor_line at).1).1
+abbrev pub trusts : (List AnchorValue → List AcceptedSignatureValue → Question → List ReplyValue → SessionValue) → Place → Result SessionValue ℕ
+trusts made at =
+    asks (made (many anchor_line at).0 (many accept_line (many anchor_line at).1).0) (many accept_line (many anchor_line at).1).1
 
-abbrev pub lists : ℕ → Place → Result SessionValue ℕ
-lists moment at = one algorithms_line at >>= λ algorithms. trusts moment algorithms.0 algorithms.1
+abbrev pub lists : (List ℕ → List AnchorValue → List AcceptedSignatureValue → Question → List ReplyValue → SessionValue) → Place → Result SessionValue ℕ
+lists made at = one algorithms_line at >>= λ algorithms. trusts (made algorithms.0) algorithms.1
 
-abbrev pub dates : Place → Result SessionValue ℕ
-dates at = one moment_line at >>= λ moment. lists moment.0 moment.1
+abbrev pub dates : Bool → Place → Result SessionValue ℕ
+dates by_turn at = one moment_line at >>= λ moment. lists (session by_turn moment.0 (optional depth_line moment.1).0) (optional depth_line moment.1).1
 
 abbrev pub begins : Place → Result SessionValue ℕ
-begins at = one header_line at >>= λ head. dates head.1
+begins at = one header_line at >>= λ head. dates head.0 head.1
 
 pub session_begins : (at : Place) → session_at at ≡ begins at
 unfolding session_at
@@ -169,82 +195,82 @@ end_read s t at h =
     let word : line.line ≡ codes "end" = fixed_line (codes "end") line.line line.says in
     record { same = rest.0; cut = line.cut ∙ ap (λ l. l ∷ b.value.1.pieces) word ∙ ap (λ ps. codes "end" ∷ ps) rest.1 }
 
--- the lines that were read from the query on
-record AskRead (s : SessionValue) (at : Place) : Type 0 where
+-- what was read from the query on, and its lines
+record AskRead (made : Question → List ReplyValue → SessionValue) (s : SessionValue) (at : Place) : Type 0 where
   query : List ℕ
   replies : List (List ℕ)
+  asked : Question
+  told : List ReplyValue
+  same : made asked told ≡ s
   cut : at.pieces ≡ query ∷ (replies ++ codes "end" ∷ [] ∷ [])
-  query_says : query_line query ≡ Some s.query
-  replies_say : Say reply_line replies s.replies
+  query_says : query_line query ≡ Some asked
+  replies_say : Say reply_line replies told
 
--- what a session says before its query
-record Before (s : SessionValue) (moment : ℕ) (algorithms : List ℕ) (anchors : List AnchorValue) (accepts : List AcceptedSignatureValue) : Type 0 where
-  moment_same : moment ≡ s.moment
-  algorithms_same : algorithms ≡ s.algorithms
-  anchors_same : anchors ≡ s.anchors
-  accepts_same : accepts ≡ s.accepts
-
-ask_read : (moment : ℕ) (algorithms : List ℕ) (anchors : List AnchorValue) (accepts : List AcceptedSignatureValue) (s : SessionValue) (at : Place)
-    → asks moment algorithms anchors accepts at ≡ Ok s → AskRead s at × Before s moment algorithms anchors accepts
-ask_read moment algorithms anchors accepts s at h =
-    let made : (Question × Place) → SessionValue = λ query. record { moment = moment; algorithms = algorithms; anchors = anchors; accepts = accepts; query = query.0; replies = (many reply_line query.1).0 } in
-    let b = bound (one query_line at) (λ query. ends (made query) (many reply_line query.1).1) s h in
+ask_read : (made : Question → List ReplyValue → SessionValue) (s : SessionValue) (at : Place) → asks made at ≡ Ok s → AskRead made s at
+ask_read made s at h =
+    let b = bound (one query_line at) (λ query. ends (made query.0 (many reply_line query.1).0) (many reply_line query.1).1) s h in
     let line = one_at query_line at.number at.pieces b.value.0 b.value.1 b.was in
-    let told = many_at reply_line b.value.1.number b.value.1.pieces in
-    let last = end_read (made b.value) s (many reply_line b.value.1).1 b.gives in (
-      record {
-        query = line.line;
-        replies = told.lines;
-        cut = line.cut ∙ ap (λ ps. line.line ∷ ps) (told.cut ∙ ap (λ ps. told.lines ++ ps) last.cut);
-        query_says = line.says ∙ ap (λ t. Some t.query) last.same;
-        replies_say = told.say ∙ ap (λ t. map Some t.replies) last.same;
-      },
-      record {
-        moment_same = ap (λ t. t.moment) last.same;
-        algorithms_same = ap (λ t. t.algorithms) last.same;
-        anchors_same = ap (λ t. t.anchors) last.same;
-        accepts_same = ap (λ t. t.accepts) last.same;
-      },
-    )
+    let read = many_at reply_line b.value.1.number b.value.1.pieces in
+    let last = end_read (made b.value.0 (many reply_line b.value.1).0) s (many reply_line b.value.1).1 b.gives in
+    record {
+      query = line.line;
+      replies = read.lines;
+      asked = b.value.0;
+      told = (many reply_line b.value.1).0;
+      same = last.same;
+      cut = line.cut ∙ ap (λ ps. line.line ∷ ps) (read.cut ∙ ap (λ ps. read.lines ++ ps) last.cut);
+      query_says = line.says;
+      replies_say = read.say;
+    }
 
 -- what is read is spelled so
 pub session_spelled : (text : List ℕ) (s : SessionValue) → session_of text ≡ Ok s → Spelled text s
 session_spelled text s h =
     let start = start_of text in
-    let b1 = bound (one header_line start) (λ head. dates head.1) s (sym (session_begins start) ∙ h) in
+    let b1 = bound (one header_line start) (λ head. dates head.0 head.1) s (sym (session_begins start) ∙ h) in
     let l1 = one_at header_line start.number start.pieces b1.value.0 b1.value.1 b1.was in
-    let b2 = bound (one moment_line b1.value.1) (λ moment. lists moment.0 moment.1) s b1.gives in
+    let b2 = bound (one moment_line b1.value.1)
+    (λ moment. lists (session b1.value.0 moment.0 (optional depth_line moment.1).0) (optional depth_line moment.1).1) s b1.gives in
     let l2 = one_at moment_line b1.value.1.number b1.value.1.pieces b2.value.0 b2.value.1 b2.was in
-    let b3 = bound (one algorithms_line b2.value.1) (λ algorithms. trusts b2.value.0 algorithms.0 algorithms.1) s b2.gives in
-    let l3 = one_at algorithms_line b2.value.1.number b2.value.1.pieces b3.value.0 b3.value.1 b3.was in
+    let depth = optional_at depth_line b2.value.1.number b2.value.1.pieces in
+    let deep = optional depth_line b2.value.1 in
+    let b3 = bound (one algorithms_line deep.1) (λ algorithms. trusts (session b1.value.0 b2.value.0 deep.0 algorithms.0) algorithms.1) s b2.gives in
+    let l3 = one_at algorithms_line deep.1.number deep.1.pieces b3.value.0 b3.value.1 b3.was in
     let anchors = many_at anchor_line b3.value.1.number b3.value.1.pieces in
     let here = (many anchor_line b3.value.1).1 in
     let accepts = many_at accept_line here.number here.pieces in
-    let asked = ask_read b2.value.0 b3.value.0 (many anchor_line b3.value.1).0 (many accept_line here).0 s (many accept_line here).1 b3.gives in
-    let head : l1.line ≡ codes "dns-session 1" = fixed_line (codes "dns-session 1") l1.line l1.says in
-    let body : List (List ℕ) = asked.0.query ∷ (asked.0.replies ++ codes "end" ∷ []) in
-    let all : List (List ℕ) = codes "dns-session 1" ∷ l2.line ∷ l3.line ∷ (anchors.lines ++ (accepts.lines ++ body)) in
+    let asked = ask_read (session b1.value.0 b2.value.0 deep.0 b3.value.0 (many anchor_line b3.value.1).0 (many accept_line here).0) s
+    (many accept_line here).1 b3.gives in
+    let body : List (List ℕ) = asked.query ∷ (asked.replies ++ codes "end" ∷ []) in
+    let inner : List (List ℕ) = anchors.lines ++ (accepts.lines ++ body) in
+    let all : List (List ℕ) = session_lines l1.line l2.line depth.lines l3.line anchors.lines accepts.lines asked.query asked.replies in
     let tail : (many accept_line here).1.pieces ≡ body ++ [] ∷ [] =
-    asked.0.cut ∙ ap (λ ps. asked.0.query ∷ ps) (sym (append_assoc asked.0.replies (codes "end" ∷ []) ([] ∷ []))) in
-    let keys : b3.value.1.pieces ≡ (anchors.lines ++ (accepts.lines ++ body)) ++ [] ∷ [] =
+    asked.cut ∙ ap (λ ps. asked.query ∷ ps) (sym (append_assoc asked.replies (codes "end" ∷ []) ([] ∷ []))) in
+    let keys : b3.value.1.pieces ≡ inner ++ [] ∷ [] =
     anchors.cut ∙ ap (λ ps. anchors.lines ++ ps) (accepts.cut ∙ ap (λ ps. accepts.lines ++ ps) tail ∙ sym (append_assoc accepts.lines body ([] ∷ [])))
     ∙ sym (append_assoc anchors.lines (accepts.lines ++ body) ([] ∷ [])) in
-    let whole : pieces 10 text ≡ all ++ [] ∷ [] =
-    l1.cut ∙ ap (λ l. l ∷ b1.value.1.pieces) head ∙ ap (λ ps. codes "dns-session 1" ∷ ps) (l2.cut ∙ ap (λ ps. l2.line ∷ ps) (l3.cut ∙ ap (λ ps. l3.line ∷ ps) keys)) in
+    let dated : b2.value.1.pieces ≡ (depth.lines ++ l3.line ∷ inner) ++ [] ∷ [] =
+    depth.cut ∙ ap (λ ps. depth.lines ++ ps) (l3.cut ∙ ap (λ ps. l3.line ∷ ps) keys)
+    ∙ sym (append_assoc depth.lines (l3.line ∷ inner) ([] ∷ [])) in
+    let whole : pieces 10 text ≡ all ++ [] ∷ [] = l1.cut ∙ ap (λ ps. l1.line ∷ ps) (l2.cut ∙ ap (λ ps. l2.line ∷ ps) dated) in
     let lines_whole : Unbroken (all ++ [] ∷ []) = subst Unbroken whole (pieces_unbroken text) in
     record {
+      head = l1.line;
       moment = l2.line;
+      depth = depth.lines;
       algorithms = l3.line;
       anchors = anchors.lines;
       accepts = accepts.lines;
-      query = asked.0.query;
-      replies = asked.0.replies;
+      query = asked.query;
+      replies = asked.replies;
       spelled = sym (join_with_byte-slice_split 10 text) ∙ ap (join_with_byte 10) whole ∙ join_lines all;
       unbroken = front_unbroken all ([] ∷ []) lines_whole;
-      moment_says = l2.says ∙ ap Some asked.1.moment_same;
-      algorithms_say = l3.says ∙ ap Some asked.1.algorithms_same;
-      anchors_say = anchors.say ∙ ap (map Some) asked.1.anchors_same;
-      accepts_say = accepts.say ∙ ap (map Some) asked.1.accepts_same;
-      query_says = asked.0.query_says;
-      replies_say = asked.0.replies_say;
+      head_says = l1.says ∙ ap (λ t. Some t.by_turn) asked.same;
+      moment_says = l2.says ∙ ap (λ t. Some t.moment) asked.same;
+      depth_says = depth.say ∙ ap (λ t. map Some (option_to_list t.depth)) asked.same;
+      algorithms_say = l3.says ∙ ap (λ t. Some t.algorithms) asked.same;
+      anchors_say = anchors.say ∙ ap (λ t. map Some t.anchors) asked.same;
+      accepts_say = accepts.say ∙ ap (λ t. map Some t.accepts) asked.same;
+      query_says = asked.query_says ∙ ap (λ t. Some t.query) asked.same;
+      replies_say = asked.replies_say ∙ ap (λ t. map Some t.replies) asked.same;
     }

@@ -1,8 +1,8 @@
 -- The grammar of sessions: lines of these forms in this order, and nothing after the last. Each ends with LF.
 use Rattle.std.specs.Prelude.{ℕ, List, Result, Ok, Err, if◌then◌else◌}
 use Rattle.dns_session.specs.SessionValue.{SessionValue}
-use Rattle.dns_session.specs.LinePlaces.{Place, start_of, one, many, is_ended, ◌>>=◌}
-use Rattle.dns_session.specs.Lines.{header_line, moment_line, algorithms_line, anchor_line, accept_line, query_line, reply_line, end_line}
+use Rattle.dns_session.specs.LinePlaces.{Place, start_of, one, optional, many, is_ended, ◌>>=◌}
+use Rattle.dns_session.specs.Lines.{header_line, moment_line, depth_line, algorithms_line, anchor_line, accept_line, query_line, reply_line, end_line}
 
 -- the value, where nothing follows; else the next line is bad
 abbrev pub if_ended : {X : Type 0} → Place → X → Result X ℕ
@@ -13,14 +13,17 @@ unfoldable pub session_at : Place → Result SessionValue ℕ
 session_at start = do
   head ← one header_line start
   moment ← one moment_line head.1
-  algorithms ← one algorithms_line moment.1
+  let depth = optional depth_line moment.1
+  algorithms ← one algorithms_line depth.1
   let anchors = many anchor_line algorithms.1
   let accepts = many accept_line anchors.1
   query ← one query_line accepts.1
   let replies = many reply_line query.1
   last ← one end_line replies.1
   if_ended last.1 (record {
+    by_turn = head.0;
     moment = moment.0;
+    depth = depth.0;
     algorithms = algorithms.0;
     anchors = anchors.0;
     accepts = accepts.0;

@@ -45,6 +45,18 @@ form_or_bad form number (Some (line, after)) = or_bad number after (form line)
 unfoldable pub one : {X : Type 0} → (List ℕ → Option X) → Place → Result (X × Place) ℕ
 one form at = form_or_bad form at.number (next_line at)
 
+abbrev pub form_or_none : {X : Type 0} → Place → Place → Option X → Option X × Place
+form_or_none here after None = (None, here)
+form_or_none here after (Some x) = (Some x, after)
+
+abbrev pub line_or_none : {X : Type 0} → (List ℕ → Option X) → Place → Option (List ℕ × Place) → Option X × Place
+line_or_none form here None = (None, here)
+line_or_none form here (Some (line, after)) = form_or_none here after (form line)
+
+-- a line of a form that may be missing, and the place after it; a line of another form is left
+unfoldable pub optional : {X : Type 0} → (List ℕ → Option X) → Place → Option X × Place
+optional form at = line_or_none form at (next_line at)
+
 -- a line that has the form goes before those after it; one that hasn't is left
 abbrev pub before_more : {X : Type 0} → Option X → Place → List X × Place → List X × Place
 before_more None here more = ([], here)

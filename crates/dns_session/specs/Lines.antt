@@ -1,5 +1,5 @@
 -- The forms of a session's lines: words with one space between each two.
-use Rattle.std.specs.Prelude.{ℕ, List, [], ◌∷◌, codes, Option, None, Some, if◌then◌else◌, ◌^◌, ◌-◌}
+use Rattle.std.specs.Prelude.{ℕ, Bool, true, false, List, [], ◌∷◌, codes, Option, None, Some, if◌then◌else◌, ◌^◌, ◌-◌}
 use Rattle.dns_model.specs.Keys.{AnchorValue, bytes_eq}
 use Rattle.dns_model.specs.Records.{Question}
 use Rattle.dns_model.specs.Types.{class_in}
@@ -53,9 +53,12 @@ bytes_in (w ∷ ws) = do
   others ← bytes_in ws
   Some (first ∷ others)
 
--- `dns-session 1`
-abbrev pub header_line : List ℕ → Option (Unit {0})
-header_line = fixed (codes "dns-session 1")
+-- the version, as whether replies are served by turn: `dns-session 1`, where they aren't, or `dns-session 2`, where they are
+abbrev pub header_line : List ℕ → Option Bool
+header_line line =
+    if bytes_eq line (codes "dns-session 1") then Some false
+    else if bytes_eq line (codes "dns-session 2") then Some true
+    else None
 
 -- `moment N`, a number of 64 bits
 abbrev pub moment_line : List ℕ → Option ℕ
@@ -63,6 +66,13 @@ moment_line line = do
   rest ← after (codes "moment") (words line)
   number ← single rest
   decimal_in (2 ^ 64 - 1) number
+
+-- `depth N`, a number of 16 bits
+abbrev pub depth_line : List ℕ → Option ℕ
+depth_line line = do
+  rest ← after (codes "depth") (words line)
+  number ← single rest
+  decimal_in (2 ^ 16 - 1) number
 
 -- `algorithms` and any number of numbers of eight bits
 abbrev pub algorithms_line : List ℕ → Option (List ℕ)

@@ -1,5 +1,6 @@
--- What a session says: a moment, what a verifier accepts, which keys are trusted, a query and an upstream's replies.
-use Rattle.std.specs.Prelude.{ℕ, List, Result}
+-- What a session says: a moment, how deep asks may go, what a verifier accepts, which keys are trusted, a query, and an
+-- upstream's replies with how it serves them.
+use Rattle.std.specs.Prelude.{ℕ, Bool, List, Option, Result}
 use Rattle.dns_model.specs.Keys.{AnchorValue}
 use Rattle.dns_model.specs.Records.{Question, MessageValue}
 use Rattle.dns_message.specs.declared.decode_error.DecodeError.{DecodeError}
@@ -16,8 +17,12 @@ pub record ReplyValue : Type 0 where
   pub question : Question
   pub message : Result MessageValue DecodeError
 
+-- what a session says; `by_turn`: whether each send of a query takes the next of its replies, the last again and again; else it
+-- always takes the first. `depth`: the deepest ask, where the session says it
 pub record SessionValue : Type 0 where
+  pub by_turn : Bool
   pub moment : ℕ
+  pub depth : Option ℕ
   pub algorithms : List ℕ
   pub anchors : List AnchorValue
   pub accepts : List AcceptedSignatureValue

@@ -1,19 +1,25 @@
 ghost use Rattle.std.specs.Prelude.{◌≡◌, IfOk, is_some};
 ghost use Rattle.std.specs.Option.{option_map, option_copied};
-ghost use Rattle.dns_session.specs.Lines.{header_line, moment_line, algorithms_line, accept_in, accept_line, end_line, words_left, bytes_in};
+ghost use Rattle.dns_session.specs.Lines.{header_line, moment_line, depth_line, algorithms_line, accept_in, accept_line, end_line, words_left, bytes_in};
 
 use crate::form::LineForm;
 use crate::session::AcceptedSignature;
 use crate::words::{after, next_word, quadruple, single};
 use dns_name::NoMemory;
-use dns_words::{decimal_in, octets_in, u8_in};
+use dns_words::{decimal_in, octets_in, u8_in, u16_in};
 use std::alloc::Global;
 
-/// The first line.
-pub(crate) fn is_header(line: &[u8]) -> bool
-    ensures { result ≡ is_some (header_line line.now) }
+/// Whether replies are served by turn, as the version in the first line says.
+pub(crate) fn by_turn_of(line: &[u8]) -> Option<bool>
+    ensures { result ≡ header_line line.now }
 {
-    line == b"dns-session 1".as_slice()
+    if line == b"dns-session 1".as_slice() {
+        Some(false)
+    } else if line == b"dns-session 2".as_slice() {
+        Some(true)
+    } else {
+        None
+    }
 }
 
 /// The last line.
@@ -30,6 +36,19 @@ pub(crate) fn moment_of(line: &[u8]) -> Option<u64>
     match after(line, b"moment") {
         Some(rest) => match single(rest) {
             Some(number) => decimal_in(number, u64::MAX),
+            None => None,
+        },
+        None => None,
+    }
+}
+
+/// The depth of a `depth` line.
+pub(crate) fn depth_of(line: &[u8]) -> Option<u16>
+    ensures { result ≡ depth_line line.now }
+{
+    match after(line, b"depth") {
+        Some(rest) => match single(rest) {
+            Some(number) => u16_in(number),
             None => None,
         },
         None => None,

@@ -1,11 +1,11 @@
 ghost use Rattle.std.specs.Prelude.{◌≡◌, ◌<◌, ◌^◌, length};
-ghost use Rattle.dns_session.specs.LinePlaces.{one, Place};
-ghost use Rattle.dns_session.specs.Lines.{header_line, moment_line, algorithms_line, query_line, end_line};
+ghost use Rattle.dns_session.specs.LinePlaces.{one, optional, Place};
+ghost use Rattle.dns_session.specs.Lines.{header_line, moment_line, depth_line, algorithms_line, query_line, end_line};
 ghost use Rattle.dns_session.specs.Grammar.{session_of};
 ghost use Rattle.dns_session.specs.Stops.{ReadsAs};
 
 use crate::form::many;
-use crate::forms::{algorithms_of, is_end, is_header, moment_of};
+use crate::forms::{algorithms_of, by_turn_of, depth_of, is_end, moment_of};
 use crate::lines::Lines;
 use crate::named_forms::query_of;
 use crate::session::Session;
@@ -13,14 +13,17 @@ use crate::stop::SessionStop;
 use dns_record::Query;
 use std::alloc::Global;
 
-/// The lines after the first.
+/// Whether replies are served by turn, and the lines after the first.
 #[tactic(auto, unfolding(crate::specs::LinePlaces::one))]
-fn after_header<'a>(lines: Lines<'a>) -> Result<Lines<'a>, SessionStop>
-    ensures { ReadsAs (λ (after : Place). (tt, after)) result (one header_line lines.entry) }
+fn one_header<'a>(lines: Lines<'a>) -> Result<(bool, Lines<'a>), SessionStop>
+    ensures { ReadsAs (λ x. x) result (one header_line lines.entry) }
 {
     let bad = SessionStop::BadLine(lines.number());
     match lines.next() {
-        Some((line, after)) => { if is_header(line) { Ok(after) } else { Err(bad) } }
+        Some((line, after)) => match by_turn_of(line) {
+            Some(by_turn) => Ok((by_turn, after)),
+            None => Err(bad),
+        },
         None => Err(bad),
     }
 }
@@ -37,6 +40,20 @@ fn one_moment<'a>(lines: Lines<'a>) -> Result<(u64, Lines<'a>), SessionStop>
             None => Err(bad),
         },
         None => Err(bad),
+    }
+}
+
+/// The depth, where the next line says one, and the lines after it.
+#[tactic(auto, unfolding(crate::specs::LinePlaces::optional))]
+fn optional_depth<'a>(lines: Lines<'a>) -> (Option<u16>, Lines<'a>)
+    ensures { result ≡ optional depth_line lines.entry }
+{
+    match lines.next() {
+        Some((line, after)) => match depth_of(line) {
+            Some(depth) => (Some(depth), after),
+            None => (None, lines),
+        },
+        None => (None, lines),
     }
 }
 
@@ -91,8 +108,9 @@ pub fn read_session(alloc: Global, bytes: &[u8]) -> Result<Session, SessionStop>
     requires { length bytes.now < 2 ^ 32 }
     ensures { ReadsAs (λ s. s) result (session_of bytes.now) }
 {
-    let lines = after_header(Lines::of(bytes))?;
+    let (by_turn, lines) = one_header(Lines::of(bytes))?;
     let (moment, lines) = one_moment(lines)?;
+    let (depth, lines) = optional_depth(lines);
     let (algorithms, lines) = one_algorithms(alloc, lines)?;
     let (anchors, lines) = many(alloc, lines)?;
     let (accepts, lines) = many(alloc, lines)?;
@@ -103,7 +121,9 @@ pub fn read_session(alloc: Global, bytes: &[u8]) -> Result<Session, SessionStop>
         return Err(SessionStop::BadLine(lines.number()));
     }
     Ok(Session {
+        by_turn,
         moment,
+        depth,
         algorithms,
         anchors,
         accepts,

@@ -59,14 +59,18 @@ impl Model for Reply {
 /// What a session says.
 #[derive(Drop)]
 pub struct Session {
+    /// Whether each send of a query takes the query's next reply, and the last one again and again; else it takes the first.
+    pub by_turn: bool,
     /// Seconds.
     pub moment: u64,
+    /// The greatest depth of an ask, where the session says one.
+    pub depth: Option<u16>,
     /// The algorithms that the verifier supports.
     pub algorithms: Vec<u8>,
     pub anchors: Vec<Anchor>,
     pub accepts: Vec<AcceptedSignature>,
     pub query: Query,
-    /// The first reply to a question serves it.
+    /// In the order in which they stand.
     pub replies: Vec<Reply>,
 }
 
@@ -76,7 +80,9 @@ impl Model for Session {
     ghost Value = { SessionValue };
 
     ghost view = { λ s. record {
+      by_turn = s.by_turn;
       moment = s.moment;
+      depth = s.depth;
       algorithms = s.algorithms.items;
       anchors = s.anchors.items;
       accepts = s.accepts.items;
