@@ -10,4 +10,6 @@ mod report_tests;
 #[cfg(test)]
 mod session_tests;
 #[cfg(test)]
+mod version_tests;
+#[cfg(test)]
 mod words_tests;

@@ -15,7 +15,7 @@ const ROOT: &str = "dns-session 1\n\
     end\n";
 
 // The number of the first bad line, 0 where there is none, and a great number where memory runs out.
-fn bad_line(alloc: Global, text: &str) -> u64 {
+pub(crate) fn bad_line(alloc: Global, text: &str) -> u64 {
     let bytes = text.as_bytes();
     if bytes.len() > 100_000 {
         return u64::MAX;
@@ -45,7 +45,8 @@ fn bad_line_with(alloc: Global, place: u64, line: &str) -> Result<u64, Fail> {
 // Lines that can stand at a place of a small session, one after another.
 fn good_lines(place: u64) -> &'static str {
     match place {
-        1 => "dns-session 1",
+        1 => "dns-session 1\n\
+            dns-session 2",
         2 => "moment 0\n\
             moment 18446744073709551615",
         3 => "algorithms\n\
@@ -85,7 +86,7 @@ fn each_line_has_its_forms(rt: HostRuntime) -> Result<(), Fail> {
 fn bad_lines(place: u64) -> &'static str {
     match place {
         1 =>
-            "\ndns-session 2\ndns-session  1\ndns-session 1 \n dns-session 1\ndns-session 01\ndns-session 1\r",
+            "\ndns-session 0\ndns-session 3\ndns-session 12\ndns-session 02\ndns-session\ndns-session  1\ndns-session 1 \n dns-session 1\ndns-session 01\ndns-session 1\r",
         2 => "moment\n\
             moment \n\
             moment 00\n\
@@ -239,14 +240,18 @@ fn the_signed_root_is_read(rt: HostRuntime) -> Result<(), Fail> {
         return Err(Fail::new("no session"));
     };
     let Session {
+        by_turn,
         moment,
+        depth,
         algorithms,
         anchors,
         accepts,
         query,
         replies,
     } = session;
+    assert!(rt; !by_turn);
     assert_eq!(rt; moment, 1000);
+    assert!(rt; depth.is_none());
     assert!(rt; algorithms.as_slice() == b"\x0d".as_slice());
     assert_eq!(rt; query.query_type.0, 2);
     assert_eq!(rt; query.query_class.0, 1);
@@ -359,6 +364,7 @@ fn reads(alloc: Global, text: &str, anchor: &[u8], key: &[u8], asked: &[u8]) -> 
         accepts,
         query,
         replies,
+        ..
     } = session;
     moment == u64::MAX
         && algorithms.as_slice() == b"\x08\x0d".as_slice()
