@@ -8,6 +8,7 @@ pub mod DeciderLemmas
 pub mod AfterLemmas
 pub mod OneDeciderLemmas
 pub mod SoundLemmas
-pub mod AloneLemmas
 pub mod ExtendLemmas
 pub mod VerdictLemmas
+pub mod OrderLemmas
+pub mod PartLemmas

@@ -6,3 +6,4 @@ pub mod Marking
 pub mod Asking
 pub mod Chained
 pub mod Derivation
+pub mod Parts
