@@ -12,3 +12,5 @@ pub mod ExtendLemmas
 pub mod VerdictLemmas
 pub mod OrderLemmas
 pub mod PartLemmas
+pub mod SentLemmas
+pub mod DerivationLemmas
