@@ -9,7 +9,7 @@ pub(crate) struct Row {
     pub(crate) text: &'static [u8],
 }
 
-pub(crate) const ROWS: [Row; 50] = [
+pub(crate) const ROWS: [Row; 55] = [
     Row {
         name: "2-to-the-31-before-the-expiration",
         words: &["validate"],
@@ -23,6 +23,20 @@ pub(crate) const ROWS: [Row; 50] = [
         session: b"dns-session 1\nmoment 1000\nalgorithms 13\nquery . A\nreply . A 000000000000000000000000ff\nend\n",
         status: 1,
         text: b"fault proto Trailing 12\n",
+    },
+    Row {
+        name: "depth-above-the-greatest-u16",
+        words: &["validate"],
+        session: b"dns-session 1\nmoment 1000\ndepth 65536\nalgorithms 13\nanchor . 13 aabb\naccept 13 aabb 00020d0000000e10000007d000000384aec900000002000100000e100003016100 c0de\nquery . NS\nreply . NS 0000840000010002000000000000020001000002000100000e10000301610000002e000100000e10001500020d0000000e10000007d000000384aec900c0de\nreply . DNSKEY 0000840000010001000000000000300001000030000100000e1000060101030daabb\nend\n",
+        status: 3,
+        text: b"bad line 3\n",
+    },
+    Row {
+        name: "depth-after-the-algorithms",
+        words: &["validate"],
+        session: b"dns-session 1\nmoment 1000\nalgorithms 13\ndepth 26\nanchor . 13 aabb\naccept 13 aabb 00020d0000000e10000007d000000384aec900000002000100000e100003016100 c0de\nquery . NS\nreply . NS 0000840000010002000000000000020001000002000100000e10000301610000002e000100000e10001500020d0000000e10000007d000000384aec900c0de\nreply . DNSKEY 0000840000010001000000000000300001000030000100000e1000060101030daabb\nend\n",
+        status: 3,
+        text: b"bad line 4\n",
     },
     Row {
         name: "each-kind-of-line",
@@ -277,11 +291,25 @@ pub(crate) const ROWS: [Row; 50] = [
         text: b"fault class . CH TXT\n",
     },
     Row {
+        name: "second-depth",
+        words: &["validate"],
+        session: b"dns-session 1\nmoment 1000\ndepth 26\ndepth 26\nalgorithms 13\nanchor . 13 aabb\naccept 13 aabb 00020d0000000e10000007d000000384aec900000002000100000e100003016100 c0de\nquery . NS\nreply . NS 0000840000010002000000000000020001000002000100000e10000301610000002e000100000e10001500020d0000000e10000007d000000384aec900c0de\nreply . DNSKEY 0000840000010001000000000000300001000030000100000e1000060101030daabb\nend\n",
+        status: 3,
+        text: b"bad line 4\n",
+    },
+    Row {
         name: "second-of-three-keys-of-one-tag",
         words: &["validate"],
         session: b"dns-session 1\nmoment 1000\nalgorithms 13\nanchor . 13 aabb\nanchor . 13 a9bb01\nanchor . 13 a8bb02\naccept 13 a8bb02 00020d0000000e10000007d000000384aec900000002000100000e100003016100 c0de\nquery . NS\nreply . NS 0000840000010002000000000000020001000002000100000e10000301610000002e000100000e10001500020d0000000e10000007d000000384aec900c0de\nreply . DNSKEY 0000840000010003000000000000300001000030000100000e1000060101030daabb000030000100000e1000070101030da8bb02000030000100000e1000070101030da9bb01\nend\n",
         status: 0,
         text: b"dns-report 1\ncode 0\ndenial none\nanswer . IN NS 1000 secure 016100\nanswer . IN RRSIG 1000 secure 00020d0000000e10000007d000000384aec900c0de\nchain answer 5\nanchored . IN 0101030daabb\nanchored . IN 0101030da8bb02\nanchored . IN 0101030da9bb01\nkeyset . IN 0 0101030daabb 1 0101030da8bb02 2 0101030da9bb01\nsigned . IN NS 3 0101030da8bb02 00020d0000000e10000007d000000384aec900c0de 016100\nend\n",
+    },
+    Row {
+        name: "second-version",
+        words: &["validate"],
+        session: b"dns-session 2\nmoment 1000\nalgorithms 13\nanchor . 13 aabb\naccept 13 aabb 00020d0000000e10000007d000000384aec900000002000100000e100003016100 c0de\nquery . NS\nreply . NS 0000840000010002000000000000020001000002000100000e10000301610000002e000100000e10001500020d0000000e10000007d000000384aec900c0de\nreply . DNSKEY 0000840000010001000000000000300001000030000100000e1000060101030daabb\nend\n",
+        status: 0,
+        text: b"dns-report 1\ncode 0\ndenial none\nanswer . IN NS 1000 secure 016100\nanswer . IN RRSIG 1000 secure 00020d0000000e10000007d000000384aec900c0de\nchain answer 3\nanchored . IN 0101030daabb\nkeyset . IN 0 0101030daabb\nsigned . IN NS 1 0101030daabb 00020d0000000e10000007d000000384aec900c0de 016100\nend\n",
     },
     Row {
         name: "seconds-past-2-to-the-32",
@@ -324,6 +352,13 @@ pub(crate) const ROWS: [Row; 50] = [
         session: b"dns-session 1\nmoment 1000\nalgorithms 13\nanchor . 13 aabb\nanchor . 13 a9bb01\nanchor . 13 a8bb02\naccept 13 a8bb02 00020d0000000e10000007d000000384aec900000002000100000e100003016100 c0de\nquery . NS\nreply . NS 0000840000010002000000000000020001000002000100000e10000301610000002e000100000e10001500020d0000000e10000007d000000384aec900c0de\nreply . DNSKEY 0000840000010003000000000000300001000030000100000e1000060101030daabb000030000100000e1000070101030da9bb01000030000100000e1000070101030da8bb02\nend\n",
         status: 0,
         text: b"dns-report 1\ncode 0\ndenial none\nanswer . IN NS 3600 bogus 016100\nanswer . IN RRSIG 3600 indeterminate 00020d0000000e10000007d000000384aec900c0de\nend\n",
+    },
+    Row {
+        name: "third-version",
+        words: &["validate"],
+        session: b"dns-session 3\nmoment 1000\nalgorithms 13\nanchor . 13 aabb\naccept 13 aabb 00020d0000000e10000007d000000384aec900000002000100000e100003016100 c0de\nquery . NS\nreply . NS 0000840000010002000000000000020001000002000100000e10000301610000002e000100000e10001500020d0000000e10000007d000000384aec900c0de\nreply . DNSKEY 0000840000010001000000000000300001000030000100000e1000060101030daabb\nend\n",
+        status: 3,
+        text: b"bad line 1\n",
     },
     Row {
         name: "two-spaces-between-words",
