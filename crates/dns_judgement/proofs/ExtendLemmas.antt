@@ -77,7 +77,7 @@ pub record SomeAfter (v : Verdict) (o : Option (List Verdict)) (vs : List Verdic
   pub found : o ≡ Some rest
   pub whole : v ∷ rest ≡ vs
 
-some_after : (v : Verdict) (o : Option (List Verdict)) (vs : List Verdict) → after_verdict v o ≡ Some vs → SomeAfter v o vs
+pub some_after : (v : Verdict) (o : Option (List Verdict)) (vs : List Verdict) → after_verdict v o ≡ Some vs → SomeAfter v o vs
 some_after v None vs h = cc
 some_after v (Some rest) vs h = record { rest = rest; found = refl; whole = cc }
 

@@ -14,3 +14,6 @@ pub mod OrderLemmas
 pub mod PartLemmas
 pub mod SentLemmas
 pub mod DerivationLemmas
+pub mod AskLemmas
+pub mod SendOrderLemmas
+pub mod DerivedLemmas
