@@ -1,11 +1,13 @@
 -- What a lookup answers: a sound answer with the trail that led to it (RFC 4035, 4.3 and 5).
-use Rattle.std.specs.Prelude.{ℕ, ◌≡◌, ◌⊎◌, false, List, Option, Some, Result, Ok, Err}
+use Rattle.std.specs.Prelude.{ℕ, ◌≡◌, ◌⊎◌, ◌≤◌, false, List, length, Option, Some, Result, Ok, Err}
+use Rattle.std.specs.List.{All}
 use Rattle.dns_model.specs.declared.denial.Denial.TheVariants as denial
 use Rattle.dns_model.specs.Counts.{RoseBy}
 use Rattle.dns_model.specs.declared.proof.Proof.{Proof}
 use Rattle.dns_model.specs.Records.{Question, MessageValue}
 use Rattle.dns_model.specs.Trails.{AskedValue, Records, EndingValue, Answered, Denied}
 use Rattle.dns_model.specs.SoundAnswers.{Told, told_by, ResponseValue, Sound}
+use Rattle.dns_judgement.specs.Asking.{most_sends, depth_limit}
 use Rattle.dns_judgement.specs.Derivation.{derivation, top_step, judged_sets, in_send_order}
 use Rattle.dns_judgement.specs.Marking.{marked_told}
 use Rattle.dns_net.specs.Errors.{Reply, ErrorValue, DnsErrorValue, Busy, Dns, Message, Msg, NoConnections, Proto, Io, Timeout, QueryCaseMismatch, ForeignClassRecord, Truncated, ResponseCode, Nsec, DnssecBogus}
@@ -57,13 +59,17 @@ pub record IsSoundAnswer {H : Type 0} (meanings : handle.Ghosts H) (call : Call 
   pub sound : Sound call.judge call.now (told_by message) a
 
 -- a trail with this ending: a derivation whose last step has the call's query, and whose steps are the asks that were made,
--- in the order of the sends. At most as many of them heard a fault as the handle met
+-- one for each send, in the order of the sends. They are as shallow as the options say, and at most as many heard a fault as the
+-- handle met
 pub record IsTrail {H : Type 0} (meanings : handle.Ghosts H) (call : Call H) (trail : List AskedValue) (ending : EndingValue) : Type 0 where
   pub derived : derivation call.judge call.options.max_request_depth trail ≡ true
   pub top : AskedValue
   pub last : top_step trail ≡ Some top
   pub query : top.query ≡ call.query
   pub ending : top.ending ≡ ending
+  pub few : length trail ≤ most_sends
+  pub shallow : All (λ step. step.depth ≤ depth_limit call.options.max_request_depth) trail
+  pub each : length (in_send_order trail) ≡ length trail
   pub walked : SendsAlong (ask_of meanings call) call.old (in_send_order trail) call.new
   pub from : IsFrom (meanings.told call.old) (in_send_order trail)
   pub faults : RoseBy (faults_in (in_send_order trail)) (meanings.faults call.old) (meanings.faults call.new)
