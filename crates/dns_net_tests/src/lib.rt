@@ -11,3 +11,5 @@ mod net_request_tests;
 mod net_shown_tests;
 #[cfg(test)]
 mod net_tests;
+#[cfg(test)]
+mod net_trail_tests;

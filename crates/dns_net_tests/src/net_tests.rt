@@ -1,5 +1,5 @@
 use dns_name::Name;
-use dns_net::*;
+use dns_net::{DnsHandle, DnsRequest, DnsRequestOptions, DnsResponse, NetError, Recorded, Trail};
 use dns_record::{DNSClass, Denial, Query, RecordType, ResponseCode};
 use std::alloc::Global;
 use std::test::Fail;
@@ -31,6 +31,7 @@ pub(crate) fn response(
         message,
         chains: Vec::new(alloc),
         denial: Denial::None,
+        trail: Trail::new(alloc),
     })
 }
 

@@ -1,0 +1,279 @@
+use crate::net_tests::{query, response};
+use dns_name::Name;
+use dns_net::{AskRef, Asked, Ending, JudgedSet, MarkOrigin, Reply, Told, Trail};
+use dns_record::{DNSClass, Denial, Proof, Rdata, Record, RecordType, ResponseCode, Section};
+use std::alloc::Global;
+use std::test::Fail;
+
+/// How a step ends.
+#[derive(Clone, Copy, Drop)]
+enum Kind {
+    Seen,
+    Failed,
+    Foreign,
+    Answered,
+    Denied,
+}
+
+/// A step and its text: depth, whether it was to be judged, question; reply; sets; ending; excuse.
+#[derive(Drop)]
+struct Shown {
+    kind: Kind,
+    text: &'static str,
+}
+
+const SHOWN: [Shown; 5] = [
+    Shown {
+        kind: Kind::Seen,
+        text: "2 false org. IN NS; code 0 empty true records 1 2 3; ; seen; []",
+    },
+    Shown {
+        kind: Kind::Failed,
+        text: "1 true org. IN DS; fault; ; failed; [TooDeep]",
+    },
+    Shown {
+        kind: Kind::Foreign,
+        text: "65535 true org. IN A; code 3 empty false records 1 2 3; ; foreign a. 3 16; []",
+    },
+    Shown {
+        kind: Kind::Answered,
+        text: "1 true org. IN DNSKEY; code 0 empty false records 1 2 3; Answer a. 6 Secure Table Some(7) [Step(1), TooMany], Additional a. 6 Bogus Repeat(2) None [], Authority a. 6 Insecure Cache Some(0) []; Expanded(Secure); []",
+    },
+    Shown {
+        kind: Kind::Denied,
+        text: "0 true org. IN A; code 3 empty false records 1 2 3; ; denied Bogus; [Step(3), TooMany]",
+    },
+];
+
+fn records(alloc: Global, count: usize) -> Result<Vec<Record>, Fail> {
+    let mut records = Vec::new(alloc);
+    for _ in 0..count {
+        records.push(Record {
+            name: Name::from_ascii(alloc, "a.")?,
+            record_type: RecordType::A,
+            dns_class: DNSClass::IN,
+            ttl: 60,
+            rdata: Rdata::from_slice(alloc, b"addr")?,
+            proof: Proof::Indeterminate,
+        })?;
+    }
+    Ok(records)
+}
+
+fn told(alloc: Global, code: u16, empty: bool) -> Result<Reply, Fail> {
+    Ok(Reply::Told(Told {
+        code: ResponseCode(code),
+        empty,
+        answers: records(alloc, 1)?,
+        authorities: records(alloc, 2)?,
+        additionals: records(alloc, 3)?,
+    }))
+}
+
+fn judged_set(
+    alloc: Global,
+    section: Section,
+    mark: Proof,
+    origin: MarkOrigin,
+    sig: Option<u32>,
+) -> Result<JudgedSet, Fail> {
+    Ok(JudgedSet {
+        section,
+        owner: Name::from_ascii(alloc, "a.")?,
+        record_type: RecordType::SOA,
+        mark,
+        origin,
+        sig,
+        asked: Vec::new(alloc),
+    })
+}
+
+/// A set of each origin.
+fn judged_sets(alloc: Global) -> Result<Vec<JudgedSet>, Fail> {
+    let mut first = judged_set(
+        alloc,
+        Section::Answer,
+        Proof::Secure,
+        MarkOrigin::Table,
+        Some(7),
+    )?;
+    first.asked = vec![in alloc; AskRef::Step(1), AskRef::TooMany]?;
+    let second = judged_set(
+        alloc,
+        Section::Additional,
+        Proof::Bogus,
+        MarkOrigin::Repeat(2),
+        None,
+    )?;
+    let third = judged_set(
+        alloc,
+        Section::Authority,
+        Proof::Insecure,
+        MarkOrigin::Cache,
+        Some(0),
+    )?;
+    Ok(vec![in alloc; first, second, third]?)
+}
+
+/// A step with nothing but a question, a reply and an ending.
+fn asked(
+    alloc: Global,
+    depth: u16,
+    record_type: RecordType,
+    reply: Reply,
+    ending: Ending,
+) -> Result<Asked, Fail> {
+    Ok(Asked {
+        depth,
+        judged: true,
+        query: query(alloc, "org.", record_type.0)?,
+        reply,
+        sets: Vec::new(alloc),
+        ending,
+        excuse: Vec::new(alloc),
+    })
+}
+
+fn seen(alloc: Global) -> Result<Asked, Fail> {
+    let reply = told(alloc, 0, true)?;
+    let mut step = asked(alloc, 2, RecordType::NS, reply, Ending::Seen)?;
+    step.judged = false;
+    Ok(step)
+}
+
+fn failed(alloc: Global) -> Result<Asked, Fail> {
+    let mut step = asked(alloc, 1, RecordType::DS, Reply::Fault, Ending::Failed)?;
+    step.excuse = vec![in alloc; AskRef::TooDeep]?;
+    Ok(step)
+}
+
+fn foreign(alloc: Global) -> Result<Asked, Fail> {
+    let reply = told(alloc, 3, false)?;
+    let ending = Ending::Foreign {
+        owner: Name::from_ascii(alloc, "a.")?,
+        class: DNSClass::CH,
+        record_type: RecordType(16),
+    };
+    asked(alloc, 65535, RecordType::A, reply, ending)
+}
+
+fn answered(alloc: Global) -> Result<Asked, Fail> {
+    let reply = told(alloc, 0, false)?;
+    let ending = Ending::Answered(Denial::Expanded(Proof::Secure));
+    let mut step = asked(alloc, 1, RecordType::DNSKEY, reply, ending)?;
+    step.sets = judged_sets(alloc)?;
+    Ok(step)
+}
+
+fn denied(alloc: Global) -> Result<Asked, Fail> {
+    let reply = told(alloc, 3, false)?;
+    let mut step = asked(alloc, 0, RecordType::A, reply, Ending::Denied(Proof::Bogus))?;
+    step.excuse = vec![in alloc; AskRef::Step(3), AskRef::TooMany]?;
+    Ok(step)
+}
+
+fn step(alloc: Global, kind: Kind) -> Result<Asked, Fail> {
+    match kind {
+        Kind::Seen => seen(alloc),
+        Kind::Failed => failed(alloc),
+        Kind::Foreign => foreign(alloc),
+        Kind::Answered => answered(alloc),
+        Kind::Denied => denied(alloc),
+    }
+}
+
+/// A trail with a step of each kind.
+fn trail(alloc: Global) -> Result<Trail, Fail> {
+    let mut trail = Trail::new(alloc);
+    for row in &SHOWN {
+        trail.steps.push(step(alloc, row.kind)?)?;
+    }
+    Ok(trail)
+}
+
+fn reply_text(alloc: Global, reply: &Reply) -> Result<String, Fail> {
+    match reply {
+        Reply::Told(told) => Ok(format!(in alloc;
+            "code {} empty {} records {} {} {}",
+            told.code.0,
+            told.empty,
+            told.answers.len(),
+            told.authorities.len(),
+            told.additionals.len()
+        )?),
+        Reply::Fault => Ok(format!(in alloc; "fault")?),
+    }
+}
+
+fn ending_text(alloc: Global, ending: &Ending) -> Result<String, Fail> {
+    match ending {
+        Ending::Answered(denial) => Ok(format!(in alloc; "{denial:?}")?),
+        Ending::Denied(proof) => Ok(format!(in alloc; "denied {proof:?}")?),
+        Ending::Foreign {
+            owner,
+            class,
+            record_type,
+        } => Ok(format!(in alloc; "foreign {owner} {} {}", class.0, record_type.0)?),
+        Ending::Failed => Ok(format!(in alloc; "failed")?),
+        Ending::Seen => Ok(format!(in alloc; "seen")?),
+    }
+}
+
+fn set_text(alloc: Global, set: &JudgedSet) -> Result<String, Fail> {
+    Ok(format!(in alloc;
+        "{:?} {} {} {:?} {:?} {:?} {:?}",
+        set.section, set.owner, set.record_type.0, set.mark, set.origin, set.sig, set.asked
+    )?)
+}
+
+/// The texts of the sets, with commas between them.
+fn sets_text(alloc: Global, sets: &[JudgedSet]) -> Result<String, Fail> {
+    let mut all = String::new(alloc);
+    for set in sets {
+        if !all.is_empty() {
+            all.push_str(", ")?;
+        }
+        all.push_str(&set_text(alloc, set)?)?;
+    }
+    Ok(all)
+}
+
+fn step_text(alloc: Global, step: &Asked) -> Result<String, Fail> {
+    Ok(format!(in alloc;
+        "{} {} {}; {}; {}; {}; {:?}",
+        step.depth,
+        step.judged,
+        step.query,
+        reply_text(alloc, &step.reply)?,
+        sets_text(alloc, &step.sets)?,
+        ending_text(alloc, &step.ending)?,
+        step.excuse
+    )?)
+}
+
+fn has_text(alloc: Global, step: Option<&Asked>, text: &str) -> Result<bool, Fail> {
+    let Some(step) = step else {
+        return Ok(false);
+    };
+    Ok(step_text(alloc, step)?.as_str() == text)
+}
+
+/// The trail of a copy of a response with such a trail.
+fn copied_trail(alloc: Global) -> Result<Trail, Fail> {
+    let mut response = response(alloc, "org.", 1, 3)?;
+    response.trail = trail(alloc)?;
+    let copy = response.try_clone()?;
+    Ok(copy.trail)
+}
+
+#[test]
+fn each_step_of_a_trail_is_copied(rt: HostRuntime) -> Result<(), Fail> {
+    let alloc = rt.alloc();
+    let trail = copied_trail(alloc)?;
+    assert!(rt; trail.steps.len() == SHOWN.len());
+    let mut steps = trail.steps.iter();
+    for row in &SHOWN {
+        assert!(rt; has_text(alloc, steps.next(), row.text)?, "at {}", row.text);
+    }
+    Ok(())
+}
