@@ -127,9 +127,9 @@ none_same : (r : Rr) (u : List Rr) → is_led r u ≡ false → filter (same_set
 none_same r [] e = refl
 none_same r (x ∷ u) e = none_step r x u (same_set r x) (is_led r u) (ap (λ b. b || is_led r u) (same_back r x) ∙ e) (none_same r u)
 
-any-map : {X Y : Type 0} (p : Y → Bool) (f : X → Y) (xs : List X) → list_any p (map f xs) ≡ list_any (λ x. p (f x)) xs
-any-map p f [] = refl
-any-map p f (x ∷ xs) = ap (λ b. p (f x) || b) (any-map p f xs)
+pub any_map : {X Y : Type 0} (p : Y → Bool) (f : X → Y) (xs : List X) → list_any p (map f xs) ≡ list_any (λ x. p (f x)) xs
+any_map p f [] = refl
+any_map p f (x ∷ xs) = ap (λ b. p (f x) || b) (any_map p f xs)
 
 fails_step : (b c : Bool) → (b || c) ≡ false → (b ≡ false) × (c ≡ false)
 fails_step true c e = cc
@@ -142,7 +142,7 @@ each_fails p (x ∷ xs) e =
     (parts.0, each_fails p xs parts.1)
 
 any_bare : (r : Rr) (u : List Rr) → list_any (is_at r.owner r.rtype) (bare_sets u) ≡ is_led r u
-any_bare r u = any-map (is_at r.owner r.rtype) (bare_set u) (leaders u) ∙ led-leaders u r
+any_bare r u = any_map (is_at r.owner r.rtype) (bare_set u) (leaders u) ∙ led-leaders u r
 
 bare_apart : (u : List Rr) → Apart same_key (bare_sets u)
 bare_apart u = apart_map same_key (bare_set u) (leaders u) (leaders_apart u)

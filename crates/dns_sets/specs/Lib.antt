@@ -2,5 +2,4 @@ pub mod Outcome
 pub mod Joining
 pub mod SetKeys
 pub mod SetPlaces
-pub mod Depth
 pub mod Counting

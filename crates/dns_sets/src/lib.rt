@@ -3,13 +3,13 @@
 #![tactic(auto)]
 
 mod grouping;
-mod judged_set;
+mod judged_sets;
 mod marking;
 mod outcome;
 mod set_key;
 mod set_places;
 
 pub use grouping::{clear_marks, placed_sets};
-pub use judged_set::{JudgedSet, PlacedSet};
+pub use judged_sets::{ChainedSet, MarkedSet, PlacedSet};
 pub use marking::finished;
 pub use outcome::{Outcome, foreign_record, outcome_of};

@@ -2,80 +2,88 @@ ghost use Rattle.std.specs.Prelude.{◌≡◌, ◌<◌, ◌^◌, ℕ, IfOk, OnOk
 ghost use Rattle.std.specs.List.{find};
 ghost use Rattle.dns_model.specs.Names.{Labels};
 ghost use Rattle.dns_model.specs.Views.{rrsig_in};
-ghost use Rattle.dns_model.specs.Serial.{distance, moment_number};
 ghost use Rattle.dns_model.specs.SoundAnswers.{section_eq, ttl_of, set_rtype as set_rtype_of, signed_ttl as signed_ttl_of};
 ghost use Rattle.dns_judgement.specs.Judged.{decider as decider_of};
-ghost use Rattle.dns_judgement.specs.Marking.{finished as finished_value, marked_section, marked_by, is_about, is_place as is_same_place, first_record, adjusted_ttl as adjusted_ttl_of, chains_of as chains_in};
+ghost use Rattle.dns_judgement.specs.Marking.{marked_section, marked_by, is_about, is_place as is_same_place, first_record, adjusted_ttl as adjusted_ttl_of};
+ghost use Rattle.dns_judgement.specs.Chained.{bare, chains_of, finished as finished_value};
 ghost use Rattle.dns_sets.specs.SetPlaces.{ArePlacedIn, place_of, with_judged};
 ghost use Rattle.dns_sets.specs.Counting.{is_readable, count_at, counted};
 
-use crate::JudgedSet;
 use crate::grouping::clear_one;
 use crate::outcome::decider;
 use crate::set_places::SetPlaces;
+use crate::{ChainedSet, MarkedSet};
 use dns_message::Message;
 use dns_name::NoMemory;
-use dns_net::{Chain, DnsResponse};
-use dns_rdata::Rrsig;
+use dns_net::{Chain, DnsResponse, Trail};
+use dns_rdata::{Rrsig, SerialNumber};
 use dns_record::{Denial, Proof, Record, RecordType, Section};
 use std::alloc::Global;
 
-/// The answer of a judged step: its message with the marks and ttls that its sets leave to each record, and the chains of
-/// its Secure sets in their order (RFC 4035, 4.3 and 5.3.3). `now` is in seconds.
+/// The answer of a judged step: its message with the marks and ttls that its sets leave to each record, the chains of its
+/// Secure sets in their order (RFC 4035, 4.3 and 5.3.3), and the trail that led to it. `now` is in seconds.
 pub fn finished(
     alloc: Global,
     now: u64,
-    sets: Vec<JudgedSet>,
+    sets: Vec<ChainedSet>,
     message: Message,
     denial: Denial,
+    trail: Trail,
 ) -> Result<DnsResponse, NoMemory>
-    ensures { IfOk result (λ r. r ≡ finished_value now sets.items message denial) }
+    ensures { IfOk result (λ r. r ≡ finished_value now sets.items message denial trail) }
 {
     let mut message = message;
-    mark_section(alloc, now, &sets, Section::Answer, &mut message.answers)?;
+    let (marked, chains) = parted(alloc, sets)?;
+    mark_section(alloc, now, &marked, Section::Answer, &mut message.answers)?;
     mark_section(
         alloc,
         now,
-        &sets,
+        &marked,
         Section::Authority,
         &mut message.authorities,
     )?;
     mark_section(
         alloc,
         now,
-        &sets,
+        &marked,
         Section::Additional,
         &mut message.additionals,
     )?;
-    let chains = chains_of(alloc, sets)?;
     Ok(DnsResponse {
         message,
         chains,
         denial,
+        trail,
     })
 }
 
-// The chains of the Secure sets, in order.
-fn chains_of(alloc: Global, sets: Vec<JudgedSet>) -> Result<Vec<Chain>, NoMemory>
-    ensures { IfOk result (λ v. v.items ≡ chains_in sets.items) }
+// Parts sets from their chains, of which those of the Secure sets are kept, in order.
+fn parted(
+    alloc: Global,
+    sets: Vec<ChainedSet>,
+) -> Result<(Vec<MarkedSet>, Vec<Chain>), NoMemory>
+    ensures sets { IfOk result (λ r. r.0.items ≡ bare sets.items) }
+    ensures chains { IfOk result (λ r. r.1.items ≡ chains_of sets.items) }
 {
+    let mut marked = Vec::new(alloc);
     let mut chains = Vec::new(alloc);
-    for judged in sets {
+    for ChainedSet { judged, chain } in sets {
         if judged.mark == Proof::Secure {
             chains.push(Chain {
                 section: judged.section,
-                links: judged.chain,
+                links: chain,
             })?;
         }
+        marked.push(judged)?;
     }
-    Ok(chains)
+    Ok((marked, chains))
 }
 
 // Marks the records of a section by the sets.
 fn mark_section(
     alloc: Global,
     now: u64,
-    sets: &[JudgedSet],
+    sets: &[MarkedSet],
     section: Section,
     records: &mut [Record],
 ) -> Result<(), NoMemory>
@@ -91,7 +99,7 @@ fn mark_section(
 }
 
 // The places of the sets of a section.
-fn judged_places(alloc: Global, sets: &[JudgedSet], section: Section) -> Result<SetPlaces, NoMemory>
+fn judged_places(alloc: Global, sets: &[MarkedSet], section: Section) -> Result<SetPlaces, NoMemory>
     ensures { IfOk result (λ p. ArePlacedIn p section sets.now) }
 {
     let mut places = SetPlaces::new(alloc);
@@ -105,7 +113,7 @@ fn judged_places(alloc: Global, sets: &[JudgedSet], section: Section) -> Result<
 fn add_judged(
     places: &mut SetPlaces,
     section: Section,
-    judged: &JudgedSet,
+    judged: &MarkedSet,
     place: usize,
 ) -> Result<(), NoMemory>
     ensures { OnOk result ((o : Labels) (k : ℕ) → place_of places.new o k ≡ with_judged (place_of places.old) section judged.now place o k) }
@@ -136,7 +144,7 @@ fn set_rtype(of: &Record) -> (RecordType, bool)
 // Gives a record the mark of its set. Of a set's signatures only the one that decided has it, so they are counted.
 fn mark(
     now: u64,
-    sets: &[JudgedSet],
+    sets: &[MarkedSet],
     places: &SetPlaces,
     section: Section,
     counts: &mut [usize],
@@ -161,7 +169,7 @@ fn mark(
 }
 
 // Gives a record the mark of this set; a signature, behind so many of the set, only where it is the one that decided.
-fn mark_by(now: u64, judged: &JudgedSet, before: usize, next: &mut Record)
+fn mark_by(now: u64, judged: &MarkedSet, before: usize, next: &mut Record)
     ensures { next.new ≡ marked_by now before next.old (Some judged.now) }
 {
     if next.record_type == RecordType::RRSIG && !is_place(judged.sig, before) {
@@ -183,7 +191,7 @@ fn is_place(decided: Option<u32>, place: usize) -> bool
 }
 
 // The ttl of a record of this set: under the signature that decided a Secure set no more than it leaves.
-fn adjusted_ttl(now: u64, judged: &JudgedSet, next: &Record) -> u32
+fn adjusted_ttl(now: u64, judged: &MarkedSet, next: &Record) -> u32
     ensures { result ≡ adjusted_ttl_of now judged.now next.now }
 {
     if judged.mark != Proof::Secure {
@@ -211,23 +219,9 @@ fn signed_ttl(signature: &Record, now: u64) -> u32
 {
     match Rrsig::read(signature.rdata.as_slice()) {
         Some(sig) => {
-            let left = seconds_between(moment(now), sig.expiration.0);
+            let left = SerialNumber::of_moment(now).distance_to(sig.expiration);
             sig.original_ttl.min(left)
         }
         None => 0,
     }
-}
-
-// A moment as the times of signatures count (RFC 4034, 3.1.5).
-fn moment(now: u64) -> u32
-    ensures { result ≡ moment_number now }
-{
-    (now % 0x1_0000_0000) as u32
-}
-
-// How far the second number lies after the first on the circle of 2^32.
-fn seconds_between(from: u32, to: u32) -> u32
-    ensures { result ≡ distance from to }
-{
-    to.wrapping_sub(from)
 }

@@ -3,10 +3,11 @@ ghost use Rattle.std.specs.List.{list_any};
 ghost use Rattle.std.specs.Option.{option_copied};
 ghost use Rattle.dns_model.specs.SoundAnswers.{told_by};
 ghost use Rattle.dns_judgement.specs.Judged.{decider as decider_of};
+ghost use Rattle.dns_judgement.specs.Chained.{bare};
 ghost use Rattle.dns_judgement.specs.Outcome.{outcome_of as told_outcome, foreign_record as foreign_in, answers_query as answers_asked, is_wildcard_signature as is_expanded_signature, needs_denial as wants_denial, is_expanded_by};
 ghost use Rattle.dns_sets.specs.Outcome.{outcome_value};
 
-use crate::JudgedSet;
+use crate::{ChainedSet, MarkedSet};
 use dns_message::Message;
 use dns_rdata::Rrsig;
 use dns_record::{Denial, Proof, Query, Record, RecordType};
@@ -23,9 +24,9 @@ pub enum Outcome {
 }
 
 /// How a step ends whose sets are judged (RFC 4035, 5.3.4 and 5.4).
-#[tactic(auto, unfolding(dns_judgement::specs::Outcome::outcome_of))]
-pub fn outcome_of(query: &Query, message: &Message, sets: &[JudgedSet]) -> Outcome
-    ensures { outcome_value result ≡ told_outcome query.now (told_by message.now) sets.now }
+#[tactic(auto, using(crate::proofs::Joining::any_map), unfolding(dns_judgement::specs::Outcome::outcome_of))]
+pub fn outcome_of(query: &Query, message: &Message, sets: &[ChainedSet]) -> Outcome
+    ensures { outcome_value result ≡ told_outcome query.now (told_by message.now) (bare sets.now) }
 {
     if !has_answer(query, &message.answers) || has_unjudged(sets) {
         Outcome::Unjudged
@@ -63,14 +64,20 @@ fn answers_query(query: &Query, found: &Record) -> bool
         && (found.record_type == query.query_type || found.record_type == RecordType::CNAME)
 }
 
-fn has_unjudged(sets: &[JudgedSet]) -> bool
-    ensures { result ≡ list_any wants_denial sets.now }
+fn has_unjudged(sets: &[ChainedSet]) -> bool
+    ensures { result ≡ list_any (λ c. wants_denial c.judged) sets.now }
 {
-    sets.iter().any(needs_denial)
+    sets.iter().any(is_unjudged)
+}
+
+fn is_unjudged(set: &ChainedSet) -> bool
+    ensures { result ≡ wants_denial set.now.judged }
+{
+    needs_denial(&set.judged)
 }
 
 // Whether a set is Secure and can only be judged with denial of existence.
-fn needs_denial(set: &JudgedSet) -> bool
+fn needs_denial(set: &MarkedSet) -> bool
     ensures { result ≡ wants_denial set.now }
 {
     if set.mark != Proof::Secure {
@@ -83,7 +90,7 @@ fn needs_denial(set: &JudgedSet) -> bool
 }
 
 // Whether the signature that decided has fewer labels than its owner.
-fn is_decided_by_wildcard(set: &JudgedSet) -> bool
+fn is_decided_by_wildcard(set: &MarkedSet) -> bool
     ensures { result ≡ is_expanded_by (decider_of set.now) }
 {
     match decider(set) {
@@ -93,7 +100,7 @@ fn is_decided_by_wildcard(set: &JudgedSet) -> bool
 }
 
 // The signature that decided.
-pub(crate) fn decider<'a>(set: &'a JudgedSet) -> Option<&'a Record>
+pub(crate) fn decider<'a>(set: &'a MarkedSet) -> Option<&'a Record>
     ensures { option_copied result ≡ decider_of set.now }
 {
     match set.sig {

@@ -17,24 +17,38 @@ impl Model for PlacedSet {
     ghost view = { λ p. record { section = p.section; set = p.set } };
 }
 
-/// An RRset with its mark, the signature that decided and its chain.
+/// An RRset with its mark and the signature that decided.
 #[derive(Drop)]
-pub struct JudgedSet {
+pub struct MarkedSet {
     pub section: Section,
     pub set: RecordSet,
     pub mark: Proof,
     /// The place, among the set's signatures, of the one that decided.
     pub sig: Option<u32>,
-    /// The links to the set, where it is Secure.
-    pub chain: Vec<Link>,
 }
 
-impl Model for JudgedSet {
-    ghost use Rattle.std.specs.Prelude.{map};
-    ghost use Rattle.dns_net.specs.Link.{link_value};
+impl Model for MarkedSet {
     ghost use Rattle.dns_judgement.specs.Judged.{Judged};
 
     ghost Value = { Judged };
 
-    ghost view = { λ j. record { section = j.section; set = j.set; mark = j.mark; sig = j.sig; chain = map link_value j.chain.items } };
+    ghost view = { λ m. record { section = m.section; set = m.set; mark = m.mark; sig = m.sig } };
+}
+
+/// A marked set and its chain.
+#[derive(Drop)]
+pub struct ChainedSet {
+    pub judged: MarkedSet,
+    /// The links to the set, where it is Secure.
+    pub chain: Vec<Link>,
+}
+
+impl Model for ChainedSet {
+    ghost use Rattle.std.specs.Prelude.{map};
+    ghost use Rattle.dns_net.specs.Link.{link_value};
+    ghost use Rattle.dns_judgement.specs.Chained.{Chained};
+
+    ghost Value = { Chained };
+
+    ghost view = { λ c. record { judged = c.judged; chain = map link_value c.chain.items } };
 }

@@ -1,6 +1,0 @@
-use Rattle.std.proofs.Common.{◌≡◌}
-use Rattle.dns_judgement.specs.Marking.{chains_of}
-use Rattle.dns_sets.proofs.marking.chains_of.Given as goal
-
-abbrev pub invariant-loop-judged : goal.invariant-loop-judged
-invariant-loop-judged l = l.chains.items ≡ chains_of l.yielded
