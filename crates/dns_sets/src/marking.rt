@@ -58,10 +58,7 @@ pub fn finished(
 }
 
 // Parts sets from their chains, of which those of the Secure sets are kept, in order.
-fn parted(
-    alloc: Global,
-    sets: Vec<ChainedSet>,
-) -> Result<(Vec<MarkedSet>, Vec<Chain>), NoMemory>
+fn parted(alloc: Global, sets: Vec<ChainedSet>) -> Result<(Vec<MarkedSet>, Vec<Chain>), NoMemory>
     ensures sets { IfOk result (λ r. r.0.items ≡ bare sets.items) }
     ensures chains { IfOk result (λ r. r.1.items ≡ chains_of sets.items) }
 {

@@ -3,26 +3,21 @@ use Rattle.std.proofs.Common.{◌≡◌, ℕ, ◌+◌, ◌<◌, List, [], ◌∷
 use Rattle.std.proofs.lemmas.List.{drop_more, map-append}
 use Rattle.std.specs.Prelude.{map, slice_index_or}
 use Rattle.dns_model.specs.Chains.{LinkValue}
-use Rattle.dns_judgement.specs.Marks.{Verdict, Proved, Excused, Failed, proved_chain, numbers_from}
+use Rattle.dns_judgement.specs.Chained.{ChainedVerdict, chain_if_proved, proved_chain, numbers_from}
 
 -- the chain of the first verdict that proves, or another chain
-abbrev pub chain_else : List Verdict → List LinkValue → List LinkValue
+abbrev pub chain_else : List ChainedVerdict → List LinkValue → List LinkValue
 chain_else [] chain = chain
-chain_else (Proved links ∷ vs) chain = links
-chain_else (Excused ∷ vs) chain = chain_else vs chain
-chain_else (Failed ∷ vs) chain = chain_else vs chain
+chain_else (v ∷ vs) chain = chain_if_proved v.verdict v.chain (chain_else vs chain)
 
-pub chain_else-none : (vs : List Verdict) → chain_else vs [] ≡ proved_chain vs
+pub chain_else-none : (vs : List ChainedVerdict) → chain_else vs [] ≡ proved_chain vs
 chain_else-none [] = refl
-chain_else-none (Proved links ∷ vs) = refl
-chain_else-none (Excused ∷ vs) = chain_else-none vs
-chain_else-none (Failed ∷ vs) = chain_else-none vs
+chain_else-none (v ∷ vs) = ap (chain_if_proved v.verdict v.chain) (chain_else-none vs)
 
-pub chain_else-append : (vs : List Verdict) (v : Verdict) (chain : List LinkValue) → chain_else (vs ++ v ∷ []) chain ≡ chain_else vs (chain_else (v ∷ []) chain)
+pub chain_else-append : (vs : List ChainedVerdict) (v : ChainedVerdict) (chain : List LinkValue)
+    → chain_else (vs ++ v ∷ []) chain ≡ chain_else vs (chain_else (v ∷ []) chain)
 chain_else-append [] v chain = refl
-chain_else-append (Proved links ∷ vs) v chain = refl
-chain_else-append (Excused ∷ vs) v chain = chain_else-append vs v chain
-chain_else-append (Failed ∷ vs) v chain = chain_else-append vs v chain
+chain_else-append (w ∷ vs) v chain = ap (chain_if_proved w.verdict w.chain) (chain_else-append vs v chain)
 
 -- one number more
 pub numbers_more : (done : List ℕ) (keys : List (List ℕ)) (i : ℕ) → i < length keys
@@ -32,7 +27,7 @@ numbers_more done keys i h =
     ∙ ap (λ ks. done ++ numbers_from i ks) (sym (drop_more keys i [] h))
 
 -- the last verdict is taken off
-pub chain_else_pop : {V : Type 0} (f : V → Verdict) (old rest : List V) (v : V) (chain : List LinkValue) → old ≡ rest ++ v ∷ []
+pub chain_else_pop : {V : Type 0} (f : V → ChainedVerdict) (old rest : List V) (v : V) (chain : List LinkValue) → old ≡ rest ++ v ∷ []
     → chain_else (map f rest) (chain_else (f v ∷ []) chain) ≡ chain_else (map f old) chain
 chain_else_pop f old rest v chain is =
     sym (ap (λ vs. chain_else (map f vs) chain) is

@@ -1,3 +1,4 @@
+pub mod ByAnswer
 pub mod ChainOf
 pub mod Searching
 pub mod Reading

@@ -1,7 +1,7 @@
 ghost use Rattle.std.specs.Prelude.{◌≡◌, IfOk, map};
 ghost use Rattle.dns_model.specs.Chains.{Anchored, KeySet, Signed, rdatas_of as rdatas_in};
 ghost use Rattle.dns_net.specs.Link.{link_value};
-ghost use Rattle.dns_judgement.specs.Marks.{numbers_from, signed_chain as signed_chain_of, self_signed_chain as self_signed_chain_of, anchored_chain as anchored_chain_of};
+ghost use Rattle.dns_judgement.specs.Chained.{numbers_from, signed_chain as signed_chain_of, self_signed_chain as self_signed_chain_of, anchored_chain as anchored_chain_of};
 ghost use Rattle.dns_trust.specs.Verdicts.{signed_value};
 
 use crate::keys::SignedBy;

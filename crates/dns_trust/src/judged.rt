@@ -3,9 +3,10 @@ ghost use Rattle.std.specs.List.{position};
 ghost use Rattle.dns_model.specs.Keys.{VerifierAnswers};
 ghost use Rattle.dns_model.specs.Chains.{judge};
 ghost use Rattle.dns_net.specs.Link.{link_value};
-ghost use Rattle.dns_judgement.specs.Marks.{is_proved, is_excused, proved_chain, judged_by as judged_by_verdicts, judged_keys as judged_key_set, keys_unsigned as unsigned_keys};
+ghost use Rattle.dns_judgement.specs.Marks.{is_proved, is_excused};
+ghost use Rattle.dns_judgement.specs.Chained.{bare_verdicts, proved_chain, chained_by, chained_keys};
 ghost use Rattle.dns_trust.specs.Judge.{judge_of};
-ghost use Rattle.dns_trust.specs.Verdicts.{verdict_value};
+ghost use Rattle.dns_trust.specs.Verdicts.{verdict_value, chained_unsigned};
 
 use crate::chains::{anchored_chain, self_signed_chain};
 use crate::keys::{first_signed, is_wholly_anchored};
@@ -13,14 +14,14 @@ use crate::{Judge, TrustAnchors, Verdict};
 use dns_name::NoMemory;
 use dns_net::{Link, Verifier};
 use dns_record::Proof;
-use dns_sets::{JudgedSet, PlacedSet};
+use dns_sets::{ChainedSet, MarkedSet, PlacedSet};
 use std::alloc::Global;
 
 /// A set that isn't DNSKEY, judged by the verdicts of its signatures: the first that proves it decides, else the first that
 /// excuses it (RFC 4035, 5.3.3).
 #[tactic(auto, unfolding(dns_judgement::specs::Marks::judged_by))]
-pub fn judged_by(placed: PlacedSet, verdicts: Vec<Verdict>) -> Result<JudgedSet, NoMemory>
-    ensures { IfOk result (λ j. j ≡ judged_by_verdicts placed (map verdict_value verdicts.items)) }
+pub fn judged_by(placed: PlacedSet, verdicts: Vec<Verdict>) -> Result<ChainedSet, NoMemory>
+    ensures { IfOk result (λ j. j ≡ chained_by placed (map verdict_value verdicts.items)) }
 {
     let proved = place_of_proof(&verdicts)?;
     let excused = place_of_excuse(&verdicts)?;
@@ -30,37 +31,38 @@ pub fn judged_by(placed: PlacedSet, verdicts: Vec<Verdict>) -> Result<JudgedSet,
         (None, None) => Proof::Bogus,
     };
     let PlacedSet { section, set } = placed;
-    Ok(JudgedSet {
+    let judged = MarkedSet {
         section,
         set,
         mark,
         sig: proved.or(excused),
-        chain: chain_of(verdicts),
-    })
+    };
+    let chain = chain_of(verdicts);
+    Ok(ChainedSet { judged, chain })
 }
 
 // The place of the first verdict that proves the set.
 fn place_of_proof(verdicts: &[Verdict]) -> Result<Option<u32>, NoMemory>
-    ensures { IfOk result (λ p. p ≡ position is_proved (map verdict_value verdicts.now)) }
+    ensures { IfOk result (λ p. p ≡ position is_proved (bare_verdicts (map verdict_value verdicts.now))) }
 {
     numbered(first_proof(verdicts))
 }
 
 // The place of the first verdict that excuses the set.
 fn place_of_excuse(verdicts: &[Verdict]) -> Result<Option<u32>, NoMemory>
-    ensures { IfOk result (λ p. p ≡ position is_excused (map verdict_value verdicts.now)) }
+    ensures { IfOk result (λ p. p ≡ position is_excused (bare_verdicts (map verdict_value verdicts.now))) }
 {
     numbered(first_excuse(verdicts))
 }
 
 fn first_proof(verdicts: &[Verdict]) -> Option<usize>
-    ensures { result ≡ position (λ v. is_proved (verdict_value v)) verdicts.now }
+    ensures { result ≡ position (λ v. is_proved (verdict_value v).verdict) verdicts.now }
 {
     verdicts.iter().position(|verdict| verdict.is_proved())
 }
 
 fn first_excuse(verdicts: &[Verdict]) -> Option<usize>
-    ensures { result ≡ position (λ v. is_excused (verdict_value v)) verdicts.now }
+    ensures { result ≡ position (λ v. is_excused (verdict_value v).verdict) verdicts.now }
 {
     verdicts.iter().position(|verdict| verdict.is_excused())
 }
@@ -92,13 +94,13 @@ fn chain_of(mut verdicts: Vec<Verdict>) -> Vec<Link>
 }
 
 /// A DNSKEY set, judged: signed by an anchored key of it, or wholly anchored (RFC 4035, 5.2).
-#[tactic(auto, unfolding(dns_judgement::specs::Marks::judged_keys))]
+#[tactic(auto, unfolding(dns_judgement::specs::Chained::chained_keys, dns_judgement::specs::Marks::judged_keys))]
 pub fn judged_keys<V: Verifier>(
     alloc: Global,
     judge: &Judge<'_, V>,
     placed: PlacedSet,
-) -> Result<JudgedSet, NoMemory>
-    ensures { IfOk result (λ j. j ≡ judged_key_set (judge_of V.answers judge.now) placed) }
+) -> Result<ChainedSet, NoMemory>
+    ensures { IfOk result (λ j. j ≡ chained_keys (judge_of V.answers judge.now) placed) }
 {
     let Some(by) = first_signed(alloc, judge, &placed.set)? else {
         return unsigned_key_set(alloc, judge.anchors, placed);
@@ -106,13 +108,13 @@ pub fn judged_keys<V: Verifier>(
     let chain = self_signed_chain(alloc, &placed.set, &by)?;
     let sig = Some(by.place);
     let PlacedSet { section, set } = placed;
-    Ok(JudgedSet {
+    let judged = MarkedSet {
         section,
         set,
         mark: Proof::Secure,
         sig,
-        chain,
-    })
+    };
+    Ok(ChainedSet { judged, chain })
 }
 
 // A DNSKEY set that no anchored key of it signed: Secure where it is wholly anchored.
@@ -120,8 +122,8 @@ fn unsigned_key_set(
     alloc: Global,
     anchors: &TrustAnchors,
     placed: PlacedSet,
-) -> Result<JudgedSet, NoMemory>
-    ensures { IfOk result (λ j. (answers : VerifierAnswers) (now : ℕ) → j ≡ unsigned_keys (judge answers anchors.now now) placed) }
+) -> Result<ChainedSet, NoMemory>
+    ensures { IfOk result (λ j. (answers : VerifierAnswers) (now : ℕ) → j ≡ chained_unsigned (judge answers anchors.now now) placed) }
 {
     let (mark, chain) = if is_wholly_anchored(anchors, &placed.set) {
         (Proof::Secure, anchored_chain(alloc, &placed.set)?)
@@ -129,11 +131,11 @@ fn unsigned_key_set(
         (Proof::Bogus, Vec::new(alloc))
     };
     let PlacedSet { section, set } = placed;
-    Ok(JudgedSet {
+    let judged = MarkedSet {
         section,
         set,
         mark,
         sig: None,
-        chain,
-    })
+    };
+    Ok(ChainedSet { judged, chain })
 }

@@ -1,12 +1,14 @@
-ghost use Rattle.std.specs.Prelude.{◌≡◌, IfOk, Some, map};
+ghost use Rattle.std.specs.Prelude.{◌≡◌, IfOk, List, Some, map};
 ghost use Rattle.std.specs.List.{find};
 ghost use Rattle.std.specs.Option.{option_copied};
 ghost use Rattle.dns_model.specs.RecordViews.{rrsig_of};
-ghost use Rattle.dns_model.specs.Chains.{signer_fits as signer_is_above, never_expanded, right_below_signer};
-ghost use Rattle.dns_judgement.specs.Marks.{verdict_of as verdict_in, by_key_set as verdict_by_set, by_keys, by_insecure_key, counted_keys, key_question, is_key_set_of, is_skipped_read, is_proved as is_proof, is_excused as is_excuse};
+ghost use Rattle.dns_model.specs.Chains.{LinkValue, signer_fits as signer_is_above, never_expanded, right_below_signer};
+ghost use Rattle.dns_judgement.specs.Validity.{is_good_by};
+ghost use Rattle.dns_judgement.specs.Marks.{by_keys, by_insecure_key, counted_keys, key_question, is_key_set_of, is_skipped_read, is_proved as is_proof, is_excused as is_excuse};
+ghost use Rattle.dns_judgement.specs.Chained.{with_chain, chain_by_key, chained_verdict};
 ghost use Rattle.dns_net.specs.Link.{link_value};
 ghost use Rattle.dns_trust.specs.Judge.{judge_of};
-ghost use Rattle.dns_trust.specs.Verdicts.{verdict_value, listed};
+ghost use Rattle.dns_trust.specs.Verdicts.{verdict_value, listed, may_be_signed, chained_by_set};
 
 use crate::Judge;
 use crate::chains::signed_chain;
@@ -15,7 +17,7 @@ use dns_name::{NameRef, NoMemory};
 use dns_net::{Link, Verifier};
 use dns_rdata::Rrsig;
 use dns_record::{DNSClass, Proof, Query, Record, RecordSet, RecordType, Section};
-use dns_sets::JudgedSet;
+use dns_sets::{ChainedSet, MarkedSet};
 use std::alloc::Global;
 
 /// What one signature does for its set.
@@ -32,7 +34,7 @@ pub enum Verdict {
 impl Verdict {
     /// Whether it makes the set Secure.
     pub fn is_proved(&self) -> bool
-        ensures { result ≡ is_proof (verdict_value self.now) }
+        ensures { result ≡ is_proof (verdict_value self.now).verdict }
     {
         match self {
             Verdict::Proved(_) => true,
@@ -42,7 +44,7 @@ impl Verdict {
 
     /// Whether it shows that no more than Insecure can be expected.
     pub fn is_excused(&self) -> bool
-        ensures { result ≡ is_excuse (verdict_value self.now) }
+        ensures { result ≡ is_excuse (verdict_value self.now).verdict }
     {
         match self {
             Verdict::Excused => true,
@@ -53,22 +55,21 @@ impl Verdict {
 
 /// The verdict of a signature of a set that isn't DNSKEY, with the judged sets of the answer to its ask; None where the ask
 /// failed or was refused (RFC 4035, 5.3). The signature's view is handed in.
-#[tactic(auto, unfolding(dns_judgement::specs::Marks::verdict_of))]
 pub fn verdict_of<V: Verifier>(
     alloc: Global,
     judge: &Judge<'_, V>,
     set: &RecordSet,
     sig: &Record,
     read: &Rrsig<'_>,
-    answer: &Option<Vec<JudgedSet>>,
+    answer: &Option<Vec<ChainedSet>>,
 ) -> Result<Verdict, NoMemory>
     requires { rrsig_of sig.now ≡ Some read.now }
-    ensures { IfOk result (λ v. verdict_value v ≡ verdict_in (judge_of V.answers judge.now) set.now sig.now (listed answer.now)) }
+    ensures { IfOk result (λ v. verdict_value v ≡ chained_verdict (judge_of V.answers judge.now) set.now sig.now (listed answer.now)) }
 {
     let Some(sets) = answer else {
         return Ok(Verdict::Failed);
     };
-    if !is_never_expanded(set, read) || !is_right_below_signer(set, read) {
+    if !may_sign(set, read) {
         return Ok(Verdict::Failed);
     }
     let Some(keys) = key_set_of(set.dns_class, &read.signer, sets) else {
@@ -84,17 +85,17 @@ fn by_key_set<V: Verifier>(
     set: &RecordSet,
     sig: &Record,
     read: &Rrsig<'_>,
-    keys: &JudgedSet,
+    keys: &ChainedSet,
 ) -> Result<Verdict, NoMemory>
     requires { rrsig_of sig.now ≡ Some read.now }
-    ensures { IfOk result (λ v. verdict_value v ≡ verdict_by_set (judge_of V.answers judge.now) set.now sig.now read.now.signer (Some keys.now)) }
+    ensures { IfOk result (λ v. verdict_value v ≡ chained_by_set (judge_of V.answers judge.now) set.now sig.now read.now.signer keys.now) }
 {
-    match keys.mark {
+    match keys.judged.mark {
         Proof::Secure => {
-            let records = keys.set.records.as_slice();
+            let records = keys.judged.set.records.as_slice();
             by_secure_keys(alloc, judge, set, sig, read, &keys.chain, records)
         }
-        Proof::Insecure => Ok(by_insecure_keys(&read.signer, &keys.set.records)),
+        Proof::Insecure => Ok(by_insecure_keys(&read.signer, &keys.judged.set.records)),
         Proof::Bogus => Ok(Verdict::Failed),
         Proof::Indeterminate => Ok(Verdict::Failed),
     }
@@ -112,7 +113,9 @@ fn by_secure_keys<V: Verifier>(
 ) -> Result<Verdict, NoMemory>
     requires { rrsig_of sig.now ≡ Some read.now }
     ensures { IfOk result (λ v. verdict_value v ≡
-        by_keys (judge_of V.answers judge.now) set.now sig.now (map link_value chain.now.items) Proof.Secure (counted_keys read.now.signer keys.now)) }
+        with_chain (by_keys (judge_of V.answers judge.now) set.now sig.now Proof.Secure (counted_keys read.now.signer keys.now))
+        (chain_by_key set.now sig.now (map link_value chain.now.items)
+        (find (is_good_by (judge_of V.answers judge.now) set.now sig.now) (counted_keys read.now.signer keys.now)))) }
 {
     match first_good(alloc, judge, set, sig, read, keys)? {
         Some(key) => {
@@ -126,7 +129,7 @@ fn by_secure_keys<V: Verifier>(
 // The verdict by the counted keys of an Insecure key set.
 #[tactic(auto, using(crate::proofs::Counts::any_counted))]
 fn by_insecure_keys(zone: &NameRef<'_>, keys: &[Record]) -> Verdict
-    ensures { verdict_value result ≡ by_insecure_key (counted_keys zone.now keys.now) }
+    ensures { (chain : List LinkValue) → verdict_value result ≡ with_chain (by_insecure_key (counted_keys zone.now keys.now)) chain }
 {
     if has_key_of(zone, keys) {
         Verdict::Excused
@@ -139,15 +142,21 @@ fn by_insecure_keys(zone: &NameRef<'_>, keys: &[Record]) -> Verdict
 fn key_set_of<'a>(
     class: DNSClass,
     signer: &NameRef<'_>,
-    sets: &'a [JudgedSet],
-) -> Option<&'a JudgedSet>
-    ensures { option_copied result ≡ find (is_key_set_of class.0 signer.now) sets.now }
+    sets: &'a [ChainedSet],
+) -> Option<&'a ChainedSet>
+    ensures { option_copied result ≡ find (λ c. is_key_set_of class.0 signer.now c.judged) sets.now }
 {
-    sets.iter().find(|judged| is_keys(class, signer, judged))
+    sets.iter().find(|chained| is_keys(class, signer, chained))
 }
 
 // The set is a key set of the zone in the answer section.
-fn is_keys(class: DNSClass, signer: &NameRef<'_>, judged: &JudgedSet) -> bool
+fn is_keys(class: DNSClass, signer: &NameRef<'_>, chained: &ChainedSet) -> bool
+    ensures { result ≡ is_key_set_of class.0 signer.now chained.now.judged }
+{
+    is_key_set(class, signer, &chained.judged)
+}
+
+fn is_key_set(class: DNSClass, signer: &NameRef<'_>, judged: &MarkedSet) -> bool
     ensures { result ≡ is_key_set_of class.0 signer.now judged.now }
 {
     let set = &judged.set;
@@ -155,6 +164,13 @@ fn is_keys(class: DNSClass, signer: &NameRef<'_>, judged: &JudgedSet) -> bool
         && signer.eq_name(&set.name.borrowed())
         && set.record_type == RecordType::DNSKEY
         && class == set.dns_class
+}
+
+// The set is no NSEC or NSEC3 that is expanded from a wildcard, and no NSEC3 elsewhere than right below the signer.
+fn may_sign(set: &RecordSet, read: &Rrsig<'_>) -> bool
+    ensures { result ≡ may_be_signed set.now read.now }
+{
+    is_never_expanded(set, read) && is_right_below_signer(set, read)
 }
 
 // An NSEC or NSEC3 isn't expanded from a wildcard.
