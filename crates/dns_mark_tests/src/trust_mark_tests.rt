@@ -2,7 +2,7 @@ use crate::trust_tests::*;
 use dns_name::{Name, Octets};
 use dns_rdata::Rrsig;
 use dns_record::{Proof, Record, RecordSet, RecordType, Section};
-use dns_sets::{JudgedSet, PlacedSet};
+use dns_sets::{ChainedSet, MarkedSet, PlacedSet};
 use dns_trust::*;
 use std::alloc::Global;
 use std::test::Fail;
@@ -59,8 +59,8 @@ fn keys_mark(
         anchors: &anchors,
         moment: 1500,
     };
-    let judged = judged_keys(alloc, &judge, placed)?;
-    Ok((judged.mark, judged.sig, judged.chain.len()))
+    let ChainedSet { judged, chain } = judged_keys(alloc, &judge, placed)?;
+    Ok((judged.mark, judged.sig, chain.len()))
 }
 
 fn signed() -> Option<&'static [u8]> {
@@ -94,20 +94,21 @@ fn answered(
     owner: &str,
     section: Section,
     mark: Proof,
-) -> Result<Vec<JudgedSet>, Fail> {
+) -> Result<Vec<ChainedSet>, Fail> {
     let mut sets = Vec::new(alloc);
-    sets.push(JudgedSet {
+    let judged = MarkedSet {
         section,
         set: key_set(alloc, owner, &ONE, None)?,
         mark,
         sig: None,
-        chain: Vec::new(alloc),
-    })?;
+    };
+    let chain = Vec::new(alloc);
+    sets.push(ChainedSet { judged, chain })?;
     Ok(sets)
 }
 
 /// What the signature over the root's NS set does for it.
-fn verdict(alloc: Global, now: u64, answer: Option<Vec<JudgedSet>>) -> Result<Verdict, Fail> {
+fn verdict(alloc: Global, now: u64, answer: Option<Vec<ChainedSet>>) -> Result<Verdict, Fail> {
     let set = servers(alloc)?;
     let sig = signature_of(alloc, ".", OVER_NS)?;
     let anchors = anchors(alloc, true)?;
@@ -231,8 +232,8 @@ const COUNTED: [Counted; 8] = [
 
 fn is_counted(alloc: Global, row: &Counted) -> Result<bool, Fail> {
     let mut answer = answered(alloc, ".", Section::Answer, Proof::Secure)?;
-    for judged in &mut answer {
-        judged.set = keys_by_letters(alloc, row.keys)?;
+    for chained in &mut answer {
+        chained.judged.set = keys_by_letters(alloc, row.keys)?;
     }
     Ok(verdict(alloc, 1500, Some(answer))?.is_proved() == row.proves)
 }
@@ -257,7 +258,7 @@ fn unsigned_mark(alloc: Global, letters: &[u8]) -> Result<Proof, Fail> {
         anchors: &anchors,
         moment: 1500,
     };
-    Ok(judged_keys(alloc, &judge, placed)?.mark)
+    Ok(judged_keys(alloc, &judge, placed)?.judged.mark)
 }
 
 #[test]
@@ -321,7 +322,7 @@ fn is_decided(alloc: Global, row: &Decided) -> Result<bool, Fail> {
         section: Section::Answer,
         set: servers(alloc)?,
     };
-    let judged = judged_by(placed, verdicts(alloc, row.verdicts)?)?;
+    let judged = judged_by(placed, verdicts(alloc, row.verdicts)?)?.judged;
     Ok(judged.mark == row.mark && judged.sig == row.sig)
 }
 

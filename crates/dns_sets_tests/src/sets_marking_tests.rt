@@ -1,6 +1,6 @@
 use crate::sets_tests::{A, Met, OVER_A, OVER_A_TOO, RRSIG, TXT, message, record};
 use dns_name::Name;
-use dns_net::{Chain, DnsResponse, Link};
+use dns_net::{Chain, DnsResponse, Link, Trail};
 use dns_record::{DNSClass, Denial, Proof, Rdata, Record, RecordSet, Section};
 use dns_sets::*;
 use std::alloc::Global;
@@ -76,14 +76,15 @@ fn links(alloc: Global, section: Section) -> Result<Vec<Link>, Fail> {
     Ok(links)
 }
 
-fn judged(alloc: Global, section: Section, mark: Proof) -> Result<JudgedSet, Fail> {
-    Ok(JudgedSet {
+fn judged(alloc: Global, section: Section, mark: Proof) -> Result<ChainedSet, Fail> {
+    let judged = MarkedSet {
         section,
         set: signed_set(alloc)?,
         mark,
         sig: Some(1),
-        chain: links(alloc, section)?,
-    })
+    };
+    let chain = links(alloc, section)?;
+    Ok(ChainedSet { judged, chain })
 }
 
 /// The answer of a step whose set in the authority section has one mark and that in the answer section another.
@@ -92,7 +93,8 @@ fn answer(alloc: Global, now: u64, mark: Proof, other: Proof) -> Result<DnsRespo
     sets.push(judged(alloc, Section::Authority, other)?)?;
     sets.push(judged(alloc, Section::Answer, mark)?)?;
     let message = message(alloc, &TOLD)?;
-    Ok(finished(alloc, now, sets, message, Denial::None)?)
+    let trail = Trail::new(alloc);
+    Ok(finished(alloc, now, sets, message, Denial::None, trail)?)
 }
 
 fn is_marked(record: Option<&Record>, mark: Proof, ttl: u32) -> bool {
@@ -133,15 +135,17 @@ fn answers_decided_by(alloc: Global, place: u32) -> Result<Vec<Record>, Fail> {
     let mut set = signed_set(alloc)?;
     set.rrsigs.push(record(alloc, &DECIDER)?)?;
     let mut sets = Vec::new(alloc);
-    sets.push(JudgedSet {
+    let judged = MarkedSet {
         section: Section::Answer,
         set,
         mark: Proof::Secure,
         sig: Some(place),
-        chain: links(alloc, Section::Answer)?,
-    })?;
+    };
+    let chain = links(alloc, Section::Answer)?;
+    sets.push(ChainedSet { judged, chain })?;
     let message = message(alloc, &TOLD_TWICE)?;
-    let answer = finished(alloc, 500, sets, message, Denial::None)?;
+    let trail = Trail::new(alloc);
+    let answer = finished(alloc, 500, sets, message, Denial::None, trail)?;
     Ok(answer.message.answers)
 }
 

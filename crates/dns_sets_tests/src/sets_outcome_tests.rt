@@ -52,7 +52,7 @@ const FROM_WILDCARD: [Met; 3] = [ALIAS, SIGNED, EXPANDED];
 fn outcome(alloc: Global, records: &[Met]) -> Result<Outcome, Fail> {
     let query = query(alloc, "A.")?;
     let message = message(alloc, records)?;
-    let sets: Vec<JudgedSet> = Vec::new(alloc);
+    let sets: Vec<ChainedSet> = Vec::new(alloc);
     Ok(outcome_of(&query, &message, &sets))
 }
 
