@@ -7,7 +7,8 @@ use Rattle.std.proofs.lemmas.List.{length_push}
 use Rattle.dns_model.specs.Chains.{Judge}
 use Rattle.dns_model.specs.Trails.{AskedValue}
 use Rattle.dns_judgement.specs.Asking.{most_sends, depth_limit}
-use Rattle.dns_judgement.specs.Derivation.{step_holds, steps_hold, asks_of, order_step, send_order, is_each_once, is_top, top_step, steps_at, in_send_order, derivation}
+use Rattle.dns_judgement.specs.Derivation.{step_holds, steps_hold, asks_of, order_step, send_order, top_step, in_send_order, derivation}
+use Rattle.dns_judgement.specs.DerivationParts.{is_each_met_once, is_top, steps_at}
 use Rattle.dns_judgement.specs.Parts.{once_between, Part}
 use Rattle.dns_judgement.proofs.OrderLemmas.{slice_get_appended}
 use Rattle.dns_judgement.proofs.PartLemmas.{part_grows, step_met, steps_hold_more}
@@ -56,7 +57,7 @@ one_is_one : (n : ℕ) → n ≡ 1 → (n == 1) ≡ true
 one_is_one n is = grind (arith, nat_tests)
 
 top_once : (j : Judge) (limit : ℕ) (b : List AskedValue) (step : AskedValue) (m : ℕ) (p : Part j limit [] b (asks_of step) 1 m)
-    → is_each_once (length (b ++ step ∷ [])) (Some (length b ∷ p.order)) ≡ true
+    → is_each_met_once (length (b ++ step ∷ [])) (Some (length b ∷ p.order)) ≡ true
 top_once j limit b step m p =
     let one = length_push b step in
     all_in_range (λ k. times k (length b ∷ p.order) == 1) 0 (length (b ++ step ∷ []))
@@ -80,14 +81,14 @@ top_derivation j d b step m top =
     let counts = top_counts j (depth_limit d) b step m p in
     let is_short : nat_le (length trail) most_sends ≡ true = le-leb (length trail) most_sends (omega (arith, top.few)) in
     let is_top_step : is_top (top_step trail) ≡ true = ap is_top (top_step_is b step) ∙ top.top in
-    let once : is_each_once (length trail) (send_order trail) ≡ true =
-    ap (is_each_once (length trail)) (send_order_is j (depth_limit d) b step m p) ∙ top_once j (depth_limit d) b step m p in
+    let once : is_each_met_once (length trail) (send_order trail) ≡ true =
+    ap (is_each_met_once (length trail)) (send_order_is j (depth_limit d) b step m p) ∙ top_once j (depth_limit d) b step m p in
     let whole : b ≡ p.more = p.grown in
     let hold : steps_hold j (depth_limit d) [] trail ≡ true =
     steps_hold_more j (depth_limit d) [] b step (subst (λ t. steps_hold j (depth_limit d) [] t ≡ true) (sym whole) p.hold) top.holds in
-    and_from (nat_le (length trail) most_sends) (is_top (top_step trail) && (is_each_once (length trail) (send_order trail) && steps_hold j (depth_limit d) [] trail)) is_short
-    (and_from (is_top (top_step trail)) (is_each_once (length trail) (send_order trail) && steps_hold j (depth_limit d) [] trail) is_top_step
-    (and_from (is_each_once (length trail) (send_order trail)) (steps_hold j (depth_limit d) [] trail) once hold))
+    and_from (nat_le (length trail) most_sends) (is_top (top_step trail) && (is_each_met_once (length trail) (send_order trail) && steps_hold j (depth_limit d) [] trail)) is_short
+    (and_from (is_top (top_step trail)) (is_each_met_once (length trail) (send_order trail) && steps_hold j (depth_limit d) [] trail) is_top_step
+    (and_from (is_each_met_once (length trail) (send_order trail)) (steps_hold j (depth_limit d) [] trail) once hold))
 
 -- its steps in the order of the sends: the top step, and what its asks sent
 pub top_sent : (j : Judge) (limit : ℕ) (b : List AskedValue) (step : AskedValue) (m : ℕ) (p : Part j limit [] b (asks_of step) 1 m)

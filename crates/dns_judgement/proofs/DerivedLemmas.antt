@@ -11,7 +11,8 @@ use Rattle.dns_model.specs.Trails.{AskedValue}
 use Rattle.dns_model.proofs.EachLemmas.{each_more}
 use Rattle.dns_model.proofs.SetLemmas.{number_same}
 use Rattle.dns_judgement.specs.Asking.{most_sends, depth_limit}
-use Rattle.dns_judgement.specs.Derivation.{grounds_of, step_holds, steps_hold, asks_of, send_order, is_each_once, is_top, top_step, steps_at, in_send_order, derivation}
+use Rattle.dns_judgement.specs.Derivation.{step_holds, steps_hold, asks_of, send_order, top_step, in_send_order, derivation}
+use Rattle.dns_judgement.specs.DerivationParts.{is_each_met_once, grounds_of, is_top, steps_at}
 use Rattle.dns_judgement.proofs.ExtendLemmas.{slice_get-stays}
 use Rattle.dns_judgement.proofs.AskLemmas.{IsAskOf, step_asks, step_made}
 use Rattle.dns_judgement.proofs.SentLemmas.{AreBelow, times, times-cons, numbered}
@@ -42,7 +43,7 @@ top_is (Some step) h =
     let parts = and_parts step.judged (step.depth == 0) h in
     record { step = step; found = refl; judged = parts.0; top = number_same step.depth 0 parts.1 }
 
-each_once : (n : ℕ) (o : Option (List ℕ)) → is_each_once n o ≡ true → EachOnce n o
+each_once : (n : ℕ) (o : Option (List ℕ)) → is_each_met_once n o ≡ true → EachOnce n o
 each_once n None h = cc
 each_once n (Some order) h = record {
   order = order;
@@ -53,7 +54,7 @@ each_once n (Some order) h = record {
 pub derivation_parts : (j : Judge) (d : ℕ) (trail : List AskedValue) → derivation j d trail ≡ true → Derived j d trail
 unfolding derivation
 derivation_parts j d trail h =
-    let once = is_each_once (length trail) (send_order trail) in
+    let once = is_each_met_once (length trail) (send_order trail) in
     let hold = steps_hold j (depth_limit d) [] trail in
     let one = and_parts (nat_le (length trail) most_sends) (is_top (top_step trail) && (once && hold)) h in
     let two = and_parts (is_top (top_step trail)) (once && hold) one.1 in

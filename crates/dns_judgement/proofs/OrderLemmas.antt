@@ -4,8 +4,10 @@ use Rattle.std.proofs.lemmas.Bool.{lt-ltb, le-leb, and_from}
 use Rattle.dns_model.specs.declared.trail.AskRef.{AskRef}
 use Rattle.dns_model.specs.declared.trail.AskRef.TheVariants.{Step, TooDeep, TooMany}
 use Rattle.dns_model.specs.Trails.{AskedValue}
+use Rattle.std.specs.Option.{option_and_then}
 use Rattle.dns_judgement.specs.Asking.{most_sends}
-use Rattle.dns_judgement.specs.Derivation.{asks_of, asks_at, and_then, order_asks, order_step}
+use Rattle.dns_judgement.specs.Derivation.{asks_of, order_asks, order_step}
+use Rattle.dns_judgement.specs.DerivationParts.{and_then}
 
 -- the step that was appended
 pub slice_get_appended : {X : Type 0} (xs : List X) (x : X) (ys : List X) → slice_get (xs ++ x ∷ ys) (length xs) ≡ Some x
@@ -69,4 +71,4 @@ pub order_step_at : (above : ℕ) (trail : List AskedValue) (n : ℕ) (met : Lis
     → order_step (suc above) trail n met ≡ order_asks (order_step above trail) n (asks_of step) (met ++ n ∷ [])
 unfolding order_step
 order_step_at above trail n met step is =
-    ap (λ o. and_then (asks_at o) (λ asks. order_asks (order_step above trail) n asks (met ++ n ∷ []))) is
+    ap (λ o. option_and_then (λ s. order_asks (order_step above trail) n (asks_of s) (met ++ n ∷ [])) o) is

@@ -9,7 +9,8 @@ use Rattle.dns_model.specs.declared.trail.AskRef.TheVariants.{Step, TooDeep, Too
 use Rattle.dns_model.specs.Chains.{Judge}
 use Rattle.dns_model.specs.Trails.{AskedValue}
 use Rattle.dns_judgement.specs.Asking.{most_sends}
-use Rattle.dns_judgement.specs.Derivation.{step_holds, steps_hold, asks_of, and_then, order_asks, order_step}
+use Rattle.dns_judgement.specs.Derivation.{step_holds, steps_hold, asks_of, order_asks, order_step}
+use Rattle.dns_judgement.specs.DerivationParts.{and_then}
 use Rattle.dns_judgement.specs.Parts.{once_between, Part}
 use Rattle.dns_judgement.proofs.OrderLemmas.{slice_get_appended, order_asks-append, order_none, order_deep, order_many, order_one, order_step_at}
 

@@ -7,8 +7,10 @@ use Rattle.dns_model.specs.declared.trail.AskRef.{AskRef}
 use Rattle.dns_model.specs.declared.trail.AskRef.TheVariants.{Step, TooDeep, TooMany}
 use Rattle.dns_model.specs.Trails.{AskedValue}
 use Rattle.dns_model.proofs.EachLemmas.{each_append}
+use Rattle.std.specs.Option.{option_and_then}
 use Rattle.dns_judgement.specs.Asking.{most_sends}
-use Rattle.dns_judgement.specs.Derivation.{asks_of, asks_at, and_then, order_asks, order_step}
+use Rattle.dns_judgement.specs.Derivation.{asks_of, order_asks, order_step}
+use Rattle.dns_judgement.specs.DerivationParts.{and_then}
 use Rattle.dns_judgement.proofs.SentLemmas.{AreBelow, times, times-cons}
 
 -- ---- what holds of each number that is met
@@ -70,7 +72,7 @@ pub record HandsOn (Q : ℕ → Type 0) (trail : List AskedValue) : Type 0 where
 
 step_meets_at : (Q : ℕ → Type 0) (trail : List AskedValue) (visit : ℕ → List ℕ → Option (List ℕ)) (n : ℕ) (o : Option AskedValue) (met found : List ℕ)
     → HandsOn Q trail → Visits Q visit → Q n → slice_get trail n ≡ o
-    → and_then (asks_at o) (λ asks. order_asks visit n asks (met ++ n ∷ [])) ≡ Some found → Meets Q (met ++ n ∷ []) found
+    → option_and_then (λ s. order_asks visit n (asks_of s) (met ++ n ∷ [])) o ≡ Some found → Meets Q (met ++ n ∷ []) found
 step_meets_at Q trail visit n None met found hands v here is h = cc
 step_meets_at Q trail visit n (Some step) met found hands v here is h =
     asks_meet Q visit n (asks_of step) (met ++ n ∷ []) found v (hands.on n step here is) h

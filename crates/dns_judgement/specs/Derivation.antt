@@ -1,7 +1,9 @@
 -- When a trail is a derivation: each mark and each ending follows from what was told and from the steps before
 -- (RFC 4035, 4.3, 5.2 and 5.3). No chain occurs in it, so that it can be checked with the trail alone.
-use Rattle.std.specs.Prelude.{ℕ, ◌+◌, ◌-◌, zero, suc, Bool, true, false, ◌==◌, ◌&&◌, nat_lt, nat_le, List, [], ◌∷◌, ◌++◌, map, length, take, Option, None, Some, slice_get, if◌then◌else◌}
+use Rattle.std.specs.Prelude.{ℕ, ◌+◌, ◌-◌, zero, suc, Bool, true, false, ◌==◌, ◌&&◌, nat_eq, nat_lt, nat_le, List, [], ◌∷◌, ◌++◌, map, length, take, Option, None, Some, unwrap_or, slice_get, if◌then◌else◌}
+use Rattle.std.specs.Option.{option_map, option_map_or, option_and_then, option_eq}
 use Rattle.std.specs.List.{filter_map, flat_map, list_any, list_all, zip, count_by, range_with_len}
+use lib.Pointwise.{pointwise}
 use Rattle.dns_model.specs.declared.proof.Proof.{Proof}
 use Rattle.dns_model.specs.declared.proof.Proof.TheVariants.{Secure, Insecure, Bogus, Indeterminate}
 use Rattle.dns_model.specs.declared.denial.Denial.{Denial}
@@ -26,39 +28,39 @@ use Rattle.dns_judgement.specs.Asking.{most_sends, depth_limit, judged_part, ask
 
 -- ---- what the steps before came to
 
+-- the records that a step heard; none for a fault
+abbrev pub told_in : HeardValue → Option Told
+told_in (Records told empty) = Some told
+told_in Fault = None
+
 -- sets, with the marks that entries give them
-abbrev pub with_entry : Placed × JudgedSetValue → Judged
-with_entry (placed, entry) = record { section = placed.section; set = placed.set; mark = entry.mark; sig = entry.sig }
-
 abbrev pub with_entries : List Placed → List JudgedSetValue → List Judged
-with_entries placed entries = map with_entry (zip placed entries)
-
-abbrev pub sets_heard : AskedValue → HeardValue → List Judged
-sets_heard step (Records told empty) = with_entries (judged_part step.depth told) step.sets
-sets_heard step Fault = []
+with_entries placed entries =
+    map (λ p. record { section = p.0.section; set = p.0.set; mark = p.1.mark; sig = p.1.sig }) (zip placed entries)
 
 -- the judged sets of a step
 abbrev pub judged_sets : AskedValue → List Judged
-judged_sets step = sets_heard step step.reply
+judged_sets step = option_map_or (λ told. with_entries (judged_part step.depth told) step.sets) (told_in step.reply) []
 
-abbrev pub answer_ended : AskedValue → EndingValue → Option (List Judged)
-answer_ended step (Answered d) = Some (judged_sets step)
-answer_ended step (Denied proof) = None
-answer_ended step (Foreign owner class rtype) = None
-answer_ended step Failed = None
-answer_ended step Seen = None
-
-abbrev pub answer_of : Option AskedValue → Option (List Judged)
-answer_of None = None
-answer_of (Some step) = answer_ended step step.ending
+-- the sets, where the step ends with an answer
+abbrev pub if_answered : EndingValue → List Judged → Option (List Judged)
+if_answered (Answered d) sets = Some sets
+if_answered (Denied proof) sets = None
+if_answered (Foreign owner class rtype) sets = None
+if_answered Failed sets = None
+if_answered Seen sets = None
 
 -- the answer that an ask got: none where it was refused, or where its step ends otherwise
 abbrev pub finished_answer : List AskedValue → AskRef → Option (List Judged)
-finished_answer earlier (Step n) = answer_of (slice_get earlier n)
+finished_answer earlier (Step n) = option_and_then (λ step. if_answered step.ending (judged_sets step)) (slice_get earlier n)
 finished_answer earlier TooDeep = None
 finished_answer earlier TooMany = None
 
 -- ---- asks
+
+abbrev pub is_empty : {X : Type 0} → List X → Bool
+is_empty [] = true
+is_empty (x ∷ xs) = false
 
 -- by what the sets of a step are judged: the judge, how deep asks go, the steps before it, its question and its depth
 pub record Grounds : Type 0 where
@@ -68,35 +70,23 @@ pub record Grounds : Type 0 where
   pub query : Question
   pub depth : ℕ
 
--- the step judges what it hears to this question at this depth
-abbrev pub is_judged_ask : ℕ → Question → Option AskedValue → Bool
-is_judged_ask depth q None = false
-is_judged_ask depth q (Some step) = step.judged && ((step.depth == depth) && question_eq q step.query)
-
--- what stands for a judged ask at a depth: an earlier step, or that it would be too deep, exactly where it would; where it is
--- refused as one too many is said by the order of the sends
+-- what stands for a judged ask at a depth: an earlier step with this question and depth, or that it would be too deep, exactly
+-- where it would; where it is refused as one too many is said by the order of the sends
 abbrev pub is_ask : ℕ → List AskedValue → ℕ → Question → AskRef → Bool
-is_ask limit earlier depth q (Step n) = nat_le depth limit && is_judged_ask depth q (slice_get earlier n)
+is_ask limit earlier depth q (Step n) =
+    nat_le depth limit
+    && option_map_or (λ step. step.judged && ((step.depth == depth) && question_eq q step.query)) (slice_get earlier n) false
 is_ask limit earlier depth q TooDeep = nat_lt limit depth
 is_ask limit earlier depth q TooMany = nat_le depth limit
 
 -- the ask of a signature is one deeper than its step
 abbrev pub is_ask_for : Grounds → Option Question → AskRef → Bool
-is_ask_for g None ask = false
-is_ask_for g (Some q) ask = is_ask g.limit g.earlier (g.depth + 1) q ask
+is_ask_for g question ask = option_map_or (λ q. is_ask g.limit g.earlier (g.depth + 1) q ask) question false
 
-abbrev pub after_verdict : Verdict → Option (List Verdict) → Option (List Verdict)
-after_verdict v None = None
-after_verdict v (Some vs) = Some (v ∷ vs)
-
--- nothing more is asked
-abbrev pub if_last : List AskRef → List Verdict → Option (List Verdict)
-if_last [] vs = Some vs
-if_last (ask ∷ asks) vs = None
-
--- the verdict of a signature whose ask came first, and those of the rest
+-- the verdict of a signature whose ask came first, and those of the rest; nothing more is asked where it proves the set
 abbrev pub verdicts_after : Verdict → List AskRef → (List AskRef → Option (List Verdict)) → Option (List Verdict)
-verdicts_after v asks rest = if is_proved v then if_last asks (v ∷ []) else after_verdict v (rest asks)
+verdicts_after v asks rest =
+    if is_proved v then (if is_empty asks then Some (v ∷ []) else None) else option_map (λ vs. v ∷ vs) (rest asks)
 
 abbrev pub verdicts_asked : Grounds → RrSet → Rr → List AskRef → (List AskRef → Option (List Verdict)) → Option (List Verdict)
 verdicts_asked g set r [] rest = None
@@ -108,10 +98,10 @@ verdicts_asked g set r (ask ∷ asks) rest =
 -- the verdicts of a set's signatures by the answers to their asks, up to the first that proves the set; none where these
 -- aren't the asks that the signatures make
 unfoldable pub verdicts_by : Grounds → RrSet → List Rr → List AskRef → Option (List Verdict)
-verdicts_by g set [] asks = if_last asks []
+verdicts_by g set [] asks = if is_empty asks then Some [] else None
 verdicts_by g set (r ∷ rs) asks =
     if is_skipped g.query set r
-    then after_verdict marks.Failed (verdicts_by g set rs asks)
+    then option_map (λ vs. marks.Failed ∷ vs) (verdicts_by g set rs asks)
     else verdicts_asked g set r asks (verdicts_by g set rs)
 
 -- ---- the marks of a step
@@ -134,56 +124,34 @@ proof_eq Indeterminate Insecure = false
 proof_eq Indeterminate Bogus = false
 proof_eq Indeterminate Indeterminate = true
 
-abbrev pub place_eq : Option ℕ → Option ℕ → Bool
-place_eq None None = true
-place_eq None (Some m) = false
-place_eq (Some n) None = false
-place_eq (Some n) (Some m) = n == m
-
 -- the entry has the mark of the judged set, and the signature that decided
 abbrev pub has_mark_of : Judged → JudgedSetValue → Bool
-has_mark_of judged entry = proof_eq judged.mark entry.mark && place_eq judged.sig entry.sig
-
-abbrev pub is_by_verdicts : Placed → JudgedSetValue → Option (List Verdict) → Bool
-is_by_verdicts placed entry None = false
-is_by_verdicts placed entry (Some verdicts) = has_mark_of (judged_by placed verdicts) entry
-
-abbrev pub is_empty : {X : Type 0} → List X → Bool
-is_empty [] = true
-is_empty (x ∷ xs) = false
+has_mark_of judged entry = proof_eq judged.mark entry.mark && option_eq nat_eq judged.sig entry.sig
 
 -- the entry of a set that is judged by the rules: a key set asks nothing, another asks for its first signatures
 abbrev pub is_by_rules : Grounds → Placed → JudgedSetValue → Bool
 is_by_rules g placed entry =
     if placed.set.rtype == type_dnskey
     then is_empty entry.asked && has_mark_of (judged_keys g.judge placed) entry
-    else is_by_verdicts placed entry (verdicts_by g placed.set (take most_signatures placed.set.signatures) entry.asked)
+    else option_map_or (λ verdicts. has_mark_of (judged_by placed verdicts) entry)
+    (verdicts_by g placed.set (take most_signatures placed.set.signatures) entry.asked) false
 
 -- one record but for ttl and mark
 abbrev pub same_record : Rr → Rr → Bool
 same_record a b = name_eq a.owner b.owner && ((a.rtype == b.rtype) && ((a.class == b.class) && bytes_eq a.rdata b.rdata))
 
-abbrev pub same_records : List Rr → List Rr → Bool
-same_records [] [] = true
-same_records [] (t ∷ ts) = false
-same_records (r ∷ rs) [] = false
-same_records (r ∷ rs) (t ∷ ts) = same_record r t && same_records rs ts
-
 -- the entry says of its set what was found of an equal one
 abbrev pub is_repeat : Placed → JudgedSetValue → Judged → Bool
 is_repeat placed entry judged =
-    same_records placed.set.records judged.set.records
-    && (same_records placed.set.signatures judged.set.signatures && has_mark_of judged entry)
+    pointwise same_record placed.set.records judged.set.records
+    && (pointwise same_record placed.set.signatures judged.set.signatures && has_mark_of judged entry)
 
-abbrev pub repeats_step : Grounds → Placed → JudgedSetValue → Option AskedValue → Bool
-repeats_step g placed entry None = false
-repeats_step g placed entry (Some step) =
-    question_eq g.query step.query && list_any (is_repeat placed entry) (judged_sets step)
-
--- nothing is kept from earlier lookups
+-- by the rules, or as an earlier step with the same question found; nothing is kept from earlier lookups
 abbrev pub is_by_origin : Grounds → Placed → JudgedSetValue → MarkOrigin → Bool
 is_by_origin g placed entry Table = is_by_rules g placed entry
-is_by_origin g placed entry (Repeat n) = is_empty entry.asked && repeats_step g placed entry (slice_get g.earlier n)
+is_by_origin g placed entry (Repeat n) =
+    is_empty entry.asked
+    && option_map_or (λ step. question_eq g.query step.query && list_any (is_repeat placed entry) (judged_sets step)) (slice_get g.earlier n) false
 is_by_origin g placed entry Cache = false
 
 -- the entry is that of a set, and its mark follows
@@ -213,71 +181,62 @@ denial_eq (denial.Expanded a) denial.None = false
 denial_eq (denial.Expanded a) (denial.Absent b) = false
 denial_eq (denial.Expanded a) (denial.Expanded b) = proof_eq a b
 
-abbrev pub is_answered : Denial → EndingValue → Bool
-is_answered d (Answered e) = denial_eq d e
-is_answered d (Denied proof) = false
-is_answered d (Foreign owner class rtype) = false
-is_answered d Failed = false
-is_answered d Seen = false
-
-abbrev pub is_denied : Proof → EndingValue → Bool
-is_denied p (Answered d) = false
-is_denied p (Denied proof) = proof_eq p proof
-is_denied p (Foreign owner class rtype) = false
-is_denied p Failed = false
-is_denied p Seen = false
-
-abbrev pub is_foreign : Rr → EndingValue → Bool
-is_foreign r (Answered d) = false
-is_foreign r (Denied proof) = false
-is_foreign r (Foreign owner class rtype) = name_eq r.owner owner && ((r.class == class) && (r.rtype == rtype))
-is_foreign r Failed = false
-is_foreign r Seen = false
-
-abbrev pub is_failed : EndingValue → Bool
-is_failed (Answered d) = false
-is_failed (Denied proof) = false
-is_failed (Foreign owner class rtype) = false
-is_failed Failed = true
-is_failed Seen = false
-
-abbrev pub is_seen : EndingValue → Bool
-is_seen (Answered d) = false
-is_seen (Denied proof) = false
-is_seen (Foreign owner class rtype) = false
-is_seen Failed = false
-is_seen Seen = true
+abbrev pub ending_eq : EndingValue → EndingValue → Bool
+ending_eq (Answered d) (Answered e) = denial_eq d e
+ending_eq (Answered d) (Denied proof) = false
+ending_eq (Answered d) (Foreign o c t) = false
+ending_eq (Answered d) Failed = false
+ending_eq (Answered d) Seen = false
+ending_eq (Denied p) (Answered e) = false
+ending_eq (Denied p) (Denied proof) = proof_eq p proof
+ending_eq (Denied p) (Foreign o c t) = false
+ending_eq (Denied p) Failed = false
+ending_eq (Denied p) Seen = false
+ending_eq (Foreign owner class rtype) (Answered e) = false
+ending_eq (Foreign owner class rtype) (Denied proof) = false
+ending_eq (Foreign owner class rtype) (Foreign o c t) = name_eq owner o && ((class == c) && (rtype == t))
+ending_eq (Foreign owner class rtype) Failed = false
+ending_eq (Foreign owner class rtype) Seen = false
+ending_eq Failed (Answered e) = false
+ending_eq Failed (Denied proof) = false
+ending_eq Failed (Foreign o c t) = false
+ending_eq Failed Failed = true
+ending_eq Failed Seen = false
+ending_eq Seen (Answered e) = false
+ending_eq Seen (Denied proof) = false
+ending_eq Seen (Foreign o c t) = false
+ending_eq Seen Failed = false
+ending_eq Seen Seen = true
 
 -- the ending that the judged sets make; what isn't judged yet fails
-abbrev pub is_ending : Outcome → EndingValue → Bool
-is_ending outcome.Unjudged ending = is_failed ending
-is_ending (outcome.Accepted d) ending = is_answered d ending
-is_ending (outcome.Denied proof) ending = is_denied proof ending
+abbrev pub ending_by : Outcome → EndingValue
+ending_by outcome.Unjudged = Failed
+ending_by (outcome.Accepted d) = Answered d
+ending_by (outcome.Denied proof) = Denied proof
 
 -- ---- a step
 
--- nothing is judged
-abbrev pub is_bare : AskedValue → Bool
-is_bare step = is_empty step.sets && is_empty step.excuse
+-- nothing of the step is judged, and it ends so
+abbrev pub ends_bare : EndingValue → AskedValue → Bool
+ends_bare ending step = ending_eq ending step.ending && (is_empty step.sets && is_empty step.excuse)
 
 -- a judged step, by its first record of another class
 abbrev pub judged_holds : Grounds → AskedValue → Told → Option Rr → Bool
-judged_holds g step told (Some r) = is_foreign r step.ending && is_bare step
+judged_holds g step told (Some r) = ends_bare (Foreign r.owner r.class r.rtype) step
 judged_holds g step told None =
     entries_hold g (judged_part step.depth told) step.sets
-    && (is_ending (outcome_of step.query told (with_entries (judged_part step.depth told) step.sets)) step.ending && is_empty step.excuse)
+    && (ending_eq (ending_by (outcome_of step.query told (with_entries (judged_part step.depth told) step.sets))) step.ending
+    && is_empty step.excuse)
 
 abbrev pub step_holds_by : Grounds → AskedValue → HeardValue → Bool
-step_holds_by g step Fault = is_failed step.ending && is_bare step
+step_holds_by g step Fault = ends_bare Failed step
 step_holds_by g step (Records told empty) =
-    if step.judged then judged_holds g step told (foreign_record step.query told) else is_seen step.ending && is_bare step
-
-abbrev pub grounds_of : Judge → ℕ → List AskedValue → AskedValue → Grounds
-grounds_of j limit earlier step = record { judge = j; limit = limit; earlier = earlier; query = step.query; depth = step.depth }
+    if step.judged then judged_holds g step told (foreign_record step.query told) else ends_bare Seen step
 
 -- the lines of a step follow from what it heard and from the steps before it
 unfoldable pub step_holds : Judge → ℕ → List AskedValue → AskedValue → Bool
-step_holds j limit earlier step = step_holds_by (grounds_of j limit earlier step) step step.reply
+step_holds j limit earlier step =
+    step_holds_by (record { judge = j; limit = limit; earlier = earlier; query = step.query; depth = step.depth }) step step.reply
 
 -- and those of each step
 unfoldable pub steps_hold : Judge → ℕ → List AskedValue → List AskedValue → Bool
@@ -286,20 +245,9 @@ steps_hold j limit earlier (step ∷ steps) = step_holds j limit earlier step &&
 
 -- ---- the order of the sends: a step comes before what it asks, and what it asks in the order of its sets and of its excuse
 
-abbrev pub asks_of_sets : List JudgedSetValue → List AskRef
-asks_of_sets sets = flat_map (λ set. set.asked) sets
-
 -- the asks of a step, in order
 abbrev pub asks_of : AskedValue → List AskRef
-asks_of step = asks_of_sets step.sets ++ step.excuse
-
-abbrev pub asks_at : Option AskedValue → Option (List AskRef)
-asks_at None = None
-asks_at (Some step) = Some (asks_of step)
-
-abbrev pub and_then : {X Y : Type 0} → Option X → (X → Option Y) → Option Y
-and_then None f = None
-and_then (Some x) f = f x
+asks_of step = flat_map (λ set. set.asked) step.sets ++ step.excuse
 
 -- the asks of step n are met, behind the steps that were met before: a step is one before n and is met while there are fewer
 -- than may be; an ask is one too many exactly where as many as may be were met. `visit` meets a step
@@ -308,43 +256,35 @@ order_asks visit n [] met = Some met
 order_asks visit n (TooDeep ∷ asks) met = order_asks visit n asks met
 order_asks visit n (TooMany ∷ asks) met = if nat_le most_sends (length met) then order_asks visit n asks met else None
 order_asks visit n (Step m ∷ asks) met =
-    if nat_lt m n && nat_lt (length met) most_sends then and_then (visit m met) (order_asks visit n asks) else None
+    if nat_lt m n && nat_lt (length met) most_sends then option_and_then (order_asks visit n asks) (visit m met) else None
 
 -- a step is met, and then its asks. The first number is more than the step's, which falls from asker to ask
 unfoldable pub order_step : ℕ → List AskedValue → ℕ → List ℕ → Option (List ℕ)
 order_step zero trail n met = None
 order_step (suc above) trail n met =
-    and_then (asks_at (slice_get trail n)) (λ asks. order_asks (order_step above trail) n asks (met ++ n ∷ []))
+    option_and_then (λ step. order_asks (order_step above trail) n (asks_of step) (met ++ n ∷ [])) (slice_get trail n)
 
 -- the numbers of the steps in the order in which they were sent, from the last step on
 abbrev pub send_order : List AskedValue → Option (List ℕ)
 send_order trail = order_step (length trail) trail (length trail - 1) []
 
-abbrev pub steps_at : List AskedValue → Option (List ℕ) → List AskedValue
-steps_at trail None = []
-steps_at trail (Some order) = filter_map (slice_get trail) order
-
 -- the steps in the order in which they were sent
 abbrev pub in_send_order : List AskedValue → List AskedValue
-in_send_order trail = steps_at trail (send_order trail)
+in_send_order trail = filter_map (slice_get trail) (unwrap_or (send_order trail) [])
 
--- each step has one place in the order: it is named by one ask, and the last step by none
-abbrev pub is_each_once : ℕ → Option (List ℕ) → Bool
-is_each_once n None = false
-is_each_once n (Some order) = list_all (λ k. count_by (λ m. k == m) order == 1) (range_with_len 0 n)
+-- each of n steps has one place in the order: one ask names it, and none the last step
+abbrev pub is_each_once : ℕ → List ℕ → Bool
+is_each_once n order = list_all (λ k. count_by (λ m. k == m) order == 1) (range_with_len 0 n)
 
 -- ---- the whole
-
-abbrev pub is_top : Option AskedValue → Bool
-is_top None = false
-is_top (Some step) = step.judged && (step.depth == 0)
 
 -- the last step of a trail
 abbrev pub top_step : List AskedValue → Option AskedValue
 top_step trail = slice_get trail (length trail - 1)
 
--- a trail whose steps are sent in one order from the last one on, and whose every step follows
+-- a trail whose steps are sent in one order from the last one on, which is judged at depth 0, and whose every step follows
 unfoldable pub derivation : Judge → ℕ → List AskedValue → Bool
 derivation j depth trail =
     nat_le (length trail) most_sends
-    && (is_top (top_step trail) && (is_each_once (length trail) (send_order trail) && steps_hold j (depth_limit depth) [] trail))
+    && (option_map_or (λ top. top.judged && (top.depth == 0)) (top_step trail) false
+    && (option_map_or (is_each_once (length trail)) (send_order trail) false && steps_hold j (depth_limit depth) [] trail))

@@ -6,4 +6,5 @@ pub mod Marking
 pub mod Asking
 pub mod Chained
 pub mod Derivation
+pub mod DerivationParts
 pub mod Parts

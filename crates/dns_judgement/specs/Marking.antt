@@ -1,13 +1,12 @@
 -- The records of an answer with their marks (RFC 4035, 4.3 and 5.3.3).
-use Rattle.std.specs.Prelude.{ℕ, Bool, true, false, not, ◌==◌, ◌&&◌, min, List, [], ◌∷◌, ◌++◌, map, count_by, Option, None, Some, if◌then◌else◌}
-use Rattle.std.specs.List.{filter, find}
-use Rattle.dns_model.specs.declared.proof.Proof.{Proof}
-use Rattle.dns_model.specs.declared.proof.Proof.TheVariants.{Secure, Insecure, Bogus, Indeterminate}
+use Rattle.std.specs.Prelude.{ℕ, Bool, false, not, ◌==◌, ◌&&◌, min, List, [], ◌∷◌, ◌++◌, map, count_by, Option, None, Some, if◌then◌else◌}
+use Rattle.std.specs.List.{find}
+use Rattle.dns_model.specs.declared.proof.Proof.TheVariants.{Indeterminate}
 use Rattle.dns_model.specs.declared.section.Section.{Section}
 use Rattle.dns_model.specs.declared.section.Section.TheVariants.{Answer, Authority, Additional}
 use Rattle.dns_model.specs.Names.{name_eq}
 use Rattle.dns_model.specs.Views.{rrsig_in}
-use Rattle.dns_model.specs.Records.{Rr, RrSet, MessageValue}
+use Rattle.dns_model.specs.Records.{Rr, MessageValue}
 use Rattle.dns_model.specs.Sections.{is_signature, covers}
 use Rattle.dns_model.specs.SoundAnswers.{Told, section_eq, is_secure, set_rtype, signed_ttl, ttl_of}
 use Rattle.dns_judgement.specs.Judged.{Judged, decider}

@@ -1,5 +1,5 @@
 -- When a signature fits a set and a key, and when it is good (RFC 4035, 5.3.1 and 5.3.3).
-use Rattle.std.specs.Prelude.{ℕ, Bool, true, false, not, ◌==◌, ◌&&◌, nat_le, Option, None, Some, if◌then◌else◌}
+use Rattle.std.specs.Prelude.{Bool, true, false, not, ◌==◌, ◌&&◌, nat_le, Option, None, Some, if◌then◌else◌}
 use Rattle.dns_judgement.specs.declared.rrsig_validity.RrsigValidity.{RrsigValidity}
 use Rattle.dns_judgement.specs.declared.rrsig_validity.RrsigValidity.TheVariants.{ValidRrsig, ExpiredRrsig, WrongDnskey, WrongRrsig}
 use Rattle.dns_model.specs.Names.{name_eq, at_or_above, num_labels}

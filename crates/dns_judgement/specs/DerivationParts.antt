@@ -1,0 +1,74 @@
+-- For private functions and for proofs only: parts of the definition of a derivation, by names of their own.
+use Rattle.std.specs.Prelude.{ℕ, Bool, false, ◌==◌, ◌&&◌, nat_eq, List, [], ◌∷◌, Option, None, Some, unwrap_or, slice_get, if◌then◌else◌}
+use Rattle.std.specs.Option.{option_map, option_map_or, option_and_then, option_eq}
+use Rattle.std.specs.List.{filter_map, flat_map, list_any}
+use Rattle.dns_model.specs.declared.trail.AskRef.{AskRef}
+use Rattle.dns_model.specs.Records.{Rr, Question, question_eq}
+use Rattle.dns_model.specs.Chains.{Judge}
+use Rattle.dns_model.specs.Trails.{AskedValue, JudgedSetValue, EndingValue, Foreign, Failed, Seen}
+use Rattle.dns_model.specs.SoundAnswers.{Placed}
+use Rattle.dns_judgement.specs.Judged.{Judged}
+use Rattle.dns_judgement.specs.Marks.{Verdict, judged_by}
+use Rattle.dns_judgement.specs.Outcome.{Outcome}
+use Rattle.dns_judgement.specs.Derivation.{Grounds, is_empty, has_mark_of, is_repeat, judged_sets, if_answered, ending_eq, ending_by, is_each_once}
+
+abbrev pub with_entry : Placed × JudgedSetValue → Judged
+with_entry p = record { section = p.0.section; set = p.0.set; mark = p.1.mark; sig = p.1.sig }
+
+abbrev pub answer_of : Option AskedValue → Option (List Judged)
+answer_of step = option_and_then (λ s. if_answered s.ending (judged_sets s)) step
+
+-- the step judges what it hears to this question at this depth
+abbrev pub is_judged_ask : ℕ → Question → Option AskedValue → Bool
+is_judged_ask depth q step = option_map_or (λ s. s.judged && ((s.depth == depth) && question_eq q s.query)) step false
+
+abbrev pub after_verdict : Verdict → Option (List Verdict) → Option (List Verdict)
+after_verdict v rest = option_map (λ vs. v ∷ vs) rest
+
+-- nothing more is asked
+abbrev pub if_last : List AskRef → List Verdict → Option (List Verdict)
+if_last asks vs = if is_empty asks then Some vs else None
+
+abbrev pub place_eq : Option ℕ → Option ℕ → Bool
+place_eq a b = option_eq nat_eq a b
+
+abbrev pub is_by_verdicts : Placed → JudgedSetValue → Option (List Verdict) → Bool
+is_by_verdicts placed entry verdicts = option_map_or (λ vs. has_mark_of (judged_by placed vs) entry) verdicts false
+
+abbrev pub repeats_step : Grounds → Placed → JudgedSetValue → Option AskedValue → Bool
+repeats_step g placed entry step =
+    option_map_or (λ s. question_eq g.query s.query && list_any (is_repeat placed entry) (judged_sets s)) step false
+
+abbrev pub is_foreign : Rr → EndingValue → Bool
+is_foreign r ending = ending_eq (Foreign r.owner r.class r.rtype) ending
+
+abbrev pub is_failed : EndingValue → Bool
+is_failed ending = ending_eq Failed ending
+
+abbrev pub is_seen : EndingValue → Bool
+is_seen ending = ending_eq Seen ending
+
+abbrev pub is_ending : Outcome → EndingValue → Bool
+is_ending o ending = ending_eq (ending_by o) ending
+
+-- nothing is judged
+abbrev pub is_bare : AskedValue → Bool
+is_bare step = is_empty step.sets && is_empty step.excuse
+
+abbrev pub grounds_of : Judge → ℕ → List AskedValue → AskedValue → Grounds
+grounds_of j limit earlier step = record { judge = j; limit = limit; earlier = earlier; query = step.query; depth = step.depth }
+
+abbrev pub asks_of_sets : List JudgedSetValue → List AskRef
+asks_of_sets sets = flat_map (λ set. set.asked) sets
+
+abbrev pub and_then : {X Y : Type 0} → Option X → (X → Option Y) → Option Y
+and_then o f = option_and_then f o
+
+abbrev pub steps_at : List AskedValue → Option (List ℕ) → List AskedValue
+steps_at trail order = filter_map (slice_get trail) (unwrap_or order [])
+
+abbrev pub is_top : Option AskedValue → Bool
+is_top step = option_map_or (λ top. top.judged && (top.depth == 0)) step false
+
+abbrev pub is_each_met_once : ℕ → Option (List ℕ) → Bool
+is_each_met_once n order = option_map_or (is_each_once n) order false
