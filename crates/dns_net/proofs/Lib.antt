@@ -1,4 +1,5 @@
 pub mod WalkLemmas
 pub mod KeyLemmas
+pub mod PlaceLemmas
 pub mod ReplyLemmas
 pub mod CaseLemmas

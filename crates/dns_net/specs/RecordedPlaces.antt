@@ -1,14 +1,16 @@
--- For private functions of this crate and the invariant of `Recorded` only: the places at which its replies are found.
-use Rattle.std.specs.Prelude.{ℕ, ◌≡◌, Bool, List, Option, None, Some, Err, slice_get, if◌then◌else◌}
-use Rattle.std.specs.List.{position_from}
+-- For private functions of this crate and the invariant of `ReplyList` only: the places at which recorded replies are found.
+use Rattle.std.specs.Prelude.{ℕ, ◌+◌, ◌≡◌, Bool, true, false, not, List, [], ◌∷◌, ◌++◌, drop, Option, None, Some, Err, slice_get, if◌then◌else◌}
+use Rattle.std.specs.List.{filter_map}
 use Rattle.std.specs.declared.cmp.Ordering.{Ordering}
 use Rattle.std.specs.Ordering.{is_eq, nat_cmp, ordering_then}
 use Rattle.std.specs.Cmp.Lexicographic.{slice_cmp}
 use Rattle.std.specs.BTreeMap as tree
 use Rattle.std.specs.BTreeMap.{BTreeMap}
+use Rattle.std.specs.declared.collections.VecDeque.{VecDeque}
 use Rattle.dns_model.specs.Names.{folded, wire}
 use Rattle.dns_model.specs.Records.{Question, question_eq}
 use Rattle.dns_net.specs.declared.query_key.QueryKey.{QueryKey}
+use Rattle.dns_net.specs.declared.reply_places.Turn.{Turn}
 use Rattle.dns_net.specs.Errors as seen
 use Rattle.dns_net.specs.Errors.{Reply}
 
@@ -20,28 +22,61 @@ key_of q = record { name = wire (folded q.owner); record_type = q.rtype; class =
 abbrev pub key_cmp : QueryKey → QueryKey → Ordering
 key_cmp a b = ordering_then (slice_cmp nat_cmp a.name b.name) (ordering_then (nat_cmp a.record_type b.record_type) (nat_cmp a.class b.class))
 
--- the reply at a place of the list; none is Timeout
-abbrev pub reply_of_place : Option (Question × Reply) → Reply
-reply_of_place None = Err seen.Timeout
-reply_of_place (Some told) = told.1
+-- what stands at a place: a recording, or nothing once its turn is over
+abbrev pub Slot : Type 0
+Slot = Option (Question × Reply)
 
-abbrev pub reply_at : List (Question × Reply) → Option ℕ → Reply
-reply_at told None = Err seen.Timeout
-reply_at told (Some place) = reply_of_place (slice_get told place)
+-- the recordings that are left, in order
+abbrev pub left : List Slot → List (Question × Reply)
+left slots = filter_map (λ slot. slot) slots
 
--- the place of the first reply to a question
-abbrev pub first_place : List (Question × Reply) → Question → Option ℕ
-first_place told q = position_from (λ t. question_eq t.0 q) 0 told
+-- the reply of what stands at a place; nothing is Timeout
+abbrev pub reply_in : Option Slot → Reply
+reply_in None = Err seen.Timeout
+reply_in (Some None) = Err seen.Timeout
+reply_in (Some (Some told)) = told.1
 
--- the places with one more reply at the end of a list of this length
-abbrev pub place_or : Option ℕ → Bool → ℕ → Option ℕ
-place_or (Some place) same end = Some place
-place_or None same end = if same then Some end else None
+abbrev pub reply_at : List Slot → ℕ → Reply
+reply_at slots place = reply_in (slice_get slots place)
 
--- a map from keys to places has one more place, where it had none for that key
-abbrev pub Noted : BTreeMap QueryKey ℕ → BTreeMap QueryKey ℕ → QueryKey → ℕ → Type 0
-Noted old new key place = (k : QueryKey) → tree.get key_cmp new k ≡ place_or (tree.get key_cmp old k) (is_eq (key_cmp key k)) place
+-- a recording is left and has that question
+abbrev pub is_for : Question → Slot → Bool
+is_for q None = false
+is_for q (Some told) = question_eq told.0 q
 
--- the map finds the first reply to each question
-abbrev pub IndexesFirst : BTreeMap QueryKey ℕ → List (Question × Reply) → Type 0
-IndexesFirst first told = (q : Question) → tree.get key_cmp first (key_of q) ≡ first_place told q
+-- the places of the recordings that are left to a question, counted from a number on
+unfoldable pub places_from : Question → ℕ → List Slot → List ℕ
+places_from q n [] = []
+places_from q n (slot ∷ slots) = if is_for q slot then n ∷ places_from q (n + 1) slots else places_from q (n + 1) slots
+
+-- which of these places is served next, and whether it stays; by turn it does only where it is the last one
+abbrev pub turn_in : Bool → List ℕ → Option Turn
+turn_in by_turn [] = None
+turn_in by_turn (place ∷ []) = Some (record { place = place; stays = true })
+turn_in by_turn (place ∷ next ∷ rest) = Some (record { place = place; stays = not by_turn })
+
+-- the places under a key
+abbrev pub queue_items : {Z : Type 0} → Option (VecDeque ℕ Z) → List ℕ
+queue_items None = []
+queue_items (Some queue) = queue.items
+
+abbrev pub places_at : {Z : Type 0} → BTreeMap QueryKey (VecDeque ℕ Z) → QueryKey → List ℕ
+places_at places key = queue_items (tree.get key_cmp places key)
+
+-- each key has the same places
+abbrev pub SamePlaces : {Z : Type 0} → BTreeMap QueryKey (VecDeque ℕ Z) → BTreeMap QueryKey (VecDeque ℕ Z) → Type 0
+SamePlaces old new = (k : QueryKey) → places_at new k ≡ places_at old k
+
+-- a key has one more place behind its others
+abbrev pub Noted : {Z : Type 0} → BTreeMap QueryKey (VecDeque ℕ Z) → BTreeMap QueryKey (VecDeque ℕ Z) → QueryKey → ℕ → Type 0
+Noted old new key place =
+    (k : QueryKey) → places_at new k ≡ places_at old k ++ (if is_eq (key_cmp key k) then place ∷ [] else [])
+
+-- a key has lost its first place
+abbrev pub Dropped : {Z : Type 0} → BTreeMap QueryKey (VecDeque ℕ Z) → BTreeMap QueryKey (VecDeque ℕ Z) → QueryKey → Type 0
+Dropped old new key =
+    (k : QueryKey) → places_at new k ≡ (if is_eq (key_cmp key k) then drop 1 (places_at old k) else places_at old k)
+
+-- the map has the places of what is left to each question
+abbrev pub IndexesReplies : {Z : Type 0} → BTreeMap QueryKey (VecDeque ℕ Z) → List Slot → Type 0
+IndexesReplies places slots = (q : Question) → places_at places (key_of q) ≡ places_from q 0 slots

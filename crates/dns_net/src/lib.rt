@@ -12,6 +12,8 @@ mod link_shows;
 mod notice;
 mod query_key;
 mod recorded;
+mod reply_list;
+mod reply_places;
 mod request;
 mod response;
 mod trail;

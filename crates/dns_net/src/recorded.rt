@@ -1,114 +1,58 @@
-ghost use Rattle.std.specs.Prelude.{◌≡◌, ◌⊎◌, ◌∷◌, ◌++◌, ℕ, [], Some, false, Err, OnOk, OnErr, IfOk, length};
-ghost use Rattle.dns_net.specs.Errors as seen;
+ghost use Rattle.std.specs.Prelude.{◌≡◌, ◌∷◌, ◌++◌, true, false, [], Some, OnOk, OnErr};
 ghost use Rattle.dns_net.specs.Replies.{reply_of};
 ghost use Rattle.dns_net.specs.Requests.{first_question};
-ghost use Rattle.dns_net.specs.Handles.{reply_to};
-ghost use Rattle.dns_net.specs.Recording.{AnswersFrom};
-ghost use Rattle.dns_net.specs.RecordedPlaces.{Noted, first_place, reply_at};
+ghost use Rattle.dns_net.specs.Recording.{replies_of, faults_after, IsServed, AnswersFrom};
 
-use crate::query_key::QueryKey;
+use crate::reply_list::ReplyList;
 use crate::{DnsHandle, DnsRequest, DnsResponse, NetError};
 use dns_name::NoMemory;
 use dns_record::Query;
 use std::alloc::Global;
-use std::collections::BTreeMap;
 use std::marker::Model;
 
-/// A reply, and the query that it was recorded for.
-#[derive(Drop)]
-struct Recording {
-    query: Query,
-    reply: Result<DnsResponse, NetError>,
-}
-
-impl Model for Recording {
-    ghost use Rattle.dns_model.specs.Records.{Question};
-    ghost use Rattle.dns_net.specs.Errors.{Reply};
-    ghost use Rattle.dns_net.specs.Replies.{reply_of};
-
-    ghost Value = { Question × Reply };
-
-    ghost view = { λ r. (r.query, reply_of r.reply) };
-}
-
-/// A handle that answers from replies that were put in, the first for each query. Names of queries are folded.
+/// A handle that answers from replies that were put in: the first for each query, or by turn each of them once, the last one
+/// again and again. Names of queries are folded.
 #[derive(Drop)]
 pub struct Recorded {
-    replies: Vec<Recording>,
-    /// Where the first reply to a query stands.
-    first: BTreeMap<QueryKey, usize>,
+    replies: ReplyList,
+    by_turn: bool,
     sends: u64,
     faults: u64,
 }
 
 impl Model for Recorded {
     ghost use Rattle.dns_net.specs.Recording.{RecordedValue};
-    ghost use Rattle.dns_net.specs.RecordedPlaces.{IndexesFirst};
 
     ghost Value = { RecordedValue };
 
-    ghost view = { λ r. record { sends = r.sends; faults = r.faults; replies = r.replies.items } };
-
-    ghost invariant = { λ r. IndexesFirst r.first r.replies.items };
-}
-
-/// Notes the place of a reply, unless its query has one. After an error nothing has changed.
-fn note_first(
-    first: &mut BTreeMap<QueryKey, usize>,
-    key: QueryKey,
-    place: usize,
-) -> Result<(), NoMemory>
-    ensures ok { OnOk result (Noted first.old first.new key place) }
-    ensures err { OnErr result (first.new.entries ≡ first.old.entries) }
-{
-    if first.contains_key(&key) {
-        return Ok(());
-    }
-    first.insert(key, place)?;
-    Ok(())
-}
-
-/// An equal reply in memory of its own, or want of memory.
-fn clone_reply(reply: &Result<DnsResponse, NetError>) -> Result<DnsResponse, NetError>
-    ensures { (reply_of result ≡ Err seen.NoMemory) ⊎ (reply_of result ≡ reply_of reply.now) }
-{
-    match reply {
-        Ok(response) => {
-            let response = response.try_clone()?;
-            Ok(response)
-        }
-        Err(error) => {
-            let error = error.try_clone()?;
-            Err(error)
-        }
-    }
-}
-
-/// The reply at a place, or `Timeout` where none stands there.
-fn reply_at(replies: &[Recording], place: usize) -> Result<DnsResponse, NetError>
-    ensures { (reply_of result ≡ Err seen.NoMemory) ⊎ (reply_of result ≡ reply_at replies.now (Some place)) }
-{
-    match replies.get(place) {
-        None => Err(NetError::Timeout),
-        Some(recording) => clone_reply(&recording.reply),
-    }
+    ghost view = { λ r. record { sends = r.sends; faults = r.faults; replies = r.replies; by_turn = r.by_turn } };
 }
 
 impl Recorded {
-    /// A handle with no reply.
+    /// A handle with no reply, whose first reply to a query serves each send of it.
     pub fn new(alloc: Global) -> Recorded
-        ensures { result ≡ record { sends = 0; faults = 0; replies = [] } }
+        ensures { result ≡ record { sends = 0; faults = 0; replies = []; by_turn = false } }
     {
         Recorded {
-            replies: Vec::new(alloc),
-            first: BTreeMap::new(alloc),
+            replies: ReplyList::new(alloc),
+            by_turn: false,
             sends: 0,
             faults: 0,
         }
     }
 
-    /// Puts a reply behind the others. Where its query has one already, that one stays the answer. After an error, which is
-    /// want of memory, nothing has changed.
+    /// The same handle, which from now on serves by turn: each send of a query takes the next reply to it, and the last one
+    /// serves all later sends.
+    pub fn in_turn(self) -> Recorded
+        ensures { result ≡ record self { by_turn = true } }
+    {
+        Recorded {
+            by_turn: true,
+            ..self
+        }
+    }
+
+    /// Puts a reply behind the others. After an error, which is want of memory, nothing has changed.
     pub fn push(
         &mut self,
         query: Query,
@@ -117,34 +61,31 @@ impl Recorded {
         ensures ok { OnOk result (self.new ≡ record self.old { replies = self.old.replies ++ (query, reply_of reply) ∷ [] }) }
         ensures err { OnErr result (self.new ≡ self.old) }
     {
-        let key = QueryKey::of(*self.replies.allocator(), &query)?;
-        let place = self.replies.len();
-        self.replies.push(Recording { query, reply })?;
-        match note_first(&mut self.first, key, place) {
-            Ok(()) => Ok(()),
-            Err(error) => {
-                let _ = self.replies.pop();
-                Err(error)
-            }
-        }
+        self.replies.push(query, reply)
     }
+}
 
-    /// Where the first reply to a query stands.
-    fn place_of(&self, query: &Query) -> Result<Option<usize>, NoMemory>
-        ensures { IfOk result (λ place. place ≡ first_place self.now.replies query.now) }
-    {
-        let key = QueryKey::of(*self.replies.allocator(), query)?;
-        Ok(self.first.get(&key).copied())
+/// The reply to the request's first question, or `Timeout` where it has none.
+fn next_reply(
+    replies: &mut ReplyList,
+    request: &DnsRequest,
+    by_turn: bool,
+) -> Result<DnsResponse, NetError>
+    ensures { IsServed (record { list = replies.old; by_turn = by_turn }) (first_question request.now) (record { list = replies.new; by_turn = by_turn }) (reply_of result) }
+{
+    match request.message.queries.first() {
+        None => Err(NetError::Timeout),
+        Some(query) => replies.serve(query, by_turn),
     }
+}
 
-    /// The first reply to a query, or `Timeout`.
-    fn reply_to(&self, query: &Query) -> Result<DnsResponse, NetError>
-        ensures { (reply_of result ≡ Err seen.NoMemory) ⊎ (reply_of result ≡ reply_to self.now.replies query.now) }
-    {
-        match self.place_of(query)? {
-            None => Err(NetError::Timeout),
-            Some(place) => reply_at(&self.replies, place),
-        }
+/// The count of errors after a reply.
+fn faults_after(count: u64, reply: &Result<DnsResponse, NetError>) -> u64
+    ensures { result ≡ faults_after count (reply_of reply.now) }
+{
+    match reply {
+        Ok(_) => count,
+        Err(_) => count.saturating_add(1),
     }
 }
 
@@ -155,7 +96,7 @@ impl DnsHandle for Recorded {
 
     ghost sent = { AnswersFrom };
 
-    ghost told = { λ h. Some (record { list = h.replies; by_turn = false }) };
+    ghost told = { λ h. Some (replies_of h) };
 
     fn send(
         &mut self,
@@ -163,14 +104,9 @@ impl DnsHandle for Recorded {
         request: DnsRequest,
         _now: u64,
     ) -> Result<DnsResponse, NetError> {
-        let reply = match request.message.queries.first() {
-            None => Err(NetError::Timeout),
-            Some(query) => self.reply_to(query),
-        };
+        let reply = next_reply(&mut self.replies, &request, self.by_turn);
         self.sends = self.sends.saturating_add(1);
-        if reply.is_err() {
-            self.faults = self.faults.saturating_add(1);
-        }
+        self.faults = faults_after(self.faults, &reply);
         reply
     }
 }
