@@ -13,3 +13,5 @@ mod net_shown_tests;
 mod net_tests;
 #[cfg(test)]
 mod net_trail_tests;
+#[cfg(test)]
+mod net_turn_tests;
