@@ -7,6 +7,7 @@ use Rattle.dns_model.specs.Chains as trust
 use Rattle.dns_model.specs.Chains.{LinkValue, Judge, all_shown, shows_key, is_nonempty, is_signed, link_holds, links_hold, is_chain, justified}
 use Rattle.std.specs.Prelude.{slice_get}
 use Rattle.dns_model.specs.SoundAnswers.{ChainValue, ResponseValue}
+use Rattle.dns_report.specs.declared.parts.Parts.{Parts}
 use Rattle.dns_report.specs.View.{Numbered, Shown, Anchored, Matched, KeySet, Signed, numbered, shown, ChainView, chain_view, View, view_of, all_justified}
 
 -- a key set has as many numbers as keys
@@ -99,7 +100,7 @@ chains_back j (chain ∷ chains) h =
     chain_same s a b cs ds e f = rw (e, f) refl
 
 -- two answers with one view, whose chains are justified, have the same chains
-pub view_tells_chains : (j k : Judge) (a b : ResponseValue) → all_justified j a.chains ≡ true → all_justified k b.chains ≡ true
-    → view_of a ≡ view_of b → a.chains ≡ b.chains
-view_tells_chains j k a b first second h =
+pub view_tells_chains : (j k : Judge) (shows : Parts) (a b : ResponseValue) → all_justified j a.chains ≡ true → all_justified k b.chains ≡ true
+    → view_of shows a ≡ view_of shows b → a.chains ≡ b.chains
+view_tells_chains j k shows a b first second h =
     sym (chains_back j a.chains first) ∙ ap (λ (v : View). map whole_chain v.chains) h ∙ chains_back k b.chains second

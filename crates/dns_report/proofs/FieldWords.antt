@@ -1,5 +1,5 @@
 -- The words of an answer's fields: each is a word, and tells its field.
-use Rattle.std.proofs.Common.{◌≡◌, ℕ, ◌^◌, ◌<◌, ◌≤◌, true, List, [], ◌∷◌, map, get_or, ap, refl, arith}
+use Rattle.std.proofs.Common.{◌≡◌, ℕ, ◌^◌, ◌<◌, ◌≤◌, Bool, true, List, [], ◌∷◌, map, get_or, ap, refl, arith}
 use Rattle.std.specs.Fmt.{decimal}
 use Rattle.std.specs.List.{list_all}
 use Rattle.std.proofs.lemmas.Bool.{and_parts, ltb-true}
@@ -11,14 +11,15 @@ use Rattle.dns_record.specs.Words.{type_word, class_word}
 use Rattle.dns_words.specs.Words.{octets_word}
 use Rattle.dns_report.specs.LineWords.{Words}
 use Rattle.dns_words.proofs.WordShapes.{is_word, decimal_word, type_is_word, class_is_word, octets_is_word, type_injective, class_injective, octets_injective}
-use Rattle.dns_report.specs.View.{Numbered, fitting_name, is_u16, is_u32, fitting_key}
+use Rattle.dns_report.specs.Fields.{fitting_name, is_u16, is_u32}
+use Rattle.dns_report.specs.View.{Numbered, fitting_key}
 use Rattle.dns_report.specs.Report.{key_words}
 use Rattle.dns_report.proofs.NameShapes.{printed_injective}
 
-below_u16 : (n : ℕ) → is_u16 n ≡ true → n ≤ 65535
+pub below_u16 : (n : ℕ) → is_u16 n ≡ true → n ≤ 65535
 below_u16 n h = let lt : n < 2 ^ 16 = ltb-true n (2 ^ 16) h in omega (arith, lt)
 
-below_u32 : (n : ℕ) → is_u32 n ≡ true → n < 2 ^ 64
+pub below_u32 : (n : ℕ) → is_u32 n ≡ true → n < 2 ^ 64
 below_u32 n h = let lt : n < 2 ^ 32 = ltb-true n (2 ^ 32) h in omega (arith, lt)
 
 pub class_good : (n : ℕ) → is_u16 n ≡ true → is_word (class_word n) ≡ true
@@ -64,22 +65,33 @@ abbrev pub more_words : Words → Words
 more_words [] = []
 more_words (w ∷ ws) = ws
 
+-- a word for each value of a list
+pub each_good : {A : Type 0} (word : A → List ℕ) (fits : A → Bool) → ((v : A) → fits v ≡ true → is_word (word v) ≡ true)
+    → (vs : List A) → list_all fits vs ≡ true → list_all is_word (map word vs) ≡ true
+each_good word fits one [] h = refl
+each_good word fits one (v ∷ vs) h =
+    let parts = and_parts (fits v) (list_all fits vs) h in
+    rw (one v parts.0) (each_good word fits one vs parts.1)
+
+-- where each word tells its value, the words tell the list
+pub each_tells : {A : Type 0} (word : A → List ℕ) (fits : A → Bool)
+    → ((v w : A) → fits v ≡ true → fits w ≡ true → word v ≡ word w → v ≡ w)
+    → (vs ws : List A) → list_all fits vs ≡ true → list_all fits ws ≡ true → map word vs ≡ map word ws → vs ≡ ws
+each_tells word fits one [] [] first second h = refl
+each_tells word fits one [] (w ∷ ws) first second h = cc h
+each_tells word fits one (v ∷ vs) [] first second h = cc h
+each_tells word fits one (v ∷ vs) (w ∷ ws) first second h =
+    let parts = and_parts (fits v) (list_all fits vs) first in
+    let others = and_parts (fits w) (list_all fits ws) second in
+    let head : word v ≡ word w = ap (λ l. get_or l 0 []) h in
+    let rest : map word vs ≡ map word ws = ap more_words h in
+    rw (one v w parts.0 others.0 head, each_tells word fits one vs ws parts.1 others.1 rest) refl
+
 pub rdatas_good : (rdatas : List (List ℕ)) → list_all is_bytes rdatas ≡ true → list_all is_word (map octets_word rdatas) ≡ true
-rdatas_good [] h = refl
-rdatas_good (r ∷ rs) h =
-    let parts = and_parts (is_bytes r) (list_all is_bytes rs) h in
-    rw (bytes_good r parts.0) (rdatas_good rs parts.1)
+rdatas_good rdatas h = each_good octets_word is_bytes bytes_good rdatas h
 
 pub rdatas_tell : (a b : List (List ℕ)) → list_all is_bytes a ≡ true → list_all is_bytes b ≡ true → map octets_word a ≡ map octets_word b → a ≡ b
-rdatas_tell [] [] first second h = refl
-rdatas_tell [] (s ∷ ss) first second h = cc h
-rdatas_tell (r ∷ rs) [] first second h = cc h
-rdatas_tell (r ∷ rs) (s ∷ ss) first second h =
-    let parts = and_parts (is_bytes r) (list_all is_bytes rs) first in
-    let others = and_parts (is_bytes s) (list_all is_bytes ss) second in
-    let one : octets_word r ≡ octets_word s = ap (λ l. get_or l 0 []) h in
-    let rest : map octets_word rs ≡ map octets_word ss = ap more_words h in
-    rw (bytes_tell r s parts.0 others.0 one, rdatas_tell rs ss parts.1 others.1 rest) refl
+rdatas_tell a b first second h = each_tells octets_word is_bytes bytes_tell a b first second h
 
 pub keys_good : (keys : List Numbered) → list_all fitting_key keys ≡ true → list_all is_word (key_words keys) ≡ true
 unfolding key_words

@@ -1,8 +1,13 @@
 mod LineLaws
+mod SpacedWords
+mod LineBlocks
 mod NameShapes
 mod MarkWords
-mod ReportLines
 mod FieldWords
+mod TrailWords
+mod StepLines
+mod StepLaws
+mod ReportLines
 mod RecordLaws
 mod LinkLaws
 mod ReportLaw

@@ -1,5 +1,5 @@
 -- The line of a link tells the link, and the lines of chains the chains.
-use Rattle.std.proofs.Common.{◌≡◌, ℕ, ◌^◌, true, ◌&&◌, nat_lt, List, [], ◌∷◌, ◌++◌, length, map, get_or, refl, ap, arith}
+use Rattle.std.proofs.Common.{◌≡◌, ℕ, ◌^◌, ◌<◌, true, false, ◌&&◌, nat_lt, List, [], length, map, codes, get_or, refl, ap, arith}
 use Rattle.std.specs.Fmt.{decimal}
 use Rattle.std.specs.List.{list_all}
 use Rattle.std.proofs.lemmas.Bool.{and_parts, ltb-true}
@@ -10,14 +10,15 @@ use Rattle.dns_model.specs.declared.section.Section.{Section}
 use Rattle.dns_words.specs.Words.{octets_word}
 use Rattle.dns_report.specs.LineWords.{section_word}
 use Rattle.dns_words.proofs.WordShapes.{decimal_word}
-use Rattle.dns_report.specs.View.{Numbered, Shown, Anchored, Matched, KeySet, Signed, ChainView, fitting_name, is_u16, is_u32, fitting_key, fitting_link, fitting_chain}
+use Rattle.dns_report.specs.Fields.{fitting_name, is_u16, is_u32}
+use Rattle.dns_report.specs.View.{Numbered, Shown, Anchored, Matched, KeySet, Signed, ChainView, fitting_key, fitting_link, fitting_chain}
 use Rattle.dns_report.specs.Report.{key_words}
 use Rattle.dns_report.proofs.LineLaws.{Line, is_line}
 use Rattle.dns_report.proofs.NameShapes.{printed_word}
 use Rattle.dns_report.proofs.MarkWords.{section_injective, section_is_word}
 use Rattle.dns_report.proofs.FieldWords.{class_good, type_good, number_good, bytes_good, rdatas_good, keys_good, name_tells, class_tells, type_tells, number_tells, bytes_tell, rdatas_tell, keys_tell, more_words}
-use Rattle.dns_report.proofs.RecordLaws.{first_line, other_lines}
-use Rattle.dns_report.proofs.ReportLines.{link_of, front_of, chains_lines, last}
+use Rattle.dns_report.proofs.LineBlocks.{Tells, Same, blocks, single, starts, named, first_line, other_lines, single_tells, blocks_tell, counted_tell, single_good, blocks_good}
+use Rattle.dns_report.proofs.ReportLines.{link_of, front_of, chain_lines}
 
 -- what a fitting link's fields are
 record FitsAnchored (owner : Labels) (class : ℕ) (key : List ℕ) : Type 0 where
@@ -122,7 +123,7 @@ signed_same : (o p : Labels) (c d t u : ℕ) (r s : List (List ℕ)) (x y : List
 signed_same o p c d t u r s x y m n k l a b e f g h i = rw (a, b, e, f, g, h, i) refl
 
 -- a link's line tells it
-pub link_tells : (l m : Shown) → fitting_link l ≡ true → fitting_link m ≡ true → link_of l ≡ link_of m → l ≡ m
+link_tells : (l m : Shown) → fitting_link l ≡ true → fitting_link m ≡ true → link_of l ≡ link_of m → l ≡ m
 link_tells (Anchored o c k) (Anchored p d l) first second h =
     let f = fits_anchored o c k first in
     let g = fits_anchored p d l second in
@@ -162,55 +163,43 @@ link_tells (Signed o c t r x m k) (Signed p d u s y n l) first second h =
 
 -- ---- chains
 
-record SameLinks (ls ms : List Shown) (x y : List Line) : Type 0 where
-  links : ls ≡ ms
-  rest : x ≡ y
+record FitsChain (chain : ChainView) : Type 0 where
+  count : length chain.links < 2 ^ 64
+  links : list_all fitting_link chain.links ≡ true
 
-links_tell : (ls ms : List Shown) (x y : List Line) → length ls ≡ length ms → list_all fitting_link ls ≡ true → list_all fitting_link ms ≡ true
-    → map link_of ls ++ x ≡ map link_of ms ++ y → SameLinks ls ms x y
-links_tell [] [] x y size first second h = record { links = refl; rest = h }
-links_tell [] (m ∷ ms) x y size first second h = absurd (omega (arith, size))
-links_tell (l ∷ ls) [] x y size first second h = absurd (omega (arith, size))
-links_tell (l ∷ ls) (m ∷ ms) x y size first second h =
-    let parts = and_parts (fitting_link l) (list_all fitting_link ls) first in
-    let others = and_parts (fitting_link m) (list_all fitting_link ms) second in
-    let one : link_of l ≡ link_of m = first_line h in
-    let more : map link_of ls ++ x ≡ map link_of ms ++ y = other_lines h in
-    let rest = links_tell ls ms x y (omega (arith, size)) parts.1 others.1 more in
-    record { links = rw (link_tells l m parts.0 others.0 one, rest.links) refl; rest = rest.rest }
+fits_chain : (chain : ChainView) → fitting_chain chain ≡ true → FitsChain chain
+fits_chain chain h =
+    let parts = and_parts (nat_lt (length chain.links) (2 ^ 64)) (list_all fitting_link chain.links) h in
+    record { count = ltb-true _ _ parts.0; links = parts.1 }
 
-chain_same : (a b : Section) (ls ms : List Shown) (cs ds : List ChainView) → a ≡ b → ls ≡ ms → cs ≡ ds
-    → ◌≡◌ {A = List ChainView} (record { section = a; links = ls } ∷ cs) (record { section = b; links = ms } ∷ ds)
-chain_same a b ls ms cs ds e f g = rw (e, f, g) refl
+chain_same : (a b : Section) (ls ms : List Shown) → a ≡ b → ls ≡ ms
+    → ◌≡◌ {A = ChainView} (record { section = a; links = ls }) (record { section = b; links = ms })
+chain_same a b ls ms e f = rw (e, f) refl
 
--- the lines of chains tell the chains
-pub chains_tell : (cs ds : List ChainView) → list_all fitting_chain cs ≡ true → list_all fitting_chain ds ≡ true → chains_lines cs last ≡ chains_lines ds last → cs ≡ ds
-chains_tell [] [] first second h = refl
-chains_tell [] (d ∷ ds) first second h = apart _ _ (first_line h) (λ (e : 101 ≡ 99). omega (arith, e))
-chains_tell (c ∷ cs) [] first second h = apart _ _ (first_line h) (λ (e : 99 ≡ 101). omega (arith, e))
-chains_tell (c ∷ cs) (d ∷ ds) first second h =
-    let parts = and_parts (fitting_chain c) (list_all fitting_chain cs) first in
-    let others = and_parts (fitting_chain d) (list_all fitting_chain ds) second in
-    let one = and_parts (nat_lt (length c.links) (2 ^ 64)) (list_all fitting_link c.links) parts.0 in
-    let two = and_parts (nat_lt (length d.links) (2 ^ 64)) (list_all fitting_link d.links) others.0 in
+-- the lines of a chain tell the chain
+chain_tells : Tells chain_lines fitting_chain
+chain_tells c d x y first second h =
+    let one = fits_chain c first in
+    let two = fits_chain d second in
     let front : front_of c ≡ front_of d = first_line h in
-    let more : map link_of c.links ++ chains_lines cs last ≡ map link_of d.links ++ chains_lines ds last = other_lines h in
     let section : section_word c.section ≡ section_word d.section = word_same _ _ 0 front in
     let count : decimal (length c.links) ≡ decimal (length d.links) = word_same _ _ 1 front in
-    let size = decimal_injective (length c.links) (length d.links) (ltb-true _ _ one.0) (ltb-true _ _ two.0) count in
-    let links = links_tell c.links d.links (chains_lines cs last) (chains_lines ds last) size one.1 two.1 more in
-    chain_same c.section d.section c.links d.links cs ds (section_injective c.section d.section section) links.links
-    (chains_tell cs ds parts.1 others.1 links.rest)
+    let links = counted_tell (single link_of) fitting_link (single_tells link_of fitting_link link_tells) c.links d.links x y
+    (decimal_injective (length c.links) (length d.links) one.count two.count count) one.links two.links (other_lines h) in
+    record { value = chain_same c.section d.section c.links d.links (section_injective c.section d.section section) links.value; rest = links.rest }
 
-links_good : (ls : List Shown) (more : List Line) → list_all fitting_link ls ≡ true → list_all is_line more ≡ true → list_all is_line (map link_of ls ++ more) ≡ true
-links_good [] more h rest = rest
-links_good (l ∷ ls) more h rest =
-    let parts = and_parts (fitting_link l) (list_all fitting_link ls) h in
-    rw (link_good l parts.0) (links_good ls more parts.1 rest)
+-- the lines of chains tell the chains
+pub chains_tell : (cs ds : List ChainView) (x y : List Line) → list_all fitting_chain cs ≡ true → list_all fitting_chain ds ≡ true
+    → starts (named (codes "chain")) x ≡ false → starts (named (codes "chain")) y ≡ false
+    → blocks chain_lines cs x ≡ blocks chain_lines ds y → Same cs ds x y
+chains_tell = blocks_tell chain_lines fitting_chain (named (codes "chain")) chain_tells (λ c x. refl)
 
-pub chains_good : (cs : List ChainView) → list_all fitting_chain cs ≡ true → list_all is_line (chains_lines cs last) ≡ true
-chains_good [] h = refl
-chains_good (c ∷ cs) h =
-    let parts = and_parts (fitting_chain c) (list_all fitting_chain cs) h in
-    let one = and_parts (nat_lt (length c.links) (2 ^ 64)) (list_all fitting_link c.links) parts.0 in
-    rw (section_is_word c.section, decimal_word (length c.links) (ltb-true _ _ one.0)) (links_good c.links (chains_lines cs last) one.1 (chains_good cs parts.1))
+chain_good : (c : ChainView) (more : List Line) → fitting_chain c ≡ true → list_all is_line more ≡ true → list_all is_line (chain_lines c more) ≡ true
+chain_good c more h rest =
+    let f = fits_chain c h in
+    rw (section_is_word c.section, decimal_word (length c.links) f.count)
+    (blocks_good (single link_of) fitting_link (single_good link_of fitting_link link_good) c.links more f.links rest)
+
+pub chains_good : (cs : List ChainView) (more : List Line) → list_all fitting_chain cs ≡ true → list_all is_line more ≡ true
+    → list_all is_line (blocks chain_lines cs more) ≡ true
+chains_good = blocks_good chain_lines fitting_chain chain_good

@@ -11,10 +11,10 @@ use Rattle.dns_words.proofs.WordShapes.{is_word}
 use Rattle.dns_report.specs.LineWords.{Words, mark_word, section_word, denial_words}
 
 -- the words differ in length
-abbrev mark_of : List ℕ → Proof
+abbrev pub mark_of : List ℕ → Proof
 mark_of word = if length word == 6 then Secure else if length word == 8 then Insecure else if length word == 5 then Bogus else Indeterminate
 
-mark_back : (mark : Proof) → mark_of (mark_word mark) ≡ mark
+pub mark_back : (mark : Proof) → mark_of (mark_word mark) ≡ mark
 mark_back Secure = refl
 mark_back Insecure = refl
 mark_back Bogus = refl

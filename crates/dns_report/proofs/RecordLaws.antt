@@ -1,25 +1,25 @@
 -- The line of a record tells the record, and the lines of a section its records.
-use Rattle.std.proofs.Common.{◌≡◌, ℕ, Bool, true, false, ◌&&◌, List, [], ◌∷◌, ◌++◌, map, get_or, refl, sym, ap, ◌∙◌}
+use Rattle.std.proofs.Common.{◌≡◌, ℕ, true, false, ◌&&◌, List, [], get_or, refl, ap}
 use Rattle.std.specs.Fmt.{decimal}
 use Rattle.std.specs.List.{list_all}
-use Rattle.std.specs.Cmp.Lexicographic.{bytes_decides}
 use Rattle.std.proofs.lemmas.Bool.{and_parts}
 use Rattle.dns_model.specs.Bytes.{is_bytes}
 use Rattle.dns_model.specs.Names.{Labels}
 use Rattle.dns_model.specs.NameText.{printed}
-use Rattle.dns_model.specs.Keys.{bytes_eq}
 use Rattle.dns_model.specs.Records.{Rr}
 use Rattle.dns_model.specs.declared.proof.Proof.{Proof}
 use Rattle.dns_model.specs.declared.section.Section.{Section}
 use Rattle.dns_record.specs.Words.{type_word, class_word}
 use Rattle.dns_words.specs.Words.{octets_word}
 use Rattle.dns_report.specs.LineWords.{mark_word, section_word}
-use Rattle.dns_report.specs.View.{fitting_name, is_u16, is_u32, fitting_record}
+use Rattle.dns_report.specs.Fields.{fitting_name, is_u16, is_u32}
+use Rattle.dns_report.specs.View.{fitting_record}
 use Rattle.dns_report.proofs.LineLaws.{Line, is_line}
 use Rattle.dns_report.proofs.NameShapes.{printed_word}
 use Rattle.dns_report.proofs.MarkWords.{mark_injective, mark_is_word, section_is_word}
 use Rattle.dns_report.proofs.FieldWords.{class_good, type_good, number_good, bytes_good, name_tells, class_tells, type_tells, number_tells, bytes_tell}
-use Rattle.dns_report.proofs.ReportLines.{record_of}
+use Rattle.dns_report.proofs.LineBlocks.{Same, single, starts, named, word_named, single_tells, blocks_tell, single_good, blocks_good}
+use Rattle.dns_report.proofs.ReportLines.{record_of, section_lines}
 
 -- what a fitting record's fields are
 record Fields (r : Rr) : Type 0 where
@@ -55,7 +55,7 @@ rr_same : (o p : Labels) (k l c d t u : ℕ) (x y : List ℕ) (m n : Proof) → 
 rr_same o p k l c d t u x y m n a b e f g h = rw (a, b, e, f, g, h) refl
 
 -- a record's line tells it
-pub record_tells : (section : Section) (r q : Rr) → fitting_record r ≡ true → fitting_record q ≡ true → record_of section r ≡ record_of section q → r ≡ q
+record_tells : (section : Section) (r q : Rr) → fitting_record r ≡ true → fitting_record q ≡ true → record_of section r ≡ record_of section q → r ≡ q
 record_tells section r q first second h =
     let f = fields_of r first in
     let g = fields_of q second in
@@ -71,50 +71,14 @@ record_tells section r q first second h =
 
 -- ---- the records of a section
 
--- the next line begins with this word
-abbrev pub begins : List ℕ → List Line → Bool
-begins word [] = false
-begins word (l ∷ ls) = bytes_eq l.0 word
-
-pub word_begins : (word : List ℕ) → bytes_eq word word ≡ true
-word_begins word = (bytes_decides word word).1 refl
-
-pub no_yes : false ≡ true → ⊥
-no_yes h = cc
-
-pub first_line : {l m : Line} {ls ms : List Line} → l ∷ ls ≡ m ∷ ms → l ≡ m
-first_line h = ap (λ (all : List Line). get_or all 0 ([], [])) h
-
-abbrev others_of : List Line → List Line
-others_of [] = []
-others_of (l ∷ ls) = ls
-
-pub other_lines : {l m : Line} {ls ms : List Line} → l ∷ ls ≡ m ∷ ms → ls ≡ ms
-other_lines h = ap others_of h
-
-pub record SameSection (rs qs : List Rr) (x y : List Line) : Type 0 where
-  pub records : rs ≡ qs
-  pub rest : x ≡ y
-
 pub section_tells : (section : Section) (rs qs : List Rr) (x y : List Line) → list_all fitting_record rs ≡ true → list_all fitting_record qs ≡ true
-    → begins (section_word section) x ≡ false → begins (section_word section) y ≡ false
-    → map (record_of section) rs ++ x ≡ map (record_of section) qs ++ y → SameSection rs qs x y
-section_tells section [] [] x y first second before after h = record { records = refl; rest = h }
-section_tells section [] (q ∷ qs) x y first second before after h =
-    absurd (no_yes (sym before ∙ ap (begins (section_word section)) h ∙ word_begins (section_word section)))
-section_tells section (r ∷ rs) [] x y first second before after h =
-    absurd (no_yes (sym after ∙ ap (begins (section_word section)) (sym h) ∙ word_begins (section_word section)))
-section_tells section (r ∷ rs) (q ∷ qs) x y first second before after h =
-    let parts = and_parts (fitting_record r) (list_all fitting_record rs) first in
-    let others = and_parts (fitting_record q) (list_all fitting_record qs) second in
-    let line : record_of section r ≡ record_of section q = first_line h in
-    let more : map (record_of section) rs ++ x ≡ map (record_of section) qs ++ y = other_lines h in
-    let rest = section_tells section rs qs x y parts.1 others.1 before after more in
-    record { records = rw (record_tells section r q parts.0 others.0 line, rest.records) refl; rest = rest.rest }
+    → starts (named (section_word section)) x ≡ false → starts (named (section_word section)) y ≡ false
+    → section_lines section rs x ≡ section_lines section qs y → Same rs qs x y
+section_tells section =
+    blocks_tell (single (record_of section)) fitting_record (named (section_word section))
+    (single_tells (record_of section) fitting_record (record_tells section)) (λ r x. word_named (section_word section))
 
 pub records_good : (section : Section) (rs : List Rr) (more : List Line) → list_all fitting_record rs ≡ true → list_all is_line more ≡ true
-    → list_all is_line (map (record_of section) rs ++ more) ≡ true
-records_good section [] more h rest = rest
-records_good section (r ∷ rs) more h rest =
-    let parts = and_parts (fitting_record r) (list_all fitting_record rs) h in
-    rw (record_good section r parts.0) (records_good section rs more parts.1 rest)
+    → list_all is_line (section_lines section rs more) ≡ true
+records_good section =
+    blocks_good (single (record_of section)) fitting_record (single_good (record_of section) fitting_record (record_good section))

@@ -1,5 +1,5 @@
 -- The text of a report tells its view.
-use Rattle.std.proofs.Common.{◌≡◌, ℕ, true, false, ◌&&◌, List, [], ◌∷◌, ◌++◌, map, codes, get_or, refl, sym, ap, ◌∙◌}
+use Rattle.std.proofs.Common.{◌≡◌, ℕ, true, false, ◌&&◌, List, [], ◌∷◌, codes, get_or, Option, None, Some, refl, sym, ap, ◌∙◌}
 use Rattle.std.specs.Fmt.{decimal}
 use Rattle.std.specs.List.{list_all}
 use Rattle.std.proofs.lemmas.Bool.{and_parts}
@@ -8,14 +8,19 @@ use Rattle.dns_model.specs.declared.section.Section.TheVariants.{Answer, Authori
 use Rattle.dns_model.specs.declared.denial.Denial.{Denial}
 use Rattle.dns_model.specs.Records.{Rr}
 use Rattle.dns_report.specs.LineWords.{section_word, denial_words}
-use Rattle.dns_report.specs.View.{ChainView, View, is_u16, fitting_record, fitting_chain, fitting_view}
+use Rattle.dns_report.specs.Fields.{is_u16}
+use Rattle.dns_report.specs.TrailView.{StepView, fitting_trail}
+use Rattle.dns_report.specs.View.{ChainView, View, fitting_record, fitting_chain, fitting_view}
 use Rattle.dns_report.specs.Report.{view_text}
 use Rattle.dns_report.proofs.LineLaws.{Line, is_line, lines_same}
 use Rattle.dns_report.proofs.MarkWords.{denial_injective, denial_is_words}
 use Rattle.dns_report.proofs.FieldWords.{small_good, small_tells}
-use Rattle.dns_report.proofs.RecordLaws.{begins, first_line, other_lines, section_tells, records_good}
+use Rattle.dns_report.proofs.LineBlocks.{single, starts, named, first_line, other_lines, blocks_start}
+use Rattle.dns_report.proofs.RecordLaws.{section_tells, records_good}
 use Rattle.dns_report.proofs.LinkLaws.{chains_tell, chains_good}
-use Rattle.dns_report.proofs.ReportLines.{record_of, chains_lines, last, lines_of, text_is_lines}
+use Rattle.dns_report.proofs.StepLines.{trail_lines}
+use Rattle.dns_report.proofs.StepLaws.{trail_tells, trail_good}
+use Rattle.dns_report.proofs.ReportLines.{record_of, section_lines, chain_lines, last, later_lines, lines_of, text_is_lines}
 
 record Fitting (v : View) : Type 0 where
   code : is_u16 v.code ≡ true
@@ -23,41 +28,58 @@ record Fitting (v : View) : Type 0 where
   authorities : list_all fitting_record v.authorities ≡ true
   additionals : list_all fitting_record v.additionals ≡ true
   chains : list_all fitting_chain v.chains ≡ true
+  trail : fitting_trail v.trail ≡ true
 
 fitting : (v : View) → fitting_view v ≡ true → Fitting v
 fitting v h =
-    let a = and_parts (is_u16 v.code) (list_all fitting_record v.answers && (list_all fitting_record v.authorities && (list_all fitting_record v.additionals && list_all fitting_chain v.chains))) h in
-    let b = and_parts (list_all fitting_record v.answers) (list_all fitting_record v.authorities && (list_all fitting_record v.additionals && list_all fitting_chain v.chains)) a.1 in
-    let c = and_parts (list_all fitting_record v.authorities) (list_all fitting_record v.additionals && list_all fitting_chain v.chains) b.1 in
-    let d = and_parts (list_all fitting_record v.additionals) (list_all fitting_chain v.chains) c.1 in
-    record { code = a.0; answers = b.0; authorities = c.0; additionals = d.0; chains = d.1 }
+    let later = list_all fitting_chain v.chains && fitting_trail v.trail in
+    let a = and_parts (is_u16 v.code) (list_all fitting_record v.answers && (list_all fitting_record v.authorities && (list_all fitting_record v.additionals && later))) h in
+    let b = and_parts (list_all fitting_record v.answers) (list_all fitting_record v.authorities && (list_all fitting_record v.additionals && later)) a.1 in
+    let c = and_parts (list_all fitting_record v.authorities) (list_all fitting_record v.additionals && later) b.1 in
+    let d = and_parts (list_all fitting_record v.additionals) later c.1 in
+    let e = and_parts (list_all fitting_chain v.chains) (fitting_trail v.trail) d.1 in
+    record { code = a.0; answers = b.0; authorities = c.0; additionals = d.0; chains = e.0; trail = e.1 }
 
 -- ---- which line comes next
 
-chains_begin : (section : Section) (cs : List ChainView) → begins (section_word section) (chains_lines cs last) ≡ false
-chains_begin Answer [] = refl
-chains_begin Answer (c ∷ cs) = refl
-chains_begin Authority [] = refl
-chains_begin Authority (c ∷ cs) = refl
-chains_begin Additional [] = refl
-chains_begin Additional (c ∷ cs) = refl
+trail_begins : (section : Section) (trail : Option (List StepView)) → starts (named (section_word section)) (trail_lines trail last) ≡ false
+trail_begins Answer None = refl
+trail_begins Answer (Some steps) = refl
+trail_begins Authority None = refl
+trail_begins Authority (Some steps) = refl
+trail_begins Additional None = refl
+trail_begins Additional (Some steps) = refl
 
-additionals_begin : (rs : List Rr) (cs : List ChainView) → begins (section_word Authority) (map (record_of Additional) rs ++ chains_lines cs last) ≡ false
-additionals_begin [] cs = chains_begin Authority cs
-additionals_begin (r ∷ rs) cs = refl
+trail_no_chain : (trail : Option (List StepView)) → starts (named (codes "chain")) (trail_lines trail last) ≡ false
+trail_no_chain None = refl
+trail_no_chain (Some steps) = refl
 
-others_begin : (qs rs : List Rr) (cs : List ChainView)
-    → begins (section_word Answer) (map (record_of Authority) qs ++ (map (record_of Additional) rs ++ chains_lines cs last)) ≡ false
-others_begin [] [] cs = chains_begin Answer cs
-others_begin [] (r ∷ rs) cs = refl
-others_begin (q ∷ qs) rs cs = refl
+chain_begins : (section : Section) (c : ChainView) (more : List Line) → starts (named (section_word section)) (chain_lines c more) ≡ false
+chain_begins Answer c more = refl
+chain_begins Authority c more = refl
+chain_begins Additional c more = refl
+
+later_begins : (section : Section) (v : View) → starts (named (section_word section)) (later_lines v) ≡ false
+later_begins section v =
+    blocks_start chain_lines (named (section_word section)) (chain_begins section) v.chains (trail_lines v.trail last) (trail_begins section v.trail)
+
+additionals_begin : (v : View) → starts (named (section_word Authority)) (section_lines Additional v.additionals (later_lines v)) ≡ false
+additionals_begin v =
+    blocks_start (single (record_of Additional)) (named (section_word Authority)) (λ r x. refl) v.additionals (later_lines v) (later_begins Authority v)
+
+others_begin : (v : View)
+    → starts (named (section_word Answer)) (section_lines Authority v.authorities (section_lines Additional v.additionals (later_lines v))) ≡ false
+others_begin v =
+    blocks_start (single (record_of Authority)) (named (section_word Answer)) (λ r x. refl) v.authorities (section_lines Additional v.additionals (later_lines v))
+    (blocks_start (single (record_of Additional)) (named (section_word Answer)) (λ r x. refl) v.additionals (later_lines v) (later_begins Answer v))
 
 -- ---- the whole
 
-view_same : (m n : ℕ) (d e : Denial) (a b c k l o : List Rr) (x y : List ChainView) → m ≡ n → d ≡ e → a ≡ b → c ≡ k → l ≡ o → x ≡ y
-    → ◌≡◌ {A = View} (record { code = m; denial = d; answers = a; authorities = c; additionals = l; chains = x })
-    (record { code = n; denial = e; answers = b; authorities = k; additionals = o; chains = y })
-view_same m n d e a b c k l o x y f g h i j p = rw (f, g, h, i, j, p) refl
+view_same : (m n : ℕ) (d e : Denial) (a b c k l o : List Rr) (x y : List ChainView) (s t : Option (List StepView))
+    → m ≡ n → d ≡ e → a ≡ b → c ≡ k → l ≡ o → x ≡ y → s ≡ t
+    → ◌≡◌ {A = View} (record { code = m; denial = d; answers = a; authorities = c; additionals = l; chains = x; trail = s })
+    (record { code = n; denial = e; answers = b; authorities = k; additionals = o; chains = y; trail = t })
+view_same m n d e a b c k l o x y s t f g h i j p q = rw (f, g, h, i, j, p, q) refl
 
 lines_tell : (v w : View) → fitting_view v ≡ true → fitting_view w ≡ true → lines_of v ≡ lines_of w → v ≡ w
 lines_tell v w first second h =
@@ -69,26 +91,26 @@ lines_tell v w first second h =
     let after_code = other_lines after_head in
     let denial_line : ◌≡◌ {A = Line} (codes "denial", denial_words v.denial) (codes "denial", denial_words w.denial) = first_line after_code in
     let denial : denial_words v.denial ≡ denial_words w.denial = ap (λ (l : Line). l.1) denial_line in
-    let answers = section_tells Answer v.answers w.answers
-    (map (record_of Authority) v.authorities ++ (map (record_of Additional) v.additionals ++ chains_lines v.chains last))
-    (map (record_of Authority) w.authorities ++ (map (record_of Additional) w.additionals ++ chains_lines w.chains last))
-    f.answers g.answers (others_begin v.authorities v.additionals v.chains) (others_begin w.authorities w.additionals w.chains) (other_lines after_code) in
-    let authorities = section_tells Authority v.authorities w.authorities
-    (map (record_of Additional) v.additionals ++ chains_lines v.chains last) (map (record_of Additional) w.additionals ++ chains_lines w.chains last)
-    f.authorities g.authorities (additionals_begin v.additionals v.chains) (additionals_begin w.additionals w.chains) answers.rest in
-    let additionals = section_tells Additional v.additionals w.additionals (chains_lines v.chains last) (chains_lines w.chains last)
-    f.additionals g.additionals (chains_begin Additional v.chains) (chains_begin Additional w.chains) authorities.rest in
-    view_same v.code w.code v.denial w.denial v.answers w.answers v.authorities w.authorities v.additionals w.additionals v.chains w.chains
-    (small_tells v.code w.code f.code g.code code) (denial_injective v.denial w.denial denial) answers.records authorities.records additionals.records
-    (chains_tell v.chains w.chains f.chains g.chains additionals.rest)
+    let answers = section_tells Answer v.answers w.answers (section_lines Authority v.authorities (section_lines Additional v.additionals (later_lines v)))
+    (section_lines Authority w.authorities (section_lines Additional w.additionals (later_lines w)))
+    f.answers g.answers (others_begin v) (others_begin w) (other_lines after_code) in
+    let authorities = section_tells Authority v.authorities w.authorities (section_lines Additional v.additionals (later_lines v))
+    (section_lines Additional w.additionals (later_lines w)) f.authorities g.authorities (additionals_begin v) (additionals_begin w) answers.rest in
+    let additionals = section_tells Additional v.additionals w.additionals (later_lines v) (later_lines w)
+    f.additionals g.additionals (later_begins Additional v) (later_begins Additional w) authorities.rest in
+    let chains = chains_tell v.chains w.chains (trail_lines v.trail last) (trail_lines w.trail last)
+    f.chains g.chains (trail_no_chain v.trail) (trail_no_chain w.trail) additionals.rest in
+    view_same v.code w.code v.denial w.denial v.answers w.answers v.authorities w.authorities v.additionals w.additionals v.chains w.chains v.trail w.trail
+    (small_tells v.code w.code f.code g.code code) (denial_injective v.denial w.denial denial) answers.value authorities.value additionals.value
+    chains.value (trail_tells v.trail w.trail last last f.trail g.trail refl refl chains.rest)
 
 lines_good : (v : View) → fitting_view v ≡ true → list_all is_line (lines_of v) ≡ true
 lines_good v h =
     let f = fitting v h in
-    let chains = chains_good v.chains f.chains in
-    let third = records_good Additional v.additionals (chains_lines v.chains last) f.additionals chains in
-    let second = records_good Authority v.authorities (map (record_of Additional) v.additionals ++ chains_lines v.chains last) f.authorities third in
-    let first = records_good Answer v.answers (map (record_of Authority) v.authorities ++ (map (record_of Additional) v.additionals ++ chains_lines v.chains last)) f.answers second in
+    let later = chains_good v.chains (trail_lines v.trail last) f.chains (trail_good v.trail last f.trail refl) in
+    let third = records_good Additional v.additionals (later_lines v) f.additionals later in
+    let second = records_good Authority v.authorities (section_lines Additional v.additionals (later_lines v)) f.authorities third in
+    let first = records_good Answer v.answers (section_lines Authority v.authorities (section_lines Additional v.additionals (later_lines v))) f.answers second in
     rw (small_good v.code f.code, denial_is_words v.denial) first
 
 -- two views with one text are one view

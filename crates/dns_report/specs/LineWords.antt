@@ -15,6 +15,11 @@ abbrev pub line_rest : Words → List ℕ
 line_rest [] = 10 ∷ []
 line_rest (word ∷ words) = 32 ∷ (word ++ line_rest words)
 
+-- words, a space before each
+abbrev pub spaced : Words → List ℕ
+spaced [] = []
+spaced (word ∷ words) = 32 ∷ (word ++ spaced words)
+
 -- a line
 abbrev pub line : List ℕ → Words → List ℕ
 line word words = word ++ line_rest words

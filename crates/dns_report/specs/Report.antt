@@ -1,4 +1,5 @@
--- The text of a report on an answer: its code, what it denies, its records with their marks, and the chains of its Secure sets.
+-- The text of a report on an answer: its code, what it denies, its records with their marks, the chains of its Secure sets, and its
+-- trail where that is asked for.
 use Rattle.std.specs.Prelude.{ℕ, List, [], ◌∷◌, ◌++◌, map, length, codes}
 use Rattle.std.specs.List.{flat_map}
 use Rattle.std.specs.Fmt.{decimal}
@@ -10,7 +11,9 @@ use Rattle.dns_model.specs.Records.{Rr}
 use Rattle.dns_model.specs.SoundAnswers.{ResponseValue}
 use Rattle.dns_record.specs.Words.{type_word, class_word}
 use Rattle.dns_words.specs.Words.{octets_word}
+use Rattle.dns_report.specs.declared.parts.Parts.{Parts}
 use Rattle.dns_report.specs.LineWords.{Words, line, mark_word, section_word, denial_words}
+use Rattle.dns_report.specs.TrailLines.{trail_text}
 use Rattle.dns_report.specs.View.{Numbered, Shown, Anchored, Matched, KeySet, Signed, ChainView, View, view_of}
 
 -- the first line names the form and its version
@@ -69,7 +72,8 @@ head_text code denial = header_line ++ code_line code ++ denial_line denial
 
 -- a report without its last line
 unfoldable pub view_body : View → List ℕ
-view_body v = head_text v.code v.denial ++ records_text v.answers v.authorities v.additionals ++ flat_map chain_text v.chains
+view_body v =
+    head_text v.code v.denial ++ records_text v.answers v.authorities v.additionals ++ flat_map chain_text v.chains ++ trail_text v.trail
 
 -- the last line
 abbrev pub end_line : List ℕ
@@ -79,6 +83,6 @@ end_line = line (codes "end") []
 unfoldable pub view_text : View → List ℕ
 view_text v = view_body v ++ end_line
 
--- the report on an answer is that of its view
-unfoldable pub report_text : ResponseValue → List ℕ
-report_text answer = view_text (view_of answer)
+-- the report on an answer, with the trail or without, is that of its view
+unfoldable pub report_text : Parts → ResponseValue → List ℕ
+report_text shows answer = view_text (view_of shows answer)

@@ -1,15 +1,20 @@
--- What a report shows of an answer: its code, what it denies, the records of its sections, and its chains. The message's other
--- fields aren't shown.
-use Rattle.std.specs.Prelude.{ℕ, Bool, ◌&&◌, nat_lt, ◌^◌, List, [], ◌∷◌, map, length}
+-- What a report shows of an answer: its code, what it denies, the records of its sections, its chains, and its trail where that is
+-- asked for. The message's other fields aren't shown.
+use Rattle.std.specs.Prelude.{ℕ, Bool, ◌&&◌, nat_lt, ◌^◌, List, [], ◌∷◌, map, length, Option, None, Some}
 use Rattle.std.specs.List.{list_all}
 use Rattle.dns_model.specs.Bytes.{is_bytes}
-use Rattle.dns_model.specs.Names.{Labels, is_name}
+use Rattle.dns_model.specs.Names.{Labels}
 use Rattle.dns_model.specs.declared.section.Section.{Section}
 use Rattle.dns_model.specs.declared.denial.Denial.{Denial}
 use Rattle.dns_model.specs.Records.{Rr}
 use Rattle.dns_model.specs.Chains as trust
 use Rattle.dns_model.specs.Chains.{Judge, justified}
+use Rattle.dns_model.specs.Trails.{AskedValue}
 use Rattle.dns_model.specs.SoundAnswers.{ChainValue, ResponseValue}
+use Rattle.dns_report.specs.declared.parts.Parts.{Parts}
+use Rattle.dns_report.specs.declared.parts.Parts.TheVariants as parts
+use Rattle.dns_report.specs.Fields.{fitting_name, is_u16, is_u32}
+use Rattle.dns_report.specs.TrailView.{StepView, step_view, fitting_trail}
 
 -- a key of a set, after the number of the link that shows it
 abbrev pub Numbered : Type 0
@@ -41,6 +46,11 @@ pub record ChainView : Type 0 where
 abbrev pub chain_view : ChainValue → ChainView
 chain_view chain = record { section = chain.section; links = map shown chain.links }
 
+-- the steps of a trail, where they are asked for
+abbrev pub trail_view : Parts → List AskedValue → Option (List StepView)
+trail_view parts.Answer trail = None
+trail_view parts.WithTrail trail = Some (map step_view trail)
+
 pub record View : Type 0 where
   pub code : ℕ
   pub denial : Denial
@@ -48,28 +58,21 @@ pub record View : Type 0 where
   pub authorities : List Rr
   pub additionals : List Rr
   pub chains : List ChainView
+  pub trail : Option (List StepView)
 
--- what a report shows of an answer
-abbrev pub view_of : ResponseValue → View
-view_of answer = record {
+-- what a report shows of an answer, with the trail or without
+abbrev pub view_of : Parts → ResponseValue → View
+view_of shows answer = record {
   code = answer.message.response_code;
   denial = answer.denial;
   answers = answer.message.answers;
   authorities = answer.message.authorities;
   additionals = answer.message.additionals;
   chains = map chain_view answer.chains;
+  trail = trail_view shows answer.trail;
 }
 
 -- ---- what can stand in an answer: names (RFC 1035, 3.1), bytes, and numbers of their fields' widths
-
-abbrev pub fitting_name : Labels → Bool
-fitting_name name = is_name name && list_all is_bytes name
-
-abbrev pub is_u16 : ℕ → Bool
-is_u16 n = nat_lt n (2 ^ 16)
-
-abbrev pub is_u32 : ℕ → Bool
-is_u32 n = nat_lt n (2 ^ 32)
 
 abbrev pub fitting_record : Rr → Bool
 fitting_record r = fitting_name r.owner && (is_u16 r.class && (is_u16 r.rtype && (is_u32 r.ttl && is_bytes r.rdata)))
@@ -90,7 +93,7 @@ fitting_chain chain = nat_lt (length chain.links) (2 ^ 64) && list_all fitting_l
 abbrev pub fitting_view : View → Bool
 fitting_view v =
     is_u16 v.code && (list_all fitting_record v.answers && (list_all fitting_record v.authorities && (list_all fitting_record v.additionals
-    && list_all fitting_chain v.chains)))
+    && (list_all fitting_chain v.chains && fitting_trail v.trail))))
 
 -- each chain is justified (RFC 4035, 5.2 and 5.3), so that each key of its key sets has the number of a link
 abbrev pub all_justified : Judge → List ChainValue → Bool

@@ -3,11 +3,15 @@
 #![tactic(auto)]
 
 mod fault;
+mod judged;
 mod link;
 mod marks;
+mod parts;
 mod record;
 mod report;
+mod trail;
 mod words;
 
 pub use fault::write_fault;
+pub use parts::Parts;
 pub use report::write_report;

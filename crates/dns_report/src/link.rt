@@ -8,7 +8,8 @@ ghost use Rattle.dns_record.specs.Words.{type_word, class_word};
 ghost use Rattle.dns_words.specs.Words.{octets_word};
 ghost use Rattle.dns_net.specs.Link.{link_value};
 ghost use Rattle.dns_report.specs.LineWords.{line, line_rest};
-ghost use Rattle.dns_report.specs.View.{KeySet, Matched, numbered, shown, chain_view, is_u16, is_u32, fitting_key, fitting_link, fitting_chain};
+ghost use Rattle.dns_report.specs.Fields.{is_u16, is_u32};
+ghost use Rattle.dns_report.specs.View.{KeySet, Matched, numbered, shown, chain_view, fitting_key, fitting_link, fitting_chain};
 ghost use Rattle.dns_report.specs.Report.{key_words, link_line, chain_line, chain_text};
 
 use crate::marks::section_word;

@@ -7,7 +7,8 @@ ghost use Rattle.dns_record.specs.Words.{type_word};
 ghost use Rattle.dns_words.specs.Words.{octets_word};
 ghost use Rattle.dns_report.specs.LineWords.{line_rest};
 ghost use Rattle.dns_report.specs.LineWords.{mark_word};
-ghost use Rattle.dns_report.specs.View.{is_u16, is_u32, fitting_record};
+ghost use Rattle.dns_report.specs.Fields.{is_u16, is_u32};
+ghost use Rattle.dns_report.specs.View.{fitting_record};
 ghost use Rattle.dns_report.specs.Report.{record_line, section_text};
 
 use crate::marks::section_word;

@@ -1,17 +1,22 @@
 //! The text of a report.
 ghost use Rattle.std.specs.Prelude.{◌≡◌, ◌++◌, OnOk, IfOk, IsTrue};
 ghost use Rattle.std.specs.List.{list_all};
-ghost use Rattle.dns_report.specs.View.{View, view_of, is_u16, fitting_record, fitting_view, all_justified};
+ghost use Rattle.dns_report.specs.Fields.{is_u16};
+ghost use Rattle.dns_report.specs.TrailView.{fitting_trail};
+ghost use Rattle.dns_report.specs.TrailLines.{trail_text};
+ghost use Rattle.dns_report.specs.View.{View, trail_view, view_of, fitting_record, fitting_view, all_justified};
 ghost use Rattle.dns_model.specs.Chains.{Judge};
 ghost use Rattle.dns_model.specs.SoundAnswers.{ResponseValue};
 ghost use Rattle.dns_report.specs.Report.{code_line, denial_line, head_text, records_text, view_body, view_text, report_text};
 
+use crate::Parts;
 use crate::link::push_chains;
 use crate::record::push_section;
-use crate::words::{end_line, push_mark, push_number, push_text, push_word};
+use crate::trail::push_trail;
+use crate::words::{end_line, push_denial_words, push_number, push_text};
 use dns_message::Message;
 use dns_name::NoMemory;
-use dns_net::DnsResponse;
+use dns_net::{DnsResponse, Trail};
 use dns_record::{Denial, ResponseCode, Section};
 use std::alloc::Global;
 
@@ -26,21 +31,12 @@ fn push_code(into: &mut Vec<u8>, code: ResponseCode) -> Result<(), NoMemory>
 }
 
 /// Appends the line of a denial.
+#[tactic(auto, using(crate::proofs::SpacedWords::rest_spaced))]
 fn push_denial(into: &mut Vec<u8>, denial: Denial) -> Result<(), NoMemory>
     ensures { OnOk result (into.new.items ≡ into.old.items ++ denial_line denial) }
 {
     push_text(into, b"denial")?;
-    match denial {
-        Denial::None => push_word(into, b"none")?,
-        Denial::Absent(mark) => {
-            push_word(into, b"absent")?;
-            push_mark(into, mark)?;
-        }
-        Denial::Expanded(mark) => {
-            push_word(into, b"expanded")?;
-            push_mark(into, mark)?;
-        }
-    }
+    push_denial_words(into, denial)?;
     end_line(into)
 }
 
@@ -68,32 +64,45 @@ fn push_head(into: &mut Vec<u8>, code: ResponseCode, denial: Denial) -> Result<(
     push_denial(into, denial)
 }
 
+/// Appends the lines of a trail, where it is asked for.
+fn push_shown_trail(into: &mut Vec<u8>, parts: Parts, trail: &Trail) -> Result<(), NoMemory>
+    ensures ok { OnOk result (into.new.items ≡ into.old.items ++ trail_text (trail_view parts trail.now)) }
+    ensures fits { OnOk result (IsTrue (fitting_trail (trail_view parts trail.now))) }
+{
+    match parts {
+        Parts::Answer => Ok(()),
+        Parts::WithTrail => push_trail(into, trail),
+    }
+}
+
 /// Appends the lines of a report but the last.
 #[tactic(auto, unfolding(crate::specs::Report::view_body))]
-fn push_body(into: &mut Vec<u8>, answer: &DnsResponse) -> Result<(), NoMemory>
-    ensures ok { OnOk result (into.new.items ≡ into.old.items ++ view_body (view_of answer.now)) }
-    ensures fits { OnOk result (IsTrue (fitting_view (view_of answer.now))) }
+fn push_body(into: &mut Vec<u8>, parts: Parts, answer: &DnsResponse) -> Result<(), NoMemory>
+    ensures ok { OnOk result (into.new.items ≡ into.old.items ++ view_body (view_of parts answer.now)) }
+    ensures fits { OnOk result (IsTrue (fitting_view (view_of parts answer.now))) }
 {
     push_head(into, answer.message.response_code, answer.denial)?;
     push_records(into, &answer.message)?;
-    push_chains(into, &answer.chains)
+    push_chains(into, &answer.chains)?;
+    push_shown_trail(into, parts, &answer.trail)
 }
 
-/// The report on an answer: its code, what it denies, each record with its mark, and the chains of its Secure sets. Names
-/// are printed in the case in which they came. The only error is want of memory.
+/// The report on an answer: its code, what it denies, each record with its mark, the chains of its Secure sets, and its trail
+/// where `parts` asks for it. Names are printed in the case in which they came. The only error is want of memory.
 ///
-/// The text tells what it shows: of all views with names, bytes and numbers that can stand in an answer, no other has it. Where
-/// all chains of two answers with one text are justified, the chains are the same too, whole.
+/// The text tells what it shows, and whether it shows the trail: of all views with names, bytes and numbers that can stand in an
+/// answer, no other has it. Where all chains of two answers with one text are justified, the chains are the same too, whole.
 #[tactic(auto, unfolding(crate::specs::Report::report_text, crate::specs::Report::view_text))]
-pub fn write_report(alloc: Global, answer: &DnsResponse) -> Result<Vec<u8>, NoMemory>
-    ensures text { IfOk result (λ v. v.items ≡ report_text answer.now) }
-    ensures fits { OnOk result (IsTrue (fitting_view (view_of answer.now))) }
-    ensures tells { IfOk result (λ v. (other : View) → IsTrue (fitting_view other) → view_text other ≡ v.items → other ≡ view_of answer.now) }
-    ensures chains { IfOk result (λ v. (other : ResponseValue) (j k : Judge) → IsTrue (fitting_view (view_of other)) → report_text other ≡ v.items
+pub fn write_report(alloc: Global, answer: &DnsResponse, parts: Parts) -> Result<Vec<u8>, NoMemory>
+    ensures text { IfOk result (λ v. v.items ≡ report_text parts answer.now) }
+    ensures fits { OnOk result (IsTrue (fitting_view (view_of parts answer.now))) }
+    ensures tells { IfOk result (λ v. (other : View) → IsTrue (fitting_view other) → view_text other ≡ v.items → other ≡ view_of parts answer.now) }
+    ensures chains { IfOk result (λ v. (other : ResponseValue) (j k : Judge) → IsTrue (fitting_view (view_of parts other))
+        → report_text parts other ≡ v.items
         → IsTrue (all_justified j other.chains) → IsTrue (all_justified k answer.now.chains) → other.chains ≡ answer.now.chains) }
 {
     let mut text = Vec::new(alloc);
-    push_body(&mut text, answer)?;
+    push_body(&mut text, parts, answer)?;
     push_text(&mut text, b"end\n")?;
     Ok(text)
 }

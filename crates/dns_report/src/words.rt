@@ -5,12 +5,12 @@ ghost use Rattle.dns_model.specs.Bytes.{is_bytes};
 ghost use Rattle.dns_model.specs.NameText.{printed};
 ghost use Rattle.dns_record.specs.Words.{type_word, class_word};
 ghost use Rattle.dns_words.specs.Words.{octets_word};
-ghost use Rattle.dns_report.specs.LineWords.{mark_word};
-ghost use Rattle.dns_report.specs.View.{fitting_name, is_u16};
+ghost use Rattle.dns_report.specs.LineWords.{mark_word, denial_words, spaced};
+ghost use Rattle.dns_report.specs.Fields.{fitting_name, is_u16};
 
 use crate::marks::mark_word;
 use dns_name::{Name, NameRef, NoMemory};
-use dns_record::{DNSClass, Proof, RecordType};
+use dns_record::{DNSClass, Denial, Proof, RecordType};
 use dns_words::{push_class, push_decimal, push_octets, push_type};
 
 /// Appends bytes as they are.
@@ -94,6 +94,23 @@ pub(crate) fn push_mark(into: &mut Vec<u8>, mark: Proof) -> Result<(), NoMemory>
     ensures { OnOk result (into.new.items ≡ into.old.items ++ (32 ∷ mark_word mark)) }
 {
     push_word(into, mark_word(mark))
+}
+
+/// Appends the words of what is denied.
+pub(crate) fn push_denial_words(into: &mut Vec<u8>, denial: Denial) -> Result<(), NoMemory>
+    ensures { OnOk result (into.new.items ≡ into.old.items ++ spaced (denial_words denial)) }
+{
+    match denial {
+        Denial::None => push_word(into, b"none"),
+        Denial::Absent(mark) => {
+            push_word(into, b"absent")?;
+            push_mark(into, mark)
+        }
+        Denial::Expanded(mark) => {
+            push_word(into, b"expanded")?;
+            push_mark(into, mark)
+        }
+    }
 }
 
 /// Appends the first words of a line that is about an owner.
