@@ -10,6 +10,8 @@ mod report_tests;
 #[cfg(test)]
 mod session_tests;
 #[cfg(test)]
+mod trail_tests;
+#[cfg(test)]
 mod version_tests;
 #[cfg(test)]
 mod words_tests;

@@ -30,7 +30,7 @@ fn key() -> &'static [u8] {
 }
 
 /// The message that bytes are, if there are few.
-fn message_of(alloc: Global, bytes: &[u8]) -> Option<Message> {
+pub(crate) fn message_of(alloc: Global, bytes: &[u8]) -> Option<Message> {
     if bytes.len() < 1000 {
         Message::from_vec(alloc, bytes).ok()
     } else {
@@ -67,7 +67,7 @@ fn reports(alloc: Global, bytes: &[u8], owner: &str, key: &[u8], text: &str) -> 
         denial: Denial::Absent(Proof::Bogus),
         trail: Trail::new(alloc),
     };
-    let written = write_report(alloc, &answer)?;
+    let written = write_report(alloc, &answer, Parts::Answer)?;
     Ok(written.as_slice() == text.as_bytes())
 }
 
