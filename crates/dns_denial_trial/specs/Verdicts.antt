@@ -1,0 +1,68 @@
+-- What responses prove of their questions by the NSEC records in their authority sections (RFC 4035, 5.3.4 and 5.4).
+use Rattle.std.specs.Prelude.{ℕ, nat_lt, List, [], ◌∷◌, ◌++◌, codes, Option, None, Some, Result, Ok, Err, if◌then◌else◌}
+use Rattle.std.specs.Option.{option_map}
+use Rattle.dns_model.specs.Names.{Labels, num_labels}
+use Rattle.dns_model.specs.Types.{type_rrsig, type_nsec}
+use Rattle.dns_model.specs.Records.{Rr, Question, MessageValue}
+use Rattle.dns_model.specs.Views.{RrsigValue, rrsig_in, nsec_in}
+use Rattle.dns_model.specs.Owned.{OwnedNsec}
+use Rattle.dns_model.specs.declared.proof.Proof.{Proof}
+use Rattle.dns_model.specs.declared.proof.Proof.TheVariants.{Secure, Insecure, Bogus, Indeterminate}
+use Rattle.dns_message.specs.declared.decode_error.DecodeError.{DecodeError}
+use Rattle.dns_rdata.specs.ReadAs.{read_as}
+use Rattle.dns_denial.specs.declared.answered.Answered.{Answered}
+use Rattle.dns_denial.specs.declared.answered.Answered.TheVariants.{No, Plain, Expanded}
+use Rattle.dns_denial.specs.NsecVerdict.{nsec_verdict}
+use Rattle.dns_session.specs.SessionValue.{ReplyValue}
+
+-- a signature with fewer labels than the name shows that the answer comes of a wildcard
+abbrev pub answered_by_signature : Labels → Option RrsigValue → Answered
+answered_by_signature name None = Plain
+answered_by_signature name (Some sig) = if nat_lt sig.labels (num_labels name) then Expanded sig.labels else Plain
+
+abbrev pub signed_for : Labels → Rr → Answered
+signed_for name record_ = answered_by_signature name (read_as type_rrsig rrsig_in record_)
+
+-- how an answer section answers for the name, by its first record
+abbrev pub answered_by : Labels → List Rr → Answered
+answered_by name [] = No
+answered_by name (first ∷ answers) = signed_for name first
+
+-- what a record says as an NSEC, with its owner
+abbrev pub owned_nsec : Rr → Option OwnedNsec
+owned_nsec record_ = option_map (λ t. record { owner = record_.owner; text = t }) (read_as type_nsec nsec_in record_)
+
+abbrev pub with_one : List OwnedNsec → Option OwnedNsec → List OwnedNsec
+with_one nsecs None = nsecs
+with_one nsecs (Some nsec) = nsecs ++ nsec ∷ []
+
+-- the NSEC records found so far, and what the record says, if it is one
+abbrev pub with_nsec : List OwnedNsec → Rr → List OwnedNsec
+with_nsec nsecs record_ = with_one nsecs (owned_nsec record_)
+
+-- the NSEC records found so far, and those of a section
+unfoldable pub with_nsecs : List OwnedNsec → List Rr → List OwnedNsec
+with_nsecs nsecs [] = nsecs
+with_nsecs nsecs (record_ ∷ section) = with_nsecs (with_nsec nsecs record_) section
+
+-- what a message proves of a question in a zone
+abbrev pub message_proof : Labels → Question → Result MessageValue DecodeError → Proof
+message_proof zone question (Ok message) =
+    nsec_verdict question zone message.response_code (answered_by question.owner message.answers) (with_nsecs [] message.authorities)
+-- bytes that are none prove nothing
+message_proof zone question (Err error) = Bogus
+
+abbrev pub reply_proof : Labels → ReplyValue → Proof
+reply_proof zone reply = message_proof zone reply.question reply.message
+
+-- the line of a verdict on NSEC records
+abbrev pub proof_line : Proof → List ℕ
+proof_line Secure = codes "Secure\n"
+proof_line Insecure = codes "Bogus\n"
+proof_line Bogus = codes "Bogus\n"
+proof_line Indeterminate = codes "Bogus\n"
+
+-- the text so far, and a line for each reply
+unfoldable pub with_lines : Labels → List ℕ → List ReplyValue → List ℕ
+with_lines zone text [] = text
+with_lines zone text (reply ∷ replies) = with_lines zone (text ++ proof_line (reply_proof zone reply)) replies

@@ -1,0 +1,81 @@
+//! The program over any source and any sink.
+ghost use Rattle.std.specs.Prelude.{◌≡◌, ◌≢◌, ◌<◌, ◌≤◌, length, IfOk, IfSome};
+ghost use Rattle.std.specs.Io.KnownBytes.{Appends};
+ghost use Rattle.dns_model.specs.Counts.{Rose};
+ghost use Rattle.dns_io.specs.Reading.{input_limit, IsEnded};
+ghost use Rattle.dns_session.specs.Grammar.{session_of};
+ghost use Rattle.dns_denial_trial.specs.Endings.{bad_line_text as bad_line, ending_of, EndsAs};
+
+use crate::verdicts::session_lines;
+use dns_io::{ReadStop, Sink, SinkFault, Source, read_all, write_all};
+use dns_name::NoMemory;
+use dns_session::{SessionStop, read_session};
+use dns_words::push_decimal;
+use std::alloc::Global;
+
+/// The line that names the first bad line of a session.
+fn bad_line_text(alloc: Global, number: u64) -> Result<Vec<u8>, NoMemory>
+    ensures { IfOk result (λ text. text.items ≡ bad_line number) }
+{
+    let mut text = Vec::from_slice(alloc, b"bad line ")?;
+    push_decimal(&mut text, number)?;
+    text.push(b'\n')?;
+    Ok(text)
+}
+
+/// The status and the text that bytes come to.
+fn ending(alloc: Global, bytes: &[u8]) -> Result<(u8, Vec<u8>), NoMemory>
+    requires { length bytes.now ≤ input_limit }
+    ensures value { IfOk result (λ x. (x.0, x.1.items) ≡ ending_of (session_of bytes.now)) }
+    ensures status { IfOk result (λ x. x.0 < 4) }
+{
+    match read_session(alloc, bytes) {
+        Ok(session) => {
+            let text = session_lines(alloc, &session)?;
+            Ok((0, text))
+        }
+        Err(SessionStop::BadLine(number)) => {
+            let text = bad_line_text(alloc, number)?;
+            Ok((3, text))
+        }
+        Err(SessionStop::NoMemory) => Err(NoMemory),
+    }
+}
+
+/// Writes what bytes come to.
+fn answer<W: Sink>(alloc: Global, bytes: &[u8], output: &mut W) -> u8
+    requires { length bytes.now ≤ input_limit }
+    ensures ends { result < 4 → EndsAs (session_of bytes.now) result (W.taken output.old) (W.taken output.new) }
+    ensures read { result ≢ 4 }
+    ensures sink { result ≡ 5 → Rose (W.faults output.old) (W.faults output.new) }
+    ensures most { result ≤ 6 }
+{
+    match ending(alloc, bytes) {
+        Ok((status, text)) => match write_all(output, &text) {
+            Ok(()) => status,
+            Err(SinkFault::Failed) => 5,
+            Err(SinkFault::NoMemory) => 6,
+        },
+        Err(NoMemory) => 6,
+    }
+}
+
+/// Runs the program, and answers its status.
+///
+/// 0: there is a line for each reply. 3: the input is no session; its first bad line is named. 4: a read failed. 5: a write
+/// failed. 6: memory ran out. 7: the input has more than 16,777,216 bytes.
+pub(crate) fn run<S: Source, W: Sink>(alloc: Global, input: &mut S, output: &mut W) -> u8
+    ensures ends { result < 4 → IfSome (S.left input.old) (λ bytes. EndsAs (session_of bytes) result (W.taken output.old) (W.taken output.new)) }
+    ensures ended { result < 4 → IsEnded (S.left input.old) (S.left input.new) }
+    ensures source { result ≡ 4 → Rose (S.faults input.old) (S.faults input.new) }
+    ensures sink { result ≡ 5 → Rose (W.faults output.old) (W.faults output.new) }
+    ensures long { result ≡ 7 → IfSome (S.left input.old) (λ bytes. input_limit < length bytes) }
+    ensures most { result ≤ 7 }
+{
+    match read_all(alloc, input) {
+        Ok(bytes) => answer(alloc, &bytes, output),
+        Err(ReadStop::Failed) => 4,
+        Err(ReadStop::TooLong) => 7,
+        Err(ReadStop::NoMemory) => 6,
+    }
+}
