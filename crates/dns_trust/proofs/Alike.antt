@@ -1,12 +1,11 @@
 -- Equal anchors, and equal signatures, have equal numbers.
-use Rattle.std.proofs.Common.{◌≡◌, ℕ, ◌+◌, Bool, true, false, ◌&&◌, ◌||◌, List, [], ◌∷◌, ◌++◌, map, length, refl, sym, ap, ◌∙◌, arith}
-use Rattle.std.specs.Prelude.{◌==◌, if◌then◌else◌}
-use Rattle.std.specs.List.{list_any}
+use Rattle.std.proofs.Common.{◌≡◌, ℕ, true, ◌&&◌, List, [], ◌∷◌, ◌++◌, map, length, refl, sym, ap, ◌∙◌}
+use Rattle.std.specs.Prelude.{◌==◌}
 use Rattle.std.specs.Char.{to_ascii_lowercase}
 use Rattle.std.proofs.lemmas.Bool.{and_parts, eqb-true}
 use Rattle.std.proofs.lemmas.List.{map-append, length-map}
 use Rattle.std.proofs.lemmas.Slice.Eq.{bytes_eq-Decides}
-use Rattle.dns_model.specs.Names.{Label, Labels, lowered, folded, name_eq, wire}
+use Rattle.dns_model.specs.Names.{Labels, folded, name_eq, wire}
 use Rattle.dns_model.specs.Keys.{AnchorValue, bytes_eq, is_anchor}
 use Rattle.dns_model.proofs.NameLemmas.{name_eq-Decides}
 use Rattle.dns_trust.specs.Finding.{mixed}

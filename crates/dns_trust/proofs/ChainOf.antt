@@ -1,7 +1,7 @@
 -- The chain of the first verdict that proves a set, and the numbers of keys.
 use Rattle.std.proofs.Common.{◌≡◌, ℕ, ◌+◌, ◌<◌, List, [], ◌∷◌, ◌++◌, length, drop, refl, sym, ap, ◌∙◌, append_assoc}
 use Rattle.std.proofs.lemmas.List.{drop_more, map-append}
-use Rattle.std.specs.Prelude.{map, slice_index_or}
+use Rattle.std.specs.Prelude.{map}
 use Rattle.dns_model.specs.Chains.{LinkValue}
 use Rattle.dns_judgement.specs.Chained.{ChainedVerdict, chain_if_proved, proved_chain, numbers_from}
 

@@ -1,9 +1,9 @@
 -- Which keys of a zone are tried, as the tags are counted.
-use Rattle.std.proofs.Common.{◌≡◌, ℕ, zero, suc, ◌+◌, ◌<◌, ◌≤◌, Bool, true, false, ◌&&◌, ◌||◌, cond, List, [], ◌∷◌, ◌++◌, length, take, drop, refl, sym, ap, ◌∙◌, arith, zero-add}
-use Rattle.std.specs.Prelude.{nat_lt, ◌==◌, min, Option, None, Some, slice_index_or}
+use Rattle.std.proofs.Common.{◌≡◌, ℕ, ◌+◌, ◌<◌, ◌≤◌, Bool, true, false, ◌&&◌, ◌||◌, cond, List, [], ◌∷◌, ◌++◌, length, take, drop, refl, sym, ap, ◌∙◌, arith, zero-add}
+use Rattle.std.specs.Prelude.{nat_lt, ◌==◌, min, None, Some, slice_index_or}
 use Rattle.std.specs.List.{filter, find, count_by, list_any}
 use Rattle.std.specs.Ordering.{nat_cmp}
-use Rattle.std.specs.BTreeMap.{BTreeMap, is_at, get, Updates}
+use Rattle.std.specs.BTreeMap.{BTreeMap, is_at, Updates}
 use Rattle.std.proofs.lemmas.Bool.Decides.{nat_tests}
 use Rattle.std.proofs.lemmas.List.{drop_more, drop_all, append-nil}
 use Rattle.std.proofs.lemmas.List.Elements.{filter_more}
@@ -12,7 +12,7 @@ use Rattle.std.proofs.lemmas.Grind.{common_steps}
 use Rattle.dns_model.specs.Names.{Labels}
 use Rattle.dns_model.specs.Records.{Rr}
 use Rattle.dns_model.specs.Signing.{key_tag_of}
-use Rattle.dns_judgement.specs.Marks.{is_key_of, same_tag, first_two, counted_keys, by_insecure_key, Excused, Failed}
+use Rattle.dns_judgement.specs.Marks.{is_key_of, same_tag, counted_keys, by_insecure_key, Excused, Failed}
 use Rattle.dns_judgement.proofs.FirstLemmas.{early_after, first_two-after}
 use Rattle.dns_trust.specs.Counting.{count_in, tag_count_after, count_after, is_tried}
 

@@ -1,11 +1,11 @@
 -- Searches that go on among the elements that are left.
-use Rattle.std.proofs.Common.{◌≡◌, ℕ, ◌+◌, ◌<◌, ◌≤◌, Bool, true, false, cond, List, [], ◌∷◌, ◌++◌, length, map, drop, refl, sym, ap, ◌∙◌}
+use Rattle.std.proofs.Common.{◌≡◌, ℕ, ◌+◌, ◌<◌, ◌≤◌, Bool, true, false, cond, List, [], ◌∷◌, length, map, drop, refl, sym, ap, ◌∙◌}
 use Rattle.std.proofs.lemmas.List.{drop_more, drop_all, length-map}
-use Rattle.std.specs.Prelude.{Option, None, Some, slice_index_or, nat_lt, not}
-use Rattle.std.specs.List.{find, position, prefix_len, position_or_len}
+use Rattle.std.specs.Prelude.{None, Some, slice_index_or, not}
+use Rattle.std.specs.List.{find, position, prefix_len}
 use Rattle.dns_model.specs.Records.{Rr, RrSet}
 use Rattle.dns_model.specs.Chains.{Judge}
-use Rattle.dns_judgement.specs.Marks.{SignedKeys, anchored_signer}
+use Rattle.dns_judgement.specs.Marks.{anchored_signer}
 use Rattle.dns_judgement.proofs.FirstLemmas.{signed_from, signed_or, signed_none, signed_more}
 
 -- the element at the place is the one

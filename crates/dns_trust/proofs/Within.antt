@@ -1,5 +1,5 @@
 -- Lists that hold the same are verifiers that answer the same.
-use Rattle.std.proofs.Common.{◌≡◌, ℕ, ◌<◌, Bool, true, false, ◌&&◌, ◌||◌, List, length, refl, sym, ap, ◌∙◌}
+use Rattle.std.proofs.Common.{◌≡◌, ℕ, Bool, true, false, ◌&&◌, ◌||◌, List, refl, sym, ap, ◌∙◌}
 use Rattle.std.specs.Prelude.{◌==◌, not, slice_index_or}
 use Rattle.std.specs.Bool.{Decides}
 use Rattle.std.specs.List.{list_all, list_any}
@@ -9,7 +9,7 @@ use Rattle.std.proofs.lemmas.List.Folds.{Any-from_list_any, list_any_at}
 use Rattle.std.proofs.lemmas.List.Sums.{AllPass-from_list_all, list_all-from_AllPass}
 use Rattle.std.proofs.lemmas.Slice.Eq.{bytes_eq-Decides}
 use Rattle.std.specs.Cmp.Derive.{both_true}
-use Rattle.dns_model.specs.Keys.{VerifierAnswers, bytes_eq}
+use Rattle.dns_model.specs.Keys.{bytes_eq}
 use Rattle.dns_net.specs.Verifiers.{AnswerAlike}
 use Rattle.dns_trust.specs.Listing.{ListedSignatureValue, ListedValue, answers_of, holds_entry, is_entry, is_listed, is_within}
 use Rattle.dns_trust.proofs.Found.{same_test}

@@ -1,5 +1,5 @@
 -- Trust anchors as a set, and the number by which one is found.
-use Rattle.std.specs.Prelude.{ℕ, ◌≡◌, Bool, ◌||◌, List, [], ◌∷◌, ◌++◌, map, if◌then◌else◌}
+use Rattle.std.specs.Prelude.{ℕ, ◌≡◌, ◌||◌, List, [], ◌∷◌, ◌++◌, map, if◌then◌else◌}
 use Rattle.std.specs.Char.{to_ascii_lowercase}
 use Rattle.dns_model.specs.Names.{Labels, wire}
 use Rattle.dns_model.specs.Keys.{AnchorValue, is_anchor, holds_anchor}

@@ -1,5 +1,5 @@
 -- What a list of accepted signatures supports and accepts.
-use Rattle.std.specs.Prelude.{ℕ, Bool, true, false, not, ◌==◌, ◌&&◌, ◌||◌, List, [], ◌∷◌, ◌++◌, if◌then◌else◌}
+use Rattle.std.specs.Prelude.{ℕ, Bool, not, ◌==◌, ◌&&◌, ◌||◌, List, [], ◌∷◌, ◌++◌, if◌then◌else◌}
 use Rattle.std.specs.List.{list_all, list_any}
 use Rattle.dns_model.specs.Keys.{VerifierAnswers, bytes_eq}
 use Rattle.dns_trust.specs.Finding.{mixed}

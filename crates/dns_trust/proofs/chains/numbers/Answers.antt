@@ -1,6 +1,4 @@
-use Rattle.std.proofs.Common.{◌≡◌, ◌+◌, List, [], ◌∷◌, ◌++◌, drop, ◌∙◌, rules}
-use Rattle.std.proofs.lemmas.Grind.{common_steps}
-use Rattle.dns_judgement.specs.Chained.{numbers_from}
+use Rattle.std.proofs.Common.{◌≡◌, ◌∙◌, rules}
 use Rattle.dns_trust.proofs.ChainOf.{numbers_more}
 use Rattle.dns_trust.proofs.chains.numbers.Goals as goal
 

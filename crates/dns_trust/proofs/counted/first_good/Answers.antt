@@ -1,6 +1,4 @@
-use Rattle.std.proofs.Common.{◌≡◌, ◌∙◌, sym, true, false}
-use Rattle.dns_judgement.specs.Validity.{is_good_by}
-use Rattle.dns_trust.specs.Counting.{is_tried}
+use Rattle.std.proofs.Common.{◌∙◌, sym}
 use Rattle.dns_trust.proofs.Counts.{none_tried, tried_skip, tried_fail, tried_here, tried_end}
 use Rattle.dns_trust.proofs.counted.first_good.Goals as goal
 

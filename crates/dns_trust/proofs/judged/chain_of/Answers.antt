@@ -1,4 +1,4 @@
-use Rattle.std.proofs.Common.{◌≡◌, List, [], ◌∷◌, ◌++◌, map, ap, ◌∙◌, sym, refl}
+use Rattle.std.proofs.Common.{◌≡◌, List, [], ◌∷◌, map, ap, ◌∙◌, sym, refl}
 use Rattle.dns_model.specs.Chains.{LinkValue}
 use Rattle.dns_net.specs.Link.{link_value}
 use Rattle.dns_trust.specs.declared.verdict.Verdict.{Verdict}

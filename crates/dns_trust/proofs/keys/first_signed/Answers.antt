@@ -1,4 +1,4 @@
-use Rattle.std.proofs.Common.{◌≡◌, ap, ◌∙◌, sym}
+use Rattle.std.proofs.Common.{ap, ◌∙◌, sym}
 use Rattle.std.specs.Option.{option_copied}
 use Rattle.dns_judgement.specs.Marks.{first_signed}
 use Rattle.dns_judgement.proofs.FirstLemmas.{first_signed-from}

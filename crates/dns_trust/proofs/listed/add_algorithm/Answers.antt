@@ -1,4 +1,4 @@
-use Rattle.std.proofs.Common.{◌≡◌, ◌<◌, subst, sym, arith}
+use Rattle.std.proofs.Common.{subst, sym, arith}
 use Rattle.dns_trust.specs.ByteSets.{IsByteSet}
 use Rattle.dns_trust.proofs.ByteSets.{one_number, room}
 use Rattle.dns_trust.proofs.listed.add_algorithm.Goals as goal

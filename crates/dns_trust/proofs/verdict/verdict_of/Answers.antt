@@ -1,6 +1,5 @@
 use Rattle.std.proofs.Common.{rules, ◌≡◌, true, false, None, Some, IfOk, sym, ap, ◌∙◌, subst}
 use Rattle.std.specs.List.{find}
-use Rattle.dns_model.specs.RecordViews.{rrsig_of}
 use Rattle.dns_judgement.specs.Marks.{is_key_set_of}
 use Rattle.dns_judgement.specs.Chained.{Chained, chained_verdict}
 use Rattle.dns_trust.specs.Judge.{judge_of}

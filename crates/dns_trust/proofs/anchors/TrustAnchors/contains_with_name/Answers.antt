@@ -1,4 +1,3 @@
-use Rattle.std.proofs.Common.{◌≡◌}
 use Rattle.dns_model.specs.Keys.{is_anchor}
 use Rattle.dns_trust.specs.Anchoring.{anchor_number, number_of_anchor}
 use Rattle.dns_trust.proofs.Found.{found}

@@ -1,4 +1,3 @@
-use Rattle.std.proofs.Common.{◌≡◌}
 use Rattle.dns_trust.specs.Listing.{entry_number, is_entry, signature_number}
 use Rattle.dns_trust.proofs.Found.{found}
 use Rattle.dns_trust.proofs.Alike.{entry_alike}

@@ -1,4 +1,4 @@
-use Rattle.std.proofs.Common.{◌≡◌, subst, sym}
+use Rattle.std.proofs.Common.{subst, sym}
 use Rattle.dns_trust.specs.Finding.{Covers}
 use Rattle.dns_trust.specs.Listing.{entry_number}
 use Rattle.dns_trust.proofs.ByteSets.{no_numbers}

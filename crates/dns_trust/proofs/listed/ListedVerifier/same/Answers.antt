@@ -1,4 +1,4 @@
-use Rattle.std.proofs.Common.{◌≡◌, ◌∙◌, sym}
+use Rattle.std.proofs.Common.{◌∙◌, sym}
 use Rattle.dns_trust.proofs.Within.{same_decides}
 use Rattle.dns_trust.proofs.listed.ListedVerifier.same.Goals as goal
 
