@@ -18,7 +18,9 @@ use Rattle.dns_judgement.specs.Marks.{Verdict, is_proved, is_skipped, verdict_of
 use Rattle.dns_judgement.specs.Marks as marks
 use Rattle.dns_judgement.specs.Asking.{judged_part, ask_of}
 use Rattle.dns_judgement.specs.Outcome.{outcome_of, foreign_record}
-use Rattle.dns_judgement.specs.Derivation.{Grounds, with_entries, finished_answer, is_ask, is_ask_for, verdicts_after, verdicts_asked, verdicts_by, has_mark_of, is_empty, is_by_origin, entry_holds, entries_hold, judged_holds, step_holds_by, step_holds, asks_of}
+use Rattle.dns_judgement.specs.Derivation.{Grounds, with_entries, finished_answer, is_ask, verdicts_after, verdicts_asked, verdicts_by, has_mark_of, is_empty, is_by_origin, entry_holds, entries_hold, step_holds, asks_of}
+use Rattle.dns_judgement.specs.DerivationParts.{judged_holds}
+use Rattle.dns_judgement.specs.DerivationParts.{is_ask_for, step_holds_by}
 use Rattle.dns_judgement.specs.DerivationParts.{is_judged_ask, after_verdict, if_last, is_by_verdicts, repeats_step, is_foreign, is_failed, is_seen, is_ending, is_bare, grounds_of, asks_of_sets}
 use Rattle.dns_judgement.proofs.ExtendLemmas.{some_after}
 

@@ -17,7 +17,8 @@ use Rattle.dns_judgement.specs.Judged.{Judged}
 use Rattle.dns_judgement.specs.Marks.{Verdict, is_proved, is_skipped, verdict_of, judged_by, judged_keys, most_signatures}
 use Rattle.dns_judgement.specs.Marks as marks
 use Rattle.dns_judgement.specs.Asking.{ask_of}
-use Rattle.dns_judgement.specs.Derivation.{Grounds, with_entries, finished_answer, is_ask, is_ask_for, verdicts_after, verdicts_asked, verdicts_by, proof_eq, has_mark_of, is_empty, is_by_origin, entry_holds, entries_hold}
+use Rattle.dns_judgement.specs.Derivation.{Grounds, with_entries, finished_answer, is_ask, verdicts_after, verdicts_asked, verdicts_by, proof_eq, has_mark_of, is_empty, is_by_origin, entry_holds, entries_hold}
+use Rattle.dns_judgement.specs.DerivationParts.{is_ask_for}
 use Rattle.dns_judgement.specs.DerivationParts.{with_entry, answer_of, is_judged_ask, after_verdict, if_last, place_eq, is_by_verdicts, repeats_step}
 
 -- ---- an earlier step

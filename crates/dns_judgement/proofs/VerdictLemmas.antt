@@ -6,7 +6,8 @@ use Rattle.dns_model.specs.Trails.{AskedValue}
 use Rattle.dns_judgement.specs.Marks.{Verdict, is_proved, is_skipped, verdict_of}
 use Rattle.dns_judgement.specs.Marks as marks
 use Rattle.dns_judgement.specs.Asking.{ask_of}
-use Rattle.dns_judgement.specs.Derivation.{Grounds, finished_answer, is_ask_for, verdicts_after, verdicts_asked, verdicts_by}
+use Rattle.dns_judgement.specs.Derivation.{Grounds, finished_answer, verdicts_after, verdicts_asked, verdicts_by}
+use Rattle.dns_judgement.specs.DerivationParts.{is_ask_for}
 use Rattle.dns_judgement.specs.DerivationParts.{after_verdict, if_last}
 use Rattle.dns_judgement.proofs.ExtendLemmas.{later_grounds, ask_for_stays}
 

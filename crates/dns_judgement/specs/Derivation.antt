@@ -79,19 +79,16 @@ is_ask limit earlier depth q (Step n) =
 is_ask limit earlier depth q TooDeep = nat_lt limit depth
 is_ask limit earlier depth q TooMany = nat_le depth limit
 
--- the ask of a signature is one deeper than its step
-abbrev pub is_ask_for : Grounds → Option Question → AskRef → Bool
-is_ask_for g question ask = option_map_or (λ q. is_ask g.limit g.earlier (g.depth + 1) q ask) question false
-
 -- the verdict of a signature whose ask came first, and those of the rest; nothing more is asked where it proves the set
 abbrev pub verdicts_after : Verdict → List AskRef → (List AskRef → Option (List Verdict)) → Option (List Verdict)
 verdicts_after v asks rest =
     if is_proved v then (if is_empty asks then Some (v ∷ []) else None) else option_map (λ vs. v ∷ vs) (rest asks)
 
+-- the verdicts of signatures of which the first asks, one deeper than its step, and the rest may
 abbrev pub verdicts_asked : Grounds → RrSet → Rr → List AskRef → (List AskRef → Option (List Verdict)) → Option (List Verdict)
 verdicts_asked g set r [] rest = None
 verdicts_asked g set r (ask ∷ asks) rest =
-    if is_ask_for g (ask_of set r) ask
+    if option_map_or (λ q. is_ask g.limit g.earlier (g.depth + 1) q ask) (ask_of set r) false
     then verdicts_after (verdict_of g.judge set r (finished_answer g.earlier ask)) asks rest
     else None
 
@@ -220,23 +217,22 @@ ending_by (outcome.Denied proof) = Denied proof
 abbrev pub ends_bare : EndingValue → AskedValue → Bool
 ends_bare ending step = ending_eq ending step.ending && (is_empty step.sets && is_empty step.excuse)
 
--- a judged step, by its first record of another class
-abbrev pub judged_holds : Grounds → AskedValue → Told → Option Rr → Bool
-judged_holds g step told (Some r) = ends_bare (Foreign r.owner r.class r.rtype) step
-judged_holds g step told None =
-    entries_hold g (judged_part step.depth told) step.sets
+-- a step that heard these records: a judged one ends with the first record of another class, or has its sets judged and the ending
+-- that they make
+abbrev pub heard_holds : Grounds → AskedValue → Told → Bool
+heard_holds g step told =
+    if step.judged
+    then option_map_or (λ r. ends_bare (Foreign r.owner r.class r.rtype) step) (foreign_record step.query told)
+    (entries_hold g (judged_part step.depth told) step.sets
     && (ending_eq (ending_by (outcome_of step.query told (with_entries (judged_part step.depth told) step.sets))) step.ending
-    && is_empty step.excuse)
+    && is_empty step.excuse))
+    else ends_bare Seen step
 
-abbrev pub step_holds_by : Grounds → AskedValue → HeardValue → Bool
-step_holds_by g step Fault = ends_bare Failed step
-step_holds_by g step (Records told empty) =
-    if step.judged then judged_holds g step told (foreign_record step.query told) else ends_bare Seen step
-
--- the lines of a step follow from what it heard and from the steps before it
+-- the lines of a step follow from what it heard, which may be a fault, and from the steps before it
 unfoldable pub step_holds : Judge → ℕ → List AskedValue → AskedValue → Bool
 step_holds j limit earlier step =
-    step_holds_by (record { judge = j; limit = limit; earlier = earlier; query = step.query; depth = step.depth }) step step.reply
+    option_map_or (heard_holds (record { judge = j; limit = limit; earlier = earlier; query = step.query; depth = step.depth }) step)
+    (told_in step.reply) (ends_bare Failed step)
 
 -- and those of each step
 unfoldable pub steps_hold : Judge → ℕ → List AskedValue → List AskedValue → Bool
@@ -272,19 +268,17 @@ send_order trail = order_step (length trail) trail (length trail - 1) []
 abbrev pub in_send_order : List AskedValue → List AskedValue
 in_send_order trail = filter_map (slice_get trail) (unwrap_or (send_order trail) [])
 
--- each of n steps has one place in the order: one ask names it, and none the last step
-abbrev pub is_each_once : ℕ → List ℕ → Bool
-is_each_once n order = list_all (λ k. count_by (λ m. k == m) order == 1) (range_with_len 0 n)
-
 -- ---- the whole
 
 -- the last step of a trail
 abbrev pub top_step : List AskedValue → Option AskedValue
 top_step trail = slice_get trail (length trail - 1)
 
--- a trail whose steps are sent in one order from the last one on, which is judged at depth 0, and whose every step follows
+-- a trail whose steps are sent in one order from the last one on, which is judged at depth 0, and whose every step follows. In that
+-- order each step has one place: one ask names it, and none the last step
 unfoldable pub derivation : Judge → ℕ → List AskedValue → Bool
 derivation j depth trail =
     nat_le (length trail) most_sends
     && (option_map_or (λ top. top.judged && (top.depth == 0)) (top_step trail) false
-    && (option_map_or (is_each_once (length trail)) (send_order trail) false && steps_hold j (depth_limit depth) [] trail))
+    && (option_map_or (λ order. list_all (λ k. count_by (λ m. k == m) order == 1) (range_with_len 0 (length trail))) (send_order trail) false
+    && steps_hold j (depth_limit depth) [] trail))

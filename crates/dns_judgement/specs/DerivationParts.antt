@@ -1,16 +1,17 @@
 -- For private functions and for proofs only: parts of the definition of a derivation, by names of their own.
-use Rattle.std.specs.Prelude.{ℕ, Bool, false, ◌==◌, ◌&&◌, nat_eq, List, [], ◌∷◌, Option, None, Some, unwrap_or, slice_get, if◌then◌else◌}
+use Rattle.std.specs.Prelude.{ℕ, ◌+◌, Bool, false, ◌==◌, ◌&&◌, nat_eq, List, [], ◌∷◌, Option, None, Some, unwrap_or, slice_get, if◌then◌else◌}
 use Rattle.std.specs.Option.{option_map, option_map_or, option_and_then, option_eq}
-use Rattle.std.specs.List.{filter_map, flat_map, list_any}
+use Rattle.std.specs.List.{filter_map, flat_map, list_any, list_all, count_by, range_with_len}
 use Rattle.dns_model.specs.declared.trail.AskRef.{AskRef}
 use Rattle.dns_model.specs.Records.{Rr, Question, question_eq}
 use Rattle.dns_model.specs.Chains.{Judge}
-use Rattle.dns_model.specs.Trails.{AskedValue, JudgedSetValue, EndingValue, Foreign, Failed, Seen}
-use Rattle.dns_model.specs.SoundAnswers.{Placed}
+use Rattle.dns_model.specs.Trails.{AskedValue, JudgedSetValue, HeardValue, EndingValue, Foreign, Failed, Seen}
+use Rattle.dns_model.specs.SoundAnswers.{Told, Placed}
+use Rattle.dns_judgement.specs.Asking.{judged_part}
 use Rattle.dns_judgement.specs.Judged.{Judged}
 use Rattle.dns_judgement.specs.Marks.{Verdict, judged_by}
-use Rattle.dns_judgement.specs.Outcome.{Outcome}
-use Rattle.dns_judgement.specs.Derivation.{Grounds, is_empty, has_mark_of, is_repeat, judged_sets, if_answered, ending_eq, ending_by, is_each_once}
+use Rattle.dns_judgement.specs.Outcome.{Outcome, outcome_of}
+use Rattle.dns_judgement.specs.Derivation.{Grounds, entries_hold, with_entries, is_empty, is_ask, told_in, heard_holds, ends_bare, has_mark_of, is_repeat, judged_sets, if_answered, ending_eq, ending_by}
 
 abbrev pub with_entry : Placed × JudgedSetValue → Judged
 with_entry p = record { section = p.0.section; set = p.0.set; mark = p.1.mark; sig = p.1.sig }
@@ -21,6 +22,10 @@ answer_of step = option_and_then (λ s. if_answered s.ending (judged_sets s)) st
 -- the step judges what it hears to this question at this depth
 abbrev pub is_judged_ask : ℕ → Question → Option AskedValue → Bool
 is_judged_ask depth q step = option_map_or (λ s. s.judged && ((s.depth == depth) && question_eq q s.query)) step false
+
+-- the ask of a signature is one deeper than its step
+abbrev pub is_ask_for : Grounds → Option Question → AskRef → Bool
+is_ask_for g question ask = option_map_or (λ q. is_ask g.limit g.earlier (g.depth + 1) q ask) question false
 
 abbrev pub after_verdict : Verdict → Option (List Verdict) → Option (List Verdict)
 after_verdict v rest = option_map (λ vs. v ∷ vs) rest
@@ -70,5 +75,20 @@ steps_at trail order = filter_map (slice_get trail) (unwrap_or order [])
 abbrev pub is_top : Option AskedValue → Bool
 is_top step = option_map_or (λ top. top.judged && (top.depth == 0)) step false
 
+-- each of n steps has one place in the order
+abbrev pub is_each_once : ℕ → List ℕ → Bool
+is_each_once n order = list_all (λ k. count_by (λ m. k == m) order == 1) (range_with_len 0 n)
+
 abbrev pub is_each_met_once : ℕ → Option (List ℕ) → Bool
 is_each_met_once n order = option_map_or (is_each_once n) order false
+
+-- a judged step, by its first record of another class
+abbrev pub judged_holds : Grounds → AskedValue → Told → Option Rr → Bool
+judged_holds g step told foreign =
+    option_map_or (λ r. ends_bare (Foreign r.owner r.class r.rtype) step) foreign
+    (entries_hold g (judged_part step.depth told) step.sets
+    && (ending_eq (ending_by (outcome_of step.query told (with_entries (judged_part step.depth told) step.sets))) step.ending
+    && is_empty step.excuse))
+
+abbrev pub step_holds_by : Grounds → AskedValue → HeardValue → Bool
+step_holds_by g step heard = option_map_or (heard_holds g step) (told_in heard) (ends_bare Failed step)
