@@ -1,5 +1,6 @@
 -- A walk from the top step on is a derivation.
-use Rattle.std.proofs.Common.{◌≡◌, ℕ, zero, suc, ◌+◌, ◌-◌, ◌≤◌, ◌<◌, Bool, true, ◌==◌, ◌&&◌, List, [], ◌∷◌, ◌++◌, length, Some, slice_get, nat_le, refl, sym, ap, ◌∙◌, subst, arith, if◌then◌else◌}
+use Rattle.std.proofs.Common.{◌≡◌, ℕ, zero, suc, ◌+◌, ◌-◌, ◌≤◌, ◌<◌, Bool, true, ◌==◌, ◌&&◌, List, [], ◌∷◌, ◌++◌, length, Option, Some, slice_get, nat_eq, nat_le, refl, sym, ap, ◌∙◌, subst, arith, if◌then◌else◌}
+use Rattle.std.specs.Option.{option_eq}
 use Rattle.std.specs.List.{list_all, range_with_len, cons_option}
 use Rattle.std.proofs.lemmas.Bool.{le-leb, and_from}
 use Rattle.std.proofs.lemmas.Bool.Decides.{nat_tests}
@@ -7,9 +8,10 @@ use Rattle.std.proofs.lemmas.List.{length_push}
 use Rattle.dns_model.specs.Chains.{Judge}
 use Rattle.dns_model.specs.Trails.{AskedValue}
 use Rattle.dns_judgement.specs.Asking.{most_sends, depth_limit}
-use Rattle.dns_judgement.specs.Derivation.{step_holds, steps_hold, asks_of, order_step, send_order, top_step, in_send_order, derivation}
+use Rattle.dns_judgement.specs.Derivation.{step_holds, steps_hold, asks_of, order_step, send_order, end_step, top_step, in_send_order, derivation}
 use Rattle.dns_judgement.specs.DerivationParts.{is_each_met_once, is_top, steps_at}
 use Rattle.dns_judgement.specs.Parts.{once_between, Part}
+use Rattle.dns_judgement.proofs.EndLemmas.{end_step_at}
 use Rattle.dns_judgement.proofs.OrderLemmas.{slice_get_appended}
 use Rattle.dns_judgement.proofs.PartLemmas.{part_grows, step_met, steps_hold_more}
 use Rattle.dns_judgement.proofs.SentLemmas.{times, times-cons, numbered, part_sent, sent_stays}
@@ -64,6 +66,24 @@ top_once j limit b step m p =
     (λ k from upto. one_is_one (times k (length b ∷ p.order))
     (times-cons k (length b) p.order ∙ ap (λ t. (if k == length b then 1 else 0) + t) (p.once k) ∙ once_or_top (length b) k (omega arith)))
 
+nat_same : (n : ℕ) → nat_eq n n ≡ true
+nat_same n = grind (arith, nat_tests)
+
+same_some : (a b : ℕ) (o : Option ℕ) → o ≡ Some a → a ≡ b → option_eq nat_eq o (Some b) ≡ true
+same_some a b o is same = ap (λ x. option_eq nat_eq x (Some b)) is ∙ ap (λ x. nat_eq x b) same ∙ nat_same b
+
+-- the steps of the trail end in the order of their numbers
+top_ends : (j : Judge) (limit : ℕ) (b : List AskedValue) (step : AskedValue) (m : ℕ) (p : Part j limit [] b (asks_of step) 1 m)
+    → option_eq nat_eq (end_step (length (b ++ step ∷ [])) (b ++ step ∷ []) (length (b ++ step ∷ []) - 1) 0) (Some (length (b ++ step ∷ []))) ≡ true
+top_ends j limit b step m p =
+    let one : length (b ++ step ∷ []) ≡ suc (length b) = as_suc b step in
+    let last : length (b ++ step ∷ []) - 1 ≡ length b = last_number b step in
+    let ended : end_step (suc (length b)) (b ++ step ∷ []) (length b) 0 ≡ Some (length b + 1) =
+    end_step_at (length b) b [] step 0 (p.ends (step ∷ []) (length b) (omega arith)) in
+    let is : end_step (length (b ++ step ∷ [])) (b ++ step ∷ []) (length (b ++ step ∷ []) - 1) 0 ≡ Some (length b + 1) =
+    ap (λ k. end_step k (b ++ step ∷ []) (length (b ++ step ∷ []) - 1) 0) one ∙ ap (λ k. end_step (suc (length b)) (b ++ step ∷ []) k 0) last ∙ ended in
+    same_some (length b + 1) (length (b ++ step ∷ [])) (end_step (length (b ++ step ∷ [])) (b ++ step ∷ []) (length (b ++ step ∷ []) - 1) 0) is (sym (length_push b step))
+
 -- ---- the whole
 
 -- the top step of a walk, with all that it asked
@@ -86,9 +106,12 @@ top_derivation j d b step m top =
     let whole : b ≡ p.more = p.grown in
     let hold : steps_hold j (depth_limit d) [] trail ≡ true =
     steps_hold_more j (depth_limit d) [] b step (subst (λ t. steps_hold j (depth_limit d) [] t ≡ true) (sym whole) p.hold) top.holds in
-    and_from (nat_le (length trail) most_sends) (is_top (top_step trail) && (is_each_met_once (length trail) (send_order trail) && steps_hold j (depth_limit d) [] trail)) is_short
-    (and_from (is_top (top_step trail)) (is_each_met_once (length trail) (send_order trail) && steps_hold j (depth_limit d) [] trail) is_top_step
-    (and_from (is_each_met_once (length trail) (send_order trail)) (steps_hold j (depth_limit d) [] trail) once hold))
+    let ended = option_eq nat_eq (end_step (length trail) trail (length trail - 1) 0) (Some (length trail)) in
+    let ends : ended ≡ true = top_ends j (depth_limit d) b step m p in
+    let sent = is_each_met_once (length trail) (send_order trail) in
+    and_from (nat_le (length trail) most_sends) (is_top (top_step trail) && (sent && (ended && steps_hold j (depth_limit d) [] trail))) is_short
+    (and_from (is_top (top_step trail)) (sent && (ended && steps_hold j (depth_limit d) [] trail)) is_top_step
+    (and_from sent (ended && steps_hold j (depth_limit d) [] trail) once (and_from ended (steps_hold j (depth_limit d) [] trail) ends hold)))
 
 -- its steps in the order of the sends: the top step, and what its asks sent
 pub top_sent : (j : Judge) (limit : ℕ) (b : List AskedValue) (step : AskedValue) (m : ℕ) (p : Part j limit [] b (asks_of step) 1 m)

@@ -1,5 +1,6 @@
 -- What a derivation gives: how deep its steps are, and that each was sent once, the top step first.
-use Rattle.std.proofs.Common.{◌≡◌, ℕ, zero, suc, ◌+◌, ◌-◌, ◌≤◌, ◌<◌, Bool, true, false, ◌==◌, ◌&&◌, List, [], ◌∷◌, ◌++◌, length, take, drop, Option, None, Some, slice_get, nat_le, if◌then◌else◌, All, append-nil, refl, sym, ap, ◌∙◌, subst, arith}
+use Rattle.std.proofs.Common.{◌≡◌, ℕ, zero, suc, ◌+◌, ◌-◌, ◌≤◌, ◌<◌, Bool, true, false, ◌==◌, ◌&&◌, List, [], ◌∷◌, ◌++◌, length, take, drop, Option, None, Some, slice_get, nat_eq, nat_le, if◌then◌else◌, All, append-nil, refl, sym, ap, ◌∙◌, subst, arith}
+use Rattle.std.specs.Option.{option_eq}
 use Rattle.std.specs.List.{count_by, cons_option, AllByRecursion}
 use Rattle.std.proofs.lemmas.Bool.{and_parts, leb-true}
 use Rattle.std.proofs.lemmas.List.{append_assoc, take-append-drop}
@@ -11,7 +12,7 @@ use Rattle.dns_model.specs.Trails.{AskedValue}
 use Rattle.dns_model.proofs.EachLemmas.{each_more}
 use Rattle.dns_model.proofs.SetLemmas.{number_same}
 use Rattle.dns_judgement.specs.Asking.{most_sends, depth_limit}
-use Rattle.dns_judgement.specs.Derivation.{step_holds, steps_hold, asks_of, send_order, top_step, in_send_order, derivation}
+use Rattle.dns_judgement.specs.Derivation.{step_holds, steps_hold, asks_of, send_order, end_step, top_step, in_send_order, derivation}
 use Rattle.dns_judgement.specs.DerivationParts.{is_each_met_once, grounds_of, is_top, steps_at}
 use Rattle.dns_judgement.proofs.ExtendLemmas.{slice_get-stays}
 use Rattle.dns_judgement.proofs.AskLemmas.{IsAskOf, step_asks, step_made}
@@ -55,15 +56,17 @@ pub derivation_parts : (j : Judge) (d : ℕ) (trail : List AskedValue) → deriv
 unfolding derivation
 derivation_parts j d trail h =
     let once = is_each_met_once (length trail) (send_order trail) in
+    let ended = option_eq nat_eq (end_step (length trail) trail (length trail - 1) 0) (Some (length trail)) in
     let hold = steps_hold j (depth_limit d) [] trail in
-    let one = and_parts (nat_le (length trail) most_sends) (is_top (top_step trail) && (once && hold)) h in
-    let two = and_parts (is_top (top_step trail)) (once && hold) one.1 in
-    let three = and_parts once hold two.1 in
+    let one = and_parts (nat_le (length trail) most_sends) (is_top (top_step trail) && (once && (ended && hold))) h in
+    let two = and_parts (is_top (top_step trail)) (once && (ended && hold)) one.1 in
+    let three = and_parts once (ended && hold) two.1 in
+    let four = and_parts ended hold three.1 in
     record {
       few = leb-true (length trail) most_sends one.0;
       top = top_is (top_step trail) two.0;
       sent = each_once (length trail) (send_order trail) three.0;
-      hold = three.1;
+      hold = four.1;
     }
 
 -- ---- each step by those before it

@@ -11,6 +11,7 @@ pub mod SoundLemmas
 pub mod ExtendLemmas
 pub mod VerdictLemmas
 pub mod OrderLemmas
+pub mod EndLemmas
 pub mod PartLemmas
 pub mod SentLemmas
 pub mod DerivationLemmas

@@ -4,14 +4,16 @@ use Rattle.std.proofs.lemmas.Bool.{and_from, and_parts}
 use Rattle.std.proofs.lemmas.Bool.Decides.{nat_tests}
 use Rattle.std.proofs.lemmas.List.{length-append, length_push}
 use Rattle.std.proofs.lemmas.List.Sums.{sum_by-append, sum_by-cons}
+use Rattle.std.specs.Option.{option_and_then}
 use Rattle.dns_model.specs.declared.trail.AskRef.{AskRef}
 use Rattle.dns_model.specs.declared.trail.AskRef.TheVariants.{Step, TooDeep, TooMany}
 use Rattle.dns_model.specs.Chains.{Judge}
 use Rattle.dns_model.specs.Trails.{AskedValue}
 use Rattle.dns_judgement.specs.Asking.{most_sends}
-use Rattle.dns_judgement.specs.Derivation.{step_holds, steps_hold, asks_of, order_asks, order_step}
+use Rattle.dns_judgement.specs.Derivation.{step_holds, steps_hold, asks_of, order_asks, order_step, end_asks, end_step}
 use Rattle.dns_judgement.specs.DerivationParts.{and_then}
 use Rattle.dns_judgement.specs.Parts.{once_between, Part}
+use Rattle.dns_judgement.proofs.EndLemmas.{end_asks-append, end_none, end_deep, end_many, end_one, end_step_at}
 use Rattle.dns_judgement.proofs.OrderLemmas.{slice_get_appended, order_asks-append, order_none, order_deep, order_many, order_one, order_step_at}
 
 -- ---- nothing is asked
@@ -21,29 +23,30 @@ between_none a i = grind (arith, nat_tests)
 
 part_still : (j : Judge) (limit : ℕ) (b : List AskedValue) (asks : List AskRef) (n : ℕ)
     → ((visit : ℕ → List ℕ → Option (List ℕ)) (k : ℕ) (met : List ℕ) → length met ≡ n → order_asks visit k asks met ≡ Some met)
-    → Part j limit b b asks n n
+    → ((visit : ℕ → ℕ → Option ℕ) (ended : ℕ) → end_asks visit asks ended ≡ Some ended) → Part j limit b b asks n n
 unfolding steps_hold
-part_still j limit b asks n still = record {
+part_still j limit b asks n still ends = record {
   more = [];
   grown = sym (append-nil b);
   hold = refl;
   order = [];
   met = λ later above k met long up_to before. still (order_step above (b ++ later)) k met long ∙ ap Some (sym (append-nil met));
+  ends = λ later above up_to. ends (end_step above (b ++ later)) (length b);
   once = λ i. between_none (length b) i;
   counted = omega arith;
   alike = refl;
 }
 
 pub part_none : (j : Judge) (limit : ℕ) (b : List AskedValue) (n : ℕ) → Part j limit b b [] n n
-part_none j limit b n = part_still j limit b [] n (λ visit k met long. order_none visit k met)
+part_none j limit b n = part_still j limit b [] n (λ visit k met long. order_none visit k met) end_none
 
 -- an ask that would be too deep
 pub part_deep : (j : Judge) (limit : ℕ) (b : List AskedValue) (n : ℕ) → Part j limit b b (TooDeep ∷ []) n n
-part_deep j limit b n = part_still j limit b (TooDeep ∷ []) n (λ visit k met long. order_deep visit k met)
+part_deep j limit b n = part_still j limit b (TooDeep ∷ []) n (λ visit k met long. order_deep visit k met) end_deep
 
 -- an ask that would be one too many
 pub part_many : (j : Judge) (limit : ℕ) (b : List AskedValue) (n : ℕ) → most_sends ≤ n → Part j limit b b (TooMany ∷ []) n n
-part_many j limit b n many = part_still j limit b (TooMany ∷ []) n (λ visit k met long. order_many visit k met (omega arith))
+part_many j limit b n many = part_still j limit b (TooMany ∷ []) n (λ visit k met long. order_many visit k met (omega arith)) end_many
 
 -- ---- one part after another
 
@@ -88,6 +91,12 @@ part_then j limit a b c xs ys n k m first second =
           (first.met (second.more ++ later) above n' met long (omega arith) (omega arith)) in
           let two = second.met later above n' (met ++ first.order) (length-append met first.order ∙ omega (arith, first.counted)) up_to before in
           then_met (order_step above (c ++ later)) n' xs ys met first.order second.order one two;
+      ends = λ later above up_to.
+          let same : c ++ later ≡ b ++ (second.more ++ later) = ap (λ t. t ++ later) second.grown ∙ append_assoc b second.more later in
+          let one : end_asks (end_step above (c ++ later)) xs (length a) ≡ Some (length b) =
+          subst (λ t. end_asks (end_step above t) xs (length a) ≡ Some (length b)) (sym same) (first.ends (second.more ++ later) above (omega arith)) in
+          end_asks-append (end_step above (c ++ later)) xs ys (length a)
+          ∙ ap (λ o. option_and_then (end_asks (end_step above (c ++ later)) ys) o) one ∙ second.ends later above up_to;
       once = λ i.
           sum_by-append (λ x. if i == x then 1 else 0) first.order second.order ∙ ap (λ t. t + count_by (λ x. i == x) second.order) (first.once i)
           ∙ ap (λ t. once_between (length a) (length b) i + t) (second.once i)
@@ -124,6 +133,14 @@ step_met_in j limit a b step n m p later (suc above) k met few long up_to before
     order_one (order_step (suc above) (b ++ step ∷ later)) k (length b) met (met ++ length b ∷ p.order) before (omega arith)
     (step_met j limit a b step n m p later above met long (omega arith))
 
+step_ends_in : (j : Judge) (limit : ℕ) (a b : List AskedValue) (step : AskedValue) (n m : ℕ) (p : Part j limit a b (asks_of step) (n + 1) m)
+    → (later : List AskedValue) (above : ℕ) → length b < above
+    → end_asks (end_step above (b ++ step ∷ later)) (Step (length b) ∷ []) (length a) ≡ Some (length b + 1)
+step_ends_in j limit a b step n m p later zero up_to = absurd (omega arith)
+step_ends_in j limit a b step n m p later (suc above) up_to =
+    end_one (end_step (suc above) (b ++ step ∷ later)) (length b) (length a) (length b + 1)
+    (end_step_at above b later step (length a) (p.ends (step ∷ later) above (omega arith)))
+
 pub part_step : (j : Judge) (limit : ℕ) (a b : List AskedValue) (step : AskedValue) (n m : ℕ) → Part j limit a b (asks_of step) (n + 1) m
     → n < most_sends → step_holds j limit b step ≡ true → Part j limit a (b ++ step ∷ []) (Step (length b) ∷ []) n m
 part_step j limit a b step n m p few holds =
@@ -137,6 +154,10 @@ part_step j limit a b step n m p few holds =
           let one : length (b ++ step ∷ []) ≡ length b + 1 = length_push b step in
           subst (λ t. order_asks (order_step above t) k (Step (length b) ∷ []) met ≡ Some (met ++ length b ∷ p.order)) (sym (append_assoc b (step ∷ []) later))
           (step_met_in j limit a b step n m p later above k met few long (omega arith) (omega arith));
+      ends = λ later above up_to.
+          let one : length (b ++ step ∷ []) ≡ length b + 1 = length_push b step in
+          subst (λ t. end_asks (end_step above t) (Step (length b) ∷ []) (length a) ≡ Some (length (b ++ step ∷ []))) (sym (append_assoc b (step ∷ []) later))
+          (step_ends_in j limit a b step n m p later above (omega arith) ∙ ap Some (sym one));
       once = λ i.
           sum_by-cons (λ x. if i == x then 1 else 0) (length b) p.order ∙ ap (λ t. (if i == length b then 1 else 0) + t) (p.once i)
           ∙ between_one (length a) (length b) i (omega arith) ∙ ap (λ t. once_between (length a) t i) (sym (length_push b step));

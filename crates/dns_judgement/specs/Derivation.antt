@@ -268,17 +268,34 @@ send_order trail = order_step (length trail) trail (length trail - 1) []
 abbrev pub in_send_order : List AskedValue → List AskedValue
 in_send_order trail = filter_map (slice_get trail) (unwrap_or (send_order trail) [])
 
+-- ---- the order of the ends: a step ends after its asks, and has the next number
+
+-- asks end one after another, behind so many steps that have ended. `visit` ends a step
+unfoldable pub end_asks : (ℕ → ℕ → Option ℕ) → List AskRef → ℕ → Option ℕ
+end_asks visit [] ended = Some ended
+end_asks visit (TooDeep ∷ asks) ended = end_asks visit asks ended
+end_asks visit (TooMany ∷ asks) ended = end_asks visit asks ended
+end_asks visit (Step m ∷ asks) ended = option_and_then (end_asks visit asks) (visit m ended)
+
+-- the first number is more than the step's, which falls from asker to ask
+unfoldable pub end_step : ℕ → List AskedValue → ℕ → ℕ → Option ℕ
+end_step zero trail n ended = None
+end_step (suc above) trail n ended =
+    option_and_then (λ step. option_and_then (λ k. if k == n then Some (n + 1) else None) (end_asks (end_step above trail) (asks_of step) ended))
+    (slice_get trail n)
+
 -- ---- the whole
 
 -- the last step of a trail
 abbrev pub top_step : List AskedValue → Option AskedValue
 top_step trail = slice_get trail (length trail - 1)
 
--- a trail whose steps are sent in one order from the last one on, which is judged at depth 0, and whose every step follows. In that
--- order each step has one place: one ask names it, and none the last step
+-- a trail whose steps are sent in one order from the last one on, which is judged at depth 0, and end in the order of their numbers,
+-- and whose every step follows. In the order of sends each step has one place: one ask names it, and none the last step
 unfoldable pub derivation : Judge → ℕ → List AskedValue → Bool
 derivation j depth trail =
     nat_le (length trail) most_sends
     && (option_map_or (λ top. top.judged && (top.depth == 0)) (top_step trail) false
     && (option_map_or (λ order. list_all (λ k. count_by (λ m. k == m) order == 1) (range_with_len 0 (length trail))) (send_order trail) false
-    && steps_hold j (depth_limit depth) [] trail))
+    && (option_eq nat_eq (end_step (length trail) trail (length trail - 1) 0) (Some (length trail))
+    && steps_hold j (depth_limit depth) [] trail)))

@@ -4,7 +4,7 @@ use Rattle.std.specs.List.{count_by}
 use Rattle.dns_model.specs.declared.trail.AskRef.{AskRef}
 use Rattle.dns_model.specs.Chains.{Judge}
 use Rattle.dns_model.specs.Trails.{AskedValue}
-use Rattle.dns_judgement.specs.Derivation.{steps_hold, order_asks, order_step}
+use Rattle.dns_judgement.specs.Derivation.{steps_hold, order_asks, order_step, end_asks, end_step}
 
 -- how often a number is among those from a up to, and not including, b
 abbrev pub once_between : ℕ → ℕ → ℕ → ℕ
@@ -21,6 +21,9 @@ pub record Part (j : Judge) (limit : ℕ) (before after : List AskedValue) (asks
   -- that order is the one in which the asks are met, whatever steps come later
   pub met : (later : List AskedValue) (above k : ℕ) (met : List ℕ) → length met ≡ n → length after ≤ above → length after ≤ k
       → order_asks (order_step above (after ++ later)) k asks met ≡ Some (met ++ order)
+  -- the steps end one after another, whatever steps come later
+  pub ends : (later : List AskedValue) (above : ℕ) → length after ≤ above
+      → end_asks (end_step above (after ++ later)) asks (length before) ≡ Some (length after)
   -- each of the numbers stands in it once, and no other does
   pub once : (i : ℕ) → count_by (λ x. i == x) order ≡ once_between (length before) (length after) i
   pub counted : m ≡ n + length order
