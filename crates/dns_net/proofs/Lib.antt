@@ -2,4 +2,5 @@ pub mod WalkLemmas
 pub mod KeyLemmas
 pub mod PlaceLemmas
 pub mod ReplyLemmas
+pub mod ServedLemmas
 pub mod CaseLemmas

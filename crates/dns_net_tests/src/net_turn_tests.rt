@@ -99,11 +99,7 @@ fn put(
 }
 
 /// The reply has that code, or is the error that it stands for.
-fn is_reply(
-    alloc: Global,
-    reply: Result<DnsResponse, NetError>,
-    code: u16,
-) -> Result<bool, Fail> {
+fn is_reply(alloc: Global, reply: Result<DnsResponse, NetError>, code: u16) -> Result<bool, Fail> {
     match reply {
         Ok(response) => Ok(response.message.response_code.0 == code),
         Err(error) => match code {
@@ -150,11 +146,7 @@ fn after(alloc: Global, mut handle: Recorded, step: Step) -> Result<Option<Recor
 }
 
 /// The number of the first step that goes otherwise than it says.
-fn first_other(
-    alloc: Global,
-    mut handle: Recorded,
-    steps: &[Step],
-) -> Result<Option<usize>, Fail> {
+fn first_other(alloc: Global, mut handle: Recorded, steps: &[Step]) -> Result<Option<usize>, Fail> {
     for (number, step) in steps.iter().enumerate() {
         match after(alloc, handle, *step)? {
             None => return Ok(Some(number)),

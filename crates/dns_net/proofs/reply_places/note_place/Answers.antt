@@ -1,4 +1,4 @@
-use Rattle.std.proofs.Common.{◌≡◌, rules, sym, ap, ◌∙◌, ◌∷◌, [], ◌++◌}
+use Rattle.std.proofs.Common.{◌≡◌, rules, refl, ap, ◌∙◌, ◌∷◌, [], ◌++◌}
 use Rattle.dns_net.specs.RecordedPlaces.{queue_items, places_at}
 use Rattle.dns_net.proofs.PlaceLemmas.{noted, unchanged, after_error}
 use Rattle.dns_net.proofs.reply_places.note_place.Goals as goal
@@ -20,5 +20,7 @@ pub returns-clause-ok : goal.returns-clause-ok
 returns-clause-ok c =
     let empty : [] ≡ places_at c.args.places.now c.args.key = ap queue_items c.in_default.ensures.value in
     let updates = rw c.get_mut.follows.holds-at-none at c.in_ok-insert.ensures.updates in
-    noted c.args.places.now c.insert.new.self c.args.key c.args.place c.push_back-2.new.self
-    (c.in_ok-push_back-2.ensures.items ∙ ap (λ ps. ps ++ c.args.place ∷ []) (c.new-queue.ensures.items ∙ empty)) updates
+    let items : c.push_back-2.new.self.items ≡ c.new-queue.result.items ++ c.args.place ∷ [] = c.in_ok-push_back-2.ensures.items in
+    let one : c.push_back-2.new.self.items ≡ places_at c.args.places.now c.args.key ++ c.args.place ∷ [] =
+    rw (items, c.new-queue.ensures.items, ← empty) refl in
+    noted c.args.places.now c.insert.new.self c.args.key c.args.place c.push_back-2.new.self one updates

@@ -1,6 +1,5 @@
-use Rattle.std.proofs.Common.{Some}
-use Rattle.dns_net.specs.RecordedPlaces.{turn_in, places_from}
-use Rattle.dns_net.proofs.ReplyLemmas.{next, going, going_within, serves_none, serves_copy, serves_turn, index_less}
+use Rattle.dns_net.proofs.ReplyLemmas.{index_less}
+use Rattle.dns_net.proofs.ServedLemmas.{next, going, going_within, serves_none, serves_copy, serves_turn}
 use Rattle.dns_net.proofs.reply_list.ReplyList.serve.Goals as goal
 
 pub returns-in_default : goal.returns-in_default
