@@ -1,6 +1,7 @@
 -- The replies to a question, found by their places.
 use Rattle.std.proofs.Common.{◌≡◌, ◌<◌, ℕ, ◌+◌, Bool, true, false, cond, List, [], ◌∷◌, ◌++◌, length, drop, None, Some, Err, refl, sym, ap, ◌∙◌, arith, length-append, zero-add, add-zero}
 use Rattle.std.specs.Prelude.{slice_get, slice_set, ◌||◌}
+use Rattle.std.specs.List.{list_any}
 use Rattle.std.specs.Ordering.{is_eq, ordering_reverse}
 use Rattle.std.specs.declared.cmp.Ordering.TheVariants.{Equal}
 use Rattle.std.specs.Map.{lookup}
@@ -15,7 +16,7 @@ use Rattle.dns_model.specs.Records.{Question, question_eq}
 use Rattle.dns_net.specs.declared.query_key.QueryKey.{QueryKey}
 use Rattle.dns_net.specs.Errors as seen
 use Rattle.dns_net.specs.Errors.{Reply}
-use Rattle.dns_net.specs.Handles.{reply_to, is_answered, after_turn}
+use Rattle.dns_net.specs.Handles.{reply_to, after_turn}
 use Rattle.dns_net.specs.RecordedPlaces.{Slot, left, reply_at, reply_in, is_for, places_from, queue_items, key_of, key_cmp, Noted, Dropped, IndexesReplies}
 use Rattle.dns_net.proofs.KeyLemmas.{key_total, key_ties}
 use Rattle.dns_net.proofs.PlaceLemmas.{equal-is_eq}
@@ -57,6 +58,10 @@ unfolding places_from
 places_alike q r same n [] = refl
 places_alike q r same n (None ∷ xs) = places_alike q r same (n + 1) xs
 places_alike q r same n (Some told ∷ xs) = rw (question_right q r told.0 same, places_alike q r same (n + 1) xs) refl
+
+-- there is a reply to a question
+abbrev pub is_answered : List (Question × Reply) → Question → Bool
+is_answered told q = list_any (λ t. question_eq t.0 q) told
 
 -- a question has a reply where it has a place
 abbrev is_some_place : List ℕ → Bool

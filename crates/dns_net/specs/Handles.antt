@@ -17,34 +17,24 @@ unfoldable pub reply_to : List (Question × Reply) → Question → Reply
 reply_to [] q = Err seen.Timeout
 reply_to (told ∷ rest) q = if question_eq told.0 q then told.1 else reply_to rest q
 
--- there is a reply to a question
-abbrev pub is_answered : List (Question × Reply) → Question → Bool
-is_answered list q = list_any (λ told. question_eq told.0 q) list
-
 -- the list without the first reply to a question, where another one to it stands behind
 unfoldable pub after_turn : List (Question × Reply) → Question → List (Question × Reply)
 after_turn [] q = []
 after_turn (told ∷ rest) q =
-    if question_eq told.0 q then (if is_answered rest q then rest else told ∷ rest) else told ∷ after_turn rest q
+    if question_eq told.0 q
+    then (if list_any (λ later. question_eq later.0 q) rest then rest else told ∷ rest)
+    else told ∷ after_turn rest q
 
 -- what a send of a question leaves: by turn its first reply is gone, unless that is its last one; else all stay
 abbrev pub left_after : Replies → Question → Replies
 left_after replies q = record replies { list = if replies.by_turn then after_turn replies.list q else replies.list }
 
--- what a send of this question leaves; without a question all stay
-abbrev pub left_for : Replies → Option Question → Replies
-left_for replies None = replies
-left_for replies (Some q) = left_after replies q
-
--- what a handle tells after a send; where it tells nothing, it goes on telling nothing
-abbrev pub told_after : Option Replies → Option Question → Option Replies
-told_after None q = None
-told_after (Some replies) q = Some (left_for replies q)
-
--- the handle tells what is left after a send; where want of memory was answered, it may tell the same as before
+-- the handle tells what a send leaves; where want of memory was answered, it may tell the same as before. It goes on telling
+-- the same without a question, and nothing where it told nothing
 abbrev pub IsLeft : Option Replies → Option Question → Reply → Option Replies → Type 0
-IsLeft old q (Ok response) new = new ≡ told_after old q
-IsLeft old q (Err error) new = (new ≡ told_after old q) ⊎ ((error ≡ seen.NoMemory) × (new ≡ old))
+IsLeft None q reply new = new ≡ None
+IsLeft (Some told) None reply new = new ≡ Some told
+IsLeft (Some told) (Some q) reply new = (new ≡ Some (left_after told q)) ⊎ ((reply ≡ Err seen.NoMemory) × (new ≡ Some told))
 
 -- the reply is the told one, where the handle tells its replies and there is a question; want of memory may come in its place
 abbrev pub ReplyIsTold : Option Replies → Option Question → Reply → Type 0

@@ -1,10 +1,11 @@
 -- The handle that answers from recorded replies.
 use Rattle.std.specs.Prelude.{ℕ, ◌≡◌, ◌⊎◌, Bool, List, Option, None, Some, Ok, Err}
+use Rattle.std.specs.Option.{option_map_or}
 use Rattle.dns_model.specs.Counts.{one_more}
 use Rattle.dns_model.specs.Records.{Question}
 use Rattle.dns_net.specs.Errors as seen
 use Rattle.dns_net.specs.Errors.{Reply}
-use Rattle.dns_net.specs.Handles.{Replies, reply_to, left_for}
+use Rattle.dns_net.specs.Handles.{Replies, reply_to, left_after}
 
 -- the counts, the replies that are left in the order in which they were put in, and whether they are served by turn
 pub record RecordedValue : Type 0 where
@@ -28,7 +29,7 @@ reply_for replies (Some q) = reply_to replies q
 
 -- the first reply to the question, and what it leaves; or want of memory, and all stay
 abbrev pub IsServed : Replies → Option Question → Replies → Reply → Type 0
-IsServed old q new reply = ((reply ≡ reply_for old.list q) × (new ≡ left_for old q)) ⊎ ((reply ≡ Err seen.NoMemory) × (new ≡ old))
+IsServed old q new reply = ((reply ≡ reply_for old.list q) × (new ≡ option_map_or (left_after old) q old)) ⊎ ((reply ≡ Err seen.NoMemory) × (new ≡ old))
 
 -- a send: a reply is served; the send is counted, and so is an error
 pub record AnswersFrom (old : RecordedValue) (q : Option Question) (new : RecordedValue) (reply : Reply) : Type 0 where
