@@ -4,13 +4,13 @@ use Rattle.std.specs.Prelude.{nat_lt}
 use Rattle.std.specs.List.{list_any}
 use Rattle.std.specs.Ordering.{is_eq}
 use Rattle.std.specs.declared.cmp.Ordering.TheVariants.{Less}
-use Rattle.std.proofs.lemmas.Bool.{and_parts, false_from_ne_true, or_right, or_cases}
-use Rattle.dns_model.specs.Names.{Label, Labels, name_eq, name_cmp, at_or_above, strictly_above, common_ancestor}
+use Rattle.std.proofs.lemmas.Bool.{and_parts, and_from, false_from_ne_true, or_right, or_cases}
+use Rattle.dns_model.specs.Names.{Label, Labels, name_eq, name_cmp, at_or_above, strictly_above, asterisk, star, common_ancestor}
 use Rattle.dns_model.specs.Types.{type_ns, type_soa, type_dname}
 use Rattle.dns_model.specs.Owned.{OwnedNsec}
 use Rattle.dns_model.proofs.NameLemmas.{name_equiv}
 use Rattle.dns_model.proofs.NamesInOrder.{le_from_Less, le_trans, above_comes_first, between_is_below, order_if_alike, not_both}
-use Rattle.dns_model.proofs.AboveLemmas.{above_alike, below_alike, above_itself, above_is_shorter, above_one_more, strictly_made, strictly_parts, alike_if_not_strictly}
+use Rattle.dns_model.proofs.AboveLemmas.{above_alike, below_alike, above_itself, above_trans, above_is_shorter, above_one_more, strictly_made, strictly_parts, alike_if_not_strictly}
 use Rattle.dns_model.proofs.CommonAncestors.{Ends, common_ends, common_above, common_below, ends_above, longer_below}
 use Rattle.dns_denial.specs.Covering.{has_type, is_cut, spans, is_silent_on}
 use Rattle.dns_denial.specs.NsecVerdict.{closest_encloser}
@@ -91,6 +91,15 @@ spanned_is_missing zone nsec name t spanned leaf = false_from_ne_true (exists_in
         let same = alike_if_not_strictly name nsec.text.next between leaf in
         true≢false (ap is_eq (sym (order_if_alike name nsec.text.next same) ∙ lt))
 
+-- no wildcard exists below a missing name at or below the apex
+pub no_wildcard : (zone : Zone) (name : Labels) → at_or_above zone.apex name ≡ true → exists_in zone name ≡ false → exists_in zone (star name) ≡ false
+unfolding exists_in
+no_wildcard zone name inside gone = false_from_ne_true (exists_in zone (star name)) (λ h.
+    let k = existing zone (star name) h in
+    let below = above_trans name (star name) k.it.owner (above_one_more name asterisk name (above_itself name)) k.passes in
+    let there = k.member.any (λ set. at_or_above name set.owner) below in
+    true≢false (sym (and_from (at_or_above zone.apex name) (list_any (λ set. at_or_above name set.owner) zone.sets) inside there) ∙ gone))
+
 -- what exists at or above a spanned name is above the closest encloser
 pub existing_encloses : (zone : Zone) (nsec : OwnedNsec) (name above : Labels) → IsTrueNsec zone nsec → spans name nsec ≡ true
     → at_or_above above name ≡ true → exists_in zone above ≡ true → at_or_above above (closest_encloser name nsec) ≡ true
@@ -107,13 +116,18 @@ existing_encloses zone nsec name above t spanned h there =
         inr (between_is_below above nsec.text.next owner higher
         (le_trans above name nsec.text.next (above_comes_first above name h) (le_from_Less (name_cmp name nsec.text.next) lt)) le)
 
+-- the closest encloser is in the zone
+pub encloser_inside : (zone : Zone) (nsec : OwnedNsec) (name : Labels) → is_zone zone ≡ true → IsTrueNsec zone nsec → at_or_above zone.apex name ≡ true
+    → at_or_above zone.apex (closest_encloser name nsec) ≡ true
+encloser_inside zone nsec name formed t h = encloser_below zone.apex name nsec h (inl (owner_inside zone nsec.owner formed t.owner))
+
 -- the closest encloser exists
 encloser_exists : (zone : Zone) (nsec : OwnedNsec) (name : Labels) → is_zone zone ≡ true → IsTrueNsec zone nsec → at_or_above zone.apex name ≡ true
     → exists_in zone (closest_encloser name nsec) ≡ true
 encloser_exists zone nsec name formed t h = by (encloser_above name nsec)
   where
     inside : at_or_above zone.apex (closest_encloser name nsec) ≡ true
-    inside = encloser_below zone.apex name nsec h (inl (owner_inside zone nsec.owner formed t.owner))
+    inside = encloser_inside zone nsec name formed t h
 
     by : (at_or_above (closest_encloser name nsec) nsec.owner ≡ true) ⊎ (at_or_above (closest_encloser name nsec) nsec.text.next ≡ true)
         → exists_in zone (closest_encloser name nsec) ≡ true

@@ -1,5 +1,5 @@
 -- A Secure verdict holds in each zone in which the records are true.
-use Rattle.std.proofs.Common.{◌≡◌, ℕ, Bool, true, false, cond, not, ◌==◌, ◌&&◌, ◌||◌, List, length, Option, None, Some, is_some, refl, sym, ap, ◌∙◌, arith, true≢false, ◌⊎◌, inl, inr}
+use Rattle.std.proofs.Common.{◌≡◌, ℕ, ◌≤◌, Bool, true, false, cond, not, ◌==◌, ◌&&◌, ◌||◌, List, length, Option, None, Some, is_some, refl, sym, ap, ◌∙◌, arith, true≢false, ◌⊎◌, inl, inr}
 use Rattle.std.specs.List.{find, position, AllByRecursion}
 use Rattle.std.proofs.lemmas.Bool.{and_parts, or_parts, not-true, false_from_ne_true}
 use Rattle.std.proofs.lemmas.Bool.Decides.{nat_tests}
@@ -11,16 +11,16 @@ use Rattle.dns_model.specs.declared.proof.Proof.{Proof}
 use Rattle.dns_model.specs.declared.proof.Proof.TheVariants.{Secure, Bogus}
 use Rattle.dns_model.proofs.EachLemmas.{find_known}
 use Rattle.dns_model.proofs.NameLemmas.{name_equiv}
-use Rattle.dns_model.proofs.AboveLemmas.{above_alike, above_itself, above_is_shorter, strictly_made, strictly_parts}
+use Rattle.dns_model.proofs.AboveLemmas.{above_alike, above_itself, above_is_shorter, above_nested, strictly_made, strictly_parts}
 use Rattle.dns_denial.specs.declared.answered.Answered.{Answered}
 use Rattle.dns_denial.specs.declared.answered.Answered.TheVariants.{No, Expanded}
 use Rattle.dns_denial.specs.Covering.{has_type, counts_for, covering, number_of, covering_number}
 use Rattle.dns_denial.specs.NsecVerdict.{can_deny, holds_query, code_nx_domain, code_no_error, is_plain, is_owned_by, lacks_data, is_right_side, denies_at_owner, closest_encloser, wildcard_lacks, wildcard_denies, missing_name, proved_by_covering, proved_at_name, nsec_verdict}
 use Rattle.dns_denial.specs.Zones.{Zone, has_set, is_delegation, exists_in, is_zone, encloser, has_data, from_wildcard, lookup, Referral, Data, NoData, NxDomain, IsTrueNsec}
-use Rattle.dns_denial.specs.DenialInZones.{HasNone, HasNoneCloser, IsDeniedIn, IsExpandedIn, IsOwnerless}
+use Rattle.dns_denial.specs.DenialInZones.{HasNone, IsAbsent, HasNoneCloser, IsDeniedIn, IsExpandedIn, IsOwnerless}
 use Rattle.dns_denial.proofs.Members.{picked_known}
 use Rattle.dns_denial.proofs.ZoneLemmas.{has_set_alike, is_owner_alike, spans_no_owner, next_is_owner}
-use Rattle.dns_denial.proofs.EncloserLemmas.{exists_above, spanned_is_missing, existing_encloses, same_encloser}
+use Rattle.dns_denial.proofs.EncloserLemmas.{exists_above, spanned_is_missing, no_wildcard, existing_encloses, encloser_inside, same_encloser}
 use Rattle.dns_denial.proofs.ReachLemmas.{IsCovering, covered, IsReached, reached, covered_reach, owner_reach, no_data, no_set, no_delegation, lacking}
 
 -- ---- the parts of a verdict
@@ -218,22 +218,29 @@ denial_holds query apex code nsecs h =
 
 -- ---- expansions
 
-none_closer : (zone : Zone) (name : Labels) (labels : ℕ) (nsec : OwnedNsec) → IsCovering zone name nsec → strictly_above name nsec.text.next ≡ false
-    → (length (closest_encloser name nsec) == labels) ≡ true → HasNoneCloser name labels zone
-none_closer zone name labels nsec c leaf h =
+absent : (zone : Zone) (name : Labels) → at_or_above zone.apex name ≡ true → exists_in zone name ≡ false → IsAbsent zone name
+absent zone name inside gone = record { missing = gone; wildcard = no_wildcard zone name inside gone }
+
+none_closer : (zone : Zone) (name : Labels) (labels : ℕ) (nsec : OwnedNsec) → is_zone zone ≡ true → at_or_above zone.apex name ≡ true
+    → IsCovering zone name nsec → strictly_above name nsec.text.next ≡ false → (length (closest_encloser name nsec) == labels) ≡ true
+    → HasNoneCloser name labels zone
+none_closer zone name labels nsec formed within c leaf h =
     let long : length (closest_encloser name nsec) ≡ labels = grind (arith, nat_tests, h) in
+    let short = above_is_shorter zone.apex (closest_encloser name nsec) (encloser_inside zone nsec name formed c.is_true within) in
     record {
-      missing = spanned_is_missing zone nsec name c.is_true c.spanned leaf;
-      ancestors = λ ancestor above more. false_from_ne_true (exists_in zone ancestor) (λ there.
+      itself = absent zone name within (spanned_is_missing zone nsec name c.is_true c.spanned leaf);
+      ancestors = λ ancestor above more.
+          let fits : length zone.apex ≤ length ancestor = omega (arith, long, short, more) in
+          absent zone ancestor (above_nested zone.apex ancestor name within above fits) (false_from_ne_true (exists_in zone ancestor) (λ there.
           let up = above_is_shorter ancestor (closest_encloser name nsec) (existing_encloses zone nsec name ancestor c.is_true c.spanned above there) in
-          omega arith);
+          omega arith));
     }
 
-expanded_by : (zone : Zone) (query : Question) (code labels : ℕ) (nsecs : List OwnedNsec) (found : Option OwnedNsec)
-    → AllByRecursion (IsTrueNsec zone) nsecs → covering query.owner nsecs ≡ found → proved_by_covering query code (Expanded labels) nsecs found ≡ true
+expanded_by : (zone : Zone) (query : Question) (code labels : ℕ) (nsecs : List OwnedNsec) (found : Option OwnedNsec) → is_zone zone ≡ true
+    → at_or_above zone.apex query.owner ≡ true → AllByRecursion (IsTrueNsec zone) nsecs → covering query.owner nsecs ≡ found → proved_by_covering query code (Expanded labels) nsecs found ≡ true
     → HasNoneCloser query.owner labels zone
-expanded_by zone query code labels nsecs None each e h = absurd (true≢false (sym h))
-expanded_by zone query code labels nsecs (Some nsec) each e h =
+expanded_by zone query code labels nsecs None formed within each e h = absurd (true≢false (sym h))
+expanded_by zone query code labels nsecs (Some nsec) formed within each e h =
     by (strictly_above query.owner nsec.text.next) refl (covered zone query.owner nsecs nsec each e) h
   where
     by : (b : Bool) → strictly_above query.owner nsec.text.next ≡ b → IsCovering zone query.owner nsec
@@ -241,12 +248,12 @@ expanded_by zone query code labels nsecs (Some nsec) each e h =
         → HasNoneCloser query.owner labels zone
     by true above c h = absurd (true≢false (sym h))
     by false leaf c h =
-        none_closer zone query.owner labels nsec c leaf (and_parts (code == code_no_error) (length (closest_encloser query.owner nsec) == labels) h).1
+        none_closer zone query.owner labels nsec formed within c leaf (and_parts (code == code_no_error) (length (closest_encloser query.owner nsec) == labels) h).1
 
-expanded : (zone : Zone) (query : Question) (code labels : ℕ) (nsecs : List OwnedNsec) (found : Option OwnedNsec)
-    → AllByRecursion (IsTrueNsec zone) nsecs → proved_at_name query code (Expanded labels) nsecs found ≡ true → HasNoneCloser query.owner labels zone
-expanded zone query code labels nsecs None each h = expanded_by zone query code labels nsecs (covering query.owner nsecs) each refl h
-expanded zone query code labels nsecs (Some nsec) each h = absurd (true≢false (sym h))
+expanded : (zone : Zone) (query : Question) (code labels : ℕ) (nsecs : List OwnedNsec) (found : Option OwnedNsec) → is_zone zone ≡ true
+    → at_or_above zone.apex query.owner ≡ true → AllByRecursion (IsTrueNsec zone) nsecs → proved_at_name query code (Expanded labels) nsecs found ≡ true → HasNoneCloser query.owner labels zone
+expanded zone query code labels nsecs None formed within each h = expanded_by zone query code labels nsecs (covering query.owner nsecs) formed within each refl h
+expanded zone query code labels nsecs (Some nsec) formed within each h = absurd (true≢false (sym h))
 
 -- a Secure verdict on an expanded answer holds in each zone
 expansion_holds : (query : Question) (apex : Labels) (code labels : ℕ) (nsecs : List OwnedNsec) → nsec_verdict query apex code (Expanded labels) nsecs ≡ Secure
@@ -255,7 +262,9 @@ unfolding nsec_verdict
 expansion_holds query apex code labels nsecs h =
     let v = secure_parts (can_deny code) (holds_query apex query) (is_plain (Expanded labels))
     (proved_at_name query code (Expanded labels) nsecs (find (is_owned_by query.owner) nsecs)) h in
-    λ plain zone shown. expanded zone query code labels nsecs (find (is_owned_by query.owner) nsecs) shown.each_true v.proved
+    λ plain zone shown.
+    expanded zone query code labels nsecs (find (is_owned_by query.owner) nsecs) shown.formed
+    (inside zone.apex query (held zone apex query shown.apex_is v.holds)) shown.each_true v.proved
 
 -- ---- the same of what a function answers
 

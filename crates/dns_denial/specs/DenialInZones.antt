@@ -1,7 +1,7 @@
 -- What a Secure verdict on NSEC records promises of each zone in which they are true (RFC 4035, 5.3.4 and 5.4; RFC 4592).
 use Rattle.std.specs.Prelude.{◌≡◌, ◌⊎◌, ℕ, ◌<◌, Bool, true, false, not, ◌==◌, ◌||◌, ◌/◌, List, length}
 use Rattle.std.specs.List.{AllByRecursion}
-use Rattle.dns_model.specs.Names.{Labels, name_eq, at_or_above}
+use Rattle.dns_model.specs.Names.{Labels, name_eq, at_or_above, star}
 use Rattle.dns_model.specs.Types.{type_opt}
 use Rattle.dns_model.specs.Records.{Question}
 use Rattle.dns_model.specs.Owned.{OwnedNsec}
@@ -24,10 +24,15 @@ pub record HasNone (query : Question) (code : ℕ) (zone : Zone) : Type 0 where
   pub answer : (lookup zone query.owner query.rtype ≡ NoData) ⊎ (lookup zone query.owner query.rtype ≡ NxDomain)
   pub name : code ≡ code_nx_domain → exists_in zone query.owner ≡ false
 
--- neither the name nor an ancestor of it with more labels exists in the zone, so no wildcard below such an ancestor does
-pub record HasNoneCloser (name : Labels) (labels : ℕ) (zone : Zone) : Type 0 where
+-- neither this name nor the wildcard below it exists in the zone
+pub record IsAbsent (zone : Zone) (name : Labels) : Type 0 where
   pub missing : exists_in zone name ≡ false
-  pub ancestors : (ancestor : Labels) → at_or_above ancestor name ≡ true → labels < length ancestor → exists_in zone ancestor ≡ false
+  pub wildcard : exists_in zone (star name) ≡ false
+
+-- the name is absent from the zone, and so is each ancestor of it with more labels
+pub record HasNoneCloser (name : Labels) (labels : ℕ) (zone : Zone) : Type 0 where
+  pub itself : IsAbsent zone name
+  pub ancestors : (ancestor : Labels) → at_or_above ancestor name ≡ true → labels < length ancestor → IsAbsent zone ancestor
 
 -- a denial holds in each such zone
 abbrev pub IsDeniedIn : Question → Labels → ℕ → List OwnedNsec → Type 0
