@@ -13,7 +13,8 @@ use Rattle.dns_model.proofs.SetLemmas.{IsProper, proper_placed}
 use Rattle.dns_judgement.specs.Judged.{placed_of}
 use Rattle.dns_judgement.specs.Marks.{Verdict, Proved, Excused, Failed, is_skipped, verdict_of, judged_by, most_signatures, is_anchored_key, SignedKeys, first_signed, keys_by, judged_keys}
 use Rattle.dns_judgement.specs.Chained.{Chained, bare, stands, chain_by, ChainedVerdict, with_chain, chained_verdict, bare_verdicts, chained_by, chained_keys}
-use Rattle.dns_judgement.specs.Asking.{is_judged_at, judged_part}
+use Rattle.dns_judgement.specs.Asking.{judged_part}
+use Rattle.dns_judgement.specs.MarkParts.{is_judged_at}
 use Rattle.dns_judgement.proofs.StandLemmas.{IsChainFor, IsGoodVerdict, proof_is_chain}
 
 -- ---- what is shown of sets

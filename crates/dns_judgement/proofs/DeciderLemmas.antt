@@ -13,8 +13,9 @@ use Rattle.dns_model.specs.Records.{Rr}
 use Rattle.dns_model.specs.Sections.{is_signature, covers_rtype, covers}
 use Rattle.dns_model.specs.SoundAnswers.{set_rtype, covered_rtype}
 use Rattle.dns_model.proofs.SetLemmas.{name_left, number_refl, number_same, IsProper, covers_set, IsSignedIn}
-use Rattle.dns_judgement.specs.Judged.{Judged, decider, signature_at}
-use Rattle.dns_judgement.specs.Marking.{covered, signature_place, is_place}
+use Rattle.dns_judgement.specs.Judged.{Judged, decider}
+use Rattle.dns_judgement.specs.Marking.{signature_place}
+use Rattle.dns_judgement.specs.MarkParts.{signature_at, covered, is_place}
 use Rattle.dns_judgement.proofs.MarkedLemmas.{IsAbout}
 
 -- ---- places among those that pass

@@ -5,7 +5,8 @@ use Rattle.std.specs.List.{filter, filter_map, cons_option, count_by, enumerate_
 use Rattle.std.specs.Option.{option_map}
 use Rattle.dns_model.specs.Records.{Rr, RrSet}
 use Rattle.dns_model.specs.Chains.{Judge}
-use Rattle.dns_judgement.specs.Marks.{same_tag, is_early, first_two, anchored_signer, SignedKeys, signed_keys, first_signed}
+use Rattle.dns_judgement.specs.Marks.{same_tag, first_two, anchored_signer, SignedKeys, first_signed}
+use Rattle.dns_judgement.specs.MarkParts.{is_early, signed_keys}
 
 -- ---- the first two of each tag
 

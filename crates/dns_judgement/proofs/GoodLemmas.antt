@@ -14,7 +14,8 @@ use Rattle.dns_model.specs.Records.{Rr, RrSet}
 use Rattle.dns_model.specs.Keys.{usable_key}
 use Rattle.dns_model.specs.Chains.{LinkValue, Signed, Judge, is_nonempty, rdatas_of, signer_fits, never_expanded, right_below_signer, is_good, key_comes, is_signed, link_holds}
 use Rattle.dns_model.proofs.SetLemmas.{number_same, IsProper}
-use Rattle.dns_judgement.specs.Validity.{is_of_set, is_by_key, key_validity, sig_validity, validity, is_valid, is_accepted, is_good_by}
+use Rattle.dns_judgement.specs.Validity.{is_of_set, is_by_key, validity, is_valid, is_good_by}
+use Rattle.dns_judgement.specs.MarkParts.{key_validity, sig_validity, is_accepted}
 
 -- ---- what a good signature is
 

@@ -15,9 +15,10 @@ use Rattle.dns_model.specs.SoundAnswers.{Placed}
 use Rattle.dns_model.proofs.EachLemmas.{each_both, find_known}
 use Rattle.dns_model.proofs.SetLemmas.{name_back, name_trans, number_same, is_of, IsProper}
 use Rattle.dns_model.proofs.ChainLemmas.{links_hold-append, is_chain-append, last_link-append, justified_extends, bytes_refl, each_member, signed_is_for, keys_are_for, anchor_shown, slice_get_at}
-use Rattle.dns_judgement.specs.Validity.{sig_validity, validity, is_valid, is_accepted, is_good_by}
+use Rattle.dns_judgement.specs.Validity.{validity, is_valid, is_good_by}
 use Rattle.dns_judgement.specs.Marks.{most_signatures, is_anchored_key, anchored_signer, SignedKeys, first_signed, keys_by, judged_keys}
 use Rattle.dns_judgement.specs.Chained.{Chained, names_decider, stands, numbers_from, anchored_chain, self_signed_chain, keys_chain_by, chained_keys}
+use Rattle.dns_judgement.specs.MarkParts.{sig_validity, is_accepted}
 use Rattle.dns_judgement.proofs.GoodLemmas.{good_parts, signer_is_owner, of_set_parts, keys_unexpanded, keys_anywhere, Fits, signed_holds}
 use Rattle.dns_judgement.proofs.FirstLemmas.{signed_from, first_signed-from, signed_or, signed_none, signed_more}
 use Rattle.dns_judgement.proofs.StandLemmas.{IsChainFor, stands_from, slice_get-take}

@@ -17,8 +17,9 @@ use Rattle.dns_model.proofs.NameLemmas.{name_equiv}
 use Rattle.dns_model.proofs.EachLemmas.{each_more, each_both, each_filter, each_passes, each_unmap, find_agree_each, find-map, find-filter, Apart, apart_unmap}
 use Rattle.dns_model.proofs.SetLemmas.{name_back, name_trans, name_left, number_refl, number_same, number_back, section_refl, section_same, section_back, is_of, IsProper, BeginsIn, IsSignedIn, same_key, same_place, placed_apart, proper_placed, begins_placed, signed_placed, KeepsKey}
 use Rattle.dns_judgement.specs.Judged.{Judged, placed_of, decider}
-use Rattle.dns_judgement.specs.Marking.{cleared, is_about, signature_place, is_place, adjusted_by, adjusted_ttl, marked_by, marked, marked_message, marked_told}
+use Rattle.dns_judgement.specs.Marking.{cleared, is_about, signature_place, adjusted_ttl, marked, marked_message, marked_told}
 use Rattle.dns_judgement.specs.Chained.{Chained, bare, stands, chain_value, chains_of}
+use Rattle.dns_judgement.specs.MarkParts.{is_place, adjusted_by, marked_by}
 use Rattle.dns_judgement.proofs.StandLemmas.{stands_parts}
 use Rattle.dns_judgement.proofs.ChainedLemmas.{AllStand, AreJudged}
 

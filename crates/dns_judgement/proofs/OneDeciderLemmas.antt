@@ -15,7 +15,8 @@ use Rattle.dns_model.proofs.EachLemmas.{each_of, each_map, find_agree}
 use Rattle.dns_model.proofs.NameLemmas.{name_equiv}
 use Rattle.dns_model.proofs.SetLemmas.{name_left, covered-kept}
 use Rattle.dns_judgement.specs.Judged.{Judged}
-use Rattle.dns_judgement.specs.Marking.{is_about, covered, map_after, marked, marked_section}
+use Rattle.dns_judgement.specs.Marking.{is_about, map_after, marked, marked_section}
+use Rattle.dns_judgement.specs.MarkParts.{covered}
 use Rattle.dns_judgement.proofs.MarkedLemmas.{marked-keeps, made_secure}
 use Rattle.dns_judgement.proofs.DeciderLemmas.{IsCovered, covered_parts, marked_place}
 

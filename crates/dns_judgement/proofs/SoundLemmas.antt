@@ -18,8 +18,9 @@ use Rattle.dns_model.proofs.EachLemmas.{each_more, each_map, each_unmap, find_ag
 use Rattle.dns_model.proofs.SetLemmas.{name_left, is_of, head_of, BeginsIn, IsSignedIn, KeepsKey, on_set, sets_of-map, rdatas_of-map, placed_each}
 use Rattle.dns_model.proofs.ChainLemmas.{bytes_same}
 use Rattle.dns_judgement.specs.Judged.{Judged, placed_of, decider}
-use Rattle.dns_judgement.specs.Marking.{cleared, cleared_message, is_about, signature_place, is_place, first_record, adjusted_by, adjusted_ttl, marked, marked_section, marked_message}
+use Rattle.dns_judgement.specs.Marking.{cleared, cleared_message, is_about, signature_place, adjusted_ttl, marked, marked_section, marked_message}
 use Rattle.dns_judgement.specs.Chained.{Chained, bare, names_decider, chain_value, chains_of, finished}
+use Rattle.dns_judgement.specs.MarkParts.{is_place, first_record, adjusted_by}
 use Rattle.dns_judgement.proofs.StandLemmas.{stands_parts}
 use Rattle.dns_judgement.proofs.ChainedLemmas.{AllStand, AreJudged}
 use Rattle.dns_judgement.proofs.MarkedLemmas.{marked-keeps, marked-plain, about_parts, IsKnown, each_known, IsKnownChain, each_chain_known, own_from, own_marked, made_secure, plain_ttl, decided_link}

@@ -20,8 +20,9 @@ use Rattle.dns_model.proofs.SetLemmas.{IsProper}
 use Rattle.dns_model.proofs.ChainLemmas.{last_link-append, slice_get-last, justified_extends, bytes_refl, each_member, member_shown, signed_is_for}
 use Rattle.dns_judgement.specs.Validity.{is_good_by}
 use Rattle.dns_judgement.specs.Judged.{Judged, decider}
-use Rattle.dns_judgement.specs.Marks.{is_skipped, is_skipped_read, key_question, counted_keys, is_key_of, same_tag, is_key_set_of, Verdict, Proved, Excused, Failed, is_proved, is_excused, by_secure_key, by_insecure_key, by_keys, by_key_set, verdict_by, verdict_of, mark_at, judged_by}
+use Rattle.dns_judgement.specs.Marks.{is_skipped, key_question, counted_keys, is_key_of, same_tag, is_key_set_of, Verdict, Proved, Excused, Failed, is_proved, is_excused, by_keys, verdict_of, mark_at, judged_by}
 use Rattle.dns_judgement.specs.Chained.{Chained, bare, names_decider, stands, signed_chain, chain_by_key, chain_by_set, chain_by_read, chain_by, ChainedVerdict, bare_verdicts, chain_if_proved, proved_chain, chained_by}
+use Rattle.dns_judgement.specs.MarkParts.{is_skipped_read, by_secure_key, by_insecure_key, by_key_set, verdict_by}
 use Rattle.dns_judgement.proofs.GoodLemmas.{Fits, signed_holds}
 use Rattle.dns_judgement.proofs.FirstLemmas.{early_after, first_two-after}
 

@@ -1,5 +1,6 @@
 -- An RRset after it was judged: its mark, and the signature that decided (RFC 4035, 4.3 and 5.3).
-use Rattle.std.specs.Prelude.{ℕ, List, Option, None, Some, slice_get}
+use Rattle.std.specs.Prelude.{ℕ, Option, slice_get}
+use Rattle.std.specs.Option.{option_and_then}
 use Rattle.dns_model.specs.declared.proof.Proof.{Proof}
 use Rattle.dns_model.specs.declared.section.Section.{Section}
 use Rattle.dns_model.specs.Records.{Rr, RrSet}
@@ -15,10 +16,6 @@ pub record Judged : Type 0 where
 abbrev pub placed_of : Judged → Placed
 placed_of judged = in_section judged.section judged.set
 
-abbrev pub signature_at : List Rr → Option ℕ → Option Rr
-signature_at signatures None = None
-signature_at signatures (Some n) = slice_get signatures n
-
 -- the signature that decided
 abbrev pub decider : Judged → Option Rr
-decider judged = signature_at judged.set.signatures judged.sig
+decider judged = option_and_then (slice_get judged.set.signatures) judged.sig

@@ -4,6 +4,7 @@ pub mod Marks
 pub mod Outcome
 pub mod Marking
 pub mod Asking
+pub mod MarkParts
 pub mod Chained
 pub mod Derivation
 pub mod DerivationParts

@@ -1,5 +1,6 @@
 -- The records of an answer with their marks (RFC 4035, 4.3 and 5.3.3).
-use Rattle.std.specs.Prelude.{ℕ, Bool, false, not, ◌==◌, ◌&&◌, min, List, [], ◌∷◌, ◌++◌, map, count_by, Option, None, Some, if◌then◌else◌}
+use Rattle.std.specs.Prelude.{ℕ, Bool, false, not, ◌==◌, ◌&&◌, min, List, [], ◌∷◌, ◌++◌, map, count_by, slice_get, if◌then◌else◌}
+use Rattle.std.specs.Option.{option_map_or}
 use Rattle.std.specs.List.{find}
 use Rattle.dns_model.specs.declared.proof.Proof.TheVariants.{Indeterminate}
 use Rattle.dns_model.specs.declared.section.Section.{Section}
@@ -27,41 +28,27 @@ abbrev pub is_about : Section → Rr → Judged → Bool
 is_about section r judged =
     section_eq judged.section section && (name_eq judged.set.owner r.owner && (judged.set.rtype == set_rtype r))
 
--- a record of the set that a signature covers, as far as owner and type say so
-abbrev pub covered : Rr → Rr
-covered signature = record signature { rtype = set_rtype signature }
-
 -- the place of a signature among those of the set that it covers: how many of them stand before it in its section
 abbrev pub signature_place : List Rr → Rr → ℕ
-signature_place before signature = count_by (covers (covered signature)) before
+signature_place before signature = count_by (covers (record signature { rtype = set_rtype signature })) before
 
-abbrev pub is_place : Option ℕ → ℕ → Bool
-is_place None place = false
-is_place (Some n) place = n == place
-
-abbrev pub first_record : List Rr → Option Rr
-first_record [] = None
-first_record (r ∷ rs) = Some r
-
-abbrev pub adjusted_by : ℕ → Judged → Rr → Option Rr → ℕ
-adjusted_by now judged r None = r.ttl
-adjusted_by now judged r (Some signature) = min (ttl_of (first_record judged.set.records)) (signed_ttl (rrsig_in signature.rdata) now)
-
--- a Secure set's ttl is bounded by the signature that decided
+-- a Secure set's ttl is that of its first record, bounded by the signature that decided
 abbrev pub adjusted_ttl : ℕ → Judged → Rr → ℕ
-adjusted_ttl now judged r = if is_secure judged.mark then adjusted_by now judged r (decider judged) else r.ttl
+adjusted_ttl now judged r =
+    if is_secure judged.mark
+    then option_map_or (λ signature. min (ttl_of (slice_get judged.set.records 0)) (signed_ttl (rrsig_in signature.rdata) now)) (decider judged) r.ttl
+    else r.ttl
 
--- of the signatures of a set the one that decided is marked: that at its place (RFC 4035, 5.3.3), and no copy of it
-abbrev pub marked_by : ℕ → ℕ → Rr → Option Judged → Rr
-marked_by now place r None = cleared r
-marked_by now place r (Some judged) =
-    if is_signature r && not (is_place judged.sig place)
-    then cleared r
-    else record r { proof = judged.mark; ttl = adjusted_ttl now judged r }
-
--- a record with the mark of its set, behind those that stand before it in its section
+-- a record with the mark of its set, behind those that stand before it in its section; of the signatures of a set the one that
+-- decided is marked: that at its place (RFC 4035, 5.3.3), and no copy of it
 unfoldable pub marked : ℕ → List Judged → Section → List Rr → Rr → Rr
-marked now sets section before r = marked_by now (signature_place before r) r (find (is_about section r) sets)
+marked now sets section before r =
+    option_map_or
+    (λ judged.
+    if is_signature r && not (option_map_or (λ n. n == signature_place before r) judged.sig false)
+    then cleared r
+    else record r { proof = judged.mark; ttl = adjusted_ttl now judged r })
+    (find (is_about section r) sets) (cleared r)
 
 -- each element changed, by itself and what stands before it
 unfoldable pub map_after : {X Y : Type 0} → (List X → X → Y) → List X → List X → List Y

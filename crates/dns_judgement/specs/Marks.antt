@@ -1,13 +1,12 @@
 -- The marks of sets, from the finished answers of their asks (RFC 4035, 4.3, 5.2 and 5.3).
 use Rattle.std.specs.Prelude.{ℕ, Bool, true, false, not, ◌==◌, ◌&&◌, ◌||◌, nat_lt, List, [], ◌∷◌, map, take, Option, None, Some, is_some, slice_get, if◌then◌else◌}
-use Rattle.std.specs.Option.{option_map}
+use Rattle.std.specs.Option.{option_map, option_map_or}
 use Rattle.std.specs.List.{filter, filter_map, find, list_all, count_by, position, enumerate_from}
 use Rattle.dns_model.specs.declared.proof.Proof.{Proof}
 use Rattle.dns_model.specs.declared.proof.Proof.TheVariants.{Secure, Insecure, Bogus, Indeterminate}
 use Rattle.dns_model.specs.declared.section.Section.TheVariants.{Answer}
 use Rattle.dns_model.specs.Names.{Labels, name_eq}
 use Rattle.dns_model.specs.Types.{type_dnskey}
-use Rattle.dns_model.specs.Views.{RrsigValue}
 use Rattle.dns_model.specs.Records.{Rr, RrSet, Question, question_eq}
 use Rattle.dns_model.specs.RecordViews.{rrsig_of, dnskey_of}
 use Rattle.dns_model.specs.Signing.{key_tag_of}
@@ -24,14 +23,10 @@ most_signatures = 8
 abbrev pub key_question : ℕ → Labels → Question
 key_question class signer = record { owner = signer; rtype = type_dnskey; class = class }
 
-abbrev pub is_skipped_read : Question → RrSet → Option RrsigValue → Bool
-is_skipped_read asked set None = true
-is_skipped_read asked set (Some sig) =
-    not (signer_fits set.rtype sig.signer set.owner) || question_eq (key_question set.class sig.signer) asked
-
 -- a signature isn't asked for: it can't be read, its signer doesn't fit, or it asks what is being asked
 abbrev pub is_skipped : Question → RrSet → Rr → Bool
-is_skipped asked set r = is_skipped_read asked set (rrsig_of r)
+is_skipped asked set r =
+    option_map_or (λ sig. not (signer_fits set.rtype sig.signer set.owner) || question_eq (key_question set.class sig.signer) asked) (rrsig_of r) true
 
 -- the record is a key of a zone: owned by it, of type DNSKEY, and readable
 abbrev pub is_key_of : Labels → Rr → Bool
@@ -40,13 +35,10 @@ is_key_of zone r = name_eq zone r.owner && is_some (dnskey_of r)
 abbrev pub same_tag : Rr → Rr → Bool
 same_tag a b = key_tag_of a.rdata == key_tag_of b.rdata
 
--- fewer than two of the keys before this one have its tag
-abbrev pub is_early : List Rr → ℕ × Rr → Bool
-is_early keys (n, key) = nat_lt (count_by (same_tag key) (take n keys)) 2
-
--- the first two keys of each tag
+-- the first two keys of each tag: fewer than two of the keys before such a one have its tag
 unfoldable pub first_two : List Rr → List Rr
-first_two keys = map (λ p. p.1) (filter (is_early keys) (enumerate_from 0 keys))
+first_two keys =
+    map (λ p. p.1) (filter (λ p. nat_lt (count_by (same_tag p.1) (take p.0 keys)) 2) (enumerate_from 0 keys))
 
 -- the keys of a zone that may sign its sets, of whatever records: the first two of each tag
 abbrev pub counted_keys : Labels → List Rr → List Rr
@@ -73,55 +65,40 @@ is_excused Proved = false
 is_excused Excused = true
 is_excused Failed = false
 
--- by the counted key of a Secure key set that the signature is good by, if there is one
-abbrev pub by_secure_key : Option Rr → Verdict
-by_secure_key None = Failed
-by_secure_key (Some key) = Proved
-
-abbrev pub by_insecure_key : List Rr → Verdict
-by_insecure_key [] = Failed
-by_insecure_key (key ∷ keys) = Excused
-
--- by the mark of the key set that was asked for
+-- by the mark and the counted keys of the key set that was asked for: one that is Secure has a key that the signature is good
+-- by, one that is Insecure has a key
 abbrev pub by_keys : Judge → RrSet → Rr → Proof → List Rr → Verdict
-by_keys j set r Secure keys = by_secure_key (find (is_good_by j set r) keys)
-by_keys j set r Insecure keys = by_insecure_key keys
+by_keys j set r Secure keys = option_map_or (λ key. Proved) (find (is_good_by j set r) keys) Failed
+by_keys j set r Insecure keys = option_map_or (λ key. Excused) (slice_get keys 0) Failed
 by_keys j set r Bogus keys = Failed
 by_keys j set r Indeterminate keys = Failed
-
-abbrev pub by_key_set : Judge → RrSet → Rr → Labels → Option Judged → Verdict
-by_key_set j set r signer None = Failed
-by_key_set j set r signer (Some keys) = by_keys j set r keys.mark (counted_keys signer keys.set.records)
-
-abbrev pub verdict_by : Judge → RrSet → Rr → List Judged → Option RrsigValue → Verdict
-verdict_by j set r answer None = Failed
-verdict_by j set r answer (Some sig) =
-    if never_expanded set.rtype sig.labels set.owner && right_below_signer set.rtype sig.signer set.owner
-    then by_key_set j set r sig.signer (find (is_key_set_of set.class sig.signer) answer)
-    else Failed
 
 -- the verdict of one signature, with the sets of the answer to its ask; none where the ask failed or was refused
 unfoldable pub verdict_of : Judge → RrSet → Rr → Option (List Judged) → Verdict
 verdict_of j set r None = Failed
-verdict_of j set r (Some answer) = verdict_by j set r answer (rrsig_of r)
+verdict_of j set r (Some answer) =
+    option_map_or
+    (λ sig.
+    if never_expanded set.rtype sig.labels set.owner && right_below_signer set.rtype sig.signer set.owner
+    then option_map_or (λ keys. by_keys j set r keys.mark (counted_keys sig.signer keys.set.records))
+        (find (is_key_set_of set.class sig.signer) answer) Failed
+    else Failed)
+    (rrsig_of r) Failed
 
 -- a mark, and the place of the signature that decided
 pub record Mark : Type 0 where
   pub mark : Proof
   pub sig : Option ℕ
 
--- an unsigned set: until zones are searched, none is excused
-abbrev pub unsigned_mark : Mark
-unsigned_mark = record { mark = Bogus; sig = None }
-
 abbrev pub mark_at : Option ℕ → Option ℕ → Mark
 mark_at (Some n) excused = record { mark = Secure; sig = Some n }
 mark_at None (Some n) = record { mark = Insecure; sig = Some n }
 mark_at None None = record { mark = Bogus; sig = None }
 
--- the mark of a set that isn't DNSKEY: the first Secure signature decides, else the first Insecure one
+-- the mark of a set that isn't DNSKEY: the first Secure signature decides, else the first Insecure one; until zones are
+-- searched, no unsigned set is excused
 abbrev pub set_mark : List Verdict → Mark
-set_mark [] = unsigned_mark
+set_mark [] = record { mark = Bogus; sig = None }
 set_mark (v ∷ vs) = mark_at (position is_proved (v ∷ vs)) (position is_excused (v ∷ vs))
 
 -- a set that isn't DNSKEY, judged by the verdicts of its signatures
@@ -147,19 +124,12 @@ pub record SignedKeys : Type 0 where
   pub signature : Rr
   pub key : Rr
 
-abbrev pub signed_keys : Judge → RrSet → ℕ × Rr → Option SignedKeys
-signed_keys j set (n, signature) =
-    option_map (λ key. record { place = n; signature = signature; key = key }) (anchored_signer j set signature)
-
 -- the first of some signatures that is good by an anchored key
 unfoldable pub first_signed : Judge → RrSet → List Rr → Option SignedKeys
-first_signed j set signatures = slice_get (filter_map (signed_keys j set) (enumerate_from 0 signatures)) 0
-
-abbrev pub keys_unsigned : Judge → Placed → Judged
-keys_unsigned j placed =
-    if list_all (is_anchored_key j placed.set) placed.set.records
-    then record { section = placed.section; set = placed.set; mark = Secure; sig = None }
-    else record { section = placed.section; set = placed.set; mark = Bogus; sig = None }
+first_signed j set signatures =
+    slice_get
+    (filter_map (λ p. option_map (λ key. record { place = p.0; signature = p.1; key = key }) (anchored_signer j set p.1)) (enumerate_from 0 signatures))
+    0
 
 abbrev pub keys_by : Judge → Placed → Option SignedKeys → Judged
 keys_by j placed (Some signed) = record {
@@ -168,7 +138,10 @@ keys_by j placed (Some signed) = record {
   mark = Secure;
   sig = Some signed.place;
 }
-keys_by j placed None = keys_unsigned j placed
+keys_by j placed None =
+    if list_all (is_anchored_key j placed.set) placed.set.records
+    then record { section = placed.section; set = placed.set; mark = Secure; sig = None }
+    else record { section = placed.section; set = placed.set; mark = Bogus; sig = None }
 
 -- a DNSKEY set: signed by an anchored key of it, or wholly anchored; until DS sets are asked for, else Bogus
 unfoldable pub judged_keys : Judge → Placed → Judged

@@ -1,13 +1,13 @@
 -- What a judged step answers (RFC 4035, 5.3.4 and 5.4).
 use Rattle.std.specs.Prelude.{Bool, false, not, ◌==◌, ◌&&◌, ◌||◌, nat_lt, List, ◌++◌, Option, None, Some, if◌then◌else◌}
+use Rattle.std.specs.Option.{option_map_or}
 use Rattle.std.specs.List.{list_any, find}
 use Rattle.dns_model.specs.declared.proof.Proof.{Proof}
 use Rattle.dns_model.specs.declared.proof.Proof.TheVariants.{Bogus}
 use Rattle.dns_model.specs.declared.denial.Denial as denial
 use Rattle.dns_model.specs.declared.denial.Denial.TheVariants as denied
-use Rattle.dns_model.specs.Names.{Labels, name_eq, num_labels}
+use Rattle.dns_model.specs.Names.{name_eq, num_labels}
 use Rattle.dns_model.specs.Types.{type_cname, type_nsec, type_nsec3}
-use Rattle.dns_model.specs.Views.{RrsigValue}
 use Rattle.dns_model.specs.Records.{Rr, Question}
 use Rattle.dns_model.specs.RecordViews.{rrsig_of}
 use Rattle.dns_model.specs.SoundAnswers.{Told, is_secure}
@@ -20,22 +20,15 @@ answers_query q r = name_eq q.owner r.owner && ((r.rtype == q.rtype) || (r.rtype
 abbrev pub has_answer : Question → Told → Bool
 has_answer q told = list_any (answers_query q) told.answers
 
-abbrev pub is_expanded_read : Labels → Option RrsigValue → Bool
-is_expanded_read owner None = false
-is_expanded_read owner (Some sig) = nat_lt sig.labels (num_labels owner)
-
 -- a readable RRSIG whose Labels is below its owner's count
 abbrev pub is_wildcard_signature : Rr → Bool
-is_wildcard_signature r = is_expanded_read r.owner (rrsig_of r)
-
-abbrev pub is_expanded_by : Option Rr → Bool
-is_expanded_by None = false
-is_expanded_by (Some r) = is_wildcard_signature r
+is_wildcard_signature r = option_map_or (λ sig. nat_lt sig.labels (num_labels r.owner)) (rrsig_of r) false
 
 -- a Secure set that can only be judged with denial of existence: NSEC, NSEC3, or expanded from a wildcard
 abbrev pub needs_denial : Judged → Bool
 needs_denial judged =
-    is_secure judged.mark && ((judged.set.rtype == type_nsec) || (judged.set.rtype == type_nsec3) || is_expanded_by (decider judged))
+    is_secure judged.mark
+    && ((judged.set.rtype == type_nsec) || (judged.set.rtype == type_nsec3) || option_map_or is_wildcard_signature (decider judged) false)
 
 -- how a judged step ends
 pub data Outcome : Type 0 where

@@ -1,5 +1,6 @@
 -- When a signature fits a set and a key, and when it is good (RFC 4035, 5.3.1 and 5.3.3).
-use Rattle.std.specs.Prelude.{Bool, true, false, not, ◌==◌, ◌&&◌, nat_le, Option, None, Some, if◌then◌else◌}
+use Rattle.std.specs.Prelude.{Bool, true, false, not, ◌==◌, ◌&&◌, nat_le, if◌then◌else◌}
+use Rattle.std.specs.Option.{option_map_or}
 use Rattle.dns_judgement.specs.declared.rrsig_validity.RrsigValidity.{RrsigValidity}
 use Rattle.dns_judgement.specs.declared.rrsig_validity.RrsigValidity.TheVariants.{ValidRrsig, ExpiredRrsig, WrongDnskey, WrongRrsig}
 use Rattle.dns_model.specs.Names.{name_eq, at_or_above, num_labels}
@@ -21,20 +22,15 @@ abbrev pub is_by_key : RrsigValue → Rr → DnskeyValue → Bool
 is_by_key sig r key =
     name_eq sig.signer r.owner && ((key.algorithm == sig.algorithm) && ((key_tag_of r.rdata == sig.key_tag) && is_zone_key key))
 
-abbrev pub key_validity : RrsigValue → Rr → Option DnskeyValue → RrsigValidity
-key_validity sig r None = WrongDnskey
-key_validity sig r (Some key) = if is_by_key sig r key then ValidRrsig else WrongDnskey
-
-abbrev pub sig_validity : (RrsigValue → Bool) → RrSet → Rr → Rr → Option RrsigValue → RrsigValidity
-sig_validity is_timely set r key None = WrongRrsig
-sig_validity is_timely set r key (Some sig) =
-    if not (is_of_set set r sig) then WrongRrsig
-    else if not (is_timely sig) then ExpiredRrsig
-    else key_validity sig key (dnskey_of key)
-
 -- the first test that fails, of the signature, the moment and the key; a record of another type is neither
 unfoldable pub validity : (RrsigValue → Bool) → RrSet → Rr → Rr → RrsigValidity
-validity is_timely set r key = sig_validity is_timely set r key (rrsig_of r)
+validity is_timely set r key =
+    option_map_or
+    (λ sig.
+    if not (is_of_set set r sig) then WrongRrsig
+    else if not (is_timely sig) then ExpiredRrsig
+    else option_map_or (λ text. if is_by_key sig key text then ValidRrsig else WrongDnskey) (dnskey_of key) WrongDnskey)
+    (rrsig_of r) WrongRrsig
 
 abbrev pub is_valid : RrsigValidity → Bool
 is_valid ValidRrsig = true
@@ -42,15 +38,15 @@ is_valid ExpiredRrsig = false
 is_valid WrongDnskey = false
 is_valid WrongRrsig = false
 
--- the key may sign, and the verifier accepts its signature
-abbrev pub is_accepted : Judge → RrSet → Option RrsigValue → Option DnskeyValue → Bool
-is_accepted j set None key = false
-is_accepted j set (Some sig) None = false
-is_accepted j set (Some sig) (Some key) =
-    usable_key j.answers key
-    && j.answers.accepts sig.algorithm key.key (signed_bytes set.owner set.rtype set.class (rdatas_of set.records) sig) sig.signature
-
--- the signature (second) of a set is good by a key (third)
+-- the signature (second) of a set is good by a key (third): it fits, the key may sign, and the verifier accepts its signature
 unfoldable pub is_good_by : Judge → RrSet → Rr → Rr → Bool
 is_good_by j set r key =
-    is_valid (validity j.is_timely set r key) && is_accepted j set (rrsig_of r) (dnskey_of key)
+    is_valid (validity j.is_timely set r key)
+    && option_map_or
+    (λ sig.
+    option_map_or
+    (λ text.
+    usable_key j.answers text
+    && j.answers.accepts sig.algorithm text.key (signed_bytes set.owner set.rtype set.class (rdatas_of set.records) sig) sig.signature)
+    (dnskey_of key) false)
+    (rrsig_of r) false

@@ -16,7 +16,8 @@ use Rattle.dns_model.specs.SoundAnswers.{section_eq, set_rtype, covered_rtype}
 use Rattle.dns_model.proofs.EachLemmas.{each_of, find_known}
 use Rattle.dns_model.proofs.SetLemmas.{name_back, name_trans, number_refl, number_same}
 use Rattle.dns_judgement.specs.Judged.{Judged}
-use Rattle.dns_judgement.specs.Marking.{covered, signature_place, is_place}
+use Rattle.dns_judgement.specs.Marking.{signature_place}
+use Rattle.dns_judgement.specs.MarkParts.{covered, is_place}
 use Rattle.dns_judgement.proofs.DeciderLemmas.{kind_of, covered_parts, place_same}
 use Rattle.dns_sets.specs.declared.set_places.SetPlaces.{SetPlaces}
 use Rattle.dns_sets.specs.SetPlaces.{place_of, is_placed, ArePlacedIn}

@@ -8,7 +8,8 @@ use Rattle.dns_model.specs.Records.{Rr}
 use Rattle.dns_model.specs.Sections.{covers}
 use Rattle.dns_model.specs.SoundAnswers.{set_rtype}
 use Rattle.dns_judgement.specs.Judged.{Judged}
-use Rattle.dns_judgement.specs.Marking.{covered, signature_place, is_about, marked_by, marked, marked_section}
+use Rattle.dns_judgement.specs.Marking.{signature_place, is_about, marked, marked_section}
+use Rattle.dns_judgement.specs.MarkParts.{covered, marked_by}
 use Rattle.dns_judgement.proofs.AfterLemmas.{after-push, length-after}
 use Rattle.dns_sets.specs.declared.set_places.SetPlaces.{SetPlaces}
 use Rattle.dns_sets.specs.SetPlaces.{place_of, is_placed, ArePlacedIn}

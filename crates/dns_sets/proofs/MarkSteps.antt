@@ -7,7 +7,8 @@ use Rattle.dns_model.specs.Names.{Labels}
 use Rattle.dns_model.specs.Records.{Rr}
 use Rattle.dns_model.specs.SoundAnswers.{set_rtype}
 use Rattle.dns_judgement.specs.Judged.{Judged}
-use Rattle.dns_judgement.specs.Marking.{cleared, is_about, marked_by}
+use Rattle.dns_judgement.specs.Marking.{cleared, is_about}
+use Rattle.dns_judgement.specs.MarkParts.{marked_by}
 use Rattle.dns_sets.specs.declared.set_places.SetPlaces.{SetPlaces}
 use Rattle.dns_sets.specs.SetPlaces.{place_of, or_place, with_judged, place_in, is_placed, ArePlacedIn}
 use Rattle.dns_sets.proofs.PlaceLemmas.{IsPlace, is_place, is_absent, place-push}

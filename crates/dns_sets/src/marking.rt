@@ -4,8 +4,9 @@ ghost use Rattle.dns_model.specs.Names.{Labels};
 ghost use Rattle.dns_model.specs.Views.{rrsig_in};
 ghost use Rattle.dns_model.specs.SoundAnswers.{section_eq, ttl_of, set_rtype as set_rtype_of, signed_ttl as signed_ttl_of};
 ghost use Rattle.dns_judgement.specs.Judged.{decider as decider_of};
-ghost use Rattle.dns_judgement.specs.Marking.{marked_section, marked_by, is_about, is_place as is_same_place, first_record, adjusted_ttl as adjusted_ttl_of};
+ghost use Rattle.dns_judgement.specs.Marking.{marked_section, is_about, adjusted_ttl as adjusted_ttl_of};
 ghost use Rattle.dns_judgement.specs.Chained.{bare, chains_of, finished as finished_value};
+ghost use Rattle.dns_judgement.specs.MarkParts.{marked_by, is_place as is_same_place, first_record};
 ghost use Rattle.dns_sets.specs.SetPlaces.{ArePlacedIn, place_of, with_judged};
 ghost use Rattle.dns_sets.specs.Counting.{is_readable, count_at, counted};
 

@@ -12,7 +12,8 @@ use Rattle.std.proofs.lemmas.Grind.{common_steps}
 use Rattle.dns_model.specs.Names.{Labels}
 use Rattle.dns_model.specs.Records.{Rr}
 use Rattle.dns_model.specs.Signing.{key_tag_of}
-use Rattle.dns_judgement.specs.Marks.{is_key_of, same_tag, counted_keys, by_insecure_key, Excused, Failed}
+use Rattle.dns_judgement.specs.Marks.{is_key_of, same_tag, counted_keys, Excused, Failed}
+use Rattle.dns_judgement.specs.MarkParts.{by_insecure_key}
 use Rattle.dns_judgement.proofs.FirstLemmas.{early_after, first_two-after}
 use Rattle.dns_trust.specs.Counting.{count_in, tag_count_after, count_after, is_tried}
 

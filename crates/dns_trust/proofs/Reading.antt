@@ -8,8 +8,9 @@ use Rattle.dns_model.specs.RecordViews.{rrsig_of, dnskey_of}
 use Rattle.dns_model.specs.Signing.{signed_bytes}
 use Rattle.dns_model.specs.Keys.{usable_key}
 use Rattle.dns_model.specs.Chains.{Judge, rdatas_of}
-use Rattle.dns_judgement.specs.Validity.{sig_validity, validity, is_valid, is_accepted, is_good_by}
+use Rattle.dns_judgement.specs.Validity.{validity, is_valid, is_good_by}
 use Rattle.dns_judgement.specs.Marks.{is_anchored_key}
+use Rattle.dns_judgement.specs.MarkParts.{sig_validity, is_accepted}
 use Rattle.dns_trust.specs.Verdicts.{is_signer}
 
 -- by a key, where the signature is read

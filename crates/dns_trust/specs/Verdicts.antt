@@ -8,6 +8,7 @@ use Rattle.dns_model.specs.SoundAnswers.{Placed}
 use Rattle.dns_net.specs.Link.{link_value}
 use Rattle.dns_judgement.specs.Validity.{is_good_by}
 use Rattle.dns_judgement.specs.Marks as marks
+use Rattle.dns_judgement.specs.MarkParts.{by_key_set, keys_unsigned}
 use Rattle.dns_judgement.specs.Chained.{Chained, ChainedVerdict, with_chain, chain_by_set, keys_chain_by}
 use Rattle.dns_trust.specs.declared.keys.SignedBy.{SignedBy}
 use Rattle.dns_trust.specs.declared.verdict.Verdict.{Verdict}
@@ -39,8 +40,8 @@ may_be_signed set sig = never_expanded set.rtype sig.labels set.owner && right_b
 -- the verdict by the key set that was asked for
 abbrev pub chained_by_set : Judge → RrSet → Rr → Labels → Chained → ChainedVerdict
 chained_by_set j set r signer keys =
-    with_chain (marks.by_key_set j set r signer (Some keys.judged)) (chain_by_set j set r signer (Some keys))
+    with_chain (by_key_set j set r signer (Some keys.judged)) (chain_by_set j set r signer (Some keys))
 
 -- a key set that no anchored key of it signed
 abbrev pub chained_unsigned : Judge → Placed → Chained
-chained_unsigned j placed = record { judged = marks.keys_unsigned j placed; chain = keys_chain_by j placed.set None }
+chained_unsigned j placed = record { judged = keys_unsigned j placed; chain = keys_chain_by j placed.set None }

@@ -4,7 +4,8 @@ ghost use Rattle.dns_model.specs.Keys.{usable_key};
 ghost use Rattle.dns_model.specs.Signing.{signed_bytes};
 ghost use Rattle.dns_model.specs.Chains.{rdatas_of};
 ghost use Rattle.dns_model.specs.Serial.{timely};
-ghost use Rattle.dns_judgement.specs.Validity.{is_good_by as is_good_in, is_valid as is_valid_in, sig_validity};
+ghost use Rattle.dns_judgement.specs.Validity.{is_good_by as is_good_in, is_valid as is_valid_in};
+ghost use Rattle.dns_judgement.specs.MarkParts.{sig_validity};
 ghost use Rattle.dns_trust.specs.Judge.{judge_of};
 ghost use Rattle.dns_trust.specs.Built.{IsBuilt};
 

@@ -1,7 +1,8 @@
 ghost use Rattle.std.specs.Prelude.{◌≡◌, Some};
 ghost use Rattle.dns_model.specs.Serial.{timely};
 ghost use Rattle.dns_model.specs.RecordViews.{dnskey_of};
-ghost use Rattle.dns_judgement.specs.Validity.{validity, sig_validity, is_of_set as is_set_signature, key_validity as key_fits};
+ghost use Rattle.dns_judgement.specs.Validity.{validity, is_of_set as is_set_signature};
+ghost use Rattle.dns_judgement.specs.MarkParts.{sig_validity, key_validity as key_fits};
 
 use dns_judgement::RrsigValidity;
 use dns_rdata::{Dnskey, Rrsig, SerialNumber, key_tag};

@@ -2,8 +2,8 @@ use Rattle.std.proofs.Common.{◌≡◌, arith, ap, Some, inl, inr, refl, ◌∙
 use Rattle.std.proofs.lemmas.List.{map-append, map-id}
 use Rattle.std.proofs.lemmas.Iterator.Consumers.{YieldsList-end}
 use Rattle.std.proofs.lemmas.Iterator.Adapters.{YieldsList-from_vec}
-use Rattle.dns_judgement.specs.Marks.{is_skipped_read}
 use Rattle.dns_judgement.specs.Run.{signer_question, Refused, Fault, Foreign}
+use Rattle.dns_judgement.specs.MarkParts.{is_skipped_read}
 use Rattle.dns_chain.specs.Steps.{KeysStep, SkippedStep, AskedStep}
 use Rattle.dns_chain.proofs.StepLemmas.{then_way, set_done, sets_done, proved_at, failed_at, all_failed, other_step}
 use Rattle.dns_chain.proofs.HeardLemmas.{said_some, said_none, answered_ask}

@@ -1,7 +1,8 @@
 use Rattle.std.proofs.Common.{rules, ◌≡◌, ◌<◌, length, get_or, None, Some, ap, ◌∙◌}
 use Rattle.std.specs.List.{find}
 use Rattle.dns_model.specs.SoundAnswers.{set_rtype}
-use Rattle.dns_judgement.specs.Marking.{is_about, marked_by}
+use Rattle.dns_judgement.specs.Marking.{is_about}
+use Rattle.dns_judgement.specs.MarkParts.{marked_by}
 use Rattle.dns_sets.specs.SetPlaces.{place_of}
 use Rattle.dns_sets.specs.Counting.{count_at}
 use Rattle.dns_sets.proofs.MarkSteps.{set_at, marked_at, marked_none}
