@@ -41,14 +41,16 @@ impl Recorded {
         }
     }
 
-    /// The same handle, which from now on serves by turn: each send of a query takes the next reply to it, and the last one
-    /// serves all later sends.
-    pub fn in_turn(self) -> Recorded
-        ensures { result ≡ record self { by_turn = true } }
+    /// A handle with no reply, which serves by turn: each send of a query takes the next reply to it, and the last one serves
+    /// all later sends.
+    pub fn in_turn(alloc: Global) -> Recorded
+        ensures { result ≡ record { sends = 0; faults = 0; replies = []; by_turn = true } }
     {
         Recorded {
+            replies: ReplyList::new(alloc),
             by_turn: true,
-            ..self
+            sends: 0,
+            faults: 0,
         }
     }
 

@@ -13,18 +13,15 @@ enum Step {
     Send(&'static str, u16, u16),
     /// A request without a question is sent, and `Timeout` comes.
     SendNothing,
-    /// From now on replies are served by turn.
-    InTurn,
 }
 
-const BY_TURN: [Step; 19] = [
+const BY_TURN: [Step; 18] = [
     Step::Put("a.", 1, 1),
     Step::Put("b.", 1, 4),
     Step::Put("A.", 1, 2),
     Step::Put("a.", 1, 3),
     Step::Put("b.", 1, 16),
     Step::Put("a.", 2, 5),
-    Step::InTurn,
     Step::Send("a.", 1, 1),
     Step::Send("b.", 1, 4),
     // in whatever case the name is
@@ -43,8 +40,7 @@ const BY_TURN: [Step; 19] = [
 ];
 
 /// Replies that are put in between sends come behind those that are left.
-const PUT_LATER: [Step; 12] = [
-    Step::InTurn,
+const PUT_LATER: [Step; 11] = [
     Step::Send("a.", 1, 99),
     Step::Put("a.", 1, 1),
     Step::Send("a.", 1, 1),
@@ -58,17 +54,15 @@ const PUT_LATER: [Step; 12] = [
     Step::Send("a.", 1, 4),
 ];
 
-/// Without turns the first reply serves each send; turns begin with the reply that was served so.
-const NOT_BY_TURN: [Step; 10] = [
+/// Without turns the first reply serves each send.
+const NOT_BY_TURN: [Step; 8] = [
     Step::Put("a.", 1, 1),
     Step::Put("a.", 1, 2),
     Step::Put("b.", 1, 16),
     Step::Send("a.", 1, 1),
     Step::Send("b.", 1, 16),
     Step::Send("A.", 1, 1),
-    Step::InTurn,
     Step::Send("a.", 1, 1),
-    Step::Send("a.", 1, 2),
     Step::Send("b.", 1, 16),
 ];
 
@@ -140,7 +134,6 @@ fn after(alloc: Global, mut handle: Recorded, step: Step) -> Result<Option<Recor
             sends_as(alloc, &mut handle, name, record_type, code)?
         }
         Step::SendNothing => sends_nothing(alloc, &mut handle)?,
-        Step::InTurn => return Ok(Some(handle.in_turn())),
     };
     if as_said { Ok(Some(handle)) } else { Ok(None) }
 }
@@ -161,10 +154,9 @@ fn replies_are_served_by_turn(rt: HostRuntime) -> Result<(), Fail> {
     for steps in [
         BY_TURN.as_slice(),
         PUT_LATER.as_slice(),
-        NOT_BY_TURN.as_slice(),
         ONE_EACH.as_slice(),
     ] {
-        let handle = Recorded::new(rt.alloc());
+        let handle = Recorded::in_turn(rt.alloc());
         let other = first_other(rt.alloc(), handle, steps)?;
         assert!(rt; other.is_none(), "at step {}", other.unwrap_or(0));
     }
@@ -172,9 +164,11 @@ fn replies_are_served_by_turn(rt: HostRuntime) -> Result<(), Fail> {
 }
 
 #[test]
-fn one_reply_to_each_query_needs_no_turns(rt: HostRuntime) -> Result<(), Fail> {
-    let handle = Recorded::new(rt.alloc()).in_turn();
-    let other = first_other(rt.alloc(), handle, &ONE_EACH)?;
-    assert!(rt; other.is_none(), "at step {}", other.unwrap_or(0));
+fn without_turns_the_first_reply_serves(rt: HostRuntime) -> Result<(), Fail> {
+    for steps in [NOT_BY_TURN.as_slice(), ONE_EACH.as_slice()] {
+        let handle = Recorded::new(rt.alloc());
+        let other = first_other(rt.alloc(), handle, steps)?;
+        assert!(rt; other.is_none(), "at step {}", other.unwrap_or(0));
+    }
     Ok(())
 }
