@@ -10,12 +10,12 @@ use Rattle.dns_net.specs.Errors as seen
 use Rattle.dns_net.specs.Errors.{Reply}
 use Rattle.dns_net.specs.Handles.{Replies, after_turn}
 use Rattle.dns_net.specs.Recording.{IsServed}
-use Rattle.dns_net.specs.RecordedPlaces.{Slot, left, reply_at, places_from, turn_in, places_at, key_of, IndexesReplies}
+use Rattle.dns_net.specs.RecordedPlaces.{Slot, replies_by, left, reply_at, places_from, turn_in, places_at, key_of, IndexesReplies}
 use Rattle.dns_net.proofs.ReplyLemmas.{First, first, unanswered, reply_at-first, last_stays, first_goes}
 
 -- the replies of slots, served by turn or not
 abbrev pub told_by : List Slot → Bool → Replies
-told_by slots by_turn = record { list = left slots; by_turn = by_turn }
+told_by slots by_turn = replies_by by_turn (left slots)
 
 all_stay : (q : Question) (told : List (Question × Reply)) (by_turn : Bool) → after_turn told q ≡ told → cond by_turn (after_turn told q) told ≡ told
 all_stay q told true same = same
@@ -71,7 +71,7 @@ pub serves_none : (q : Question) (slots : List Slot) (by_turn : Bool) → None �
     → IsServed (told_by slots by_turn) (Some q) (told_by slots by_turn) (Err seen.Timeout)
 serves_none q slots by_turn found =
     let un = unanswered q slots (none_next by_turn (places_from q 0 slots) found) in
-    inl (sym un.reply, ap (λ l. record { list = l; by_turn = by_turn }) (sym (all_stay q (left slots) by_turn un.kept)))
+    inl (sym un.reply, ap (replies_by by_turn) (sym (all_stay q (left slots) by_turn un.kept)))
 
 -- a reply that stays
 pub serves_copy : (q : Question) (slots : List Slot) (by_turn : Bool) (turn : Turn) (reply : Reply) → Some turn ≡ turn_in by_turn (places_from q 0 slots)
@@ -81,7 +81,7 @@ serves_copy q slots by_turn turn reply found stays copied =
     let s = staying_by q slots by_turn turn (places_from q 0 slots) refl found stays in
     elim copied as (λ _. IsServed (told_by slots by_turn) (Some q) (told_by slots by_turn) reply) [
       | inl none ↦ inr (none, refl)
-      | inr same ↦ inl (same ∙ sym (reply_at-first q slots turn.place s.rest s.first), ap (λ l. record { list = l; by_turn = by_turn }) (sym s.kept))
+      | inr same ↦ inl (same ∙ sym (reply_at-first q slots turn.place s.rest s.first), ap (replies_by by_turn) (sym s.kept))
     ]
 
 -- a reply that goes
@@ -94,7 +94,7 @@ pub serves_turn : (q : Question) (slots : List Slot) (by_turn : Bool) (place : �
 serves_turn q slots by_turn place reply g same =
     let goes : left (slice_set slots place None) ≡ cond by_turn (after_turn (left slots) q) (left slots) =
     rw g.turn (first_goes q slots place g.next g.rest g.first) in
-    inl (same ∙ sym (reply_at-first q slots place (g.next ∷ g.rest) g.first), ap (λ l. record { list = l; by_turn = by_turn }) goes)
+    inl (same ∙ sym (reply_at-first q slots place (g.next ∷ g.rest) g.first), ap (replies_by by_turn) goes)
 
 -- the place of a reply that goes is within the list
 pub going_within : (q : Question) (slots : List Slot) (by_turn : Bool) (place : ℕ) → Going q slots by_turn place → place < length slots

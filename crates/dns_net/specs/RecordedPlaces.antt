@@ -13,6 +13,11 @@ use Rattle.dns_net.specs.declared.query_key.QueryKey.{QueryKey}
 use Rattle.dns_net.specs.declared.reply_places.Turn.{Turn}
 use Rattle.dns_net.specs.Errors as seen
 use Rattle.dns_net.specs.Errors.{Reply}
+use Rattle.dns_net.specs.Handles.{Replies}
+
+-- replies that are left, served by turn or not
+abbrev pub replies_by : Bool → List (Question × Reply) → Replies
+replies_by by_turn list = record { list = list; by_turn = by_turn }
 
 -- a question as a key: the wire form of its name with A to Z as a to z (RFC 4343, 3), its type and its class
 abbrev pub key_of : Question → QueryKey

@@ -29,7 +29,8 @@ reply_for replies (Some q) = reply_to replies q
 
 -- the first reply to the question, and what it leaves; or want of memory, and all stay
 abbrev pub IsServed : Replies → Option Question → Replies → Reply → Type 0
-IsServed old q new reply = ((reply ≡ reply_for old.list q) × (new ≡ option_map_or (left_after old) q old)) ⊎ ((reply ≡ Err seen.NoMemory) × (new ≡ old))
+IsServed old q new reply =
+    ((reply ≡ reply_for old.list q) × (new ≡ option_map_or (left_after old) q old)) ⊎ ((reply ≡ Err seen.NoMemory) × (new ≡ old))
 
 -- a send: a reply is served; the send is counted, and so is an error
 pub record AnswersFrom (old : RecordedValue) (q : Option Question) (new : RecordedValue) (reply : Reply) : Type 0 where

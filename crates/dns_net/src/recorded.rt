@@ -2,6 +2,7 @@ ghost use Rattle.std.specs.Prelude.{◌≡◌, ◌∷◌, ◌++◌, true, false,
 ghost use Rattle.dns_net.specs.Replies.{reply_of};
 ghost use Rattle.dns_net.specs.Requests.{first_question};
 ghost use Rattle.dns_net.specs.Recording.{replies_of, faults_after, IsServed, AnswersFrom};
+ghost use Rattle.dns_net.specs.RecordedPlaces.{replies_by};
 
 use crate::reply_list::ReplyList;
 use crate::{DnsHandle, DnsRequest, DnsResponse, NetError};
@@ -69,15 +70,15 @@ impl Recorded {
 
 /// The reply to the request's first question, or `Timeout` where it has none.
 fn next_reply(
-    replies: &mut ReplyList,
+    list: &mut ReplyList,
     request: &DnsRequest,
     by_turn: bool,
 ) -> Result<DnsResponse, NetError>
-    ensures { IsServed (record { list = replies.old; by_turn = by_turn }) (first_question request.now) (record { list = replies.new; by_turn = by_turn }) (reply_of result) }
+    ensures { IsServed (replies_by by_turn list.old) (first_question request.now) (replies_by by_turn list.new) (reply_of result) }
 {
     match request.message.queries.first() {
         None => Err(NetError::Timeout),
-        Some(query) => replies.serve(query, by_turn),
+        Some(query) => list.serve(query, by_turn),
     }
 }
 

@@ -2,7 +2,7 @@ ghost use Rattle.std.specs.Prelude.{◌≡◌, ◌<◌, ◌⊎◌, ◌∷◌, �
 ghost use Rattle.dns_net.specs.Errors as seen;
 ghost use Rattle.dns_net.specs.Replies.{reply_of};
 ghost use Rattle.dns_net.specs.Recording.{IsServed};
-ghost use Rattle.dns_net.specs.RecordedPlaces.{reply_at};
+ghost use Rattle.dns_net.specs.RecordedPlaces.{replies_by, reply_at};
 
 use crate::query_key::QueryKey;
 use crate::reply_places::{ReplyPlaces, drop_place, note_place, turn_of};
@@ -125,7 +125,7 @@ impl ReplyList {
     /// The first reply to a query, or `Timeout`. By turn it is gone then, unless it is the last one to its query. Where memory
     /// runs out nothing has changed.
     pub(crate) fn serve(&mut self, query: &Query, by_turn: bool) -> Result<DnsResponse, NetError>
-        ensures { IsServed (record { list = self.old; by_turn = by_turn }) (Some query.now) (record { list = self.new; by_turn = by_turn }) (reply_of result) }
+        ensures { IsServed (replies_by by_turn self.old) (Some query.now) (replies_by by_turn self.new) (reply_of result) }
     {
         let key = QueryKey::of(*self.recordings.allocator(), query)?;
         let Some(turn) = turn_of(&self.places, &key, by_turn) else {
