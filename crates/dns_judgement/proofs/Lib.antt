@@ -1,3 +1,5 @@
+pub mod WorkedTrailValues
+pub mod WorkedTrails
 pub mod GoodLemmas
 pub mod FirstLemmas
 pub mod StandLemmas
