@@ -81,7 +81,7 @@ verdict_of j set r (Some answer) =
     (λ sig.
     if never_expanded set.rtype sig.labels set.owner && right_below_signer set.rtype sig.signer set.owner
     then option_map_or (λ keys. by_keys j set r keys.mark (counted_keys sig.signer keys.set.records))
-        (find (is_key_set_of set.class sig.signer) answer) Failed
+    (find (is_key_set_of set.class sig.signer) answer) Failed
     else Failed)
     (rrsig_of r) Failed
 
