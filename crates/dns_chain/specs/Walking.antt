@@ -1,21 +1,78 @@
 -- For private functions of this crate only: a part of the walk of asks, with the steps that it adds to the trail.
-use Rattle.std.specs.Prelude.{ℕ, ◌≡◌, ◌≤◌, true, List, Option, None, Some}
-use Rattle.std.specs.List.{AllByRecursion}
+use Rattle.std.specs.Prelude.{ℕ, ◌≡◌, ◌≤◌, ◌+◌, ◌⊎◌, ◌==◌, true, false, List, [], ◌∷◌, ◌++◌, length, take, Option, None, Some, Result, Ok, Err}
+use Rattle.std.specs.Option.{option_map}
 use Rattle.dns_model.specs.declared.trail.AskRef.{AskRef}
-use Rattle.dns_model.specs.Records.{Question}
+use Rattle.dns_model.specs.declared.trail.AskRef.TheVariants.{Step}
+use Rattle.dns_model.specs.declared.trail.MarkOrigin.TheVariants.{Table}
+use Rattle.dns_model.specs.Types.{type_dnskey}
+use Rattle.dns_model.specs.Records.{Rr, RrSet, Question, MessageValue}
+use Rattle.dns_model.specs.Keys.{VerifierAnswers}
 use Rattle.dns_model.specs.Chains.{Judge}
 use Rattle.dns_model.specs.SoundAnswers.{Placed}
-use Rattle.dns_model.specs.Trails.{AskedValue, JudgedSetValue}
-use Rattle.dns_judgement.specs.Asking.{most_sends}
-use Rattle.dns_judgement.specs.Chained.{Chained, bare, stands}
-use Rattle.dns_judgement.specs.Derivation.{Grounds, entries_hold, with_entries, asks_of_sets, steps_at}
+use Rattle.dns_model.specs.Trails.{AskedValue, HeardValue, JudgedSetValue, EndingValue}
+use Rattle.dns_model.specs.Trails as trails
+use Rattle.dns_model.proofs.SetLemmas.{IsProper}
+use Rattle.dns_judgement.specs.Asking.{most_sends, ask_of}
+use Rattle.dns_judgement.specs.Chained.{Chained, bare, stands, ChainedVerdict, chained_verdict, bare_verdicts}
+use Rattle.dns_judgement.specs.Derivation.{Grounds, entry_holds, entries_hold, with_entries, finished_answer, is_ask, verdicts_by}
+use Rattle.dns_judgement.specs.DerivationParts.{with_entry, steps_at, is_ask_for}
+use Rattle.dns_judgement.specs.Judged.{Judged}
+use Rattle.dns_judgement.specs.Marking.{cleared_message}
+use Rattle.dns_judgement.specs.Marks.{is_skipped, most_signatures}
+use Rattle.dns_judgement.specs.Marks as marks
+use Rattle.dns_judgement.specs.Outcome.{Outcome, Unjudged, Accepted, Denied}
 use Rattle.dns_judgement.specs.Parts.{Part}
+use Rattle.dns_judgement.proofs.StandLemmas.{AreGood}
+use Rattle.dns_judgement.proofs.ChainedLemmas.{AllStand, AreProper, IsGoodAnswer}
 use Rattle.dns_net.specs.Errors.{Reply}
+use Rattle.dns_net.specs.Replies.{error_of}
 use Rattle.dns_net.specs.Walks.{Walked}
+use Rattle.dns_net.specs.declared.error.NetError.{NetError}
+use Rattle.dns_net.specs.declared.handle.DnsHandle as handle
+use Rattle.dns_trust.specs.Judge.{judge_of}
+use Rattle.dns_chain.specs.Heard.{heard_message}
+use Rattle.dns_chain.specs.Calls.{Asking}
 use Rattle.dns_chain.specs.Sends.{SendsAlong}
+use Rattle.dns_chain.specs.declared.inquiry.Inquiry.{Inquiry}
+use Rattle.dns_chain.specs.declared.inquiry.Progress.{Progress}
+
+-- ---- one ask
+
+-- an ask of an inquiry
+abbrev pub asking : {H V : Type 0} → handle.Ghosts H → Inquiry V → H → Question → H → Reply → Type 0
+asking meanings inquiry = Asking meanings inquiry.options inquiry.judge.moment
+
+-- the message of a reply, without its marks
+pub record IsHeard (reply : Reply) (message : MessageValue) : Type 0 where
+  pub from : MessageValue
+  pub is : heard_message reply ≡ Some from
+  pub cleared : message ≡ cleared_message from
+
+-- the reply has no message, and is this error
+pub record IsUnheard (reply : Reply) (error : NetError) : Type 0 where
+  pub none : heard_message reply ≡ None
+  pub is : reply ≡ Err (error_of error)
+
+abbrev pub HeardAs : Reply → Result MessageValue NetError → Type 0
+HeardAs reply (Ok message) = IsHeard reply message
+HeardAs reply (Err error) = IsUnheard reply error
+
+-- one ask, its reply, and what was heard of it
+pub record Heard {H : Type 0} (ask : H → Question → H → Reply → Type 0) (old new : H) (q : Question)
+    (result : Result MessageValue NetError) : Type 0 where
+  pub reply : Reply
+  pub made : ask old q new reply
+  pub heard : HeardAs reply result
+
+-- ---- asks one after another
+
+-- no more steps were added than sends were made
+abbrev pub IsCounted : Progress → Progress → Type 0
+IsCounted old new = length new.steps.items + old.sends ≤ length old.steps.items + new.sends
 
 -- whatever the result: a handle went from one state to another by asks that a counter of sends covers
-pub record Went {H : Type 0} (ask : H → Question → H → Reply → Type 0) (faults : H → ℕ) (old new : H) (n m : ℕ) : Type 0 where
+pub record Went {H : Type 0} (ask : H → Question → H → Reply → Type 0) (faults : H → ℕ) (old new : H)
+    (n m : ℕ) : Type 0 where
   pub walk : Walked ask old new n m
   pub few : m ≤ most_sends
   pub later : faults old ≤ faults new
@@ -26,8 +83,111 @@ pub record Asks {H : Type 0} (ask : H → Question → H → Reply → Type 0) (
   pub part : Part j limit before after asks n m
   pub sends : SendsAlong ask old (steps_at after (Some part.order)) new
 
+-- asks of an inquiry, between two states of its progress
+abbrev pub Walk : {H V : Type 0} → handle.Ghosts H → (V → VerifierAnswers) → Inquiry V → H → Progress → H → Progress
+    → List AskRef → Type 0
+Walk meanings answers inquiry old before new after asks =
+    Asks (asking meanings inquiry) (judge_of answers inquiry.judge) inquiry.limit old new before.steps.items after.steps.items asks
+    before.sends after.sends
+
+-- by what the sets of a step are judged, at a state of the progress
+abbrev pub grounds_at : {V : Type 0} → (V → VerifierAnswers) → Inquiry V → Progress → Question → ℕ → Grounds
+grounds_at answers inquiry progress q depth = record {
+  judge = judge_of answers inquiry.judge;
+  limit = inquiry.limit;
+  earlier = progress.steps.items;
+  query = q;
+  depth = depth;
+}
+
+-- ---- a step
+
+-- a judged step that named no ask for its ending
+abbrev pub judged_step : ℕ → Question → HeardValue → List JudgedSetValue → EndingValue → AskedValue
+judged_step depth q reply sets ending = record {
+  depth = depth;
+  judged = true;
+  query = q;
+  reply = reply;
+  sets = sets;
+  ending = ending;
+  excuse = [];
+}
+
+-- the entry of a set that the rules judged by these asks
+abbrev pub entry_of : Judged → List AskRef → JudgedSetValue
+entry_of judged asked = record {
+  section = judged.section;
+  owner = judged.set.owner;
+  rtype = judged.set.rtype;
+  mark = judged.mark;
+  origin = Table;
+  sig = judged.sig;
+  asked = asked;
+}
+
+-- the ending that names a record of another class
+abbrev pub foreign_ending : Rr → EndingValue
+foreign_ending r = trails.Foreign r.owner r.class r.rtype
+
+-- the sets of a step whose answer is accepted
+abbrev pub accepted_sets : {X : Type 0} → Outcome → List X → Option (List X)
+accepted_sets Unjudged sets = None
+accepted_sets (Accepted d) sets = Some sets
+accepted_sets (Denied proof) sets = None
+
+-- ---- what the functions of the walk come to
+
+-- a step was added to the trail, and is named
+pub record IsAdded (before after : List AskedValue) (step : AskedValue) (ask : AskRef) : Type 0 where
+  pub steps : after ≡ before ++ step ∷ []
+  pub named : ask ≡ Step (length before)
+
+-- the answer to an ask, as the trail has it
+pub record IsAnswer (j : Judge) (limit : ℕ) (steps : List AskedValue) (q : Question) (depth : ℕ) (ask : AskRef)
+    (answer : Option (List Chained)) : Type 0 where
+  pub asks : is_ask limit steps depth q ask ≡ true
+  pub same : option_map bare answer ≡ finished_answer steps ask
+  pub stand : IsGoodAnswer j answer
+
+-- the ask of a signature, if it made one
+abbrev pub asks_in : Option AskRef → List AskRef
+asks_in None = []
+asks_in (Some ask) = ask ∷ []
+
+-- a signature that isn't asked for
+pub record IsUntried (g : Grounds) (set : RrSet) (r : Rr) (ask : Option AskRef) (v : ChainedVerdict) : Type 0 where
+  pub skipped : is_skipped g.query set r ≡ true
+  pub none : ask ≡ None
+  pub failed : v ≡ record { verdict = marks.Failed; chain = [] }
+
+-- a signature that was asked for
+pub record IsAskedFor (g : Grounds) (set : RrSet) (r : Rr) (ask : Option AskRef) (v : ChainedVerdict) : Type 0 where
+  pub made : AskRef
+  pub answer : Option (List Chained)
+  pub one : ask ≡ Some made
+  pub kept : is_skipped g.query set r ≡ false
+  pub asks : is_ask_for g (ask_of set r) made ≡ true
+  pub same : option_map bare answer ≡ finished_answer g.earlier made
+  pub stand : IsGoodAnswer g.judge answer
+  pub verdict : v ≡ chained_verdict g.judge set r answer
+
+abbrev pub IsTried : Grounds → RrSet → Rr → Option AskRef → ChainedVerdict → Type 0
+IsTried g set r ask v = IsUntried g set r ask v ⊎ IsAskedFor g set r ask v
+
+-- the verdicts of a set's first signatures, and the asks that they made
+pub record AreTried (g : Grounds) (set : RrSet) (asks : List AskRef) (vs : List ChainedVerdict) : Type 0 where
+  pub verdicts : verdicts_by g set (take most_signatures set.signatures) asks ≡ Some (bare_verdicts vs)
+  pub good : IsProper set → (set.rtype == type_dnskey) ≡ false → AreGood g.judge set (take most_signatures set.signatures) vs
+
+-- a set with its chain, and the entry that a step has for it
+pub record IsJudgedSet (g : Grounds) (placed : Placed) (c : Chained) (entry : JudgedSetValue) : Type 0 where
+  pub holds : entry_holds g placed entry ≡ true
+  pub same : c.judged ≡ with_entry (placed, entry)
+  pub stand : IsProper placed.set → stands g.judge c ≡ true
+
 -- sets with their chains, and the entries that a step has for them
 pub record IsJudgement (g : Grounds) (placed : List Placed) (sets : List Chained) (entries : List JudgedSetValue) : Type 0 where
   pub hold : entries_hold g placed entries ≡ true
   pub same : bare sets ≡ with_entries placed entries
-  pub stand : AllByRecursion (λ c. stands g.judge c ≡ true) sets
+  pub stand : AreProper placed → AllStand g.judge sets

@@ -1,14 +1,11 @@
-ghost use Rattle.std.specs.Prelude.{◌≡◌, ◌≤◌, ◌<◌, ◌+◌, Some};
-ghost use Rattle.dns_net.specs.Replies.{reply_of};
-ghost use Rattle.dns_net.specs.Causes.{HasCause};
-ghost use Rattle.dns_net.specs.Handles.{OrUnsent};
+ghost use Rattle.std.specs.Prelude.{◌≡◌, ◌<◌, ◌+◌};
+ghost use Rattle.dns_judgement.specs.Asking.{most_sends};
 ghost use Rattle.dns_judgement.specs.Marking.{cleared_message};
-ghost use Rattle.dns_judgement.specs.Run.{most_sends};
-ghost use Rattle.dns_chain.specs.Steps.{Went};
-ghost use Rattle.dns_chain.specs.Sends.{Asking};
-ghost use Rattle.dns_chain.specs.Looked.{HeardAs, Asked};
+ghost use Rattle.dns_net.specs.Handles.{OrUnsent};
+ghost use Rattle.dns_net.specs.Replies.{reply_of};
+ghost use Rattle.dns_chain.specs.Walking.{asking, Went, HeardAs, Heard};
 
-use crate::inquiry::{Inquiry, MOST_SENDS, asking_request_of};
+use crate::inquiry::{Inquiry, Progress, asking_request_of};
 use dns_message::Message;
 use dns_net::{DnsError, DnsHandle, DnsResponse, NetError};
 use dns_record::Query;
@@ -16,23 +13,25 @@ use dns_sets::clear_marks;
 use std::alloc::Global;
 
 /// Sends a query and hears the message of the reply, also of a denial, without the marks that came with it. Where memory runs
-/// out before the send, nothing is sent and nothing changes.
-pub(crate) fn hear<H: DnsHandle>(
+/// out before the send, nothing is sent and the handle doesn't change.
+pub(crate) fn hear<H: DnsHandle, V>(
     alloc: Global,
-    inquiry: Inquiry,
+    inquiry: &Inquiry<'_, V>,
     handle: &mut H,
-    sends: &mut u32,
+    progress: &mut Progress,
     query: &Query,
 ) -> Result<Message, NetError>
-    requires few { sends.old < most_sends }
-    ensures count { sends.new ≡ sends.old + 1 }
-    ensures went { Went (Asking H.sent H.requested inquiry.options inquiry.now) H.faults H.told handle.old handle.new sends.old sends.new }
-    ensures cause { HasCause (H.faults handle.old) (H.faults handle.new) result }
-    ensures asked { OrUnsent handle.old handle.new result (Asked (Asking H.sent H.requested inquiry.options inquiry.now) handle.old handle.new (H.told handle.old) query.now result) }
+    requires few { progress.old.sends < most_sends }
+    ensures count { progress.new.sends ≡ progress.old.sends + 1 }
+    ensures steps { progress.new.steps ≡ progress.old.steps }
+    ensures went { Went (asking H.DnsHandle inquiry.now) H.faults
+        handle.old handle.new progress.old.sends progress.new.sends }
+    ensures heard { OrUnsent handle.old handle.new result
+        (Heard (asking H.DnsHandle inquiry.now) handle.old handle.new query.now result) }
 {
-    *sends += 1;
+    progress.sends += 1;
     let request = asking_request_of(alloc, query, &inquiry.options)?;
-    message_of(handle.send(alloc, request, inquiry.now))
+    message_of(handle.send(alloc, request, inquiry.judge.moment))
 }
 
 // The message of a reply, or its error.

@@ -1,27 +1,38 @@
 ghost use Rattle.std.specs.Prelude.{◌≡◌, IfOk};
-ghost use Rattle.dns_chain.specs.Inquiries.{asking_options, asking_request, depth_limit};
+ghost use Rattle.dns_judgement.specs.Asking.{depth_limit};
+ghost use Rattle.dns_chain.specs.Inquiries.{asking_options, asking_request};
 
 use dns_name::NoMemory;
-use dns_net::{DnsRequest, DnsRequestOptions};
+use dns_net::{Asked, DnsRequest, DnsRequestOptions};
 use dns_record::Query;
+use dns_trust::Judge;
 use std::alloc::Global;
 
 /// How many sends one lookup makes at the most.
 pub(crate) const MOST_SENDS: u32 = 1024;
 
 /// What stays the same over all asks of one lookup.
-#[derive(Clone, Copy)]
-pub(crate) struct Inquiry {
+#[derive(Drop)]
+pub(crate) struct Inquiry<'a, V> {
+    /// By what sets are judged, and at which moment.
+    pub(crate) judge: Judge<'a, V>,
     pub(crate) options: DnsRequestOptions,
-    /// Seconds.
-    pub(crate) now: u64,
     /// How deep asks go.
     pub(crate) limit: u16,
 }
 
+/// What one lookup did so far.
+#[derive(Drop)]
+pub(crate) struct Progress {
+    /// The steps that have ended, nested ones before their asker.
+    pub(crate) steps: Vec<Asked>,
+    /// How many sends were made.
+    pub(crate) sends: u32,
+}
+
 /// How deep the asks of a call go: at most as deep as its options say, and never deeper than 255.
 pub(crate) fn depth_limit_of(options: &DnsRequestOptions) -> u16
-    ensures { result ≡ depth_limit options.now }
+    ensures { result ≡ depth_limit options.now.max_request_depth }
 {
     options.max_request_depth.min(255)
 }

@@ -3,9 +3,11 @@
 #![tactic(auto)]
 
 mod asking;
+mod finished;
 mod handle;
 mod inquiry;
 mod looking;
+mod steps;
 mod walk;
 
 pub use dns_net::Verifier;

@@ -1,101 +1,145 @@
-ghost use Rattle.std.specs.Prelude.{is_some, ◌==◌, ◌≡◌, ◌≤◌, ◌<◌, ◌+◌, IfOk, map, take};
-ghost use Rattle.dns_model.specs.Chains.{judge};
-ghost use Rattle.dns_judgement.specs.Marks.{most_signatures};
-ghost use Rattle.dns_judgement.specs.Outcome.{foreign_record as foreign_in};
+ghost use Rattle.std.specs.Prelude.{◌==◌, ◌≡◌, ◌≤◌, ◌++◌, ◌∷◌, [], None, IfOk, OnOk, length, map};
 ghost use Rattle.dns_model.specs.Types.{type_dnskey};
-ghost use Rattle.dns_model.specs.SoundAnswers.{told_by};
-ghost use Rattle.dns_judgement.specs.Run.{ending_of, Run, Sets, Signatures, Ask, most_sends};
+ghost use Rattle.dns_judgement.specs.Asking.{most_sends};
+ghost use Rattle.dns_judgement.specs.DerivationParts.{asks_of_sets};
+ghost use Rattle.dns_judgement.specs.Marks as marks;
+ghost use Rattle.dns_trust.specs.Judge.{judge_of};
 ghost use Rattle.dns_trust.specs.Verdicts.{verdict_value, listed};
-ghost use Rattle.dns_chain.specs.Heard.{says_of, Tells};
-ghost use Rattle.dns_chain.specs.Sends.{Asking};
-ghost use Rattle.dns_chain.specs.Steps.{SetStep, SignatureStep, Went};
+ghost use Rattle.dns_chain.specs.Walking.{asking, grounds_at, IsCounted, Went, Walk, IsJudgement, IsJudgedSet, AreTried, IsTried, IsAnswer, asks_in, entry_of};
 
 use crate::asking::hear;
-use crate::inquiry::{Inquiry, MOST_SENDS};
-use dns_message::Message;
+use crate::finished::{Finished, answered, refused, unanswered};
+use crate::inquiry::{Inquiry, MOST_SENDS, Progress};
+use crate::steps::{entry_for, foreign_of, records_of};
 use dns_name::NoMemory;
-use dns_net::{DnsHandle, NetError, Verifier};
+use dns_net::{AskRef, DnsHandle, Ending, JudgedSet, NetError, Reply, Verifier};
 use dns_rdata::Rrsig;
 use dns_record::{Query, Record, RecordSet, RecordType};
-use dns_sets::{JudgedSet, Outcome, PlacedSet, foreign_record, outcome_of, placed_sets};
+use dns_sets::{ChainedSet, MarkedSet, PlacedSet, placed_sets};
 use dns_trust::{
-    Judge, TrustAnchors, Verdict, ask_of, first_signatures, is_skipped, judged_by, judged_keys,
-    verdict_of,
+    Verdict, ask_of, first_signatures, is_skipped, judged_by, judged_keys, verdict_of,
 };
 use std::alloc::Global;
+
+/// The judged sets of a step, and the entries that the trail has for them.
+#[derive(Drop)]
+pub(crate) struct Judgement {
+    pub(crate) sets: Vec<ChainedSet>,
+    pub(crate) entries: Vec<JudgedSet>,
+}
+
+// One judged set, and its entry.
+#[derive(Drop)]
+struct OneSet {
+    set: ChainedSet,
+    entry: JudgedSet,
+}
+
+// The verdicts of a set's signatures, and the asks that were made for them.
+#[derive(Drop)]
+struct Verdicts {
+    verdicts: Vec<Verdict>,
+    asked: Vec<AskRef>,
+}
+
+// The verdict of one signature, and its ask, if it made one.
+#[derive(Drop)]
+struct Tried {
+    verdict: Verdict,
+    ask: Option<AskRef>,
+}
 
 /// Judges the sets of a step at a depth, in order.
 #[cycle(walk)]
 pub(crate) fn judge_sets<H: DnsHandle, V: Verifier>(
     alloc: Global,
-    verifier: &V,
-    anchors: &TrustAnchors,
-    inquiry: Inquiry,
+    inquiry: &Inquiry<'_, V>,
     handle: &mut H,
-    sends: &mut u32,
+    progress: &mut Progress,
     query: &Query,
     depth: u16,
     placed: Vec<PlacedSet>,
-) -> Result<Vec<JudgedSet>, NoMemory>
-    requires few { sends.old ≤ most_sends }
-    requires limit { inquiry.limit ≤ 255 }
+) -> Result<Judgement, NoMemory>
+    requires few { progress.old.sends ≤ most_sends }
+    requires counted { length progress.old.steps.items ≤ progress.old.sends }
+    requires limit { inquiry.now.limit ≤ 255 }
     requires shallow { depth ≤ 255 }
-    ensures went { Went (Asking H.sent H.requested inquiry.options inquiry.now) H.faults H.told handle.old handle.new sends.old sends.new }
-    ensures run { IfOk result (λ v. (tells : Tells) → H.told handle.old ≡ tells → Run (judge (V.answers verifier.now) anchors.now inquiry.now) inquiry.limit (says_of tells)
-        sends.old (Sets query.now depth placed.items v.items) sends.new) }
+    ensures counted { IsCounted progress.old progress.new }
+    ensures went { Went (asking H.DnsHandle inquiry.now) H.faults
+        handle.old handle.new progress.old.sends progress.new.sends }
+    ensures asks { IfOk result (λ v. Walk H.DnsHandle V.answers inquiry.now
+        handle.old progress.old handle.new progress.new (asks_of_sets v.entries.items)) }
+    ensures judged { IfOk result (λ v. IsJudgement
+        (grounds_at V.answers inquiry.now progress.new query.now depth) placed.items v.sets.items v.entries.items) }
 {
-    let mut judged = Vec::new(alloc);
+    let mut sets = Vec::new(alloc);
+    let mut entries = Vec::new(alloc);
     for next in placed {
-        let one = judge_set(
-            alloc, verifier, anchors, inquiry, handle, sends, query, depth, next,
+        let OneSet { set, entry } = judge_set(
+            alloc, inquiry, handle, progress, query, depth, next,
         )?;
-        judged.push(one)?;
+        sets.push(set)?;
+        entries.push(entry)?;
     }
-    Ok(judged)
+    Ok(Judgement { sets, entries })
 }
 
-/// Judges one set: a key set by the anchors, another by its first signatures.
+// Judges one set: a key set by the anchors, another by its first signatures.
 #[cycle(walk)]
 fn judge_set<H: DnsHandle, V: Verifier>(
     alloc: Global,
-    verifier: &V,
-    anchors: &TrustAnchors,
-    inquiry: Inquiry,
+    inquiry: &Inquiry<'_, V>,
     handle: &mut H,
-    sends: &mut u32,
+    progress: &mut Progress,
     query: &Query,
     depth: u16,
     placed: PlacedSet,
-) -> Result<JudgedSet, NoMemory>
-    requires few { sends.old ≤ most_sends }
-    requires limit { inquiry.limit ≤ 255 }
+) -> Result<OneSet, NoMemory>
+    requires few { progress.old.sends ≤ most_sends }
+    requires counted { length progress.old.steps.items ≤ progress.old.sends }
+    requires limit { inquiry.now.limit ≤ 255 }
     requires shallow { depth ≤ 255 }
-    ensures went { Went (Asking H.sent H.requested inquiry.options inquiry.now) H.faults H.told handle.old handle.new sends.old sends.new }
-    ensures step { IfOk result (λ s. (tells : Tells) → H.told handle.old ≡ tells → SetStep (judge (V.answers verifier.now) anchors.now inquiry.now) inquiry.limit (says_of tells)
-        query.now depth placed sends.old s sends.new) }
+    ensures counted { IsCounted progress.old progress.new }
+    ensures went { Went (asking H.DnsHandle inquiry.now) H.faults
+        handle.old handle.new progress.old.sends progress.new.sends }
+    ensures asks { IfOk result (λ o. Walk H.DnsHandle V.answers inquiry.now
+        handle.old progress.old handle.new progress.new o.entry.asked) }
+    ensures judged { IfOk result (λ o. IsJudgedSet
+        (grounds_at V.answers inquiry.now progress.new query.now depth) placed o.set o.entry) }
 {
     if is_key_set(&placed) {
-        let judge = Judge {
-            verifier,
-            anchors,
-            moment: inquiry.now,
-        };
-        let judged = judged_keys(alloc, &judge, placed)?;
-        return Ok(judged);
+        let set = judged_keys(alloc, &inquiry.judge, placed)?;
+        let one = with_entry(set, Vec::new(alloc))?;
+        return Ok(one);
     }
-    let verdicts = judge_signatures(
+    let Verdicts { verdicts, asked } = judge_signatures(
         alloc,
-        verifier,
-        anchors,
         inquiry,
         handle,
-        sends,
+        progress,
         query,
         depth,
         set_of(&placed),
     )?;
-    let judged = judged_by(placed, verdicts)?;
-    Ok(judged)
+    let set = judged_by(placed, verdicts)?;
+    let one = with_entry(set, asked)?;
+    Ok(one)
+}
+
+// A judged set with its entry.
+fn with_entry(set: ChainedSet, asked: Vec<AskRef>) -> Result<OneSet, NoMemory>
+    ensures set { IfOk result (λ o. o.set ≡ set) }
+    ensures entry { IfOk result (λ o. o.entry ≡ entry_of set.judged asked.items) }
+{
+    let entry = entry_for(marked(&set), asked)?;
+    Ok(OneSet { set, entry })
+}
+
+// The set without its chain.
+fn marked(set: &ChainedSet) -> &MarkedSet
+    ensures { result.now ≡ set.now.judged }
+{
+    &set.judged
 }
 
 // The set itself.
@@ -112,145 +156,164 @@ fn is_key_set(placed: &PlacedSet) -> bool
     placed.set.record_type == RecordType::DNSKEY
 }
 
-/// The verdicts of a set's first signatures, up to the first that proves the set.
+// The verdicts of a set's first signatures, up to the first that proves the set.
 #[cycle(walk)]
 fn judge_signatures<H: DnsHandle, V: Verifier>(
     alloc: Global,
-    verifier: &V,
-    anchors: &TrustAnchors,
-    inquiry: Inquiry,
+    inquiry: &Inquiry<'_, V>,
     handle: &mut H,
-    sends: &mut u32,
+    progress: &mut Progress,
     query: &Query,
     depth: u16,
     set: &RecordSet,
-) -> Result<Vec<Verdict>, NoMemory>
-    requires few { sends.old ≤ most_sends }
-    requires limit { inquiry.limit ≤ 255 }
+) -> Result<Verdicts, NoMemory>
+    requires few { progress.old.sends ≤ most_sends }
+    requires counted { length progress.old.steps.items ≤ progress.old.sends }
+    requires limit { inquiry.now.limit ≤ 255 }
     requires shallow { depth ≤ 255 }
-    ensures went { Went (Asking H.sent H.requested inquiry.options inquiry.now) H.faults H.told handle.old handle.new sends.old sends.new }
-    ensures run { IfOk result (λ v. (tells : Tells) → H.told handle.old ≡ tells → Run (judge (V.answers verifier.now) anchors.now inquiry.now) inquiry.limit (says_of tells)
-        sends.old (Signatures query.now depth set.now (take most_signatures set.now.signatures) (map verdict_value v.items)) sends.new) }
+    ensures counted { IsCounted progress.old progress.new }
+    ensures went { Went (asking H.DnsHandle inquiry.now) H.faults
+        handle.old handle.new progress.old.sends progress.new.sends }
+    ensures asks { IfOk result (λ v. Walk H.DnsHandle V.answers inquiry.now
+        handle.old progress.old handle.new progress.new v.asked.items) }
+    ensures tried { IfOk result (λ v. AreTried
+        (grounds_at V.answers inquiry.now progress.new query.now depth) set.now v.asked.items (map verdict_value v.verdicts.items)) }
 {
     let mut verdicts = Vec::new(alloc);
+    let mut asked = Vec::new(alloc);
     let tried = first_signatures(set);
     for sig in tried {
-        let verdict = judge_signature(
-            alloc, verifier, anchors, inquiry, handle, sends, query, depth, set, sig,
+        let Tried { verdict, ask } = judge_signature(
+            alloc, inquiry, handle, progress, query, depth, set, sig,
         )?;
+        add_ask(&mut asked, ask)?;
         let proved = verdict.is_proved();
         verdicts.push(verdict)?;
         if proved {
-            return Ok(verdicts);
+            return Ok(Verdicts { verdicts, asked });
         }
     }
-    Ok(verdicts)
+    Ok(Verdicts { verdicts, asked })
 }
 
-/// The verdict of one signature, after the ask for its signer's keys.
+// Adds the ask of a signature, if it made one.
+fn add_ask(asked: &mut Vec<AskRef>, ask: Option<AskRef>) -> Result<(), NoMemory>
+    ensures { OnOk result (asked.new.items ≡ asked.old.items ++ asks_in ask) }
+{
+    match ask {
+        Some(made) => asked.push(made)?,
+        None => {}
+    }
+    Ok(())
+}
+
+// The verdict of one signature, after the ask for its signer's keys.
 #[cycle(walk)]
 fn judge_signature<H: DnsHandle, V: Verifier>(
     alloc: Global,
-    verifier: &V,
-    anchors: &TrustAnchors,
-    inquiry: Inquiry,
+    inquiry: &Inquiry<'_, V>,
     handle: &mut H,
-    sends: &mut u32,
+    progress: &mut Progress,
     query: &Query,
     depth: u16,
     set: &RecordSet,
     sig: &Record,
-) -> Result<Verdict, NoMemory>
-    requires few { sends.old ≤ most_sends }
-    requires limit { inquiry.limit ≤ 255 }
+) -> Result<Tried, NoMemory>
+    requires few { progress.old.sends ≤ most_sends }
+    requires counted { length progress.old.steps.items ≤ progress.old.sends }
+    requires limit { inquiry.now.limit ≤ 255 }
     requires shallow { depth ≤ 255 }
-    ensures went { Went (Asking H.sent H.requested inquiry.options inquiry.now) H.faults H.told handle.old handle.new sends.old sends.new }
-    ensures step { IfOk result (λ v. (tells : Tells) → H.told handle.old ≡ tells → SignatureStep (judge (V.answers verifier.now) anchors.now inquiry.now) inquiry.limit (says_of tells)
-        query.now depth set.now sig.now sends.old (verdict_value v) sends.new) }
+    ensures counted { IsCounted progress.old progress.new }
+    ensures went { Went (asking H.DnsHandle inquiry.now) H.faults
+        handle.old handle.new progress.old.sends progress.new.sends }
+    ensures asks { IfOk result (λ t. Walk H.DnsHandle V.answers inquiry.now
+        handle.old progress.old handle.new progress.new (asks_in t.ask)) }
+    ensures tried { IfOk result (λ t. IsTried
+        (grounds_at V.answers inquiry.now progress.new query.now depth) set.now sig.now t.ask (verdict_value t.verdict)) }
 {
     let Some(read) = Rrsig::of(sig) else {
-        return Ok(Verdict::Failed);
+        return Ok(untried());
     };
     let skipped = is_skipped(query, set, &read);
     if skipped {
-        return Ok(Verdict::Failed);
+        return Ok(untried());
     }
     let question = ask_of(alloc, set, &read)?;
-    let answer = ask(
-        alloc,
-        verifier,
-        anchors,
-        inquiry,
-        handle,
-        sends,
-        &question,
-        depth + 1,
-    )?;
-    let judge = Judge {
-        verifier,
-        anchors,
-        moment: inquiry.now,
-    };
-    let verdict = verdict_of(alloc, &judge, set, sig, &read, &answer)?;
-    Ok(verdict)
+    let Finished { ask, answer } = ask(alloc, inquiry, handle, progress, question, depth + 1)?;
+    let verdict = verdict_of(alloc, &inquiry.judge, set, sig, &read, &answer)?;
+    Ok(Tried {
+        verdict,
+        ask: Some(ask),
+    })
 }
 
-/// Asks a question at a depth: the judged sets of its answer, or None where the ask is too deep or one too many, fails or has no
-/// answer that is accepted.
+// What comes of a signature that isn't asked for.
+fn untried() -> Tried
+    ensures ask { result.ask ≡ None }
+    ensures verdict { verdict_value result.verdict ≡ record { verdict = marks.Failed; chain = [] } }
+{
+    Tried {
+        verdict: Verdict::Failed,
+        ask: None,
+    }
+}
+
+// Asks a question at a depth, and adds the steps that this makes to the trail.
 #[cycle(walk)]
 fn ask<H: DnsHandle, V: Verifier>(
     alloc: Global,
-    verifier: &V,
-    anchors: &TrustAnchors,
-    inquiry: Inquiry,
+    inquiry: &Inquiry<'_, V>,
     handle: &mut H,
-    sends: &mut u32,
-    query: &Query,
+    progress: &mut Progress,
+    query: Query,
     depth: u16,
-) -> Result<Option<Vec<JudgedSet>>, NoMemory>
-    requires few { sends.old ≤ most_sends }
-    requires limit { inquiry.limit ≤ 255 }
+) -> Result<Finished, NoMemory>
+    requires few { progress.old.sends ≤ most_sends }
+    requires counted { length progress.old.steps.items ≤ progress.old.sends }
+    requires limit { inquiry.now.limit ≤ 255 }
     requires shallow { depth ≤ 256 }
-    ensures went { Went (Asking H.sent H.requested inquiry.options inquiry.now) H.faults H.told handle.old handle.new sends.old sends.new }
-    ensures run { IfOk result (λ a. (tells : Tells) → H.told handle.old ≡ tells → Run (judge (V.answers verifier.now) anchors.now inquiry.now) inquiry.limit (says_of tells)
-        sends.old (Ask query.now depth (listed a)) sends.new) }
+    ensures counted { IsCounted progress.old progress.new }
+    ensures went { Went (asking H.DnsHandle inquiry.now) H.faults
+        handle.old handle.new progress.old.sends progress.new.sends }
+    ensures asks { IfOk result (λ f. Walk H.DnsHandle V.answers inquiry.now
+        handle.old progress.old handle.new progress.new (f.ask ∷ [])) }
+    ensures answer { IfOk result (λ f. IsAnswer (judge_of V.answers inquiry.now.judge) inquiry.now.limit
+        progress.new.steps.items query depth f.ask (listed f.answer)) }
 {
-    if depth > inquiry.limit || *sends >= MOST_SENDS {
-        return Ok(None);
+    if depth > inquiry.limit {
+        return Ok(refused(AskRef::TooDeep));
     }
-    let message = match hear(alloc, inquiry, handle, sends, query) {
+    if progress.sends >= MOST_SENDS {
+        return Ok(refused(AskRef::TooMany));
+    }
+    let message = match hear(alloc, inquiry, handle, progress, &query) {
         Ok(message) => message,
-        Err(error) => {
-            return match error {
-                NetError::NoMemory => Err(NoMemory),
-                _ => Ok(None),
-            };
-        }
+        Err(error) => match error {
+            NetError::NoMemory => return Err(NoMemory),
+            _ => {
+                let failed = unanswered(
+                    alloc,
+                    progress,
+                    query,
+                    depth,
+                    Reply::Fault,
+                    Ending::Failed,
+                )?;
+                return Ok(failed);
+            }
+        },
     };
-    if has_foreign_record(query, &message) {
-        return Ok(None);
+    let foreign = foreign_of(&query, &message)?;
+    match foreign {
+        Some(ending) => {
+            let reply = records_of(message);
+            let seen = unanswered(alloc, progress, query, depth, reply, ending)?;
+            return Ok(seen);
+        }
+        None => {}
     }
     let placed = placed_sets(alloc, depth, &message)?;
-    let judged = judge_sets(
-        alloc, verifier, anchors, inquiry, handle, sends, query, depth, placed,
-    )?;
-    Ok(accepted(query, &message, judged))
-}
-
-// A record of the message has another class than the query.
-fn has_foreign_record(query: &Query, message: &Message) -> bool
-    ensures { result ≡ is_some (foreign_in query.now (told_by message.now)) }
-{
-    foreign_record(query, message).is_some()
-}
-
-// The judged sets of a message whose answer is accepted.
-fn accepted(query: &Query, message: &Message, judged: Vec<JudgedSet>) -> Option<Vec<JudgedSet>>
-    ensures { listed result ≡ ending_of query.now (told_by message.now) judged.items }
-{
-    match outcome_of(query, message, &judged) {
-        Outcome::Unjudged => None,
-        Outcome::Accepted(_) => Some(judged),
-        Outcome::Denied(_) => None,
-    }
+    let judged = judge_sets(alloc, inquiry, handle, progress, &query, depth, placed)?;
+    let finished = answered(alloc, progress, query, depth, message, judged)?;
+    Ok(finished)
 }

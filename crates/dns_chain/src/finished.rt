@@ -1,0 +1,103 @@
+ghost use Rattle.std.specs.Prelude.{◌≡◌, ◌≤◌, ◌<◌, ◌+◌, [], false, None, IfOk, length};
+ghost use Rattle.dns_model.specs.SoundAnswers.{told_by};
+ghost use Rattle.dns_model.specs.Trails.{Records};
+ghost use Rattle.dns_judgement.specs.Asking.{most_sends};
+ghost use Rattle.dns_judgement.specs.Chained.{bare};
+ghost use Rattle.dns_judgement.specs.Derivation.{ending_by};
+ghost use Rattle.dns_judgement.specs.Outcome.{outcome_of as told_outcome};
+ghost use Rattle.dns_net.specs.Trail.{heard_value, ending_value};
+ghost use Rattle.dns_sets.specs.Outcome.{outcome_value};
+ghost use Rattle.dns_trust.specs.Verdicts.{listed};
+ghost use Rattle.dns_chain.specs.Walking.{IsAdded, accepted_sets, judged_step};
+
+use crate::inquiry::Progress;
+use crate::steps::{add_step, ended, ending_of, records_of};
+use crate::walk::Judgement;
+use dns_message::Message;
+use dns_name::NoMemory;
+use dns_net::{AskRef, Ending, Reply};
+use dns_record::Query;
+use dns_sets::{ChainedSet, Outcome, outcome_of};
+use std::alloc::Global;
+
+/// What an ask came to: its place in the trail, and the judged sets of its answer, if it has one.
+#[derive(Drop)]
+pub(crate) struct Finished {
+    pub(crate) ask: AskRef,
+    pub(crate) answer: Option<Vec<ChainedSet>>,
+}
+
+/// An ask that isn't made.
+pub(crate) fn refused(ask: AskRef) -> Finished
+    ensures ask { result.ask ≡ ask }
+    ensures answer { listed result.answer ≡ None }
+{
+    Finished { ask, answer: None }
+}
+
+/// Ends a step none of whose sets is judged.
+pub(crate) fn unanswered(
+    alloc: Global,
+    progress: &mut Progress,
+    query: Query,
+    depth: u16,
+    reply: Reply,
+    ending: Ending,
+) -> Result<Finished, NoMemory>
+    requires few { length progress.old.steps.items < most_sends }
+    ensures sends { progress.new.sends ≡ progress.old.sends }
+    ensures one { length progress.new.steps.items ≤ length progress.old.steps.items + 1 }
+    ensures added { IfOk result (λ f. IsAdded progress.old.steps.items progress.new.steps.items
+        (judged_step depth query (heard_value reply) [] (ending_value ending)) f.ask) }
+    ensures answer { IfOk result (λ f. listed f.answer ≡ None) }
+{
+    let step = ended(alloc, query, depth, reply, Vec::new(alloc), ending);
+    let ask = add_step(&mut progress.steps, step)?;
+    Ok(Finished { ask, answer: None })
+}
+
+/// Ends a step whose sets are judged. They are its answer where they are accepted.
+pub(crate) fn answered(
+    alloc: Global,
+    progress: &mut Progress,
+    query: Query,
+    depth: u16,
+    message: Message,
+    judged: Judgement,
+) -> Result<Finished, NoMemory>
+    requires few { length progress.old.steps.items < most_sends }
+    ensures sends { progress.new.sends ≡ progress.old.sends }
+    ensures one { length progress.new.steps.items ≤ length progress.old.steps.items + 1 }
+    ensures added { IfOk result (λ f. IsAdded progress.old.steps.items progress.new.steps.items
+        (judged_step depth query (Records (told_by message) false) judged.entries.items
+        (ending_by (told_outcome query (told_by message) (bare judged.sets.items)))) f.ask) }
+    ensures answer { IfOk result (λ f. listed f.answer ≡
+        accepted_sets (told_outcome query (told_by message) (bare judged.sets.items)) judged.sets.items) }
+{
+    let Judgement { sets, entries } = judged;
+    let outcome = outcome_of(&query, &message, &sets);
+    let step = ended(
+        alloc,
+        query,
+        depth,
+        records_of(message),
+        entries,
+        ending_of(outcome),
+    );
+    let ask = add_step(&mut progress.steps, step)?;
+    Ok(Finished {
+        ask,
+        answer: accepted(outcome, sets),
+    })
+}
+
+// The judged sets of a step whose answer is accepted.
+fn accepted(outcome: Outcome, sets: Vec<ChainedSet>) -> Option<Vec<ChainedSet>>
+    ensures { listed result ≡ accepted_sets (outcome_value outcome) sets.items }
+{
+    match outcome {
+        Outcome::Unjudged => None,
+        Outcome::Accepted(_) => Some(sets),
+        Outcome::Denied(_) => None,
+    }
+}
