@@ -1,19 +1,25 @@
--- What a send that was heard says of a known upstream.
-use Rattle.std.proofs.Common.{ℕ, ◌+◌, ◌≤◌, ◌<◌, ◌≡◌, ◌∙◌, false, List, Option, None, Some, is_some, Ok, Err, refl, sym, ap, subst, inl, inr}
+-- What was heard of one ask, and the step that keeps it.
+use Rattle.std.proofs.Common.{ℕ, ◌≡◌, ◌≤◌, ◌≢◌, ◌∙◌, false, List, Option, None, Some, Result, Ok, Err, refl, sym, ap, subst, inl, inr}
 use Rattle.dns_model.specs.Records.{Question, MessageValue}
-use Rattle.dns_model.specs.Chains.{Judge}
-use Rattle.dns_model.specs.SoundAnswers.{Told, Placed, told_by}
-use Rattle.dns_judgement.specs.Judged.{Judged}
-use Rattle.dns_judgement.specs.Outcome.{foreign_record}
-use Rattle.dns_judgement.specs.Run.{Run, Sets, Ask, Finishes, judged_part, ending_of, most_sends}
+use Rattle.dns_model.specs.SoundAnswers.{told_by, ResponseValue}
+use Rattle.dns_model.specs.Trails.{JudgedSetValue, EndingValue, Records, Fault}
 use Rattle.dns_net.specs.Errors as seen
-use Rattle.dns_net.specs.Errors.{Reply}
-use Rattle.dns_net.specs.Handles.{reply_to, ReplyIsTold}
-use Rattle.dns_net.specs.Replies.{error_of}
+use Rattle.dns_net.specs.Errors.{Reply, ErrorValue}
+use Rattle.dns_net.specs.Causes.{HasCause}
+use Rattle.dns_net.specs.Handles.{ReplyIsTold, IsLeft}
+use Rattle.dns_net.specs.Replies.{error_of, reply_of}
+use Rattle.dns_net.specs.Requests.{RequestValue, first_question}
 use Rattle.dns_net.specs.declared.error.NetError.{NetError}
 use Rattle.dns_net.specs.declared.error.NetError.TheVariants.{Busy, Dns, Message, Msg, NoConnections, Proto, Io, Timeout, QueryCaseMismatch, ForeignClassRecord, Truncated, NoMemory}
-use Rattle.dns_chain.specs.Heard.{heard_message, told_of, says_of, Tells}
-use Rattle.dns_chain.specs.Looked.{Asked, Unheard}
+use Rattle.dns_net.specs.declared.handle.DnsHandle as handle
+use Rattle.dns_net.specs.declared.request.DnsRequestOptions.{DnsRequestOptions}
+use Rattle.dns_chain.specs.Calls.{Asking, IsCaused}
+use Rattle.dns_chain.specs.Heard.{heard_message, heard_told, told_of}
+use Rattle.dns_chain.specs.Inquiries.{asking_request}
+use Rattle.dns_chain.specs.Sends.{SendOf}
+use Rattle.dns_chain.specs.Walking.{IsHeard, IsUnheard, Heard, judged_step}
+
+-- ---- a reply
 
 -- only want of memory is seen as want of memory
 pub seen_no_memory : (e : NetError) → error_of e ≡ seen.NoMemory → e ≡ NoMemory
@@ -30,52 +36,69 @@ seen_no_memory (ForeignClassRecord owner class rtype) h = cc
 seen_no_memory Truncated h = cc
 seen_no_memory NoMemory h = refl
 
-error_same : (a b : seen.ErrorValue) → (let x : Reply = Err a in x) ≡ Err b → a ≡ b
+error_same : (a b : ErrorValue) → (let x : Reply = Err a in x) ≡ Err b → a ≡ b
 error_same a b h = cc
 
--- a reply that was told and has a message
-pub none_some : (m : MessageValue) → (let x : Option MessageValue = None in x) ≡ Some m → ⊥
+none_some : (m : MessageValue) → (let x : Option MessageValue = None in x) ≡ Some m → ⊥
 none_some m h = cc
 
-told_message : (replies : List (Question × Reply)) (q : Question) (reply : Reply) (m : MessageValue)
-    → ReplyIsTold (Some replies) (Some q) reply → heard_message reply ≡ Some m → heard_message (reply_to replies q) ≡ Some m
-told_message replies q reply m told is =
-    elim told [
-      | inl none ↦ (let e : None ≡ Some m = sym (ap heard_message none) ∙ is in absurd (none_some m e))
-      | inr same ↦ sym (ap heard_message same) ∙ is
-    ]
+-- a reply with a message isn't want of memory
+pub heard_remembered : (reply : Reply) (message : MessageValue) → IsHeard reply message → reply ≢ Err seen.NoMemory
+heard_remembered reply message heard = λ is. none_some heard.from (sym (ap heard_message is) ∙ heard.is)
 
-told_error : (replies : List (Question × Reply)) (q : Question) (reply : Reply) (e : NetError)
-    → (e ≡ NoMemory → ⊥) → ReplyIsTold (Some replies) (Some q) reply → Unheard reply e → heard_message (reply_to replies q) ≡ None
-told_error replies q reply e not_memory told unheard =
-    elim told [
-      | inl none ↦ absurd (not_memory (seen_no_memory e (error_same (error_of e) seen.NoMemory (sym unheard.is ∙ none))))
-      | inr same ↦ sym (ap heard_message same) ∙ unheard.none
-    ]
+-- nor is another error
+pub unheard_remembered : (reply : Reply) (error : NetError) → (error ≡ NoMemory → ⊥) → IsUnheard reply error → reply ≢ Err seen.NoMemory
+unheard_remembered reply error other unheard =
+    λ is. other (seen_no_memory error (error_same (error_of error) seen.NoMemory (sym unheard.is ∙ is)))
 
--- what was heard is what is told
-pub said_some : {H : Type 0} (sent : H → Option Question → H → Reply → Type 0) (old new : H) (known tells : Tells) (q : Question) (m : MessageValue)
-    → known ≡ tells → Asked sent old new known q (Ok m) → says_of tells q (Some (told_by m))
-said_some sent old new known None q m is asked = tt
-said_some sent old new known (Some replies) q m is asked =
-    let P : Tells → Type 0 = λ x. ReplyIsTold x (Some q) asked.reply in
-    let told : ReplyIsTold (Some replies) (Some q) asked.reply = subst P is asked.told in
-    let h : heard_message (reply_to replies q) ≡ Some asked.heard.from = told_message replies q asked.reply asked.heard.from told asked.heard.is in
-    ap (λ x. Some (told_by x)) asked.heard.cleared ∙ sym (ap told_of h)
+-- ---- the step that keeps it
 
--- an error without a message tells nothing
-pub said_none : {H : Type 0} (sent : H → Option Question → H → Reply → Type 0) (old new : H) (known tells : Tells) (q : Question) (e : NetError)
-    → known ≡ tells → (e ≡ NoMemory → ⊥) → Asked sent old new known q (Err e) → says_of tells q None
-said_none sent old new known None q e is not_memory asked = tt
-said_none sent old new known (Some replies) q e is not_memory asked =
-    let P : Tells → Type 0 = λ x. ReplyIsTold x (Some q) asked.reply in
-    let told : ReplyIsTold (Some replies) (Some q) asked.reply = subst P is asked.told in
-    sym (ap told_of (told_error replies q asked.reply e not_memory told asked.heard))
+-- a step that keeps the records of a message
+pub sent_heard : {H : Type 0} (ask : H → Question → H → Reply → Type 0) (a b : H) (depth : ℕ) (q : Question) (message : MessageValue)
+    (sets : List JudgedSetValue) (ending : EndingValue)
+    → Heard ask a b q (Ok message) → SendOf ask a (judged_step depth q (Records (told_by message) false) sets ending) b
+sent_heard ask a b depth q message sets ending h = record {
+  reply = h.reply;
+  made = h.made;
+  heard = ap (λ m. Records (told_by m) false) h.heard.cleared ∙ sym (ap (λ o. heard_told (told_of o)) h.heard.is);
+  remembered = heard_remembered h.reply message h.heard;
+}
 
--- an ask whose message is judged
-pub answered_ask : (j : Judge) (limit : ℕ) (says : Question → Option Told → Type 0) (q : Question) (d n k m : ℕ) (told : Told) (ps : List Placed) (ss : List Judged) (answer : Option (List Judged))
-    → d ≤ limit → n < most_sends → k ≡ n + 1 → says q (Some told) → is_some (foreign_record q told) ≡ false
-    → ps ≡ judged_part d told → Run j limit says k (Sets q d ps ss) m → answer ≡ ending_of q told ss → Run j limit says n (Ask q d answer) m
-answered_ask j limit says q d n k m told ps ss answer shallow few next said own is walk ends =
-    let P : List Placed → Type 0 = λ xs. Run j limit says k (Sets q d xs ss) m in
-    Finishes q d n k m told ss answer shallow few next said own (subst P is walk) ends
+-- a step that heard a fault
+pub sent_fault : {H : Type 0} (ask : H → Question → H → Reply → Type 0) (a b : H) (depth : ℕ) (q : Question) (error : NetError)
+    (sets : List JudgedSetValue) (ending : EndingValue)
+    → (error ≡ NoMemory → ⊥) → Heard ask a b q (Err error) → SendOf ask a (judged_step depth q Fault sets ending) b
+sent_fault ask a b depth q error sets ending other h = record {
+  reply = h.reply;
+  made = h.made;
+  heard = sym (ap (λ o. heard_told (told_of o)) h.heard.none);
+  remembered = unheard_remembered h.reply error other h.heard;
+}
+
+-- ---- one send
+
+-- a send of a question's request as a judged ask
+pub asking_made : {H : Type 0} (meanings : handle.Ghosts H) (options : DnsRequestOptions) (now : ℕ) (from to : H) (request : RequestValue) (q : Question) (reply : Reply)
+    → request ≡ asking_request q options → meanings.sent from (first_question request) to reply → meanings.requested from request now to reply
+    → ReplyIsTold (meanings.told from) (first_question request) reply → IsLeft (meanings.told from) (first_question request) reply (meanings.told to)
+    → meanings.faults from ≤ meanings.faults to → IsCaused (meanings.faults from) (meanings.faults to) reply
+    → Asking meanings options now from q to reply
+asking_made meanings options now from to request q reply is made carried told left later cause =
+    let Made : RequestValue → Type 0 = λ r. meanings.sent from (first_question r) to reply in
+    let Carried : RequestValue → Type 0 = λ r. meanings.requested from r now to reply in
+    let Told : RequestValue → Type 0 = λ r. ReplyIsTold (meanings.told from) (first_question r) reply in
+    let Left : RequestValue → Type 0 = λ r. IsLeft (meanings.told from) (first_question r) reply (meanings.told to) in
+    record {
+      made = subst Made is made;
+      request = subst Carried is carried;
+      told = subst Told is told;
+      left = subst Left is left;
+      later = later;
+      cause = cause;
+    }
+
+-- what a reply's error was caused by
+pub caused : (before now : ℕ) (result : Result ResponseValue NetError) → HasCause before now result → IsCaused before now (reply_of result)
+caused before now (Ok response) cause = tt
+caused before now (Err error) (inl none) = inl (ap error_of none)
+caused before now (Err error) (inr rose) = inr rose

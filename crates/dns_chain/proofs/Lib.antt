@@ -1,9 +1,6 @@
-pub mod StepLemmas
-pub mod SendLemmas
+pub mod AskLemmas
 pub mod HeardLemmas
-pub mod LookLemmas
-pub mod SoundLookups
-pub mod CauseLemmas
-pub mod WalkSettled
-pub mod AnswerCauses
-pub mod CauseAnswers
+pub mod StepLemmas
+pub mod TriedLemmas
+pub mod JudgementLemmas
+pub mod AnswerLemmas

@@ -1,154 +1,151 @@
--- The walk of asks, built up by the code's loops.
-use Rattle.std.proofs.Common.{ℕ, ◌+◌, ◌≤◌, ◌<◌, ◌≡◌, suc, length, get_or, ap, add-one, drop-cons, ◌==◌, true, false, List, [], ◌∷◌, ◌++◌, take, drop, Option, refl, sym, ◌∙◌, subst, arith, append_assoc}
-use Rattle.std.proofs.lemmas.List.{append-nil, take_more, take_all, take-append-drop}
-use Rattle.dns_model.specs.Records.{Rr, RrSet, Question}
+-- A step of the walk that has ended: its lines follow, and it answers its ask.
+use Rattle.std.proofs.Common.{ℕ, ◌+◌, ◌≡◌, ◌≤◌, ◌<◌, ◌==◌, ◌&&◌, true, false, List, [], ◌∷◌, ◌++◌, length, Option, None, Some, slice_get, nat_le, refl, sym, ap, subst, ◌∙◌, append-nil}
+use Rattle.std.specs.Option.{option_map}
+use Rattle.std.proofs.lemmas.Bool.{and_from, le-leb}
+use Rattle.dns_model.specs.declared.denial.Denial.{Denial}
+use Rattle.dns_model.specs.declared.denial.Denial.TheVariants as denial
+use Rattle.dns_model.specs.declared.trail.AskRef.{AskRef}
+use Rattle.dns_model.specs.declared.trail.AskRef.TheVariants.{Step}
+use Rattle.dns_model.specs.Names.{name_eq}
+use Rattle.dns_model.specs.Records.{Rr, Question, question_eq}
 use Rattle.dns_model.specs.Chains.{Judge}
-use Rattle.dns_model.specs.SoundAnswers.{Told, Placed}
-use Rattle.dns_judgement.specs.Judged.{Judged}
-use Rattle.dns_judgement.specs.Marks.{Verdict, is_proved, judged_by, most_signatures}
-use Rattle.dns_model.specs.Types.{type_dnskey}
-use Rattle.dns_judgement.specs.Run.{Run, Sets, Signatures, NoSet, Keys, Others, NoSignature, Skips, Asks, Proves}
-use Rattle.dns_judgement.specs.Run.{most_sends}
+use Rattle.dns_model.specs.SoundAnswers.{Told}
+use Rattle.dns_model.specs.Trails.{AskedValue, HeardValue, JudgedSetValue, EndingValue, Records, Fault, Failed}
+use Rattle.dns_model.proofs.SetLemmas.{name_refl, number_refl}
+use Rattle.dns_judgement.specs.Asking.{most_sends, judged_part}
+use Rattle.dns_judgement.specs.Chained.{Chained, bare}
+use Rattle.dns_judgement.specs.Derivation.{entries_hold, with_entries, asks_of, if_answered, judged_sets, is_ask, denial_eq, ending_eq, ending_by, step_holds}
+use Rattle.dns_judgement.specs.DerivationParts.{answer_of, asks_of_sets, grounds_of, is_bare, is_ending, is_judged_ask, judged_holds}
+use Rattle.dns_judgement.specs.Outcome.{Outcome, Unjudged, Accepted, Denied, outcome_of, foreign_record}
+use Rattle.dns_judgement.proofs.ChainedLemmas.{AllStand, IsGoodAnswer, proper_part}
+use Rattle.dns_judgement.proofs.ExtendLemmas.{proof_refl}
+use Rattle.dns_judgement.proofs.OrderLemmas.{slice_get_appended}
 use Rattle.dns_net.specs.Errors.{Reply}
-use Rattle.dns_net.proofs.WalkLemmas.{no_walk, then_walk}
-use Rattle.dns_chain.specs.Steps.{Went, SetStep, SignatureStep, KeysStep, OtherStep, SkippedStep, AskedStep}
+use Rattle.dns_chain.specs.Sends.{SendOf}
+use Rattle.dns_chain.specs.Walking.{Asks, IsAdded, IsAnswer, IsJudgement, judged_step, foreign_ending, accepted_sets}
+use Rattle.dns_chain.proofs.AskLemmas.{asks_step}
 
--- one set more in front of a walk
-pub set_before : (j : Judge) (limit : ℕ) (says : Question → Option Told → Type 0) (q : Question) (d : ℕ) {n k : ℕ} (m : ℕ) (p : Placed) (ps : List Placed) {s : Judged} (ss : List Judged)
-    → SetStep j limit says q d p n s k → Run j limit says k (Sets q d ps ss) m → Run j limit says n (Sets q d (p ∷ ps) (s ∷ ss)) m
-set_before j limit says q d m p ps ss (KeysStep n s rtype is) rest = Keys q d n m p ps s ss rtype is rest
-set_before j limit says q d m p ps ss (OtherStep n k s vs rtype signatures is) rest =
-    Others q d n k m p ps s ss vs rtype signatures is rest
+-- ---- the lines of a step
 
--- one signature more in front of a walk, where it doesn't prove the set
-pub signature_before : (j : Judge) (limit : ℕ) (says : Question → Option Told → Type 0) (q : Question) (d : ℕ) {n k : ℕ} (m : ℕ) (set : RrSet) (r : Rr) (rs : List Rr) {v : Verdict} (vs : List Verdict)
-    → SignatureStep j limit says q d set r n v k → is_proved v ≡ false
-    → Run j limit says k (Signatures q d set rs vs) m → Run j limit says n (Signatures q d set (r ∷ rs) (v ∷ vs)) m
-signature_before j limit says q d m set r rs vs (SkippedStep n v skipped is) failed rest =
-    let P : Verdict → Type 0 = λ w. Run j limit says n (Signatures q d set (r ∷ rs) (w ∷ vs)) m in
-    subst P (sym is) (Skips q d n m set r rs vs skipped rest)
-signature_before j limit says q d m set r rs vs (AskedStep e n k asked answer v kept ask deeper walk is) failed rest =
-    Asks q d e n k m set r rs asked answer v vs kept ask deeper walk is failed rest
+-- a step that heard a fault
+pub fault_holds : (j : Judge) (limit : ℕ) (earlier : List AskedValue) (depth : ℕ) (q : Question)
+    → step_holds j limit earlier (judged_step depth q Fault [] Failed) ≡ true
+unfolding step_holds
+fault_holds j limit earlier depth q = refl
 
--- a signature that proves the set is the last
-pub signature_proves : (j : Judge) (limit : ℕ) (says : Question → Option Told → Type 0) (q : Question) (d : ℕ) {n k : ℕ} (set : RrSet) (r : Rr) (rs : List Rr) {v : Verdict}
-    → SignatureStep j limit says q d set r n v k → is_proved v ≡ true → Run j limit says n (Signatures q d set (r ∷ rs) (v ∷ [])) k
-signature_proves j limit says q d set r rs (SkippedStep n v skipped is) proved =
-    let P : Verdict → Type 0 = λ w. is_proved w ≡ true in
-    let h : false ≡ true = subst P is proved in cc
-signature_proves j limit says q d set r rs (AskedStep e n k asked answer v kept ask deeper walk is) proved =
-    Proves q d e n k set r rs asked answer v kept ask deeper walk is proved
+-- it names the record that it names
+foreign_refl : (r : Rr) → ending_eq (foreign_ending r) (foreign_ending r) ≡ true
+foreign_refl r =
+    and_from (name_eq r.owner r.owner) ((r.class == r.class) && (r.rtype == r.rtype)) (name_refl r.owner)
+    (and_from (r.class == r.class) (r.rtype == r.rtype) (number_refl r.class) (number_refl r.rtype))
 
--- the first sets are judged as `done`: whatever the rest comes to, the whole comes to both
-pub record SetsDone (j : Judge) (limit : ℕ) (says : Question → Option Told → Type 0) (q : Question) (d n : ℕ) (first : List Placed) (done : List Judged) (k : ℕ) : Type 0 where
-  pub so_far : (ps : List Placed) (ss : List Judged) (m : ℕ) → Run j limit says k (Sets q d ps ss) m → Run j limit says n (Sets q d (first ++ ps) (done ++ ss)) m
+-- a step with a record of another class
+pub foreign_holds : (j : Judge) (limit : ℕ) (earlier : List AskedValue) (depth : ℕ) (q : Question) (told : Told) (r : Rr)
+    → foreign_record q told ≡ Some r → step_holds j limit earlier (judged_step depth q (Records told false) [] (foreign_ending r)) ≡ true
+unfolding step_holds
+foreign_holds j limit earlier depth q told r found =
+    let step = judged_step depth q (Records told false) [] (foreign_ending r) in
+    ap (judged_holds (grounds_of j limit earlier step) step told) found ∙ and_from (ending_eq (foreign_ending r) (foreign_ending r)) (is_bare step) (foreign_refl r) refl
 
-pub no_set_done : (j : Judge) (limit : ℕ) (says : Question → Option Told → Type 0) (q : Question) (d n : ℕ) → SetsDone j limit says q d n [] [] n
-no_set_done j limit says q d n = record { so_far = λ ps ss m walk. walk }
+denial_refl : (d : Denial) → denial_eq d d ≡ true
+denial_refl denial.None = refl
+denial_refl (denial.Absent p) = proof_refl p
+denial_refl (denial.Expanded p) = proof_refl p
 
-pub set_done : (j : Judge) (limit : ℕ) (says : Question → Option Told → Type 0) (q : Question) (d n k m : ℕ) (first : List Placed) (p : Placed) (done : List Judged) (s : Judged)
-    → SetsDone j limit says q d n first done k → SetStep j limit says q d p k s m
-    → SetsDone j limit says q d n (first ++ p ∷ []) (done ++ s ∷ []) m
-set_done j limit says q d n k m first p done s so step = record {
-  so_far = λ ps ss e walk.
-      let P : List Placed → Type 0 = λ xs. Run j limit says n (Sets q d xs ((done ++ s ∷ []) ++ ss)) e in
-      let Q : List Judged → Type 0 = λ ys. Run j limit says n (Sets q d (first ++ (p ∷ ps)) ys) e in
-      subst P (sym (append_assoc first (p ∷ []) ps))
-      (subst Q (sym (append_assoc done (s ∷ []) ss)) (so.so_far (p ∷ ps) (s ∷ ss) e (set_before j limit says q d e p ps ss step walk)));
-}
+-- a step ends as its judged sets make it end
+pub ends_so : (o : Outcome) → is_ending o (ending_by o) ≡ true
+ends_so Unjudged = refl
+ends_so (Accepted d) = denial_refl d
+ends_so (Denied p) = proof_refl p
 
-pub sets_done : (j : Judge) (limit : ℕ) (says : Question → Option Told → Type 0) (q : Question) (d n k : ℕ) (all : List Placed) (done : List Judged)
-    → SetsDone j limit says q d n all done k → Run j limit says n (Sets q d all done) k
-sets_done j limit says q d n k all done so =
-    let P : List Placed → Type 0 = λ xs. Run j limit says n (Sets q d xs (done ++ [])) k in
-    let Q : List Judged → Type 0 = λ ys. Run j limit says n (Sets q d all ys) k in
-    subst Q (append-nil done) (subst P (append-nil all) (so.so_far [] [] k (NoSet q d k)))
+-- a step whose sets are judged
+pub judged_step_holds : (j : Judge) (limit : ℕ) (earlier : List AskedValue) (depth : ℕ) (q : Question) (told : Told) (sets : List Chained) (entries : List JudgedSetValue)
+    → foreign_record q told ≡ None
+    → IsJudgement (record { judge = j; limit = limit; earlier = earlier; query = q; depth = depth }) (judged_part depth told) sets entries
+    → step_holds j limit earlier (judged_step depth q (Records told false) entries (ending_by (outcome_of q told (bare sets)))) ≡ true
+unfolding step_holds
+judged_step_holds j limit earlier depth q told sets entries own judged =
+    let ending = ending_by (outcome_of q told (bare sets)) in
+    let step = judged_step depth q (Records told false) entries ending in
+    let g = grounds_of j limit earlier step in
+    let part = judged_part depth told in
+    let ends : is_ending (outcome_of q told (with_entries part entries)) ending ≡ true =
+    ap (λ xs. is_ending (outcome_of q told xs) ending) (sym judged.same) ∙ ends_so (outcome_of q told (bare sets)) in
+    ap (judged_holds g step told) own
+    ∙ and_from (entries_hold g part entries) (is_ending (outcome_of q told (with_entries part entries)) ending && true) judged.hold
+    (and_from (is_ending (outcome_of q told (with_entries part entries)) ending) true ends refl)
 
--- the same of signatures
-pub record SignaturesDone (j : Judge) (limit : ℕ) (says : Question → Option Told → Type 0) (q : Question) (d n : ℕ) (set : RrSet) (first : List Rr) (done : List Verdict) (k : ℕ) : Type 0 where
-  pub so_far : (rs : List Rr) (vs : List Verdict) (m : ℕ) → Run j limit says k (Signatures q d set rs vs) m → Run j limit says n (Signatures q d set (first ++ rs) (done ++ vs)) m
+-- ---- the asks of a step
 
-pub no_signature_done : (j : Judge) (limit : ℕ) (says : Question → Option Told → Type 0) (q : Question) (d n : ℕ) (set : RrSet)
-    → SignaturesDone j limit says q d n set [] [] n
-no_signature_done j limit says q d n set = record { so_far = λ rs vs m walk. walk }
+-- a step with those that its sets asked for, added to the trail
+pub asks_ended : {H : Type 0} (ask : H → Question → H → Reply → Type 0) (j : Judge) (limit : ℕ) (a b c : H) (s t u : List AskedValue)
+    (depth : ℕ) (q : Question) (reply : HeardValue) (sets : List JudgedSetValue) (ending : EndingValue) (made : AskRef) (n k m l : ℕ)
+    → SendOf ask a (judged_step depth q reply sets ending) b → Asks ask j limit b c s t (asks_of_sets sets) k m → k ≡ n + 1 → l ≡ m → n < most_sends
+    → step_holds j limit t (judged_step depth q reply sets ending) ≡ true → IsAdded t u (judged_step depth q reply sets ending) made
+    → Asks ask j limit a c s u (made ∷ []) n l
+asks_ended {H} ask j limit a b c s t u depth q reply sets ending made n k m l sent nested next last few holds added =
+    let step = judged_step depth q reply sets ending in
+    let P : List AskRef → Type 0 = λ asks. Asks ask j limit b c s t asks k m in
+    let N : ℕ → Type 0 = λ x. Asks ask j limit b c s t (asks_of step) x m in
+    let own : Asks ask j limit b c s t (asks_of step) (n + 1) m = subst N next (subst P (sym (append-nil (asks_of_sets sets))) nested) in
+    let Q : List AskedValue → Type 0 = λ steps. Asks ask j limit a c s steps (made ∷ []) n m in
+    let R : AskRef → Type 0 = λ x. Asks ask j limit a c s (t ++ step ∷ []) (x ∷ []) n m in
+    let M : ℕ → Type 0 = λ x. Asks ask j limit a c s u (made ∷ []) n x in
+    subst M (sym last) (subst Q (sym added.steps) (subst R (sym added.named) (asks_step ask j limit a b c s t step n m sent own few holds)))
 
-pub signature_done : (j : Judge) (limit : ℕ) (says : Question → Option Told → Type 0) (q : Question) (d n k m : ℕ) (set : RrSet) (first : List Rr) (r : Rr) (done : List Verdict) (v : Verdict)
-    → SignaturesDone j limit says q d n set first done k → SignatureStep j limit says q d set r k v m → is_proved v ≡ false
-    → SignaturesDone j limit says q d n set (first ++ r ∷ []) (done ++ v ∷ []) m
-signature_done j limit says q d n k m set first r done v so step failed = record {
-  so_far = λ rs vs e walk.
-      let P : List Rr → Type 0 = λ xs. Run j limit says n (Signatures q d set xs ((done ++ v ∷ []) ++ vs)) e in
-      let Q : List Verdict → Type 0 = λ ys. Run j limit says n (Signatures q d set (first ++ (r ∷ rs)) ys) e in
-      subst P (sym (append_assoc first (r ∷ []) rs))
-      (subst Q (sym (append_assoc done (v ∷ []) vs)) (so.so_far (r ∷ rs) (v ∷ vs) e (signature_before j limit says q d e set r rs vs step failed walk)));
-}
+-- ---- the answer of an ask
 
-pub signatures_done : (j : Judge) (limit : ℕ) (says : Question → Option Told → Type 0) (q : Question) (d n k : ℕ) (set : RrSet) (all : List Rr) (done : List Verdict)
-    → SignaturesDone j limit says q d n set all done k → Run j limit says n (Signatures q d set all done) k
-signatures_done j limit says q d n k set all done so =
-    let P : List Rr → Type 0 = λ xs. Run j limit says n (Signatures q d set xs (done ++ [])) k in
-    let Q : List Verdict → Type 0 = λ ys. Run j limit says n (Signatures q d set all ys) k in
-    subst Q (append-nil done) (subst P (append-nil all) (so.so_far [] [] k (NoSignature q d k set)))
+question_refl : (q : Question) → question_eq q q ≡ true
+question_refl q =
+    and_from (name_eq q.owner q.owner) ((q.rtype == q.rtype) && (q.class == q.class)) (name_refl q.owner)
+    (and_from (q.rtype == q.rtype) (q.class == q.class) (number_refl q.rtype) (number_refl q.class))
 
-pub signature_proved : (j : Judge) (limit : ℕ) (says : Question → Option Told → Type 0) (q : Question) (d n k m : ℕ) (set : RrSet) (first : List Rr) (r : Rr) (rest : List Rr) (done : List Verdict) (v : Verdict)
-    → SignaturesDone j limit says q d n set first done k → SignatureStep j limit says q d set r k v m → is_proved v ≡ true
-    → Run j limit says n (Signatures q d set (first ++ (r ∷ rest)) (done ++ v ∷ [])) m
-signature_proved j limit says q d n k m set first r rest done v so step proved =
-    so.so_far (r ∷ rest) (v ∷ []) m (signature_proves j limit says q d set r rest step proved)
+-- the step that was added answers its ask
+added_answer : (j : Judge) (limit : ℕ) (before after : List AskedValue) (q : Question) (depth : ℕ) (reply : HeardValue) (sets : List JudgedSetValue) (ending : EndingValue)
+    (ask : AskRef) (answer : Option (List Chained)) → depth ≤ limit → IsAdded before after (judged_step depth q reply sets ending) ask
+    → option_map bare answer ≡ if_answered ending (judged_sets (judged_step depth q reply sets ending)) → IsGoodAnswer j answer
+    → IsAnswer j limit after q depth ask answer
+added_answer j limit before after q depth reply sets ending ask answer shallow added same stand =
+    let step = judged_step depth q reply sets ending in
+    let found : slice_get (before ++ step ∷ []) (length before) ≡ Some step = slice_get_appended before step [] in
+    let asks : is_ask limit (before ++ step ∷ []) depth q (Step (length before)) ≡ true =
+    and_from (nat_le depth limit) (is_judged_ask depth q (slice_get (before ++ step ∷ []) (length before))) (le-leb depth limit shallow)
+    (ap (is_judged_ask depth q) found ∙ and_from (depth == depth) (question_eq q q) (number_refl depth) (question_refl q)) in
+    let one : IsAnswer j limit (before ++ step ∷ []) q depth (Step (length before)) answer =
+    record { asks = asks; same = same ∙ ap answer_of (sym found); stand = stand } in
+    let P : List AskedValue → Type 0 = λ steps. IsAnswer j limit steps q depth ask answer in
+    let Q : AskRef → Type 0 = λ x. IsAnswer j limit (before ++ step ∷ []) q depth x answer in
+    subst P (sym added.steps) (subst Q (sym added.named) one)
 
--- standing still
-pub no_way : {H : Type 0} (sent : H → Option Question → H → Reply → Type 0) (faults : H → ℕ) (tells : H → Option (List (Question × Reply))) (h : H) (n : ℕ)
-    → n ≤ most_sends → Went sent faults tells h h n n
-no_way sent faults tells h n few = record { walk = no_walk sent h n n (omega arith); few = few; later = omega arith; told = refl }
+-- a step that failed, or has a record of another class, has no answer
+pub no_answer : (j : Judge) (limit : ℕ) (before after : List AskedValue) (q : Question) (depth : ℕ) (reply : HeardValue) (ending : EndingValue)
+    (ask : AskRef) (answer : Option (List Chained)) → depth ≤ limit → IsAdded before after (judged_step depth q reply [] ending) ask
+    → answer ≡ None → if_answered ending (judged_sets (judged_step depth q reply [] ending)) ≡ None → IsAnswer j limit after q depth ask answer
+no_answer j limit before after q depth reply ending ask answer shallow added is none =
+    let P : Option (List Chained) → Type 0 = λ o. IsAnswer j limit after q depth ask o in
+    subst P (sym is) (added_answer j limit before after q depth reply [] ending ask None shallow added (sym none) tt)
 
--- one way after another
-pub then_way : {H : Type 0} (sent : H → Option Question → H → Reply → Type 0) (faults : H → ℕ) (tells : H → Option (List (Question × Reply))) (a b c : H) (n k m : ℕ)
-    → Went sent faults tells a b n k → Went sent faults tells b c k m → Went sent faults tells a c n m
-then_way sent faults tells a b c n k m first rest = record {
-  walk = then_walk sent a b c n k m first.walk rest.walk;
-  few = rest.few;
-  later = omega (arith, first.later, rest.later);
-  told = rest.told ∙ first.told;
-}
+accepted_same : (q : Question) (depth : ℕ) (told : Told) (entries : List JudgedSetValue) (sets : List Chained) (o : Outcome)
+    → bare sets ≡ with_entries (judged_part depth told) entries
+    → option_map bare (accepted_sets o sets) ≡ if_answered (ending_by o) (judged_sets (judged_step depth q (Records told false) entries (ending_by o)))
+accepted_same q depth told entries sets Unjudged same = refl
+accepted_same q depth told entries sets (Accepted d) same = ap Some same
+accepted_same q depth told entries sets (Denied p) same = refl
 
--- a set that isn't DNSKEY, judged by the verdicts of its signatures
-pub other_step : (j : Judge) (limit : ℕ) (says : Question → Option Told → Type 0) (q : Question) (d n m : ℕ) (p : Placed) (set : RrSet) (s : Judged) (vs : List Verdict)
-    → set ≡ p.set → (p.set.rtype == type_dnskey) ≡ false
-    → Run j limit says n (Signatures q d set (take most_signatures set.signatures) vs) m → s ≡ judged_by p vs
-    → SetStep j limit says q d p n s m
-other_step j limit says q d n m p set s vs own rtype walk is =
-    let P : RrSet → Type 0 = λ x. Run j limit says n (Signatures q d x (take most_signatures x.signatures) vs) m in
-    OtherStep n m s vs rtype (subst P own walk) is
+accepted_stand : (j : Judge) (sets : List Chained) (o : Outcome) → AllStand j sets → IsGoodAnswer j (accepted_sets o sets)
+accepted_stand j sets Unjudged stand = tt
+accepted_stand j sets (Accepted d) stand = stand
+accepted_stand j sets (Denied p) stand = tt
 
--- a list around one of its elements
-around : (xs : List Rr) (i : ℕ) (r : Rr) → i < length xs → r ≡ get_or xs i r → take i xs ++ (r ∷ drop (i + 1) xs) ≡ xs
-around xs i r lt is =
-    let e0 : drop i xs ≡ get_or xs i r ∷ drop (suc i) xs = drop-cons xs i r lt in
-    let P : Rr → Type 0 = λ y. drop i xs ≡ y ∷ drop (suc i) xs in
-    let e : drop i xs ≡ r ∷ drop (i + 1) xs = rw add-one (subst P (sym is) e0) in
-    ap (λ ys. take i xs ++ ys) (sym e) ∙ take-append-drop i xs
-
--- the signature at a place proves the set
-pub proved_at : (j : Judge) (limit : ℕ) (says : Question → Option Told → Type 0) (q : Question) (d n k m : ℕ) (set : RrSet) (all tried : List Rr) (i : ℕ) (r : Rr) (done : List Verdict) (v : Verdict)
-    → tried ≡ all → i < length tried → r ≡ get_or tried i r → SignaturesDone j limit says q d n set (take i tried) done k
-    → SignatureStep j limit says q d set r k v m → is_proved v ≡ true → Run j limit says n (Signatures q d set all (done ++ v ∷ [])) m
-proved_at j limit says q d n k m set all tried i r done v own lt is so step proved =
-    let P : List Rr → Type 0 = λ xs. Run j limit says n (Signatures q d set xs (done ++ v ∷ [])) m in
-    subst P (around tried i r lt is ∙ own) (signature_proved j limit says q d n k m set (take i tried) r (drop (i + 1) tried) done v so step proved)
-
--- the signature at a place doesn't
-pub failed_at : (j : Judge) (limit : ℕ) (says : Question → Option Told → Type 0) (q : Question) (d n k m : ℕ) (set : RrSet) (tried : List Rr) (i : ℕ) (r : Rr) (done : List Verdict) (v : Verdict)
-    → i < length tried → r ≡ get_or tried i r → SignaturesDone j limit says q d n set (take i tried) done k
-    → SignatureStep j limit says q d set r k v m → is_proved v ≡ false → SignaturesDone j limit says q d n set (take (i + 1) tried) (done ++ v ∷ []) m
-failed_at j limit says q d n k m set tried i r done v lt is so step failed =
-    let P : List Rr → Type 0 = λ xs. SignaturesDone j limit says q d n set xs (done ++ v ∷ []) m in
-    let Q : Rr → Type 0 = λ y. take (i + 1) tried ≡ take i tried ++ y ∷ [] in
-    let e : take (i + 1) tried ≡ take i tried ++ r ∷ [] = subst Q (sym is) (take_more tried i r lt) in
-    subst P (sym e) (signature_done j limit says q d n k m set (take i tried) r done v so step failed)
-
--- all signatures were tried
-pub all_failed : (j : Judge) (limit : ℕ) (says : Question → Option Told → Type 0) (q : Question) (d n k : ℕ) (set : RrSet) (all tried : List Rr) (i : ℕ) (done : List Verdict)
-    → tried ≡ all → length tried ≤ i → SignaturesDone j limit says q d n set (take i tried) done k → Run j limit says n (Signatures q d set all done) k
-all_failed j limit says q d n k set all tried i done own past so =
-    let P : List Rr → Type 0 = λ xs. SignaturesDone j limit says q d n set xs done k in
-    signatures_done j limit says q d n k set all done (subst P (take_all i tried past ∙ own) so)
+-- a step whose sets are judged answers by what they come to
+pub judged_answer : (j : Judge) (limit : ℕ) (before after : List AskedValue) (q : Question) (depth : ℕ) (told : Told) (sets : List Chained) (entries : List JudgedSetValue)
+    (ask : AskRef) (answer : Option (List Chained)) → depth ≤ limit
+    → IsAdded before after (judged_step depth q (Records told false) entries (ending_by (outcome_of q told (bare sets)))) ask
+    → IsJudgement (record { judge = j; limit = limit; earlier = before; query = q; depth = depth }) (judged_part depth told) sets entries
+    → answer ≡ accepted_sets (outcome_of q told (bare sets)) sets → IsAnswer j limit after q depth ask answer
+judged_answer j limit before after q depth told sets entries ask answer shallow added judged is =
+    let o = outcome_of q told (bare sets) in
+    let P : Option (List Chained) → Type 0 = λ x. IsAnswer j limit after q depth ask x in
+    subst P (sym is)
+    (added_answer j limit before after q depth (Records told false) entries (ending_by o) ask (accepted_sets o sets) shallow added
+    (accepted_same q depth told entries sets o judged.same) (accepted_stand j sets o (judged.stand (proper_part depth told))))

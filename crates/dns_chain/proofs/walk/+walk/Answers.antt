@@ -1,125 +1,175 @@
-use Rattle.std.proofs.Common.{◌≡◌, arith, ap, Some, inl, inr, refl, ◌∙◌, sym}
-use Rattle.std.proofs.lemmas.List.{map-append, map-id}
-use Rattle.std.proofs.lemmas.Iterator.Consumers.{YieldsList-end}
-use Rattle.std.proofs.lemmas.Iterator.Adapters.{YieldsList-from_vec}
-use Rattle.dns_judgement.specs.Run.{signer_question, Refused, Fault, Foreign}
-use Rattle.dns_judgement.specs.MarkParts.{is_skipped_read}
-use Rattle.dns_chain.specs.Steps.{KeysStep, SkippedStep, AskedStep}
-use Rattle.dns_chain.proofs.StepLemmas.{then_way, set_done, sets_done, proved_at, failed_at, all_failed, other_step}
-use Rattle.dns_chain.proofs.HeardLemmas.{said_some, said_none, answered_ask}
-use Rattle.dns_chain.proofs.walk.+walk.Goals.{ask-then-depth-inquiry-via-then-depth-inquiry, ask-then-depth-inquiry-via-else-depth-inquiry+then-sends-ge-MOST_SENDS, ask-in-NoMemory, ask-in_default}
+use Rattle.std.proofs.Common.{◌∷◌, [], map, length, ap, refl, sym, ◌∙◌, arith}
+use Rattle.std.specs.Option.{option_map}
+use Rattle.std.proofs.lemmas.List.{map-append}
+use Rattle.dns_judgement.specs.DerivationParts.{asks_of_sets}
+use Rattle.dns_net.specs.Trail.{ending_value}
+use Rattle.dns_trust.specs.Verdicts.{verdict_value}
+use Rattle.dns_chain.specs.Walking.{asks_in, grounds_at}
+use Rattle.dns_chain.proofs.AnswerLemmas.{fault_asks, named_by, none_named, foreign_asks, foreign_answer, judged_asks, judged_so}
+use Rattle.dns_chain.proofs.AskLemmas.{went_nowhere, went_then, went_still, asks_none, asks_deep, asks_many, asks_then}
+use Rattle.dns_chain.proofs.JudgementLemmas.{keys_step, others_step, judgement_none, judgement_step, asks_of_more}
+use Rattle.dns_chain.proofs.StepLemmas.{no_answer}
+use Rattle.dns_chain.proofs.TriedLemmas.{tried_none, tried_step, proved_step, tried_all}
 use Rattle.dns_chain.proofs.walk.+walk.Goals as goal
 
-pub ask-returns-then-depth-inquiry-clause-run : goal.ask-returns-then-depth-inquiry-clause-run
-ask-returns-then-depth-inquiry-clause-run g t c = λ tells told.
-    elim c.then-depth-inquiry.branch [
-      | ask-then-depth-inquiry-via-then-depth-inquiry w ↦ Refused _ _ _ (inl (omega arith))
-      | ask-then-depth-inquiry-via-else-depth-inquiry+then-sends-ge-MOST_SENDS w ↦ Refused _ _ _ (inr (omega arith))
-    ]
+pub ask-returns-then-depth-inquiry-clause-asks : goal.ask-returns-then-depth-inquiry-clause-asks
+ask-returns-then-depth-inquiry-clause-asks g t c = asks_deep _ _ _ _ _ _ _ c.refused.ensures.ask
 
-pub ask-returns-in-Err-clause-run : goal.ask-returns-in-Err-clause-run
-ask-returns-in-Err-clause-run g t c =
-    elim c.match-error.branch [
-      | ask-in-NoMemory w ↦ rw w.result-is tt
-      | ask-in_default w ↦ rw w.result-is (λ tells told.
-          elim c.in-Err.ensures.asked [
-            | inr unsent ↦ absurd (w.in_default.not-NoMemory unsent.0)
-            | inl asked ↦ Fault c.args.query.now c.args.depth c.args.sends.now c.hear.new.sends (omega arith) (omega arith) c.hear.ensures.count
-                (said_none _ _ _ _ tells _ _ told w.in_default.not-NoMemory asked)
-          ])
-    ]
-
-pub ask-returns-then-has_foreign_record-clause-run : goal.ask-returns-then-has_foreign_record-clause-run
-ask-returns-then-has_foreign_record-clause-run g t c = λ tells told.
-    Foreign _ _ _ _ _ (omega arith) (omega arith) c.hear.ensures.count
-    (said_some _ _ _ _ tells _ _ told c.in-Ok.ensures.asked)
-    (sym c.has_foreign_record.ensures ∙ c.if-has_foreign_record.true)
+pub ask-returns-then-progress-ge-MOST_SENDS-clause-asks : goal.ask-returns-then-progress-ge-MOST_SENDS-clause-asks
+ask-returns-then-progress-ge-MOST_SENDS-clause-asks g t c =
+    asks_many _ _ _ _ _ _ _ c.refused-then-progress-ge-MOST_SENDS.ensures.ask (omega arith)
 
 pub ask-returns-in_err-judged-clause-went : goal.ask-returns-in_err-judged-clause-went
 ask-returns-in_err-judged-clause-went g t c =
-    then_way _ g.H.DnsHandle.faults g.H.DnsHandle.told _ _ _ _ _ _ c.hear.ensures.went c.judge_sets.ensures.went
+    went_then _ g.H.DnsHandle.faults _ _ _ _ _ _ _ c.hear.ensures.went c.judge_sets.ensures.went refl
+
+pub ask-returns-in_default : goal.ask-returns-in_default
+ask-returns-in_default g t c = record {
+  counted = omega (arith, c.unanswered.ensures.one, c.unanswered.ensures.sends, c.hear.ensures.count, ap (λ v. length v.items) c.hear.ensures.steps);
+  went = went_still _ g.H.DnsHandle.faults _ _ _ _ _ c.hear.ensures.went c.unanswered.ensures.sends;
+  asks =
+      fault_asks _ _ _ _ _ _ _ _ _ _ c.in-Err.error _ _ _ _ c.in_default.not-NoMemory c.in-Err.ensures.heard (ap (λ v. v.items) c.hear.ensures.steps)
+      c.hear.ensures.count c.unanswered.ensures.sends (omega arith) c.in_ok-failed-in_default.ensures.added;
+  answer = no_answer _ _ _ _ _ _ _ _ _ _ (omega arith) c.in_ok-failed-in_default.ensures.added c.in_ok-failed-in_default.ensures.answer refl;
+}
+
+pub ask-returns-in-Some-clause-asks : goal.ask-returns-in-Some-clause-asks
+ask-returns-in-Some-clause-asks g t c =
+    foreign_asks _ _ _ _ _ _ _ _ _ _ _ _ _ _ _ _ _ c.in-Ok.ensures.heard c.records_of-reply.ensures
+    (named_by _ _ _ c.in_ok-foreign.ensures (ap (option_map ending_value) c.in-Some.is))
+    (ap (λ v. v.items) c.hear.ensures.steps) c.hear.ensures.count c.unanswered-in-Some.ensures.sends (omega arith) c.in_ok-seen-in-Some.ensures.added
+
+pub ask-returns-in-Some-clause-answer : goal.ask-returns-in-Some-clause-answer
+ask-returns-in-Some-clause-answer g t c =
+    foreign_answer _ _ _ _ _ _ _ _ _ _ _ (omega arith) c.in_ok-seen-in-Some.ensures.added c.in_ok-seen-in-Some.ensures.answer
+    (named_by _ _ _ c.in_ok-foreign.ensures (ap (option_map ending_value) c.in-Some.is))
+
+pub ask-returns-in_err-finished-clause-went : goal.ask-returns-in_err-finished-clause-went
+ask-returns-in_err-finished-clause-went g t c =
+    went_then _ g.H.DnsHandle.faults _ _ _ _ _ _ _ c.hear.ensures.went c.judge_sets.ensures.went c.answered.ensures.sends
 
 pub ask-returns-clause-went : goal.ask-returns-clause-went
 ask-returns-clause-went g t c =
-    then_way _ g.H.DnsHandle.faults g.H.DnsHandle.told _ _ _ _ _ _ c.hear.ensures.went c.judge_sets.ensures.went
+    went_then _ g.H.DnsHandle.faults _ _ _ _ _ _ _ c.hear.ensures.went c.judge_sets.ensures.went c.answered.ensures.sends
 
-pub ask-returns-clause-run : goal.ask-returns-clause-run
-ask-returns-clause-run g t c = λ tells told.
-    answered_ask _ _ _ _ _ _ _ _ _ _ _ _ (omega arith) (omega arith) c.hear.ensures.count
-    (said_some _ _ _ _ tells _ _ told c.in-Ok.ensures.asked)
-    (sym c.has_foreign_record.ensures ∙ c.if-has_foreign_record.false)
-    c.in_ok-placed.ensures (c.in_ok-judged.ensures.run tells (c.hear.ensures.went.told ∙ told)) c.accepted.ensures
+pub ask-returns-clause-asks : goal.ask-returns-clause-asks
+ask-returns-clause-asks g t c =
+    judged_asks _ _ _ _ _ _ _ _ _ _ _ _ _ _ _ _ _ _ _ _ _ c.in-Ok.ensures.heard
+    (none_named _ _ c.in_ok-foreign.ensures (ap (option_map ending_value) c.in-None.is))
+    (ap (λ v. v.items) c.hear.ensures.steps) c.hear.ensures.count c.answered.ensures.sends (omega arith)
+    c.in_ok-placed.ensures c.in_ok-judged.ensures.asks c.in_ok-judged.ensures.judged c.in_ok-finished.ensures.added
 
-pub judge_set-returns-then-is_key_set-clause-step : goal.judge_set-returns-then-is_key_set-clause-step
-judge_set-returns-then-is_key_set-clause-step g t c = λ tells told.
-    KeysStep _ _ (sym c.is_key_set.ensures ∙ c.if-is_key_set.true) c.in_ok-judged.ensures
+pub ask-returns-clause-answer : goal.ask-returns-clause-answer
+ask-returns-clause-answer g t c =
+    judged_so _ _ _ _ _ _ c.in-Ok.message _ _ _ _ _ (omega arith) c.in_ok-placed.ensures c.in_ok-judged.ensures.judged c.in_ok-finished.ensures.added
+    c.in_ok-finished.ensures.answer
 
-pub judge_set-returns-clause-step : goal.judge_set-returns-clause-step
-judge_set-returns-clause-step g t c = λ tells told.
-    other_step _ _ _ _ _ _ _ _ _ _ _ c.set_of.ensures (sym c.is_key_set.ensures ∙ c.if-is_key_set.false) (c.in_ok-verdicts.ensures.run tells told) c.in_ok-judged-2.ensures
+pub judge_set-returns-then-is_key_set-clause-asks : goal.judge_set-returns-then-is_key_set-clause-asks
+judge_set-returns-then-is_key_set-clause-asks g t c =
+    asks_none _ _ _ _ _ _ _ (ap (λ e. e.asked) c.in_ok-one.ensures.entry ∙ c.new.ensures.items)
 
-pub judge_sets-returns-in_err-one-clause-went : goal.judge_sets-returns-in_err-one-clause-went
-judge_sets-returns-in_err-one-clause-went g t c =
-    then_way _ g.H.DnsHandle.faults g.H.DnsHandle.told _ _ _ _ _ _ c.loop-next.invariant.2 c.judge_set.ensures.went
+pub judge_set-returns-then-is_key_set-clause-judged : goal.judge_set-returns-then-is_key_set-clause-judged
+judge_set-returns-then-is_key_set-clause-judged g t c =
+    keys_step _ _ _ _ _ _ (sym c.is_key_set.ensures ∙ c.if-is_key_set.true) c.in_ok-set.ensures c.new.ensures.items c.in_ok-one.ensures.set c.in_ok-one.ensures.entry
+
+pub judge_set-returns-clause-judged : goal.judge_set-returns-clause-judged
+judge_set-returns-clause-judged g t c =
+    others_step _ _ _ _ _ _ _ _ _ _ c.set_of.ensures (sym c.is_key_set.ensures ∙ c.if-is_key_set.false) c.in_ok-verdicts.ensures.tried
+    refl refl
+    c.in_ok-set-2.ensures c.in_ok-one-2.ensures.set c.in_ok-one-2.ensures.entry
+
+pub judge_sets-loop-next-init : goal.judge_sets-loop-next-init
+judge_sets-loop-next-init g t c = (
+  tt,
+  tt,
+  omega arith,
+  went_nowhere _ g.H.DnsHandle.faults _ _ _ (omega arith) (omega arith),
+  asks_none _ _ _ _ _ _ _ (ap asks_of_sets c.new-entries.ensures.items),
+  judgement_none _ _ _ c.new-sets.ensures.items c.new-entries.ensures.items,
+)
+
+pub judge_sets-returns-in_err-set-clause-went : goal.judge_sets-returns-in_err-set-clause-went
+judge_sets-returns-in_err-set-clause-went g t c =
+    went_then _ g.H.DnsHandle.faults _ _ _ _ _ _ _ c.loop-next.invariant.3 c.judge_set.ensures.went refl
+
+pub judge_sets-returns-in_err-push-clause-went : goal.judge_sets-returns-in_err-push-clause-went
+judge_sets-returns-in_err-push-clause-went g t c =
+    went_then _ g.H.DnsHandle.faults _ _ _ _ _ _ _ c.loop-next.invariant.3 c.judge_set.ensures.went refl
 
 pub judge_sets-loop-next-preserved : goal.judge_sets-loop-next-preserved
 judge_sets-loop-next-preserved g t c = (
   tt,
   tt,
-  then_way _ g.H.DnsHandle.faults g.H.DnsHandle.told _ _ _ _ _ _ c.loop-next.invariant.2 c.judge_set.ensures.went,
-  λ tells told. rw c.in_ok-push.ensures.items
-      (set_done _ _ _ _ _ _ _ _ _ _ _ _ (c.loop-next.invariant.3 tells told) (c.in_ok-one.ensures.step tells (c.loop-next.invariant.2.told ∙ told))),
+  omega (arith, c.loop-next.invariant.2, c.judge_set.ensures.counted),
+  went_then _ g.H.DnsHandle.faults _ _ _ _ _ _ _ c.loop-next.invariant.3 c.judge_set.ensures.went refl,
+  asks_then _ _ _ _ _ _ _ _ _ _ _ _ _ _ _ c.loop-next.invariant.4 c.in_ok-set.ensures.asks
+      (asks_of_more _ _ _ _ refl c.in_ok-push-2.ensures.items),
+  judgement_step (grounds_at g.V.Verifier.answers c.args.inquiry.now c.loop-next.progress c.args.query.now c.args.depth)
+      c.judge_set.new.progress.steps.items _ _ _ _ _ _ _ _ _ _ _
+      c.in_ok-set.ensures.asks.part.grown c.loop-next.invariant.5 c.in_ok-set.ensures.judged refl refl
+      c.in_ok-push.ensures.items c.in_ok-push-2.ensures.items,
 )
 
-pub judge_sets-returns-in_err-push-clause-went : goal.judge_sets-returns-in_err-push-clause-went
-judge_sets-returns-in_err-push-clause-went g t c =
-    then_way _ g.H.DnsHandle.faults g.H.DnsHandle.told _ _ _ _ _ _ c.loop-next.invariant.2 c.judge_set.ensures.went
+pub judge_sets-returns-in_err-push-2-clause-went : goal.judge_sets-returns-in_err-push-2-clause-went
+judge_sets-returns-in_err-push-2-clause-went g t c =
+    went_then _ g.H.DnsHandle.faults _ _ _ _ _ _ _ c.loop-next.invariant.3 c.judge_set.ensures.went refl
 
-pub judge_sets-returns-clause-run : goal.judge_sets-returns-clause-run
-judge_sets-returns-clause-run g t c =
-    let all = YieldsList-end (YieldsList-from_vec c.args.placed.items (cc) (cc)) c.loop-next.yielded c.loop-next.next-iterator c.loop-next.yielded_by c.next.result c.next.new.self c.in-None.is c.next.ensures.steps in
-    let e : c.loop-next.yielded ≡ c.args.placed.items = sym (map-id c.loop-next.yielded) ∙ all.0 in
-    λ tells told. rw (← e) (sets_done _ _ _ _ _ _ _ _ _ (c.loop-next.invariant.3 tells told))
+pub judge_signature-returns-in_default-clause-asks : goal.judge_signature-returns-in_default-clause-asks
+judge_signature-returns-in_default-clause-asks g t c = asks_none _ _ _ _ _ _ _ (ap asks_in c.untried.ensures.ask)
 
-pub judge_signature-returns-in_default-clause-step : goal.judge_signature-returns-in_default-clause-step
-judge_signature-returns-in_default-clause-step g t c = λ tells told.
-    SkippedStep _ _ (ap (is_skipped_read c.args.query.now c.args.set.now) (sym c.of.ensures ∙ c.in_default.is)) refl
+pub judge_signature-returns-then-skipped-clause-asks : goal.judge_signature-returns-then-skipped-clause-asks
+judge_signature-returns-then-skipped-clause-asks g t c = asks_none _ _ _ _ _ _ _ (ap asks_in c.untried-then-skipped.ensures.ask)
 
-pub judge_signature-returns-then-skipped-clause-step : goal.judge_signature-returns-then-skipped-clause-step
-judge_signature-returns-then-skipped-clause-step g t c = λ tells told.
-    SkippedStep _ _ (ap (is_skipped_read c.args.query.now c.args.set.now) (sym c.of.ensures ∙ c.in-Some.is) ∙ sym c.is_skipped-skipped.ensures ∙ c.if-skipped.true) refl
-
-pub judge_signature-returns-clause-step : goal.judge_signature-returns-clause-step
-judge_signature-returns-clause-step g t c = λ tells told.
-    AskedStep _ _ _ _ _ _
-    (ap (is_skipped_read c.args.query.now c.args.set.now) (sym c.of.ensures ∙ c.in-Some.is) ∙ sym c.is_skipped-skipped.ensures ∙ c.if-skipped.false)
-    (ap (signer_question c.args.set.now.class) (sym c.of.ensures ∙ c.in-Some.is) ∙ ap Some (sym c.in_ok-question.ensures)) refl
-    (c.in_ok-answer.ensures.run tells told) c.in_ok-verdict.ensures
+pub judge_signatures-loop-sig-init : goal.judge_signatures-loop-sig-init
+judge_signatures-loop-sig-init g t c = (
+  omega arith,
+  went_nowhere _ g.H.DnsHandle.faults _ _ _ (omega arith) (omega arith),
+  asks_none _ _ _ _ _ _ _ c.new-asked.ensures.items,
+  tried_none _ _ _ _ c.new-asked.ensures.items (ap (map verdict_value) c.new-verdicts.ensures.items),
+)
 
 pub judge_signatures-returns-in_err-verdict-clause-went : goal.judge_signatures-returns-in_err-verdict-clause-went
 judge_signatures-returns-in_err-verdict-clause-went g t c =
-    then_way _ g.H.DnsHandle.faults g.H.DnsHandle.told _ _ _ _ _ _ c.loop-sig.invariant.0 c.judge_signature.ensures.went
+    went_then _ g.H.DnsHandle.faults _ _ _ _ _ _ _ c.loop-sig.invariant.1 c.judge_signature.ensures.went refl
+
+pub judge_signatures-returns-in_err-add_ask-clause-went : goal.judge_signatures-returns-in_err-add_ask-clause-went
+judge_signatures-returns-in_err-add_ask-clause-went g t c =
+    went_then _ g.H.DnsHandle.faults _ _ _ _ _ _ _ c.loop-sig.invariant.1 c.judge_signature.ensures.went refl
 
 pub judge_signatures-returns-in_err-push-clause-went : goal.judge_signatures-returns-in_err-push-clause-went
 judge_signatures-returns-in_err-push-clause-went g t c =
-    then_way _ g.H.DnsHandle.faults g.H.DnsHandle.told _ _ _ _ _ _ c.loop-sig.invariant.0 c.judge_signature.ensures.went
+    went_then _ g.H.DnsHandle.faults _ _ _ _ _ _ _ c.loop-sig.invariant.1 c.judge_signature.ensures.went refl
 
 pub judge_signatures-returns-then-proved-clause-went : goal.judge_signatures-returns-then-proved-clause-went
 judge_signatures-returns-then-proved-clause-went g t c =
-    then_way _ g.H.DnsHandle.faults g.H.DnsHandle.told _ _ _ _ _ _ c.loop-sig.invariant.0 c.judge_signature.ensures.went
+    went_then _ g.H.DnsHandle.faults _ _ _ _ _ _ _ c.loop-sig.invariant.1 c.judge_signature.ensures.went refl
 
-pub judge_signatures-returns-then-proved-clause-run : goal.judge_signatures-returns-then-proved-clause-run
-judge_signatures-returns-then-proved-clause-run g t c = λ tells told.
-    rw c.in_ok-push.ensures.items (rw map-append (proved_at _ _ _ _ _ _ _ _ _ _ _ _ _ _ _ c.first_signatures-tried.ensures.first c.loop-sig-test.true c.sig-item.is
-    (c.loop-sig.invariant.1 tells told) (c.in_ok-verdict.ensures.step tells (c.loop-sig.invariant.0.told ∙ told)) (sym c.is_proved-proved.ensures ∙ c.if-proved.true)))
+pub judge_signatures-returns-then-proved-clause-asks : goal.judge_signatures-returns-then-proved-clause-asks
+judge_signatures-returns-then-proved-clause-asks g t c =
+    asks_then _ _ _ _ _ _ _ _ _ _ _ _ _ _ _ c.loop-sig.invariant.2 c.in_ok-verdict.ensures.asks
+    c.in_ok-add_ask.ensures
+
+pub judge_signatures-returns-then-proved-clause-tried : goal.judge_signatures-returns-then-proved-clause-tried
+judge_signatures-returns-then-proved-clause-tried g t c =
+    proved_step (grounds_at g.V.Verifier.answers c.args.inquiry.now c.loop-sig.progress c.args.query.now c.args.depth)
+    c.judge_signature.new.progress.steps.items _ _ _ _ _ _ _ _ _ _ _ _ _
+    c.first_signatures-tried.ensures.first c.in_ok-verdict.ensures.asks.part.grown c.loop-sig-test.true c.sig-item.is c.loop-sig.invariant.3 c.in_ok-verdict.ensures.tried
+    refl refl (sym c.is_proved-proved.ensures ∙ c.if-proved.true)
+    c.in_ok-add_ask.ensures (ap (map verdict_value) c.in_ok-push.ensures.items ∙ map-append verdict_value c.loop-sig.verdicts.items (c.in_ok-verdict.field-0.verdict ∷ []))
 
 pub judge_signatures-loop-sig-preserved : goal.judge_signatures-loop-sig-preserved
 judge_signatures-loop-sig-preserved g t c = (
-  then_way _ g.H.DnsHandle.faults g.H.DnsHandle.told _ _ _ _ _ _ c.loop-sig.invariant.0 c.judge_signature.ensures.went,
-  λ tells told. rw c.in_ok-push.ensures.items (rw map-append (failed_at _ _ _ _ _ _ _ _ _ _ _ _ _ _ c.loop-sig-test.true c.sig-item.is
-      (c.loop-sig.invariant.1 tells told) (c.in_ok-verdict.ensures.step tells (c.loop-sig.invariant.0.told ∙ told)) (sym c.is_proved-proved.ensures ∙ c.if-proved.false))),
+  omega (arith, c.loop-sig.invariant.0, c.judge_signature.ensures.counted),
+  went_then _ g.H.DnsHandle.faults _ _ _ _ _ _ _ c.loop-sig.invariant.1 c.judge_signature.ensures.went refl,
+  asks_then _ _ _ _ _ _ _ _ _ _ _ _ _ _ _ c.loop-sig.invariant.2 c.in_ok-verdict.ensures.asks
+      c.in_ok-add_ask.ensures,
+  tried_step (grounds_at g.V.Verifier.answers c.args.inquiry.now c.loop-sig.progress c.args.query.now c.args.depth)
+      c.judge_signature.new.progress.steps.items _ _ _ _ _ _ _ _ _ _ _ _ _
+      c.in_ok-verdict.ensures.asks.part.grown c.loop-sig-test.true c.sig-item.is c.loop-sig.invariant.3 c.in_ok-verdict.ensures.tried
+      refl refl (sym c.is_proved-proved.ensures ∙ c.if-proved.false)
+      c.in_ok-add_ask.ensures (ap (map verdict_value) c.in_ok-push.ensures.items ∙ map-append verdict_value c.loop-sig.verdicts.items (c.in_ok-verdict.field-0.verdict ∷ [])),
 )
 
-pub judge_signatures-returns-clause-run : goal.judge_signatures-returns-clause-run
-judge_signatures-returns-clause-run g t c = λ tells told.
-    all_failed _ _ _ _ _ _ _ _ _ _ _ _ c.first_signatures-tried.ensures.first c.loop-sig-test.false (c.loop-sig.invariant.1 tells told)
+pub judge_signatures-returns-clause-tried : goal.judge_signatures-returns-clause-tried
+judge_signatures-returns-clause-tried g t c =
+    tried_all _ _ _ _ _ _ c.first_signatures-tried.ensures.first c.loop-sig-test.false c.loop-sig.invariant.3

@@ -1,10 +1,8 @@
-use Rattle.std.proofs.Common.{◌≡◌, ◌+◌, map, take, ◌-◌, ◌*◌}
-use Rattle.dns_model.specs.Chains.{judge}
+use Rattle.std.proofs.Common.{◌+◌, ◌-◌, ◌*◌, map, take}
+use Rattle.dns_judgement.specs.DerivationParts.{asks_of_sets}
 use Rattle.dns_trust.specs.Verdicts.{verdict_value}
-use Rattle.dns_chain.specs.Heard.{says_of, Tells}
-use Rattle.dns_chain.specs.Sends.{Asking}
-use Rattle.dns_chain.specs.Steps.{Went}
-use Rattle.dns_chain.proofs.StepLemmas.{SetsDone, SignaturesDone}
+use Rattle.dns_chain.specs.Walking.{asking, IsCounted, grounds_at, Went, Walk, IsJudgement}
+use Rattle.dns_chain.proofs.TriedLemmas.{TriedDone}
 use Rattle.dns_chain.proofs.walk.+walk.Given as goal
 
 abbrev pub decreases-ask : goal.decreases-ask
@@ -26,12 +24,20 @@ abbrev pub invariant-judge_sets-loop-next : goal.invariant-judge_sets-loop-next
 invariant-judge_sets-loop-next g l =
     (goal.iterator-judge_sets-loop-next g).can_next l.next-iterator ×
     (goal.iterator-judge_sets-loop-next g).is_finite l.next-iterator ×
-    Went (Asking g.H.DnsHandle.sent g.H.DnsHandle.requested l.inquiry.options l.inquiry.now) g.H.DnsHandle.faults g.H.DnsHandle.told l.initial.handle l.handle l.initial.sends l.sends ×
-    ((tells : Tells) → g.H.DnsHandle.told l.initial.handle ≡ tells →
-    SetsDone (judge (g.V.Verifier.answers l.verifier) l.anchors l.inquiry.now) l.inquiry.limit (says_of tells) l.query l.depth l.initial.sends l.yielded l.judged.items l.sends)
+    IsCounted l.initial.progress l.progress ×
+    Went (asking g.H.DnsHandle l.inquiry) g.H.DnsHandle.faults l.initial.handle l.handle
+    l.initial.progress.sends l.progress.sends ×
+    Walk g.H.DnsHandle g.V.Verifier.answers l.inquiry l.initial.handle l.initial.progress l.handle
+    l.progress (asks_of_sets l.entries.items) ×
+    IsJudgement (grounds_at g.V.Verifier.answers l.inquiry l.progress l.query l.depth)
+    l.yielded l.sets.items l.entries.items
 
 abbrev pub invariant-judge_signatures-loop-sig : goal.invariant-judge_signatures-loop-sig
 invariant-judge_signatures-loop-sig g l =
-    Went (Asking g.H.DnsHandle.sent g.H.DnsHandle.requested l.inquiry.options l.inquiry.now) g.H.DnsHandle.faults g.H.DnsHandle.told l.initial.handle l.handle l.initial.sends l.sends ×
-    ((tells : Tells) → g.H.DnsHandle.told l.initial.handle ≡ tells →
-    SignaturesDone (judge (g.V.Verifier.answers l.verifier) l.anchors l.inquiry.now) l.inquiry.limit (says_of tells) l.query l.depth l.initial.sends l.set (take l.sig-index l.tried) (map verdict_value l.verdicts.items) l.sends)
+    IsCounted l.initial.progress l.progress ×
+    Went (asking g.H.DnsHandle l.inquiry) g.H.DnsHandle.faults l.initial.handle l.handle
+    l.initial.progress.sends l.progress.sends ×
+    Walk g.H.DnsHandle g.V.Verifier.answers l.inquiry l.initial.handle l.initial.progress l.handle
+    l.progress l.asked.items ×
+    TriedDone (grounds_at g.V.Verifier.answers l.inquiry l.progress l.query l.depth)
+    l.set (take l.sig-index l.tried) l.asked.items (map verdict_value l.verdicts.items)

@@ -1,0 +1,134 @@
+-- The sets of a step, judged one after another, each with its entry.
+use Rattle.std.proofs.Common.{◌≡◌, ◌==◌, true, false, List, [], ◌∷◌, ◌++◌, refl, sym, ap, subst, ◌∙◌, append-nil}
+use Rattle.std.specs.List.{AllByRecursion}
+use Rattle.std.proofs.lemmas.List.{map-append}
+use Rattle.std.proofs.lemmas.List.Concat.{flat_map-append}
+use Rattle.dns_model.specs.declared.trail.AskRef.{AskRef}
+use Rattle.dns_model.specs.Types.{type_dnskey}
+use Rattle.dns_model.specs.Records.{RrSet}
+use Rattle.dns_model.specs.SoundAnswers.{Placed}
+use Rattle.dns_model.specs.Trails.{AskedValue, JudgedSetValue}
+use Rattle.dns_model.proofs.EachLemmas.{each_append}
+use Rattle.dns_model.proofs.SetLemmas.{IsProper}
+use Rattle.dns_judgement.specs.Chained.{Chained, ChainedVerdict, bare_verdicts, stands, chained_by, chained_keys}
+use Rattle.dns_judgement.specs.Derivation.{Grounds, with_entries, entry_holds, entries_hold}
+use Rattle.dns_judgement.specs.DerivationParts.{asks_of_sets, with_entry}
+use Rattle.dns_judgement.specs.Judged.{Judged, placed_of}
+use Rattle.dns_judgement.specs.Marks.{judged_by, judged_keys, most_signatures}
+use Rattle.dns_judgement.proofs.StandLemmas.{chained_by-stands}
+use Rattle.dns_judgement.proofs.KeySetLemmas.{chained_keys-stands}
+use Rattle.dns_judgement.proofs.ChainedLemmas.{chained_keys-bare, chained_by-bare, placed_of-judged_keys, placed_of-judged_by}
+use Rattle.dns_judgement.proofs.ExtendLemmas.{entries_stay, entries_none, entries_more, entries_as_many, with_entries-append, has_mark_from, IsEntryOf, entry_of_keys, entry_of_verdicts}
+use Rattle.dns_chain.specs.Walking.{entry_of, AreTried, IsJudgedSet, IsJudgement}
+
+-- ---- one set
+
+is_entry_of : (placed : Placed) (judged : Judged) (asked : List AskRef) → placed_of judged ≡ placed → IsEntryOf placed (entry_of judged asked)
+is_entry_of placed judged asked is =
+    record { section = ap (λ p. p.section) (sym is); owner = ap (λ p. p.set.owner) (sym is); rtype = ap (λ p. p.set.rtype) (sym is) }
+
+with_entry-of : (placed : Placed) (judged : Judged) (asked : List AskRef) → placed_of judged ≡ placed
+    → judged ≡ with_entry (placed, entry_of judged asked)
+with_entry-of placed judged asked is = ap (λ p. with_entry (p, entry_of judged asked)) is
+
+-- a key set
+keys_judged : (g : Grounds) (placed : Placed) (c : Chained) (entry : JudgedSetValue) → (placed.set.rtype == type_dnskey) ≡ true
+    → c ≡ chained_keys g.judge placed → entry ≡ entry_of c.judged [] → IsJudgedSet g placed c entry
+keys_judged g placed c entry keys is made =
+    let judged : c.judged ≡ judged_keys g.judge placed = ap (λ x. x.judged) is ∙ chained_keys-bare g.judge placed in
+    let own : placed_of c.judged ≡ placed = ap placed_of judged ∙ placed_of-judged_keys g.judge placed in
+    let holds : entry_holds g placed (entry_of c.judged []) ≡ true =
+    entry_of_keys g placed (entry_of c.judged []) (is_entry_of placed c.judged [] own) keys refl refl
+    (has_mark_from (judged_keys g.judge placed) (entry_of c.judged []) (ap (λ x. x.mark) (sym judged)) (ap (λ x. x.sig) (sym judged))) in
+    record {
+      holds = ap (entry_holds g placed) made ∙ holds;
+      same = with_entry-of placed c.judged [] own ∙ ap (λ e. with_entry (placed, e)) (sym made);
+      stand = λ proper. ap (stands g.judge) is ∙ chained_keys-stands g.judge placed proper keys;
+    }
+
+pub keys_step : (g : Grounds) (placed : Placed) (s c : Chained) (entry : JudgedSetValue) (asked : List AskRef) → (placed.set.rtype == type_dnskey) ≡ true
+    → s ≡ chained_keys g.judge placed → asked ≡ [] → c ≡ s → entry ≡ entry_of s.judged asked → IsJudgedSet g placed c entry
+keys_step g placed s c entry asked keys is none same made =
+    keys_judged g placed c entry keys (same ∙ is) (made ∙ ap (λ x. entry_of x.judged asked) (sym same) ∙ ap (entry_of c.judged) none)
+
+-- another set, by its first signatures
+others_judged : (g : Grounds) (placed : Placed) (set : RrSet) (c : Chained) (entry : JudgedSetValue) (asked : List AskRef) (vs : List ChainedVerdict)
+    → set ≡ placed.set → (placed.set.rtype == type_dnskey) ≡ false → AreTried g set asked vs
+    → c ≡ chained_by placed vs → entry ≡ entry_of c.judged asked → IsJudgedSet g placed c entry
+others_judged g placed set c entry asked vs own_set other tried is made =
+    let P : RrSet → Type 0 = λ x. AreTried g x asked vs in
+    let tried : AreTried g placed.set asked vs = subst P own_set tried in
+    let judged : c.judged ≡ judged_by placed (bare_verdicts vs) = ap (λ x. x.judged) is ∙ chained_by-bare placed vs in
+    let own : placed_of c.judged ≡ placed = ap placed_of judged ∙ placed_of-judged_by placed (bare_verdicts vs) in
+    let holds : entry_holds g placed (entry_of c.judged asked) ≡ true =
+    entry_of_verdicts g placed (entry_of c.judged asked) (bare_verdicts vs) (is_entry_of placed c.judged asked own) other refl tried.verdicts
+    (has_mark_from (judged_by placed (bare_verdicts vs)) (entry_of c.judged asked) (ap (λ x. x.mark) (sym judged)) (ap (λ x. x.sig) (sym judged))) in
+    record {
+      holds = ap (entry_holds g placed) made ∙ holds;
+      same = with_entry-of placed c.judged asked own ∙ ap (λ e. with_entry (placed, e)) (sym made);
+      stand = λ proper. ap (stands g.judge) is ∙ chained_by-stands g.judge placed most_signatures vs (tried.good proper other);
+    }
+
+pub others_step : (g : Grounds) (placed : Placed) (set : RrSet) (s c : Chained) (entry : JudgedSetValue) (asks asked : List AskRef) (vs ws : List ChainedVerdict)
+    → set ≡ placed.set → (placed.set.rtype == type_dnskey) ≡ false → AreTried g set asks vs → asked ≡ asks → ws ≡ vs
+    → s ≡ chained_by placed ws → c ≡ s → entry ≡ entry_of s.judged asked → IsJudgedSet g placed c entry
+others_step g placed set s c entry asks asked vs ws own other tried same_asks same_verdicts is same made =
+    others_judged g placed set c entry asks vs own other tried (same ∙ is ∙ ap (chained_by placed) same_verdicts)
+    (made ∙ ap (λ x. entry_of x.judged asked) (sym same) ∙ ap (entry_of c.judged) same_asks)
+
+-- ---- sets
+
+pub judgement_none : (g : Grounds) (cs : List Chained) (es : List JudgedSetValue) → cs ≡ [] → es ≡ [] → IsJudgement g [] cs es
+judgement_none g cs es no_set no_entry =
+    let P : List Chained → Type 0 = λ xs. IsJudgement g [] xs es in
+    let Q : List JudgedSetValue → Type 0 = λ xs. IsJudgement g [] [] xs in
+    subst P (sym no_set) (subst Q (sym no_entry) (record { hold = entries_none g; same = refl; stand = λ proper. tt }))
+
+-- what was judged stays when steps are added
+judgement_later : (g : Grounds) (after more : List AskedValue) (ps : List Placed) (cs : List Chained) (es : List JudgedSetValue)
+    → after ≡ g.earlier ++ more → IsJudgement g ps cs es → IsJudgement (record g { earlier = after }) ps cs es
+judgement_later g after more ps cs es grown judged = record {
+  hold =
+      let P : List AskedValue → Type 0 = λ steps. entries_hold (record g { earlier = steps }) ps es ≡ true in
+      subst P (sym grown) (entries_stay g more ps es judged.hold);
+  same = judged.same;
+  stand = judged.stand;
+}
+
+all_front : {X : Type 0} (P : X → Type 0) (xs ys : List X) → AllByRecursion P (xs ++ ys) → AllByRecursion P xs
+all_front P [] ys h = tt
+all_front P (x ∷ xs) ys h = (h.0, all_front P xs ys h.1)
+
+all_last : {X : Type 0} (P : X → Type 0) (xs : List X) (y : X) → AllByRecursion P (xs ++ y ∷ []) → P y
+all_last P [] y h = h.0
+all_last P (x ∷ xs) y h = all_last P xs y h.1
+
+-- a set more
+judgement_more : (g : Grounds) (ps : List Placed) (p : Placed) (cs : List Chained) (c : Chained) (es : List JudgedSetValue) (e : JudgedSetValue)
+    → IsJudgement g ps cs es → IsJudgedSet g p c e → IsJudgement g (ps ++ p ∷ []) (cs ++ c ∷ []) (es ++ e ∷ [])
+judgement_more g ps p cs c es e judged one = record {
+  hold = entries_more g ps p es e judged.hold one.holds;
+  same =
+      map-append (λ x. x.judged) cs (c ∷ []) ∙ ap (λ xs. xs ++ c.judged ∷ []) judged.same ∙ ap (λ x. with_entries ps es ++ x ∷ []) one.same
+      ∙ sym (with_entries-append ps (p ∷ []) es (e ∷ []) (entries_as_many g ps es judged.hold));
+  stand = λ proper.
+      each_append (λ x. stands g.judge x ≡ true) cs (c ∷ []) (judged.stand (all_front (λ x. IsProper x.set) ps (p ∷ []) proper))
+      (one.stand (all_last (λ x. IsProper x.set) ps p proper), tt);
+}
+
+-- a set more, once its steps were added
+pub judgement_step : (g : Grounds) (after more : List AskedValue) (ps : List Placed) (p : Placed) (cs ds : List Chained) (c d : Chained) (es fs : List JudgedSetValue) (e f : JudgedSetValue)
+    → after ≡ g.earlier ++ more → IsJudgement g ps cs es → IsJudgedSet (record g { earlier = after }) p c e
+    → d ≡ c → f ≡ e → ds ≡ cs ++ d ∷ [] → fs ≡ es ++ f ∷ [] → IsJudgement (record g { earlier = after }) (ps ++ p ∷ []) ds fs
+judgement_step g after more ps p cs ds c d es fs e f grown judged one same_set same_entry sets entries =
+    let h = record g { earlier = after } in
+    let P : List Chained → Type 0 = λ xs. IsJudgement h (ps ++ p ∷ []) xs fs in
+    let Q : List JudgedSetValue → Type 0 = λ xs. IsJudgement h (ps ++ p ∷ []) (cs ++ c ∷ []) xs in
+    subst P (sym (sets ∙ ap (λ x. cs ++ x ∷ []) same_set))
+    (subst Q (sym (entries ∙ ap (λ x. es ++ x ∷ []) same_entry))
+    (judgement_more h ps p cs c es e (judgement_later g after more ps cs es grown judged) one))
+
+-- the asks of entries with one more
+pub asks_of_more : (es fs : List JudgedSetValue) (e f : JudgedSetValue) → f ≡ e → fs ≡ es ++ f ∷ [] → asks_of_sets fs ≡ asks_of_sets es ++ e.asked
+asks_of_more es fs e f same is =
+    ap asks_of_sets (is ∙ ap (λ x. es ++ x ∷ []) same) ∙ flat_map-append (λ x. x.asked) es (e ∷ []) ∙ ap (λ asks. asks_of_sets es ++ asks) (append-nil e.asked)
