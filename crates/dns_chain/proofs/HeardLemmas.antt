@@ -14,10 +14,11 @@ use Rattle.dns_net.specs.declared.error.NetError.TheVariants.{Busy, Dns, Message
 use Rattle.dns_net.specs.declared.handle.DnsHandle as handle
 use Rattle.dns_net.specs.declared.request.DnsRequestOptions.{DnsRequestOptions}
 use Rattle.dns_chain.specs.Calls.{Asking, IsCaused}
-use Rattle.dns_chain.specs.Heard.{heard_message, heard_told, told_of}
+use Rattle.dns_chain.specs.Heard.{heard_message}
 use Rattle.dns_chain.specs.Inquiries.{asking_request}
 use Rattle.dns_chain.specs.Sends.{SendOf}
 use Rattle.dns_chain.specs.Walking.{IsHeard, IsUnheard, Heard, judged_step}
+use Rattle.dns_chain.specs.LookupParts.{heard_told, told_of}
 
 -- ---- a reply
 

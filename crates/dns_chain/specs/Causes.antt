@@ -9,46 +9,27 @@ use Rattle.dns_model.specs.SoundAnswers.{Told}
 use Rattle.dns_judgement.specs.Judged.{Judged}
 use Rattle.dns_judgement.specs.Derivation.{judged_sets}
 use Rattle.dns_judgement.specs.Outcome.{has_answer, needs_denial, foreign_record}
-use Rattle.dns_net.specs.Errors.{Reply, ErrorValue, DnsErrorValue, Busy, Dns, Message, Msg, NoConnections, Proto, Io, Timeout, QueryCaseMismatch, ForeignClassRecord, Truncated, NoMemory, ResponseCode, Nsec, DnssecBogus}
+use Rattle.dns_net.specs.Errors.{Reply, ErrorValue, Dns, Message, ForeignClassRecord, NoMemory, Nsec}
 use Rattle.dns_net.specs.Handles.{Replies, reply_to}
 use Rattle.dns_net.specs.declared.handle.DnsHandle as handle
 use Rattle.dns_net.specs.declared.notice.Notice.TheVariants.{NotJudgedYet}
 use Rattle.dns_chain.specs.Heard.{heard_message, heard}
 use Rattle.dns_chain.specs.Calls.{Call, ask_of}
-use Rattle.dns_chain.specs.Sends.{Tells}
 use Rattle.dns_chain.specs.Looked.{IsTrail}
-
--- the reply to a question at the start of a call, where the upstream tells its replies
-abbrev pub IsReplyTo : Tells → Question → Reply → Type 0
-IsReplyTo None q reply = Unit {0}
-IsReplyTo (Some replies) q reply = reply_to replies.list q ≡ reply
 
 -- ---- an error that the upstream answered
 
-abbrev pub is_upstreams_dns : DnsErrorValue → Bool
-is_upstreams_dns (ResponseCode code) = true
-is_upstreams_dns (Nsec asked response proof) = false
-is_upstreams_dns DnssecBogus = true
-
 -- the errors of which a lookup makes none by itself
 abbrev pub is_upstreams : ErrorValue → Bool
-is_upstreams Busy = true
-is_upstreams (Dns error) = is_upstreams_dns error
+is_upstreams (Dns (Nsec asked response proof)) = false
 is_upstreams (Message NotJudgedYet) = false
-is_upstreams (Msg text) = true
-is_upstreams NoConnections = true
-is_upstreams (Proto error) = true
-is_upstreams (Io kind) = true
-is_upstreams Timeout = true
-is_upstreams QueryCaseMismatch = true
 is_upstreams (ForeignClassRecord owner class rtype) = false
-is_upstreams Truncated = true
 is_upstreams NoMemory = false
+is_upstreams error = true
 
 -- the call made one send and no other, it was answered this error, which has no message, and a fault was met
 pub record PassedOn {H : Type 0} (meanings : handle.Ghosts H) (call : Call H) (error : ErrorValue) : Type 0 where
   pub made : ask_of meanings call call.old call.query call.new (Err error)
-  pub told : IsReplyTo (meanings.told call.old) call.query (Err error)
   pub silent : heard_message (Err error) ≡ None
   pub rose : Rose (meanings.faults call.old) (meanings.faults call.new)
 
@@ -58,7 +39,7 @@ PassesOnly meanings call answer =
     (error : ErrorValue) → is_upstreams error ≡ true → answer ≡ Err error → PassedOn meanings call error
 
 -- whatever error without a message a known upstream replies is the answer
-abbrev pub PassesOn : Tells → Question → Reply → Type 0
+abbrev pub PassesOn : Option Replies → Question → Reply → Type 0
 PassesOn None q answer = Unit {0}
 PassesOn (Some replies) q answer = heard_message (reply_to replies.list q) ≡ None → answer ≡ reply_to replies.list q
 
@@ -71,7 +52,6 @@ pub record NamesForeign {H : Type 0} (meanings : handle.Ghosts H) (call : Call H
   pub records : Told
   pub first : Rr
   pub made : ask_of meanings call call.old call.query call.new reply
-  pub told : IsReplyTo (meanings.told call.old) call.query reply
   pub heard : heard reply ≡ Some records
   pub found : foreign_record call.query records ≡ Some first
   pub named : error ≡ ForeignClassRecord first.owner first.class first.rtype
@@ -83,7 +63,7 @@ ForeignOnly meanings call answer =
     → PassedOn meanings call (ForeignClassRecord owner class rtype) ⊎ NamesForeign meanings call (ForeignClassRecord owner class rtype)
 
 -- the first such record of a known upstream's reply is named
-abbrev pub ForeignNamed : Tells → Question → Reply → Type 0
+abbrev pub ForeignNamed : Option Replies → Question → Reply → Type 0
 ForeignNamed None q answer = Unit {0}
 ForeignNamed (Some replies) q answer =
     (records : Told) (first : Rr) → heard (reply_to replies.list q) ≡ Some records → foreign_record q records ≡ Some first
@@ -109,7 +89,7 @@ UnjudgedOnly meanings call answer =
     answer ≡ Err (Message NotJudgedYet) → PassedOn meanings call (Message NotJudgedYet) ⊎ IsUnjudged meanings call
 
 -- where a known upstream's reply has records of the query's class alone and none that answers the query, that isn't judged yet
-abbrev pub UnansweredUnjudged : Tells → Question → Reply → Type 0
+abbrev pub UnansweredUnjudged : Option Replies → Question → Reply → Type 0
 UnansweredUnjudged None q answer = Unit {0}
 UnansweredUnjudged (Some replies) q answer =
     (records : Told) → heard (reply_to replies.list q) ≡ Some records → foreign_record q records ≡ None → has_answer q records ≡ false
@@ -117,29 +97,15 @@ UnansweredUnjudged (Some replies) q answer =
 
 -- ---- all else has a trail
 
-abbrev pub is_denial : ErrorValue → Bool
-is_denial Busy = false
-is_denial (Dns (ResponseCode code)) = false
-is_denial (Dns (Nsec asked response proof)) = true
-is_denial (Dns DnssecBogus) = false
-is_denial (Message NotJudgedYet) = true
-is_denial (Msg text) = false
-is_denial NoConnections = false
-is_denial (Proto error) = false
-is_denial (Io kind) = false
-is_denial Timeout = false
-is_denial QueryCaseMismatch = false
-is_denial (ForeignClassRecord owner class rtype) = false
-is_denial Truncated = false
-is_denial NoMemory = false
-
 -- an answer that ends a trail: an Ok one, a denial, or that it isn't judged yet
 abbrev pub ends_trail : Reply → Bool
 ends_trail (Ok response) = true
-ends_trail (Err error) = is_denial error
+ends_trail (Err (Dns (Nsec asked response proof))) = true
+ends_trail (Err (Message NotJudgedYet)) = true
+ends_trail (Err error) = false
 
 -- where a known upstream's reply has records of the query's class alone, its sets are judged, whatever nested asks meet
-abbrev pub JudgesTold : Tells → Question → Reply → Type 0
+abbrev pub JudgesTold : Option Replies → Question → Reply → Type 0
 JudgesTold None q answer = Unit {0}
 JudgesTold (Some replies) q answer =
     (records : Told) → heard (reply_to replies.list q) ≡ Some records → foreign_record q records ≡ None → ends_trail answer ≡ true

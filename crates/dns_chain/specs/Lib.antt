@@ -2,6 +2,7 @@ pub mod Inquiries
 pub mod Heard
 pub mod Calls
 pub mod Sends
+pub mod LookupParts
 pub mod Looked
 pub mod Causes
 pub mod Walking

@@ -1,6 +1,6 @@
 -- What a lookup answers: a sound answer with the trail that led to it (RFC 4035, 4.3 and 5).
-use Rattle.std.specs.Prelude.{ℕ, ◌≡◌, ◌⊎◌, ◌≤◌, false, List, length, Option, Some, Result, Ok, Err}
-use Rattle.std.specs.List.{All}
+use Rattle.std.specs.Prelude.{ℕ, ◌≡◌, ◌⊎◌, ◌≤◌, true, false, List, length, Some, Result, Ok, Err, IfSome, drop}
+use Rattle.std.specs.List.{All, count_by}
 use Rattle.dns_model.specs.declared.denial.Denial.TheVariants as denial
 use Rattle.dns_model.specs.Counts.{RoseBy}
 use Rattle.dns_model.specs.declared.proof.Proof.{Proof}
@@ -10,45 +10,27 @@ use Rattle.dns_model.specs.SoundAnswers.{Told, told_by, ResponseValue, Sound}
 use Rattle.dns_judgement.specs.Asking.{most_sends, depth_limit}
 use Rattle.dns_judgement.specs.Derivation.{derivation, top_step, judged_sets, in_send_order}
 use Rattle.dns_judgement.specs.Marking.{marked_told}
-use Rattle.dns_net.specs.Errors.{Reply, ErrorValue, DnsErrorValue, Busy, Dns, Message, Msg, NoConnections, Proto, Io, Timeout, QueryCaseMismatch, ForeignClassRecord, Truncated, ResponseCode, Nsec, DnssecBogus}
-use Rattle.dns_net.specs.Errors as seen
+use Rattle.dns_net.specs.Errors.{Reply, Dns, Nsec}
 use Rattle.dns_net.specs.declared.error.NetError.{NetError}
 use Rattle.dns_net.specs.declared.error.NetError.TheVariants.{NoMemory}
 use Rattle.dns_net.specs.declared.handle.DnsHandle as handle
 use Rattle.dns_chain.specs.Heard.{heard_message}
 use Rattle.dns_chain.specs.Calls.{Call, ask_of}
-use Rattle.dns_chain.specs.Sends.{SendsAlong, IsFrom, faults_in}
+use Rattle.dns_chain.specs.Sends.{SendsAlong, IsFromReplies, is_fault}
 
 -- a fact, unless memory ran out
 abbrev pub UnlessNoMemory : {X : Type 0} → Result X NetError → Type 0 → Type 0
 UnlessNoMemory (Ok x) Fact = Fact
 UnlessNoMemory (Err e) Fact = (e ≡ NoMemory) ⊎ Fact
 
-abbrev pub OfDenial : DnsErrorValue → (ResponseValue → EndingValue → Type 0) → Type 0
-OfDenial (ResponseCode code) Fact = Unit {0}
-OfDenial (Nsec asked response proof) Fact = Fact response (Denied proof)
-OfDenial DnssecBogus Fact = Unit {0}
-
-abbrev pub OfError : ErrorValue → (ResponseValue → EndingValue → Type 0) → Type 0
-OfError Busy Fact = Unit {0}
-OfError (Dns error) Fact = OfDenial error Fact
-OfError (Message notice) Fact = Unit {0}
-OfError (Msg text) Fact = Unit {0}
-OfError NoConnections Fact = Unit {0}
-OfError (Proto error) Fact = Unit {0}
-OfError (Io kind) Fact = Unit {0}
-OfError Timeout Fact = Unit {0}
-OfError QueryCaseMismatch Fact = Unit {0}
-OfError (ForeignClassRecord owner class rtype) Fact = Unit {0}
-OfError Truncated Fact = Unit {0}
-OfError seen.NoMemory Fact = Unit {0}
-
 -- a fact of the response that an answer has, an Ok one or that inside a denial, and of the ending that this answer stands for
 abbrev pub OfAnswer : Reply → (ResponseValue → EndingValue → Type 0) → Type 0
 OfAnswer (Ok response) Fact = Fact response (Answered response.denial)
-OfAnswer (Err error) Fact = OfError error Fact
+OfAnswer (Err (Dns (Nsec asked response proof))) Fact = Fact response (Denied proof)
+OfAnswer (Err error) Fact = Unit {0}
 
--- the response holds the message that the reply to the first ask had, and is sound for its records
+-- the response holds the message that the reply to the first ask had, and is sound for its records. The other asks, those of
+-- the trail's other steps, come after it
 pub record IsSoundAnswer {H : Type 0} (meanings : handle.Ghosts H) (call : Call H) (a : ResponseValue) : Type 0 where
   pub middle : H
   pub reply : Reply
@@ -57,6 +39,7 @@ pub record IsSoundAnswer {H : Type 0} (meanings : handle.Ghosts H) (call : Call 
   pub heard : heard_message reply ≡ Some message
   pub header : a.message ≡ record message { answers = a.message.answers; authorities = a.message.authorities; additionals = a.message.additionals }
   pub sound : Sound call.judge call.now (told_by message) a
+  pub rest : SendsAlong (ask_of meanings call) middle (drop 1 (in_send_order a.trail)) call.new
 
 -- a trail with this ending: a derivation whose last step has the call's query, and whose steps are the asks that were made,
 -- one for each send, in the order of the sends. They are as shallow as the options say, and at most as many heard a fault as the
@@ -66,13 +49,13 @@ pub record IsTrail {H : Type 0} (meanings : handle.Ghosts H) (call : Call H) (tr
   pub top : AskedValue
   pub last : top_step trail ≡ Some top
   pub query : top.query ≡ call.query
-  pub ending : top.ending ≡ ending
+  pub ends : top.ending ≡ ending
   pub few : length trail ≤ most_sends
   pub shallow : All (λ step. step.depth ≤ depth_limit call.options.max_request_depth) trail
   pub each : length (in_send_order trail) ≡ length trail
   pub walked : SendsAlong (ask_of meanings call) call.old (in_send_order trail) call.new
-  pub from : IsFrom (meanings.told call.old) (in_send_order trail)
-  pub faults : RoseBy (faults_in (in_send_order trail)) (meanings.faults call.old) (meanings.faults call.new)
+  pub from : IfSome (meanings.told call.old) (λ replies. IsFromReplies replies (in_send_order trail))
+  pub faults : RoseBy (count_by (λ step. is_fault step.reply) (in_send_order trail)) (meanings.faults call.old) (meanings.faults call.new)
 
 -- the records of the response are those that the last step of its trail heard, with the marks that the step gives its sets
 pub record HasMarksOfTrail (now : ℕ) (a : ResponseValue) : Type 0 where
@@ -83,10 +66,7 @@ pub record HasMarksOfTrail (now : ℕ) (a : ResponseValue) : Type 0 where
   pub marked : told_by a.message ≡ marked_told now (judged_sets top) told
 
 -- a denial names the call's query, and the response inside it denies nothing by itself
-pub record IsDenialOf (q asked : Question) (a : ResponseValue) : Type 0 where
-  pub query : asked ≡ q
-  pub none : a.denial ≡ denial.None
-
 abbrev pub DeniesQuery : Question → Reply → Type 0
 DeniesQuery q answer =
-    (asked : Question) (response : ResponseValue) (proof : Proof) → answer ≡ Err (Dns (Nsec asked response proof)) → IsDenialOf q asked response
+    (asked : Question) (response : ResponseValue) (proof : Proof) → answer ≡ Err (Dns (Nsec asked response proof))
+    → (asked ≡ q) × (response.denial ≡ denial.None)

@@ -1,6 +1,5 @@
 -- The sends of a lookup: one for each step of its trail, in the order in which they were made (RFC 4035, 4.2 and 5).
-use Rattle.std.specs.Prelude.{ℕ, ◌≡◌, ◌≢◌, ◌≤◌, Bool, true, false, List, [], ◌∷◌, Option, None, Some, Err}
-use Rattle.std.specs.List.{count_by}
+use Rattle.std.specs.Prelude.{ℕ, ◌≡◌, ◌≢◌, ◌≤◌, Bool, true, false, List, [], ◌∷◌, Err}
 use Rattle.dns_model.specs.Records.{Question}
 use Rattle.dns_model.specs.Trails.{AskedValue, HeardValue, Records, Fault}
 use Rattle.dns_judgement.specs.Asking.{most_sends}
@@ -28,22 +27,10 @@ IsFromReplies replies [] = Unit {0}
 IsFromReplies replies (step ∷ steps) =
     (step.reply ≡ heard_value (reply_to replies.list step.query)) × IsFromReplies (left_after replies step.query) steps
 
--- what an upstream tells: its replies, or nothing
-abbrev pub Tells : Type 0
-Tells = Option Replies
-
--- the steps, in send order, heard what the upstream replies, where it tells that
-abbrev pub IsFrom : Tells → List AskedValue → Type 0
-IsFrom None steps = Unit {0}
-IsFrom (Some replies) steps = IsFromReplies replies steps
-
+-- a step heard a fault
 abbrev pub is_fault : HeardValue → Bool
 is_fault (Records told empty) = false
 is_fault Fault = true
-
--- how many steps heard a fault
-abbrev pub faults_in : List AskedValue → ℕ
-faults_in trail = count_by (λ step. is_fault step.reply) trail
 
 -- a handle went from one state to another by an ask for the query and others after it, at most so many in all
 pub record SendsFor {H : Type 0} (ask : H → Question → H → Reply → Type 0) (old new : H) (q : Question) : Type 0 where
