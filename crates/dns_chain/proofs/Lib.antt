@@ -4,3 +4,10 @@ pub mod StepLemmas
 pub mod TriedLemmas
 pub mod JudgementLemmas
 pub mod AnswerLemmas
+pub mod AlongLemmas
+pub mod TopLemmas
+pub mod LookedLemmas
+pub mod CauseLemmas
+pub mod ForeignLemmas
+pub mod UnjudgedLemmas
+pub mod LookLemmas

@@ -9,7 +9,6 @@ use Rattle.dns_model.proofs.SetLemmas.{IsProper}
 use Rattle.dns_judgement.specs.Chained.{ChainedVerdict, bare_verdicts}
 use Rattle.dns_judgement.specs.Derivation.{Grounds, verdicts_by}
 use Rattle.dns_judgement.specs.Marks.{Verdict, is_proved, verdict_of, most_signatures}
-use Rattle.dns_judgement.specs.Marks as marks
 use Rattle.dns_judgement.proofs.StandLemmas.{IsGoodVerdict, AreGood}
 use Rattle.dns_judgement.proofs.ChainedLemmas.{chained_verdict-bare, failed_verdict, good_verdict}
 use Rattle.dns_judgement.proofs.VerdictLemmas.{VerdictsDone, verdicts_none, verdicts_done_stay, verdicts_skip, AskFits, asked_verdict, verdicts_ask, verdicts_all, verdicts_proved}

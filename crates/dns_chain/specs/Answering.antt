@@ -1,13 +1,14 @@
 -- For private functions of this crate only: how a lookup came to its answer.
-use Rattle.std.specs.Prelude.{ℕ, ◌≡◌, ◌≢◌, ◌≤◌, true, false, List, [], ◌∷◌, ◌++◌, None, Some, Result, Ok, Err}
+use Rattle.std.specs.Prelude.{ℕ, ◌≡◌, ◌≢◌, ◌≤◌, true, false, List, [], ◌∷◌, ◌++◌, None, Some, Ok, Err}
 use Rattle.dns_model.specs.declared.denial.Denial.TheVariants as denial
 use Rattle.dns_model.specs.Records.{Rr, Question, MessageValue}
-use Rattle.dns_model.specs.Chains.{Judge}
+use Rattle.dns_model.specs.Keys.{VerifierAnswers}
 use Rattle.dns_model.specs.SoundAnswers.{Told, told_by}
 use Rattle.dns_model.specs.Trails.{AskedValue, JudgedSetValue, Records, EndingValue, Answered, Denied}
 use Rattle.dns_judgement.specs.Asking.{most_sends, depth_limit, judged_part}
 use Rattle.dns_judgement.specs.Chained.{Chained, bare, finished}
-use Rattle.dns_judgement.specs.Derivation.{Grounds, asks_of_sets}
+use Rattle.dns_judgement.specs.Derivation.{Grounds}
+use Rattle.dns_judgement.specs.DerivationParts.{asks_of_sets}
 use Rattle.dns_judgement.specs.Marking.{cleared_message}
 use Rattle.dns_judgement.specs.Outcome.{Outcome, Unjudged, Accepted, outcome_of, foreign_record}
 use Rattle.dns_judgement.specs.Outcome as outcome
@@ -15,9 +16,22 @@ use Rattle.dns_net.specs.Errors as seen
 use Rattle.dns_net.specs.Errors.{Reply, ErrorValue}
 use Rattle.dns_net.specs.declared.handle.DnsHandle as handle
 use Rattle.dns_net.specs.declared.notice.Notice.TheVariants.{NotJudgedYet}
+use Rattle.dns_trust.specs.Judge.{judge_of}
 use Rattle.dns_chain.specs.Heard.{heard_message}
 use Rattle.dns_chain.specs.Calls.{Call, ask_of}
 use Rattle.dns_chain.specs.Walking.{Asks, IsJudgement}
+use Rattle.dns_chain.specs.declared.inquiry.Inquiry.{Inquiry}
+
+-- a lookup of an inquiry
+abbrev pub call_by : {H V : Type 0} → (V → VerifierAnswers) → Inquiry V → Question → H → H → Call H
+call_by answers inquiry q old new = record {
+  judge = judge_of answers inquiry.judge;
+  query = q;
+  options = inquiry.options;
+  now = inquiry.judge.moment;
+  old = old;
+  new = new;
+}
 
 -- the last step of a trail: the query, what was heard, and the sets as they were judged
 abbrev pub top_of : Question → Told → List JudgedSetValue → EndingValue → AskedValue

@@ -1,5 +1,5 @@
 -- What the clauses of a lookup speak of: the call, its asks, and its validator's parts (RFC 4035, 4.1 and 5).
-use Rattle.std.specs.Prelude.{ℕ, ◌≡◌, ◌⊎◌, ◌≤◌, List, Option, Some, Ok, Err}
+use Rattle.std.specs.Prelude.{ℕ, ◌≡◌, ◌⊎◌, ◌≤◌, List, Some, Ok, Err}
 use Rattle.dns_model.specs.Counts.{Rose}
 use Rattle.dns_model.specs.Records.{Question}
 use Rattle.dns_model.specs.Keys.{AnchorValue}

@@ -1,11 +1,14 @@
-ghost use Rattle.std.specs.Prelude.{◌⊎◌, ◌≡◌, ◌≤◌, IfOk, map};
+ghost use Rattle.std.specs.Prelude.{◌⊎◌, ◌≡◌, ◌≤◌, ◌++◌, ◌∷◌, [], false, Err, IfOk};
 ghost use Rattle.dns_model.specs.SoundAnswers.{told_by};
+ghost use Rattle.dns_judgement.specs.Asking.{depth_limit};
 ghost use Rattle.dns_net.specs.Errors as seen;
 ghost use Rattle.dns_net.specs.Handles.{OrUnsent};
 ghost use Rattle.dns_net.specs.Replies.{reply_of, error_of};
 ghost use Rattle.dns_net.specs.Trail.{ending_value};
-ghost use Rattle.dns_chain.specs.Answering.{judged_answer, top_of};
+ghost use Rattle.dns_chain.specs.Answering.{call_by, judged_answer, top_of, Looked};
 ghost use Rattle.dns_chain.specs.Looked.{UnlessNoMemory};
+ghost use Rattle.dns_chain.specs.Sends.{SendsFor};
+ghost use Rattle.dns_chain.specs.Walking.{asking};
 
 use crate::asking::hear;
 use crate::inquiry::{Inquiry, Progress};
@@ -16,7 +19,7 @@ use dns_net::{
     Asked, DnsError, DnsHandle, DnsResponse, Ending, JudgedSet, NetError, Notice, Reply, Told,
     Trail, Verifier,
 };
-use dns_record::{Denial, Proof, Query, Record};
+use dns_record::{Denial, Proof, Query, Record, clone_records};
 use dns_sets::{Outcome, finished, foreign_record, outcome_of, placed_sets};
 use std::alloc::Global;
 
@@ -26,7 +29,14 @@ pub(crate) fn look<H: DnsHandle, V: Verifier>(
     inquiry: &Inquiry<'_, V>,
     handle: &mut H,
     query: Query,
-) -> Result<DnsResponse, NetError> {
+) -> Result<DnsResponse, NetError>
+    requires limit { inquiry.now.limit ≡ depth_limit inquiry.now.options.max_request_depth }
+    ensures later { H.faults handle.old ≤ H.faults handle.new }
+    ensures sends { OrUnsent handle.old handle.new result
+        (SendsFor (asking H.DnsHandle inquiry.now) handle.old handle.new query) }
+    ensures looked { UnlessNoMemory result
+        (Looked H.DnsHandle (call_by V.answers inquiry.now query handle.old handle.new) (reply_of result)) }
+{
     let mut progress = Progress {
         steps: Vec::new(alloc),
         sends: 0,
@@ -69,7 +79,11 @@ fn answer(
     judged: Judgement,
 ) -> Result<DnsResponse, NetError>
     ensures { UnlessNoMemory result (reply_of result ≡ judged_answer now query (record {
-        message = message; steps = steps.items; sets = judged.sets.items; entries = judged.entries.items })) }
+      message = message;
+      steps = steps.items;
+      sets = judged.sets.items;
+      entries = judged.entries.items;
+    })) }
 {
     let Judgement { sets, entries } = judged;
     match outcome_of(&query, &message, &sets) {
@@ -81,7 +95,14 @@ fn answer(
         }
         Outcome::Denied(proof) => {
             let asked = query.try_clone()?;
-            let trail = trail_of(alloc, query, &message, steps, entries, Ending::Denied(proof))?;
+            let trail = trail_of(
+                alloc,
+                query,
+                &message,
+                steps,
+                entries,
+                Ending::Denied(proof),
+            )?;
             let response = finished(alloc, now, sets, message, Denial::None, trail)?;
             denied(alloc, asked, response, proof)
         }
@@ -117,7 +138,7 @@ fn trail_of(
     ensures { IfOk result (λ t. t ≡ steps.items ++ top_of query (told_by message.now) entries.items (ending_value ending) ∷ []) }
 {
     let mut steps = steps;
-    let told = told_of(alloc, message)?;
+    let told = told_of(message)?;
     steps.push(Asked {
         depth: 0,
         judged: true,
@@ -131,25 +152,14 @@ fn trail_of(
 }
 
 // What a message tells, in memory of its own, since the answer holds the message.
-fn told_of(alloc: Global, message: &Message) -> Result<Told, NoMemory>
+fn told_of(message: &Message) -> Result<Told, NoMemory>
+    ensures { IfOk result (λ t. t ≡ (told_by message.now, false)) }
 {
     Ok(Told {
         code: message.response_code,
         empty: false,
-        answers: clone_records(alloc, &message.answers)?,
-        authorities: clone_records(alloc, &message.authorities)?,
-        additionals: clone_records(alloc, &message.additionals)?,
+        answers: clone_records(&message.answers)?,
+        authorities: clone_records(&message.authorities)?,
+        additionals: clone_records(&message.additionals)?,
     })
-}
-
-// Equal records in memory of their own, in order.
-fn clone_records(alloc: Global, records: &[Record]) -> Result<Vec<Record>, NoMemory>
-    ensures { IfOk result (λ v. v.items ≡ records.now) }
-{
-    let mut all = Vec::with_capacity(alloc, records.len())?;
-    for next in records {
-        let copy = next.try_clone()?;
-        all.push(copy)?;
-    }
-    Ok(all)
 }

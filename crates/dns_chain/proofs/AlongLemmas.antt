@@ -1,0 +1,91 @@
+-- What is known of a handle that went along the steps of a trail: its upstream's replies, and its faults.
+use Rattle.std.proofs.Common.{ℕ, Bool, true, false, ◌+◌, ◌≤◌, ◌≡◌, ◌∙◌, List, [], ◌∷◌, Option, None, Some, Ok, Err, count_by, refl, sym, ap, subst, inl, inr, arith, if◌then◌else◌}
+use Rattle.std.proofs.lemmas.List.Sums.{sum_by-cons}
+use Rattle.dns_model.specs.Counts.{RoseBy}
+use Rattle.dns_model.specs.Records.{Question, MessageValue}
+use Rattle.dns_model.specs.Trails.{AskedValue}
+use Rattle.dns_net.specs.Errors as seen
+use Rattle.dns_net.specs.Errors.{Reply, ErrorValue}
+use Rattle.dns_net.specs.Handles.{Replies, reply_to, left_after, IsLeft, ReplyIsTold}
+use Rattle.dns_net.specs.declared.request.DnsRequestOptions.{DnsRequestOptions}
+use Rattle.dns_net.specs.declared.handle.DnsHandle as handle
+use Rattle.dns_chain.specs.Heard.{heard_message, heard_value}
+use Rattle.dns_chain.specs.Calls.{IsCaused, Asking}
+use Rattle.dns_chain.specs.Sends.{SendsAlong, is_fault}
+use Rattle.dns_chain.specs.LookupParts.{IsFrom, Tells}
+
+-- ---- what an upstream tells, and what is left
+
+-- what an upstream tells after a send
+abbrev told_next : Tells → Question → Tells
+told_next None q = None
+told_next (Some replies) q = Some (left_after replies q)
+
+left_over : (old : Tells) (q : Question) (reply : Reply) (new : Tells) → (reply ≡ Err seen.NoMemory → ⊥) → IsLeft old (Some q) reply new
+    → new ≡ told_next old q
+left_over None q reply new remembered left = left
+left_over (Some replies) q reply new remembered (inl same) = same
+left_over (Some replies) q reply new remembered (inr memory) = absurd (remembered memory.0)
+
+-- a reply that isn't want of memory is the told one
+pub told_reply : (replies : Replies) (q : Question) (reply : Reply) → (reply ≡ Err seen.NoMemory → ⊥) → ReplyIsTold (Some replies) (Some q) reply
+    → reply ≡ reply_to replies.list q
+told_reply replies q reply remembered (inl memory) = absurd (remembered memory)
+told_reply replies q reply remembered (inr same) = same
+
+one_from : (old : Tells) (step : AskedValue) (steps : List AskedValue) (reply : Reply) → (reply ≡ Err seen.NoMemory → ⊥)
+    → step.reply ≡ heard_value reply → ReplyIsTold old (Some step.query) reply → IsFrom (told_next old step.query) steps → IsFrom old (step ∷ steps)
+one_from None step steps reply remembered heard told rest = tt
+one_from (Some replies) step steps reply remembered heard told rest =
+    (heard ∙ ap heard_value (told_reply replies step.query reply remembered told), rest)
+
+-- the steps heard what the upstream replies, one send after another
+pub along_from : {H : Type 0} (meanings : handle.Ghosts H) (options : DnsRequestOptions) (now : ℕ) (old new : H) (steps : List AskedValue)
+    → SendsAlong (Asking meanings options now) old steps new → IsFrom (meanings.told old) steps
+along_from meanings options now old new [] along = nothing (meanings.told old)
+  where
+    nothing : (tells : Tells) → IsFrom tells []
+    nothing None = tt
+    nothing (Some replies) = tt
+along_from meanings options now old new (step ∷ steps) along =
+    let send = along.1 in
+    let left = left_over (meanings.told old) step.query send.reply (meanings.told along.0) send.remembered send.made.left in
+    one_from (meanings.told old) step steps send.reply send.remembered send.heard send.made.told
+    (subst (λ t. IsFrom t steps) left (along_from meanings options now along.0 new steps along.2))
+
+-- ---- faults
+
+rose_one : (before after : ℕ) (reply : Reply) (o : Option MessageValue) → heard_message reply ≡ o → (reply ≡ Err seen.NoMemory → ⊥)
+    → before ≤ after → IsCaused before after reply → RoseBy (if is_fault (heard_value reply) then 1 else 0) before after
+rose_one before after (Ok response) o is remembered later cause = omega arith
+rose_one before after (Err error) o is remembered later (inl memory) = absurd (remembered (ap (λ e. Err e) memory))
+rose_one before after (Err error) o is remembered later (inr rose) = at_most (is_fault (heard_value (Err error)))
+  where
+    at_most : (b : Bool) → RoseBy (if b then 1 else 0) before after
+    at_most true = omega arith
+    at_most false = omega arith
+
+rose_then : (a b c n m : ℕ) → RoseBy n a b → RoseBy m b c → RoseBy (n + m) a c
+rose_then a b c n m first second = omega arith
+
+-- as many faults were met as steps heard one
+pub along_rose : {H : Type 0} (meanings : handle.Ghosts H) (options : DnsRequestOptions) (now : ℕ) (old new : H) (steps : List AskedValue)
+    → SendsAlong (Asking meanings options now) old steps new → RoseBy (count_by (λ step. is_fault step.reply) steps) (meanings.faults old) (meanings.faults new)
+along_rose meanings options now old new [] along = let same : meanings.faults old ≡ meanings.faults new = ap meanings.faults along in omega arith
+along_rose meanings options now old new (step ∷ steps) along =
+    let send = along.1 in
+    let one = rose_one (meanings.faults old) (meanings.faults along.0) send.reply (heard_message send.reply) refl send.remembered send.made.later send.made.cause in
+    let here : RoseBy (if is_fault step.reply then 1 else 0) (meanings.faults old) (meanings.faults along.0) =
+    subst (λ h. RoseBy (if is_fault h then 1 else 0) (meanings.faults old) (meanings.faults along.0)) (sym send.heard) one in
+    let rest = along_rose meanings options now along.0 new steps along.2 in
+    subst (λ n. RoseBy n (meanings.faults old) (meanings.faults new)) (sym (sum_by-cons (λ s. if is_fault s.reply then 1 else 0) step steps))
+    (rose_then (meanings.faults old) (meanings.faults along.0) (meanings.faults new) (if is_fault step.reply then 1 else 0) (count_by (λ s. is_fault s.reply) steps) here rest)
+
+-- and the count never falls
+pub along_later : {H : Type 0} (meanings : handle.Ghosts H) (options : DnsRequestOptions) (now : ℕ) (old new : H) (steps : List AskedValue)
+    → SendsAlong (Asking meanings options now) old steps new → meanings.faults old ≤ meanings.faults new
+along_later meanings options now old new [] along = let same : meanings.faults old ≡ meanings.faults new = ap meanings.faults along in omega arith
+along_later meanings options now old new (step ∷ steps) along =
+    let here = along.1.made.later in
+    let rest = along_later meanings options now along.0 new steps along.2 in
+    omega arith

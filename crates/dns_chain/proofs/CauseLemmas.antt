@@ -1,0 +1,119 @@
+-- Why a lookup gives each answer that has no response, out of how it went.
+use Rattle.std.proofs.Common.{ℕ, ◌≡◌, ◌≢◌, ◌∙◌, Bool, true, false, Option, None, Some, Result, Ok, Err, refl, sym, ap, subst, inl, inr}
+use Rattle.dns_model.specs.Counts.{Rose}
+use Rattle.dns_model.specs.Records.{Question, MessageValue}
+use Rattle.dns_model.specs.SoundAnswers.{told_by, ResponseValue}
+use Rattle.dns_judgement.specs.Chained.{bare}
+use Rattle.dns_judgement.specs.Outcome.{Outcome, Unjudged, Accepted, outcome_of, has_answer, needs_denial, is_wildcard_signature, foreign_record}
+use Rattle.dns_judgement.specs.Outcome as outcome
+use Rattle.dns_net.specs.Errors as seen
+use Rattle.dns_net.specs.Errors.{Reply, ErrorValue, Dns, Message, ForeignClassRecord, Nsec}
+use Rattle.dns_net.specs.Handles.{reply_to, ReplyIsTold}
+use Rattle.dns_net.specs.Replies.{reply_of}
+use Rattle.dns_net.specs.declared.error.NetError.{NetError}
+use Rattle.dns_net.specs.declared.handle.DnsHandle as handle
+use Rattle.dns_net.specs.declared.notice.Notice.TheVariants.{NotJudgedYet}
+use Rattle.dns_chain.specs.Heard.{heard_message, heard}
+use Rattle.dns_chain.specs.Calls.{Call, IsCaused, ask_of}
+use Rattle.dns_chain.specs.Looked.{UnlessNoMemory}
+use Rattle.dns_chain.specs.Causes.{is_upstreams, PassedOn, PassesOnly, PassesOn}
+use Rattle.dns_chain.specs.Answering.{Findings, answer_by, Looked, Passes, Names, Judges}
+use Rattle.dns_chain.specs.LookupParts.{Tells, IsReplyTo}
+use Rattle.dns_chain.proofs.AlongLemmas.{told_reply}
+use Rattle.dns_chain.proofs.LookedLemmas.{unless_map, or_memory}
+
+-- ---- what can't be
+
+err_same : (answer : Reply) (a b : ErrorValue) → answer ≡ Err a → answer ≡ Err b → a ≡ b
+err_same answer a b x y = cc
+
+err_ok : (answer : Reply) (a : ResponseValue) (e : ErrorValue) → answer ≡ Err e → answer ≡ Ok a → ⊥
+err_ok answer a e x y = cc
+
+pub some_same : {X : Type 0} (o : Option X) (a b : X) → o ≡ Some a → o ≡ Some b → a ≡ b
+some_same o a b x y = cc
+
+pub none_some : {X : Type 0} (o : Option X) (a : X) → o ≡ None → o ≡ Some a → ⊥
+none_some o a x y = cc
+
+no_both : (b : Bool) → b ≡ true → b ≡ false → ⊥
+no_both b true_is false_is = cc
+
+pub memory_some : (reply : Reply) (m : MessageValue) → heard_message reply ≡ Some m → reply ≡ Err seen.NoMemory → ⊥
+memory_some reply m is memory = none_some (heard_message reply) m (ap heard_message memory) is
+
+-- ---- the reply at the start of a call
+
+-- a reply that isn't want of memory is the told one
+pub told_to : (tells : Tells) (q : Question) (reply : Reply) → (reply ≡ Err seen.NoMemory → ⊥) → ReplyIsTold tells (Some q) reply → IsReplyTo tells q reply
+told_to None q reply remembered told = tt
+told_to (Some replies) q reply remembered told = sym (told_reply replies q reply remembered told)
+
+-- the error of a reply that is want of memory
+pub error_memory : (e : ErrorValue) → e ≢ seen.NoMemory → (let x : Reply = Err e in x) ≡ Err seen.NoMemory → ⊥
+error_memory e remembered is = remembered (err_same (Err e) e seen.NoMemory refl is)
+
+rose_by : (before after : ℕ) (e : ErrorValue) → e ≢ seen.NoMemory → IsCaused before after (Err e) → Rose before after
+rose_by before after e remembered (inl memory) = absurd (remembered memory)
+rose_by before after e remembered (inr rose) = rose
+
+pub passed_on : {H : Type 0} (meanings : handle.Ghosts H) (call : Call H) (e : ErrorValue) → ask_of meanings call call.old call.query call.new (Err e)
+    → heard_message (Err e) ≡ None → e ≢ seen.NoMemory → PassedOn meanings call e
+passed_on meanings call e made silent remembered = record {
+  made = made;
+  silent = silent;
+  rose = rose_by (meanings.faults call.old) (meanings.faults call.new) e remembered made.cause;
+}
+
+-- an error by one that is equal
+pub passed_as : {H : Type 0} (meanings : handle.Ghosts H) (call : Call H) (e error : ErrorValue) → PassedOn meanings call e
+    → (let x : Reply = Err e in x) ≡ Err error → PassedOn meanings call error
+passed_as meanings call e error passed is = subst (λ x. PassedOn meanings call x) (err_same (Err e) e error refl is) passed
+
+-- ---- an error of the upstream
+
+not_by : (now : ℕ) (q : Question) (found : Findings) (o : Outcome) (error : ErrorValue) → answer_by now q found o ≡ Err error
+    → is_upstreams error ≡ true → ⊥
+not_by now q found Unjudged error is up = no_both (is_upstreams error) up (ap is_upstreams (err_same (Err error) error (Message NotJudgedYet) refl (sym is)))
+not_by now q found (Accepted d) error is up = cc
+not_by now q found (outcome.Denied p) error is up =
+    no_both (is_upstreams error) up (ap is_upstreams (err_same (Err error) error (Dns (Nsec q _ p)) refl (sym is)))
+
+passed_only : {H : Type 0} (meanings : handle.Ghosts H) (call : Call H) {answer : Reply} → Looked meanings call answer → PassesOnly meanings call answer
+passed_only meanings call (Passes e made silent remembered) = λ error up is. passed_as meanings call e error (passed_on meanings call e made silent remembered) is
+passed_only meanings call (Names reply answer from r made heard foreign is) = λ error up passed.
+    absurd (no_both (is_upstreams error) up (ap is_upstreams (err_same answer error (ForeignClassRecord r.owner r.class r.rtype) passed is)))
+passed_only meanings call (Judges answer found f is) = λ error up passed.
+    absurd (not_by call.now call.query found (outcome_of call.query (told_by found.message) (bare found.sets)) error (sym is ∙ passed) up)
+
+pub lookup_passed : {H : Type 0} (meanings : handle.Ghosts H) (call : Call H) (result : Result ResponseValue NetError)
+    → UnlessNoMemory result (Looked meanings call (reply_of result)) → PassesOnly meanings call (reply_of result)
+lookup_passed meanings call result looked =
+    elim (or_memory result (Looked meanings call (reply_of result)) looked) [
+      | inl memory ↦ λ error up is. absurd (no_both (is_upstreams error) up (ap is_upstreams (err_same (reply_of result) error seen.NoMemory is memory)))
+      | inr l ↦ passed_only meanings call l
+    ]
+
+passes_error : (tells : Tells) (q : Question) (e : ErrorValue) → IsReplyTo tells q (Err e) → PassesOn tells q (Err e)
+passes_error None q e told = tt
+passes_error (Some replies) q e told = λ none. sym told
+
+passes_heard : (tells : Tells) (q : Question) (reply answer : Reply) (m : MessageValue) → IsReplyTo tells q reply → heard_message reply ≡ Some m
+    → PassesOn tells q answer
+passes_heard None q reply answer m told is = tt
+passes_heard (Some replies) q reply answer m told is = λ none. absurd (none_some (heard_message (reply_to replies.list q)) m none (ap heard_message told ∙ is))
+
+passes_on : {H : Type 0} (meanings : handle.Ghosts H) (call : Call H) {answer : Reply} → Looked meanings call answer
+    → PassesOn (meanings.told call.old) call.query answer
+passes_on meanings call (Passes e made silent remembered) =
+    passes_error (meanings.told call.old) call.query e (told_to (meanings.told call.old) call.query (Err e) (error_memory e remembered) made.told)
+passes_on meanings call (Names reply answer from r made heard foreign is) =
+    passes_heard (meanings.told call.old) call.query reply answer from
+    (told_to (meanings.told call.old) call.query reply (memory_some reply from heard) made.told) heard
+passes_on meanings call (Judges answer found f is) =
+    passes_heard (meanings.told call.old) call.query f.reply answer f.from
+    (told_to (meanings.told call.old) call.query f.reply (memory_some f.reply f.from f.heard) f.made.told) f.heard
+
+pub lookup_passes : {H : Type 0} (meanings : handle.Ghosts H) (call : Call H) (result : Result ResponseValue NetError)
+    → UnlessNoMemory result (Looked meanings call (reply_of result)) → UnlessNoMemory result (PassesOn (meanings.told call.old) call.query (reply_of result))
+lookup_passes meanings call result looked = unless_map result (λ l. passes_on meanings call l) looked

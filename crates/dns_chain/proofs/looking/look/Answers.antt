@@ -1,0 +1,39 @@
+use Rattle.std.proofs.Common.{Err, ap, sym, inl, inr, ◌∙◌}
+use Rattle.dns_chain.proofs.LookedLemmas.{unless_map}
+use Rattle.dns_chain.proofs.LookLemmas.{sends_once, sends_more, or_sent, sends_heard, look_passes, look_names, look_judges}
+use Rattle.dns_chain.proofs.looking.look.Goals as goal
+
+pub returns-in-Err-clause-sends : goal.returns-in-Err-clause-sends
+returns-in-Err-clause-sends g c = sends_heard _ _ _ _ _ c.in-Err.ensures.heard
+
+pub returns-in-Err-clause-looked : goal.returns-in-Err-clause-looked
+returns-in-Err-clause-looked g c = look_passes g.H.DnsHandle _ _ c.in-Err.ensures.heard
+
+pub returns-in-Some-clause-sends : goal.returns-in-Some-clause-sends
+returns-in-Some-clause-sends g c = inl (sends_once _ _ _ _ _ c.in-Ok.ensures.heard.made)
+
+pub returns-in-Some-clause-looked : goal.returns-in-Some-clause-looked
+returns-in-Some-clause-looked g c =
+    elim c.foreign_error.ensures [
+      | inl memory ↦ inl memory
+      | inr is ↦ inr (look_names g.H.DnsHandle _ _ _ _ c.in-Ok.ensures.heard (sym c.in-Some.ensures) (ap (λ e. Err e) is))
+    ]
+
+pub returns-in_err-placed-clause-sends : goal.returns-in_err-placed-clause-sends
+returns-in_err-placed-clause-sends g c = or_sent _ _ _ _ (sends_once _ _ _ _ _ c.in-Ok.ensures.heard.made)
+
+pub returns-in_err-judged-clause-sends : goal.returns-in_err-judged-clause-sends
+returns-in_err-judged-clause-sends g c =
+    or_sent _ _ _ _ (sends_more _ g.H.DnsHandle.faults _ _ _ _ _ _ _ c.in-Ok.ensures.heard.made c.hear.ensures.count c.judge_sets.ensures.went)
+
+pub returns-clause-sends : goal.returns-clause-sends
+returns-clause-sends g c =
+    or_sent _ _ _ _ (sends_more _ g.H.DnsHandle.faults _ _ _ _ _ _ _ c.in-Ok.ensures.heard.made c.hear.ensures.count c.judge_sets.ensures.went)
+
+pub returns-clause-looked : goal.returns-clause-looked
+returns-clause-looked g c =
+    unless_map c.answer.result
+    (λ is. look_judges g.H.DnsHandle _ _ _ _ _ _ _ _ _ _ _ _ c.in-Ok.ensures.heard (sym c.in-None.ensures)
+    (record { part = c.in_ok-placed.ensures; none = ap (λ v. v.items) c.hear.ensures.steps ∙ c.new.ensures.items; deep = c.requires.limit; one = c.hear.ensures.count })
+    (record { asks = c.in_ok-judged.ensures.asks; judged = c.in_ok-judged.ensures.judged; few = c.judge_sets.ensures.went.few }) is)
+    c.answer.ensures
