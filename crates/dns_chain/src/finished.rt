@@ -1,6 +1,6 @@
 ghost use Rattle.std.specs.Prelude.{◌≡◌, ◌≤◌, ◌<◌, ◌+◌, [], false, None, IfOk, length};
 ghost use Rattle.dns_model.specs.SoundAnswers.{told_by};
-ghost use Rattle.dns_model.specs.Trails.{Records};
+ghost use Rattle.dns_model.specs.Trails.{Records, Fault, Failed};
 ghost use Rattle.dns_judgement.specs.Asking.{most_sends};
 ghost use Rattle.dns_judgement.specs.Chained.{bare};
 ghost use Rattle.dns_judgement.specs.Derivation.{ending_by};
@@ -33,6 +33,23 @@ pub(crate) fn refused(ask: AskRef) -> Finished
     ensures answer { listed result.answer ≡ None }
 {
     Finished { ask, answer: None }
+}
+
+/// Ends a step that heard a fault.
+pub(crate) fn unheard(
+    alloc: Global,
+    progress: &mut Progress,
+    query: Query,
+    depth: u16,
+) -> Result<Finished, NoMemory>
+    requires few { length progress.old.steps.items < most_sends }
+    ensures sends { progress.new.sends ≡ progress.old.sends }
+    ensures one { length progress.new.steps.items ≤ length progress.old.steps.items + 1 }
+    ensures added { IfOk result (λ f. IsAdded progress.old.steps.items progress.new.steps.items
+        (judged_step depth query Fault [] Failed) f.ask) }
+    ensures answer { IfOk result (λ f. listed f.answer ≡ None) }
+{
+    unanswered(alloc, progress, query, depth, Reply::Fault, Ending::Failed)
 }
 
 /// Ends a step none of whose sets is judged.

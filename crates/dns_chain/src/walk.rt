@@ -8,11 +8,11 @@ ghost use Rattle.dns_trust.specs.Verdicts.{verdict_value, listed};
 ghost use Rattle.dns_chain.specs.Walking.{asking, grounds_at, IsCounted, Went, Walk, IsJudgement, IsJudgedSet, AreTried, IsTried, IsAnswer, asks_in, entry_of};
 
 use crate::asking::hear;
-use crate::finished::{Finished, answered, refused, unanswered};
+use crate::finished::{Finished, answered, refused, unanswered, unheard};
 use crate::inquiry::{Inquiry, MOST_SENDS, Progress};
 use crate::steps::{entry_for, foreign_of, records_of};
 use dns_name::NoMemory;
-use dns_net::{AskRef, DnsHandle, Ending, JudgedSet, NetError, Reply, Verifier};
+use dns_net::{AskRef, DnsHandle, JudgedSet, NetError, Verifier};
 use dns_rdata::Rrsig;
 use dns_record::{Query, Record, RecordSet, RecordType};
 use dns_sets::{ChainedSet, MarkedSet, PlacedSet, placed_sets};
@@ -177,7 +177,8 @@ fn judge_signatures<H: DnsHandle, V: Verifier>(
     ensures asks { IfOk result (λ v. Walk H.DnsHandle V.answers inquiry.now
         handle.old progress.old handle.new progress.new v.asked.items) }
     ensures tried { IfOk result (λ v. AreTried
-        (grounds_at V.answers inquiry.now progress.new query.now depth) set.now v.asked.items (map verdict_value v.verdicts.items)) }
+        (grounds_at V.answers inquiry.now progress.new query.now depth) set.now
+        v.asked.items (map verdict_value v.verdicts.items)) }
 {
     let mut verdicts = Vec::new(alloc);
     let mut asked = Vec::new(alloc);
@@ -291,14 +292,7 @@ fn ask<H: DnsHandle, V: Verifier>(
         Err(error) => match error {
             NetError::NoMemory => return Err(NoMemory),
             _ => {
-                let failed = unanswered(
-                    alloc,
-                    progress,
-                    query,
-                    depth,
-                    Reply::Fault,
-                    Ending::Failed,
-                )?;
+                let failed = unheard(alloc, progress, query, depth)?;
                 return Ok(failed);
             }
         },

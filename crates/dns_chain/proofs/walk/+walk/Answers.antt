@@ -25,11 +25,11 @@ ask-returns-in_err-judged-clause-went g t c =
 
 pub ask-returns-in_default : goal.ask-returns-in_default
 ask-returns-in_default g t c = record {
-  counted = omega (arith, c.unanswered.ensures.one, c.unanswered.ensures.sends, c.hear.ensures.count, ap (λ v. length v.items) c.hear.ensures.steps);
-  went = went_still _ g.H.DnsHandle.faults _ _ _ _ _ c.hear.ensures.went c.unanswered.ensures.sends;
+  counted = omega (arith, c.unheard.ensures.one, c.unheard.ensures.sends, c.hear.ensures.count, ap (λ v. length v.items) c.hear.ensures.steps);
+  went = went_still _ g.H.DnsHandle.faults _ _ _ _ _ c.hear.ensures.went c.unheard.ensures.sends;
   asks =
       fault_asks _ _ _ _ _ _ _ _ _ _ c.in-Err.error _ _ _ _ c.in_default.not-NoMemory c.in-Err.ensures.heard (ap (λ v. v.items) c.hear.ensures.steps)
-      c.hear.ensures.count c.unanswered.ensures.sends (omega arith) c.in_ok-failed-in_default.ensures.added;
+      c.hear.ensures.count c.unheard.ensures.sends (omega arith) c.in_ok-failed-in_default.ensures.added;
   answer = no_answer _ _ _ _ _ _ _ _ _ _ (omega arith) c.in_ok-failed-in_default.ensures.added c.in_ok-failed-in_default.ensures.answer refl;
 }
 
@@ -37,7 +37,7 @@ pub ask-returns-in-Some-clause-asks : goal.ask-returns-in-Some-clause-asks
 ask-returns-in-Some-clause-asks g t c =
     foreign_asks _ _ _ _ _ _ _ _ _ _ _ _ _ _ _ _ _ c.in-Ok.ensures.heard c.records_of-reply.ensures
     (named_by _ _ _ c.in_ok-foreign.ensures (ap (option_map ending_value) c.in-Some.is))
-    (ap (λ v. v.items) c.hear.ensures.steps) c.hear.ensures.count c.unanswered-in-Some.ensures.sends (omega arith) c.in_ok-seen-in-Some.ensures.added
+    (ap (λ v. v.items) c.hear.ensures.steps) c.hear.ensures.count c.unanswered.ensures.sends (omega arith) c.in_ok-seen-in-Some.ensures.added
 
 pub ask-returns-in-Some-clause-answer : goal.ask-returns-in-Some-clause-answer
 ask-returns-in-Some-clause-answer g t c =
