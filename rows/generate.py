@@ -3,7 +3,7 @@
 
     python3 rows/generate.py FOLDER
 
-writes each as FOLDER/NAME.session, NAME.out and NAME.status. `tools/run_rows` runs them without any file."""
+writes each as FOLDER/NAME.session, NAME.words, NAME.out and NAME.status. `tools/run_rows` runs them without any file."""
 import os
 import sys
 
@@ -147,20 +147,43 @@ def line_of_sixteen_mebibytes():
     return b" " * MOST_INPUT, b"bad line 1\n", 3
 
 
+def asks_that_are_refused():
+    """130 sets beside the answer, each with eight signatures that aren't accepted: every signature asks for the root's keys, until
+    1,024 sends are made. The trail says which asks weren't."""
+    servers = root_servers()
+    owners = [[b"n%d" % k] for k in range(130)]
+    refused = [[Signed([Record(owner, A, ADDRESS)], KEY, b"\xd0" + texts.number(k, 1)) for k in range(8)] for owner in owners]
+    further = [record for signed in refused for record in (signed[0].records[0], *(one.rrsig() for one in signed))]
+    session = by_one_key([servers], further=further)
+    lines = servers.lines("answer", True)
+    for signed in refused:
+        lines.append(signed[0].records[0].line("additional", texts.TTL, "bogus"))
+        lines.extend(one.rrsig().line("additional", texts.TTL, "indeterminate") for one in signed)
+    nested = MOST_SENDS - 1
+    heard = [*texts.told("answer", servers.section()), *texts.told("additional", further)]
+    heard.append(texts.judged("answer", ROOT, NS, "secure", "0", [0]))
+    for place, owner in enumerate(owners):
+        asks = [number if number < nested else "many" for number in range(1 + 8 * place, 9 + 8 * place)]
+        heard.append(texts.judged("additional", owner, A, "bogus", "-", asks))
+    trail = [*(texts.keys_step([KEY]) for _ in range(nested)), texts.step(0, ROOT, NS, heard, "none")]
+    return session, texts.report(lines, chain_by_one_key(servers), trail), 0, b"validate\ntrail\n"
+
+
 MADE = (forty_keys, sixty_links, two_hundred_sets, hundred_chains, more_sends_than_are_made, name_of_127_labels,
-        longest_message, thousand_anchors, longest_input, input_of_a_byte_too_many, line_of_sixteen_mebibytes)
+        longest_message, thousand_anchors, longest_input, input_of_a_byte_too_many, line_of_sixteen_mebibytes,
+        asks_that_are_refused)
 
 
 def rows():
-    """The rows by name: session, output and status, under the word `validate`."""
+    """The rows by name: session, output and status, and the words where they aren't `validate`."""
     return {make.__name__.replace("_", "-"): make for make in MADE}
 
 
 def main(folder):
     os.makedirs(folder, exist_ok=True)
     for name, make in rows().items():
-        session, out, status = make()
-        for end, text in ((".session", session), (".out", out), (".status", b"%d\n" % status)):
+        session, out, status, words = (*make(), b"validate\n")[:4]
+        for end, text in ((".session", session), (".words", words), (".out", out), (".status", b"%d\n" % status)):
             with open(os.path.join(folder, name + end), "wb") as file:
                 file.write(text)
 

@@ -126,12 +126,38 @@ def keys_reply(keys, signed=None):
     return reply([], DNSKEY, message([], DNSKEY, records))
 
 
-def session(anchors, accepts, name, kind, replies):
-    head = ["dns-session 1", f"moment {MOMENT}", f"algorithms {ALGORITHM}"]
+def session(anchors, accepts, name, kind, replies, version=1, depth=None):
+    depths = [] if depth is None else [f"depth {depth}"]
+    head = [f"dns-session {version}", f"moment {MOMENT}", *depths, f"algorithms {ALGORITHM}"]
     query = f"query {shown(name)} {type_word(kind)}"
     return "".join(line + "\n" for line in (*head, *anchors, *accepts, query, *replies, "end")).encode()
 
 
-def report(records, chains):
+def report(records, chains, trail=()):
+    """The report, with a trail where its steps are given: each a list of lines."""
     head = ["dns-report 1", "code 0", "denial none"]
-    return "".join(line + "\n" for line in (*head, *records, *chains, "end")).encode()
+    count = [f"trail {len(trail)}"] if trail else []
+    lines = [line for step in trail for line in step]
+    return "".join(line + "\n" for line in (*head, *records, *chains, *count, *lines, "end")).encode()
+
+
+def told(section, records):
+    """The lines of what a step heard: records as they were told, without marks."""
+    return [f"told {section} {shown(one.owner)} IN {type_word(one.kind)} {TTL} {one.rdata.hex()}" for one in records]
+
+
+def judged(section, owner, kind, mark, place, asks=()):
+    """The line of a set that a step judged: the place of the signature that decided, and what its asks came to."""
+    return " ".join(["set", section, shown(owner), type_word(kind), mark, "table", place, *map(str, asks)])
+
+
+def step(depth, name, kind, heard, ending):
+    """The lines of a step: `heard` is what it told and judged, or None for a fault."""
+    got = "got fault" if heard is None else "got 0"
+    return [f"step {depth} judged {shown(name)} {type_word(kind)}", got, *(heard or []), f"ending {ending}"]
+
+
+def keys_step(keys):
+    """The step of an ask for the root's keys, which are anchored and unsigned."""
+    heard = [*told("answer", [Record([], DNSKEY, key) for key in keys]), judged("answer", [], DNSKEY, "secure", "-")]
+    return step(1, [], DNSKEY, heard, "none")
