@@ -1,53 +1,54 @@
 -- What a session must end with, out of how a run ended.
-use Rattle.std.proofs.Common.{ℕ, ◌≡◌, ◌≢◌, ◌≤◌, ◌⊎◌, ◌∙◌, zero, suc, List, map, Option, None, Some, Result, Ok, Err, refl, sym, ap, subst, inl, inr, arith}
+use Rattle.std.proofs.Common.{ℕ, ◌≡◌, ◌≢◌, ◌≤◌, ◌∙◌, true, false, zero, suc, List, map, Option, None, Some, Result, Ok, Err, refl, sym, ap, subst, arith}
 use Rattle.std.specs.Io.KnownBytes.{Appends}
+use Rattle.dns_model.specs.Records.{Rr, MessageValue}
 use Rattle.dns_model.specs.SoundAnswers.{Told, ResponseValue}
+use Rattle.dns_model.specs.Trails as trails
+use Rattle.dns_model.specs.Trails.{Answered, Denied}
+use Rattle.dns_judgement.specs.DerivationParts.{is_foreign, is_failed}
 use Rattle.dns_judgement.specs.Outcome.{foreign_record}
 use Rattle.dns_net.specs.declared.notice.Notice.TheVariants.{NotJudgedYet}
-use Rattle.dns_net.specs.Errors as seen
-use Rattle.dns_net.specs.Errors.{Reply, ErrorValue, Dns, Message, ForeignClassRecord, Nsec}
-use Rattle.dns_net.specs.Recording.{RecordedValue, AnswersFrom}
-use Rattle.dns_net.specs.Requests.{plain_options}
-use Rattle.dns_chain.specs.Inquiries.{depth_limit}
-use Rattle.dns_chain.specs.Causes.{AnswersSets}
-use Rattle.dns_chain.proofs.CauseLemmas.{err_same, err_ok, ok_same}
-use Rattle.dns_chain.proofs.CauseAnswers.{passes_on, foreign_named, unanswered_unjudged, judges}
-use Rattle.dns_report.specs.Report.{report_text}
+use Rattle.dns_net.specs.Errors.{ErrorValue, Dns, Message, ForeignClassRecord, Nsec}
+use Rattle.dns_net.specs.Handles.{reply_to}
+use Rattle.dns_chain.specs.LookupParts.{told_of}
+use Rattle.dns_chain.specs.Causes.{ends_trail}
+use Rattle.dns_report.specs.declared.parts.Parts.{Parts}
 use Rattle.dns_report.specs.Faults.{fault_text}
 use Rattle.dns_session.specs.SessionValue.{SessionValue}
 use Rattle.dns_session.specs.Grammar.{session_of}
 use Rattle.dns_run.specs.declared.form.Form.{Form}
 use Rattle.dns_run.specs.Forms.{bad_line_text}
-use Rattle.dns_run.specs.Soundness.{session_judge}
-use Rattle.dns_run.specs.Answering.{recorded, recorded_by}
-use Rattle.dns_run.specs.Causes.{session_records, HasNoMessage, HasForeign, HasNoAnswer}
-use Rattle.dns_run.specs.Outcomes.{IsLookupReport, IsFault, LooksUp, Fails, Refuses, Wrote, Leaves}
-use Rattle.dns_run.specs.Runs.{EndsWith, Ended, Stopped, EndsByCase, EndsAsSession, EndsByGrammar, EndsByWords, IfSession, IfBadLine}
-use Rattle.dns_run.proofs.ReplyLemmas.{session_told}
-use Rattle.dns_run.proofs.CauseLemmas.{SessionCaused, session_caused, no_message_reply, no_message_silent}
+use Rattle.dns_run.specs.Soundness.{IsSound}
+use Rattle.dns_run.specs.Answering.{recorded, IsSessionAnswer}
+use Rattle.dns_run.specs.Causes.{message_in, session_message, session_records, HasNoMessage, HasForeign, HasNoAnswer, FaultCause, NoMessage, OtherClass, NotJudged, NotDenied}
+use Rattle.dns_run.specs.Outcomes.{IsTrailReport, IsFault, Derives, Fails, Refuses, Wrote, Leaves}
+use Rattle.dns_run.specs.Runs.{EndsWith, Ended, Stopped, EndsAsJudged, EndsAsSession, EndsByGrammar, EndsByWords, IfSession, IfBadLine}
+use Rattle.dns_run.specs.Runs as runs
+use Rattle.dns_run.proofs.ReplyLemmas.{err_same, message_of, no_message_reply, no_message_silent}
+use Rattle.dns_run.proofs.TopLemmas.{some_same, trail_foreign, trail_unanswered, trail_told}
 
 -- ---- the ways to end
 
 -- a status below 4 says what was written
-data Ending (bytes : List ℕ) (status : ℕ) (before now : Option (List ℕ)) : Type 0 where
-  Reported : status ≡ 0 → Wrote before now (LooksUp bytes) → Ending bytes status before now
-  Failed : status ≡ 1 → Wrote before now (Fails bytes) → Ending bytes status before now
-  Refused : status ≡ 3 → Wrote before now (Refuses bytes) → Ending bytes status before now
-  Later : 4 ≤ status → Ending bytes status before now
+data Ending (shows : Parts) (bytes : List ℕ) (status : ℕ) (before now : Option (List ℕ)) : Type 0 where
+  Reported : status ≡ 0 → Wrote before now (Derives shows bytes) → Ending shows bytes status before now
+  Failed : status ≡ 1 → Wrote before now (Fails bytes) → Ending shows bytes status before now
+  Refused : status ≡ 3 → Wrote before now (Refuses bytes) → Ending shows bytes status before now
+  Later : 4 ≤ status → Ending shows bytes status before now
 
 -- what a run says of its statuses
-pub record Says (status : ℕ) (told before now : Option (List ℕ)) : Type 0 where
-  pub report : status ≡ 0 → Leaves LooksUp told before now
+pub record Says (shows : Parts) (status : ℕ) (told before now : Option (List ℕ)) : Type 0 where
+  pub report : status ≡ 0 → Leaves (Derives shows) told before now
   pub fault : status ≡ 1 → Leaves Fails told before now
   pub form : status ≢ 2
   pub grammar : status ≡ 3 → Leaves Refuses told before now
 
-ending : (bytes : List ℕ) (status : ℕ) (before now : Option (List ℕ)) → Says status (Some bytes) before now → Ending bytes status before now
-ending bytes zero before now says = Reported refl (says.report refl)
-ending bytes (suc zero) before now says = Failed refl (says.fault refl)
-ending bytes (suc (suc zero)) before now says = absurd (says.form refl)
-ending bytes (suc (suc (suc zero))) before now says = Refused refl (says.grammar refl)
-ending bytes (suc (suc (suc (suc n)))) before now says = Later (omega arith)
+ending : (shows : Parts) (bytes : List ℕ) (status : ℕ) (before now : Option (List ℕ)) → Says shows status (Some bytes) before now → Ending shows bytes status before now
+ending shows bytes zero before now says = Reported refl (says.report refl)
+ending shows bytes (suc zero) before now says = Failed refl (says.fault refl)
+ending shows bytes (suc (suc zero)) before now says = absurd (says.form refl)
+ending shows bytes (suc (suc (suc zero))) before now says = Refused refl (says.grammar refl)
+ending shows bytes (suc (suc (suc (suc n)))) before now says = Later (omega arith)
 
 session_same : (bytes : List ℕ) (s x : SessionValue) → session_of bytes ≡ Ok s → session_of bytes ≡ Ok x → x ≡ s
 session_same bytes s x is also = ok_is (sym also ∙ is)
@@ -67,159 +68,175 @@ line_same bytes n k is also = err_is (sym also ∙ is)
     err_is : (let y : Result SessionValue ℕ = Err k in y) ≡ Err n → k ≡ n
     err_is h = cc
 
--- what a run over a session gave, with the cause of its answer
+-- what a run over a session gave
 data Session (s : SessionValue) (status : ℕ) (before now : Option (List ℕ)) : Type 0 where
-  GivesReport : (answer : ResponseValue) (after : RecordedValue) → SessionCaused s after (Ok answer)
-      → status ≡ 0 → Appends before now (report_text answer) → Session s status before now
-  GivesFault : (error : ErrorValue) (after : RecordedValue) → SessionCaused s after (Err error)
-      → status ≡ 1 → Appends before now (fault_text error) → Session s status before now
+  GivesReport : (answer : ResponseValue) → IsSessionAnswer s answer (Answered answer.denial) → status ≡ 0 → Session s status before now
+  GivesFault : (error : ErrorValue) → FaultCause s error → status ≡ 1 → Appends before now (fault_text error) → Session s status before now
   GivesLater : 4 ≤ status → Session s status before now
 
-gives_report : (s : SessionValue) (status : ℕ) (before now : Option (List ℕ)) (text : List ℕ)
-    → IsLookupReport s text → status ≡ 0 → Appends before now text → Session s status before now
-gives_report s status before now text r is written =
-    let P : List ℕ → Type 0 = λ t. Appends before now t in
-    elim (session_caused s (Ok r.report.answer) r.given) [
-      | inl memory ↦ absurd (err_ok (Ok r.report.answer) r.report.answer seen.NoMemory memory refl)
-      | inr caused ↦ GivesReport r.report.answer r.given.after caused is (subst P r.report.spelled written)
-    ]
-
-gives_fault : (s : SessionValue) (status : ℕ) (before now : Option (List ℕ)) (text : List ℕ)
-    → IsFault s text → status ≡ 1 → Appends before now text → Session s status before now
-gives_fault s status before now text f is written =
-    let P : List ℕ → Type 0 = λ t. Appends before now t in
-    elim (session_caused s (Err f.error) f.given) [
-      | inl memory ↦ absurd (f.own (err_same (Err f.error) f.error seen.NoMemory refl memory))
-      | inr caused ↦ GivesFault f.error f.given.after caused is (subst P f.spelled written)
-    ]
-
 -- how a run over a session ended
-session_ends : (bytes : List ℕ) (s : SessionValue) (status : ℕ) (before now : Option (List ℕ))
-    → session_of bytes ≡ Ok s → Ending bytes status before now → Session s status before now
-session_ends bytes s status before now read (Reported is wrote) =
-    let P : SessionValue → Type 0 = λ x. IsLookupReport x wrote.text in
-    gives_report s status before now wrote.text (subst P (session_same bytes s wrote.fact.session read wrote.fact.read) wrote.fact.report) is wrote.written
-session_ends bytes s status before now read (Failed is wrote) =
-    let P : SessionValue → Type 0 = λ x. IsFault x wrote.text in
-    gives_fault s status before now wrote.text (subst P (session_same bytes s wrote.fact.session read wrote.fact.read) wrote.fact.fault) is wrote.written
-session_ends bytes s status before now read (Refused is wrote) = absurd (no_line bytes s wrote.fact.number read wrote.fact.read)
-session_ends bytes s status before now read (Later late) = GivesLater late
+session_ends : (shows : Parts) (bytes : List ℕ) (s : SessionValue) (status : ℕ) (before now : Option (List ℕ))
+    → session_of bytes ≡ Ok s → Ending shows bytes status before now → Session s status before now
+session_ends shows bytes s status before now read (Reported is wrote) =
+    let r : IsTrailReport shows s wrote.text =
+    subst (λ x. IsTrailReport shows x wrote.text) (session_same bytes s wrote.fact.session read wrote.fact.read) wrote.fact.report in
+    GivesReport r.report.answer r.given is
+session_ends shows bytes s status before now read (Failed is wrote) =
+    let f : IsFault s wrote.text =
+    subst (λ x. IsFault x wrote.text) (session_same bytes s wrote.fact.session read wrote.fact.read) wrote.fact.fault in
+    GivesFault f.error f.cause is (subst (λ t. Appends before now t) f.spelled wrote.written)
+session_ends shows bytes s status before now read (Refused is wrote) = absurd (no_line bytes s wrote.fact.number read wrote.fact.read)
+session_ends shows bytes s status before now read (Later late) = GivesLater late
 
 -- ---- what it must end with
 
--- where every answer with a cause is this error, the run ends with its line
+-- a session that has no report, and no cause but for this error
+record OnlyFault (s : SessionValue) (error : ErrorValue) : Type 0 where
+  pub no_answer : (answer : ResponseValue) → IsSessionAnswer s answer (Answered answer.denial) → ⊥
+  pub only : (x : ErrorValue) → FaultCause s x → x ≡ error
+
 ends_fault : (s : SessionValue) (status : ℕ) (before now : Option (List ℕ)) (error : ErrorValue)
-    → ((after : RecordedValue) (answer : Reply) → SessionCaused s after answer → answer ≡ Err error)
-    → Session s status before now → EndsWith status 1 before now (fault_text error)
-ends_fault s status before now error only (GivesReport answer after caused is written) =
-    absurd (err_ok (Ok answer) answer error (only after (Ok answer) caused) refl)
-ends_fault s status before now error only (GivesFault x after caused is written) =
-    let P : ErrorValue → Type 0 = λ y. Appends before now (fault_text y) in
-    Ended is (subst P (err_same (Err x) x error refl (only after (Err x) caused)) written)
-ends_fault s status before now error only (GivesLater late) = Stopped late
+    → OnlyFault s error → Session s status before now → EndsWith status 1 before now (fault_text error)
+ends_fault s status before now error f (GivesReport answer given is) = absurd (f.no_answer answer given)
+ends_fault s status before now error f (GivesFault x cause is written) =
+    Ended is (subst (λ y. Appends before now (fault_text y)) (f.only x cause) written)
+ends_fault s status before now error f (GivesLater late) = Stopped late
 
--- a session without a message in reply to its query
-ends_without_message : (s : SessionValue) (status : ℕ) (before now : Option (List ℕ)) → Session s status before now
-    → (error : ErrorValue) → HasNoMessage s error → EndsWith status 1 before now (fault_text error)
-ends_without_message s status before now ended error none =
-    ends_fault s status before now error
-    (λ after answer caused.
-    passes_on AnswersFrom (λ r. r.faults) (recorded_by s.replies) after (Some (map recorded s.replies)) (session_judge s) s.moment
-    (depth_limit plain_options) s.query answer caused (no_message_silent s error none) ∙ no_message_reply s error none)
-    ended
+no_records : (s : SessionValue) (records : Told) → session_records s ≡ Some records → session_message s ≡ None → ⊥
+no_records s records told none = clash (sym told ∙ ap told_of none)
+  where
+    clash : Some records ≡ None → ⊥
+    clash h = cc
 
--- a session whose reply has a record of another class
-ends_foreign : (s : SessionValue) (status : ℕ) (before now : Option (List ℕ)) → Session s status before now
-    → (error : ErrorValue) → HasForeign s error → EndsWith status 1 before now (fault_text error)
-ends_foreign s status before now ended error foreign =
-    ends_fault s status before now error
-    (λ after answer caused.
-    foreign_named AnswersFrom (λ r. r.faults) (recorded_by s.replies) after (Some (map recorded s.replies)) (session_judge s) s.moment
-    (depth_limit plain_options) s.query answer caused foreign.records foreign.first (session_told s ∙ foreign.told) foreign.found
-    ∙ ap (λ y. Err y) (sym foreign.named))
-    ended
+sound_message : (s : SessionValue) (answer : ResponseValue) → IsSound s answer → session_message s ≡ None → ⊥
+sound_message s answer is none = clash (sym (ap message_of is.first ∙ ap message_in is.told) ∙ none)
+  where
+    clash : Some is.message ≡ None → ⊥
+    clash h = cc
 
--- a session whose reply has no answer
-ends_unanswered : (s : SessionValue) (status : ℕ) (before now : Option (List ℕ)) → Session s status before now
-    → HasNoAnswer s → EndsWith status 1 before now (fault_text (Message NotJudgedYet))
-ends_unanswered s status before now ended h =
-    ends_fault s status before now (Message NotJudgedYet)
-    (λ after answer caused.
-    unanswered_unjudged AnswersFrom (λ r. r.faults) (recorded_by s.replies) after (Some (map recorded s.replies)) (session_judge s) s.moment
-    (depth_limit plain_options) s.query answer caused h.records (session_told s ∙ h.told) h.own h.none)
-    ended
+-- without a message
+no_message_only : (s : SessionValue) (error x : ErrorValue) → HasNoMessage s error → FaultCause s x → x ≡ error
+no_message_only s error x h (NoMessage other) =
+    err_same (reply_to (map recorded s.replies) s.query) x error (no_message_reply s x other) (no_message_reply s error h)
+no_message_only s error x h (OtherClass f) = absurd (no_records s f.records f.told (no_message_silent s error h))
+no_message_only s error x h (NotJudged u is) =
+    absurd (trail_told s u.trail trails.Failed u.is u.told u.heard (ap told_of (no_message_silent s error h)))
+no_message_only s error x h (NotDenied response proof given is) =
+    absurd (sound_message s response given.sound (no_message_silent s error h))
 
--- the judged sets of an answer with a cause
-sets_of_cause : (s : SessionValue) (after : RecordedValue) (answer : Reply) (records : Told)
-    → session_records s ≡ Some records → foreign_record s.query records ≡ None → SessionCaused s after answer
-    → AnswersSets AnswersFrom (recorded_by s.replies) after (Some (map recorded s.replies)) (session_judge s) s.moment (depth_limit plain_options) s.query answer
-sets_of_cause s after answer records told own caused =
-    judges AnswersFrom (λ r. r.faults) (recorded_by s.replies) after (Some (map recorded s.replies)) (session_judge s) s.moment
-    (depth_limit plain_options) s.query answer caused records (session_told s ∙ told) own
+only_no_message : (s : SessionValue) (error : ErrorValue) → HasNoMessage s error → OnlyFault s error
+only_no_message s error h = record {
+  no_answer = λ answer given. sound_message s answer given.sound (no_message_silent s error h);
+  only = λ x cause. no_message_only s error x h cause;
+}
 
-ends_by_case : (s : SessionValue) (status : ℕ) (before now : Option (List ℕ)) (records : Told)
-    → session_records s ≡ Some records → foreign_record s.query records ≡ None
-    → Session s status before now → (4 ≤ status) ⊎ EndsByCase s status before now
-ends_by_case s status before now records told own (GivesReport answer after caused is written) =
-    let a = sets_of_cause s after (Ok answer) records told own caused in
-    let P : ResponseValue → Type 0 = λ x. Appends before now (report_text x) in
-    inr (record {
-      message = a.message;
-      sets = a.sets;
-      judged = record { after = after; judged = a.judged };
-      only = a.only;
-      unjudged = λ wants. absurd (err_ok (Ok answer) answer _ (a.unjudged wants) refl);
-      undenied = λ lacks. absurd (err_ok (Ok answer) answer _ (a.denied lacks) refl);
-      accepted = λ needs. Ended is (subst P (ok_same (Ok answer) answer _ refl (a.accepted needs)) written);
-    })
-ends_by_case s status before now records told own (GivesFault error after caused is written) =
-    let a = sets_of_cause s after (Err error) records told own caused in
-    let P : ErrorValue → Type 0 = λ x. Appends before now (fault_text x) in
-    inr (record {
-      message = a.message;
-      sets = a.sets;
-      judged = record { after = after; judged = a.judged };
-      only = a.only;
-      unjudged = λ wants. Ended is (subst P (err_same (Err error) error _ refl (a.unjudged wants)) written);
-      undenied = λ lacks. Ended is (subst P (err_same (Err error) error _ refl (a.denied lacks)) written);
-      accepted = λ needs. absurd (err_ok (Err error) _ error refl (a.accepted needs));
-    })
-ends_by_case s status before now records told own (GivesLater late) = inl late
+-- with a record of another class
+foreign_only : (s : SessionValue) (error x : ErrorValue) → HasForeign s error → FaultCause s x → x ≡ error
+foreign_only s error x f (NoMessage other) = absurd (no_records s f.records f.told (no_message_silent s x other))
+foreign_only s error x f (OtherClass g) =
+    let records : g.records ≡ f.records = some_same _ g.records f.records g.told f.told in
+    let first : g.first ≡ f.first =
+    some_same _ g.first f.first (ap (foreign_record s.query) (sym records) ∙ g.found) f.found in
+    g.named ∙ ap (λ r. ForeignClassRecord r.owner r.class r.rtype) first ∙ sym f.named
+foreign_only s error x f (NotJudged u is) =
+    absurd (not_true (trail_foreign s u.trail trails.Failed f.records f.first u.is f.told f.found))
+  where
+    not_true : is_foreign f.first trails.Failed ≡ true → ⊥
+    not_true h = cc
+foreign_only s error x f (NotDenied response proof given is) =
+    absurd (not_true (trail_foreign s response.trail (Denied proof) f.records f.first given.trail f.told f.found))
+  where
+    not_true : is_foreign f.first (Denied proof) ≡ true → ⊥
+    not_true h = cc
+
+only_foreign : (s : SessionValue) (error : ErrorValue) → HasForeign s error → OnlyFault s error
+only_foreign s error f = record {
+  no_answer = λ answer given. not_true answer (trail_foreign s answer.trail (Answered answer.denial) f.records f.first given.trail f.told f.found);
+  only = λ x cause. foreign_only s error x f cause;
+}
+  where
+    not_true : (answer : ResponseValue) → is_foreign f.first (Answered answer.denial) ≡ true → ⊥
+    not_true answer h = cc
+
+-- a record of another class, where there is none
+own_class : (s : SessionValue) (records : Told) (x : ErrorValue) → session_records s ≡ Some records → foreign_record s.query records ≡ None
+    → HasForeign s x → ⊥
+own_class s records x told own g =
+    let same : g.records ≡ records = some_same _ g.records records g.told told in
+    clash (sym g.found ∙ ap (foreign_record s.query) same ∙ own)
+  where
+    clash : Some g.first ≡ None → ⊥
+    clash h = cc
+
+-- without an answer
+unanswered_only : (s : SessionValue) (x : ErrorValue) → HasNoAnswer s → FaultCause s x → x ≡ Message NotJudgedYet
+unanswered_only s x h (NoMessage other) = absurd (no_records s h.records h.told (no_message_silent s x other))
+unanswered_only s x h (OtherClass g) = absurd (own_class s h.records x h.told h.own g)
+unanswered_only s x h (NotJudged u is) = is
+unanswered_only s x h (NotDenied response proof given is) =
+    absurd (not_true (trail_unanswered s response.trail (Denied proof) h.records given.trail h.told h.own h.none))
+  where
+    not_true : is_failed (Denied proof) ≡ true → ⊥
+    not_true h = cc
+
+only_unjudged : (s : SessionValue) → HasNoAnswer s → OnlyFault s (Message NotJudgedYet)
+only_unjudged s h = record {
+  no_answer = λ answer given. not_true answer (trail_unanswered s answer.trail (Answered answer.denial) h.records given.trail h.told h.own h.none);
+  only = λ x cause. unanswered_only s x h cause;
+}
+  where
+    not_true : (answer : ResponseValue) → is_failed (Answered answer.denial) ≡ true → ⊥
+    not_true answer h = cc
+
+-- with records of the query's class alone
+denial_caused : (s : SessionValue) (records : Told) (x : ErrorValue) → session_records s ≡ Some records → foreign_record s.query records ≡ None
+    → FaultCause s x → ends_trail (Err x) ≡ true
+denial_caused s records x told own (NoMessage other) = absurd (no_records s records told (no_message_silent s x other))
+denial_caused s records x told own (OtherClass g) = absurd (own_class s records x told own g)
+denial_caused s records x told own (NotJudged u is) = ap (λ y. ends_trail (Err y)) is
+denial_caused s records x told own (NotDenied response proof given is) = ap (λ y. ends_trail (Err y)) is
+
+ends_judged : (s : SessionValue) (status : ℕ) (before now : Option (List ℕ)) → Session s status before now → (records : Told)
+    → session_records s ≡ Some records → foreign_record s.query records ≡ None → EndsAsJudged status before now
+ends_judged s status before now (GivesReport answer given is) records told own = runs.Reported is
+ends_judged s status before now (GivesFault x cause is written) records told own =
+    runs.Refused x (denial_caused s records x told own cause) (Ended is written)
+ends_judged s status before now (GivesLater late) records told own = runs.Refused (Message NotJudgedYet) refl (Stopped late)
 
 -- what a run over a session ends with
 ends_session : (s : SessionValue) (status : ℕ) (before now : Option (List ℕ)) → Session s status before now → EndsAsSession s status before now
 ends_session s status before now ended = record {
-  no_message = ends_without_message s status before now ended;
-  other_class = ends_foreign s status before now ended;
-  no_answer = ends_unanswered s status before now ended;
-  judged = λ records told own. ends_by_case s status before now records told own ended;
+  no_message = λ error none. ends_fault s status before now error (only_no_message s error none) ended;
+  other_class = λ error foreign. ends_fault s status before now error (only_foreign s error foreign) ended;
+  no_answer = λ none. ends_fault s status before now (Message NotJudgedYet) (only_unjudged s none) ended;
+  judged = ends_judged s status before now ended;
 }
 
-pub ends_as_session : (status : ℕ) (told before now : Option (List ℕ)) → Says status told before now
+pub ends_as_session : (shows : Parts) (status : ℕ) (told before now : Option (List ℕ)) → Says shows status told before now
     → IfSession told (λ s. EndsAsSession s status before now)
-ends_as_session status None before now says = tt
-ends_as_session status (Some bytes) before now says = λ s read.
-    ends_session s status before now (session_ends bytes s status before now read (ending bytes status before now says))
+ends_as_session shows status None before now says = tt
+ends_as_session shows status (Some bytes) before now says = λ s read.
+    ends_session s status before now (session_ends shows bytes s status before now read (ending shows bytes status before now says))
 
-line_ends : (bytes : List ℕ) (number status : ℕ) (before now : Option (List ℕ))
-    → session_of bytes ≡ Err number → Ending bytes status before now → EndsWith status 3 before now (bad_line_text number)
-line_ends bytes number status before now read (Reported is wrote) = absurd (no_line bytes wrote.fact.session number wrote.fact.read read)
-line_ends bytes number status before now read (Failed is wrote) = absurd (no_line bytes wrote.fact.session number wrote.fact.read read)
-line_ends bytes number status before now read (Refused is wrote) =
+line_ends : (shows : Parts) (bytes : List ℕ) (number status : ℕ) (before now : Option (List ℕ))
+    → session_of bytes ≡ Err number → Ending shows bytes status before now → EndsWith status 3 before now (bad_line_text number)
+line_ends shows bytes number status before now read (Reported is wrote) = absurd (no_line bytes wrote.fact.session number wrote.fact.read read)
+line_ends shows bytes number status before now read (Failed is wrote) = absurd (no_line bytes wrote.fact.session number wrote.fact.read read)
+line_ends shows bytes number status before now read (Refused is wrote) =
     let P : List ℕ → Type 0 = λ t. Appends before now t in
     let e : wrote.text ≡ bad_line_text number = wrote.fact.spelled ∙ ap bad_line_text (line_same bytes number wrote.fact.number read wrote.fact.read) in
     Ended is (subst P e wrote.written)
-line_ends bytes number status before now read (Later late) = Stopped late
+line_ends shows bytes number status before now read (Later late) = Stopped late
 
 -- an input that is no session
-ends_bad_line : (status : ℕ) (told before now : Option (List ℕ)) → Says status told before now
+ends_bad_line : (shows : Parts) (status : ℕ) (told before now : Option (List ℕ)) → Says shows status told before now
     → IfBadLine told (λ number. EndsWith status 3 before now (bad_line_text number))
-ends_bad_line status None before now says = tt
-ends_bad_line status (Some bytes) before now says = λ number read.
-    line_ends bytes number status before now read (ending bytes status before now says)
+ends_bad_line shows status None before now says = tt
+ends_bad_line shows status (Some bytes) before now says = λ number read.
+    line_ends shows bytes number status before now read (ending shows bytes status before now says)
 
-pub ends_by_grammar : (status : ℕ) (told before now : Option (List ℕ)) → Says status told before now → EndsByGrammar status told before now
-ends_by_grammar status told before now says = record { only = says.grammar; always = ends_bad_line status told before now says }
+pub ends_by_grammar : (shows : Parts) (status : ℕ) (told before now : Option (List ℕ)) → Says shows status told before now → EndsByGrammar status told before now
+ends_by_grammar shows status told before now says = record { only = says.grammar; always = ends_bad_line shows status told before now says }
 
 -- ---- by the words
 

@@ -1,5 +1,5 @@
 -- A session's judge is that of its plain lists: that a key is added once, an algorithm once and algorithm 1 never changes no answer.
-use Rattle.std.proofs.Common.{ℕ, ◌≡◌, ◌⊎◌, ◌∙◌, Bool, true, false, cond, ◌&&◌, ◌||◌, List, [], ◌∷◌, ◌++◌, map, Option, None, Some, Result, Ok, Err, refl, sym, ap, ap₂, subst, inl, inr, append_assoc, append-nil}
+use Rattle.std.proofs.Common.{ℕ, ◌≡◌, ◌⊎◌, ◌∙◌, Bool, true, false, cond, ◌&&◌, ◌||◌, List, [], ◌∷◌, ◌++◌, map, Option, None, Some, refl, sym, ap, ap₂, subst, inl, inr, append_assoc, append-nil}
 use Rattle.std.specs.Prelude.{not, ◌==◌, nat_eq}
 use Rattle.std.specs.List.{list_any}
 use Rattle.std.specs.Cmp.Lexicographic.{pointwise}
@@ -13,22 +13,12 @@ use Rattle.dns_model.specs.Keys.{AnchorValue, bytes_eq, is_anchor, holds_anchor,
 use Rattle.dns_model.specs.Views.{DnskeyValue, dnskey_in}
 use Rattle.dns_model.specs.Serial.{timely}
 use Rattle.dns_model.specs.Chains.{Judge, judge}
-use Rattle.dns_model.specs.SoundAnswers.{ResponseValue}
 use Rattle.dns_model.proofs.NameLemmas.{name_eq-Decides}
-use Rattle.dns_net.specs.declared.error.NetError.{NetError}
-use Rattle.dns_net.specs.Errors.{Reply}
-use Rattle.dns_net.specs.Replies.{reply_of}
-use Rattle.dns_net.specs.Recording.{RecordedValue, AnswersFrom}
-use Rattle.dns_net.specs.Requests.{plain_options}
-use Rattle.dns_net.specs.declared.request.DnsRequestOptions.{DnsRequestOptions}
 use Rattle.dns_trust.specs.Listing.{ListedValue, ListedSignatureValue, is_entry, is_listed, answers_of, with_algorithm, with_accepted}
 use Rattle.dns_trust.specs.Anchoring.{with_anchor}
-use Rattle.dns_chain.specs.Inquiries.{depth_limit}
-use Rattle.dns_chain.specs.Looked.{IsLookup, UnlessNoMemory}
 use Rattle.dns_session.specs.SessionValue.{AcceptedSignatureValue, SessionValue}
 use Rattle.dns_run.specs.Adding.{with_algorithms, with_accepts, listed_by, with_anchors, trusted_by}
 use Rattle.dns_run.specs.Soundness.{listed_signature, listing, session_judge}
-use Rattle.dns_run.specs.Answering.{recorded, recorded_by, AnswersSession}
 
 -- an element that doesn't count, or that is there already, may be left out of a test of a list
 left_out : (counts is here rest : Bool) → (is ≡ true → (counts ≡ false) ⊎ (here ≡ true))
@@ -244,40 +234,9 @@ judged_by answers is_anchored now = record {
   is_timely = λ sig. timely sig now;
 }
 
-judge_plain : (s : SessionValue) (answers : keys.VerifierAnswers) (anchors : List AnchorValue)
+-- what a session's judge is made of is its own
+pub judge_plain : (s : SessionValue) (answers : keys.VerifierAnswers) (anchors : List AnchorValue)
     → answers ≡ answers_of (listing s.algorithms s.accepts) → anchored anchors ≡ anchored s.anchors
     → judge answers anchors s.moment ≡ session_judge s
 unfolding judged_by
 judge_plain s answers anchors listed by = ap₂ (λ answers is_anchored. judged_by answers is_anchored s.moment) listed by
-
--- a lookup over what was made of a session is one for it
-lookup_plain : (s : SessionValue) (j : Judge) (after : RecordedValue) (answer : Reply) → j ≡ session_judge s
-    → IsLookup AnswersFrom (λ r. r.faults) (recorded_by s.replies) after (Some (map recorded s.replies)) j s.moment
-    (depth_limit plain_options) s.query answer
-    → AnswersSession s answer
-lookup_plain s j after answer same given =
-    let P : Judge → Type 0 = λ j. IsLookup AnswersFrom (λ r. r.faults) (recorded_by s.replies) after (Some (map recorded s.replies))
-    j s.moment (depth_limit plain_options) s.query answer in
-    record { after = after; lookup = subst P same given }
-
-unless_plain : (s : SessionValue) (j : Judge) (result : Result ResponseValue NetError) (after : RecordedValue) → j ≡ session_judge s
-    → UnlessNoMemory result (IsLookup AnswersFrom (λ r. r.faults) (recorded_by s.replies) after (Some (map recorded s.replies)) j s.moment
-    (depth_limit plain_options) s.query (reply_of result))
-    → UnlessNoMemory result (AnswersSession s (reply_of result))
-unless_plain s j (Ok response) after same given = lookup_plain s j after (Ok response) same given
-unless_plain s j (Err error) after same given = elim given [
-  | inl memory ↦ inl memory
-  | inr looked ↦ inr (lookup_plain s j after (reply_of (Err error)) same looked)
-]
-
--- what a lookup over the handle, the keys and the verifier that were made of a session answered
-pub answers_looked : (s : SessionValue) (result : Result ResponseValue NetError) (handle after : RecordedValue) (anchors : List AnchorValue)
-    (verifier : ListedValue) (options : DnsRequestOptions)
-    → handle ≡ recorded_by s.replies → anchored anchors ≡ anchored s.anchors
-    → answers_of verifier ≡ answers_of (listing s.algorithms s.accepts) → options ≡ plain_options
-    → UnlessNoMemory result (IsLookup AnswersFrom (λ r. r.faults) handle after (Some handle.replies)
-    (judge (answers_of verifier) anchors s.moment) s.moment (depth_limit options) s.query (reply_of result))
-    → UnlessNoMemory result (AnswersSession s (reply_of result))
-answers_looked s result handle after anchors verifier options over by listed plain given =
-    unless_plain s (judge (answers_of verifier) anchors s.moment) result after (judge_plain s (answers_of verifier) anchors listed by)
-    (rw (over, plain) at given)

@@ -1,6 +1,7 @@
 pub mod OutcomeLemmas
 pub mod ReplyLemmas
-pub mod SoundLemmas
+pub mod LookupLemmas
 pub mod JudgeLemmas
 pub mod CauseLemmas
+pub mod TopLemmas
 pub mod EndLemmas

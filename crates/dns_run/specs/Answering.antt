@@ -1,17 +1,21 @@
 -- The lookup that a session asks for: over its replies, with its keys and signatures, at its moment.
-use Rattle.std.specs.Prelude.{List, [], map, Some, Result, Ok, Err}
+use Rattle.std.specs.Prelude.{ℕ, ◌≡◌, Bool, true, List, [], map, unwrap_or, Some, Result, Ok, Err}
 use Rattle.dns_model.specs.declared.denial.Denial.TheVariants as denied
 use Rattle.dns_model.specs.Records.{Question, MessageValue}
+use Rattle.dns_model.specs.SoundAnswers.{ResponseValue}
+use Rattle.dns_model.specs.Trails.{AskedValue, EndingValue}
 use Rattle.dns_message.specs.declared.decode_error.DecodeError.{DecodeError}
+use Rattle.dns_judgement.specs.Derivation.{derivation, top_step, in_send_order}
 use Rattle.dns_net.specs.declared.error.ProtoError.TheVariants.{Decode}
 use Rattle.dns_net.specs.Errors as seen
 use Rattle.dns_net.specs.Errors.{Reply}
+use Rattle.dns_net.specs.Handles.{Replies}
 use Rattle.dns_net.specs.Requests.{plain_options}
-use Rattle.dns_net.specs.Recording.{RecordedValue, AnswersFrom}
-use Rattle.dns_chain.specs.Inquiries.{depth_limit}
-use Rattle.dns_chain.specs.Looked.{IsLookup}
+use Rattle.dns_net.specs.Recording.{RecordedValue}
+use Rattle.dns_chain.specs.Sends.{IsFromReplies}
+use Rattle.dns_chain.specs.Looked.{HasMarksOfTrail}
 use Rattle.dns_session.specs.SessionValue.{ReplyValue, SessionValue}
-use Rattle.dns_run.specs.Soundness.{session_judge}
+use Rattle.dns_run.specs.Soundness.{session_judge, IsSound}
 
 -- what an upstream answers with a message, or with bytes that are none
 abbrev pub reply_from : Result MessageValue DecodeError → Reply
@@ -22,12 +26,30 @@ reply_from (Err error) = Err (seen.Proto (Decode error))
 abbrev pub recorded : ReplyValue → Question × Reply
 recorded reply = (reply.question, reply_from reply.message)
 
--- the upstream that answers as a session says, before it is asked
-abbrev pub recorded_by : List ReplyValue → RecordedValue
-recorded_by replies = record { sends = 0; faults = 0; replies = map recorded replies }
+-- what the session's upstream tells: its replies in order, and whether it serves them by turn
+abbrev pub session_replies : SessionValue → Replies
+session_replies s = record { list = map recorded s.replies; by_turn = s.by_turn }
 
--- a lookup of the session's query, over its replies, gives this answer
-pub record AnswersSession (s : SessionValue) (answer : Reply) : Type 0 where
-  pub after : RecordedValue
-  pub lookup : IsLookup AnswersFrom (λ r. r.faults) (recorded_by s.replies) after (Some (map recorded s.replies))
-      (session_judge s) s.moment (depth_limit plain_options) s.query answer
+-- the upstream that answers as a session says, before it is asked
+abbrev pub recorded_by : Bool → List ReplyValue → RecordedValue
+recorded_by by_turn replies = record { sends = 0; faults = 0; replies = map recorded replies; by_turn = by_turn }
+
+-- how deep asks may go: as the session says, or as options say that ask for nothing
+abbrev pub session_depth : SessionValue → ℕ
+session_depth s = unwrap_or s.depth plain_options.max_request_depth
+
+-- a trail with this ending: a derivation by the session's keys, algorithms and accepted signatures at its moment, whose last
+-- step has the session's query, and whose steps heard what the session replies, in the order of the sends
+pub record IsSessionTrail (s : SessionValue) (trail : List AskedValue) (ending : EndingValue) : Type 0 where
+  pub derived : derivation (session_judge s) (session_depth s) trail ≡ true
+  pub top : AskedValue
+  pub last : top_step trail ≡ Some top
+  pub query : top.query ≡ s.query
+  pub ends : top.ending ≡ ending
+  pub from : IsFromReplies (session_replies s) (in_send_order trail)
+
+-- a sound answer with such a trail, whose last step has the answer's marks
+pub record IsSessionAnswer (s : SessionValue) (answer : ResponseValue) (ending : EndingValue) : Type 0 where
+  pub sound : IsSound s answer
+  pub trail : IsSessionTrail s answer.trail ending
+  pub marks : HasMarksOfTrail s.moment answer

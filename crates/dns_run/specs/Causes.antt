@@ -1,40 +1,34 @@
--- Why a session is answered with an error (RFC 4035, 4.3 and 5.4).
-use Rattle.std.specs.Prelude.{◌≡◌, false, List, map, Option, None, Some, Result, Ok, Err}
-use Rattle.dns_model.specs.declared.proof.Proof.TheVariants.{Bogus}
-use Rattle.dns_model.specs.declared.denial.Denial.TheVariants as denied
+-- Why a session is answered with an error (RFC 4035, 4.3 and 5.4), and what its replies must be answered with.
+use Rattle.std.specs.Prelude.{◌≡◌, ◌≢◌, false, List, Option, None, Some, Result, Ok, Err}
+use Rattle.std.specs.Option.{option_map, option_and_then}
+use Rattle.dns_model.specs.declared.proof.Proof.{Proof}
 use Rattle.dns_model.specs.Records.{Rr, MessageValue}
-use Rattle.dns_model.specs.SoundAnswers.{Told, told_by}
+use Rattle.dns_model.specs.SoundAnswers.{Told, told_by, ResponseValue}
+use Rattle.dns_model.specs.Trails.{AskedValue, Records, Denied, Failed}
 use Rattle.dns_message.specs.declared.decode_error.DecodeError.{DecodeError}
-use Rattle.dns_judgement.specs.Judged.{Judged}
+use Rattle.dns_judgement.specs.Derivation.{judged_sets}
+use Rattle.dns_judgement.specs.Marking.{cleared_message}
 use Rattle.dns_judgement.specs.Outcome.{has_answer, foreign_record}
-use Rattle.dns_judgement.specs.Marking.{finished}
 use Rattle.dns_net.specs.declared.error.ProtoError.TheVariants.{Decode}
 use Rattle.dns_net.specs.declared.notice.Notice.TheVariants.{NotJudgedYet}
-use Rattle.dns_net.specs.Errors.{ErrorValue, Dns, Message, Proto, Timeout, ForeignClassRecord, Nsec}
-use Rattle.dns_net.specs.Recording.{RecordedValue, AnswersFrom}
-use Rattle.dns_net.specs.Requests.{plain_options}
-use Rattle.dns_chain.specs.Heard.{told_of}
-use Rattle.dns_chain.specs.Inquiries.{depth_limit}
-use Rattle.dns_chain.specs.Causes.{IsJudged, WantsDenial, LacksDenial}
+use Rattle.dns_net.specs.Errors.{Reply, ErrorValue, Dns, Message, Proto, Timeout, ForeignClassRecord, Nsec, NoMemory}
+use Rattle.dns_chain.specs.Looked.{OfAnswer}
+use Rattle.dns_chain.specs.Causes.{WantsDenial, PassesOn, ForeignNamed, UnansweredUnjudged, JudgesTold}
 use Rattle.dns_session.specs.SessionValue.{SessionValue, ReplyValue}
-use Rattle.dns_run.specs.Soundness.{session_judge, session_reply}
-use Rattle.dns_run.specs.Answering.{recorded, recorded_by}
+use Rattle.dns_run.specs.Soundness.{session_reply}
+use Rattle.dns_run.specs.Answering.{session_replies, IsSessionTrail, IsSessionAnswer}
 
 abbrev pub message_in : Result MessageValue DecodeError → Option MessageValue
 message_in (Ok message) = Some message
 message_in (Err fault) = None
 
-abbrev pub message_of : Option ReplyValue → Option MessageValue
-message_of None = None
-message_of (Some reply) = message_in reply.message
-
 -- the message of the session's reply to its query
 abbrev pub session_message : SessionValue → Option MessageValue
-session_message s = message_of (session_reply s)
+session_message s = option_and_then (λ reply. message_in reply.message) (session_reply s)
 
 -- the records of that message
 abbrev pub session_records : SessionValue → Option Told
-session_records s = told_of (session_message s)
+session_records s = option_map (λ message. told_by (cleared_message message)) (session_message s)
 
 -- the session has no message in reply to its query: nothing comes, or bytes that are no message
 pub data HasNoMessage (s : SessionValue) (error : ErrorValue) : Type 0 where
@@ -57,20 +51,30 @@ pub record HasNoAnswer (s : SessionValue) : Type 0 where
   pub own : foreign_record s.query records ≡ None
   pub none : has_answer s.query records ≡ false
 
--- the sets of the reply's message were judged so, by asks for what the session replies, with its keys and signatures, at
--- its moment
-pub record HasJudged (s : SessionValue) (message : MessageValue) (sets : List Judged) : Type 0 where
-  pub after : RecordedValue
-  pub judged : IsJudged AnswersFrom (recorded_by s.replies) after (Some (map recorded s.replies)) (session_judge s)
-      (depth_limit plain_options) s.query message sets
+-- there is a trail whose last step fails, since denial of existence would have to be judged
+pub record HasUnjudged (s : SessionValue) : Type 0 where
+  pub trail : List AskedValue
+  pub is : IsSessionTrail s trail Failed
+  pub told : Told
+  pub heard : is.top.reply ≡ Records told false
+  pub wants : WantsDenial s.query told (judged_sets is.top)
 
 -- why a session is answered with an error
 pub data FaultCause (s : SessionValue) (error : ErrorValue) : Type 0 where
   NoMessage : HasNoMessage s error → FaultCause s error
   OtherClass : HasForeign s error → FaultCause s error
   -- denial of existence would have to be judged
-  NotJudged : (message : MessageValue) (sets : List Judged) → HasJudged s message sets → WantsDenial s.query (told_by message) sets
-      → error ≡ Message NotJudgedYet → FaultCause s error
-  -- an answer that may be expanded from a wildcard lacks its denial
-  NotDenied : (message : MessageValue) (sets : List Judged) → HasJudged s message sets → LacksDenial s.query (told_by message) sets
-      → error ≡ Dns (Nsec s.query (finished s.moment sets message denied.None) Bogus) → FaultCause s error
+  NotJudged : HasUnjudged s → error ≡ Message NotJudgedYet → FaultCause s error
+  -- an answer is refused, with this proof, by a trail that ends so
+  NotDenied : (response : ResponseValue) (proof : Proof) → IsSessionAnswer s response (Denied proof)
+      → error ≡ Dns (Nsec s.query response proof) → FaultCause s error
+
+-- a lookup of the session's query, over its replies, gives this answer: an answer has its trail, an error its cause, and each reply to the
+-- query its answer
+pub record AnswersSession (s : SessionValue) (answer : Reply) : Type 0 where
+  pub answered : OfAnswer answer (IsSessionAnswer s)
+  pub caused : (error : ErrorValue) → answer ≡ Err error → error ≢ NoMemory → FaultCause s error
+  pub passes : PassesOn (Some (session_replies s)) s.query answer
+  pub foreign : ForeignNamed (Some (session_replies s)) s.query answer
+  pub judges : JudgesTold (Some (session_replies s)) s.query answer
+  pub unanswered : UnansweredUnjudged (Some (session_replies s)) s.query answer

@@ -1,23 +1,30 @@
 -- The words that the program takes, and its fixed texts.
-use Rattle.std.specs.Prelude.{ℕ, ◌≡◌, List, [], ◌∷◌, ◌++◌, map, codes, Vec, Option, None, Some, if◌then◌else◌}
+use Rattle.std.specs.Prelude.{ℕ, ◌≡◌, List, [], ◌∷◌, ◌++◌, ◌&&◌, map, codes, Vec, Option, None, Some, if◌then◌else◌}
 use Rattle.std.specs.Fmt.{decimal}
 use Rattle.dns_model.specs.Keys.{bytes_eq}
+use Rattle.dns_report.specs.declared.parts.Parts.TheVariants.{Answer, WithTrail}
 use Rattle.dns_run.specs.declared.form.Form.{Form}
 use Rattle.dns_run.specs.declared.form.Form.TheVariants.{Validate, Help, Version}
 
 -- what one word asks for
 abbrev pub form_named : List ℕ → Option Form
 form_named word =
-    if bytes_eq word (codes "validate") then Some Validate
+    if bytes_eq word (codes "validate") then Some (Validate Answer)
     else if bytes_eq word (codes "--help") then Some Help
     else if bytes_eq word (codes "--version") then Some Version
     else None
+
+-- what two words ask for
+abbrev pub form_of_two : List ℕ → List ℕ → Option Form
+form_of_two word next =
+    if bytes_eq word (codes "validate") && bytes_eq next (codes "trail") then Some (Validate WithTrail) else None
 
 -- what words ask for
 abbrev pub form_in : List (List ℕ) → Option Form
 form_in [] = None
 form_in (word ∷ []) = form_named word
-form_in (word ∷ next ∷ more) = None
+form_in (word ∷ next ∷ []) = form_of_two word next
+form_in (word ∷ next ∷ third ∷ more) = None
 
 -- what the words of a call ask for
 abbrev pub asked_form : {Z : Type 0} → List (Vec ℕ Z) → Option Form
@@ -28,7 +35,7 @@ AsksFor words form = asked_form words ≡ Some form
 
 abbrev pub help_text : List ℕ
 help_text =
-    codes "dns_check validate   reads a session and writes the report of its lookup\ndns_check --help     writes these lines\ndns_check --version  writes the name and the version\n"
+    codes "dns_check validate        reads a session and writes the report of its lookup\ndns_check validate trail  the same, and how the lookup came about, step by step\ndns_check --help          writes these lines\ndns_check --version       writes the name and the version\n"
 
 abbrev pub version_text : List ℕ
 version_text = codes "dns_check 0.1.0\n"

@@ -1,21 +1,11 @@
 -- How a run ends: by its words, over a session (RFC 4035, 4.3 and 5.4), and over bytes that are none.
-use Rattle.std.specs.Prelude.{ℕ, ◌≡◌, ◌≢◌, ◌<◌, ◌≤◌, ◌⊎◌, List, map, length, Option, None, Some, IfSome, Ok, Err}
+use Rattle.std.specs.Prelude.{ℕ, ◌≡◌, ◌≢◌, ◌<◌, ◌≤◌, true, List, length, Option, None, Some, IfSome, Ok, Err}
 use Rattle.std.specs.Io.KnownBytes.{Appends}
-use Rattle.dns_model.specs.declared.proof.Proof.TheVariants.{Bogus}
-use Rattle.dns_model.specs.declared.denial.Denial.TheVariants as denied
-use Rattle.dns_model.specs.Records.{MessageValue}
-use Rattle.dns_model.specs.SoundAnswers.{Told, told_by, placed_sets}
-use Rattle.dns_judgement.specs.Judged.{Judged}
+use Rattle.dns_model.specs.SoundAnswers.{Told}
 use Rattle.dns_judgement.specs.Outcome.{foreign_record}
-use Rattle.dns_judgement.specs.Run.{Run, Sets}
-use Rattle.dns_judgement.specs.Marking.{finished}
 use Rattle.dns_net.specs.declared.notice.Notice.TheVariants.{NotJudgedYet}
-use Rattle.dns_net.specs.Errors.{ErrorValue, Dns, Message, Nsec}
-use Rattle.dns_net.specs.Requests.{plain_options}
-use Rattle.dns_chain.specs.Heard.{says_of}
-use Rattle.dns_chain.specs.Inquiries.{depth_limit}
-use Rattle.dns_chain.specs.Causes.{WantsDenial, LacksDenial, NeedsNone}
-use Rattle.dns_report.specs.Report.{report_text}
+use Rattle.dns_net.specs.Errors.{ErrorValue, Message}
+use Rattle.dns_chain.specs.Causes.{ends_trail}
 use Rattle.dns_report.specs.Faults.{fault_text}
 use Rattle.dns_session.specs.SessionValue.{SessionValue}
 use Rattle.dns_session.specs.Grammar.{session_of}
@@ -24,9 +14,7 @@ use Rattle.dns_io.specs.Writing.{TakesPrefix}
 use Rattle.dns_run.specs.declared.form.Form.{Form}
 use Rattle.dns_run.specs.declared.form.Form.TheVariants.{Validate, Help, Version}
 use Rattle.dns_run.specs.Forms.{help_text, version_text, bad_words_text, bad_line_text, too_long_text}
-use Rattle.dns_run.specs.Soundness.{session_judge}
-use Rattle.dns_run.specs.Answering.{recorded}
-use Rattle.dns_run.specs.Causes.{session_records, HasNoMessage, HasForeign, HasNoAnswer, HasJudged}
+use Rattle.dns_run.specs.Causes.{session_records, HasNoMessage, HasForeign, HasNoAnswer}
 use Rattle.dns_run.specs.Outcomes.{Leaves, Refuses}
 
 -- ---- by its words
@@ -40,7 +28,7 @@ pub record WritesText (status expected : ℕ) (before now : Option (List ℕ)) (
 
 -- how words end that ask for a text, or for nothing; status 2 is for the latter alone
 abbrev pub EndsByWords : Option Form → ℕ → Option (List ℕ) → Option (List ℕ) → Type 0
-EndsByWords (Some Validate) status before now = status ≢ 2
+EndsByWords (Some (Validate shows)) status before now = status ≢ 2
 EndsByWords (Some Help) status before now = WritesText status 0 before now help_text
 EndsByWords (Some Version) status before now = WritesText status 0 before now version_text
 EndsByWords None status before now = WritesText status 2 before now bad_words_text
@@ -52,35 +40,19 @@ pub data EndsWith (status expected : ℕ) (before now : Option (List ℕ)) (text
   Ended : status ≡ expected → Appends before now text → EndsWith status expected before now text
   Stopped : 4 ≤ status → EndsWith status expected before now text
 
--- the sets of the reply's message were judged, the session allows no other judgement of them, and the run ends as each case of
--- them asks for
-pub record EndsByCase (s : SessionValue) (status : ℕ) (before now : Option (List ℕ)) : Type 0 where
-  pub message : MessageValue
-  pub sets : List Judged
-  pub judged : HasJudged s message sets
-  pub only : (others : List Judged) (sends : ℕ)
-      → Run (session_judge s) (depth_limit plain_options) (says_of (Some (map recorded s.replies))) 1
-      (Sets s.query 0 (placed_sets (told_by message)) others) sends
-      → others ≡ sets
-  pub unjudged : WantsDenial s.query (told_by message) sets → EndsWith status 1 before now (fault_text (Message NotJudgedYet))
-  pub undenied : LacksDenial s.query (told_by message) sets
-      → EndsWith status 1 before now (fault_text (Dns (Nsec s.query (finished s.moment sets message denied.None) Bogus)))
-  pub accepted : NeedsNone s.query (told_by message) sets
-      → EndsWith status 0 before now (report_text (finished s.moment sets message denied.None))
-
--- a message with records of the query's class alone is judged, or the status is 4 or more
-abbrev pub EndsAsJudged : SessionValue → ℕ → Option (List ℕ) → Option (List ℕ) → Type 0
-EndsAsJudged s status before now =
-    (records : Told) → session_records s ≡ Some records → foreign_record s.query records ≡ None
-    → (4 ≤ status) ⊎ EndsByCase s status before now
+-- a message with records of the query's class alone is judged: its report is written, or the line of a denial, or that it isn't
+-- judged yet; whatever nested asks meet, no other line is
+pub data EndsAsJudged (status : ℕ) (before now : Option (List ℕ)) : Type 0 where
+  Reported : status ≡ 0 → EndsAsJudged status before now
+  Refused : (error : ErrorValue) → ends_trail (Err error) ≡ true → EndsWith status 1 before now (fault_text error) → EndsAsJudged status before now
 
 -- what a session must end with: without a message in reply to its query with that error's line, with a record of another class
--- with the line that names the first, without an answer as not judged yet, and else as its sets are judged
+-- with the line that names the first, without an answer as not judged yet, and else as it is judged
 pub record EndsAsSession (s : SessionValue) (status : ℕ) (before now : Option (List ℕ)) : Type 0 where
   pub no_message : (error : ErrorValue) → HasNoMessage s error → EndsWith status 1 before now (fault_text error)
   pub other_class : (error : ErrorValue) → HasForeign s error → EndsWith status 1 before now (fault_text error)
   pub no_answer : HasNoAnswer s → EndsWith status 1 before now (fault_text (Message NotJudgedYet))
-  pub judged : EndsAsJudged s status before now
+  pub judged : (records : Told) → session_records s ≡ Some records → foreign_record s.query records ≡ None → EndsAsJudged status before now
 
 -- a fact of the session that told bytes are
 abbrev pub IfSession : Option (List ℕ) → (SessionValue → Type 0) → Type 0

@@ -1,11 +1,13 @@
 //! The lookup that a session asks for, and what it is made of: an upstream, a verifier and trusted keys.
-ghost use Rattle.std.specs.Prelude.{◌≡◌, IfOk, OnOk};
+ghost use Rattle.std.specs.Prelude.{◌≡◌, [], unwrap_or, IfOk, OnOk};
 ghost use Rattle.dns_model.specs.Keys.{anchored};
 ghost use Rattle.dns_net.specs.Replies.{reply_of};
+ghost use Rattle.dns_net.specs.Requests.{plain_options};
 ghost use Rattle.dns_trust.specs.Listing.{answers_of};
 ghost use Rattle.dns_chain.specs.Looked.{UnlessNoMemory};
 ghost use Rattle.dns_run.specs.Adding.{with_algorithms, with_accepts};
-ghost use Rattle.dns_run.specs.Answering.{reply_from, recorded_by, AnswersSession};
+ghost use Rattle.dns_run.specs.Answering.{reply_from, recorded_by};
+ghost use Rattle.dns_run.specs.Causes.{AnswersSession};
 ghost use Rattle.dns_run.specs.Soundness.{listing};
 
 use dns_chain::DnssecDnsHandle;
@@ -17,12 +19,14 @@ use dns_session::{AcceptedSignature, Anchor, Reply, Session};
 use dns_trust::{Listed, TrustAnchors};
 use std::alloc::Global;
 
-/// What a session's query is answered, with default options and at the session's moment.
+/// What a session's query is answered, with options that ask for nothing but the session's depth, and at its moment.
 pub fn session_answer(alloc: Global, session: Session) -> Result<DnsResponse, NetError>
     ensures { UnlessNoMemory result (AnswersSession session (reply_of result)) }
 {
     let Session {
+        by_turn,
         moment,
+        depth,
         algorithms,
         anchors,
         accepts,
@@ -31,17 +35,42 @@ pub fn session_answer(alloc: Global, session: Session) -> Result<DnsResponse, Ne
     } = session;
     let verifier = session_verifier(alloc, &algorithms, accepts)?;
     let anchors = session_anchors(alloc, anchors)?;
-    let upstream = session_upstream(alloc, replies)?;
+    let upstream = session_upstream(alloc, by_turn, replies)?;
     let mut handle = DnssecDnsHandle::new(upstream, anchors, verifier)?;
-    handle.lookup(alloc, query, DnsRequestOptions::default(), moment)
+    handle.lookup(alloc, query, session_options(depth), moment)
 }
 
-/// The upstream that answers as a session says. The first reply to a question serves it, and one that is no message is
-/// answered as the fault that its bytes have.
-pub fn session_upstream(alloc: Global, replies: Vec<Reply>) -> Result<Recorded, NoMemory>
-    ensures { IfOk result (λ r. r ≡ recorded_by replies.items) }
+/// Options that ask for nothing but the depth that a session says, or the default one where it says none.
+pub fn session_options(depth: Option<u16>) -> DnsRequestOptions
+    ensures { result ≡ record plain_options { max_request_depth = unwrap_or depth plain_options.max_request_depth } }
 {
-    let mut handle = Recorded::new(alloc);
+    let mut options = DnsRequestOptions::default();
+    if let Some(depth) = depth {
+        options.max_request_depth = depth;
+    }
+    options
+}
+
+// A handle without replies, which serves by turn or not.
+fn empty_upstream(alloc: Global, by_turn: bool) -> Recorded
+    ensures { result ≡ recorded_by by_turn [] }
+{
+    if by_turn {
+        return Recorded::in_turn(alloc);
+    }
+    Recorded::new(alloc)
+}
+
+/// The upstream that answers as a session says: with the first reply to a question or, by turn, with each in its turn. A reply
+/// that is no message is answered as the fault that its bytes have.
+pub fn session_upstream(
+    alloc: Global,
+    by_turn: bool,
+    replies: Vec<Reply>,
+) -> Result<Recorded, NoMemory>
+    ensures { IfOk result (λ r. r ≡ recorded_by by_turn replies.items) }
+{
+    let mut handle = empty_upstream(alloc, by_turn);
     for next in replies {
         let Reply { query, message } = next;
         handle.push(query, reply_from(alloc, message))?;

@@ -1,12 +1,14 @@
 //! The words that the program takes, and its fixed texts.
 ghost use Rattle.std.specs.Prelude.{◌≡◌};
-ghost use Rattle.dns_run.specs.Forms.{asked_form, form_named, help_text, version_text};
+ghost use Rattle.dns_run.specs.Forms.{asked_form, form_named, form_of_two, help_text, version_text};
+
+use dns_report::Parts;
 
 /// What the program is asked for.
 #[derive(Clone, Copy, Debug, PartialEq, Eq)]
 pub enum Form {
-    /// To answer a session.
-    Validate,
+    /// To answer a session, by a report that shows so much.
+    Validate(Parts),
     /// To tell its forms.
     Help,
     /// To tell its version.
@@ -18,7 +20,7 @@ fn form_named(word: &[u8]) -> Option<Form>
     ensures { result ≡ form_named word.now }
 {
     if word == b"validate".as_slice() {
-        return Some(Form::Validate);
+        return Some(Form::Validate(Parts::Answer));
     }
     if word == b"--help".as_slice() {
         return Some(Form::Help);
@@ -29,12 +31,23 @@ fn form_named(word: &[u8]) -> Option<Form>
     None
 }
 
+/// What two words ask for.
+fn form_of_two(word: &[u8], next: &[u8]) -> Option<Form>
+    ensures { result ≡ form_of_two word.now next.now }
+{
+    if word == b"validate".as_slice() && next == b"trail".as_slice() {
+        return Some(Form::Validate(Parts::WithTrail));
+    }
+    None
+}
+
 /// What words ask for.
 pub(crate) fn form_of(words: &[Vec<u8>]) -> Option<Form>
     ensures { result ≡ asked_form words.now }
 {
     match words {
         [word] => form_named(word),
+        [word, next] => form_of_two(word, next),
         _ => None,
     }
 }
@@ -43,7 +56,7 @@ pub(crate) fn form_of(words: &[Vec<u8>]) -> Option<Form>
 pub(crate) fn help_text() -> &'static [u8]
     ensures { result.now ≡ help_text }
 {
-    b"dns_check validate   reads a session and writes the report of its lookup\ndns_check --help     writes these lines\ndns_check --version  writes the name and the version\n"
+    b"dns_check validate        reads a session and writes the report of its lookup\ndns_check validate trail  the same, and how the lookup came about, step by step\ndns_check --help          writes these lines\ndns_check --version       writes the name and the version\n"
 }
 
 /// The program's name and version.

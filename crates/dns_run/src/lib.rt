@@ -2,7 +2,7 @@
 //! sink.
 //!
 //! A program gives the words after its name, a source and a sink, and ends with the status that [`run`] answers. Other
-//! crates may make of a session its upstream, its verifier and its trusted keys, or the whole answer to it.
+//! crates may make of a session its upstream, its verifier, its trusted keys and its options, or the whole answer to it.
 #![tactic(auto)]
 
 mod answering;
@@ -10,5 +10,7 @@ mod form;
 mod outcome;
 mod program;
 
-pub use answering::{session_anchors, session_answer, session_upstream, session_verifier};
+pub use answering::{
+    session_anchors, session_answer, session_options, session_upstream, session_verifier,
+};
 pub use program::run;

@@ -8,7 +8,7 @@ ghost use Rattle.dns_run.specs.Endings.{IsOutcome, IsAnswered};
 use crate::answering::session_answer;
 use dns_name::NoMemory;
 use dns_net::NetError;
-use dns_report::{write_fault, write_report};
+use dns_report::{Parts, write_fault, write_report};
 use dns_session::{Session, SessionStop, read_session};
 use dns_words::push_decimal;
 use std::alloc::Global;
@@ -35,12 +35,12 @@ fn bad_line(alloc: Global, number: u64) -> Result<Vec<u8>, NoMemory>
 }
 
 /// The report of a session's lookup, or the line of its fault.
-fn answered(alloc: Global, session: Session) -> Result<(Ending, Vec<u8>), NoMemory>
-    ensures { IfOk result (λ x. IsAnswered session x.0 x.1.items) }
+fn answered(alloc: Global, shows: Parts, session: Session) -> Result<(Ending, Vec<u8>), NoMemory>
+    ensures { IfOk result (λ x. IsAnswered shows session x.0 x.1.items) }
 {
     match session_answer(alloc, session) {
         Ok(answer) => {
-            let text = write_report(alloc, &answer)?;
+            let text = write_report(alloc, &answer, shows)?;
             Ok((Ending::Report, text))
         }
         Err(error) => {
@@ -61,12 +61,16 @@ fn is_no_memory(error: &NetError) -> bool
 }
 
 /// What an input comes to, and the text of it.
-pub(crate) fn session_ending(alloc: Global, bytes: &[u8]) -> Result<(Ending, Vec<u8>), NoMemory>
+pub(crate) fn session_ending(
+    alloc: Global,
+    shows: Parts,
+    bytes: &[u8],
+) -> Result<(Ending, Vec<u8>), NoMemory>
     requires { length bytes.now < 2 ^ 32 }
-    ensures { IfOk result (λ x. IsOutcome bytes.now x.0 x.1.items) }
+    ensures { IfOk result (λ x. IsOutcome shows bytes.now x.0 x.1.items) }
 {
     match read_session(alloc, bytes) {
-        Ok(session) => answered(alloc, session),
+        Ok(session) => answered(alloc, shows, session),
         Err(SessionStop::BadLine(number)) => {
             let text = bad_line(alloc, number)?;
             Ok((Ending::BadLine, text))

@@ -5,14 +5,16 @@ ghost use Rattle.dns_model.specs.Counts.{Rose};
 ghost use Rattle.dns_io.specs.Reading.{input_limit, IsEnded, ReadsFront};
 ghost use Rattle.dns_io.specs.Writing.{TakesPrefix};
 ghost use Rattle.dns_run.specs.Forms.{AsksFor, asked_form, too_long_text};
-ghost use Rattle.dns_run.specs.Outcomes.{Leaves, LeavesPrefix, Wrote, WrotePrefix, ComesTo, Reports, LooksUp, Fails, Refuses};
+ghost use Rattle.dns_run.specs.Outcomes.{Leaves, LeavesPrefix, Wrote, WrotePrefix, ComesTo, Reports, Derives, Fails, Refuses};
 ghost use Rattle.dns_run.specs.Runs.{EndsAsSession, EndsByGrammar, EndsByLength, EndsByWords, IfSession, WritesText};
+ghost use Rattle.dns_report.specs.declared.parts.Parts.{Parts};
 ghost use Rattle.dns_run.specs.declared.form.Form.TheVariants.{Validate};
 
 use crate::form::{Form, form_of, help_text, version_text};
 use crate::outcome::{Ending, session_ending};
 use dns_io::{ReadStop, Sink, SinkFault, Source, read_all, write_all};
 use dns_name::NoMemory;
+use dns_report::Parts;
 use std::alloc::Global;
 
 /// The status where a text wasn't written whole.
@@ -45,19 +47,19 @@ fn write_text<W: Sink>(status: u8, text: &[u8], output: &mut W) -> u8
 
 /// Answers the session that bytes are.
 #[tactic(auto, using(crate::proofs::OutcomeLemmas::report_prefix, crate::proofs::OutcomeLemmas::fault_prefix, crate::proofs::OutcomeLemmas::refused_prefix, crate::proofs::OutcomeLemmas::nothing_written))]
-fn answer<W: Sink>(alloc: Global, bytes: &[u8], output: &mut W) -> u8
+fn answer<W: Sink>(alloc: Global, shows: Parts, bytes: &[u8], output: &mut W) -> u8
     requires { length bytes.now ≤ input_limit }
-    ensures looked_up { result ≡ 0 → Wrote (W.taken output.old) (W.taken output.new) (LooksUp bytes.now) }
+    ensures derived { result ≡ 0 → Wrote (W.taken output.old) (W.taken output.new) (Derives shows bytes.now) }
     ensures fault { result ≡ 1 → Wrote (W.taken output.old) (W.taken output.new) (Fails bytes.now) }
     ensures form { result ≢ 2 }
     ensures grammar { result ≡ 3 → Wrote (W.taken output.old) (W.taken output.new) (Refuses bytes.now) }
     ensures read { result ≢ 4 }
     ensures sink { result ≡ 5 → Rose (W.faults output.old) (W.faults output.new) }
-    ensures prefix { WrotePrefix (W.taken output.old) (W.taken output.new) (ComesTo bytes.now) }
+    ensures prefix { WrotePrefix (W.taken output.old) (W.taken output.new) (ComesTo shows bytes.now) }
     ensures most { result ≤ 6 }
     ensures later { W.faults output.old ≤ W.faults output.new }
 {
-    match session_ending(alloc, bytes) {
+    match session_ending(alloc, shows, bytes) {
         Ok((Ending::Report, text)) => write_text(0, &text, output),
         Ok((Ending::Fault, text)) => write_text(1, &text, output),
         Ok((Ending::BadLine, text)) => write_text(3, &text, output),
@@ -82,8 +84,8 @@ fn refuse_long<W: Sink>(output: &mut W) -> u8
 
 /// Reads a session and answers it.
 #[tactic(auto, using(crate::proofs::OutcomeLemmas::leaves_told, crate::proofs::OutcomeLemmas::prefix_told, crate::proofs::OutcomeLemmas::nothing_told, crate::proofs::OutcomeLemmas::long_prefix))]
-fn validate<S: Source, W: Sink>(alloc: Global, input: &mut S, output: &mut W) -> u8
-    ensures looked_up { result ≡ 0 → Leaves LooksUp (S.left input.old) (W.taken output.old) (W.taken output.new) }
+fn validate<S: Source, W: Sink>(alloc: Global, shows: Parts, input: &mut S, output: &mut W) -> u8
+    ensures derived { result ≡ 0 → Leaves (Derives shows) (S.left input.old) (W.taken output.old) (W.taken output.new) }
     ensures fault { result ≡ 1 → Leaves Fails (S.left input.old) (W.taken output.old) (W.taken output.new) }
     ensures form { result ≢ 2 }
     ensures grammar { result ≡ 3 → Leaves Refuses (S.left input.old) (W.taken output.old) (W.taken output.new) }
@@ -93,7 +95,7 @@ fn validate<S: Source, W: Sink>(alloc: Global, input: &mut S, output: &mut W) ->
     ensures long { result ≡ 7 → IfSome (S.left input.old) (λ left. input_limit < length left) }
     ensures too_long { result ≡ 7 → Appends (W.taken output.old) (W.taken output.new) too_long_text }
     ensures refused { IfSome (S.left input.old) (λ left. input_limit < length left → 4 ≤ result) }
-    ensures prefix { LeavesPrefix (S.left input.old) (W.taken output.old) (W.taken output.new) }
+    ensures prefix { LeavesPrefix shows (S.left input.old) (W.taken output.old) (W.taken output.new) }
     ensures ended { result < 4 → IsEnded (S.left input.old) (S.left input.new) }
     ensures reads { ReadsFront (input_limit + 1) (S.left input.old) (S.left input.new) }
     ensures most { result ≤ 7 }
@@ -101,7 +103,7 @@ fn validate<S: Source, W: Sink>(alloc: Global, input: &mut S, output: &mut W) ->
     ensures later { W.faults output.old ≤ W.faults output.new }
 {
     match read_all(alloc, input) {
-        Ok(bytes) => answer(alloc, &bytes, output),
+        Ok(bytes) => answer(alloc, shows, &bytes, output),
         Err(ReadStop::Failed) => 4,
         Err(ReadStop::TooLong) => refuse_long(output),
         Err(ReadStop::NoMemory) => 6,
@@ -122,32 +124,33 @@ pub fn run<S: Source, W: Sink>(
     output: &mut W,
 ) -> u8
     // A report is that of a sound answer to the session, and its text fixes what it shows of the answer: the `View`, which is
-    // code, denial, sections and chains. Where the source tells no bytes, it is the report for some session.
-    ensures report { AsksFor words.now Validate → result ≡ 0
-        → Leaves Reports (S.left input.old) (W.taken output.old) (W.taken output.new) }
+    // code, denial, sections and chains, and the trail where the words ask for it. Where the source tells no bytes, it is the
+    // report for some session.
+    ensures report { (shows : Parts) → AsksFor words.now (Validate shows) → result ≡ 0
+        → Leaves (Reports shows) (S.left input.old) (W.taken output.old) (W.taken output.new) }
 
-    // A lookup for the session gives that answer.
-    ensures looked_up { AsksFor words.now Validate → result ≡ 0
-        → Leaves LooksUp (S.left input.old) (W.taken output.old) (W.taken output.new) }
+    // That answer has a trail for the session: a derivation from the session's replies.
+    ensures derived { (shows : Parts) → AsksFor words.now (Validate shows) → result ≡ 0
+        → Leaves (Derives shows) (S.left input.old) (W.taken output.old) (W.taken output.new) }
 
     // 1 is answered only with the line of an error that has its cause in the session.
     ensures fault { result ≡ 1 → Leaves Fails (S.left input.old) (W.taken output.old) (W.taken output.new) }
 
     // What each session must end with, unless the status is 4 or more.
-    ensures session { AsksFor words.now Validate
+    ensures session { (shows : Parts) → AsksFor words.now (Validate shows)
         → IfSession (S.left input.old) (λ s. EndsAsSession s result (W.taken output.old) (W.taken output.new)) }
 
     // 3, and an input that is no session.
-    ensures grammar { AsksFor words.now Validate
+    ensures grammar { (shows : Parts) → AsksFor words.now (Validate shows)
         → EndsByGrammar result (S.left input.old) (W.taken output.old) (W.taken output.new) }
 
     // 7, and an input that is too long.
-    ensures length { AsksFor words.now Validate
+    ensures length { (shows : Parts) → AsksFor words.now (Validate shows)
         → EndsByLength result (S.left input.old) (W.taken output.old) (W.taken output.new) }
 
     // Words that ask for a text, or for nothing: 2 is for the latter alone, and neither reads anything.
     ensures words { EndsByWords (asked_form words.now) result (W.taken output.old) (W.taken output.new) }
-    ensures unread { asked_form words.now ≢ Some Validate → input.new ≡ input.old }
+    ensures unread { ((shows : Parts) → asked_form words.now ≢ Some (Validate shows)) → input.new ≡ input.old }
 
     // 4 and 5 are answered only where the count of faults rose.
     ensures source { result ≡ 4 → Rose (S.faults input.old) (S.faults input.new) }
@@ -155,12 +158,12 @@ pub fn run<S: Source, W: Sink>(
     ensures sink { result ≡ 5 → Rose (W.faults output.old) (W.faults output.new) }
 
     // Whatever the status, a prefix of a text that the input comes to was written.
-    ensures prefix { AsksFor words.now Validate
-        → LeavesPrefix (S.left input.old) (W.taken output.old) (W.taken output.new) }
+    ensures prefix { (shows : Parts) → AsksFor words.now (Validate shows)
+        → LeavesPrefix shows (S.left input.old) (W.taken output.old) (W.taken output.new) }
 
     // An input that is answered, or refused by the grammar, was read to its end; and one byte past the limit is the most that
     // is read.
-    ensures ended { AsksFor words.now Validate → result < 4 → IsEnded (S.left input.old) (S.left input.new) }
+    ensures ended { (shows : Parts) → AsksFor words.now (Validate shows) → result < 4 → IsEnded (S.left input.old) (S.left input.new) }
     ensures reads { ReadsFront (input_limit + 1) (S.left input.old) (S.left input.new) }
 
     ensures most { result ≤ 7 }
@@ -168,7 +171,7 @@ pub fn run<S: Source, W: Sink>(
     ensures later { W.faults output.old ≤ W.faults output.new }
 {
     match form_of(words) {
-        Some(Form::Validate) => validate(alloc, input, output),
+        Some(Form::Validate(shows)) => validate(alloc, shows, input, output),
         Some(Form::Help) => write_text(0, help_text(), output),
         Some(Form::Version) => write_text(0, version_text(), output),
         None => write_text(2, b"bad words\n", output),

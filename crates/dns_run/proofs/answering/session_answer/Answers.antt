@@ -1,11 +1,21 @@
-use Rattle.std.proofs.Common.{rules}
-use Rattle.dns_chain.proofs.SendLemmas.{result_made}
-use Rattle.dns_run.proofs.JudgeLemmas.{answers_looked}
+use Rattle.std.proofs.Common.{refl, rules}
+use Rattle.dns_net.specs.contracts.recorded.RecordedDnsHandle.TheImpl as upstream
+use Rattle.dns_trust.specs.contracts.listed.ListedVerifier.TheImpl as tests
+use Rattle.dns_run.proofs.LookupLemmas.{all_known, answers_looked}
 use Rattle.dns_run.proofs.answering.session_answer.Goals as goal
 
 pub returns : goal.returns
 returns c =
     rw (← c.session.view_is)
-    (answers_looked _ c.lookup.result c.in_ok-handle.handle.handle _ c.in_ok-handle.handle.anchors c.in_ok-handle.handle.verifier
-    c.default.result (search rules) (search rules) (search rules) (search rules)
-    (result_made _ _ _ _ _ _ _ _ _ _ _ _ _ c.lookup.ensures.lookup))
+    (answers_looked upstream.ghosts tests.ghosts _ c.in_ok-handle.handle c.lookup.new.self c.session_options.result c.lookup.result refl refl
+    (search rules) (search rules) (search rules) (search rules)
+    (record {
+      sound = c.lookup.ensures.sound;
+      trail = c.lookup.ensures.trail;
+      marks = c.lookup.ensures.marks;
+      denied = c.lookup.ensures.denied;
+      passed = c.lookup.ensures.passed;
+      foreign = c.lookup.ensures.foreign;
+      unjudged = c.lookup.ensures.unjudged;
+    })
+    (all_known _ _ c.lookup.result c.lookup.ensures.passes c.lookup.ensures.names_foreign c.lookup.ensures.judges c.lookup.ensures.unanswered))

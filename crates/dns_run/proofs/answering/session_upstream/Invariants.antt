@@ -3,4 +3,4 @@ use Rattle.dns_run.specs.Answering.{recorded_by}
 use Rattle.dns_run.proofs.answering.session_upstream.Given as goal
 
 abbrev pub invariant-loop-next : goal.invariant-loop-next
-invariant-loop-next l = l.handle ≡ recorded_by l.yielded
+invariant-loop-next l = l.handle ≡ recorded_by l.by_turn l.yielded

@@ -1,5 +1,4 @@
-use Rattle.dns_run.proofs.SoundLemmas.{report_given}
-use Rattle.dns_run.proofs.CauseLemmas.{fault_tested}
+use Rattle.dns_run.proofs.CauseLemmas.{report_given, fault_tested}
 use Rattle.dns_run.proofs.outcome.answered.Goals as goal
 
 pub returns-in_ok-text-in-Err : goal.returns-in_ok-text-in-Err
@@ -8,4 +7,4 @@ returns-in_ok-text-in-Err c =
 
 pub returns-in_ok-text-in-Ok : goal.returns-in_ok-text-in-Ok
 returns-in_ok-text-in-Ok c =
-    report_given _ c.in-Ok.answer _ c.in-Ok.ensures c.in_ok-text-in-Ok.ensures.text c.in_ok-text-in-Ok.ensures.fits c.in_ok-text-in-Ok.ensures.tells
+    report_given _ _ c.in-Ok.answer _ c.in-Ok.ensures c.in_ok-text-in-Ok.ensures.text c.in_ok-text-in-Ok.ensures.fits c.in_ok-text-in-Ok.ensures.tells

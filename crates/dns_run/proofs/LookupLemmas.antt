@@ -1,0 +1,265 @@
+-- What a lookup of a session's query answers: out of the clauses of a lookup.
+use Rattle.std.proofs.Common.{ℕ, ◌≡◌, ◌≢◌, ◌⊎◌, ◌∙◌, List, map, Option, None, Some, IfSome, Result, Ok, Err, refl, sym, ap, subst, inl, inr}
+use Rattle.dns_model.specs.Keys.{anchored}
+use Rattle.dns_model.specs.Records.{Question, MessageValue}
+use Rattle.dns_model.specs.SoundAnswers.{told_by, Sound, ResponseValue}
+use Rattle.dns_model.specs.Trails.{AskedValue, EndingValue, Answered, Failed, Denied}
+use Rattle.dns_judgement.specs.Derivation.{derivation, judged_sets, in_send_order}
+use Rattle.dns_judgement.specs.Outcome.{foreign_record}
+use Rattle.dns_net.specs.Errors as seen
+use Rattle.dns_net.specs.Errors.{Reply, ErrorValue, DnsErrorValue, Busy, Dns, Message, Msg, NoConnections, Proto, Io, Timeout, QueryCaseMismatch, ForeignClassRecord, Truncated, ResponseCode, Nsec, DnssecBogus}
+use Rattle.dns_net.specs.Handles.{Replies, reply_to, ReplyIsTold}
+use Rattle.dns_net.specs.Replies.{reply_of}
+use Rattle.dns_net.specs.declared.error.NetError.{NetError}
+use Rattle.dns_net.specs.declared.handle.DnsHandle as handle
+use Rattle.dns_net.specs.declared.notice.Notice.TheVariants.{NotJudgedYet}
+use Rattle.dns_chain.specs.Heard.{heard_message, heard}
+use Rattle.dns_net.specs.declared.request.DnsRequestOptions.{DnsRequestOptions}
+use Rattle.dns_net.specs.declared.verifier.Verifier as verifier
+use Rattle.dns_net.specs.Recording.{RecordedValue, replies_of}
+use Rattle.dns_trust.specs.Listing.{ListedValue, answers_of}
+use Rattle.dns_chain.specs.declared.handle.DnssecDnsHandle.{DnssecDnsHandle}
+use Rattle.dns_chain.specs.Calls.{Call, inner_of, anchors_of, verifier_of, call_of}
+use Rattle.dns_chain.specs.Sends.{IsFromReplies}
+use Rattle.dns_chain.specs.Causes.{WantsDenial, PassedOn, PassesOnly, PassesOn, NamesForeign, ForeignOnly, ForeignNamed, IsUnjudged, UnjudgedOnly, UnansweredUnjudged, JudgesTold}
+use Rattle.dns_chain.specs.Looked.{UnlessNoMemory, OfAnswer, IsSoundAnswer, IsTrail, HasMarksOfTrail, DeniesQuery}
+use Rattle.dns_session.specs.SessionValue.{SessionValue}
+use Rattle.dns_run.specs.Soundness.{listing, session_judge, session_reply, IsSound}
+use Rattle.dns_run.specs.Answering.{recorded, recorded_by, session_replies, session_depth, IsSessionTrail, IsSessionAnswer}
+use Rattle.dns_run.specs.Causes.{HasNoMessage, HasForeign, HasUnjudged, FaultCause, NoMessage, OtherClass, NotJudged, NotDenied, AnswersSession}
+use Rattle.dns_run.proofs.JudgeLemmas.{judge_plain}
+use Rattle.dns_run.proofs.ReplyLemmas.{err_same, recorded_reply, no_message, session_told, IsReplied, session_replied}
+
+-- the lookup that a session asks for
+pub record IsSessionCall {H : Type 0} (meanings : handle.Ghosts H) (s : SessionValue) (call : Call H) : Type 0 where
+  pub judge : call.judge ≡ session_judge s
+  pub query : call.query ≡ s.query
+  pub depth : call.options.max_request_depth ≡ session_depth s
+  pub moment : call.now ≡ s.moment
+  pub told : meanings.told call.old ≡ Some (session_replies s)
+
+-- ---- its trail, its soundness
+
+pub session_trail : {H : Type 0} (meanings : handle.Ghosts H) (s : SessionValue) (call : Call H) (trail : List AskedValue) (ending : EndingValue)
+    → IsSessionCall meanings s call → IsTrail meanings call trail ending → IsSessionTrail s trail ending
+session_trail meanings s call trail ending c is = record {
+  derived = ap (λ j. derivation j (session_depth s) trail) (sym c.judge) ∙ ap (λ d. derivation call.judge d trail) (sym c.depth) ∙ is.derived;
+  top = is.top;
+  last = is.last;
+  query = is.query ∙ c.query;
+  ends = is.ends;
+  from = subst (λ told. IfSome told (λ replies. IsFromReplies replies (in_send_order trail))) c.told is.from;
+}
+
+-- a fact of what the upstream tells and of the query is one of the session's
+at_session : {H : Type 0} (meanings : handle.Ghosts H) (s : SessionValue) (call : Call H) (Fact : Option Replies → Question → Type 0)
+    → IsSessionCall meanings s call → Fact (meanings.told call.old) call.query → Fact (Some (session_replies s)) s.query
+at_session meanings s call Fact c fact =
+    subst (λ told. Fact told s.query) c.told (subst (λ q. Fact (meanings.told call.old) q) c.query fact)
+
+-- what was heard was told
+heard_told : (told : List (Question × Reply)) (q : Question) (reply : Reply) (m : MessageValue)
+    → (reply ≡ Err seen.NoMemory) ⊎ (reply ≡ reply_to told q) → heard_message reply ≡ Some m → heard_message (reply_to told q) ≡ Some m
+heard_told told q reply m is heard = elim is [
+  | inl none ↦ absurd (none_heard (sym (ap heard_message none) ∙ heard))
+  | inr same ↦ sym (ap heard_message same) ∙ heard
+]
+  where
+    none_heard : None ≡ Some m → ⊥
+    none_heard h = cc
+
+session_sound : {H : Type 0} (meanings : handle.Ghosts H) (s : SessionValue) (call : Call H) (a : ResponseValue)
+    → IsSessionCall meanings s call → IsSoundAnswer meanings call a → IsSound s a
+session_sound meanings s call a c is =
+    let told = at_session meanings s call (λ told q. ReplyIsTold told (Some q) is.reply) c is.made.told in
+    let r : IsReplied s is.message =
+    session_replied s is.message (heard_told (map recorded s.replies) s.query is.reply is.message told is.heard) in
+    record {
+      reply = r.reply;
+      message = is.message;
+      first = r.first;
+      told = r.told;
+      sound =
+          subst (λ j. Sound j s.moment (told_by is.message) a) c.judge (subst (λ now. Sound call.judge now (told_by is.message) a) c.moment is.sound);
+    }
+
+-- ---- the answer
+
+-- what is said of the answer of a call
+pub record SaysOf {H : Type 0} (meanings : handle.Ghosts H) (call : Call H) (answer : Reply) : Type 0 where
+  pub sound : OfAnswer answer (λ a ending. IsSoundAnswer meanings call a)
+  pub trail : OfAnswer answer (λ a ending. IsTrail meanings call a.trail ending)
+  pub marks : OfAnswer answer (λ a ending. HasMarksOfTrail call.now a)
+  pub denied : DeniesQuery call.query answer
+  pub passed : PassesOnly meanings call answer
+  pub foreign : ForeignOnly meanings call answer
+  pub unjudged : UnjudgedOnly meanings call answer
+
+-- a fact of an answer that follows from three
+record Follows (F G K T : ResponseValue → EndingValue → Type 0) : Type 0 where
+  pub each : (a : ResponseValue) (ending : EndingValue) → F a ending → G a ending → K a ending → T a ending
+
+follows : (F G K T : ResponseValue → EndingValue → Type 0) (answer : Reply) → Follows F G K T
+    → OfAnswer answer F → OfAnswer answer G → OfAnswer answer K → OfAnswer answer T
+follows F G K T (Ok a) all f g k = all.each a (Answered a.denial) f g k
+follows F G K T (Err Busy) all f g k = tt
+follows F G K T (Err (Dns (ResponseCode code))) all f g k = tt
+follows F G K T (Err (Dns (Nsec asked response proof))) all f g k = all.each response (Denied proof) f g k
+follows F G K T (Err (Dns DnssecBogus)) all f g k = tt
+follows F G K T (Err (Message notice)) all f g k = tt
+follows F G K T (Err (Msg text)) all f g k = tt
+follows F G K T (Err NoConnections) all f g k = tt
+follows F G K T (Err (Proto error)) all f g k = tt
+follows F G K T (Err (Io kind)) all f g k = tt
+follows F G K T (Err Timeout) all f g k = tt
+follows F G K T (Err QueryCaseMismatch) all f g k = tt
+follows F G K T (Err (ForeignClassRecord owner class rtype)) all f g k = tt
+follows F G K T (Err Truncated) all f g k = tt
+follows F G K T (Err seen.NoMemory) all f g k = tt
+
+session_answered : {H : Type 0} (meanings : handle.Ghosts H) (s : SessionValue) (call : Call H) (answer : Reply)
+    → IsSessionCall meanings s call → SaysOf meanings call answer → OfAnswer answer (IsSessionAnswer s)
+session_answered meanings s call answer c says =
+    follows (λ a ending. IsSoundAnswer meanings call a) (λ a ending. IsTrail meanings call a.trail ending) (λ a ending. HasMarksOfTrail call.now a)
+    (IsSessionAnswer s) answer
+    (record {
+      each = λ a ending sound trail marks. record {
+        sound = session_sound meanings s call a c sound;
+        trail = session_trail meanings s call a.trail ending c trail;
+        marks = subst (λ now. HasMarksOfTrail now a) c.moment marks;
+      };
+    })
+    says.sound says.trail says.marks
+
+-- ---- the cause of an error
+
+passed_cause : {H : Type 0} (meanings : handle.Ghosts H) (s : SessionValue) (call : Call H) (e : ErrorValue)
+    → IsSessionCall meanings s call → e ≢ seen.NoMemory → PassedOn meanings call e → FaultCause s e
+passed_cause meanings s call e c own p =
+    elim (at_session meanings s call (λ told q. ReplyIsTold told (Some q) (Err e)) c p.made.told) [
+      | inl memory ↦ absurd (own (err_same (Err e) e seen.NoMemory refl memory))
+      | inr told ↦ NoMessage (no_message s e (session_reply s) refl (sym (recorded_reply s.replies s.query) ∙ sym told))
+    ]
+
+foreign_cause : {H : Type 0} (meanings : handle.Ghosts H) (s : SessionValue) (call : Call H) (e : ErrorValue)
+    → IsSessionCall meanings s call → NamesForeign meanings call e → FaultCause s e
+foreign_cause meanings s call e c names =
+    elim (at_session meanings s call (λ told q. ReplyIsTold told (Some q) names.reply) c names.made.told) [
+      | inl memory ↦ absurd (none_heard (sym (ap heard memory) ∙ names.heard))
+      | inr told ↦ OtherClass (record {
+        records = names.records;
+        first = names.first;
+        told = sym (session_told s) ∙ ap heard (sym told) ∙ names.heard;
+        found = ap (λ q. foreign_record q names.records) (sym c.query) ∙ names.found;
+        named = names.named;
+      })
+    ]
+  where
+    none_heard : None ≡ Some names.records → ⊥
+    none_heard h = cc
+
+unjudged_cause : {H : Type 0} (meanings : handle.Ghosts H) (s : SessionValue) (call : Call H)
+    → IsSessionCall meanings s call → IsUnjudged meanings call → HasUnjudged s
+unfolding session_trail
+unjudged_cause meanings s call c u = record {
+  trail = u.trail;
+  is = session_trail meanings s call u.trail Failed c u.is;
+  told = u.told;
+  heard = u.heard;
+  wants = subst (λ q. WantsDenial q u.told (judged_sets u.is.top)) c.query u.wants;
+}
+
+dns_cause : {H : Type 0} (meanings : handle.Ghosts H) (s : SessionValue) (call : Call H) (e : DnsErrorValue)
+    → IsSessionCall meanings s call → SaysOf meanings call (Err (Dns e)) → Dns e ≢ seen.NoMemory → FaultCause s (Dns e)
+dns_cause meanings s call (ResponseCode code) c says own = passed_cause meanings s call _ c own (says.passed _ refl refl)
+dns_cause meanings s call (Nsec asked response proof) c says own =
+    NotDenied response proof (session_answered meanings s call (Err (Dns (Nsec asked response proof))) c says)
+    (ap (λ q. Dns (Nsec q response proof)) ((says.denied asked response proof refl).0 ∙ c.query))
+dns_cause meanings s call DnssecBogus c says own = passed_cause meanings s call _ c own (says.passed _ refl refl)
+
+error_cause : {H : Type 0} (meanings : handle.Ghosts H) (s : SessionValue) (call : Call H) (e : ErrorValue)
+    → IsSessionCall meanings s call → SaysOf meanings call (Err e) → e ≢ seen.NoMemory → FaultCause s e
+error_cause meanings s call Busy c says own = passed_cause meanings s call _ c own (says.passed _ refl refl)
+error_cause meanings s call (Dns error) c says own = dns_cause meanings s call error c says own
+error_cause meanings s call (Message NotJudgedYet) c says own = elim (says.unjudged refl) [
+  | inl p ↦ passed_cause meanings s call _ c own p
+  | inr u ↦ NotJudged (unjudged_cause meanings s call c u) refl
+]
+error_cause meanings s call (Msg text) c says own = passed_cause meanings s call _ c own (says.passed _ refl refl)
+error_cause meanings s call NoConnections c says own = passed_cause meanings s call _ c own (says.passed _ refl refl)
+error_cause meanings s call (Proto error) c says own = passed_cause meanings s call _ c own (says.passed _ refl refl)
+error_cause meanings s call (Io kind) c says own = passed_cause meanings s call _ c own (says.passed _ refl refl)
+error_cause meanings s call Timeout c says own = passed_cause meanings s call _ c own (says.passed _ refl refl)
+error_cause meanings s call QueryCaseMismatch c says own = passed_cause meanings s call _ c own (says.passed _ refl refl)
+error_cause meanings s call (ForeignClassRecord owner class rtype) c says own = elim (says.foreign owner class rtype refl) [
+  | inl p ↦ passed_cause meanings s call _ c own p
+  | inr names ↦ foreign_cause meanings s call _ c names
+]
+error_cause meanings s call Truncated c says own = passed_cause meanings s call _ c own (says.passed _ refl refl)
+error_cause meanings s call seen.NoMemory c says own = absurd (own refl)
+
+session_caused : {H : Type 0} (meanings : handle.Ghosts H) (s : SessionValue) (call : Call H) (answer : Reply)
+    → IsSessionCall meanings s call → SaysOf meanings call answer → (e : ErrorValue) → answer ≡ Err e → e ≢ seen.NoMemory → FaultCause s e
+session_caused meanings s call answer c says e is own = error_cause meanings s call e c (subst (λ x. SaysOf meanings call x) is says) own
+
+-- ---- the whole
+
+-- what is said of the answer where the upstream tells its replies
+pub record Known (told : Option Replies) (q : Question) (answer : Reply) : Type 0 where
+  pub passes : PassesOn told q answer
+  pub foreign : ForeignNamed told q answer
+  pub judges : JudgesTold told q answer
+  pub unanswered : UnansweredUnjudged told q answer
+
+pub all_known : (told : Option Replies) (q : Question) (result : Result ResponseValue NetError)
+    → UnlessNoMemory result (PassesOn told q (reply_of result)) → UnlessNoMemory result (ForeignNamed told q (reply_of result))
+    → UnlessNoMemory result (JudgesTold told q (reply_of result)) → UnlessNoMemory result (UnansweredUnjudged told q (reply_of result))
+    → UnlessNoMemory result (Known told q (reply_of result))
+all_known told q (Ok x) p f j u = record { passes = p; foreign = f; judges = j; unanswered = u }
+all_known told q (Err e) (inl memory) f j u = inl memory
+all_known told q (Err e) (inr p) (inl memory) j u = inl memory
+all_known told q (Err e) (inr p) (inr f) (inl memory) u = inl memory
+all_known told q (Err e) (inr p) (inr f) (inr j) (inl memory) = inl memory
+all_known told q (Err e) (inr p) (inr f) (inr j) (inr u) = inr (record { passes = p; foreign = f; judges = j; unanswered = u })
+
+session_known : {H : Type 0} (meanings : handle.Ghosts H) (s : SessionValue) (call : Call H) (answer : Reply)
+    → IsSessionCall meanings s call → SaysOf meanings call answer → Known (meanings.told call.old) call.query answer → AnswersSession s answer
+session_known meanings s call answer c says given =
+    let known : Known (Some (session_replies s)) s.query answer = at_session meanings s call (λ told q. Known told q answer) c given in
+    record {
+      answered = session_answered meanings s call answer c says;
+      caused = session_caused meanings s call answer c says;
+      passes = known.passes;
+      foreign = known.foreign;
+      judges = known.judges;
+      unanswered = known.unanswered;
+    }
+
+-- the answer to a session is that of its lookup
+pub answers_session : {H : Type 0} (meanings : handle.Ghosts H) (s : SessionValue) (call : Call H) (result : Result ResponseValue NetError)
+    → IsSessionCall meanings s call → SaysOf meanings call (reply_of result)
+    → UnlessNoMemory result (Known (meanings.told call.old) call.query (reply_of result))
+    → UnlessNoMemory result (AnswersSession s (reply_of result))
+answers_session meanings s call (Ok a) c says known = session_known meanings s call (Ok a) c says known
+answers_session meanings s call (Err e) c says (inl memory) = inl memory
+answers_session meanings s call (Err e) c says (inr known) = inr (session_known meanings s call (reply_of (Err e)) c says known)
+
+-- what a lookup answered, over the handle, the keys and the verifier that were made of a session
+pub answers_looked : (meanings : handle.Ghosts RecordedValue) (tests : verifier.Ghosts ListedValue) (s : SessionValue)
+    (old new : DnssecDnsHandle RecordedValue ListedValue) (options : DnsRequestOptions) (result : Result ResponseValue NetError)
+    → meanings.told (inner_of old) ≡ Some (replies_of (inner_of old)) → tests.answers (verifier_of old) ≡ answers_of (verifier_of old)
+    → inner_of old ≡ recorded_by s.by_turn s.replies → anchored (anchors_of old) ≡ anchored s.anchors
+    → answers_of (verifier_of old) ≡ answers_of (listing s.algorithms s.accepts) → options.max_request_depth ≡ session_depth s
+    → SaysOf meanings (call_of tests old new s.query options s.moment) (reply_of result)
+    → UnlessNoMemory result (Known (meanings.told (inner_of old)) s.query (reply_of result))
+    → UnlessNoMemory result (AnswersSession s (reply_of result))
+answers_looked meanings tests s old new options result told tested over by listed depth says known =
+    answers_session meanings s (call_of tests old new s.query options s.moment) result
+    (record {
+      judge = judge_plain s (tests.answers (verifier_of old)) (anchors_of old) (tested ∙ listed) by;
+      query = refl;
+      depth = depth;
+      moment = refl;
+      told = told ∙ ap (λ u. Some (replies_of u)) over;
+    })
+    says known
