@@ -1,25 +1,51 @@
 -- Lookups of one query, one after another, by what a session says (RFC 4035, 5).
-use Rattle.std.specs.Prelude.{ℕ, ◌≡◌, List, [], ◌∷◌, length, map, Some, Ok, Err}
-use Rattle.std.specs.List.{AllByRecursion}
+use Rattle.std.specs.Prelude.{ℕ, ◌≡◌, List, [], ◌∷◌, length, Some, Ok, Err}
 use Rattle.dns_model.specs.Records.{Question}
 use Rattle.dns_model.specs.Chains.{Judge}
 use Rattle.dns_net.specs.Errors.{Reply}
 use Rattle.dns_net.specs.Requests.{plain_options}
-use Rattle.dns_net.specs.Recording.{RecordedValue, AnswersFrom}
-use Rattle.dns_chain.specs.Inquiries.{depth_limit}
-use Rattle.dns_chain.specs.Looked.{IsLookup}
+use Rattle.dns_net.specs.Recording.{RecordedValue, replies_of}
+use Rattle.dns_net.specs.contracts.recorded.RecordedDnsHandle.TheImpl as upstream
+use Rattle.dns_net.specs.declared.request.DnsRequestOptions.{DnsRequestOptions}
+use Rattle.dns_chain.specs.Calls.{Call}
+use Rattle.dns_chain.specs.Causes.{PassesOn, ForeignNamed, JudgesTold}
+use Rattle.dns_chain.specs.Looked.{OfAnswer, IsSoundAnswer, IsTrail}
 use Rattle.dns_session.specs.SessionValue.{SessionValue}
 use Rattle.dns_run.specs.Soundness.{session_judge}
-use Rattle.dns_run.specs.Answering.{recorded}
+use Rattle.dns_run.specs.Answering.{recorded_by, session_depth}
 use Rattle.dns_bench.specs.Counting.{raised}
 use Rattle.dns_bench.specs.declared.lookups.Lookups.{Lookups}
 
--- a lookup of a query gives this answer: over an upstream of these replies, whatever it was asked before, by this judge at this moment
-pub record GivesAnswer (j : Judge) (replies : List (Question × Reply)) (now : ℕ) (q : Question) (answer : Reply) : Type 0 where
-  pub before : RecordedValue
-  pub after : RecordedValue
-  pub upstream : before.replies ≡ replies
-  pub lookup : IsLookup AnswersFrom (λ r. r.faults) before after (Some replies) j now (depth_limit plain_options) q answer
+-- what is looked up: the query, with these options, by what it is judged, and at which moment
+pub record Inquiry : Type 0 where
+  pub judge : Judge
+  pub query : Question
+  pub options : DnsRequestOptions
+  pub now : ℕ
+
+-- a lookup of it that took the upstream from one state to another
+abbrev pub call_for : Inquiry → RecordedValue → RecordedValue → Call RecordedValue
+call_for i old new = record {
+  judge = i.judge;
+  query = i.query;
+  options = i.options;
+  now = i.now;
+  old = old;
+  new = new;
+}
+
+-- a lookup gave this answer: one that is sound and has its trail, or what the first reply asks for
+pub record GivesAnswer (i : Inquiry) (old : RecordedValue) (answer : Reply) (new : RecordedValue) : Type 0 where
+  pub sound : OfAnswer answer (λ a ending. IsSoundAnswer upstream.ghosts (call_for i old new) a)
+  pub trail : OfAnswer answer (λ a ending. IsTrail upstream.ghosts (call_for i old new) a.trail ending)
+  pub passes : PassesOn (Some (replies_of old)) i.query answer
+  pub foreign : ForeignNamed (Some (replies_of old)) i.query answer
+  pub judges : JudgesTold (Some (replies_of old)) i.query answer
+
+-- one lookup after another gave these answers, the last one first, and took the upstream from one state to another
+abbrev pub GiveAnswers : Inquiry → RecordedValue → List Reply → RecordedValue → Type 0
+GiveAnswers i old [] new = old ≡ new
+GiveAnswers i old (answer ∷ answers) new = (middle : RecordedValue) × GiveAnswers i old answers middle × GivesAnswer i middle answer new
 
 -- the counts, with one more answer
 abbrev pub with_answer : Lookups → Reply → Lookups
@@ -31,13 +57,23 @@ unfoldable pub counts_of : List Reply → Lookups
 counts_of [] = record { answers = 0; faults = 0 }
 counts_of (answer ∷ answers) = with_answer (counts_of answers) answer
 
--- so many lookups give answers of which these are the counts
-pub record Repeats (j : Judge) (replies : List (Question × Reply)) (now : ℕ) (q : Question) (times : ℕ) (counts : Lookups) : Type 0 where
+-- so many lookups over an upstream, one after another, give answers of which these are the counts
+pub record Repeats (i : Inquiry) (old : RecordedValue) (times : ℕ) (counts : Lookups) : Type 0 where
+  pub new : RecordedValue
   pub given : List Reply
-  pub each : AllByRecursion (GivesAnswer j replies now q) given
+  pub each : GiveAnswers i old given new
   pub number : length given ≡ times
   pub counted : counts ≡ counts_of given
 
--- so many lookups of a session's query, over its replies, with its keys and signatures, at its moment, give these counts
+-- what a session asks to be looked up
+abbrev pub session_inquiry : SessionValue → Inquiry
+session_inquiry s = record {
+  judge = session_judge s;
+  query = s.query;
+  options = record plain_options { max_request_depth = session_depth s };
+  now = s.moment;
+}
+
+-- so many lookups of a session's query, over one upstream of its replies, with its keys and signatures, at its moment, give these counts
 abbrev pub RepeatsSession : SessionValue → ℕ → Lookups → Type 0
-RepeatsSession s times counts = Repeats (session_judge s) (map recorded s.replies) s.moment s.query times counts
+RepeatsSession s times counts = Repeats (session_inquiry s) (recorded_by s.by_turn s.replies) times counts

@@ -1,19 +1,16 @@
 //! Lookups of a session's query, one after another.
-ghost use Rattle.std.specs.Prelude.{Some, IfOk};
+ghost use Rattle.std.specs.Prelude.{◌≡◌, IfOk};
 ghost use Rattle.dns_net.specs.Replies.{reply_of};
-ghost use Rattle.dns_net.specs.Requests.{plain_options};
-ghost use Rattle.dns_net.specs.Recording.{AnswersFrom};
-ghost use Rattle.dns_chain.specs.Inquiries.{depth_limit};
-ghost use Rattle.dns_chain.specs.Looked.{UnlessNoMemory, IsLookup};
-ghost use Rattle.dns_chain.specs.Validators.{inner_of};
-ghost use Rattle.dns_bench.specs.Lookups.{with_answer, Repeats, RepeatsSession};
-ghost use Rattle.dns_bench.specs.Steps.{OneMore, SameValidator, validator_judge};
+ghost use Rattle.dns_chain.specs.Looked.{UnlessNoMemory};
+ghost use Rattle.dns_chain.specs.Calls.{inner_of};
+ghost use Rattle.dns_bench.specs.Lookups.{with_answer, GivesAnswer, Repeats, RepeatsSession};
+ghost use Rattle.dns_bench.specs.Steps.{OneMore, SameValidator, inquiry_by};
 
 use dns_chain::{DnssecDnsHandle, Listed};
 use dns_name::NoMemory;
 use dns_net::{DnsRequestOptions, DnsResponse, NetError, Recorded};
 use dns_record::Query;
-use dns_run::{session_anchors, session_upstream, session_verifier};
+use dns_run::{session_anchors, session_options, session_upstream, session_verifier};
 use dns_session::Session;
 use std::alloc::Global;
 
@@ -24,21 +21,21 @@ pub struct Lookups {
     pub faults: u64,
 }
 
-// Looks a query up, with default options.
+// Looks a query up.
 #[tactic(auto, using(crate::proofs::LookupLemmas::same_none))]
 fn look_up(
     alloc: Global,
     handle: &mut DnssecDnsHandle<Recorded, Listed>,
     query: &Query,
+    options: DnsRequestOptions,
     now: u64,
 ) -> Result<DnsResponse, NetError>
     ensures same { SameValidator handle.old handle.new }
-    ensures lookup { UnlessNoMemory result (IsLookup AnswersFrom (λ r. r.faults) (inner_of handle.old) (inner_of handle.new)
-        (Some (inner_of handle.old).replies) (validator_judge handle.old now) now
-        (depth_limit plain_options) query.now (reply_of result)) }
+    ensures gives { UnlessNoMemory result (GivesAnswer (inquiry_by handle.old query.now options now)
+        (inner_of handle.old) (reply_of result) (inner_of handle.new)) }
 {
     let query = query.try_clone()?;
-    handle.lookup(alloc, query, DnsRequestOptions::default(), now)
+    handle.lookup(alloc, query, options, now)
 }
 
 // Looks a query up, and counts what came of it.
@@ -47,13 +44,14 @@ fn count_one(
     alloc: Global,
     handle: &mut DnssecDnsHandle<Recorded, Listed>,
     query: &Query,
+    options: DnsRequestOptions,
     now: u64,
     counts: Lookups,
 ) -> Result<Lookups, NoMemory>
     ensures same { SameValidator handle.old handle.new }
-    ensures more { IfOk result (λ after. OneMore (validator_judge handle.old now) (inner_of handle.old).replies now query.now counts after) }
+    ensures more { IfOk result (λ after. OneMore (inquiry_by handle.old query.now options now) (inner_of handle.old) (inner_of handle.new) counts after) }
 {
-    match look_up(alloc, handle, query, now) {
+    match look_up(alloc, handle, query, options, now) {
         Ok(_) => Ok(Lookups {
             answers: counts.answers.saturating_add(1),
             faults: counts.faults,
@@ -72,10 +70,11 @@ fn count_all(
     alloc: Global,
     handle: &mut DnssecDnsHandle<Recorded, Listed>,
     query: &Query,
+    options: DnsRequestOptions,
     now: u64,
     times: u32,
 ) -> Result<Lookups, NoMemory>
-    ensures { IfOk result (λ n. Repeats (validator_judge handle.old now) (inner_of handle.old).replies now query.now times n) }
+    ensures { IfOk result (λ n. Repeats (inquiry_by handle.old query.now options now) (inner_of handle.old) times n) }
 {
     let mut counts = Lookups {
         answers: 0,
@@ -83,7 +82,7 @@ fn count_all(
     };
     let mut left = times;
     'times: while left > 0 {
-        counts = count_one(alloc, handle, query, now, counts)?;
+        counts = count_one(alloc, handle, query, options, now, counts)?;
         left -= 1;
     }
     Ok(counts)
@@ -98,7 +97,9 @@ pub(crate) fn count_lookups(
     ensures { IfOk result (λ n. RepeatsSession session times n) }
 {
     let Session {
+        by_turn,
         moment,
+        depth,
         algorithms,
         anchors,
         accepts,
@@ -107,7 +108,14 @@ pub(crate) fn count_lookups(
     } = session;
     let verifier = session_verifier(alloc, &algorithms, accepts)?;
     let anchors = session_anchors(alloc, anchors)?;
-    let upstream = session_upstream(alloc, replies)?;
+    let upstream = session_upstream(alloc, by_turn, replies)?;
     let mut handle = DnssecDnsHandle::new(upstream, anchors, verifier)?;
-    count_all(alloc, &mut handle, &query, moment, times)
+    count_all(
+        alloc,
+        &mut handle,
+        &query,
+        session_options(depth),
+        moment,
+        times,
+    )
 }

@@ -4,5 +4,5 @@ use Rattle.dns_bench.proofs.lookups.count_lookups.Goals as goal
 
 pub returns : goal.returns
 returns c =
-    rw (← c.session.view_is)
-    (repeats_ok c.count_all.result _ c.args.times c.in_ok-handle.handle (search rules) (search rules) (search rules) c.count_all.ensures)
+    repeats_ok _ _ c.count_all.result c.args.times c.in_ok-handle.handle c.session_options.result c.session.view_is
+    (search rules) (search rules) (search rules) (search rules) c.count_all.ensures

@@ -1,12 +1,18 @@
-use Rattle.std.proofs.Common.{rules}
-use Rattle.dns_chain.proofs.SendLemmas.{result_made}
-use Rattle.dns_bench.proofs.LookupLemmas.{same_after, looked_up}
+use Rattle.std.proofs.Common.{subst}
+use Rattle.dns_net.specs.Replies.{reply_of}
+use Rattle.dns_chain.specs.Looked.{UnlessNoMemory}
+use Rattle.dns_chain.specs.Calls.{inner_of}
+use Rattle.dns_bench.specs.Lookups.{GivesAnswer}
+use Rattle.dns_bench.specs.Steps.{inquiry_by}
+use Rattle.dns_bench.proofs.LookupLemmas.{gives_answer}
 use Rattle.dns_bench.proofs.lookups.look_up.Goals as goal
 
-pub returns-clause-same : goal.returns-clause-same
-returns-clause-same c = same_after _ _ c.lookup.ensures.anchors c.lookup.ensures.verifier c.lookup.ensures.told
-
-pub returns-clause-lookup : goal.returns-clause-lookup
-returns-clause-lookup c =
-    looked_up c.args.handle.now c.lookup.new.self c.args.now c.args.query.now c.in_ok-query.query c.default.result c.lookup.result (search rules) (search rules)
-    (result_made _ _ _ _ _ _ _ _ _ _ _ _ _ c.lookup.ensures.lookup)
+pub returns-clause-gives : goal.returns-clause-gives
+returns-clause-gives c =
+    let old = c.args.handle.now in
+    let new = c.lookup.new.self in
+    subst (λ q. UnlessNoMemory c.lookup.result
+    (GivesAnswer (inquiry_by old q c.args.options c.args.now) (inner_of old) (reply_of c.lookup.result) (inner_of new)))
+    c.in_ok-query.ensures
+    (gives_answer (inquiry_by old c.in_ok-query.query c.args.options c.args.now) (inner_of old) (inner_of new) c.lookup.result
+    c.lookup.ensures.sound c.lookup.ensures.trail c.lookup.ensures.passes c.lookup.ensures.names_foreign c.lookup.ensures.judges)
