@@ -25,7 +25,7 @@ struct Keeping {
 
 impl DnsHandle for Keeping {
     ghost use Rattle.std.specs.Prelude.{Some};
-    ghost use Rattle.dns_net.specs.Recording.{AnswersFrom};
+    ghost use Rattle.dns_net.specs.Recording.{replies_of, AnswersFrom};
 
     ghost sends = { λ h. h.replies.sends };
 
@@ -33,7 +33,7 @@ impl DnsHandle for Keeping {
 
     ghost sent = { λ from asked to reply. AnswersFrom from.replies asked to.replies reply };
 
-    ghost told = { λ h. Some h.replies.replies };
+    ghost told = { λ h. Some (replies_of h.replies) };
 
     fn send(
         &mut self,

@@ -93,13 +93,18 @@ fn ends_so(alloc: Global, row: &Row) -> Result<bool, AllocError> {
     Ok(is_end(&told, row.status, row.text) && is_end(&sure, row.status, row.text))
 }
 
+// The words ask for a session to be read.
+fn is_reading(words: &[&str]) -> bool {
+    words == ["validate"].as_slice() || words == ["validate", "trail"].as_slice()
+}
+
 // Over a sink whose second write fails a row ends for that, with what was written before; over a source whose first or second
 // read fails it ends for that, if its words ask for a reading.
 fn fails_so(alloc: Global, row: &Row) -> Result<bool, AllocError> {
     let slow = slow_run(alloc, row.words, row.session)?;
     let is_slow = is_end(&slow, 5, row.text.get(..1).unwrap_or_default());
     let unread = told_run(alloc, row.words, row.session, &[0])?;
-    if row.words != ["validate"].as_slice() {
+    if !is_reading(row.words) {
         return Ok(is_slow && is_end(&unread, row.status, row.text));
     }
     // no bytes are read by one read

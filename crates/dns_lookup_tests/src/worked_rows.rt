@@ -9,7 +9,7 @@ pub(crate) struct Row {
     pub(crate) text: &'static [u8],
 }
 
-pub(crate) const ROWS: [Row; 55] = [
+pub(crate) const ROWS: [Row; 60] = [
     Row {
         name: "2-to-the-31-before-the-expiration",
         words: &["validate"],
@@ -99,7 +99,7 @@ pub(crate) const ROWS: [Row; 55] = [
         words: &["--help"],
         session: b"",
         status: 0,
-        text: b"dns_check validate   reads a session and writes the report of its lookup\ndns_check --help     writes these lines\ndns_check --version  writes the name and the version\n",
+        text: b"dns_check validate        reads a session and writes the report of its lookup\ndns_check validate trail  the same, and how the lookup came about, step by step\ndns_check --help          writes these lines\ndns_check --version       writes the name and the version\n",
     },
     Row {
         name: "help-and-version",
@@ -291,6 +291,20 @@ pub(crate) const ROWS: [Row; 55] = [
         text: b"fault class . CH TXT\n",
     },
     Row {
+        name: "replies-by-turn",
+        words: &["validate", "trail"],
+        session: b"dns-session 2\nmoment 1000\nalgorithms 13\nanchor . 13 aabb\naccept 13 aabb 00020d0000000e10000007d000000384aec900000002000100000e100003016100 c0de\naccept 13 aabb 00010d0100000e10000007d000000384aec9000161000001000100000e100004c0000201 c0de\nquery . NS\nreply . NS 0000840000010002000000020000020001000002000100000e10000301610000002e000100000e10001500020d0000000e10000007d000000384aec900c0de0161000001000100000e100004c0000201016100002e000100000e10001500010d0100000e10000007d000000384aec900c0de\nreply . DNSKEY 0000840000010000000000000000300001\nreply . DNSKEY 0000840000010001000000000000300001000030000100000e1000060101030daabb\nend\n",
+        status: 0,
+        text: b"dns-report 1\ncode 0\ndenial none\nanswer . IN NS 3600 bogus 016100\nanswer . IN RRSIG 3600 indeterminate 00020d0000000e10000007d000000384aec900c0de\nadditional a. IN A 1000 secure c0000201\nadditional a. IN RRSIG 1000 secure 00010d0100000e10000007d000000384aec900c0de\nchain additional 3\nanchored . IN 0101030daabb\nkeyset . IN 0 0101030daabb\nsigned a. IN A 1 0101030daabb 00010d0100000e10000007d000000384aec900c0de c0000201\ntrail 3\nstep 1 judged . DNSKEY\ngot 0\nending failed\nstep 1 judged . DNSKEY\ngot 0\ntold answer . IN DNSKEY 3600 0101030daabb\nset answer . DNSKEY secure table -\nending none\nstep 0 judged . NS\ngot 0\ntold answer . IN NS 3600 016100\ntold answer . IN RRSIG 3600 00020d0000000e10000007d000000384aec900c0de\ntold additional a. IN A 3600 c0000201\ntold additional a. IN RRSIG 3600 00010d0100000e10000007d000000384aec900c0de\nset answer . NS bogus table - 0\nset additional a. A secure table 0 1\nending none\nend\n",
+    },
+    Row {
+        name: "replies-not-by-turn",
+        words: &["validate", "trail"],
+        session: b"dns-session 1\nmoment 1000\nalgorithms 13\nanchor . 13 aabb\naccept 13 aabb 00020d0000000e10000007d000000384aec900000002000100000e100003016100 c0de\naccept 13 aabb 00010d0100000e10000007d000000384aec9000161000001000100000e100004c0000201 c0de\nquery . NS\nreply . NS 0000840000010002000000020000020001000002000100000e10000301610000002e000100000e10001500020d0000000e10000007d000000384aec900c0de0161000001000100000e100004c0000201016100002e000100000e10001500010d0100000e10000007d000000384aec900c0de\nreply . DNSKEY 0000840000010000000000000000300001\nreply . DNSKEY 0000840000010001000000000000300001000030000100000e1000060101030daabb\nend\n",
+        status: 0,
+        text: b"dns-report 1\ncode 0\ndenial none\nanswer . IN NS 3600 bogus 016100\nanswer . IN RRSIG 3600 indeterminate 00020d0000000e10000007d000000384aec900c0de\nadditional a. IN A 3600 bogus c0000201\nadditional a. IN RRSIG 3600 indeterminate 00010d0100000e10000007d000000384aec900c0de\ntrail 3\nstep 1 judged . DNSKEY\ngot 0\nending failed\nstep 1 judged . DNSKEY\ngot 0\nending failed\nstep 0 judged . NS\ngot 0\ntold answer . IN NS 3600 016100\ntold answer . IN RRSIG 3600 00020d0000000e10000007d000000384aec900c0de\ntold additional a. IN A 3600 c0000201\ntold additional a. IN RRSIG 3600 00010d0100000e10000007d000000384aec900c0de\nset answer . NS bogus table - 0\nset additional a. A bogus table - 1\nending none\nend\n",
+    },
+    Row {
         name: "second-depth",
         words: &["validate"],
         session: b"dns-session 1\nmoment 1000\ndepth 26\ndepth 26\nalgorithms 13\nanchor . 13 aabb\naccept 13 aabb 00020d0000000e10000007d000000384aec900000002000100000e100003016100 c0de\nquery . NS\nreply . NS 0000840000010002000000000000020001000002000100000e10000301610000002e000100000e10001500020d0000000e10000007d000000384aec900c0de\nreply . DNSKEY 0000840000010001000000000000300001000030000100000e1000060101030daabb\nend\n",
@@ -359,6 +373,27 @@ pub(crate) const ROWS: [Row; 55] = [
         session: b"dns-session 3\nmoment 1000\nalgorithms 13\nanchor . 13 aabb\naccept 13 aabb 00020d0000000e10000007d000000384aec900000002000100000e100003016100 c0de\nquery . NS\nreply . NS 0000840000010002000000000000020001000002000100000e10000301610000002e000100000e10001500020d0000000e10000007d000000384aec900c0de\nreply . DNSKEY 0000840000010001000000000000300001000030000100000e1000060101030daabb\nend\n",
         status: 3,
         text: b"bad line 1\n",
+    },
+    Row {
+        name: "trail-of-a-fault",
+        words: &["validate", "trail"],
+        session: b"dns-session 1\nmoment 1000\nalgorithms 13\nanchor . 13 aabb\naccept 13 aabb 00020d0000000e10000007d000000384aec900000002000100000e100003016100 c0de\nquery . NS\nreply . NS 0000840000010002000000000000020001000002000100000e10000301610000002e000100000e10001500020d0000000e10000007d000000384aec900c0de\nend\n",
+        status: 0,
+        text: b"dns-report 1\ncode 0\ndenial none\nanswer . IN NS 3600 bogus 016100\nanswer . IN RRSIG 3600 indeterminate 00020d0000000e10000007d000000384aec900c0de\ntrail 2\nstep 1 judged . DNSKEY\ngot fault\nending failed\nstep 0 judged . NS\ngot 0\ntold answer . IN NS 3600 016100\ntold answer . IN RRSIG 3600 00020d0000000e10000007d000000384aec900c0de\nset answer . NS bogus table - 0\nending none\nend\n",
+    },
+    Row {
+        name: "trail-of-an-ask-too-deep",
+        words: &["validate", "trail"],
+        session: b"dns-session 1\nmoment 1000\ndepth 0\nalgorithms 13\nanchor . 13 aabb\naccept 13 aabb 00020d0000000e10000007d000000384aec900000002000100000e100003016100 c0de\nquery . NS\nreply . NS 0000840000010002000000000000020001000002000100000e10000301610000002e000100000e10001500020d0000000e10000007d000000384aec900c0de\nreply . DNSKEY 0000840000010001000000000000300001000030000100000e1000060101030daabb\nend\n",
+        status: 0,
+        text: b"dns-report 1\ncode 0\ndenial none\nanswer . IN NS 3600 bogus 016100\nanswer . IN RRSIG 3600 indeterminate 00020d0000000e10000007d000000384aec900c0de\ntrail 1\nstep 0 judged . NS\ngot 0\ntold answer . IN NS 3600 016100\ntold answer . IN RRSIG 3600 00020d0000000e10000007d000000384aec900c0de\nset answer . NS bogus table - deep\nending none\nend\n",
+    },
+    Row {
+        name: "trail-of-the-stored-session",
+        words: &["validate", "trail"],
+        session: b"dns-session 1\nmoment 1000\nalgorithms 13\nanchor . 13 aabb\naccept 13 aabb 00020d0000000e10000007d000000384aec900000002000100000e100003016100 c0de\nquery . NS\nreply . NS 0000840000010002000000000000020001000002000100000e10000301610000002e000100000e10001500020d0000000e10000007d000000384aec900c0de\nreply . DNSKEY 0000840000010001000000000000300001000030000100000e1000060101030daabb\nend\n",
+        status: 0,
+        text: b"dns-report 1\ncode 0\ndenial none\nanswer . IN NS 1000 secure 016100\nanswer . IN RRSIG 1000 secure 00020d0000000e10000007d000000384aec900c0de\nchain answer 3\nanchored . IN 0101030daabb\nkeyset . IN 0 0101030daabb\nsigned . IN NS 1 0101030daabb 00020d0000000e10000007d000000384aec900c0de 016100\ntrail 2\nstep 1 judged . DNSKEY\ngot 0\ntold answer . IN DNSKEY 3600 0101030daabb\nset answer . DNSKEY secure table -\nending none\nstep 0 judged . NS\ngot 0\ntold answer . IN NS 3600 016100\ntold answer . IN RRSIG 3600 00020d0000000e10000007d000000384aec900c0de\nset answer . NS secure table 0 0\nending none\nend\n",
     },
     Row {
         name: "two-spaces-between-words",
