@@ -18,7 +18,7 @@ struct Sending {
 
 /// A handle that keeps what it sends.
 #[derive(Drop)]
-struct Keeping {
+pub(crate) struct Keeping {
     replies: Recorded,
     kept: Vec<Sending>,
 }
@@ -54,23 +54,31 @@ fn keep(alloc: Global, kept: &mut Vec<Sending>, request: &DnsRequest, moment: u6
 }
 
 /// A reply to a query for a name.
-struct Given {
-    name: &'static str,
-    query_type: RecordType,
-    message: &'static [u8],
+pub(crate) struct Given {
+    pub(crate) name: &'static str,
+    pub(crate) query_type: RecordType,
+    pub(crate) message: &'static [u8],
 }
 
+/// The root's NS set with a signature, as a message.
+pub(crate) const NS_SET: &[u8] =
+    b"\0\0\x84\0\0\x01\0\x02\0\0\0\0\0\0\x02\0\x01\0\0\x02\0\x01\0\0\x0e\x10\0\x03\x01a\0\0\0\x2e\0\x01\0\0\x0e\x10\0\x15\0\x02\x0d\0\0\0\x0e\x10\0\0\x07\xd0\0\0\x03\x84\xae\xc9\0\xc0\xde";
+
+/// The root's key set, as a message.
+pub(crate) const KEY_SET: &[u8] =
+    b"\0\0\x84\0\0\x01\0\x01\0\0\0\0\0\0\x30\0\x01\0\0\x30\0\x01\0\0\x0e\x10\0\x06\x01\x01\x03\x0d\xaa\xbb";
+
 /// The root's NS set with a signature, and its key set.
-const ROOT_SERVERS: [Given; 2] = [
+pub(crate) const ROOT_SERVERS: [Given; 2] = [
     Given {
         name: ".",
         query_type: RecordType::NS,
-        message: b"\0\0\x84\0\0\x01\0\x02\0\0\0\0\0\0\x02\0\x01\0\0\x02\0\x01\0\0\x0e\x10\0\x03\x01a\0\0\0\x2e\0\x01\0\0\x0e\x10\0\x15\0\x02\x0d\0\0\0\x0e\x10\0\0\x07\xd0\0\0\x03\x84\xae\xc9\0\xc0\xde",
+        message: NS_SET,
     },
     Given {
         name: ".",
         query_type: RecordType::DNSKEY,
-        message: b"\0\0\x84\0\0\x01\0\x01\0\0\0\0\0\0\x30\0\x01\0\0\x30\0\x01\0\0\x0e\x10\0\x06\x01\x01\x03\x0d\xaa\xbb",
+        message: KEY_SET,
     },
 ];
 
@@ -84,11 +92,11 @@ const EXPANDED: [Given; 2] = [
     Given {
         name: ".",
         query_type: RecordType::DNSKEY,
-        message: b"\0\0\x84\0\0\x01\0\x01\0\0\0\0\0\0\x30\0\x01\0\0\x30\0\x01\0\0\x0e\x10\0\x06\x01\x01\x03\x0d\xaa\xbb",
+        message: KEY_SET,
     },
 ];
 
-fn query_of(alloc: Global, given: &Given) -> Result<Query, NetError> {
+pub(crate) fn query_of(alloc: Global, given: &Given) -> Result<Query, NetError> {
     let name = match Name::from_ascii(alloc, given.name) {
         Ok(name) => name,
         Err(_) => return Err(NetError::Timeout),
@@ -115,13 +123,14 @@ fn response_of(alloc: Global, message: &[u8]) -> Result<DnsResponse, NetError> {
     }
 }
 
-// A handle over these replies that trusts no key and accepts no signature.
-fn handle_over(
+// A handle over these replies, put behind those that were recorded, that trusts no key and accepts no signature.
+pub(crate) fn handle_over(
     alloc: Global,
+    recorded: Recorded,
     replies: &[Given],
 ) -> Result<DnssecDnsHandle<Keeping, Listed>, NetError> {
     let mut upstream = Keeping {
-        replies: Recorded::new(alloc),
+        replies: recorded,
         kept: Vec::new(alloc),
     };
     for given in replies {
@@ -165,7 +174,7 @@ fn is_kept(kept: &[Sending], row: &Asked, moment: u64) -> bool {
 }
 
 fn is_sent(alloc: Global, row: &Asked) -> Result<bool, NetError> {
-    let mut handle = handle_over(alloc, &ROOT_SERVERS)?;
+    let mut handle = handle_over(alloc, Recorded::new(alloc), &ROOT_SERVERS)?;
     let query = query_of(alloc, &ROOT_SERVERS[0])?;
     let _ = handle.lookup(alloc, query, DnsRequestOptions::default(), 1000)?;
     Ok(is_kept(handle.inner().kept.as_slice(), row, 1000))
@@ -196,7 +205,7 @@ fn is_judged(answers: &[Record]) -> bool {
 }
 
 fn denied(alloc: Global) -> Result<bool, NetError> {
-    let mut handle = handle_over(alloc, &EXPANDED)?;
+    let mut handle = handle_over(alloc, Recorded::new(alloc), &EXPANDED)?;
     let query = query_of(alloc, &EXPANDED[0])?;
     match handle.lookup(alloc, query, DnsRequestOptions::default(), 1000) {
         Err(
