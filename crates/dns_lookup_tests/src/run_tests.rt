@@ -1,10 +1,9 @@
-//! `run` over sources and sinks in memory.
-use crate::worked_rows::{ROWS, Row};
+//! `run` over sources and sinks in memory, for a row.
+use crate::worked_rows::Row;
 use dns_io::{Sink, SinkFault, SureSink, SureSource, TextSink, TextSource};
 use dns_name::Octets;
 use dns_run::run;
 use std::alloc::{AllocError, Global};
-use std::test::Fail;
 
 // A sink that takes one byte a write, and fails at its second.
 #[derive(Drop)]
@@ -87,7 +86,7 @@ fn is_end(ended: &(u8, Vec<u8>), status: u8, text: &[u8]) -> bool {
 }
 
 // Both kinds of source and sink end as the row says.
-fn ends_so(alloc: Global, row: &Row) -> Result<bool, AllocError> {
+pub(crate) fn ends_so(alloc: Global, row: &Row) -> Result<bool, AllocError> {
     let told = told_run(alloc, row.words, row.session, &[])?;
     let sure = sure_run(alloc, row.words, row.session)?;
     Ok(is_end(&told, row.status, row.text) && is_end(&sure, row.status, row.text))
@@ -100,7 +99,7 @@ fn is_reading(words: &[&str]) -> bool {
 
 // Over a sink whose second write fails a row ends for that, with what was written before; over a source whose first or second
 // read fails it ends for that, if its words ask for a reading.
-fn fails_so(alloc: Global, row: &Row) -> Result<bool, AllocError> {
+pub(crate) fn fails_so(alloc: Global, row: &Row) -> Result<bool, AllocError> {
     let slow = slow_run(alloc, row.words, row.session)?;
     let is_slow = is_end(&slow, 5, row.text.get(..1).unwrap_or_default());
     let unread = told_run(alloc, row.words, row.session, &[0])?;
@@ -111,20 +110,4 @@ fn fails_so(alloc: Global, row: &Row) -> Result<bool, AllocError> {
     let broken = told_run(alloc, row.words, row.session, &[1])?;
     let is_broken = row.session.is_empty() || is_end(&broken, 4, b"");
     Ok(is_slow && is_end(&unread, 4, b"") && is_broken)
-}
-
-#[test]
-fn each_row_ends_as_it_says(rt: HostRuntime) -> Result<(), Fail> {
-    for row in &ROWS {
-        assert!(rt; ends_so(rt.alloc(), row)?, "{}", row.name);
-    }
-    Ok(())
-}
-
-#[test]
-fn the_outside_may_fail(rt: HostRuntime) -> Result<(), Fail> {
-    for row in &ROWS {
-        assert!(rt; fails_so(rt.alloc(), row)?, "{}", row.name);
-    }
-    Ok(())
 }

@@ -2,7 +2,8 @@
 use crate::lookup_tests::{Given, KEY_SET, Keeping, NS_SET, ROOT_SERVERS, handle_over, query_of};
 use dns_chain::DnssecDnsHandle;
 use dns_net::{
-    AskRef, Asked, DnsRequestOptions, Ending, JudgedSet, MarkOrigin, NetError, Recorded, Reply,
+    AskRef, Asked, DnsRequestOptions, DnsResponse, Ending, JudgedSet, MarkOrigin, NetError,
+    Recorded, Reply, Trail,
 };
 use dns_record::{Denial, Proof, RecordType};
 use dns_trust::Listed;
@@ -103,7 +104,9 @@ fn leaves(alloc: Global, row: &Row) -> Result<bool, NetError> {
     let mut handle = handle_over(alloc, Recorded::new(alloc), row.replies)?;
     let query = query_of(alloc, &ROOT_SERVERS[0])?;
     let answer = handle.lookup(alloc, query, DnsRequestOptions::default(), 1000)?;
-    Ok(are_steps(&answer.trail.steps, row.steps))
+    let DnsResponse { trail, .. } = answer;
+    let Trail { steps } = trail;
+    Ok(are_steps(&steps, row.steps))
 }
 
 #[test]
@@ -137,32 +140,25 @@ fn has_keys(
     Ok(answer.is_ok())
 }
 
-fn thrice(alloc: Global, recorded: Recorded) -> Result<[bool; 3], NetError> {
+// Whether three lookups of the keys go so, one after another.
+fn go_so(alloc: Global, recorded: Recorded, wanted: [bool; 3]) -> Result<bool, NetError> {
     let mut handle = handle_over(alloc, recorded, &KEYS)?;
     let first = has_keys(alloc, &mut handle)?;
     let second = has_keys(alloc, &mut handle)?;
     let third = has_keys(alloc, &mut handle)?;
-    Ok([first, second, third])
+    Ok([first, second, third] == wanted)
 }
 
 #[test]
 fn by_turn_each_send_takes_the_next_reply_and_then_the_last(rt: HostRuntime) {
     let alloc = rt.alloc();
-    assert!(rt;
-        matches!(
-            thrice(alloc, Recorded::in_turn(alloc)),
-            Ok([false, true, true])
-        )
-    );
+    let goes_so = go_so(alloc, Recorded::in_turn(alloc), [false, true, true]);
+    assert!(rt; matches!(goes_so, Ok(true)));
 }
 
 #[test]
 fn else_each_send_takes_the_first_reply(rt: HostRuntime) {
     let alloc = rt.alloc();
-    assert!(rt;
-        matches!(
-            thrice(alloc, Recorded::new(alloc)),
-            Ok([false, false, false])
-        )
-    );
+    let goes_so = go_so(alloc, Recorded::new(alloc), [false, false, false]);
+    assert!(rt; matches!(goes_so, Ok(true)));
 }

@@ -1,4 +1,6 @@
 //! The rows of `rows/`, as `tools/rows_as_tests` makes them: change those, and not this file.
+use crate::run_tests::{ends_so, fails_so};
+use std::test::Fail;
 
 /// Words, a session, and how `run` ends over them.
 pub(crate) struct Row {
@@ -9,7 +11,7 @@ pub(crate) struct Row {
     pub(crate) text: &'static [u8],
 }
 
-pub(crate) const ROWS: [Row; 60] = [
+const ROWS_1: [Row; 20] = [
     Row {
         name: "2-to-the-31-before-the-expiration",
         words: &["validate"],
@@ -150,6 +152,25 @@ pub(crate) const ROWS: [Row; 60] = [
         status: 3,
         text: b"bad line 10\n",
     },
+];
+
+#[test]
+fn rows_of_part_1_end_as_they_say(rt: HostRuntime) -> Result<(), Fail> {
+    for row in &ROWS_1 {
+        assert!(rt; ends_so(rt.alloc(), row)?, "{}", row.name);
+    }
+    Ok(())
+}
+
+#[test]
+fn rows_of_part_1_end_where_the_outside_fails(rt: HostRuntime) -> Result<(), Fail> {
+    for row in &ROWS_1 {
+        assert!(rt; fails_so(rt.alloc(), row)?, "{}", row.name);
+    }
+    Ok(())
+}
+
+const ROWS_2: [Row; 20] = [
     Row {
         name: "message-of-no-bytes",
         words: &["validate"],
@@ -290,6 +311,25 @@ pub(crate) const ROWS: [Row; 60] = [
         status: 1,
         text: b"fault class . CH TXT\n",
     },
+];
+
+#[test]
+fn rows_of_part_2_end_as_they_say(rt: HostRuntime) -> Result<(), Fail> {
+    for row in &ROWS_2 {
+        assert!(rt; ends_so(rt.alloc(), row)?, "{}", row.name);
+    }
+    Ok(())
+}
+
+#[test]
+fn rows_of_part_2_end_where_the_outside_fails(rt: HostRuntime) -> Result<(), Fail> {
+    for row in &ROWS_2 {
+        assert!(rt; fails_so(rt.alloc(), row)?, "{}", row.name);
+    }
+    Ok(())
+}
+
+const ROWS_3: [Row; 20] = [
     Row {
         name: "replies-by-turn",
         words: &["validate", "trail"],
@@ -431,3 +471,19 @@ pub(crate) const ROWS: [Row; 60] = [
         text: b"bad words\n",
     },
 ];
+
+#[test]
+fn rows_of_part_3_end_as_they_say(rt: HostRuntime) -> Result<(), Fail> {
+    for row in &ROWS_3 {
+        assert!(rt; ends_so(rt.alloc(), row)?, "{}", row.name);
+    }
+    Ok(())
+}
+
+#[test]
+fn rows_of_part_3_end_where_the_outside_fails(rt: HostRuntime) -> Result<(), Fail> {
+    for row in &ROWS_3 {
+        assert!(rt; fails_so(rt.alloc(), row)?, "{}", row.name);
+    }
+    Ok(())
+}
