@@ -77,253 +77,308 @@ fn record(
     })
 }
 
-/// A reply without a record.
-fn told(alloc: Global, code: u16, empty: bool) -> Told {
-    Told {
-        code: ResponseCode(code),
-        empty,
-        answers: Vec::new(alloc),
-        authorities: Vec::new(alloc),
-        additionals: Vec::new(alloc),
+/// No record.
+fn no_records(alloc: Global) -> Vec<Record> {
+    Vec::new(alloc)
+}
+
+/// A list of this record alone.
+fn only(alloc: Global, one: Record) -> Result<Vec<Record>, Fail> {
+    let mut records = Vec::new(alloc);
+    records.push(one)?;
+    Ok(records)
+}
+
+/// A list of these asks.
+fn asks(alloc: Global, some: &[AskRef]) -> Result<Vec<AskRef>, Fail> {
+    let mut all = Vec::new(alloc);
+    for ask in some {
+        all.push(*ask)?;
     }
+    Ok(all)
 }
 
-/// A set of a step.
-fn set(
-    alloc: Global,
-    section: Section,
-    owner: &str,
-    record_type: RecordType,
-    mark: Proof,
-    origin: MarkOrigin,
-) -> Result<JudgedSet, Fail> {
-    Ok(JudgedSet {
-        section,
-        owner: Name::from_ascii(alloc, owner)?,
-        record_type,
-        mark,
-        origin,
-        sig: None,
-        asked: Vec::new(alloc),
-    })
+/// A list of this set alone.
+fn only_set(alloc: Global, one: JudgedSet) -> Result<Vec<JudgedSet>, Fail> {
+    let mut sets = Vec::new(alloc);
+    sets.push(one)?;
+    Ok(sets)
 }
 
-/// A step that is judged, whose reply ends so.
-fn step(
-    alloc: Global,
-    depth: u16,
-    name: &str,
-    query_type: RecordType,
-    reply: Reply,
-    ending: Ending,
-) -> Result<Asked, Fail> {
+/// What a step asks.
+fn asked_for(alloc: Global, name: &str, query_type: RecordType) -> Result<Query, Fail> {
     let name = Name::from_ascii(alloc, name)?;
-    Ok(Asked {
-        depth,
-        judged: true,
-        query: Query {
-            name,
-            query_type,
-            query_class: DNSClass::IN,
-        },
-        reply,
-        sets: Vec::new(alloc),
-        ending,
-        excuse: Vec::new(alloc),
+    Ok(Query {
+        name,
+        query_type,
+        query_class: DNSClass::IN,
     })
 }
 
 /// The ask for the root's keys.
 fn keys_step(alloc: Global) -> Result<Asked, Fail> {
-    let mut heard = told(alloc, 0, false);
     let key = b"\x01\x01\x03\x0d\xaa\xbb";
-    heard
-        .answers
-        .push(record(alloc, ".", DNSClass::IN, RecordType::DNSKEY, key)?)?;
-    let none = Ending::Answered(Denial::None);
-    let mut asked = step(alloc, 1, ".", RecordType::DNSKEY, Reply::Told(heard), none)?;
-    let answer = Section::Answer;
-    let origin = MarkOrigin::Table;
-    asked.sets.push(set(
-        alloc,
-        answer,
-        ".",
-        RecordType::DNSKEY,
-        Proof::Secure,
-        origin,
-    )?)?;
-    Ok(asked)
+    let key = record(alloc, ".", DNSClass::IN, RecordType::DNSKEY, key)?;
+    let answers = only(alloc, key)?;
+    let owner = Name::from_ascii(alloc, ".")?;
+    let set = JudgedSet {
+        section: Section::Answer,
+        owner,
+        record_type: RecordType::DNSKEY,
+        mark: Proof::Secure,
+        origin: MarkOrigin::Table,
+        sig: None,
+        asked: Vec::new(alloc),
+    };
+    let query = asked_for(alloc, ".", RecordType::DNSKEY)?;
+    let sets = only_set(alloc, set)?;
+    Ok(Asked {
+        depth: 1,
+        judged: true,
+        query,
+        reply: Reply::Told(Told {
+            code: ResponseCode(0),
+            empty: false,
+            answers,
+            authorities: no_records(alloc),
+            additionals: no_records(alloc),
+        }),
+        sets,
+        ending: Ending::Answered(Denial::None),
+        excuse: Vec::new(alloc),
+    })
+}
+
+/// The root's name servers and their signature.
+fn root_records(alloc: Global) -> Result<Vec<Record>, Fail> {
+    let server = record(alloc, ".", DNSClass::IN, RecordType::NS, b"\x01a\x00")?;
+    let mut answers = only(alloc, server)?;
+    let sig =
+        b"\x00\x02\x0d\x00\x00\x00\x0e\x10\x00\x00\x07\xd0\x00\x00\x03\x84\xae\xc9\x00\xc0\xde";
+    let signature = record(alloc, ".", DNSClass::IN, RecordType::RRSIG, sig)?;
+    answers.push(signature)?;
+    Ok(answers)
 }
 
 /// The ask for the root's name servers, which stands on the one for its keys.
 fn root_step(alloc: Global) -> Result<Asked, Fail> {
-    let mut heard = told(alloc, 0, false);
-    heard.answers.push(record(alloc, ".", DNSClass::IN, RecordType::NS, b"\x01a\x00")?)?;
-    let sig =
-        b"\x00\x02\x0d\x00\x00\x00\x0e\x10\x00\x00\x07\xd0\x00\x00\x03\x84\xae\xc9\x00\xc0\xde";
-    heard
-        .answers
-        .push(record(alloc, ".", DNSClass::IN, RecordType::RRSIG, sig)?)?;
-    let none = Ending::Answered(Denial::None);
-    let mut asked = step(alloc, 0, ".", RecordType::NS, Reply::Told(heard), none)?;
-    let origin = MarkOrigin::Table;
-    let mut judged = set(
-        alloc,
-        Section::Answer,
-        ".",
-        RecordType::NS,
-        Proof::Secure,
-        origin,
-    )?;
-    judged.sig = Some(0);
-    judged.asked.push(AskRef::Step(0))?;
-    asked.sets.push(judged)?;
-    Ok(asked)
+    let answers = root_records(alloc)?;
+    let owner = Name::from_ascii(alloc, ".")?;
+    let asked = asks(alloc, &[AskRef::Step(0)])?;
+    let set = JudgedSet {
+        section: Section::Answer,
+        owner,
+        record_type: RecordType::NS,
+        mark: Proof::Secure,
+        origin: MarkOrigin::Table,
+        sig: Some(0),
+        asked,
+    };
+    let query = asked_for(alloc, ".", RecordType::NS)?;
+    let sets = only_set(alloc, set)?;
+    Ok(Asked {
+        depth: 0,
+        judged: true,
+        query,
+        reply: Reply::Told(Told {
+            code: ResponseCode(0),
+            empty: false,
+            answers,
+            authorities: no_records(alloc),
+            additionals: no_records(alloc),
+        }),
+        sets,
+        ending: Ending::Answered(Denial::None),
+        excuse: Vec::new(alloc),
+    })
+}
+
+/// An ask that met a fault.
+fn failed_step(alloc: Global) -> Result<Asked, Fail> {
+    let query = asked_for(alloc, "Example.", RecordType(65280))?;
+    Ok(Asked {
+        depth: 2,
+        judged: true,
+        query,
+        reply: Reply::Fault,
+        sets: Vec::new(alloc),
+        ending: Ending::Failed,
+        excuse: Vec::new(alloc),
+    })
 }
 
 /// An ask that was only to see name servers, and heard that there are none.
 fn seen_step(alloc: Global) -> Result<Asked, Fail> {
-    let mut heard = told(alloc, 3, true);
     let class = DNSClass::CH;
-    heard.authorities.push(record(alloc, "x.Example.", class, RecordType(65280), b"")?)?;
-    let reply = Reply::Told(heard);
-    let mut asked = step(
-        alloc,
-        2,
-        "a\\.b.Example.",
-        RecordType::NS,
-        reply,
-        Ending::Seen,
-    )?;
-    asked.judged = false;
-    Ok(asked)
+    let heard = record(alloc, "x.Example.", class, RecordType(65280), b"")?;
+    let authorities = only(alloc, heard)?;
+    let query = asked_for(alloc, "a\\.b.Example.", RecordType::NS)?;
+    Ok(Asked {
+        depth: 2,
+        judged: false,
+        query,
+        reply: Reply::Told(Told {
+            code: ResponseCode(3),
+            empty: true,
+            answers: no_records(alloc),
+            authorities,
+            additionals: no_records(alloc),
+        }),
+        sets: Vec::new(alloc),
+        ending: Ending::Seen,
+        excuse: Vec::new(alloc),
+    })
 }
 
 /// An ask that ends at a record of another class.
 fn foreign_step(alloc: Global) -> Result<Asked, Fail> {
-    let ending = Ending::Foreign {
-        owner: Name::from_ascii(alloc, "x.Example.")?,
-        class: DNSClass::CH,
-        record_type: RecordType(65280),
-    };
-    let reply = Reply::Told(told(alloc, 0, false));
-    let mut asked = step(alloc, 1, "Example.", RecordType::A, reply, ending)?;
-    asked.excuse.push(AskRef::Step(1))?;
-    asked.excuse.push(AskRef::TooMany)?;
-    Ok(asked)
+    let owner = Name::from_ascii(alloc, "x.Example.")?;
+    let query = asked_for(alloc, "Example.", RecordType::A)?;
+    let excuse = asks(alloc, &[AskRef::Step(1), AskRef::TooMany])?;
+    Ok(Asked {
+        depth: 1,
+        judged: true,
+        query,
+        reply: Reply::Told(Told {
+            code: ResponseCode(0),
+            empty: false,
+            answers: no_records(alloc),
+            authorities: no_records(alloc),
+            additionals: no_records(alloc),
+        }),
+        sets: Vec::new(alloc),
+        ending: Ending::Foreign {
+            owner,
+            class: DNSClass::CH,
+            record_type: RecordType(65280),
+        },
+        excuse,
+    })
 }
 
 /// An ask whose reply is denied, with a mark that was kept.
 fn denied_step(alloc: Global) -> Result<Asked, Fail> {
-    let mut heard = told(alloc, 4095, false);
     let address = b"\x01\x02\x03\x04";
-    heard.additionals.push(record(alloc, "Example.", DNSClass::IN, RecordType::A, address)?)?;
-    let reply = Reply::Told(heard);
-    let ending = Ending::Denied(Proof::Indeterminate);
-    let mut asked = step(alloc, 1, "Example.", RecordType::DS, reply, ending)?;
-    let mark = Proof::Indeterminate;
-    let section = Section::Additional;
-    let mut kept = set(
-        alloc,
-        section,
-        "Example.",
-        RecordType::A,
-        mark,
-        MarkOrigin::Cache,
-    )?;
-    kept.sig = Some(4_294_967_295);
-    asked.sets.push(kept)?;
-    Ok(asked)
-}
-
-/// An ask that is answered from a wildcard, with a set that an earlier step judged.
-fn repeating_step(alloc: Global) -> Result<Asked, Fail> {
-    let mut heard = told(alloc, 0, true);
-    heard.answers.push(record(alloc, "Example.", DNSClass::IN, RecordType::A, b"")?)?;
-    heard.authorities.push(record(alloc, "Example.", DNSClass::IN, RecordType::NS, b"\x00")?)?;
-    let ending = Ending::Answered(Denial::Expanded(Proof::Insecure));
-    let mut asked = step(
-        alloc,
-        0,
-        "Example.",
-        RecordType::SOA,
-        Reply::Told(heard),
-        ending,
-    )?;
-    let section = Section::Authority;
-    let origin = MarkOrigin::Repeat(3);
-    let mut again = set(
-        alloc,
-        section,
-        "Example.",
-        RecordType::NS,
-        Proof::Bogus,
-        origin,
-    )?;
-    again.asked.push(AskRef::Step(3))?;
-    again.asked.push(AskRef::TooDeep)?;
-    again.asked.push(AskRef::TooMany)?;
-    asked.sets.push(again)?;
-    asked.excuse.push(AskRef::Step(2))?;
-    asked.excuse.push(AskRef::TooDeep)?;
-    Ok(asked)
-}
-
-/// An answer without a record, a chain and a step.
-fn answer(alloc: Global) -> Option<DnsResponse> {
-    Some(DnsResponse {
-        message: message_of(alloc, b"\x00\x00\x84\x00\x00\x00\x00\x00\x00\x00\x00\x00")?,
-        chains: Vec::new(alloc),
-        denial: Denial::None,
-        trail: Trail::new(alloc),
+    let heard = record(alloc, "Example.", DNSClass::IN, RecordType::A, address)?;
+    let additionals = only(alloc, heard)?;
+    let owner = Name::from_ascii(alloc, "Example.")?;
+    let kept = JudgedSet {
+        section: Section::Additional,
+        owner,
+        record_type: RecordType::A,
+        mark: Proof::Indeterminate,
+        origin: MarkOrigin::Cache,
+        sig: Some(4_294_967_295),
+        asked: Vec::new(alloc),
+    };
+    let query = asked_for(alloc, "Example.", RecordType::DS)?;
+    let sets = only_set(alloc, kept)?;
+    Ok(Asked {
+        depth: 1,
+        judged: true,
+        query,
+        reply: Reply::Told(Told {
+            code: ResponseCode(4095),
+            empty: false,
+            answers: no_records(alloc),
+            authorities: no_records(alloc),
+            additionals,
+        }),
+        sets,
+        ending: Ending::Denied(Proof::Indeterminate),
+        excuse: Vec::new(alloc),
     })
 }
 
-/// The report on an answer with these parts is the text.
-fn prints(alloc: Global, answer: &DnsResponse, parts: Parts, text: &str) -> Result<bool, Fail> {
-    let written = write_report(alloc, answer, parts)?;
+/// A set that an earlier step judged.
+fn repeated_set(alloc: Global) -> Result<JudgedSet, Fail> {
+    let owner = Name::from_ascii(alloc, "Example.")?;
+    let asked = asks(alloc, &[AskRef::Step(3), AskRef::TooDeep, AskRef::TooMany])?;
+    Ok(JudgedSet {
+        section: Section::Authority,
+        owner,
+        record_type: RecordType::NS,
+        mark: Proof::Bogus,
+        origin: MarkOrigin::Repeat(3),
+        sig: None,
+        asked,
+    })
+}
+
+/// An ask that is answered from a wildcard, with that set.
+fn repeating_step(alloc: Global) -> Result<Asked, Fail> {
+    let address = record(alloc, "Example.", DNSClass::IN, RecordType::A, b"")?;
+    let answers = only(alloc, address)?;
+    let server = record(alloc, "Example.", DNSClass::IN, RecordType::NS, b"\x00")?;
+    let authorities = only(alloc, server)?;
+    let again = repeated_set(alloc)?;
+    let sets = only_set(alloc, again)?;
+    let query = asked_for(alloc, "Example.", RecordType::SOA)?;
+    let excuse = asks(alloc, &[AskRef::Step(2), AskRef::TooDeep])?;
+    Ok(Asked {
+        depth: 0,
+        judged: true,
+        query,
+        reply: Reply::Told(Told {
+            code: ResponseCode(0),
+            empty: true,
+            answers,
+            authorities,
+            additionals: no_records(alloc),
+        }),
+        sets,
+        ending: Ending::Answered(Denial::Expanded(Proof::Insecure)),
+        excuse,
+    })
+}
+
+/// The report with these parts, on an answer without a record and a chain whose trail has these steps, is the text.
+fn prints(alloc: Global, steps: Vec<Asked>, parts: Parts, text: &str) -> Result<bool, Fail> {
+    let octets = b"\x00\x00\x84\x00\x00\x00\x00\x00\x00\x00\x00\x00";
+    let Some(message) = message_of(alloc, octets) else {
+        return Ok(false);
+    };
+    let answer = DnsResponse {
+        message,
+        chains: Vec::new(alloc),
+        denial: Denial::None,
+        trail: Trail { steps },
+    };
+    let written = write_report(alloc, &answer, parts)?;
     Ok(written.as_slice() == text.as_bytes())
 }
 
 #[test]
 fn a_trail_is_printed_step_by_step(rt: HostRuntime) -> Result<(), Fail> {
     let alloc = rt.alloc();
-    let Some(mut answer) = answer(alloc) else {
-        return Ok(());
-    };
-    answer.trail.steps.push(keys_step(alloc)?)?;
-    answer.trail.steps.push(root_step(alloc)?)?;
-    assert!(rt; prints(alloc, &answer, Parts::WithTrail, root_trail())?);
+    let mut steps = Vec::new(alloc);
+    steps.push(keys_step(alloc)?)?;
+    steps.push(root_step(alloc)?)?;
+    assert!(rt; prints(alloc, steps, Parts::WithTrail, root_trail())?);
     Ok(())
 }
 
 #[test]
 fn each_kind_of_line_has_its_form(rt: HostRuntime) -> Result<(), Fail> {
     let alloc = rt.alloc();
-    let Some(mut answer) = answer(alloc) else {
-        return Ok(());
-    };
-    let unknown = RecordType(65280);
-    let failed = step(alloc, 2, "Example.", unknown, Reply::Fault, Ending::Failed)?;
-    answer.trail.steps.push(failed)?;
-    answer.trail.steps.push(seen_step(alloc)?)?;
-    answer.trail.steps.push(foreign_step(alloc)?)?;
-    answer.trail.steps.push(denied_step(alloc)?)?;
-    answer.trail.steps.push(repeating_step(alloc)?)?;
-    assert!(rt; prints(alloc, &answer, Parts::WithTrail, other_trail())?);
+    let mut steps = Vec::new(alloc);
+    steps.push(failed_step(alloc)?)?;
+    steps.push(seen_step(alloc)?)?;
+    steps.push(foreign_step(alloc)?)?;
+    steps.push(denied_step(alloc)?)?;
+    steps.push(repeating_step(alloc)?)?;
+    assert!(rt; prints(alloc, steps, Parts::WithTrail, other_trail())?);
     Ok(())
 }
 
 #[test]
 fn a_trail_is_printed_where_it_is_asked_for(rt: HostRuntime) -> Result<(), Fail> {
     let alloc = rt.alloc();
-    let Some(mut answer) = answer(alloc) else {
-        return Ok(());
-    };
     let none = "dns-report 1\ncode 0\ndenial none\ntrail 0\nend\n";
-    assert!(rt; prints(alloc, &answer, Parts::WithTrail, none)?);
-    answer.trail.steps.push(keys_step(alloc)?)?;
+    assert!(rt; prints(alloc, Vec::new(alloc), Parts::WithTrail, none)?);
+    let mut steps = Vec::new(alloc);
+    steps.push(keys_step(alloc)?)?;
     let plain = "dns-report 1\ncode 0\ndenial none\nend\n";
-    assert!(rt; prints(alloc, &answer, Parts::Answer, plain)?);
+    assert!(rt; prints(alloc, steps, Parts::Answer, plain)?);
     Ok(())
 }
