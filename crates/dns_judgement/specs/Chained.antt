@@ -1,8 +1,8 @@
 -- For private functions and for proofs only: judged sets with their chains (RFC 4035, 5.2 and 5.3). The rules of marks don't
 -- look at chains; which key decided, and so the link that is added, is found beside them.
-use Rattle.std.specs.Prelude.{ℕ, ◌+◌, ◌-◌, Bool, true, false, ◌&&◌, List, [], ◌∷◌, ◌++◌, map, length, take, Option, None, Some, if◌then◌else◌}
-use Rattle.std.specs.Option.{option_map}
-use Rattle.std.specs.List.{filter, find, list_all}
+use Rattle.std.specs.Prelude.{ℕ, ◌+◌, ◌-◌, Bool, true, false, ◌&&◌, List, [], ◌∷◌, ◌++◌, map, length, Option, None, Some, if◌then◌else◌}
+use Rattle.std.specs.Option.{option_map, option_map_or}
+use Rattle.std.specs.List.{filter, find}
 use Rattle.dns_model.specs.declared.denial.Denial.{Denial}
 use Rattle.dns_model.specs.Keys.{bytes_eq}
 use Rattle.dns_model.specs.Names.{Labels}
@@ -14,7 +14,9 @@ use Rattle.dns_model.specs.Trails.{AskedValue}
 use Rattle.dns_model.specs.SoundAnswers.{ChainValue, ResponseValue, Placed, is_secure}
 use Rattle.dns_judgement.specs.Validity.{is_good_by}
 use Rattle.dns_judgement.specs.Judged.{Judged, decider}
-use Rattle.dns_judgement.specs.Marks.{Verdict, Proved, Excused, Failed, SignedKeys, most_signatures, counted_keys, is_key_set_of, is_anchored_key, first_signed, verdict_of, judged_by, judged_keys}
+use Rattle.dns_judgement.specs.Marks.{Verdict, Proved, Excused, Failed, counted_keys, is_key_set_of, verdict_of, judged_by}
+use Rattle.dns_judgement.specs.Delegations.{is_ds_set_of, matching_ds, zone_verdict}
+use Rattle.dns_judgement.specs.KeySets.{SignedKeys, KeysOutcome, SignedByAnchored, WhollyAnchored, NeedsDs, SignedByMatched, WhollyTrusted, Refused, is_anchored_key, keys_outcome, keys_judged}
 use Rattle.dns_judgement.specs.Marking.{marked_message}
 
 -- a judged set, and its chain where it is Secure
@@ -102,32 +104,65 @@ chained_by placed verdicts = record { judged = judged_by placed (bare_verdicts v
 
 -- ---- a DNSKEY set
 
+-- the link by which an anchored key of a set is trusted
+abbrev pub anchored_link : RrSet → Rr → LinkValue
+anchored_link set key = Anchored set.owner set.class key.rdata
+
+-- the link by which a key of a set is trusted that a DS matches: the link with this number shows the DS
+abbrev pub matched_link : RrSet → ℕ → Rr → Rr → LinkValue
+matched_link set ds_link key ds = Matched set.owner set.class key.rdata ds_link ds.rdata
+
+-- by the first DS that counts and matches; without one it is the link of an anchored key
+abbrev pub matched_by : Judge → RrSet → ℕ → List Rr → Rr → LinkValue
+matched_by j set ds_link ds key = option_map_or (matched_link set ds_link key) (matching_ds j.answers set.owner key ds) (anchored_link set key)
+
+abbrev pub trusted_link : Judge → RrSet → ℕ → List Rr → Rr → LinkValue
+trusted_link j set ds_link ds key = if is_anchored_key j set key then anchored_link set key else matched_by j set ds_link ds key
+
 -- n, n + 1 and so on, one for each
 abbrev pub numbers_from : ℕ → List (List ℕ) → List ℕ
 numbers_from n [] = []
 numbers_from n (key ∷ keys) = n ∷ numbers_from (n + 1) keys
 
--- a link for each anchored key, and then their set
-abbrev pub anchored_chain : RrSet → List LinkValue
-anchored_chain set =
-    map (Anchored set.owner set.class) (rdatas_of set.records)
-    ++ KeySet set.owner set.class (rdatas_of set.records) (numbers_from 0 (rdatas_of set.records)) ∷ []
+-- behind other links a link for each key, and then their set
+abbrev pub whole_chain : RrSet → List LinkValue → (Rr → LinkValue) → List LinkValue
+whole_chain set front link =
+    (front ++ map link set.records)
+    ++ KeySet set.owner set.class (rdatas_of set.records) (numbers_from (length front) (rdatas_of set.records)) ∷ []
 
-abbrev pub self_signed_chain : RrSet → SignedKeys → List LinkValue
-self_signed_chain set signed =
-    Anchored set.owner set.class signed.key.rdata
-    ∷ Signed set.owner set.class set.rtype (rdatas_of set.records) signed.signature.rdata 0 signed.key.rdata ∷ []
+-- behind other links the link of a key, and then the set that it signed
+abbrev pub self_signed_chain : RrSet → List LinkValue → LinkValue → SignedKeys → List LinkValue
+self_signed_chain set front link signed =
+    (front ++ link ∷ [])
+    ++ Signed set.owner set.class set.rtype (rdatas_of set.records) signed.signature.rdata (length front) signed.key.rdata ∷ []
 
-abbrev pub keys_chain_by : Judge → RrSet → Option SignedKeys → List LinkValue
-keys_chain_by j set (Some signed) = self_signed_chain set signed
-keys_chain_by j set None = if list_all (is_anchored_key j set) set.records then anchored_chain set else []
+-- the chain of a key set, where `front` is that of the DS set by which it is judged
+abbrev pub outcome_chain : Judge → RrSet → List LinkValue → KeysOutcome → List LinkValue
+outcome_chain j set front (SignedByAnchored signed) = self_signed_chain set [] (anchored_link set signed.key) signed
+outcome_chain j set front WhollyAnchored = whole_chain set [] (anchored_link set)
+outcome_chain j set front NeedsDs = []
+outcome_chain j set front (SignedByMatched ds signed) =
+    self_signed_chain set front (matched_by j set (length front - 1) ds signed.key) signed
+outcome_chain j set front (WhollyTrusted ds) = whole_chain set front (trusted_link j set (length front - 1) ds)
+outcome_chain j set front (Refused mark kind) = []
 
--- a DNSKEY set with the chain by which it is Secure
+abbrev pub keys_chained : Judge → Placed → List LinkValue → KeysOutcome → Chained
+keys_chained j placed front outcome = record { judged = keys_judged placed outcome; chain = outcome_chain j placed.set front outcome }
+
+-- a DNSKEY set that asks for no DS set, with the chain by which it is Secure
 unfoldable pub chained_keys : Judge → Placed → Chained
-chained_keys j placed = record {
-  judged = judged_keys j placed;
-  chain = keys_chain_by j placed.set (first_signed j placed.set (take most_signatures placed.set.signatures));
-}
+chained_keys j placed = keys_chained j placed [] (keys_outcome j placed.set None)
+
+-- the chain of the DS set of a zone
+abbrev pub ds_chain : ℕ → Labels → Option (List Chained) → List LinkValue
+ds_chain class zone None = []
+ds_chain class zone (Some answer) = option_map_or (λ c. c.chain) (find (λ c. is_ds_set_of class zone c.judged) answer) []
+
+-- a DNSKEY set that asks for the DS set of its owner, by the sets of the answer; none where the ask failed or was refused
+unfoldable pub chained_by_ds : Judge → Placed → Option (List Chained) → Chained
+chained_by_ds j placed answer =
+    keys_chained j placed (ds_chain placed.set.class placed.set.owner answer)
+    (keys_outcome j placed.set (Some (zone_verdict j.answers placed.set.class placed.set.owner (option_map bare answer))))
 
 -- ---- an answer
 

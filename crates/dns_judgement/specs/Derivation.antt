@@ -20,8 +20,10 @@ use Rattle.dns_model.specs.Chains.{Judge}
 use Rattle.dns_model.specs.Trails.{AskedValue, JudgedSetValue, HeardValue, Records, Fault, EndingValue, Answered, Denied, Foreign, Failed, Seen}
 use Rattle.dns_model.specs.SoundAnswers.{Told, Placed, section_eq}
 use Rattle.dns_judgement.specs.Judged.{Judged}
-use Rattle.dns_judgement.specs.Marks.{Verdict, is_proved, is_skipped, verdict_of, judged_by, judged_keys, most_signatures}
+use Rattle.dns_judgement.specs.Marks.{Verdict, is_proved, is_skipped, verdict_of, judged_by, most_signatures}
 use Rattle.dns_judgement.specs.Marks as marks
+use Rattle.dns_judgement.specs.Delegations.{ZoneVerdict, ds_question, zone_verdict}
+use Rattle.dns_judgement.specs.KeySets.{needs_ds, judged_keys}
 use Rattle.dns_judgement.specs.Outcome.{Outcome, outcome_of, foreign_record}
 use Rattle.dns_judgement.specs.Outcome as outcome
 use Rattle.dns_judgement.specs.Asking.{most_sends, depth_limit, judged_part, ask_of}
@@ -125,11 +127,27 @@ proof_eq Indeterminate Indeterminate = true
 abbrev pub has_mark_of : Judged → JudgedSetValue → Bool
 has_mark_of judged entry = proof_eq judged.mark entry.mark && option_eq nat_eq judged.sig entry.sig
 
--- the entry of a set that is judged by the rules: a key set asks nothing, another asks for its first signatures
+-- the DS verdict that the asks of a key set lead to: one ask for the DS set of its owner, one deeper than its step; none where
+-- these aren't the asks that it makes
+abbrev pub verdict_asked : Grounds → RrSet → List AskRef → Option ZoneVerdict
+verdict_asked g set [] = None
+verdict_asked g set (ask ∷ asks) =
+    if is_empty asks && is_ask g.limit g.earlier (g.depth + 1) (ds_question set.class set.owner) ask
+    then Some (zone_verdict g.judge.answers set.class set.owner (finished_answer g.earlier ask))
+    else None
+
+-- the entry of a key set: it asks for the DS set of its owner exactly where it needs its verdict
+abbrev pub keys_hold : Grounds → Placed → JudgedSetValue → Bool
+keys_hold g placed entry =
+    if needs_ds g.judge placed.set
+    then option_map_or (λ zone. has_mark_of (judged_keys g.judge placed (Some zone)) entry) (verdict_asked g placed.set entry.asked) false
+    else is_empty entry.asked && has_mark_of (judged_keys g.judge placed None) entry
+
+-- the entry of a set that is judged by the rules: a key set may ask for a DS set, another asks for its first signatures
 abbrev pub is_by_rules : Grounds → Placed → JudgedSetValue → Bool
 is_by_rules g placed entry =
     if placed.set.rtype == type_dnskey
-    then is_empty entry.asked && has_mark_of (judged_keys g.judge placed) entry
+    then keys_hold g placed entry
     else option_map_or (λ verdicts. has_mark_of (judged_by placed verdicts) entry)
     (verdicts_by g placed.set (take most_signatures placed.set.signatures) entry.asked) false
 

@@ -1,6 +1,9 @@
 pub mod Validity
 pub mod Judged
 pub mod Marks
+pub mod ProofErrors
+pub mod Delegations
+pub mod KeySets
 pub mod Outcome
 pub mod Marking
 pub mod Asking

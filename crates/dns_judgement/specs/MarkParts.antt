@@ -2,8 +2,6 @@
 use Rattle.std.specs.Prelude.{ℕ, Bool, true, false, not, ◌==◌, ◌&&◌, ◌||◌, min, nat_lt, count_by, List, take, Option, None, slice_get, if◌then◌else◌}
 use Rattle.std.specs.Option.{option_map, option_map_or, option_and_then}
 use Rattle.std.specs.List.{find}
-use Rattle.dns_judgement.specs.declared.rrsig_validity.RrsigValidity.{RrsigValidity}
-use Rattle.dns_judgement.specs.declared.rrsig_validity.RrsigValidity.TheVariants.{ValidRrsig, ExpiredRrsig, WrongDnskey, WrongRrsig}
 use Rattle.dns_model.specs.Names.{Labels}
 use Rattle.dns_model.specs.Types.{type_soa, type_ds, type_nsec, type_dnskey, type_nsec3}
 use Rattle.dns_model.specs.Views.{RrsigValue, DnskeyValue, rrsig_in}
@@ -13,19 +11,20 @@ use Rattle.dns_model.specs.Sections.{is_signature}
 use Rattle.dns_model.specs.Signing.{signed_bytes}
 use Rattle.dns_model.specs.Keys.{usable_key}
 use Rattle.dns_model.specs.Chains.{Judge, rdatas_of, signer_fits, never_expanded, right_below_signer}
-use Rattle.dns_model.specs.SoundAnswers.{Placed, set_rtype, signed_ttl, ttl_of}
-use Rattle.dns_judgement.specs.Validity.{is_of_set, is_by_key}
+use Rattle.dns_model.specs.SoundAnswers.{set_rtype, signed_ttl, ttl_of}
+use Rattle.dns_judgement.specs.Validity.{Validity, ValidRrsig, ExpiredRrsig, WrongDnskey, WrongRrsig, is_of_set, is_by_key}
 use Rattle.dns_judgement.specs.Judged.{Judged}
-use Rattle.dns_judgement.specs.Marks.{Verdict, Proved, Excused, Failed, key_question, same_tag, is_key_set_of, counted_keys, by_keys, anchored_signer, SignedKeys, keys_by}
+use Rattle.dns_judgement.specs.Marks.{Verdict, Proved, Excused, Failed, key_question, same_tag, is_key_set_of, counted_keys, by_keys}
+use Rattle.dns_judgement.specs.KeySets.{SignedKeys, signer_among}
 use Rattle.dns_judgement.specs.Outcome.{is_wildcard_signature}
 use Rattle.dns_judgement.specs.Marking.{cleared, adjusted_ttl}
 
 -- ---- validity
 
-abbrev pub key_validity : RrsigValue → Rr → Option DnskeyValue → RrsigValidity
+abbrev pub key_validity : RrsigValue → Rr → Option DnskeyValue → Validity
 key_validity sig r key = option_map_or (λ text. if is_by_key sig r text then ValidRrsig else WrongDnskey) key WrongDnskey
 
-abbrev pub sig_validity : (RrsigValue → Bool) → RrSet → Rr → Rr → Option RrsigValue → RrsigValidity
+abbrev pub sig_validity : (RrsigValue → Bool) → RrSet → Rr → Rr → Option RrsigValue → Validity
 sig_validity is_timely set r key read =
     option_map_or
     (λ sig.
@@ -77,11 +76,8 @@ verdict_by j set r answer read =
     else Failed)
     read Failed
 
-abbrev pub signed_keys : Judge → RrSet → ℕ × Rr → Option SignedKeys
-signed_keys j set p = option_map (λ key. record { place = p.0; signature = p.1; key = key }) (anchored_signer j set p.1)
-
-abbrev pub keys_unsigned : Judge → Placed → Judged
-keys_unsigned j placed = keys_by j placed None
+abbrev pub signed_keys : (Rr → Bool) → Judge → RrSet → ℕ × Rr → Option SignedKeys
+signed_keys may_sign j set p = option_map (λ key. record { place = p.0; signature = p.1; key = key }) (signer_among may_sign j set p.1)
 
 -- ---- outcomes
 

@@ -1,8 +1,6 @@
 -- When a signature fits a set and a key, and when it is good (RFC 4035, 5.3.1 and 5.3.3).
 use Rattle.std.specs.Prelude.{Bool, true, false, not, ◌==◌, ◌&&◌, nat_le, if◌then◌else◌}
 use Rattle.std.specs.Option.{option_map_or}
-use Rattle.dns_judgement.specs.declared.rrsig_validity.RrsigValidity.{RrsigValidity}
-use Rattle.dns_judgement.specs.declared.rrsig_validity.RrsigValidity.TheVariants.{ValidRrsig, ExpiredRrsig, WrongDnskey, WrongRrsig}
 use Rattle.dns_model.specs.Names.{name_eq, at_or_above, num_labels}
 use Rattle.dns_model.specs.Views.{RrsigValue, DnskeyValue, is_zone_key}
 use Rattle.dns_model.specs.Records.{Rr, RrSet}
@@ -10,6 +8,16 @@ use Rattle.dns_model.specs.RecordViews.{rrsig_of, dnskey_of}
 use Rattle.dns_model.specs.Signing.{signed_bytes, key_tag_of}
 use Rattle.dns_model.specs.Keys.{usable_key}
 use Rattle.dns_model.specs.Chains.{Judge, rdatas_of}
+
+-- whether a signature fits a set, a key and a moment
+pub data Validity : Type 0 where
+  ValidRrsig : Validity
+  -- the moment isn't in the signature's validity
+  ExpiredRrsig : Validity
+  -- the key isn't the one that the signature names, or is no zone key
+  WrongDnskey : Validity
+  -- the signature isn't one of the set
+  WrongRrsig : Validity
 
 -- the signature stands at the set's owner and class, under a signer at or above it, over the set's type and no more labels
 abbrev pub is_of_set : RrSet → Rr → RrsigValue → Bool
@@ -23,7 +31,7 @@ is_by_key sig r key =
     name_eq sig.signer r.owner && ((key.algorithm == sig.algorithm) && ((key_tag_of r.rdata == sig.key_tag) && is_zone_key key))
 
 -- the first test that fails, of the signature, the moment and the key; a record of another type is neither
-unfoldable pub validity : (RrsigValue → Bool) → RrSet → Rr → Rr → RrsigValidity
+unfoldable pub validity : (RrsigValue → Bool) → RrSet → Rr → Rr → Validity
 validity is_timely set r key =
     option_map_or
     (λ sig.
@@ -32,7 +40,7 @@ validity is_timely set r key =
     else option_map_or (λ text. if is_by_key sig key text then ValidRrsig else WrongDnskey) (dnskey_of key) WrongDnskey)
     (rrsig_of r) WrongRrsig
 
-abbrev pub is_valid : RrsigValidity → Bool
+abbrev pub is_valid : Validity → Bool
 is_valid ValidRrsig = true
 is_valid ExpiredRrsig = false
 is_valid WrongDnskey = false

@@ -8,6 +8,12 @@ use std::fmt;
 pub enum Notice {
     /// What the reply holds is not judged by this version.
     NotJudgedYet,
+    /// The moment isn't in a signature's validity.
+    ExpiredRrsig,
+    /// A key isn't the one that a signature names, or is no zone key.
+    WrongDnskey,
+    /// A signature isn't one of the set.
+    WrongRrsig,
 }
 
 impl Notice {
@@ -17,6 +23,9 @@ impl Notice {
     {
         match self {
             Notice::NotJudgedYet => "not judged yet",
+            Notice::ExpiredRrsig => "ExpiredRrsig",
+            Notice::WrongDnskey => "WrongDnskey",
+            Notice::WrongRrsig => "WrongRrsig",
         }
     }
 }

@@ -1,0 +1,79 @@
+-- The DS sets of zones, and the keys that they match (RFC 4034, 5; RFC 4035, 5.2).
+use Rattle.std.specs.Prelude.{ℕ, Bool, false, ◌==◌, ◌&&◌, ◌||◌, List, take, Option, None, Some, if◌then◌else◌}
+use Rattle.std.specs.Option.{option_map_or}
+use Rattle.std.specs.List.{filter, find, list_any}
+use Rattle.dns_model.specs.declared.proof.Proof.{Proof}
+use Rattle.dns_model.specs.declared.proof.Proof.TheVariants as proof
+use Rattle.dns_model.specs.declared.section.Section.TheVariants.{Answer}
+use Rattle.dns_model.specs.Names.{Labels, name_eq}
+use Rattle.dns_model.specs.Types.{type_ds}
+use Rattle.dns_model.specs.Views.{DsValue, ds_in}
+use Rattle.dns_model.specs.Records.{Rr, RrSet, Question}
+use Rattle.dns_model.specs.RecordViews.{dnskey_of}
+use Rattle.dns_model.specs.Signing.{key_tag_of}
+use Rattle.dns_model.specs.Keys.{VerifierAnswers, matches}
+use Rattle.dns_model.specs.SoundAnswers.{section_eq}
+use Rattle.dns_judgement.specs.Judged.{Judged}
+use Rattle.dns_judgement.specs.ProofErrors.{ProofErrorKindValue, Net, DsRecordShouldExist}
+
+-- a record as a DS
+abbrev pub ds_of : Rr → Option DsValue
+ds_of r = if r.rtype == type_ds then ds_in r.rdata else None
+
+-- the question for a zone's DS set
+abbrev pub ds_question : ℕ → Labels → Question
+ds_question class zone = record { owner = zone; rtype = type_ds; class = class }
+
+-- ---- which DS records match a key
+
+-- the digest types that are supported: SHA-1, SHA-256 and SHA-384
+abbrev pub is_digest_type : ℕ → Bool
+is_digest_type digest_type = (digest_type == 1) || ((digest_type == 2) || (digest_type == 4))
+
+-- the record can be read as a DS, of a supported algorithm and digest type
+abbrev pub is_supported_ds : VerifierAnswers → Rr → Bool
+is_supported_ds answers r = option_map_or (λ ds. answers.supports ds.algorithm && is_digest_type ds.digest_type) (ds_of r) false
+
+-- a DS of an owner that has the algorithm and the tag of a key
+abbrev pub is_ds_for : Labels → Rr → Rr → Bool
+is_ds_for owner key r =
+    name_eq owner r.owner
+    && option_map_or (λ text. option_map_or (λ ds. (text.algorithm == ds.algorithm) && (key_tag_of key.rdata == ds.key_tag)) (ds_of r) false)
+    (dnskey_of key) false
+
+-- the DS records of a list that count for a key of an owner: the first two with its algorithm and tag
+abbrev pub counted_ds : Labels → Rr → List Rr → List Rr
+counted_ds owner key records = take 2 (filter (is_ds_for owner key) records)
+
+-- the first DS that counts and whose digest is that of owner and key
+abbrev pub matching_ds : VerifierAnswers → Labels → Rr → List Rr → Option Rr
+matching_ds answers owner key records = find (λ r. matches answers owner key.rdata r.rdata) (counted_ds owner key records)
+
+-- ---- what the DS set of a zone says of it
+
+-- the zone is signed, and by these DS records its keys are known; or no more than Insecure can be expected; or neither is shown
+pub data ZoneVerdict : Type 0 where
+  Signed : (ds : List Rr) → ZoneVerdict
+  Insecure : (kind : ProofErrorKindValue) → ZoneVerdict
+  Bogus : (kind : ProofErrorKindValue) → ZoneVerdict
+
+-- the DS set of a zone in the answer section of a finished ask
+abbrev pub is_ds_set_of : ℕ → Labels → Judged → Bool
+is_ds_set_of class zone judged =
+    section_eq Answer judged.section && (name_eq zone judged.set.owner && ((judged.set.rtype == type_ds) && (class == judged.set.class)))
+
+-- by the mark and the records of the DS set; until Insecure is shown, a set without a supported record is refused
+abbrev pub verdict_by_ds : VerifierAnswers → Labels → Proof → List Rr → ZoneVerdict
+verdict_by_ds answers zone proof.Secure records =
+    if list_any (is_supported_ds answers) records then Signed (filter (is_supported_ds answers) records) else Bogus (DsRecordShouldExist zone)
+verdict_by_ds answers zone proof.Insecure records = Bogus (DsRecordShouldExist zone)
+verdict_by_ds answers zone proof.Bogus records = Bogus (DsRecordShouldExist zone)
+verdict_by_ds answers zone proof.Indeterminate records = Bogus (DsRecordShouldExist zone)
+
+-- the DS verdict of a zone, with the sets of the answer to the ask for its DS set; none where the ask failed or was refused.
+-- Until Insecure is shown, an answer without a DS set is refused
+unfoldable pub zone_verdict : VerifierAnswers → ℕ → Labels → Option (List Judged) → ZoneVerdict
+zone_verdict answers class zone None = Bogus (Net (ds_question class zone))
+zone_verdict answers class zone (Some answer) =
+    option_map_or (λ found. verdict_by_ds answers zone found.mark found.set.records) (find (is_ds_set_of class zone) answer)
+    (Bogus (DsRecordShouldExist zone))
