@@ -1,11 +1,12 @@
--- The first two keys of each tag, and the first signature that is good by an anchored key, found one after the other.
+-- The first two keys of each tag, and the first signature that is good by a key that may sign, found one after the other.
 use Rattle.std.proofs.Common.{◌≡◌, ℕ, ◌+◌, Bool, true, false, cond, List, [], ◌∷◌, ◌++◌, map, length, take, Option, None, Some, refl, sym, ap, ◌∙◌, arith, append_assoc, length-append}
 use Rattle.std.specs.Prelude.{nat_lt, slice_get}
 use Rattle.std.specs.List.{filter, filter_map, cons_option, count_by, enumerate_from}
 use Rattle.std.specs.Option.{option_map}
 use Rattle.dns_model.specs.Records.{Rr, RrSet}
 use Rattle.dns_model.specs.Chains.{Judge}
-use Rattle.dns_judgement.specs.Marks.{same_tag, first_two, anchored_signer, SignedKeys, first_signed}
+use Rattle.dns_judgement.specs.Marks.{same_tag, first_two}
+use Rattle.dns_judgement.specs.KeySets.{SignedKeys, signer_among, first_signed}
 use Rattle.dns_judgement.specs.MarkParts.{is_early, signed_keys}
 
 -- ---- the first two of each tag
@@ -43,13 +44,14 @@ first_two-after keys = early_from keys [] keys 0 refl refl
 
 -- ---- the first signature
 
--- the first of some signatures, the number of the first of them given, that is good by an anchored key
-unfoldable pub signed_from : Judge → RrSet → ℕ → List Rr → Option SignedKeys
-signed_from j set n signatures = slice_get (filter_map (signed_keys j set) (enumerate_from n signatures)) 0
+-- the first of some signatures, the number of the first of them given, that is good by a key that may sign
+unfoldable pub signed_from : (Rr → Bool) → Judge → RrSet → ℕ → List Rr → Option SignedKeys
+signed_from may_sign j set n signatures = slice_get (filter_map (signed_keys may_sign j set) (enumerate_from n signatures)) 0
 
-pub first_signed-from : (j : Judge) (set : RrSet) (signatures : List Rr) → first_signed j set signatures ≡ signed_from j set 0 signatures
+pub first_signed-from : (may_sign : Rr → Bool) (j : Judge) (set : RrSet) (signatures : List Rr)
+    → first_signed may_sign j set signatures ≡ signed_from may_sign j set 0 signatures
 unfolding first_signed signed_from
-first_signed-from j set signatures = refl
+first_signed-from may_sign j set signatures = refl
 
 abbrev pub signed_or : ℕ → Rr → Option Rr → Option SignedKeys → Option SignedKeys
 signed_or n signature None rest = rest
@@ -61,13 +63,14 @@ signed_step : (n : ℕ) (signature : Rr) (o : Option Rr) (rest : List SignedKeys
 signed_step n signature None rest = refl
 signed_step n signature (Some key) rest = refl
 
-pub signed_none : (j : Judge) (set : RrSet) (n : ℕ) → signed_from j set n [] ≡ None
+pub signed_none : (may_sign : Rr → Bool) (j : Judge) (set : RrSet) (n : ℕ) → signed_from may_sign j set n [] ≡ None
 unfolding signed_from
-signed_none j set n = refl
+signed_none may_sign j set n = refl
 
 -- the first signature decides, or one of the others
-pub signed_more : (j : Judge) (set : RrSet) (n : ℕ) (signature : Rr) (signatures : List Rr)
-    → signed_from j set n (signature ∷ signatures) ≡ signed_or n signature (anchored_signer j set signature) (signed_from j set (n + 1) signatures)
+pub signed_more : (may_sign : Rr → Bool) (j : Judge) (set : RrSet) (n : ℕ) (signature : Rr) (signatures : List Rr)
+    → signed_from may_sign j set n (signature ∷ signatures)
+    ≡ signed_or n signature (signer_among may_sign j set signature) (signed_from may_sign j set (n + 1) signatures)
 unfolding signed_from
-signed_more j set n signature signatures =
-    signed_step n signature (anchored_signer j set signature) (filter_map (signed_keys j set) (enumerate_from (n + 1) signatures))
+signed_more may_sign j set n signature signatures =
+    signed_step n signature (signer_among may_sign j set signature) (filter_map (signed_keys may_sign j set) (enumerate_from (n + 1) signatures))

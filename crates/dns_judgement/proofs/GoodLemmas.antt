@@ -2,8 +2,6 @@
 use Rattle.std.proofs.Common.{◌≡◌, ℕ, Bool, true, false, not, ◌==◌, ◌&&◌, List, Option, None, Some, refl, sym, ap, ◌∙◌}
 use Rattle.std.specs.Prelude.{nat_le, if◌then◌else◌}
 use Rattle.std.proofs.lemmas.Bool.{and_parts, and_from}
-use Rattle.dns_judgement.specs.declared.rrsig_validity.RrsigValidity.{RrsigValidity}
-use Rattle.dns_judgement.specs.declared.rrsig_validity.RrsigValidity.TheVariants.{ValidRrsig, ExpiredRrsig, WrongDnskey, WrongRrsig}
 use Rattle.dns_model.specs.Names.{Labels, name_eq, at_or_above, num_labels}
 use Rattle.dns_model.specs.Types.{type_rrsig, type_dnskey}
 use Rattle.dns_model.specs.Views.{RrsigValue, DnskeyValue, rrsig_in, dnskey_in, is_zone_key}
@@ -14,7 +12,7 @@ use Rattle.dns_model.specs.Records.{Rr, RrSet}
 use Rattle.dns_model.specs.Keys.{usable_key}
 use Rattle.dns_model.specs.Chains.{LinkValue, Signed, Judge, is_nonempty, rdatas_of, signer_fits, never_expanded, right_below_signer, is_good, key_comes, is_signed, link_holds}
 use Rattle.dns_model.proofs.SetLemmas.{number_same, IsProper}
-use Rattle.dns_judgement.specs.Validity.{is_of_set, is_by_key, validity, is_valid, is_good_by}
+use Rattle.dns_judgement.specs.Validity.{Validity, ValidRrsig, ExpiredRrsig, WrongDnskey, WrongRrsig, is_of_set, is_by_key, validity, is_valid, is_good_by}
 use Rattle.dns_judgement.specs.MarkParts.{key_validity, sig_validity, is_accepted}
 
 -- ---- what a good signature is
@@ -28,7 +26,7 @@ pub record IsGoodRead (j : Judge) (set : RrSet) (r key : Rr) (sig : RrsigValue) 
   pub by_key : is_by_key sig key text ≡ true
   pub accepted : is_accepted j set (Some sig) (Some text) ≡ true
 
-valid_parts : (fits timely : Bool) (rest : RrsigValidity)
+valid_parts : (fits timely : Bool) (rest : Validity)
     → is_valid (if not fits then WrongRrsig else if not timely then ExpiredRrsig else rest) ≡ true
     → (fits ≡ true) × (timely ≡ true) × (is_valid rest ≡ true)
 valid_parts true true rest h = (refl, refl, h)

@@ -1,205 +1,147 @@
--- A key set that the tables mark Secure stands: signed by an anchored key of it, or wholly anchored.
-use Rattle.std.proofs.Common.{◌≡◌, ℕ, suc, ◌+◌, Bool, true, false, ◌==◌, ◌&&◌, List, [], ◌∷◌, ◌++◌, map, length, take, Option, None, Some, refl, sym, ap, ◌∙◌, arith, length-append}
+-- A key set that is marked Secure stands, by its anchored keys alone or by the DS set of its owner.
+use Rattle.std.proofs.Common.{◌≡◌, ◌-◌, Bool, true, false, ◌==◌, List, [], ◌∷◌, length, take, Option, None, Some, refl, sym, ap, ◌∙◌, arith}
 use Rattle.std.specs.Prelude.{if◌then◌else◌}
-use Rattle.std.specs.List.{list_all, slice_get}
-use Rattle.std.proofs.lemmas.Bool.{and_parts, and_from}
-use Rattle.std.proofs.lemmas.List.{append_assoc}
-use Rattle.dns_model.specs.declared.proof.Proof.TheVariants.{Secure, Bogus}
-use Rattle.dns_model.specs.Names.{Labels, name_eq, at_or_above}
+use Rattle.std.specs.Option.{option_map, option_map_or}
+use Rattle.std.specs.List.{list_all, slice_get, AllByRecursion}
+use Rattle.std.proofs.lemmas.Bool.{and_parts}
+use Rattle.dns_model.specs.declared.proof.Proof.TheVariants as proof
 use Rattle.dns_model.specs.Types.{type_dnskey}
-use Rattle.dns_model.specs.Views.{RrsigValue}
-use Rattle.dns_model.specs.RecordViews.{rrsig_of, dnskey_of}
 use Rattle.dns_model.specs.Records.{Rr, RrSet}
-use Rattle.dns_model.specs.Chains.{LinkValue, Anchored, KeySet, Signed, Judge, all_shown, is_nonempty, has_bytes, rdatas_of, signer_fits, key_comes, shows_key, link_holds, links_hold, is_chain, justified, link_is_for}
+use Rattle.dns_model.specs.Chains.{LinkValue, Judge, links_hold}
 use Rattle.dns_model.specs.SoundAnswers.{Placed}
-use Rattle.dns_model.proofs.EachLemmas.{each_both, find_known}
-use Rattle.dns_model.proofs.SetLemmas.{name_back, name_trans, number_same, is_of, IsProper}
-use Rattle.dns_model.proofs.ChainLemmas.{links_hold-append, is_chain-append, last_link-append, justified_extends, bytes_refl, each_member, signed_is_for, keys_are_for, anchor_shown, slice_get_at}
-use Rattle.dns_judgement.specs.Validity.{validity, is_valid, is_good_by}
-use Rattle.dns_judgement.specs.Marks.{most_signatures, is_anchored_key, anchored_signer, SignedKeys, first_signed, keys_by, judged_keys}
-use Rattle.dns_judgement.specs.Chained.{Chained, names_decider, stands, numbers_from, anchored_chain, self_signed_chain, keys_chain_by, chained_keys}
-use Rattle.dns_judgement.specs.MarkParts.{sig_validity, is_accepted}
-use Rattle.dns_judgement.proofs.GoodLemmas.{good_parts, signer_is_owner, of_set_parts, keys_unexpanded, keys_anywhere, Fits, signed_holds}
-use Rattle.dns_judgement.proofs.FirstLemmas.{signed_from, first_signed-from, signed_or, signed_none, signed_more}
+use Rattle.dns_model.proofs.SetLemmas.{IsProper}
+use Rattle.dns_judgement.specs.Marks.{most_signatures}
+use Rattle.dns_judgement.specs.ProofErrors.{DnskeyNotFound, DsRecordsButNoDnskey}
+use Rattle.dns_judgement.specs.Delegations.{ZoneVerdict, Signed, Insecure, Bogus, zone_verdict}
+use Rattle.dns_judgement.specs.KeySets.{SignedKeys, KeysOutcome, SignedByAnchored, WhollyAnchored, NeedsDs, SignedByMatched, WhollyTrusted, Refused, is_anchored_key, is_matched_key, is_trusted_key, signed_by, is_root, is_needing_ds, outcome_by_ds, outcome_by_zone, keys_outcome, needs_ds}
+use Rattle.dns_judgement.specs.Chained.{Chained, bare, stands, anchored_link, matched_by, trusted_link, whole_chain, self_signed_chain, keys_chained, chained_keys, ds_chain, chained_by_ds}
+use Rattle.dns_judgement.proofs.FirstLemmas.{first_signed-from}
 use Rattle.dns_judgement.proofs.StandLemmas.{IsChainFor, stands_from, slice_get-take}
+use Rattle.dns_judgement.proofs.ChainedLemmas.{IsGoodAnswer}
+use Rattle.dns_judgement.proofs.KeyLinkLemmas.{IsKeyLink, signed_at, self_signed, wholly_trusted}
+use Rattle.dns_judgement.proofs.DsLemmas.{anchored_by, ShowsDs, matched_by_ds, trusted_by, signed_zone}
 
--- ---- the first signature that is good by an anchored key
+-- ---- a set that a key of it signed, or whose keys are all trusted
 
--- where it stands in a list whose first number is n, and its key
-record IsSignedAt (j : Judge) (set : RrSet) (rs : List Rr) (n : ℕ) (s : SignedKeys) : Type 0 where
-  k : ℕ
-  place_is : s.place ≡ n + k
-  at : slice_get rs k ≡ Some s.signature
-  by : anchored_signer j set s.signature ≡ Some s.key
-
-signed_step : (j : Judge) (set : RrSet) (n : ℕ) (r : Rr) (rs : List Rr) (o : Option Rr) (rest : Option SignedKeys) (s : SignedKeys)
-    → anchored_signer j set r ≡ o → (rest ≡ Some s → IsSignedAt j set rs (n + 1) s) → signed_or n r o rest ≡ Some s
-    → IsSignedAt j set (r ∷ rs) n s
-signed_step j set n r rs None rest s is later h =
-    let l = later h in
-    record { k = suc l.k; place_is = l.place_is ∙ omega arith; at = l.at; by = l.by }
-signed_step j set n r rs (Some key) rest s is later h =
-    let made : SignedKeys = record { place = n; signature = r; key = key } in
-    let same : made ≡ s = cc in
-    record {
-      k = 0;
-      place_is = ap (λ x. x.place) (sym same) ∙ omega arith;
-      at = ap (λ x. Some x.signature) same;
-      by = ap (λ x. anchored_signer j set x.signature) (sym same) ∙ is ∙ ap (λ x. Some x.key) same;
-    }
-
-signed_at : (j : Judge) (set : RrSet) (n : ℕ) (rs : List Rr) (s : SignedKeys) → signed_from j set n rs ≡ Some s → IsSignedAt j set rs n s
-signed_at j set n [] s h = let none : signed_from j set n [] ≡ None = signed_none j set n in cc
-signed_at j set n (r ∷ rs) s h =
-    signed_step j set n r rs (anchored_signer j set r) (signed_from j set (n + 1) rs) s refl (signed_at j set (n + 1) rs s)
-    (sym (signed_more j set n r rs) ∙ h)
-
--- a good signature can be read
-record IsRead (r : Rr) : Type 0 where
-  sig : RrsigValue
-  is : rrsig_of r ≡ Some sig
-
-read_step : (j : Judge) (set : RrSet) (r key : Rr) (o : Option RrsigValue) → rrsig_of r ≡ o
-    → is_valid (sig_validity j.is_timely set r key o) ≡ true → IsRead r
-read_step j set r key None is h = cc
-read_step j set r key (Some sig) is h = record { sig = sig; is = is }
-
-good_is_read : (j : Judge) (set : RrSet) (r key : Rr) → is_good_by j set r key ≡ true → IsRead r
-unfolding is_good_by validity
-good_is_read j set r key h =
-    read_step j set r key (rrsig_of r) refl
-    (and_parts (is_valid (sig_validity j.is_timely set r key (rrsig_of r))) (is_accepted j set (rrsig_of r) (dnskey_of key)) h).0
-
--- ---- a key set signed by an anchored key of it
-
-anchored_rdata : (j : Judge) (set : RrSet) (key : Rr) → is_anchored_key j set key ≡ true → j.is_anchored set.owner key.rdata ≡ true
-anchored_rdata j set key h = (and_parts (key.rtype == type_dnskey) (j.is_anchored set.owner key.rdata) h).1
-
-one_anchor : (j : Judge) (owner : Labels) (class : ℕ) (key : List ℕ) → j.is_anchored owner key ≡ true → justified j (Anchored owner class key ∷ []) ≡ true
-unfolding links_hold link_holds
-one_anchor j owner class key h = rw h refl
-
-signer_of_keys : (rtype : ℕ) (signer owner : Labels) → (rtype == type_dnskey) ≡ true → at_or_above signer owner ≡ true → signer_fits rtype signer owner ≡ true
-signer_of_keys rtype signer owner keys h = rw (number_same rtype type_dnskey keys) h
-
-comes_of_keys : (keys owner member shown other : Bool) → keys ≡ true → owner ≡ true → member ≡ true → shown ≡ true
-    → (if keys then owner && (member && shown) else other) ≡ true
-comes_of_keys keys owner member shown other k o m s = rw (k, o, m, s) refl
-
-self_signed : (j : Judge) (set : RrSet) (rs : List Rr) (s : SignedKeys) → IsProper set → (set.rtype == type_dnskey) ≡ true → IsSignedAt j set rs 0 s
-    → IsChainFor j set (self_signed_chain set s) (Some s.signature)
-self_signed j set rs s proper keys at =
-    let rdatas = rdatas_of set.records in
-    let test = λ (key : Rr). is_anchored_key j set key && is_good_by j set s.signature key in
-    let Member = λ (key : Rr). has_bytes rdatas key.rdata ≡ true in
-    let Own = λ (key : Rr). is_of set key ≡ true in
-    let found = find_known test (λ key. Member key × Own key) set.records s.key (each_both Member Own set.records (each_member set.records) proper.own) at.by in
-    let passes = and_parts (is_anchored_key j set s.key) (is_good_by j set s.signature s.key) found.passes in
-    let read = good_is_read j set s.signature s.key passes.1 in
-    let good = good_parts j set s.signature s.key read.sig read.is passes.1 in
-    let above = (of_set_parts set s.signature read.sig good.of_set).above in
-    let own = and_parts (name_eq set.owner s.key.owner) (set.rtype == s.key.rtype) found.known.1 in
-    let owner : name_eq set.owner read.sig.signer ≡ true =
-    name_trans set.owner s.key.owner read.sig.signer own.0 (name_back read.sig.signer s.key.owner (signer_is_owner j set s.signature s.key read.sig good)) in
-    let anchor = Anchored set.owner set.class s.key.rdata in
-    let link = Signed set.owner set.class set.rtype rdatas s.signature.rdata 0 s.key.rdata in
-    let comes : key_comes (anchor ∷ []) set.owner set.class set.rtype rdatas read.sig.signer 0 s.key.rdata ≡ true =
-    comes_of_keys (set.rtype == type_dnskey) (name_eq set.owner read.sig.signer) (has_bytes rdatas s.key.rdata)
-    (shows_key set.owner set.class s.key.rdata (Some anchor)) false keys owner found.known.0 (anchor_shown set.owner set.class s.key.rdata) in
-    let fits : Fits (anchor ∷ []) set read.sig 0 s.key.rdata = record {
-      unexpanded = keys_unexpanded set.rtype read.sig.labels set.owner keys;
-      below = keys_anywhere set.rtype read.sig.signer set.owner keys;
-      signer = signer_of_keys set.rtype read.sig.signer set.owner keys above;
-      comes = comes;
-    } in
-    let holds = signed_holds j (anchor ∷ []) set s.signature s.key read.sig 0 proper read.is passes.1 fits in
-    let ended = last_link-append (anchor ∷ []) link in
-    record {
-      held = justified_extends j (anchor ∷ []) link (one_anchor j set.owner set.class s.key.rdata (anchored_rdata j set s.key passes.0)) holds;
-      ends = ap (link_is_for set) ended ∙ signed_is_for set s.signature.rdata 0 s.key.rdata;
-      named = ap (λ l. names_decider l (Some s.signature)) ended ∙ bytes_refl s.signature.rdata;
-    }
-
--- ---- a wholly anchored key set
-
-anchors_hold : (j : Judge) (set : RrSet) (earlier : List LinkValue) (records : List Rr) → list_all (is_anchored_key j set) records ≡ true
-    → links_hold j earlier (map (Anchored set.owner set.class) (rdatas_of records)) ≡ true
-unfolding links_hold link_holds
-anchors_hold j set earlier [] h = refl
-anchors_hold j set earlier (r ∷ rs) h =
-    let parts = and_parts (is_anchored_key j set r) (list_all (is_anchored_key j set) rs) h in
-    let next = earlier ++ Anchored set.owner set.class r.rdata ∷ [] in
-    and_from (j.is_anchored set.owner r.rdata) (links_hold j next (map (Anchored set.owner set.class) (rdatas_of rs))) (anchored_rdata j set r parts.0) (anchors_hold j set next rs parts.1)
-
--- each key is shown by the link with its number
-keys_shown : (owner : Labels) (class : ℕ) (front : List LinkValue) (keys : List (List ℕ)) (n : ℕ) → n ≡ length front
-    → all_shown (front ++ map (Anchored owner class) keys) owner class keys (numbers_from n keys) ≡ true
-unfolding all_shown
-keys_shown owner class front [] n is = refl
-keys_shown owner class front (key ∷ keys) n is =
-    let anchor = Anchored owner class key in
-    let rest = map (Anchored owner class) keys in
-    let here : shows_key owner class key (slice_get (front ++ anchor ∷ rest) n) ≡ true =
-    ap (λ k. shows_key owner class key (slice_get (front ++ anchor ∷ rest) k)) is
-    ∙ ap (shows_key owner class key) (slice_get_at front anchor rest) ∙ anchor_shown owner class key in
-    let longer : n + 1 ≡ length (front ++ anchor ∷ []) = omega (arith, length-append front (anchor ∷ [])) in
-    let later : all_shown (front ++ anchor ∷ rest) owner class keys (numbers_from (n + 1) keys) ≡ true =
-    ap (λ e. all_shown e owner class keys (numbers_from (n + 1) keys)) (sym (append_assoc front (anchor ∷ []) rest))
-    ∙ keys_shown owner class (front ++ anchor ∷ []) keys (n + 1) longer in
-    and_from (shows_key owner class key (slice_get (front ++ anchor ∷ rest) n)) (all_shown (front ++ anchor ∷ rest) owner class keys (numbers_from (n + 1) keys)) here later
-
-anchored : (j : Judge) (set : RrSet) → IsProper set → (set.rtype == type_dnskey) ≡ true → list_all (is_anchored_key j set) set.records ≡ true
-    → IsChainFor j set (anchored_chain set) None
-unfolding link_holds
-anchored j set proper keys all =
-    let rdatas = rdatas_of set.records in
-    let anchors = map (Anchored set.owner set.class) rdatas in
-    let numbers = numbers_from 0 rdatas in
-    let link = KeySet set.owner set.class rdatas numbers in
-    let holds : link_holds j anchors link ≡ true =
-    and_from (is_nonempty rdatas) (all_shown anchors set.owner set.class rdatas numbers) proper.listed (keys_shown set.owner set.class [] rdatas 0 refl) in
-    let front = anchors_hold j set [] set.records all in
-    let both : links_hold j [] (anchors ++ link ∷ []) ≡ true =
-    links_hold-append j [] anchors link ∙ and_from (links_hold j [] anchors) (link_holds j anchors link) front holds in
-    let ended = last_link-append anchors link in
-    record {
-      held = and_from (is_chain (anchors ++ link ∷ [])) (links_hold j [] (anchors ++ link ∷ [])) (is_chain-append anchors link) both;
-      ends = ap (link_is_for set) ended ∙ keys_are_for set numbers keys;
-      named = ap (λ l. names_decider l None) ended;
-    }
-
--- ---- the table
-
-abbrev keys_at : Judge → Placed → Option SignedKeys → Chained
-keys_at j placed o = record { judged = keys_by j placed o; chain = keys_chain_by j placed.set o }
-
-abbrev unsigned_at : Placed → Bool → Chained
-unsigned_at placed all = record {
-  judged = if all
-      then record { section = placed.section; set = placed.set; mark = Secure; sig = None }
-      else record { section = placed.section; set = placed.set; mark = Bogus; sig = None };
-  chain = if all then anchored_chain placed.set else [];
-}
-
-unsigned_step : (j : Judge) (placed : Placed) (all : Bool) → (all ≡ true → IsChainFor j placed.set (anchored_chain placed.set) None)
-    → stands j (unsigned_at placed all) ≡ true
-unsigned_step j placed true h = stands_from j (unsigned_at placed true) (h refl)
-unsigned_step j placed false h = refl
-
-keys_step : (j : Judge) (placed : Placed) (n : ℕ) (o : Option SignedKeys) → IsProper placed.set → (placed.set.rtype == type_dnskey) ≡ true
-    → first_signed j placed.set (take n placed.set.signatures) ≡ o → stands j (keys_at j placed o) ≡ true
-keys_step j placed n None proper keys is =
-    unsigned_step j placed (list_all (is_anchored_key j placed.set) placed.set.records) (anchored j placed.set proper keys)
-keys_step j placed n (Some s) proper keys is =
-    let found = signed_at j placed.set 0 (take n placed.set.signatures) s (sym (first_signed-from j placed.set (take n placed.set.signatures)) ∙ is) in
-    let chain = self_signed j placed.set (take n placed.set.signatures) s proper keys found in
+-- a set that a trusted key of it signed has a chain for the signature at its place
+signed_chain_for : (may_sign : Rr → Bool) (j : Judge) (set : RrSet) (front : List LinkValue) (link : Rr → LinkValue) (s : SignedKeys)
+    → IsProper set → (set.rtype == type_dnskey) ≡ true → links_hold j [] front ≡ true
+    → ((key : Rr) → may_sign key ≡ true → IsKeyLink j set front key (link key)) → signed_by may_sign j set ≡ Some s
+    → IsChainFor j set (self_signed_chain set front (link s.key) s) (slice_get set.signatures s.place)
+signed_chain_for may_sign j set front link s proper keys held trusted is =
+    let tried = take most_signatures set.signatures in
+    let found = signed_at may_sign j set 0 tried s (sym (first_signed-from may_sign j set tried) ∙ is) in
+    let chain = self_signed may_sign j set tried s front (link s.key) proper keys held found (trusted s.key) in
     let place_is : s.place ≡ found.k = found.place_is ∙ omega arith in
-    let at : slice_get placed.set.signatures s.place ≡ Some s.signature =
-    ap (slice_get placed.set.signatures) place_is ∙ slice_get-take n placed.set.signatures found.k s.signature found.at in
-    stands_from j (keys_at j placed (Some s)) (rw at chain)
+    let at : slice_get set.signatures s.place ≡ Some s.signature =
+    ap (slice_get set.signatures) place_is ∙ slice_get-take most_signatures set.signatures found.k s.signature found.at in
+    rw at chain
 
--- a proper key set that is judged stands
+each_all : {X : Type 0} (p : X → Bool) (P : X → Type 0) → ((x : X) → p x ≡ true → P x) → (xs : List X) → list_all p xs ≡ true → AllByRecursion P xs
+each_all p P f [] h = tt
+each_all p P f (x ∷ xs) h = let parts = and_parts (p x) (list_all p xs) h in (f x parts.0, each_all p P f xs parts.1)
+
+-- a set whose keys are all trusted has a chain
+whole_chain_for : (may_sign : Rr → Bool) (j : Judge) (set : RrSet) (front : List LinkValue) (link : Rr → LinkValue)
+    → IsProper set → (set.rtype == type_dnskey) ≡ true → links_hold j [] front ≡ true
+    → ((key : Rr) → may_sign key ≡ true → IsKeyLink j set front key (link key)) → list_all may_sign set.records ≡ true
+    → IsChainFor j set (whole_chain set front link) None
+whole_chain_for may_sign j set front link proper keys held trusted all =
+    wholly_trusted j set front link proper keys held
+    (each_all may_sign (λ key. IsKeyLink j set front key (link key)) trusted set.records all)
+
+-- ---- by the DS records of the owner
+
+ds_step : (j : Judge) (placed : Placed) (front : List LinkValue) (ds : List Rr) (o : Option SignedKeys) (all : Bool)
+    → ((s : SignedKeys) → o ≡ Some s → stands j (keys_chained j placed front (SignedByMatched ds s)) ≡ true)
+    → (all ≡ true → stands j (keys_chained j placed front (WhollyTrusted ds)) ≡ true)
+    → stands j (keys_chained j placed front
+    (option_map_or (SignedByMatched ds) o (if all then WhollyTrusted ds else Refused proof.Bogus (DsRecordsButNoDnskey placed.set.owner)))) ≡ true
+ds_step j placed front ds (Some s) all signed whole = signed s refl
+ds_step j placed front ds None true signed whole = whole refl
+ds_step j placed front ds None false signed whole = refl
+
+ds_stands : (j : Judge) (placed : Placed) (front : List LinkValue) (ds : List Rr) → IsProper placed.set → (placed.set.rtype == type_dnskey) ≡ true
+    → ShowsDs j placed.set front ds → stands j (keys_chained j placed front (outcome_by_ds j placed.set ds)) ≡ true
+ds_stands j placed front ds proper keys shows =
+    let set = placed.set in
+    let matched = is_matched_key j set ds in
+    let trusted = is_trusted_key j set ds in
+    let last = length front - 1 in
+    ds_step j placed front ds (signed_by matched j set) (list_all trusted set.records)
+    (λ s is. stands_from j (keys_chained j placed front (SignedByMatched ds s))
+    (signed_chain_for matched j set front (matched_by j set last ds) s proper keys shows.held (λ key h. matched_by_ds j set front ds key shows h) is))
+    (λ all. stands_from j (keys_chained j placed front (WhollyTrusted ds))
+    (whole_chain_for trusted j set front (trusted_link j set last ds) proper keys shows.held (λ key h. trusted_by j set front ds key shows h) all))
+
+-- by the DS verdict, where the links before show its DS records
+zone_stands : (j : Judge) (placed : Placed) (front : List LinkValue) (zone : Option ZoneVerdict) → IsProper placed.set
+    → (placed.set.rtype == type_dnskey) ≡ true → ((ds : List Rr) → zone ≡ Some (Signed ds) → ShowsDs j placed.set front ds)
+    → stands j (keys_chained j placed front (outcome_by_zone j placed.set zone)) ≡ true
+zone_stands j placed front None proper keys shows = refl
+zone_stands j placed front (Some (Signed ds)) proper keys shows = ds_stands j placed front ds proper keys (shows ds refl)
+zone_stands j placed front (Some (Insecure kind)) proper keys shows = refl
+zone_stands j placed front (Some (Bogus kind)) proper keys shows = refl
+
+-- ---- by the first row that holds
+
+-- the rows before the DS verdict, by what they ask
+abbrev by_rows : RrSet → Option SignedKeys → Bool → Bool → KeysOutcome → KeysOutcome
+by_rows set o all root later =
+    option_map_or SignedByAnchored o (if all then WhollyAnchored else if root then Refused proof.Bogus (DnskeyNotFound set.owner) else later)
+
+rows_step : (j : Judge) (placed : Placed) (front : List LinkValue) (o : Option SignedKeys) (all root : Bool) (later : KeysOutcome)
+    → ((s : SignedKeys) → o ≡ Some s → stands j (keys_chained j placed front (SignedByAnchored s)) ≡ true)
+    → (all ≡ true → stands j (keys_chained j placed front WhollyAnchored) ≡ true)
+    → stands j (keys_chained j placed front later) ≡ true
+    → stands j (keys_chained j placed front (by_rows placed.set o all root later)) ≡ true
+rows_step j placed front (Some s) all root later signed whole after = signed s refl
+rows_step j placed front None true root later signed whole after = whole refl
+rows_step j placed front None false true later signed whole after = refl
+rows_step j placed front None false false later signed whole after = after
+
+outcome_stands : (j : Judge) (placed : Placed) (front : List LinkValue) (zone : Option ZoneVerdict) → IsProper placed.set
+    → (placed.set.rtype == type_dnskey) ≡ true → ((ds : List Rr) → zone ≡ Some (Signed ds) → ShowsDs j placed.set front ds)
+    → stands j (keys_chained j placed front (keys_outcome j placed.set zone)) ≡ true
+unfolding keys_outcome links_hold
+outcome_stands j placed front zone proper keys shows =
+    let set = placed.set in
+    let anchored = is_anchored_key j set in
+    rows_step j placed front (signed_by anchored j set) (list_all anchored set.records) (is_root set.owner) (outcome_by_zone j set zone)
+    (λ s is. stands_from j (keys_chained j placed front (SignedByAnchored s))
+    (signed_chain_for anchored j set [] (anchored_link set) s proper keys refl (anchored_by j set []) is))
+    (λ all. stands_from j (keys_chained j placed front WhollyAnchored)
+    (whole_chain_for anchored j set [] (anchored_link set) proper keys refl (anchored_by j set []) all))
+    (zone_stands j placed front zone proper keys shows)
+
+-- a proper key set that asks for no DS set stands
 pub chained_keys-stands : (j : Judge) (placed : Placed) → IsProper placed.set → (placed.set.rtype == type_dnskey) ≡ true → stands j (chained_keys j placed) ≡ true
-unfolding chained_keys judged_keys
-chained_keys-stands j placed proper keys =
-    keys_step j placed most_signatures (first_signed j placed.set (take most_signatures placed.set.signatures)) proper keys refl
+unfolding chained_keys
+chained_keys-stands j placed proper keys = outcome_stands j placed [] None proper keys (λ ds h. cc)
+
+-- one that asks for it stands by an answer whose sets stand
+pub chained_by_ds-stands : (j : Judge) (placed : Placed) (answer : Option (List Chained)) → IsProper placed.set
+    → (placed.set.rtype == type_dnskey) ≡ true → IsGoodAnswer j answer → stands j (chained_by_ds j placed answer) ≡ true
+unfolding chained_by_ds
+chained_by_ds-stands j placed answer proper keys good =
+    let set = placed.set in
+    let verdict = zone_verdict j.answers set.class set.owner (option_map bare answer) in
+    outcome_stands j placed (ds_chain set.class set.owner answer) (Some verdict) proper keys
+    (λ ds h. signed_zone j set answer ds good (let same : verdict ≡ Signed ds = cc in same))
+
+-- ---- which sets ask for a DS set
+
+needs_step : (set : RrSet) (o : Option SignedKeys) (all root : Bool) (later : KeysOutcome) → is_needing_ds (by_rows set o all root NeedsDs) ≡ true
+    → by_rows set o all root later ≡ later
+needs_step set (Some s) all root later h = cc
+needs_step set None true root later h = cc
+needs_step set None false true later h = cc
+needs_step set None false false later h = refl
+
+-- a set that asks is judged by the DS verdict of its owner
+pub needs_ds-outcome : (j : Judge) (set : RrSet) (zone : ZoneVerdict) → needs_ds j set ≡ true
+    → keys_outcome j set (Some zone) ≡ outcome_by_zone j set (Some zone)
+unfolding keys_outcome
+needs_ds-outcome j set zone h =
+    let anchored = is_anchored_key j set in
+    needs_step set (signed_by anchored j set) (list_all anchored set.records) (is_root set.owner) (outcome_by_zone j set (Some zone)) h

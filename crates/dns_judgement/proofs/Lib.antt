@@ -3,6 +3,8 @@ pub mod WorkedTrails
 pub mod GoodLemmas
 pub mod FirstLemmas
 pub mod StandLemmas
+pub mod KeyLinkLemmas
+pub mod DsLemmas
 pub mod KeySetLemmas
 pub mod ChainedLemmas
 pub mod MarkedLemmas
