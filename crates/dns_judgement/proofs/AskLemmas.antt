@@ -14,15 +14,17 @@ use Rattle.dns_model.specs.Trails.{AskedValue, JudgedSetValue, HeardValue, Recor
 use Rattle.dns_model.specs.SoundAnswers.{Told, Placed, section_eq}
 use Rattle.dns_model.proofs.EachLemmas.{each_append}
 use Rattle.dns_model.proofs.SetLemmas.{number_same}
-use Rattle.dns_judgement.specs.Marks.{Verdict, is_proved, is_skipped, verdict_of, judged_keys, most_signatures}
+use Rattle.dns_judgement.specs.Marks.{Verdict, is_proved, is_skipped, verdict_of, most_signatures}
 use Rattle.dns_judgement.specs.Marks as marks
+use Rattle.dns_judgement.specs.Delegations.{ZoneVerdict, ds_question, zone_verdict}
+use Rattle.dns_judgement.specs.KeySets.{needs_ds, judged_keys}
 use Rattle.dns_judgement.specs.Asking.{judged_part, ask_of}
 use Rattle.dns_judgement.specs.Outcome.{outcome_of, foreign_record}
-use Rattle.dns_judgement.specs.Derivation.{Grounds, with_entries, finished_answer, is_ask, verdicts_after, verdicts_asked, verdicts_by, has_mark_of, is_empty, is_by_origin, entry_holds, entries_hold, step_holds, asks_of}
+use Rattle.dns_judgement.specs.Derivation.{Grounds, with_entries, finished_answer, is_ask, verdicts_after, verdicts_asked, verdicts_by, has_mark_of, is_empty, verdict_asked, keys_hold, is_by_origin, entry_holds, entries_hold, step_holds, asks_of}
 use Rattle.dns_judgement.specs.DerivationParts.{judged_holds}
 use Rattle.dns_judgement.specs.DerivationParts.{is_ask_for, step_holds_by}
 use Rattle.dns_judgement.specs.DerivationParts.{is_judged_ask, after_verdict, if_last, is_by_verdicts, repeats_step, is_foreign, is_failed, is_seen, is_ending, is_bare, grounds_of, asks_of_sets}
-use Rattle.dns_judgement.proofs.ExtendLemmas.{some_after}
+use Rattle.dns_judgement.proofs.ExtendLemmas.{some_asked, some_after, is_by_zone}
 
 -- the ask stands for a judged ask one deeper than the step whose grounds these are
 pub record IsAskOf (g : Grounds) (ask : AskRef) : Type 0 where
@@ -76,21 +78,46 @@ verdicts_asks g set (r ∷ rs) (ask ∷ asks) vs h =
     (λ k. asked_asks g (is_ask_for g (ask_of set r) ask) (ask_of set r) ask asks (verdicts_after v asks (verdicts_by g set rs)) vs refl k
     (λ l. after_asks g (is_proved v) v asks (verdicts_by g set rs asks) vs l (λ rest m. verdicts_asks g set rs asks rest m)))
 
+-- ---- the ask of a key set
+
+-- the ask that leads to a DS verdict
+zone_asks : (g : Grounds) (set : RrSet) (asks : List AskRef) (zone : ZoneVerdict) → verdict_asked g set asks ≡ Some zone → AreAsksOf g asks
+zone_asks g set [] zone h = tt
+zone_asks g set (ask ∷ asks) zone h =
+    let q = ds_question set.class set.owner in
+    let is = is_ask g.limit g.earlier (g.depth + 1) q ask in
+    let verdict = zone_verdict g.judge.answers set.class set.owner (finished_answer g.earlier ask) in
+    let parts = and_parts (is_empty asks) is ((some_asked (is_empty asks && is) (Some verdict) zone h).0) in
+    (record { question = q; asks = parts.1 }, no_asks g asks parts.0)
+
+keys_step_asks : (g : Grounds) (needs x : Bool) (placed : Placed) (entry : JudgedSetValue) (o : Option ZoneVerdict)
+    → (if needs then is_by_zone g placed entry o else is_empty entry.asked && x) ≡ true
+    → ((zone : ZoneVerdict) → o ≡ Some zone → AreAsksOf g entry.asked) → AreAsksOf g entry.asked
+keys_step_asks g false x placed entry o h by = no_asks g entry.asked ((and_parts (is_empty entry.asked) x h).0)
+keys_step_asks g true x placed entry None h by = cc
+keys_step_asks g true x placed entry (Some zone) h by = by zone refl
+
+-- the ask of a key set's entry, if it makes one
+pub keys_asks : (g : Grounds) (placed : Placed) (entry : JudgedSetValue) → keys_hold g placed entry ≡ true → AreAsksOf g entry.asked
+keys_asks g placed entry h =
+    keys_step_asks g (needs_ds g.judge placed.set) (has_mark_of (judged_keys g.judge placed None) entry) placed entry
+    (verdict_asked g placed.set entry.asked) h (λ zone k. zone_asks g placed.set entry.asked zone k)
+
 -- ---- the asks of entries
 
 rules_asks : (g : Grounds) (b x : Bool) (placed : Placed) (entry : JudgedSetValue) (o : Option (List Verdict))
-    → (if b then is_empty entry.asked && x else is_by_verdicts placed entry o) ≡ true
+    → (if b then x else is_by_verdicts placed entry o) ≡ true → (x ≡ true → AreAsksOf g entry.asked)
     → ((vs : List Verdict) → o ≡ Some vs → AreAsksOf g entry.asked) → AreAsksOf g entry.asked
-rules_asks g true x placed entry o h by = no_asks g entry.asked ((and_parts (is_empty entry.asked) x h).0)
-rules_asks g false x placed entry None h by = cc
-rules_asks g false x placed entry (Some vs) h by = by vs refl
+rules_asks g true x placed entry o h keys by = keys h
+rules_asks g false x placed entry None h keys by = cc
+rules_asks g false x placed entry (Some vs) h keys by = by vs refl
 
 origin_asks : (g : Grounds) (placed : Placed) (entry : JudgedSetValue) (origin : MarkOrigin) → is_by_origin g placed entry origin ≡ true
     → AreAsksOf g entry.asked
 origin_asks g placed entry Table h =
     let signatures = take most_signatures placed.set.signatures in
-    rules_asks g (placed.set.rtype == type_dnskey) (has_mark_of (judged_keys g.judge placed) entry) placed entry
-    (verdicts_by g placed.set signatures entry.asked) h (λ vs k. verdicts_asks g placed.set signatures entry.asked vs k)
+    rules_asks g (placed.set.rtype == type_dnskey) (keys_hold g placed entry) placed entry
+    (verdicts_by g placed.set signatures entry.asked) h (keys_asks g placed entry) (λ vs k. verdicts_asks g placed.set signatures entry.asked vs k)
 origin_asks g placed entry (Repeat n) h =
     no_asks g entry.asked ((and_parts (is_empty entry.asked) (repeats_step g placed entry (slice_get g.earlier n)) h).0)
 origin_asks g placed entry Cache h = cc

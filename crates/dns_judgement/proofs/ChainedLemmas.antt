@@ -1,9 +1,7 @@
 -- Sets that were judged stand, whatever the upstream said; and without their chains they are what the tables of marks say.
-use Rattle.std.proofs.Common.{◌≡◌, ℕ, Bool, true, false, ◌==◌, List, [], ◌∷◌, map, take, Option, None, Some, refl, ap}
-use Rattle.std.specs.Prelude.{if◌then◌else◌}
+use Rattle.std.proofs.Common.{◌≡◌, ℕ, true, false, ◌==◌, List, [], ◌∷◌, map, Option, None, Some, refl, ap}
 use Rattle.std.specs.Option.{option_map}
-use Rattle.std.specs.List.{filter, list_all, AllByRecursion}
-use Rattle.dns_model.specs.declared.proof.Proof.TheVariants.{Secure, Bogus}
+use Rattle.std.specs.List.{filter, AllByRecursion}
 use Rattle.dns_model.specs.Types.{type_dnskey}
 use Rattle.dns_model.specs.Records.{Rr, RrSet, Question}
 use Rattle.dns_model.specs.Chains.{LinkValue, Judge}
@@ -11,8 +9,10 @@ use Rattle.dns_model.specs.SoundAnswers.{Told, Placed, placed_sets}
 use Rattle.dns_model.proofs.EachLemmas.{each_filter}
 use Rattle.dns_model.proofs.SetLemmas.{IsProper, proper_placed}
 use Rattle.dns_judgement.specs.Judged.{placed_of}
-use Rattle.dns_judgement.specs.Marks.{Verdict, Proved, Excused, Failed, is_skipped, verdict_of, judged_by, most_signatures, is_anchored_key, SignedKeys, first_signed, keys_by, judged_keys}
-use Rattle.dns_judgement.specs.Chained.{Chained, bare, stands, chain_by, ChainedVerdict, with_chain, chained_verdict, bare_verdicts, chained_by, chained_keys}
+use Rattle.dns_judgement.specs.Marks.{Verdict, Proved, Excused, Failed, is_skipped, verdict_of, judged_by}
+use Rattle.dns_judgement.specs.Delegations.{ZoneVerdict, zone_verdict}
+use Rattle.dns_judgement.specs.KeySets.{judged_keys}
+use Rattle.dns_judgement.specs.Chained.{Chained, bare, stands, chain_by, ChainedVerdict, with_chain, chained_verdict, bare_verdicts, chained_by, chained_keys, chained_by_ds}
 use Rattle.dns_judgement.specs.Asking.{judged_part}
 use Rattle.dns_judgement.specs.MarkParts.{is_judged_at}
 use Rattle.dns_judgement.proofs.StandLemmas.{IsChainFor, IsGoodVerdict, proof_is_chain}
@@ -52,27 +52,23 @@ chained_verdict-bare j set r answer = with_chain-verdict (verdict_of j set r (op
 pub chained_by-bare : (p : Placed) (vs : List ChainedVerdict) → (chained_by p vs).judged ≡ judged_by p (bare_verdicts vs)
 chained_by-bare p vs = refl
 
--- and the key set
-pub chained_keys-bare : (j : Judge) (p : Placed) → (chained_keys j p).judged ≡ judged_keys j p
-unfolding chained_keys
+-- and the key set that asks for no DS set
+pub chained_keys-bare : (j : Judge) (p : Placed) → (chained_keys j p).judged ≡ judged_keys j p None
+unfolding chained_keys judged_keys
 chained_keys-bare j p = refl
+
+-- and the key set that asks for one
+pub chained_by_ds-bare : (j : Judge) (p : Placed) (answer : Option (List Chained))
+    → (chained_by_ds j p answer).judged
+    ≡ judged_keys j p (Some (zone_verdict j.answers p.set.class p.set.owner (option_map bare answer)))
+unfolding chained_by_ds judged_keys
+chained_by_ds-bare j p answer = refl
 
 -- ---- which set was judged
 
-unsigned_placed : (p : Placed) (all : Bool)
-    → placed_of (if all
-    then record { section = p.section; set = p.set; mark = Secure; sig = None }
-    else record { section = p.section; set = p.set; mark = Bogus; sig = None }) ≡ p
-unsigned_placed p true = refl
-unsigned_placed p false = refl
-
-keys_placed : (j : Judge) (p : Placed) (o : Option SignedKeys) → placed_of (keys_by j p o) ≡ p
-keys_placed j p None = unsigned_placed p (list_all (is_anchored_key j p.set) p.set.records)
-keys_placed j p (Some s) = refl
-
-pub placed_of-judged_keys : (j : Judge) (p : Placed) → placed_of (judged_keys j p) ≡ p
+pub placed_of-judged_keys : (j : Judge) (p : Placed) (verdict : Option ZoneVerdict) → placed_of (judged_keys j p verdict) ≡ p
 unfolding judged_keys
-placed_of-judged_keys j p = keys_placed j p (first_signed j p.set (take most_signatures p.set.signatures))
+placed_of-judged_keys j p verdict = refl
 
 pub placed_of-judged_by : (p : Placed) (vs : List Verdict) → placed_of (judged_by p vs) ≡ p
 unfolding judged_by

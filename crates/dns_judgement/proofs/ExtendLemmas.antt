@@ -1,5 +1,6 @@
 -- What a step found out stays when steps are appended: the answers of its asks, the verdicts of signatures, and its entries.
 use Rattle.std.proofs.Common.{◌≡◌, ℕ, zero, suc, ◌+◌, Bool, true, false, ◌==◌, ◌&&◌, List, [], ◌∷◌, ◌++◌, length, take, Option, None, Some, slice_get, nat_le, if◌then◌else◌, refl, sym, ap, ◌∙◌, arith}
+use Rattle.std.specs.Option.{option_map_or}
 use Rattle.std.proofs.lemmas.Bool.{and_parts, and_from}
 use Rattle.dns_model.specs.declared.proof.Proof.{Proof}
 use Rattle.dns_model.specs.declared.proof.Proof.TheVariants.{Secure, Insecure, Bogus, Indeterminate}
@@ -14,10 +15,12 @@ use Rattle.dns_model.specs.Trails.{AskedValue, JudgedSetValue}
 use Rattle.dns_model.specs.SoundAnswers.{Placed, section_eq}
 use Rattle.dns_model.proofs.SetLemmas.{name_refl, number_refl, number_same, section_refl}
 use Rattle.dns_judgement.specs.Judged.{Judged}
-use Rattle.dns_judgement.specs.Marks.{Verdict, is_proved, is_skipped, verdict_of, judged_by, judged_keys, most_signatures}
+use Rattle.dns_judgement.specs.Marks.{Verdict, is_proved, is_skipped, verdict_of, judged_by, most_signatures}
 use Rattle.dns_judgement.specs.Marks as marks
+use Rattle.dns_judgement.specs.Delegations.{ZoneVerdict, ds_question, zone_verdict}
+use Rattle.dns_judgement.specs.KeySets.{needs_ds, judged_keys}
 use Rattle.dns_judgement.specs.Asking.{ask_of}
-use Rattle.dns_judgement.specs.Derivation.{Grounds, with_entries, finished_answer, is_ask, verdicts_after, verdicts_asked, verdicts_by, proof_eq, has_mark_of, is_empty, is_by_origin, entry_holds, entries_hold}
+use Rattle.dns_judgement.specs.Derivation.{Grounds, with_entries, finished_answer, is_ask, verdicts_after, verdicts_asked, verdicts_by, proof_eq, has_mark_of, is_empty, verdict_asked, keys_hold, is_by_origin, entry_holds, entries_hold}
 use Rattle.dns_judgement.specs.DerivationParts.{is_ask_for}
 use Rattle.dns_judgement.specs.DerivationParts.{with_entry, answer_of, is_judged_ask, after_verdict, if_last, place_eq, is_by_verdicts, repeats_step}
 
@@ -69,7 +72,7 @@ some_true : {X : Type 0} (b : Bool) (x y : Option X) (z : X) → b ≡ true → 
 some_true true x y z is h = h
 some_true false x y z is h = cc
 
-some_asked : {X : Type 0} (b : Bool) (x : Option X) (z : X) → (if b then x else None) ≡ Some z → (b ≡ true) × (x ≡ Some z)
+pub some_asked : {X : Type 0} (b : Bool) (x : Option X) (z : X) → (if b then x else None) ≡ Some z → (b ≡ true) × (x ≡ Some z)
 some_asked true x z h = (refl, h)
 some_asked false x z h = cc
 
@@ -130,14 +133,49 @@ verdicts_stay g more set (r ∷ rs) (ask ∷ asks) vs h =
     (λ k. asked_stays g more set r ask asks (verdicts_by g set rs asks) (verdicts_by (later_grounds g more) set rs asks) vs k
     (λ rest. verdicts_stay g more set rs asks rest))
 
+-- ---- the DS verdict of a key set
+
+-- the DS verdict that a key set leads to stays when steps are appended
+pub zone_stays : (g : Grounds) (more : List AskedValue) (set : RrSet) (asks : List AskRef) (zone : ZoneVerdict)
+    → verdict_asked g set asks ≡ Some zone → verdict_asked (later_grounds g more) set asks ≡ Some zone
+zone_stays g more set [] zone h = cc
+zone_stays g more set (ask ∷ asks) zone h =
+    let q = ds_question set.class set.owner in
+    let by = λ (answer : Option (List Judged)). Some (zone_verdict g.judge.answers set.class set.owner answer) in
+    let some = some_asked (is_empty asks && is_ask g.limit g.earlier (g.depth + 1) q ask) (by (finished_answer g.earlier ask)) zone h in
+    let parts = and_parts (is_empty asks) (is_ask g.limit g.earlier (g.depth + 1) q ask) some.0 in
+    let stays = ask_stays g.limit g.earlier more (g.depth + 1) q ask parts.1 in
+    ap (λ b. if b then by (finished_answer (g.earlier ++ more) ask) else None)
+    (and_from (is_empty asks) (is_ask g.limit (g.earlier ++ more) (g.depth + 1) q ask) parts.0 stays.asks)
+    ∙ ap by stays.answer ∙ some.1
+
+-- the entry has the mark by a DS verdict, where there is one
+abbrev pub is_by_zone : Grounds → Placed → JudgedSetValue → Option ZoneVerdict → Bool
+is_by_zone g placed entry zone = option_map_or (λ z. has_mark_of (judged_keys g.judge placed (Some z)) entry) zone false
+
+keys_step_stays : (g : Grounds) (needs x : Bool) (placed : Placed) (entry : JudgedSetValue) (o p : Option ZoneVerdict)
+    → (if needs then is_by_zone g placed entry o else x) ≡ true → ((zone : ZoneVerdict) → o ≡ Some zone → p ≡ Some zone)
+    → (if needs then is_by_zone g placed entry p else x) ≡ true
+keys_step_stays g false x placed entry o p h stays = h
+keys_step_stays g true x placed entry None p h stays = cc
+keys_step_stays g true x placed entry (Some zone) p h stays = ap (is_by_zone g placed entry) (stays zone refl) ∙ h
+
+-- a key set's entry, with its ask, stays when steps are appended
+pub keys_stay : (g : Grounds) (more : List AskedValue) (placed : Placed) (entry : JudgedSetValue) → keys_hold g placed entry ≡ true
+    → keys_hold (later_grounds g more) placed entry ≡ true
+keys_stay g more placed entry h =
+    keys_step_stays g (needs_ds g.judge placed.set) (is_empty entry.asked && has_mark_of (judged_keys g.judge placed None) entry) placed entry
+    (verdict_asked g placed.set entry.asked) (verdict_asked (later_grounds g more) placed.set entry.asked) h
+    (zone_stays g more placed.set entry.asked)
+
 -- ---- the entries of a step
 
-rules_stay : (b x : Bool) (placed : Placed) (entry : JudgedSetValue) (o p : Option (List Verdict))
-    → (if b then x else is_by_verdicts placed entry o) ≡ true → ((vs : List Verdict) → o ≡ Some vs → p ≡ Some vs)
-    → (if b then x else is_by_verdicts placed entry p) ≡ true
-rules_stay true x placed entry o p h stays = h
-rules_stay false x placed entry None p h stays = cc
-rules_stay false x placed entry (Some vs) p h stays = ap (is_by_verdicts placed entry) (stays vs refl) ∙ h
+rules_stay : (b x y : Bool) (placed : Placed) (entry : JudgedSetValue) (o p : Option (List Verdict))
+    → (if b then x else is_by_verdicts placed entry o) ≡ true → (x ≡ true → y ≡ true) → ((vs : List Verdict) → o ≡ Some vs → p ≡ Some vs)
+    → (if b then y else is_by_verdicts placed entry p) ≡ true
+rules_stay true x y placed entry o p h keys stays = keys h
+rules_stay false x y placed entry None p h keys stays = cc
+rules_stay false x y placed entry (Some vs) p h keys stays = ap (is_by_verdicts placed entry) (stays vs refl) ∙ h
 
 repeat_stays : (g : Grounds) (more : List AskedValue) (placed : Placed) (entry : JudgedSetValue) (n : ℕ) (o : Option AskedValue)
     → slice_get g.earlier n ≡ o → repeats_step g placed entry o ≡ true
@@ -150,9 +188,9 @@ origin_stays : (g : Grounds) (more : List AskedValue) (placed : Placed) (entry :
     → is_by_origin g placed entry origin ≡ true → is_by_origin (later_grounds g more) placed entry origin ≡ true
 origin_stays g more placed entry Table h =
     let signatures = take most_signatures placed.set.signatures in
-    rules_stay (placed.set.rtype == type_dnskey) (is_empty entry.asked && has_mark_of (judged_keys g.judge placed) entry) placed entry
+    rules_stay (placed.set.rtype == type_dnskey) (keys_hold g placed entry) (keys_hold (later_grounds g more) placed entry) placed entry
     (verdicts_by g placed.set signatures entry.asked) (verdicts_by (later_grounds g more) placed.set signatures entry.asked) h
-    (verdicts_stay g more placed.set signatures entry.asked)
+    (keys_stay g more placed entry) (verdicts_stay g more placed.set signatures entry.asked)
 origin_stays g more placed entry (Repeat n) h =
     let parts = and_parts (is_empty entry.asked) (repeats_step g placed entry (slice_get g.earlier n)) h in
     and_from (is_empty entry.asked) (repeats_step (later_grounds g more) placed entry (slice_get (g.earlier ++ more) n)) parts.0
@@ -284,15 +322,37 @@ entry_from g placed entry is h =
     (and_from owner (rtype && by_origin) (ap (name_eq placed.set.owner) (sym is.owner) ∙ name_refl placed.set.owner)
     (and_from rtype by_origin (ap (λ n. placed.set.rtype == n) (sym is.rtype) ∙ number_refl placed.set.rtype) h))
 
--- the entry of a key set, which asks nothing
-pub entry_of_keys : (g : Grounds) (placed : Placed) (entry : JudgedSetValue) → IsEntryOf placed entry → (placed.set.rtype == type_dnskey) ≡ true
-    → entry.origin ≡ Table → entry.asked ≡ [] → has_mark_of (judged_keys g.judge placed) entry ≡ true → entry_holds g placed entry ≡ true
-entry_of_keys g placed entry is keys origin asked mark =
+entry_of_table : (g : Grounds) (placed : Placed) (entry : JudgedSetValue) → IsEntryOf placed entry → (placed.set.rtype == type_dnskey) ≡ true
+    → entry.origin ≡ Table → keys_hold g placed entry ≡ true → entry_holds g placed entry ≡ true
+entry_of_table g placed entry is keys origin holds =
     let by_verdicts = is_by_verdicts placed entry (verdicts_by g placed.set (take most_signatures placed.set.signatures) entry.asked) in
-    let has = has_mark_of (judged_keys g.judge placed) entry in
     entry_from g placed entry is
-    (ap (is_by_origin g placed entry) origin
-    ∙ ap (λ b. if b then is_empty entry.asked && has else by_verdicts) keys ∙ ap (λ asks. is_empty asks && has) asked ∙ mark)
+    (ap (is_by_origin g placed entry) origin ∙ ap (λ b. if b then keys_hold g placed entry else by_verdicts) keys ∙ holds)
+
+-- the entry of a key set that needs no DS verdict, and asks nothing
+pub entry_of_keys : (g : Grounds) (placed : Placed) (entry : JudgedSetValue) → IsEntryOf placed entry → (placed.set.rtype == type_dnskey) ≡ true
+    → needs_ds g.judge placed.set ≡ false → entry.asked ≡ [] → entry.origin ≡ Table
+    → has_mark_of (judged_keys g.judge placed None) entry ≡ true → entry_holds g placed entry ≡ true
+entry_of_keys g placed entry is keys needs asked origin mark =
+    let by_zone = is_by_zone g placed entry (verdict_asked g placed.set entry.asked) in
+    let has = has_mark_of (judged_keys g.judge placed None) entry in
+    entry_of_table g placed entry is keys origin
+    (ap (λ b. if b then by_zone else is_empty entry.asked && has) needs ∙ ap (λ asks. is_empty asks && has) asked ∙ mark)
+
+-- the entry of a key set that asks for the DS set of its owner
+pub entry_by_ds : (g : Grounds) (placed : Placed) (entry : JudgedSetValue) (ask : AskRef) (zone : ZoneVerdict) → IsEntryOf placed entry
+    → (placed.set.rtype == type_dnskey) ≡ true → needs_ds g.judge placed.set ≡ true → entry.asked ≡ ask ∷ [] → entry.origin ≡ Table
+    → is_ask g.limit g.earlier (g.depth + 1) (ds_question placed.set.class placed.set.owner) ask ≡ true
+    → zone ≡ zone_verdict g.judge.answers placed.set.class placed.set.owner (finished_answer g.earlier ask)
+    → has_mark_of (judged_keys g.judge placed (Some zone)) entry ≡ true → entry_holds g placed entry ≡ true
+entry_by_ds g placed entry ask zone is keys needs asked origin asks by mark =
+    let none = is_empty entry.asked && has_mark_of (judged_keys g.judge placed None) entry in
+    let verdict = zone_verdict g.judge.answers placed.set.class placed.set.owner (finished_answer g.earlier ask) in
+    entry_of_table g placed entry is keys origin
+    (ap (λ b. if b then is_by_zone g placed entry (verdict_asked g placed.set entry.asked) else none) needs
+    ∙ ap (λ refs. is_by_zone g placed entry (verdict_asked g placed.set refs)) asked
+    ∙ ap (λ b. is_by_zone g placed entry (if b then Some verdict else None)) asks
+    ∙ ap (λ z. has_mark_of (judged_keys g.judge placed (Some z)) entry) (sym by) ∙ mark)
 
 -- the entry of another set, by the verdicts of its first signatures
 pub entry_of_verdicts : (g : Grounds) (placed : Placed) (entry : JudgedSetValue) (vs : List Verdict) → IsEntryOf placed entry
@@ -301,10 +361,9 @@ pub entry_of_verdicts : (g : Grounds) (placed : Placed) (entry : JudgedSetValue)
     → entry_holds g placed entry ≡ true
 entry_of_verdicts g placed entry vs is other origin verdicts mark =
     let by_verdicts = is_by_verdicts placed entry (verdicts_by g placed.set (take most_signatures placed.set.signatures) entry.asked) in
-    let has = has_mark_of (judged_keys g.judge placed) entry in
     entry_from g placed entry is
     (ap (is_by_origin g placed entry) origin
-    ∙ ap (λ b. if b then is_empty entry.asked && has else by_verdicts) other ∙ ap (is_by_verdicts placed entry) verdicts ∙ mark)
+    ∙ ap (λ b. if b then keys_hold g placed entry else by_verdicts) other ∙ ap (is_by_verdicts placed entry) verdicts ∙ mark)
 
 -- the entry of a set that an earlier step found out about
 pub entry_of_repeat : (g : Grounds) (placed : Placed) (entry : JudgedSetValue) (n : ℕ) → IsEntryOf placed entry → entry.origin ≡ Repeat n
