@@ -1,5 +1,6 @@
 pub mod WorkedTrailValues
 pub mod WorkedTrails
+pub mod WorkedDelegations
 pub mod GoodLemmas
 pub mod FirstLemmas
 pub mod StandLemmas

@@ -1,5 +1,5 @@
 -- Derivations on worked rows: trails that are, and what they become where one thing in them is another, shown by computing it.
-use Rattle.std.specs.Prelude.{◌≡◌, ℕ, Bool, true, false, List, [], ◌∷◌, None, Some, refl}
+use Rattle.std.specs.Prelude.{◌≡◌, ℕ, Bool, true, false, List, [], ◌∷◌, Option, None, Some, refl}
 use Rattle.dns_model.specs.declared.proof.Proof.{Proof}
 use Rattle.dns_model.specs.declared.proof.Proof.TheVariants.{Secure, Bogus}
 use Rattle.dns_model.specs.declared.denial.Denial.TheVariants as denial
@@ -9,7 +9,7 @@ use Rattle.dns_model.specs.declared.trail.MarkOrigin.TheVariants.{Repeat, Cache}
 use Rattle.dns_model.specs.NameForm.{label_in, labels_in, name_in}
 use Rattle.dns_model.specs.Names.{Labels}
 use Rattle.dns_model.specs.Records.{Rr, RrSet}
-use Rattle.dns_model.specs.Views.{RrsigValue, rrsig_in, dnskey_in}
+use Rattle.dns_model.specs.Views.{RrsigValue, rrsig_in, dnskey_in, ds_in}
 use Rattle.dns_model.specs.Shapes.{parts_in, shape_of, is_lowered_type, canonical_form}
 use Rattle.dns_model.specs.Signing.{tag_sum, insert_once, rising_once, signed_bytes}
 use Rattle.dns_model.specs.Sections.{leaders, sets_of}
@@ -19,7 +19,9 @@ use Rattle.dns_model.specs.Trails.{AskedValue, Fault, Answered, Denied, Foreign,
 use Rattle.dns_model.proofs.Worked.{name_a, signature, anchors}
 use Rattle.dns_judgement.specs.Judged.{Judged}
 use Rattle.dns_judgement.specs.Validity.{validity, is_good_by}
-use Rattle.dns_judgement.specs.Marks.{first_two, verdict_of, judged_by, first_signed, judged_keys}
+use Rattle.dns_judgement.specs.Marks.{first_two, verdict_of, judged_by}
+use Rattle.dns_judgement.specs.Delegations.{ZoneVerdict, zone_verdict}
+use Rattle.dns_judgement.specs.KeySets.{first_signed, keys_outcome, judged_keys}
 use Rattle.dns_judgement.specs.Outcome.{outcome_of}
 use Rattle.dns_judgement.specs.Derivation.{derivation, verdicts_by, entry_holds, entries_hold, step_holds, steps_hold, order_asks, order_step, end_asks, end_step}
 use Rattle.dns_judgement.proofs.WorkedTrailValues.{verifier, root_judge, ns_records, record_of, reply_of, answer_entry, address_entry, keys_step, ns_step, keys_judged, keys_found, keys_fault, keys_missed, ns_found, ns_secure, ns_beside, both_secure}
@@ -34,15 +36,15 @@ good_computed : Judge → RrSet → Rr → Rr → Bool
 unfolding signed_computed is_good_by validity rrsig_in dnskey_in tag_sum
 good_computed = is_good_by
 
-keys_computed : Judge → Placed → Judged
-unfolding good_computed judged_keys first_signed
+keys_computed : Judge → Placed → Option ZoneVerdict → Judged
+unfolding good_computed judged_keys keys_outcome first_signed
 keys_computed = judged_keys
 
 step_computed : Judge → ℕ → List AskedValue → AskedValue → Bool
-unfolding keys_computed step_holds entries_hold entry_holds verdicts_by verdict_of judged_by first_two outcome_of sets_of leaders
+unfolding keys_computed ds_in zone_verdict step_holds entries_hold entry_holds verdicts_by verdict_of judged_by first_two outcome_of sets_of leaders
 step_computed = step_holds
 
-computed : Judge → ℕ → List AskedValue → Bool
+unfoldable pub computed : Judge → ℕ → List AskedValue → Bool
 unfolding step_computed derivation order_asks order_step end_asks end_step steps_hold
 computed = derivation
 
