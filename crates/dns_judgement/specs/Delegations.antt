@@ -8,7 +8,7 @@ use Rattle.dns_model.specs.declared.section.Section.TheVariants.{Answer}
 use Rattle.dns_model.specs.Names.{Labels, name_eq}
 use Rattle.dns_model.specs.Types.{type_ds}
 use Rattle.dns_model.specs.Views.{DsValue, ds_in}
-use Rattle.dns_model.specs.Records.{Rr, RrSet, Question}
+use Rattle.dns_model.specs.Records.{Rr, Question}
 use Rattle.dns_model.specs.RecordViews.{dnskey_of}
 use Rattle.dns_model.specs.Signing.{key_tag_of}
 use Rattle.dns_model.specs.Keys.{VerifierAnswers, matches}

@@ -1,5 +1,5 @@
 -- For private functions and for proofs only: parts of the rules of marks, by names of their own.
-use Rattle.std.specs.Prelude.{ℕ, Bool, true, false, not, ◌==◌, ◌&&◌, ◌||◌, min, nat_lt, count_by, List, take, Option, None, slice_get, if◌then◌else◌}
+use Rattle.std.specs.Prelude.{ℕ, Bool, true, false, not, ◌==◌, ◌&&◌, ◌||◌, min, nat_lt, count_by, List, take, Option, slice_get, if◌then◌else◌}
 use Rattle.std.specs.Option.{option_map, option_map_or, option_and_then}
 use Rattle.std.specs.List.{find}
 use Rattle.dns_model.specs.Names.{Labels}

@@ -1,7 +1,7 @@
 -- The marks of sets, from the finished answers of their asks (RFC 4035, 4.3, 5.2 and 5.3).
 use Rattle.std.specs.Prelude.{ℕ, Bool, true, false, not, ◌==◌, ◌&&◌, ◌||◌, nat_lt, List, [], ◌∷◌, map, take, Option, None, Some, is_some, slice_get, if◌then◌else◌}
-use Rattle.std.specs.Option.{option_map, option_map_or}
-use Rattle.std.specs.List.{filter, filter_map, find, list_all, count_by, position, enumerate_from}
+use Rattle.std.specs.Option.{option_map_or}
+use Rattle.std.specs.List.{filter, find, count_by, position, enumerate_from}
 use Rattle.dns_model.specs.declared.proof.Proof.{Proof}
 use Rattle.dns_model.specs.declared.proof.Proof.TheVariants.{Secure, Insecure, Bogus, Indeterminate}
 use Rattle.dns_model.specs.declared.section.Section.TheVariants.{Answer}
