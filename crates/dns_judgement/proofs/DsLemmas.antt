@@ -49,6 +49,26 @@ pub record ShowsDs (j : Judge) (set : RrSet) (front : List LinkValue) (ds : List
   pub shown : (more : List LinkValue)
       → AllByRecursion (λ r. shows_ds set.owner set.class r.rdata (slice_get (front ++ more) (length front - 1)) ≡ true) ds
 
+-- so it does of some of them
+pub shows_of : (j : Judge) (set : RrSet) (front : List LinkValue) (ds : List Rr) (test : Rr → Bool) → ShowsDs j set front ds
+    → ShowsDs j set front (filter test ds)
+shows_of j set front ds test shows = record {
+  held = shows.held;
+  shown = λ more.
+      each_filter (λ r. shows_ds set.owner set.class r.rdata (slice_get (front ++ more) (length front - 1)) ≡ true) test ds (shows.shown more);
+}
+
+kept_twice : {X : Type 0} (test : X → Bool) (x : X) (xs : List X) (b : Bool) → test x ≡ b
+    → filter test (if b then x ∷ xs else xs) ≡ (if b then x ∷ filter test xs else filter test xs)
+kept_twice test x xs true is = ap (λ c. if c then x ∷ filter test xs else filter test xs) is
+kept_twice test x xs false is = refl
+
+-- what passes a test is what passes it again
+pub filter-filter : {X : Type 0} (test : X → Bool) (xs : List X) → filter test (filter test xs) ≡ filter test xs
+filter-filter test [] = refl
+filter-filter test (x ∷ xs) =
+    kept_twice test x (filter test xs) (test x) refl ∙ ap (λ ys. if test x then x ∷ ys else ys) (filter-filter test xs)
+
 each_taken : {X : Type 0} (P : X → Type 0) (n : ℕ) (xs : List X) → AllByRecursion P xs → AllByRecursion P (take n xs)
 each_taken P zero xs h = tt
 each_taken P (suc n) [] h = tt

@@ -2,7 +2,7 @@
 use Rattle.std.proofs.Common.{◌≡◌, ◌-◌, Bool, true, false, ◌==◌, List, [], ◌∷◌, length, take, Option, None, Some, refl, sym, ap, ◌∙◌, arith}
 use Rattle.std.specs.Prelude.{if◌then◌else◌}
 use Rattle.std.specs.Option.{option_map, option_map_or}
-use Rattle.std.specs.List.{list_all, slice_get, AllByRecursion}
+use Rattle.std.specs.List.{filter, list_all, slice_get, AllByRecursion}
 use Rattle.std.proofs.lemmas.Bool.{and_parts}
 use Rattle.dns_model.specs.declared.proof.Proof.TheVariants as proof
 use Rattle.dns_model.specs.Types.{type_dnskey}
@@ -12,14 +12,14 @@ use Rattle.dns_model.specs.SoundAnswers.{Placed}
 use Rattle.dns_model.proofs.SetLemmas.{IsProper}
 use Rattle.dns_judgement.specs.Marks.{most_signatures}
 use Rattle.dns_judgement.specs.ProofErrors.{DnskeyNotFound, DsRecordsButNoDnskey}
-use Rattle.dns_judgement.specs.Delegations.{ZoneVerdict, Signed, Insecure, Bogus, zone_verdict}
+use Rattle.dns_judgement.specs.Delegations.{ZoneVerdict, Signed, Insecure, Bogus, is_supported_ds, zone_verdict}
 use Rattle.dns_judgement.specs.KeySets.{SignedKeys, KeysOutcome, SignedByAnchored, WhollyAnchored, NeedsDs, SignedByMatched, WhollyTrusted, Refused, is_anchored_key, is_matched_key, is_trusted_key, signed_by, is_root, is_needing_ds, outcome_by_ds, outcome_by_zone, keys_outcome, needs_ds}
 use Rattle.dns_judgement.specs.Chained.{Chained, bare, stands, anchored_link, matched_by, trusted_link, whole_chain, self_signed_chain, keys_chained, chained_keys, ds_chain, chained_by_ds}
 use Rattle.dns_judgement.proofs.FirstLemmas.{first_signed-from}
 use Rattle.dns_judgement.proofs.StandLemmas.{IsChainFor, stands_from, slice_get-take}
 use Rattle.dns_judgement.proofs.ChainedLemmas.{IsGoodAnswer}
 use Rattle.dns_judgement.proofs.KeyLinkLemmas.{IsKeyLink, signed_at, self_signed, wholly_trusted}
-use Rattle.dns_judgement.proofs.DsLemmas.{anchored_by, ShowsDs, matched_by_ds, trusted_by, signed_zone}
+use Rattle.dns_judgement.proofs.DsLemmas.{anchored_by, ShowsDs, shows_of, matched_by_ds, trusted_by, signed_zone}
 
 -- ---- a set that a key of it signed, or whose keys are all trusted
 
@@ -79,7 +79,8 @@ zone_stands : (j : Judge) (placed : Placed) (front : List LinkValue) (zone : Opt
     → (placed.set.rtype == type_dnskey) ≡ true → ((ds : List Rr) → zone ≡ Some (Signed ds) → ShowsDs j placed.set front ds)
     → stands j (keys_chained j placed front (outcome_by_zone j placed.set zone)) ≡ true
 zone_stands j placed front None proper keys shows = refl
-zone_stands j placed front (Some (Signed ds)) proper keys shows = ds_stands j placed front ds proper keys (shows ds refl)
+zone_stands j placed front (Some (Signed ds)) proper keys shows =
+    ds_stands j placed front (filter (is_supported_ds j.answers) ds) proper keys (shows_of j placed.set front ds (is_supported_ds j.answers) (shows ds refl))
 zone_stands j placed front (Some (Insecure kind)) proper keys shows = refl
 zone_stands j placed front (Some (Bogus kind)) proper keys shows = refl
 

@@ -16,7 +16,7 @@ use Rattle.dns_model.specs.SoundAnswers.{section_eq}
 use Rattle.dns_judgement.specs.Judged.{Judged}
 use Rattle.dns_judgement.specs.ProofErrors.{ProofErrorKindValue, Net, DsRecordShouldExist}
 
--- a record as a DS
+-- a record as a DS (RFC 4034, 5.1)
 abbrev pub ds_of : Rr → Option DsValue
 ds_of r = if r.rtype == type_ds then ds_in r.rdata else None
 
@@ -26,15 +26,15 @@ ds_question class zone = record { owner = zone; rtype = type_ds; class = class }
 
 -- ---- which DS records match a key
 
--- the digest types that are supported: SHA-1, SHA-256 and SHA-384
+-- the digest types that are supported: SHA-1, SHA-256 and SHA-384 (RFC 4034, A.2; RFC 4509, 2; RFC 6605, 2)
 abbrev pub is_digest_type : ℕ → Bool
 is_digest_type digest_type = (digest_type == 1) || ((digest_type == 2) || (digest_type == 4))
 
 -- the record can be read as a DS, of a supported algorithm and digest type
 abbrev pub is_supported_ds : VerifierAnswers → Rr → Bool
-is_supported_ds answers r = option_map_or (λ ds. answers.supports ds.algorithm && is_digest_type ds.digest_type) (ds_of r) false
+is_supported_ds verifier r = option_map_or (λ ds. verifier.supports ds.algorithm && is_digest_type ds.digest_type) (ds_of r) false
 
--- a DS of an owner that has the algorithm and the tag of a key
+-- a DS of an owner that has the algorithm and the tag of a key (RFC 4034, 5.2)
 abbrev pub is_ds_for : Labels → Rr → Rr → Bool
 is_ds_for owner key r =
     name_eq owner r.owner
@@ -47,7 +47,7 @@ counted_ds owner key records = take 2 (filter (is_ds_for owner key) records)
 
 -- the first DS that counts and whose digest is that of owner and key
 abbrev pub matching_ds : VerifierAnswers → Labels → Rr → List Rr → Option Rr
-matching_ds answers owner key records = find (λ r. matches answers owner key.rdata r.rdata) (counted_ds owner key records)
+matching_ds verifier owner key records = find (λ r. matches verifier owner key.rdata r.rdata) (counted_ds owner key records)
 
 -- ---- what the DS set of a zone says of it
 
@@ -62,18 +62,18 @@ abbrev pub is_ds_set_of : ℕ → Labels → Judged → Bool
 is_ds_set_of class zone judged =
     section_eq Answer judged.section && (name_eq zone judged.set.owner && ((judged.set.rtype == type_ds) && (class == judged.set.class)))
 
--- by the mark and the records of the DS set; until Insecure is shown, a set without a supported record is refused
+-- by the mark and the records of the DS set; until Insecure marks are there, one without a supported record is Bogus
 abbrev pub verdict_by_ds : VerifierAnswers → Labels → Proof → List Rr → ZoneVerdict
-verdict_by_ds answers zone proof.Secure records =
-    if list_any (is_supported_ds answers) records then Signed (filter (is_supported_ds answers) records) else Bogus (DsRecordShouldExist zone)
-verdict_by_ds answers zone proof.Insecure records = Bogus (DsRecordShouldExist zone)
-verdict_by_ds answers zone proof.Bogus records = Bogus (DsRecordShouldExist zone)
-verdict_by_ds answers zone proof.Indeterminate records = Bogus (DsRecordShouldExist zone)
+verdict_by_ds verifier zone proof.Secure records =
+    if list_any (is_supported_ds verifier) records then Signed (filter (is_supported_ds verifier) records) else Bogus (DsRecordShouldExist zone)
+verdict_by_ds verifier zone proof.Insecure records = Bogus (DsRecordShouldExist zone)
+verdict_by_ds verifier zone proof.Bogus records = Bogus (DsRecordShouldExist zone)
+verdict_by_ds verifier zone proof.Indeterminate records = Bogus (DsRecordShouldExist zone)
 
 -- the DS verdict of a zone, with the sets of the answer to the ask for its DS set; none where the ask failed or was refused.
--- Until Insecure is shown, an answer without a DS set is refused
+-- Until Insecure marks are there, an answer without a DS set is Bogus
 unfoldable pub zone_verdict : VerifierAnswers → ℕ → Labels → Option (List Judged) → ZoneVerdict
-zone_verdict answers class zone None = Bogus (Net (ds_question class zone))
-zone_verdict answers class zone (Some answer) =
-    option_map_or (λ found. verdict_by_ds answers zone found.mark found.set.records) (find (is_ds_set_of class zone) answer)
+zone_verdict verifier class zone None = Bogus (Net (ds_question class zone))
+zone_verdict verifier class zone (Some answer) =
+    option_map_or (λ found. verdict_by_ds verifier zone found.mark found.set.records) (find (is_ds_set_of class zone) answer)
     (Bogus (DsRecordShouldExist zone))

@@ -1,7 +1,7 @@
 -- The marks of DNSKEY sets (RFC 4035, 5.2).
 use Rattle.std.specs.Prelude.{ℕ, Bool, true, false, ◌==◌, ◌&&◌, ◌||◌, List, [], ◌∷◌, take, Option, None, Some, is_some, slice_get, if◌then◌else◌}
 use Rattle.std.specs.Option.{option_map, option_map_or}
-use Rattle.std.specs.List.{filter_map, find, list_all, enumerate_from}
+use Rattle.std.specs.List.{filter, filter_map, find, list_all, enumerate_from}
 use Rattle.dns_model.specs.declared.proof.Proof.{Proof}
 use Rattle.dns_model.specs.declared.proof.Proof.TheVariants as proof
 use Rattle.dns_model.specs.Names.{Labels, name_eq}
@@ -13,7 +13,7 @@ use Rattle.dns_judgement.specs.Validity.{is_good_by}
 use Rattle.dns_judgement.specs.Judged.{Judged}
 use Rattle.dns_judgement.specs.Marks.{Mark, most_signatures}
 use Rattle.dns_judgement.specs.ProofErrors.{ProofErrorKindValue, DnskeyNotFound, DsRecordsButNoDnskey}
-use Rattle.dns_judgement.specs.Delegations.{ZoneVerdict, Signed, Insecure, Bogus, matching_ds}
+use Rattle.dns_judgement.specs.Delegations.{ZoneVerdict, Signed, Insecure, Bogus, is_supported_ds, matching_ds}
 
 -- ---- which keys of a set may sign it
 
@@ -78,10 +78,10 @@ outcome_by_ds j set ds =
     option_map_or (SignedByMatched ds) (signed_by (is_matched_key j set ds) j set)
     (if list_all (is_trusted_key j set ds) set.records then WhollyTrusted ds else Refused proof.Bogus (DsRecordsButNoDnskey set.owner))
 
--- by the DS verdict of the owner
+-- by the DS verdict of the owner; of its DS records the supported ones count
 abbrev pub outcome_by_zone : Judge → RrSet → Option ZoneVerdict → KeysOutcome
 outcome_by_zone j set None = NeedsDs
-outcome_by_zone j set (Some (Signed ds)) = outcome_by_ds j set ds
+outcome_by_zone j set (Some (Signed ds)) = outcome_by_ds j set (filter (is_supported_ds j.answers) ds)
 outcome_by_zone j set (Some (Insecure kind)) = Refused proof.Insecure kind
 outcome_by_zone j set (Some (Bogus kind)) = Refused proof.Bogus kind
 

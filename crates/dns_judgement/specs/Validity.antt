@@ -12,7 +12,7 @@ use Rattle.dns_model.specs.Chains.{Judge, rdatas_of}
 -- whether a signature fits a set, a key and a moment
 pub data Validity : Type 0 where
   ValidRrsig : Validity
-  -- the moment isn't in the signature's validity
+  -- the moment lies before its inception or after its expiration (RFC 4034, 3.1.5)
   ExpiredRrsig : Validity
   -- the key isn't the one that the signature names, or is no zone key
   WrongDnskey : Validity
