@@ -7,7 +7,7 @@ use Rattle.dns_model.specs.Records.{Rr, RrSet}
 use Rattle.dns_model.specs.Chains.{Judge}
 use Rattle.dns_judgement.specs.Marks.{same_tag, first_two}
 use Rattle.dns_judgement.specs.KeySets.{SignedKeys, signer_among, first_signed}
-use Rattle.dns_judgement.specs.MarkParts.{is_early, signed_keys}
+use Rattle.dns_judgement.specs.MarkParts.{is_early}
 
 -- ---- the first two of each tag
 
@@ -44,33 +44,46 @@ first_two-after keys = early_from keys [] keys 0 refl refl
 
 -- ---- the first signature
 
--- the first of some signatures, the number of the first of them given, that is good by a key that may sign
-unfoldable pub signed_from : (Rr → Bool) → Judge → RrSet → ℕ → List Rr → Option SignedKeys
-signed_from may_sign j set n signatures = slice_get (filter_map (signed_keys may_sign j set) (enumerate_from n signatures)) 0
+-- a signature with its place, and the key that signs
+abbrev pub signed_as : ℕ → Rr → Rr → SignedKeys
+signed_as n signature key = record { place = n; signature = signature; key = key }
+
+-- the first of some signatures, the number of the first of them given, for which a signer is found
+unfoldable pub signed_from : (Rr → Option Rr) → ℕ → List Rr → Option SignedKeys
+signed_from signer n signatures =
+    slice_get (filter_map (λ p. option_map (signed_as p.0 p.1) (signer p.1)) (enumerate_from n signatures)) 0
 
 pub first_signed-from : (may_sign : Rr → Bool) (j : Judge) (set : RrSet) (signatures : List Rr)
-    → first_signed may_sign j set signatures ≡ signed_from may_sign j set 0 signatures
+    → first_signed may_sign j set signatures ≡ signed_from (signer_among may_sign j set) 0 signatures
 unfolding first_signed signed_from
 first_signed-from may_sign j set signatures = refl
 
 abbrev pub signed_or : ℕ → Rr → Option Rr → Option SignedKeys → Option SignedKeys
 signed_or n signature None rest = rest
-signed_or n signature (Some key) rest = Some (record { place = n; signature = signature; key = key })
+signed_or n signature (Some key) rest = Some (signed_as n signature key)
 
 signed_step : (n : ℕ) (signature : Rr) (o : Option Rr) (rest : List SignedKeys)
-    → slice_get (cons_option (option_map (λ key. record { place = n; signature = signature; key = key }) o) rest) 0
-    ≡ signed_or n signature o (slice_get rest 0)
+    → slice_get (cons_option (option_map (signed_as n signature) o) rest) 0 ≡ signed_or n signature o (slice_get rest 0)
 signed_step n signature None rest = refl
 signed_step n signature (Some key) rest = refl
 
-pub signed_none : (may_sign : Rr → Bool) (j : Judge) (set : RrSet) (n : ℕ) → signed_from may_sign j set n [] ≡ None
+pub signed_none : (signer : Rr → Option Rr) (n : ℕ) → signed_from signer n [] ≡ None
 unfolding signed_from
-signed_none may_sign j set n = refl
+signed_none signer n = refl
 
 -- the first signature decides, or one of the others
-pub signed_more : (may_sign : Rr → Bool) (j : Judge) (set : RrSet) (n : ℕ) (signature : Rr) (signatures : List Rr)
-    → signed_from may_sign j set n (signature ∷ signatures)
-    ≡ signed_or n signature (signer_among may_sign j set signature) (signed_from may_sign j set (n + 1) signatures)
+pub signed_more : (signer : Rr → Option Rr) (n : ℕ) (signature : Rr) (signatures : List Rr)
+    → signed_from signer n (signature ∷ signatures) ≡ signed_or n signature (signer signature) (signed_from signer (n + 1) signatures)
 unfolding signed_from
-signed_more may_sign j set n signature signatures =
-    signed_step n signature (signer_among may_sign j set signature) (filter_map (signed_keys may_sign j set) (enumerate_from (n + 1) signatures))
+signed_more signer n signature signatures =
+    signed_step n signature (signer signature) (filter_map (λ p. option_map (signed_as p.0 p.1) (signer p.1)) (enumerate_from (n + 1) signatures))
+
+-- signers that agree find the same
+pub signed_agree : (signer other : Rr → Option Rr) → ((r : Rr) → signer r ≡ other r) → (n : ℕ) (signatures : List Rr)
+    → signed_from signer n signatures ≡ signed_from other n signatures
+signed_agree signer other same n [] = signed_none signer n ∙ sym (signed_none other n)
+signed_agree signer other same n (r ∷ rs) =
+    signed_more signer n r rs
+    ∙ ap (λ o. signed_or n r o (signed_from signer (n + 1) rs)) (same r)
+    ∙ ap (signed_or n r (other r)) (signed_agree signer other same (n + 1) rs)
+    ∙ sym (signed_more other n r rs)

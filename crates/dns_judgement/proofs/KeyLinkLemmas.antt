@@ -18,40 +18,36 @@ use Rattle.dns_judgement.specs.KeySets.{SignedKeys, signer_among}
 use Rattle.dns_judgement.specs.Chained.{names_decider, numbers_from, whole_chain, self_signed_chain}
 use Rattle.dns_judgement.specs.MarkParts.{sig_validity, is_accepted}
 use Rattle.dns_judgement.proofs.GoodLemmas.{good_parts, signer_is_owner, of_set_parts, keys_unexpanded, keys_anywhere, Fits, signed_holds}
-use Rattle.dns_judgement.proofs.FirstLemmas.{signed_from, signed_or, signed_none, signed_more}
+use Rattle.dns_judgement.proofs.FirstLemmas.{signed_as, signed_from, signed_or, signed_none, signed_more}
 use Rattle.dns_judgement.proofs.StandLemmas.{IsChainFor}
 
 -- ---- the first signature that is good by a key that may sign
 
 -- where it stands in a list whose first number is n, and its key
-pub record IsSignedAt (may_sign : Rr → Bool) (j : Judge) (set : RrSet) (rs : List Rr) (n : ℕ) (s : SignedKeys) : Type 0 where
+pub record IsSignedAt (signer : Rr → Option Rr) (rs : List Rr) (n : ℕ) (s : SignedKeys) : Type 0 where
   pub k : ℕ
   pub place_is : s.place ≡ n + k
   pub at : slice_get rs k ≡ Some s.signature
-  pub by : signer_among may_sign j set s.signature ≡ Some s.key
+  pub by : signer s.signature ≡ Some s.key
 
-signed_step : (may_sign : Rr → Bool) (j : Judge) (set : RrSet) (n : ℕ) (r : Rr) (rs : List Rr) (o : Option Rr) (rest : Option SignedKeys) (s : SignedKeys)
-    → signer_among may_sign j set r ≡ o → (rest ≡ Some s → IsSignedAt may_sign j set rs (n + 1) s) → signed_or n r o rest ≡ Some s
-    → IsSignedAt may_sign j set (r ∷ rs) n s
-signed_step may_sign j set n r rs None rest s is later h =
+signed_step : (signer : Rr → Option Rr) (n : ℕ) (r : Rr) (rs : List Rr) (o : Option Rr) (rest : Option SignedKeys) (s : SignedKeys)
+    → signer r ≡ o → (rest ≡ Some s → IsSignedAt signer rs (n + 1) s) → signed_or n r o rest ≡ Some s → IsSignedAt signer (r ∷ rs) n s
+signed_step signer n r rs None rest s is later h =
     let l = later h in
     record { k = suc l.k; place_is = l.place_is ∙ omega arith; at = l.at; by = l.by }
-signed_step may_sign j set n r rs (Some key) rest s is later h =
-    let made : SignedKeys = record { place = n; signature = r; key = key } in
-    let same : made ≡ s = cc in
+signed_step signer n r rs (Some key) rest s is later h =
+    let same : signed_as n r key ≡ s = cc in
     record {
       k = 0;
       place_is = ap (λ x. x.place) (sym same) ∙ omega arith;
       at = ap (λ x. Some x.signature) same;
-      by = ap (λ x. signer_among may_sign j set x.signature) (sym same) ∙ is ∙ ap (λ x. Some x.key) same;
+      by = ap (λ x. signer x.signature) (sym same) ∙ is ∙ ap (λ x. Some x.key) same;
     }
 
-pub signed_at : (may_sign : Rr → Bool) (j : Judge) (set : RrSet) (n : ℕ) (rs : List Rr) (s : SignedKeys) → signed_from may_sign j set n rs ≡ Some s
-    → IsSignedAt may_sign j set rs n s
-signed_at may_sign j set n [] s h = let none : signed_from may_sign j set n [] ≡ None = signed_none may_sign j set n in cc
-signed_at may_sign j set n (r ∷ rs) s h =
-    signed_step may_sign j set n r rs (signer_among may_sign j set r) (signed_from may_sign j set (n + 1) rs) s refl
-    (signed_at may_sign j set (n + 1) rs s) (sym (signed_more may_sign j set n r rs) ∙ h)
+pub signed_at : (signer : Rr → Option Rr) (n : ℕ) (rs : List Rr) (s : SignedKeys) → signed_from signer n rs ≡ Some s → IsSignedAt signer rs n s
+signed_at signer n [] s h = let none : signed_from signer n [] ≡ None = signed_none signer n in cc
+signed_at signer n (r ∷ rs) s h =
+    signed_step signer n r rs (signer r) (signed_from signer (n + 1) rs) s refl (signed_at signer (n + 1) rs s) (sym (signed_more signer n r rs) ∙ h)
 
 -- a good signature can be read
 record IsRead (r : Rr) : Type 0 where
@@ -94,7 +90,7 @@ with_key_link j set front key link held by =
     (links_hold-append j [] front link ∙ and_from (links_hold j [] front) (link_holds j front link) held here)
 
 pub self_signed : (may_sign : Rr → Bool) (j : Judge) (set : RrSet) (rs : List Rr) (s : SignedKeys) (front : List LinkValue) (link : LinkValue)
-    → IsProper set → (set.rtype == type_dnskey) ≡ true → links_hold j [] front ≡ true → IsSignedAt may_sign j set rs 0 s
+    → IsProper set → (set.rtype == type_dnskey) ≡ true → links_hold j [] front ≡ true → IsSignedAt (signer_among may_sign j set) rs 0 s
     → (may_sign s.key ≡ true → IsKeyLink j set front s.key link) → IsChainFor j set (self_signed_chain set front link s) (Some s.signature)
 self_signed may_sign j set rs s front link proper keys held at trusted =
     let rdatas = rdatas_of set.records in

@@ -13,7 +13,7 @@ use Rattle.dns_model.proofs.SetLemmas.{IsProper}
 use Rattle.dns_judgement.specs.Marks.{most_signatures}
 use Rattle.dns_judgement.specs.ProofErrors.{DnskeyNotFound, DsRecordsButNoDnskey}
 use Rattle.dns_judgement.specs.Delegations.{ZoneVerdict, Signed, Insecure, Bogus, is_supported_ds, zone_verdict}
-use Rattle.dns_judgement.specs.KeySets.{SignedKeys, KeysOutcome, SignedByAnchored, WhollyAnchored, NeedsDs, SignedByMatched, WhollyTrusted, Refused, is_anchored_key, is_matched_key, is_trusted_key, signed_by, is_root, is_needing_ds, outcome_by_ds, outcome_by_zone, keys_outcome, needs_ds}
+use Rattle.dns_judgement.specs.KeySets.{SignedKeys, KeysOutcome, SignedByAnchored, WhollyAnchored, NeedsDs, SignedByMatched, WhollyTrusted, Refused, is_anchored_key, is_matched_key, is_trusted_key, signer_among, signed_by, is_root, is_needing_ds, outcome_by_ds, outcome_by_zone, keys_outcome, needs_ds}
 use Rattle.dns_judgement.specs.Chained.{Chained, bare, stands, anchored_link, matched_by, trusted_link, whole_chain, self_signed_chain, keys_chained, chained_keys, ds_chain, chained_by_ds}
 use Rattle.dns_judgement.proofs.FirstLemmas.{first_signed-from}
 use Rattle.dns_judgement.proofs.StandLemmas.{IsChainFor, stands_from, slice_get-take}
@@ -30,7 +30,7 @@ signed_chain_for : (may_sign : Rr → Bool) (j : Judge) (set : RrSet) (front : L
     → IsChainFor j set (self_signed_chain set front (link s.key) s) (slice_get set.signatures s.place)
 signed_chain_for may_sign j set front link s proper keys held trusted is =
     let tried = take most_signatures set.signatures in
-    let found = signed_at may_sign j set 0 tried s (sym (first_signed-from may_sign j set tried) ∙ is) in
+    let found = signed_at (signer_among may_sign j set) 0 tried s (sym (first_signed-from may_sign j set tried) ∙ is) in
     let chain = self_signed may_sign j set tried s front (link s.key) proper keys held found (trusted s.key) in
     let place_is : s.place ≡ found.k = found.place_is ∙ omega arith in
     let at : slice_get set.signatures s.place ≡ Some s.signature =
