@@ -1,5 +1,5 @@
 -- The keys of a set that an anchor or a DS trusts, and the links by which they are (RFC 4035, 5.2).
-use Rattle.std.proofs.Common.{◌≡◌, ℕ, zero, suc, ◌-◌, Bool, true, false, ◌==◌, ◌&&◌, ◌||◌, List, [], ◌∷◌, ◌++◌, length, take, Option, None, Some, refl, sym, ap, ◌∙◌, subst, arith}
+use Rattle.std.proofs.Common.{◌≡◌, ℕ, suc, ◌-◌, Bool, true, false, ◌==◌, ◌&&◌, ◌||◌, List, [], ◌∷◌, ◌++◌, length, Option, None, Some, refl, sym, ap, ◌∙◌, subst, arith}
 use Rattle.std.specs.Prelude.{is_some, if◌then◌else◌}
 use Rattle.std.specs.Option.{option_map, option_map_or}
 use Rattle.std.specs.List.{filter, find, list_any, slice_get, AllByRecursion}
@@ -21,6 +21,7 @@ use Rattle.dns_judgement.specs.Delegations.{ZoneVerdict, counted_ds, is_ds_for, 
 use Rattle.dns_judgement.specs.Delegations as zone
 use Rattle.dns_judgement.specs.KeySets.{is_anchored_key, is_matched_key, is_trusted_key}
 use Rattle.dns_judgement.specs.Chained.{Chained, bare, stands, anchored_link, matched_link, matched_by, trusted_link, ds_chain}
+use Rattle.dns_judgement.proofs.FindLemmas.{each_taken}
 use Rattle.dns_judgement.proofs.StandLemmas.{stands_parts}
 use Rattle.dns_judgement.proofs.ChainedLemmas.{AllStand, IsGoodAnswer}
 use Rattle.dns_judgement.proofs.KeyLinkLemmas.{IsKeyLink}
@@ -68,11 +69,6 @@ pub filter-filter : {X : Type 0} (test : X → Bool) (xs : List X) → filter te
 filter-filter test [] = refl
 filter-filter test (x ∷ xs) =
     kept_twice test x (filter test xs) (test x) refl ∙ ap (λ ys. if test x then x ∷ ys else ys) (filter-filter test xs)
-
-each_taken : {X : Type 0} (P : X → Type 0) (n : ℕ) (xs : List X) → AllByRecursion P xs → AllByRecursion P (take n xs)
-each_taken P zero xs h = tt
-each_taken P (suc n) [] h = tt
-each_taken P (suc n) (x ∷ xs) h = (h.0, each_taken P n xs h.1)
 
 matched_shown : (owner : Labels) (class : ℕ) (key : List ℕ) (ds_link : ℕ) (ds : List ℕ)
     → shows_key owner class key (Some (Matched owner class key ds_link ds)) ≡ true

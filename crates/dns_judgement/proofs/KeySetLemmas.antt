@@ -1,9 +1,8 @@
 -- A key set that is marked Secure stands, by its anchored keys alone or by the DS set of its owner.
-use Rattle.std.proofs.Common.{◌≡◌, ◌-◌, Bool, true, false, ◌==◌, List, [], ◌∷◌, length, take, Option, None, Some, refl, sym, ap, ◌∙◌, arith}
+use Rattle.std.proofs.Common.{◌≡◌, ◌-◌, Bool, true, false, ◌==◌, List, [], length, take, Option, None, Some, refl, sym, ap, ◌∙◌, arith}
 use Rattle.std.specs.Prelude.{if◌then◌else◌}
 use Rattle.std.specs.Option.{option_map, option_map_or}
-use Rattle.std.specs.List.{filter, list_all, slice_get, AllByRecursion}
-use Rattle.std.proofs.lemmas.Bool.{and_parts}
+use Rattle.std.specs.List.{filter, list_all, slice_get}
 use Rattle.dns_model.specs.declared.proof.Proof.TheVariants as proof
 use Rattle.dns_model.specs.Types.{type_dnskey}
 use Rattle.dns_model.specs.Records.{Rr, RrSet}
@@ -15,6 +14,7 @@ use Rattle.dns_judgement.specs.ProofErrors.{DnskeyNotFound, DsRecordsButNoDnskey
 use Rattle.dns_judgement.specs.Delegations.{ZoneVerdict, Signed, Insecure, Bogus, is_supported_ds, zone_verdict}
 use Rattle.dns_judgement.specs.KeySets.{SignedKeys, KeysOutcome, SignedByAnchored, WhollyAnchored, NeedsDs, SignedByMatched, WhollyTrusted, Refused, is_anchored_key, is_matched_key, is_trusted_key, signer_among, signed_by, is_root, is_needing_ds, outcome_by_ds, outcome_by_zone, keys_outcome, needs_ds}
 use Rattle.dns_judgement.specs.Chained.{Chained, bare, stands, anchored_link, matched_by, trusted_link, whole_chain, self_signed_chain, keys_chained, chained_keys, ds_chain, chained_by_ds}
+use Rattle.dns_judgement.proofs.FindLemmas.{each_all}
 use Rattle.dns_judgement.proofs.FirstLemmas.{first_signed-from}
 use Rattle.dns_judgement.proofs.StandLemmas.{IsChainFor, stands_from, slice_get-take}
 use Rattle.dns_judgement.proofs.ChainedLemmas.{IsGoodAnswer}
@@ -36,10 +36,6 @@ signed_chain_for may_sign j set front link s proper keys held trusted is =
     let at : slice_get set.signatures s.place ≡ Some s.signature =
     ap (slice_get set.signatures) place_is ∙ slice_get-take most_signatures set.signatures found.k s.signature found.at in
     rw at chain
-
-each_all : {X : Type 0} (p : X → Bool) (P : X → Type 0) → ((x : X) → p x ≡ true → P x) → (xs : List X) → list_all p xs ≡ true → AllByRecursion P xs
-each_all p P f [] h = tt
-each_all p P f (x ∷ xs) h = let parts = and_parts (p x) (list_all p xs) h in (f x parts.0, each_all p P f xs parts.1)
 
 -- a set whose keys are all trusted has a chain
 whole_chain_for : (may_sign : Rr → Bool) (j : Judge) (set : RrSet) (front : List LinkValue) (link : Rr → LinkValue)

@@ -2,10 +2,12 @@ pub mod WorkedTrailValues
 pub mod WorkedTrails
 pub mod WorkedDelegations
 pub mod GoodLemmas
+pub mod FindLemmas
 pub mod FirstLemmas
 pub mod StandLemmas
 pub mod KeyLinkLemmas
 pub mod DsLemmas
+pub mod SignerLemmas
 pub mod KeySetLemmas
 pub mod ChainedLemmas
 pub mod MarkedLemmas
