@@ -18,6 +18,15 @@ each_taken P zero xs h = tt
 each_taken P (suc n) [] h = tt
 each_taken P (suc n) (x ∷ xs) h = (h.0, each_taken P n xs h.1)
 
+none_step : {X : Type 0} (b : Bool) (x : X) (rest : Option X) → cond b (Some x) rest ≡ None → (b ≡ false) × (rest ≡ None)
+none_step true x rest h = cc
+none_step false x rest h = (refl, h)
+
+-- none passes where none is found
+pub each_fails : {X : Type 0} (p : X → Bool) (xs : List X) → find p xs ≡ None → AllByRecursion (λ x. p x ≡ false) xs
+each_fails p [] h = tt
+each_fails p (x ∷ xs) h = let parts = none_step (p x) x (find p xs) h in (parts.0, each_fails p xs parts.1)
+
 -- ---- two tests
 
 both_step : {X : Type 0} (test : X → Bool) (b : Bool) (x : X) (found : Option X) (kept : List X) → found ≡ find test kept

@@ -1,10 +1,11 @@
 -- The first two keys of each tag, and the first signature that is good by a key that may sign, found one after the other.
 use Rattle.std.proofs.Common.{◌≡◌, ℕ, ◌+◌, Bool, true, false, cond, List, [], ◌∷◌, ◌++◌, map, length, take, Option, None, Some, refl, sym, ap, ◌∙◌, arith, append_assoc, length-append}
 use Rattle.std.specs.Prelude.{nat_lt, slice_get}
-use Rattle.std.specs.List.{filter, filter_map, cons_option, count_by, enumerate_from}
+use Rattle.std.specs.List.{filter, filter_map, cons_option, count_by, enumerate_from, AllByRecursion}
 use Rattle.std.specs.Option.{option_map}
 use Rattle.dns_model.specs.Records.{Rr, RrSet}
 use Rattle.dns_model.specs.Chains.{Judge}
+use Rattle.dns_model.proofs.EachLemmas.{each_of}
 use Rattle.dns_judgement.specs.Marks.{same_tag, first_two}
 use Rattle.dns_judgement.specs.KeySets.{SignedKeys, signer_among, first_signed}
 use Rattle.dns_judgement.specs.MarkParts.{is_early}
@@ -78,12 +79,28 @@ unfolding signed_from
 signed_more signer n signature signatures =
     signed_step n signature (signer signature) (filter_map (λ p. option_map (signed_as p.0 p.1) (signer p.1)) (enumerate_from (n + 1) signatures))
 
--- signers that agree find the same
+-- signers that agree on each signature find the same
+pub signed_agree_each : (signer other : Rr → Option Rr) (n : ℕ) (signatures : List Rr) → AllByRecursion (λ r. signer r ≡ other r) signatures
+    → signed_from signer n signatures ≡ signed_from other n signatures
+signed_agree_each signer other n [] same = signed_none signer n ∙ sym (signed_none other n)
+signed_agree_each signer other n (r ∷ rs) same =
+    signed_more signer n r rs
+    ∙ ap (λ o. signed_or n r o (signed_from signer (n + 1) rs)) same.0
+    ∙ ap (signed_or n r (other r)) (signed_agree_each signer other (n + 1) rs same.1)
+    ∙ sym (signed_more other n r rs)
+
 pub signed_agree : (signer other : Rr → Option Rr) → ((r : Rr) → signer r ≡ other r) → (n : ℕ) (signatures : List Rr)
     → signed_from signer n signatures ≡ signed_from other n signatures
-signed_agree signer other same n [] = signed_none signer n ∙ sym (signed_none other n)
-signed_agree signer other same n (r ∷ rs) =
-    signed_more signer n r rs
-    ∙ ap (λ o. signed_or n r o (signed_from signer (n + 1) rs)) (same r)
-    ∙ ap (signed_or n r (other r)) (signed_agree signer other same (n + 1) rs)
-    ∙ sym (signed_more other n r rs)
+signed_agree signer other same n signatures = signed_agree_each signer other n signatures (each_of (λ r. signer r ≡ other r) same signatures)
+
+unsigned_step : (n : ℕ) (r : Rr) (o : Option Rr) (rest : Option SignedKeys) → signed_or n r o rest ≡ None → (o ≡ None) × (rest ≡ None)
+unsigned_step n r None rest h = (refl, h)
+unsigned_step n r (Some key) rest h = cc
+
+-- where no signature is found, there is a signer of none
+pub unsigned_each : (signer : Rr → Option Rr) (n : ℕ) (signatures : List Rr) → signed_from signer n signatures ≡ None
+    → AllByRecursion (λ r. signer r ≡ None) signatures
+unsigned_each signer n [] h = tt
+unsigned_each signer n (r ∷ rs) h =
+    let parts = unsigned_step n r (signer r) (signed_from signer (n + 1) rs) (sym (signed_more signer n r rs) ∙ h) in
+    (parts.0, unsigned_each signer (n + 1) rs parts.1)

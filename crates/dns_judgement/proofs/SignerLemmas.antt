@@ -1,5 +1,5 @@
 -- Keys with one rdata that may sign a key set sign alike, so that each is tried once (RFC 4035, 5.3.3).
-use Rattle.std.proofs.Common.{◌≡◌, ℕ, Bool, true, false, not, ◌==◌, ◌&&◌, List, Option, None, Some, refl, sym, ap, ◌∙◌}
+use Rattle.std.proofs.Common.{◌≡◌, ℕ, Bool, true, false, not, ◌==◌, ◌&&◌, List, take, Option, None, Some, refl, sym, ap, ◌∙◌}
 use Rattle.std.specs.Prelude.{is_some, if◌then◌else◌}
 use Rattle.std.specs.Option.{option_map_or}
 use Rattle.std.specs.List.{filter, find}
@@ -13,13 +13,15 @@ use Rattle.dns_model.specs.Records.{Rr, RrSet}
 use Rattle.dns_model.specs.Keys.{matches}
 use Rattle.dns_model.specs.Chains.{Judge}
 use Rattle.dns_model.proofs.NameLemmas.{name_equiv}
-use Rattle.dns_model.proofs.EachLemmas.{each_passes, find_known}
+use Rattle.dns_model.proofs.EachLemmas.{each_more, each_passes, find_agree_each, find_known}
 use Rattle.dns_model.proofs.SetLemmas.{name_back, name_trans, name_left}
 use Rattle.dns_judgement.specs.Validity.{ValidRrsig, ExpiredRrsig, WrongDnskey, WrongRrsig, is_of_set, validity, is_valid, is_good_by}
+use Rattle.dns_judgement.specs.Marks.{most_signatures}
 use Rattle.dns_judgement.specs.Delegations.{ds_of, is_ds_for, counted_ds, matching_ds}
-use Rattle.dns_judgement.specs.KeySets.{is_anchored_key, is_matched_key, signer_among}
+use Rattle.dns_judgement.specs.KeySets.{is_anchored_key, is_matched_key, signer_among, signed_by}
 use Rattle.dns_judgement.specs.MarkParts.{is_accepted}
-use Rattle.dns_judgement.proofs.FindLemmas.{each_taken, find-both}
+use Rattle.dns_judgement.proofs.FindLemmas.{each_taken, each_fails, find-both}
+use Rattle.dns_judgement.proofs.FirstLemmas.{first_signed-from, signed_agree_each, unsigned_each}
 
 -- the keys that may sign are tried one after the other
 pub signer_among-filter : (may_sign : Rr → Bool) (j : Judge) (set : RrSet) (r : Rr)
@@ -103,3 +105,35 @@ read_step j set r a b (Some sig) h k same =
 pub good_alike : (j : Judge) (set : RrSet) (r a b : Rr) → IsKeyOf set a → IsKeyOf set b → a.rdata ≡ b.rdata → is_good_by j set r a ≡ is_good_by j set r b
 good_alike j set r a b h k same =
     good_step j set r a (rrsig_of r) refl ∙ read_step j set r a b (rrsig_of r) h k same ∙ sym (good_step j set r b (rrsig_of r) refl)
+
+-- ---- keys that were tried
+
+left_out : (may tried good : Bool) → (tried && good) ≡ false → (may && not tried && good) ≡ (may && good)
+left_out true true good h = sym h
+left_out true false good h = refl
+left_out false tried good h = refl
+
+-- keys that one test allows, but for those that another does
+abbrev pub others : (Rr → Bool) → (Rr → Bool) → Rr → Bool
+others may tried key = may key && not (tried key)
+
+others_sign_one : (may tried : Rr → Bool) (j : Judge) (set : RrSet) (r : Rr) → signer_among tried j set r ≡ None
+    → signer_among (others may tried) j set r ≡ signer_among may j set r
+others_sign_one may tried j set r none =
+    let test = λ (m : Rr → Bool) (key : Rr). m key && is_good_by j set r key in
+    let Same = λ (key : Rr). test (others may tried) key ≡ test may key in
+    find_agree_each (test (others may tried)) (test may) set.records
+    (each_more (λ key. test tried key ≡ false) Same (λ key h. left_out (may key) (tried key) (is_good_by j set r key) h) set.records
+    (each_fails (test tried) set.records none))
+
+-- keys by which no signature is good may be left out
+pub others_sign : (may tried : Rr → Bool) (j : Judge) (set : RrSet) → signed_by tried j set ≡ None
+    → signed_by (others may tried) j set ≡ signed_by may j set
+others_sign may tried j set none =
+    let rs = take most_signatures set.signatures in
+    let by = λ (m : Rr → Bool). signer_among m j set in
+    let unsigned = unsigned_each (by tried) 0 rs (sym (first_signed-from tried j set rs) ∙ none) in
+    first_signed-from (others may tried) j set rs
+    ∙ signed_agree_each (by (others may tried)) (by may) 0 rs
+    (each_more (λ r. by tried r ≡ None) (λ r. by (others may tried) r ≡ by may r) (others_sign_one may tried j set) rs unsigned)
+    ∙ sym (first_signed-from may j set rs)
