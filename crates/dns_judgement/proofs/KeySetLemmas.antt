@@ -142,3 +142,14 @@ unfolding keys_outcome
 needs_ds-outcome j set zone h =
     let anchored = is_anchored_key j set in
     needs_step set (signed_by anchored j set) (list_all anchored set.records) (is_root set.owner) (outcome_by_zone j set (Some zone)) h
+
+unsigned_step : (set : RrSet) (o : Option SignedKeys) (all root : Bool) → is_needing_ds (by_rows set o all root NeedsDs) ≡ true → o ≡ None
+unsigned_step set (Some s) all root h = cc
+unsigned_step set None all root h = refl
+
+-- no anchored key of it signed it
+pub needs_ds-unsigned : (j : Judge) (set : RrSet) → needs_ds j set ≡ true → signed_by (is_anchored_key j set) j set ≡ None
+unfolding keys_outcome
+needs_ds-unsigned j set h =
+    let anchored = is_anchored_key j set in
+    unsigned_step set (signed_by anchored j set) (list_all anchored set.records) (is_root set.owner) h

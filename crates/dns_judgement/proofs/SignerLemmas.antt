@@ -21,12 +21,21 @@ use Rattle.dns_judgement.specs.Delegations.{ds_of, is_ds_for, counted_ds, matchi
 use Rattle.dns_judgement.specs.KeySets.{is_anchored_key, is_matched_key, signer_among, signed_by}
 use Rattle.dns_judgement.specs.MarkParts.{is_accepted}
 use Rattle.dns_judgement.proofs.FindLemmas.{each_taken, each_fails, find-both}
-use Rattle.dns_judgement.proofs.FirstLemmas.{first_signed-from, signed_agree_each, unsigned_each}
+use Rattle.dns_judgement.proofs.FirstLemmas.{signed_from, first_signed-from, signed_agree, signed_agree_each, unsigned_each}
 
 -- the keys that may sign are tried one after the other
 pub signer_among-filter : (may_sign : Rr → Bool) (j : Judge) (set : RrSet) (r : Rr)
     → signer_among may_sign j set r ≡ find (is_good_by j set r) (filter may_sign set.records)
 signer_among-filter may_sign j set r = find-both may_sign (is_good_by j set r) set.records
+
+-- a signature is found among those keys, or among others that find the same
+pub signed_among : (may_sign : Rr → Bool) (j : Judge) (set : RrSet) (keys : List Rr)
+    → ((r : Rr) → find (is_good_by j set r) keys ≡ find (is_good_by j set r) (filter may_sign set.records))
+    → signed_from (λ r. find (is_good_by j set r) keys) 0 (take most_signatures set.signatures) ≡ signed_by may_sign j set
+signed_among may_sign j set keys same =
+    let rs = take most_signatures set.signatures in
+    signed_agree (λ r. find (is_good_by j set r) keys) (signer_among may_sign j set) (λ r. same r ∙ sym (signer_among-filter may_sign j set r)) 0 rs
+    ∙ sym (first_signed-from may_sign j set rs)
 
 -- ---- keys of a set
 
@@ -108,14 +117,15 @@ good_alike j set r a b h k same =
 
 -- ---- keys that were tried
 
-left_out : (may tried good : Bool) → (tried && good) ≡ false → (may && not tried && good) ≡ (may && good)
+left_out : (may tried good : Bool) → (tried && good) ≡ false → (not tried && may && good) ≡ (may && good)
 left_out true true good h = sym h
 left_out true false good h = refl
-left_out false tried good h = refl
+left_out false true good h = refl
+left_out false false good h = refl
 
 -- keys that one test allows, but for those that another does
 abbrev pub others : (Rr → Bool) → (Rr → Bool) → Rr → Bool
-others may tried key = may key && not (tried key)
+others may tried key = not (tried key) && may key
 
 others_sign_one : (may tried : Rr → Bool) (j : Judge) (set : RrSet) (r : Rr) → signer_among tried j set r ≡ None
     → signer_among (others may tried) j set r ≡ signer_among may j set r
