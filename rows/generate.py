@@ -8,6 +8,7 @@ import os
 import sys
 
 import texts
+import walk
 from texts import A, DNSKEY, KEY, NS, OPAQUE, Record, Signed
 
 MOST_INPUT = 16_777_216
@@ -171,7 +172,8 @@ def asks_that_are_refused():
 
 MADE = (forty_keys, sixty_links, two_hundred_sets, hundred_chains, more_sends_than_are_made, name_of_127_labels,
         longest_message, thousand_anchors, longest_input, input_of_a_byte_too_many, line_of_sixteen_mebibytes,
-        asks_that_are_refused)
+        asks_that_are_refused, walk.four_hundred_copies_of_a_key, walk.four_hundred_copies_and_no_other,
+        walk.ds_ask_past_the_last_send)
 
 
 def rows():

@@ -1,10 +1,10 @@
 """Sessions and the reports that are expected of them, made from the rules of the standards and never from the program.
 
-A row here has one zone, the root, whose keys are anchored or signed by an anchored one, and whose signatures the
+The reports here are of one zone, the root, whose keys are anchored or signed by an anchored one, and whose signatures the
 session's `accept` lines accept or don't. Names are lists of labels, the leaf first."""
 MOMENT, INCEPTION, EXPIRATION, TTL = 1000, 900, 2000, 3600
-A, NS, RRSIG, DNSKEY, OPAQUE, IN = 1, 2, 46, 48, 65280, 1
-WORDS = {A: "A", NS: "NS", RRSIG: "RRSIG", DNSKEY: "DNSKEY"}
+A, NS, DS, RRSIG, NSEC, DNSKEY, OPAQUE, IN = 1, 2, 43, 46, 47, 48, 65280, 1
+WORDS = {A: "A", NS: "NS", DS: "DS", RRSIG: "RRSIG", DNSKEY: "DNSKEY"}
 ALGORITHM = 13
 SIGNATURE = bytes.fromhex("c0de")
 # the key of the stored session: flags of a zone key, protocol 3, algorithm 13
@@ -18,6 +18,22 @@ def number(value, size):
 def wire(name):
     """RFC 1035, 3.1."""
     return b"".join(number(len(label), 1) + label for label in name) + b"\0"
+
+
+def folded(name):
+    return [label.lower() for label in name]
+
+
+def pointed(name, at, places):
+    """The name at this place of a message, with a pointer where its last labels stand before, in the same case (RFC 1035, 4.1.4)."""
+    octets = b""
+    for cut, label in enumerate(name):
+        rest = tuple(name[cut:])
+        if rest in places:
+            return octets + number(0xC000 | places[rest], 2)
+        places[rest] = at + len(octets)
+        octets += number(len(label), 1) + label
+    return octets + b"\0"
 
 
 def shown(name):
@@ -43,48 +59,52 @@ class Record:
     def __init__(self, owner, kind, rdata):
         self.owner, self.kind, self.rdata = owner, kind, rdata
 
-    def wire(self):
+    def wire(self, written=wire):
         """RFC 1035, 4.1.3."""
         fixed = number(self.kind, 2) + number(IN, 2) + number(TTL, 4)
-        return wire(self.owner) + fixed + number(len(self.rdata), 2) + self.rdata
+        return written(self.owner) + fixed + number(len(self.rdata), 2) + self.rdata
 
     def line(self, section, ttl, mark):
         return f"{section} {shown(self.owner)} IN {type_word(self.kind)} {ttl} {mark} {self.rdata.hex()}"
 
 
-def question(name, kind):
-    return wire(name) + number(kind, 2) + number(IN, 2)
+def message(name, kind, answers, additionals=(), authorities=(), is_packed=False):
+    """A reply with one question (RFC 1035, 4.1). Owners are spelled out, or packed."""
+    octets, places = bytearray.fromhex("00008400"), {}
+    octets += b"".join(number(count, 2) for count in (1, len(answers), len(authorities), len(additionals)))
 
+    def written(owner):
+        return pointed(owner, len(octets), places) if is_packed else wire(owner)
 
-def message(name, kind, answers, additionals=()):
-    """A reply with one question (RFC 1035, 4.1), names spelled out."""
-    counts = (1, len(answers), 0, len(additionals))
-    records = b"".join(record.wire() for record in (*answers, *additionals))
-    return bytes.fromhex("00008400") + b"".join(number(count, 2) for count in counts) + question(name, kind) + records
+    octets += written(name) + number(kind, 2) + number(IN, 2)
+    for record in (*answers, *authorities, *additionals):
+        octets += record.wire(written)
+    return bytes(octets)
 
 
 class Signed:
-    """Records of one owner and type with a signature of the root by a key (RFC 4034, 3.1)."""
+    """Records of one owner and type with a signature of a zone by a key (RFC 4034, 3.1)."""
 
-    def __init__(self, records, key, signature=SIGNATURE):
-        self.records, self.key, self.signature = records, key, signature
+    def __init__(self, records, key, signature=SIGNATURE, signer=()):
+        self.records, self.key, self.signature, self.signer = records, key, signature, signer
         first = records[0]
         self.owner, self.kind = first.owner, first.kind
         labels = len(first.owner) - (first.owner[:1] == [b"*"])
         times = number(TTL, 4) + number(EXPIRATION, 4) + number(INCEPTION, 4)
-        head = number(first.kind, 2) + number(ALGORITHM, 1) + number(labels, 1) + times
-        self.front = head + number(key_tag(key), 2) + wire([])
+        self.front = number(first.kind, 2) + number(ALGORITHM, 1) + number(labels, 1) + times + number(key_tag(key), 2)
 
     def rrsig(self):
-        return Record(self.owner, RRSIG, self.front + self.signature)
+        return Record(self.owner, RRSIG, self.front + wire(self.signer) + self.signature)
 
     def section(self):
         return [*self.records, self.rrsig()]
 
     def accept(self):
-        """RFC 4034, 3.1.8.1: the rdatas rise as bytes. No name here has a capital letter."""
-        rising = sorted(self.records, key=lambda record: record.rdata)
-        signed = self.front + b"".join(record.wire() for record in rising)
+        """RFC 4034, 3.1.8.1: the rdatas rise as bytes, each once; owner and signer are in lower case. No rdata here has a name in
+        capitals."""
+        rising = sorted({record.rdata for record in self.records})
+        records = b"".join(Record(folded(self.owner), self.kind, rdata).wire() for rdata in rising)
+        signed = self.front + wire(folded(self.signer)) + records
         return f"accept {ALGORITHM} {self.key[4:].hex()} {signed.hex()} {self.signature.hex()}"
 
     def link(self, place):
@@ -100,8 +120,8 @@ class Signed:
         return [*lines, self.rrsig().line(section, ttl, "secure" if is_secure else "indeterminate")]
 
 
-def anchor(key):
-    return f"anchor . {ALGORITHM} {key[4:].hex()}"
+def anchor(key, zone=()):
+    return f"anchor {shown(zone)} {ALGORITHM} {key[4:].hex()}"
 
 
 def anchored(key):
@@ -126,9 +146,9 @@ def keys_reply(keys, signed=None):
     return reply([], DNSKEY, message([], DNSKEY, records))
 
 
-def session(anchors, accepts, name, kind, replies, version=1, depth=None):
+def session(anchors, accepts, name, kind, replies, version=1, depth=None, algorithms=(ALGORITHM,)):
     depths = [] if depth is None else [f"depth {depth}"]
-    head = [f"dns-session {version}", f"moment {MOMENT}", *depths, f"algorithms {ALGORITHM}"]
+    head = [f"dns-session {version}", f"moment {MOMENT}", *depths, " ".join(map(str, ("algorithms", *algorithms)))]
     query = f"query {shown(name)} {type_word(kind)}"
     return "".join(line + "\n" for line in (*head, *anchors, *accepts, query, *replies, "end")).encode()
 

@@ -1,0 +1,95 @@
+"""Sessions of several zones, and what is found in their outputs: for `walk.py`, which has the rows.
+
+Zones are lists of labels, and a key is its rdata, as `texts.py` has them."""
+import hashlib
+
+import model
+import texts
+from texts import DNSKEY, DS, KEY, Record, Signed, key_tag, number
+
+ROOT = []
+SHA_1, SHA_256, SHA_384 = 1, 2, 4
+DIGESTS = {SHA_1: hashlib.sha1, SHA_256: hashlib.sha256, SHA_384: hashlib.sha384}
+PLAIN, TRAIL = ("validate",), ("validate", "trail")
+
+
+def ds_of(owner, key, digest_type=SHA_256, tag=None, algorithm=None, digest=None):
+    """RFC 4034, 5.1. Given are the parts that aren't those of the key."""
+    covered = texts.wire(texts.folded(owner)) + key
+    made = digest or DIGESTS.get(digest_type, hashlib.sha256)(covered).digest()
+    return number(key_tag(key) if tag is None else tag, 2) + number(algorithm or key[3], 1) + number(digest_type, 1) + made
+
+
+class Opt:
+    """RFC 6891, 6.1.2: a payload of 1232 bytes, DO."""
+    def wire(self, written):
+        return written(ROOT) + bytes.fromhex("002904d0000080000000")
+
+
+class Scene:
+    """Anchors, accepted signatures and replies, as a session has them. The root has one key, which is anchored, if it isn't said
+    otherwise."""
+
+    def __init__(self, *anchors, is_packed=False, algorithms=(13,)):
+        self.anchors = [texts.anchor(key, zone) for zone, key in anchors or [(ROOT, KEY)]]
+        self.accepts, self.replies, self.further = [], [], ()
+        self.is_packed, self.algorithms = is_packed, algorithms
+
+    def signed(self, records, key, signer, signature=texts.SIGNATURE, is_accepted=True):
+        one = Signed(records, key, signature, signer)
+        if is_accepted:
+            self.accepts.append(one.accept())
+        return one.section()
+
+    def says(self, name, kind, *parts, authorities=()):
+        answers = [record for part in parts for record in part]
+        octets = texts.message(name, kind, answers, self.further, authorities, self.is_packed)
+        self.replies.append(texts.reply(name, kind, octets))
+
+    def root(self):
+        self.says(ROOT, DNSKEY, [Record(ROOT, DNSKEY, KEY)])
+
+    def delegates(self, zone, rdatas, key=KEY, parent=ROOT, **how):
+        """The parent's DS set of a zone, signed by the parent."""
+        self.says(zone, DS, self.signed([Record(zone, DS, rdata) for rdata in rdatas], key, parent, **how))
+
+    def has_keys(self, zone, keys, signing=None):
+        """The zone's key set, signed by one of its keys or unsigned."""
+        records = [Record(zone, DNSKEY, key) for key in keys]
+        self.says(zone, DNSKEY, self.signed(records, signing, zone) if signing else records)
+
+    def session(self, name, kind, depth=None):
+        return texts.session(self.anchors, self.accepts, name, kind, self.replies, depth=depth, algorithms=self.algorithms)
+
+
+# ---- what has to be found
+
+def link_text(line):
+    """A link: its word, its owner, the type of a signed set, and the links that it names."""
+    word, owner, _, *rest = line.split(" ")
+    named = {"anchored": [], "matched": rest[1:2], "keyset": rest[::2], "signed": rest[:2]}
+    return " ".join([word, owner, *named[word]])
+
+
+def found(lines):
+    """What a row may say of an answer: lines of the trail, records without ttl and rdata, how many asks and chains there are, and the
+    links of each chain."""
+    records = [line.split(" ") for line in lines if line.startswith(model.SECTIONS)]
+    asks, chains = sum(line.startswith("step ") for line in lines), []
+    for line in lines:
+        if line.startswith("chain "):
+            chains.append([])
+        elif line.startswith(("anchored ", "matched ", "keyset ", "signed ")):
+            chains[-1].append(link_text(line))
+    marks = {" ".join((section, owner, kind, mark)) for section, owner, _, kind, _, mark, _ in records}
+    return {*lines, *marks, f"asks {asks}", f"chains {len(chains)}", *("links " + ", ".join(chain) for chain in chains)}
+
+
+def finds(session, says, words=PLAIN):
+    """What the model has for the session, where it finds there all that the row says, and nothing that it says not to."""
+    all_found = found(model.written(session, (b"validate", b"trail"))[0].decode().split("\n"))
+    for said in says:
+        assert (said.removeprefix("no ") in all_found) != said.startswith("no "), (said, all_found)
+    out, status = model.written(session, [word.encode() for word in words])
+    assert status == 0
+    return out
