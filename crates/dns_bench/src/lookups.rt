@@ -49,7 +49,8 @@ fn count_one(
     counts: Lookups,
 ) -> Result<Lookups, NoMemory>
     ensures same { SameValidator handle.old handle.new }
-    ensures more { IfOk result (λ after. OneMore (inquiry_by handle.old query.now options now) (inner_of handle.old) (inner_of handle.new) counts after) }
+    ensures more { IfOk result (λ after. OneMore (inquiry_by handle.old query.now options now)
+        (inner_of handle.old) (inner_of handle.new) counts after) }
 {
     match look_up(alloc, handle, query, options, now) {
         Ok(_) => Ok(Lookups {

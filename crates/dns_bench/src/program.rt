@@ -173,7 +173,8 @@ fn read_and_measure<S: Source, W: Sink>(
 
 // Makes signed bytes so many times, and writes how many that were.
 fn write_signed<W: Sink>(alloc: Global, records: u16, passes: u32, output: &mut W) -> u8
-    ensures counted { result ≡ 0 → Appends (W.taken output.old) (W.taken output.new) (signed_text (set.signed_count records passes)) }
+    ensures counted { result ≡ 0
+        → Appends (W.taken output.old) (W.taken output.new) (signed_text (set.signed_count records passes)) }
     ensures sink { result ≡ 5 → Rose (W.faults output.old) (W.faults output.new) }
     ensures status { (result ≡ 0) ⊎ (5 ≤ result) }
     ensures most { result ≤ 6 }
@@ -205,7 +206,8 @@ pub(crate) fn run<S: Source, W: Sink>(
     output: &mut W,
 ) -> u8
     // 0 is answered only with what all passes count, and 3 only with the place where the input is bad.
-    ensures counted { result ≡ 0 → LeavesCounts (asked_form words.now) (S.left input.old) (W.taken output.old) (W.taken output.new) }
+    ensures counted { result ≡ 0
+        → LeavesCounts (asked_form words.now) (S.left input.old) (W.taken output.old) (W.taken output.new) }
     ensures named { result ≡ 3 → LeavesPlace (asked_form words.now) (S.left input.old) (W.taken output.old) (W.taken output.new) }
 
     // 2 is answered only for words that are no form, and such words end so, at the sink or for want of memory.

@@ -43,7 +43,8 @@ fn address_records(alloc: Global, owner: &Name, count: u16) -> Result<Vec<Record
 /// How many bytes the passes make: a signature of the signer's own set of so many addresses is over them.
 #[tactic(auto, using(crate::proofs::SignedLemmas::often_more), unfolding(crate::specs::SignedSet::raised_often))]
 fn count_signed(alloc: Global, set: &RecordSet, sig: &Rrsig, passes: u32) -> Result<u64, NoMemory>
-    ensures { IfOk result (λ n. n ≡ raised_often passes 0 (length (signed_bytes set.now.owner set.now.rtype set.now.class (rdatas_of set.now.records) sig.now))) }
+    ensures { IfOk result (λ n. n ≡ raised_often passes 0
+        (length (signed_bytes set.now.owner set.now.rtype set.now.class (rdatas_of set.now.records) sig.now))) }
 {
     let mut count: u64 = 0;
     let mut left = passes;

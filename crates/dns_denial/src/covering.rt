@@ -79,7 +79,8 @@ fn nearer<'a>(
     place: usize,
     nsec: &'a NsecRecord,
 ) -> Option<(usize, &'a NsecRecord)>
-    ensures { option_map (λ p. (p.0, p.1.now)) result ≡ next_best (spans_in name.now) owned_before (option_map (λ p. (p.0, p.1.now)) best.entry) place nsec.now }
+    ensures { option_map (λ p. (p.0, p.1.now)) result
+        ≡ next_best (spans_in name.now) owned_before (option_map (λ p. (p.0, p.1.now)) best.entry) place nsec.now }
 {
     if spans(name, nsec) && is_nearer(&best, nsec) {
         Some((place, nsec))

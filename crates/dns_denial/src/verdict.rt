@@ -31,7 +31,8 @@ pub fn verify_nsec(
 ) -> Proof
     ensures verdict { result ≡ nsec_verdict query.now zone.now code.0 answered nsecs.now }
     ensures denial { result ≡ Secure → answered ≡ No → IsDeniedIn query.now zone.now code.0 nsecs.now }
-    ensures expansion { (labels : ℕ) → result ≡ Secure → answered ≡ Expanded labels → IsExpandedIn query.now zone.now labels nsecs.now }
+    ensures expansion { (labels : ℕ) → result ≡ Secure → answered ≡ Expanded labels
+        → IsExpandedIn query.now zone.now labels nsecs.now }
 {
     verdict_of(query, zone, code, answered, nsecs)
 }
@@ -176,7 +177,8 @@ fn denies_wildcard(
     record_type: RecordType,
     nsecs: &[NsecRecord],
 ) -> bool
-    ensures { result ≡ if code.0 == code_nx_domain then is_some (covering_in wildcard.now nsecs.now) else wildcard_denies_in record_type.0 wildcard.now nsecs.now }
+    ensures { result ≡ if code.0 == code_nx_domain then is_some (covering_in wildcard.now nsecs.now)
+        else wildcard_denies_in record_type.0 wildcard.now nsecs.now }
 {
     if code == ResponseCode::NX_DOMAIN {
         covering(wildcard, nsecs).is_some()

@@ -65,7 +65,8 @@ fn answer<W: Sink>(alloc: Global, bytes: &[u8], output: &mut W) -> u8
 /// 0: there is a line for each reply. 3: the input is no session; its first bad line is named. 4: a read failed. 5: a write
 /// failed. 6: memory ran out. 7: the input has more than 16,777,216 bytes.
 pub(crate) fn run<S: Source, W: Sink>(alloc: Global, input: &mut S, output: &mut W) -> u8
-    ensures ends { result < 4 → IfSome (S.left input.old) (λ bytes. EndsAs (session_of bytes) result (W.taken output.old) (W.taken output.new)) }
+    ensures ends { result < 4
+        → IfSome (S.left input.old) (λ bytes. EndsAs (session_of bytes) result (W.taken output.old) (W.taken output.new)) }
     ensures ended { result < 4 → IsEnded (S.left input.old) (S.left input.new) }
     ensures source { result ≡ 4 → Rose (S.faults input.old) (S.faults input.new) }
     ensures sink { result ≡ 5 → Rose (W.faults output.old) (W.faults output.new) }

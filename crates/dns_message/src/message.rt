@@ -22,7 +22,13 @@ impl Model for Edns {
 
     ghost Value = { EdnsValue };
 
-    ghost view = { λ e. record { max_payload = e.max_payload; version = e.version; dnssec_ok = e.dnssec_ok; flags = e.flags; options = e.options } };
+    ghost view = { λ e. record {
+      max_payload = e.max_payload;
+      version = e.version;
+      dnssec_ok = e.dnssec_ok;
+      flags = e.flags;
+      options = e.options;
+    } };
 }
 
 impl Edns {

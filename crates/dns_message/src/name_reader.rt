@@ -52,7 +52,8 @@ pub(crate) fn push_spelled(
     requires short { length bytes.now < 2 ^ 32 }
     requires at { at ≤ length bytes.now }
     ensures name { IfOk result (λ next. IsSpelled (name_at bytes.now at) into.old.items into.new.items next) }
-    ensures field { IfOk result (λ next. IsAppended (without_fault (spelled_at bytes.now at)) into.old.items into.new.items next) }
+    ensures field { IfOk result (λ next.
+        IsAppended (without_fault (spelled_at bytes.now at)) into.old.items into.new.items next) }
     ensures fault { IfErr result (λ e. FailsWith e.kind e.offset (spelled_at bytes.now at)) }
     ensures fits { IfOk result (λ next. next ≤ length bytes.now) }
 {

@@ -49,7 +49,8 @@ pub(crate) fn push_field(
     requires short { length bytes.now < 2 ^ 32 }
     requires stop { stop ≤ length bytes.now }
     requires pos { pos ≤ length bytes.now }
-    ensures reads { IfOk result (λ next. FieldRead (field_at (field_value field) bytes.now pos stop) into.old.items into.new.items next) }
+    ensures reads { IfOk result (λ next.
+        FieldRead (field_at (field_value field) bytes.now pos stop) into.old.items into.new.items next) }
     ensures fits { IfOk result (λ next. IfSome next (λ n. n ≤ length bytes.now)) }
 {
     match field {
@@ -70,7 +71,8 @@ fn push_name(
     requires pointer_ends { ArePointerEnds bytes.now pointer_ends.now }
     requires short { length bytes.now < 2 ^ 32 }
     requires pos { pos ≤ length bytes.now }
-    ensures reads { IfOk result (λ next. FieldRead (without_fault (spelled_at bytes.now pos)) into.old.items into.new.items next) }
+    ensures reads { IfOk result (λ next.
+        FieldRead (without_fault (spelled_at bytes.now pos)) into.old.items into.new.items next) }
     ensures fits { IfOk result (λ next. IfSome next (λ n. n ≤ length bytes.now)) }
 {
     match push_spelled(bytes, pointer_ends, pos, into) {

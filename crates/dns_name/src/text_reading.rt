@@ -75,7 +75,9 @@ fn byte_at<'a>(byte: u8, rest: &'a [u8]) -> Option<(u8, &'a [u8])>
 
 /// Reads a label up to an unescaped dot or the end into `label`, and gives the text after the dot.
 fn read_label<'a>(label: &mut Vec<u8>, text: &'a [u8]) -> Result<Option<&'a [u8]>, NameError>
-    ensures label { MatchResult result (λ rest. read_at label.old.items text.now ≡ ended label.new.items (rest_read (option_map (λ r. r.now) rest))) (λ fault. FailsAs fault (read_at label.old.items text.now)) }
+    ensures label { MatchResult result
+        (λ rest. read_at label.old.items text.now ≡ ended label.new.items (rest_read (option_map (λ r. r.now) rest)))
+        (λ fault. FailsAs fault (read_at label.old.items text.now)) }
     ensures size { IfOk result (λ rest. IfSome rest (λ r. length r.now < length text.now)) }
 {
     let mut left = text;
@@ -110,7 +112,8 @@ pub(crate) fn push_label(wire: &mut Vec<u8>, label: &[u8]) -> Result<(), NameErr
 
 /// The labels of a text in wire form, with no closing zero byte, and whether a dot was the last.
 fn labels_of_text(alloc: Global, text: &[u8]) -> Result<(Vec<u8>, bool), NameError>
-    ensures { MatchResult result (λ r. IsLabels (read_at [] text.now) r.0.items r.1) (λ fault. FailsAs fault (read_at [] text.now)) }
+    ensures { MatchResult result (λ r. IsLabels (read_at [] text.now) r.0.items r.1)
+        (λ fault. FailsAs fault (read_at [] text.now)) }
 {
     // Each label is as long in wire form as with its dot, the last one a byte longer; the closing zero byte comes with the name above.
     let mut wire = Vec::with_capacity(alloc, text.len().min(253) + 2)?;
@@ -131,7 +134,8 @@ fn labels_of_text(alloc: Global, text: &[u8]) -> Result<(Vec<u8>, bool), NameErr
 
 /// The same, where a dot alone is the root.
 pub(crate) fn read_text(alloc: Global, text: &[u8]) -> Result<(Vec<u8>, bool), NameError>
-    ensures { MatchResult result (λ r. IsLabels (text_read text.now) r.0.items r.1) (λ fault. FailsAs fault (text_read text.now)) }
+    ensures { MatchResult result (λ r. IsLabels (text_read text.now) r.0.items r.1)
+        (λ fault. FailsAs fault (text_read text.now)) }
 {
     if *text == *b".".as_slice() {
         return Ok((Vec::new(alloc), true));

@@ -61,7 +61,8 @@ pub trait DnsHandle {
     ) -> Result<DnsResponse, NetError>
         ensures sends { OrUnsent self.old self.new result (Rose (sends self.old) (sends self.new)) }
         ensures sent { OrUnsent self.old self.new result (sent self.old (Some query) self.new (reply_of result)) }
-        ensures requested { OrUnsent self.old self.new result (requested self.old (request_of query options) now self.new (reply_of result)) }
+        ensures requested { OrUnsent self.old self.new result
+            (requested self.old (request_of query options) now self.new (reply_of result)) }
         ensures later { faults self.old ≤ faults self.new }
         ensures cause { HasCause (faults self.old) (faults self.new) result }
         ensures told { IsLeft (told self.old) (Some query) (reply_of result) (told self.new) }

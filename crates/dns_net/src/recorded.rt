@@ -74,7 +74,8 @@ fn next_reply(
     request: &DnsRequest,
     by_turn: bool,
 ) -> Result<DnsResponse, NetError>
-    ensures { IsServed (replies_by by_turn list.old) (first_question request.now) (replies_by by_turn list.new) (reply_of result) }
+    ensures { IsServed (replies_by by_turn list.old) (first_question request.now)
+        (replies_by by_turn list.new) (reply_of result) }
 {
     match request.message.queries.first() {
         None => Err(NetError::Timeout),

@@ -23,7 +23,12 @@ impl<'a> Model for Ds<'a> {
 
     ghost Value = { DsValue };
 
-    ghost view = { λ d. record { key_tag = d.key_tag; algorithm = d.algorithm; digest_type = d.digest_type; digest = d.digest.now } };
+    ghost view = { λ d. record {
+      key_tag = d.key_tag;
+      algorithm = d.algorithm;
+      digest_type = d.digest_type;
+      digest = d.digest.now;
+    } };
 }
 
 impl<'a> Ds<'a> {

@@ -76,7 +76,8 @@ impl Model for NsecRecord {
 impl NsecRecord {
     /// What a record says as an NSEC, with its owner; None exactly where its type or its shape is another.
     pub fn of(alloc: Global, from: &Record) -> Result<Option<NsecRecord>, NoMemory>
-        ensures { IfOk result (λ n. n ≡ option_map (λ t. record { owner = from.now.owner; text = t }) (read_as type_nsec nsec_in from.now)) }
+        ensures { IfOk result (λ n.
+            n ≡ option_map (λ t. record { owner = from.now.owner; text = t }) (read_as type_nsec nsec_in from.now)) }
     {
         let Some(nsec) = Nsec::of(from) else {
             return Ok(None);

@@ -34,7 +34,14 @@ impl<'a> Model for Nsec3<'a> {
 
     ghost Value = { Nsec3Value };
 
-    ghost view = { λ n. record { hash_algorithm = n.hash_algorithm; flags = n.flags; iterations = n.iterations; salt = n.salt.now; next = n.next.now; types = n.types } };
+    ghost view = { λ n. record {
+      hash_algorithm = n.hash_algorithm;
+      flags = n.flags;
+      iterations = n.iterations;
+      salt = n.salt.now;
+      next = n.next.now;
+      types = n.types;
+    } };
 }
 
 impl<'a> Nsec3<'a> {
@@ -94,13 +101,24 @@ impl Model for Nsec3Record {
 
     ghost Value = { OwnedNsec3 };
 
-    ghost view = { λ n. record { owner = n.owner; text = record { hash_algorithm = n.hash_algorithm; flags = n.flags; iterations = n.iterations; salt = n.salt; next = n.next; types = n.types } } };
+    ghost view = { λ n. record {
+      owner = n.owner;
+      text = record {
+        hash_algorithm = n.hash_algorithm;
+        flags = n.flags;
+        iterations = n.iterations;
+        salt = n.salt;
+        next = n.next;
+        types = n.types;
+      };
+    } };
 }
 
 impl Nsec3Record {
     /// What a record says as an NSEC3, with its owner; None exactly where its type or its shape is another.
     pub fn of(alloc: Global, from: &Record) -> Result<Option<Nsec3Record>, NoMemory>
-        ensures { IfOk result (λ n. n ≡ option_map (λ t. record { owner = from.now.owner; text = t }) (read_as type_nsec3 nsec3_in from.now)) }
+        ensures { IfOk result (λ n.
+            n ≡ option_map (λ t. record { owner = from.now.owner; text = t }) (read_as type_nsec3 nsec3_in from.now)) }
     {
         let Some(nsec3) = Nsec3::of(from) else {
             return Ok(None);

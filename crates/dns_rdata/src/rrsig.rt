@@ -34,7 +34,17 @@ impl<'a> Model for Rrsig<'a> {
 
     ghost Value = { RrsigValue };
 
-    ghost view = { λ s. record { covered = s.type_covered.0; algorithm = s.algorithm; labels = s.labels; original_ttl = s.original_ttl; expiration = s.expiration.0; inception = s.inception.0; key_tag = s.key_tag; signer = s.signer; signature = s.signature.now } };
+    ghost view = { λ s. record {
+      covered = s.type_covered.0;
+      algorithm = s.algorithm;
+      labels = s.labels;
+      original_ttl = s.original_ttl;
+      expiration = s.expiration.0;
+      inception = s.inception.0;
+      key_tag = s.key_tag;
+      signer = s.signer;
+      signature = s.signature.now;
+    } };
 }
 
 impl<'a> Rrsig<'a> {

@@ -96,7 +96,8 @@ fn signed_octets(
     rising: &BTreeSet<Rdata>,
     sig: &Rrsig,
 ) -> Result<Octets, NoMemory>
-    ensures { IfOk result (λ o. o ≡ head_of sig.now ++ concat (map (signed_record owner.now record_type.0 dns_class.0 sig.now) rising.now.keys)) }
+    ensures { IfOk result (λ o. o ≡ head_of sig.now
+        ++ concat (map (signed_record owner.now record_type.0 dns_class.0 sig.now) rising.now.keys)) }
 {
     let mut text = signed_head(alloc, sig)?;
     let front = record_front(alloc, owner, record_type, dns_class, sig)?;
@@ -130,7 +131,8 @@ fn record_front(
     dns_class: DNSClass,
     sig: &Rrsig,
 ) -> Result<Vec<u8>, NoMemory>
-    ensures { IfOk result (λ v. v.items ≡ wire (signed_owner owner.now sig.now.labels) ++ u16_bytes record_type.0 ++ u16_bytes dns_class.0 ++ u32_bytes sig.now.original_ttl) }
+    ensures { IfOk result (λ v. v.items ≡ wire (signed_owner owner.now sig.now.labels)
+        ++ u16_bytes record_type.0 ++ u16_bytes dns_class.0 ++ u32_bytes sig.now.original_ttl) }
 {
     let mut front = owner_front(alloc, owner, sig.labels)?;
     push_u16(&mut front, record_type.0)?;
@@ -156,7 +158,8 @@ fn owner_front(alloc: Global, owner: &Name, labels: u8) -> Result<Vec<u8>, NoMem
 
 // Appends each record: the front that they share, the rdata's length and the rdata.
 fn push_records(into: &mut Vec<u8>, front: &[u8], rdatas: &BTreeSet<Rdata>) -> Result<(), NoMemory>
-    ensures { OnOk result (into.new.items ≡ into.old.items ++ concat (map (λ rdata. front.now ++ u16_bytes (length rdata) ++ rdata) rdatas.now.keys)) }
+    ensures { OnOk result (into.new.items ≡ into.old.items
+        ++ concat (map (λ rdata. front.now ++ u16_bytes (length rdata) ++ rdata) rdatas.now.keys)) }
 {
     for rdata in rdatas {
         let bytes = rdata.as_slice();

@@ -28,7 +28,15 @@ impl<'a> Model for Soa<'a> {
 
     ghost Value = { SoaValue };
 
-    ghost view = { λ s. record { mname = s.mname; rname = s.rname; serial = s.serial; refresh = s.refresh; retry = s.retry; expire = s.expire; minimum = s.minimum } };
+    ghost view = { λ s. record {
+      mname = s.mname;
+      rname = s.rname;
+      serial = s.serial;
+      refresh = s.refresh;
+      retry = s.retry;
+      expire = s.expire;
+      minimum = s.minimum;
+    } };
 }
 
 impl<'a> Soa<'a> {

@@ -12,7 +12,8 @@ use std::hash::Hash;
 /// then tells them not apart.
 pub fn equal_queries_differ_in_case_alone(_a: &Query, _b: &Query)
     ensures value { ⟦<Query as PartialEq>⟧.eq _a.now _b.now ≡ question_eq _a.now _b.now }
-    ensures folds { IsTrue (question_eq _a.now _b.now) ↔ ((folded _a.now.owner ≡ folded _b.now.owner) × (_a.now.rtype ≡ _b.now.rtype) × (_a.now.class ≡ _b.now.class)) }
+    ensures folds { IsTrue (question_eq _a.now _b.now) ↔ ((folded _a.now.owner ≡ folded _b.now.owner)
+        × (_a.now.rtype ≡ _b.now.rtype) × (_a.now.class ≡ _b.now.class)) }
     ensures order { IsTrue (question_eq _a.now _b.now) ↔ (⟦<Query as Ord>⟧.cmp _a.now _b.now ≡ Equal) }
 {}
 

@@ -23,7 +23,14 @@ impl Model for Record {
 
     ghost Value = { Rr };
 
-    ghost view = { λ r. record { owner = r.name; rtype = r.record_type.0; class = r.dns_class.0; ttl = r.ttl; rdata = r.rdata; proof = r.proof } };
+    ghost view = { λ r. record {
+      owner = r.name;
+      rtype = r.record_type.0;
+      class = r.dns_class.0;
+      ttl = r.ttl;
+      rdata = r.rdata;
+      proof = r.proof;
+    } };
 }
 
 impl Record {

@@ -22,13 +22,25 @@ impl Model for RecordSet {
 
     ghost Value = { RrSet };
 
-    ghost view = { λ s. record { owner = s.name; rtype = s.record_type.0; class = s.dns_class.0; records = s.records.items; signatures = s.rrsigs.items } };
+    ghost view = { λ s. record {
+      owner = s.name;
+      rtype = s.record_type.0;
+      class = s.dns_class.0;
+      records = s.records.items;
+      signatures = s.rrsigs.items;
+    } };
 }
 
 impl RecordSet {
     /// The set of one record: its name, type and class, and no signatures.
     pub fn of(alloc: Global, first: Record) -> Result<RecordSet, NoMemory>
-        ensures { IfOk result (λ s. s ≡ record { owner = first.owner; rtype = first.rtype; class = first.class; records = first ∷ []; signatures = [] }) }
+        ensures { IfOk result (λ s. s ≡ record {
+          owner = first.owner;
+          rtype = first.rtype;
+          class = first.class;
+          records = first ∷ [];
+          signatures = [];
+        }) }
     {
         let name = first.name.try_clone()?;
         let record_type = first.record_type;

@@ -112,7 +112,8 @@ fn push_foreign(
     class: DNSClass,
     record_type: RecordType,
 ) -> Result<(), NoMemory>
-    ensures ok { OnOk result (into.new.items ≡ into.old.items ++ spaced (ending_words (Foreign owner.now class.0 record_type.0))) }
+    ensures ok { OnOk result (into.new.items ≡ into.old.items
+        ++ spaced (ending_words (Foreign owner.now class.0 record_type.0))) }
     ensures fits { OnOk result (IsTrue (fitting_ending (Foreign owner.now class.0 record_type.0))) }
 {
     push_front(into, b" foreign", owner, class)?;

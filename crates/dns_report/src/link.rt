@@ -101,7 +101,8 @@ fn push_key_set(
     keys: &[Rdata],
     links: &[u32],
 ) -> Result<(), NoMemory>
-    ensures ok { OnOk result (into.new.items ≡ into.old.items ++ link_line (KeySet owner.now class.0 (numbered keys.now links.now))) }
+    ensures ok { OnOk result (into.new.items ≡ into.old.items
+        ++ link_line (KeySet owner.now class.0 (numbered keys.now links.now))) }
     ensures fits { OnOk result (IsTrue (fitting_link (KeySet owner.now class.0 (numbered keys.now links.now)))) }
 {
     push_front(into, b"keyset", owner, class)?;

@@ -43,7 +43,8 @@ fn push_denial(into: &mut Vec<u8>, denial: Denial) -> Result<(), NoMemory>
 /// Appends the lines of a message's records: answers, then authorities, then additionals.
 #[tactic(auto, unfolding(crate::specs::Report::records_text))]
 fn push_records(into: &mut Vec<u8>, message: &Message) -> Result<(), NoMemory>
-    ensures ok { OnOk result (into.new.items ≡ into.old.items ++ records_text message.now.answers message.now.authorities message.now.additionals) }
+    ensures ok { OnOk result (into.new.items ≡ into.old.items
+        ++ records_text message.now.answers message.now.authorities message.now.additionals) }
     ensures answers { OnOk result (IsTrue (list_all fitting_record message.now.answers)) }
     ensures authorities { OnOk result (IsTrue (list_all fitting_record message.now.authorities)) }
     ensures additionals { OnOk result (IsTrue (list_all fitting_record message.now.additionals)) }
@@ -96,7 +97,8 @@ fn push_body(into: &mut Vec<u8>, parts: Parts, answer: &DnsResponse) -> Result<(
 pub fn write_report(alloc: Global, answer: &DnsResponse, parts: Parts) -> Result<Vec<u8>, NoMemory>
     ensures text { IfOk result (λ v. v.items ≡ report_text parts answer.now) }
     ensures fits { OnOk result (IsTrue (fitting_view (view_of parts answer.now))) }
-    ensures tells { IfOk result (λ v. (other : View) → IsTrue (fitting_view other) → view_text other ≡ v.items → other ≡ view_of parts answer.now) }
+    ensures tells { IfOk result (λ v. (other : View) → IsTrue (fitting_view other)
+        → view_text other ≡ v.items → other ≡ view_of parts answer.now) }
     ensures chains { IfOk result (λ v. (other : ResponseValue) (j k : Judge) → IsTrue (fitting_view (view_of parts other))
         → report_text parts other ≡ v.items
         → IsTrue (all_justified j other.chains) → IsTrue (all_justified k answer.now.chains) → other.chains ≡ answer.now.chains) }

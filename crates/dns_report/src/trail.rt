@@ -100,7 +100,8 @@ fn push_told_section(
 #[tactic(auto, unfolding(crate::specs::TrailLines::told_text))]
 fn push_told(into: &mut Vec<u8>, told: &Told) -> Result<(), NoMemory>
     ensures ok { OnOk result (into.new.items ≡ into.old.items
-        ++ got_line (heard_view (heard_records told.now.0 told.now.1)) ++ told_text (heard_view (heard_records told.now.0 told.now.1))) }
+        ++ got_line (heard_view (heard_records told.now.0 told.now.1))
+        ++ told_text (heard_view (heard_records told.now.0 told.now.1))) }
     ensures fits { OnOk result (IsTrue (fitting_heard (heard_view (heard_records told.now.0 told.now.1)))) }
 {
     push_got(into, told.code, told.empty)?;

@@ -120,7 +120,8 @@ pub(crate) fn push_front(
     owner: &Name,
     class: DNSClass,
 ) -> Result<(), NoMemory>
-    ensures ok { OnOk result (into.new.items ≡ into.old.items ++ (kind.now ++ (32 ∷ (printed owner.now ++ (32 ∷ class_word class.0))))) }
+    ensures ok { OnOk result (into.new.items ≡ into.old.items
+        ++ (kind.now ++ (32 ∷ (printed owner.now ++ (32 ∷ class_word class.0))))) }
     ensures owner { OnOk result (IsTrue (fitting_name owner.now)) }
     ensures class { IsTrue (is_u16 class.0) }
 {

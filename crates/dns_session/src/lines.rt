@@ -53,7 +53,8 @@ fn place_of(text: &[u8], byte: u8) -> Option<usize>
 
 /// The bytes before the first byte of a value, and those after it.
 pub(crate) fn cut_at(text: &[u8], byte: u8) -> Option<(&[u8], &[u8])>
-    ensures cut { MatchOption result (pieces byte text.now ≡ text.now ∷ []) (λ x. pieces byte text.now ≡ x.0.now ∷ pieces byte x.1.now) }
+    ensures cut { MatchOption result (pieces byte text.now ≡ text.now ∷ [])
+        (λ x. pieces byte text.now ≡ x.0.now ∷ pieces byte x.1.now) }
     ensures shorter { IfSome result (λ x. length x.0.now + 1 + length x.1.now ≡ length text.now) }
 {
     match place_of(text, byte) {

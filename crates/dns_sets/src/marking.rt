@@ -114,7 +114,8 @@ fn add_judged(
     judged: &MarkedSet,
     place: usize,
 ) -> Result<(), NoMemory>
-    ensures { OnOk result ((o : Labels) (k : ℕ) → place_of places.new o k ≡ with_judged (place_of places.old) section judged.now place o k) }
+    ensures { OnOk result ((o : Labels) (k : ℕ) → place_of places.new o k
+        ≡ with_judged (place_of places.old) section judged.now place o k) }
 {
     if !is_section(judged.section, section) {
         return Ok(());
@@ -151,7 +152,9 @@ fn mark(
     requires placed { ArePlacedIn places.now section sets.now }
     requires each { length counts.old ≡ length sets.now }
     requires few { count_at counts.old (place_of places.now next.old.owner (set_rtype_of next.old)) < 2 ^ 63 }
-    ensures mark { next.new ≡ marked_by now (count_at counts.old (place_of places.now next.old.owner (set_rtype_of next.old))) next.old (find (is_about section next.old) sets.now) }
+    ensures mark { next.new ≡ marked_by now
+        (count_at counts.old (place_of places.now next.old.owner (set_rtype_of next.old)))
+        next.old (find (is_about section next.old) sets.now) }
     ensures counts { counts.new ≡ counted counts.old (place_of places.now next.old.owner (set_rtype_of next.old)) next.old }
 {
     let (record_type, readable) = set_rtype(next);

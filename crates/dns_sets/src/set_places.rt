@@ -45,7 +45,8 @@ impl SetPlaces {
         record_type: RecordType,
         place: usize,
     ) -> Result<(), NoMemory>
-        ensures { OnOk result ((o : Labels) (k : ℕ) → place_of self.new o k ≡ with_place (place_of self.old) owner.now record_type.0 place o k) }
+        ensures { OnOk result ((o : Labels) (k : ℕ) → place_of self.new o k
+            ≡ with_place (place_of self.old) owner.now record_type.0 place o k) }
     {
         let key = SetKey::of(owner, record_type);
         match self.at_key(&key) {
@@ -66,7 +67,8 @@ impl SetPlaces {
 
     /// Gives a record's set a place, unless it has one.
     pub(crate) fn add_record(&mut self, met: &Record, place: usize) -> Result<(), NoMemory>
-        ensures { OnOk result ((o : Labels) (k : ℕ) → place_of self.new o k ≡ with_place (place_of self.old) met.now.owner met.now.rtype place o k) }
+        ensures { OnOk result ((o : Labels) (k : ℕ) → place_of self.new o k
+            ≡ with_place (place_of self.old) met.now.owner met.now.rtype place o k) }
     {
         self.add(&met.name, met.record_type, place)
     }
