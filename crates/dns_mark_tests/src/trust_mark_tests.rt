@@ -41,6 +41,14 @@ fn anchors(alloc: Global, is_trusted: bool) -> Result<TrustAnchors, Fail> {
     Ok(anchors)
 }
 
+/// A key set that anchors decide.
+fn anchored(step: KeysStep) -> Result<ChainedSet, Fail> {
+    match step {
+        KeysStep::Done(chained) => Ok(chained),
+        KeysStep::NeedsDs(_) => Err("the root has no DS".into()),
+    }
+}
+
 /// The mark of the root's key set at second 1500, the place of the signature that decided, and the number of links.
 fn keys_mark(
     alloc: Global,
@@ -59,7 +67,7 @@ fn keys_mark(
         anchors: &anchors,
         moment: 1500,
     };
-    let ChainedSet { judged, chain } = judged_keys(alloc, &judge, placed)?;
+    let ChainedSet { judged, chain } = anchored(judged_keys(alloc, &judge, placed)?)?;
     Ok((judged.mark, judged.sig, chain.len()))
 }
 
@@ -258,7 +266,7 @@ fn unsigned_mark(alloc: Global, letters: &[u8]) -> Result<Proof, Fail> {
         anchors: &anchors,
         moment: 1500,
     };
-    Ok(judged_keys(alloc, &judge, placed)?.judged.mark)
+    Ok(anchored(judged_keys(alloc, &judge, placed)?)?.judged.mark)
 }
 
 #[test]

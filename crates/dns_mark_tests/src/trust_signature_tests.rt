@@ -122,7 +122,7 @@ fn is_timed(alloc: Global, row: &Timed) -> Result<bool, Fail> {
     let rdata = timed_rdata(alloc, row)?;
     let sig = signature_of(alloc, ".", rdata.as_slice())?;
     let key = key_record(alloc, ".", KEY)?;
-    Ok(check(&sig, &servers(alloc)?, &key, row.now) == row.want)
+    Ok(RrsigValidity::check(&sig, &servers(alloc)?, &key, row.now) == row.want)
 }
 
 #[test]
@@ -149,7 +149,7 @@ fn checked(
 ) -> Result<RrsigValidity, Fail> {
     let sig = signature_of(alloc, sig_owner, sig)?;
     let key = key_record(alloc, owner, key)?;
-    Ok(check(&sig, &servers(alloc)?, &key, 1500))
+    Ok(RrsigValidity::check(&sig, &servers(alloc)?, &key, 1500))
 }
 
 #[test]
@@ -201,7 +201,7 @@ const TYPED: [Typed; 4] = [
 fn is_typed(alloc: Global, row: &Typed) -> Result<bool, Fail> {
     let sig = record(alloc, ".", row.sig, OVER_NS)?;
     let key = record(alloc, ".", row.key, KEY)?;
-    Ok(check(&sig, &servers(alloc)?, &key, 1500) == row.want)
+    Ok(RrsigValidity::check(&sig, &servers(alloc)?, &key, 1500) == row.want)
 }
 
 #[test]

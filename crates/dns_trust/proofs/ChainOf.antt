@@ -1,5 +1,5 @@
 -- The chain of the first verdict that proves a set, and the numbers of keys.
-use Rattle.std.proofs.Common.{◌≡◌, ℕ, ◌+◌, ◌<◌, List, [], ◌∷◌, ◌++◌, length, drop, refl, sym, ap, ◌∙◌, append_assoc}
+use Rattle.std.proofs.Common.{◌≡◌, ℕ, ◌+◌, ◌<◌, List, [], ◌∷◌, ◌++◌, length, drop, refl, sym, ap, ◌∙◌, arith, append_assoc}
 use Rattle.std.proofs.lemmas.List.{drop_more, map-append}
 use Rattle.std.specs.Prelude.{map}
 use Rattle.dns_model.specs.Chains.{LinkValue}
@@ -20,11 +20,13 @@ chain_else-append [] v chain = refl
 chain_else-append (w ∷ vs) v chain = ap (chain_if_proved w.verdict w.chain) (chain_else-append vs v chain)
 
 -- one number more
-pub numbers_more : (done : List ℕ) (keys : List (List ℕ)) (i : ℕ) → i < length keys
-    → (done ++ i ∷ []) ++ numbers_from (i + 1) (drop (i + 1) keys) ≡ done ++ numbers_from i (drop i keys)
-numbers_more done keys i h =
-    append_assoc done (i ∷ []) (numbers_from (i + 1) (drop (i + 1) keys))
-    ∙ ap (λ ks. done ++ numbers_from i ks) (sym (drop_more keys i [] h))
+pub numbers_more : (done : List ℕ) (keys : List (List ℕ)) (first i : ℕ) → i < length keys
+    → (done ++ (first + i) ∷ []) ++ numbers_from (first + (i + 1)) (drop (i + 1) keys) ≡ done ++ numbers_from (first + i) (drop i keys)
+numbers_more done keys first i h =
+    let next : first + (i + 1) ≡ first + i + 1 = omega arith in
+    append_assoc done ((first + i) ∷ []) (numbers_from (first + (i + 1)) (drop (i + 1) keys))
+    ∙ ap (λ n. done ++ (first + i) ∷ numbers_from n (drop (i + 1) keys)) next
+    ∙ ap (λ ks. done ++ numbers_from (first + i) ks) (sym (drop_more keys i [] h))
 
 -- the last verdict is taken off
 pub chain_else_pop : {V : Type 0} (f : V → ChainedVerdict) (old rest : List V) (v : V) (chain : List LinkValue) → old ≡ rest ++ v ∷ []

@@ -1,5 +1,5 @@
 -- Which keys of a zone are tried, as the tags are counted.
-use Rattle.std.proofs.Common.{◌≡◌, ℕ, ◌+◌, ◌<◌, ◌≤◌, Bool, true, false, ◌&&◌, ◌||◌, cond, List, [], ◌∷◌, ◌++◌, length, take, drop, refl, sym, ap, ◌∙◌, arith, zero-add}
+use Rattle.std.proofs.Common.{◌≡◌, ℕ, ◌+◌, ◌<◌, ◌≤◌, Bool, true, false, ◌&&◌, ◌||◌, cond, List, [], ◌∷◌, ◌++◌, length, take, drop, refl, sym, ap, ◌∙◌, arith, zero-add, append_assoc}
 use Rattle.std.specs.Prelude.{nat_lt, ◌==◌, min, None, Some, slice_index_or}
 use Rattle.std.specs.List.{filter, find, count_by, list_any}
 use Rattle.std.specs.Ordering.{nat_cmp}
@@ -33,6 +33,10 @@ zone_keys zone keys = filter (is_key_of zone) keys
 -- the keys that are left, after those before
 abbrev left_after : Labels → List Rr → ℕ → List Rr
 left_after zone keys i = early_after (zone_keys zone (take i keys)) (zone_keys zone (drop i keys))
+
+-- the tags of the keys so far are counted
+abbrev pub AreCounted : Labels → List Rr → ℕ → BTreeMap ℕ ℕ → Type 0
+AreCounted zone keys i m = (r : Rr) → count_in m (key_tag_of r.rdata) ≡ min 2 (count_by (same_tag r) (zone_keys zone (take i keys)))
 
 -- the tags of the keys so far are counted, and a search goes on among the keys that are left
 pub record Tried (p : Rr → Bool) (zone : Labels) (keys : List Rr) (i : ℕ) (m : BTreeMap ℕ ℕ) : Type 0 where
@@ -83,18 +87,18 @@ left_step zone keys i key false few h is can tried =
     ap (early_after (zone_keys zone (take i keys))) here ∙ ap (λ earlier. early_after earlier (zone_keys zone (drop (i + 1) keys))) (sym more)
 
 -- the same by the counts
-left_by : (p : Rr → Bool) (zone : Labels) (keys : List Rr) (i : ℕ) (m : BTreeMap ℕ ℕ) (key : Rr) → i < length keys → key ≡ slice_index_or keys i key → Tried p zone keys i m
+left_by : (zone : Labels) (keys : List Rr) (i : ℕ) (m : BTreeMap ℕ ℕ) (key : Rr) → i < length keys → key ≡ slice_index_or keys i key → AreCounted zone keys i m
     → left_after zone keys i ≡ cond (is_tried zone m key) (key ∷ left_after zone keys (i + 1)) (left_after zone keys (i + 1))
-left_by p zone keys i m key h is t =
+left_by zone keys i m key h is counted =
     let few : nat_lt (count_in m (key_tag_of key.rdata)) 2 ≡ nat_lt (count_by (same_tag key) (zone_keys zone (take i keys))) 2 =
-    ap (λ n. nat_lt n 2) (t.counted key) ∙ least_below (count_by (same_tag key) (zone_keys zone (take i keys))) in
+    ap (λ n. nat_lt n 2) (counted key) ∙ least_below (count_by (same_tag key) (zone_keys zone (take i keys))) in
     left_step zone keys i key (is_key_of zone key) (nat_lt (count_in m (key_tag_of key.rdata)) 2) h is refl few
 
 -- the key at a place is tried, and is the one
 pub tried_here : (p : Rr → Bool) (zone : Labels) (keys : List Rr) (i : ℕ) (m : BTreeMap ℕ ℕ) (key : Rr) → i < length keys → key ≡ slice_index_or keys i key → Tried p zone keys i m
     → is_tried zone m key ≡ true → p key ≡ true → find p (counted_keys zone keys) ≡ Some key
 tried_here p zone keys i m key h is t can good =
-    sym t.searched ∙ ap (find p) (left_by p zone keys i m key h is t)
+    sym t.searched ∙ ap (find p) (left_by zone keys i m key h is t.counted)
     ∙ ap (λ b. find p (cond b (key ∷ left_after zone keys (i + 1)) (left_after zone keys (i + 1)))) can
     ∙ ap (λ b. cond b (Some key) (find p (left_after zone keys (i + 1)))) good
 
@@ -133,27 +137,65 @@ count_step zone keys i m key r true h is can t =
     ∙ ap (λ rs. min 2 (count_by (same_tag r) rs)) (sym more)
 
 -- the counts, once one key more was met
-count_more : (p : Rr → Bool) (zone : Labels) (keys : List Rr) (i : ℕ) (m n : BTreeMap ℕ ℕ) (key : Rr) → i < length keys → key ≡ slice_index_or keys i key → Tried p zone keys i m
-    → ((t : ℕ) → count_in n t ≡ count_after zone m key t)
-    → (r : Rr) → count_in n (key_tag_of r.rdata) ≡ min 2 (count_by (same_tag r) (zone_keys zone (take (i + 1) keys)))
-count_more p zone keys i m n key h is t after r = after (key_tag_of r.rdata) ∙ count_step zone keys i m key r (is_key_of zone key) h is refl (t.counted r)
+count_more : (zone : Labels) (keys : List Rr) (i : ℕ) (m n : BTreeMap ℕ ℕ) (key : Rr) → i < length keys → key ≡ slice_index_or keys i key → AreCounted zone keys i m
+    → ((t : ℕ) → count_in n t ≡ count_after zone m key t) → AreCounted zone keys (i + 1) n
+count_more zone keys i m n key h is counted after r = after (key_tag_of r.rdata) ∙ count_step zone keys i m key r (is_key_of zone key) h is refl (counted r)
 
 -- a key that isn't tried is passed over
 pub tried_skip : (p : Rr → Bool) (zone : Labels) (keys : List Rr) (i : ℕ) (m n : BTreeMap ℕ ℕ) (key : Rr) → i < length keys → key ≡ slice_index_or keys i key → Tried p zone keys i m
     → ((t : ℕ) → count_in n t ≡ count_after zone m key t) → is_tried zone m key ≡ false → Tried p zone keys (i + 1) n
 tried_skip p zone keys i m n key h is t after cannot = record {
-  counted = count_more p zone keys i m n key h is t after;
-  searched = sym (ap (find p) (left_by p zone keys i m key h is t) ∙ ap (λ b. find p (cond b (key ∷ left_after zone keys (i + 1)) (left_after zone keys (i + 1)))) cannot) ∙ t.searched;
+  counted = count_more zone keys i m n key h is t.counted after;
+  searched = sym (ap (find p) (left_by zone keys i m key h is t.counted) ∙ ap (λ b. find p (cond b (key ∷ left_after zone keys (i + 1)) (left_after zone keys (i + 1)))) cannot) ∙ t.searched;
 }
 
 -- a key that is tried in vain is passed over
 pub tried_fail : (p : Rr → Bool) (zone : Labels) (keys : List Rr) (i : ℕ) (m n : BTreeMap ℕ ℕ) (key : Rr) → i < length keys → key ≡ slice_index_or keys i key → Tried p zone keys i m
     → ((t : ℕ) → count_in n t ≡ count_after zone m key t) → is_tried zone m key ≡ true → p key ≡ false → Tried p zone keys (i + 1) n
 tried_fail p zone keys i m n key h is t after can bad = record {
-  counted = count_more p zone keys i m n key h is t after;
-  searched = sym (ap (find p) (left_by p zone keys i m key h is t) ∙ ap (λ b. find p (cond b (key ∷ left_after zone keys (i + 1)) (left_after zone keys (i + 1)))) can
+  counted = count_more zone keys i m n key h is t.counted after;
+  searched = sym (ap (find p) (left_by zone keys i m key h is t.counted) ∙ ap (λ b. find p (cond b (key ∷ left_after zone keys (i + 1)) (left_after zone keys (i + 1)))) can
       ∙ ap (λ b. cond b (Some key) (find p (left_after zone keys (i + 1)))) bad) ∙ t.searched;
 }
+
+-- the tags of the keys so far are counted, and those of them that count are taken
+pub record Taken (zone : Labels) (keys : List Rr) (i : ℕ) (m : BTreeMap ℕ ℕ) (taken : List Rr) : Type 0 where
+  pub counted : (r : Rr) → count_in m (key_tag_of r.rdata) ≡ min 2 (count_by (same_tag r) (zone_keys zone (take i keys)))
+  pub joined : taken ++ left_after zone keys i ≡ counted_keys zone keys
+
+-- no key was met
+pub none_taken : (zone : Labels) (keys : List Rr) (m : BTreeMap ℕ ℕ) (taken : List Rr) → m.entries ≡ [] → taken ≡ [] → Taken zone keys 0 m taken
+unfolding count_in
+none_taken zone keys m taken empty none = record {
+  counted = λ r. rw empty refl;
+  joined = ap (λ rs. rs ++ left_after zone keys 0) none ∙ sym (first_two-after (zone_keys zone keys));
+}
+
+-- a key that counts is taken
+pub taken_more : (zone : Labels) (keys : List Rr) (i : ℕ) (m n : BTreeMap ℕ ℕ) (key : Rr) (taken more : List Rr) → i < length keys → key ≡ slice_index_or keys i key
+    → Taken zone keys i m taken → ((t : ℕ) → count_in n t ≡ count_after zone m key t) → is_tried zone m key ≡ true → more ≡ taken ++ key ∷ []
+    → Taken zone keys (i + 1) n more
+taken_more zone keys i m n key taken more h is t after can grown = record {
+  counted = count_more zone keys i m n key h is t.counted after;
+  joined = ap (λ rs. rs ++ left_after zone keys (i + 1)) grown ∙ append_assoc taken (key ∷ []) (left_after zone keys (i + 1))
+      ∙ sym (ap (λ rs. taken ++ rs) (left_by zone keys i m key h is t.counted
+      ∙ ap (λ b. cond b (key ∷ left_after zone keys (i + 1)) (left_after zone keys (i + 1))) can)) ∙ t.joined;
+}
+
+-- another is passed over
+pub taken_same : (zone : Labels) (keys : List Rr) (i : ℕ) (m n : BTreeMap ℕ ℕ) (key : Rr) (taken : List Rr) → i < length keys → key ≡ slice_index_or keys i key
+    → Taken zone keys i m taken → ((t : ℕ) → count_in n t ≡ count_after zone m key t) → is_tried zone m key ≡ false → Taken zone keys (i + 1) n taken
+taken_same zone keys i m n key taken h is t after cannot = record {
+  counted = count_more zone keys i m n key h is t.counted after;
+  joined = sym (ap (λ rs. taken ++ rs) (left_by zone keys i m key h is t.counted
+      ∙ ap (λ b. cond b (key ∷ left_after zone keys (i + 1)) (left_after zone keys (i + 1))) cannot)) ∙ t.joined;
+}
+
+-- no key is left
+pub taken_end : (zone : Labels) (keys : List Rr) (i : ℕ) (m : BTreeMap ℕ ℕ) (taken : List Rr) → length keys ≤ i → Taken zone keys i m taken → taken ≡ counted_keys zone keys
+unfolding early_after
+taken_end zone keys i m taken h t =
+    sym (append-nil taken) ∙ sym (ap (λ rest. taken ++ early_after (zone_keys zone (take i keys)) (zone_keys zone rest)) (drop_all i keys h)) ∙ t.joined
 
 any_case : (zone : Labels) (can : Bool) (key : Rr) (keys : List Rr)
     → by_insecure_key (early_after [] (zone_keys zone keys)) ≡ cond (list_any (is_key_of zone) keys) Excused Failed

@@ -7,3 +7,8 @@ pub mod Counts
 pub mod Found
 pub mod Alike
 pub mod Within
+pub mod Once
+pub mod Signing
+pub mod Delegated
+pub mod ByDs
+pub mod Shown

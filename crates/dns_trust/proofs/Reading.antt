@@ -9,9 +9,7 @@ use Rattle.dns_model.specs.Signing.{signed_bytes}
 use Rattle.dns_model.specs.Keys.{usable_key}
 use Rattle.dns_model.specs.Chains.{Judge, rdatas_of}
 use Rattle.dns_judgement.specs.Validity.{validity, is_valid, is_good_by}
-use Rattle.dns_judgement.specs.Marks.{is_anchored_key}
 use Rattle.dns_judgement.specs.MarkParts.{sig_validity, is_accepted}
-use Rattle.dns_trust.specs.Verdicts.{is_signer}
 
 -- by a key, where the signature is read
 pub read_good : (j : Judge) (set : RrSet) (r key : Rr) (sig : RrsigValue) → rrsig_of r ≡ Some sig
@@ -65,8 +63,8 @@ find_step : (b : Bool) (x : Rr) (o : Option Rr) → b ≡ false → o ≡ None �
 find_step true x o b_is h = cc
 find_step false x o b_is h = h
 
-pub unread_signer : (j : Judge) (set : RrSet) (r : Rr) (keys : List Rr) → rrsig_of r ≡ None → find (is_signer j set r) keys ≡ None
+-- no key makes a signature good that can't be read
+pub unread_signer : (j : Judge) (set : RrSet) (r : Rr) (keys : List Rr) → rrsig_of r ≡ None → find (is_good_by j set r) keys ≡ None
 unread_signer j set r [] h = refl
 unread_signer j set r (key ∷ keys) h =
-    find_step (is_signer j set r key) key (find (is_signer j set r) keys)
-    (and_false (is_anchored_key j set key) (is_good_by j set r key) (unread_good j set r key h)) (unread_signer j set r keys h)
+    find_step (is_good_by j set r key) key (find (is_good_by j set r) keys) (unread_good j set r key h) (unread_signer j set r keys h)

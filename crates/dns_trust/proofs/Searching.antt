@@ -1,12 +1,12 @@
 -- Searches that go on among the elements that are left.
 use Rattle.std.proofs.Common.{◌≡◌, ℕ, ◌+◌, ◌<◌, ◌≤◌, Bool, true, false, cond, List, [], ◌∷◌, length, map, drop, refl, sym, ap, ◌∙◌}
 use Rattle.std.proofs.lemmas.List.{drop_more, drop_all, length-map}
-use Rattle.std.specs.Prelude.{None, Some, slice_index_or, not}
+use Rattle.std.specs.Prelude.{Option, None, Some, slice_index_or, not}
 use Rattle.std.specs.List.{find, position, prefix_len}
 use Rattle.dns_model.specs.Records.{Rr, RrSet}
 use Rattle.dns_model.specs.Chains.{Judge}
-use Rattle.dns_judgement.specs.Marks.{anchored_signer}
 use Rattle.dns_judgement.proofs.FirstLemmas.{signed_from, signed_or, signed_none, signed_more}
+use Rattle.dns_trust.specs.Signers.{signer_of, first_signed_by}
 
 -- the element at the place is the one
 pub find_here : {X : Type 0} (p : X → Bool) (xs : List X) (i : ℕ) (x : X) → i < length xs → x ≡ slice_index_or xs i x → p x ≡ true
@@ -32,26 +32,32 @@ prefix_len-map p f (x ∷ xs) = rw (prefix_len-map p f xs) refl
 pub position-map : {X Y : Type 0} (p : Y → Bool) (f : X → Y) (xs : List X) → position p (map f xs) ≡ position (λ x. p (f x)) xs
 position-map p f xs = rw (prefix_len-map (λ y. not (p y)) f xs, length-map xs f) refl
 
--- the signature at the place is good by an anchored key
-pub signed_here : (j : Judge) (set : RrSet) (rs : List Rr) (i : ℕ) (r key : Rr) → i < length rs → r ≡ slice_index_or rs i r
-    → anchored_signer j set r ≡ Some key
-    → signed_from j set i (drop i rs) ≡ Some (record { place = i; signature = r; key = key })
-signed_here j set rs i r key h is passed =
-    ap (signed_from j set i) (drop_more rs i r h)
-    ∙ ap (λ y. signed_from j set i (y ∷ drop (i + 1) rs)) (sym is)
-    ∙ signed_more j set i r (drop (i + 1) rs)
-    ∙ ap (λ o. signed_or i r o (signed_from j set (i + 1) (drop (i + 1) rs))) passed
+-- ---- the first signature that is good by one of some keys
 
--- it is good by no key
-pub signed_past : (j : Judge) (set : RrSet) (rs : List Rr) (i : ℕ) (r : Rr) → i < length rs → r ≡ slice_index_or rs i r
-    → anchored_signer j set r ≡ None
-    → signed_from j set (i + 1) (drop (i + 1) rs) ≡ signed_from j set i (drop i rs)
-signed_past j set rs i r h is failed =
-    sym (ap (signed_from j set i) (drop_more rs i r h)
-    ∙ ap (λ y. signed_from j set i (y ∷ drop (i + 1) rs)) (sym is)
-    ∙ signed_more j set i r (drop (i + 1) rs)
-    ∙ ap (λ o. signed_or i r o (signed_from j set (i + 1) (drop (i + 1) rs))) failed)
+pub first_signed_by-from : (j : Judge) (set : RrSet) (keys rs : List Rr) → first_signed_by j set keys rs ≡ signed_from (signer_of j set keys) 0 rs
+unfolding first_signed_by signed_from
+first_signed_by-from j set keys rs = refl
+
+-- the signature at the place has a signer
+pub signed_here : (signer : Rr → Option Rr) (rs : List Rr) (i : ℕ) (r key : Rr) → i < length rs → r ≡ slice_index_or rs i r
+    → signer r ≡ Some key
+    → signed_from signer i (drop i rs) ≡ Some (record { place = i; signature = r; key = key })
+signed_here signer rs i r key h is passed =
+    ap (signed_from signer i) (drop_more rs i r h)
+    ∙ ap (λ y. signed_from signer i (y ∷ drop (i + 1) rs)) (sym is)
+    ∙ signed_more signer i r (drop (i + 1) rs)
+    ∙ ap (λ o. signed_or i r o (signed_from signer (i + 1) (drop (i + 1) rs))) passed
+
+-- it has none
+pub signed_past : (signer : Rr → Option Rr) (rs : List Rr) (i : ℕ) (r : Rr) → i < length rs → r ≡ slice_index_or rs i r
+    → signer r ≡ None
+    → signed_from signer (i + 1) (drop (i + 1) rs) ≡ signed_from signer i (drop i rs)
+signed_past signer rs i r h is failed =
+    sym (ap (signed_from signer i) (drop_more rs i r h)
+    ∙ ap (λ y. signed_from signer i (y ∷ drop (i + 1) rs)) (sym is)
+    ∙ signed_more signer i r (drop (i + 1) rs)
+    ∙ ap (λ o. signed_or i r o (signed_from signer (i + 1) (drop (i + 1) rs))) failed)
 
 -- no signature is left
-pub signed_end : (j : Judge) (set : RrSet) (rs : List Rr) (i : ℕ) → length rs ≤ i → signed_from j set i (drop i rs) ≡ None
-signed_end j set rs i h = ap (signed_from j set i) (drop_all i rs h) ∙ signed_none j set i
+pub signed_end : (signer : Rr → Option Rr) (rs : List Rr) (i : ℕ) → length rs ≤ i → signed_from signer i (drop i rs) ≡ None
+signed_end signer rs i h = ap (signed_from signer i) (drop_all i rs h) ∙ signed_none signer i

@@ -1,4 +1,5 @@
 pub mod Judge
+pub mod Validities
 pub mod Verdicts
 pub mod Built
 pub mod Counting
@@ -6,3 +7,8 @@ pub mod Finding
 pub mod ByteSets
 pub mod Listing
 pub mod Anchoring
+pub mod Delegating
+pub mod Signers
+pub mod Rows
+pub mod Steps
+pub mod KeysMarks

@@ -1,13 +1,15 @@
-ghost use Rattle.std.specs.Prelude.{◌≡◌, IfOk, map};
-ghost use Rattle.dns_model.specs.Chains.{Anchored, KeySet, Signed, rdatas_of as rdatas_in};
+ghost use Rattle.std.specs.Prelude.{◌≡◌, ◌+◌, ◌-◌, ◌++◌, IfOk, [], length, map};
+ghost use Rattle.dns_model.specs.Chains.{KeySet, Signed, rdatas_of as rdatas_in};
 ghost use Rattle.dns_net.specs.Link.{link_value};
-ghost use Rattle.dns_judgement.specs.Chained.{numbers_from, signed_chain as signed_chain_of, self_signed_chain as self_signed_chain_of, anchored_chain as anchored_chain_of};
-ghost use Rattle.dns_trust.specs.Verdicts.{signed_value};
+ghost use Rattle.dns_judgement.specs.Chained.{numbers_from, signed_chain as signed_chain_of, self_signed_chain as self_signed_chain_of, whole_chain, anchored_link as anchored_link_of, matched_link as matched_link_of, matched_by, trusted_link as trusted_link_of};
+ghost use Rattle.dns_trust.specs.Judge.{judge_of};
+ghost use Rattle.dns_trust.specs.Signers.{signed_value};
 
-use crate::keys::SignedBy;
-use dns_name::{Name, NoMemory};
-use dns_net::{Link, clone_links};
-use dns_record::{DNSClass, Rdata, Record, RecordSet};
+use crate::keys::is_anchored;
+use crate::{DsIndex, Judge, SignedBy};
+use dns_name::NoMemory;
+use dns_net::{Link, Verifier, clone_links};
+use dns_record::{Rdata, Record, RecordSet};
 use std::alloc::Global;
 
 // The chain of a key set with one link more: its key signed this set.
@@ -18,7 +20,8 @@ pub(crate) fn signed_chain(
     chain: &Vec<Link>,
     key: &Record,
 ) -> Result<Vec<Link>, NoMemory>
-    ensures { IfOk result (λ v. map link_value v.items ≡ signed_chain_of set.now sig.now (map link_value chain.now.items) key.now) }
+    ensures { IfOk result (λ v. map link_value v.items ≡
+        signed_chain_of set.now sig.now (map link_value chain.now.items) key.now) }
 {
     let Ok(key_link) = u32::try_from(chain.len().saturating_sub(1)) else {
         return Err(NoMemory);
@@ -29,65 +32,170 @@ pub(crate) fn signed_chain(
     Ok(links)
 }
 
-// The two links of a key set that an anchored key of it signed.
+// Behind other links the link of a key of a key set, and then the set that it signed.
 pub(crate) fn self_signed_chain(
     alloc: Global,
     set: &RecordSet,
+    front: Vec<Link>,
+    link: Link,
     by: &SignedBy<'_>,
 ) -> Result<Vec<Link>, NoMemory>
-    ensures { IfOk result (λ v. map link_value v.items ≡ self_signed_chain_of set.now (signed_value by.now)) }
+    ensures { IfOk result (λ v. map link_value v.items ≡
+        self_signed_chain_of set.now (map link_value front.items) (link_value link) (signed_value by.now)) }
 {
-    let mut links = Vec::new(alloc);
-    let anchored = anchored_link(&set.name, set.dns_class, by.key)?;
-    links.push(anchored)?;
-    let link = signed_link(alloc, set, by.signature, 0, by.key)?;
+    let Ok(key_link) = u32::try_from(front.len()) else {
+        return Err(NoMemory);
+    };
+    let mut links = front;
     links.push(link)?;
+    let signed = signed_link(alloc, set, by.signature, key_link, by.key)?;
+    links.push(signed)?;
     Ok(links)
 }
 
 // A link for each key of a wholly anchored key set, and then the set.
 pub(crate) fn anchored_chain(alloc: Global, set: &RecordSet) -> Result<Vec<Link>, NoMemory>
-    ensures { IfOk result (λ v. map link_value v.items ≡ anchored_chain_of set.now) }
+    ensures { IfOk result (λ v. map link_value v.items ≡ whole_chain set.now [] (anchored_link_of set.now)) }
 {
-    let mut links = anchored_links(alloc, &set.name, set.dns_class, &set.records)?;
-    let link = key_set_link(alloc, set)?;
+    let mut links = anchored_links(alloc, set)?;
+    let link = key_set_link(alloc, set, 0)?;
     links.push(link)?;
     Ok(links)
 }
 
-// A link for each key of an owner, in order.
-fn anchored_links(
+// Behind the chain of a DS set a link for each key of a key set that is anchored or matched, and then the set.
+pub(crate) fn trusted_chain<V: Verifier>(
     alloc: Global,
-    owner: &Name,
-    class: DNSClass,
-    keys: &[Record],
+    judge: &Judge<'_, V>,
+    set: &RecordSet,
+    front: &Vec<Link>,
+    ds: &DsIndex<'_>,
 ) -> Result<Vec<Link>, NoMemory>
-    ensures { IfOk result (λ v. map link_value v.items ≡ map (Anchored owner.now class.0) (rdatas_in keys.now)) }
+    requires { ds.now.owner ≡ set.now.owner }
+    ensures { IfOk result (λ v. map link_value v.items ≡ whole_chain set.now (map link_value front.now.items)
+        (trusted_link_of (judge_of V.answers judge.now) set.now (length front.now.items - 1) ds.now.records)) }
+{
+    let mut links = trusted_links(judge, set, front, ds)?;
+    let link = key_set_link(alloc, set, front.len())?;
+    links.push(link)?;
+    Ok(links)
+}
+
+// A link for each key of a set, in order.
+fn anchored_links(alloc: Global, set: &RecordSet) -> Result<Vec<Link>, NoMemory>
+    ensures { IfOk result (λ v. map link_value v.items ≡ map (anchored_link_of set.now) set.now.records) }
 {
     let mut links = Vec::new(alloc);
-    for key in keys {
-        let link = anchored_link(owner, class, key)?;
+    for key in &set.records {
+        let link = anchored_link(set, key)?;
         links.push(link)?;
     }
     Ok(links)
 }
 
-// The link of an anchored key of an owner.
-fn anchored_link(owner: &Name, class: DNSClass, key: &Record) -> Result<Link, NoMemory>
-    ensures { IfOk result (λ l. link_value l ≡ Anchored owner.now class.0 key.now.rdata) }
+// Behind the chain of a DS set a link for each key of a set, in order.
+fn trusted_links<V: Verifier>(
+    judge: &Judge<'_, V>,
+    set: &RecordSet,
+    front: &Vec<Link>,
+    ds: &DsIndex<'_>,
+) -> Result<Vec<Link>, NoMemory>
+    requires { ds.now.owner ≡ set.now.owner }
+    ensures { IfOk result (λ v. map link_value v.items ≡ map link_value front.now.items
+        ++ map (trusted_link_of (judge_of V.answers judge.now) set.now (length front.now.items - 1) ds.now.records)
+        set.now.records) }
 {
-    let owner = owner.try_clone()?;
-    let key = key.rdata.try_clone()?;
-    Ok(Link::Anchored { owner, class, key })
+    let ds_link = last_number(front)?;
+    let mut links = clone_links(front)?;
+    for key in &set.records {
+        let link = trusted_link(judge, set, ds_link, ds, key)?;
+        links.push(link)?;
+    }
+    Ok(links)
 }
 
-// The link of a key set, whose keys the first links show.
-fn key_set_link(alloc: Global, set: &RecordSet) -> Result<Link, NoMemory>
-    ensures { IfOk result (λ l. link_value l ≡ KeySet set.now.owner set.now.class (rdatas_in set.now.records) (numbers_from 0 (rdatas_in set.now.records))) }
+// The number of the last link of a chain.
+pub(crate) fn last_number(chain: &Vec<Link>) -> Result<u32, NoMemory>
+    ensures { IfOk result (λ n. n ≡ length chain.now.items - 1) }
+{
+    match u32::try_from(chain.len().saturating_sub(1)) {
+        Ok(number) => Ok(number),
+        Err(_) => Err(NoMemory),
+    }
+}
+
+// The link by which a key of a set is trusted that is anchored or matched.
+fn trusted_link<V: Verifier>(
+    judge: &Judge<'_, V>,
+    set: &RecordSet,
+    ds_link: u32,
+    ds: &DsIndex<'_>,
+    key: &Record,
+) -> Result<Link, NoMemory>
+    requires { ds.now.owner ≡ set.now.owner }
+    ensures { IfOk result (λ l. link_value l ≡
+        trusted_link_of (judge_of V.answers judge.now) set.now ds_link ds.now.records key.now) }
+{
+    if is_anchored(judge, set, key) {
+        return anchored_link(set, key);
+    }
+    matched_link(judge, set, ds_link, ds, key)
+}
+
+// The link by which a key of a set is trusted that a DS matches; without one it is the link of an anchored key.
+pub(crate) fn matched_link<V: Verifier>(
+    judge: &Judge<'_, V>,
+    set: &RecordSet,
+    ds_link: u32,
+    ds: &DsIndex<'_>,
+    key: &Record,
+) -> Result<Link, NoMemory>
+    requires { ds.now.owner ≡ set.now.owner }
+    ensures { IfOk result (λ l. link_value l ≡ matched_by (judge_of V.answers judge.now) set.now ds_link ds.now.records key.now) }
+{
+    match ds.matching(judge.verifier, key) {
+        Some(record) => link_by_ds(set, ds_link, key, record),
+        None => anchored_link(set, key),
+    }
+}
+
+// The link of a key of a set that is matched by this DS.
+fn link_by_ds(set: &RecordSet, ds_link: u32, key: &Record, ds: &Record) -> Result<Link, NoMemory>
+    ensures { IfOk result (λ l. link_value l ≡ matched_link_of set.now ds_link key.now ds.now) }
+{
+    let owner = set.name.try_clone()?;
+    let key = key.rdata.try_clone()?;
+    let ds = ds.rdata.try_clone()?;
+    Ok(Link::Matched {
+        owner,
+        class: set.dns_class,
+        key,
+        ds_link,
+        ds,
+    })
+}
+
+// The link of an anchored key of a set.
+pub(crate) fn anchored_link(set: &RecordSet, key: &Record) -> Result<Link, NoMemory>
+    ensures { IfOk result (λ l. link_value l ≡ anchored_link_of set.now key.now) }
+{
+    let owner = set.name.try_clone()?;
+    let key = key.rdata.try_clone()?;
+    Ok(Link::Anchored {
+        owner,
+        class: set.dns_class,
+        key,
+    })
+}
+
+// The link of a key set, whose keys the links from a number on show.
+fn key_set_link(alloc: Global, set: &RecordSet, first: usize) -> Result<Link, NoMemory>
+    ensures { IfOk result (λ l. link_value l ≡
+        KeySet set.now.owner set.now.class (rdatas_in set.now.records) (numbers_from first (rdatas_in set.now.records))) }
 {
     let owner = set.name.try_clone()?;
     let keys = rdatas_of(alloc, &set.records)?;
-    let links = numbers(alloc, &keys)?;
+    let links = numbers(alloc, first, &keys)?;
     Ok(Link::KeySet {
         owner,
         class: set.dns_class,
@@ -104,7 +212,8 @@ fn signed_link(
     key_link: u32,
     key: &Record,
 ) -> Result<Link, NoMemory>
-    ensures { IfOk result (λ l. link_value l ≡ Signed set.now.owner set.now.class set.now.rtype (rdatas_in set.now.records) sig.now.rdata key_link key.now.rdata) }
+    ensures { IfOk result (λ l. link_value l ≡
+        Signed set.now.owner set.now.class set.now.rtype (rdatas_in set.now.records) sig.now.rdata key_link key.now.rdata) }
 {
     let owner = set.name.try_clone()?;
     let rdatas = rdatas_of(alloc, &set.records)?;
@@ -133,16 +242,27 @@ fn rdatas_of(alloc: Global, records: &[Record]) -> Result<Vec<Rdata>, NoMemory>
     Ok(rdatas)
 }
 
-// 0, 1 and so on, one for each key.
-fn numbers(alloc: Global, keys: &[Rdata]) -> Result<Vec<u32>, NoMemory>
-    ensures { IfOk result (λ v. v.items ≡ numbers_from 0 keys.now) }
+// A number, the next one and so on, one for each key.
+fn numbers(alloc: Global, first: usize, keys: &[Rdata]) -> Result<Vec<u32>, NoMemory>
+    ensures { IfOk result (λ v. v.items ≡ numbers_from first keys.now) }
 {
     let mut numbers = Vec::new(alloc);
     for place in 0..keys.len() {
-        let Ok(number) = u32::try_from(place) else {
-            return Err(NoMemory);
-        };
+        let number = number_at(first, place)?;
         numbers.push(number)?;
     }
     Ok(numbers)
+}
+
+// A number and a place, where their sum fits in fewer bits.
+fn number_at(first: usize, place: usize) -> Result<u32, NoMemory>
+    ensures { IfOk result (λ n. n ≡ first + place) }
+{
+    let Some(sum) = first.checked_add(place) else {
+        return Err(NoMemory);
+    };
+    match u32::try_from(sum) {
+        Ok(number) => Ok(number),
+        Err(_) => Err(NoMemory),
+    }
 }

@@ -5,6 +5,7 @@ ghost use Rattle.dns_model.specs.RecordViews.{rrsig_of};
 ghost use Rattle.dns_judgement.specs.Validity.{is_good_by as is_good_in};
 ghost use Rattle.dns_judgement.specs.Marks.{counted_keys, is_key_of as is_zone_key};
 ghost use Rattle.dns_trust.specs.Judge.{judge_of};
+ghost use Rattle.dns_trust.specs.Delegating.{shown};
 ghost use Rattle.dns_trust.specs.Counting.{count_in, tag_count_after, count_after, tag_in, is_tried as is_tried_in};
 
 use crate::Judge;
@@ -26,7 +27,8 @@ pub(crate) fn first_good<'a, V: Verifier>(
     keys: &'a [Record],
 ) -> Result<Option<&'a Record>, NoMemory>
     requires { rrsig_of sig.now ≡ Some read.now }
-    ensures { IfOk result (λ k. option_copied k ≡ find (is_good_in (judge_of V.answers judge.now) set.now sig.now) (counted_keys read.now.signer keys.now)) }
+    ensures { IfOk result (λ k. option_copied k ≡
+        find (is_good_in (judge_of V.answers judge.now) set.now sig.now) (counted_keys read.now.signer keys.now)) }
 {
     let mut counts = BTreeMap::new(alloc);
     let mut built = None;
@@ -39,6 +41,25 @@ pub(crate) fn first_good<'a, V: Verifier>(
         }
     }
     Ok(None)
+}
+
+/// The keys of a signature's signer that count, of whatever records: the first two of each tag.
+pub fn counted_keys<'a>(
+    alloc: Global,
+    read: &Rrsig<'_>,
+    keys: &'a [Record],
+) -> Result<Vec<&'a Record>, NoMemory>
+    ensures { IfOk result (λ v. shown v.items ≡ counted_keys read.now.signer keys.now) }
+{
+    let mut counts = BTreeMap::new(alloc);
+    let mut counted = Vec::new(alloc);
+    for key in keys {
+        if !is_tried(&mut counts, read, key)? {
+            continue;
+        }
+        counted.push(key)?;
+    }
+    Ok(counted)
 }
 
 // Counts the tag of a key of a signature's signer; whether the key is one of the first two of its tag.

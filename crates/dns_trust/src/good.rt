@@ -9,9 +9,8 @@ ghost use Rattle.dns_judgement.specs.MarkParts.{sig_validity};
 ghost use Rattle.dns_trust.specs.Judge.{judge_of};
 ghost use Rattle.dns_trust.specs.Built.{IsBuilt};
 
-use crate::Judge;
 use crate::validity::check_read;
-use dns_judgement::RrsigValidity;
+use crate::{Judge, RrsigValidity};
 use dns_name::{NoMemory, Octets};
 use dns_net::Verifier;
 use dns_rdata::{Dnskey, Rrsig, signed_data};
@@ -102,7 +101,8 @@ fn bytes_of(
     built: Option<Octets>,
 ) -> Result<Octets, NoMemory>
     requires { IsBuilt set.now read.now built }
-    ensures { IfOk result (λ bytes. bytes ≡ signed_bytes set.now.owner set.now.rtype set.now.class (rdatas_of set.now.records) read.now) }
+    ensures { IfOk result (λ bytes. bytes ≡
+        signed_bytes set.now.owner set.now.rtype set.now.class (rdatas_of set.now.records) read.now) }
 {
     match built {
         Some(bytes) => Ok(bytes),

@@ -1,21 +1,15 @@
-ghost use Rattle.std.specs.Prelude.{◌≡◌, ℕ, IfOk, map};
+ghost use Rattle.std.specs.Prelude.{◌≡◌, IfOk, map};
 ghost use Rattle.std.specs.List.{position};
-ghost use Rattle.dns_model.specs.Keys.{VerifierAnswers};
-ghost use Rattle.dns_model.specs.Chains.{judge};
 ghost use Rattle.dns_net.specs.Link.{link_value};
 ghost use Rattle.dns_judgement.specs.Marks.{is_proved, is_excused};
-ghost use Rattle.dns_judgement.specs.Chained.{bare_verdicts, proved_chain, chained_by, chained_keys};
-ghost use Rattle.dns_trust.specs.Judge.{judge_of};
-ghost use Rattle.dns_trust.specs.Verdicts.{verdict_value, chained_unsigned};
+ghost use Rattle.dns_judgement.specs.Chained.{bare_verdicts, proved_chain, chained_by};
+ghost use Rattle.dns_trust.specs.Verdicts.{verdict_value};
 
-use crate::chains::{anchored_chain, self_signed_chain};
-use crate::keys::{first_signed, is_wholly_anchored};
-use crate::{Judge, TrustAnchors, Verdict};
+use crate::Verdict;
 use dns_name::NoMemory;
-use dns_net::{Link, Verifier};
+use dns_net::Link;
 use dns_record::Proof;
 use dns_sets::{ChainedSet, MarkedSet, PlacedSet};
-use std::alloc::Global;
 
 /// A set that isn't DNSKEY, judged by the verdicts of its signatures: the first that proves it decides, else the first that
 /// excuses it (RFC 4035, 5.3.3).
@@ -91,51 +85,4 @@ fn chain_of(mut verdicts: Vec<Verdict>) -> Vec<Link>
         }
     }
     chain
-}
-
-/// A DNSKEY set, judged: signed by an anchored key of it, or wholly anchored (RFC 4035, 5.2).
-#[tactic(auto, unfolding(dns_judgement::specs::Chained::chained_keys, dns_judgement::specs::Marks::judged_keys))]
-pub fn judged_keys<V: Verifier>(
-    alloc: Global,
-    judge: &Judge<'_, V>,
-    placed: PlacedSet,
-) -> Result<ChainedSet, NoMemory>
-    ensures { IfOk result (λ j. j ≡ chained_keys (judge_of V.answers judge.now) placed) }
-{
-    let Some(by) = first_signed(alloc, judge, &placed.set)? else {
-        return unsigned_key_set(alloc, judge.anchors, placed);
-    };
-    let chain = self_signed_chain(alloc, &placed.set, &by)?;
-    let sig = Some(by.place);
-    let PlacedSet { section, set } = placed;
-    let judged = MarkedSet {
-        section,
-        set,
-        mark: Proof::Secure,
-        sig,
-    };
-    Ok(ChainedSet { judged, chain })
-}
-
-// A DNSKEY set that no anchored key of it signed: Secure where it is wholly anchored.
-fn unsigned_key_set(
-    alloc: Global,
-    anchors: &TrustAnchors,
-    placed: PlacedSet,
-) -> Result<ChainedSet, NoMemory>
-    ensures { IfOk result (λ j. (answers : VerifierAnswers) (now : ℕ) → j ≡ chained_unsigned (judge answers anchors.now now) placed) }
-{
-    let (mark, chain) = if is_wholly_anchored(anchors, &placed.set) {
-        (Proof::Secure, anchored_chain(alloc, &placed.set)?)
-    } else {
-        (Proof::Bogus, Vec::new(alloc))
-    };
-    let PlacedSet { section, set } = placed;
-    let judged = MarkedSet {
-        section,
-        set,
-        mark,
-        sig: None,
-    };
-    Ok(ChainedSet { judged, chain })
 }

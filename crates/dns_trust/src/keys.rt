@@ -1,137 +1,224 @@
-ghost use Rattle.std.specs.Prelude.{◌≡◌, ◌≤◌, ◌==◌, ◌&&◌, IfOk, OnOk, Some, length, take};
-ghost use Rattle.std.specs.List.{find, list_all};
-ghost use Rattle.std.specs.Option.{option_map, option_copied};
-ghost use Rattle.dns_model.specs.Types.{type_dnskey};
-ghost use Rattle.dns_model.specs.RecordViews.{rrsig_of};
-ghost use Rattle.dns_model.specs.Keys.{anchored};
-ghost use Rattle.dns_judgement.specs.Marks.{most_signatures, first_signed as first_signed_of, anchored_signer as anchored_signer_of};
+ghost use Rattle.std.specs.Prelude.{◌≡◌, true, IfOk, None};
+ghost use Rattle.std.specs.List.{filter, list_all};
+ghost use Rattle.std.specs.Option.{option_map};
+ghost use Rattle.dns_judgement.specs.KeySets.{is_anchored_key, is_matched_key, is_trusted_key, keys_outcome, needs_ds, outcome_by_ds, signed_by};
 ghost use Rattle.dns_trust.specs.Judge.{judge_of};
-ghost use Rattle.dns_trust.specs.Built.{IsBuilt};
-ghost use Rattle.dns_trust.specs.Verdicts.{signed_value, is_signer as is_signer_of};
+ghost use Rattle.dns_trust.specs.Delegating.{shown};
+ghost use Rattle.dns_trust.specs.Signers.{signed_value, is_matched_only as is_matched_only_by};
+ghost use Rattle.dns_trust.specs.Rows.{anchored_outcome, matched_outcome};
 
-use crate::good::is_good_read;
-use crate::{Judge, TrustAnchors};
-use dns_name::{Name, NoMemory, Octets};
+use crate::signers::{each_once, first_signed};
+use crate::{DsIndex, Judge, SignedBy};
+use dns_name::NoMemory;
 use dns_net::Verifier;
-use dns_rdata::{Dnskey, Rrsig};
+use dns_rdata::Dnskey;
 use dns_record::{Record, RecordSet};
 use std::alloc::Global;
 
-// How many signatures of a set are tried.
-const MOST_SIGNATURES: usize = 8;
-
-// The signature of a key set that is good by an anchored key of it: its place among the set's signatures, itself, the key.
+/// What trust anchors say of a DNSKEY set (RFC 4035, 5.2).
 #[derive(Drop)]
-pub(crate) struct SignedBy<'a> {
-    pub(crate) place: u32,
-    pub(crate) signature: &'a Record,
-    pub(crate) key: &'a Record,
+pub enum AnchoredRow<'a> {
+    /// An anchored key of it signed it.
+    Signed(SignedBy<'a>),
+    /// Each key of it is anchored.
+    Whole,
+    /// Neither, and it is the root's, which has no DS.
+    Root,
+    /// Neither: the DS verdict of its owner decides.
+    NeedsDs,
+}
+
+/// What DS records that are Secure say of a DNSKEY set that no anchor shows (RFC 4035, 5.2).
+#[derive(Drop)]
+pub enum MatchedRow<'a> {
+    /// A key of it that they match signed it.
+    Signed(SignedBy<'a>),
+    /// Each key of it is anchored or matched.
+    Whole,
+    /// Neither.
+    Neither,
+}
+
+/// The first row of the marks of DNSKEY sets that holds, as far as anchors decide.
+#[tactic(auto, unfolding(dns_judgement::specs::KeySets::keys_outcome))]
+pub fn anchored_row<'a, V: Verifier>(
+    alloc: Global,
+    judge: &Judge<'_, V>,
+    set: &'a RecordSet,
+) -> Result<AnchoredRow<'a>, NoMemory>
+    ensures { IfOk result (λ r. anchored_outcome set.now r ≡ keys_outcome (judge_of V.answers judge.now) set.now None) }
+{
+    if let Some(by) = signed_by_anchored(alloc, judge, set)? {
+        return Ok(AnchoredRow::Signed(by));
+    }
+    if is_wholly_anchored(judge, set) {
+        return Ok(AnchoredRow::Whole);
+    }
+    if set.name.is_root() {
+        return Ok(AnchoredRow::Root);
+    }
+    Ok(AnchoredRow::NeedsDs)
+}
+
+/// The first row of the marks of DNSKEY sets that holds, as DS records of its owner decide that are Secure, where anchors don't.
+pub fn matched_row<'a, V: Verifier>(
+    alloc: Global,
+    judge: &Judge<'_, V>,
+    set: &'a RecordSet,
+    ds: &DsIndex<'_>,
+) -> Result<MatchedRow<'a>, NoMemory>
+    requires owner { ds.now.owner ≡ set.now.owner }
+    requires needed { needs_ds (judge_of V.answers judge.now) set.now ≡ true }
+    ensures { IfOk result (λ r. matched_outcome set.now ds.now.records r ≡
+        outcome_by_ds (judge_of V.answers judge.now) set.now ds.now.records) }
+{
+    if let Some(by) = signed_by_matched(alloc, judge, set, ds)? {
+        return Ok(MatchedRow::Signed(by));
+    }
+    if is_wholly_trusted(judge, set, ds) {
+        return Ok(MatchedRow::Whole);
+    }
+    Ok(MatchedRow::Neither)
 }
 
 // The first signature of a key set that is good by an anchored key of it, among its first eight signatures.
-pub(crate) fn first_signed<'a, V: Verifier>(
+fn signed_by_anchored<'a, V: Verifier>(
     alloc: Global,
     judge: &Judge<'_, V>,
     set: &'a RecordSet,
 ) -> Result<Option<SignedBy<'a>>, NoMemory>
     ensures { IfOk result (λ s. option_map signed_value s ≡
-        first_signed_of (judge_of V.answers judge.now) set.now (take most_signatures set.now.signatures)) }
+        signed_by (is_anchored_key (judge_of V.answers judge.now) set.now) (judge_of V.answers judge.now) set.now) }
 {
-    let signatures = first_signatures(set);
-    for (place, signature) in signatures.iter().enumerate() {
-        if let Some(key) = anchored_signer(alloc, judge, set, signature)? {
-            return Ok(Some(SignedBy {
-                place: place as u32,
-                signature,
-                key,
-            }));
-        }
-    }
-    Ok(None)
+    let anchored = anchored_keys(alloc, judge, set)?;
+    let keys = each_once(alloc, &anchored)?;
+    first_signed(alloc, judge, set, &keys)
 }
 
-/// The signatures of a set that are tried: the first eight signatures.
-pub fn first_signatures(set: &RecordSet) -> &[Record]
-    ensures first { result.now ≡ take most_signatures set.now.signatures }
-    ensures few { length result.now ≤ most_signatures }
-{
-    let signatures = set.rrsigs.as_slice();
-    &signatures[..signatures.len().min(MOST_SIGNATURES)]
-}
-
-// The first anchored key of a key set by which a signature of that set is good.
-#[tactic(auto, using(crate::proofs::Reading::unread_signer))]
-fn anchored_signer<'a, V: Verifier>(
+// The same by a key that one of some DS records matches.
+fn signed_by_matched<'a, V: Verifier>(
     alloc: Global,
     judge: &Judge<'_, V>,
     set: &'a RecordSet,
-    sig: &Record,
-) -> Result<Option<&'a Record>, NoMemory>
-    ensures { IfOk result (λ k. option_copied k ≡ anchored_signer_of (judge_of V.answers judge.now) set.now sig.now) }
+    ds: &DsIndex<'_>,
+) -> Result<Option<SignedBy<'a>>, NoMemory>
+    requires owner { ds.now.owner ≡ set.now.owner }
+    requires needed { needs_ds (judge_of V.answers judge.now) set.now ≡ true }
+    ensures { IfOk result (λ s. option_map signed_value s ≡
+        signed_by (is_matched_key (judge_of V.answers judge.now) set.now ds.now.records) (judge_of V.answers judge.now) set.now) }
 {
-    let Some(read) = Rrsig::of(sig) else {
-        return Ok(None);
-    };
-    first_signer(alloc, judge, set, sig, &read, &set.records)
+    let matched = matched_keys(alloc, judge, set, ds)?;
+    let keys = each_once(alloc, &matched)?;
+    first_signed(alloc, judge, set, &keys)
 }
 
-// The first of some keys that is anchored and by which a signature of a key set is good.
-fn first_signer<'a, V: Verifier>(
+// The keys of a set that are anchors of its owner.
+fn anchored_keys<'a, V: Verifier>(
     alloc: Global,
     judge: &Judge<'_, V>,
-    set: &RecordSet,
-    sig: &Record,
-    read: &Rrsig<'_>,
-    keys: &'a [Record],
-) -> Result<Option<&'a Record>, NoMemory>
-    requires { rrsig_of sig.now ≡ Some read.now }
-    ensures { IfOk result (λ k. option_copied k ≡ find (is_signer_of (judge_of V.answers judge.now) set.now sig.now) keys.now) }
+    set: &'a RecordSet,
+) -> Result<Vec<&'a Record>, NoMemory>
+    ensures { IfOk result (λ v. shown v.items ≡ filter (is_anchored_key (judge_of V.answers judge.now) set.now) set.now.records) }
 {
-    let mut built = None;
-    for key in keys {
-        if is_signer(alloc, judge, set, sig, read, key, &mut built)? {
-            return Ok(Some(key));
+    let mut keys = Vec::new(alloc);
+    for key in &set.records {
+        if is_anchored(judge, set, key) {
+            keys.push(key)?;
         }
     }
-    Ok(None)
+    Ok(keys)
 }
 
-// The key is anchored, and the signature is good by it.
-fn is_signer<V: Verifier>(
+// The keys of a set that DS records of its owner match, but for anchored ones, which were tried before.
+fn matched_keys<'a, V: Verifier>(
     alloc: Global,
     judge: &Judge<'_, V>,
-    set: &RecordSet,
-    sig: &Record,
-    read: &Rrsig<'_>,
-    key: &Record,
-    built: &mut Option<Octets>,
-) -> Result<bool, NoMemory>
-    requires read { rrsig_of sig.now ≡ Some read.now }
-    requires built { IsBuilt set.now read.now built.old }
-    ensures signer { IfOk result (λ b. b ≡ is_signer_of (judge_of V.answers judge.now) set.now sig.now key.now) }
-    ensures built { OnOk result (IsBuilt set.now read.now built.new) }
+    set: &'a RecordSet,
+    ds: &DsIndex<'_>,
+) -> Result<Vec<&'a Record>, NoMemory>
+    requires { ds.now.owner ≡ set.now.owner }
+    ensures { IfOk result (λ v. shown v.items ≡
+        filter (is_matched_only_by (judge_of V.answers judge.now) set.now ds.now.records) set.now.records) }
 {
-    if !is_anchored(judge.anchors, &set.name, key) {
-        return Ok(false);
+    let mut keys = Vec::new(alloc);
+    for key in &set.records {
+        if is_matched_only(judge, set, key, ds) {
+            keys.push(key)?;
+        }
     }
-    is_good_read(alloc, judge, set, sig, read, key, built)
+    Ok(keys)
+}
+
+// The key is no anchor of the set's owner, and matched by a DS of it.
+fn is_matched_only<V: Verifier>(
+    judge: &Judge<'_, V>,
+    set: &RecordSet,
+    key: &Record,
+    ds: &DsIndex<'_>,
+) -> bool
+    requires { ds.now.owner ≡ set.now.owner }
+    ensures { result ≡ is_matched_only_by (judge_of V.answers judge.now) set.now ds.now.records key.now }
+{
+    !is_anchored(judge, set, key) && is_matched(judge, set, key, ds)
 }
 
 // Every key of a key set is an anchor of its owner.
-pub(crate) fn is_wholly_anchored(anchors: &TrustAnchors, set: &RecordSet) -> bool
-    ensures { result ≡ list_all (λ r. (r.rtype == type_dnskey) && anchored anchors.now set.now.owner r.rdata) set.now.records }
+fn is_wholly_anchored<V: Verifier>(judge: &Judge<'_, V>, set: &RecordSet) -> bool
+    ensures { result ≡ list_all (is_anchored_key (judge_of V.answers judge.now) set.now) set.now.records }
 {
-    set.records
-        .iter()
-        .all(|key| is_anchored(anchors, &set.name, key))
+    set.records.iter().all(|key| is_anchored(judge, set, key))
 }
 
-// The record is a key that can be read, and an anchor of the owner.
-fn is_anchored(anchors: &TrustAnchors, owner: &Name, key: &Record) -> bool
-    ensures { result ≡ ((key.now.rtype == type_dnskey) && anchored anchors.now owner.now key.now.rdata) }
+// Every key of a key set is an anchor of its owner, or matched by a DS of it.
+fn is_wholly_trusted<V: Verifier>(judge: &Judge<'_, V>, set: &RecordSet, ds: &DsIndex<'_>) -> bool
+    requires { ds.now.owner ≡ set.now.owner }
+    ensures { result ≡ list_all (is_trusted_key (judge_of V.answers judge.now) set.now ds.now.records) set.now.records }
 {
+    for key in &set.records {
+        if !is_trusted(judge, set, key, ds) {
+            return false;
+        }
+    }
+    true
+}
+
+// The key is an anchor of the set's owner, or matched by a DS of it.
+fn is_trusted<V: Verifier>(
+    judge: &Judge<'_, V>,
+    set: &RecordSet,
+    key: &Record,
+    ds: &DsIndex<'_>,
+) -> bool
+    requires { ds.now.owner ≡ set.now.owner }
+    ensures { result ≡ is_trusted_key (judge_of V.answers judge.now) set.now ds.now.records key.now }
+{
+    is_anchored(judge, set, key) || is_matched(judge, set, key, ds)
+}
+
+// The record is a key of the set's owner that can be read, and an anchor of it.
+pub(crate) fn is_anchored<V: Verifier>(judge: &Judge<'_, V>, set: &RecordSet, key: &Record) -> bool
+    ensures { result ≡ is_anchored_key (judge_of V.answers judge.now) set.now key.now }
+{
+    if set.name != key.name {
+        return false;
+    }
     let Some(dnskey) = Dnskey::of(key) else {
         return false;
     };
-    anchors.contains_with_name(owner, dnskey.algorithm, dnskey.key)
+    judge
+        .anchors
+        .contains_with_name(&set.name, dnskey.algorithm, dnskey.key)
+}
+
+// The record is a key of the set's owner, and matched by a DS of it.
+fn is_matched<V: Verifier>(
+    judge: &Judge<'_, V>,
+    set: &RecordSet,
+    key: &Record,
+    ds: &DsIndex<'_>,
+) -> bool
+    requires { ds.now.owner ≡ set.now.owner }
+    ensures { result ≡ is_matched_key (judge_of V.answers judge.now) set.now ds.now.records key.now }
+{
+    set.name == key.name && ds.matching(judge.verifier, key).is_some()
 }

@@ -81,7 +81,8 @@ impl Listed {
         bytes: &[u8],
         signature: &[u8],
     ) -> Result<(), NoMemory>
-        ensures ok { OnOk result (self.new ≡ with_accepted self.old (record { algorithm = algorithm; key = key.now; bytes = bytes.now; signature = signature.now })) }
+        ensures ok { OnOk result (self.new ≡
+            with_accepted self.old (record { algorithm = algorithm; key = key.now; bytes = bytes.now; signature = signature.now })) }
         ensures err { OnErr result (self.new ≡ self.old) }
     {
         if algorithm == 1 {
@@ -102,7 +103,8 @@ impl Listed {
         bytes: Octets,
         signature: Octets,
     ) -> Result<(), NoMemory>
-        ensures ok { OnOk result (self.new ≡ with_accepted self.old (record { algorithm = algorithm; key = key; bytes = bytes; signature = signature })) }
+        ensures ok { OnOk result (self.new ≡
+            with_accepted self.old (record { algorithm = algorithm; key = key; bytes = bytes; signature = signature })) }
         ensures err { OnErr result (self.new ≡ self.old) }
     {
         if algorithm == 1 {

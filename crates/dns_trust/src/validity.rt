@@ -3,22 +3,36 @@ ghost use Rattle.dns_model.specs.Serial.{timely};
 ghost use Rattle.dns_model.specs.RecordViews.{dnskey_of};
 ghost use Rattle.dns_judgement.specs.Validity.{validity, is_of_set as is_set_signature};
 ghost use Rattle.dns_judgement.specs.MarkParts.{sig_validity, key_validity as key_fits};
+ghost use Rattle.dns_trust.specs.Validities.{validity_of};
 
-use dns_judgement::RrsigValidity;
 use dns_rdata::{Dnskey, Rrsig, SerialNumber, key_tag};
 use dns_record::{Record, RecordSet};
 
-/// Whether a signature fits a set, a key and a moment in seconds since 1970, before any arithmetic on it: the first test
-/// that fails, of the signature, of the moment and of the key (RFC 4035, 5.3.1). A record of another type is no signature and
-/// no key, whatever its rdata.
-#[tactic(auto, unfolding(dns_judgement::specs::Validity::validity))]
-pub fn check(sig: &Record, set: &RecordSet, key: &Record, now: u64) -> RrsigValidity
-    ensures { result ≡ validity (λ s. timely s now) set.now sig.now key.now }
-{
-    let Some(read) = Rrsig::of(sig) else {
-        return RrsigValidity::WrongRrsig;
-    };
-    check_read(sig, &read, set, key, now)
+/// Whether a signature fits a set, a key and a moment, before any arithmetic on it (RFC 4035, 5.3.1).
+#[derive(Clone, Copy, Debug, PartialEq, Eq)]
+pub enum RrsigValidity {
+    /// It fits.
+    ValidRrsig,
+    /// The moment isn't in the signature's validity.
+    ExpiredRrsig,
+    /// The key isn't the one that the signature names, or is no zone key.
+    WrongDnskey,
+    /// The signature isn't one of the set.
+    WrongRrsig,
+}
+
+impl RrsigValidity {
+    /// Whether a signature fits a set, a key and a moment in seconds since 1970: the first test that fails, of the signature,
+    /// of the moment and of the key (RFC 4035, 5.3.1). A record of another type is no signature and no key, whatever its rdata.
+    #[tactic(auto, unfolding(dns_judgement::specs::Validity::validity))]
+    pub fn check(sig: &Record, set: &RecordSet, key: &Record, now: u64) -> RrsigValidity
+        ensures { validity_of result ≡ validity (λ s. timely s now) set.now sig.now key.now }
+    {
+        let Some(read) = Rrsig::of(sig) else {
+            return RrsigValidity::WrongRrsig;
+        };
+        check_read(sig, &read, set, key, now)
+    }
 }
 
 // The same of a signature that is read.
@@ -29,7 +43,7 @@ pub(crate) fn check_read(
     key: &Record,
     now: u64,
 ) -> RrsigValidity
-    ensures { result ≡ sig_validity (λ s. timely s now) set.now sig.now key.now (Some read.now) }
+    ensures { validity_of result ≡ sig_validity (λ s. timely s now) set.now sig.now key.now (Some read.now) }
 {
     if !is_of_set(set, sig, read) {
         return RrsigValidity::WrongRrsig;
@@ -62,7 +76,7 @@ fn is_timely(read: &Rrsig<'_>, now: u64) -> bool
 // The key is the signer's, has the signature's algorithm and tag, and is a zone key.
 #[tactic(auto, unfolding(dns_model::specs::Views::dnskey_in))]
 fn key_validity(read: &Rrsig<'_>, key: &Record) -> RrsigValidity
-    ensures { result ≡ key_fits read.now key.now (dnskey_of key.now) }
+    ensures { validity_of result ≡ key_fits read.now key.now (dnskey_of key.now) }
 {
     let Some(dnskey) = Dnskey::of(key) else {
         return RrsigValidity::WrongDnskey;

@@ -65,7 +65,8 @@ pub fn verdict_of<V: Verifier>(
     answer: &Option<Vec<ChainedSet>>,
 ) -> Result<Verdict, NoMemory>
     requires { rrsig_of sig.now ≡ Some read.now }
-    ensures { IfOk result (λ v. verdict_value v ≡ chained_verdict (judge_of V.answers judge.now) set.now sig.now (listed answer.now)) }
+    ensures { IfOk result (λ v. verdict_value v ≡
+        chained_verdict (judge_of V.answers judge.now) set.now sig.now (listed answer.now)) }
 {
     let Some(sets) = answer else {
         return Ok(Verdict::Failed);
@@ -89,7 +90,8 @@ fn by_key_set<V: Verifier>(
     keys: &ChainedSet,
 ) -> Result<Verdict, NoMemory>
     requires { rrsig_of sig.now ≡ Some read.now }
-    ensures { IfOk result (λ v. verdict_value v ≡ chained_by_set (judge_of V.answers judge.now) set.now sig.now read.now.signer keys.now) }
+    ensures { IfOk result (λ v. verdict_value v ≡
+        chained_by_set (judge_of V.answers judge.now) set.now sig.now read.now.signer keys.now) }
 {
     match keys.judged.mark {
         Proof::Secure => {
@@ -130,7 +132,8 @@ fn by_secure_keys<V: Verifier>(
 // The verdict by the counted keys of an Insecure key set.
 #[tactic(auto, using(crate::proofs::Counts::any_counted))]
 fn by_insecure_keys(zone: &NameRef<'_>, keys: &[Record]) -> Verdict
-    ensures { (chain : List LinkValue) → verdict_value result ≡ with_chain (by_insecure_key (counted_keys zone.now keys.now)) chain }
+    ensures { (chain : List LinkValue) → verdict_value result ≡
+        with_chain (by_insecure_key (counted_keys zone.now keys.now)) chain }
 {
     if has_key_of(zone, keys) {
         Verdict::Excused

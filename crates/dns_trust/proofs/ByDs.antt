@@ -1,0 +1,88 @@
+-- A key set judged by the DS set of its owner, with its chain.
+use Rattle.std.proofs.Common.{◌≡◌, Bool, true, false, ◌||◌, cond, List, [], ◌∷◌, Option, None, Some, refl, sym, ap, ◌∙◌}
+use Rattle.std.specs.Prelude.{if◌then◌else◌}
+use Rattle.std.specs.Option.{option_map, option_map_or}
+use Rattle.std.specs.List.{filter, find, list_any}
+use Rattle.dns_model.specs.declared.proof.Proof.TheVariants as proof
+use Rattle.dns_model.specs.Records.{Rr, RrSet}
+use Rattle.dns_model.specs.Chains.{Judge, LinkValue}
+use Rattle.dns_model.specs.SoundAnswers.{Placed}
+use Rattle.dns_model.proofs.EachLemmas.{find-map}
+use Rattle.dns_judgement.specs.Judged.{Judged}
+use Rattle.dns_judgement.specs.ProofErrors.{DsRecordShouldExist}
+use Rattle.dns_judgement.specs.Delegations.{ZoneVerdict, Signed, Bogus, is_ds_set_of, is_supported_ds, verdict_by_ds, zone_verdict}
+use Rattle.dns_judgement.specs.KeySets.{needs_ds, keys_outcome, outcome_by_ds, outcome_by_zone}
+use Rattle.dns_judgement.specs.Chained.{Chained, bare, ds_chain, keys_chained, chained_keys, chained_by_ds}
+use Rattle.dns_judgement.proofs.DsLemmas.{filter-filter}
+use Rattle.dns_judgement.proofs.KeySetLemmas.{needs_ds-outcome}
+use Rattle.dns_trust.specs.KeysMarks.{MarkedValue, outcome_marked, by_ds_records, marked_by_found, marked_by_zone, chained_with}
+
+-- neither signed nor wholly trusted
+abbrev pub unproved : MarkedValue
+unproved = record { mark = proof.Bogus; sig = None; chain = [] }
+
+pub by_anchors : (j : Judge) (placed : Placed) → chained_with placed (outcome_marked j placed.set [] (keys_outcome j placed.set None)) ≡ chained_keys j placed
+unfolding chained_keys
+by_anchors j placed = refl
+
+pub by_zone : (j : Judge) (placed : Placed) (answer : Option (List Chained)) → needs_ds j placed.set ≡ true
+    → chained_with placed (marked_by_zone j placed.set answer) ≡ chained_by_ds j placed answer
+unfolding chained_by_ds
+by_zone j placed answer needed =
+    ap (keys_chained j placed (ds_chain placed.set.class placed.set.owner answer))
+    (sym (needs_ds-outcome j placed.set (zone_verdict j.answers placed.set.class placed.set.owner (option_map bare answer)) needed))
+
+-- ---- the DS set in an answer
+
+pub no_answer : (j : Judge) (set : RrSet) → unproved ≡ marked_by_zone j set None
+unfolding zone_verdict
+no_answer j set = refl
+
+map_or-map : {X Y Z : Type 0} (g : Y → Z) (f : X → Y) (o : Option X) (d : Z) → option_map_or g (option_map f o) d ≡ option_map_or (λ x. g (f x)) o d
+map_or-map g f None d = refl
+map_or-map g f (Some x) d = refl
+
+pub by_found : (j : Judge) (set : RrSet) (answer : List Chained) (found : Option Chained)
+    → find (λ c. is_ds_set_of set.class set.owner c.judged) answer ≡ found → marked_by_found j set found ≡ marked_by_zone j set (Some answer)
+unfolding zone_verdict
+by_found j set answer found is =
+    let test = is_ds_set_of set.class set.owner in
+    let verdict = λ (f : Judged). verdict_by_ds j.answers set.owner f.mark f.set.records in
+    let marked = λ (o : Option Chained) (v : ZoneVerdict). outcome_marked j set (option_map_or (λ c. c.chain) o []) (outcome_by_zone j set (Some v)) in
+    sym (ap (λ o. marked (find (λ c. test c.judged) answer) (option_map_or verdict o (Bogus (DsRecordShouldExist set.owner)))) (find-map test (λ c. c.judged) answer)
+    ∙ ap (marked (find (λ c. test c.judged) answer)) (map_or-map verdict (λ c. c.judged) (find (λ c. test c.judged) answer) (Bogus (DsRecordShouldExist set.owner)))
+    ∙ ap (marked_by_found j set) is)
+
+-- ---- its records
+
+abbrev has_one : List Rr → Bool
+has_one [] = false
+has_one (r ∷ rs) = true
+
+any_step : (b : Bool) (r : Rr) (kept : List Rr) → (b || has_one kept) ≡ has_one (cond b (r ∷ kept) kept)
+any_step true r kept = refl
+any_step false r kept = refl
+
+any_kept : (test : Rr → Bool) (rs : List Rr) → list_any test rs ≡ has_one (filter test rs)
+any_kept test [] = refl
+any_kept test (r ∷ rs) = ap (λ b. test r || b) (any_kept test rs) ∙ any_step (test r) r (filter test rs)
+
+one_if : (rs : List Rr) → (rs ≡ [] → ⊥) → has_one rs ≡ true
+one_if [] h = absurd (h refl)
+one_if (r ∷ rs) h = refl
+
+abbrev by_test : Judge → RrSet → List LinkValue → List Rr → Bool → MarkedValue
+by_test j set front kept any = outcome_marked j set front (outcome_by_zone j set (Some (if any then Signed kept else Bogus (DsRecordShouldExist set.owner))))
+
+pub none_supported : (j : Judge) (set : RrSet) (front : List LinkValue) (records : List Rr) → filter (is_supported_ds j.answers) records ≡ []
+    → unproved ≡ by_ds_records j set front records
+none_supported j set front records none =
+    let test = is_supported_ds j.answers in
+    sym (ap (by_test j set front (filter test records)) (any_kept test records ∙ ap has_one none))
+
+pub some_supported : (j : Judge) (set : RrSet) (front : List LinkValue) (records kept : List Rr) → kept ≡ filter (is_supported_ds j.answers) records
+    → (kept ≡ [] → ⊥) → outcome_marked j set front (outcome_by_ds j set kept) ≡ by_ds_records j set front records
+some_supported j set front records kept is some =
+    let test = is_supported_ds j.answers in
+    ap (λ rs. outcome_marked j set front (outcome_by_ds j set rs)) (is ∙ sym (filter-filter test records))
+    ∙ sym (ap (by_test j set front (filter test records)) (any_kept test records ∙ sym (ap has_one is) ∙ one_if kept some))

@@ -1,0 +1,31 @@
+use Rattle.std.proofs.Common.{◌≡◌, None, subst, sym, ap, ◌∙◌}
+use Rattle.std.specs.List.{find}
+use Rattle.std.specs.Option.{option_copied}
+use Rattle.dns_model.specs.Records.{Rr}
+use Rattle.dns_model.specs.Keys.{matches}
+use Rattle.dns_judgement.specs.Delegations.{matching_ds}
+use Rattle.dns_trust.specs.Delegating.{DsIndexValue, shown}
+use Rattle.dns_trust.proofs.Delegated.{match_unread, match_none, match_there}
+use Rattle.dns_trust.proofs.delegation.DsIndex.matching.Goals as goal
+
+pub returns-in_default : goal.returns-in_default
+returns-in_default g c =
+    sym (match_unread (g.V.Verifier.answers c.args.verifier.now) c.args.self.now.owner c.args.key.now c.args.self.now.records
+    (sym c.place_of.ensures ∙ c.in_default.is))
+
+pub returns-in_default-get : goal.returns-in_default-get
+returns-in_default-get g c =
+    let answers = g.V.Verifier.answers c.args.verifier.now in
+    subst (λ (d : DsIndexValue). None ≡ matching_ds answers d.owner c.args.key.now d.records) c.self.view_is
+    (sym (match_none answers c.self.inside.owner.now c.args.key.now (shown c.self.inside.records.items) c.self.inside.counted c.in-Some.place
+    (sym c.place_of.ensures ∙ c.in-Some.is) c.self.invariant c.in_default-get.ensures.value))
+
+pub returns : goal.returns
+returns g c =
+    let answers = g.V.Verifier.answers c.args.verifier.now in
+    let owner = c.self.inside.owner.now in
+    subst (λ (d : DsIndexValue). option_copied c.first_match.result ≡ matching_ds answers d.owner c.args.key.now d.records) c.self.view_is
+    (c.first_match.ensures
+    ∙ ap (λ rs. find (λ (r : Rr). matches answers owner c.args.key.now.rdata r.rdata) (shown rs)) c.as_slice.ensures.value
+    ∙ match_there answers owner c.args.key.now (shown c.self.inside.records.items) c.self.inside.counted c.in-Some.place c.in-Some-get.counted.now
+    (sym c.place_of.ensures ∙ c.in-Some.is) c.self.invariant c.in-Some-get.ensures.value)

@@ -1,0 +1,38 @@
+-- Which signature of a key set is good by one of some keys of it, as the plain definitions (RFC 4035, 5.2 and 5.3).
+use Rattle.std.specs.Prelude.{◌≡◌, Bool, true, not, ◌&&◌, List, Option, slice_get}
+use Rattle.std.specs.List.{filter_map, find, list_all, enumerate_from}
+use Rattle.std.specs.Option.{option_map}
+use Rattle.dns_model.specs.Records.{Rr, RrSet}
+use Rattle.dns_model.specs.Chains.{Judge}
+use Rattle.dns_judgement.specs.Validity.{is_good_by}
+use Rattle.dns_judgement.specs.KeySets.{SignedKeys, is_anchored_key, is_matched_key}
+use Rattle.dns_trust.specs.declared.signers.SignedBy.{SignedBy}
+
+abbrev pub signed_value : SignedBy → SignedKeys
+signed_value by = record { place = by.place; signature = by.signature.now; key = by.key.now }
+
+-- ---- for private functions of this crate only
+
+-- the first of some keys by which a signature of a set is good
+abbrev pub signer_of : Judge → RrSet → List Rr → Rr → Option Rr
+signer_of j set keys r = find (is_good_by j set r) keys
+
+-- a key of the set that is no anchor, and that one of these DS records matches
+abbrev pub is_matched_only : Judge → RrSet → List Rr → Rr → Bool
+is_matched_only j set ds key = not (is_anchored_key j set key) && is_matched_key j set ds key
+
+-- a test that tells keys that pass another one by their rdata alone
+abbrev pub TellsRdata : (Rr → Bool) → (Rr → Bool) → Type 0
+TellsRdata may test = (a b : Rr) → may a ≡ true → may b ≡ true → a.rdata ≡ b.rdata → test a ≡ test b
+
+-- of keys with one rdata there is still the first: for whatever test that tells keys by their rdata the same key is the first
+abbrev pub AreOnce : List Rr → List Rr → Type 0
+AreOnce once keys = (may test : Rr → Bool) → list_all may keys ≡ true → TellsRdata may test → find test once ≡ find test keys
+
+-- the first of some signatures that is good by one of some keys
+unfoldable pub first_signed_by : Judge → RrSet → List Rr → List Rr → Option SignedKeys
+first_signed_by j set keys signatures =
+    slice_get
+    (filter_map (λ p. option_map (λ key. record { place = p.0; signature = p.1; key = key }) (signer_of j set keys p.1))
+    (enumerate_from 0 signatures))
+    0

@@ -1,0 +1,302 @@
+ghost use Rattle.std.specs.Prelude.{◌≡◌, ◌↔◌, ◌==◌, ◌&&◌, ℕ, [], IfOk, OnOk, IsTrue};
+ghost use Rattle.std.specs.List.{filter, find};
+ghost use Rattle.std.specs.Option.{option_copied};
+ghost use Rattle.dns_model.specs.Views.{dnskey_in};
+ghost use Rattle.dns_model.specs.RecordViews.{dnskey_of};
+ghost use Rattle.dns_model.specs.Keys.{matches};
+ghost use Rattle.dns_judgement.specs.Delegations.{is_supported_ds as is_supported_record, is_digest_type as is_type_of_digest, is_ds_for as is_record_for, matching_ds as matching_record};
+ghost use Rattle.dns_trust.specs.Delegating.{shown, counted_at, counted_after, place_by, AreCounted, is_delegation_at};
+
+use dns_name::{Name, NoMemory};
+use dns_net::Verifier;
+use dns_rdata::{Dnskey, Ds, key_tag};
+use dns_record::{Record, RecordType};
+use std::alloc::Global;
+use std::collections::BTreeMap;
+use std::marker::Model;
+
+// How many DS records of one algorithm and tag count.
+const MOST_COUNTED: usize = 2;
+
+// The DS records that count, by algorithm and tag.
+type CountedDs<'a> = BTreeMap<(u8, u16), Vec<&'a Record>>;
+
+/// DS records, to be found by the keys of an owner that they match: of one algorithm and tag the first two of that owner count.
+#[derive(Drop)]
+pub struct DsIndex<'a> {
+    owner: &'a Name,
+    records: Vec<&'a Record>,
+    counted: CountedDs<'a>,
+}
+
+impl<'a> Model for DsIndex<'a> {
+    ghost use Rattle.dns_trust.specs.Delegating.{DsIndexValue, shown, AreCounted};
+
+    ghost Value = { DsIndexValue };
+
+    ghost view = { λ d. record { owner = d.owner.now; records = shown d.records.items } };
+
+    ghost invariant = { λ d. AreCounted d.owner.now (shown d.records.items) d.counted };
+}
+
+impl<'a> DsIndex<'a> {
+    /// An index of these records, for the keys of an owner.
+    pub fn of(
+        alloc: Global,
+        owner: &'a Name,
+        records: &'a [Record],
+    ) -> Result<DsIndex<'a>, NoMemory>
+        ensures owner { IfOk result (λ d. d.owner ≡ owner.now) }
+        ensures records { IfOk result (λ d. d.records ≡ records.now) }
+    {
+        let records = all_of(alloc, records)?;
+        indexed(alloc, owner, records)
+    }
+
+    /// An index of those of these records whose algorithm and digest type are supported.
+    pub fn of_supported<V: Verifier>(
+        alloc: Global,
+        verifier: &V,
+        owner: &'a Name,
+        records: &'a [Record],
+    ) -> Result<DsIndex<'a>, NoMemory>
+        ensures owner { IfOk result (λ d. d.owner ≡ owner.now) }
+        ensures records { IfOk result (λ d. d.records ≡ filter (is_supported_record (V.answers verifier.now)) records.now) }
+    {
+        let records = supported(alloc, verifier, records)?;
+        indexed(alloc, owner, records)
+    }
+
+    /// Whether there is no record.
+    pub fn is_empty(&self) -> bool
+        ensures { IsTrue result ↔ (self.now.records ≡ []) }
+    {
+        self.records.is_empty()
+    }
+
+    /// The first record that counts and matches a key as one of the owner (RFC 4035, 5.2).
+    pub fn matching<V: Verifier>(&self, verifier: &V, key: &Record) -> Option<&'a Record>
+        ensures { option_copied result ≡ matching_record (V.answers verifier.now) self.now.owner key.now self.now.records }
+    {
+        let Some(place) = place_of(key) else {
+            return None;
+        };
+        let Some(counted) = self.counted.get(&place) else {
+            return None;
+        };
+        first_match(verifier, self.owner, key, counted.as_slice())
+    }
+}
+
+/// The first of the records that counts and matches a key of an owner, where no index is worth its memory.
+pub fn matching_ds<'a, V: Verifier>(
+    verifier: &V,
+    owner: &Name,
+    key: &Record,
+    records: &'a [Record],
+) -> Option<&'a Record>
+    ensures { option_copied result ≡ matching_record (V.answers verifier.now) owner.now key.now records.now }
+{
+    let mut counted = 0;
+    for ds in records {
+        if counted == MOST_COUNTED {
+            return None;
+        }
+        if is_ds_for(owner, key, ds) {
+            counted += 1;
+            if is_match(verifier, owner, key, ds) {
+                return Some(ds);
+            }
+        }
+    }
+    None
+}
+
+/// The record can be read as a DS, of a supported algorithm and digest type.
+pub fn is_supported_ds<V: Verifier>(verifier: &V, ds: &Record) -> bool
+    ensures { result ≡ is_supported_record (V.answers verifier.now) ds.now }
+{
+    match Ds::of(ds) {
+        Some(read) => verifier.supports(read.algorithm) && is_digest_type(read.digest_type),
+        None => false,
+    }
+}
+
+// SHA-1, SHA-256 and SHA-384.
+fn is_digest_type(digest_type: u8) -> bool
+    ensures { result ≡ is_type_of_digest digest_type }
+{
+    digest_type == 1 || digest_type == 2 || digest_type == 4
+}
+
+fn all_of<'a>(alloc: Global, records: &'a [Record]) -> Result<Vec<&'a Record>, NoMemory>
+    ensures { IfOk result (λ v. shown v.items ≡ records.now) }
+{
+    let mut all = Vec::new(alloc);
+    for ds in records {
+        all.push(ds)?;
+    }
+    Ok(all)
+}
+
+fn supported<'a, V: Verifier>(
+    alloc: Global,
+    verifier: &V,
+    records: &'a [Record],
+) -> Result<Vec<&'a Record>, NoMemory>
+    ensures { IfOk result (λ v. shown v.items ≡ filter (is_supported_record (V.answers verifier.now)) records.now) }
+{
+    let mut supported = Vec::new(alloc);
+    for ds in records {
+        if is_supported_ds(verifier, ds) {
+            supported.push(ds)?;
+        }
+    }
+    Ok(supported)
+}
+
+// An index of the records that these references show.
+fn indexed<'a>(
+    alloc: Global,
+    owner: &'a Name,
+    records: Vec<&'a Record>,
+) -> Result<DsIndex<'a>, NoMemory>
+    ensures owner { IfOk result (λ d. d.owner ≡ owner.now) }
+    ensures records { IfOk result (λ d. d.records ≡ shown records.entry.items) }
+{
+    let counted = counted_in(alloc, owner, &records)?;
+    Ok(DsIndex {
+        owner,
+        records,
+        counted,
+    })
+}
+
+// The first two of each algorithm and tag.
+fn counted_in<'a>(
+    alloc: Global,
+    owner: &Name,
+    records: &[&'a Record],
+) -> Result<CountedDs<'a>, NoMemory>
+    ensures { IfOk result (λ m. AreCounted owner.now (shown records.now) m) }
+{
+    let mut counted = BTreeMap::new(alloc);
+    for ds in records {
+        count(alloc, &mut counted, owner, ds)?;
+    }
+    Ok(counted)
+}
+
+// Counts a record, where it is a DS of the owner and one of the first two.
+fn count<'a>(
+    alloc: Global,
+    counted: &mut CountedDs<'a>,
+    owner: &Name,
+    ds: &'a Record,
+) -> Result<(), NoMemory>
+    ensures { OnOk result ((a t : ℕ) → counted_at counted.new a t ≡
+        counted_after counted.old (is_delegation_at owner.now a t ds.now) ds.now a t) }
+{
+    if *owner != ds.name {
+        return Ok(());
+    }
+    match Ds::of(ds) {
+        Some(read) => add(alloc, counted, read.algorithm, read.key_tag, ds),
+        None => Ok(()),
+    }
+}
+
+// Adds a record to those of an algorithm and a tag, of which two are kept.
+fn add<'a>(
+    alloc: Global,
+    counted: &mut CountedDs<'a>,
+    algorithm: u8,
+    tag: u16,
+    ds: &'a Record,
+) -> Result<(), NoMemory>
+    ensures { OnOk result ((a t : ℕ) → counted_at counted.new a t ≡
+        counted_after counted.old ((a == algorithm) && (t == tag)) ds.now a t) }
+{
+    if let Some(there) = counted.get_mut(&(algorithm, tag)) {
+        if there.len() < MOST_COUNTED {
+            there.push(ds)?;
+        }
+        return Ok(());
+    }
+    let mut first = Vec::new(alloc);
+    first.push(ds)?;
+    counted.insert((algorithm, tag), first)?;
+    Ok(())
+}
+
+// The first of some records that matches a key of an owner.
+fn first_match<'a, V: Verifier>(
+    verifier: &V,
+    owner: &Name,
+    key: &Record,
+    records: &[&'a Record],
+) -> Option<&'a Record>
+    ensures { option_copied result ≡
+        find (λ r. matches (V.answers verifier.now) owner.now key.now.rdata r.rdata) (shown records.now) }
+{
+    for ds in records {
+        let ds = *ds;
+        if is_match(verifier, owner, key, ds) {
+            return Some(ds);
+        }
+    }
+    None
+}
+
+// The rdata of a record, as that of a DS, matches that of a key of an owner (RFC 4034, 5.1.4).
+fn is_match<V: Verifier>(verifier: &V, owner: &Name, key: &Record, ds: &Record) -> bool
+    ensures { result ≡ matches (V.answers verifier.now) owner.now key.now.rdata ds.now.rdata }
+{
+    let rdata = key.rdata.as_slice();
+    let Some((algorithm, tag)) = place_in(rdata) else {
+        return false;
+    };
+    let Some(read) = Ds::read(ds.rdata.as_slice()) else {
+        return false;
+    };
+    algorithm == read.algorithm
+        && tag == read.key_tag
+        && verifier.supports(read.algorithm)
+        && read.covers(owner, rdata)
+}
+
+// The record is a DS of the owner with the algorithm and the tag of a key.
+fn is_ds_for(owner: &Name, key: &Record, ds: &Record) -> bool
+    ensures { result ≡ is_record_for owner.now key.now ds.now }
+{
+    if *owner != ds.name {
+        return false;
+    }
+    let Some((algorithm, tag)) = place_of(key) else {
+        return false;
+    };
+    let Some(read) = Ds::of(ds) else {
+        return false;
+    };
+    algorithm == read.algorithm && tag == read.key_tag
+}
+
+// The algorithm and the tag of a key, where it can be read.
+fn place_of(key: &Record) -> Option<(u8, u16)>
+    ensures { result ≡ place_by key.now.rdata (dnskey_of key.now) }
+{
+    if key.record_type != RecordType::DNSKEY {
+        return None;
+    }
+    place_in(key.rdata.as_slice())
+}
+
+// The algorithm and the tag that a key's rdata gives.
+#[tactic(auto, unfolding(dns_model::specs::Views::dnskey_in))]
+fn place_in(rdata: &[u8]) -> Option<(u8, u16)>
+    ensures { result ≡ place_by rdata.now (dnskey_in rdata.now) }
+{
+    let dnskey = Dnskey::read(rdata)?;
+    let tag = key_tag(rdata)?;
+    Some((dnskey.algorithm, tag))
+}

@@ -1,0 +1,264 @@
+ghost use Rattle.std.specs.Prelude.{◌≡◌, true, None, Some, IfOk, [], map};
+ghost use Rattle.std.specs.List.{find};
+ghost use Rattle.std.specs.Option.{option_copied};
+ghost use Rattle.dns_net.specs.Link.{link_value};
+ghost use Rattle.dns_judgement.specs.Delegations.{ds_question, is_ds_set_of};
+ghost use Rattle.dns_judgement.specs.KeySets.{needs_ds, outcome_by_ds};
+ghost use Rattle.dns_judgement.specs.Chained.{chained_by_ds, self_signed_chain as self_signed_chain_of};
+ghost use Rattle.dns_trust.specs.Judge.{judge_of};
+ghost use Rattle.dns_trust.specs.Verdicts.{listed};
+ghost use Rattle.dns_trust.specs.Signers.{signed_value};
+ghost use Rattle.dns_trust.specs.Steps.{IsKeysStep};
+ghost use Rattle.dns_trust.specs.KeysMarks.{marked_value, outcome_marked, by_ds_records, marked_by_found, marked_by_zone, chained_with, IsAnchorsMark};
+
+use crate::chains::{
+    anchored_chain, anchored_link, last_number, matched_link, self_signed_chain, trusted_chain,
+};
+use crate::{AnchoredRow, DsIndex, Judge, MatchedRow, SignedBy, anchored_row, matched_row};
+use dns_name::{Name, NoMemory};
+use dns_net::{Link, Verifier, clone_links};
+use dns_record::{DNSClass, Proof, Query, Record, RecordSet, RecordType, Section};
+use dns_sets::{ChainedSet, MarkedSet, PlacedSet};
+use std::alloc::Global;
+
+/// How far a DNSKEY set is judged by anchors alone.
+#[derive(Drop)]
+pub enum KeysStep {
+    /// It is judged.
+    Done(ChainedSet),
+    /// The DS verdict of its owner decides.
+    NeedsDs(PlacedSet),
+}
+
+// The mark of a key set, the place of the signature that decided, and the links to the set where it is Secure.
+#[derive(Drop)]
+struct KeysMarked {
+    mark: Proof,
+    sig: Option<u32>,
+    chain: Vec<Link>,
+}
+
+/// A DNSKEY set, judged by its anchored keys, as far as these decide (RFC 4035, 5.2).
+pub fn judged_keys<V: Verifier>(
+    alloc: Global,
+    judge: &Judge<'_, V>,
+    placed: PlacedSet,
+) -> Result<KeysStep, NoMemory>
+    ensures { IfOk result (λ s. IsKeysStep (judge_of V.answers judge.now) placed s) }
+{
+    match marked_by_anchors(alloc, judge, &placed.set)? {
+        Some(marked) => Ok(KeysStep::Done(with_mark(placed, marked))),
+        None => Ok(KeysStep::NeedsDs(placed)),
+    }
+}
+
+/// A DNSKEY set that no anchor decides, judged with the judged sets of the answer to the ask for its owner's DS set; None
+/// where the ask failed or was refused (RFC 4035, 5.2).
+pub fn judged_by_ds<V: Verifier>(
+    alloc: Global,
+    judge: &Judge<'_, V>,
+    placed: PlacedSet,
+    answer: &Option<Vec<ChainedSet>>,
+) -> Result<ChainedSet, NoMemory>
+    requires { needs_ds (judge_of V.answers judge.now) placed.set ≡ true }
+    ensures { IfOk result (λ c. c ≡ chained_by_ds (judge_of V.answers judge.now) placed (listed answer.now)) }
+{
+    let marked = marked_by_answer(alloc, judge, &placed.set, answer)?;
+    Ok(with_mark(placed, marked))
+}
+
+/// The question for the DS set of a key set's owner.
+pub fn ds_ask_of(set: &RecordSet) -> Result<Query, NoMemory>
+    ensures { IfOk result (λ q. q ≡ ds_question set.now.class set.now.owner) }
+{
+    let name = set.name.try_clone()?;
+    Ok(Query {
+        name,
+        query_type: RecordType::DS,
+        query_class: set.dns_class,
+    })
+}
+
+// A placed set with its mark and its chain.
+fn with_mark(placed: PlacedSet, marked: KeysMarked) -> ChainedSet
+    ensures { result ≡ chained_with placed (marked_value marked) }
+{
+    let PlacedSet { section, set } = placed;
+    let KeysMarked { mark, sig, chain } = marked;
+    let judged = MarkedSet {
+        section,
+        set,
+        mark,
+        sig,
+    };
+    ChainedSet { judged, chain }
+}
+
+// Neither signed nor wholly trusted.
+fn refused(alloc: Global) -> KeysMarked
+    ensures { marked_value result ≡ record { mark = Proof.Bogus; sig = None; chain = [] } }
+{
+    KeysMarked {
+        mark: Proof::Bogus,
+        sig: None,
+        chain: Vec::new(alloc),
+    }
+}
+
+// Wholly trusted, by these links.
+fn wholly_trusted(chain: Vec<Link>) -> KeysMarked
+    ensures { marked_value result ≡ record { mark = Proof.Secure; sig = None; chain = map link_value chain.items } }
+{
+    KeysMarked {
+        mark: Proof::Secure,
+        sig: None,
+        chain,
+    }
+}
+
+// The mark of a key set by its anchored keys; None where the DS verdict of its owner decides.
+fn marked_by_anchors<V: Verifier>(
+    alloc: Global,
+    judge: &Judge<'_, V>,
+    set: &RecordSet,
+) -> Result<Option<KeysMarked>, NoMemory>
+    ensures { IfOk result (λ m. IsAnchorsMark (judge_of V.answers judge.now) set.now m) }
+{
+    match anchored_row(alloc, judge, set)? {
+        AnchoredRow::Signed(by) => {
+            let link = anchored_link(set, by.key)?;
+            Ok(Some(signed(alloc, set, Vec::new(alloc), link, &by)?))
+        }
+        AnchoredRow::Whole => Ok(Some(wholly_trusted(anchored_chain(alloc, set)?))),
+        AnchoredRow::Root => Ok(Some(refused(alloc))),
+        AnchoredRow::NeedsDs => Ok(None),
+    }
+}
+
+// Signed by a key of it that a link behind others shows.
+fn signed(
+    alloc: Global,
+    set: &RecordSet,
+    front: Vec<Link>,
+    link: Link,
+    by: &SignedBy<'_>,
+) -> Result<KeysMarked, NoMemory>
+    ensures { IfOk result (λ m. marked_value m ≡ record {
+      mark = Proof.Secure;
+      sig = Some by.now.place;
+      chain = self_signed_chain_of set.now (map link_value front.items) (link_value link) (signed_value by.now);
+    }) }
+{
+    let chain = self_signed_chain(alloc, set, front, link, by)?;
+    Ok(KeysMarked {
+        mark: Proof::Secure,
+        sig: Some(by.place),
+        chain,
+    })
+}
+
+// The mark of a key set by the answer to the ask for its owner's DS set.
+fn marked_by_answer<V: Verifier>(
+    alloc: Global,
+    judge: &Judge<'_, V>,
+    set: &RecordSet,
+    answer: &Option<Vec<ChainedSet>>,
+) -> Result<KeysMarked, NoMemory>
+    requires { needs_ds (judge_of V.answers judge.now) set.now ≡ true }
+    ensures { IfOk result (λ m. marked_value m ≡ marked_by_zone (judge_of V.answers judge.now) set.now (listed answer.now)) }
+{
+    let Some(sets) = answer else {
+        return Ok(refused(alloc));
+    };
+    match ds_set_of(set.dns_class, &set.name, sets) {
+        Some(found) => marked_by_set(alloc, judge, set, found),
+        None => Ok(refused(alloc)),
+    }
+}
+
+// The mark of a key set by its owner's DS set.
+fn marked_by_set<V: Verifier>(
+    alloc: Global,
+    judge: &Judge<'_, V>,
+    set: &RecordSet,
+    found: &ChainedSet,
+) -> Result<KeysMarked, NoMemory>
+    requires { needs_ds (judge_of V.answers judge.now) set.now ≡ true }
+    ensures { IfOk result (λ m. marked_value m ≡ marked_by_found (judge_of V.answers judge.now) set.now (Some found.now)) }
+{
+    match found.judged.mark {
+        Proof::Secure => {
+            let records = found.judged.set.records.as_slice();
+            marked_by_records(alloc, judge, set, &found.chain, records)
+        }
+        Proof::Insecure => Ok(refused(alloc)),
+        Proof::Bogus => Ok(refused(alloc)),
+        Proof::Indeterminate => Ok(refused(alloc)),
+    }
+}
+
+// The mark of a key set by the records of its owner's DS set, which is Secure by a chain.
+fn marked_by_records<V: Verifier>(
+    alloc: Global,
+    judge: &Judge<'_, V>,
+    set: &RecordSet,
+    front: &Vec<Link>,
+    records: &[Record],
+) -> Result<KeysMarked, NoMemory>
+    requires { needs_ds (judge_of V.answers judge.now) set.now ≡ true }
+    ensures { IfOk result (λ m. marked_value m ≡
+        by_ds_records (judge_of V.answers judge.now) set.now (map link_value front.now.items) records.now) }
+{
+    let ds = DsIndex::of_supported(alloc, judge.verifier, &set.name, records)?;
+    if ds.is_empty() {
+        return Ok(refused(alloc));
+    }
+    marked_by_ds(alloc, judge, set, front, &ds)
+}
+
+// The mark of a key set by the supported ones of these.
+fn marked_by_ds<V: Verifier>(
+    alloc: Global,
+    judge: &Judge<'_, V>,
+    set: &RecordSet,
+    front: &Vec<Link>,
+    ds: &DsIndex<'_>,
+) -> Result<KeysMarked, NoMemory>
+    requires owner { ds.now.owner ≡ set.now.owner }
+    requires needed { needs_ds (judge_of V.answers judge.now) set.now ≡ true }
+    ensures { IfOk result (λ m. marked_value m ≡
+        outcome_marked (judge_of V.answers judge.now) set.now (map link_value front.now.items)
+        (outcome_by_ds (judge_of V.answers judge.now) set.now ds.now.records)) }
+{
+    match matched_row(alloc, judge, set, ds)? {
+        MatchedRow::Signed(by) => {
+            let ds_link = last_number(front)?;
+            let link = matched_link(judge, set, ds_link, ds, by.key)?;
+            signed(alloc, set, clone_links(front)?, link, &by)
+        }
+        MatchedRow::Whole => {
+            let chain = trusted_chain(alloc, judge, set, front, ds)?;
+            Ok(wholly_trusted(chain))
+        }
+        MatchedRow::Neither => Ok(refused(alloc)),
+    }
+}
+
+// The first DS set of a zone in the answer section.
+fn ds_set_of<'a>(class: DNSClass, zone: &Name, sets: &'a [ChainedSet]) -> Option<&'a ChainedSet>
+    ensures { option_copied result ≡ find (λ c. is_ds_set_of class.0 zone.now c.judged) sets.now }
+{
+    sets.iter()
+        .find(|chained| is_ds_set(class, zone, &chained.judged))
+}
+
+// The set is a DS set of the zone in the answer section.
+fn is_ds_set(class: DNSClass, zone: &Name, judged: &MarkedSet) -> bool
+    ensures { result ≡ is_ds_set_of class.0 zone.now judged.now }
+{
+    let set = &judged.set;
+    judged.section == Section::Answer
+        && *zone == set.name
+        && set.record_type == RecordType::DS
+        && class == set.dns_class
+}

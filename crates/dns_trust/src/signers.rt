@@ -1,0 +1,119 @@
+ghost use Rattle.std.specs.Prelude.{◌≡◌, ◌≤◌, IfOk, Some, length, take};
+ghost use Rattle.std.specs.List.{find};
+ghost use Rattle.std.specs.Option.{option_map, option_copied};
+ghost use Rattle.dns_model.specs.RecordViews.{rrsig_of};
+ghost use Rattle.dns_judgement.specs.Validity.{is_good_by as is_good_in};
+ghost use Rattle.dns_judgement.specs.Marks.{most_signatures};
+ghost use Rattle.dns_trust.specs.Judge.{judge_of};
+ghost use Rattle.dns_trust.specs.Delegating.{shown};
+ghost use Rattle.dns_trust.specs.Signers.{AreOnce, signed_value, first_signed_by, signer_of};
+
+use crate::Judge;
+use crate::good::is_good_read;
+use dns_name::NoMemory;
+use dns_net::Verifier;
+use dns_rdata::Rrsig;
+use dns_record::{Record, RecordSet};
+use std::alloc::Global;
+use std::collections::BTreeSet;
+
+// How many signatures of a set are tried.
+const MOST_SIGNATURES: usize = 8;
+
+/// A signature of a key set that is good by a key of it.
+#[derive(Drop)]
+pub struct SignedBy<'a> {
+    /// The place of the signature among the set's signatures.
+    pub place: u32,
+    pub signature: &'a Record,
+    pub key: &'a Record,
+}
+
+/// The signatures of a set that are tried: the first eight signatures.
+pub fn first_signatures(set: &RecordSet) -> &[Record]
+    ensures first { result.now ≡ take most_signatures set.now.signatures }
+    ensures few { length result.now ≤ most_signatures }
+{
+    let signatures = set.rrsigs.as_slice();
+    &signatures[..signatures.len().min(MOST_SIGNATURES)]
+}
+
+// Of keys with one rdata the first alone, since a signature that isn't good by it is good by none of them.
+pub(crate) fn each_once<'a>(alloc: Global, keys: &[&'a Record]) -> Result<Vec<&'a Record>, NoMemory>
+    ensures { IfOk result (λ v. AreOnce (shown v.items) (shown keys.now)) }
+{
+    let mut seen = BTreeSet::new(alloc);
+    let mut once = Vec::new(alloc);
+    for key in keys {
+        let key = *key;
+        let rdata = key.rdata.as_slice();
+        if !seen.insert(rdata)? {
+            continue;
+        }
+        once.push(key)?;
+    }
+    Ok(once)
+}
+
+// The first signature of a set that is good by one of some keys, among its first eight signatures.
+pub(crate) fn first_signed<'a, V: Verifier>(
+    alloc: Global,
+    judge: &Judge<'_, V>,
+    set: &'a RecordSet,
+    keys: &[&'a Record],
+) -> Result<Option<SignedBy<'a>>, NoMemory>
+    ensures { IfOk result (λ s. option_map signed_value s ≡
+        first_signed_by (judge_of V.answers judge.now) set.now (shown keys.now) (take most_signatures set.now.signatures)) }
+{
+    let signatures = first_signatures(set);
+    for (place, signature) in signatures.iter().enumerate() {
+        if let Some(key) = signer(alloc, judge, set, signature, keys)? {
+            return Ok(Some(SignedBy {
+                place: place as u32,
+                signature,
+                key,
+            }));
+        }
+    }
+    Ok(None)
+}
+
+// The first of some keys by which a signature of a set is good.
+#[tactic(auto, using(crate::proofs::Reading::unread_signer))]
+fn signer<'a, V: Verifier>(
+    alloc: Global,
+    judge: &Judge<'_, V>,
+    set: &RecordSet,
+    sig: &Record,
+    keys: &[&'a Record],
+) -> Result<Option<&'a Record>, NoMemory>
+    ensures { IfOk result (λ k. option_copied k ≡ signer_of (judge_of V.answers judge.now) set.now (shown keys.now) sig.now) }
+{
+    let Some(read) = Rrsig::of(sig) else {
+        return Ok(None);
+    };
+    signer_of_read(alloc, judge, set, sig, &read, keys)
+}
+
+// The same of a signature that is read. The bytes that it is over are built once.
+fn signer_of_read<'a, V: Verifier>(
+    alloc: Global,
+    judge: &Judge<'_, V>,
+    set: &RecordSet,
+    sig: &Record,
+    read: &Rrsig<'_>,
+    keys: &[&'a Record],
+) -> Result<Option<&'a Record>, NoMemory>
+    requires { rrsig_of sig.now ≡ Some read.now }
+    ensures { IfOk result (λ k. option_copied k ≡
+        find (is_good_in (judge_of V.answers judge.now) set.now sig.now) (shown keys.now)) }
+{
+    let mut built = None;
+    for key in keys {
+        let key = *key;
+        if is_good_read(alloc, judge, set, sig, read, key, &mut built)? {
+            return Ok(Some(key));
+        }
+    }
+    Ok(None)
+}
