@@ -14,6 +14,9 @@ enum Sample {
     Denied,
     Bogus,
     Notice,
+    Expired,
+    WrongKey,
+    WrongSignature,
     OwnText,
     NoConnections,
     Decode,
@@ -33,7 +36,7 @@ struct Shown {
     text: &'static str,
 }
 
-const SHOWN: [Shown; 17] = [
+const SHOWN: [Shown; 20] = [
     Shown {
         sample: Sample::Busy,
         text: "resource too busy",
@@ -53,6 +56,18 @@ const SHOWN: [Shown; 17] = [
     Shown {
         sample: Sample::Notice,
         text: "not judged yet",
+    },
+    Shown {
+        sample: Sample::Expired,
+        text: "ExpiredRrsig",
+    },
+    Shown {
+        sample: Sample::WrongKey,
+        text: "WrongDnskey",
+    },
+    Shown {
+        sample: Sample::WrongSignature,
+        text: "WrongRrsig",
     },
     Shown {
         sample: Sample::OwnText,
@@ -137,6 +152,9 @@ fn make(alloc: Global, sample: Sample) -> Result<NetError, Fail> {
         Sample::Denied => denied(alloc),
         Sample::Bogus => Ok(NetError::from(DnsError::DnssecBogus)),
         Sample::Notice => Ok(NetError::from(Notice::NotJudgedYet)),
+        Sample::Expired => Ok(NetError::from(Notice::ExpiredRrsig)),
+        Sample::WrongKey => Ok(NetError::from(Notice::WrongDnskey)),
+        Sample::WrongSignature => Ok(NetError::from(Notice::WrongRrsig)),
         Sample::OwnText => own_text(alloc),
         Sample::NoConnections => Ok(NetError::NoConnections),
         Sample::Decode => Ok(undecoded(DecodeKind::Short)),

@@ -12,7 +12,7 @@ use Rattle.dns_net.specs.Handles.{Replies, reply_to, ReplyIsTold}
 use Rattle.dns_net.specs.Replies.{reply_of}
 use Rattle.dns_net.specs.declared.error.NetError.{NetError}
 use Rattle.dns_net.specs.declared.handle.DnsHandle as handle
-use Rattle.dns_net.specs.declared.notice.Notice.TheVariants.{NotJudgedYet}
+use Rattle.dns_net.specs.declared.notice.Notice.TheVariants.{NotJudgedYet, ExpiredRrsig, WrongDnskey, WrongRrsig}
 use Rattle.dns_chain.specs.Heard.{heard_message, heard}
 use Rattle.dns_net.specs.declared.request.DnsRequestOptions.{DnsRequestOptions}
 use Rattle.dns_net.specs.declared.verifier.Verifier as verifier
@@ -185,6 +185,9 @@ error_cause meanings s call (Message NotJudgedYet) c says own = elim (says.unjud
   | inl p ↦ passed_cause meanings s call _ c own p
   | inr u ↦ NotJudged (unjudged_cause meanings s call c u) refl
 ]
+error_cause meanings s call (Message ExpiredRrsig) c says own = passed_cause meanings s call _ c own (says.passed _ refl refl)
+error_cause meanings s call (Message WrongDnskey) c says own = passed_cause meanings s call _ c own (says.passed _ refl refl)
+error_cause meanings s call (Message WrongRrsig) c says own = passed_cause meanings s call _ c own (says.passed _ refl refl)
 error_cause meanings s call (Msg text) c says own = passed_cause meanings s call _ c own (says.passed _ refl refl)
 error_cause meanings s call NoConnections c says own = passed_cause meanings s call _ c own (says.passed _ refl refl)
 error_cause meanings s call (Proto error) c says own = passed_cause meanings s call _ c own (says.passed _ refl refl)
