@@ -1,25 +1,31 @@
 -- The sets of a step, judged one after another, each with its entry.
-use Rattle.std.proofs.Common.{◌≡◌, ◌==◌, true, false, List, [], ◌∷◌, ◌++◌, refl, sym, ap, subst, ◌∙◌, append-nil}
+use Rattle.std.proofs.Common.{◌≡◌, ◌==◌, ◌+◌, true, false, List, [], ◌∷◌, ◌++◌, Option, None, Some, refl, sym, ap, subst, ◌∙◌, append-nil}
 use Rattle.std.specs.List.{AllByRecursion}
+use Rattle.std.specs.Option.{option_map}
 use Rattle.std.proofs.lemmas.List.{map-append}
 use Rattle.std.proofs.lemmas.List.Concat.{flat_map-append}
 use Rattle.dns_model.specs.declared.trail.AskRef.{AskRef}
 use Rattle.dns_model.specs.Types.{type_dnskey}
-use Rattle.dns_model.specs.Records.{RrSet}
+use Rattle.dns_model.specs.Records.{RrSet, Question}
 use Rattle.dns_model.specs.SoundAnswers.{Placed}
 use Rattle.dns_model.specs.Trails.{AskedValue, JudgedSetValue}
 use Rattle.dns_model.proofs.EachLemmas.{each_append}
 use Rattle.dns_model.proofs.SetLemmas.{IsProper}
-use Rattle.dns_judgement.specs.Chained.{Chained, ChainedVerdict, bare_verdicts, stands, chained_by, chained_keys}
+use Rattle.dns_judgement.specs.Chained.{Chained, ChainedVerdict, bare, bare_verdicts, stands, chained_by, chained_keys, chained_by_ds}
+use Rattle.dns_judgement.specs.Delegations.{ds_question, zone_verdict}
 use Rattle.dns_judgement.specs.Derivation.{Grounds, with_entries, entry_holds, entries_hold}
 use Rattle.dns_judgement.specs.DerivationParts.{asks_of_sets, with_entry}
 use Rattle.dns_judgement.specs.Judged.{Judged, placed_of}
-use Rattle.dns_judgement.specs.Marks.{judged_by, judged_keys, most_signatures}
+use Rattle.dns_judgement.specs.KeySets.{needs_ds, judged_keys}
+use Rattle.dns_judgement.specs.Marks.{judged_by, most_signatures}
 use Rattle.dns_judgement.proofs.StandLemmas.{chained_by-stands}
-use Rattle.dns_judgement.proofs.KeySetLemmas.{chained_keys-stands}
-use Rattle.dns_judgement.proofs.ChainedLemmas.{chained_keys-bare, chained_by-bare, placed_of-judged_keys, placed_of-judged_by}
-use Rattle.dns_judgement.proofs.ExtendLemmas.{entries_stay, entries_none, entries_more, entries_as_many, with_entries-append, has_mark_from, IsEntryOf, entry_of_keys, entry_of_verdicts}
-use Rattle.dns_chain.specs.Walking.{entry_of, AreTried, IsJudgedSet, IsJudgement}
+use Rattle.dns_judgement.proofs.KeySetLemmas.{chained_keys-stands, chained_by_ds-stands}
+use Rattle.dns_judgement.proofs.ChainedLemmas.{chained_keys-bare, chained_by_ds-bare, chained_by-bare, placed_of-judged_keys, placed_of-judged_by}
+use Rattle.dns_judgement.proofs.ExtendLemmas.{entries_stay, entries_none, entries_more, entries_as_many, with_entries-append, has_mark_from, IsEntryOf, entry_of_keys, entry_by_ds, entry_of_verdicts}
+use Rattle.dns_trust.specs.Steps.{IsKeysStep}
+use Rattle.dns_trust.specs.declared.key_sets.KeysStep.{KeysStep}
+use Rattle.dns_trust.specs.declared.key_sets.KeysStep.TheVariants.{Done, NeedsDs}
+use Rattle.dns_chain.specs.Walking.{entry_of, IsAnswer, AreTried, IsJudgedSet, IsJudgement}
 
 -- ---- one set
 
@@ -31,25 +37,60 @@ with_entry-of : (placed : Placed) (judged : Judged) (asked : List AskRef) → pl
     → judged ≡ with_entry (placed, entry_of judged asked)
 with_entry-of placed judged asked is = ap (λ p. with_entry (p, entry_of judged asked)) is
 
--- a key set
+-- a key set that asks for no DS set
 keys_judged : (g : Grounds) (placed : Placed) (c : Chained) (entry : JudgedSetValue) → (placed.set.rtype == type_dnskey) ≡ true
-    → c ≡ chained_keys g.judge placed → entry ≡ entry_of c.judged [] → IsJudgedSet g placed c entry
-keys_judged g placed c entry keys is made =
-    let judged : c.judged ≡ judged_keys g.judge placed = ap (λ x. x.judged) is ∙ chained_keys-bare g.judge placed in
-    let own : placed_of c.judged ≡ placed = ap placed_of judged ∙ placed_of-judged_keys g.judge placed in
+    → needs_ds g.judge placed.set ≡ false → c ≡ chained_keys g.judge placed → entry ≡ entry_of c.judged [] → IsJudgedSet g placed c entry
+keys_judged g placed c entry keys settled is made =
+    let judged : c.judged ≡ judged_keys g.judge placed None = ap (λ x. x.judged) is ∙ chained_keys-bare g.judge placed in
+    let own : placed_of c.judged ≡ placed = ap placed_of judged ∙ placed_of-judged_keys g.judge placed None in
     let holds : entry_holds g placed (entry_of c.judged []) ≡ true =
-    entry_of_keys g placed (entry_of c.judged []) (is_entry_of placed c.judged [] own) keys refl refl
-    (has_mark_from (judged_keys g.judge placed) (entry_of c.judged []) (ap (λ x. x.mark) (sym judged)) (ap (λ x. x.sig) (sym judged))) in
+    entry_of_keys g placed (entry_of c.judged []) (is_entry_of placed c.judged [] own) keys settled refl refl
+    (has_mark_from (judged_keys g.judge placed None) (entry_of c.judged []) (ap (λ x. x.mark) (sym judged)) (ap (λ x. x.sig) (sym judged))) in
     record {
       holds = ap (entry_holds g placed) made ∙ holds;
       same = with_entry-of placed c.judged [] own ∙ ap (λ e. with_entry (placed, e)) (sym made);
       stand = λ proper. ap (stands g.judge) is ∙ chained_keys-stands g.judge placed proper keys;
     }
 
-pub keys_step : (g : Grounds) (placed : Placed) (s c : Chained) (entry : JudgedSetValue) (asked : List AskRef) → (placed.set.rtype == type_dnskey) ≡ true
-    → s ≡ chained_keys g.judge placed → asked ≡ [] → c ≡ s → entry ≡ entry_of s.judged asked → IsJudgedSet g placed c entry
-keys_step g placed s c entry asked keys is none same made =
-    keys_judged g placed c entry keys (same ∙ is) (made ∙ ap (λ x. entry_of x.judged asked) (sym same) ∙ ap (entry_of c.judged) none)
+pub keys_step : (g : Grounds) (placed : Placed) (step : KeysStep) (s c : Chained) (entry : JudgedSetValue) (asked : List AskRef)
+    → (placed.set.rtype == type_dnskey) ≡ true → IsKeysStep g.judge placed step → step ≡ Done s → asked ≡ [] → c ≡ s → entry ≡ entry_of s.judged asked
+    → IsJudgedSet g placed c entry
+keys_step g placed step s c entry asked keys by done none same made =
+    let is : IsKeysStep g.judge placed (Done s) = subst (λ x. IsKeysStep g.judge placed x) done by in
+    keys_judged g placed c entry keys is.0 (same ∙ is.1) (made ∙ ap (λ x. entry_of x.judged asked) (sym same) ∙ ap (entry_of c.judged) none)
+
+-- a key set that asks for the DS set of its owner
+ds_judged : (g : Grounds) (placed : Placed) (c : Chained) (entry : JudgedSetValue) (ask : AskRef) (answer : Option (List Chained))
+    → (placed.set.rtype == type_dnskey) ≡ true → needs_ds g.judge placed.set ≡ true
+    → IsAnswer g.judge g.limit g.earlier (ds_question placed.set.class placed.set.owner) (g.depth + 1) ask answer
+    → c ≡ chained_by_ds g.judge placed answer → entry ≡ entry_of c.judged (ask ∷ []) → IsJudgedSet g placed c entry
+ds_judged g placed c entry ask answer keys needs asked is made =
+    let zone = zone_verdict g.judge.answers placed.set.class placed.set.owner (option_map bare answer) in
+    let judged : c.judged ≡ judged_keys g.judge placed (Some zone) = ap (λ x. x.judged) is ∙ chained_by_ds-bare g.judge placed answer in
+    let own : placed_of c.judged ≡ placed = ap placed_of judged ∙ placed_of-judged_keys g.judge placed (Some zone) in
+    let one = entry_of c.judged (ask ∷ []) in
+    let holds : entry_holds g placed one ≡ true =
+    entry_by_ds g placed one ask zone (is_entry_of placed c.judged (ask ∷ []) own) keys needs refl refl asked.asks
+    (ap (zone_verdict g.judge.answers placed.set.class placed.set.owner) asked.same)
+    (has_mark_from (judged_keys g.judge placed (Some zone)) one (ap (λ x. x.mark) (sym judged)) (ap (λ x. x.sig) (sym judged))) in
+    record {
+      holds = ap (entry_holds g placed) made ∙ holds;
+      same = with_entry-of placed c.judged (ask ∷ []) own ∙ ap (λ e. with_entry (placed, e)) (sym made);
+      stand = λ proper. ap (stands g.judge) is ∙ chained_by_ds-stands g.judge placed answer proper keys asked.stand;
+    }
+
+pub ds_step : (g : Grounds) (placed : Placed) (step : KeysStep) (own : Placed) (set : RrSet) (question : Question) (s c : Chained) (entry : JudgedSetValue)
+    (ask : AskRef) (asked : List AskRef) (answer : Option (List Chained))
+    → (placed.set.rtype == type_dnskey) ≡ true → IsKeysStep g.judge placed step → step ≡ NeedsDs own → set ≡ own.set
+    → question ≡ ds_question set.class set.owner → IsAnswer g.judge g.limit g.earlier question (g.depth + 1) ask answer
+    → s ≡ chained_by_ds g.judge own answer → asked ≡ ask ∷ [] → c ≡ s → entry ≡ entry_of s.judged asked → IsJudgedSet g placed c entry
+ds_step g placed step own set question s c entry ask asked answer keys by needs own_set asks answered is one same made =
+    let ds : IsKeysStep g.judge placed (NeedsDs own) = subst (λ x. IsKeysStep g.judge placed x) needs by in
+    let Q : Question → Type 0 = λ q. IsAnswer g.judge g.limit g.earlier q (g.depth + 1) ask answer in
+    let of_set : set ≡ placed.set = own_set ∙ ap (λ p. p.set) ds.1 in
+    let for_ds = subst Q (asks ∙ ap (λ x. ds_question x.class x.owner) of_set) answered in
+    ds_judged g placed c entry ask answer keys ds.0 for_ds (same ∙ is ∙ ap (λ p. chained_by_ds g.judge p answer) ds.1)
+    (made ∙ ap (λ x. entry_of x.judged asked) (sym same) ∙ ap (entry_of c.judged) one)
 
 -- another set, by its first signatures
 others_judged : (g : Grounds) (placed : Placed) (set : RrSet) (c : Chained) (entry : JudgedSetValue) (asked : List AskRef) (vs : List ChainedVerdict)

@@ -1,4 +1,5 @@
-ghost use Rattle.std.specs.Prelude.{◌==◌, ◌≡◌, ◌≤◌, ◌++◌, ◌∷◌, [], None, IfOk, OnOk, length, map};
+ghost use Rattle.std.specs.Prelude.{◌==◌, ◌≡◌, ◌≤◌, ◌++◌, ◌∷◌, [], true, None, IfOk, OnOk, length, map};
+ghost use Rattle.dns_model.specs.Records.{Question};
 ghost use Rattle.dns_model.specs.Types.{type_dnskey};
 ghost use Rattle.dns_judgement.specs.Asking.{most_sends};
 ghost use Rattle.dns_judgement.specs.DerivationParts.{asks_of_sets};
@@ -17,7 +18,8 @@ use dns_rdata::Rrsig;
 use dns_record::{Query, Record, RecordSet, RecordType};
 use dns_sets::{ChainedSet, MarkedSet, PlacedSet, placed_sets};
 use dns_trust::{
-    Verdict, ask_of, first_signatures, is_skipped, judged_by, judged_keys, verdict_of,
+    KeysStep, Verdict, ask_of, ds_ask_of, first_signatures, is_skipped, judged_by, judged_by_ds,
+    judged_keys, verdict_of,
 };
 use std::alloc::Global;
 
@@ -84,7 +86,7 @@ pub(crate) fn judge_sets<H: DnsHandle, V: Verifier>(
     Ok(Judgement { sets, entries })
 }
 
-// Judges one set: a key set by the anchors, another by its first signatures.
+// Judges one set: a key set by what makes its keys known, another by its first signatures.
 #[cycle(walk)]
 fn judge_set<H: DnsHandle, V: Verifier>(
     alloc: Global,
@@ -108,8 +110,7 @@ fn judge_set<H: DnsHandle, V: Verifier>(
         (grounds_at V.answers inquiry.now progress.new query.now depth) placed o.set o.entry) }
 {
     if is_key_set(&placed) {
-        let set = judged_keys(alloc, &inquiry.judge, placed)?;
-        let one = with_entry(set, Vec::new(alloc))?;
+        let one = judge_keys(alloc, inquiry, handle, progress, depth, placed)?;
         return Ok(one);
     }
     let Verdicts { verdicts, asked } = judge_signatures(
@@ -122,6 +123,44 @@ fn judge_set<H: DnsHandle, V: Verifier>(
         set_of(&placed),
     )?;
     let set = judged_by(placed, verdicts)?;
+    let one = with_entry(set, asked)?;
+    Ok(one)
+}
+
+// Judges a key set: by the anchors, and where these don't decide, by the DS set of its owner, which it asks for.
+#[cycle(walk)]
+fn judge_keys<H: DnsHandle, V: Verifier>(
+    alloc: Global,
+    inquiry: &Inquiry<'_, V>,
+    handle: &mut H,
+    progress: &mut Progress,
+    depth: u16,
+    placed: PlacedSet,
+) -> Result<OneSet, NoMemory>
+    requires few { progress.old.sends ≤ most_sends }
+    requires counted { length progress.old.steps.items ≤ progress.old.sends }
+    requires limit { inquiry.now.limit ≤ 255 }
+    requires shallow { depth ≤ 255 }
+    requires keys { (placed.set.rtype == type_dnskey) ≡ true }
+    ensures counted { IsCounted progress.old progress.new }
+    ensures went { Went (asking H.DnsHandle inquiry.now) H.faults
+        handle.old handle.new progress.old.sends progress.new.sends }
+    ensures asks { IfOk result (λ o. Walk H.DnsHandle V.answers inquiry.now
+        handle.old progress.old handle.new progress.new o.entry.asked) }
+    ensures judged { IfOk result (λ o. (query : Question) → IsJudgedSet
+        (grounds_at V.answers inquiry.now progress.new query depth) placed o.set o.entry) }
+{
+    let placed = match judged_keys(alloc, &inquiry.judge, placed)? {
+        KeysStep::Done(set) => {
+            let one = with_entry(set, Vec::new(alloc))?;
+            return Ok(one);
+        }
+        KeysStep::NeedsDs(placed) => placed,
+    };
+    let ds_query = ds_ask_of(set_of(&placed))?;
+    let Finished { ask, answer } = ask(alloc, inquiry, handle, progress, ds_query, depth + 1)?;
+    let set = judged_by_ds(alloc, &inquiry.judge, placed, &answer)?;
+    let asked = vec![in alloc; ask]?;
     let one = with_entry(set, asked)?;
     Ok(one)
 }

@@ -7,7 +7,7 @@ use Rattle.dns_trust.specs.Verdicts.{verdict_value}
 use Rattle.dns_chain.specs.Walking.{asks_in, grounds_at}
 use Rattle.dns_chain.proofs.AnswerLemmas.{fault_asks, named_by, none_named, foreign_asks, foreign_answer, judged_asks, judged_so}
 use Rattle.dns_chain.proofs.AskLemmas.{went_nowhere, went_then, went_still, asks_none, asks_deep, asks_many, asks_then}
-use Rattle.dns_chain.proofs.JudgementLemmas.{keys_step, others_step, judgement_none, judgement_step, asks_of_more}
+use Rattle.dns_chain.proofs.JudgementLemmas.{keys_step, ds_step, others_step, judgement_none, judgement_step, asks_of_more}
 use Rattle.dns_chain.proofs.StepLemmas.{no_answer}
 use Rattle.dns_chain.proofs.TriedLemmas.{tried_none, tried_step, proved_step, tried_all}
 use Rattle.dns_chain.proofs.walk.+walk.Goals as goal
@@ -64,19 +64,28 @@ ask-returns-clause-answer g t c =
     judged_so _ _ _ _ _ _ c.in-Ok.message _ _ _ _ _ (omega arith) c.in_ok-placed.ensures c.in_ok-judged.ensures.judged c.in_ok-finished.ensures.added
     c.in_ok-finished.ensures.answer
 
-pub judge_set-returns-then-is_key_set-clause-asks : goal.judge_set-returns-then-is_key_set-clause-asks
-judge_set-returns-then-is_key_set-clause-asks g t c =
-    asks_none _ _ _ _ _ _ _ (ap (λ e. e.asked) c.in_ok-one.ensures.entry ∙ c.new.ensures.items)
-
 pub judge_set-returns-then-is_key_set-clause-judged : goal.judge_set-returns-then-is_key_set-clause-judged
-judge_set-returns-then-is_key_set-clause-judged g t c =
-    keys_step _ _ _ _ _ _ (sym c.is_key_set.ensures ∙ c.if-is_key_set.true) c.in_ok-set.ensures c.new.ensures.items c.in_ok-one.ensures.set c.in_ok-one.ensures.entry
+judge_set-returns-then-is_key_set-clause-judged g t c = c.in_ok-one.ensures.judged c.args.query.now
 
 pub judge_set-returns-clause-judged : goal.judge_set-returns-clause-judged
 judge_set-returns-clause-judged g t c =
     others_step _ _ _ _ _ _ _ _ _ _ c.set_of.ensures (sym c.is_key_set.ensures ∙ c.if-is_key_set.false) c.in_ok-verdicts.ensures.tried
     refl refl
-    c.in_ok-set-2.ensures c.in_ok-one-2.ensures.set c.in_ok-one-2.ensures.entry
+    c.in_ok-set.ensures c.in_ok-one-2.ensures.set c.in_ok-one-2.ensures.entry
+
+pub judge_keys-returns-in-Done-clause-asks : goal.judge_keys-returns-in-Done-clause-asks
+judge_keys-returns-in-Done-clause-asks g t c =
+    asks_none _ _ _ _ _ _ _ (ap (λ e. e.asked) c.in_ok-one-in-Done.ensures.entry ∙ c.new.ensures.items)
+
+pub judge_keys-returns-in-Done-clause-judged : goal.judge_keys-returns-in-Done-clause-judged
+judge_keys-returns-in-Done-clause-judged g t c = λ query.
+    keys_step _ _ c.in_ok-set.field-0 _ _ _ _ c.requires.keys c.in_ok-set.ensures c.in-Done.is c.new.ensures.items c.in_ok-one-in-Done.ensures.set
+    c.in_ok-one-in-Done.ensures.entry
+
+pub judge_keys-returns-clause-judged : goal.judge_keys-returns-clause-judged
+judge_keys-returns-clause-judged g t c = λ query.
+    ds_step _ _ c.in_ok-set.field-0 _ _ _ _ _ _ _ _ _ c.requires.keys c.in_ok-set.ensures c.in-NeedsDs.is c.set_of.ensures c.in_ok-ds_query.ensures
+    c.in_ok-ask.ensures.answer c.in_ok-set-2.ensures c.in_ok-asked.ensures.items c.in_ok-one.ensures.set c.in_ok-one.ensures.entry
 
 pub judge_sets-loop-next-init : goal.judge_sets-loop-next-init
 judge_sets-loop-next-init g t c = (

@@ -14,6 +14,9 @@ decreases-judge_sets g l = 5 * (256 - l.depth) + 3
 abbrev pub decreases-judge_set : goal.decreases-judge_set
 decreases-judge_set g l = 5 * (256 - l.depth) + 2
 
+abbrev pub decreases-judge_keys : goal.decreases-judge_keys
+decreases-judge_keys g l = 5 * (256 - l.depth) + 1
+
 abbrev pub decreases-judge_signatures : goal.decreases-judge_signatures
 decreases-judge_signatures g l = 5 * (256 - l.depth) + 1
 
