@@ -57,7 +57,8 @@ pub(crate) fn look<H: DnsHandle, V: Verifier>(
 
 // The error that names a record of another class.
 fn foreign_error(record: &Record) -> NetError
-    ensures { (result ≡ NetError.NoMemory) ⊎ (error_of result ≡ seen.ForeignClassRecord record.now.owner record.now.class record.now.rtype) }
+    ensures { (result ≡ NetError.NoMemory)
+        ⊎ (error_of result ≡ seen.ForeignClassRecord record.now.owner record.now.class record.now.rtype) }
 {
     match record.name.try_clone() {
         Ok(record_name) => NetError::ForeignClassRecord {
