@@ -269,16 +269,13 @@ fn is_match<V: Verifier>(verifier: &V, owner: &Name, key: &Record, ds: &Record) 
 fn is_ds_for(owner: &Name, key: &Record, ds: &Record) -> bool
     ensures { result ≡ is_record_for owner.now key.now ds.now }
 {
-    if *owner != ds.name {
-        return false;
-    }
     let Some((algorithm, tag)) = place_of(key) else {
         return false;
     };
     let Some(read) = Ds::of(ds) else {
         return false;
     };
-    algorithm == read.algorithm && tag == read.key_tag
+    *owner == ds.name && algorithm == read.algorithm && tag == read.key_tag
 }
 
 // The algorithm and the tag of a key, where it can be read.

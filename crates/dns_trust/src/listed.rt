@@ -82,7 +82,8 @@ impl Listed {
         signature: &[u8],
     ) -> Result<(), NoMemory>
         ensures ok { OnOk result (self.new ≡
-            with_accepted self.old (record { algorithm = algorithm; key = key.now; bytes = bytes.now; signature = signature.now })) }
+            with_accepted self.old
+            (record { algorithm = algorithm; key = key.now; bytes = bytes.now; signature = signature.now })) }
         ensures err { OnErr result (self.new ≡ self.old) }
     {
         if algorithm == 1 {
