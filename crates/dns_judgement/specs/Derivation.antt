@@ -1,6 +1,6 @@
 -- When a trail is a derivation: each mark and each ending follows from what was told and from the steps before
 -- (RFC 4035, 4.3, 5.2 and 5.3). No chain occurs in it, so that it can be checked with the trail alone.
-use Rattle.std.specs.Prelude.{ℕ, ◌+◌, ◌-◌, zero, suc, Bool, true, false, ◌==◌, ◌&&◌, nat_eq, nat_lt, nat_le, List, [], ◌∷◌, ◌++◌, map, length, take, Option, None, Some, unwrap_or, slice_get, if◌then◌else◌}
+use Rattle.std.specs.Prelude.{ℕ, ◌+◌, ◌-◌, zero, suc, Bool, true, false, not, ◌==◌, ◌&&◌, nat_eq, nat_lt, nat_le, List, [], ◌∷◌, ◌++◌, map, length, take, Option, None, Some, unwrap_or, slice_get, if◌then◌else◌}
 use Rattle.std.specs.Option.{option_map, option_map_or, option_and_then, option_eq}
 use Rattle.std.specs.List.{filter_map, flat_map, list_any, list_all, zip, count_by, range_with_len}
 use lib.Pointwise.{pointwise}
@@ -13,7 +13,7 @@ use Rattle.dns_model.specs.declared.trail.AskRef.TheVariants.{Step, TooDeep, Too
 use Rattle.dns_model.specs.declared.trail.MarkOrigin.{MarkOrigin}
 use Rattle.dns_model.specs.declared.trail.MarkOrigin.TheVariants.{Table, Repeat, Cache}
 use Rattle.dns_model.specs.Keys.{bytes_eq}
-use Rattle.dns_model.specs.Names.{name_eq}
+use Rattle.dns_model.specs.Names.{Labels, name_eq}
 use Rattle.dns_model.specs.Types.{type_dnskey}
 use Rattle.dns_model.specs.Records.{Rr, RrSet, Question, question_eq}
 use Rattle.dns_model.specs.Chains.{Judge}
@@ -22,9 +22,12 @@ use Rattle.dns_model.specs.SoundAnswers.{Told, Placed, section_eq}
 use Rattle.dns_judgement.specs.Judged.{Judged}
 use Rattle.dns_judgement.specs.Marks.{Verdict, is_proved, is_skipped, verdict_of, judged_by, most_signatures}
 use Rattle.dns_judgement.specs.Marks as marks
-use Rattle.dns_judgement.specs.Delegations.{ZoneVerdict, ds_question, zone_verdict}
+use Rattle.dns_judgement.specs.ProofErrors.{Net, DsRecordShouldExist}
+use Rattle.dns_judgement.specs.Delegations.{ZoneVerdict, Bogus as Unshown, ds_question, zone_verdict}
+pub use Rattle.dns_judgement.specs.Unsigned.{is_empty}
+use Rattle.dns_judgement.specs.Unsigned.{ns_question, has_ns, set_start, question_start, is_searched, unsigned_by}
 use Rattle.dns_judgement.specs.KeySets.{needs_ds, judged_keys}
-use Rattle.dns_judgement.specs.Outcome.{Outcome, outcome_of, foreign_record}
+use Rattle.dns_judgement.specs.Outcome.{Outcome, outcome_of, outcome_by_zone, foreign_record}
 use Rattle.dns_judgement.specs.Outcome as outcome
 use Rattle.dns_judgement.specs.Asking.{most_sends, depth_limit, judged_part, ask_of}
 
@@ -59,10 +62,6 @@ finished_answer earlier TooDeep = None
 finished_answer earlier TooMany = None
 
 -- ---- asks
-
-abbrev pub is_empty : {X : Type 0} → List X → Bool
-is_empty [] = true
-is_empty (x ∷ xs) = false
 
 -- by what the sets of a step are judged: the judge, how deep asks go, the steps before it, its question and its depth
 pub record Grounds : Type 0 where
@@ -103,6 +102,61 @@ verdicts_by g set (r ∷ rs) asks =
     then option_map (λ vs. marks.Failed ∷ vs) (verdicts_by g set rs asks)
     else verdicts_asked g set r asks (verdicts_by g set rs)
 
+-- ---- the search for a zone
+
+-- what stands for a plain ask at a depth: an earlier step with this question and depth that isn't judged; where it is refused as
+-- one too many is said by the order of the sends, and it never is too deep, being as deep as its step
+abbrev pub is_plain_ask : List AskedValue → ℕ → Question → AskRef → Bool
+is_plain_ask earlier depth q (Step n) =
+    option_map_or (λ step. not step.judged && ((step.depth == depth) && question_eq q step.query)) (slice_get earlier n) false
+is_plain_ask earlier depth q TooDeep = false
+is_plain_ask earlier depth q TooMany = true
+
+-- what a plain ask for the NS records of a name comes to: they are there, they aren't, or the ask met a fault or was refused
+pub data Sight : Type 0 where
+  Cut : Sight
+  Onward : Sight
+  Unseen : Sight
+
+-- a reply that says that there are no records leads on, whatever records come with it
+abbrev pub sight_of : Labels → HeardValue → Sight
+sight_of name (Records told empty) = if not empty && has_ns name told then Cut else Onward
+sight_of name Fault = Unseen
+
+abbrev pub sight_by : List AskedValue → Labels → AskRef → Sight
+sight_by earlier name (Step n) = option_map_or (λ step. sight_of name step.reply) (slice_get earlier n) Unseen
+sight_by earlier name TooDeep = Unseen
+sight_by earlier name TooMany = Unseen
+
+-- the DS verdict to which asks lead: one ask for the DS set of a zone, one deeper than its step; none where these aren't the asks
+-- that it takes
+abbrev pub zone_asked : Grounds → ℕ → Labels → List AskRef → Option ZoneVerdict
+zone_asked g class zone [] = None
+zone_asked g class zone (ask ∷ asks) =
+    if is_empty asks && is_ask g.limit g.earlier (g.depth + 1) (ds_question class zone) ask
+    then Some (zone_verdict g.judge.answers class zone (finished_answer g.earlier ask))
+    else None
+
+-- a search goes on by what the plain ask for a name came to
+abbrev pub search_after : Grounds → ℕ → Labels → List AskRef → Sight → Option ZoneVerdict → Option ZoneVerdict
+search_after g class name asks Cut above = zone_asked g class name asks
+search_after g class name asks Onward above = above
+search_after g class name asks Unseen above = if is_empty asks then Some (Unshown (Net (ns_question class name))) else None
+
+-- the verdict of the search that began at `start` and has come to a name: NS records are asked for, from name to parent, and where
+-- they are the DS verdict decides (RFC 4035, 4.3 and 5.2); none where these aren't the asks that it makes
+unfoldable pub search_by : Grounds → ℕ → Labels → Labels → List AskRef → Option ZoneVerdict
+search_by g class start [] asks = if is_empty asks then Some (Unshown (DsRecordShouldExist start)) else None
+search_by g class start (label ∷ name) [] = None
+search_by g class start (label ∷ name) (ask ∷ asks) =
+    if is_plain_ask g.earlier g.depth (ns_question class (label ∷ name)) ask
+    then search_after g class (label ∷ name) asks (sight_by g.earlier (label ∷ name) ask) (search_by g class start name asks)
+    else None
+
+-- the search from a name on
+abbrev pub search_from : Grounds → ℕ → Labels → List AskRef → Option ZoneVerdict
+search_from g class start asks = search_by g class start start asks
+
 -- ---- the marks of a step
 
 abbrev pub proof_eq : Proof → Proof → Bool
@@ -127,27 +181,24 @@ proof_eq Indeterminate Indeterminate = true
 abbrev pub has_mark_of : Judged → JudgedSetValue → Bool
 has_mark_of judged entry = proof_eq judged.mark entry.mark && option_eq nat_eq judged.sig entry.sig
 
--- the DS verdict that the asks of a key set lead to: one ask for the DS set of its owner, one deeper than its step; none where
--- these aren't the asks that it makes
-abbrev pub verdict_asked : Grounds → RrSet → List AskRef → Option ZoneVerdict
-verdict_asked g set [] = None
-verdict_asked g set (ask ∷ asks) =
-    if is_empty asks && is_ask g.limit g.earlier (g.depth + 1) (ds_question set.class set.owner) ask
-    then Some (zone_verdict g.judge.answers set.class set.owner (finished_answer g.earlier ask))
-    else None
-
 -- the entry of a key set: it asks for the DS set of its owner exactly where it needs its verdict
 abbrev pub keys_hold : Grounds → Placed → JudgedSetValue → Bool
 keys_hold g placed entry =
     if needs_ds g.judge placed.set
-    then option_map_or (λ zone. has_mark_of (judged_keys g.judge placed (Some zone)) entry) (verdict_asked g placed.set entry.asked) false
+    then option_map_or (λ zone. has_mark_of (judged_keys g.judge placed (Some zone)) entry) (zone_asked g placed.set.class placed.set.owner entry.asked) false
     else is_empty entry.asked && has_mark_of (judged_keys g.judge placed None) entry
 
--- the entry of a set that is judged by the rules: a key set may ask for a DS set, another asks for its first signatures
+-- the entry of an unsigned set: it asks as the search for its zone does
+abbrev pub unsigned_holds : Grounds → Placed → JudgedSetValue → Bool
+unsigned_holds g placed entry =
+    option_map_or (λ zone. has_mark_of (unsigned_by placed zone) entry) (search_from g placed.set.class (set_start placed.set) entry.asked) false
+
+-- the entry of a set that is judged by the rules: a key set may ask for a DS set, an unsigned set searches its zone, and another
+-- asks for the keys of its first signatures
 abbrev pub is_by_rules : Grounds → Placed → JudgedSetValue → Bool
 is_by_rules g placed entry =
-    if placed.set.rtype == type_dnskey
-    then keys_hold g placed entry
+    if placed.set.rtype == type_dnskey then keys_hold g placed entry
+    else if is_searched placed.set then unsigned_holds g placed entry
     else option_map_or (λ verdicts. has_mark_of (judged_by placed verdicts) entry)
     (verdicts_by g placed.set (take most_signatures placed.set.signatures) entry.asked) false
 
@@ -223,9 +274,10 @@ ending_eq Seen (Foreign o c t) = false
 ending_eq Seen Failed = false
 ending_eq Seen Seen = true
 
--- the ending that the judged sets make; what isn't judged yet fails
+-- the ending of an outcome; what isn't judged yet fails, and a search has the outcome that it leads to
 abbrev pub ending_by : Outcome → EndingValue
 ending_by outcome.Unjudged = Failed
+ending_by outcome.Searched = Failed
 ending_by (outcome.Accepted d) = Answered d
 ending_by (outcome.Denied proof) = Denied proof
 
@@ -235,6 +287,16 @@ ending_by (outcome.Denied proof) = Denied proof
 abbrev pub ends_bare : EndingValue → AskedValue → Bool
 ends_bare ending step = ending_eq ending step.ending && (is_empty step.sets && is_empty step.excuse)
 
+-- the ending follows from the outcome, and names the asks on which it stands: those of the search for the query's zone, where that
+-- decides
+abbrev pub ending_holds : Grounds → AskedValue → Told → Outcome → Bool
+ending_holds g step told outcome.Unjudged = ending_eq Failed step.ending && is_empty step.excuse
+ending_holds g step told (outcome.Accepted d) = ending_eq (Answered d) step.ending && is_empty step.excuse
+ending_holds g step told (outcome.Denied proof) = ending_eq (Denied proof) step.ending && is_empty step.excuse
+ending_holds g step told outcome.Searched =
+    option_map_or (λ zone. ending_eq (ending_by (outcome_by_zone step.query told zone)) step.ending)
+    (search_from g step.query.class (question_start step.query) step.excuse) false
+
 -- a step that heard these records: a judged one ends with the first record of another class, or has its sets judged and the ending
 -- that they make
 abbrev pub heard_holds : Grounds → AskedValue → Told → Bool
@@ -242,8 +304,7 @@ heard_holds g step told =
     if step.judged
     then option_map_or (λ r. ends_bare (Foreign r.owner r.class r.rtype) step) (foreign_record step.query told)
     (entries_hold g (judged_part step.depth told) step.sets
-    && (ending_eq (ending_by (outcome_of step.query told (with_entries (judged_part step.depth told) step.sets))) step.ending
-    && is_empty step.excuse))
+    && ending_holds g step told (outcome_of step.query told (with_entries (judged_part step.depth told) step.sets)))
     else ends_bare Seen step
 
 -- the lines of a step follow from what it heard, which may be a fault, and from the steps before it

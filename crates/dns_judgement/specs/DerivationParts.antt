@@ -11,7 +11,7 @@ use Rattle.dns_judgement.specs.Asking.{judged_part}
 use Rattle.dns_judgement.specs.Judged.{Judged}
 use Rattle.dns_judgement.specs.Marks.{Verdict, judged_by}
 use Rattle.dns_judgement.specs.Outcome.{Outcome, outcome_of}
-use Rattle.dns_judgement.specs.Derivation.{Grounds, entries_hold, with_entries, is_empty, is_ask, told_in, heard_holds, ends_bare, has_mark_of, is_repeat, judged_sets, if_answered, ending_eq, ending_by}
+use Rattle.dns_judgement.specs.Derivation.{Grounds, entries_hold, with_entries, is_empty, is_ask, told_in, heard_holds, ends_bare, has_mark_of, is_repeat, judged_sets, if_answered, ending_eq, ending_by, ending_holds}
 
 abbrev pub with_entry : Placed × JudgedSetValue → Judged
 with_entry p = record { section = p.0.section; set = p.0.set; mark = p.1.mark; sig = p.1.sig }
@@ -87,8 +87,7 @@ abbrev pub judged_holds : Grounds → AskedValue → Told → Option Rr → Bool
 judged_holds g step told foreign =
     option_map_or (λ r. ends_bare (Foreign r.owner r.class r.rtype) step) foreign
     (entries_hold g (judged_part step.depth told) step.sets
-    && (ending_eq (ending_by (outcome_of step.query told (with_entries (judged_part step.depth told) step.sets))) step.ending
-    && is_empty step.excuse))
+    && ending_holds g step told (outcome_of step.query told (with_entries (judged_part step.depth told) step.sets)))
 
 abbrev pub step_holds_by : Grounds → AskedValue → HeardValue → Bool
 step_holds_by g step heard = option_map_or (heard_holds g step) (told_in heard) (ends_bare Failed step)

@@ -4,6 +4,7 @@ pub mod Marks
 pub mod ProofErrors
 pub mod Delegations
 pub mod KeySets
+pub mod Unsigned
 pub mod Outcome
 pub mod Marking
 pub mod Asking
