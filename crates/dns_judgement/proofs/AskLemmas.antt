@@ -1,35 +1,37 @@
--- What a step that holds asks: judged asks one deeper than it, each made by a step before it or refused.
-use Rattle.std.proofs.Common.{◌≡◌, ℕ, ◌+◌, ◌≤◌, Bool, true, false, ◌==◌, ◌&&◌, List, [], ◌∷◌, take, Option, None, Some, slice_get, nat_le, if◌then◌else◌, refl, arith}
+-- What a step that holds asks: judged asks one deeper than it and plain ones as deep, each made by a step before it or refused.
+use Rattle.std.proofs.Common.{◌≡◌, ◌⊎◌, inl, inr, ℕ, ◌+◌, ◌≤◌, Bool, true, false, not, ◌==◌, ◌&&◌, List, [], ◌∷◌, take, Option, None, Some, slice_get, nat_le, if◌then◌else◌, refl, sym, ap, ◌∙◌, arith}
 use Rattle.std.specs.List.{AllByRecursion}
-use Rattle.std.proofs.lemmas.Bool.{and_parts, leb-true}
+use Rattle.std.proofs.lemmas.Bool.{and_parts, not-true, leb-true}
 use Rattle.dns_model.specs.declared.trail.AskRef.{AskRef}
 use Rattle.dns_model.specs.declared.trail.AskRef.TheVariants.{Step}
 use Rattle.dns_model.specs.declared.trail.MarkOrigin.{MarkOrigin}
 use Rattle.dns_model.specs.declared.trail.MarkOrigin.TheVariants.{Table, Repeat, Cache}
-use Rattle.dns_model.specs.Names.{name_eq}
+use Rattle.dns_model.specs.Names.{Labels, name_eq}
 use Rattle.dns_model.specs.Types.{type_dnskey}
 use Rattle.dns_model.specs.Records.{Rr, RrSet, Question, question_eq}
 use Rattle.dns_model.specs.Chains.{Judge}
-use Rattle.dns_model.specs.Trails.{AskedValue, JudgedSetValue, HeardValue, Records, Fault}
+use Rattle.dns_model.specs.Trails.{AskedValue, JudgedSetValue, HeardValue, Records, Fault, Answered, Denied}
 use Rattle.dns_model.specs.SoundAnswers.{Told, Placed, section_eq}
 use Rattle.dns_model.proofs.EachLemmas.{each_append}
 use Rattle.dns_model.proofs.SetLemmas.{number_same}
 use Rattle.dns_judgement.specs.Marks.{Verdict, is_proved, is_skipped, verdict_of, most_signatures}
 use Rattle.dns_judgement.specs.Marks as marks
-use Rattle.dns_judgement.specs.Delegations.{ZoneVerdict, ds_question, zone_verdict}
+use Rattle.dns_judgement.specs.ProofErrors.{Net, DsRecordShouldExist}
+use Rattle.dns_judgement.specs.Delegations.{ZoneVerdict, Bogus, ds_question, zone_verdict}
+use Rattle.dns_judgement.specs.Unsigned.{ns_question, set_start, question_start, is_searched}
 use Rattle.dns_judgement.specs.KeySets.{needs_ds, judged_keys}
 use Rattle.dns_judgement.specs.Asking.{judged_part, ask_of}
-use Rattle.dns_judgement.specs.Outcome.{outcome_of, foreign_record}
-use Rattle.dns_judgement.specs.Derivation.{Grounds, with_entries, finished_answer, is_ask, verdicts_after, verdicts_asked, verdicts_by, has_mark_of, is_empty, verdict_asked, keys_hold, is_by_origin, entry_holds, entries_hold, step_holds, asks_of}
-use Rattle.dns_judgement.specs.DerivationParts.{judged_holds}
-use Rattle.dns_judgement.specs.DerivationParts.{is_ask_for, step_holds_by}
-use Rattle.dns_judgement.specs.DerivationParts.{is_judged_ask, after_verdict, if_last, is_by_verdicts, repeats_step, is_foreign, is_failed, is_seen, is_ending, is_bare, grounds_of, asks_of_sets}
-use Rattle.dns_judgement.proofs.ExtendLemmas.{some_asked, some_after, is_by_zone}
+use Rattle.dns_judgement.specs.Outcome.{Outcome, outcome_of, foreign_record}
+use Rattle.dns_judgement.specs.Outcome as outcome
+use Rattle.dns_judgement.specs.Derivation.{Grounds, with_entries, finished_answer, is_ask, verdicts_after, verdicts_asked, verdicts_by, has_mark_of, is_empty, is_plain_ask, Sight, Cut, Onward, Unseen, sight_by, zone_asked, search_after, search_by, search_from, keys_hold, unsigned_holds, ending_eq, ending_holds, is_by_origin, entry_holds, entries_hold, step_holds, asks_of}
+use Rattle.dns_judgement.specs.DerivationParts.{is_ask_for, is_judged_ask, after_verdict, if_last, is_by_verdicts, repeats_step, is_foreign, is_failed, is_seen, is_bare, grounds_of, asks_of_sets, judged_holds, step_holds_by, is_plain_step, is_by_search, ends_by_search}
+use Rattle.dns_judgement.proofs.StayLemmas.{some_asked, some_after}
+use Rattle.dns_judgement.proofs.ExtendLemmas.{is_by_zone}
 
--- the ask stands for a judged ask one deeper than the step whose grounds these are
+-- the ask stands for a judged ask one deeper than the step whose grounds these are, or for a plain one as deep as it
 pub record IsAskOf (g : Grounds) (ask : AskRef) : Type 0 where
   pub question : Question
-  pub asks : is_ask g.limit g.earlier (g.depth + 1) question ask ≡ true
+  pub asks : (is_ask g.limit g.earlier (g.depth + 1) question ask ≡ true) ⊎ (is_plain_ask g.earlier g.depth question ask ≡ true)
 
 abbrev pub AreAsksOf : Grounds → List AskRef → Type 0
 AreAsksOf g asks = AllByRecursion (IsAskOf g) asks
@@ -46,7 +48,7 @@ last_asks g (ask ∷ asks) vs ws h = cc
 
 ask_of_question : (g : Grounds) (o : Option Question) (ask : AskRef) → is_ask_for g o ask ≡ true → IsAskOf g ask
 ask_of_question g None ask h = cc
-ask_of_question g (Some q) ask h = record { question = q; asks = h }
+ask_of_question g (Some q) ask h = record { question = q; asks = inl h }
 
 after_asks : (g : Grounds) (b : Bool) (v : Verdict) (asks : List AskRef) (o : Option (List Verdict)) (vs : List Verdict)
     → (if b then if_last asks (v ∷ []) else after_verdict v o) ≡ Some vs
@@ -81,14 +83,15 @@ verdicts_asks g set (r ∷ rs) (ask ∷ asks) vs h =
 -- ---- the ask of a key set
 
 -- the ask that leads to a DS verdict
-zone_asks : (g : Grounds) (set : RrSet) (asks : List AskRef) (zone : ZoneVerdict) → verdict_asked g set asks ≡ Some zone → AreAsksOf g asks
-zone_asks g set [] zone h = tt
-zone_asks g set (ask ∷ asks) zone h =
-    let q = ds_question set.class set.owner in
+zone_asks : (g : Grounds) (class : ℕ) (name : Labels) (asks : List AskRef) (zone : ZoneVerdict) → zone_asked g class name asks ≡ Some zone
+    → AreAsksOf g asks
+zone_asks g class name [] zone h = tt
+zone_asks g class name (ask ∷ asks) zone h =
+    let q = ds_question class name in
     let is = is_ask g.limit g.earlier (g.depth + 1) q ask in
-    let verdict = zone_verdict g.judge.answers set.class set.owner (finished_answer g.earlier ask) in
+    let verdict = zone_verdict g.judge.answers class name (finished_answer g.earlier ask) in
     let parts = and_parts (is_empty asks) is ((some_asked (is_empty asks && is) (Some verdict) zone h).0) in
-    (record { question = q; asks = parts.1 }, no_asks g asks parts.0)
+    (record { question = q; asks = inl parts.1 }, no_asks g asks parts.0)
 
 keys_step_asks : (g : Grounds) (needs x : Bool) (placed : Placed) (entry : JudgedSetValue) (o : Option ZoneVerdict)
     → (if needs then is_by_zone g placed entry o else is_empty entry.asked && x) ≡ true
@@ -101,23 +104,67 @@ keys_step_asks g true x placed entry (Some zone) h by = by zone refl
 pub keys_asks : (g : Grounds) (placed : Placed) (entry : JudgedSetValue) → keys_hold g placed entry ≡ true → AreAsksOf g entry.asked
 keys_asks g placed entry h =
     keys_step_asks g (needs_ds g.judge placed.set) (has_mark_of (judged_keys g.judge placed None) entry) placed entry
-    (verdict_asked g placed.set entry.asked) h (λ zone k. zone_asks g placed.set entry.asked zone k)
+    (zone_asked g placed.set.class placed.set.owner entry.asked) h
+    (λ zone k. zone_asks g placed.set.class placed.set.owner entry.asked zone k)
+
+-- ---- the asks of a search
+
+after_asks_on : (g : Grounds) (class : ℕ) (name : Labels) (asks : List AskRef) (sight : Sight) (above : Option ZoneVerdict) (zone : ZoneVerdict)
+    → search_after g class name asks sight above ≡ Some zone → (above ≡ Some zone → AreAsksOf g asks) → AreAsksOf g asks
+after_asks_on g class name asks Cut above zone h onward = zone_asks g class name asks zone h
+after_asks_on g class name asks Onward above zone h onward = onward h
+after_asks_on g class name asks Unseen above zone h onward =
+    no_asks g asks ((some_asked (is_empty asks) (Some (Bogus (Net (ns_question class name)))) zone h).0)
+
+root_asks : (g : Grounds) (start : Labels) (asks : List AskRef) (zone : ZoneVerdict)
+    → (if is_empty asks then Some (Bogus (DsRecordShouldExist start)) else None) ≡ Some zone → AreAsksOf g asks
+root_asks g start asks zone h = no_asks g asks ((some_asked (is_empty asks) (Some (Bogus (DsRecordShouldExist start))) zone h).0)
+
+-- the plain asks of a search, and the ask for the DS set of the zone that it finds
+pub search_asks : (g : Grounds) (class : ℕ) (start name : Labels) (asks : List AskRef) (zone : ZoneVerdict)
+    → search_by g class start name asks ≡ Some zone → AreAsksOf g asks
+unfolding search_by
+search_asks g class start [] asks zone h = root_asks g start asks zone h
+search_asks g class start (label ∷ rest) [] zone h = cc
+search_asks g class start (label ∷ rest) (ask ∷ asks) zone h =
+    let name : Labels = label ∷ rest in
+    let q = ns_question class name in
+    let sight = sight_by g.earlier name ask in
+    let above = search_by g class start rest asks in
+    let some = some_asked (is_plain_ask g.earlier g.depth q ask) (search_after g class name asks sight above) zone h in (
+      record { question = q; asks = inr some.0 },
+      after_asks_on g class name asks sight above zone some.1 (λ k. search_asks g class start rest asks zone k),
+    )
+
+searched_asks : (g : Grounds) (placed : Placed) (entry : JudgedSetValue) (o : Option ZoneVerdict) → is_by_search placed entry o ≡ true
+    → ((zone : ZoneVerdict) → o ≡ Some zone → AreAsksOf g entry.asked) → AreAsksOf g entry.asked
+searched_asks g placed entry None h by = cc
+searched_asks g placed entry (Some zone) h by = by zone refl
+
+-- the asks of an unsigned set's entry
+pub unsigned_asks : (g : Grounds) (placed : Placed) (entry : JudgedSetValue) → unsigned_holds g placed entry ≡ true → AreAsksOf g entry.asked
+unsigned_asks g placed entry h =
+    let start = set_start placed.set in
+    searched_asks g placed entry (search_from g placed.set.class start entry.asked) h
+    (λ zone k. search_asks g placed.set.class start start entry.asked zone k)
 
 -- ---- the asks of entries
 
-rules_asks : (g : Grounds) (b x : Bool) (placed : Placed) (entry : JudgedSetValue) (o : Option (List Verdict))
-    → (if b then x else is_by_verdicts placed entry o) ≡ true → (x ≡ true → AreAsksOf g entry.asked)
-    → ((vs : List Verdict) → o ≡ Some vs → AreAsksOf g entry.asked) → AreAsksOf g entry.asked
-rules_asks g true x placed entry o h keys by = keys h
-rules_asks g false x placed entry None h keys by = cc
-rules_asks g false x placed entry (Some vs) h keys by = by vs refl
+rules_asks : (g : Grounds) (keys searched x y : Bool) (placed : Placed) (entry : JudgedSetValue) (o : Option (List Verdict))
+    → (if keys then x else if searched then y else is_by_verdicts placed entry o) ≡ true → (x ≡ true → AreAsksOf g entry.asked)
+    → (y ≡ true → AreAsksOf g entry.asked) → ((vs : List Verdict) → o ≡ Some vs → AreAsksOf g entry.asked) → AreAsksOf g entry.asked
+rules_asks g true searched x y placed entry o h of_keys of_search by = of_keys h
+rules_asks g false true x y placed entry o h of_keys of_search by = of_search h
+rules_asks g false false x y placed entry None h of_keys of_search by = cc
+rules_asks g false false x y placed entry (Some vs) h of_keys of_search by = by vs refl
 
 origin_asks : (g : Grounds) (placed : Placed) (entry : JudgedSetValue) (origin : MarkOrigin) → is_by_origin g placed entry origin ≡ true
     → AreAsksOf g entry.asked
 origin_asks g placed entry Table h =
     let signatures = take most_signatures placed.set.signatures in
-    rules_asks g (placed.set.rtype == type_dnskey) (keys_hold g placed entry) placed entry
-    (verdicts_by g placed.set signatures entry.asked) h (keys_asks g placed entry) (λ vs k. verdicts_asks g placed.set signatures entry.asked vs k)
+    rules_asks g (placed.set.rtype == type_dnskey) (is_searched placed.set) (keys_hold g placed entry) (unsigned_holds g placed entry) placed entry
+    (verdicts_by g placed.set signatures entry.asked) h (keys_asks g placed entry) (unsigned_asks g placed entry)
+    (λ vs k. verdicts_asks g placed.set signatures entry.asked vs k)
 origin_asks g placed entry (Repeat n) h =
     no_asks g entry.asked ((and_parts (is_empty entry.asked) (repeats_step g placed entry (slice_get g.earlier n)) h).0)
 origin_asks g placed entry Cache h = cc
@@ -153,14 +200,31 @@ bare_asks g step h =
     let parts = and_parts (is_empty step.sets) (is_empty step.excuse) h in
     each_append (IsAskOf g) (asks_of_sets step.sets) step.excuse (sets_asks g step.sets parts.0) (no_asks g step.excuse parts.1)
 
+excuse_found : (g : Grounds) (step : AskedValue) (told : Told) (o : Option ZoneVerdict) → ends_by_search step told o ≡ true
+    → ((zone : ZoneVerdict) → o ≡ Some zone → AreAsksOf g step.excuse) → AreAsksOf g step.excuse
+excuse_found g step told None h by = cc
+excuse_found g step told (Some zone) h by = by zone refl
+
+-- the asks on which the ending stands
+ending_asks : (g : Grounds) (step : AskedValue) (told : Told) (o : Outcome) → ending_holds g step told o ≡ true → AreAsksOf g step.excuse
+ending_asks g step told outcome.Unjudged h = no_asks g step.excuse ((and_parts (is_failed step.ending) (is_empty step.excuse) h).1)
+ending_asks g step told (outcome.Accepted d) h =
+    no_asks g step.excuse ((and_parts (ending_eq (Answered d) step.ending) (is_empty step.excuse) h).1)
+ending_asks g step told outcome.Searched h =
+    let start = question_start step.query in
+    excuse_found g step told (search_from g step.query.class start step.excuse) h
+    (λ zone k. search_asks g step.query.class start start step.excuse zone k)
+ending_asks g step told (outcome.Denied proof) h =
+    no_asks g step.excuse ((and_parts (ending_eq (Denied proof) step.ending) (is_empty step.excuse) h).1)
+
 judged_asks : (g : Grounds) (step : AskedValue) (told : Told) (o : Option Rr) → judged_holds g step told o ≡ true → AreAsksOf g (asks_of step)
 judged_asks g step told (Some r) h = bare_asks g step ((and_parts (is_foreign r step.ending) (is_bare step) h).1)
 judged_asks g step told None h =
     let placed = judged_part step.depth told in
-    let ends = is_ending (outcome_of step.query told (with_entries placed step.sets)) step.ending in
-    let one = and_parts (entries_hold g placed step.sets) (ends && is_empty step.excuse) h in
-    each_append (IsAskOf g) (asks_of_sets step.sets) step.excuse (entries_asks g placed step.sets one.0)
-    (no_asks g step.excuse ((and_parts ends (is_empty step.excuse) one.1).1))
+    let outcome_is = outcome_of step.query told (with_entries placed step.sets) in
+    let parts = and_parts (entries_hold g placed step.sets) (ending_holds g step told outcome_is) h in
+    each_append (IsAskOf g) (asks_of_sets step.sets) step.excuse (entries_asks g placed step.sets parts.0)
+    (ending_asks g step told outcome_is parts.1)
 
 records_asks : (g : Grounds) (step : AskedValue) (told : Told) (b : Bool)
     → (if b then judged_holds g step told (foreign_record step.query told) else is_seen step.ending && is_bare step) ≡ true → AreAsksOf g (asks_of step)
@@ -179,25 +243,49 @@ step_asks j limit earlier step h = heard_asks (grounds_of j limit earlier step) 
 
 -- ---- what is asked
 
--- a judged step, at a depth that may be
-pub record IsMade (limit : ℕ) (earlier : List AskedValue) (depth n : ℕ) : Type 0 where
+-- a step that an asker names: a judged one is one deeper than the asker, and a plain one as deep; it is no deeper than may be where
+-- the asker isn't
+pub record IsMade (g : Grounds) (n : ℕ) : Type 0 where
   pub step : AskedValue
-  pub found : slice_get earlier n ≡ Some step
-  pub judged : step.judged ≡ true
-  pub deeper : step.depth ≡ depth
-  pub within : step.depth ≤ limit
+  pub found : slice_get g.earlier n ≡ Some step
+  pub depth : step.depth ≡ (if step.judged then g.depth + 1 else g.depth)
+  pub within : g.depth ≤ g.limit → step.depth ≤ g.limit
 
-made_step : (limit : ℕ) (earlier : List AskedValue) (depth n : ℕ) (q : Question) (o : Option AskedValue) → slice_get earlier n ≡ o → nat_le depth limit ≡ true
-    → is_judged_ask depth q o ≡ true → IsMade limit earlier depth n
-made_step limit earlier depth n q None is fits h = cc
-made_step limit earlier depth n q (Some step) is fits h =
-    let one = and_parts step.judged ((step.depth == depth) && question_eq q step.query) h in
-    let deeper = number_same step.depth depth ((and_parts (step.depth == depth) (question_eq q step.query) one.1).0) in
-    let within = leb-true depth limit fits in
-    record { step = step; found = is; judged = one.0; deeper = deeper; within = omega arith }
+judged_made : (g : Grounds) (n : ℕ) (q : Question) (o : Option AskedValue) → slice_get g.earlier n ≡ o → nat_le (g.depth + 1) g.limit ≡ true
+    → is_judged_ask (g.depth + 1) q o ≡ true → IsMade g n
+judged_made g n q None is fits h = cc
+judged_made g n q (Some step) is fits h =
+    let deeper = step.depth == g.depth + 1 in
+    let one = and_parts step.judged (deeper && question_eq q step.query) h in
+    let depth = number_same step.depth (g.depth + 1) ((and_parts deeper (question_eq q step.query) one.1).0) in
+    let fit = leb-true (g.depth + 1) g.limit fits in
+    record {
+      step = step;
+      found = is;
+      depth = depth ∙ ap (λ b. if b then g.depth + 1 else g.depth) (sym one.0);
+      within = λ up_to. omega (arith, depth, fit);
+    }
 
--- an ask that a step answers: that step is one deeper than the asker, and no deeper than may be
-pub step_made : (g : Grounds) (n : ℕ) → IsAskOf g (Step n) → IsMade g.limit g.earlier (g.depth + 1) n
-step_made g n ask =
-    let parts = and_parts (nat_le (g.depth + 1) g.limit) (is_judged_ask (g.depth + 1) ask.question (slice_get g.earlier n)) ask.asks in
-    made_step g.limit g.earlier (g.depth + 1) n ask.question (slice_get g.earlier n) refl parts.0 parts.1
+plain_made : (g : Grounds) (n : ℕ) (q : Question) (o : Option AskedValue) → slice_get g.earlier n ≡ o → is_plain_step g.depth q o ≡ true → IsMade g n
+plain_made g n q None is h = cc
+plain_made g n q (Some step) is h =
+    let alike = step.depth == g.depth in
+    let one = and_parts (not step.judged) (alike && question_eq q step.query) h in
+    let depth = number_same step.depth g.depth ((and_parts alike (question_eq q step.query) one.1).0) in
+    record {
+      step = step;
+      found = is;
+      depth = depth ∙ ap (λ b. if b then g.depth + 1 else g.depth) (sym (not-true step.judged one.0));
+      within = λ up_to. omega (arith, depth, up_to);
+    }
+
+ask_made : (g : Grounds) (n : ℕ) (q : Question)
+    → (is_ask g.limit g.earlier (g.depth + 1) q (Step n) ≡ true) ⊎ (is_plain_ask g.earlier g.depth q (Step n) ≡ true) → IsMade g n
+ask_made g n q (inl h) =
+    let parts = and_parts (nat_le (g.depth + 1) g.limit) (is_judged_ask (g.depth + 1) q (slice_get g.earlier n)) h in
+    judged_made g n q (slice_get g.earlier n) refl parts.0 parts.1
+ask_made g n q (inr h) = plain_made g n q (slice_get g.earlier n) refl h
+
+-- an ask that a step answers
+pub step_made : (g : Grounds) (n : ℕ) → IsAskOf g (Step n) → IsMade g n
+step_made g n ask = ask_made g n ask.question ask.asks

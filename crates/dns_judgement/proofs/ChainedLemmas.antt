@@ -10,9 +10,10 @@ use Rattle.dns_model.proofs.EachLemmas.{each_filter}
 use Rattle.dns_model.proofs.SetLemmas.{IsProper, proper_placed}
 use Rattle.dns_judgement.specs.Judged.{placed_of}
 use Rattle.dns_judgement.specs.Marks.{Verdict, Proved, Excused, Failed, is_skipped, verdict_of, judged_by}
-use Rattle.dns_judgement.specs.Delegations.{ZoneVerdict, zone_verdict}
+use Rattle.dns_judgement.specs.Delegations.{ZoneVerdict, Signed, Insecure, Bogus, zone_verdict}
+use Rattle.dns_judgement.specs.Unsigned.{unsigned_by}
 use Rattle.dns_judgement.specs.KeySets.{judged_keys}
-use Rattle.dns_judgement.specs.Chained.{Chained, bare, stands, chain_by, ChainedVerdict, with_chain, chained_verdict, bare_verdicts, chained_by, chained_keys, chained_by_ds}
+use Rattle.dns_judgement.specs.Chained.{Chained, bare, stands, chain_by, ChainedVerdict, with_chain, chained_verdict, bare_verdicts, chained_by, chained_unsigned, chained_keys, chained_by_ds}
 use Rattle.dns_judgement.specs.Asking.{judged_part}
 use Rattle.dns_judgement.specs.MarkParts.{is_judged_at}
 use Rattle.dns_judgement.proofs.StandLemmas.{IsChainFor, IsGoodVerdict, proof_is_chain}
@@ -52,6 +53,10 @@ chained_verdict-bare j set r answer = with_chain-verdict (verdict_of j set r (op
 pub chained_by-bare : (p : Placed) (vs : List ChainedVerdict) → (chained_by p vs).judged ≡ judged_by p (bare_verdicts vs)
 chained_by-bare p vs = refl
 
+-- and the unsigned set whose zone was searched
+pub chained_unsigned-bare : (p : Placed) (zone : ZoneVerdict) → (chained_unsigned p zone).judged ≡ unsigned_by p zone
+chained_unsigned-bare p zone = refl
+
 -- and the key set that asks for no DS set
 pub chained_keys-bare : (j : Judge) (p : Placed) → (chained_keys j p).judged ≡ judged_keys j p None
 unfolding chained_keys judged_keys
@@ -73,6 +78,19 @@ placed_of-judged_keys j p verdict = refl
 pub placed_of-judged_by : (p : Placed) (vs : List Verdict) → placed_of (judged_by p vs) ≡ p
 unfolding judged_by
 placed_of-judged_by p vs = refl
+
+pub placed_of-unsigned_by : (p : Placed) (zone : ZoneVerdict) → placed_of (unsigned_by p zone) ≡ p
+unfolding unsigned_by
+placed_of-unsigned_by p zone = refl
+
+-- ---- unsigned sets
+
+-- an unsigned set never is Secure, so that no chain is needed
+pub chained_unsigned-stands : (j : Judge) (p : Placed) (zone : ZoneVerdict) → stands j (chained_unsigned p zone) ≡ true
+unfolding unsigned_by
+chained_unsigned-stands j p (Signed ds) = refl
+chained_unsigned-stands j p (Insecure kind) = refl
+chained_unsigned-stands j p (Bogus kind) = refl
 
 -- ---- verdicts
 

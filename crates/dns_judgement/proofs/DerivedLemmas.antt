@@ -14,7 +14,7 @@ use Rattle.dns_model.proofs.SetLemmas.{number_same}
 use Rattle.dns_judgement.specs.Asking.{most_sends, depth_limit}
 use Rattle.dns_judgement.specs.Derivation.{step_holds, steps_hold, asks_of, send_order, end_step, top_step, in_send_order, derivation}
 use Rattle.dns_judgement.specs.DerivationParts.{is_each_met_once, grounds_of, is_top, steps_at}
-use Rattle.dns_judgement.proofs.ExtendLemmas.{slice_get-stays}
+use Rattle.dns_judgement.proofs.StayLemmas.{slice_get-stays}
 use Rattle.dns_judgement.proofs.AskLemmas.{IsAskOf, step_asks, step_made}
 use Rattle.dns_judgement.proofs.SentLemmas.{AreBelow, times, times-cons, numbered}
 use Rattle.dns_judgement.proofs.SendOrderLemmas.{OfAsk, HandsOn, BeginsWith, step_begins, each_in_range, as_many}
@@ -91,24 +91,30 @@ pub record IsWithin (limit : ℕ) (trail : List AskedValue) (n : ℕ) : Type 0 w
   pub found : slice_get trail n ≡ Some step
   pub within : step.depth ≤ limit
 
-ask_within : (j : Judge) (limit : ℕ) (trail : List AskedValue) (n : ℕ) (step : AskedValue) (ask : AskRef)
+ask_within : (j : Judge) (limit : ℕ) (trail : List AskedValue) (n : ℕ) (step : AskedValue) (ask : AskRef) → step.depth ≤ limit
     → IsAskOf (grounds_of j limit (take n trail) step) ask → OfAsk (IsWithin limit trail) ask
-ask_within j limit trail n step TooDeep h = tt
-ask_within j limit trail n step TooMany h = tt
-ask_within j limit trail n step (Step m) h =
+ask_within j limit trail n step TooDeep asker h = tt
+ask_within j limit trail n step TooMany asker h = tt
+ask_within j limit trail n step (Step m) asker h =
     let made = step_made (grounds_of j limit (take n trail) step) m h in
     record {
       step = made.step;
       found = subst (λ t. slice_get t m ≡ Some made.step) (take-append-drop n trail) (slice_get-stays (take n trail) (drop n trail) m made.step made.found);
-      within = made.within;
+      within = made.within asker;
     }
+
+same_within : (limit : ℕ) (trail : List AskedValue) (n : ℕ) (step : AskedValue) (here : IsWithin limit trail n) → slice_get trail n ≡ Some step
+    → step.depth ≤ limit
+same_within limit trail n step here is =
+    let same : here.step ≡ step = cc (here.found, is) in
+    subst (λ s. s.depth ≤ limit) same here.within
 
 hands_on : (j : Judge) (limit : ℕ) (trail : List AskedValue) → steps_hold j limit [] trail ≡ true → HandsOn (IsWithin limit trail) trail
 hands_on j limit trail hold = record {
   on = λ n step here is.
       let g = grounds_of j limit (take n trail) step in
-      each_more (IsAskOf g) (OfAsk (IsWithin limit trail)) (ask_within j limit trail n step) (asks_of step)
-      (step_asks j limit (take n trail) step (steps_hold_at j limit [] trail n step hold is));
+      each_more (IsAskOf g) (OfAsk (IsWithin limit trail)) (λ ask. ask_within j limit trail n step ask (same_within limit trail n step here is))
+      (asks_of step) (step_asks j limit (take n trail) step (steps_hold_at j limit [] trail n step hold is));
 }
 
 -- the order of the sends begins with the last step, and holds numbers of steps that aren't too deep

@@ -17,8 +17,9 @@ use Rattle.dns_model.proofs.EachLemmas.{each_filter, each_more, find-map, find_k
 use Rattle.dns_model.proofs.SetLemmas.{number_same}
 use Rattle.dns_model.proofs.ChainLemmas.{each_member, member_shown, anchor_shown}
 use Rattle.dns_judgement.specs.Judged.{Judged}
-use Rattle.dns_judgement.specs.Delegations.{ZoneVerdict, counted_ds, is_ds_for, matching_ds, is_supported_ds, is_ds_set_of, verdict_by_ds, zone_verdict}
+use Rattle.dns_judgement.specs.Delegations.{ZoneVerdict, counted_ds, is_ds_for, matching_ds, is_supported_ds, is_readable_ds, is_ds_set_of, shows_no_ds, is_insecure_above, verdict_by_ds, verdict_without_ds, zone_verdict}
 use Rattle.dns_judgement.specs.Delegations as zone
+use Rattle.dns_judgement.specs.ProofErrors.{DsRecordShouldExist, DsResponseInsecure, UnknownKeyAlgorithm}
 use Rattle.dns_judgement.specs.KeySets.{is_anchored_key, is_matched_key, is_trusted_key}
 use Rattle.dns_judgement.specs.Chained.{Chained, bare, stands, anchored_link, matched_link, matched_by, trusted_link, ds_chain}
 use Rattle.dns_judgement.proofs.FindLemmas.{each_taken}
@@ -164,31 +165,42 @@ record IsSignedBy (answers : VerifierAnswers) (mark : Proof) (records ds : List 
   secure : mark ≡ Secure
   ds_is : filter (is_supported_ds answers) records ≡ ds
 
-some_step : (answers : VerifierAnswers) (name : Labels) (records ds : List Rr) (b : Bool)
-    → (if b then zone.Signed (filter (is_supported_ds answers) records) else verdict_by_ds answers name Bogus records) ≡ zone.Signed ds
+some_step : (answers : VerifierAnswers) (name : Labels) (records ds : List Rr) (some readable : Bool)
+    → (if some then zone.Signed (filter (is_supported_ds answers) records)
+    else if readable then zone.Insecure UnknownKeyAlgorithm
+    else zone.Bogus (DsRecordShouldExist name)) ≡ zone.Signed ds
     → IsSignedBy answers Secure records ds
-some_step answers name records ds true h = record { secure = refl; ds_is = cc }
-some_step answers name records ds false h = cc
+some_step answers name records ds true readable h = record { secure = refl; ds_is = cc }
+some_step answers name records ds false true h = cc
+some_step answers name records ds false false h = cc
 
 signed_by_ds : (answers : VerifierAnswers) (name : Labels) (mark : Proof) (records ds : List Rr)
     → verdict_by_ds answers name mark records ≡ zone.Signed ds → IsSignedBy answers mark records ds
-signed_by_ds answers name Secure records ds h = some_step answers name records ds (list_any (is_supported_ds answers) records) h
+signed_by_ds answers name Secure records ds h = some_step answers name records ds (list_any (is_supported_ds answers) records) (list_any is_readable_ds records) h
 signed_by_ds answers name Insecure records ds h = cc
 signed_by_ds answers name Bogus records ds h = cc
 signed_by_ds answers name Indeterminate records ds h = cc
 
-abbrev verdict_found : VerifierAnswers → Labels → Option Judged → ZoneVerdict
-verdict_found answers name found =
-    option_map_or (λ s. verdict_by_ds answers name s.mark s.set.records) found (verdict_by_ds answers name Bogus [])
+-- without a DS set no zone is signed
+unsigned_step : (name : Labels) (shown : Bool) (ds : List Rr)
+    → (if shown then zone.Insecure (DsResponseInsecure name) else zone.Bogus (DsRecordShouldExist name)) ≡ zone.Signed ds → ⊥
+unsigned_step name true ds h = cc
+unsigned_step name false ds h = cc
+
+none_signed : (name : Labels) (answer : List Judged) (ds : List Rr) → verdict_without_ds name answer ≡ zone.Signed ds → ⊥
+none_signed name answer ds h = unsigned_step name (list_any (shows_no_ds name) answer || list_any (is_insecure_above name) answer) ds h
+
+abbrev verdict_found : VerifierAnswers → Labels → ZoneVerdict → Option Judged → ZoneVerdict
+verdict_found answers name without found = option_map_or (λ s. verdict_by_ds answers name s.mark s.set.records) found without
 
 abbrev chain_found : Option Chained → List LinkValue
 chain_found found = option_map_or (λ c. c.chain) found []
 
-found_step : (j : Judge) (set : RrSet) (cs : List Chained) (o : Option Chained) (ds : List Rr) → AllStand j cs
-    → find (λ c. is_ds_set_of set.class set.owner c.judged) cs ≡ o
-    → verdict_found j.answers set.owner (option_map (λ c. c.judged) o) ≡ zone.Signed ds → ShowsDs j set (chain_found o) ds
-found_step j set cs None ds stand is h = cc
-found_step j set cs (Some c) ds stand is h =
+found_step : (j : Judge) (set : RrSet) (cs : List Chained) (without : ZoneVerdict) (o : Option Chained) (ds : List Rr) → AllStand j cs
+    → (without ≡ zone.Signed ds → ⊥) → find (λ c. is_ds_set_of set.class set.owner c.judged) cs ≡ o
+    → verdict_found j.answers set.owner without (option_map (λ c. c.judged) o) ≡ zone.Signed ds → ShowsDs j set (chain_found o) ds
+found_step j set cs without None ds stand never is h = absurd (never h)
+found_step j set cs without (Some c) ds stand never is h =
     let found = find_known (λ c. is_ds_set_of set.class set.owner c.judged) (λ c. stands j c ≡ true) cs c stand is in
     let parts = ds_set_parts set.class set.owner c.judged found.passes in
     let signed = signed_by_ds j.answers set.owner c.judged.mark c.judged.set.records ds h in
@@ -215,5 +227,6 @@ unfolding zone_verdict
 signed_zone j set None ds good h = cc
 signed_zone j set (Some cs) ds good h =
     let test = is_ds_set_of set.class set.owner in
-    found_step j set cs (find (λ c. test c.judged) cs) ds good refl
-    (ap (verdict_found j.answers set.owner) (sym (find-map test (λ c. c.judged) cs)) ∙ h)
+    let without = verdict_without_ds set.owner (bare cs) in
+    found_step j set cs without (find (λ c. test c.judged) cs) ds good (none_signed set.owner (bare cs) ds) refl
+    (ap (verdict_found j.answers set.owner without) (sym (find-map test (λ c. c.judged) cs)) ∙ h)

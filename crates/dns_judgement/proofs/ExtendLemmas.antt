@@ -1,153 +1,28 @@
--- What a step found out stays when steps are appended: the answers of its asks, the verdicts of signatures, and its entries.
-use Rattle.std.proofs.Common.{◌≡◌, ℕ, zero, suc, ◌+◌, Bool, true, false, ◌==◌, ◌&&◌, List, [], ◌∷◌, ◌++◌, length, take, Option, None, Some, slice_get, nat_le, if◌then◌else◌, refl, sym, ap, ◌∙◌, arith}
+-- The entries of a step stay when steps are appended; and how an entry is made.
+use Rattle.std.proofs.Common.{◌≡◌, ℕ, suc, ◌+◌, Bool, true, false, ◌==◌, ◌&&◌, List, [], ◌∷◌, ◌++◌, length, take, Option, None, Some, slice_get, if◌then◌else◌, refl, sym, ap, ◌∙◌, arith}
 use Rattle.std.specs.Option.{option_map_or}
 use Rattle.std.proofs.lemmas.Bool.{and_parts, and_from}
 use Rattle.dns_model.specs.declared.proof.Proof.{Proof}
 use Rattle.dns_model.specs.declared.proof.Proof.TheVariants.{Secure, Insecure, Bogus, Indeterminate}
 use Rattle.dns_model.specs.declared.trail.AskRef.{AskRef}
-use Rattle.dns_model.specs.declared.trail.AskRef.TheVariants.{Step, TooDeep, TooMany}
 use Rattle.dns_model.specs.declared.trail.MarkOrigin.{MarkOrigin}
 use Rattle.dns_model.specs.declared.trail.MarkOrigin.TheVariants.{Table, Repeat, Cache}
 use Rattle.dns_model.specs.Names.{name_eq}
 use Rattle.dns_model.specs.Types.{type_dnskey}
-use Rattle.dns_model.specs.Records.{Rr, RrSet, Question}
 use Rattle.dns_model.specs.Trails.{AskedValue, JudgedSetValue}
 use Rattle.dns_model.specs.SoundAnswers.{Placed, section_eq}
 use Rattle.dns_model.proofs.SetLemmas.{name_refl, number_refl, number_same, section_refl}
 use Rattle.dns_judgement.specs.Judged.{Judged}
-use Rattle.dns_judgement.specs.Marks.{Verdict, is_proved, is_skipped, verdict_of, judged_by, most_signatures}
-use Rattle.dns_judgement.specs.Marks as marks
+use Rattle.dns_judgement.specs.Marks.{Verdict, judged_by, most_signatures}
 use Rattle.dns_judgement.specs.Delegations.{ZoneVerdict, ds_question, zone_verdict}
+use Rattle.dns_judgement.specs.Unsigned.{set_start, is_searched, unsigned_by}
 use Rattle.dns_judgement.specs.KeySets.{needs_ds, judged_keys}
-use Rattle.dns_judgement.specs.Asking.{ask_of}
-use Rattle.dns_judgement.specs.Derivation.{Grounds, with_entries, finished_answer, is_ask, verdicts_after, verdicts_asked, verdicts_by, proof_eq, has_mark_of, is_empty, verdict_asked, keys_hold, is_by_origin, entry_holds, entries_hold}
-use Rattle.dns_judgement.specs.DerivationParts.{is_ask_for}
-use Rattle.dns_judgement.specs.DerivationParts.{with_entry, answer_of, is_judged_ask, after_verdict, if_last, place_eq, is_by_verdicts, repeats_step}
+use Rattle.dns_judgement.specs.Derivation.{Grounds, with_entries, finished_answer, is_ask, verdicts_by, proof_eq, has_mark_of, is_empty, zone_asked, search_from, keys_hold, unsigned_holds, is_by_origin, entry_holds, entries_hold}
+use Rattle.dns_judgement.specs.DerivationParts.{with_entry, place_eq, is_by_verdicts, is_by_search, repeats_step}
+use Rattle.dns_judgement.proofs.StayLemmas.{slice_get-stays, later_grounds, verdicts_stay}
+use Rattle.dns_judgement.proofs.SearchLemmas.{zone_from, zone_stays, search_stays}
 
--- ---- an earlier step
-
-pub slice_get-stays : {X : Type 0} (xs ys : List X) (n : ℕ) (x : X) → slice_get xs n ≡ Some x → slice_get (xs ++ ys) n ≡ Some x
-slice_get-stays [] ys n x h = cc
-slice_get-stays (y ∷ xs) ys zero x h = h
-slice_get-stays (y ∷ xs) ys (suc n) x h = slice_get-stays xs ys n x h
-
--- the grounds after further steps
-abbrev pub later_grounds : Grounds → List AskedValue → Grounds
-later_grounds g more = record g { earlier = g.earlier ++ more }
-
-judged_stays : (depth : ℕ) (q : Question) (earlier more : List AskedValue) (n : ℕ) (o : Option AskedValue) → slice_get earlier n ≡ o
-    → is_judged_ask depth q o ≡ true → slice_get (earlier ++ more) n ≡ o
-judged_stays depth q earlier more n None is h = cc
-judged_stays depth q earlier more n (Some step) is h = slice_get-stays earlier more n step is
-
--- an ask that stands for a question stands for it later, and got the same answer
-pub record AskStays (limit : ℕ) (earlier more : List AskedValue) (depth : ℕ) (q : Question) (ask : AskRef) : Type 0 where
-  pub asks : is_ask limit (earlier ++ more) depth q ask ≡ true
-  pub answer : finished_answer (earlier ++ more) ask ≡ finished_answer earlier ask
-
-pub ask_stays : (limit : ℕ) (earlier more : List AskedValue) (depth : ℕ) (q : Question) (ask : AskRef) → is_ask limit earlier depth q ask ≡ true
-    → AskStays limit earlier more depth q ask
-ask_stays limit earlier more depth q (Step n) h =
-    let parts = and_parts (nat_le depth limit) (is_judged_ask depth q (slice_get earlier n)) h in
-    let same = judged_stays depth q earlier more n (slice_get earlier n) refl parts.1 in
-    record { asks = ap (λ o. nat_le depth limit && is_judged_ask depth q o) same ∙ h; answer = ap answer_of same }
-ask_stays limit earlier more depth q TooDeep h = record { asks = h; answer = refl }
-ask_stays limit earlier more depth q TooMany h = record { asks = h; answer = refl }
-
--- the same of the ask of a signature
-pub record AskForStays (g : Grounds) (more : List AskedValue) (o : Option Question) (ask : AskRef) : Type 0 where
-  pub asks : is_ask_for (later_grounds g more) o ask ≡ true
-  pub answer : finished_answer (g.earlier ++ more) ask ≡ finished_answer g.earlier ask
-
-pub ask_for_stays : (g : Grounds) (more : List AskedValue) (o : Option Question) (ask : AskRef) → is_ask_for g o ask ≡ true → AskForStays g more o ask
-ask_for_stays g more None ask h = cc
-ask_for_stays g more (Some q) ask h =
-    let stays = ask_stays g.limit g.earlier more (g.depth + 1) q ask h in
-    record { asks = stays.asks; answer = stays.answer }
-
--- ---- the verdicts of signatures
-
--- where a test passes or not, one of two results that may each be none
-some_true : {X : Type 0} (b : Bool) (x y : Option X) (z : X) → b ≡ true → (if b then x else y) ≡ Some z → x ≡ Some z
-some_true true x y z is h = h
-some_true false x y z is h = cc
-
-pub some_asked : {X : Type 0} (b : Bool) (x : Option X) (z : X) → (if b then x else None) ≡ Some z → (b ≡ true) × (x ≡ Some z)
-some_asked true x z h = (refl, h)
-some_asked false x z h = cc
-
--- the verdicts of the rest, where there are verdicts
-pub record SomeAfter (v : Verdict) (o : Option (List Verdict)) (vs : List Verdict) : Type 0 where
-  pub rest : List Verdict
-  pub found : o ≡ Some rest
-  pub whole : v ∷ rest ≡ vs
-
-pub some_after : (v : Verdict) (o : Option (List Verdict)) (vs : List Verdict) → after_verdict v o ≡ Some vs → SomeAfter v o vs
-some_after v None vs h = cc
-some_after v (Some rest) vs h = record { rest = rest; found = refl; whole = cc }
-
-after_stays : (v : Verdict) (o p : Option (List Verdict)) (vs : List Verdict) → after_verdict v o ≡ Some vs
-    → ((rest : List Verdict) → o ≡ Some rest → p ≡ Some rest) → after_verdict v p ≡ Some vs
-after_stays v o p vs h stays =
-    let some = some_after v o vs h in
-    ap (after_verdict v) (stays some.rest some.found) ∙ ap Some some.whole
-
-verdicts_after_stay : (b : Bool) (v : Verdict) (asks : List AskRef) (o p : Option (List Verdict)) (vs : List Verdict)
-    → (if b then if_last asks (v ∷ []) else after_verdict v o) ≡ Some vs
-    → ((rest : List Verdict) → o ≡ Some rest → p ≡ Some rest) → (if b then if_last asks (v ∷ []) else after_verdict v p) ≡ Some vs
-verdicts_after_stay true v asks o p vs h stays = h
-verdicts_after_stay false v asks o p vs h stays = after_stays v o p vs h stays
-
-skipped_stays : (b : Bool) (v : Verdict) (o p x y : Option (List Verdict)) (vs : List Verdict)
-    → (if b then after_verdict v o else x) ≡ Some vs → ((rest : List Verdict) → o ≡ Some rest → p ≡ Some rest)
-    → (x ≡ Some vs → y ≡ Some vs) → (if b then after_verdict v p else y) ≡ Some vs
-skipped_stays true v o p x y vs h stays asked = after_stays v o p vs h stays
-skipped_stays false v o p x y vs h stays asked = asked h
-
--- one signature whose ask stays, before others whose verdicts stay
-asked_stays : (g : Grounds) (more : List AskedValue) (set : RrSet) (r : Rr) (ask : AskRef) (asks : List AskRef) (o p : Option (List Verdict))
-    (vs : List Verdict) → verdicts_asked g set r (ask ∷ asks) (λ x. o) ≡ Some vs → ((rest : List Verdict) → o ≡ Some rest → p ≡ Some rest)
-    → verdicts_asked (later_grounds g more) set r (ask ∷ asks) (λ x. p) ≡ Some vs
-asked_stays g more set r ask asks o p vs h stays =
-    let v = verdict_of g.judge set r (finished_answer g.earlier ask) in
-    let some = some_asked (is_ask_for g (ask_of set r) ask) (verdicts_after v asks (λ x. o)) vs h in
-    let ask_stays = ask_for_stays g more (ask_of set r) ask some.0 in
-    let kept = verdicts_after_stay (is_proved v) v asks o p vs some.1 stays in
-    ap (λ b. if b then verdicts_after (verdict_of g.judge set r (finished_answer (g.earlier ++ more) ask)) asks (λ x. p) else None) ask_stays.asks
-    ∙ ap (λ a. verdicts_after (verdict_of g.judge set r a) asks (λ x. p)) ask_stays.answer
-    ∙ kept
-
--- the verdicts of signatures stay when steps are appended
-pub verdicts_stay : (g : Grounds) (more : List AskedValue) (set : RrSet) (rs : List Rr) (asks : List AskRef) (vs : List Verdict)
-    → verdicts_by g set rs asks ≡ Some vs → verdicts_by (later_grounds g more) set rs asks ≡ Some vs
-unfolding verdicts_by
-verdicts_stay g more set [] asks vs h = h
-verdicts_stay g more set (r ∷ rs) [] vs h =
-    skipped_stays (is_skipped g.query set r) marks.Failed (verdicts_by g set rs []) (verdicts_by (later_grounds g more) set rs []) None None vs h
-    (λ rest. verdicts_stay g more set rs [] rest) (λ k. k)
-verdicts_stay g more set (r ∷ rs) (ask ∷ asks) vs h =
-    skipped_stays (is_skipped g.query set r) marks.Failed (verdicts_by g set rs (ask ∷ asks)) (verdicts_by (later_grounds g more) set rs (ask ∷ asks))
-    (verdicts_asked g set r (ask ∷ asks) (verdicts_by g set rs))
-    (verdicts_asked (later_grounds g more) set r (ask ∷ asks) (verdicts_by (later_grounds g more) set rs)) vs h
-    (λ rest. verdicts_stay g more set rs (ask ∷ asks) rest)
-    (λ k. asked_stays g more set r ask asks (verdicts_by g set rs asks) (verdicts_by (later_grounds g more) set rs asks) vs k
-    (λ rest. verdicts_stay g more set rs asks rest))
-
--- ---- the DS verdict of a key set
-
--- the DS verdict that a key set leads to stays when steps are appended
-pub zone_stays : (g : Grounds) (more : List AskedValue) (set : RrSet) (asks : List AskRef) (zone : ZoneVerdict)
-    → verdict_asked g set asks ≡ Some zone → verdict_asked (later_grounds g more) set asks ≡ Some zone
-zone_stays g more set [] zone h = cc
-zone_stays g more set (ask ∷ asks) zone h =
-    let q = ds_question set.class set.owner in
-    let by = λ (answer : Option (List Judged)). Some (zone_verdict g.judge.answers set.class set.owner answer) in
-    let some = some_asked (is_empty asks && is_ask g.limit g.earlier (g.depth + 1) q ask) (by (finished_answer g.earlier ask)) zone h in
-    let parts = and_parts (is_empty asks) (is_ask g.limit g.earlier (g.depth + 1) q ask) some.0 in
-    let stays = ask_stays g.limit g.earlier more (g.depth + 1) q ask parts.1 in
-    ap (λ b. if b then by (finished_answer (g.earlier ++ more) ask) else None)
-    (and_from (is_empty asks) (is_ask g.limit (g.earlier ++ more) (g.depth + 1) q ask) parts.0 stays.asks)
-    ∙ ap by stays.answer ∙ some.1
+-- ---- the entry of a key set
 
 -- the entry has the mark by a DS verdict, where there is one
 abbrev pub is_by_zone : Grounds → Placed → JudgedSetValue → Option ZoneVerdict → Bool
@@ -164,18 +39,37 @@ keys_step_stays g true x placed entry (Some zone) p h stays = ap (is_by_zone g p
 pub keys_stay : (g : Grounds) (more : List AskedValue) (placed : Placed) (entry : JudgedSetValue) → keys_hold g placed entry ≡ true
     → keys_hold (later_grounds g more) placed entry ≡ true
 keys_stay g more placed entry h =
+    let class = placed.set.class in
+    let owner = placed.set.owner in
     keys_step_stays g (needs_ds g.judge placed.set) (is_empty entry.asked && has_mark_of (judged_keys g.judge placed None) entry) placed entry
-    (verdict_asked g placed.set entry.asked) (verdict_asked (later_grounds g more) placed.set entry.asked) h
-    (zone_stays g more placed.set entry.asked)
+    (zone_asked g class owner entry.asked) (zone_asked (later_grounds g more) class owner entry.asked) h
+    (zone_stays g more class owner entry.asked)
+
+-- ---- the entry of an unsigned set
+
+searched_stays : (placed : Placed) (entry : JudgedSetValue) (o p : Option ZoneVerdict) → is_by_search placed entry o ≡ true
+    → ((zone : ZoneVerdict) → o ≡ Some zone → p ≡ Some zone) → is_by_search placed entry p ≡ true
+searched_stays placed entry None p h stays = cc
+searched_stays placed entry (Some zone) p h stays = ap (is_by_search placed entry) (stays zone refl) ∙ h
+
+-- an unsigned set's entry, with the asks of its search, stays when steps are appended
+pub unsigned_stays : (g : Grounds) (more : List AskedValue) (placed : Placed) (entry : JudgedSetValue) → unsigned_holds g placed entry ≡ true
+    → unsigned_holds (later_grounds g more) placed entry ≡ true
+unsigned_stays g more placed entry h =
+    let class = placed.set.class in
+    let start = set_start placed.set in
+    searched_stays placed entry (search_from g class start entry.asked) (search_from (later_grounds g more) class start entry.asked) h
+    (search_stays g more class start start entry.asked)
 
 -- ---- the entries of a step
 
-rules_stay : (b x y : Bool) (placed : Placed) (entry : JudgedSetValue) (o p : Option (List Verdict))
-    → (if b then x else is_by_verdicts placed entry o) ≡ true → (x ≡ true → y ≡ true) → ((vs : List Verdict) → o ≡ Some vs → p ≡ Some vs)
-    → (if b then y else is_by_verdicts placed entry p) ≡ true
-rules_stay true x y placed entry o p h keys stays = keys h
-rules_stay false x y placed entry None p h keys stays = cc
-rules_stay false x y placed entry (Some vs) p h keys stays = ap (is_by_verdicts placed entry) (stays vs refl) ∙ h
+rules_stay : (keys searched x x' y y' : Bool) (placed : Placed) (entry : JudgedSetValue) (o p : Option (List Verdict))
+    → (if keys then x else if searched then y else is_by_verdicts placed entry o) ≡ true → (x ≡ true → x' ≡ true) → (y ≡ true → y' ≡ true)
+    → ((vs : List Verdict) → o ≡ Some vs → p ≡ Some vs) → (if keys then x' else if searched then y' else is_by_verdicts placed entry p) ≡ true
+rules_stay true searched x x' y y' placed entry o p h of_keys of_search stays = of_keys h
+rules_stay false true x x' y y' placed entry o p h of_keys of_search stays = of_search h
+rules_stay false false x x' y y' placed entry None p h of_keys of_search stays = cc
+rules_stay false false x x' y y' placed entry (Some vs) p h of_keys of_search stays = ap (is_by_verdicts placed entry) (stays vs refl) ∙ h
 
 repeat_stays : (g : Grounds) (more : List AskedValue) (placed : Placed) (entry : JudgedSetValue) (n : ℕ) (o : Option AskedValue)
     → slice_get g.earlier n ≡ o → repeats_step g placed entry o ≡ true
@@ -188,9 +82,10 @@ origin_stays : (g : Grounds) (more : List AskedValue) (placed : Placed) (entry :
     → is_by_origin g placed entry origin ≡ true → is_by_origin (later_grounds g more) placed entry origin ≡ true
 origin_stays g more placed entry Table h =
     let signatures = take most_signatures placed.set.signatures in
-    rules_stay (placed.set.rtype == type_dnskey) (keys_hold g placed entry) (keys_hold (later_grounds g more) placed entry) placed entry
+    rules_stay (placed.set.rtype == type_dnskey) (is_searched placed.set) (keys_hold g placed entry) (keys_hold (later_grounds g more) placed entry)
+    (unsigned_holds g placed entry) (unsigned_holds (later_grounds g more) placed entry) placed entry
     (verdicts_by g placed.set signatures entry.asked) (verdicts_by (later_grounds g more) placed.set signatures entry.asked) h
-    (keys_stay g more placed entry) (verdicts_stay g more placed.set signatures entry.asked)
+    (keys_stay g more placed entry) (unsigned_stays g more placed entry) (verdicts_stay g more placed.set signatures entry.asked)
 origin_stays g more placed entry (Repeat n) h =
     let parts = and_parts (is_empty entry.asked) (repeats_step g placed entry (slice_get g.earlier n)) h in
     and_from (is_empty entry.asked) (repeats_step (later_grounds g more) placed entry (slice_get (g.earlier ++ more) n)) parts.0
@@ -322,21 +217,29 @@ entry_from g placed entry is h =
     (and_from owner (rtype && by_origin) (ap (name_eq placed.set.owner) (sym is.owner) ∙ name_refl placed.set.owner)
     (and_from rtype by_origin (ap (λ n. placed.set.rtype == n) (sym is.rtype) ∙ number_refl placed.set.rtype) h))
 
-entry_of_table : (g : Grounds) (placed : Placed) (entry : JudgedSetValue) → IsEntryOf placed entry → (placed.set.rtype == type_dnskey) ≡ true
-    → entry.origin ≡ Table → keys_hold g placed entry ≡ true → entry_holds g placed entry ≡ true
-entry_of_table g placed entry is keys origin holds =
+-- the entry of a set that is judged by the rules, by the rule that is for it
+entry_of_table : (g : Grounds) (placed : Placed) (entry : JudgedSetValue) (keys searched : Bool) → IsEntryOf placed entry → entry.origin ≡ Table
+    → (placed.set.rtype == type_dnskey) ≡ keys → is_searched placed.set ≡ searched
+    → (if keys then keys_hold g placed entry
+    else if searched then unsigned_holds g placed entry
+    else is_by_verdicts placed entry (verdicts_by g placed.set (take most_signatures placed.set.signatures) entry.asked)) ≡ true
+    → entry_holds g placed entry ≡ true
+entry_of_table g placed entry keys searched is origin is_keys is_unsigned holds =
     let by_verdicts = is_by_verdicts placed entry (verdicts_by g placed.set (take most_signatures placed.set.signatures) entry.asked) in
+    let unsigned = unsigned_holds g placed entry in
     entry_from g placed entry is
-    (ap (is_by_origin g placed entry) origin ∙ ap (λ b. if b then keys_hold g placed entry else by_verdicts) keys ∙ holds)
+    (ap (is_by_origin g placed entry) origin
+    ∙ ap (λ b. if b then keys_hold g placed entry else if is_searched placed.set then unsigned else by_verdicts) is_keys
+    ∙ ap (λ b. if keys then keys_hold g placed entry else if b then unsigned else by_verdicts) is_unsigned ∙ holds)
 
 -- the entry of a key set that needs no DS verdict, and asks nothing
 pub entry_of_keys : (g : Grounds) (placed : Placed) (entry : JudgedSetValue) → IsEntryOf placed entry → (placed.set.rtype == type_dnskey) ≡ true
     → needs_ds g.judge placed.set ≡ false → entry.asked ≡ [] → entry.origin ≡ Table
     → has_mark_of (judged_keys g.judge placed None) entry ≡ true → entry_holds g placed entry ≡ true
 entry_of_keys g placed entry is keys needs asked origin mark =
-    let by_zone = is_by_zone g placed entry (verdict_asked g placed.set entry.asked) in
+    let by_zone = is_by_zone g placed entry (zone_asked g placed.set.class placed.set.owner entry.asked) in
     let has = has_mark_of (judged_keys g.judge placed None) entry in
-    entry_of_table g placed entry is keys origin
+    entry_of_table g placed entry true (is_searched placed.set) is origin keys refl
     (ap (λ b. if b then by_zone else is_empty entry.asked && has) needs ∙ ap (λ asks. is_empty asks && has) asked ∙ mark)
 
 -- the entry of a key set that asks for the DS set of its owner
@@ -347,23 +250,27 @@ pub entry_by_ds : (g : Grounds) (placed : Placed) (entry : JudgedSetValue) (ask 
     → has_mark_of (judged_keys g.judge placed (Some zone)) entry ≡ true → entry_holds g placed entry ≡ true
 entry_by_ds g placed entry ask zone is keys needs asked origin asks by mark =
     let none = is_empty entry.asked && has_mark_of (judged_keys g.judge placed None) entry in
-    let verdict = zone_verdict g.judge.answers placed.set.class placed.set.owner (finished_answer g.earlier ask) in
-    entry_of_table g placed entry is keys origin
-    (ap (λ b. if b then is_by_zone g placed entry (verdict_asked g placed.set entry.asked) else none) needs
-    ∙ ap (λ refs. is_by_zone g placed entry (verdict_asked g placed.set refs)) asked
-    ∙ ap (λ b. is_by_zone g placed entry (if b then Some verdict else None)) asks
+    let by_asks = λ (refs : List AskRef). is_by_zone g placed entry (zone_asked g placed.set.class placed.set.owner refs) in
+    entry_of_table g placed entry true (is_searched placed.set) is origin keys refl
+    (ap (λ b. if b then by_asks entry.asked else none) needs ∙ ap by_asks asked
+    ∙ ap (is_by_zone g placed entry) (zone_from g placed.set.class placed.set.owner ask asks)
     ∙ ap (λ z. has_mark_of (judged_keys g.judge placed (Some z)) entry) (sym by) ∙ mark)
+
+-- the entry of an unsigned set, by what the search for its zone came to
+pub entry_of_search : (g : Grounds) (placed : Placed) (entry : JudgedSetValue) (zone : ZoneVerdict) → IsEntryOf placed entry
+    → (placed.set.rtype == type_dnskey) ≡ false → is_searched placed.set ≡ true → entry.origin ≡ Table
+    → search_from g placed.set.class (set_start placed.set) entry.asked ≡ Some zone → has_mark_of (unsigned_by placed zone) entry ≡ true
+    → entry_holds g placed entry ≡ true
+entry_of_search g placed entry zone is other unsigned origin found mark =
+    entry_of_table g placed entry false true is origin other unsigned (ap (is_by_search placed entry) found ∙ mark)
 
 -- the entry of another set, by the verdicts of its first signatures
 pub entry_of_verdicts : (g : Grounds) (placed : Placed) (entry : JudgedSetValue) (vs : List Verdict) → IsEntryOf placed entry
-    → (placed.set.rtype == type_dnskey) ≡ false → entry.origin ≡ Table
+    → (placed.set.rtype == type_dnskey) ≡ false → is_searched placed.set ≡ false → entry.origin ≡ Table
     → verdicts_by g placed.set (take most_signatures placed.set.signatures) entry.asked ≡ Some vs → has_mark_of (judged_by placed vs) entry ≡ true
     → entry_holds g placed entry ≡ true
-entry_of_verdicts g placed entry vs is other origin verdicts mark =
-    let by_verdicts = is_by_verdicts placed entry (verdicts_by g placed.set (take most_signatures placed.set.signatures) entry.asked) in
-    entry_from g placed entry is
-    (ap (is_by_origin g placed entry) origin
-    ∙ ap (λ b. if b then keys_hold g placed entry else by_verdicts) other ∙ ap (is_by_verdicts placed entry) verdicts ∙ mark)
+entry_of_verdicts g placed entry vs is other signed origin verdicts mark =
+    entry_of_table g placed entry false false is origin other signed (ap (is_by_verdicts placed entry) verdicts ∙ mark)
 
 -- the entry of a set that an earlier step found out about
 pub entry_of_repeat : (g : Grounds) (placed : Placed) (entry : JudgedSetValue) (n : ℕ) → IsEntryOf placed entry → entry.origin ≡ Repeat n

@@ -15,6 +15,8 @@ pub mod DeciderLemmas
 pub mod AfterLemmas
 pub mod OneDeciderLemmas
 pub mod SoundLemmas
+pub mod StayLemmas
+pub mod SearchLemmas
 pub mod ExtendLemmas
 pub mod VerdictLemmas
 pub mod OrderLemmas

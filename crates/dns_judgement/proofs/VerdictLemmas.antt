@@ -9,7 +9,7 @@ use Rattle.dns_judgement.specs.Asking.{ask_of}
 use Rattle.dns_judgement.specs.Derivation.{Grounds, finished_answer, verdicts_after, verdicts_asked, verdicts_by}
 use Rattle.dns_judgement.specs.DerivationParts.{is_ask_for}
 use Rattle.dns_judgement.specs.DerivationParts.{after_verdict, if_last}
-use Rattle.dns_judgement.proofs.ExtendLemmas.{later_grounds, ask_for_stays}
+use Rattle.dns_judgement.proofs.StayLemmas.{later_grounds, ask_for_stays}
 
 -- the first signatures were read with these asks and verdicts, and none of them proved the set: the verdicts of others come
 -- after theirs, also when further steps were appended

@@ -336,21 +336,41 @@ pub secure_by_a_ds_of_another_tag :
 unfolding computed
 secure_by_a_ds_of_another_tag = refl
 
--- until Insecure is shown, a set without a supported record is refused
-pub bogus_by_an_unsupported_algorithm :
-    derivation by_root 26
-    (root_keys ∷ ds_by_root (other_algorithm ∷ []) ∷ zone_step self_signed Bogus None (Step 1 ∷ []) ∷ []) ≡ true
-unfolding computed
-bogus_by_an_unsupported_algorithm = refl
-
+-- a Secure DS set of readable records none of which is supported: no more than Insecure can be expected
 pub insecure_by_an_unsupported_algorithm :
     derivation by_root 26
-    (root_keys ∷ ds_by_root (other_algorithm ∷ []) ∷ zone_step self_signed Insecure None (Step 1 ∷ []) ∷ []) ≡ false
+    (root_keys ∷ ds_by_root (other_algorithm ∷ []) ∷ zone_step self_signed Insecure None (Step 1 ∷ []) ∷ []) ≡ true
 unfolding computed
 insecure_by_an_unsupported_algorithm = refl
 
-pub bogus_by_an_unsupported_digest_type :
+pub bogus_by_an_unsupported_algorithm :
     derivation by_root 26
-    (root_keys ∷ ds_by_root (other_digest_type ∷ []) ∷ zone_step self_signed Bogus None (Step 1 ∷ []) ∷ []) ≡ true
+    (root_keys ∷ ds_by_root (other_algorithm ∷ []) ∷ zone_step self_signed Bogus None (Step 1 ∷ []) ∷ []) ≡ false
 unfolding computed
-bogus_by_an_unsupported_digest_type = refl
+bogus_by_an_unsupported_algorithm = refl
+
+pub secure_by_an_unsupported_algorithm :
+    derivation by_root 26
+    (root_keys ∷ ds_by_root (other_algorithm ∷ []) ∷ zone_step self_signed Secure (Some 0) (Step 1 ∷ []) ∷ []) ≡ false
+unfolding computed
+secure_by_an_unsupported_algorithm = refl
+
+pub insecure_by_an_unsupported_digest_type :
+    derivation by_root 26
+    (root_keys ∷ ds_by_root (other_digest_type ∷ []) ∷ zone_step self_signed Insecure None (Step 1 ∷ []) ∷ []) ≡ true
+unfolding computed
+insecure_by_an_unsupported_digest_type = refl
+
+pub insecure_by_an_unsigned_ds :
+    derivation by_root 26
+    (record ds_unsigned { reply = reply_of (record_of zone 43 other_algorithm ∷ []) [] } ∷ zone_step self_signed Insecure None (Step 0 ∷ []) ∷ [])
+    ≡ false
+unfolding computed
+insecure_by_an_unsigned_ds = refl
+
+-- a DS that can't be read shows nothing
+pub bogus_by_an_unreadable_ds :
+    derivation by_root 26
+    (root_keys ∷ ds_by_root ((174 ∷ 201 ∷ []) ∷ []) ∷ zone_step self_signed Bogus None (Step 1 ∷ []) ∷ []) ≡ true
+unfolding computed
+bogus_by_an_unreadable_ds = refl

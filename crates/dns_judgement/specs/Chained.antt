@@ -15,7 +15,8 @@ use Rattle.dns_model.specs.SoundAnswers.{ChainValue, ResponseValue, Placed, is_s
 use Rattle.dns_judgement.specs.Validity.{is_good_by}
 use Rattle.dns_judgement.specs.Judged.{Judged, decider}
 use Rattle.dns_judgement.specs.Marks.{Verdict, Proved, Excused, Failed, counted_keys, is_key_set_of, verdict_of, judged_by}
-use Rattle.dns_judgement.specs.Delegations.{is_ds_set_of, matching_ds, zone_verdict}
+use Rattle.dns_judgement.specs.Delegations.{ZoneVerdict, is_ds_set_of, matching_ds, zone_verdict}
+use Rattle.dns_judgement.specs.Unsigned.{unsigned_by}
 use Rattle.dns_judgement.specs.KeySets.{SignedKeys, KeysOutcome, SignedByAnchored, WhollyAnchored, NeedsDs, SignedByMatched, WhollyTrusted, Refused, is_anchored_key, keys_outcome, keys_judged}
 use Rattle.dns_judgement.specs.Marking.{marked_message}
 
@@ -101,6 +102,10 @@ proved_chain (v ∷ vs) = chain_if_proved v.verdict v.chain (proved_chain vs)
 -- a set that isn't DNSKEY, judged by the verdicts of its signatures
 abbrev pub chained_by : Placed → List ChainedVerdict → Chained
 chained_by placed verdicts = record { judged = judged_by placed (bare_verdicts verdicts); chain = proved_chain verdicts }
+
+-- an unsigned set, judged by the verdict on its zone; it never is Secure
+abbrev pub chained_unsigned : Placed → ZoneVerdict → Chained
+chained_unsigned placed zone = record { judged = unsigned_by placed zone; chain = [] }
 
 -- ---- a DNSKEY set
 

@@ -1,8 +1,9 @@
 -- For private functions and for proofs only: parts of the definition of a derivation, by names of their own.
-use Rattle.std.specs.Prelude.{ℕ, ◌+◌, Bool, false, ◌==◌, ◌&&◌, nat_eq, List, [], ◌∷◌, Option, None, Some, unwrap_or, slice_get, if◌then◌else◌}
+use Rattle.std.specs.Prelude.{ℕ, ◌+◌, Bool, false, not, ◌==◌, ◌&&◌, nat_eq, List, [], ◌∷◌, Option, None, Some, unwrap_or, slice_get, if◌then◌else◌}
 use Rattle.std.specs.Option.{option_map, option_map_or, option_and_then, option_eq}
 use Rattle.std.specs.List.{filter_map, flat_map, list_any, list_all, count_by, range_with_len}
 use Rattle.dns_model.specs.declared.trail.AskRef.{AskRef}
+use Rattle.dns_model.specs.Names.{Labels}
 use Rattle.dns_model.specs.Records.{Rr, Question, question_eq}
 use Rattle.dns_model.specs.Chains.{Judge}
 use Rattle.dns_model.specs.Trails.{AskedValue, JudgedSetValue, HeardValue, EndingValue, Foreign, Failed, Seen}
@@ -10,8 +11,10 @@ use Rattle.dns_model.specs.SoundAnswers.{Told, Placed}
 use Rattle.dns_judgement.specs.Asking.{judged_part}
 use Rattle.dns_judgement.specs.Judged.{Judged}
 use Rattle.dns_judgement.specs.Marks.{Verdict, judged_by}
-use Rattle.dns_judgement.specs.Outcome.{Outcome, outcome_of}
-use Rattle.dns_judgement.specs.Derivation.{Grounds, entries_hold, with_entries, is_empty, is_ask, told_in, heard_holds, ends_bare, has_mark_of, is_repeat, judged_sets, if_answered, ending_eq, ending_by, ending_holds}
+use Rattle.dns_judgement.specs.Delegations.{ZoneVerdict}
+use Rattle.dns_judgement.specs.Unsigned.{unsigned_by}
+use Rattle.dns_judgement.specs.Outcome.{Outcome, outcome_of, outcome_by_zone}
+use Rattle.dns_judgement.specs.Derivation.{Grounds, Sight, Unseen, sight_of, entries_hold, with_entries, is_empty, is_ask, told_in, heard_holds, ends_bare, has_mark_of, is_repeat, judged_sets, if_answered, ending_eq, ending_by, ending_holds}
 
 abbrev pub with_entry : Placed × JudgedSetValue → Judged
 with_entry p = record { section = p.0.section; set = p.0.set; mark = p.1.mark; sig = p.1.sig }
@@ -91,3 +94,20 @@ judged_holds g step told foreign =
 
 abbrev pub step_holds_by : Grounds → AskedValue → HeardValue → Bool
 step_holds_by g step heard = option_map_or (heard_holds g step) (told_in heard) (ends_bare Failed step)
+
+-- ---- the search for a zone
+
+-- the step only sees what it hears to this question at this depth
+abbrev pub is_plain_step : ℕ → Question → Option AskedValue → Bool
+is_plain_step depth q step = option_map_or (λ s. not s.judged && ((s.depth == depth) && question_eq q s.query)) step false
+
+abbrev pub sight_at : Labels → Option AskedValue → Sight
+sight_at name step = option_map_or (λ s. sight_of name s.reply) step Unseen
+
+-- the entry has the mark by what the search for its zone came to, where it came to something
+abbrev pub is_by_search : Placed → JudgedSetValue → Option ZoneVerdict → Bool
+is_by_search placed entry zone = option_map_or (λ z. has_mark_of (unsigned_by placed z) entry) zone false
+
+-- the ending is that to which a search leads, where it leads to one
+abbrev pub ends_by_search : AskedValue → Told → Option ZoneVerdict → Bool
+ends_by_search step told zone = option_map_or (λ z. ending_eq (ending_by (outcome_by_zone step.query told z)) step.ending) zone false
