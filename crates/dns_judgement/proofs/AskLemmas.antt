@@ -109,11 +109,11 @@ keys_asks g placed entry h =
 
 -- ---- the asks of a search
 
-after_asks_on : (g : Grounds) (class : ℕ) (name : Labels) (asks : List AskRef) (sight : Sight) (above : Option ZoneVerdict) (zone : ZoneVerdict)
+sight_asks : (g : Grounds) (class : ℕ) (name : Labels) (asks : List AskRef) (sight : Sight) (above : Option ZoneVerdict) (zone : ZoneVerdict)
     → search_after g class name asks sight above ≡ Some zone → (above ≡ Some zone → AreAsksOf g asks) → AreAsksOf g asks
-after_asks_on g class name asks Cut above zone h onward = zone_asks g class name asks zone h
-after_asks_on g class name asks Onward above zone h onward = onward h
-after_asks_on g class name asks Unseen above zone h onward =
+sight_asks g class name asks Cut above zone h onward = zone_asks g class name asks zone h
+sight_asks g class name asks Onward above zone h onward = onward h
+sight_asks g class name asks Unseen above zone h onward =
     no_asks g asks ((some_asked (is_empty asks) (Some (Bogus (Net (ns_question class name)))) zone h).0)
 
 root_asks : (g : Grounds) (start : Labels) (asks : List AskRef) (zone : ZoneVerdict)
@@ -133,7 +133,7 @@ search_asks g class start (label ∷ rest) (ask ∷ asks) zone h =
     let above = search_by g class start rest asks in
     let some = some_asked (is_plain_ask g.earlier g.depth q ask) (search_after g class name asks sight above) zone h in (
       record { question = q; asks = inr some.0 },
-      after_asks_on g class name asks sight above zone some.1 (λ k. search_asks g class start rest asks zone k),
+      sight_asks g class name asks sight above zone some.1 (λ k. search_asks g class start rest asks zone k),
     )
 
 searched_asks : (g : Grounds) (placed : Placed) (entry : JudgedSetValue) (o : Option ZoneVerdict) → is_by_search placed entry o ≡ true

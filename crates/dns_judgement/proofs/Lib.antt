@@ -1,6 +1,8 @@
 pub mod WorkedTrailValues
 pub mod WorkedTrails
 pub mod WorkedDelegations
+pub mod WorkedSearches
+pub mod WorkedVerdicts
 pub mod GoodLemmas
 pub mod FindLemmas
 pub mod FirstLemmas

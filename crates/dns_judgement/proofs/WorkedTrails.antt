@@ -21,9 +21,10 @@ use Rattle.dns_judgement.specs.Judged.{Judged}
 use Rattle.dns_judgement.specs.Validity.{validity, is_good_by}
 use Rattle.dns_judgement.specs.Marks.{first_two, verdict_of, judged_by}
 use Rattle.dns_judgement.specs.Delegations.{ZoneVerdict, zone_verdict}
+use Rattle.dns_judgement.specs.Unsigned.{unsigned_by}
 use Rattle.dns_judgement.specs.KeySets.{first_signed, keys_outcome, judged_keys}
 use Rattle.dns_judgement.specs.Outcome.{outcome_of}
-use Rattle.dns_judgement.specs.Derivation.{derivation, verdicts_by, entry_holds, entries_hold, step_holds, steps_hold, order_asks, order_step, end_asks, end_step}
+use Rattle.dns_judgement.specs.Derivation.{derivation, search_by, verdicts_by, entry_holds, entries_hold, step_holds, steps_hold, order_asks, order_step, end_asks, end_step}
 use Rattle.dns_judgement.proofs.WorkedTrailValues.{verifier, root_judge, ns_records, record_of, reply_of, answer_entry, address_entry, keys_step, ns_step, keys_judged, keys_found, keys_fault, keys_missed, ns_found, ns_secure, ns_beside, both_secure}
 
 -- ---- what the examples compute with
@@ -41,7 +42,7 @@ unfolding good_computed judged_keys keys_outcome first_signed
 keys_computed = judged_keys
 
 step_computed : Judge → ℕ → List AskedValue → AskedValue → Bool
-unfolding keys_computed ds_in zone_verdict step_holds entries_hold entry_holds verdicts_by verdict_of judged_by first_two outcome_of sets_of leaders
+unfolding keys_computed ds_in zone_verdict step_holds entries_hold entry_holds search_by unsigned_by verdicts_by verdict_of judged_by first_two outcome_of sets_of leaders
 step_computed = step_holds
 
 unfoldable pub computed : Judge → ℕ → List AskedValue → Bool

@@ -95,8 +95,7 @@ mark_at (Some n) excused = record { mark = Secure; sig = Some n }
 mark_at None (Some n) = record { mark = Insecure; sig = Some n }
 mark_at None None = record { mark = Bogus; sig = None }
 
--- the mark of a set that isn't DNSKEY: the first Secure signature decides, else the first Insecure one; until zones are
--- searched, no unsigned set is excused
+-- the mark of a set that isn't DNSKEY: the first Secure signature decides, else the first Insecure one
 abbrev pub set_mark : List Verdict → Mark
 set_mark [] = record { mark = Bogus; sig = None }
 set_mark (v ∷ vs) = mark_at (position is_proved (v ∷ vs)) (position is_excused (v ∷ vs))
