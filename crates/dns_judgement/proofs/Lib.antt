@@ -17,11 +17,12 @@ pub mod DeciderLemmas
 pub mod AfterLemmas
 pub mod OneDeciderLemmas
 pub mod SoundLemmas
+pub mod OrderLemmas
 pub mod StayLemmas
 pub mod SearchLemmas
 pub mod ExtendLemmas
+pub mod EndingLemmas
 pub mod VerdictLemmas
-pub mod OrderLemmas
 pub mod EndLemmas
 pub mod PartLemmas
 pub mod SentLemmas

@@ -1,17 +1,19 @@
 -- The search for a zone: how it is built ask by ask, and that what it came to stays when steps are appended.
-use Rattle.std.proofs.Common.{◌≡◌, ℕ, ◌+◌, true, ◌&&◌, List, [], ◌∷◌, ◌++◌, Option, None, Some, slice_get, if◌then◌else◌, append_assoc, append-nil, refl, sym, ap, ◌∙◌, subst}
+use Rattle.std.proofs.Common.{◌≡◌, ℕ, ◌+◌, true, false, not, ◌==◌, ◌&&◌, List, [], ◌∷◌, ◌++◌, length, Option, None, Some, slice_get, if◌then◌else◌, append_assoc, append-nil, refl, sym, ap, ◌∙◌, subst}
 use Rattle.std.proofs.lemmas.Bool.{and_parts, and_from}
 use Rattle.dns_model.specs.declared.trail.AskRef.{AskRef}
 use Rattle.dns_model.specs.declared.trail.AskRef.TheVariants.{Step, TooDeep, TooMany}
 use Rattle.dns_model.specs.Names.{Labels}
-use Rattle.dns_model.specs.Records.{Question}
+use Rattle.dns_model.specs.Records.{Question, question_eq}
 use Rattle.dns_model.specs.Trails.{AskedValue}
+use Rattle.dns_model.proofs.SetLemmas.{number_refl}
 use Rattle.dns_judgement.specs.Judged.{Judged}
 use Rattle.dns_judgement.specs.ProofErrors.{Net, DsRecordShouldExist}
 use Rattle.dns_judgement.specs.Delegations.{ZoneVerdict, Bogus, ds_question, zone_verdict}
 use Rattle.dns_judgement.specs.Unsigned.{ns_question}
-use Rattle.dns_judgement.specs.Derivation.{Grounds, Sight, Cut, Onward, Unseen, finished_answer, is_ask, is_empty, is_plain_ask, sight_by, zone_asked, search_after, search_by}
+use Rattle.dns_judgement.specs.Derivation.{Grounds, Sight, Cut, Onward, Unseen, finished_answer, is_ask, is_empty, is_plain_ask, sight_of, sight_by, zone_asked, search_after, search_by}
 use Rattle.dns_judgement.specs.DerivationParts.{is_plain_step, sight_at}
+use Rattle.dns_judgement.proofs.OrderLemmas.{slice_get_appended}
 use Rattle.dns_judgement.proofs.StayLemmas.{slice_get-stays, later_grounds, ask_stays, some_asked}
 
 -- ---- the ask for a DS set
@@ -54,6 +56,19 @@ plain_stays earlier more depth q name (Step n) h =
     record { asks = ap (is_plain_step depth q) same ∙ h; sees = ap (sight_at name) same }
 plain_stays earlier more depth q name TooDeep h = cc
 plain_stays earlier more depth q name TooMany h = record { asks = refl; sees = refl }
+
+-- a step behind others that sees what it hears answers the plain ask for its question
+pub plain_asked : (before : List AskedValue) (step : AskedValue) (depth : ℕ) (q : Question) → step.judged ≡ false → step.depth ≡ depth
+    → question_eq q step.query ≡ true → is_plain_ask (before ++ step ∷ []) depth q (Step (length before)) ≡ true
+plain_asked before step depth q unjudged same asks =
+    ap (is_plain_step depth q) (slice_get_appended before step [])
+    ∙ ap (λ b. not b && ((step.depth == depth) && question_eq q step.query)) unjudged
+    ∙ and_from (step.depth == depth) (question_eq q step.query) (ap (λ d. step.depth == d) (sym same) ∙ number_refl step.depth) asks
+
+-- and what it sees is in its reply
+pub plain_sees : (before : List AskedValue) (step : AskedValue) (name : Labels)
+    → sight_by (before ++ step ∷ []) name (Step (length before)) ≡ sight_of name step.reply
+plain_sees before step name = ap (sight_at name) (slice_get_appended before step [])
 
 -- ---- one ask of a search
 
