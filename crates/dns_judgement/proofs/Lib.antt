@@ -2,6 +2,7 @@ pub mod WorkedTrailValues
 pub mod WorkedTrails
 pub mod WorkedDelegations
 pub mod WorkedSearches
+pub mod WorkedExcuses
 pub mod WorkedVerdicts
 pub mod GoodLemmas
 pub mod FindLemmas

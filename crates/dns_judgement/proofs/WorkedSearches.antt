@@ -1,24 +1,23 @@
--- Derivations on worked rows where the zone of an unsigned set, or of a query, is searched: `example.`, whose DS set the root's
--- anchored key signs and whose only DS has an algorithm that isn't supported. They are shown by computing them; and what they become
--- where one thing in them is another.
-use Rattle.std.proofs.Common.{◌≡◌, ℕ, true, false, List, [], ◌∷◌, ◌++◌, Option, None, Some, refl}
+-- Derivations on worked rows where the zone of an unsigned set is searched: `example.`, whose DS set the root's anchored key signs
+-- and whose only DS has an algorithm that isn't supported. They are shown by computing them; and what they become where one thing in
+-- them is another.
+use Rattle.std.proofs.Common.{◌≡◌, ℕ, true, false, List, [], ◌∷◌, Option, None, Some, refl}
 use Rattle.dns_model.specs.declared.proof.Proof.{Proof}
 use Rattle.dns_model.specs.declared.proof.Proof.TheVariants.{Secure, Insecure, Bogus}
+use Rattle.dns_model.specs.declared.section.Section.TheVariants.{Authority}
 use Rattle.dns_model.specs.declared.denial.Denial.TheVariants as denial
 use Rattle.dns_model.specs.declared.trail.AskRef.{AskRef}
 use Rattle.dns_model.specs.declared.trail.AskRef.TheVariants.{Step, TooDeep, TooMany}
 use Rattle.dns_model.specs.Names.{Labels}
 use Rattle.dns_model.specs.Records.{Rr, Question}
-use Rattle.dns_model.specs.Trails.{AskedValue, JudgedSetValue, HeardValue, EndingValue, Records, Fault, Answered, Denied, Failed, Seen}
+use Rattle.dns_model.specs.Trails.{AskedValue, JudgedSetValue, HeardValue, Records, Fault, Answered, Failed, Seen}
 use Rattle.dns_model.proofs.Worked.{letter_a, name_a}
-use Rattle.dns_model.proofs.Delegation.{signature_of}
-use Rattle.dns_judgement.specs.Marks.{key_question}
 use Rattle.dns_judgement.specs.Delegations.{ds_question}
 use Rattle.dns_judgement.specs.Unsigned.{ns_question}
 use Rattle.dns_judgement.specs.Derivation.{derivation}
 use Rattle.dns_judgement.proofs.WorkedTrailValues.{record_of, reply_of, answer_entry, keys_found}
 use Rattle.dns_judgement.proofs.WorkedTrails.{computed}
-use Rattle.dns_judgement.proofs.WorkedDelegations.{zone, by_root, step_of, zone_entry, root_keys, ds_by_root, other_algorithm, zone_keys}
+use Rattle.dns_judgement.proofs.WorkedDelegations.{zone, by_root, step_of, zone_entry, root_keys, ds_by_root, other_algorithm}
 
 -- ---- steps
 
@@ -287,97 +286,31 @@ pub unsigned_ds_from_its_parent : derivation by_root 26 (searched_above (one_ste
 unfolding computed
 unsigned_ds_from_its_parent = refl
 
--- ---- the answer to a query, expanded from a wildcard
+-- ---- a cut whose DS ask is answered by an alias, beside an SOA of the zone above it
 
--- the signature counts fewer labels than the host has, and names the zone as its signer
-abbrev pub expanded : List Rr
-expanded = address ∷ record_of host 46 (signature_of 1 1 zone) ∷ []
+abbrev pub soa_entry : Proof → List AskRef → JudgedSetValue
+soa_entry mark asked = record (zone_entry 6 mark None asked) { section = Authority }
 
--- the zone's keys, which the signature asks for: Insecure by the DS set
-abbrev pub keys_insecure : AskedValue
-keys_insecure = step_of 1 (key_question 1 zone) (reply_of zone_keys []) (zone_entry 48 Insecure None (Step 1 ∷ []) ∷ []) (Answered denial.None)
+-- of these sets the alias isn't judged below the top; the SOA has no signature, and its zone is searched, one deeper than the top
+abbrev pub alias_step : Proof → AskedValue
+alias_step mark =
+    step_of 1 (ds_question 1 host)
+    (Records (record { code = 0; answers = record_of host 5 name_a ∷ []; authorities = record_of zone 6 [] ∷ []; additionals = [] }) false)
+    (soa_entry mark (Step 1 ∷ Step 3 ∷ []) ∷ []) (Answered denial.None)
 
--- what that signature asks
-abbrev pub asked_by_the_signature : List AskedValue
-asked_by_the_signature = record keys_found { depth = 3 } ∷ record (ds_unsupported (Step 0 ∷ [])) { depth = 2 } ∷ keys_insecure ∷ []
+abbrev pub below_an_alias : Proof → Proof → List AskedValue
+below_an_alias soa mark =
+    plain host (beside (record_of host 2 name_a ∷ [])) ∷ record zone_seen { depth = 1 } ∷ record keys_found { depth = 3 }
+    ∷ record (ds_unsupported (Step 2 ∷ [])) { depth = 2 } ∷ alias_step soa ∷ unsigned_step mark (Step 0 ∷ Step 4 ∷ []) ∷ []
 
--- what the search for the query's zone asks
-abbrev pub asked_by_the_ending : List AskedValue
-asked_by_the_ending = host_seen ∷ zone_seen ∷ root_keys ∷ ds_unsupported (Step 5 ∷ []) ∷ []
-
--- these records came, and the set is Insecure by its signature
-abbrev pub signed_step : List Rr → EndingValue → List AskRef → AskedValue
-signed_step records ending excuse =
-    record (step_of 0 address_question (reply_of records []) (host_entry Insecure (Some 0) (Step 2 ∷ []) ∷ []) ending) { excuse = excuse }
-
-abbrev pub excused : EndingValue → List AskRef → List AskedValue
-excused ending excuse = asked_by_the_signature ++ asked_by_the_ending ++ signed_step expanded ending excuse ∷ []
-
--- the excuse names the search, and the answer stands
-pub excused_by_the_search : derivation by_root 26 (excused (Answered denial.None) (Step 3 ∷ Step 4 ∷ Step 6 ∷ [])) ≡ true
+pub insecure_beside_an_insecure_set : derivation by_root 26 (below_an_alias Insecure Insecure) ≡ true
 unfolding computed
-excused_by_the_search = refl
+insecure_beside_an_insecure_set = refl
 
-pub denied_though_excused : derivation by_root 26 (excused (Denied Bogus) (Step 3 ∷ Step 4 ∷ Step 6 ∷ [])) ≡ false
+pub bogus_beside_an_insecure_set : derivation by_root 26 (below_an_alias Insecure Bogus) ≡ false
 unfolding computed
-denied_though_excused = refl
+bogus_beside_an_insecure_set = refl
 
-pub expanded_without_an_excuse :
-    derivation by_root 26
-    (asked_by_the_signature ++ signed_step expanded (Answered denial.None) [] ∷ []) ≡ false
+pub insecure_beside_a_bogus_set : derivation by_root 26 (below_an_alias Bogus Insecure) ≡ false
 unfolding computed
-expanded_without_an_excuse = refl
-
-pub excuse_stops_without_ns :
-    derivation by_root 26
-    (asked_by_the_signature ++ host_seen ∷ signed_step expanded (Denied Bogus) (Step 3 ∷ []) ∷ []) ≡ false
-unfolding computed
-excuse_stops_without_ns = refl
-
--- where the search shows nothing, the answer is denied
-pub denied_after_a_fault :
-    derivation by_root 26
-    (asked_by_the_signature ++ host_fault ∷ signed_step expanded (Denied Bogus) (Step 3 ∷ []) ∷ []) ≡ true
-unfolding computed
-denied_after_a_fault = refl
-
-pub answered_after_a_fault :
-    derivation by_root 26
-    (asked_by_the_signature ++ host_fault ∷ signed_step expanded (Answered denial.None) (Step 3 ∷ []) ∷ []) ≡ false
-unfolding computed
-answered_after_a_fault = refl
-
--- a signature that counts each label: nothing is searched
-abbrev pub unexpanded : List Rr
-unexpanded = address ∷ record_of host 46 (signature_of 1 2 zone) ∷ []
-
-pub answered_without_a_search :
-    derivation by_root 26
-    (asked_by_the_signature ++ signed_step unexpanded (Answered denial.None) [] ∷ []) ≡ true
-unfolding computed
-answered_without_a_search = refl
-
-pub excuse_of_a_plain_answer :
-    derivation by_root 26
-    (asked_by_the_signature ++ asked_by_the_ending ++ signed_step unexpanded (Answered denial.None) (Step 3 ∷ Step 4 ∷ Step 6 ∷ []) ∷ []) ≡ false
-unfolding computed
-excuse_of_a_plain_answer = refl
-
--- ---- an expanded DS set: the search for its query's zone begins at the parent
-
-abbrev pub expanded_ds : List AskRef → AskedValue
-expanded_ds excuse =
-    record (step_of 0 (ds_question 1 host) (reply_of (record_of host 43 other_algorithm ∷ record_of host 46 (signature_of 43 1 zone) ∷ []) [])
-    (record (host_entry Insecure (Some 0) (Step 2 ∷ [])) { rtype = 43 } ∷ []) (Answered denial.None)) { excuse = excuse }
-
-pub ds_excused_from_its_parent :
-    derivation by_root 26
-    (asked_by_the_signature ++ zone_seen ∷ root_keys ∷ ds_unsupported (Step 4 ∷ []) ∷ expanded_ds (Step 3 ∷ Step 5 ∷ []) ∷ []) ≡ true
-unfolding computed
-ds_excused_from_its_parent = refl
-
-pub ds_excused_from_its_owner :
-    derivation by_root 26
-    (asked_by_the_signature ++ asked_by_the_ending ++ expanded_ds (Step 3 ∷ Step 4 ∷ Step 6 ∷ []) ∷ []) ≡ false
-unfolding computed
-ds_excused_from_its_owner = refl
+insecure_beside_a_bogus_set = refl
