@@ -8,3 +8,4 @@ pub mod DepthLemmas
 pub mod MarkSteps
 pub mod CountSteps
 pub mod MarkLoop
+pub mod OutcomeLemmas

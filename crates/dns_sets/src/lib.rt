@@ -12,4 +12,4 @@ mod set_places;
 pub use grouping::{clear_marks, placed_sets};
 pub use judged_sets::{ChainedSet, MarkedSet, PlacedSet};
 pub use marking::finished;
-pub use outcome::{Outcome, foreign_record, outcome_of};
+pub use outcome::{Outcome, foreign_record, outcome_by_zone, outcome_of};

@@ -4,7 +4,9 @@ ghost use Rattle.std.specs.Option.{option_copied};
 ghost use Rattle.dns_model.specs.SoundAnswers.{told_by};
 ghost use Rattle.dns_judgement.specs.Judged.{decider as decider_of};
 ghost use Rattle.dns_judgement.specs.Chained.{bare};
-ghost use Rattle.dns_judgement.specs.Outcome.{outcome_of as told_outcome, foreign_record as foreign_in, answers_query as answers_asked, is_wildcard_signature as is_expanded_signature, needs_denial as wants_denial};
+ghost use Rattle.dns_judgement.specs.Delegations.{ZoneVerdict, is_insecure};
+ghost use Rattle.dns_judgement.specs.Unsigned.{unsigned_mark};
+ghost use Rattle.dns_judgement.specs.Outcome.{outcome_of as told_outcome, outcome_by_zone as told_by_zone, insecure_answer as told_insecure, foreign_record as foreign_in, answers_query as answers_asked, is_wildcard_signature as is_expanded_signature, needs_denial as wants_denial};
 ghost use Rattle.dns_judgement.specs.MarkParts.{is_expanded_by};
 ghost use Rattle.dns_sets.specs.Outcome.{outcome_value};
 
@@ -20,21 +22,49 @@ pub enum Outcome {
     Unjudged,
     /// Its response is an answer.
     Accepted(Denial),
+    /// The zone of its query decides, and has to be searched.
+    Searched,
     /// Its response is refused, with this proof.
     Denied(Proof),
 }
 
 /// How a step ends whose sets are judged (RFC 4035, 5.3.4 and 5.4).
-#[tactic(auto, using(crate::proofs::Joining::any_map), unfolding(dns_judgement::specs::Outcome::outcome_of))]
+#[tactic(auto, using(crate::proofs::Joining::any_map, crate::proofs::OutcomeLemmas::either_way), unfolding(dns_judgement::specs::Outcome::outcome_of))]
 pub fn outcome_of(query: &Query, message: &Message, sets: &[ChainedSet]) -> Outcome
     ensures { outcome_value result ≡ told_outcome query.now (told_by message.now) (bare sets.now) }
 {
     if !has_answer(query, &message.answers) || has_unjudged(sets) {
         Outcome::Unjudged
     } else if !has_wildcard_signature(&message.answers) {
+        // an answer stands beside an Insecure authority section as well, so that section isn't looked at
         Outcome::Accepted(Denial::None)
     } else {
+        Outcome::Searched
+    }
+}
+
+/// How a step ends whose query's zone was searched, by the mark that the zone leaves to what is unsigned: where it is Insecure,
+/// the response stands as it is (RFC 4035, 4.3 and 5.2).
+#[tactic(auto, using(crate::proofs::OutcomeLemmas::ends_insecure, crate::proofs::OutcomeLemmas::ends_denied))]
+pub fn outcome_by_zone(query: &Query, message: &Message, mark: Proof) -> Outcome
+    ensures { (zone : ZoneVerdict) → is_insecure mark ≡ is_insecure (unsigned_mark zone).mark
+        → outcome_value result ≡ told_by_zone query.now (told_by message.now) zone }
+{
+    if mark == Proof::Insecure {
+        insecure_answer(query, message)
+    } else {
         Outcome::Denied(Proof::Bogus)
+    }
+}
+
+// An answer of which no more than Insecure can be expected: it stands, or nothing is there.
+fn insecure_answer(query: &Query, message: &Message) -> Outcome
+    ensures { outcome_value result ≡ told_insecure query.now (told_by message.now) }
+{
+    if has_answer(query, &message.answers) {
+        Outcome::Accepted(Denial::None)
+    } else {
+        Outcome::Accepted(Denial::Absent(Proof::Insecure))
     }
 }
 

@@ -62,7 +62,26 @@ fn a_step_ends_by_its_records(rt: HostRuntime) -> Result<(), Fail> {
     assert!(rt; outcome(alloc, &[])? == Outcome::Unjudged);
     assert!(rt; outcome(alloc, &UNANSWERED)? == Outcome::Unjudged);
     assert!(rt; outcome(alloc, &ANSWERED)? == Outcome::Accepted(Denial::None));
-    assert!(rt; outcome(alloc, &FROM_WILDCARD)? == Outcome::Denied(Proof::Bogus));
+    assert!(rt; outcome(alloc, &FROM_WILDCARD)? == Outcome::Searched);
+    Ok(())
+}
+
+/// How such a step ends by the mark that the zone of its query leaves to what is unsigned.
+fn outcome_in_zone(alloc: Global, records: &[Met], mark: Proof) -> Result<Outcome, Fail> {
+    let query = query(alloc, "A.")?;
+    let message = message(alloc, records)?;
+    Ok(outcome_by_zone(&query, &message, mark))
+}
+
+#[test]
+fn a_searched_step_ends_by_its_zone(rt: HostRuntime) -> Result<(), Fail> {
+    let alloc = rt.alloc();
+    let answered = outcome_in_zone(alloc, &FROM_WILDCARD, Proof::Insecure)?;
+    assert!(rt; answered == Outcome::Accepted(Denial::None));
+    let absent = outcome_in_zone(alloc, &UNANSWERED, Proof::Insecure)?;
+    assert!(rt; absent == Outcome::Accepted(Denial::Absent(Proof::Insecure)));
+    let refused = outcome_in_zone(alloc, &FROM_WILDCARD, Proof::Bogus)?;
+    assert!(rt; refused == Outcome::Denied(Proof::Bogus));
     Ok(())
 }
 
