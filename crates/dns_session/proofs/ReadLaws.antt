@@ -9,7 +9,7 @@ use Rattle.dns_model.specs.Records.{Question}
 use Rattle.dns_words.specs.Words as steps
 use Rattle.dns_session.specs.SessionValue.{SessionValue, AcceptedSignatureValue, ReplyValue}
 use Rattle.dns_session.specs.LinePlaces.{place, pieces, start_of, one, optional, many_in}
-use Rattle.dns_session.specs.Lines.{Words, words, after, header_line, moment_line, depth_line, algorithms_line, anchor_line, accept_line, query_line, reply_line}
+use Rattle.dns_session.specs.Lines.{Words, words, after, header_line, moment_line, depth_line, algorithms_line, anchor_line, accept_line, query_line, upstream_line}
 use Rattle.dns_session.specs.Grammar.{session_of}
 use Rattle.dns_session.specs.Spelled.{Say, session_lines, Spelled}
 use Rattle.dns_session.proofs.SpelledLaws.{pieces_lines, session_spelled, session, ends, asks, trusts, begins, session_begins}
@@ -129,8 +129,8 @@ query_no_anchor line s = rw (after_other (codes "query") (codes "anchor") (words
 query_no_accept : (line : List ℕ) → Starts (codes "query") line → accept_line line ≡ None
 query_no_accept line s = rw (after_other (codes "query") (codes "accept") (words line) s.rest refl s.begins) refl
 
-end_no_reply : reply_line (codes "end") ≡ None
-end_no_reply = refl
+end_no_upstream : upstream_line (codes "end") ≡ None
+end_no_upstream = refl
 
 -- ---- the whole text
 
@@ -140,10 +140,10 @@ ends_gives s number = refl
 
 asks_gives : (made : Question → List ReplyValue → SessionValue) (number : ℕ)
     (query : List ℕ) (question : Question) (lines : List (List ℕ)) (replies : List ReplyValue)
-    → query_line query ≡ Some question → Say reply_line lines replies
+    → query_line query ≡ Some question → Say upstream_line lines replies
     → asks made (place number (query ∷ (lines ++ codes "end" ∷ [] ∷ []))) ≡ Ok (made question replies)
 asks_gives made number query question lines replies asked say =
-    let row = row_of reply_line (number + 1) lines replies (codes "end" ∷ [] ∷ []) say (omega arith) end_no_reply in
+    let row = row_of upstream_line (number + 1) lines replies (codes "end" ∷ [] ∷ []) say (omega arith) end_no_upstream in
     let first = one_listed query_line number query (lines ++ codes "end" ∷ [] ∷ []) question (listed_after lines _ (omega arith)) asked in
     rw (first, row.reads) (ends_gives (made question replies) row.next)
 
@@ -168,7 +168,7 @@ anchors_others (line ∷ lines) (x ∷ accepts) query question ps say asked = ac
 
 trusts_gives : (made : List AnchorValue → List AcceptedSignatureValue → Question → List ReplyValue → SessionValue) (number : ℕ)
     (s : SessionValue) (anchors accepts : List (List ℕ)) (query : List ℕ) (replies : List (List ℕ))
-    → Say anchor_line anchors s.anchors → Say accept_line accepts s.accepts → query_line query ≡ Some s.query → Say reply_line replies s.replies
+    → Say anchor_line anchors s.anchors → Say accept_line accepts s.accepts → query_line query ≡ Some s.query → Say upstream_line replies s.replies
     → trusts made (place number (anchors ++ (accepts ++ query ∷ (replies ++ codes "end" ∷ [] ∷ [])))) ≡ Ok (made s.anchors s.accepts s.query s.replies)
 trusts_gives made number s anchors accepts query replies keys takes asked tells =
     let body : List (List ℕ) = query ∷ (replies ++ codes "end" ∷ [] ∷ []) in

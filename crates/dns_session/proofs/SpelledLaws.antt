@@ -10,7 +10,7 @@ use Rattle.dns_model.specs.Keys.{AnchorValue, bytes_eq}
 use Rattle.dns_model.specs.Records.{Question}
 use Rattle.dns_session.specs.SessionValue.{SessionValue, AcceptedSignatureValue, ReplyValue}
 use Rattle.dns_session.specs.LinePlaces.{Place, place, pieces, start_of, one, optional, form_or_none, many, many_in, before_more, is_nothing, or_bad, ◌>>=◌}
-use Rattle.dns_session.specs.Lines.{header_line, moment_line, depth_line, algorithms_line, anchor_line, accept_line, query_line, reply_line, end_line, fixed}
+use Rattle.dns_session.specs.Lines.{header_line, moment_line, depth_line, algorithms_line, anchor_line, accept_line, query_line, upstream_line, end_line, fixed}
 use Rattle.dns_session.specs.Grammar.{session_at, session_of, if_ended}
 use Rattle.dns_session.specs.Spelled.{lines_text, Unbroken, Say, session_lines, Spelled}
 
@@ -157,7 +157,7 @@ abbrev pub ends : SessionValue → Place → Result SessionValue ℕ
 ends s at = one end_line at >>= λ last. if_ended last.1 s
 
 abbrev pub asks : (Question → List ReplyValue → SessionValue) → Place → Result SessionValue ℕ
-asks made at = one query_line at >>= λ query. ends (made query.0 (many reply_line query.1).0) (many reply_line query.1).1
+asks made at = one query_line at >>= λ query. ends (made query.0 (many upstream_line query.1).0) (many upstream_line query.1).1
 
 abbrev pub trusts : (List AnchorValue → List AcceptedSignatureValue → Question → List ReplyValue → SessionValue) → Place → Result SessionValue ℕ
 trusts made at =
@@ -204,19 +204,19 @@ record AskRead (made : Question → List ReplyValue → SessionValue) (s : Sessi
   same : made asked told ≡ s
   cut : at.pieces ≡ query ∷ (replies ++ codes "end" ∷ [] ∷ [])
   query_says : query_line query ≡ Some asked
-  replies_say : Say reply_line replies told
+  replies_say : Say upstream_line replies told
 
 ask_read : (made : Question → List ReplyValue → SessionValue) (s : SessionValue) (at : Place) → asks made at ≡ Ok s → AskRead made s at
 ask_read made s at h =
-    let b = bound (one query_line at) (λ query. ends (made query.0 (many reply_line query.1).0) (many reply_line query.1).1) s h in
+    let b = bound (one query_line at) (λ query. ends (made query.0 (many upstream_line query.1).0) (many upstream_line query.1).1) s h in
     let line = one_at query_line at.number at.pieces b.value.0 b.value.1 b.was in
-    let read = many_at reply_line b.value.1.number b.value.1.pieces in
-    let last = end_read (made b.value.0 (many reply_line b.value.1).0) s (many reply_line b.value.1).1 b.gives in
+    let read = many_at upstream_line b.value.1.number b.value.1.pieces in
+    let last = end_read (made b.value.0 (many upstream_line b.value.1).0) s (many upstream_line b.value.1).1 b.gives in
     record {
       query = line.line;
       replies = read.lines;
       asked = b.value.0;
-      told = (many reply_line b.value.1).0;
+      told = (many upstream_line b.value.1).0;
       same = last.same;
       cut = line.cut ∙ ap (λ ps. line.line ∷ ps) (read.cut ∙ ap (λ ps. read.lines ++ ps) last.cut);
       query_says = line.says;

@@ -1,10 +1,11 @@
 -- Words are no longer than the line that they stand in.
-use Rattle.std.proofs.Common.{◌≡◌, ℕ, ◌+◌, ◌≤◌, ◌==◌, List, [], ◌∷◌, length, Option, Some, unwrap_or, ap, arith, inl, inr}
+use Rattle.std.proofs.Common.{◌≡◌, ℕ, ◌+◌, ◌≤◌, ◌==◌, List, [], ◌∷◌, length, Option, None, Some, unwrap_or, refl, ap, arith, inl, inr}
 use Rattle.std.specs.List.{onto_first}
 use Rattle.std.proofs.lemmas.Bool.{cases_Bool}
 use Rattle.dns_model.specs.Keys.{bytes_eq}
+use Rattle.dns_words.specs.Words.{◌>>=◌}
 use Rattle.dns_session.specs.LinePlaces.{pieces}
-use Rattle.dns_session.specs.Lines.{Words, words, after, triple}
+use Rattle.dns_session.specs.Lines.{Words, words, after, triple, three_after}
 
 -- the bytes of all words
 total : Words → ℕ
@@ -46,11 +47,16 @@ triple_third (a ∷ b ∷ []) x h = cc
 triple_third (a ∷ b ∷ c ∷ []) x h = let same : x.2 ≡ c = ap (λ y. y.2) (some_same _ _ h) in rw same (omega arith)
 triple_third (a ∷ b ∷ c ∷ d ∷ all) x h = cc
 
--- the third word after the first is no longer than the line
-pub third_short : (word line : List ℕ) (rest : Words) (a b c : List ℕ) → Some rest ≡ after word (words line)
-    → ◌≡◌ {A = Option (List ℕ × List ℕ × List ℕ)} (Some (a, b, c)) (triple rest) → length c ≤ length line
-third_short word line rest a b c h e =
-    let one = triple_third rest (a, b, c) e in
-    let two = total_after word (words line) rest h in
+third_of : (word line : List ℕ) (said : Option Words) (x : List ℕ × List ℕ × List ℕ)
+    → said ≡ after word (words line) → Some x ≡ (said >>= triple) → length x.2 ≤ length line
+third_of word line None x e h = cc
+third_of word line (Some rest) x e h =
+    let one = triple_third rest x h in
+    let two = total_after word (words line) rest e in
     let three = total_pieces 32 line in
     omega (arith, one, two, three)
+
+-- the third word after the first is no longer than the line
+pub third_short : (word line a b c : List ℕ)
+    → ◌≡◌ {A = Option (List ℕ × List ℕ × List ℕ)} (Some (a, b, c)) (three_after word line) → length c ≤ length line
+third_short word line a b c h = third_of word line (after word (words line)) (a, b, c) refl h

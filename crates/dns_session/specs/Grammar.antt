@@ -2,7 +2,7 @@
 use Rattle.std.specs.Prelude.{ℕ, List, Result, Ok, Err, if◌then◌else◌}
 use Rattle.dns_session.specs.SessionValue.{SessionValue}
 use Rattle.dns_session.specs.LinePlaces.{Place, start_of, one, optional, many, is_ended, ◌>>=◌}
-use Rattle.dns_session.specs.Lines.{header_line, moment_line, depth_line, algorithms_line, anchor_line, accept_line, query_line, reply_line, end_line}
+use Rattle.dns_session.specs.Lines.{header_line, moment_line, depth_line, algorithms_line, anchor_line, accept_line, query_line, upstream_line, end_line}
 
 -- the value, where nothing follows; else the next line is bad
 abbrev pub if_ended : {X : Type 0} → Place → X → Result X ℕ
@@ -18,7 +18,7 @@ session_at start = do
   let anchors = many anchor_line algorithms.1
   let accepts = many accept_line anchors.1
   query ← one query_line accepts.1
-  let replies = many reply_line query.1
+  let replies = many upstream_line query.1
   last ← one end_line replies.1
   if_ended last.1 (record {
     by_turn = head.0;

@@ -1,4 +1,5 @@
 pub mod SessionValue
+pub mod Kinds
 pub mod LinePlaces
 pub mod Lines
 pub mod Grammar

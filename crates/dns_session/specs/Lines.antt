@@ -1,12 +1,16 @@
 -- The forms of a session's lines: words with one space between each two.
-use Rattle.std.specs.Prelude.{ℕ, Bool, true, false, List, [], ◌∷◌, codes, Option, None, Some, if◌then◌else◌, ◌^◌, ◌-◌}
+use Rattle.std.specs.Prelude.{ℕ, Bool, true, false, List, [], ◌∷◌, codes, Option, None, Some, Result, if◌then◌else◌, ◌^◌, ◌-◌}
+use Rattle.std.specs.Option.{option_or}
 use Rattle.dns_model.specs.Keys.{AnchorValue, bytes_eq}
-use Rattle.dns_model.specs.Records.{Question}
+use Rattle.dns_model.specs.Records.{Question, MessageValue}
 use Rattle.dns_model.specs.Types.{class_in}
 use Rattle.dns_message.specs.MessageAt.{message_at}
+use Rattle.dns_message.specs.declared.decode_error.DecodeError.{DecodeError}
 use Rattle.dns_words.specs.Words.{name_word_in, ◌>>=◌, decimal_in, octets_in}
 use Rattle.dns_words.specs.Codes.{type_word_in}
-use Rattle.dns_session.specs.SessionValue.{AcceptedSignatureValue, ReplyValue}
+use Rattle.dns_session.specs.declared.reply.ReplyFault.{ReplyFault}
+use Rattle.dns_session.specs.declared.reply.ReplyFault.TheVariants.{Timeout, Io, Busy}
+use Rattle.dns_session.specs.SessionValue.{AcceptedSignatureValue, Message, Empty, Fault, ReplyValue}
 use Rattle.dns_session.specs.LinePlaces.{pieces}
 
 abbrev pub Words : Type 0
@@ -127,19 +131,49 @@ query_line line = do
   fields ← double rest
   question_in fields.0 fields.1
 
--- a reply, by its words: a message or bytes that are none
-abbrev pub reply_in : List ℕ → List ℕ → List ℕ → Option ReplyValue
-reply_in name rtype message = do
-  question ← question_in name rtype
-  bytes ← octets_in message
-  Some (record { question = question; message = message_at bytes })
+-- the three words after the first, where that is this word
+abbrev pub three_after : List ℕ → List ℕ → Option (List ℕ × List ℕ × List ℕ)
+three_after word line = after word (words line) >>= triple
+
+-- the message that a word's bytes are, or the fault of bytes that are none
+abbrev pub message_word_in : List ℕ → Option (Result MessageValue DecodeError)
+message_word_in word = octets_in word >>= λ bytes. Some (message_at bytes)
+
+-- a question and a message, by their words after this one
+abbrev pub message_after : List ℕ → List ℕ → Option (Question × Result MessageValue DecodeError)
+message_after word line = do
+  fields ← three_after word line
+  question ← question_in fields.0 fields.1
+  message ← message_word_in fields.2
+  Some (question, message)
 
 -- `reply NAME TYPE MESSAGE`
 abbrev pub reply_line : List ℕ → Option ReplyValue
-reply_line line = do
-  rest ← after (codes "reply") (words line)
-  fields ← triple rest
-  reply_in fields.0 fields.1 fields.2
+reply_line line = message_after (codes "reply") line >>= λ told. Some (record { question = told.0; kind = Message told.1 })
+
+-- `empty NAME TYPE MESSAGE`
+abbrev pub empty_line : List ℕ → Option ReplyValue
+empty_line line = message_after (codes "empty") line >>= λ told. Some (record { question = told.0; kind = Empty told.1 })
+
+-- a fault, by its word
+abbrev pub fault_word_in : List ℕ → Option ReplyFault
+fault_word_in word =
+    if bytes_eq word (codes "timeout") then Some Timeout
+    else if bytes_eq word (codes "io") then Some Io
+    else if bytes_eq word (codes "busy") then Some Busy
+    else None
+
+-- `fault NAME TYPE FAULT`, where the fault is `timeout`, `io` or `busy`
+abbrev pub fault_line : List ℕ → Option ReplyValue
+fault_line line = do
+  fields ← three_after (codes "fault") line
+  question ← question_in fields.0 fields.1
+  fault ← fault_word_in fields.2
+  Some (record { question = question; kind = Fault fault })
+
+-- what the upstream says to a question: a `reply`, an `empty` or a `fault` line
+abbrev pub upstream_line : List ℕ → Option ReplyValue
+upstream_line line = option_or (reply_line line) (option_or (empty_line line) (fault_line line))
 
 -- for private functions of this crate only
 

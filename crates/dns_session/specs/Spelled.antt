@@ -3,7 +3,7 @@ use Rattle.std.specs.Prelude.{ℕ, ◌≡◌, ◌==◌, false, List, [], ◌∷�
 use Rattle.std.specs.List.{flat_map, list_any}
 use Rattle.std.specs.Option.{option_to_list}
 use Rattle.dns_session.specs.SessionValue.{SessionValue}
-use Rattle.dns_session.specs.Lines.{header_line, moment_line, depth_line, algorithms_line, anchor_line, accept_line, query_line, reply_line}
+use Rattle.dns_session.specs.Lines.{header_line, moment_line, depth_line, algorithms_line, anchor_line, accept_line, query_line, upstream_line}
 
 -- lines with LF after each
 abbrev pub lines_text : List (List ℕ) → List ℕ
@@ -42,4 +42,4 @@ pub record Spelled (text : List ℕ) (s : SessionValue) : Type 0 where
   pub anchors_say : Say anchor_line anchors s.anchors
   pub accepts_say : Say accept_line accepts s.accepts
   pub query_says : query_line query ≡ Some s.query
-  pub replies_say : Say reply_line replies s.replies
+  pub replies_say : Say upstream_line replies s.replies

@@ -6,10 +6,13 @@ mod forms;
 mod lines;
 mod named_forms;
 mod reading;
+mod reply;
+mod reply_forms;
 mod session;
 mod stop;
 mod words;
 
 pub use reading::read_session;
-pub use session::{AcceptedSignature, Anchor, Reply, Session};
+pub use reply::{Reply, ReplyFault, ReplyKind};
+pub use session::{AcceptedSignature, Anchor, Session};
 pub use stop::SessionStop;

@@ -1,17 +1,20 @@
-ghost use Rattle.std.specs.Prelude.{◌≡◌, ◌<◌, ◌^◌, IfOk, length};
-ghost use Rattle.dns_session.specs.Lines.{question_in, anchor_in, reply_in, anchor_line, query_line, reply_line};
+ghost use Rattle.std.specs.Prelude.{◌≡◌, IfOk};
+ghost use Rattle.dns_session.specs.Lines.{question_in, anchor_in, anchor_line, query_line};
 
 use crate::form::LineForm;
-use crate::session::{Anchor, Reply};
+use crate::session::Anchor;
 use crate::words::{after, double, triple};
-use dns_message::{DecodeKind, Message};
 use dns_name::NoMemory;
 use dns_record::{DNSClass, Query};
 use dns_words::{name_in, octets_in, type_word_in, u8_in};
 use std::alloc::Global;
 
 /// A question of class IN by its words.
-fn question_of(alloc: Global, name: &[u8], record_type: &[u8]) -> Result<Option<Query>, NoMemory>
+pub(crate) fn question_of(
+    alloc: Global,
+    name: &[u8],
+    record_type: &[u8],
+) -> Result<Option<Query>, NoMemory>
     ensures { IfOk result (λ q. q ≡ question_in name.now record_type.now) }
 {
     let Some(name) = name_in(alloc, name)? else {
@@ -52,41 +55,6 @@ fn anchor_of(
     }))
 }
 
-/// A reply by its words.
-fn reply_of(
-    alloc: Global,
-    name: &[u8],
-    record_type: &[u8],
-    message: &[u8],
-) -> Result<Option<Reply>, NoMemory>
-    requires { length message.now < 2 ^ 32 }
-    ensures { IfOk result (λ r. r ≡ reply_in name.now record_type.now message.now) }
-{
-    let Some(query) = question_of(alloc, name, record_type)? else {
-        return Ok(None);
-    };
-    let Some(bytes) = octets_in(alloc, message)? else {
-        return Ok(None);
-    };
-    let message = Message::from_vec(alloc, bytes.as_slice());
-    match message {
-        Ok(message) => Ok(Some(Reply {
-            query,
-            message: Ok(message),
-        })),
-        Err(error) => {
-            if error.kind == DecodeKind::NoMemory {
-                Err(NoMemory)
-            } else {
-                Ok(Some(Reply {
-                    query,
-                    message: Err(error),
-                }))
-            }
-        }
-    }
-}
-
 impl LineForm for Anchor {
     ghost form = { anchor_line };
 
@@ -111,19 +79,5 @@ pub(crate) fn query_of(alloc: Global, line: &[u8]) -> Result<Option<Query>, NoMe
             None => Ok(None),
         },
         None => Ok(None),
-    }
-}
-
-impl LineForm for Reply {
-    ghost form = { reply_line };
-
-    fn read(alloc: Global, line: &[u8]) -> Result<Option<Reply>, NoMemory> {
-        match after(line, b"reply") {
-            Some(rest) => match triple(rest) {
-                Some((name, record_type, message)) => reply_of(alloc, name, record_type, message),
-                None => Ok(None),
-            },
-            None => Ok(None),
-        }
     }
 }

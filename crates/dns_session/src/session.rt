@@ -1,4 +1,4 @@
-use dns_message::{DecodeError, Message};
+use crate::reply::Reply;
 use dns_name::{Name, Octets};
 use dns_record::Query;
 use std::marker::Model;
@@ -38,22 +38,6 @@ impl Model for AcceptedSignature {
     ghost Value = { AcceptedSignatureValue };
 
     ghost view = { λ a. record { algorithm = a.algorithm; key = a.key; bytes = a.bytes; signature = a.signature } };
-}
-
-/// What an upstream says to a question.
-#[derive(Drop)]
-pub struct Reply {
-    pub query: Query,
-    /// The message, or why the bytes are none. It is never want of memory.
-    pub message: Result<Message, DecodeError>,
-}
-
-impl Model for Reply {
-    ghost use Rattle.dns_session.specs.SessionValue.{ReplyValue};
-
-    ghost Value = { ReplyValue };
-
-    ghost view = { λ r. record { question = r.query; message = r.message } };
 }
 
 /// What a session says.

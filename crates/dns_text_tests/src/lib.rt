@@ -6,6 +6,8 @@
 #[cfg(test)]
 mod io_tests;
 #[cfg(test)]
+mod reply_tests;
+#[cfg(test)]
 mod report_tests;
 #[cfg(test)]
 mod session_tests;

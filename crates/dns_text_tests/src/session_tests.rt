@@ -1,4 +1,3 @@
-use dns_message::DecodeKind;
 use dns_session::*;
 use std::alloc::Global;
 use std::test::Fail;
@@ -123,6 +122,8 @@ fn bad_lines(place: u64) -> &'static str {
             accept 13 - -\n\
             accept 13 - - - -\n\
             reply . A -\n\
+            empty . A -\n\
+            fault . A io\n\
             end",
         5 => "query . TYPE1\n\
             query . TYPE03\n\
@@ -227,9 +228,9 @@ fn is_the_accepted(accept: &AcceptedSignature) -> bool {
 
 // The question's type, and how many answers the message has.
 fn numbers_of(reply: &Reply) -> (u16, usize) {
-    match &reply.message {
-        Ok(message) => (reply.query.query_type.0, message.answers.len()),
-        Err(_) => (0, 0),
+    match &reply.kind {
+        ReplyKind::Message(Ok(message)) => (reply.query.query_type.0, message.answers.len()),
+        _ => (0, 0),
     }
 }
 
@@ -273,31 +274,7 @@ fn the_signed_root_is_read(rt: HostRuntime) -> Result<(), Fail> {
     Ok(())
 }
 
-// The kind and the place of a reply's fault.
-fn fault_of(reply: &Reply) -> Option<(DecodeKind, u32)> {
-    match &reply.message {
-        Ok(_) => None,
-        Err(error) => Some((error.kind, error.offset)),
-    }
-}
-
-#[test]
-fn bytes_that_are_no_message_are_kept_as_their_fault(rt: HostRuntime) -> Result<(), Fail> {
-    let alloc = rt.alloc();
-    let text =
-        "dns-session 1\nmoment 1\nalgorithms\nquery . A\nreply . A 000084000001000000000000c00c00010001\nend\n";
-    let Ok(session) = read_session(alloc, text.as_bytes()) else {
-        return Err(Fail::new("no session"));
-    };
-    let Session { replies, .. } = session;
-    match replies.as_slice() {
-        [reply] => assert!(rt; fault_of(reply) == Some((DecodeKind::BadName, 12))),
-        _ => return Err(Fail::new("not one reply")),
-    }
-    Ok(())
-}
-
-/// A session with a line of every kind, and names with bytes that are escaped.
+/// A session with lines of most kinds, and names with bytes that are escaped.
 fn escaped_session() -> &'static str {
     "dns-session 1\n\
      moment 18446744073709551615\n\
@@ -343,7 +320,9 @@ fn has_accept(accepts: &[AcceptedSignature], bytes: u8, signature: u8) -> bool {
 fn has_replies(replies: &[Reply], name: &[u8]) -> bool {
     match replies {
         [first, second] => {
-            first.query.name.wire() == name && first.message.is_ok() && second.message.is_err()
+            first.query.name.wire() == name
+                && matches!(&first.kind, ReplyKind::Message(Ok(_)))
+                && matches!(&second.kind, ReplyKind::Message(Err(_)))
         }
         _ => false,
     }
