@@ -46,6 +46,10 @@ name_eq-wires a b =
     let wires = bytes_decides (wire (folded a)) (wire (folded b)) in
     one_answer {P = folded a ≡ folded b} (name_eq a b) _ (name_eq-Decides a b) (λ h. wire_one (folded a) (folded b) (wires.0 h), λ h. wires.1 (ap wire h))
 
+-- names are equal exactly where the order of their wire forms doesn't tell them apart
+pub name_ties : (a b : Labels) → name_eq a b ≡ is_eq (slice_cmp nat_cmp (wire (folded a)) (wire (folded b)))
+name_ties a b = name_eq-wires a b ∙ bytes_ties (wire (folded a)) (wire (folded b))
+
 nat_ties : (x y : ℕ) → (x == y) ≡ is_eq (nat_cmp x y)
 nat_ties x y = grind (arith, nat_tests)
 
@@ -62,6 +66,6 @@ key_ties a b =
     ap (λ (e : Bool). e && (a.class == b.class)) (nat_ties a.rtype b.rtype)
     ∙ ap (λ (e : Bool). is_eq types && e) (nat_ties a.class b.class)
     ∙ tied_then types classes in
-    ap (λ (e : Bool). e && ((a.rtype == b.rtype) && (a.class == b.class))) (name_eq-wires a.owner b.owner ∙ bytes_ties (wire (folded a.owner)) (wire (folded b.owner)))
+    ap (λ (e : Bool). e && ((a.rtype == b.rtype) && (a.class == b.class))) (name_ties a.owner b.owner)
     ∙ ap (λ (e : Bool). is_eq names && e) numbers
     ∙ tied_then names (ordering_then types classes)

@@ -4,3 +4,5 @@ pub mod PlaceLemmas
 pub mod ReplyLemmas
 pub mod ServedLemmas
 pub mod CaseLemmas
+pub mod GlueLemmas
+pub mod AnswerLemmas

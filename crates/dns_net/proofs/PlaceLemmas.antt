@@ -18,7 +18,8 @@ equal-is_eq Less h = cc
 equal-is_eq Equal h = refl
 equal-is_eq Greater h = cc
 
-lookup-same : {K X : Type 0} (p r : K → Bool) → ((x : K) → p x ≡ r x) → (es : List (K × X)) → lookup p es ≡ lookup r es
+-- tests that agree look up alike
+pub lookup-same : {K X : Type 0} (p r : K → Bool) → ((x : K) → p x ≡ r x) → (es : List (K × X)) → lookup p es ≡ lookup r es
 lookup-same p r alike [] = refl
 lookup-same p r alike (e ∷ es) = rw (alike e.0, lookup-same p r alike es) refl
 

@@ -7,10 +7,12 @@ use Rattle.dns_model.specs.SoundAnswers.{ResponseValue}
 use Rattle.dns_net.specs.declared.io_kind.IoKind.{IoKind}
 use Rattle.dns_net.specs.declared.error.ProtoError.{ProtoError}
 use Rattle.dns_net.specs.declared.notice.Notice.{Notice}
+use Rattle.dns_net.specs.NoRecords.{NoRecordsValue}
 
 -- what DNS itself answers in place of the records
 pub data DnsErrorValue : Type 0 where
   ResponseCode : (code : ℕ) → DnsErrorValue
+  NoRecordsFound : (missing : NoRecordsValue) → DnsErrorValue
   Nsec : (query : Question) (response : ResponseValue) (proof : Proof) → DnsErrorValue
   DnssecBogus : DnsErrorValue
 

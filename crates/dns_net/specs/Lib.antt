@@ -3,7 +3,12 @@ pub mod Trail
 pub mod Verifiers
 pub mod LetterCase
 pub mod Requests
+pub mod NoRecords
 pub mod Errors
+pub mod ErrorKinds
+pub mod Responses
+pub mod Glue
+pub mod AnswerIndex
 pub mod Replies
 pub mod Conversions
 pub mod Causes

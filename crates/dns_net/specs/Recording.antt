@@ -1,10 +1,11 @@
 -- The handle that answers from recorded replies.
-use Rattle.std.specs.Prelude.{ℕ, ◌≡◌, ◌⊎◌, Bool, List, Option, None, Some, Ok, Err}
+use Rattle.std.specs.Prelude.{ℕ, ◌≡◌, ◌⊎◌, Bool, List, Option, None, Some, Ok, Err, if◌then◌else◌}
 use Rattle.std.specs.Option.{option_map_or}
 use Rattle.dns_model.specs.Counts.{one_more}
 use Rattle.dns_model.specs.Records.{Question}
 use Rattle.dns_net.specs.Errors as seen
 use Rattle.dns_net.specs.Errors.{Reply}
+use Rattle.dns_net.specs.ErrorKinds.{is_fault}
 use Rattle.dns_net.specs.Handles.{Replies, reply_to, left_after}
 
 -- the counts, the replies that are left in the order in which they were put in, and whether they are served by turn
@@ -18,9 +19,10 @@ pub record RecordedValue : Type 0 where
 abbrev pub replies_of : RecordedValue → Replies
 replies_of recorded = record { list = recorded.replies; by_turn = recorded.by_turn }
 
+-- one more fault, if the reply is one
 abbrev pub faults_after : ℕ → Reply → ℕ
 faults_after count (Ok response) = count
-faults_after count (Err error) = one_more count
+faults_after count (Err error) = if is_fault error then one_more count else count
 
 -- the reply to what is asked; without a question it is Timeout
 abbrev pub reply_for : List (Question × Reply) → Option Question → Reply
@@ -32,7 +34,7 @@ abbrev pub IsServed : Replies → Option Question → Replies → Reply → Type
 IsServed old q new reply =
     ((reply ≡ reply_for old.list q) × (new ≡ option_map_or (left_after old) q old)) ⊎ ((reply ≡ Err seen.NoMemory) × (new ≡ old))
 
--- a send: a reply is served; the send is counted, and so is an error
+-- a send: a reply is served; the send is counted, and so is a fault
 pub record AnswersFrom (old : RecordedValue) (q : Option Question) (new : RecordedValue) (reply : Reply) : Type 0 where
   pub served : IsServed (replies_of old) q (replies_of new) reply
   pub counted : new.sends ≡ one_more old.sends

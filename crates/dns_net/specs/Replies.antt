@@ -4,13 +4,14 @@ use Rattle.dns_model.specs.SoundAnswers.{ResponseValue}
 use Rattle.dns_net.specs.Errors as seen
 use Rattle.dns_net.specs.Errors.{DnsErrorValue, ErrorValue, Reply}
 use Rattle.dns_net.specs.declared.error.DnsError.{DnsError}
-use Rattle.dns_net.specs.declared.error.DnsError.TheVariants.{ResponseCode, Nsec, DnssecBogus}
+use Rattle.dns_net.specs.declared.error.DnsError.TheVariants.{ResponseCode, NoRecordsFound, Nsec, DnssecBogus}
 use Rattle.dns_net.specs.declared.error.NetError.{NetError}
 use Rattle.dns_net.specs.declared.error.NetError.TheVariants.{Busy, Dns, Message, Msg, NoConnections, Proto, Io, Timeout, QueryCaseMismatch, ForeignClassRecord, Truncated, NoMemory}
 
 -- a code as its number, a box as its content
 abbrev pub dns_error_of : DnsError → DnsErrorValue
 dns_error_of (ResponseCode code) = seen.ResponseCode code.0
+dns_error_of (NoRecordsFound missing) = seen.NoRecordsFound missing
 dns_error_of (Nsec query response proof) = seen.Nsec query response.value proof
 dns_error_of DnssecBogus = seen.DnssecBogus
 
@@ -31,3 +32,8 @@ error_of NoMemory = seen.NoMemory
 abbrev pub reply_of : Result ResponseValue NetError → Reply
 reply_of (Ok response) = Ok response
 reply_of (Err error) = Err (error_of error)
+
+-- a response, or what DNS itself answers in its place
+abbrev pub response_of : Result ResponseValue DnsError → Result ResponseValue DnsErrorValue
+response_of (Ok response) = Ok response
+response_of (Err error) = Err (dns_error_of error)

@@ -2,11 +2,13 @@ ghost use Rattle.std.specs.Prelude.{◌≡◌, IfOk};
 ghost use Rattle.dns_net.specs.Replies.{dns_error_of, error_of};
 ghost use Rattle.dns_net.specs.Conversions.{decode_failed, outside_failed, proto_failed};
 ghost use Rattle.dns_net.specs.declared.error.NetError.TheVariants.{NoMemory, Dns, Message, Msg};
+ghost use Rattle.dns_net.specs.declared.error.DnsError.TheVariants.{NoRecordsFound};
+ghost use Rattle.dns_net.specs.ErrorKinds.{is_nx_domain, is_no_records_found, is_connection_closed, soa_of};
 
-use crate::{DnsResponse, IoKind, Notice};
+use crate::{DnsResponse, IoKind, NoRecords, Notice};
 use dns_message::{DecodeError, DecodeKind};
 use dns_name::{Name, NoMemory, Text};
-use dns_record::{DNSClass, Proof, Query, RecordType, ResponseCode};
+use dns_record::{DNSClass, Proof, Query, Record, RecordType, ResponseCode};
 use std::alloc::{AllocError, AllocFailed};
 use std::fmt;
 use thiserror::Error;
@@ -17,6 +19,9 @@ pub enum DnsError {
     /// The response has a code that stands for a failure.
     #[error("error response: {}", .0.0)]
     ResponseCode(ResponseCode),
+    /// There are no records to the question (RFC 2308, 2).
+    #[error("no records found for {}", .0.query)]
+    NoRecordsFound(NoRecords),
     /// The records are denied, or should be and aren't (RFC 4035, 5.4): the judged response, and how far the denial is proved.
     #[error("DNSSEC Negative Record Response for {query}, {proof:?}")]
     Nsec {
@@ -131,6 +136,14 @@ impl From<DnsError> for NetError {
     }
 }
 
+impl From<NoRecords> for NetError {
+    ghost from_gives = { λ missing e. e ≡ Dns (NoRecordsFound missing) };
+
+    fn from(missing: NoRecords) -> Self {
+        NetError::Dns(DnsError::NoRecordsFound(missing))
+    }
+}
+
 impl From<Notice> for NetError {
     ghost from_gives = { λ notice e. e ≡ Message notice };
 
@@ -190,6 +203,10 @@ impl DnsError {
     {
         match self {
             DnsError::ResponseCode(code) => Ok(DnsError::ResponseCode(*code)),
+            DnsError::NoRecordsFound(missing) => {
+                let missing = missing.try_clone()?;
+                Ok(DnsError::NoRecordsFound(missing))
+            }
             DnsError::Nsec {
                 query,
                 response,
@@ -210,6 +227,52 @@ impl DnsError {
 }
 
 impl NetError {
+    /// Whether the name doesn't exist: there are no records, by code NXDOMAIN (RFC 2308, 2.1).
+    pub fn is_nx_domain(&self) -> bool
+        ensures { result ≡ is_nx_domain (error_of self.now) }
+    {
+        match self {
+            NetError::Dns(DnsError::NoRecordsFound(missing)) => {
+                missing.response_code == ResponseCode::NX_DOMAIN
+            }
+            _ => false,
+        }
+    }
+
+    /// Whether there are no records to the question.
+    pub fn is_no_records_found(&self) -> bool
+        ensures { result ≡ is_no_records_found (error_of self.now) }
+    {
+        matches!(self, NetError::Dns(DnsError::NoRecordsFound(_)))
+    }
+
+    /// Whether a connection was there and is gone. A refused one and one that waits too long aren't.
+    pub fn is_connection_closed(&self) -> bool
+        ensures { result ≡ is_connection_closed (error_of self.now) }
+    {
+        match self {
+            NetError::Io(kind) => matches!(
+                kind,
+                IoKind::ConnectionReset
+                    | IoKind::ConnectionAborted
+                    | IoKind::NotConnected
+                    | IoKind::BrokenPipe
+                    | IoKind::UnexpectedEof
+            ),
+            _ => false,
+        }
+    }
+
+    /// The SOA that came with no records.
+    pub fn into_soa(self) -> Option<Record>
+        ensures { result ≡ soa_of (error_of self) }
+    {
+        match self {
+            NetError::Dns(DnsError::NoRecordsFound(missing)) => missing.soa,
+            _ => None,
+        }
+    }
+
     /// An equal error in memory of its own.
     pub fn try_clone(&self) -> Result<NetError, NoMemory>
         ensures { IfOk result (λ e. error_of e ≡ error_of self.now) }

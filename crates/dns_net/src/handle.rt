@@ -16,7 +16,7 @@ pub trait DnsHandle {
     /// How often `send` was called; it stops at the greatest `u64`.
     ghost sends: { Self → ℕ };
 
-    /// How many errors were met; it never falls.
+    /// How many faults were met; it never falls.
     ghost faults: { Self → ℕ };
 
     /// The handle before a `send`, the request's first question, the handle after, the reply.
@@ -35,8 +35,8 @@ pub trait DnsHandle {
     /// The handle's requests are to have an OPT record.
     ghost uses_edns: { Self → Bool } = { λ _. true };
 
-    /// Sends the request at a moment, in seconds, and waits. An error other than want of memory comes only where
-    /// `faults` rises.
+    /// Sends the request at a moment, in seconds, and waits. An error other than want of memory and
+    /// that there are no records comes only where `faults` rises.
     fn send(
         &mut self,
         alloc: Global,

@@ -3,12 +3,16 @@
 //! and each type as the plain value of `dns_model` that has its name.
 #![tactic(auto)]
 
+mod answered;
 mod error;
+mod glue;
 mod handle;
 mod io_kind;
 mod letter_case;
 mod link;
 mod link_shows;
+mod negative;
+mod no_records;
 mod notice;
 mod query_key;
 mod recorded;
@@ -27,6 +31,7 @@ pub use handle::DnsHandle;
 pub use io_kind::IoKind;
 pub use link::{Chain, Link, clone_links, clone_rdatas};
 pub use link_shows::{all_shown, has_rdata, shows_ds, shows_key, shows_member};
+pub use no_records::{ForwardNSData, NoRecords};
 pub use notice::Notice;
 pub use recorded::Recorded;
 pub use request::{DnsRequest, DnsRequestOptions};

@@ -8,6 +8,8 @@ use std::fmt;
 pub enum Notice {
     /// What the reply holds is not judged by this version.
     NotJudgedYet,
+    /// A request has no question where one is needed.
+    NoQueryInRequest,
     /// The moment isn't in a signature's validity.
     ExpiredRrsig,
     /// A key isn't the one that a signature names, or is no zone key.
@@ -23,6 +25,7 @@ impl Notice {
     {
         match self {
             Notice::NotJudgedYet => "not judged yet",
+            Notice::NoQueryInRequest => "no query in request",
             Notice::ExpiredRrsig => "ExpiredRrsig",
             Notice::WrongDnskey => "WrongDnskey",
             Notice::WrongRrsig => "WrongRrsig",

@@ -1,8 +1,9 @@
 ghost use Rattle.std.specs.Prelude.{◌≡◌, IfOk};
 ghost use Rattle.dns_net.specs.RecordedPlaces.{key_of};
+ghost use Rattle.dns_net.specs.AnswerIndex.{asked};
 
-use dns_name::{NoMemory, Octets};
-use dns_record::Query;
+use dns_name::{NameRef, NoMemory, Octets};
+use dns_record::{DNSClass, Query, RecordType};
 use std::alloc::Global;
 
 /// A query as a key of an ordered map. The name's bytes are folded once, so that two keys are compared in one pass; and no
@@ -26,6 +27,23 @@ impl QueryKey {
             name: Octets::from_vec(name),
             record_type: query.query_type.0,
             class: query.query_class.0,
+        })
+    }
+
+    /// The key of a name and a type in any class.
+    pub(crate) fn at(
+        alloc: Global,
+        owner: &NameRef,
+        record_type: RecordType,
+    ) -> Result<QueryKey, NoMemory>
+        ensures { IfOk result (λ k. k ≡ key_of (asked owner.now record_type.0)) }
+    {
+        let mut name = Vec::with_capacity(alloc, owner.wire().len())?;
+        owner.push_folded(&mut name)?;
+        Ok(QueryKey {
+            name: Octets::from_vec(name),
+            record_type: record_type.0,
+            class: DNSClass::ANY.0,
         })
     }
 }

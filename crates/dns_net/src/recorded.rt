@@ -5,7 +5,7 @@ ghost use Rattle.dns_net.specs.Recording.{replies_of, faults_after, IsServed, An
 ghost use Rattle.dns_net.specs.RecordedPlaces.{replies_by};
 
 use crate::reply_list::ReplyList;
-use crate::{DnsHandle, DnsRequest, DnsResponse, NetError};
+use crate::{DnsError, DnsHandle, DnsRequest, DnsResponse, NetError};
 use dns_name::NoMemory;
 use dns_record::Query;
 use std::alloc::Global;
@@ -83,12 +83,13 @@ fn next_reply(
     }
 }
 
-/// The count of errors after a reply.
+/// The count of faults after a reply. That there are no records is no fault, nor is want of memory.
 fn faults_after(count: u64, reply: &Result<DnsResponse, NetError>) -> u64
     ensures { result ≡ faults_after count (reply_of reply.now) }
 {
     match reply {
         Ok(_) => count,
+        Err(NetError::Dns(DnsError::NoRecordsFound(_)) | NetError::NoMemory) => count,
         Err(_) => count.saturating_add(1),
     }
 }
