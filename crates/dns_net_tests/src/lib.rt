@@ -6,6 +6,10 @@
 #[cfg(test)]
 mod net_error_tests;
 #[cfg(test)]
+mod net_missing_tests;
+#[cfg(test)]
+mod net_negative_tests;
+#[cfg(test)]
 mod net_request_tests;
 #[cfg(test)]
 mod net_shown_tests;

@@ -1,7 +1,7 @@
 use crate::net_tests::{query, response, shows};
 use dns_message::{DecodeError, DecodeKind};
 use dns_name::{Name, NoMemory, Text};
-use dns_net::{DnsError, IoKind, NetError, Notice, ProtoError};
+use dns_net::{DnsError, IoKind, NetError, NoRecords, Notice, ProtoError};
 use dns_record::{DNSClass, Proof, RecordType, ResponseCode};
 use std::alloc::Global;
 use std::test::Fail;
@@ -11,12 +11,14 @@ use std::test::Fail;
 enum Sample {
     Busy,
     Code,
+    Missing,
     Denied,
     Bogus,
     Notice,
     Expired,
     WrongKey,
     WrongSignature,
+    NoQuery,
     OwnText,
     NoConnections,
     Decode,
@@ -36,7 +38,7 @@ struct Shown {
     text: &'static str,
 }
 
-const SHOWN: [Shown; 20] = [
+const SHOWN: [Shown; 22] = [
     Shown {
         sample: Sample::Busy,
         text: "resource too busy",
@@ -44,6 +46,10 @@ const SHOWN: [Shown; 20] = [
     Shown {
         sample: Sample::Code,
         text: "DNS error: error response: 5",
+    },
+    Shown {
+        sample: Sample::Missing,
+        text: "DNS error: no records found for o\\.g.\\128-. IN DNSKEY",
     },
     Shown {
         sample: Sample::Denied,
@@ -68,6 +74,10 @@ const SHOWN: [Shown; 20] = [
     Shown {
         sample: Sample::WrongSignature,
         text: "WrongRrsig",
+    },
+    Shown {
+        sample: Sample::NoQuery,
+        text: "no query in request",
     },
     Shown {
         sample: Sample::OwnText,
@@ -129,6 +139,11 @@ fn denied(alloc: Global) -> Result<NetError, Fail> {
     }))
 }
 
+fn missing(alloc: Global) -> Result<NetError, Fail> {
+    let query = query(alloc, "o\\.g.\\128-.", 48)?;
+    Ok(NetError::from(NoRecords::new(alloc, query, ResponseCode(3))))
+}
+
 fn foreign(alloc: Global) -> Result<NetError, Fail> {
     Ok(NetError::ForeignClassRecord {
         record_name: Name::root(alloc)?,
@@ -149,12 +164,14 @@ fn make(alloc: Global, sample: Sample) -> Result<NetError, Fail> {
     match sample {
         Sample::Busy => Ok(NetError::Busy),
         Sample::Code => Ok(NetError::from(DnsError::ResponseCode(ResponseCode(5)))),
+        Sample::Missing => missing(alloc),
         Sample::Denied => denied(alloc),
         Sample::Bogus => Ok(NetError::from(DnsError::DnssecBogus)),
         Sample::Notice => Ok(NetError::from(Notice::NotJudgedYet)),
         Sample::Expired => Ok(NetError::from(Notice::ExpiredRrsig)),
         Sample::WrongKey => Ok(NetError::from(Notice::WrongDnskey)),
         Sample::WrongSignature => Ok(NetError::from(Notice::WrongRrsig)),
+        Sample::NoQuery => Ok(NetError::from(Notice::NoQueryInRequest)),
         Sample::OwnText => own_text(alloc),
         Sample::NoConnections => Ok(NetError::NoConnections),
         Sample::Decode => Ok(undecoded(DecodeKind::Short)),
