@@ -1,16 +1,17 @@
 -- What the clauses of a lookup speak of: the call, its asks, and its validator's parts (RFC 4035, 4.1 and 5).
-use Rattle.std.specs.Prelude.{ℕ, ◌≡◌, ◌⊎◌, ◌≤◌, List, Some, Ok, Err}
+use Rattle.std.specs.Prelude.{ℕ, ◌≡◌, ◌⊎◌, ◌≤◌, true, List, Some, Ok, Err}
 use Rattle.dns_model.specs.Counts.{Rose}
 use Rattle.dns_model.specs.Records.{Question}
 use Rattle.dns_model.specs.Keys.{AnchorValue}
 use Rattle.dns_model.specs.Chains.{Judge, judge}
 use Rattle.dns_net.specs.Errors as seen
 use Rattle.dns_net.specs.Errors.{Reply}
+use Rattle.dns_net.specs.ErrorKinds.{is_no_records_found}
 use Rattle.dns_net.specs.Handles.{ReplyIsTold, IsLeft}
 use Rattle.dns_net.specs.declared.request.DnsRequestOptions.{DnsRequestOptions}
 use Rattle.dns_net.specs.declared.handle.DnsHandle as handle
 use Rattle.dns_net.specs.declared.verifier.Verifier as verifier
-use Rattle.dns_chain.specs.Inquiries.{asking_request}
+use Rattle.dns_chain.specs.Inquiries.{Ask, request_for}
 use Rattle.dns_chain.specs.declared.handle.DnssecDnsHandle.{DnssecDnsHandle}
 
 -- the handle that a validator asks
@@ -45,22 +46,22 @@ call_of tests old new q options now = record {
   new = inner_of new;
 }
 
--- an error other than want of memory comes only where the count of faults rose
+-- an error other than want of memory and that there are no records comes only where the count of faults rose
 abbrev pub IsCaused : ℕ → ℕ → Reply → Type 0
 IsCaused before after (Ok response) = Unit {0}
-IsCaused before after (Err error) = (error ≡ seen.NoMemory) ⊎ Rose before after
+IsCaused before after (Err error) = (error ≡ seen.NoMemory) ⊎ ((is_no_records_found error ≡ true) ⊎ Rose before after)
 
--- one ask of a lookup: the request of its question as a judged ask, at the moment of the call; its reply is the one that the
--- handle tells at that send, where it tells its replies
+-- one ask of a lookup: its request, at the moment of the call; its reply is the one that the handle tells at that send, where
+-- it tells its replies
 pub record Asking {H : Type 0} (meanings : handle.Ghosts H) (options : DnsRequestOptions) (now : ℕ)
-    (from : H) (q : Question) (to : H) (reply : Reply) : Type 0 where
-  pub made : meanings.sent from (Some q) to reply
-  pub request : meanings.requested from (asking_request q options) now to reply
-  pub told : ReplyIsTold (meanings.told from) (Some q) reply
-  pub left : IsLeft (meanings.told from) (Some q) reply (meanings.told to)
+    (from : H) (ask : Ask) (to : H) (reply : Reply) : Type 0 where
+  pub made : meanings.sent from (Some ask.query) to reply
+  pub request : meanings.requested from (request_for options ask) now to reply
+  pub told : ReplyIsTold (meanings.told from) (Some ask.query) reply
+  pub left : IsLeft (meanings.told from) (Some ask.query) reply (meanings.told to)
   pub later : meanings.faults from ≤ meanings.faults to
   pub cause : IsCaused (meanings.faults from) (meanings.faults to) reply
 
 -- an ask of a call
-abbrev pub ask_of : {H : Type 0} → handle.Ghosts H → Call H → H → Question → H → Reply → Type 0
+abbrev pub ask_of : {H : Type 0} → handle.Ghosts H → Call H → H → Ask → H → Reply → Type 0
 ask_of meanings call = Asking meanings call.options call.now

@@ -15,6 +15,7 @@ use Rattle.dns_net.specs.declared.handle.DnsHandle as handle
 use Rattle.dns_net.specs.declared.notice.Notice.TheVariants.{NotJudgedYet}
 use Rattle.dns_chain.specs.Heard.{heard_message, heard}
 use Rattle.dns_chain.specs.Calls.{Call, ask_of}
+use Rattle.dns_chain.specs.Inquiries.{judged_ask}
 use Rattle.dns_chain.specs.Looked.{IsTrail}
 
 -- ---- an error that the upstream answered
@@ -29,11 +30,11 @@ is_upstreams error = true
 
 -- the call made one send and no other, it was answered this error, which has no message, and a fault was met
 pub record PassedOn {H : Type 0} (meanings : handle.Ghosts H) (call : Call H) (error : ErrorValue) : Type 0 where
-  pub made : ask_of meanings call call.old call.query call.new (Err error)
+  pub made : ask_of meanings call call.old (judged_ask call.query) call.new (Err error)
   pub silent : heard_message (Err error) ≡ None
   pub rose : Rose (meanings.faults call.old) (meanings.faults call.new)
 
--- an error that only an upstream makes is passed on
+-- an error that only an upstream makes is passed on; so that there are no records is never answered, since it has a message
 abbrev pub PassesOnly : {H : Type 0} → handle.Ghosts H → Call H → Reply → Type 0
 PassesOnly meanings call answer =
     (error : ErrorValue) → is_upstreams error ≡ true → answer ≡ Err error → PassedOn meanings call error
@@ -51,7 +52,7 @@ pub record NamesForeign {H : Type 0} (meanings : handle.Ghosts H) (call : Call H
   pub reply : Reply
   pub records : Told
   pub first : Rr
-  pub made : ask_of meanings call call.old call.query call.new reply
+  pub made : ask_of meanings call call.old (judged_ask call.query) call.new reply
   pub heard : heard reply ≡ Some records
   pub found : foreign_record call.query records ≡ Some first
   pub named : error ≡ ForeignClassRecord first.owner first.class first.rtype
@@ -80,7 +81,8 @@ pub record IsUnjudged {H : Type 0} (meanings : handle.Ghosts H) (call : Call H) 
   pub trail : List AskedValue
   pub is : IsTrail meanings call trail Failed
   pub told : Told
-  pub heard : is.top.reply ≡ Records told false
+  pub empty : Bool
+  pub heard : is.top.reply ≡ Records told empty
   pub wants : WantsDenial call.query told (judged_sets is.top)
 
 -- `not judged yet` is answered where the upstream did so, or with such a trail

@@ -1,8 +1,16 @@
--- The requests of a lookup (RFC 4035, 4.1, 4.6 and 4.9.2; RFC 6840, 5.7).
-use Rattle.std.specs.Prelude.{true, None, if◌then◌else◌}
+-- The asks of a lookup and their requests (RFC 4035, 4.1, 4.6 and 4.9.2; RFC 6840, 5.7).
+use Rattle.std.specs.Prelude.{Bool, true, None, if◌then◌else◌}
 use Rattle.dns_model.specs.Records.{Question}
-use Rattle.dns_net.specs.Requests.{RequestValue, query_message}
+use Rattle.dns_net.specs.Requests.{RequestValue, query_message, request_of}
 use Rattle.dns_net.specs.declared.request.DnsRequestOptions.{DnsRequestOptions}
+
+-- an ask: its question, and whether its reply is judged or only seen
+pub record Ask : Type 0 where
+  pub query : Question
+  pub judged : Bool
+
+abbrev pub judged_ask : Question → Ask
+judged_ask q = record { query = q; judged = true }
 
 -- the options of a judged ask: those of the call, with EDNS and DO
 abbrev pub asking_options : DnsRequestOptions → DnsRequestOptions
@@ -19,3 +27,7 @@ asking_request query options = record {
   options = asking_options options;
   original = None;
 }
+
+-- the request of an ask; that of a plain one is the query's by the options of the call
+abbrev pub request_for : DnsRequestOptions → Ask → RequestValue
+request_for options ask = if ask.judged then asking_request ask.query options else request_of ask.query options

@@ -1,5 +1,5 @@
 -- What a lookup answers: a sound answer with the trail that led to it (RFC 4035, 4.3 and 5).
-use Rattle.std.specs.Prelude.{ℕ, ◌≡◌, ◌⊎◌, ◌≤◌, true, false, List, length, Some, Result, Ok, Err, IfSome, drop}
+use Rattle.std.specs.Prelude.{ℕ, ◌≡◌, ◌⊎◌, ◌≤◌, Bool, true, List, length, Some, Result, Ok, Err, IfSome, drop}
 use Rattle.std.specs.List.{All, count_by}
 use Rattle.dns_model.specs.declared.denial.Denial.TheVariants as denial
 use Rattle.dns_model.specs.Counts.{RoseBy}
@@ -16,6 +16,7 @@ use Rattle.dns_net.specs.declared.error.NetError.TheVariants.{NoMemory}
 use Rattle.dns_net.specs.declared.handle.DnsHandle as handle
 use Rattle.dns_chain.specs.Heard.{heard_message}
 use Rattle.dns_chain.specs.Calls.{Call, ask_of}
+use Rattle.dns_chain.specs.Inquiries.{judged_ask}
 use Rattle.dns_chain.specs.Sends.{SendsAlong, IsFromReplies, is_fault}
 
 -- a fact, unless memory ran out
@@ -35,7 +36,7 @@ pub record IsSoundAnswer {H : Type 0} (meanings : handle.Ghosts H) (call : Call 
   pub middle : H
   pub reply : Reply
   pub message : MessageValue
-  pub made : ask_of meanings call call.old call.query middle reply
+  pub made : ask_of meanings call call.old (judged_ask call.query) middle reply
   pub heard : heard_message reply ≡ Some message
   pub header : a.message ≡ record message { answers = a.message.answers; authorities = a.message.authorities; additionals = a.message.additionals }
   pub sound : Sound call.judge call.now (told_by message) a
@@ -61,8 +62,9 @@ pub record IsTrail {H : Type 0} (meanings : handle.Ghosts H) (call : Call H) (tr
 pub record HasMarksOfTrail (now : ℕ) (a : ResponseValue) : Type 0 where
   pub top : AskedValue
   pub told : Told
+  pub empty : Bool
   pub last : top_step a.trail ≡ Some top
-  pub heard : top.reply ≡ Records told false
+  pub heard : top.reply ≡ Records told empty
   pub marked : told_by a.message ≡ marked_told now (judged_sets top) told
 
 -- a denial names the call's query, and the response inside it denies nothing by itself

@@ -1,5 +1,5 @@
 -- For private functions and for proofs only: parts of what the clauses of a lookup say, by names of their own.
-use Rattle.std.specs.Prelude.{◌≡◌, false, List, Option, IfSome}
+use Rattle.std.specs.Prelude.{◌≡◌, Bool, List, Option, IfSome}
 use Rattle.std.specs.Option.{option_map, option_map_or}
 use Rattle.dns_model.specs.Records.{Question, MessageValue}
 use Rattle.dns_model.specs.Trails.{AskedValue, HeardValue, Records, Fault}
@@ -13,9 +13,9 @@ use Rattle.dns_chain.specs.Sends.{IsFromReplies}
 abbrev pub told_of : Option MessageValue → Option Told
 told_of message = option_map (λ m. told_by (cleared_message m)) message
 
--- records, or a fault
-abbrev pub heard_told : Option Told → HeardValue
-heard_told told = option_map_or (λ t. Records t false) told Fault
+-- records and whether the reply said that there are none, or a fault
+abbrev pub heard_told : Bool → Option Told → HeardValue
+heard_told empty told = option_map_or (λ t. Records t empty) told Fault
 
 -- what an upstream tells: its replies, or nothing
 abbrev pub Tells : Type 0

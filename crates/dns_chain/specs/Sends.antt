@@ -8,16 +8,21 @@ use Rattle.dns_net.specs.Errors.{Reply}
 use Rattle.dns_net.specs.Handles.{Replies, reply_to, left_after}
 use Rattle.dns_net.specs.Walks.{Walked}
 use Rattle.dns_chain.specs.Heard.{heard_value}
+use Rattle.dns_chain.specs.Inquiries.{Ask, judged_ask}
+
+-- the ask of a step
+abbrev pub ask_of_step : AskedValue → Ask
+ask_of_step step = record { query = step.query; judged = step.judged }
 
 -- one ask for a step of a trail: what the step heard follows from the reply, which is never want of memory
-pub record SendOf {H : Type 0} (ask : H → Question → H → Reply → Type 0) (from : H) (step : AskedValue) (to : H) : Type 0 where
+pub record SendOf {H : Type 0} (ask : H → Ask → H → Reply → Type 0) (from : H) (step : AskedValue) (to : H) : Type 0 where
   pub reply : Reply
-  pub made : ask from step.query to reply
+  pub made : ask from (ask_of_step step) to reply
   pub heard : step.reply ≡ heard_value reply
   pub remembered : reply ≢ Err seen.NoMemory
 
 -- a handle went from one state to another by one ask for each step, in order
-abbrev pub SendsAlong : {H : Type 0} → (H → Question → H → Reply → Type 0) → H → List AskedValue → H → Type 0
+abbrev pub SendsAlong : {H : Type 0} → (H → Ask → H → Reply → Type 0) → H → List AskedValue → H → Type 0
 SendsAlong ask from [] to = from ≡ to
 SendsAlong {H} ask from (step ∷ steps) to = (middle : H) × SendOf ask from step middle × SendsAlong ask middle steps to
 
@@ -32,11 +37,11 @@ abbrev pub is_fault : HeardValue → Bool
 is_fault (Records told empty) = false
 is_fault Fault = true
 
--- a handle went from one state to another by an ask for the query and others after it, at most so many in all
-pub record SendsFor {H : Type 0} (ask : H → Question → H → Reply → Type 0) (old new : H) (q : Question) : Type 0 where
+-- a handle went from one state to another by a judged ask for the query and other asks after it, at most so many in all
+pub record SendsFor {H : Type 0} (ask : H → Ask → H → Reply → Type 0) (old new : H) (q : Question) : Type 0 where
   pub middle : H
   pub reply : Reply
   pub sends : ℕ
-  pub first : ask old q middle reply
+  pub first : ask old (judged_ask q) middle reply
   pub others : Walked ask middle new 1 sends
   pub few : sends ≤ most_sends

@@ -1,68 +1,88 @@
 -- For private functions of this crate only: a part of the walk of asks, with the steps that it adds to the trail.
-use Rattle.std.specs.Prelude.{ℕ, ◌≡◌, ◌≤◌, ◌+◌, ◌⊎◌, ◌==◌, true, false, List, [], ◌∷◌, ◌++◌, length, take, Option, None, Some, Result, Ok, Err}
+use Rattle.std.specs.Prelude.{ℕ, ◌≡◌, ◌≤◌, ◌+◌, ◌⊎◌, ◌==◌, ◌≢◌, true, false, List, [], ◌∷◌, ◌++◌, length, take, Option, None, Some, Result, Ok, Err}
 use Rattle.std.specs.Option.{option_map}
+use Rattle.dns_model.specs.declared.proof.Proof.{Proof}
+use Rattle.dns_model.specs.declared.proof.Proof.TheVariants.{Bogus}
 use Rattle.dns_model.specs.declared.trail.AskRef.{AskRef}
 use Rattle.dns_model.specs.declared.trail.AskRef.TheVariants.{Step}
 use Rattle.dns_model.specs.declared.trail.MarkOrigin.TheVariants.{Table}
+use Rattle.dns_model.specs.Names.{Labels}
 use Rattle.dns_model.specs.Types.{type_dnskey}
 use Rattle.dns_model.specs.Records.{Rr, RrSet, Question, MessageValue}
 use Rattle.dns_model.specs.Keys.{VerifierAnswers}
 use Rattle.dns_model.specs.Chains.{Judge}
-use Rattle.dns_model.specs.SoundAnswers.{Placed}
+use Rattle.dns_model.specs.SoundAnswers.{Told, Placed}
 use Rattle.dns_model.specs.Trails.{AskedValue, HeardValue, JudgedSetValue, EndingValue}
 use Rattle.dns_model.specs.Trails as trails
 use Rattle.dns_model.proofs.SetLemmas.{IsProper}
 use Rattle.dns_judgement.specs.Asking.{most_sends, ask_of}
 use Rattle.dns_judgement.specs.Chained.{Chained, bare, stands, ChainedVerdict, chained_verdict, bare_verdicts}
-use Rattle.dns_judgement.specs.Derivation.{Grounds, entry_holds, entries_hold, with_entries, finished_answer, is_ask, verdicts_by}
+use Rattle.dns_judgement.specs.Delegations.{ZoneVerdict}
+use Rattle.dns_judgement.specs.Derivation as derived
+use Rattle.dns_judgement.specs.Derivation.{Grounds, entry_holds, entries_hold, with_entries, finished_answer, is_ask, verdicts_by, is_plain_ask, sight_by, zone_asked, search_from}
 use Rattle.dns_judgement.specs.DerivationParts.{with_entry, steps_at, is_ask_for}
 use Rattle.dns_judgement.specs.Judged.{Judged}
 use Rattle.dns_judgement.specs.Marking.{cleared_message}
 use Rattle.dns_judgement.specs.Marks.{is_skipped, most_signatures}
 use Rattle.dns_judgement.specs.Marks as marks
-use Rattle.dns_judgement.specs.Outcome.{Outcome, Unjudged, Accepted, Denied}
+use Rattle.dns_judgement.specs.Outcome.{Outcome, Unjudged, Accepted, Searched, Denied, outcome_of, outcome_by_zone}
 use Rattle.dns_judgement.specs.Parts.{Part}
+use Rattle.dns_judgement.specs.Unsigned.{question_start, unsigned_mark}
 use Rattle.dns_judgement.proofs.StandLemmas.{AreGood}
+use Rattle.dns_judgement.proofs.StayLemmas.{later_grounds}
 use Rattle.dns_judgement.proofs.ChainedLemmas.{AllStand, AreProper, IsGoodAnswer}
 use Rattle.dns_net.specs.Errors.{Reply}
 use Rattle.dns_net.specs.Replies.{error_of}
 use Rattle.dns_net.specs.Walks.{Walked}
 use Rattle.dns_net.specs.declared.error.NetError.{NetError}
+use Rattle.dns_net.specs.declared.error.NetError.TheVariants.{NoMemory}
 use Rattle.dns_net.specs.declared.handle.DnsHandle as handle
 use Rattle.dns_trust.specs.Judge.{judge_of}
-use Rattle.dns_chain.specs.Heard.{heard_message}
+use Rattle.dns_chain.specs.Heard.{heard_message, says_none}
+use Rattle.dns_chain.specs.Inquiries.{Ask}
 use Rattle.dns_chain.specs.Calls.{Asking}
 use Rattle.dns_chain.specs.Sends.{SendsAlong}
+use Rattle.dns_chain.specs.declared.asking.HeardMessage.{HeardMessage}
 use Rattle.dns_chain.specs.declared.inquiry.Inquiry.{Inquiry}
 use Rattle.dns_chain.specs.declared.inquiry.Progress.{Progress}
+use Rattle.dns_chain.specs.declared.search.Sight.{Sight}
+use Rattle.dns_chain.specs.declared.search.Sight.TheVariants.{Cut, Onward, Unseen}
 
 -- ---- one ask
 
 -- an ask of an inquiry
-abbrev pub asking : {H V : Type 0} → handle.Ghosts H → Inquiry V → H → Question → H → Reply → Type 0
+abbrev pub asking : {H V : Type 0} → handle.Ghosts H → Inquiry V → H → Ask → H → Reply → Type 0
 asking meanings inquiry = Asking meanings inquiry.options inquiry.judge.moment
 
--- the message of a reply, without its marks
-pub record IsHeard (reply : Reply) (message : MessageValue) : Type 0 where
+-- the message of a reply, without its marks, and whether it said that there are no records
+pub record IsHeard (reply : Reply) (heard : HeardMessage) : Type 0 where
   pub from : MessageValue
   pub is : heard_message reply ≡ Some from
-  pub cleared : message ≡ cleared_message from
+  pub cleared : heard.message ≡ cleared_message from
+  pub empty : heard.empty ≡ says_none reply
 
 -- the reply has no message, and is this error
 pub record IsUnheard (reply : Reply) (error : NetError) : Type 0 where
   pub none : heard_message reply ≡ None
   pub is : reply ≡ Err (error_of error)
 
-abbrev pub HeardAs : Reply → Result MessageValue NetError → Type 0
-HeardAs reply (Ok message) = IsHeard reply message
-HeardAs reply (Err error) = IsUnheard reply error
+-- memory may run out where a message is made of that there are no records
+abbrev pub HeardAs : Reply → Result HeardMessage NetError → Type 0
+HeardAs reply (Ok heard) = IsHeard reply heard
+HeardAs reply (Err error) = (error ≡ NoMemory) ⊎ IsUnheard reply error
 
 -- one ask, its reply, and what was heard of it
-pub record Heard {H : Type 0} (ask : H → Question → H → Reply → Type 0) (old new : H) (q : Question)
-    (result : Result MessageValue NetError) : Type 0 where
+pub record Heard {H : Type 0} (ask : H → Ask → H → Reply → Type 0) (old new : H) (made_for : Ask)
+    (result : Result HeardMessage NetError) : Type 0 where
   pub reply : Reply
-  pub made : ask old q new reply
+  pub made : ask old made_for new reply
   pub heard : HeardAs reply result
+
+-- a sight, as the definitions have it
+abbrev pub sight_value : Sight → derived.Sight
+sight_value Cut = derived.Cut
+sight_value Onward = derived.Onward
+sight_value Unseen = derived.Unseen
 
 -- ---- asks one after another
 
@@ -71,14 +91,14 @@ abbrev pub IsCounted : Progress → Progress → Type 0
 IsCounted old new = length new.steps.items + old.sends ≤ length old.steps.items + new.sends
 
 -- whatever the result: a handle went from one state to another by asks that a counter of sends covers
-pub record Went {H : Type 0} (ask : H → Question → H → Reply → Type 0) (faults : H → ℕ) (old new : H)
+pub record Went {H : Type 0} (ask : H → Ask → H → Reply → Type 0) (faults : H → ℕ) (old new : H)
     (n m : ℕ) : Type 0 where
   pub walk : Walked ask old new n m
   pub few : m ≤ most_sends
   pub later : faults old ≤ faults new
 
 -- asks in order, with the steps that they added to the trail; the handle went along these steps, in the order of the sends
-pub record Asks {H : Type 0} (ask : H → Question → H → Reply → Type 0) (j : Judge) (limit : ℕ)
+pub record Asks {H : Type 0} (ask : H → Ask → H → Reply → Type 0) (j : Judge) (limit : ℕ)
     (old new : H) (before after : List AskedValue) (asks : List AskRef) (n m : ℕ) : Type 0 where
   pub part : Part j limit before after asks n m
   pub sends : SendsAlong ask old (steps_at after (Some part.order)) new
@@ -102,14 +122,26 @@ grounds_at answers inquiry progress q depth = record {
 
 -- ---- a step
 
--- a judged step that named no ask for its ending
-abbrev pub judged_step : ℕ → Question → HeardValue → List JudgedSetValue → EndingValue → AskedValue
-judged_step depth q reply sets ending = record {
+-- a judged step, with the asks that it names for its ending
+abbrev pub judged_step : ℕ → Question → HeardValue → List JudgedSetValue → EndingValue → List AskRef → AskedValue
+judged_step depth q reply sets ending excuse = record {
   depth = depth;
   judged = true;
   query = q;
   reply = reply;
   sets = sets;
+  ending = ending;
+  excuse = excuse;
+}
+
+-- a step that only sees what it hears
+abbrev pub plain_step : ℕ → Question → HeardValue → EndingValue → AskedValue
+plain_step depth q reply ending = record {
+  depth = depth;
+  judged = false;
+  query = q;
+  reply = reply;
+  sets = [];
   ending = ending;
   excuse = [];
 }
@@ -134,6 +166,7 @@ foreign_ending r = trails.Foreign r.owner r.class r.rtype
 abbrev pub accepted_sets : {X : Type 0} → Outcome → List X → Option (List X)
 accepted_sets Unjudged sets = None
 accepted_sets (Accepted d) sets = Some sets
+accepted_sets Searched sets = None
 accepted_sets (Denied proof) sets = None
 
 -- ---- what the functions of the walk come to
@@ -149,6 +182,44 @@ pub record IsAnswer (j : Judge) (limit : ℕ) (steps : List AskedValue) (q : Que
   pub asks : is_ask limit steps depth q ask ≡ true
   pub same : option_map bare answer ≡ finished_answer steps ask
   pub stand : IsGoodAnswer j answer
+
+-- a plain ask, as the trail has it, and what it saw
+pub record IsSeen (steps : List AskedValue) (depth : ℕ) (q : Question) (ask : AskRef) (sight : derived.Sight) : Type 0 where
+  pub asks : is_plain_ask steps depth q ask ≡ true
+  pub sees : sight_by steps q.owner ask ≡ sight
+
+-- the search that began at a name leads to a zone by these plain asks: what its DS verdict comes to is what the search comes to
+pub record LeadsTo (g : Grounds) (class : ℕ) (start : Labels) (asks : List AskRef) (zone : Labels) : Type 0 where
+  pub search : (later : List AskedValue) (rest : List AskRef) (verdict : ZoneVerdict)
+      → zone_asked (later_grounds g later) class zone rest ≡ Some verdict → search_from (later_grounds g later) class start (asks ++ rest) ≡ Some verdict
+
+-- the search comes to a verdict by which what is unsigned has this mark
+pub record IsSearched (g : Grounds) (class : ℕ) (start : Labels) (asks : List AskRef) (mark : Proof) : Type 0 where
+  pub zone : ZoneVerdict
+  pub found : search_from g class start asks ≡ Some zone
+  pub is : mark ≡ (unsigned_mark zone).mark
+
+-- plain asks lead to a zone, or to nothing but Bogus
+abbrev pub IsWay : Grounds → ℕ → Labels → List AskRef → Option Labels → Type 0
+IsWay g class start asks (Some zone) = LeadsTo g class start asks zone
+IsWay g class start asks None = IsSearched g class start asks Bogus
+
+-- the outcome of judged sets decides
+pub record IsSettled (g : Grounds) (told : Told) (sets : List Judged) (o : Outcome) (excuse : List AskRef) : Type 0 where
+  pub is : o ≡ outcome_of g.query told sets
+  pub settled : o ≢ Searched
+  pub none : excuse ≡ []
+
+-- it doesn't, and the zone of the question is searched
+pub record IsLeftToZone (g : Grounds) (told : Told) (sets : List Judged) (o : Outcome) (excuse : List AskRef) : Type 0 where
+  pub left : outcome_of g.query told sets ≡ Searched
+  pub zone : ZoneVerdict
+  pub found : search_from g g.query.class (question_start g.query) excuse ≡ Some zone
+  pub is : o ≡ outcome_by_zone g.query told zone
+
+-- what the judged sets of a step come to, with the asks on which that stands
+abbrev pub IsConcluded : Grounds → Told → List Judged → Outcome → List AskRef → Type 0
+IsConcluded g told sets o excuse = IsSettled g told sets o excuse ⊎ IsLeftToZone g told sets o excuse
 
 -- the ask of a signature, if it made one
 abbrev pub asks_in : Option AskRef → List AskRef

@@ -1,45 +1,61 @@
-ghost use Rattle.std.specs.Prelude.{◌≡◌, ◌<◌, ◌+◌};
+ghost use Rattle.std.specs.Prelude.{◌≡◌, ◌<◌, ◌+◌, IfOk};
+ghost use Rattle.std.specs.List.{list_any};
 ghost use Rattle.dns_judgement.specs.Asking.{most_sends};
+ghost use Rattle.dns_judgement.specs.Derivation.{same_record};
 ghost use Rattle.dns_judgement.specs.Marking.{cleared_message};
 ghost use Rattle.dns_net.specs.Handles.{OrUnsent};
 ghost use Rattle.dns_net.specs.Replies.{reply_of};
+ghost use Rattle.dns_chain.specs.Heard.{no_records_message, with_soa as with_soa_of};
 ghost use Rattle.dns_chain.specs.Walking.{asking, Went, HeardAs, Heard};
 
-use crate::inquiry::{Inquiry, Progress, asking_request_of};
+use crate::inquiry::{Inquiry, Progress, request_for};
 use dns_message::Message;
-use dns_net::{DnsError, DnsHandle, DnsResponse, NetError};
-use dns_record::Query;
+use dns_name::NoMemory;
+use dns_net::{DnsError, DnsHandle, DnsResponse, NetError, NoRecords};
+use dns_record::{OpCode, Query, Record};
 use dns_sets::clear_marks;
 use std::alloc::Global;
 
-/// Sends a query and hears the message of the reply, also of a denial, without the marks that came with it. Where memory runs
-/// out before the send, nothing is sent and the handle doesn't change.
+/// The message of a reply, without the marks that came with it.
+#[derive(Drop)]
+pub(crate) struct HeardMessage {
+    pub(crate) message: Message,
+    /// The reply said that there are no records.
+    pub(crate) empty: bool,
+}
+
+/// Sends a query, as one whose reply is judged or only seen, and hears the message of the reply, also of a denial and of one that
+/// says that there are no records. Where memory runs out before the send, nothing is sent and the handle doesn't change.
 pub(crate) fn hear<H: DnsHandle, V>(
     alloc: Global,
     inquiry: &Inquiry<'_, V>,
     handle: &mut H,
     progress: &mut Progress,
     query: &Query,
-) -> Result<Message, NetError>
+    judged: bool,
+) -> Result<HeardMessage, NetError>
     requires few { progress.old.sends < most_sends }
     ensures count { progress.new.sends ≡ progress.old.sends + 1 }
     ensures steps { progress.new.steps ≡ progress.old.steps }
     ensures went { Went (asking H.DnsHandle inquiry.now) H.faults
         handle.old handle.new progress.old.sends progress.new.sends }
     ensures heard { OrUnsent handle.old handle.new result
-        (Heard (asking H.DnsHandle inquiry.now) handle.old handle.new query.now result) }
+        (Heard (asking H.DnsHandle inquiry.now) handle.old handle.new (record { query = query.now; judged = judged }) result) }
 {
     progress.sends += 1;
-    let request = asking_request_of(alloc, query, &inquiry.options)?;
-    message_of(handle.send(alloc, request, inquiry.judge.moment))
+    let request = request_for(alloc, query, &inquiry.options, judged)?;
+    heard_of(alloc, handle.send(alloc, request, inquiry.judge.moment))
 }
 
 // The message of a reply, or its error.
-fn message_of(reply: Result<DnsResponse, NetError>) -> Result<Message, NetError>
+fn heard_of(
+    alloc: Global,
+    reply: Result<DnsResponse, NetError>,
+) -> Result<HeardMessage, NetError>
     ensures { HeardAs (reply_of reply) result }
 {
     match reply {
-        Ok(response) => Ok(cleared(response)),
+        Ok(response) => Ok(records_heard(response.message)),
         Err(
             NetError::Dns(
                 DnsError::Nsec {
@@ -48,16 +64,99 @@ fn message_of(reply: Result<DnsResponse, NetError>) -> Result<Message, NetError>
                     proof: _,
                 },
             ),
-        ) => { Ok(cleared(Box::into_inner(response))) }
+        ) => { Ok(records_heard(Box::into_inner(response).message)) }
+        Err(NetError::Dns(DnsError::NoRecordsFound(missing))) => {
+            let message = message_without_records(alloc, missing)?;
+            Ok(HeardMessage {
+                message: cleared(message),
+                empty: true,
+            })
+        }
         Err(error) => Err(error),
     }
 }
 
-// The message of a response, without marks.
-fn cleared(response: DnsResponse) -> Message
-    ensures { result ≡ cleared_message response.message }
+// What is heard of a message.
+fn records_heard(message: Message) -> HeardMessage
+    ensures message { result.message ≡ cleared_message message }
+    ensures empty { result.empty ≡ false }
 {
-    let mut message = response.message;
+    HeardMessage {
+        message: cleared(message),
+        empty: false,
+    }
+}
+
+// A message, without marks.
+fn cleared(message: Message) -> Message
+    ensures { result ≡ cleared_message message }
+{
+    let mut message = message;
     clear_marks(&mut message);
     message
+}
+
+// That there are no records, as the message of a response (RFC 2308, 2).
+fn message_without_records(alloc: Global, missing: NoRecords) -> Result<Message, NoMemory>
+    ensures { IfOk result (λ m. m ≡ no_records_message missing) }
+{
+    let NoRecords {
+        query,
+        soa,
+        ns: _,
+        negative_ttl: _,
+        response_code,
+        authorities,
+    } = missing;
+    let queries = vec![in alloc; query]?;
+    let authorities = with_soa(authorities, soa)?;
+    Ok(Message {
+        id: 0,
+        response: true,
+        op_code: OpCode::QUERY,
+        authoritative: false,
+        truncated: false,
+        recursion_desired: false,
+        recursion_available: false,
+        authentic_data: false,
+        checking_disabled: false,
+        response_code,
+        queries,
+        answers: Vec::new(alloc),
+        authorities,
+        additionals: Vec::new(alloc),
+        edns: None,
+    })
+}
+
+// The authorities, and behind them the SOA that came beside them, if it isn't one of them.
+fn with_soa(authorities: Vec<Record>, soa: Option<Record>) -> Result<Vec<Record>, NoMemory>
+    ensures { IfOk result (λ v. v.items ≡ with_soa_of authorities.items soa) }
+{
+    let Some(soa) = soa else {
+        return Ok(authorities);
+    };
+    let known = has_record(&authorities, &soa);
+    if known {
+        return Ok(authorities);
+    }
+    let mut authorities = authorities;
+    authorities.push(soa)?;
+    Ok(authorities)
+}
+
+fn has_record(records: &[Record], one: &Record) -> bool
+    ensures { result ≡ list_any (same_record one.now) records.now }
+{
+    records.iter().any(|other| is_same(one, other))
+}
+
+// One record, whatever the ttls and marks.
+fn is_same(one: &Record, other: &Record) -> bool
+    ensures { result ≡ same_record one.now other.now }
+{
+    one.name == other.name
+        && one.record_type == other.record_type
+        && one.dns_class == other.dns_class
+        && one.rdata.as_slice() == other.rdata.as_slice()
 }

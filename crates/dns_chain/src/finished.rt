@@ -1,23 +1,21 @@
-ghost use Rattle.std.specs.Prelude.{◌≡◌, ◌≤◌, ◌<◌, ◌+◌, [], false, None, IfOk, length};
+ghost use Rattle.std.specs.Prelude.{◌≡◌, ◌≤◌, ◌<◌, ◌+◌, [], None, IfOk, length};
 ghost use Rattle.dns_model.specs.SoundAnswers.{told_by};
 ghost use Rattle.dns_model.specs.Trails.{Records, Fault, Failed};
 ghost use Rattle.dns_judgement.specs.Asking.{most_sends};
-ghost use Rattle.dns_judgement.specs.Chained.{bare};
 ghost use Rattle.dns_judgement.specs.Derivation.{ending_by};
-ghost use Rattle.dns_judgement.specs.Outcome.{outcome_of as told_outcome};
 ghost use Rattle.dns_net.specs.Trail.{heard_value, ending_value};
 ghost use Rattle.dns_sets.specs.Outcome.{outcome_value};
 ghost use Rattle.dns_trust.specs.Verdicts.{listed};
-ghost use Rattle.dns_chain.specs.Walking.{IsAdded, accepted_sets, judged_step};
+ghost use Rattle.dns_chain.specs.Walking.{IsAdded, accepted_sets, judged_step, plain_step};
 
+use crate::asking::HeardMessage;
 use crate::inquiry::Progress;
-use crate::steps::{add_step, ended, ending_of, records_of};
-use crate::walk::Judgement;
-use dns_message::Message;
+use crate::judging::{Concluded, Judgement};
+use crate::steps::{add_step, ended, ending_of, only_seen, records_of};
 use dns_name::NoMemory;
 use dns_net::{AskRef, Ending, Reply};
 use dns_record::Query;
-use dns_sets::{ChainedSet, Outcome, outcome_of};
+use dns_sets::{ChainedSet, Outcome};
 use std::alloc::Global;
 
 /// What an ask came to: its place in the trail, and the judged sets of its answer, if it has one.
@@ -46,7 +44,7 @@ pub(crate) fn unheard(
     ensures sends { progress.new.sends ≡ progress.old.sends }
     ensures one { length progress.new.steps.items ≤ length progress.old.steps.items + 1 }
     ensures added { IfOk result (λ f. IsAdded progress.old.steps.items progress.new.steps.items
-        (judged_step depth query Fault [] Failed) f.ask) }
+        (judged_step depth query Fault [] Failed []) f.ask) }
     ensures answer { IfOk result (λ f. listed f.answer ≡ None) }
 {
     unanswered(alloc, progress, query, depth, Reply::Fault, Ending::Failed)
@@ -65,41 +63,60 @@ pub(crate) fn unanswered(
     ensures sends { progress.new.sends ≡ progress.old.sends }
     ensures one { length progress.new.steps.items ≤ length progress.old.steps.items + 1 }
     ensures added { IfOk result (λ f. IsAdded progress.old.steps.items progress.new.steps.items
-        (judged_step depth query (heard_value reply) [] (ending_value ending)) f.ask) }
+        (judged_step depth query (heard_value reply) [] (ending_value ending) []) f.ask) }
     ensures answer { IfOk result (λ f. listed f.answer ≡ None) }
 {
-    let step = ended(alloc, query, depth, reply, Vec::new(alloc), ending);
+    let step = ended(query, depth, reply, Vec::new(alloc), ending, Vec::new(alloc));
     let ask = add_step(&mut progress.steps, step)?;
     Ok(Finished { ask, answer: None })
 }
 
-/// Ends a step whose sets are judged. They are its answer where they are accepted.
-pub(crate) fn answered(
+/// Ends a step whose reply is only seen.
+pub(crate) fn seen(
     alloc: Global,
     progress: &mut Progress,
     query: Query,
     depth: u16,
-    message: Message,
+    reply: Reply,
+    ending: Ending,
+) -> Result<AskRef, NoMemory>
+    requires few { length progress.old.steps.items < most_sends }
+    ensures sends { progress.new.sends ≡ progress.old.sends }
+    ensures one { length progress.new.steps.items ≤ length progress.old.steps.items + 1 }
+    ensures added { IfOk result (λ ask. IsAdded progress.old.steps.items progress.new.steps.items
+        (plain_step depth query (heard_value reply) (ending_value ending)) ask) }
+{
+    let step = only_seen(alloc, query, depth, reply, ending);
+    let ask = add_step(&mut progress.steps, step)?;
+    Ok(ask)
+}
+
+/// Ends a step whose sets are judged and have come to an outcome. They are its answer where they are accepted.
+pub(crate) fn answered(
+    progress: &mut Progress,
+    query: Query,
+    depth: u16,
+    heard: HeardMessage,
     judged: Judgement,
+    concluded: Concluded,
 ) -> Result<Finished, NoMemory>
     requires few { length progress.old.steps.items < most_sends }
     ensures sends { progress.new.sends ≡ progress.old.sends }
     ensures one { length progress.new.steps.items ≤ length progress.old.steps.items + 1 }
     ensures added { IfOk result (λ f. IsAdded progress.old.steps.items progress.new.steps.items
-        (judged_step depth query (Records (told_by message) false) judged.entries.items
-        (ending_by (told_outcome query (told_by message) (bare judged.sets.items)))) f.ask) }
-    ensures answer { IfOk result (λ f. listed f.answer ≡
-        accepted_sets (told_outcome query (told_by message) (bare judged.sets.items)) judged.sets.items) }
+        (judged_step depth query (Records (told_by heard.message) heard.empty) judged.entries.items
+        (ending_by (outcome_value concluded.outcome)) concluded.excuse.items) f.ask) }
+    ensures answer { IfOk result (λ f. listed f.answer ≡ accepted_sets (outcome_value concluded.outcome) judged.sets.items) }
 {
     let Judgement { sets, entries } = judged;
-    let outcome = outcome_of(&query, &message, &sets);
+    let Concluded { outcome, excuse } = concluded;
     let step = ended(
-        alloc,
         query,
         depth,
-        records_of(message),
+        records_of(heard),
         entries,
         ending_of(outcome),
+        excuse,
     );
     let ask = add_step(&mut progress.steps, step)?;
     Ok(Finished {
@@ -115,6 +132,7 @@ fn accepted(outcome: Outcome, sets: Vec<ChainedSet>) -> Option<Vec<ChainedSet>>
     match outcome {
         Outcome::Unjudged => None,
         Outcome::Accepted(_) => Some(sets),
+        Outcome::Searched => None,
         Outcome::Denied(_) => None,
     }
 }

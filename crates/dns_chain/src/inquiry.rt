@@ -1,6 +1,7 @@
 ghost use Rattle.std.specs.Prelude.{◌≡◌, IfOk};
 ghost use Rattle.dns_judgement.specs.Asking.{depth_limit};
-ghost use Rattle.dns_chain.specs.Inquiries.{asking_options, asking_request};
+ghost use Rattle.dns_net.specs.Requests.{request_of};
+ghost use Rattle.dns_chain.specs.Inquiries.{asking_options, asking_request, request_for as request_by};
 
 use dns_name::NoMemory;
 use dns_net::{Asked, DnsRequest, DnsRequestOptions};
@@ -37,8 +38,37 @@ pub(crate) fn depth_limit_of(options: &DnsRequestOptions) -> u16
     options.max_request_depth.min(255)
 }
 
-/// The request of a judged ask (RFC 4035, 4.1; RFC 6840, 5.7).
-pub(crate) fn asking_request_of(
+/// The request of an ask whose reply is judged (RFC 4035, 4.1; RFC 6840, 5.7) or only seen.
+pub(crate) fn request_for(
+    alloc: Global,
+    query: &Query,
+    options: &DnsRequestOptions,
+    judged: bool,
+) -> Result<DnsRequest, NoMemory>
+    ensures { IfOk result (λ r. r ≡ request_by options.now (record { query = query.now; judged = judged })) }
+{
+    if judged {
+        asking_request_of(alloc, query, options)
+    } else {
+        plain_request_of(alloc, query, options)
+    }
+}
+
+// The request of a query by the options as they are.
+fn plain_request_of(
+    alloc: Global,
+    query: &Query,
+    options: &DnsRequestOptions,
+) -> Result<DnsRequest, NoMemory>
+    ensures { IfOk result (λ r. r ≡ request_of query.now options.now) }
+{
+    let query = query.try_clone()?;
+    let request = DnsRequest::from_query(alloc, query, *options)?;
+    Ok(request)
+}
+
+// The request of a judged ask.
+fn asking_request_of(
     alloc: Global,
     query: &Query,
     options: &DnsRequestOptions,

@@ -1,12 +1,14 @@
-//! The validator: a lookup over any handle that asks for the keys of signers up to a trust anchor, marks each set and gives
-//! the chain of each Secure one (RFC 4035, 5). The layer above may use `DnssecDnsHandle::lookup` by its clauses.
+//! The validator: a lookup over any handle that asks for the keys of signers up to a trust anchor, searches the zone of what is
+//! unsigned, marks each set and gives the chain of each Secure one (RFC 4035, 5). The layer above may use `DnssecDnsHandle::lookup` by its clauses.
 #![tactic(auto)]
 
 mod asking;
 mod finished;
 mod handle;
 mod inquiry;
+mod judging;
 mod looking;
+mod search;
 mod steps;
 mod walk;
 

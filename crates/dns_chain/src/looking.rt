@@ -1,29 +1,31 @@
-ghost use Rattle.std.specs.Prelude.{◌⊎◌, ◌≡◌, ◌≤◌, ◌++◌, ◌∷◌, [], false, Err, IfOk};
+ghost use Rattle.std.specs.Prelude.{◌⊎◌, ◌≡◌, ◌≤◌, ◌++◌, ◌∷◌, [], Err, IfOk};
 ghost use Rattle.dns_model.specs.SoundAnswers.{told_by};
 ghost use Rattle.dns_judgement.specs.Asking.{depth_limit};
 ghost use Rattle.dns_net.specs.Errors as seen;
 ghost use Rattle.dns_net.specs.Handles.{OrUnsent};
 ghost use Rattle.dns_net.specs.Replies.{reply_of, error_of};
 ghost use Rattle.dns_net.specs.Trail.{ending_value};
+ghost use Rattle.dns_sets.specs.Outcome.{outcome_value};
 ghost use Rattle.dns_chain.specs.Answering.{call_by, judged_answer, top_of, Looked};
 ghost use Rattle.dns_chain.specs.Looked.{UnlessNoMemory};
 ghost use Rattle.dns_chain.specs.Sends.{SendsFor};
 ghost use Rattle.dns_chain.specs.Walking.{asking};
 
-use crate::asking::hear;
+use crate::asking::{HeardMessage, hear};
 use crate::inquiry::{Inquiry, Progress};
-use crate::walk::{Judgement, judge_sets};
+use crate::judging::{Concluded, Judgement};
+use crate::walk::{conclude, judge_sets};
 use dns_message::Message;
 use dns_name::NoMemory;
 use dns_net::{
-    Asked, DnsError, DnsHandle, DnsResponse, Ending, JudgedSet, NetError, Notice, Reply, Told,
-    Trail, Verifier,
+    AskRef, Asked, DnsError, DnsHandle, DnsResponse, Ending, JudgedSet, NetError, Notice, Reply,
+    Told, Trail, Verifier,
 };
 use dns_record::{Denial, Proof, Query, Record, clone_records};
-use dns_sets::{Outcome, finished, foreign_record, outcome_of, placed_sets};
+use dns_sets::{Outcome, finished, foreign_record, placed_sets};
 use std::alloc::Global;
 
-/// One lookup: a send for the query, the asks for what its sets need, and the answer with its trail.
+/// One lookup: a send for the query, the asks for what its sets and its ending need, and the answer with its trail.
 pub(crate) fn look<H: DnsHandle, V: Verifier>(
     alloc: Global,
     inquiry: &Inquiry<'_, V>,
@@ -41,18 +43,28 @@ pub(crate) fn look<H: DnsHandle, V: Verifier>(
         steps: Vec::new(alloc),
         sends: 0,
     };
-    let message = match hear(alloc, inquiry, handle, &mut progress, &query) {
-        Ok(message) => message,
+    let heard = match hear(alloc, inquiry, handle, &mut progress, &query, true) {
+        Ok(heard) => heard,
         Err(error) => return Err(error),
     };
-    match foreign_record(&query, &message) {
+    match foreign_record(&query, &heard.message) {
         Some(record) => return Err(foreign_error(record)),
         None => {}
     }
-    let placed = placed_sets(alloc, 0, &message)?;
+    let placed = placed_sets(alloc, 0, &heard.message)?;
     let judged = judge_sets(alloc, inquiry, handle, &mut progress, &query, 0, placed)?;
+    let concluded = conclude(
+        alloc,
+        inquiry,
+        handle,
+        &mut progress,
+        &query,
+        0,
+        &heard.message,
+        &judged.sets,
+    )?;
     let now = inquiry.judge.moment;
-    answer(alloc, now, query, message, progress.steps, judged)
+    answer(alloc, now, query, heard, progress.steps, judged, concluded)
 }
 
 // The error that names a record of another class.
@@ -75,36 +87,36 @@ fn answer(
     alloc: Global,
     now: u64,
     query: Query,
-    message: Message,
+    heard: HeardMessage,
     steps: Vec<Asked>,
     judged: Judgement,
+    concluded: Concluded,
 ) -> Result<DnsResponse, NetError>
     ensures { UnlessNoMemory result (reply_of result ≡ judged_answer now query (record {
-      message = message;
+      message = heard.message;
+      empty = heard.empty;
       steps = steps.items;
       sets = judged.sets.items;
       entries = judged.entries.items;
+      outcome = outcome_value concluded.outcome;
+      excuse = concluded.excuse.items;
     })) }
 {
     let Judgement { sets, entries } = judged;
-    match outcome_of(&query, &message, &sets) {
+    let Concluded { outcome, excuse } = concluded;
+    match outcome {
         Outcome::Unjudged => Err(NetError::Message(Notice::NotJudgedYet)),
+        Outcome::Searched => Err(NetError::Message(Notice::NotJudgedYet)),
         Outcome::Accepted(denial) => {
             let ending = Ending::Answered(denial);
-            let trail = trail_of(alloc, query, &message, steps, entries, ending)?;
-            Ok(finished(alloc, now, sets, message, denial, trail)?)
+            let trail = trail_of(query, &heard, steps, entries, ending, excuse)?;
+            Ok(finished(alloc, now, sets, heard.message, denial, trail)?)
         }
         Outcome::Denied(proof) => {
             let asked = query.try_clone()?;
-            let trail = trail_of(
-                alloc,
-                query,
-                &message,
-                steps,
-                entries,
-                Ending::Denied(proof),
-            )?;
-            let response = finished(alloc, now, sets, message, Denial::None, trail)?;
+            let ending = Ending::Denied(proof);
+            let trail = trail_of(query, &heard, steps, entries, ending, excuse)?;
+            let response = finished(alloc, now, sets, heard.message, Denial::None, trail)?;
             denied(alloc, asked, response, proof)
         }
     }
@@ -129,17 +141,18 @@ fn denied(
 
 // The steps of the asks, and then the step that asked for the query.
 fn trail_of(
-    alloc: Global,
     query: Query,
-    message: &Message,
+    heard: &HeardMessage,
     steps: Vec<Asked>,
     entries: Vec<JudgedSet>,
     ending: Ending,
+    excuse: Vec<AskRef>,
 ) -> Result<Trail, NoMemory>
-    ensures { IfOk result (λ t. t ≡ steps.items ++ top_of query (told_by message.now) entries.items (ending_value ending) ∷ []) }
+    ensures { IfOk result (λ t. t ≡ steps.items
+        ++ top_of query (told_by heard.now.message) heard.now.empty entries.items (ending_value ending) excuse.items ∷ []) }
 {
     let mut steps = steps;
-    let told = told_of(message)?;
+    let told = told_of(&heard.message, heard.empty)?;
     steps.push(Asked {
         depth: 0,
         judged: true,
@@ -147,18 +160,18 @@ fn trail_of(
         reply: Reply::Told(told),
         sets: entries,
         ending,
-        excuse: Vec::new(alloc),
+        excuse,
     })?;
     Ok(Trail { steps })
 }
 
 // What a message tells, in memory of its own, since the answer holds the message.
-fn told_of(message: &Message) -> Result<Told, NoMemory>
-    ensures { IfOk result (λ t. t ≡ (told_by message.now, false)) }
+fn told_of(message: &Message, empty: bool) -> Result<Told, NoMemory>
+    ensures { IfOk result (λ t. t ≡ (told_by message.now, empty)) }
 {
     Ok(Told {
         code: message.response_code,
-        empty: false,
+        empty,
         answers: clone_records(&message.answers)?,
         authorities: clone_records(&message.authorities)?,
         additionals: clone_records(&message.additionals)?,

@@ -1,4 +1,4 @@
-ghost use Rattle.std.specs.Prelude.{◌≡◌, ◌≤◌, ◌<◌, ◌+◌, false, IfOk, length};
+ghost use Rattle.std.specs.Prelude.{◌≡◌, ◌≤◌, ◌<◌, ◌+◌, IfOk, length};
 ghost use Rattle.std.specs.Option.{option_map};
 ghost use Rattle.dns_model.specs.SoundAnswers.{told_by};
 ghost use Rattle.dns_model.specs.Trails.{Records};
@@ -7,8 +7,9 @@ ghost use Rattle.dns_judgement.specs.Derivation.{ending_by};
 ghost use Rattle.dns_judgement.specs.Outcome.{foreign_record as foreign_in};
 ghost use Rattle.dns_net.specs.Trail.{heard_value, ending_value};
 ghost use Rattle.dns_sets.specs.Outcome.{outcome_value};
-ghost use Rattle.dns_chain.specs.Walking.{IsAdded, entry_of, judged_step, foreign_ending};
+ghost use Rattle.dns_chain.specs.Walking.{IsAdded, entry_of, judged_step, plain_step, foreign_ending};
 
+use crate::asking::HeardMessage;
 use dns_message::Message;
 use dns_name::NoMemory;
 use dns_net::{AskRef, Asked, Ending, JudgedSet, MarkOrigin, Reply, Told};
@@ -27,16 +28,16 @@ pub(crate) fn add_step(steps: &mut Vec<Asked>, step: Asked) -> Result<AskRef, No
     Ok(AskRef::Step(number))
 }
 
-/// A step of a query whose reply is heard and whose sets are judged, by its ending.
+/// A step of a query whose reply is heard and whose sets are judged, by its ending and the asks on which that stands.
 pub(crate) fn ended(
-    alloc: Global,
     query: Query,
     depth: u16,
     reply: Reply,
     sets: Vec<JudgedSet>,
     ending: Ending,
+    excuse: Vec<AskRef>,
 ) -> Asked
-    ensures { result ≡ judged_step depth query (heard_value reply) sets.items (ending_value ending) }
+    ensures { result ≡ judged_step depth query (heard_value reply) sets.items (ending_value ending) excuse.items }
 {
     Asked {
         depth,
@@ -45,17 +46,39 @@ pub(crate) fn ended(
         reply,
         sets,
         ending,
+        excuse,
+    }
+}
+
+/// A step of a query whose reply is only seen, by its ending.
+pub(crate) fn only_seen(
+    alloc: Global,
+    query: Query,
+    depth: u16,
+    reply: Reply,
+    ending: Ending,
+) -> Asked
+    ensures { result ≡ plain_step depth query (heard_value reply) (ending_value ending) }
+{
+    Asked {
+        depth,
+        judged: false,
+        query,
+        reply,
+        sets: Vec::new(alloc),
+        ending,
         excuse: Vec::new(alloc),
     }
 }
 
-/// The records of a message, as a step keeps them.
-pub(crate) fn records_of(message: Message) -> Reply
-    ensures { heard_value result ≡ Records (told_by message) false }
+/// The records of a message, and whether the reply said that there are none, as a step keeps them.
+pub(crate) fn records_of(heard: HeardMessage) -> Reply
+    ensures { heard_value result ≡ Records (told_by heard.message) heard.empty }
 {
+    let HeardMessage { message, empty } = heard;
     Reply::Told(Told {
         code: message.response_code,
-        empty: false,
+        empty,
         answers: message.answers,
         authorities: message.authorities,
         additionals: message.additionals,
@@ -78,13 +101,14 @@ pub(crate) fn entry_for(set: &MarkedSet, asked: Vec<AskRef>) -> Result<JudgedSet
     })
 }
 
-/// The ending of a step by what its judged sets come to. What can't be judged yet fails.
+/// The ending of a step by what its judged sets come to. What can't be judged yet fails; no step ends with a search.
 pub(crate) fn ending_of(outcome: Outcome) -> Ending
     ensures { ending_value result ≡ ending_by (outcome_value outcome) }
 {
     match outcome {
         Outcome::Unjudged => Ending::Failed,
         Outcome::Accepted(denial) => Ending::Answered(denial),
+        Outcome::Searched => Ending::Failed,
         Outcome::Denied(proof) => Ending::Denied(proof),
     }
 }

@@ -1,55 +1,36 @@
-ghost use Rattle.std.specs.Prelude.{◌==◌, ◌≡◌, ◌≤◌, ◌++◌, ◌∷◌, [], true, None, IfOk, OnOk, length, map};
+ghost use Rattle.std.specs.Prelude.{◌==◌, ◌≡◌, ◌≤◌, ◌∷◌, [], true, false, IfOk, length, map};
 ghost use Rattle.dns_model.specs.Records.{Question};
+ghost use Rattle.dns_model.specs.SoundAnswers.{told_by};
 ghost use Rattle.dns_model.specs.Types.{type_dnskey};
 ghost use Rattle.dns_judgement.specs.Asking.{most_sends};
+ghost use Rattle.dns_judgement.specs.Chained.{bare};
 ghost use Rattle.dns_judgement.specs.DerivationParts.{asks_of_sets};
-ghost use Rattle.dns_judgement.specs.Marks as marks;
+ghost use Rattle.dns_judgement.specs.Unsigned.{is_searched as needs_search};
+ghost use Rattle.dns_sets.specs.Outcome.{outcome_value};
 ghost use Rattle.dns_trust.specs.Judge.{judge_of};
 ghost use Rattle.dns_trust.specs.Verdicts.{verdict_value, listed};
-ghost use Rattle.dns_chain.specs.Walking.{asking, grounds_at, IsCounted, Went, Walk, IsJudgement, IsJudgedSet, AreTried, IsTried, IsAnswer, asks_in, entry_of};
+ghost use Rattle.dns_chain.specs.Walking.{asking, grounds_at, IsCounted, Went, Walk, IsJudgement, IsJudgedSet, AreTried, IsTried, IsAnswer, IsSearched, IsConcluded, asks_in};
 
 use crate::asking::hear;
 use crate::finished::{Finished, answered, refused, unanswered, unheard};
 use crate::inquiry::{Inquiry, MOST_SENDS, Progress};
-use crate::steps::{entry_for, foreign_of, records_of};
-use dns_name::NoMemory;
-use dns_net::{AskRef, DnsHandle, JudgedSet, NetError, Verifier};
+use crate::judging::{
+    Concluded, Judgement, OneSet, Searched, Tried, Verdicts, add_ask, is_key_set, set_of, untried,
+    with_entry,
+};
+use crate::search::{Way, ds_query, find_zone, is_searched, question_start, set_start};
+use crate::steps::{foreign_of, records_of};
+use dns_message::Message;
+use dns_name::{Name, NoMemory};
+use dns_net::{AskRef, DnsHandle, NetError, Verifier};
 use dns_rdata::Rrsig;
-use dns_record::{Query, Record, RecordSet, RecordType};
-use dns_sets::{ChainedSet, MarkedSet, PlacedSet, placed_sets};
+use dns_record::{DNSClass, Proof, Query, Record, RecordSet};
+use dns_sets::{ChainedSet, Outcome, PlacedSet, outcome_by_zone, outcome_of, placed_sets};
 use dns_trust::{
-    KeysStep, Verdict, ask_of, ds_ask_of, first_signatures, is_skipped, judged_by, judged_by_ds,
-    judged_keys, verdict_of,
+    KeysStep, ask_of, ds_ask_of, first_signatures, is_skipped, judged_by, judged_by_ds, judged_keys,
+    unsigned_by, verdict_of, zone_mark,
 };
 use std::alloc::Global;
-
-/// The judged sets of a step, and the entries that the trail has for them.
-#[derive(Drop)]
-pub(crate) struct Judgement {
-    pub(crate) sets: Vec<ChainedSet>,
-    pub(crate) entries: Vec<JudgedSet>,
-}
-
-// One judged set, and its entry.
-#[derive(Drop)]
-struct OneSet {
-    set: ChainedSet,
-    entry: JudgedSet,
-}
-
-// The verdicts of a set's signatures, and the asks that were made for them.
-#[derive(Drop)]
-struct Verdicts {
-    verdicts: Vec<Verdict>,
-    asked: Vec<AskRef>,
-}
-
-// The verdict of one signature, and its ask, if it made one.
-#[derive(Drop)]
-struct Tried {
-    verdict: Verdict,
-    ask: Option<AskRef>,
-}
 
 /// Judges the sets of a step at a depth, in order.
 #[cycle(walk)]
@@ -86,7 +67,7 @@ pub(crate) fn judge_sets<H: DnsHandle, V: Verifier>(
     Ok(Judgement { sets, entries })
 }
 
-// Judges one set: a key set by what makes its keys known, another by its first signatures.
+// Judges one set: a key set by what makes its keys known, an unsigned one by its zone, another by its first signatures.
 #[cycle(walk)]
 fn judge_set<H: DnsHandle, V: Verifier>(
     alloc: Global,
@@ -111,6 +92,10 @@ fn judge_set<H: DnsHandle, V: Verifier>(
 {
     if is_key_set(&placed) {
         let one = judge_keys(alloc, inquiry, handle, progress, depth, placed)?;
+        return Ok(one);
+    }
+    if is_searched(set_of(&placed)) {
+        let one = judge_unsigned(alloc, inquiry, handle, progress, depth, placed)?;
         return Ok(one);
     }
     let Verdicts { verdicts, asked } = judge_signatures(
@@ -165,34 +150,118 @@ fn judge_keys<H: DnsHandle, V: Verifier>(
     Ok(one)
 }
 
-// A judged set with its entry.
-fn with_entry(set: ChainedSet, asked: Vec<AskRef>) -> Result<OneSet, NoMemory>
-    ensures set { IfOk result (λ o. o.set ≡ set) }
-    ensures entry { IfOk result (λ o. o.entry ≡ entry_of set.judged asked.items) }
+// Judges an unsigned set by its zone, which it searches.
+#[cycle(walk)]
+fn judge_unsigned<H: DnsHandle, V: Verifier>(
+    alloc: Global,
+    inquiry: &Inquiry<'_, V>,
+    handle: &mut H,
+    progress: &mut Progress,
+    depth: u16,
+    placed: PlacedSet,
+) -> Result<OneSet, NoMemory>
+    requires few { progress.old.sends ≤ most_sends }
+    requires counted { length progress.old.steps.items ≤ progress.old.sends }
+    requires limit { inquiry.now.limit ≤ 255 }
+    requires shallow { depth ≤ 255 }
+    requires others { (placed.set.rtype == type_dnskey) ≡ false }
+    requires unsigned { needs_search placed.set ≡ true }
+    ensures counted { IsCounted progress.old progress.new }
+    ensures went { Went (asking H.DnsHandle inquiry.now) H.faults
+        handle.old handle.new progress.old.sends progress.new.sends }
+    ensures asks { IfOk result (λ o. Walk H.DnsHandle V.answers inquiry.now
+        handle.old progress.old handle.new progress.new o.entry.asked) }
+    ensures judged { IfOk result (λ o. (query : Question) → IsJudgedSet
+        (grounds_at V.answers inquiry.now progress.new query depth) placed o.set o.entry) }
 {
-    let entry = entry_for(marked(&set), asked)?;
-    Ok(OneSet { set, entry })
+    let class = set_of(&placed).dns_class;
+    let start = set_start(set_of(&placed))?;
+    let Searched { mark, asked } = search_zone(
+        alloc, inquiry, handle, progress, class, &start, depth,
+    )?;
+    let one = with_entry(unsigned_by(alloc, placed, mark), asked)?;
+    Ok(one)
 }
 
-// The set without its chain.
-fn marked(set: &ChainedSet) -> &MarkedSet
-    ensures { result.now ≡ set.now.judged }
+// Searches the zone of a name, and finds the mark that it leaves to what is unsigned in it (RFC 4035, 4.3 and 5.2).
+#[cycle(walk)]
+fn search_zone<H: DnsHandle, V: Verifier>(
+    alloc: Global,
+    inquiry: &Inquiry<'_, V>,
+    handle: &mut H,
+    progress: &mut Progress,
+    class: DNSClass,
+    start: &Name,
+    depth: u16,
+) -> Result<Searched, NoMemory>
+    requires few { progress.old.sends ≤ most_sends }
+    requires counted { length progress.old.steps.items ≤ progress.old.sends }
+    requires limit { inquiry.now.limit ≤ 255 }
+    requires shallow { depth ≤ 255 }
+    ensures counted { IsCounted progress.old progress.new }
+    ensures went { Went (asking H.DnsHandle inquiry.now) H.faults
+        handle.old handle.new progress.old.sends progress.new.sends }
+    ensures asks { IfOk result (λ s. Walk H.DnsHandle V.answers inquiry.now
+        handle.old progress.old handle.new progress.new s.asked.items) }
+    ensures searched { IfOk result (λ s. (query : Question) → IsSearched
+        (grounds_at V.answers inquiry.now progress.new query depth) class.0 start.now s.asked.items s.mark) }
 {
-    &set.judged
+    let Way { zone, asked } = find_zone(alloc, inquiry, handle, progress, class, start, depth)?;
+    let Some(zone) = zone else {
+        return Ok(Searched {
+            mark: Proof::Bogus,
+            asked,
+        });
+    };
+    let mut asked = asked;
+    let question = ds_query(zone.try_clone()?, class);
+    let Finished { ask, answer } = ask(alloc, inquiry, handle, progress, question, depth + 1)?;
+    asked.push(ask)?;
+    let mark = zone_mark(inquiry.judge.verifier, class, &zone, &answer);
+    Ok(Searched { mark, asked })
 }
 
-// The set itself.
-fn set_of(placed: &PlacedSet) -> &RecordSet
-    ensures { result.now ≡ placed.now.set }
+/// What the judged sets of a step come to; where they leave it open, the zone of its query is searched.
+#[cycle(walk)]
+pub(crate) fn conclude<H: DnsHandle, V: Verifier>(
+    alloc: Global,
+    inquiry: &Inquiry<'_, V>,
+    handle: &mut H,
+    progress: &mut Progress,
+    query: &Query,
+    depth: u16,
+    message: &Message,
+    sets: &[ChainedSet],
+) -> Result<Concluded, NoMemory>
+    requires few { progress.old.sends ≤ most_sends }
+    requires counted { length progress.old.steps.items ≤ progress.old.sends }
+    requires limit { inquiry.now.limit ≤ 255 }
+    requires shallow { depth ≤ 255 }
+    ensures counted { IsCounted progress.old progress.new }
+    ensures went { Went (asking H.DnsHandle inquiry.now) H.faults
+        handle.old handle.new progress.old.sends progress.new.sends }
+    ensures asks { IfOk result (λ c. Walk H.DnsHandle V.answers inquiry.now
+        handle.old progress.old handle.new progress.new c.excuse.items) }
+    ensures concluded { IfOk result (λ c. IsConcluded (grounds_at V.answers inquiry.now progress.new query.now depth)
+        (told_by message.now) (bare sets.now) (outcome_value c.outcome) c.excuse.items) }
 {
-    &placed.set
-}
-
-// The set holds a zone's keys.
-fn is_key_set(placed: &PlacedSet) -> bool
-    ensures { result ≡ (placed.now.set.rtype == type_dnskey) }
-{
-    placed.set.record_type == RecordType::DNSKEY
+    match outcome_of(query, message, sets) {
+        Outcome::Searched => {
+            let start = question_start(query)?;
+            let class = query.query_class;
+            let Searched { mark, asked } = search_zone(
+                alloc, inquiry, handle, progress, class, &start, depth,
+            )?;
+            Ok(Concluded {
+                outcome: outcome_by_zone(query, message, mark),
+                excuse: asked,
+            })
+        }
+        outcome => Ok(Concluded {
+            outcome,
+            excuse: Vec::new(alloc),
+        }),
+    }
 }
 
 // The verdicts of a set's first signatures, up to the first that proves the set.
@@ -236,17 +305,6 @@ fn judge_signatures<H: DnsHandle, V: Verifier>(
     Ok(Verdicts { verdicts, asked })
 }
 
-// Adds the ask of a signature, if it made one.
-fn add_ask(asked: &mut Vec<AskRef>, ask: Option<AskRef>) -> Result<(), NoMemory>
-    ensures { OnOk result (asked.new.items ≡ asked.old.items ++ asks_in ask) }
-{
-    match ask {
-        Some(made) => asked.push(made)?,
-        None => {}
-    }
-    Ok(())
-}
-
 // The verdict of one signature, after the ask for its signer's keys.
 #[cycle(walk)]
 fn judge_signature<H: DnsHandle, V: Verifier>(
@@ -287,17 +345,6 @@ fn judge_signature<H: DnsHandle, V: Verifier>(
     })
 }
 
-// What comes of a signature that isn't asked for.
-fn untried() -> Tried
-    ensures ask { result.ask ≡ None }
-    ensures verdict { verdict_value result.verdict ≡ record { verdict = marks.Failed; chain = [] } }
-{
-    Tried {
-        verdict: Verdict::Failed,
-        ask: None,
-    }
-}
-
 // Asks a question at a depth, and adds the steps that this makes to the trail.
 #[cycle(walk)]
 fn ask<H: DnsHandle, V: Verifier>(
@@ -326,8 +373,8 @@ fn ask<H: DnsHandle, V: Verifier>(
     if progress.sends >= MOST_SENDS {
         return Ok(refused(AskRef::TooMany));
     }
-    let message = match hear(alloc, inquiry, handle, progress, &query) {
-        Ok(message) => message,
+    let heard = match hear(alloc, inquiry, handle, progress, &query, true) {
+        Ok(heard) => heard,
         Err(error) => match error {
             NetError::NoMemory => return Err(NoMemory),
             _ => {
@@ -336,17 +383,27 @@ fn ask<H: DnsHandle, V: Verifier>(
             }
         },
     };
-    let foreign = foreign_of(&query, &message)?;
+    let foreign = foreign_of(&query, &heard.message)?;
     match foreign {
         Some(ending) => {
-            let reply = records_of(message);
+            let reply = records_of(heard);
             let seen = unanswered(alloc, progress, query, depth, reply, ending)?;
             return Ok(seen);
         }
         None => {}
     }
-    let placed = placed_sets(alloc, depth, &message)?;
+    let placed = placed_sets(alloc, depth, &heard.message)?;
     let judged = judge_sets(alloc, inquiry, handle, progress, &query, depth, placed)?;
-    let finished = answered(alloc, progress, query, depth, message, judged)?;
+    let concluded = conclude(
+        alloc,
+        inquiry,
+        handle,
+        progress,
+        &query,
+        depth,
+        &heard.message,
+        &judged.sets,
+    )?;
+    let finished = answered(progress, query, depth, heard, judged, concluded)?;
     Ok(finished)
 }

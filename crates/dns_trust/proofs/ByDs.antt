@@ -1,25 +1,30 @@
 -- A key set judged by the DS set of its owner, with its chain.
-use Rattle.std.proofs.Common.{◌≡◌, Bool, true, false, ◌||◌, cond, List, [], ◌∷◌, Option, None, Some, refl, sym, ap, ◌∙◌}
+use Rattle.std.proofs.Common.{◌≡◌, ℕ, Bool, true, false, ◌||◌, cond, List, [], ◌∷◌, Option, None, Some, refl, sym, ap, ◌∙◌}
 use Rattle.std.specs.Prelude.{if◌then◌else◌}
 use Rattle.std.specs.Option.{option_map, option_map_or}
 use Rattle.std.specs.List.{filter, find, list_any}
+use Rattle.dns_model.specs.declared.proof.Proof.{Proof}
 use Rattle.dns_model.specs.declared.proof.Proof.TheVariants as proof
+use Rattle.dns_model.specs.Names.{Labels}
 use Rattle.dns_model.specs.Records.{Rr, RrSet}
+use Rattle.dns_model.specs.Keys.{VerifierAnswers}
 use Rattle.dns_model.specs.Chains.{Judge, LinkValue}
 use Rattle.dns_model.specs.SoundAnswers.{Placed}
 use Rattle.dns_model.proofs.EachLemmas.{find-map}
 use Rattle.dns_judgement.specs.Judged.{Judged}
-use Rattle.dns_judgement.specs.ProofErrors.{DsRecordShouldExist}
-use Rattle.dns_judgement.specs.Delegations.{ZoneVerdict, Signed, Bogus, is_ds_set_of, is_supported_ds, verdict_by_ds, zone_verdict}
+use Rattle.dns_judgement.specs.ProofErrors.{DsRecordShouldExist, DsResponseInsecure, UnknownKeyAlgorithm}
+use Rattle.dns_judgement.specs.Delegations.{ZoneVerdict, Signed, Insecure, Bogus, is_ds_set_of, is_supported_ds, is_readable_ds, verdict_by_ds, shows_no_ds, is_insecure_above, verdict_without_ds, zone_verdict}
+use Rattle.dns_judgement.specs.Unsigned.{unsigned_mark}
 use Rattle.dns_judgement.specs.KeySets.{needs_ds, keys_outcome, outcome_by_ds, outcome_by_zone}
 use Rattle.dns_judgement.specs.Chained.{Chained, bare, ds_chain, keys_chained, chained_keys, chained_by_ds}
 use Rattle.dns_judgement.proofs.DsLemmas.{filter-filter}
 use Rattle.dns_judgement.proofs.KeySetLemmas.{needs_ds-outcome}
+use Rattle.dns_trust.specs.Unsigned.{unsupported_mark}
 use Rattle.dns_trust.specs.KeysMarks.{MarkedValue, outcome_marked, by_ds_records, marked_by_found, marked_by_zone, chained_with}
 
 -- neither signed nor wholly trusted
-abbrev pub unproved : MarkedValue
-unproved = record { mark = proof.Bogus; sig = None; chain = [] }
+abbrev pub unproved : Proof → MarkedValue
+unproved mark = record { mark = mark; sig = None; chain = [] }
 
 pub by_anchors : (j : Judge) (placed : Placed) → chained_with placed (outcome_marked j placed.set [] (keys_outcome j placed.set None)) ≡ chained_keys j placed
 unfolding chained_keys
@@ -34,7 +39,7 @@ by_zone j placed answer needed =
 
 -- ---- the DS set in an answer
 
-pub no_answer : (j : Judge) (set : RrSet) → unproved ≡ marked_by_zone j set None
+pub no_answer : (j : Judge) (set : RrSet) → unproved proof.Bogus ≡ marked_by_zone j set None
 unfolding zone_verdict
 no_answer j set = refl
 
@@ -42,16 +47,48 @@ map_or-map : {X Y Z : Type 0} (g : Y → Z) (f : X → Y) (o : Option X) (d : Z)
 map_or-map g f None d = refl
 map_or-map g f (Some x) d = refl
 
-pub by_found : (j : Judge) (set : RrSet) (answer : List Chained) (found : Option Chained)
-    → find (λ c. is_ds_set_of set.class set.owner c.judged) answer ≡ found → marked_by_found j set found ≡ marked_by_zone j set (Some answer)
+-- the DS verdict of an answer, by its DS set if it has one
+abbrev pub verdict_found : VerifierAnswers → Labels → List Chained → Option Chained → ZoneVerdict
+verdict_found verifier zone answer found =
+    option_map_or (λ c. verdict_by_ds verifier zone c.judged.mark c.judged.set.records) found (verdict_without_ds zone (bare answer))
+
+pub verdict_of_answer : (verifier : VerifierAnswers) (class : ℕ) (zone : Labels) (answer : List Chained) (found : Option Chained)
+    → find (λ c. is_ds_set_of class zone c.judged) answer ≡ found → zone_verdict verifier class zone (Some (bare answer)) ≡ verdict_found verifier zone answer found
 unfolding zone_verdict
-by_found j set answer found is =
-    let test = is_ds_set_of set.class set.owner in
-    let verdict = λ (f : Judged). verdict_by_ds j.answers set.owner f.mark f.set.records in
+verdict_of_answer verifier class zone answer found is =
+    let test = is_ds_set_of class zone in
+    let verdict = λ (f : Judged). verdict_by_ds verifier zone f.mark f.set.records in
+    let without = verdict_without_ds zone (bare answer) in
+    ap (λ o. option_map_or verdict o without) (find-map test (λ c. c.judged) answer)
+    ∙ map_or-map verdict (λ c. c.judged) (find (λ c. test c.judged) answer) without ∙ ap (verdict_found verifier zone answer) is
+
+-- the mark by the DS set of an answer, if it has one
+marked_found : (j : Judge) (set : RrSet) (answer : List Chained) (found : Option Chained)
+    → find (λ c. is_ds_set_of set.class set.owner c.judged) answer ≡ found
+    → marked_by_zone j set (Some answer)
+    ≡ outcome_marked j set (option_map_or (λ c. c.chain) found []) (outcome_by_zone j set (Some (verdict_found j.answers set.owner answer found)))
+marked_found j set answer found is =
     let marked = λ (o : Option Chained) (v : ZoneVerdict). outcome_marked j set (option_map_or (λ c. c.chain) o []) (outcome_by_zone j set (Some v)) in
-    sym (ap (λ o. marked (find (λ c. test c.judged) answer) (option_map_or verdict o (Bogus (DsRecordShouldExist set.owner)))) (find-map test (λ c. c.judged) answer)
-    ∙ ap (marked (find (λ c. test c.judged) answer)) (map_or-map verdict (λ c. c.judged) (find (λ c. test c.judged) answer) (Bogus (DsRecordShouldExist set.owner)))
-    ∙ ap (marked_by_found j set) is)
+    ap (λ o. marked o (zone_verdict j.answers set.class set.owner (Some (bare answer)))) is
+    ∙ ap (marked found) (verdict_of_answer j.answers set.class set.owner answer found is)
+
+pub by_found : (j : Judge) (set : RrSet) (answer : List Chained) (found : Chained)
+    → find (λ c. is_ds_set_of set.class set.owner c.judged) answer ≡ Some found → marked_by_found j set found ≡ marked_by_zone j set (Some answer)
+by_found j set answer found is = sym (marked_found j set answer (Some found) is)
+
+-- what an answer without a DS set of the owner leaves
+unproved_if : (j : Judge) (set : RrSet) (b : Bool)
+    → unproved ((unsigned_mark (if b then Insecure (DsResponseInsecure set.owner) else Bogus (DsRecordShouldExist set.owner))).mark)
+    ≡ outcome_marked j set [] (outcome_by_zone j set (Some (if b then Insecure (DsResponseInsecure set.owner) else Bogus (DsRecordShouldExist set.owner))))
+unproved_if j set true = refl
+unproved_if j set false = refl
+
+pub by_none : (j : Judge) (set : RrSet) (answer : List Chained)
+    → find (λ c. is_ds_set_of set.class set.owner c.judged) answer ≡ None
+    → unproved ((unsigned_mark (verdict_without_ds set.owner (bare answer))).mark) ≡ marked_by_zone j set (Some answer)
+by_none j set answer none =
+    unproved_if j set (list_any (shows_no_ds set.owner) (bare answer) || list_any (is_insecure_above set.owner) (bare answer))
+    ∙ sym (marked_found j set answer None none)
 
 -- ---- its records
 
@@ -71,18 +108,27 @@ one_if : (rs : List Rr) → (rs ≡ [] → ⊥) → has_one rs ≡ true
 one_if [] h = absurd (h refl)
 one_if (r ∷ rs) h = refl
 
-abbrev by_test : Judge → RrSet → List LinkValue → List Rr → Bool → MarkedValue
-by_test j set front kept any = outcome_marked j set front (outcome_by_zone j set (Some (if any then Signed kept else Bogus (DsRecordShouldExist set.owner))))
+abbrev by_test : Judge → RrSet → List LinkValue → List Rr → Bool → Bool → MarkedValue
+by_test j set front kept readable any =
+    outcome_marked j set front (outcome_by_zone j set (Some
+    (if any then Signed kept else if readable then Insecure UnknownKeyAlgorithm else Bogus (DsRecordShouldExist set.owner))))
+
+by_unsupported : (j : Judge) (set : RrSet) (front : List LinkValue) (kept : List Rr) (readable : Bool)
+    → unproved (if readable then proof.Insecure else proof.Bogus) ≡ by_test j set front kept readable false
+by_unsupported j set front kept true = refl
+by_unsupported j set front kept false = refl
 
 pub none_supported : (j : Judge) (set : RrSet) (front : List LinkValue) (records : List Rr) → filter (is_supported_ds j.answers) records ≡ []
-    → unproved ≡ by_ds_records j set front records
+    → unproved (unsupported_mark records) ≡ by_ds_records j set front records
 none_supported j set front records none =
     let test = is_supported_ds j.answers in
-    sym (ap (by_test j set front (filter test records)) (any_kept test records ∙ ap has_one none))
+    let readable = list_any is_readable_ds records in
+    by_unsupported j set front (filter test records) readable
+    ∙ sym (ap (by_test j set front (filter test records) readable) (any_kept test records ∙ ap has_one none))
 
 pub some_supported : (j : Judge) (set : RrSet) (front : List LinkValue) (records kept : List Rr) → kept ≡ filter (is_supported_ds j.answers) records
     → (kept ≡ [] → ⊥) → outcome_marked j set front (outcome_by_ds j set kept) ≡ by_ds_records j set front records
 some_supported j set front records kept is some =
     let test = is_supported_ds j.answers in
     ap (λ rs. outcome_marked j set front (outcome_by_ds j set rs)) (is ∙ sym (filter-filter test records))
-    ∙ sym (ap (by_test j set front (filter test records)) (any_kept test records ∙ sym (ap has_one is) ∙ one_if kept some))
+    ∙ sym (ap (by_test j set front (filter test records) (list_any is_readable_ds records)) (any_kept test records ∙ sym (ap has_one is) ∙ one_if kept some))

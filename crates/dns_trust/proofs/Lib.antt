@@ -11,4 +11,5 @@ pub mod Once
 pub mod Signing
 pub mod Delegated
 pub mod ByDs
+pub mod ByZone
 pub mod Shown

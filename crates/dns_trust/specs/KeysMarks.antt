@@ -1,14 +1,13 @@
 -- For private functions of this crate only: the mark of a DNSKEY set with its chain, as the outcome gives them.
 use Rattle.std.specs.Prelude.{ℕ, ◌≡◌, true, false, List, [], map, Option, None, Some}
-use Rattle.std.specs.Option.{option_map, option_map_or}
+use Rattle.std.specs.Option.{option_map}
 use Rattle.dns_model.specs.declared.proof.Proof.{Proof}
 use Rattle.dns_model.specs.declared.proof.Proof.TheVariants as proof
 use Rattle.dns_model.specs.Records.{Rr, RrSet}
 use Rattle.dns_model.specs.Chains.{Judge, LinkValue}
 use Rattle.dns_model.specs.SoundAnswers.{Placed}
 use Rattle.dns_net.specs.Link.{link_value}
-use Rattle.dns_judgement.specs.Delegations.{Bogus, verdict_by_ds, zone_verdict}
-use Rattle.dns_judgement.specs.ProofErrors.{DsRecordShouldExist}
+use Rattle.dns_judgement.specs.Delegations.{verdict_by_ds, verdict_without_ds, zone_verdict}
 use Rattle.dns_judgement.specs.KeySets.{KeysOutcome, keys_outcome, outcome_by_zone, outcome_mark, needs_ds}
 use Rattle.dns_judgement.specs.Chained.{Chained, bare, ds_chain, outcome_chain}
 use Rattle.dns_trust.specs.declared.key_sets.KeysMarked.{KeysMarked}
@@ -41,12 +40,15 @@ marked_by_zone j set answer =
     outcome_marked j set (ds_chain set.class set.owner answer)
     (outcome_by_zone j set (Some (zone_verdict j.answers set.class set.owner (option_map bare answer))))
 
--- those that the owner's DS set gives, if the answer has one
-abbrev pub marked_by_found : Judge → RrSet → Option Chained → MarkedValue
+-- those that the owner's DS set gives
+abbrev pub marked_by_found : Judge → RrSet → Chained → MarkedValue
 marked_by_found j set found =
-    outcome_marked j set (option_map_or (λ c. c.chain) found [])
-    (outcome_by_zone j set (Some (option_map_or (λ c. verdict_by_ds j.answers set.owner c.judged.mark c.judged.set.records) found
-    (Bogus (DsRecordShouldExist set.owner)))))
+    outcome_marked j set found.chain
+    (outcome_by_zone j set (Some (verdict_by_ds j.answers set.owner found.judged.mark found.judged.set.records)))
+
+-- those that an answer without such a set gives
+abbrev pub marked_without : Judge → RrSet → List Chained → MarkedValue
+marked_without j set answer = outcome_marked j set [] (outcome_by_zone j set (Some (verdict_without_ds set.owner (bare answer))))
 
 -- a placed set with them
 abbrev pub chained_with : Placed → MarkedValue → Chained

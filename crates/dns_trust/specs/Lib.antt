@@ -12,3 +12,4 @@ pub mod Signers
 pub mod Rows
 pub mod Steps
 pub mod KeysMarks
+pub mod Unsigned

@@ -14,10 +14,11 @@ ghost use Rattle.dns_trust.specs.KeysMarks.{marked_value, outcome_marked, by_ds_
 use crate::chains::{
     anchored_chain, anchored_link, last_number, matched_link, self_signed_chain, trusted_chain,
 };
+use crate::unsigned::{ds_set_of, mark_by_unsupported, mark_without_ds};
 use crate::{AnchoredRow, DsIndex, Judge, MatchedRow, SignedBy, anchored_row, matched_row};
-use dns_name::{Name, NoMemory};
+use dns_name::NoMemory;
 use dns_net::{Link, Verifier, clone_links};
-use dns_record::{DNSClass, Proof, Query, Record, RecordSet, RecordType, Section};
+use dns_record::{Proof, Query, Record, RecordSet, RecordType};
 use dns_sets::{ChainedSet, MarkedSet, PlacedSet};
 use std::alloc::Global;
 
@@ -94,12 +95,12 @@ fn with_mark(placed: PlacedSet, marked: KeysMarked) -> ChainedSet
     ChainedSet { judged, chain }
 }
 
-// Neither signed nor wholly trusted.
-fn refused(alloc: Global) -> KeysMarked
-    ensures { marked_value result ≡ record { mark = Proof.Bogus; sig = None; chain = [] } }
+// Neither signed nor wholly trusted. The mark is Insecure where no more can be expected.
+fn refused(alloc: Global, mark: Proof) -> KeysMarked
+    ensures { marked_value result ≡ record { mark = mark; sig = None; chain = [] } }
 {
     KeysMarked {
-        mark: Proof::Bogus,
+        mark,
         sig: None,
         chain: Vec::new(alloc),
     }
@@ -130,7 +131,7 @@ fn marked_by_anchors<V: Verifier>(
             Ok(Some(signed(alloc, set, Vec::new(alloc), link, &by)?))
         }
         AnchoredRow::Whole => Ok(Some(wholly_trusted(anchored_chain(alloc, set)?))),
-        AnchoredRow::Root => Ok(Some(refused(alloc))),
+        AnchoredRow::Root => Ok(Some(refused(alloc, Proof::Bogus))),
         AnchoredRow::NeedsDs => Ok(None),
     }
 }
@@ -168,11 +169,11 @@ fn marked_by_answer<V: Verifier>(
     ensures { IfOk result (λ m. marked_value m ≡ marked_by_zone (judge_of V.answers judge.now) set.now (listed answer.now)) }
 {
     let Some(sets) = answer else {
-        return Ok(refused(alloc));
+        return Ok(refused(alloc, Proof::Bogus));
     };
     match ds_set_of(set.dns_class, &set.name, sets) {
         Some(found) => marked_by_set(alloc, judge, set, found),
-        None => Ok(refused(alloc)),
+        None => Ok(refused(alloc, mark_without_ds(&set.name, sets))),
     }
 }
 
@@ -184,16 +185,16 @@ fn marked_by_set<V: Verifier>(
     found: &ChainedSet,
 ) -> Result<KeysMarked, NoMemory>
     requires { needs_ds (judge_of V.answers judge.now) set.now ≡ true }
-    ensures { IfOk result (λ m. marked_value m ≡ marked_by_found (judge_of V.answers judge.now) set.now (Some found.now)) }
+    ensures { IfOk result (λ m. marked_value m ≡ marked_by_found (judge_of V.answers judge.now) set.now found.now) }
 {
     match found.judged.mark {
         Proof::Secure => {
             let records = found.judged.set.records.as_slice();
             marked_by_records(alloc, judge, set, &found.chain, records)
         }
-        Proof::Insecure => Ok(refused(alloc)),
-        Proof::Bogus => Ok(refused(alloc)),
-        Proof::Indeterminate => Ok(refused(alloc)),
+        Proof::Insecure => Ok(refused(alloc, Proof::Bogus)),
+        Proof::Bogus => Ok(refused(alloc, Proof::Bogus)),
+        Proof::Indeterminate => Ok(refused(alloc, Proof::Bogus)),
     }
 }
 
@@ -211,7 +212,7 @@ fn marked_by_records<V: Verifier>(
 {
     let ds = DsIndex::of_supported(alloc, judge.verifier, &set.name, records)?;
     if ds.is_empty() {
-        return Ok(refused(alloc));
+        return Ok(refused(alloc, mark_by_unsupported(records)));
     }
     marked_by_ds(alloc, judge, set, front, &ds)
 }
@@ -240,25 +241,6 @@ fn marked_by_ds<V: Verifier>(
             let chain = trusted_chain(alloc, judge, set, front, ds)?;
             Ok(wholly_trusted(chain))
         }
-        MatchedRow::Neither => Ok(refused(alloc)),
+        MatchedRow::Neither => Ok(refused(alloc, Proof::Bogus)),
     }
-}
-
-// The first DS set of a zone in the answer section.
-fn ds_set_of<'a>(class: DNSClass, zone: &Name, sets: &'a [ChainedSet]) -> Option<&'a ChainedSet>
-    ensures { option_copied result ≡ find (λ c. is_ds_set_of class.0 zone.now c.judged) sets.now }
-{
-    sets.iter()
-        .find(|chained| is_ds_set(class, zone, &chained.judged))
-}
-
-// The set is a DS set of the zone in the answer section.
-fn is_ds_set(class: DNSClass, zone: &Name, judged: &MarkedSet) -> bool
-    ensures { result ≡ is_ds_set_of class.0 zone.now judged.now }
-{
-    let set = &judged.set;
-    judged.section == Section::Answer
-        && *zone == set.name
-        && set.record_type == RecordType::DS
-        && class == set.dns_class
 }

@@ -14,6 +14,7 @@ mod key_sets;
 mod keys;
 mod listed;
 mod signers;
+mod unsigned;
 mod validity;
 mod verdict;
 
@@ -27,5 +28,6 @@ pub use key_sets::{KeysStep, ds_ask_of, judged_by_ds, judged_keys};
 pub use keys::{AnchoredRow, MatchedRow, anchored_row, matched_row};
 pub use listed::Listed;
 pub use signers::{SignedBy, first_signatures};
+pub use unsigned::{unsigned_by, zone_mark};
 pub use validity::RrsigValidity;
 pub use verdict::{Verdict, ask_of, is_skipped, verdict_of};

@@ -1,11 +1,13 @@
 use Rattle.std.proofs.Common.{rules, ◌≡◌, None, Some, IfOk, subst, sym, ap, ◌∙◌}
 use Rattle.std.specs.List.{find}
-use Rattle.dns_judgement.specs.Delegations.{is_ds_set_of}
-use Rattle.dns_judgement.specs.Chained.{Chained}
+use Rattle.dns_model.specs.Records.{RrSet}
+use Rattle.dns_judgement.specs.Delegations.{is_ds_set_of, verdict_without_ds}
+use Rattle.dns_judgement.specs.Unsigned.{unsigned_mark}
+use Rattle.dns_judgement.specs.Chained.{Chained, bare}
 use Rattle.dns_trust.specs.Judge.{judge_of}
 use Rattle.dns_trust.specs.Verdicts.{listed}
 use Rattle.dns_trust.specs.KeysMarks.{marked_by_zone, marked_value}
-use Rattle.dns_trust.proofs.ByDs.{no_answer, by_found}
+use Rattle.dns_trust.proofs.ByDs.{unproved, no_answer, by_found, by_none}
 use Rattle.dns_trust.proofs.key_sets.marked_by_answer.Goals as goal
 
 pub returns-in_default : goal.returns-in_default
@@ -19,7 +21,7 @@ returns-in-Some-ds_set_of g c =
     let one : find (λ (s : Chained). is_ds_set_of c.args.set.now.class c.args.set.now.owner s.judged) c.in-Some.sets.items ≡ Some c.in-Some-ds_set_of.found.now =
     search rules in
     subst (λ w. IfOk c.marked_by_set.result (λ m. marked_value m ≡ w))
-    (by_found j c.args.set.now c.in-Some.sets.items (Some c.in-Some-ds_set_of.found.now) one
+    (by_found j c.args.set.now c.in-Some.sets.items c.in-Some-ds_set_of.found.now one
     ∙ ap (λ o. marked_by_zone j c.args.set.now (listed o)) (sym c.in-Some.is))
     c.marked_by_set.ensures
 
@@ -27,5 +29,9 @@ pub returns-in-None : goal.returns-in-None
 returns-in-None g c =
     let j = judge_of g.V.Verifier.answers c.args.judge.now in
     let none : find (λ (s : Chained). is_ds_set_of c.args.set.now.class c.args.set.now.owner s.judged) c.in-Some.sets.items ≡ None = search rules in
-    c.refused-in-None.ensures ∙ by_found j c.args.set.now c.in-Some.sets.items None none
+    c.refused-in-None.ensures
+    ∙ ap unproved (c.mark_without_ds.ensures
+    ∙ ap (λ (x : RrSet). (unsigned_mark (verdict_without_ds x.owner (bare c.deref-in-None.result.now))).mark) c.set.view_is
+    ∙ ap (λ xs. (unsigned_mark (verdict_without_ds c.args.set.now.owner (bare xs))).mark) c.deref-in-None.ensures.value)
+    ∙ by_none j c.args.set.now c.in-Some.sets.items none
     ∙ ap (λ o. marked_by_zone j c.args.set.now (listed o)) (sym c.in-Some.is)

@@ -1,13 +1,13 @@
-use Rattle.std.proofs.Common.{◌≡◌, true, false, IfOk, map, subst, sym, ◌∙◌}
+use Rattle.std.proofs.Common.{◌≡◌, true, false, IfOk, map, subst, sym, ap, ◌∙◌}
 use Rattle.dns_net.specs.Link.{link_value}
 use Rattle.dns_trust.specs.Judge.{judge_of}
 use Rattle.dns_trust.specs.KeysMarks.{marked_value}
-use Rattle.dns_trust.proofs.ByDs.{none_supported, some_supported}
+use Rattle.dns_trust.proofs.ByDs.{unproved, none_supported, some_supported}
 use Rattle.dns_trust.proofs.key_sets.marked_by_records.Goals as goal
 
 pub returns-then-is_empty : goal.returns-then-is_empty
 returns-then-is_empty g c =
-    c.refused.ensures
+    c.refused.ensures ∙ ap unproved c.mark_by_unsupported.ensures
     ∙ none_supported (judge_of g.V.Verifier.answers c.args.judge.now) c.args.set.now (map link_value c.args.front.now.items) c.args.records.now
     (sym c.in_ok-ds.ensures.records ∙ c.is_empty.ensures.0 c.if-is_empty.true)
 

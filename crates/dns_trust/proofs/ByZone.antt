@@ -1,0 +1,54 @@
+-- What a zone leaves to the unsigned sets in it, by the answer to the ask for its DS set.
+use Rattle.std.proofs.Common.{◌≡◌, ℕ, Bool, true, false, ◌||◌, List, [], ◌∷◌, None, Some, refl, sym, ap, ◌∙◌}
+use Rattle.std.specs.Prelude.{if◌then◌else◌}
+use Rattle.std.specs.List.{find, list_any}
+use Rattle.dns_model.specs.declared.proof.Proof.TheVariants as proof
+use Rattle.dns_model.specs.Names.{Labels}
+use Rattle.dns_model.specs.Keys.{VerifierAnswers}
+use Rattle.dns_judgement.specs.Judged.{Judged}
+use Rattle.dns_judgement.specs.ProofErrors.{DsRecordShouldExist, DsResponseInsecure}
+use Rattle.dns_judgement.specs.Delegations.{Insecure, Bogus, is_ds_set_of, verdict_by_ds, shows_no_ds, is_insecure_above, verdict_without_ds, zone_verdict}
+use Rattle.dns_judgement.specs.Unsigned.{unsigned_mark}
+use Rattle.dns_judgement.specs.Chained.{Chained, bare}
+use Rattle.dns_trust.proofs.ByDs.{verdict_of_answer}
+
+-- an ask that failed or was refused leaves Bogus
+pub failed_mark : (verifier : VerifierAnswers) (class : ℕ) (zone : Labels) → proof.Bogus ≡ (unsigned_mark (zone_verdict verifier class zone None)).mark
+unfolding zone_verdict
+failed_mark verifier class zone = refl
+
+-- an answer with a DS set of the zone
+pub found_mark : (verifier : VerifierAnswers) (class : ℕ) (zone : Labels) (answer : List Chained) (found : Chained)
+    → find (λ c. is_ds_set_of class zone c.judged) answer ≡ Some found
+    → (unsigned_mark (verdict_by_ds verifier zone found.judged.mark found.judged.set.records)).mark
+    ≡ (unsigned_mark (zone_verdict verifier class zone (Some (bare answer)))).mark
+found_mark verifier class zone answer found is =
+    ap (λ v. (unsigned_mark v).mark) (sym (verdict_of_answer verifier class zone answer (Some found) is))
+
+-- and one without
+pub without_mark : (verifier : VerifierAnswers) (class : ℕ) (zone : Labels) (answer : List Chained)
+    → find (λ c. is_ds_set_of class zone c.judged) answer ≡ None
+    → (unsigned_mark (verdict_without_ds zone (bare answer))).mark ≡ (unsigned_mark (zone_verdict verifier class zone (Some (bare answer)))).mark
+without_mark verifier class zone answer none =
+    ap (λ v. (unsigned_mark v).mark) (sym (verdict_of_answer verifier class zone answer None none))
+
+-- ---- an answer without a DS set
+
+any_bare : (test : Judged → Bool) (answer : List Chained) → list_any (λ c. test c.judged) answer ≡ list_any test (bare answer)
+any_bare test [] = refl
+any_bare test (c ∷ cs) = ap (λ b. test c.judged || b) (any_bare test cs)
+
+insecure_if : (zone : Labels) (b : Bool)
+    → (if b then proof.Insecure else proof.Bogus)
+    ≡ (unsigned_mark (if b then Insecure (DsResponseInsecure zone) else Bogus (DsRecordShouldExist zone))).mark
+insecure_if zone true = refl
+insecure_if zone false = refl
+
+pub mark_without : (zone : Labels) (answer : List Chained) (b : Bool)
+    → b ≡ (list_any (λ c. shows_no_ds zone c.judged) answer || list_any (λ c. is_insecure_above zone c.judged) answer)
+    → (if b then proof.Insecure else proof.Bogus) ≡ (unsigned_mark (verdict_without_ds zone (bare answer))).mark
+mark_without zone answer b is =
+    ap (λ x. if x then proof.Insecure else proof.Bogus)
+    (is ∙ ap (λ x. x || list_any (λ c. is_insecure_above zone c.judged) answer) (any_bare (shows_no_ds zone) answer)
+    ∙ ap (λ x. list_any (shows_no_ds zone) (bare answer) || x) (any_bare (is_insecure_above zone) answer))
+    ∙ insecure_if zone (list_any (shows_no_ds zone) (bare answer) || list_any (is_insecure_above zone) (bare answer))

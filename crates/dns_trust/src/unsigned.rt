@@ -1,0 +1,206 @@
+ghost use Rattle.std.specs.Prelude.{◌≡◌, ◌||◌, [], None};
+ghost use Rattle.std.specs.List.{list_any, find};
+ghost use Rattle.std.specs.Option.{option_map, option_copied};
+ghost use Rattle.dns_judgement.specs.Chained.{bare};
+ghost use Rattle.dns_judgement.specs.Delegations.{zone_verdict, verdict_by_ds, verdict_without_ds, is_ds_set_of, shows_no_ds as shows_none, shows_unsigned_cut as shows_cut, is_unsigned_cut as is_cut, is_insecure_above as is_above, is_readable_ds as is_readable, is_supported_ds as is_supported};
+ghost use Rattle.dns_model.specs.declared.proof.Proof.TheVariants.{Secure};
+ghost use Rattle.dns_model.specs.Names.{Labels};
+ghost use Rattle.dns_trust.specs.Unsigned.{unsupported_mark};
+ghost use Rattle.dns_judgement.specs.Unsigned.{unsigned_mark};
+ghost use Rattle.dns_trust.specs.Verdicts.{listed};
+
+use crate::is_supported_ds;
+use dns_name::Name;
+use dns_net::Verifier;
+use dns_rdata::{Ds, Nsec};
+use dns_record::{DNSClass, Proof, Record, RecordType, Section};
+use dns_sets::{ChainedSet, MarkedSet, PlacedSet};
+use std::alloc::Global;
+
+/// An unsigned set with the mark that its zone leaves to it. It has no chain.
+pub fn unsigned_by(alloc: Global, placed: PlacedSet, mark: Proof) -> ChainedSet
+    ensures judged { result.judged ≡ record { section = placed.section; set = placed.set; mark = mark; sig = None } }
+    ensures chain { result.chain ≡ [] }
+{
+    let PlacedSet { section, set } = placed;
+    let judged = MarkedSet {
+        section,
+        set,
+        mark,
+        sig: None,
+    };
+    ChainedSet {
+        judged,
+        chain: Vec::new(alloc),
+    }
+}
+
+/// What a zone leaves to the sets in it that are unsigned, by the judged sets of the answer to the ask for its DS set; None where the
+/// ask failed or was refused: Insecure where no more can be expected, and else Bogus (RFC 4035, 4.3 and 5.2).
+pub fn zone_mark<V: Verifier>(
+    verifier: &V,
+    class: DNSClass,
+    zone: &Name,
+    answer: &Option<Vec<ChainedSet>>,
+) -> Proof
+    ensures { result ≡ (unsigned_mark (zone_verdict (V.answers verifier.now) class.0 zone.now
+        (option_map bare (listed answer.now)))).mark }
+{
+    let Some(sets) = answer else {
+        return Proof::Bogus;
+    };
+    match ds_set_of(class, zone, sets) {
+        Some(found) => mark_by_set(verifier, zone, found),
+        None => mark_without_ds(zone, sets),
+    }
+}
+
+// By the DS set of the zone.
+fn mark_by_set<V: Verifier>(verifier: &V, zone: &Name, found: &ChainedSet) -> Proof
+    ensures { result ≡ (unsigned_mark
+        (verdict_by_ds (V.answers verifier.now) zone.now found.now.judged.mark found.now.judged.set.records)).mark }
+{
+    match found.judged.mark {
+        Proof::Secure => mark_by_ds(verifier, found.judged.set.records.as_slice()),
+        Proof::Insecure => Proof::Bogus,
+        Proof::Bogus => Proof::Bogus,
+        Proof::Indeterminate => Proof::Bogus,
+    }
+}
+
+// By the records of the zone's DS set, which is Secure.
+fn mark_by_ds<V: Verifier>(verifier: &V, records: &[Record]) -> Proof
+    ensures { (zone : Labels) → result ≡ (unsigned_mark (verdict_by_ds (V.answers verifier.now) zone Secure records.now)).mark }
+{
+    if has_supported(verifier, records) {
+        Proof::Bogus
+    } else {
+        mark_by_unsupported(records)
+    }
+}
+
+/// What a Secure DS set without a supported record leaves to the unsigned sets of its zone.
+pub(crate) fn mark_by_unsupported(records: &[Record]) -> Proof
+    ensures { result ≡ unsupported_mark records.now }
+{
+    if has_readable(records) {
+        Proof::Insecure
+    } else {
+        Proof::Bogus
+    }
+}
+
+/// What an answer without a DS set of the zone leaves to its unsigned sets.
+pub(crate) fn mark_without_ds(zone: &Name, sets: &[ChainedSet]) -> Proof
+    ensures { result ≡ (unsigned_mark (verdict_without_ds zone.now (bare sets.now))).mark }
+{
+    if is_insecure_without_ds(zone, sets) {
+        Proof::Insecure
+    } else {
+        Proof::Bogus
+    }
+}
+
+// The answer shows that the delegation has no DS, or an Insecure set of the zone or above it.
+fn is_insecure_without_ds(zone: &Name, sets: &[ChainedSet]) -> bool
+    ensures { result ≡ (list_any (λ c. shows_none zone.now c.judged) sets.now || list_any (λ c. is_above zone.now c.judged) sets.now) }
+{
+    has_no_ds(zone, sets) || has_insecure_above(zone, sets)
+}
+
+fn has_supported<V: Verifier>(verifier: &V, records: &[Record]) -> bool
+    ensures { result ≡ list_any (is_supported (V.answers verifier.now)) records.now }
+{
+    records.iter().any(|read| is_supported_ds(verifier, read))
+}
+
+fn has_readable(records: &[Record]) -> bool
+    ensures { result ≡ list_any is_readable records.now }
+{
+    records.iter().any(is_readable_ds)
+}
+
+fn is_readable_ds(read: &Record) -> bool
+    ensures { result ≡ is_readable read.now }
+{
+    Ds::of(read).is_some()
+}
+
+fn has_no_ds(zone: &Name, sets: &[ChainedSet]) -> bool
+    ensures { result ≡ list_any (λ c. shows_none zone.now c.judged) sets.now }
+{
+    sets.iter().any(|set| shows_no_ds(zone, &set.judged))
+}
+
+fn has_insecure_above(zone: &Name, sets: &[ChainedSet]) -> bool
+    ensures { result ≡ list_any (λ c. is_above zone.now c.judged) sets.now }
+{
+    sets.iter().any(|set| is_insecure_above(zone, &set.judged))
+}
+
+// A Secure NSEC of the zone in the authority section shows that its delegation has no DS.
+fn shows_no_ds(zone: &Name, judged: &MarkedSet) -> bool
+    ensures { result ≡ shows_none zone.now judged.now }
+{
+    let set = &judged.set;
+    judged.section == Section::Authority
+        && judged.mark == Proof::Secure
+        && *zone == set.name
+        && set.record_type == RecordType::NSEC
+        && has_unsigned_cut(&set.records)
+}
+
+fn has_unsigned_cut(records: &[Record]) -> bool
+    ensures { result ≡ list_any shows_cut records.now }
+{
+    records.iter().any(shows_unsigned_cut)
+}
+
+// NS is among the types of the NSEC, DS and SOA aren't.
+fn shows_unsigned_cut(read: &Record) -> bool
+    ensures { result ≡ shows_cut read.now }
+{
+    match Nsec::read(read.rdata.as_slice()) {
+        Some(nsec) => is_unsigned_cut(&nsec),
+        None => false,
+    }
+}
+
+fn is_unsigned_cut(nsec: &Nsec<'_>) -> bool
+    ensures { result ≡ is_cut nsec.now }
+{
+    let types = &nsec.types;
+    types.contains(RecordType::NS)
+        && !types.contains(RecordType::DS)
+        && !types.contains(RecordType::SOA)
+}
+
+// A set that is Insecure, at the zone or above it.
+fn is_insecure_above(zone: &Name, judged: &MarkedSet) -> bool
+    ensures { result ≡ is_above zone.now judged.now }
+{
+    judged.mark == Proof::Insecure && judged.set.name.zone_of(zone)
+}
+
+/// The first DS set of a zone in the answer section.
+pub(crate) fn ds_set_of<'a>(
+    class: DNSClass,
+    zone: &Name,
+    sets: &'a [ChainedSet],
+) -> Option<&'a ChainedSet>
+    ensures { option_copied result ≡ find (λ c. is_ds_set_of class.0 zone.now c.judged) sets.now }
+{
+    sets.iter()
+        .find(|chained| is_ds_set(class, zone, &chained.judged))
+}
+
+// The set is a DS set of the zone in the answer section.
+fn is_ds_set(class: DNSClass, zone: &Name, judged: &MarkedSet) -> bool
+    ensures { result ≡ is_ds_set_of class.0 zone.now judged.now }
+{
+    let set = &judged.set;
+    judged.section == Section::Answer
+        && *zone == set.name
+        && set.record_type == RecordType::DS
+        && class == set.dns_class
+}
