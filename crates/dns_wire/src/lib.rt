@@ -11,3 +11,4 @@ pub use dns_rdata::{
 pub use dns_record::{
     DNSClass, OpCode, Query, Rdata, Record, RecordSet, RecordType, ResponseCode, clone_records,
 };
+pub use dns_steps::Steps;
