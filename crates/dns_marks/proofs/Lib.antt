@@ -1,0 +1,3 @@
+pub mod ZoneLemmas
+pub mod CallLemmas
+pub mod KeyLemmas

@@ -1,0 +1,6 @@
+use Rattle.dns_marks.proofs.KeyLemmas.{InTurn}
+use Rattle.dns_marks.proofs.signature_keys.is_proved.Given as goal
+
+-- no key so far proves the set, and the calls so far are counted
+abbrev pub invariant-loop-key : goal.invariant-loop-key
+invariant-loop-key g l = InTurn (g.V.Verifier.answers l.verifier) l.now l.set l.sig l.keys l.key-index l.initial.steps l.steps

@@ -1,0 +1,7 @@
+pub mod Kinds
+pub mod Proofs
+pub mod Dnskeys
+pub mod KeySignatures
+pub mod SignatureKeys
+pub mod KeyMarks
+pub mod ZoneVerdicts

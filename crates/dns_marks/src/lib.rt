@@ -1,0 +1,19 @@
+//! What single calls find of keys, signatures and DS sets, each with the cause where it isn't Secure. The layer above may use
+//! each call as the definition that its clause names, and its errors as the plain values of `dns_judgement`.
+#![tactic(auto)]
+
+mod delegation;
+mod key_marks;
+mod proof_error;
+mod rrset_proof;
+mod signature;
+mod signature_keys;
+mod zone_verdict;
+
+pub use delegation::verify_dnskey;
+pub use key_marks::{KeysMark, mark_keys};
+pub use proof_error::{ProofError, ProofErrorKind};
+pub use rrset_proof::RrsetProof;
+pub use signature::verify_rrset_with_dnskey;
+pub use signature_keys::verify_rrsig_with_keys;
+pub use zone_verdict::{DnsAnswer, ZoneVerdict, ds_verdict};

@@ -1,0 +1,239 @@
+ghost use Rattle.std.specs.Prelude.{◌≡◌, IfOk};
+ghost use Rattle.dns_model.specs.declared.proof.Proof.TheVariants as proof;
+ghost use Rattle.dns_judgement.specs.ProofErrors as cause;
+ghost use Rattle.dns_marks.specs.Kinds.{kind_value, because, want_of_memory};
+
+use dns_name::{Name, NoMemory};
+use dns_net::Notice;
+use dns_record::{Proof, Query, RecordType};
+use std::alloc::{AllocError, AllocFailed};
+use std::fmt;
+use std::marker::Model;
+use thiserror::Error;
+
+/// Why a set or a key isn't Secure (RFC 4035, 4.3, 5.2 and 5.3). The tag beside a key's name is the signature's.
+#[derive(Drop, Error)]
+pub enum ProofErrorKind {
+    /// The set has no signature that could be asked for.
+    #[error("rrsigs are not present for: {name} record_type: {record_type}")]
+    RrsigsNotPresent { name: Name, record_type: RecordType },
+    /// An ask failed.
+    #[error("communication failure for query: {query}")]
+    Net { query: Query },
+    /// No signature proves the set.
+    #[error("rrsigs were not able to be verified: {name}, type: {record_type}")]
+    RrsigsUnverified { name: Name, record_type: RecordType },
+    /// No anchored key of the root's key set signs it, nor are all its keys anchored.
+    #[error("no dnskey was found: {name}")]
+    DnskeyNotFound { name: Name },
+    /// There are DS records; no key that they match signs the key set, nor is each key anchored or matched.
+    #[error("ds record exists, but no dnskey: {name}")]
+    DsRecordsButNoDnskey { name: Name },
+    /// Neither a DS set nor its absence is shown.
+    #[error("ds record should exist: {name}")]
+    DsRecordShouldExist { name: Name },
+    /// It is shown that there is no DS.
+    #[error("ds record does not exist: {name}")]
+    DsResponseInsecure { name: Name },
+    /// No DS is of a supported algorithm and digest type.
+    #[error("unknown or reserved key algorithm")]
+    UnknownKeyAlgorithm,
+    /// The key can't be read.
+    #[error("internal error computing the key tag for: {name}")]
+    ErrorComputingKeyTag { name: Name },
+    /// The key's algorithm isn't supported.
+    #[error("unsupported key algorithms")]
+    UnsupportedKeyAlgorithm,
+    /// No DS matches the key.
+    #[error("dnskey has no ds: {name}")]
+    DnsKeyHasNoDs { name: Name },
+    /// The key's mark isn't Secure.
+    #[error("dnskey insecure: {name}, key_tag: {key_tag}")]
+    InsecureDnsKey { name: Name, key_tag: u16 },
+    /// The key's flag REVOKE is set (RFC 5011, 2.1).
+    #[error("dnskey revoked: {name}, key_tag: {key_tag}")]
+    DnsKeyRevoked { name: Name, key_tag: u16 },
+    /// The key's flag ZONE is clear, or its protocol isn't 3 (RFC 4034, 2.1.1 and 2.1.2).
+    #[error("not a zone signing key: {name} key_tag: {key_tag}")]
+    NotZoneDnsKey { name: Name, key_tag: u16 },
+    /// Signature and key have different algorithms.
+    #[error("algorithm mismatch rrsig: {rrsig} dnskey: {dnskey}")]
+    AlgorithmMismatch { rrsig: u8, dnskey: u8 },
+    /// Signature, set, key and moment don't fit: the notice names which (RFC 4035, 5.3.1).
+    #[error("{0}")]
+    Msg(Notice),
+    /// The algorithm isn't supported, or the verifier doesn't accept the signature.
+    #[error("dnskey and rrset failed to verify: {name} key_tag: {key_tag}")]
+    DnsKeyVerifyRrsig { name: Name, key_tag: u16 },
+    /// Memory ran out.
+    #[error("out of memory")]
+    NoMemory,
+}
+
+/// The text of Display.
+impl fmt::Debug for ProofErrorKind {
+    fn fmt<W: fmt::Write>(&self, f: &mut fmt::Formatter<W>) -> fmt::Result {
+        write!(f, "{self}")
+    }
+}
+
+/// A cause, and the mark that comes of it.
+#[derive(Drop, Error)]
+#[error("{proof:?}: {kind}")]
+pub struct ProofError {
+    pub proof: Proof,
+    pub kind: ProofErrorKind,
+}
+
+/// The text of Display.
+impl fmt::Debug for ProofError {
+    fn fmt<W: fmt::Write>(&self, f: &mut fmt::Formatter<W>) -> fmt::Result {
+        write!(f, "{self}")
+    }
+}
+
+impl Model for ProofError {
+    ghost use Rattle.dns_judgement.specs.ProofErrors.{ProofErrorValue};
+    ghost use Rattle.dns_marks.specs.Kinds.{kind_value};
+
+    ghost Value = { ProofErrorValue };
+
+    ghost view = { λ e. record { proof = e.proof; kind = kind_value e.kind } };
+}
+
+impl From<NoMemory> for ProofError {
+    ghost from_gives = { λ _ e. e ≡ want_of_memory };
+
+    fn from(_error: NoMemory) -> Self {
+        ProofError::new(Proof::Bogus, ProofErrorKind::NoMemory)
+    }
+}
+
+impl From<AllocError> for ProofError {
+    ghost from_gives = { λ _ e. e ≡ want_of_memory };
+
+    fn from(_error: AllocError) -> Self {
+        ProofError::new(Proof::Bogus, ProofErrorKind::NoMemory)
+    }
+}
+
+impl<T: Drop> From<AllocFailed<T>> for ProofError {
+    ghost from_gives = { λ _ e. e ≡ want_of_memory };
+
+    fn from(_failed: AllocFailed<T>) -> Self {
+        ProofError::new(Proof::Bogus, ProofErrorKind::NoMemory)
+    }
+}
+
+impl ProofError {
+    /// An error of this cause and mark.
+    pub fn new(proof: Proof, kind: ProofErrorKind) -> ProofError
+        ensures { result ≡ because proof (kind_value kind) }
+    {
+        ProofError { proof, kind }
+    }
+
+    /// The cause.
+    pub fn kind(&self) -> &ProofErrorKind
+        ensures { kind_value result.now ≡ self.now.kind }
+    {
+        &self.kind
+    }
+
+    /// Neither a DS set of a zone nor its absence is shown: Bogus.
+    pub fn ds_should_exist(name: Name) -> ProofError
+        ensures { result ≡ because proof.Bogus (cause.DsRecordShouldExist name) }
+    {
+        ProofError::new(Proof::Bogus, ProofErrorKind::DsRecordShouldExist { name })
+    }
+}
+
+impl ProofErrorKind {
+    /// An equal cause in memory of its own.
+    pub fn try_clone(&self) -> Result<ProofErrorKind, NoMemory>
+        ensures { IfOk result (λ k. kind_value k ≡ kind_value self.now) }
+    {
+        match self {
+            ProofErrorKind::RrsigsNotPresent { name, record_type } => {
+                let name = name.try_clone()?;
+                Ok(ProofErrorKind::RrsigsNotPresent {
+                    name,
+                    record_type: *record_type,
+                })
+            }
+            ProofErrorKind::Net { query } => {
+                let query = query.try_clone()?;
+                Ok(ProofErrorKind::Net { query })
+            }
+            ProofErrorKind::RrsigsUnverified { name, record_type } => {
+                let name = name.try_clone()?;
+                Ok(ProofErrorKind::RrsigsUnverified {
+                    name,
+                    record_type: *record_type,
+                })
+            }
+            ProofErrorKind::DnskeyNotFound { name } => {
+                let name = name.try_clone()?;
+                Ok(ProofErrorKind::DnskeyNotFound { name })
+            }
+            ProofErrorKind::DsRecordsButNoDnskey { name } => {
+                let name = name.try_clone()?;
+                Ok(ProofErrorKind::DsRecordsButNoDnskey { name })
+            }
+            ProofErrorKind::DsRecordShouldExist { name } => {
+                let name = name.try_clone()?;
+                Ok(ProofErrorKind::DsRecordShouldExist { name })
+            }
+            ProofErrorKind::DsResponseInsecure { name } => {
+                let name = name.try_clone()?;
+                Ok(ProofErrorKind::DsResponseInsecure { name })
+            }
+            ProofErrorKind::UnknownKeyAlgorithm => Ok(ProofErrorKind::UnknownKeyAlgorithm),
+            ProofErrorKind::ErrorComputingKeyTag { name } => {
+                let name = name.try_clone()?;
+                Ok(ProofErrorKind::ErrorComputingKeyTag { name })
+            }
+            ProofErrorKind::UnsupportedKeyAlgorithm => Ok(ProofErrorKind::UnsupportedKeyAlgorithm),
+            ProofErrorKind::DnsKeyHasNoDs { name } => {
+                let name = name.try_clone()?;
+                Ok(ProofErrorKind::DnsKeyHasNoDs { name })
+            }
+            ProofErrorKind::InsecureDnsKey { name, key_tag } => {
+                let name = name.try_clone()?;
+                Ok(ProofErrorKind::InsecureDnsKey {
+                    name,
+                    key_tag: *key_tag,
+                })
+            }
+            ProofErrorKind::DnsKeyRevoked { name, key_tag } => {
+                let name = name.try_clone()?;
+                Ok(ProofErrorKind::DnsKeyRevoked {
+                    name,
+                    key_tag: *key_tag,
+                })
+            }
+            ProofErrorKind::NotZoneDnsKey { name, key_tag } => {
+                let name = name.try_clone()?;
+                Ok(ProofErrorKind::NotZoneDnsKey {
+                    name,
+                    key_tag: *key_tag,
+                })
+            }
+            ProofErrorKind::AlgorithmMismatch { rrsig, dnskey } => Ok(
+                ProofErrorKind::AlgorithmMismatch {
+                    rrsig: *rrsig,
+                    dnskey: *dnskey,
+                },
+            ),
+            ProofErrorKind::Msg(notice) => Ok(ProofErrorKind::Msg(*notice)),
+            ProofErrorKind::DnsKeyVerifyRrsig { name, key_tag } => {
+                let name = name.try_clone()?;
+                Ok(ProofErrorKind::DnsKeyVerifyRrsig {
+                    name,
+                    key_tag: *key_tag,
+                })
+            }
+            ProofErrorKind::NoMemory => Ok(ProofErrorKind::NoMemory),
+        }
+    }
+}

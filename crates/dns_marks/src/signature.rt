@@ -1,0 +1,164 @@
+ghost use Rattle.std.specs.Prelude.{◌≡◌, ◌+◌, ◌≤◌, ◌==◌, ◌&&◌, true, is_some, IfOk, OnOk, IfSome};
+ghost use Rattle.std.specs.Option.{option_map};
+ghost use Rattle.dns_model.specs.Gives.{Gives};
+ghost use Rattle.dns_model.specs.Views.{is_zone_key};
+ghost use Rattle.dns_model.specs.RecordViews.{rrsig_of, dnskey_of};
+ghost use Rattle.dns_net.specs.Notices.{notice_text};
+ghost use Rattle.dns_marks.specs.Kinds.{want_of_memory, misfit as misfit_of};
+ghost use Rattle.dns_marks.specs.KeySignatures.{Unless, validity_at, signature_proof, proof_read, calls_by_key, calls_read, calls_if_supported, key_failure as failure_of, is_verified as is_verified_by};
+
+use crate::rrset_proof::proved_by;
+use crate::{ProofError, ProofErrorKind, RrsetProof};
+use dns_name::{NoMemory, Octets};
+use dns_net::{Notice, Verifier};
+use dns_rdata::{Dnskey, Rrsig, signed_data};
+use dns_record::{Proof, Record, RecordSet};
+use dns_steps::Steps;
+use dns_trust::RrsigValidity;
+use std::alloc::Global;
+use std::sync::ledger::Ledger;
+
+/// What a signature proves of a set by one key at a moment in seconds since 1970, the key's own mark among the tests
+/// (RFC 4035, 5.3). A step is counted for each call of the verifier's `accepts`.
+pub fn verify_rrset_with_dnskey<V: Verifier, L: Ledger>(
+    alloc: Global,
+    verifier: &V,
+    key: &Record,
+    sig: &Record,
+    set: &RecordSet,
+    now: u64,
+    steps: &mut Steps<L>,
+) -> Result<RrsetProof, ProofError>
+    requires key { is_some (dnskey_of key.now) ≡ true }
+    requires sig { is_some (rrsig_of sig.now) ≡ true }
+    ensures proof { IfSome (signature_proof (V.answers verifier.now) now set.now sig.now key.now)
+        (λ told. Gives (λ p. p) want_of_memory result told) }
+    ensures calls { Unless want_of_memory result
+        (steps.new ≡ steps.old + calls_by_key (V.answers verifier.now) now set.now sig.now key.now) }
+    ensures most { steps.new ≤ steps.old + calls_by_key (V.answers verifier.now) now set.now sig.now key.now }
+{
+    let (Some(read), Some(dnskey)) = (Rrsig::of(sig), Dnskey::of(key)) else {
+        unreachable!()
+    };
+    verify_read(alloc, verifier, key, &dnskey, sig, &read, set, now, steps)
+}
+
+// The same of a key and a signature that are read.
+fn verify_read<V: Verifier, L: Ledger>(
+    alloc: Global,
+    verifier: &V,
+    key: &Record,
+    dnskey: &Dnskey<'_>,
+    sig: &Record,
+    read: &Rrsig<'_>,
+    set: &RecordSet,
+    now: u64,
+    steps: &mut Steps<L>,
+) -> Result<RrsetProof, ProofError>
+    ensures proof { Gives (λ p. p) want_of_memory result (proof_read (V.answers verifier.now) now set.now sig.now key.now read.now dnskey.now) }
+    ensures calls { Unless want_of_memory result
+        (steps.new ≡ steps.old + calls_read (V.answers verifier.now) now set.now sig.now key.now read.now dnskey.now) }
+    ensures most { steps.new ≤ steps.old + calls_read (V.answers verifier.now) now set.now sig.now key.now read.now dnskey.now }
+{
+    if let Some(failure) = key_failure(key, read, dnskey)? {
+        return Err(failure);
+    }
+    if let Some(notice) = misfit(sig, set, key, now) {
+        return Err(ProofError::new(Proof::Bogus, ProofErrorKind::Msg(notice)));
+    }
+    if is_verified(alloc, verifier, set, read, dnskey, steps)? {
+        return Ok(proved_by(now, set, sig, None));
+    }
+    let name = key.name.try_clone()?;
+    let key_tag = read.key_tag;
+    let kind = ProofErrorKind::DnsKeyVerifyRrsig { name, key_tag };
+    Err(ProofError::new(Proof::Bogus, kind))
+}
+
+// The first test that a key fails by itself.
+fn key_failure(
+    key: &Record,
+    read: &Rrsig<'_>,
+    dnskey: &Dnskey<'_>,
+) -> Result<Option<ProofError>, NoMemory>
+    ensures { IfOk result (λ f. f ≡ failure_of key.now read.now dnskey.now) }
+{
+    let key_tag = read.key_tag;
+    if key.proof != Proof::Secure {
+        let name = key.name.try_clone()?;
+        let kind = ProofErrorKind::InsecureDnsKey { name, key_tag };
+        return Ok(Some(ProofError::new(key.proof, kind)));
+    }
+    if dnskey.is_revoked() {
+        let name = key.name.try_clone()?;
+        let kind = ProofErrorKind::DnsKeyRevoked { name, key_tag };
+        return Ok(Some(ProofError::new(Proof::Bogus, kind)));
+    }
+    if !is_dnssec_zone_key(dnskey) {
+        let name = key.name.try_clone()?;
+        let kind = ProofErrorKind::NotZoneDnsKey { name, key_tag };
+        return Ok(Some(ProofError::new(Proof::Bogus, kind)));
+    }
+    if dnskey.algorithm != read.algorithm {
+        let kind = ProofErrorKind::AlgorithmMismatch {
+            rrsig: read.algorithm,
+            dnskey: dnskey.algorithm,
+        };
+        return Ok(Some(ProofError::new(Proof::Bogus, kind)));
+    }
+    Ok(None)
+}
+
+// The flag ZONE is set, and the protocol is DNSSEC's.
+fn is_dnssec_zone_key(dnskey: &Dnskey<'_>) -> bool
+    ensures { result ≡ (is_zone_key dnskey.now && (dnskey.now.protocol == 3)) }
+{
+    dnskey.is_zone_key() && dnskey.protocol == 3
+}
+
+// The name of the validity, where a signature doesn't fit a set and a key at a moment.
+fn misfit(sig: &Record, set: &RecordSet, key: &Record, now: u64) -> Option<Notice>
+    ensures { option_map notice_text result ≡ misfit_of (validity_at now set.now sig.now key.now) }
+{
+    match RrsigValidity::check(sig, set, key, now) {
+        RrsigValidity::ValidRrsig => None,
+        RrsigValidity::ExpiredRrsig => Some(Notice::ExpiredRrsig),
+        RrsigValidity::WrongDnskey => Some(Notice::WrongDnskey),
+        RrsigValidity::WrongRrsig => Some(Notice::WrongRrsig),
+    }
+}
+
+// The algorithm is supported, and the verifier accepts the signature of the set as the key's.
+fn is_verified<V: Verifier, L: Ledger>(
+    alloc: Global,
+    verifier: &V,
+    set: &RecordSet,
+    read: &Rrsig<'_>,
+    dnskey: &Dnskey<'_>,
+    steps: &mut Steps<L>,
+) -> Result<bool, NoMemory>
+    ensures verified { IfOk result (λ b. b ≡ is_verified_by (V.answers verifier.now) set.now read.now dnskey.now) }
+    ensures calls { OnOk result (steps.new ≡ steps.old + calls_if_supported (V.answers verifier.now) dnskey.now) }
+    ensures most { steps.new ≤ steps.old + calls_if_supported (V.answers verifier.now) dnskey.now }
+{
+    if !verifier.supports(dnskey.algorithm) {
+        return Ok(false);
+    }
+    let bytes = signed_data(alloc, set, read)?;
+    Ok(is_accepted(verifier, read, dnskey, &bytes, steps))
+}
+
+// The verifier accepts the signature over these bytes as the key's; a step is counted for the call.
+pub(crate) fn is_accepted<V: Verifier, L: Ledger>(
+    verifier: &V,
+    read: &Rrsig<'_>,
+    dnskey: &Dnskey<'_>,
+    bytes: &Octets,
+    steps: &mut Steps<L>,
+) -> bool
+    ensures accepted { result ≡ (V.answers verifier.now).accepts read.now.algorithm dnskey.now.key bytes.now read.now.signature }
+    ensures calls { steps.new ≡ steps.old + 1 }
+{
+    steps.tick();
+    verifier.accepts(read.algorithm, dnskey.key, bytes.as_slice(), read.signature)
+}

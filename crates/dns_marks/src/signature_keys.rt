@@ -1,0 +1,164 @@
+ghost use Rattle.std.specs.Prelude.{◌≡◌, ◌+◌, ◌≤◌, Some, IfOk, OnOk};
+ghost use Rattle.std.specs.List.{list_any};
+ghost use Rattle.dns_model.specs.Keys.{usable_key};
+ghost use Rattle.dns_model.specs.RecordViews.{dnskey_of};
+ghost use Rattle.dns_model.specs.declared.proof.Proof.TheVariants.{Insecure};
+ghost use Rattle.dns_judgement.specs.Derivation.{proof_eq};
+ghost use Rattle.dns_trust.specs.Delegating.{shown};
+ghost use Rattle.dns_marks.specs.SignatureKeys.{keys_proof, calls_by_keys, calls_in_turn, may_cover as is_coverable, is_proving as is_proving_key, are_insecure as are_insecure_keys};
+ghost use Rattle.dns_marks.specs.KeySignatures.{calls_by_key, validity_at, is_put as is_put_to};
+ghost use Rattle.dns_judgement.specs.Validity.{is_valid as is_valid_at};
+
+use crate::RrsetProof;
+use crate::rrset_proof::{excused, proved_by};
+use crate::signature::is_accepted;
+use dns_name::NoMemory;
+use dns_net::Verifier;
+use dns_rdata::{Dnskey, Rrsig, signed_data};
+use dns_record::{Proof, Record, RecordSet, RecordType};
+use dns_steps::Steps;
+use dns_trust::{RrsigValidity, counted_keys};
+use std::alloc::Global;
+use std::sync::ledger::Ledger;
+
+/// What a signature proves of a set at a moment in seconds since 1970, by keys that have a mark each (RFC 4035, 4.3 and 5.3):
+/// Secure where it is good by a Secure key, else Insecure where all keys are. Of the keys of its signer the first two of each
+/// tag count, whatever their marks. None where it proves nothing, and where it can't be read. A step is counted for each call
+/// of the verifier's `accepts`.
+pub fn verify_rrsig_with_keys<V: Verifier, L: Ledger>(
+    alloc: Global,
+    verifier: &V,
+    keys: &[Record],
+    sig: &Record,
+    set: &RecordSet,
+    now: u64,
+    steps: &mut Steps<L>,
+) -> Result<Option<RrsetProof>, NoMemory>
+    ensures proof { IfOk result (λ p. p ≡ keys_proof (V.answers verifier.now) now keys.now set.now sig.now) }
+    ensures calls { OnOk result (steps.new ≡ steps.old + calls_by_keys (V.answers verifier.now) now keys.now set.now sig.now) }
+    ensures most { steps.new ≤ steps.old + calls_by_keys (V.answers verifier.now) now keys.now set.now sig.now }
+{
+    let Some(read) = Rrsig::of(sig) else {
+        return Ok(None);
+    };
+    if !may_cover(set, &read) {
+        return Ok(None);
+    }
+    let counted = counted_keys(alloc, &read, keys)?;
+    if is_proved(alloc, verifier, &counted, sig, set, now, steps)? {
+        return Ok(Some(proved_by(now, set, sig, None)));
+    }
+    if are_insecure(&counted) {
+        return Ok(Some(excused()));
+    }
+    Ok(None)
+}
+
+// An NSEC or NSEC3 isn't expanded from a wildcard, and an NSEC3 stands right below its signer.
+fn may_cover(set: &RecordSet, read: &Rrsig<'_>) -> bool
+    ensures { result ≡ is_coverable set.now read.now }
+{
+    let owner = set.name.borrowed();
+    let is_nsec3 = set.record_type == RecordType::NSEC3;
+    let is_denial = is_nsec3 || set.record_type == RecordType::NSEC;
+    let is_whole = !is_denial || read.labels == owner.num_labels();
+    is_whole && (!is_nsec3 || owner.parent().eq_name(&read.signer))
+}
+
+// One of some keys is Secure, and the signature is good by it.
+fn is_proved<V: Verifier, L: Ledger>(
+    alloc: Global,
+    verifier: &V,
+    keys: &[&Record],
+    sig: &Record,
+    set: &RecordSet,
+    now: u64,
+    steps: &mut Steps<L>,
+) -> Result<bool, NoMemory>
+    ensures proved { IfOk result (λ b. b ≡ list_any (is_proving_key (V.answers verifier.now) now set.now sig.now) (shown keys.now)) }
+    ensures calls { OnOk result (steps.new ≡ steps.old + calls_in_turn (V.answers verifier.now) now set.now sig.now (shown keys.now)) }
+    ensures most { steps.new ≤ steps.old + calls_in_turn (V.answers verifier.now) now set.now sig.now (shown keys.now) }
+{
+    for key in keys {
+        let key = *key;
+        if is_proving(alloc, verifier, key, sig, set, now, steps)? {
+            return Ok(true);
+        }
+    }
+    Ok(false)
+}
+
+// The key is Secure, and the signature is good by it.
+fn is_proving<V: Verifier, L: Ledger>(
+    alloc: Global,
+    verifier: &V,
+    key: &Record,
+    sig: &Record,
+    set: &RecordSet,
+    now: u64,
+    steps: &mut Steps<L>,
+) -> Result<bool, NoMemory>
+    ensures proving { IfOk result (λ b. b ≡ is_proving_key (V.answers verifier.now) now set.now sig.now key.now) }
+    ensures calls { OnOk result (steps.new ≡ steps.old + calls_by_key (V.answers verifier.now) now set.now sig.now key.now) }
+    ensures most { steps.new ≤ steps.old + calls_by_key (V.answers verifier.now) now set.now sig.now key.now }
+{
+    let Some(read) = Rrsig::of(sig) else {
+        return Ok(false);
+    };
+    let Some(dnskey) = Dnskey::of(key) else {
+        return Ok(false);
+    };
+    if !is_put(verifier, key, &dnskey, sig, set, now) {
+        return Ok(false);
+    }
+    let bytes = signed_data(alloc, set, &read)?;
+    Ok(is_accepted(verifier, &read, &dnskey, &bytes, steps))
+}
+
+// The verifier is to be asked: the key is Secure and may sign, and signature, set, key and moment fit.
+fn is_put<V: Verifier>(
+    verifier: &V,
+    key: &Record,
+    dnskey: &Dnskey<'_>,
+    sig: &Record,
+    set: &RecordSet,
+    now: u64,
+) -> bool
+    requires { dnskey_of key.now ≡ Some dnskey.now }
+    ensures { result ≡ is_put_to (V.answers verifier.now) now set.now sig.now key.now }
+{
+    key.proof == Proof::Secure && is_valid(sig, set, key, now) && is_usable(verifier, dnskey)
+}
+
+// The signature fits the set, the key and the moment.
+fn is_valid(sig: &Record, set: &RecordSet, key: &Record, now: u64) -> bool
+    ensures { result ≡ is_valid_at (validity_at now set.now sig.now key.now) }
+{
+    RrsigValidity::check(sig, set, key, now) == RrsigValidity::ValidRrsig
+}
+
+// The key may sign: a zone's key that isn't revoked, of DNSSEC's protocol, under an algorithm that is supported.
+fn is_usable<V: Verifier>(verifier: &V, key: &Dnskey<'_>) -> bool
+    ensures { result ≡ usable_key (V.answers verifier.now) key.now }
+{
+    key.is_zone_key() && !key.is_revoked() && key.protocol == 3 && verifier.supports(key.algorithm)
+}
+
+// There is a key, and all are Insecure.
+fn are_insecure(keys: &[&Record]) -> bool
+    ensures { result ≡ are_insecure_keys (shown keys.now) }
+{
+    for key in keys {
+        let key = *key;
+        if !is_insecure(key) {
+            return false;
+        }
+    }
+    !keys.is_empty()
+}
+
+fn is_insecure(key: &Record) -> bool
+    ensures { result ≡ proof_eq key.now.proof Insecure }
+{
+    key.proof == Proof::Insecure
+}
