@@ -1,3 +1,4 @@
 pub mod ZoneLemmas
 pub mod CallLemmas
 pub mod KeyLemmas
+pub mod VerdictLemmas

@@ -1,9 +1,10 @@
 -- What a signature proves of a set by keys that have a mark each (RFC 4035, 4.3 and 5.3).
 use Rattle.std.specs.Prelude.{ℕ, ◌+◌, Bool, ◌&&◌, List, [], ◌∷◌, Option, None, Some, is_some, slice_get, if◌then◌else◌}
-use Rattle.std.specs.Option.{option_and_then}
+use Rattle.std.specs.Option.{option_map_or, option_and_then}
 use Rattle.std.specs.List.{list_any, list_all}
 use Rattle.dns_model.specs.declared.proof.Proof.{Proof}
 use Rattle.dns_model.specs.declared.proof.Proof.TheVariants.{Insecure}
+use Rattle.dns_model.specs.declared.proof.Proof.TheVariants as proof
 use Rattle.dns_model.specs.Views.{RrsigValue}
 use Rattle.dns_model.specs.Keys.{VerifierAnswers}
 use Rattle.dns_model.specs.Chains.{Judge, judge, never_expanded, right_below_signer}
@@ -11,7 +12,7 @@ use Rattle.dns_model.specs.Records.{Rr, RrSet}
 use Rattle.dns_model.specs.RecordViews.{rrsig_of}
 use Rattle.dns_model.specs.SoundAnswers.{is_secure}
 use Rattle.dns_judgement.specs.Validity.{is_good_by}
-use Rattle.dns_judgement.specs.Marks.{counted_keys}
+use Rattle.dns_judgement.specs.Marks.{Verdict, Proved, Excused, Failed, counted_keys}
 use Rattle.dns_judgement.specs.Derivation.{proof_eq}
 use Rattle.dns_judgement.specs.ProofErrors.{RrsetProofValue}
 use Rattle.dns_marks.specs.Proofs.{proved_by, excused}
@@ -65,3 +66,15 @@ calls_read verifier now keys set r (Some sig) =
 
 abbrev pub calls_by_keys : VerifierAnswers → ℕ → List Rr → RrSet → Rr → ℕ
 calls_by_keys verifier now keys set r = calls_read verifier now keys set r (rrsig_of r)
+
+-- ---- as a verdict
+
+abbrev pub verdict_by_mark : Proof → Verdict
+verdict_by_mark proof.Secure = Proved
+verdict_by_mark proof.Insecure = Excused
+verdict_by_mark proof.Bogus = Failed
+verdict_by_mark proof.Indeterminate = Failed
+
+-- what a signature does for its set where this is proved of it
+abbrev pub proof_verdict : Option RrsetProofValue → Verdict
+proof_verdict found = option_map_or (λ p. verdict_by_mark p.proof) found Failed
