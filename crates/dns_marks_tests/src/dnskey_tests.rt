@@ -1,0 +1,201 @@
+use crate::mark_parts::*;
+use dns_marks::verify_dnskey;
+use dns_record::{Proof, Record, RecordType};
+use std::alloc::Global;
+use std::test::Fail;
+
+/// A DS record's owner and rdata.
+struct Delegation {
+    owner: &'static str,
+    rdata: &'static [u8],
+}
+
+/// A key of `example.` by its type and rdata, DS records, and what is found of the key.
+struct Row {
+    shows: &'static str,
+    record_type: RecordType,
+    key: &'static [u8],
+    ds: &'static [Delegation],
+    want: &'static str,
+}
+
+const MATCHES_NONE: &str = "Bogus: dnskey has no ds: example.";
+
+const UNREADABLE: &str = "Insecure: internal error computing the key tag for: example.";
+
+const ROWS: [Row; 12] = [
+    Row {
+        shows: "a DS of SHA-256 matches",
+        record_type: RecordType::DNSKEY,
+        key: KEY,
+        ds: &[Delegation {
+            owner: "example.",
+            rdata: DS,
+        }],
+        want: "Secure",
+    },
+    Row {
+        shows: "a DS of SHA-1 matches",
+        record_type: RecordType::DNSKEY,
+        key: KEY,
+        ds: &[Delegation {
+            owner: "example.",
+            rdata: DS_BY_SHA_1,
+        }],
+        want: "Secure",
+    },
+    Row {
+        shows: "the owner's case doesn't count",
+        record_type: RecordType::DNSKEY,
+        key: KEY,
+        ds: &[Delegation {
+            owner: "EXAMPLE.",
+            rdata: DS,
+        }],
+        want: "Secure",
+    },
+    Row {
+        shows: "a DS of another owner doesn't match",
+        record_type: RecordType::DNSKEY,
+        key: KEY,
+        ds: &[Delegation {
+            owner: "other.",
+            rdata: DS,
+        }],
+        want: MATCHES_NONE,
+    },
+    Row {
+        shows: "a DS of another key doesn't match",
+        record_type: RecordType::DNSKEY,
+        key: OTHER_KEY,
+        ds: &[Delegation {
+            owner: "example.",
+            rdata: DS,
+        }],
+        want: MATCHES_NONE,
+    },
+    Row {
+        shows: "no DS is there",
+        record_type: RecordType::DNSKEY,
+        key: KEY,
+        ds: &[],
+        want: MATCHES_NONE,
+    },
+    Row {
+        shows: "the second DS of an algorithm and a tag counts",
+        record_type: RecordType::DNSKEY,
+        key: KEY,
+        ds: &[
+            Delegation {
+                owner: "example.",
+                rdata: MISS,
+            },
+            Delegation {
+                owner: "example.",
+                rdata: DS,
+            },
+        ],
+        want: "Secure",
+    },
+    Row {
+        shows: "the third doesn't",
+        record_type: RecordType::DNSKEY,
+        key: KEY,
+        ds: &[
+            Delegation {
+                owner: "example.",
+                rdata: MISS,
+            },
+            Delegation {
+                owner: "example.",
+                rdata: UNSUPPORTED,
+            },
+            Delegation {
+                owner: "example.",
+                rdata: DS,
+            },
+        ],
+        want: MATCHES_NONE,
+    },
+    Row {
+        shows: "those of another owner and another tag aren't counted",
+        record_type: RecordType::DNSKEY,
+        key: KEY,
+        ds: &[
+            Delegation {
+                owner: "other.",
+                rdata: MISS,
+            },
+            Delegation {
+                owner: "example.",
+                rdata: b"\xae\xc8\x0d\x02\x00",
+            },
+            Delegation {
+                owner: "example.",
+                rdata: DS,
+            },
+        ],
+        want: "Secure",
+    },
+    Row {
+        shows: "a key that is too short can't be read",
+        record_type: RecordType::DNSKEY,
+        key: b"\x01\x01",
+        ds: &[Delegation {
+            owner: "example.",
+            rdata: DS,
+        }],
+        want: UNREADABLE,
+    },
+    Row {
+        shows: "a record of another type is no key",
+        record_type: RecordType::TXT,
+        key: KEY,
+        ds: &[Delegation {
+            owner: "example.",
+            rdata: DS,
+        }],
+        want: UNREADABLE,
+    },
+    Row {
+        shows: "an algorithm that isn't supported is told before a DS that is missing",
+        record_type: RecordType::DNSKEY,
+        key: b"\x01\x01\x03\x08\xaa\xbb",
+        ds: &[],
+        want: "Insecure: unsupported key algorithms",
+    },
+];
+
+fn records_of(alloc: Global, ds: &[Delegation]) -> Result<Vec<Record>, Fail> {
+    let mut records = Vec::new(alloc);
+    for one in ds {
+        let next = record(alloc, one.owner, RecordType::DS, one.rdata, Proof::Secure)?;
+        records.push(next)?;
+    }
+    Ok(records)
+}
+
+/// What is found of a row's key is what it names.
+fn is_found(alloc: Global, row: &Row) -> Result<bool, Fail> {
+    let key = record(
+        alloc,
+        "example.",
+        row.record_type,
+        row.key,
+        Proof::Indeterminate,
+    )?;
+    let ds = records_of(alloc, row.ds)?;
+    let found = match verify_dnskey(&verifier(alloc)?, &key, &ds) {
+        Ok(proof) => format!(in alloc; "{proof:?}")?,
+        Err(error) => format!(in alloc; "{error}")?,
+    };
+    Ok(found.as_str() == row.want)
+}
+
+#[test]
+fn keys_are_proved_by_ds_records(rt: HostRuntime) -> Result<(), Fail> {
+    for row in &ROWS {
+        assert!(rt; is_found(rt.alloc(), row)?, "{}", row.shows);
+    }
+    Ok(())
+}

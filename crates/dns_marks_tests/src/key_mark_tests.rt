@@ -1,0 +1,228 @@
+use crate::mark_parts::*;
+use dns_marks::{KeysMark, ProofErrorKind, ZoneVerdict, mark_keys};
+use dns_name::{Name, Octets};
+use dns_record::{Proof, RecordSet, RecordType};
+use dns_trust::TrustAnchors;
+use std::alloc::Global;
+use std::test::Fail;
+
+/// The DS verdict of the owner that is handed in.
+enum Zone {
+    Unknown,
+    Signed(&'static [&'static [u8]]),
+    Insecure,
+    Bogus,
+}
+
+/// The owner of a key set, its keys, its signature if it has one, whether `KEY` is an anchor, the DS verdict, and the mark at
+/// second 1500.
+struct Row {
+    shows: &'static str,
+    owner: &'static str,
+    keys: &'static [&'static [u8]],
+    sig: &'static [u8],
+    is_anchored: bool,
+    zone: Zone,
+    want: &'static str,
+}
+
+const NO_SIGNATURE: &[u8] = b"";
+
+const ROWS: [Row; 12] = [
+    Row {
+        shows: "an anchored key signed",
+        owner: "example.",
+        keys: &[KEY],
+        sig: OVER_KEYS,
+        is_anchored: true,
+        zone: Zone::Unknown,
+        want: "Secure Some(500) Some(0)",
+    },
+    Row {
+        shows: "all keys are anchored",
+        owner: "example.",
+        keys: &[KEY],
+        sig: NO_SIGNATURE,
+        is_anchored: true,
+        zone: Zone::Bogus,
+        want: "Secure None None",
+    },
+    Row {
+        shows: "the root has no DS",
+        owner: ".",
+        keys: &[KEY],
+        sig: NO_SIGNATURE,
+        is_anchored: false,
+        zone: Zone::Signed(&[DS]),
+        want: "Bogus: no dnskey was found: .",
+    },
+    Row {
+        shows: "the DS verdict is needed",
+        owner: "example.",
+        keys: &[KEY],
+        sig: OVER_KEYS,
+        is_anchored: false,
+        zone: Zone::Unknown,
+        want: "needs DS",
+    },
+    Row {
+        shows: "the DS verdict is Insecure",
+        owner: "example.",
+        keys: &[KEY],
+        sig: OVER_KEYS,
+        is_anchored: false,
+        zone: Zone::Insecure,
+        want: "Insecure: ds record does not exist: example.",
+    },
+    Row {
+        shows: "the DS verdict is Bogus",
+        owner: "example.",
+        keys: &[KEY],
+        sig: OVER_KEYS,
+        is_anchored: false,
+        zone: Zone::Bogus,
+        want: "Bogus: ds record should exist: example.",
+    },
+    Row {
+        shows: "a matched key signed",
+        owner: "example.",
+        keys: &[KEY],
+        sig: OVER_KEYS,
+        is_anchored: false,
+        zone: Zone::Signed(&[DS]),
+        want: "Secure Some(500) Some(0)",
+    },
+    Row {
+        shows: "all keys are matched",
+        owner: "example.",
+        keys: &[KEY],
+        sig: NO_SIGNATURE,
+        is_anchored: false,
+        zone: Zone::Signed(&[MISS, DS]),
+        want: "Secure None None",
+    },
+    Row {
+        shows: "a key is neither anchored nor matched",
+        owner: "example.",
+        keys: &[KEY, OTHER_KEY],
+        sig: NO_SIGNATURE,
+        is_anchored: false,
+        zone: Zone::Signed(&[DS]),
+        want: "Bogus: ds record exists, but no dnskey: example.",
+    },
+    Row {
+        shows: "no DS is there",
+        owner: "example.",
+        keys: &[KEY],
+        sig: OVER_KEYS,
+        is_anchored: false,
+        zone: Zone::Signed(&[]),
+        want: "Bogus: ds record exists, but no dnskey: example.",
+    },
+    Row {
+        shows: "the third supported DS of a tag doesn't count",
+        owner: "example.",
+        keys: &[KEY],
+        sig: OVER_KEYS,
+        is_anchored: false,
+        zone: Zone::Signed(&[MISS, MISS, DS]),
+        want: "Bogus: ds record exists, but no dnskey: example.",
+    },
+    Row {
+        shows: "only supported DS records are counted",
+        owner: "example.",
+        keys: &[KEY],
+        sig: OVER_KEYS,
+        is_anchored: false,
+        zone: Zone::Signed(&[UNSUPPORTED, UNSUPPORTED, DS]),
+        want: "Secure Some(500) Some(0)",
+    },
+];
+
+fn key_set(alloc: Global, row: &Row) -> Result<RecordSet, Fail> {
+    let Some((first, others)) = row.keys.split_first() else {
+        return Err("no key".into());
+    };
+    let first = record(
+        alloc,
+        row.owner,
+        RecordType::DNSKEY,
+        first,
+        Proof::Indeterminate,
+    )?;
+    let mut set = RecordSet::of(alloc, first)?;
+    for key in others {
+        let next = record(
+            alloc,
+            row.owner,
+            RecordType::DNSKEY,
+            key,
+            Proof::Indeterminate,
+        )?;
+        set.records.push(next)?;
+    }
+    if !row.sig.is_empty() {
+        set.rrsigs.push(signature(alloc, row.sig)?)?;
+    }
+    Ok(set)
+}
+
+fn verdict_of(alloc: Global, zone: &Zone) -> Result<Option<ZoneVerdict>, Fail> {
+    let name = Name::from_ascii(alloc, "example.")?;
+    match zone {
+        Zone::Unknown => Ok(None),
+        Zone::Signed(rdatas) => {
+            let mut ds = Vec::new(alloc);
+            for rdata in *rdatas {
+                let next = record(alloc, "example.", RecordType::DS, rdata, Proof::Secure)?;
+                ds.push(next)?;
+            }
+            Ok(Some(ZoneVerdict::Signed(ds)))
+        }
+        Zone::Insecure => {
+            let kind = ProofErrorKind::DsResponseInsecure { name };
+            Ok(Some(ZoneVerdict::Insecure(kind)))
+        }
+        Zone::Bogus => {
+            let kind = ProofErrorKind::DsRecordShouldExist { name };
+            Ok(Some(ZoneVerdict::Bogus(kind)))
+        }
+    }
+}
+
+fn anchors_of(alloc: Global, row: &Row) -> Result<TrustAnchors, Fail> {
+    let mut anchors = TrustAnchors::empty(alloc);
+    if row.is_anchored {
+        let owner = Name::from_ascii(alloc, row.owner)?;
+        let key = Octets::from_slice(alloc, b"\xaa\xbb")?;
+        anchors.insert_with_name(owner, 13, key)?;
+    }
+    Ok(anchors)
+}
+
+/// The mark of a row's key set is the one that it names.
+fn is_marked(alloc: Global, row: &Row) -> Result<bool, Fail> {
+    let verifier = verifier(alloc)?;
+    let set = key_set(alloc, row)?;
+    let anchors = anchors_of(alloc, row)?;
+    let zone = verdict_of(alloc, &row.zone)?;
+    let found = match mark_keys(alloc, &verifier, &anchors, &set, zone.as_ref(), 1500) {
+        Ok(KeysMark::NeedDs) => format!(in alloc; "needs DS")?,
+        Ok(KeysMark::Done(found)) => {
+            format!(in alloc;
+                "{:?} {:?} {:?}",
+                found.proof, found.adjusted_ttl, found.rrsig_index
+            )?
+        }
+        Err(error) => format!(in alloc; "{error}")?,
+    };
+    Ok(found.as_str() == row.want)
+}
+
+#[test]
+fn key_sets_are_marked(rt: HostRuntime) -> Result<(), Fail> {
+    for row in &ROWS {
+        assert!(rt; is_marked(rt.alloc(), row)?, "{}", row.shows);
+    }
+    Ok(())
+}

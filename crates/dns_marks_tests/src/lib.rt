@@ -1,0 +1,19 @@
+//! Tests of what single calls find of keys, signatures and DS sets, by what `dns_marks` gives.
+//!
+//! They stand apart, since a crate with tests of its own is proved twice.
+#![tactic(auto)]
+
+#[cfg(test)]
+mod cause_tests;
+#[cfg(test)]
+mod dnskey_tests;
+#[cfg(test)]
+mod key_mark_tests;
+#[cfg(test)]
+mod mark_parts;
+#[cfg(test)]
+mod signature_key_tests;
+#[cfg(test)]
+mod signature_tests;
+#[cfg(test)]
+mod zone_verdict_tests;

@@ -1,0 +1,94 @@
+use dns_name::Name;
+use dns_record::{DNSClass, Proof, Rdata, Record, RecordSet, RecordType};
+use dns_trust::Listed;
+use std::alloc::Global;
+use std::test::Fail;
+
+/// A key of algorithm 13 and tag 44745.
+pub(crate) const KEY: &[u8] = b"\x01\x01\x03\x0d\xaa\xbb";
+
+/// Another key of that algorithm and tag.
+pub(crate) const OTHER_KEY: &[u8] = b"\x01\x01\x03\x0d\xaa\xba\x00\x01";
+
+/// A DS for `KEY` as one of `example.`: SHA-256 of the owner and the rdata.
+pub(crate) const DS: &[u8] =
+    b"\xae\xc9\x0d\x02\x9a\x77\x11\x39\x8c\xf8\x9c\x6f\xea\x84\x51\x53\x8e\x1c\x60\x5c\xa3\x4a\xde\xd7\x74\x2c\x28\xee\x51\x44\xd5\xbb\xeb\x46\xff\x29";
+
+/// The same of SHA-1.
+pub(crate) const DS_BY_SHA_1: &[u8] =
+    b"\xae\xc9\x0d\x01\x27\xbc\x0b\x58\x7d\x1b\xc9\x5c\x0b\x12\x5b\x70\x53\x28\x4e\x20\x4d\x35\x28\x0c";
+
+/// DS records of that algorithm and tag that match nothing; the second is of an unsupported digest type.
+pub(crate) const MISS: &[u8] = b"\xae\xc9\x0d\x02\x00";
+
+pub(crate) const UNSUPPORTED: &[u8] = b"\xae\xc9\x0d\x03\x00";
+
+/// A signature over the NS set of `example.`, of original ttl 600, from second 1000 to second 2000, and the bytes that it is over.
+pub(crate) const OVER_NS: &[u8] =
+    b"\0\x02\x0d\x01\0\0\x02\x58\0\0\x07\xd0\0\0\x03\xe8\xae\xc9\x07example\0\xcc";
+
+const NS_BYTES: &[u8] =
+    b"\0\x02\x0d\x01\0\0\x02\x58\0\0\x07\xd0\0\0\x03\xe8\xae\xc9\x07example\0\x07example\0\0\x02\0\x01\0\0\x02\x58\0\x03\x01a\0";
+
+/// A signature over the key set of `example.` by its one key, and the bytes that it is over.
+pub(crate) const OVER_KEYS: &[u8] =
+    b"\0\x30\x0d\x01\0\0\x02\x58\0\0\x07\xd0\0\0\x03\xe8\xae\xc9\x07example\0\xdd";
+
+const KEYS_BYTES: &[u8] =
+    b"\0\x30\x0d\x01\0\0\x02\x58\0\0\x07\xd0\0\0\x03\xe8\xae\xc9\x07example\0\x07example\0\0\x30\0\x01\0\0\x02\x58\0\x06\x01\x01\x03\x0d\xaa\xbb";
+
+/// A verifier that accepts the two signatures, of algorithm 13 alone.
+pub(crate) fn verifier(alloc: Global) -> Result<Listed, Fail> {
+    let mut listed = Listed::new(alloc);
+    listed.support(13);
+    listed.accept(13, b"\xaa\xbb", NS_BYTES, b"\xcc")?;
+    listed.accept(13, b"\xaa\xbb", KEYS_BYTES, b"\xdd")?;
+    Ok(listed)
+}
+
+/// A record of ttl 3600 with a mark.
+pub(crate) fn record(
+    alloc: Global,
+    owner: &str,
+    record_type: RecordType,
+    rdata: &[u8],
+    proof: Proof,
+) -> Result<Record, Fail> {
+    if rdata.len() > 65535 {
+        return Err("too long".into());
+    }
+    Ok(Record {
+        name: Name::from_ascii(alloc, owner)?,
+        record_type,
+        dns_class: DNSClass::IN,
+        ttl: 3600,
+        rdata: Rdata::from_slice(alloc, rdata)?,
+        proof,
+    })
+}
+
+pub(crate) fn key_record(alloc: Global, rdata: &[u8], proof: Proof) -> Result<Record, Fail> {
+    record(alloc, "example.", RecordType::DNSKEY, rdata, proof)
+}
+
+pub(crate) fn signature(alloc: Global, rdata: &[u8]) -> Result<Record, Fail> {
+    record(
+        alloc,
+        "example.",
+        RecordType::RRSIG,
+        rdata,
+        Proof::Indeterminate,
+    )
+}
+
+/// The NS set of `example.`.
+pub(crate) fn servers(alloc: Global) -> Result<RecordSet, Fail> {
+    let first = record(
+        alloc,
+        "example.",
+        RecordType::NS,
+        b"\x01a\0",
+        Proof::Indeterminate,
+    )?;
+    Ok(RecordSet::of(alloc, first)?)
+}
