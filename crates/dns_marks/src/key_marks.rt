@@ -41,7 +41,8 @@ pub fn mark_keys<V: Verifier>(
     now: u64,
 ) -> Result<KeysMark, ProofError>
     ensures { Gives (λ mark. mark) want_of_memory result
-        (keys_mark now set.now (keys_outcome (judge (V.answers verifier.now) anchors.now now) set.now (option_map (λ z. verdict_value z.now) zone.entry))) }
+        (keys_mark now set.now
+        (keys_outcome (judge (V.answers verifier.now) anchors.now now) set.now (option_map (λ z. verdict_value z.now) zone.entry))) }
 {
     let judge = Judge {
         verifier,
@@ -79,7 +80,8 @@ fn marked_by_zone<V: Verifier>(
 ) -> Result<KeysMark, ProofError>
     requires { needs_ds (judge_of V.answers judge.now) set.now ≡ true }
     ensures { Gives (λ mark. mark) want_of_memory result
-        (keys_mark judge.now.moment set.now (outcome_by_zone (judge_of V.answers judge.now) set.now (Some (verdict_value zone.now)))) }
+        (keys_mark judge.now.moment set.now
+        (outcome_by_zone (judge_of V.answers judge.now) set.now (Some (verdict_value zone.now)))) }
 {
     match zone {
         ZoneVerdict::Signed(ds) => marked_by_ds(alloc, judge, set, ds),
@@ -103,7 +105,8 @@ fn marked_by_ds<V: Verifier>(
 ) -> Result<KeysMark, ProofError>
     requires { needs_ds (judge_of V.answers judge.now) set.now ≡ true }
     ensures { Gives (λ mark. mark) want_of_memory result
-        (keys_mark judge.now.moment set.now (outcome_by_ds (judge_of V.answers judge.now) set.now (filter (is_supported_ds (V.answers judge.now.verifier.now)) ds.now))) }
+        (keys_mark judge.now.moment set.now
+        (outcome_by_ds (judge_of V.answers judge.now) set.now (filter (is_supported_ds (V.answers judge.now.verifier.now)) ds.now))) }
 {
     let index = DsIndex::of_supported(alloc, judge.verifier, &set.name, ds)?;
     match matched_row(alloc, judge, set, &index)? {

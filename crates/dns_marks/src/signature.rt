@@ -55,7 +55,8 @@ fn verify_read<V: Verifier, L: Ledger>(
     now: u64,
     steps: &mut Steps<L>,
 ) -> Result<RrsetProof, ProofError>
-    ensures proof { Gives (λ p. p) want_of_memory result (proof_read (V.answers verifier.now) now set.now sig.now key.now read.now dnskey.now) }
+    ensures proof { Gives (λ p. p) want_of_memory result
+        (proof_read (V.answers verifier.now) now set.now sig.now key.now read.now dnskey.now) }
     ensures calls { Unless want_of_memory result
         (steps.new ≡ steps.old + calls_read (V.answers verifier.now) now set.now sig.now key.now read.now dnskey.now) }
     ensures most { steps.new ≤ steps.old + calls_read (V.answers verifier.now) now set.now sig.now key.now read.now dnskey.now }

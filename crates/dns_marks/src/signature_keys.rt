@@ -75,8 +75,10 @@ fn is_proved<V: Verifier, L: Ledger>(
     now: u64,
     steps: &mut Steps<L>,
 ) -> Result<bool, NoMemory>
-    ensures proved { IfOk result (λ b. b ≡ list_any (is_proving_key (V.answers verifier.now) now set.now sig.now) (shown keys.now)) }
-    ensures calls { OnOk result (steps.new ≡ steps.old + calls_in_turn (V.answers verifier.now) now set.now sig.now (shown keys.now)) }
+    ensures proved { IfOk result (λ b. b ≡
+        list_any (is_proving_key (V.answers verifier.now) now set.now sig.now) (shown keys.now)) }
+    ensures calls { OnOk result
+        (steps.new ≡ steps.old + calls_in_turn (V.answers verifier.now) now set.now sig.now (shown keys.now)) }
     ensures most { steps.new ≤ steps.old + calls_in_turn (V.answers verifier.now) now set.now sig.now (shown keys.now) }
 {
     for key in keys {

@@ -81,7 +81,8 @@ fn verdict_by<V: Verifier>(
     class: DNSClass,
     answers: &[Record],
 ) -> Result<ZoneVerdict, NoMemory>
-    ensures { IfOk result (λ v. verdict_value v ≡ zone_verdict (V.answers verifier.now) class.0 zone.now (Some (answered_sets answers.now))) }
+    ensures { IfOk result (λ v. verdict_value v ≡
+        zone_verdict (V.answers verifier.now) class.0 zone.now (Some (answered_sets answers.now))) }
 {
     if !is_secure_ds_set(zone, class, answers) {
         return no_ds(zone);
@@ -148,7 +149,8 @@ fn supported<V: Verifier>(
     zone: &Name,
     answers: &[Record],
 ) -> Result<Vec<Record>, NoMemory>
-    ensures { IfOk result (λ v. v.items ≡ filter (λ r. is_ds_record_of zone.now r && delegations.is_supported_ds (V.answers verifier.now) r) answers.now) }
+    ensures { IfOk result (λ v. v.items ≡
+        filter (λ r. is_ds_record_of zone.now r && delegations.is_supported_ds (V.answers verifier.now) r) answers.now) }
 {
     let mut supported = Vec::new(alloc);
     for next in answers {
