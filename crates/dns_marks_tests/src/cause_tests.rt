@@ -1,7 +1,8 @@
+use crate::mark_parts::fails;
 use dns_marks::{ProofError, ProofErrorKind};
 use dns_name::Name;
 use dns_net::Notice;
-use dns_record::{DNSClass, Proof, Query, RecordType};
+use dns_record::{DNSClass, Query, RecordType};
 use std::alloc::Global;
 use std::test::Fail;
 
@@ -62,25 +63,38 @@ fn cause(name: Name, number: usize) -> ProofErrorKind {
     }
 }
 
-/// The cause with this number reads so, alone and in an error, and so does a copy of it.
-fn reads(alloc: Global, number: usize, want: &str) -> Result<bool, Fail> {
+/// A cause reads so.
+fn reads(alloc: Global, kind: &ProofErrorKind, want: &str) -> Result<bool, Fail> {
+    let text = format!(in alloc; "{kind}")?;
+    Ok(text.as_str() == want)
+}
+
+/// The cause with this number reads so, and so does a copy of it.
+fn is_read(alloc: Global, number: usize, want: &str) -> Result<bool, Fail> {
     let kind = cause(Name::from_ascii(alloc, "example.")?, number);
-    let copy = format!(in alloc; "{:?}", kind.try_clone()?)?;
-    let error = ProofError::new(Proof::Insecure, kind);
-    let alone = format!(in alloc; "{}", error.kind())?;
-    let text = format!(in alloc; "{error}")?;
-    let whole = format!(in alloc; "Insecure: {want}")?;
-    Ok(copy.as_str() == want && alone.as_str() == want && text.as_str() == whole.as_str())
+    let copy = kind.try_clone()?;
+    Ok(reads(alloc, &kind, want)? && reads(alloc, &copy, want)?)
 }
 
 #[test]
 fn each_cause_has_its_text(rt: HostRuntime) -> Result<(), Fail> {
-    let alloc = rt.alloc();
     for (number, want) in TEXTS.iter().enumerate() {
-        assert!(rt; reads(alloc, number, want)?, "cause {number}");
+        assert!(rt; is_read(rt.alloc(), number, want)?, "cause {number}");
     }
-    let name = Name::from_ascii(alloc, "example.")?;
-    let text = format!(in alloc; "{:?}", ProofError::ds_should_exist(name))?;
-    assert!(rt; text.as_str() == "Bogus: ds record should exist: example.");
+    Ok(())
+}
+
+#[test]
+fn an_error_tells_its_mark_and_its_cause(rt: HostRuntime) -> Result<(), Fail> {
+    let name = Name::from_ascii(rt.alloc(), "example.")?;
+    let error = ProofError::ds_should_exist(name);
+    assert!(rt;
+        fails(
+            rt.alloc(),
+            &error,
+            "Bogus: ds record should exist: example."
+        )?
+    );
+    assert!(rt; reads(rt.alloc(), error.kind(), "ds record should exist: example.")?);
     Ok(())
 }

@@ -1,6 +1,7 @@
 use crate::mark_parts::*;
 use dns_marks::verify_dnskey;
 use dns_record::{Proof, Record, RecordType};
+use dns_trust::Listed;
 use std::alloc::Global;
 use std::test::Fail;
 
@@ -175,8 +176,22 @@ fn records_of(alloc: Global, ds: &[Delegation]) -> Result<Vec<Record>, Fail> {
     Ok(records)
 }
 
+/// What is found of a key is Secure, or it fails so.
+fn finds(
+    alloc: Global,
+    verifier: &Listed,
+    key: &Record,
+    ds: &[Record],
+    want: &str,
+) -> Result<bool, Fail> {
+    match verify_dnskey(verifier, key, ds) {
+        Ok(proof) => Ok(proof == Proof::Secure && want == "Secure"),
+        Err(error) => fails(alloc, &error, want),
+    }
+}
+
 /// What is found of a row's key is what it names.
-fn is_found(alloc: Global, row: &Row) -> Result<bool, Fail> {
+fn is_proved(alloc: Global, verifier: &Listed, row: &Row) -> Result<bool, Fail> {
     let key = record(
         alloc,
         "example.",
@@ -185,17 +200,14 @@ fn is_found(alloc: Global, row: &Row) -> Result<bool, Fail> {
         Proof::Indeterminate,
     )?;
     let ds = records_of(alloc, row.ds)?;
-    let found = match verify_dnskey(&verifier(alloc)?, &key, &ds) {
-        Ok(proof) => format!(in alloc; "{proof:?}")?,
-        Err(error) => format!(in alloc; "{error}")?,
-    };
-    Ok(found.as_str() == row.want)
+    finds(alloc, verifier, &key, &ds, row.want)
 }
 
 #[test]
 fn keys_are_proved_by_ds_records(rt: HostRuntime) -> Result<(), Fail> {
+    let verifier = verifier(rt.alloc())?;
     for row in &ROWS {
-        assert!(rt; is_found(rt.alloc(), row)?, "{}", row.shows);
+        assert!(rt; is_proved(rt.alloc(), &verifier, row)?, "{}", row.shows);
     }
     Ok(())
 }

@@ -1,8 +1,8 @@
 use crate::mark_parts::*;
-use dns_marks::{KeysMark, ProofErrorKind, ZoneVerdict, mark_keys};
+use dns_marks::{KeysMark, ProofError, ProofErrorKind, ZoneVerdict, mark_keys};
 use dns_name::{Name, Octets};
 use dns_record::{Proof, RecordSet, RecordType};
-use dns_trust::TrustAnchors;
+use dns_trust::{Listed, TrustAnchors};
 use std::alloc::Global;
 use std::test::Fail;
 
@@ -28,6 +28,14 @@ struct Row {
 
 const NO_SIGNATURE: &[u8] = b"";
 
+/// Secure by the first signature, which is valid for 500 seconds more.
+const SIGNED: &str = "signed";
+
+/// Secure with no signature.
+const WHOLE: &str = "whole";
+
+const NEEDS_DS: &str = "needs DS";
+
 const ROWS: [Row; 12] = [
     Row {
         shows: "an anchored key signed",
@@ -36,7 +44,7 @@ const ROWS: [Row; 12] = [
         sig: OVER_KEYS,
         is_anchored: true,
         zone: Zone::Unknown,
-        want: "Secure Some(500) Some(0)",
+        want: SIGNED,
     },
     Row {
         shows: "all keys are anchored",
@@ -45,7 +53,7 @@ const ROWS: [Row; 12] = [
         sig: NO_SIGNATURE,
         is_anchored: true,
         zone: Zone::Bogus,
-        want: "Secure None None",
+        want: WHOLE,
     },
     Row {
         shows: "the root has no DS",
@@ -63,7 +71,7 @@ const ROWS: [Row; 12] = [
         sig: OVER_KEYS,
         is_anchored: false,
         zone: Zone::Unknown,
-        want: "needs DS",
+        want: NEEDS_DS,
     },
     Row {
         shows: "the DS verdict is Insecure",
@@ -90,7 +98,7 @@ const ROWS: [Row; 12] = [
         sig: OVER_KEYS,
         is_anchored: false,
         zone: Zone::Signed(&[DS]),
-        want: "Secure Some(500) Some(0)",
+        want: SIGNED,
     },
     Row {
         shows: "all keys are matched",
@@ -99,7 +107,7 @@ const ROWS: [Row; 12] = [
         sig: NO_SIGNATURE,
         is_anchored: false,
         zone: Zone::Signed(&[MISS, DS]),
-        want: "Secure None None",
+        want: WHOLE,
     },
     Row {
         shows: "a key is neither anchored nor matched",
@@ -135,7 +143,7 @@ const ROWS: [Row; 12] = [
         sig: OVER_KEYS,
         is_anchored: false,
         zone: Zone::Signed(&[UNSUPPORTED, UNSUPPORTED, DS]),
-        want: "Secure Some(500) Some(0)",
+        want: SIGNED,
     },
 ];
 
@@ -200,29 +208,46 @@ fn anchors_of(alloc: Global, row: &Row) -> Result<TrustAnchors, Fail> {
     Ok(anchors)
 }
 
-/// The mark of a row's key set is the one that it names.
-fn is_marked(alloc: Global, row: &Row) -> Result<bool, Fail> {
-    let verifier = verifier(alloc)?;
+/// A key set, anchors and a DS verdict.
+#[derive(Drop)]
+struct Parts {
+    set: RecordSet,
+    anchors: TrustAnchors,
+    zone: Option<ZoneVerdict>,
+}
+
+fn parts_of(alloc: Global, row: &Row) -> Result<Parts, Fail> {
     let set = key_set(alloc, row)?;
     let anchors = anchors_of(alloc, row)?;
     let zone = verdict_of(alloc, &row.zone)?;
-    let found = match mark_keys(alloc, &verifier, &anchors, &set, zone.as_ref(), 1500) {
-        Ok(KeysMark::NeedDs) => format!(in alloc; "needs DS")?,
+    Ok(Parts { set, anchors, zone })
+}
+
+fn mark_of(alloc: Global, verifier: &Listed, parts: &Parts) -> Result<KeysMark, ProofError> {
+    let Parts { set, anchors, zone } = parts;
+    mark_keys(alloc, verifier, anchors, set, zone.as_ref(), 1500)
+}
+
+/// The mark of a row's key set is the one that it names.
+fn is_marked(alloc: Global, verifier: &Listed, row: &Row) -> Result<bool, Fail> {
+    let parts = parts_of(alloc, row)?;
+    match mark_of(alloc, verifier, &parts) {
+        Ok(KeysMark::NeedDs) => Ok(row.want == NEEDS_DS),
         Ok(KeysMark::Done(found)) => {
-            format!(in alloc;
-                "{:?} {:?} {:?}",
-                found.proof, found.adjusted_ttl, found.rrsig_index
-            )?
+            Ok(
+                (row.want == SIGNED && is_found(&found, Proof::Secure, Some(500), Some(0)))
+                    || (row.want == WHOLE && is_found(&found, Proof::Secure, None, None)),
+            )
         }
-        Err(error) => format!(in alloc; "{error}")?,
-    };
-    Ok(found.as_str() == row.want)
+        Err(error) => fails(alloc, &error, row.want),
+    }
 }
 
 #[test]
 fn key_sets_are_marked(rt: HostRuntime) -> Result<(), Fail> {
+    let verifier = verifier(rt.alloc())?;
     for row in &ROWS {
-        assert!(rt; is_marked(rt.alloc(), row)?, "{}", row.shows);
+        assert!(rt; is_marked(rt.alloc(), &verifier, row)?, "{}", row.shows);
     }
     Ok(())
 }

@@ -1,3 +1,4 @@
+use dns_marks::{ProofError, RrsetProof};
 use dns_name::Name;
 use dns_record::{DNSClass, Proof, Rdata, Record, RecordSet, RecordType};
 use dns_trust::Listed;
@@ -91,4 +92,20 @@ pub(crate) fn servers(alloc: Global) -> Result<RecordSet, Fail> {
         Proof::Indeterminate,
     )?;
     Ok(RecordSet::of(alloc, first)?)
+}
+
+/// The cause and the mark read so.
+pub(crate) fn fails(alloc: Global, error: &ProofError, want: &str) -> Result<bool, Fail> {
+    let text = format!(in alloc; "{error}")?;
+    Ok(text.as_str() == want)
+}
+
+/// What is found is this mark, this ttl and this place.
+pub(crate) fn is_found(
+    found: &RrsetProof,
+    proof: Proof,
+    ttl: Option<u32>,
+    place: Option<u32>,
+) -> bool {
+    found.proof == proof && found.adjusted_ttl == ttl && found.rrsig_index == place
 }

@@ -1,22 +1,25 @@
 ghost use Rattle.std.specs.Prelude.{◌≡◌, ◌<◌};
 
 use crate::mark_parts::*;
-use dns_marks::{RrsetProof, verify_rrset_with_dnskey};
+use dns_marks::{ProofError, ProofErrorKind, RrsetProof, verify_rrset_with_dnskey};
 use dns_rdata::{Dnskey, Rrsig};
-use dns_record::Proof;
+use dns_record::{Proof, Record, RecordSet};
 use dns_steps::Steps;
+use dns_trust::Listed;
 use std::alloc::Global;
 use std::marker::Brand;
 use std::sync::ledger::{Blank, Ledger};
 use std::test::Fail;
 
-/// A key of `example.` by its rdata and mark, a signature by its rdata, a moment, and what the signature proves of the NS set.
+/// A key of `example.` by its rdata and mark, a signature by its rdata, a moment, and the ttl that the signature leaves to the
+/// NS set, or why it proves nothing of it.
 struct Row {
     shows: &'static str,
     key: &'static [u8],
     proof: Proof,
     sig: &'static [u8],
     now: u64,
+    ttl: u32,
     want: &'static str,
 }
 
@@ -30,7 +33,8 @@ const ROWS: [Row; 11] = [
         proof: Proof::Secure,
         sig: OVER_NS,
         now: 1000,
-        want: "Secure 600",
+        ttl: 600,
+        want: "",
     },
     Row {
         shows: "the seconds that it is still valid are the least",
@@ -38,7 +42,8 @@ const ROWS: [Row; 11] = [
         proof: Proof::Secure,
         sig: OVER_NS,
         now: 1500,
-        want: "Secure 500",
+        ttl: 500,
+        want: "",
     },
     Row {
         shows: "an Insecure key is told before its flags",
@@ -46,6 +51,7 @@ const ROWS: [Row; 11] = [
         proof: Proof::Insecure,
         sig: OVER_NS,
         now: 1500,
+        ttl: 0,
         want: "Insecure: dnskey insecure: example., key_tag: 44745",
     },
     Row {
@@ -54,6 +60,7 @@ const ROWS: [Row; 11] = [
         proof: Proof::Bogus,
         sig: OVER_NS,
         now: 1500,
+        ttl: 0,
         want: "Bogus: dnskey insecure: example., key_tag: 44745",
     },
     Row {
@@ -62,6 +69,7 @@ const ROWS: [Row; 11] = [
         proof: Proof::Secure,
         sig: OVER_NS,
         now: 1500,
+        ttl: 0,
         want: "Bogus: dnskey revoked: example., key_tag: 44745",
     },
     Row {
@@ -70,6 +78,7 @@ const ROWS: [Row; 11] = [
         proof: Proof::Secure,
         sig: OVER_NS,
         now: 1500,
+        ttl: 0,
         want: "Bogus: not a zone signing key: example. key_tag: 44745",
     },
     Row {
@@ -78,6 +87,7 @@ const ROWS: [Row; 11] = [
         proof: Proof::Secure,
         sig: OVER_NS,
         now: 1500,
+        ttl: 0,
         want: "Bogus: not a zone signing key: example. key_tag: 44745",
     },
     Row {
@@ -86,6 +96,7 @@ const ROWS: [Row; 11] = [
         proof: Proof::Secure,
         sig: OVER_NS,
         now: 2500,
+        ttl: 0,
         want: "Bogus: algorithm mismatch rrsig: 13 dnskey: 8",
     },
     Row {
@@ -94,6 +105,7 @@ const ROWS: [Row; 11] = [
         proof: Proof::Secure,
         sig: OVER_NS,
         now: 2500,
+        ttl: 0,
         want: "Bogus: ExpiredRrsig",
     },
     Row {
@@ -102,6 +114,7 @@ const ROWS: [Row; 11] = [
         proof: Proof::Secure,
         sig: OVER_KEYS,
         now: 1500,
+        ttl: 0,
         want: "Bogus: WrongRrsig",
     },
     Row {
@@ -110,45 +123,59 @@ const ROWS: [Row; 11] = [
         proof: Proof::Secure,
         sig: OVER_NS,
         now: 1500,
+        ttl: 0,
         want: "Bogus: dnskey and rrset failed to verify: example. key_tag: 44745",
     },
 ];
 
-/// A mark and the ttl that is left, which is 0 where the set's stays.
-pub(crate) fn text_of(alloc: Global, found: &RrsetProof) -> Result<String, Fail> {
-    let ttl = found.adjusted_ttl.unwrap_or(0);
-    Ok(format!(in alloc; "{:?} {ttl}", found.proof)?)
+/// A key, a signature and a set.
+#[derive(Drop)]
+struct Parts {
+    key: Record,
+    sig: Record,
+    set: RecordSet,
 }
 
-fn proved<L: Ledger>(alloc: Global, row: &Row, blank: Blank) -> Result<String, Fail>
+fn parts_of(alloc: Global, row: &Row) -> Result<Parts, Fail> {
+    let key = key_record(alloc, row.key, row.proof)?;
+    let sig = signature(alloc, row.sig)?;
+    let set = servers(alloc)?;
+    Ok(Parts { key, sig, set })
+}
+
+fn found<L: Ledger>(
+    alloc: Global,
+    verifier: &Listed,
+    parts: &Parts,
+    now: u64,
+    blank: Blank,
+) -> Result<RrsetProof, ProofError>
     requires name { blank.name ≡ L.name }
     requires parts { blank.parts ≡ L.parts }
     requires some { 0 < blank.parts }
 {
-    let verifier = verifier(alloc)?;
-    let key = key_record(alloc, row.key, row.proof)?;
-    let sig = signature(alloc, row.sig)?;
-    let set = servers(alloc)?;
-    if Dnskey::of(&key).is_none() || Rrsig::of(&sig).is_none() {
-        return Err("unreadable".into());
+    let Parts { key, sig, set } = parts;
+    if Dnskey::of(key).is_none() || Rrsig::of(sig).is_none() {
+        return Err(ProofError::new(Proof::Bogus, ProofErrorKind::NoMemory));
     }
     let mut steps = Steps::<L>::new(blank);
-    match verify_rrset_with_dnskey(alloc, &verifier, &key, &sig, &set, row.now, &mut steps) {
-        Ok(found) => text_of(alloc, &found),
-        Err(error) => Ok(format!(in alloc; "{error}")?),
-    }
+    verify_rrset_with_dnskey(alloc, verifier, key, sig, set, now, &mut steps)
 }
 
 /// What a row's signature proves is what it names.
-fn is_proved(alloc: Global, row: &Row) -> Result<bool, Fail> {
-    let found = proved::<Brand>(alloc, row, Blank::new(1))?;
-    Ok(found.as_str() == row.want)
+fn is_proved(alloc: Global, verifier: &Listed, row: &Row) -> Result<bool, Fail> {
+    let parts = parts_of(alloc, row)?;
+    match found::<Brand>(alloc, verifier, &parts, row.now, Blank::new(1)) {
+        Ok(found) => Ok(is_found(&found, Proof::Secure, Some(row.ttl), None)),
+        Err(error) => fails(alloc, &error, row.want),
+    }
 }
 
 #[test]
 fn signatures_are_judged_by_one_key(rt: HostRuntime) -> Result<(), Fail> {
+    let verifier = verifier(rt.alloc())?;
     for row in &ROWS {
-        assert!(rt; is_proved(rt.alloc(), row)?, "{}", row.shows);
+        assert!(rt; is_proved(rt.alloc(), &verifier, row)?, "{}", row.shows);
     }
     Ok(())
 }

@@ -1,8 +1,9 @@
 use crate::mark_parts::*;
-use dns_marks::{DnsAnswer, ZoneVerdict, ds_verdict};
+use dns_marks::{ProofErrorKind, ZoneVerdict, ds_verdict};
 use dns_name::Name;
 use dns_net::{DnsRequest, DnsRequestOptions, DnsResponse, NetError, Trail};
 use dns_record::{DNSClass, Denial, Proof, Query, RecordType};
+use dns_trust::Listed;
 use std::alloc::Global;
 use std::test::Fail;
 
@@ -13,15 +14,14 @@ struct Told {
     proof: Proof,
 }
 
-/// The DS records of an answer section, the class that is asked, and the DS verdict of `example.`.
+/// The DS records of an answer section, the class that is asked, and how many DS records of `example.` are Secure and supported;
+/// where there is none the verdict is Bogus.
 struct Row {
     shows: &'static str,
     told: &'static [Told],
     class: DNSClass,
-    want: &'static str,
+    signed: usize,
 }
-
-const NOT_SHOWN: &str = "Bogus ds record should exist: example.";
 
 const ROWS: [Row; 9] = [
     Row {
@@ -32,7 +32,7 @@ const ROWS: [Row; 9] = [
             proof: Proof::Secure,
         }],
         class: DNSClass::IN,
-        want: "Signed 1",
+        signed: 1,
     },
     Row {
         shows: "the supported ones of a Secure set",
@@ -54,7 +54,7 @@ const ROWS: [Row; 9] = [
             },
         ],
         class: DNSClass::IN,
-        want: "Signed 2",
+        signed: 2,
     },
     Row {
         shows: "none of them is supported",
@@ -64,13 +64,13 @@ const ROWS: [Row; 9] = [
             proof: Proof::Secure,
         }],
         class: DNSClass::IN,
-        want: NOT_SHOWN,
+        signed: 0,
     },
     Row {
         shows: "no DS",
         told: &[],
         class: DNSClass::IN,
-        want: NOT_SHOWN,
+        signed: 0,
     },
     Row {
         shows: "a DS of another owner",
@@ -80,7 +80,7 @@ const ROWS: [Row; 9] = [
             proof: Proof::Secure,
         }],
         class: DNSClass::IN,
-        want: NOT_SHOWN,
+        signed: 0,
     },
     Row {
         shows: "one of another owner beside one of the zone",
@@ -97,7 +97,7 @@ const ROWS: [Row; 9] = [
             },
         ],
         class: DNSClass::IN,
-        want: "Signed 1",
+        signed: 1,
     },
     Row {
         shows: "a DS that isn't Secure",
@@ -107,7 +107,7 @@ const ROWS: [Row; 9] = [
             proof: Proof::Insecure,
         }],
         class: DNSClass::IN,
-        want: NOT_SHOWN,
+        signed: 0,
     },
     Row {
         shows: "one that isn't Secure beside a Secure one",
@@ -124,7 +124,7 @@ const ROWS: [Row; 9] = [
             },
         ],
         class: DNSClass::IN,
-        want: NOT_SHOWN,
+        signed: 0,
     },
     Row {
         shows: "another class",
@@ -134,7 +134,7 @@ const ROWS: [Row; 9] = [
             proof: Proof::Secure,
         }],
         class: DNSClass::CH,
-        want: NOT_SHOWN,
+        signed: 0,
     },
 ];
 
@@ -158,38 +158,58 @@ fn response(alloc: Global, told: &[Told]) -> Result<DnsResponse, Fail> {
     })
 }
 
-fn text_of(alloc: Global, verdict: &ZoneVerdict) -> Result<String, Fail> {
+/// A verdict is this one, where 0 DS records stand for Bogus.
+fn is_verdict(verdict: &ZoneVerdict, signed: usize) -> bool {
     match verdict {
-        ZoneVerdict::Signed(ds) => Ok(format!(in alloc; "Signed {}", ds.len())?),
-        ZoneVerdict::Insecure(kind) => Ok(format!(in alloc; "Insecure {kind}")?),
-        ZoneVerdict::Bogus(kind) => Ok(format!(in alloc; "Bogus {kind}")?),
+        ZoneVerdict::Signed(ds) => ds.len() == signed,
+        ZoneVerdict::Insecure(_) => false,
+        ZoneVerdict::Bogus(ProofErrorKind::DsRecordShouldExist { .. }) => signed == 0,
+        ZoneVerdict::Bogus(_) => false,
     }
 }
 
-/// The DS verdict of `example.` by this answer reads so.
-fn gives(alloc: Global, class: DNSClass, answer: &DnsAnswer, want: &str) -> Result<bool, Fail> {
-    let zone = Name::from_ascii(alloc, "EXAMPLE.")?;
-    let verdict = ds_verdict(alloc, &verifier(alloc)?, &zone, class, answer)?;
-    let text = text_of(alloc, &verdict)?;
-    Ok(text.eq_ignore_ascii_case(want))
-}
-
 /// The DS verdict of a row is the one that it names.
-fn is_judged(alloc: Global, row: &Row) -> Result<bool, Fail> {
+fn is_judged(alloc: Global, verifier: &Listed, zone: &Name, row: &Row) -> Result<bool, Fail> {
     let answer = Ok(response(alloc, row.told)?);
-    gives(alloc, row.class, &answer, row.want)
+    let verdict = ds_verdict(alloc, verifier, zone, row.class, &answer)?;
+    Ok(is_verdict(&verdict, row.signed))
 }
 
 #[test]
 fn zones_are_judged_by_answers(rt: HostRuntime) -> Result<(), Fail> {
-    let alloc = rt.alloc();
+    let verifier = verifier(rt.alloc())?;
+    let zone = Name::from_ascii(rt.alloc(), "EXAMPLE.")?;
     for row in &ROWS {
-        assert!(rt; is_judged(alloc, row)?, "{}", row.shows);
+        assert!(rt;
+            is_judged(rt.alloc(), &verifier, &zone, row)?,
+            "{}",
+            row.shows
+        );
     }
-    let failed = "Bogus communication failure for query: example. IN DS";
-    assert!(rt; gives(alloc, DNSClass::IN, &Err(NetError::Timeout), failed)?);
-    let zone = Name::from_ascii(alloc, "example.")?;
+    Ok(())
+}
+
+/// An ask that failed makes the verdict Bogus, with the question; want of memory stays it.
+fn is_failed(alloc: Global, verifier: &Listed, zone: &Name) -> Result<bool, Fail> {
+    let failed = Err(NetError::Timeout);
+    match ds_verdict(alloc, verifier, zone, DNSClass::IN, &failed)? {
+        ZoneVerdict::Bogus(ProofErrorKind::Net { query }) => {
+            Ok(query.name == *zone && query.query_type == RecordType::DS)
+        }
+        _ => Ok(false),
+    }
+}
+
+fn is_wanting(alloc: Global, verifier: &Listed, zone: &Name) -> bool {
     let wanting = Err(NetError::NoMemory);
-    assert!(rt; ds_verdict(alloc, &verifier(alloc)?, &zone, DNSClass::IN, &wanting).is_err());
+    ds_verdict(alloc, verifier, zone, DNSClass::IN, &wanting).is_err()
+}
+
+#[test]
+fn zones_are_bogus_where_the_ask_failed(rt: HostRuntime) -> Result<(), Fail> {
+    let verifier = verifier(rt.alloc())?;
+    let zone = Name::from_ascii(rt.alloc(), "example.")?;
+    assert!(rt; is_failed(rt.alloc(), &verifier, &zone)?);
+    assert!(rt; is_wanting(rt.alloc(), &verifier, &zone));
     Ok(())
 }

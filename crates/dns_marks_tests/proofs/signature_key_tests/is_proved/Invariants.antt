@@ -1,4 +1,4 @@
 use Rattle.dns_marks_tests.proofs.signature_key_tests.is_proved.Given as goal
 
-abbrev pub ghosts-proved : goal.ghosts-proved
-ghosts-proved a = record { name = a.blank.name; parts = a.blank.parts }
+abbrev pub ghosts-found : goal.ghosts-found
+ghosts-found a = record { name = a.blank.name; parts = a.blank.parts }
