@@ -5,22 +5,27 @@
     python3 rows/model.py SESSION trail    with the trail
     python3 rows/model.py                  compares the rows and the examples that are looked up, and names those that differ
 
-It keeps to what the crates judge so far: nothing is Insecure, no zone is searched, and what needs denial is not judged yet."""
+It keeps to what the crates judge so far: what needs denial of existence is not judged yet, so that no answer without the record
+asked for tells of a zone."""
 import glob
 import hashlib
 import os
 import sys
+from collections import namedtuple
 
 import reading
-from reading import Fault, dnskey_of, ds_of, folded, is_above, num_labels, rrsig_of, shown, type_word
+from reading import dnskey_of, ds_of, folded, is_above, num_labels, rrsig_of, shown, type_word
 
 FOLDER = os.path.dirname(os.path.realpath(__file__))
-CNAME, DS, RRSIG, NSEC, DNSKEY, NSEC3, SOA, IN = 5, 43, 46, 47, 48, 50, 6, 1
+NS, CNAME, SOA, DS, RRSIG, NSEC, DNSKEY, NSEC3, IN = 2, 5, 6, 43, 46, 47, 48, 50, 1
 SECTIONS = ("answer", "authority", "additional")
 MOST_SIGNATURES, MOST_SENDS, MOST_DEPTH, MOST_OF_A_TAG = 8, 1024, 255, 2
 JUDGED_BELOW = (DNSKEY, DS, NSEC, NSEC3, SOA)
 DIGESTS = {1: hashlib.sha1, 2: hashlib.sha256, 4: hashlib.sha384}
 ZONE_KEY, REVOKED = 0x0100, 0x0080
+# what is known of a zone by the ask for its DS set: the mark that its sets can have, the chain of that set and its records that count
+Zone = namedtuple("Zone", "mark chain records", defaults=((), ()))
+SIGNED, INSECURE, BOGUS = "secure", "insecure", "bogus"
 
 
 class Set:
@@ -29,21 +34,24 @@ class Set:
     def __init__(self, section, first):
         self.section, self.owner, self.kind = section, first.owner, first.kind
         self.records, self.signatures = [], []
-        self.mark, self.place, self.asks, self.chain = "bogus", None, [], None
+        self.mark, self.place, self.asks, self.chain = BOGUS, None, [], None
 
     def secure(self, place, chain):
-        self.mark, self.place, self.chain = "secure", place, chain
+        self.mark, self.place, self.chain = SIGNED, place, chain
+
+    def insecure(self, place=None):
+        self.mark, self.place = INSECURE, place
 
     def rdatas(self):
         return [record.rdata.hex() or "-" for record in self.records]
 
 
 class Step:
-    """An ask: what was heard, the sets of it that are judged, and how it ended."""
+    """An ask: what was heard, the sets of it that are judged, and how it ended, by which asks."""
 
-    def __init__(self, depth, name, kind):
-        self.depth, self.name, self.kind = depth, name, kind
-        self.message, self.fault, self.sets, self.ending = None, "timeout", [], "failed"
+    def __init__(self, depth, purpose, name, kind):
+        self.depth, self.purpose, self.name, self.kind = depth, purpose, name, kind
+        self.message, self.fault, self.sets, self.ending, self.excuse = None, "timeout", [], "failed", []
 
     def is_question(self, name, kind):
         return self.kind == kind and folded(self.name) == folded(name)
@@ -100,44 +108,47 @@ class Lookup:
 
     def __init__(self, session):
         self.session, self.steps, self.sends, self.taken = session, [], 0, {}
-        self.top = self.ask(0, *session.query)
+        self.top = self.ask(0, "judged", *session.query)
 
     # ---- asks
 
     def reply(self, question):
-        """In turn each ask takes the next reply to its question, and the last reply stays."""
-        replies = [octets for asked, octets in self.session.replies if asked == question]
+        """In turn each ask takes the next line of its question, and the last one stays."""
+        lines = [line for asked, line in self.session.replies if asked == question]
         turn = self.taken.get(question, 0) if self.session.by_turn else 0
         self.taken[question] = turn + 1
-        return replies[min(turn, len(replies) - 1)] if replies else None
+        return lines[min(turn, len(lines) - 1)] if lines else ("fault", "timeout")
 
-    def ask(self, depth, name, kind):
-        step = Step(depth, name, kind)
+    def ask(self, depth, purpose, name, kind):
+        step = Step(depth, purpose, name, kind)
         self.sends += 1
-        octets = self.reply((folded(name), kind))
-        if octets is not None:
-            try:
-                step.message = reading.message_in(octets)
-            except Fault as fault:
-                step.fault = "proto {} {}".format(*fault.args)
-        if step.message:
-            self.judge(step)
+        heard = reading.heard(self.reply((folded(name), kind)))
+        if isinstance(heard, str):
+            step.fault = heard
+        else:
+            step.message, step.ending = heard, "seen"
+            if purpose == "judged":
+                self.judge(step)
         step.number = len(self.steps)
         self.steps.append(step)
         return step
 
-    def nested(self, step, rrset, name, kind):
-        """The step of a set's ask, or None where it was refused or has no answer."""
+    def made(self, asks, *what):
+        """The step of an ask, which is named, or None where there were as many sends as may be."""
+        if self.sends >= MOST_SENDS:
+            asks.append("many")
+            return None
+        asked = self.ask(*what)
+        asks.append(asked.number)
+        return asked
+
+    def nested(self, step, asks, name, kind):
+        """The step of a judged ask, which is one deeper, or None where it was refused or has no answer."""
         if step.depth + 1 > min(self.session.depth, MOST_DEPTH):
-            rrset.asks.append("deep")
-        elif self.sends >= MOST_SENDS:
-            rrset.asks.append("many")
-        else:
-            asked = self.ask(step.depth + 1, name, kind)
-            rrset.asks.append(asked.number)
-            if asked.ending == "none":
-                return asked
-        return None
+            asks.append("deep")
+            return None
+        asked = self.made(asks, step.depth + 1, "judged", name, kind)
+        return asked if asked and asked.ending == "none" else None
 
     def judge(self, step):
         for section in step.message.sections:
@@ -152,7 +163,7 @@ class Lookup:
                     self.mark_keys(step, rrset)
                 else:
                     self.mark_set(step, rrset)
-        step.ending = outcome(step)
+        step.ending = self.outcome(step)
 
     # ---- signatures
 
@@ -168,33 +179,26 @@ class Lookup:
                 and (key.algorithm, key.key, signed_bytes(rrset, sig), sig.signature) in self.session.accepts)
 
     def mark_set(self, step, rrset):
-        """A set that isn't DNSKEY is Secure by the first signature that a Secure key of its signer made."""
+        """A set that isn't DNSKEY is Secure by the first signature that a Secure key of its signer made, else Insecure by the first
+        whose signer has Insecure keys. Without a signature its zone decides, but for a DS set."""
+        if not rrset.signatures:
+            start = rrset.owner[1:] if rrset.kind == NSEC3 else rrset.owner
+            if rrset.kind != DS and self.is_insecure(step, rrset.asks, start):
+                rrset.insecure()
         for place, signature in enumerate(rrset.signatures[:MOST_SIGNATURES]):
             signer = rrsig_of(signature).signer
             itself = folded(signer) == folded(rrset.owner)
             if not is_above(signer, rrset.owner) or (rrset.kind == DS and itself) or step.is_question(signer, DNSKEY):
                 continue
-            asked = self.nested(step, rrset, signer, DNSKEY)
-            by = self.signed_by_zone(rrset, signature, asked.sets if asked else [])
-            if by:
-                keys, key = by
+            asked = self.nested(step, rrset.asks, signer, DNSKEY)
+            keys = asked and may_sign(rrset, signature) and next((one for one in asked.sets if is_set(one, signer, DNSKEY)), None)
+            counted = counted_keys(keys) if keys else []
+            key = next((key for key in counted if self.is_good(rrset, signature, key)), None)
+            if keys and keys.mark == SIGNED and key:
                 rrset.secure(place, [*keys.chain, signed_link(rrset, signature, len(keys.chain) - 1, key)])
                 return
-
-    def signed_by_zone(self, rrset, signature, sets):
-        """The Secure key set of the signer and the first of its counted keys by which the signature is good."""
-        sig = rrsig_of(signature)
-        if rrset.kind in (NSEC, NSEC3) and num_labels(rrset.owner) != sig.labels:
-            return None
-        if rrset.kind == NSEC3 and folded(rrset.owner[1:]) != folded(sig.signer):
-            return None
-        for keys in sets:
-            if is_set(keys, sig.signer, DNSKEY) and keys.mark == "secure":
-                counted = first_of_each(filter(dnskey_of, keys.records), lambda key: dnskey_of(key).tag)
-                for key in counted:
-                    if self.is_good(rrset, signature, key):
-                        return keys, key
-        return None
+            if keys and keys.mark == INSECURE and counted and rrset.mark == BOGUS:
+                rrset.insecure(place)
 
     # ---- key sets
 
@@ -225,35 +229,70 @@ class Lookup:
             self.mark_by_ds(step, rrset, is_anchored)
 
     def mark_by_ds(self, step, rrset, is_anchored):
-        verdict = self.ds_verdict(step, rrset)
-        if not verdict:
+        zone = self.zone(step, rrset.asks, rrset.owner)
+        if zone.mark == INSECURE:
+            rrset.insecure()
+        if zone.mark != SIGNED:
             return
-        chain, records = verdict
-        last = len(chain) - 1
+        last = len(zone.chain) - 1
 
         def ds_of_key(key):
-            return next((ds for ds in records if self.matches(rrset.owner, key, ds)), None)
+            return next((ds for ds in zone.records if self.matches(rrset.owner, key, ds)), None)
 
         by = self.first_signed(rrset, ds_of_key)
         if by:
             place, signature, key = by
             matched = matched_link(rrset, key, last, ds_of_key(key))
-            rrset.secure(place, [*chain, matched, signed_link(rrset, signature, last + 1, key)])
+            rrset.secure(place, [*zone.chain, matched, signed_link(rrset, signature, last + 1, key)])
         elif all(is_anchored(key) or ds_of_key(key) for key in rrset.records):
             def trusted_link(key):
                 return anchored_link(rrset, key) if is_anchored(key) else matched_link(rrset, key, last, ds_of_key(key))
 
-            rrset.secure(None, with_key_set(rrset, chain, [trusted_link(key) for key in rrset.records]))
+            rrset.secure(None, with_key_set(rrset, zone.chain, [trusted_link(key) for key in rrset.records]))
 
-    def ds_verdict(self, step, rrset):
-        """The chain of the Secure DS set of a key set's owner, and its records that count; None where there is none to count."""
-        asked = self.nested(step, rrset, rrset.owner, DS)
-        for ds_set in asked.sets if asked else []:
-            if is_set(ds_set, rrset.owner, DS) and ds_set.mark == "secure":
-                supported = [record for record in ds_set.records if self.is_supported(ds_of(record))]
-                counted = first_of_each(supported, lambda record: (ds_of(record).algorithm, ds_of(record).tag))
-                return (ds_set.chain, counted) if counted else None
-        return None
+    # ---- zones
+
+    def zone(self, step, asks, name):
+        """By a Secure DS set of the zone, in the answer section, it is signed, or Insecure where no record of it that can be read is
+        supported. An answer without a DS set, as a CNAME is one, tells of an Insecure zone by a set that is Insecure at it or
+        above it. A Secure NSEC set would tell so too, but its step has no answer so far."""
+        asked = self.nested(step, asks, name, DS)
+        if not asked:
+            return Zone(BOGUS)
+        ds_set = next((one for one in asked.sets if is_set(one, name, DS)), None)
+        if not ds_set:
+            is_excused = any(one.mark == INSECURE and is_above(one.owner, name) for one in asked.sets)
+            return Zone(INSECURE if is_excused else BOGUS)
+        readable = list(filter(ds_of, ds_set.records))
+        if ds_set.mark != SIGNED or not readable:
+            return Zone(BOGUS)
+        supported = [record for record in readable if self.is_supported(ds_of(record))]
+        counted = first_of_each(supported, lambda record: (ds_of(record).algorithm, ds_of(record).tag))
+        return Zone(SIGNED, ds_set.chain, counted) if counted else Zone(INSECURE)
+
+    def is_insecure(self, step, asks, start):
+        """The search for a zone: from name to parent NS records are asked for, as deep as the step is, and the name that has some is
+        the zone. A reply that there are no records leads on, whatever comes with it; a fault ends the search, and so does the root."""
+        for name in (start[cut:] for cut in range(len(start))):
+            asked = self.made(asks, step.depth, "ns", name, NS)
+            if not asked or not asked.message:
+                return False
+            if not asked.message.is_empty and has_ns(asked.message, name):
+                return self.zone(step, asks, name).mark == INSECURE
+        return False
+
+    def outcome(self, step):
+        """How a step ends, where its answer section holds an answer: one with a wildcard's signature is excused by an Insecure zone
+        alone, which for a DS is the one above it."""
+        answers = step.message.sections[0]
+        has_answer = any(record.kind in (step.kind, CNAME) and folded(record.owner) == folded(step.name) for record in answers)
+        if not has_answer or any(asks_denial(rrset) for rrset in step.sets):
+            return "failed"
+        signatures = [(record, rrsig_of(record)) for record in answers if rrsig_of(record)]
+        if not any(sig.labels < num_labels(record.owner) for record, sig in signatures):
+            return "none"
+        start = step.name[1:] if step.kind == DS else step.name
+        return "none" if self.is_insecure(step, step.excuse, start) else "denied bogus"
 
     def is_supported(self, ds):
         return ds is not None and ds.algorithm in self.session.algorithms and ds.digest_type in DIGESTS
@@ -269,20 +308,25 @@ def is_set(rrset, owner, kind):
     return rrset.section == "answer" and rrset.kind == kind and folded(rrset.owner) == folded(owner)
 
 
-def outcome(step):
-    """How a step ends by what its answer section holds."""
-    answers = step.message.sections[0]
-    has_answer = any(record.kind in (step.kind, CNAME) and folded(record.owner) == folded(step.name) for record in answers)
-    if not has_answer or any(asks_denial(rrset) for rrset in step.sets):
-        return "failed"
-    signatures = [(record, rrsig_of(record)) for record in answers if rrsig_of(record)]
-    is_expanded = any(sig.labels < num_labels(record.owner) for record, sig in signatures)
-    return "denied bogus" if is_expanded else "none"
+def has_ns(message, name):
+    """In whatever section, of whatever class."""
+    return any(record.kind == NS and folded(record.owner) == folded(name) for section in message.sections for record in section)
+
+
+def may_sign(rrset, signature):
+    """NSEC and NSEC3 are never expanded, and an NSEC3 stands right below its zone (RFC 4035, 5.3.4; RFC 5155, 3)."""
+    sig = rrsig_of(signature)
+    is_whole = rrset.kind not in (NSEC, NSEC3) or num_labels(rrset.owner) == sig.labels
+    return is_whole and (rrset.kind != NSEC3 or folded(rrset.owner[1:]) == folded(sig.signer))
+
+
+def counted_keys(keys):
+    return first_of_each(filter(dnskey_of, keys.records), lambda key: dnskey_of(key).tag)
 
 
 def asks_denial(rrset):
     """A Secure set that is of NSEC or NSEC3, or Secure by the signature of a wildcard."""
-    if rrset.mark != "secure" or rrset.place is None:
+    if rrset.mark != SIGNED or rrset.place is None:
         return False
     return rrset.kind in (NSEC, NSEC3) or rrsig_of(rrset.signatures[rrset.place]).labels < num_labels(rrset.owner)
 
@@ -322,7 +366,7 @@ def record_line(section, record, sets, moment):
         decided = rrset.place is not None and record is rrset.signatures[rrset.place]
         if decided or any(record is one for one in rrset.records):
             mark = rrset.mark
-            ttl = adjusted_ttl(rrset, moment) if rrset.place is not None else ttl
+            ttl = adjusted_ttl(rrset, moment) if mark == SIGNED and rrset.place is not None else ttl
     return f"{told_words(section, record)} {ttl} {mark} {record.rdata.hex() or '-'}"
 
 
@@ -331,11 +375,11 @@ def told_words(section, record):
 
 
 def step_lines(step):
-    yield f"step {step.depth} judged {shown(step.name)} {type_word(step.kind)}"
+    yield f"step {step.depth} {step.purpose} {shown(step.name)} {type_word(step.kind)}"
     if not step.message:
         yield "got fault"
     else:
-        yield f"got {step.message.code}"
+        yield f"got {step.message.code}{' empty' if step.message.is_empty else ''}"
         for section, records in zip(SECTIONS, step.message.sections):
             for record in records:
                 yield f"told {told_words(section, record)} {record.ttl} {record.rdata.hex() or '-'}"
@@ -343,7 +387,7 @@ def step_lines(step):
         place = "-" if rrset.place is None else rrset.place
         words = (rrset.section, shown(rrset.owner), type_word(rrset.kind), rrset.mark, "table", place, *rrset.asks)
         yield " ".join(["set", *map(str, words)])
-    yield f"ending {step.ending}"
+    yield " ".join(["ending", step.ending, *map(str, step.excuse)])
 
 
 def fault_line(step):

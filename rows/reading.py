@@ -1,7 +1,7 @@
 """Sessions, names and messages as the standards and docs/FORMATS.md have them, for `model.py`.
 
 Names are tuples of labels, the leaf first. A session is taken to be in its grammar. Bytes may be no message, and then their first
-fault is told."""
+fault is told. `heard` is what a client hands on of a reply: a message, or the words of a fault."""
 from collections import namedtuple
 
 WORDS = {1: "A", 2: "NS", 5: "CNAME", 6: "SOA", 12: "PTR", 15: "MX", 16: "TXT", 17: "RP", 18: "AFSDB", 21: "RT", 26: "PX",
@@ -15,10 +15,15 @@ SHAPES = {1: [4], 28: [16], 2: "N", 5: "N", 12: "N", 39: "N", 6: ["N", "N", 20],
 # types whose names are lower-cased in canonical form (RFC 4034, 6.2; RFC 6840, 5.1)
 LOWERED = {2, 5, 12, 39, 6, 15, 18, 21, 36, 17, 26, 33, 35}
 SHAPED_CLASSES = {1, 254, 255}
-OPT = 41
+SOA, OPT, ANY = 6, 41, 255
+TRUNCATED = 0x0200
+# codes of a failure, and those of a reply that may say that there are no records
+FAILURES, OF_NO_RECORDS = {1, 2, *range(4, 11), *range(16, 24)}, {0, 3}
+FAULTS = {"timeout": "timeout", "io": "io Other", "busy": "busy"}
 
 Record = namedtuple("Record", "owner kind klass ttl rdata")
-Message = namedtuple("Message", "code sections")
+# `is_empty` where the client says that there are no records, and hands on no answers
+Message = namedtuple("Message", "code is_truncated questions sections is_empty", defaults=(False,))
 Session = namedtuple("Session", "by_turn moment depth algorithms anchors accepts query replies")
 
 
@@ -175,14 +180,14 @@ class Reader:
 
 
 def message_in(octets):
-    """The code and the sections, without the OPT record, whose upper bits of the code count (RFC 6891, 6.1.3)."""
+    """The code, the questions and the sections, without the OPT record, whose upper bits of the code count (RFC 6891, 6.1.3)."""
     reader = Reader(octets)
     reader.take(2)
     flags = reader.number(2)
-    questions, *counts = [reader.number(2) for _ in range(4)]
-    for _ in range(questions):
-        reader.name()
-        reader.take(2)
+    asked, *counts = [reader.number(2) for _ in range(4)]
+    questions = []
+    for _ in range(asked):
+        questions.append((reader.name(), reader.number(2)))
         reader.take(2)
     sections, upper = [], None
     for place, count in enumerate(counts):
@@ -201,7 +206,42 @@ def message_in(octets):
                 sections[place].append(Record(owner, kind, klass, ttl, rdata))
     if reader.place < len(octets):
         raise Fault("Trailing", reader.place)
-    return Message((upper or 0) << 4 | flags & 15, sections)
+    return Message((upper or 0) << 4 | flags & 15, bool(flags & TRUNCATED), questions, sections)
+
+
+# ---- what a client hands on
+
+def is_answered(message, name, kind):
+    """The message holds what was asked for: for any type a record at the name, for a SOA one at or above it, else any answer, or a
+    record of the type at the name."""
+    records = [record for section in message.sections for record in section]
+    at_name = [record for record in records if folded(record.owner) == folded(name)]
+    if kind == ANY:
+        return bool(at_name)
+    if kind == SOA:
+        return any(record.kind == SOA and is_above(record.owner, name) for record in records)
+    return bool(message.sections[0]) or any(record.kind == kind for record in at_name)
+
+
+def handed_on(message):
+    """RFC 2308, 2: a failure is its code; without what was asked for there are no records, and authorities alone are handed on."""
+    if message.code in FAILURES:
+        return f"code {message.code}"
+    if message.code not in OF_NO_RECORDS or message.is_truncated or any(is_answered(message, *asked) for asked in message.questions):
+        return message
+    return message._replace(sections=[[], message.sections[1], []], is_empty=True)
+
+
+def heard(line):
+    """What a session's line of the upstream gives."""
+    word, rest = line
+    if word == "fault":
+        return FAULTS[rest]
+    try:
+        message = message_in(octets_in(rest))
+    except Fault as fault:
+        return "proto {} {}".format(*fault.args)
+    return handed_on(message) if word == "empty" else message
 
 
 # ---- views of rdatas
@@ -255,13 +295,13 @@ def canonical_rdata(record):
 # ---- sessions
 
 def session_in(text):
-    """A session that is in its grammar. Recorded ones may have lines `fault` too, for a reply that didn't come."""
+    """A session that is in its grammar. A reply is its question and its line."""
     lines = [line.split(" ") for line in text.decode("latin-1").split("\n")]
     first = {line[0]: line[1:] for line in reversed(lines)}
     accepts = {(int(line[1]), *map(octets_in, line[2:])) for line in lines if line[0] == "accept" and line[1] != "1"}
     anchors = {(folded(name_in(line[1])), int(line[2]), octets_in(line[3])) for line in lines if line[0] == "anchor"}
-    replies = [((folded(name_in(line[1])), type_in(line[2])), octets_in(line[3]) if line[0] == "reply" else None)
-               for line in lines if line[0] in ("reply", "fault")]
+    replies = [((folded(name_in(line[1])), type_in(line[2])), (line[0], line[3]))
+               for line in lines if line[0] in ("reply", "empty", "fault")]
     name, kind = first["query"]
     return Session(
         by_turn=first["dns-session"] == ["2"], moment=int(first["moment"][0]), depth=int(first.get("depth", ["26"])[0]),

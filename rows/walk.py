@@ -251,8 +251,9 @@ def ds_of_another_tag_and_algorithm():
 
 
 def ds_of_an_unknown_algorithm_alone():
-    """a DS set without a supported record proves no key; that such a zone is insecure isn't judged so far"""
-    return of_one_tag(ds_of(EXAMPLE, KEYS[0], algorithm=UNLISTED)), [DS_IS_SECURE, bogus_by(1)], PLAIN
+    """a DS set without a supported record says that the zone's keys can't be judged: they are insecure"""
+    session = of_one_tag(ds_of(EXAMPLE, KEYS[0], algorithm=UNLISTED))
+    return session, [DS_IS_SECURE, "set answer example. DNSKEY insecure table - 1", "chains 0"], PLAIN
 
 
 def keys_beside_their_own_ds():
