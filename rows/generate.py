@@ -170,10 +170,26 @@ def asks_that_are_refused():
     return session, texts.report(lines, chain_by_one_key(servers), trail), 0, b"validate\ntrail\n"
 
 
+def searches_past_the_last_send():
+    """1,050 sets without a signature beside the answer: each asks for the NS records of its owner, which no reply has, until 1,024
+    sends are made."""
+    servers = root_servers()
+    further = [Record([b"n%d" % k], A, ADDRESS) for k in range(1_050)]
+    searched = MOST_SENDS - 2
+    lines = [*servers.lines("answer", True), *(one.line("additional", texts.TTL, "bogus") for one in further)]
+    heard = [*texts.told("answer", servers.section()), *texts.told("additional", further)]
+    heard.append(texts.judged("answer", ROOT, NS, "secure", "0", [0]))
+    for place, one in enumerate(further):
+        heard.append(texts.judged("additional", one.owner, A, "bogus", "-", [place + 1 if place < searched else "many"]))
+    plain = [texts.step(0, one.owner, NS, None, "failed", "ns") for one in further[:searched]]
+    trail = [texts.keys_step([KEY]), *plain, texts.step(0, ROOT, NS, heard, "none")]
+    return by_one_key([servers], further=further), texts.report(lines, chain_by_one_key(servers), trail), 0, b"validate\ntrail\n"
+
+
 MADE = (forty_keys, sixty_links, two_hundred_sets, hundred_chains, more_sends_than_are_made, name_of_127_labels,
         longest_message, thousand_anchors, longest_input, input_of_a_byte_too_many, line_of_sixteen_mebibytes,
-        asks_that_are_refused, walk.four_hundred_copies_of_a_key, walk.four_hundred_copies_and_no_other,
-        walk.ds_ask_past_the_last_send)
+        asks_that_are_refused, searches_past_the_last_send, walk.four_hundred_copies_of_a_key,
+        walk.four_hundred_copies_and_no_other, walk.ds_ask_past_the_last_send)
 
 
 def rows():

@@ -23,7 +23,7 @@ MOST_SIGNATURES, MOST_SENDS, MOST_DEPTH, MOST_OF_A_TAG = 8, 1024, 255, 2
 JUDGED_BELOW = (DNSKEY, DS, NSEC, NSEC3, SOA)
 DIGESTS = {1: hashlib.sha1, 2: hashlib.sha256, 4: hashlib.sha384}
 ZONE_KEY, REVOKED = 0x0100, 0x0080
-# what is known of a zone by the ask for its DS set: the mark that its sets can have, the chain of that set and its records that count
+# what is known of a zone by the ask for its DS set: the mark that its sets can have, that set's chain and its records that count
 Zone = namedtuple("Zone", "mark chain records", defaults=((), ()))
 SIGNED, INSECURE, BOGUS = "secure", "insecure", "bogus"
 
@@ -253,9 +253,9 @@ class Lookup:
     # ---- zones
 
     def zone(self, step, asks, name):
-        """By a Secure DS set of the zone, in the answer section, it is signed, or Insecure where no record of it that can be read is
-        supported. An answer without a DS set, as a CNAME is one, tells of an Insecure zone by a set that is Insecure at it or
-        above it. A Secure NSEC set would tell so too, but its step has no answer so far."""
+        """By a Secure DS set of the zone, in the answer section, it is signed, or Insecure where no readable record is supported. An
+        answer without a DS set, as a CNAME is one, tells of an Insecure zone by a set that is Insecure at it or above it. A Secure
+        NSEC set would tell so too, but its step has no answer so far."""
         asked = self.nested(step, asks, name, DS)
         if not asked:
             return Zone(BOGUS)
@@ -271,8 +271,8 @@ class Lookup:
         return Zone(SIGNED, ds_set.chain, counted) if counted else Zone(INSECURE)
 
     def is_insecure(self, step, asks, start):
-        """The search for a zone: from name to parent NS records are asked for, as deep as the step is, and the name that has some is
-        the zone. A reply that there are no records leads on, whatever comes with it; a fault ends the search, and so does the root."""
+        """The search for a zone: from name to parent NS records are asked for, as deep as the step is, and the name that has some
+        is the zone. That there are no records leads on, whatever comes with it; a fault ends the search, and so does the root."""
         for name in (start[cut:] for cut in range(len(start))):
             asked = self.made(asks, step.depth, "ns", name, NS)
             if not asked or not asked.message:
@@ -282,8 +282,8 @@ class Lookup:
         return False
 
     def outcome(self, step):
-        """How a step ends, where its answer section holds an answer: one with a wildcard's signature is excused by an Insecure zone
-        alone, which for a DS is the one above it."""
+        """How a step ends, where its answer section holds an answer: one with a wildcard's signature stands where the zone is
+        Insecure, which for a DS is the one above it."""
         answers = step.message.sections[0]
         has_answer = any(record.kind in (step.kind, CNAME) and folded(record.owner) == folded(step.name) for record in answers)
         if not has_answer or any(asks_denial(rrset) for rrset in step.sets):

@@ -227,7 +227,8 @@ def handed_on(message):
     """RFC 2308, 2: a failure is its code; without what was asked for there are no records, and authorities alone are handed on."""
     if message.code in FAILURES:
         return f"code {message.code}"
-    if message.code not in OF_NO_RECORDS or message.is_truncated or any(is_answered(message, *asked) for asked in message.questions):
+    has_records = message.is_truncated or any(is_answered(message, *asked) for asked in message.questions)
+    if has_records or message.code not in OF_NO_RECORDS:
         return message
     return message._replace(sections=[[], message.sections[1], []], is_empty=True)
 

@@ -1,7 +1,8 @@
-"""Sessions of several zones, and what is found in their outputs: for `walk.py`, which has the rows.
+"""Sessions of several zones, and what is found in their outputs: for `walk.py` and `unsigned.py`, which have the rows.
 
 Zones are lists of labels, and a key is its rdata, as `texts.py` has them."""
 import hashlib
+import os
 
 import model
 import texts
@@ -35,16 +36,19 @@ class Scene:
         self.accepts, self.replies, self.further = [], [], ()
         self.is_packed, self.algorithms = is_packed, algorithms
 
-    def signed(self, records, key, signer, signature=texts.SIGNATURE, is_accepted=True):
-        one = Signed(records, key, signature, signer)
+    def signed(self, records, key, signer, signature=texts.SIGNATURE, is_accepted=True, labels=None):
+        one = Signed(records, key, signature, signer, labels)
         if is_accepted:
             self.accepts.append(one.accept())
         return one.section()
 
-    def says(self, name, kind, *parts, authorities=()):
+    def says(self, name, kind, *parts, authorities=(), additionals=(), code=0, word="reply"):
         answers = [record for part in parts for record in part]
-        octets = texts.message(name, kind, answers, self.further, authorities, self.is_packed)
-        self.replies.append(texts.reply(name, kind, octets))
+        octets = texts.message(name, kind, answers, (*self.further, *additionals), authorities, self.is_packed, code)
+        self.replies.append(texts.reply(name, kind, octets, word))
+
+    def fails(self, name, kind, fault):
+        self.replies.append(f"fault {texts.shown(name)} {texts.type_word(kind)} {fault}")
 
     def root(self):
         self.says(ROOT, DNSKEY, [Record(ROOT, DNSKEY, KEY)])
@@ -58,8 +62,8 @@ class Scene:
         records = [Record(zone, DNSKEY, key) for key in keys]
         self.says(zone, DNSKEY, self.signed(records, signing, zone) if signing else records)
 
-    def session(self, name, kind, depth=None):
-        return texts.session(self.anchors, self.accepts, name, kind, self.replies, depth=depth, algorithms=self.algorithms)
+    def session(self, name, kind, depth=None, version=1):
+        return texts.session(self.anchors, self.accepts, name, kind, self.replies, version, depth, self.algorithms)
 
 
 # ---- what has to be found
@@ -72,8 +76,8 @@ def link_text(line):
 
 
 def found(lines):
-    """What a row may say of an answer: lines of the trail, records without ttl and rdata, how many asks and chains there are, and the
-    links of each chain."""
+    """What a row may say of an answer: lines of the trail, records without ttl and rdata, how many asks and chains there are, the
+    links of each chain, and how the last step ended."""
     records = [line.split(" ") for line in lines if line.startswith(model.SECTIONS)]
     asks, chains = sum(line.startswith("step ") for line in lines), []
     for line in lines:
@@ -82,7 +86,9 @@ def found(lines):
         elif line.startswith(("anchored ", "matched ", "keyset ", "signed ")):
             chains[-1].append(link_text(line))
     marks = {" ".join((section, owner, kind, mark)) for section, owner, _, kind, _, mark, _ in records}
-    return {*lines, *marks, f"asks {asks}", f"chains {len(chains)}", *("links " + ", ".join(chain) for chain in chains)}
+    last = [line for line in lines if line.startswith("ending ")][-1:]
+    links = ["links " + ", ".join(chain) for chain in chains]
+    return {*lines, *marks, f"asks {asks}", f"chains {len(chains)}", *links, *(f"last {line}" for line in last)}
 
 
 def finds(session, says, words=PLAIN):
@@ -93,3 +99,46 @@ def finds(session, says, words=PLAIN):
     out, status = model.written(session, [word.encode() for word in words])
     assert status == 0
     return out
+
+
+def ends_with(session, line):
+    """The line and the status, where the model has them too; it knows of no bad lines."""
+    status = 3 if line.startswith("bad line") else 1
+    ended = f"{line}\n".encode(), status
+    assert status == 3 or model.written(session) == ended, (line, model.written(session))
+    return ended
+
+
+# ---- the files of rows
+
+def files_of(make):
+    """Each file's name and text. A row gives its session, and then what it says and the words, or the one line that is written."""
+    name = make.__name__.replace("_", "-")
+    session, *rest = make()
+    yield f"{name}.session", session
+    if len(rest) == 1:
+        out, status = ends_with(session, rest[0])
+        yield f"{name}.status", b"%d\n" % status
+    else:
+        says, words = rest
+        out = finds(session, says, words)
+        if words != PLAIN:
+            yield f"{name}.words", "".join(word + "\n" for word in words).encode()
+    yield f"{name}.out", out
+
+
+def main(module, words):
+    """Writes the files of a module's rows, or says whether they are those that it makes."""
+    if words not in ([], ["--check"]):
+        print(module.__doc__)
+        return 2
+    wrong = 0
+    for name, text in (file for make in module.MADE for file in files_of(make)):
+        path = os.path.join(model.FOLDER, name)
+        if not words:
+            with open(path, "wb") as file:
+                file.write(text)
+        elif model.read(path, None) != text:
+            wrong = 1
+            print(f"rows/{name}: isn't what rows/{os.path.basename(module.__file__)} makes: run it")
+    return wrong

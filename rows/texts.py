@@ -56,21 +56,21 @@ def key_tag(rdata):
 
 
 class Record:
-    def __init__(self, owner, kind, rdata):
-        self.owner, self.kind, self.rdata = owner, kind, rdata
+    def __init__(self, owner, kind, rdata, klass=IN):
+        self.owner, self.kind, self.rdata, self.klass = owner, kind, rdata, klass
 
     def wire(self, written=wire):
         """RFC 1035, 4.1.3."""
-        fixed = number(self.kind, 2) + number(IN, 2) + number(TTL, 4)
+        fixed = number(self.kind, 2) + number(self.klass, 2) + number(TTL, 4)
         return written(self.owner) + fixed + number(len(self.rdata), 2) + self.rdata
 
     def line(self, section, ttl, mark):
         return f"{section} {shown(self.owner)} IN {type_word(self.kind)} {ttl} {mark} {self.rdata.hex()}"
 
 
-def message(name, kind, answers, additionals=(), authorities=(), is_packed=False):
+def message(name, kind, answers, additionals=(), authorities=(), is_packed=False, code=0):
     """A reply with one question (RFC 1035, 4.1). Owners are spelled out, or packed."""
-    octets, places = bytearray.fromhex("00008400"), {}
+    octets, places = bytearray.fromhex(f"0000840{code}"), {}
     octets += b"".join(number(count, 2) for count in (1, len(answers), len(authorities), len(additionals)))
 
     def written(owner):
@@ -83,13 +83,14 @@ def message(name, kind, answers, additionals=(), authorities=(), is_packed=False
 
 
 class Signed:
-    """Records of one owner and type with a signature of a zone by a key (RFC 4034, 3.1)."""
+    """Records of one owner and type with a signature of a zone by a key (RFC 4034, 3.1). Fewer labels are those of a wildcard."""
 
-    def __init__(self, records, key, signature=SIGNATURE, signer=()):
+    def __init__(self, records, key, signature=SIGNATURE, signer=(), labels=None):
         self.records, self.key, self.signature, self.signer = records, key, signature, signer
         first = records[0]
         self.owner, self.kind = first.owner, first.kind
-        labels = len(first.owner) - (first.owner[:1] == [b"*"])
+        if labels is None:
+            labels = len(first.owner) - (first.owner[:1] == [b"*"])
         times = number(TTL, 4) + number(EXPIRATION, 4) + number(INCEPTION, 4)
         self.front = number(first.kind, 2) + number(ALGORITHM, 1) + number(labels, 1) + times + number(key_tag(key), 2)
 
@@ -101,7 +102,7 @@ class Signed:
 
     def accept(self):
         """RFC 4034, 3.1.8.1: the rdatas rise as bytes, each once; owner and signer are in lower case. No rdata here has a name in
-        capitals."""
+        capitals, and no wildcard's signature is accepted."""
         rising = sorted({record.rdata for record in self.records})
         records = b"".join(Record(folded(self.owner), self.kind, rdata).wire() for rdata in rising)
         signed = self.front + wire(folded(self.signer)) + records
@@ -137,8 +138,8 @@ def chain(links, section="answer"):
     return [f"chain {section} {len(links)}", *links]
 
 
-def reply(name, kind, octets):
-    return f"reply {shown(name)} {type_word(kind)} {octets.hex() or '-'}"
+def reply(name, kind, octets, word="reply"):
+    return f"{word} {shown(name)} {type_word(kind)} {octets.hex() or '-'}"
 
 
 def keys_reply(keys, signed=None):
@@ -171,10 +172,10 @@ def judged(section, owner, kind, mark, place, asks=()):
     return " ".join(["set", section, shown(owner), type_word(kind), mark, "table", place, *map(str, asks)])
 
 
-def step(depth, name, kind, heard, ending):
+def step(depth, name, kind, heard, ending, purpose="judged"):
     """The lines of a step: `heard` is what it told and judged, or None for a fault."""
     got = "got fault" if heard is None else "got 0"
-    return [f"step {depth} judged {shown(name)} {type_word(kind)}", got, *(heard or []), f"ending {ending}"]
+    return [f"step {depth} {purpose} {shown(name)} {type_word(kind)}", got, *(heard or []), f"ending {ending}"]
 
 
 def keys_step(keys):

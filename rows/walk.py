@@ -5,12 +5,10 @@ What has to be written is what `model.py` has for the session, and each row says
 
     python3 rows/walk.py            writes the rows' files beside it
     python3 rows/walk.py --check    says whether the files are those"""
-import os
 import sys
 
-import model
 import texts
-from scene import PLAIN, ROOT, SHA_1, SHA_256, SHA_384, TRAIL, Opt, Scene, ds_of, finds
+from scene import PLAIN, ROOT, SHA_1, SHA_256, SHA_384, TRAIL, Opt, Scene, ds_of, finds, main
 from texts import A, DNSKEY, DS, KEY, NS, NSEC, Record, Signed, key_of, key_tag, number
 
 EXAMPLE, OTHER, WWW = [b"example"], [b"other"], [b"www", b"example"]
@@ -396,32 +394,5 @@ MADE = (walk_by_ds, trail_of_a_walk_by_ds, keys_matched_by_each_digest, keys_anc
         third_zone_with_depth_six, revoked_key_that_a_ds_matches, revoked_key_that_is_anchored, key_of_no_octets_beside)
 
 
-def files():
-    """Each file's name and text."""
-    for make in MADE:
-        name = make.__name__.replace("_", "-")
-        session, says, words = make()
-        yield f"{name}.session", session
-        yield f"{name}.out", finds(session, says, words)
-        if words != PLAIN:
-            yield f"{name}.words", "".join(word + "\n" for word in words).encode()
-
-
-def main(words):
-    if words not in ([], ["--check"]):
-        print(__doc__)
-        return 2
-    wrong = 0
-    for name, text in files():
-        path = os.path.join(model.FOLDER, name)
-        if not words:
-            with open(path, "wb") as file:
-                file.write(text)
-        elif model.read(path, None) != text:
-            wrong = 1
-            print(f"rows/{name}: isn't what rows/walk.py makes: run it")
-    return wrong
-
-
 if __name__ == "__main__":
-    sys.exit(main(sys.argv[1:]))
+    sys.exit(main(sys.modules[__name__], sys.argv[1:]))
