@@ -1,5 +1,5 @@
 #!/usr/bin/env python3
-"""The rows of unsigned sets and of zones that aren't signed so that they could be judged.
+"""The rows of unsigned sets, of zones that aren't signed so that they could be judged, and of an upstream that hands on no message.
 
 What has to be written is what `model.py` has for the session, and each row says besides what has to be found in it, or the one line
 that is written.
@@ -317,13 +317,123 @@ def insecure_servers_beside_an_answer():
     return scene.session(WWW, A), says, TRAIL
 
 
+# ---- an upstream that hands on an error, or that there are no records
+
+NS_REPLY = texts.reply(ROOT, NS, texts.message(ROOT, NS, texts.Signed([ns_of(ROOT)], KEY).section()))
+
+
+def stored(*lines):
+    """The stored session with these lines in place of its replies."""
+    servers = texts.Signed([ns_of(ROOT)], KEY)
+    return texts.session([texts.anchor(KEY)], [servers.accept()], ROOT, NS, lines)
+
+
+def failure_in_place_of_the_first_reply():
+    """an upstream that hands on a failure gives its code, and that ends the lookup"""
+    return stored("empty . NS 000084020000000000000000", texts.keys_reply([KEY])), "fault code 2"
+
+
+def busy_in_place_of_the_first_reply():
+    """an upstream may be too busy"""
+    return stored("fault . NS busy", texts.keys_reply([KEY])), "fault busy"
+
+
+def io_in_place_of_the_first_reply():
+    """or its outside may fail"""
+    return stored("fault . NS io", NS_REPLY, texts.keys_reply([KEY])), "fault io Other"
+
+
+def io_in_place_of_the_keys():
+    """a fault below the query never ends the lookup: the set that needed the ask is bogus"""
+    return stored(NS_REPLY, "fault . DNSKEY io"), ["answer . NS bogus", "got fault", "ending failed", "asks 2"], PLAIN
+
+
+def no_records_in_place_of_the_first_reply():
+    """that there are no records is no error, and isn't judged so far"""
+    return stored("empty . NS 000084000000000000000000", texts.keys_reply([KEY])), "fault message not judged yet"
+
+
+def no_message_in_place_of_the_first_reply():
+    """what an upstream should hand on may be no message"""
+    return stored("empty . NS -", texts.keys_reply([KEY])), "fault proto Short 0"
+
+
+def answers_that_are_handed_on():
+    """a message with the records asked for is handed on as it is; the lines of an upstream stand in any order"""
+    lines = [texts.keys_reply([KEY]).replace("reply", "empty"), "fault A A timeout", "fault a. NS io", "empty a AAAA -",
+             NS_REPLY.replace("reply", "empty"), "fault . NS busy", "empty . DNSKEY 00008402000000000000000A"]
+    return stored(*lines), ["answer . NS secure", "no got 0 empty", "asks 2", "chains 1"], PLAIN
+
+
+# ---- lines of an upstream out of their form, and at other places than their own
+
+def bad(line):
+    """The line stands after the query and a reply."""
+    return stored(NS_REPLY, line), "bad line 8"
+
+
+def fault_of_an_unknown_word():
+    """a fault has one of three words"""
+    return bad("fault . NS lost")
+
+
+def fault_word_in_another_case():
+    """in its own case"""
+    return bad("fault . NS Timeout")
+
+
+def fault_without_a_word():
+    """and never none"""
+    return bad("fault . NS")
+
+
+def fault_with_a_message():
+    """and no message"""
+    return bad("fault . NS timeout 000084020000000000000000")
+
+
+def empty_without_a_message():
+    """a line `empty` has a message"""
+    return bad("empty . NS")
+
+
+def empty_with_half_an_octet():
+    """in whole octets"""
+    return bad("empty . NS 00008")
+
+
+def empty_with_a_fault():
+    """and no word of a fault"""
+    return bad("empty . NS busy")
+
+
+def at(place, line):
+    """The stored session with a line before the line at this place, from 1."""
+    lines = stored(NS_REPLY).split(b"\n")
+    return b"\n".join([*lines[:place - 1], line.encode(), *lines[place - 1:]])
+
+
+def empty_before_the_query():
+    """lines of the upstream stand after the query"""
+    return at(6, "empty . NS 000084020000000000000000"), "bad line 6"
+
+
+def fault_after_the_last_line():
+    """and before the last line"""
+    return at(9, "fault . NS busy"), "bad line 9"
+
+
 MADE = (unsigned_in_an_insecure_zone, unsigned_in_a_signed_zone, unsigned_in_a_zone_with_another_ds_beside,
         unsigned_below_a_delegation_without_ds, search_up_to_the_root, search_that_meets_a_fault, search_with_depth_zero,
         servers_of_another_class_beside, no_records_with_servers_beside, search_for_the_zone_of_an_nsec3,
         question_that_is_searched_too, unsigned_ds_set, set_of_an_insecure_zone, second_signature_is_insecure,
         good_signature_after_an_insecure_one, signature_of_a_bogus_zone, zone_below_an_insecure_one, insecure_start_beside_a_cname,
         insecure_start_of_another_zone, wildcard_of_an_insecure_zone, wildcard_of_a_signed_zone, ds_from_a_wildcard,
-        insecure_servers_beside_an_answer)
+        insecure_servers_beside_an_answer, failure_in_place_of_the_first_reply, busy_in_place_of_the_first_reply,
+        io_in_place_of_the_first_reply, io_in_place_of_the_keys, no_records_in_place_of_the_first_reply,
+        no_message_in_place_of_the_first_reply, answers_that_are_handed_on, fault_of_an_unknown_word, fault_word_in_another_case,
+        fault_without_a_word, fault_with_a_message, empty_without_a_message, empty_with_half_an_octet, empty_with_a_fault,
+        empty_before_the_query, fault_after_the_last_line)
 
 if __name__ == "__main__":
     sys.exit(main(sys.modules[__name__], sys.argv[1:]))

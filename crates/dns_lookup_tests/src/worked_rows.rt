@@ -11,7 +11,7 @@ pub(crate) struct Row {
     pub(crate) text: &'static [u8],
 }
 
-const ROWS_1: [Row; 10] = [
+const ROWS_1: [Row; 11] = [
     Row {
         name: "2-to-the-31-before-the-expiration",
         words: &["validate"],
@@ -25,6 +25,20 @@ const ROWS_1: [Row; 10] = [
         session: b"dns-session 1\nmoment 1000\nalgorithms 13\nanchor example. 13 e1\naccept 13 e1 00300d0100000e10000007d000000384e50e076578616d706c6500076578616d706c65000030000100000e1000050101030de1076578616d706c65000030000100000e1000050101030de2 c0de\naccept 13 aabb 002b0d0100000e10000007d000000384aec900076578616d706c6500002b000100000e100024e50e0d026691c87f523df73948a4cc0b62ebd65a708505e054a2fbf3143cec487ad142d8 c0de\nquery example. DNSKEY\nreply example. DNSKEY 000084000001000300000000076578616d706c650000300001076578616d706c65000030000100000e1000050101030de1076578616d706c65000030000100000e1000050101030de2076578616d706c6500002e000100000e10001d00300d0100000e10000007d000000384e50e076578616d706c6500c0de\nreply example. DS 000084000001000200000000076578616d706c6500002b0001076578616d706c6500002b000100000e100024e50e0d026691c87f523df73948a4cc0b62ebd65a708505e054a2fbf3143cec487ad142d8076578616d706c6500002e000100000e100015002b0d0100000e10000007d000000384aec900c0de\nreply . DNSKEY 0000840000010001000000000000300001000030000100000e1000060101030daabb\nend\n",
         status: 0,
         text: b"dns-report 1\ncode 0\ndenial none\nanswer example. IN DNSKEY 1000 secure 0101030de1\nanswer example. IN DNSKEY 1000 secure 0101030de2\nanswer example. IN RRSIG 1000 secure 00300d0100000e10000007d000000384e50e076578616d706c6500c0de\nchain answer 2\nanchored example. IN 0101030de1\nsigned example. IN DNSKEY 0 0101030de1 00300d0100000e10000007d000000384e50e076578616d706c6500c0de 0101030de1 0101030de2\ntrail 1\nstep 0 judged example. DNSKEY\ngot 0\ntold answer example. IN DNSKEY 3600 0101030de1\ntold answer example. IN DNSKEY 3600 0101030de2\ntold answer example. IN RRSIG 3600 00300d0100000e10000007d000000384e50e076578616d706c6500c0de\nset answer example. DNSKEY secure table 0\nending none\nend\n",
+    },
+    Row {
+        name: "answers-that-are-handed-on",
+        words: &["validate"],
+        session: b"dns-session 1\nmoment 1000\nalgorithms 13\nanchor . 13 aabb\naccept 13 aabb 00020d0000000e10000007d000000384aec900000002000100000e100003016100 c0de\nquery . NS\nempty . DNSKEY 0000840000010001000000000000300001000030000100000e1000060101030daabb\nfault A A timeout\nfault a. NS io\nempty a AAAA -\nempty . NS 0000840000010002000000000000020001000002000100000e10000301610000002e000100000e10001500020d0000000e10000007d000000384aec900c0de\nfault . NS busy\nempty . DNSKEY 00008402000000000000000A\nend\n",
+        status: 0,
+        text: b"dns-report 1\ncode 0\ndenial none\nanswer . IN NS 1000 secure 016100\nanswer . IN RRSIG 1000 secure 00020d0000000e10000007d000000384aec900c0de\nchain answer 3\nanchored . IN 0101030daabb\nkeyset . IN 0 0101030daabb\nsigned . IN NS 1 0101030daabb 00020d0000000e10000007d000000384aec900c0de 016100\nend\n",
+    },
+    Row {
+        name: "busy-in-place-of-the-first-reply",
+        words: &["validate"],
+        session: b"dns-session 1\nmoment 1000\nalgorithms 13\nanchor . 13 aabb\naccept 13 aabb 00020d0000000e10000007d000000384aec900000002000100000e100003016100 c0de\nquery . NS\nfault . NS busy\nreply . DNSKEY 0000840000010001000000000000300001000030000100000e1000060101030daabb\nend\n",
+        status: 1,
+        text: b"fault busy\n",
     },
     Row {
         name: "byte-after-the-message",
@@ -75,13 +89,6 @@ const ROWS_1: [Row; 10] = [
         status: 0,
         text: b"dns-report 1\ncode 0\ndenial none\nanswer example. IN DNSKEY 3600 insecure 0101030de1\nanswer example. IN RRSIG 3600 indeterminate 00300d0100000e10000007d000000384e50e076578616d706c6500c0de\nend\n",
     },
-    Row {
-        name: "ds-of-an-unknown-digest-beside",
-        words: &["validate"],
-        session: b"dns-session 1\nmoment 1000\nalgorithms 13\nanchor . 13 aabb\naccept 13 e1 00300d0100000e10000007d000000384e50e076578616d706c6500076578616d706c65000030000100000e1000050101030de1 c0de\naccept 13 aabb 002b0d0100000e10000007d000000384aec900076578616d706c6500002b000100000e100024e50e0d026691c87f523df73948a4cc0b62ebd65a708505e054a2fbf3143cec487ad142d8076578616d706c6500002b000100000e100024e50e0d036691c87f523df73948a4cc0b62ebd65a708505e054a2fbf3143cec487ad142d8 c0de\nquery example. DNSKEY\nreply example. DNSKEY 000084000001000200000000076578616d706c650000300001076578616d706c65000030000100000e1000050101030de1076578616d706c6500002e000100000e10001d00300d0100000e10000007d000000384e50e076578616d706c6500c0de\nreply example. DS 000084000001000300000000076578616d706c6500002b0001076578616d706c6500002b000100000e100024e50e0d026691c87f523df73948a4cc0b62ebd65a708505e054a2fbf3143cec487ad142d8076578616d706c6500002b000100000e100024e50e0d036691c87f523df73948a4cc0b62ebd65a708505e054a2fbf3143cec487ad142d8076578616d706c6500002e000100000e100015002b0d0100000e10000007d000000384aec900c0de\nreply . DNSKEY 0000840000010001000000000000300001000030000100000e1000060101030daabb\nend\n",
-        status: 0,
-        text: b"dns-report 1\ncode 0\ndenial none\nanswer example. IN DNSKEY 1000 secure 0101030de1\nanswer example. IN RRSIG 1000 secure 00300d0100000e10000007d000000384e50e076578616d706c6500c0de\nchain answer 5\nanchored . IN 0101030daabb\nkeyset . IN 0 0101030daabb\nsigned example. IN DS 1 0101030daabb 002b0d0100000e10000007d000000384aec900c0de e50e0d026691c87f523df73948a4cc0b62ebd65a708505e054a2fbf3143cec487ad142d8 e50e0d036691c87f523df73948a4cc0b62ebd65a708505e054a2fbf3143cec487ad142d8\nmatched example. IN 0101030de1 2 e50e0d026691c87f523df73948a4cc0b62ebd65a708505e054a2fbf3143cec487ad142d8\nsigned example. IN DNSKEY 3 0101030de1 00300d0100000e10000007d000000384e50e076578616d706c6500c0de 0101030de1\nend\n",
-    },
 ];
 
 #[test]
@@ -100,7 +107,14 @@ fn rows_of_part_1_end_where_the_outside_fails(rt: HostRuntime) -> Result<(), Fai
     Ok(())
 }
 
-const ROWS_2: [Row; 11] = [
+const ROWS_2: [Row; 7] = [
+    Row {
+        name: "ds-of-an-unknown-digest-beside",
+        words: &["validate"],
+        session: b"dns-session 1\nmoment 1000\nalgorithms 13\nanchor . 13 aabb\naccept 13 e1 00300d0100000e10000007d000000384e50e076578616d706c6500076578616d706c65000030000100000e1000050101030de1 c0de\naccept 13 aabb 002b0d0100000e10000007d000000384aec900076578616d706c6500002b000100000e100024e50e0d026691c87f523df73948a4cc0b62ebd65a708505e054a2fbf3143cec487ad142d8076578616d706c6500002b000100000e100024e50e0d036691c87f523df73948a4cc0b62ebd65a708505e054a2fbf3143cec487ad142d8 c0de\nquery example. DNSKEY\nreply example. DNSKEY 000084000001000200000000076578616d706c650000300001076578616d706c65000030000100000e1000050101030de1076578616d706c6500002e000100000e10001d00300d0100000e10000007d000000384e50e076578616d706c6500c0de\nreply example. DS 000084000001000300000000076578616d706c6500002b0001076578616d706c6500002b000100000e100024e50e0d026691c87f523df73948a4cc0b62ebd65a708505e054a2fbf3143cec487ad142d8076578616d706c6500002b000100000e100024e50e0d036691c87f523df73948a4cc0b62ebd65a708505e054a2fbf3143cec487ad142d8076578616d706c6500002e000100000e100015002b0d0100000e10000007d000000384aec900c0de\nreply . DNSKEY 0000840000010001000000000000300001000030000100000e1000060101030daabb\nend\n",
+        status: 0,
+        text: b"dns-report 1\ncode 0\ndenial none\nanswer example. IN DNSKEY 1000 secure 0101030de1\nanswer example. IN RRSIG 1000 secure 00300d0100000e10000007d000000384e50e076578616d706c6500c0de\nchain answer 5\nanchored . IN 0101030daabb\nkeyset . IN 0 0101030daabb\nsigned example. IN DS 1 0101030daabb 002b0d0100000e10000007d000000384aec900c0de e50e0d026691c87f523df73948a4cc0b62ebd65a708505e054a2fbf3143cec487ad142d8 e50e0d036691c87f523df73948a4cc0b62ebd65a708505e054a2fbf3143cec487ad142d8\nmatched example. IN 0101030de1 2 e50e0d026691c87f523df73948a4cc0b62ebd65a708505e054a2fbf3143cec487ad142d8\nsigned example. IN DNSKEY 3 0101030de1 00300d0100000e10000007d000000384e50e076578616d706c6500c0de 0101030de1\nend\n",
+    },
     Row {
         name: "ds-of-another-tag-and-algorithm",
         words: &["validate"],
@@ -143,6 +157,25 @@ const ROWS_2: [Row; 11] = [
         status: 0,
         text: b"dns-report 1\ncode 0\ndenial none\nanswer A\\.b\\032\\000c. IN NS 1000 secure 016100\nanswer A\\.b\\032\\000c. IN RRSIG 1000 secure 00020d0100000e10000007d000000384aec900c0de\nchain answer 3\nanchored . IN 0101030daabb\nkeyset . IN 0 0101030daabb\nsigned A\\.b\\032\\000c. IN NS 1 0101030daabb 00020d0100000e10000007d000000384aec900c0de 016100\nend\n",
     },
+];
+
+#[test]
+fn rows_of_part_2_end_as_they_say(rt: HostRuntime) -> Result<(), Fail> {
+    for row in &ROWS_2 {
+        assert!(rt; ends_so(rt.alloc(), row)?, "{}", row.name);
+    }
+    Ok(())
+}
+
+#[test]
+fn rows_of_part_2_end_where_the_outside_fails(rt: HostRuntime) -> Result<(), Fail> {
+    for row in &ROWS_2 {
+        assert!(rt; fails_so(rt.alloc(), row)?, "{}", row.name);
+    }
+    Ok(())
+}
+
+const ROWS_3: [Row; 20] = [
     Row {
         name: "eighth-of-nine-signatures",
         words: &["validate"],
@@ -151,11 +184,39 @@ const ROWS_2: [Row; 11] = [
         text: b"dns-report 1\ncode 0\ndenial none\nanswer . IN NS 1000 secure 016100\nanswer . IN RRSIG 3600 indeterminate 00020d0000000e10000007d000000384aec900c001\nanswer . IN RRSIG 3600 indeterminate 00020d0000000e10000007d000000384aec900c002\nanswer . IN RRSIG 3600 indeterminate 00020d0000000e10000007d000000384aec900c003\nanswer . IN RRSIG 3600 indeterminate 00020d0000000e10000007d000000384aec900c004\nanswer . IN RRSIG 3600 indeterminate 00020d0000000e10000007d000000384aec900c005\nanswer . IN RRSIG 3600 indeterminate 00020d0000000e10000007d000000384aec900c006\nanswer . IN RRSIG 3600 indeterminate 00020d0000000e10000007d000000384aec900c007\nanswer . IN RRSIG 1000 secure 00020d0000000e10000007d000000384aec900c008\nanswer . IN RRSIG 3600 indeterminate 00020d0000000e10000007d000000384aec900c009\nchain answer 3\nanchored . IN 0101030daabb\nkeyset . IN 0 0101030daabb\nsigned . IN NS 1 0101030daabb 00020d0000000e10000007d000000384aec900c008 016100\nend\n",
     },
     Row {
+        name: "empty-before-the-query",
+        words: &["validate"],
+        session: b"dns-session 1\nmoment 1000\nalgorithms 13\nanchor . 13 aabb\naccept 13 aabb 00020d0000000e10000007d000000384aec900000002000100000e100003016100 c0de\nempty . NS 000084020000000000000000\nquery . NS\nreply . NS 0000840000010002000000000000020001000002000100000e10000301610000002e000100000e10001500020d0000000e10000007d000000384aec900c0de\nend\n",
+        status: 3,
+        text: b"bad line 6\n",
+    },
+    Row {
         name: "empty-label",
         words: &["validate"],
         session: b"dns-session 1\nmoment 1000\nalgorithms 13\nquery a..b. A\nend\n",
         status: 3,
         text: b"bad line 4\n",
+    },
+    Row {
+        name: "empty-with-a-fault",
+        words: &["validate"],
+        session: b"dns-session 1\nmoment 1000\nalgorithms 13\nanchor . 13 aabb\naccept 13 aabb 00020d0000000e10000007d000000384aec900000002000100000e100003016100 c0de\nquery . NS\nreply . NS 0000840000010002000000000000020001000002000100000e10000301610000002e000100000e10001500020d0000000e10000007d000000384aec900c0de\nempty . NS busy\nend\n",
+        status: 3,
+        text: b"bad line 8\n",
+    },
+    Row {
+        name: "empty-with-half-an-octet",
+        words: &["validate"],
+        session: b"dns-session 1\nmoment 1000\nalgorithms 13\nanchor . 13 aabb\naccept 13 aabb 00020d0000000e10000007d000000384aec900000002000100000e100003016100 c0de\nquery . NS\nreply . NS 0000840000010002000000000000020001000002000100000e10000301610000002e000100000e10001500020d0000000e10000007d000000384aec900c0de\nempty . NS 00008\nend\n",
+        status: 3,
+        text: b"bad line 8\n",
+    },
+    Row {
+        name: "empty-without-a-message",
+        words: &["validate"],
+        session: b"dns-session 1\nmoment 1000\nalgorithms 13\nanchor . 13 aabb\naccept 13 aabb 00020d0000000e10000007d000000384aec900000002000100000e100003016100 c0de\nquery . NS\nreply . NS 0000840000010002000000000000020001000002000100000e10000301610000002e000100000e10001500020d0000000e10000007d000000384aec900c0de\nempty . NS\nend\n",
+        status: 3,
+        text: b"bad line 8\n",
     },
     Row {
         name: "empty-word",
@@ -178,31 +239,54 @@ const ROWS_2: [Row; 11] = [
         status: 3,
         text: b"bad line 4\n",
     },
-];
-
-#[test]
-fn rows_of_part_2_end_as_they_say(rt: HostRuntime) -> Result<(), Fail> {
-    for row in &ROWS_2 {
-        assert!(rt; ends_so(rt.alloc(), row)?, "{}", row.name);
-    }
-    Ok(())
-}
-
-#[test]
-fn rows_of_part_2_end_where_the_outside_fails(rt: HostRuntime) -> Result<(), Fail> {
-    for row in &ROWS_2 {
-        assert!(rt; fails_so(rt.alloc(), row)?, "{}", row.name);
-    }
-    Ok(())
-}
-
-const ROWS_3: [Row; 8] = [
     Row {
         name: "expanded-and-not-accepted",
         words: &["validate"],
         session: b"dns-session 1\nmoment 1000\nalgorithms 13\nanchor . 13 aabb\nquery b. NS\nreply b. NS 000084000001000200000000016200000200010162000002000100000e100003016100016200002e000100000e10001500020d0000000e10000007d000000384aec900c0de\nreply . DNSKEY 0000840000010001000000000000300001000030000100000e1000060101030daabb\nend\n",
         status: 1,
         text: b"fault nsec bogus\n",
+    },
+    Row {
+        name: "failure-in-place-of-the-first-reply",
+        words: &["validate"],
+        session: b"dns-session 1\nmoment 1000\nalgorithms 13\nanchor . 13 aabb\naccept 13 aabb 00020d0000000e10000007d000000384aec900000002000100000e100003016100 c0de\nquery . NS\nempty . NS 000084020000000000000000\nreply . DNSKEY 0000840000010001000000000000300001000030000100000e1000060101030daabb\nend\n",
+        status: 1,
+        text: b"fault code 2\n",
+    },
+    Row {
+        name: "fault-after-the-last-line",
+        words: &["validate"],
+        session: b"dns-session 1\nmoment 1000\nalgorithms 13\nanchor . 13 aabb\naccept 13 aabb 00020d0000000e10000007d000000384aec900000002000100000e100003016100 c0de\nquery . NS\nreply . NS 0000840000010002000000000000020001000002000100000e10000301610000002e000100000e10001500020d0000000e10000007d000000384aec900c0de\nend\nfault . NS busy\n",
+        status: 3,
+        text: b"bad line 9\n",
+    },
+    Row {
+        name: "fault-of-an-unknown-word",
+        words: &["validate"],
+        session: b"dns-session 1\nmoment 1000\nalgorithms 13\nanchor . 13 aabb\naccept 13 aabb 00020d0000000e10000007d000000384aec900000002000100000e100003016100 c0de\nquery . NS\nreply . NS 0000840000010002000000000000020001000002000100000e10000301610000002e000100000e10001500020d0000000e10000007d000000384aec900c0de\nfault . NS lost\nend\n",
+        status: 3,
+        text: b"bad line 8\n",
+    },
+    Row {
+        name: "fault-with-a-message",
+        words: &["validate"],
+        session: b"dns-session 1\nmoment 1000\nalgorithms 13\nanchor . 13 aabb\naccept 13 aabb 00020d0000000e10000007d000000384aec900000002000100000e100003016100 c0de\nquery . NS\nreply . NS 0000840000010002000000000000020001000002000100000e10000301610000002e000100000e10001500020d0000000e10000007d000000384aec900c0de\nfault . NS timeout 000084020000000000000000\nend\n",
+        status: 3,
+        text: b"bad line 8\n",
+    },
+    Row {
+        name: "fault-without-a-word",
+        words: &["validate"],
+        session: b"dns-session 1\nmoment 1000\nalgorithms 13\nanchor . 13 aabb\naccept 13 aabb 00020d0000000e10000007d000000384aec900000002000100000e100003016100 c0de\nquery . NS\nreply . NS 0000840000010002000000000000020001000002000100000e10000301610000002e000100000e10001500020d0000000e10000007d000000384aec900c0de\nfault . NS\nend\n",
+        status: 3,
+        text: b"bad line 8\n",
+    },
+    Row {
+        name: "fault-word-in-another-case",
+        words: &["validate"],
+        session: b"dns-session 1\nmoment 1000\nalgorithms 13\nanchor . 13 aabb\naccept 13 aabb 00020d0000000e10000007d000000384aec900000002000100000e100003016100 c0de\nquery . NS\nreply . NS 0000840000010002000000000000020001000002000100000e10000301610000002e000100000e10001500020d0000000e10000007d000000384aec900c0de\nfault . NS Timeout\nend\n",
+        status: 3,
+        text: b"bad line 8\n",
     },
     Row {
         name: "first-reply-serves",
@@ -232,6 +316,25 @@ const ROWS_3: [Row; 8] = [
         status: 2,
         text: b"bad words\n",
     },
+];
+
+#[test]
+fn rows_of_part_3_end_as_they_say(rt: HostRuntime) -> Result<(), Fail> {
+    for row in &ROWS_3 {
+        assert!(rt; ends_so(rt.alloc(), row)?, "{}", row.name);
+    }
+    Ok(())
+}
+
+#[test]
+fn rows_of_part_3_end_where_the_outside_fails(rt: HostRuntime) -> Result<(), Fail> {
+    for row in &ROWS_3 {
+        assert!(rt; fails_so(rt.alloc(), row)?, "{}", row.name);
+    }
+    Ok(())
+}
+
+const ROWS_4: [Row; 8] = [
     Row {
         name: "insecure-servers-beside-an-answer",
         words: &["validate", "trail"],
@@ -253,25 +356,20 @@ const ROWS_3: [Row; 8] = [
         status: 0,
         text: b"dns-report 1\ncode 0\ndenial none\nanswer www.example. IN A 3600 bogus c0000201\ntrail 7\nstep 0 ns www.example. NS\ngot 0\ntold answer www.example. IN NS 3600 016100\nending seen\nstep 1 ns mail.example. NS\ngot 0\nending seen\nstep 1 ns example. NS\ngot 0\ntold answer example. IN NS 3600 016100\nending seen\nstep 3 judged . DNSKEY\ngot 0\ntold answer . IN DNSKEY 3600 0101030daabb\nset answer . DNSKEY secure table -\nending none\nstep 2 judged example. DS\ngot 0\ntold answer example. IN DS 3600 e50efa026691c87f523df73948a4cc0b62ebd65a708505e054a2fbf3143cec487ad142d8\ntold answer example. IN RRSIG 3600 002b0d0100000e10000007d000000384aec900c0de\nset answer example. DS secure table 0 3\nending none\nstep 1 judged www.example. DS\ngot 0\ntold answer www.example. IN CNAME 3600 056f7468657200\ntold authority mail.example. IN SOA 3600 026e730004686f7374000000000000000000000000000000000000000000\nset authority mail.example. SOA insecure table - 1 2 4\nending none\nstep 0 judged www.example. A\ngot 0\ntold answer www.example. IN A 3600 c0000201\nset answer www.example. A bogus table - 0 5\nending none\nend\n",
     },
-];
-
-#[test]
-fn rows_of_part_3_end_as_they_say(rt: HostRuntime) -> Result<(), Fail> {
-    for row in &ROWS_3 {
-        assert!(rt; ends_so(rt.alloc(), row)?, "{}", row.name);
-    }
-    Ok(())
-}
-
-#[test]
-fn rows_of_part_3_end_where_the_outside_fails(rt: HostRuntime) -> Result<(), Fail> {
-    for row in &ROWS_3 {
-        assert!(rt; fails_so(rt.alloc(), row)?, "{}", row.name);
-    }
-    Ok(())
-}
-
-const ROWS_4: [Row; 11] = [
+    Row {
+        name: "io-in-place-of-the-first-reply",
+        words: &["validate"],
+        session: b"dns-session 1\nmoment 1000\nalgorithms 13\nanchor . 13 aabb\naccept 13 aabb 00020d0000000e10000007d000000384aec900000002000100000e100003016100 c0de\nquery . NS\nfault . NS io\nreply . NS 0000840000010002000000000000020001000002000100000e10000301610000002e000100000e10001500020d0000000e10000007d000000384aec900c0de\nreply . DNSKEY 0000840000010001000000000000300001000030000100000e1000060101030daabb\nend\n",
+        status: 1,
+        text: b"fault io Other\n",
+    },
+    Row {
+        name: "io-in-place-of-the-keys",
+        words: &["validate"],
+        session: b"dns-session 1\nmoment 1000\nalgorithms 13\nanchor . 13 aabb\naccept 13 aabb 00020d0000000e10000007d000000384aec900000002000100000e100003016100 c0de\nquery . NS\nreply . NS 0000840000010002000000000000020001000002000100000e10000301610000002e000100000e10001500020d0000000e10000007d000000384aec900c0de\nfault . DNSKEY io\nend\n",
+        status: 0,
+        text: b"dns-report 1\ncode 0\ndenial none\nanswer . IN NS 3600 bogus 016100\nanswer . IN RRSIG 3600 indeterminate 00020d0000000e10000007d000000384aec900c0de\nend\n",
+    },
     Row {
         name: "key-of-no-octets-beside",
         words: &["validate", "trail"],
@@ -293,6 +391,25 @@ const ROWS_4: [Row; 11] = [
         status: 0,
         text: b"dns-report 1\ncode 0\ndenial none\nanswer example. IN DNSKEY 3600 bogus 0101030de1\nanswer example. IN DNSKEY 3600 bogus 0101030de2\nanswer example. IN RRSIG 3600 indeterminate 00300d0100000e10000007d000000384e60e076578616d706c6500c0de\nend\n",
     },
+];
+
+#[test]
+fn rows_of_part_4_end_as_they_say(rt: HostRuntime) -> Result<(), Fail> {
+    for row in &ROWS_4 {
+        assert!(rt; ends_so(rt.alloc(), row)?, "{}", row.name);
+    }
+    Ok(())
+}
+
+#[test]
+fn rows_of_part_4_end_where_the_outside_fails(rt: HostRuntime) -> Result<(), Fail> {
+    for row in &ROWS_4 {
+        assert!(rt; fails_so(rt.alloc(), row)?, "{}", row.name);
+    }
+    Ok(())
+}
+
+const ROWS_5: [Row; 14] = [
     Row {
         name: "keys-anchored-or-matched",
         words: &["validate"],
@@ -349,25 +466,6 @@ const ROWS_4: [Row; 11] = [
         status: 0,
         text: b"dns-report 1\ncode 0\ndenial none\nanswer . IN NS 0 secure 016100\nanswer . IN RRSIG 0 secure 00020d0000000e10000007d000000384aec900c0de\nchain answer 3\nanchored . IN 0101030daabb\nkeyset . IN 0 0101030daabb\nsigned . IN NS 1 0101030daabb 00020d0000000e10000007d000000384aec900c0de 016100\nend\n",
     },
-];
-
-#[test]
-fn rows_of_part_4_end_as_they_say(rt: HostRuntime) -> Result<(), Fail> {
-    for row in &ROWS_4 {
-        assert!(rt; ends_so(rt.alloc(), row)?, "{}", row.name);
-    }
-    Ok(())
-}
-
-#[test]
-fn rows_of_part_4_end_where_the_outside_fails(rt: HostRuntime) -> Result<(), Fail> {
-    for row in &ROWS_4 {
-        assert!(rt; fails_so(rt.alloc(), row)?, "{}", row.name);
-    }
-    Ok(())
-}
-
-const ROWS_5: [Row; 17] = [
     Row {
         name: "line-after-the-last",
         words: &["validate"],
@@ -410,6 +508,25 @@ const ROWS_5: [Row; 17] = [
         status: 3,
         text: b"bad line 4\n",
     },
+];
+
+#[test]
+fn rows_of_part_5_end_as_they_say(rt: HostRuntime) -> Result<(), Fail> {
+    for row in &ROWS_5 {
+        assert!(rt; ends_so(rt.alloc(), row)?, "{}", row.name);
+    }
+    Ok(())
+}
+
+#[test]
+fn rows_of_part_5_end_where_the_outside_fails(rt: HostRuntime) -> Result<(), Fail> {
+    for row in &ROWS_5 {
+        assert!(rt; fails_so(rt.alloc(), row)?, "{}", row.name);
+    }
+    Ok(())
+}
+
+const ROWS_6: [Row; 15] = [
     Row {
         name: "names-in-another-case",
         words: &["validate", "trail"],
@@ -453,6 +570,20 @@ const ROWS_5: [Row; 17] = [
         text: b"bad line 9\n",
     },
     Row {
+        name: "no-message-in-place-of-the-first-reply",
+        words: &["validate"],
+        session: b"dns-session 1\nmoment 1000\nalgorithms 13\nanchor . 13 aabb\naccept 13 aabb 00020d0000000e10000007d000000384aec900000002000100000e100003016100 c0de\nquery . NS\nempty . NS -\nreply . DNSKEY 0000840000010001000000000000300001000030000100000e1000060101030daabb\nend\n",
+        status: 1,
+        text: b"fault proto Short 0\n",
+    },
+    Row {
+        name: "no-records-in-place-of-the-first-reply",
+        words: &["validate"],
+        session: b"dns-session 1\nmoment 1000\nalgorithms 13\nanchor . 13 aabb\naccept 13 aabb 00020d0000000e10000007d000000384aec900000002000100000e100003016100 c0de\nquery . NS\nempty . NS 000084000000000000000000\nreply . DNSKEY 0000840000010001000000000000300001000030000100000e1000060101030daabb\nend\n",
+        status: 1,
+        text: b"fault message not judged yet\n",
+    },
+    Row {
         name: "no-records-with-servers-beside",
         words: &["validate", "trail"],
         session: b"dns-session 1\nmoment 1000\nalgorithms 13\nanchor . 13 aabb\naccept 13 aabb 002b0d0100000e10000007d000000384aec900076578616d706c6500002b000100000e100024e50efa026691c87f523df73948a4cc0b62ebd65a708505e054a2fbf3143cec487ad142d8 c0de\nquery www.example. A\nreply www.example. A 00008400000100010000000003777777076578616d706c65000001000103777777076578616d706c65000001000100000e100004c0000201\nempty www.example. NS 00008400000000000001000003777777076578616d706c65000002000100000e100003016100\nreply example. NS 000084000001000100000000076578616d706c650000020001076578616d706c65000002000100000e100003016100\nreply example. DS 000084000001000200000000076578616d706c6500002b0001076578616d706c6500002b000100000e100024e50efa026691c87f523df73948a4cc0b62ebd65a708505e054a2fbf3143cec487ad142d8076578616d706c6500002e000100000e100015002b0d0100000e10000007d000000384aec900c0de\nreply . DNSKEY 0000840000010001000000000000300001000030000100000e1000060101030daabb\nend\n",
@@ -487,25 +618,6 @@ const ROWS_5: [Row; 17] = [
         status: 0,
         text: b"dns-report 1\ncode 0\ndenial none\nanswer . IN NS 1000 secure 016100\nanswer . IN RRSIG 1000 secure 00020d0000000e10000007d000000384aec900c0de\nauthority . IN NS 1000 secure 016100\nauthority . IN RRSIG 1000 secure 00020d0000000e10000007d000000384aec900c0de\nchain answer 3\nanchored . IN 0101030daabb\nkeyset . IN 0 0101030daabb\nsigned . IN NS 1 0101030daabb 00020d0000000e10000007d000000384aec900c0de 016100\nchain authority 3\nanchored . IN 0101030daabb\nkeyset . IN 0 0101030daabb\nsigned . IN NS 1 0101030daabb 00020d0000000e10000007d000000384aec900c0de 016100\nend\n",
     },
-];
-
-#[test]
-fn rows_of_part_5_end_as_they_say(rt: HostRuntime) -> Result<(), Fail> {
-    for row in &ROWS_5 {
-        assert!(rt; ends_so(rt.alloc(), row)?, "{}", row.name);
-    }
-    Ok(())
-}
-
-#[test]
-fn rows_of_part_5_end_where_the_outside_fails(rt: HostRuntime) -> Result<(), Fail> {
-    for row in &ROWS_5 {
-        assert!(rt; fails_so(rt.alloc(), row)?, "{}", row.name);
-    }
-    Ok(())
-}
-
-const ROWS_6: [Row; 15] = [
     Row {
         name: "one-second-later",
         words: &["validate"],
@@ -520,6 +632,25 @@ const ROWS_6: [Row; 15] = [
         status: 1,
         text: b"fault proto BadOpt 12\n",
     },
+];
+
+#[test]
+fn rows_of_part_6_end_as_they_say(rt: HostRuntime) -> Result<(), Fail> {
+    for row in &ROWS_6 {
+        assert!(rt; ends_so(rt.alloc(), row)?, "{}", row.name);
+    }
+    Ok(())
+}
+
+#[test]
+fn rows_of_part_6_end_where_the_outside_fails(rt: HostRuntime) -> Result<(), Fail> {
+    for row in &ROWS_6 {
+        assert!(rt; fails_so(rt.alloc(), row)?, "{}", row.name);
+    }
+    Ok(())
+}
+
+const ROWS_7: [Row; 13] = [
     Row {
         name: "opt-record-beside",
         words: &["validate"],
@@ -614,22 +745,22 @@ const ROWS_6: [Row; 15] = [
 ];
 
 #[test]
-fn rows_of_part_6_end_as_they_say(rt: HostRuntime) -> Result<(), Fail> {
-    for row in &ROWS_6 {
+fn rows_of_part_7_end_as_they_say(rt: HostRuntime) -> Result<(), Fail> {
+    for row in &ROWS_7 {
         assert!(rt; ends_so(rt.alloc(), row)?, "{}", row.name);
     }
     Ok(())
 }
 
 #[test]
-fn rows_of_part_6_end_where_the_outside_fails(rt: HostRuntime) -> Result<(), Fail> {
-    for row in &ROWS_6 {
+fn rows_of_part_7_end_where_the_outside_fails(rt: HostRuntime) -> Result<(), Fail> {
+    for row in &ROWS_7 {
         assert!(rt; fails_so(rt.alloc(), row)?, "{}", row.name);
     }
     Ok(())
 }
 
-const ROWS_7: [Row; 9] = [
+const ROWS_8: [Row; 9] = [
     Row {
         name: "search-with-depth-zero",
         words: &["validate", "trail"],
@@ -696,22 +827,22 @@ const ROWS_7: [Row; 9] = [
 ];
 
 #[test]
-fn rows_of_part_7_end_as_they_say(rt: HostRuntime) -> Result<(), Fail> {
-    for row in &ROWS_7 {
+fn rows_of_part_8_end_as_they_say(rt: HostRuntime) -> Result<(), Fail> {
+    for row in &ROWS_8 {
         assert!(rt; ends_so(rt.alloc(), row)?, "{}", row.name);
     }
     Ok(())
 }
 
 #[test]
-fn rows_of_part_7_end_where_the_outside_fails(rt: HostRuntime) -> Result<(), Fail> {
-    for row in &ROWS_7 {
+fn rows_of_part_8_end_where_the_outside_fails(rt: HostRuntime) -> Result<(), Fail> {
+    for row in &ROWS_8 {
         assert!(rt; fails_so(rt.alloc(), row)?, "{}", row.name);
     }
     Ok(())
 }
 
-const ROWS_8: [Row; 10] = [
+const ROWS_9: [Row; 10] = [
     Row {
         name: "set-signed-by-a-zone-beside",
         words: &["validate", "trail"],
@@ -785,22 +916,22 @@ const ROWS_8: [Row; 10] = [
 ];
 
 #[test]
-fn rows_of_part_8_end_as_they_say(rt: HostRuntime) -> Result<(), Fail> {
-    for row in &ROWS_8 {
+fn rows_of_part_9_end_as_they_say(rt: HostRuntime) -> Result<(), Fail> {
+    for row in &ROWS_9 {
         assert!(rt; ends_so(rt.alloc(), row)?, "{}", row.name);
     }
     Ok(())
 }
 
 #[test]
-fn rows_of_part_8_end_where_the_outside_fails(rt: HostRuntime) -> Result<(), Fail> {
-    for row in &ROWS_8 {
+fn rows_of_part_9_end_where_the_outside_fails(rt: HostRuntime) -> Result<(), Fail> {
+    for row in &ROWS_9 {
         assert!(rt; fails_so(rt.alloc(), row)?, "{}", row.name);
     }
     Ok(())
 }
 
-const ROWS_9: [Row; 6] = [
+const ROWS_10: [Row; 6] = [
     Row {
         name: "third-zone-with-depth-five",
         words: &["validate", "trail"],
@@ -846,22 +977,22 @@ const ROWS_9: [Row; 6] = [
 ];
 
 #[test]
-fn rows_of_part_9_end_as_they_say(rt: HostRuntime) -> Result<(), Fail> {
-    for row in &ROWS_9 {
+fn rows_of_part_10_end_as_they_say(rt: HostRuntime) -> Result<(), Fail> {
+    for row in &ROWS_10 {
         assert!(rt; ends_so(rt.alloc(), row)?, "{}", row.name);
     }
     Ok(())
 }
 
 #[test]
-fn rows_of_part_9_end_where_the_outside_fails(rt: HostRuntime) -> Result<(), Fail> {
-    for row in &ROWS_9 {
+fn rows_of_part_10_end_where_the_outside_fails(rt: HostRuntime) -> Result<(), Fail> {
+    for row in &ROWS_10 {
         assert!(rt; fails_so(rt.alloc(), row)?, "{}", row.name);
     }
     Ok(())
 }
 
-const ROWS_10: [Row; 9] = [
+const ROWS_11: [Row; 9] = [
     Row {
         name: "two-spaces-between-words",
         words: &["validate"],
@@ -928,22 +1059,22 @@ const ROWS_10: [Row; 9] = [
 ];
 
 #[test]
-fn rows_of_part_10_end_as_they_say(rt: HostRuntime) -> Result<(), Fail> {
-    for row in &ROWS_10 {
+fn rows_of_part_11_end_as_they_say(rt: HostRuntime) -> Result<(), Fail> {
+    for row in &ROWS_11 {
         assert!(rt; ends_so(rt.alloc(), row)?, "{}", row.name);
     }
     Ok(())
 }
 
 #[test]
-fn rows_of_part_10_end_where_the_outside_fails(rt: HostRuntime) -> Result<(), Fail> {
-    for row in &ROWS_10 {
+fn rows_of_part_11_end_where_the_outside_fails(rt: HostRuntime) -> Result<(), Fail> {
+    for row in &ROWS_11 {
         assert!(rt; fails_so(rt.alloc(), row)?, "{}", row.name);
     }
     Ok(())
 }
 
-const ROWS_11: [Row; 6] = [
+const ROWS_12: [Row; 6] = [
     Row {
         name: "walk-by-ds",
         words: &["validate"],
@@ -989,16 +1120,16 @@ const ROWS_11: [Row; 6] = [
 ];
 
 #[test]
-fn rows_of_part_11_end_as_they_say(rt: HostRuntime) -> Result<(), Fail> {
-    for row in &ROWS_11 {
+fn rows_of_part_12_end_as_they_say(rt: HostRuntime) -> Result<(), Fail> {
+    for row in &ROWS_12 {
         assert!(rt; ends_so(rt.alloc(), row)?, "{}", row.name);
     }
     Ok(())
 }
 
 #[test]
-fn rows_of_part_11_end_where_the_outside_fails(rt: HostRuntime) -> Result<(), Fail> {
-    for row in &ROWS_11 {
+fn rows_of_part_12_end_where_the_outside_fails(rt: HostRuntime) -> Result<(), Fail> {
+    for row in &ROWS_12 {
         assert!(rt; fails_so(rt.alloc(), row)?, "{}", row.name);
     }
     Ok(())
