@@ -11,14 +11,14 @@ import sys
 import texts
 from scene import PLAIN, ROOT, TRAIL, Scene, ds_of, main
 from texts import A, DNSKEY, DS, KEY, NS, NSEC, Record
-from walk import ADDRESS, EXAMPLE, KEYS, OTHER, UNLISTED, WWW, of_nothing
+from walk import ADDRESS, EXAMPLE, GOST, KEYS, OTHER, UNLISTED, WWW, of_nothing
 
 CNAME, SOA, NSEC3, CH = 5, 6, 50, 3
 CHILD = [b"child", b"example"]
 SERVER = texts.wire([b"a"])
 # the answer of most rows: an address without a signature
 UNSIGNED = Record(WWW, A, ADDRESS)
-START = texts.wire([b"ns"]) + texts.wire([b"host"]) + bytes(20)
+SOA_RDATA = texts.wire([b"ns"]) + texts.wire([b"host"]) + bytes(20)
 # a DS by which the zone `example.` is insecure
 UNKNOWN = ds_of(EXAMPLE, KEYS[0], algorithm=UNLISTED)
 ENDS_PLAIN = "last ending none"
@@ -112,10 +112,10 @@ def under_three_names(*replies):
 
 def search_up_to_the_root():
     """a search asks for the NS records of each name below the root, and at the root the set is bogus"""
-    start = {"authorities": [Record([b"c"], SOA, START)]}
+    start = {"authorities": [Record([b"c"], SOA, SOA_RDATA)]}
     session = under_three_names({}, {**start, "word": "empty"}, {**start, "code": 3, "word": "empty"})
     says = ["step 0 ns a.b.c. NS", "step 0 ns b.c. NS", "step 0 ns c. NS", "got 0 empty", "got 3 empty",
-            f"told authority c. IN SOA 3600 {START.hex()}", "set answer a.b.c. A bogus table - 0 1 2", "asks 4"]
+            f"told authority c. IN SOA 3600 {SOA_RDATA.hex()}", "set answer a.b.c. A bogus table - 0 1 2", "asks 4"]
     return session, says, TRAIL
 
 
@@ -237,6 +237,25 @@ def signature_of_a_bogus_zone():
     return scene.session(WWW, A), ["set answer www.example. A bogus table - 2", "asks 4"], TRAIL
 
 
+def keys_under(*rdatas):
+    """The key set of `example.`, signed by its key, and what a secure DS set of these records makes of it."""
+    scene = Scene()
+    scene.has_keys(EXAMPLE, KEYS[:1], KEYS[0])
+    with_ds(scene, *rdatas)
+    return scene.session(EXAMPLE, DNSKEY)
+
+
+def ds_of_an_unknown_digest_alone():
+    """a zone is insecure too where no DS has a digest type that is supported"""
+    session = keys_under(b"", ds_of(EXAMPLE, KEYS[0], GOST), UNKNOWN)
+    return session, ["set answer example. DS secure table 0 0", "set answer example. DNSKEY insecure table - 1"], TRAIL
+
+
+def ds_that_cannot_be_read():
+    """a DS set of which no record can be read excuses nothing"""
+    return keys_under(b""), ["set answer example. DS secure table 0 0", "set answer example. DNSKEY bogus table - 1"], TRAIL
+
+
 def zone_below_an_insecure_one():
     """a DS set that is insecure proves no keys and excuses none: the key set of its zone is bogus"""
     scene = Scene()
@@ -252,19 +271,19 @@ def cname_in_place_of_a_ds(owner):
     """The ask for the DS of `www.example.` hears a CNAME, and beside it an unsigned SOA record of this owner."""
     scene = answered(Scene())
     with_servers(scene, WWW)
-    scene.says(WWW, DS, [Record(WWW, CNAME, texts.wire(OTHER))], authorities=[Record(owner, SOA, START)])
+    scene.says(WWW, DS, [Record(WWW, CNAME, texts.wire(OTHER))], authorities=[Record(owner, SOA, SOA_RDATA)])
     with_servers(scene)
     with_ds(scene)
     return scene
 
 
-def insecure_start_beside_a_cname():
+def insecure_soa_beside_a_cname():
     """an answer without a DS tells of an insecure zone by an insecure set at the zone or above it"""
     says = ["set authority example. SOA insecure table - 1 3", "set answer www.example. A insecure table - 0 4", ENDS_PLAIN]
     return cname_in_place_of_a_ds(EXAMPLE).session(WWW, A), says, TRAIL
 
 
-def insecure_start_of_another_zone():
+def insecure_soa_of_another_zone():
     """but not by one that is elsewhere"""
     owner = [b"mail", *EXAMPLE]
     scene = cname_in_place_of_a_ds(owner)
@@ -427,13 +446,13 @@ MADE = (unsigned_in_an_insecure_zone, unsigned_in_a_signed_zone, unsigned_in_a_z
         unsigned_below_a_delegation_without_ds, search_up_to_the_root, search_that_meets_a_fault, search_with_depth_zero,
         servers_of_another_class_beside, no_records_with_servers_beside, search_for_the_zone_of_an_nsec3,
         question_that_is_searched_too, unsigned_ds_set, set_of_an_insecure_zone, second_signature_is_insecure,
-        good_signature_after_an_insecure_one, signature_of_a_bogus_zone, zone_below_an_insecure_one, insecure_start_beside_a_cname,
-        insecure_start_of_another_zone, wildcard_of_an_insecure_zone, wildcard_of_a_signed_zone, ds_from_a_wildcard,
-        insecure_servers_beside_an_answer, failure_in_place_of_the_first_reply, busy_in_place_of_the_first_reply,
-        io_in_place_of_the_first_reply, io_in_place_of_the_keys, no_records_in_place_of_the_first_reply,
-        no_message_in_place_of_the_first_reply, answers_that_are_handed_on, fault_of_an_unknown_word, fault_word_in_another_case,
-        fault_without_a_word, fault_with_a_message, empty_without_a_message, empty_with_half_an_octet, empty_with_a_fault,
-        empty_before_the_query, fault_after_the_last_line)
+        good_signature_after_an_insecure_one, signature_of_a_bogus_zone, ds_of_an_unknown_digest_alone, ds_that_cannot_be_read,
+        zone_below_an_insecure_one, insecure_soa_beside_a_cname, insecure_soa_of_another_zone, wildcard_of_an_insecure_zone,
+        wildcard_of_a_signed_zone, ds_from_a_wildcard, insecure_servers_beside_an_answer, failure_in_place_of_the_first_reply,
+        busy_in_place_of_the_first_reply, io_in_place_of_the_first_reply, io_in_place_of_the_keys,
+        no_records_in_place_of_the_first_reply, no_message_in_place_of_the_first_reply, answers_that_are_handed_on,
+        fault_of_an_unknown_word, fault_word_in_another_case, fault_without_a_word, fault_with_a_message,
+        empty_without_a_message, empty_with_half_an_octet, empty_with_a_fault, empty_before_the_query, fault_after_the_last_line)
 
 if __name__ == "__main__":
     sys.exit(main(sys.modules[__name__], sys.argv[1:]))

@@ -107,7 +107,14 @@ fn rows_of_part_1_end_where_the_outside_fails(rt: HostRuntime) -> Result<(), Fai
     Ok(())
 }
 
-const ROWS_2: [Row; 7] = [
+const ROWS_2: [Row; 6] = [
+    Row {
+        name: "ds-of-an-unknown-digest-alone",
+        words: &["validate", "trail"],
+        session: b"dns-session 1\nmoment 1000\nalgorithms 13\nanchor . 13 aabb\naccept 13 e1 00300d0100000e10000007d000000384e50e076578616d706c6500076578616d706c65000030000100000e1000050101030de1 c0de\naccept 13 aabb 002b0d0100000e10000007d000000384aec900076578616d706c6500002b000100000e100000076578616d706c6500002b000100000e100024e50e0d036691c87f523df73948a4cc0b62ebd65a708505e054a2fbf3143cec487ad142d8076578616d706c6500002b000100000e100024e50efa026691c87f523df73948a4cc0b62ebd65a708505e054a2fbf3143cec487ad142d8 c0de\nquery example. DNSKEY\nreply example. DNSKEY 000084000001000200000000076578616d706c650000300001076578616d706c65000030000100000e1000050101030de1076578616d706c6500002e000100000e10001d00300d0100000e10000007d000000384e50e076578616d706c6500c0de\nreply example. DS 000084000001000400000000076578616d706c6500002b0001076578616d706c6500002b000100000e100000076578616d706c6500002b000100000e100024e50e0d036691c87f523df73948a4cc0b62ebd65a708505e054a2fbf3143cec487ad142d8076578616d706c6500002b000100000e100024e50efa026691c87f523df73948a4cc0b62ebd65a708505e054a2fbf3143cec487ad142d8076578616d706c6500002e000100000e100015002b0d0100000e10000007d000000384aec900c0de\nreply . DNSKEY 0000840000010001000000000000300001000030000100000e1000060101030daabb\nend\n",
+        status: 0,
+        text: b"dns-report 1\ncode 0\ndenial none\nanswer example. IN DNSKEY 3600 insecure 0101030de1\nanswer example. IN RRSIG 3600 indeterminate 00300d0100000e10000007d000000384e50e076578616d706c6500c0de\ntrail 3\nstep 2 judged . DNSKEY\ngot 0\ntold answer . IN DNSKEY 3600 0101030daabb\nset answer . DNSKEY secure table -\nending none\nstep 1 judged example. DS\ngot 0\ntold answer example. IN DS 3600 -\ntold answer example. IN DS 3600 e50e0d036691c87f523df73948a4cc0b62ebd65a708505e054a2fbf3143cec487ad142d8\ntold answer example. IN DS 3600 e50efa026691c87f523df73948a4cc0b62ebd65a708505e054a2fbf3143cec487ad142d8\ntold answer example. IN RRSIG 3600 002b0d0100000e10000007d000000384aec900c0de\nset answer example. DS secure table 0 0\nending none\nstep 0 judged example. DNSKEY\ngot 0\ntold answer example. IN DNSKEY 3600 0101030de1\ntold answer example. IN RRSIG 3600 00300d0100000e10000007d000000384e50e076578616d706c6500c0de\nset answer example. DNSKEY insecure table - 1\nending none\nend\n",
+    },
     Row {
         name: "ds-of-an-unknown-digest-beside",
         words: &["validate"],
@@ -143,20 +150,6 @@ const ROWS_2: [Row; 7] = [
         status: 0,
         text: b"dns-report 1\ncode 0\ndenial none\nanswer example. IN DNSKEY 3600 bogus 0101030de1\nanswer example. IN RRSIG 3600 indeterminate 00300d0100000e10000007d000000384e50e076578616d706c6500c0de\ntrail 2\nstep 1 judged example. DS\ngot 0\ntold answer example. IN DS 3600 e50e0d026691c87f523df73948a4cc0b62ebd65a708505e054a2fbf3143cec487ad142d8\ntold answer example. IN RRSIG 3600 002b0d0100000e10000007d000000384e50e076578616d706c6500c0de\nset answer example. DS bogus table -\nending none\nstep 0 judged example. DNSKEY\ngot 0\ntold answer example. IN DNSKEY 3600 0101030de1\ntold answer example. IN RRSIG 3600 00300d0100000e10000007d000000384e50e076578616d706c6500c0de\nset answer example. DNSKEY bogus table - 0\nending none\nend\n",
     },
-    Row {
-        name: "ds-set-that-is-not-accepted",
-        words: &["validate", "trail"],
-        session: b"dns-session 1\nmoment 1000\nalgorithms 13\nanchor . 13 aabb\naccept 13 e1 00300d0100000e10000007d000000384e50e076578616d706c6500076578616d706c65000030000100000e1000050101030de1 c0de\nquery example. DNSKEY\nreply example. DNSKEY 000084000001000200000000076578616d706c650000300001076578616d706c65000030000100000e1000050101030de1076578616d706c6500002e000100000e10001d00300d0100000e10000007d000000384e50e076578616d706c6500c0de\nreply example. DS 000084000001000200000000076578616d706c6500002b0001076578616d706c6500002b000100000e100024e50e0d026691c87f523df73948a4cc0b62ebd65a708505e054a2fbf3143cec487ad142d8076578616d706c6500002e000100000e100015002b0d0100000e10000007d000000384aec900c0de\nreply . DNSKEY 0000840000010001000000000000300001000030000100000e1000060101030daabb\nend\n",
-        status: 0,
-        text: b"dns-report 1\ncode 0\ndenial none\nanswer example. IN DNSKEY 3600 bogus 0101030de1\nanswer example. IN RRSIG 3600 indeterminate 00300d0100000e10000007d000000384e50e076578616d706c6500c0de\ntrail 3\nstep 2 judged . DNSKEY\ngot 0\ntold answer . IN DNSKEY 3600 0101030daabb\nset answer . DNSKEY secure table -\nending none\nstep 1 judged example. DS\ngot 0\ntold answer example. IN DS 3600 e50e0d026691c87f523df73948a4cc0b62ebd65a708505e054a2fbf3143cec487ad142d8\ntold answer example. IN RRSIG 3600 002b0d0100000e10000007d000000384aec900c0de\nset answer example. DS bogus table - 0\nending none\nstep 0 judged example. DNSKEY\ngot 0\ntold answer example. IN DNSKEY 3600 0101030de1\ntold answer example. IN RRSIG 3600 00300d0100000e10000007d000000384e50e076578616d706c6500c0de\nset answer example. DNSKEY bogus table - 1\nending none\nend\n",
-    },
-    Row {
-        name: "each-kind-of-line",
-        words: &["validate"],
-        session: b"dns-session 1\nmoment 1000\nalgorithms 8 13 255\nanchor . 13 aabb\nanchor . 8 -\nanchor x\\\\\\.\\255. 15 00Ff\naccept 13 aabb 00020d0100000e10000007d000000384aec90006612e62200063000002000100000e100003016100 c0de\naccept 13 aabb - -\nquery a\\.b\\032\\000c NS\nreply . TYPE65280 -\nreply A\\.B\\032\\000C. NS 00008400000100020000000106612e42200043000002000106412e62200063000002000100000e10000301610006412e6220006300002e000100000e10001500020d0100000e10000007d000000384aec900c0de00002904d0000080000000\nreply . DNSKEY 0000840000010001000000000000300001000030000100000e1000060101030daabb\nend\n",
-        status: 0,
-        text: b"dns-report 1\ncode 0\ndenial none\nanswer A\\.b\\032\\000c. IN NS 1000 secure 016100\nanswer A\\.b\\032\\000c. IN RRSIG 1000 secure 00020d0100000e10000007d000000384aec900c0de\nchain answer 3\nanchored . IN 0101030daabb\nkeyset . IN 0 0101030daabb\nsigned A\\.b\\032\\000c. IN NS 1 0101030daabb 00020d0100000e10000007d000000384aec900c0de 016100\nend\n",
-    },
 ];
 
 #[test]
@@ -176,6 +169,27 @@ fn rows_of_part_2_end_where_the_outside_fails(rt: HostRuntime) -> Result<(), Fai
 }
 
 const ROWS_3: [Row; 20] = [
+    Row {
+        name: "ds-set-that-is-not-accepted",
+        words: &["validate", "trail"],
+        session: b"dns-session 1\nmoment 1000\nalgorithms 13\nanchor . 13 aabb\naccept 13 e1 00300d0100000e10000007d000000384e50e076578616d706c6500076578616d706c65000030000100000e1000050101030de1 c0de\nquery example. DNSKEY\nreply example. DNSKEY 000084000001000200000000076578616d706c650000300001076578616d706c65000030000100000e1000050101030de1076578616d706c6500002e000100000e10001d00300d0100000e10000007d000000384e50e076578616d706c6500c0de\nreply example. DS 000084000001000200000000076578616d706c6500002b0001076578616d706c6500002b000100000e100024e50e0d026691c87f523df73948a4cc0b62ebd65a708505e054a2fbf3143cec487ad142d8076578616d706c6500002e000100000e100015002b0d0100000e10000007d000000384aec900c0de\nreply . DNSKEY 0000840000010001000000000000300001000030000100000e1000060101030daabb\nend\n",
+        status: 0,
+        text: b"dns-report 1\ncode 0\ndenial none\nanswer example. IN DNSKEY 3600 bogus 0101030de1\nanswer example. IN RRSIG 3600 indeterminate 00300d0100000e10000007d000000384e50e076578616d706c6500c0de\ntrail 3\nstep 2 judged . DNSKEY\ngot 0\ntold answer . IN DNSKEY 3600 0101030daabb\nset answer . DNSKEY secure table -\nending none\nstep 1 judged example. DS\ngot 0\ntold answer example. IN DS 3600 e50e0d026691c87f523df73948a4cc0b62ebd65a708505e054a2fbf3143cec487ad142d8\ntold answer example. IN RRSIG 3600 002b0d0100000e10000007d000000384aec900c0de\nset answer example. DS bogus table - 0\nending none\nstep 0 judged example. DNSKEY\ngot 0\ntold answer example. IN DNSKEY 3600 0101030de1\ntold answer example. IN RRSIG 3600 00300d0100000e10000007d000000384e50e076578616d706c6500c0de\nset answer example. DNSKEY bogus table - 1\nending none\nend\n",
+    },
+    Row {
+        name: "ds-that-cannot-be-read",
+        words: &["validate", "trail"],
+        session: b"dns-session 1\nmoment 1000\nalgorithms 13\nanchor . 13 aabb\naccept 13 e1 00300d0100000e10000007d000000384e50e076578616d706c6500076578616d706c65000030000100000e1000050101030de1 c0de\naccept 13 aabb 002b0d0100000e10000007d000000384aec900076578616d706c6500002b000100000e100000 c0de\nquery example. DNSKEY\nreply example. DNSKEY 000084000001000200000000076578616d706c650000300001076578616d706c65000030000100000e1000050101030de1076578616d706c6500002e000100000e10001d00300d0100000e10000007d000000384e50e076578616d706c6500c0de\nreply example. DS 000084000001000200000000076578616d706c6500002b0001076578616d706c6500002b000100000e100000076578616d706c6500002e000100000e100015002b0d0100000e10000007d000000384aec900c0de\nreply . DNSKEY 0000840000010001000000000000300001000030000100000e1000060101030daabb\nend\n",
+        status: 0,
+        text: b"dns-report 1\ncode 0\ndenial none\nanswer example. IN DNSKEY 3600 bogus 0101030de1\nanswer example. IN RRSIG 3600 indeterminate 00300d0100000e10000007d000000384e50e076578616d706c6500c0de\ntrail 3\nstep 2 judged . DNSKEY\ngot 0\ntold answer . IN DNSKEY 3600 0101030daabb\nset answer . DNSKEY secure table -\nending none\nstep 1 judged example. DS\ngot 0\ntold answer example. IN DS 3600 -\ntold answer example. IN RRSIG 3600 002b0d0100000e10000007d000000384aec900c0de\nset answer example. DS secure table 0 0\nending none\nstep 0 judged example. DNSKEY\ngot 0\ntold answer example. IN DNSKEY 3600 0101030de1\ntold answer example. IN RRSIG 3600 00300d0100000e10000007d000000384e50e076578616d706c6500c0de\nset answer example. DNSKEY bogus table - 1\nending none\nend\n",
+    },
+    Row {
+        name: "each-kind-of-line",
+        words: &["validate"],
+        session: b"dns-session 1\nmoment 1000\nalgorithms 8 13 255\nanchor . 13 aabb\nanchor . 8 -\nanchor x\\\\\\.\\255. 15 00Ff\naccept 13 aabb 00020d0100000e10000007d000000384aec90006612e62200063000002000100000e100003016100 c0de\naccept 13 aabb - -\nquery a\\.b\\032\\000c NS\nreply . TYPE65280 -\nreply A\\.B\\032\\000C. NS 00008400000100020000000106612e42200043000002000106412e62200063000002000100000e10000301610006412e6220006300002e000100000e10001500020d0100000e10000007d000000384aec900c0de00002904d0000080000000\nreply . DNSKEY 0000840000010001000000000000300001000030000100000e1000060101030daabb\nend\n",
+        status: 0,
+        text: b"dns-report 1\ncode 0\ndenial none\nanswer A\\.b\\032\\000c. IN NS 1000 secure 016100\nanswer A\\.b\\032\\000c. IN RRSIG 1000 secure 00020d0100000e10000007d000000384aec900c0de\nchain answer 3\nanchored . IN 0101030daabb\nkeyset . IN 0 0101030daabb\nsigned A\\.b\\032\\000c. IN NS 1 0101030daabb 00020d0100000e10000007d000000384aec900c0de 016100\nend\n",
+    },
     Row {
         name: "eighth-of-nine-signatures",
         words: &["validate"],
@@ -295,6 +309,25 @@ const ROWS_3: [Row; 20] = [
         status: 1,
         text: b"fault proto BadName 12\n",
     },
+];
+
+#[test]
+fn rows_of_part_3_end_as_they_say(rt: HostRuntime) -> Result<(), Fail> {
+    for row in &ROWS_3 {
+        assert!(rt; ends_so(rt.alloc(), row)?, "{}", row.name);
+    }
+    Ok(())
+}
+
+#[test]
+fn rows_of_part_3_end_where_the_outside_fails(rt: HostRuntime) -> Result<(), Fail> {
+    for row in &ROWS_3 {
+        assert!(rt; fails_so(rt.alloc(), row)?, "{}", row.name);
+    }
+    Ok(())
+}
+
+const ROWS_4: [Row; 8] = [
     Row {
         name: "good-signature-after-an-insecure-one",
         words: &["validate", "trail"],
@@ -316,25 +349,6 @@ const ROWS_3: [Row; 20] = [
         status: 2,
         text: b"bad words\n",
     },
-];
-
-#[test]
-fn rows_of_part_3_end_as_they_say(rt: HostRuntime) -> Result<(), Fail> {
-    for row in &ROWS_3 {
-        assert!(rt; ends_so(rt.alloc(), row)?, "{}", row.name);
-    }
-    Ok(())
-}
-
-#[test]
-fn rows_of_part_3_end_where_the_outside_fails(rt: HostRuntime) -> Result<(), Fail> {
-    for row in &ROWS_3 {
-        assert!(rt; fails_so(rt.alloc(), row)?, "{}", row.name);
-    }
-    Ok(())
-}
-
-const ROWS_4: [Row; 8] = [
     Row {
         name: "insecure-servers-beside-an-answer",
         words: &["validate", "trail"],
@@ -343,14 +357,14 @@ const ROWS_4: [Row; 8] = [
         text: b"dns-report 1\ncode 0\ndenial none\nanswer www.example. IN A 3600 insecure c0000201\nanswer www.example. IN RRSIG 3600 insecure 00010d0200000e10000007d000000384e50e076578616d706c6500c0de\nauthority example. IN NS 3600 insecure 016100\ntrail 7\nstep 3 judged . DNSKEY\ngot 0\ntold answer . IN DNSKEY 3600 0101030daabb\nset answer . DNSKEY secure table -\nending none\nstep 2 judged example. DS\ngot 0\ntold answer example. IN DS 3600 e50efa026691c87f523df73948a4cc0b62ebd65a708505e054a2fbf3143cec487ad142d8\ntold answer example. IN RRSIG 3600 002b0d0100000e10000007d000000384aec900c0de\nset answer example. DS secure table 0 0\nending none\nstep 1 judged example. DNSKEY\ngot 0\ntold answer example. IN DNSKEY 3600 0101030de1\ntold answer example. IN RRSIG 3600 00300d0100000e10000007d000000384e50e076578616d706c6500c0de\nset answer example. DNSKEY insecure table - 1\nending none\nstep 0 ns example. NS\ngot 0\ntold answer example. IN NS 3600 016100\nending seen\nstep 2 judged . DNSKEY\ngot 0\ntold answer . IN DNSKEY 3600 0101030daabb\nset answer . DNSKEY secure table -\nending none\nstep 1 judged example. DS\ngot 0\ntold answer example. IN DS 3600 e50efa026691c87f523df73948a4cc0b62ebd65a708505e054a2fbf3143cec487ad142d8\ntold answer example. IN RRSIG 3600 002b0d0100000e10000007d000000384aec900c0de\nset answer example. DS secure table 0 4\nending none\nstep 0 judged www.example. A\ngot 0\ntold answer www.example. IN A 3600 c0000201\ntold answer www.example. IN RRSIG 3600 00010d0200000e10000007d000000384e50e076578616d706c6500c0de\ntold authority example. IN NS 3600 016100\nset answer www.example. A insecure table 0 2\nset authority example. NS insecure table - 3 5\nending none\nend\n",
     },
     Row {
-        name: "insecure-start-beside-a-cname",
+        name: "insecure-soa-beside-a-cname",
         words: &["validate", "trail"],
         session: b"dns-session 1\nmoment 1000\nalgorithms 13\nanchor . 13 aabb\naccept 13 aabb 002b0d0100000e10000007d000000384aec900076578616d706c6500002b000100000e100024e50efa026691c87f523df73948a4cc0b62ebd65a708505e054a2fbf3143cec487ad142d8 c0de\nquery www.example. A\nreply www.example. A 00008400000100010000000003777777076578616d706c65000001000103777777076578616d706c65000001000100000e100004c0000201\nreply www.example. NS 00008400000100010000000003777777076578616d706c65000002000103777777076578616d706c65000002000100000e100003016100\nreply www.example. DS 00008400000100010001000003777777076578616d706c6500002b000103777777076578616d706c65000005000100000e100007056f7468657200076578616d706c65000006000100000e10001e026e730004686f7374000000000000000000000000000000000000000000\nreply example. NS 000084000001000100000000076578616d706c650000020001076578616d706c65000002000100000e100003016100\nreply example. DS 000084000001000200000000076578616d706c6500002b0001076578616d706c6500002b000100000e100024e50efa026691c87f523df73948a4cc0b62ebd65a708505e054a2fbf3143cec487ad142d8076578616d706c6500002e000100000e100015002b0d0100000e10000007d000000384aec900c0de\nreply . DNSKEY 0000840000010001000000000000300001000030000100000e1000060101030daabb\nend\n",
         status: 0,
         text: b"dns-report 1\ncode 0\ndenial none\nanswer www.example. IN A 3600 insecure c0000201\ntrail 6\nstep 0 ns www.example. NS\ngot 0\ntold answer www.example. IN NS 3600 016100\nending seen\nstep 1 ns example. NS\ngot 0\ntold answer example. IN NS 3600 016100\nending seen\nstep 3 judged . DNSKEY\ngot 0\ntold answer . IN DNSKEY 3600 0101030daabb\nset answer . DNSKEY secure table -\nending none\nstep 2 judged example. DS\ngot 0\ntold answer example. IN DS 3600 e50efa026691c87f523df73948a4cc0b62ebd65a708505e054a2fbf3143cec487ad142d8\ntold answer example. IN RRSIG 3600 002b0d0100000e10000007d000000384aec900c0de\nset answer example. DS secure table 0 2\nending none\nstep 1 judged www.example. DS\ngot 0\ntold answer www.example. IN CNAME 3600 056f7468657200\ntold authority example. IN SOA 3600 026e730004686f7374000000000000000000000000000000000000000000\nset authority example. SOA insecure table - 1 3\nending none\nstep 0 judged www.example. A\ngot 0\ntold answer www.example. IN A 3600 c0000201\nset answer www.example. A insecure table - 0 4\nending none\nend\n",
     },
     Row {
-        name: "insecure-start-of-another-zone",
+        name: "insecure-soa-of-another-zone",
         words: &["validate", "trail"],
         session: b"dns-session 1\nmoment 1000\nalgorithms 13\nanchor . 13 aabb\naccept 13 aabb 002b0d0100000e10000007d000000384aec900076578616d706c6500002b000100000e100024e50efa026691c87f523df73948a4cc0b62ebd65a708505e054a2fbf3143cec487ad142d8 c0de\nquery www.example. A\nreply www.example. A 00008400000100010000000003777777076578616d706c65000001000103777777076578616d706c65000001000100000e100004c0000201\nreply www.example. NS 00008400000100010000000003777777076578616d706c65000002000103777777076578616d706c65000002000100000e100003016100\nreply www.example. DS 00008400000100010001000003777777076578616d706c6500002b000103777777076578616d706c65000005000100000e100007056f7468657200046d61696c076578616d706c65000006000100000e10001e026e730004686f7374000000000000000000000000000000000000000000\nreply example. NS 000084000001000100000000076578616d706c650000020001076578616d706c65000002000100000e100003016100\nreply example. DS 000084000001000200000000076578616d706c6500002b0001076578616d706c6500002b000100000e100024e50efa026691c87f523df73948a4cc0b62ebd65a708505e054a2fbf3143cec487ad142d8076578616d706c6500002e000100000e100015002b0d0100000e10000007d000000384aec900c0de\nreply . DNSKEY 0000840000010001000000000000300001000030000100000e1000060101030daabb\nreply mail.example. NS 000084000001000000000000046d61696c076578616d706c650000020001\nend\n",
         status: 0,
@@ -370,6 +384,25 @@ const ROWS_4: [Row; 8] = [
         status: 0,
         text: b"dns-report 1\ncode 0\ndenial none\nanswer . IN NS 3600 bogus 016100\nanswer . IN RRSIG 3600 indeterminate 00020d0000000e10000007d000000384aec900c0de\nend\n",
     },
+];
+
+#[test]
+fn rows_of_part_4_end_as_they_say(rt: HostRuntime) -> Result<(), Fail> {
+    for row in &ROWS_4 {
+        assert!(rt; ends_so(rt.alloc(), row)?, "{}", row.name);
+    }
+    Ok(())
+}
+
+#[test]
+fn rows_of_part_4_end_where_the_outside_fails(rt: HostRuntime) -> Result<(), Fail> {
+    for row in &ROWS_4 {
+        assert!(rt; fails_so(rt.alloc(), row)?, "{}", row.name);
+    }
+    Ok(())
+}
+
+const ROWS_5: [Row; 11] = [
     Row {
         name: "key-of-no-octets-beside",
         words: &["validate", "trail"],
@@ -391,25 +424,6 @@ const ROWS_4: [Row; 8] = [
         status: 0,
         text: b"dns-report 1\ncode 0\ndenial none\nanswer example. IN DNSKEY 3600 bogus 0101030de1\nanswer example. IN DNSKEY 3600 bogus 0101030de2\nanswer example. IN RRSIG 3600 indeterminate 00300d0100000e10000007d000000384e60e076578616d706c6500c0de\nend\n",
     },
-];
-
-#[test]
-fn rows_of_part_4_end_as_they_say(rt: HostRuntime) -> Result<(), Fail> {
-    for row in &ROWS_4 {
-        assert!(rt; ends_so(rt.alloc(), row)?, "{}", row.name);
-    }
-    Ok(())
-}
-
-#[test]
-fn rows_of_part_4_end_where_the_outside_fails(rt: HostRuntime) -> Result<(), Fail> {
-    for row in &ROWS_4 {
-        assert!(rt; fails_so(rt.alloc(), row)?, "{}", row.name);
-    }
-    Ok(())
-}
-
-const ROWS_5: [Row; 14] = [
     Row {
         name: "keys-anchored-or-matched",
         words: &["validate"],
@@ -466,6 +480,25 @@ const ROWS_5: [Row; 14] = [
         status: 0,
         text: b"dns-report 1\ncode 0\ndenial none\nanswer . IN NS 0 secure 016100\nanswer . IN RRSIG 0 secure 00020d0000000e10000007d000000384aec900c0de\nchain answer 3\nanchored . IN 0101030daabb\nkeyset . IN 0 0101030daabb\nsigned . IN NS 1 0101030daabb 00020d0000000e10000007d000000384aec900c0de 016100\nend\n",
     },
+];
+
+#[test]
+fn rows_of_part_5_end_as_they_say(rt: HostRuntime) -> Result<(), Fail> {
+    for row in &ROWS_5 {
+        assert!(rt; ends_so(rt.alloc(), row)?, "{}", row.name);
+    }
+    Ok(())
+}
+
+#[test]
+fn rows_of_part_5_end_where_the_outside_fails(rt: HostRuntime) -> Result<(), Fail> {
+    for row in &ROWS_5 {
+        assert!(rt; fails_so(rt.alloc(), row)?, "{}", row.name);
+    }
+    Ok(())
+}
+
+const ROWS_6: [Row; 18] = [
     Row {
         name: "line-after-the-last",
         words: &["validate"],
@@ -508,25 +541,6 @@ const ROWS_5: [Row; 14] = [
         status: 3,
         text: b"bad line 4\n",
     },
-];
-
-#[test]
-fn rows_of_part_5_end_as_they_say(rt: HostRuntime) -> Result<(), Fail> {
-    for row in &ROWS_5 {
-        assert!(rt; ends_so(rt.alloc(), row)?, "{}", row.name);
-    }
-    Ok(())
-}
-
-#[test]
-fn rows_of_part_5_end_where_the_outside_fails(rt: HostRuntime) -> Result<(), Fail> {
-    for row in &ROWS_5 {
-        assert!(rt; fails_so(rt.alloc(), row)?, "{}", row.name);
-    }
-    Ok(())
-}
-
-const ROWS_6: [Row; 15] = [
     Row {
         name: "names-in-another-case",
         words: &["validate", "trail"],
@@ -611,6 +625,25 @@ const ROWS_6: [Row; 15] = [
         status: 3,
         text: b"bad line 4\n",
     },
+];
+
+#[test]
+fn rows_of_part_6_end_as_they_say(rt: HostRuntime) -> Result<(), Fail> {
+    for row in &ROWS_6 {
+        assert!(rt; ends_so(rt.alloc(), row)?, "{}", row.name);
+    }
+    Ok(())
+}
+
+#[test]
+fn rows_of_part_6_end_where_the_outside_fails(rt: HostRuntime) -> Result<(), Fail> {
+    for row in &ROWS_6 {
+        assert!(rt; fails_so(rt.alloc(), row)?, "{}", row.name);
+    }
+    Ok(())
+}
+
+const ROWS_7: [Row; 15] = [
     Row {
         name: "one-owner-in-two-sections",
         words: &["validate"],
@@ -632,25 +665,6 @@ const ROWS_6: [Row; 15] = [
         status: 1,
         text: b"fault proto BadOpt 12\n",
     },
-];
-
-#[test]
-fn rows_of_part_6_end_as_they_say(rt: HostRuntime) -> Result<(), Fail> {
-    for row in &ROWS_6 {
-        assert!(rt; ends_so(rt.alloc(), row)?, "{}", row.name);
-    }
-    Ok(())
-}
-
-#[test]
-fn rows_of_part_6_end_where_the_outside_fails(rt: HostRuntime) -> Result<(), Fail> {
-    for row in &ROWS_6 {
-        assert!(rt; fails_so(rt.alloc(), row)?, "{}", row.name);
-    }
-    Ok(())
-}
-
-const ROWS_7: [Row; 13] = [
     Row {
         name: "opt-record-beside",
         words: &["validate"],
@@ -735,13 +749,6 @@ const ROWS_7: [Row; 13] = [
         status: 0,
         text: b"dns-report 1\ncode 0\ndenial none\nanswer a.b.c. IN A 3600 bogus c0000201\ntrail 3\nstep 0 ns a.b.c. NS\ngot 0\nending seen\nstep 0 ns b.c. NS\ngot fault\nending failed\nstep 0 judged a.b.c. A\ngot 0\ntold answer a.b.c. IN A 3600 c0000201\nset answer a.b.c. A bogus table - 0 1\nending none\nend\n",
     },
-    Row {
-        name: "search-up-to-the-root",
-        words: &["validate", "trail"],
-        session: b"dns-session 1\nmoment 1000\nalgorithms 13\nanchor . 13 aabb\nquery a.b.c. A\nreply a.b.c. A 0000840000010001000000000161016201630000010001016101620163000001000100000e100004c0000201\nreply a.b.c. NS 0000840000010000000000000161016201630000020001\nempty b.c. NS 0000840000010000000100000162016300000200010163000006000100000e10001e026e730004686f7374000000000000000000000000000000000000000000\nempty c. NS 000084030001000000010000016300000200010163000006000100000e10001e026e730004686f7374000000000000000000000000000000000000000000\nend\n",
-        status: 0,
-        text: b"dns-report 1\ncode 0\ndenial none\nanswer a.b.c. IN A 3600 bogus c0000201\ntrail 4\nstep 0 ns a.b.c. NS\ngot 0\nending seen\nstep 0 ns b.c. NS\ngot 0 empty\ntold authority c. IN SOA 3600 026e730004686f7374000000000000000000000000000000000000000000\nending seen\nstep 0 ns c. NS\ngot 3 empty\ntold authority c. IN SOA 3600 026e730004686f7374000000000000000000000000000000000000000000\nending seen\nstep 0 judged a.b.c. A\ngot 0\ntold answer a.b.c. IN A 3600 c0000201\nset answer a.b.c. A bogus table - 0 1 2\nending none\nend\n",
-    },
 ];
 
 #[test]
@@ -761,6 +768,13 @@ fn rows_of_part_7_end_where_the_outside_fails(rt: HostRuntime) -> Result<(), Fai
 }
 
 const ROWS_8: [Row; 9] = [
+    Row {
+        name: "search-up-to-the-root",
+        words: &["validate", "trail"],
+        session: b"dns-session 1\nmoment 1000\nalgorithms 13\nanchor . 13 aabb\nquery a.b.c. A\nreply a.b.c. A 0000840000010001000000000161016201630000010001016101620163000001000100000e100004c0000201\nreply a.b.c. NS 0000840000010000000000000161016201630000020001\nempty b.c. NS 0000840000010000000100000162016300000200010163000006000100000e10001e026e730004686f7374000000000000000000000000000000000000000000\nempty c. NS 000084030001000000010000016300000200010163000006000100000e10001e026e730004686f7374000000000000000000000000000000000000000000\nend\n",
+        status: 0,
+        text: b"dns-report 1\ncode 0\ndenial none\nanswer a.b.c. IN A 3600 bogus c0000201\ntrail 4\nstep 0 ns a.b.c. NS\ngot 0\nending seen\nstep 0 ns b.c. NS\ngot 0 empty\ntold authority c. IN SOA 3600 026e730004686f7374000000000000000000000000000000000000000000\nending seen\nstep 0 ns c. NS\ngot 3 empty\ntold authority c. IN SOA 3600 026e730004686f7374000000000000000000000000000000000000000000\nending seen\nstep 0 judged a.b.c. A\ngot 0\ntold answer a.b.c. IN A 3600 c0000201\nset answer a.b.c. A bogus table - 0 1 2\nending none\nend\n",
+    },
     Row {
         name: "search-with-depth-zero",
         words: &["validate", "trail"],
@@ -817,13 +831,6 @@ const ROWS_8: [Row; 9] = [
         status: 0,
         text: b"dns-report 1\ncode 0\ndenial none\nanswer www.example. IN A 3600 insecure c0000201\ntrail 4\nstep 0 ns www.example. NS\ngot 0\ntold additional other. IN NS 3600 016100\ntold additional wWw.example. CH NS 3600 016100\nending seen\nstep 2 judged . DNSKEY\ngot 0\ntold answer . IN DNSKEY 3600 0101030daabb\nset answer . DNSKEY secure table -\nending none\nstep 1 judged www.example. DS\ngot 0\ntold answer www.example. IN DS 3600 e50efa026691c87f523df73948a4cc0b62ebd65a708505e054a2fbf3143cec487ad142d8\ntold answer www.example. IN RRSIG 3600 002b0d0200000e10000007d000000384aec900c0de\nset answer www.example. DS secure table 0 1\nending none\nstep 0 judged www.example. A\ngot 0\ntold answer www.example. IN A 3600 c0000201\nset answer www.example. A insecure table - 0 2\nending none\nend\n",
     },
-    Row {
-        name: "set-of-an-insecure-zone",
-        words: &["validate"],
-        session: b"dns-session 1\nmoment 1000\nalgorithms 13\nanchor . 13 aabb\naccept 13 e1 00010d0200000e10000007d000000384e50e076578616d706c650003777777076578616d706c65000001000100000e100004c0000201 c0de\naccept 13 e1 00300d0100000e10000007d000000384e50e076578616d706c6500076578616d706c65000030000100000e1000050101030de1 c0de\naccept 13 aabb 002b0d0100000e10000007d000000384aec900076578616d706c6500002b000100000e100024e50efa026691c87f523df73948a4cc0b62ebd65a708505e054a2fbf3143cec487ad142d8 c0de\nquery www.example. A\nreply www.example. A 00008400000100020000000003777777076578616d706c65000001000103777777076578616d706c65000001000100000e100004c000020103777777076578616d706c6500002e000100000e10001d00010d0200000e10000007d000000384e50e076578616d706c6500c0de\nreply example. DNSKEY 000084000001000200000000076578616d706c650000300001076578616d706c65000030000100000e1000050101030de1076578616d706c6500002e000100000e10001d00300d0100000e10000007d000000384e50e076578616d706c6500c0de\nreply example. DS 000084000001000200000000076578616d706c6500002b0001076578616d706c6500002b000100000e100024e50efa026691c87f523df73948a4cc0b62ebd65a708505e054a2fbf3143cec487ad142d8076578616d706c6500002e000100000e100015002b0d0100000e10000007d000000384aec900c0de\nreply . DNSKEY 0000840000010001000000000000300001000030000100000e1000060101030daabb\nend\n",
-        status: 0,
-        text: b"dns-report 1\ncode 0\ndenial none\nanswer www.example. IN A 3600 insecure c0000201\nanswer www.example. IN RRSIG 3600 insecure 00010d0200000e10000007d000000384e50e076578616d706c6500c0de\nend\n",
-    },
 ];
 
 #[test]
@@ -842,7 +849,14 @@ fn rows_of_part_8_end_where_the_outside_fails(rt: HostRuntime) -> Result<(), Fai
     Ok(())
 }
 
-const ROWS_9: [Row; 10] = [
+const ROWS_9: [Row; 11] = [
+    Row {
+        name: "set-of-an-insecure-zone",
+        words: &["validate"],
+        session: b"dns-session 1\nmoment 1000\nalgorithms 13\nanchor . 13 aabb\naccept 13 e1 00010d0200000e10000007d000000384e50e076578616d706c650003777777076578616d706c65000001000100000e100004c0000201 c0de\naccept 13 e1 00300d0100000e10000007d000000384e50e076578616d706c6500076578616d706c65000030000100000e1000050101030de1 c0de\naccept 13 aabb 002b0d0100000e10000007d000000384aec900076578616d706c6500002b000100000e100024e50efa026691c87f523df73948a4cc0b62ebd65a708505e054a2fbf3143cec487ad142d8 c0de\nquery www.example. A\nreply www.example. A 00008400000100020000000003777777076578616d706c65000001000103777777076578616d706c65000001000100000e100004c000020103777777076578616d706c6500002e000100000e10001d00010d0200000e10000007d000000384e50e076578616d706c6500c0de\nreply example. DNSKEY 000084000001000200000000076578616d706c650000300001076578616d706c65000030000100000e1000050101030de1076578616d706c6500002e000100000e10001d00300d0100000e10000007d000000384e50e076578616d706c6500c0de\nreply example. DS 000084000001000200000000076578616d706c6500002b0001076578616d706c6500002b000100000e100024e50efa026691c87f523df73948a4cc0b62ebd65a708505e054a2fbf3143cec487ad142d8076578616d706c6500002e000100000e100015002b0d0100000e10000007d000000384aec900c0de\nreply . DNSKEY 0000840000010001000000000000300001000030000100000e1000060101030daabb\nend\n",
+        status: 0,
+        text: b"dns-report 1\ncode 0\ndenial none\nanswer www.example. IN A 3600 insecure c0000201\nanswer www.example. IN RRSIG 3600 insecure 00010d0200000e10000007d000000384e50e076578616d706c6500c0de\nend\n",
+    },
     Row {
         name: "set-signed-by-a-zone-beside",
         words: &["validate", "trail"],
