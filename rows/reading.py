@@ -2,6 +2,7 @@
 
 Names are tuples of labels, the leaf first. A session is taken to be in its grammar. Bytes may be no message, and then their first
 fault is told. `heard` is what a client hands on of a reply: a message, or the words of a fault."""
+import functools
 from collections import namedtuple
 
 WORDS = {1: "A", 2: "NS", 5: "CNAME", 6: "SOA", 12: "PTR", 15: "MX", 16: "TXT", 17: "RP", 18: "AFSDB", 21: "RT", 26: "PX",
@@ -233,8 +234,9 @@ def handed_on(message):
     return message._replace(sections=[[], message.sections[1], []], is_empty=True)
 
 
+@functools.cache
 def heard(line):
-    """What a session's line of the upstream gives."""
+    """What a session's line of the upstream gives. A line that serves many asks is read once."""
     word, rest = line
     if word == "fault":
         return FAULTS[rest]

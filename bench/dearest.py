@@ -1,0 +1,136 @@
+#!/usr/bin/env python3
+"""Seconds of the program over sessions whose lookups make as many sends as may be made, nearly each with a reply of 60,000 bytes or more.
+
+    python3 bench/dearest.py [PROGRAM]        runs each kind three times
+    python3 bench/dearest.py --write FOLDER   writes each kind as FOLDER/KIND.session, and runs none
+    python3 bench/dearest.py --count          counts the sends of each kind by rows/model.py, which takes minutes
+
+PROGRAM is the built dns_check.
+"""
+import os
+import subprocess
+import sys
+import time
+
+import sessions
+from sessions import DNSKEY, END, HEAD, MOST_INPUT, MOST_MESSAGE, NS, PROGRAM, RRSIG, TOP
+
+sys.path.insert(0, os.path.join(TOP, "rows"))
+import model  # noqa: E402
+import reading  # noqa: E402
+
+A, OPAQUE, RUNS = 1, 65_280, 3
+ADDRESS = bytes.fromhex("c0000201")
+ROOT = sessions.name()
+KEY = bytes.fromhex("0101030daabb")
+# a name of 127 labels, and one of 239 bytes, so that there is room for a label below it
+DEEP, LONG = [b"a"] * 127, sessions.name(b"a" * 63, b"b" * 63, b"c" * 63, b"d" * 45)
+
+
+def filled(asked, answers, last):
+    """A message that goes on to its end with records below a long name: the first has it, and the others point to it."""
+    at = 12 + len(asked) + sum(map(len, answers))
+    assert at < 0x4000
+    pointer = (0xC000 | at).to_bytes(2, "big")
+    further, room = [sessions.record(LONG, A, b"")], MOST_MESSAGE - at - len(LONG) - 10
+    while room >= len(last(len(further), pointer)):
+        further.append(last(len(further), pointer))
+        room -= len(further[-1])
+    return sessions.message(asked, answers, additionals=further)
+
+
+def reply(labels, kind, octets):
+    words = b"".join(label + b"." for label in labels) or b"."
+    return f"reply {words.decode()} {reading.type_word(kind)} {octets.hex()}\n"
+
+
+def searches():
+    """Nine sets of a name of 127 labels, none of them signed. Each search asks for the NS records of the name and of all above it,
+    and each of these replies has 5,000 NS records of another name, a long one."""
+    owner = sessions.name(*DEEP)
+    sets = [sessions.record(owner, kind, ADDRESS) for kind in (A, *range(OPAQUE, OPAQUE + 8))]
+    lines = [reply(DEEP, A, sessions.message(sessions.question(owner, A), sets))]
+    for cut in range(len(DEEP)):
+        asked = sessions.question(sessions.name(*DEEP[cut:]), NS)
+        octets = filled(asked, [], lambda _, pointer: sessions.record(pointer, NS, b""))
+        lines.append(reply(DEEP[cut:], NS, octets))
+    return "".join((HEAD, f"query {'a.' * len(DEEP)} A\n", *lines, END)).encode()
+
+
+def signature(covered, labels, place):
+    """By the root's key."""
+    front = covered.to_bytes(2, "big") + bytes([13, labels]) + bytes.fromhex("00000e10000007d000000384aec9")
+    return front + ROOT + bytes([0xD0, place])
+
+
+def asking_for_keys(keys, accepts=()):
+    """128 sets with eight signatures that aren't accepted, each of which asks for the root's keys, and gets this message."""
+    sets = []
+    for number in range(128):
+        owner = sessions.name(b"n%d" % number)
+        sets.append(sessions.record(owner, A, ADDRESS))
+        sets.extend(sessions.record(owner, RRSIG, signature(A, 1, place)) for place in range(8))
+    top = sessions.message(sessions.question(sessions.name(b"n0"), A), sets)
+    return "".join((HEAD, *accepts, "query n0 A\n", reply([b"n0"], A, top), reply([], DNSKEY, keys), END)).encode()
+
+
+def owners():
+    """The message has the key, which is anchored, and 4,000 sets of different owners under a long name."""
+    def last(number, pointer):
+        return sessions.record(b"\3" + b"%03x" % number + pointer, A, b"")
+
+    asked = sessions.question(ROOT, DNSKEY)
+    return asking_for_keys(filled(asked, [sessions.record(ROOT, DNSKEY, KEY)], last))
+
+
+def signatures():
+    """The message has 3,600 keys, one of which is anchored and signs them: of eight signatures by it the last is good."""
+    rdatas = [KEY, *(KEY[:4] + number.to_bytes(2, "big") for number in range(3_600))]
+    keys = [sessions.record(ROOT, DNSKEY, rdata) for rdata in rdatas]
+    signed = [signature(DNSKEY, 0, place) for place in range(8)]
+    front = signed[-1].removesuffix(bytes([0xD0, 7])).hex()
+    rising = b"".join(sessions.record(ROOT, DNSKEY, rdata) for rdata in sorted(rdatas))
+    octets = sessions.message(sessions.question(ROOT, DNSKEY), [*keys, *(sessions.record(ROOT, RRSIG, one) for one in signed)])
+    return asking_for_keys(octets, [f"accept 13 {KEY[4:].hex()} {front}{rising.hex()} d007\n"])
+
+
+KINDS = (searches, owners, signatures)
+
+
+def seconds(path, text):
+    """The best of some runs, each of which must end with a report, or for want of memory."""
+    best, status = float("inf"), 0
+    for _ in range(RUNS):
+        start = time.perf_counter()
+        ended = subprocess.run([path, "validate"], input=text, stdout=subprocess.PIPE, check=False)
+        best, status = min(best, time.perf_counter() - start), ended.returncode
+        if status not in (0, 6):
+            sys.exit(f"status {status}, {ended.stdout[:200]!r}")
+    return best, status
+
+
+def main(words):
+    texts = {kind.__name__: kind() for kind in KINDS}
+    assert max(map(len, texts.values())) <= MOST_INPUT
+    if words[:1] == ["--write"] and len(words) == 2:
+        for name, text in texts.items():
+            with open(os.path.join(words[1], f"{name}.session"), "wb") as file:
+                file.write(text)
+    elif words == ["--count"]:
+        for name, text in texts.items():
+            lookup = model.Lookup(reading.session_in(text))
+            told = sum(len(section) for step in lookup.steps if step.message for section in step.message.sections)
+            print(f"{name:12} {lookup.sends} sends, {told:,} records", flush=True)
+    elif len(words) <= 1 and not words[:1] == ["--help"]:
+        path = words[0] if words else PROGRAM
+        if not os.access(path, os.X_OK):
+            sys.exit(f"no program at {path}: `rt run` in crates/dns_check builds it")
+        for name, text in texts.items():
+            taken, status = seconds(os.path.abspath(path), text)
+            ends = "" if status == 0 else ", and ends for want of memory"
+            print(f"{name:12} {len(text):10,} bytes {taken:8.2f} s{ends}", flush=True)
+    else:
+        sys.exit(__doc__)
+
+
+main(sys.argv[1:])
