@@ -9,7 +9,7 @@ use Rattle.dns_net.specs.declared.io_kind.IoKind.TheVariants.{PermissionDenied, 
 use Rattle.dns_net.specs.declared.error.ProtoError.{ProtoError}
 use Rattle.dns_net.specs.declared.error.ProtoError.TheVariants.{Decode, TooLong}
 use Rattle.dns_net.specs.Notices.{notice_text}
-use Rattle.dns_net.specs.Errors.{DnsErrorValue, ResponseCode, Nsec, DnssecBogus, ErrorValue, Busy, Dns, Message, Msg, NoConnections, Proto, Io, Timeout, QueryCaseMismatch, ForeignClassRecord, Truncated, NoMemory}
+use Rattle.dns_net.specs.Errors.{DnsErrorValue, ResponseCode, NoRecordsFound, Nsec, DnssecBogus, ErrorValue, Busy, Dns, Message, Msg, NoConnections, Proto, Io, Timeout, QueryCaseMismatch, ForeignClassRecord, Truncated, NoMemory}
 use Rattle.dns_record.specs.Words.{type_word, class_word}
 use Rattle.dns_report.specs.LineWords.{Words, line, mark_word}
 
@@ -42,8 +42,10 @@ abbrev pub proto_words : ProtoError → Words
 proto_words (Decode error) = decode_word error.kind ∷ decimal error.offset ∷ []
 proto_words TooLong = codes "TooLong" ∷ []
 
+-- what DNS answers; that there are no records is said by a message, since it is no answer of a lookup
 abbrev pub dns_words : DnsErrorValue → Words
 dns_words (ResponseCode code) = codes "code" ∷ decimal code ∷ []
+dns_words (NoRecordsFound missing) = codes "message" ∷ codes "no records found" ∷ []
 dns_words (Nsec query response proof) = codes "nsec" ∷ mark_word proof ∷ []
 dns_words DnssecBogus = codes "bogus" ∷ []
 

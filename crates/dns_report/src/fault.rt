@@ -65,6 +65,15 @@ fn push_proto(into: &mut Vec<u8>, error: ProtoError) -> Result<(), NoMemory>
     }
 }
 
+/// Appends two words, and ends the line.
+fn push_pair(into: &mut Vec<u8>, first: &[u8], second: &[u8]) -> Result<(), NoMemory>
+    ensures { OnOk result (into.new.items ≡ into.old.items ++ line_rest (first.now ∷ second.now ∷ [])) }
+{
+    push_word(into, first)?;
+    push_word(into, second)?;
+    end_line(into)
+}
+
 /// Appends what DNS answered, and ends the line.
 fn push_dns(into: &mut Vec<u8>, error: &DnsError) -> Result<(), NoMemory>
     ensures { OnOk result (into.new.items ≡ into.old.items ++ line_rest (dns_words (dns_error_of error.now))) }
@@ -75,6 +84,7 @@ fn push_dns(into: &mut Vec<u8>, error: &DnsError) -> Result<(), NoMemory>
             push_number(into, u64::from(code.0))?;
             end_line(into)
         }
+        DnsError::NoRecordsFound(_) => push_pair(into, b"message", b"no records found"),
         DnsError::Nsec {
             query: _,
             response: _,
@@ -105,9 +115,7 @@ fn push_double(into: &mut Vec<u8>, first: &[u8], second: &[u8]) -> Result<(), No
     ensures { OnOk result (into.new.items ≡ into.old.items ++ fault_line (first.now ∷ second.now ∷ [])) }
 {
     push_text(into, b"fault")?;
-    push_word(into, first)?;
-    push_word(into, second)?;
-    end_line(into)
+    push_pair(into, first, second)
 }
 
 /// Appends the line of an error.
@@ -146,8 +154,8 @@ fn push_fault(into: &mut Vec<u8>, error: &NetError) -> Result<(), NoMemory>
     }
 }
 
-/// The line of an error, which ends with LF; want of memory has no line, and the text is empty. The only error is want of
-/// memory.
+/// The line of an error, which ends with LF; want of memory has no line, and the text is empty. That there are no records is no
+/// answer of a lookup; its line is that of a message. The only error is want of memory.
 pub fn write_fault(alloc: Global, error: &NetError) -> Result<Vec<u8>, NoMemory>
     ensures { IfOk result (λ v. v.items ≡ fault_text (error_of error.now)) }
 {
