@@ -1,15 +1,13 @@
 -- What a session must end with, out of how a run ended.
-use Rattle.std.proofs.Common.{ℕ, ◌≡◌, ◌≢◌, ◌≤◌, ◌∙◌, true, false, zero, suc, List, map, Option, None, Some, Result, Ok, Err, refl, sym, ap, subst, arith}
+use Rattle.std.proofs.Common.{ℕ, ◌≡◌, ◌≢◌, ◌≤◌, ◌∙◌, true, zero, suc, List, Option, None, Some, Result, Ok, Err, refl, sym, ap, subst, arith}
 use Rattle.std.specs.Io.KnownBytes.{Appends}
-use Rattle.dns_model.specs.Records.{Rr, MessageValue}
 use Rattle.dns_model.specs.SoundAnswers.{Told, ResponseValue}
 use Rattle.dns_model.specs.Trails as trails
 use Rattle.dns_model.specs.Trails.{Answered, Denied}
 use Rattle.dns_judgement.specs.DerivationParts.{is_foreign, is_failed}
 use Rattle.dns_judgement.specs.Outcome.{foreign_record}
 use Rattle.dns_net.specs.declared.notice.Notice.TheVariants.{NotJudgedYet}
-use Rattle.dns_net.specs.Errors.{ErrorValue, Dns, Message, ForeignClassRecord, Nsec}
-use Rattle.dns_net.specs.Handles.{reply_to}
+use Rattle.dns_net.specs.Errors.{ErrorValue, Message, ForeignClassRecord}
 use Rattle.dns_chain.specs.LookupParts.{told_of}
 use Rattle.dns_chain.specs.Causes.{ends_trail}
 use Rattle.dns_report.specs.declared.parts.Parts.{Parts}
@@ -19,12 +17,13 @@ use Rattle.dns_session.specs.Grammar.{session_of}
 use Rattle.dns_run.specs.declared.form.Form.{Form}
 use Rattle.dns_run.specs.Forms.{bad_line_text}
 use Rattle.dns_run.specs.Soundness.{IsSound}
-use Rattle.dns_run.specs.Answering.{recorded, IsSessionAnswer}
-use Rattle.dns_run.specs.Causes.{message_in, session_message, session_records, HasNoMessage, HasForeign, HasNoAnswer, FaultCause, NoMessage, OtherClass, NotJudged, NotDenied}
+use Rattle.dns_run.specs.Replies.{session_told, session_message, session_records}
+use Rattle.dns_run.specs.Answering.{IsSessionAnswer}
+use Rattle.dns_run.specs.Causes.{HasNoMessage, HasForeign, HasNoAnswer, FaultCause, NoMessage, OtherClass, NotJudged, NotDenied}
 use Rattle.dns_run.specs.Outcomes.{IsTrailReport, IsFault, Derives, Fails, Refuses, Wrote, Leaves}
 use Rattle.dns_run.specs.Runs.{EndsWith, Ended, Stopped, EndsAsJudged, EndsAsSession, EndsByGrammar, EndsByWords, IfSession, IfBadLine}
 use Rattle.dns_run.specs.Runs as runs
-use Rattle.dns_run.proofs.ReplyLemmas.{err_same, message_of, no_message_reply, no_message_silent}
+use Rattle.dns_run.proofs.ReplyLemmas.{err_same}
 use Rattle.dns_run.proofs.TopLemmas.{some_same, trail_foreign, trail_unanswered, trail_told}
 
 -- ---- the ways to end
@@ -102,6 +101,7 @@ ends_fault s status before now error f (GivesFault x cause is written) =
     Ended is (subst (λ y. Appends before now (fault_text y)) (f.only x cause) written)
 ends_fault s status before now error f (GivesLater late) = Stopped late
 
+-- a session without a message has no records
 no_records : (s : SessionValue) (records : Told) → session_records s ≡ Some records → session_message s ≡ None → ⊥
 no_records s records told none = clash (sym told ∙ ap told_of none)
   where
@@ -109,7 +109,7 @@ no_records s records told none = clash (sym told ∙ ap told_of none)
     clash h = cc
 
 sound_message : (s : SessionValue) (answer : ResponseValue) → IsSound s answer → session_message s ≡ None → ⊥
-sound_message s answer is none = clash (sym (ap message_of is.first ∙ ap message_in is.told) ∙ none)
+sound_message s answer is none = clash (sym is.told ∙ none)
   where
     clash : Some is.message ≡ None → ⊥
     clash h = cc
@@ -117,22 +117,22 @@ sound_message s answer is none = clash (sym (ap message_of is.first ∙ ap messa
 -- without a message
 no_message_only : (s : SessionValue) (error x : ErrorValue) → HasNoMessage s error → FaultCause s x → x ≡ error
 no_message_only s error x h (NoMessage other) =
-    err_same (reply_to (map recorded s.replies) s.query) x error (no_message_reply s x other) (no_message_reply s error h)
-no_message_only s error x h (OtherClass f) = absurd (no_records s f.records f.told (no_message_silent s error h))
+    err_same (session_told s) x error other.told h.told
+no_message_only s error x h (OtherClass f) = absurd (no_records s f.records f.told h.silent)
 no_message_only s error x h (NotJudged u is) =
-    absurd (trail_told s u.trail trails.Failed u.is u.told u.heard (ap told_of (no_message_silent s error h)))
+    absurd (trail_told s u.trail trails.Failed u.is u.told u.empty u.heard (ap told_of h.silent))
 no_message_only s error x h (NotDenied response proof given is) =
-    absurd (sound_message s response given.sound (no_message_silent s error h))
+    absurd (sound_message s response given.sound h.silent)
 
 only_no_message : (s : SessionValue) (error : ErrorValue) → HasNoMessage s error → OnlyFault s error
 only_no_message s error h = record {
-  no_answer = λ answer given. sound_message s answer given.sound (no_message_silent s error h);
+  no_answer = λ answer given. sound_message s answer given.sound h.silent;
   only = λ x cause. no_message_only s error x h cause;
 }
 
 -- with a record of another class
 foreign_only : (s : SessionValue) (error x : ErrorValue) → HasForeign s error → FaultCause s x → x ≡ error
-foreign_only s error x f (NoMessage other) = absurd (no_records s f.records f.told (no_message_silent s x other))
+foreign_only s error x f (NoMessage other) = absurd (no_records s f.records f.told other.silent)
 foreign_only s error x f (OtherClass g) =
     let records : g.records ≡ f.records = some_same _ g.records f.records g.told f.told in
     let first : g.first ≡ f.first =
@@ -170,7 +170,7 @@ own_class s records x told own g =
 
 -- without an answer
 unanswered_only : (s : SessionValue) (x : ErrorValue) → HasNoAnswer s → FaultCause s x → x ≡ Message NotJudgedYet
-unanswered_only s x h (NoMessage other) = absurd (no_records s h.records h.told (no_message_silent s x other))
+unanswered_only s x h (NoMessage other) = absurd (no_records s h.records h.told other.silent)
 unanswered_only s x h (OtherClass g) = absurd (own_class s h.records x h.told h.own g)
 unanswered_only s x h (NotJudged u is) = is
 unanswered_only s x h (NotDenied response proof given is) =
@@ -191,7 +191,7 @@ only_unjudged s h = record {
 -- with records of the query's class alone
 denial_caused : (s : SessionValue) (records : Told) (x : ErrorValue) → session_records s ≡ Some records → foreign_record s.query records ≡ None
     → FaultCause s x → ends_trail (Err x) ≡ true
-denial_caused s records x told own (NoMessage other) = absurd (no_records s records told (no_message_silent s x other))
+denial_caused s records x told own (NoMessage other) = absurd (no_records s records told other.silent)
 denial_caused s records x told own (OtherClass g) = absurd (own_class s records x told own g)
 denial_caused s records x told own (NotJudged u is) = ap (λ y. ends_trail (Err y)) is
 denial_caused s records x told own (NotDenied response proof given is) = ap (λ y. ends_trail (Err y)) is

@@ -1,18 +1,18 @@
 -- What a lookup of a session's query answers: out of the clauses of a lookup.
-use Rattle.std.proofs.Common.{ℕ, ◌≡◌, ◌≢◌, ◌⊎◌, ◌∙◌, List, map, Option, None, Some, IfSome, Result, Ok, Err, refl, sym, ap, subst, inl, inr}
+use Rattle.std.proofs.Common.{◌≡◌, ◌≢◌, ◌⊎◌, ◌∙◌, List, map, Option, None, Some, IfSome, Result, Ok, Err, refl, sym, ap, subst, inl, inr}
 use Rattle.dns_model.specs.Keys.{anchored}
-use Rattle.dns_model.specs.Records.{Question, MessageValue}
+use Rattle.dns_model.specs.Records.{Question}
 use Rattle.dns_model.specs.SoundAnswers.{told_by, Sound, ResponseValue}
 use Rattle.dns_model.specs.Trails.{AskedValue, EndingValue, Answered, Failed, Denied}
 use Rattle.dns_judgement.specs.Derivation.{derivation, judged_sets, in_send_order}
 use Rattle.dns_judgement.specs.Outcome.{foreign_record}
 use Rattle.dns_net.specs.Errors as seen
-use Rattle.dns_net.specs.Errors.{Reply, ErrorValue, DnsErrorValue, Busy, Dns, Message, Msg, NoConnections, Proto, Io, Timeout, QueryCaseMismatch, ForeignClassRecord, Truncated, ResponseCode, Nsec, DnssecBogus}
+use Rattle.dns_net.specs.Errors.{Reply, ErrorValue, DnsErrorValue, Busy, Dns, Message, Msg, NoConnections, Proto, Io, Timeout, QueryCaseMismatch, ForeignClassRecord, Truncated, ResponseCode, NoRecordsFound, Nsec, DnssecBogus}
 use Rattle.dns_net.specs.Handles.{Replies, reply_to, ReplyIsTold}
 use Rattle.dns_net.specs.Replies.{reply_of}
 use Rattle.dns_net.specs.declared.error.NetError.{NetError}
 use Rattle.dns_net.specs.declared.handle.DnsHandle as handle
-use Rattle.dns_net.specs.declared.notice.Notice.TheVariants.{NotJudgedYet, ExpiredRrsig, WrongDnskey, WrongRrsig}
+use Rattle.dns_net.specs.declared.notice.Notice.TheVariants.{NotJudgedYet, NoQueryInRequest, ExpiredRrsig, WrongDnskey, WrongRrsig}
 use Rattle.dns_chain.specs.Heard.{heard_message, heard}
 use Rattle.dns_net.specs.declared.request.DnsRequestOptions.{DnsRequestOptions}
 use Rattle.dns_net.specs.declared.verifier.Verifier as verifier
@@ -24,11 +24,12 @@ use Rattle.dns_chain.specs.Sends.{IsFromReplies}
 use Rattle.dns_chain.specs.Causes.{WantsDenial, PassedOn, PassesOnly, PassesOn, NamesForeign, ForeignOnly, ForeignNamed, IsUnjudged, UnjudgedOnly, UnansweredUnjudged, JudgesTold}
 use Rattle.dns_chain.specs.Looked.{UnlessNoMemory, OfAnswer, IsSoundAnswer, IsTrail, HasMarksOfTrail, DeniesQuery}
 use Rattle.dns_session.specs.SessionValue.{SessionValue}
-use Rattle.dns_run.specs.Soundness.{listing, session_judge, session_reply, IsSound}
-use Rattle.dns_run.specs.Answering.{recorded, recorded_by, session_replies, session_depth, IsSessionTrail, IsSessionAnswer}
-use Rattle.dns_run.specs.Causes.{HasNoMessage, HasForeign, HasUnjudged, FaultCause, NoMessage, OtherClass, NotJudged, NotDenied, AnswersSession}
+use Rattle.dns_run.specs.Replies.{recorded, session_told}
+use Rattle.dns_run.specs.Soundness.{listing, session_judge, IsSound}
+use Rattle.dns_run.specs.Answering.{recorded_by, session_replies, session_depth, IsSessionTrail, IsSessionAnswer}
+use Rattle.dns_run.specs.Causes.{HasNoMessage, HasUnjudged, FaultCause, NoMessage, OtherClass, NotJudged, NotDenied, AnswersSession}
 use Rattle.dns_run.proofs.JudgeLemmas.{judge_plain}
-use Rattle.dns_run.proofs.ReplyLemmas.{err_same, recorded_reply, no_message, session_told, IsReplied, session_replied}
+use Rattle.dns_run.proofs.ReplyLemmas.{err_same, session_replied}
 
 -- the lookup that a session asks for
 pub record IsSessionCall {H : Type 0} (meanings : handle.Ghosts H) (s : SessionValue) (call : Call H) : Type 0 where
@@ -58,27 +59,24 @@ at_session meanings s call Fact c fact =
     subst (λ told. Fact told s.query) c.told (subst (λ q. Fact (meanings.told call.old) q) c.query fact)
 
 -- what was heard was told
-heard_told : (told : List (Question × Reply)) (q : Question) (reply : Reply) (m : MessageValue)
-    → (reply ≡ Err seen.NoMemory) ⊎ (reply ≡ reply_to told q) → heard_message reply ≡ Some m → heard_message (reply_to told q) ≡ Some m
-heard_told told q reply m is heard = elim is [
-  | inl none ↦ absurd (none_heard (sym (ap heard_message none) ∙ heard))
-  | inr same ↦ sym (ap heard_message same) ∙ heard
+told_heard : {X : Type 0} (f : Reply → Option X) (told : List (Question × Reply)) (q : Question) (reply answer : Reply) (x : X)
+    → (reply ≡ Err seen.NoMemory) ⊎ (reply ≡ reply_to told q) → reply_to told q ≡ answer → f (Err seen.NoMemory) ≡ None → f reply ≡ Some x
+    → f answer ≡ Some x
+told_heard f told q reply answer x is told_is silent heard = elim is [
+  | inl none ↦ absurd (none_heard (sym silent ∙ sym (ap f none) ∙ heard))
+  | inr same ↦ sym (ap f (same ∙ told_is)) ∙ heard
 ]
   where
-    none_heard : None ≡ Some m → ⊥
+    none_heard : None ≡ Some x → ⊥
     none_heard h = cc
 
 session_sound : {H : Type 0} (meanings : handle.Ghosts H) (s : SessionValue) (call : Call H) (a : ResponseValue)
     → IsSessionCall meanings s call → IsSoundAnswer meanings call a → IsSound s a
 session_sound meanings s call a c is =
     let told = at_session meanings s call (λ told q. ReplyIsTold told (Some q) is.reply) c is.made.told in
-    let r : IsReplied s is.message =
-    session_replied s is.message (heard_told (map recorded s.replies) s.query is.reply is.message told is.heard) in
     record {
-      reply = r.reply;
       message = is.message;
-      first = r.first;
-      told = r.told;
+      told = told_heard heard_message (map recorded s.replies) s.query is.reply (session_told s) is.message told (session_replied s) refl is.heard;
       sound =
           subst (λ j. Sound j s.moment (told_by is.message) a) c.judge (subst (λ now. Sound call.judge now (told_by is.message) a) c.moment is.sound);
     }
@@ -104,6 +102,7 @@ follows : (F G K T : ResponseValue → EndingValue → Type 0) (answer : Reply) 
 follows F G K T (Ok a) all f g k = all.each a (Answered a.denial) f g k
 follows F G K T (Err Busy) all f g k = tt
 follows F G K T (Err (Dns (ResponseCode code))) all f g k = tt
+follows F G K T (Err (Dns (NoRecordsFound missing))) all f g k = tt
 follows F G K T (Err (Dns (Nsec asked response proof))) all f g k = all.each response (Denied proof) f g k
 follows F G K T (Err (Dns DnssecBogus)) all f g k = tt
 follows F G K T (Err (Message notice)) all f g k = tt
@@ -138,25 +137,23 @@ passed_cause : {H : Type 0} (meanings : handle.Ghosts H) (s : SessionValue) (cal
 passed_cause meanings s call e c own p =
     elim (at_session meanings s call (λ told q. ReplyIsTold told (Some q) (Err e)) c p.made.told) [
       | inl memory ↦ absurd (own (err_same (Err e) e seen.NoMemory refl memory))
-      | inr told ↦ NoMessage (no_message s e (session_reply s) refl (sym (recorded_reply s.replies s.query) ∙ sym told))
+      | inr told ↦ NoMessage (no_message (sym (session_replied s) ∙ sym told))
     ]
+  where
+    no_message : session_told s ≡ Err e → HasNoMessage s e
+    no_message told = record { told = told; silent = ap heard_message told ∙ p.silent }
 
 foreign_cause : {H : Type 0} (meanings : handle.Ghosts H) (s : SessionValue) (call : Call H) (e : ErrorValue)
     → IsSessionCall meanings s call → NamesForeign meanings call e → FaultCause s e
 foreign_cause meanings s call e c names =
-    elim (at_session meanings s call (λ told q. ReplyIsTold told (Some q) names.reply) c names.made.told) [
-      | inl memory ↦ absurd (none_heard (sym (ap heard memory) ∙ names.heard))
-      | inr told ↦ OtherClass (record {
-        records = names.records;
-        first = names.first;
-        told = sym (session_told s) ∙ ap heard (sym told) ∙ names.heard;
-        found = ap (λ q. foreign_record q names.records) (sym c.query) ∙ names.found;
-        named = names.named;
-      })
-    ]
-  where
-    none_heard : None ≡ Some names.records → ⊥
-    none_heard h = cc
+    let told = at_session meanings s call (λ told q. ReplyIsTold told (Some q) names.reply) c names.made.told in
+    OtherClass (record {
+      records = names.records;
+      first = names.first;
+      told = told_heard heard (map recorded s.replies) s.query names.reply (session_told s) names.records told (session_replied s) refl names.heard;
+      found = ap (λ q. foreign_record q names.records) (sym c.query) ∙ names.found;
+      named = names.named;
+    })
 
 unjudged_cause : {H : Type 0} (meanings : handle.Ghosts H) (s : SessionValue) (call : Call H)
     → IsSessionCall meanings s call → IsUnjudged meanings call → HasUnjudged s
@@ -165,6 +162,7 @@ unjudged_cause meanings s call c u = record {
   trail = u.trail;
   is = session_trail meanings s call u.trail Failed c u.is;
   told = u.told;
+  empty = u.empty;
   heard = u.heard;
   wants = subst (λ q. WantsDenial q u.told (judged_sets u.is.top)) c.query u.wants;
 }
@@ -172,6 +170,7 @@ unjudged_cause meanings s call c u = record {
 dns_cause : {H : Type 0} (meanings : handle.Ghosts H) (s : SessionValue) (call : Call H) (e : DnsErrorValue)
     → IsSessionCall meanings s call → SaysOf meanings call (Err (Dns e)) → Dns e ≢ seen.NoMemory → FaultCause s (Dns e)
 dns_cause meanings s call (ResponseCode code) c says own = passed_cause meanings s call _ c own (says.passed _ refl refl)
+dns_cause meanings s call (NoRecordsFound missing) c says own = passed_cause meanings s call _ c own (says.passed _ refl refl)
 dns_cause meanings s call (Nsec asked response proof) c says own =
     NotDenied response proof (session_answered meanings s call (Err (Dns (Nsec asked response proof))) c says)
     (ap (λ q. Dns (Nsec q response proof)) ((says.denied asked response proof refl).0 ∙ c.query))
@@ -185,6 +184,7 @@ error_cause meanings s call (Message NotJudgedYet) c says own = elim (says.unjud
   | inl p ↦ passed_cause meanings s call _ c own p
   | inr u ↦ NotJudged (unjudged_cause meanings s call c u) refl
 ]
+error_cause meanings s call (Message NoQueryInRequest) c says own = passed_cause meanings s call _ c own (says.passed _ refl refl)
 error_cause meanings s call (Message ExpiredRrsig) c says own = passed_cause meanings s call _ c own (says.passed _ refl refl)
 error_cause meanings s call (Message WrongDnskey) c says own = passed_cause meanings s call _ c own (says.passed _ refl refl)
 error_cause meanings s call (Message WrongRrsig) c says own = passed_cause meanings s call _ c own (says.passed _ refl refl)

@@ -1,30 +1,16 @@
 -- The lookup that a session asks for: over its replies, with its keys and signatures, at its moment.
-use Rattle.std.specs.Prelude.{ℕ, ◌≡◌, Bool, true, List, [], map, unwrap_or, Some, Result, Ok, Err}
-use Rattle.dns_model.specs.declared.denial.Denial.TheVariants as denied
-use Rattle.dns_model.specs.Records.{Question, MessageValue}
+use Rattle.std.specs.Prelude.{ℕ, ◌≡◌, Bool, true, List, map, unwrap_or, Some}
 use Rattle.dns_model.specs.SoundAnswers.{ResponseValue}
 use Rattle.dns_model.specs.Trails.{AskedValue, EndingValue}
-use Rattle.dns_message.specs.declared.decode_error.DecodeError.{DecodeError}
 use Rattle.dns_judgement.specs.Derivation.{derivation, top_step, in_send_order}
-use Rattle.dns_net.specs.declared.error.ProtoError.TheVariants.{Decode}
-use Rattle.dns_net.specs.Errors as seen
-use Rattle.dns_net.specs.Errors.{Reply}
 use Rattle.dns_net.specs.Handles.{Replies}
 use Rattle.dns_net.specs.Requests.{plain_options}
 use Rattle.dns_net.specs.Recording.{RecordedValue}
 use Rattle.dns_chain.specs.Sends.{IsFromReplies}
 use Rattle.dns_chain.specs.Looked.{HasMarksOfTrail}
 use Rattle.dns_session.specs.SessionValue.{ReplyValue, SessionValue}
+use Rattle.dns_run.specs.Replies.{recorded}
 use Rattle.dns_run.specs.Soundness.{session_judge, IsSound}
-
--- what an upstream answers with a message, or with bytes that are none
-abbrev pub reply_from : Result MessageValue DecodeError → Reply
-reply_from (Ok message) = Ok (record { message = message; chains = []; denial = denied.None; trail = [] })
-reply_from (Err error) = Err (seen.Proto (Decode error))
-
--- a question and what is answered
-abbrev pub recorded : ReplyValue → Question × Reply
-recorded reply = (reply.question, reply_from reply.message)
 
 -- what the session's upstream tells: its replies in order, and whether it serves them by turn
 abbrev pub session_replies : SessionValue → Replies

@@ -1,40 +1,24 @@
 -- Why a session is answered with an error (RFC 4035, 4.3 and 5.4), and what its replies must be answered with.
-use Rattle.std.specs.Prelude.{◌≡◌, ◌≢◌, false, List, Option, None, Some, Result, Ok, Err}
-use Rattle.std.specs.Option.{option_map, option_and_then}
+use Rattle.std.specs.Prelude.{◌≡◌, ◌≢◌, Bool, false, List, None, Some, Err}
 use Rattle.dns_model.specs.declared.proof.Proof.{Proof}
-use Rattle.dns_model.specs.Records.{Rr, MessageValue}
-use Rattle.dns_model.specs.SoundAnswers.{Told, told_by, ResponseValue}
+use Rattle.dns_model.specs.Records.{Rr}
+use Rattle.dns_model.specs.SoundAnswers.{Told, ResponseValue}
 use Rattle.dns_model.specs.Trails.{AskedValue, Records, Denied, Failed}
-use Rattle.dns_message.specs.declared.decode_error.DecodeError.{DecodeError}
 use Rattle.dns_judgement.specs.Derivation.{judged_sets}
-use Rattle.dns_judgement.specs.Marking.{cleared_message}
 use Rattle.dns_judgement.specs.Outcome.{has_answer, foreign_record}
-use Rattle.dns_net.specs.declared.error.ProtoError.TheVariants.{Decode}
 use Rattle.dns_net.specs.declared.notice.Notice.TheVariants.{NotJudgedYet}
-use Rattle.dns_net.specs.Errors.{Reply, ErrorValue, Dns, Message, Proto, Timeout, ForeignClassRecord, Nsec, NoMemory}
+use Rattle.dns_net.specs.Errors.{Reply, ErrorValue, Dns, Message, ForeignClassRecord, Nsec, NoMemory}
 use Rattle.dns_chain.specs.Looked.{OfAnswer}
 use Rattle.dns_chain.specs.Causes.{WantsDenial, PassesOn, ForeignNamed, UnansweredUnjudged, JudgesTold}
-use Rattle.dns_session.specs.SessionValue.{SessionValue, ReplyValue}
-use Rattle.dns_run.specs.Soundness.{session_reply}
+use Rattle.dns_session.specs.SessionValue.{SessionValue}
+use Rattle.dns_run.specs.Replies.{session_told, session_message, session_records}
 use Rattle.dns_run.specs.Answering.{session_replies, IsSessionTrail, IsSessionAnswer}
 
-abbrev pub message_in : Result MessageValue DecodeError → Option MessageValue
-message_in (Ok message) = Some message
-message_in (Err fault) = None
-
--- the message of the session's reply to its query
-abbrev pub session_message : SessionValue → Option MessageValue
-session_message s = option_and_then (λ reply. message_in reply.message) (session_reply s)
-
--- the records of that message
-abbrev pub session_records : SessionValue → Option Told
-session_records s = option_map (λ message. told_by (cleared_message message)) (session_message s)
-
--- the session has no message in reply to its query: nothing comes, or bytes that are no message
-pub data HasNoMessage (s : SessionValue) (error : ErrorValue) : Type 0 where
-  NoReply : session_reply s ≡ None → error ≡ Timeout → HasNoMessage s error
-  BadMessage : (reply : ReplyValue) (fault : DecodeError) → session_reply s ≡ Some reply → reply.message ≡ Err fault
-      → error ≡ Proto (Decode fault) → HasNoMessage s error
+-- the session's upstream answers this error to its query, which has no message: nothing came in time, the bytes are none, a server
+-- failed, or there was a fault
+pub record HasNoMessage (s : SessionValue) (error : ErrorValue) : Type 0 where
+  pub told : session_told s ≡ Err error
+  pub silent : session_message s ≡ None
 
 -- a record of the reply has another class than the query: the first in section order is named
 pub record HasForeign (s : SessionValue) (error : ErrorValue) : Type 0 where
@@ -56,7 +40,8 @@ pub record HasUnjudged (s : SessionValue) : Type 0 where
   pub trail : List AskedValue
   pub is : IsSessionTrail s trail Failed
   pub told : Told
-  pub heard : is.top.reply ≡ Records told false
+  pub empty : Bool
+  pub heard : is.top.reply ≡ Records told empty
   pub wants : WantsDenial s.query told (judged_sets is.top)
 
 -- why a session is answered with an error

@@ -1,4 +1,5 @@
 pub mod Forms
+pub mod Replies
 pub mod Soundness
 pub mod Answering
 pub mod Adding

@@ -14,7 +14,8 @@ use Rattle.dns_io.specs.Writing.{TakesPrefix}
 use Rattle.dns_run.specs.declared.form.Form.{Form}
 use Rattle.dns_run.specs.declared.form.Form.TheVariants.{Validate, Help, Version}
 use Rattle.dns_run.specs.Forms.{help_text, version_text, bad_words_text, bad_line_text, too_long_text}
-use Rattle.dns_run.specs.Causes.{session_records, HasNoMessage, HasForeign, HasNoAnswer}
+use Rattle.dns_run.specs.Replies.{session_records}
+use Rattle.dns_run.specs.Causes.{HasNoMessage, HasForeign, HasNoAnswer}
 use Rattle.dns_run.specs.Outcomes.{Leaves, Refuses}
 
 -- ---- by its words

@@ -1,11 +1,11 @@
--- What the answer to a session is worth (RFC 4035, 5): by what it is judged, and what its upstream replies to its query.
-use Rattle.std.specs.Prelude.{ℕ, ◌≡◌, List, map, Option, Some, Ok}
-use Rattle.std.specs.List.{find}
-use Rattle.dns_model.specs.Records.{MessageValue, question_eq}
+-- What the answer to a session is worth (RFC 4035, 5): by what it is judged, and for which records.
+use Rattle.std.specs.Prelude.{ℕ, ◌≡◌, List, map, Some}
+use Rattle.dns_model.specs.Records.{MessageValue}
 use Rattle.dns_model.specs.Chains.{Judge, judge}
 use Rattle.dns_model.specs.SoundAnswers.{told_by, Sound, ResponseValue}
 use Rattle.dns_trust.specs.Listing.{ListedValue, ListedSignatureValue, answers_of}
-use Rattle.dns_session.specs.SessionValue.{AcceptedSignatureValue, ReplyValue, SessionValue}
+use Rattle.dns_session.specs.SessionValue.{AcceptedSignatureValue, SessionValue}
+use Rattle.dns_run.specs.Replies.{session_message}
 
 -- a signature that a session's verifier accepts
 abbrev pub listed_signature : AcceptedSignatureValue → ListedSignatureValue
@@ -20,15 +20,9 @@ listing algorithms accepts = record { algorithms = algorithms; accepted = map li
 abbrev pub session_judge : SessionValue → Judge
 session_judge s = judge (answers_of (listing s.algorithms s.accepts)) s.anchors s.moment
 
--- the first reply to the query
-abbrev pub session_reply : SessionValue → Option ReplyValue
-session_reply s = find (λ reply. question_eq reply.question s.query) s.replies
-
--- the answer is sound for the records of the message that is the session's reply to its query, by the session's trusted keys,
--- algorithms and accepted signatures, at its moment
+-- the answer is sound for the records of the message that the session's upstream answers to its query, by the session's trusted
+-- keys, algorithms and accepted signatures, at its moment
 pub record IsSound (s : SessionValue) (answer : ResponseValue) : Type 0 where
-  pub reply : ReplyValue
   pub message : MessageValue
-  pub first : session_reply s ≡ Some reply
-  pub told : reply.message ≡ Ok message
+  pub told : session_message s ≡ Some message
   pub sound : Sound (session_judge s) s.moment (told_by message) answer

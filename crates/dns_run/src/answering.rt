@@ -6,15 +6,14 @@ ghost use Rattle.dns_net.specs.Requests.{plain_options};
 ghost use Rattle.dns_trust.specs.Listing.{answers_of};
 ghost use Rattle.dns_chain.specs.Looked.{UnlessNoMemory};
 ghost use Rattle.dns_run.specs.Adding.{with_algorithms, with_accepts};
-ghost use Rattle.dns_run.specs.Answering.{reply_from, recorded_by};
+ghost use Rattle.dns_run.specs.Answering.{recorded_by};
 ghost use Rattle.dns_run.specs.Causes.{AnswersSession};
 ghost use Rattle.dns_run.specs.Soundness.{listing};
 
+use crate::replies::reply_from;
 use dns_chain::DnssecDnsHandle;
-use dns_message::{DecodeError, Message};
 use dns_name::NoMemory;
-use dns_net::{DnsRequestOptions, DnsResponse, NetError, ProtoError, Recorded, Trail};
-use dns_record::Denial;
+use dns_net::{DnsRequestOptions, DnsResponse, NetError, Recorded};
 use dns_session::{AcceptedSignature, Anchor, Reply, Session};
 use dns_trust::{Listed, TrustAnchors};
 use std::alloc::Global;
@@ -61,8 +60,9 @@ fn empty_upstream(alloc: Global, by_turn: bool) -> Recorded
     Recorded::new(alloc)
 }
 
-/// The upstream that answers as a session says: with the first reply to a question or, by turn, with each in its turn. A reply
-/// that is no message is answered as the fault that its bytes have.
+/// The upstream that answers as a session says: with the first reply to a question or, by turn, with each in its turn. Bytes that
+/// are no message are answered as the fault that they have; a message that comes as what it tells, by `DnsError::from_response`
+/// (RFC 2308, 2); and where no message comes, by the error that says why.
 pub fn session_upstream(
     alloc: Global,
     by_turn: bool,
@@ -72,8 +72,9 @@ pub fn session_upstream(
 {
     let mut handle = empty_upstream(alloc, by_turn);
     for next in replies {
-        let Reply { query, message } = next;
-        handle.push(query, reply_from(alloc, message))?;
+        let Reply { query, kind } = next;
+        let reply = reply_from(alloc, kind)?;
+        handle.push(query, reply)?;
     }
     Ok(handle)
 }
@@ -107,21 +108,6 @@ pub fn session_anchors(alloc: Global, anchors: Vec<Anchor>) -> Result<TrustAncho
         trusted.insert_with_name(owner, algorithm, key)?;
     }
     Ok(trusted)
-}
-
-// What an upstream answers with a message, or with bytes that are none.
-fn reply_from(alloc: Global, message: Result<Message, DecodeError>) -> Result<DnsResponse, NetError>
-    ensures { reply_of result ≡ reply_from message }
-{
-    match message {
-        Ok(message) => Ok(DnsResponse {
-            message,
-            chains: Vec::new(alloc),
-            denial: Denial::None,
-            trail: Trail::new(alloc),
-        }),
-        Err(error) => Err(NetError::Proto(ProtoError::Decode(error))),
-    }
 }
 
 // Supports each algorithm.

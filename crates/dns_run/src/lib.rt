@@ -9,6 +9,7 @@ mod answering;
 mod form;
 mod outcome;
 mod program;
+mod replies;
 
 pub use answering::{
     session_anchors, session_answer, session_options, session_upstream, session_verifier,
