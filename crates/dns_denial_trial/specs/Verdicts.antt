@@ -13,7 +13,7 @@ use Rattle.dns_rdata.specs.ReadAs.{read_as}
 use Rattle.dns_denial.specs.declared.answered.Answered.{Answered}
 use Rattle.dns_denial.specs.declared.answered.Answered.TheVariants.{No, Plain, Expanded}
 use Rattle.dns_denial.specs.NsecVerdict.{nsec_verdict}
-use Rattle.dns_session.specs.SessionValue.{ReplyValue}
+use Rattle.dns_session.specs.SessionValue.{ReplyKindValue, Message, Empty, Fault, ReplyValue}
 
 -- a signature with fewer labels than the name shows that the answer comes of a wildcard
 abbrev pub answered_by_signature : Labels → Option RrsigValue → Answered
@@ -52,8 +52,14 @@ message_proof zone question (Ok message) =
 -- bytes that are none prove nothing
 message_proof zone question (Err error) = Bogus
 
+-- what comes in reply proves: a message, whatever becomes of it, by its records; a fault nothing
+abbrev pub proof_by : Labels → Question → ReplyKindValue → Proof
+proof_by zone question (Message message) = message_proof zone question message
+proof_by zone question (Empty message) = message_proof zone question message
+proof_by zone question (Fault fault) = Bogus
+
 abbrev pub reply_proof : Labels → ReplyValue → Proof
-reply_proof zone reply = message_proof zone reply.question reply.message
+reply_proof zone reply = proof_by zone reply.question reply.kind
 
 -- the line of a verdict on NSEC records
 abbrev pub proof_line : Proof → List ℕ

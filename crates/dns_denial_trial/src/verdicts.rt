@@ -1,13 +1,14 @@
 //! What a response proves of its question by the NSEC records in its authority section (RFC 4035, 5.3.4 and 5.4).
 ghost use Rattle.std.specs.Prelude.{◌≡◌, ◌++◌, [], length, IfOk, OnOk};
-ghost use Rattle.dns_denial_trial.specs.Verdicts.{answered_by as answered_in, signed_for as signed_for_in, with_nsec, with_nsecs, reply_proof as reply_proof_of, proof_line, with_lines};
+ghost use Rattle.dns_denial_trial.specs.Verdicts.{answered_by as answered_in, signed_for as signed_for_in, with_nsec, with_nsecs, message_proof as message_proof_of, reply_proof as reply_proof_of, proof_line, with_lines};
 
 use dns_denial::{Answered, verify_nsec};
+use dns_message::{DecodeError, Message};
 use dns_model::Proof;
 use dns_name::{Name, NoMemory};
 use dns_rdata::{NsecRecord, Rrsig};
-use dns_record::Record;
-use dns_session::{Reply, Session};
+use dns_record::{Query, Record};
+use dns_session::{Reply, ReplyKind, Session};
 use std::alloc::Global;
 
 /// How a record of the answer section answers for a name: a signature with fewer labels shows a wildcard (RFC 4035, 5.3.4).
@@ -60,17 +61,33 @@ fn nsecs_in(alloc: Global, section: &[Record]) -> Result<Vec<NsecRecord>, NoMemo
     Ok(nsecs)
 }
 
-/// What a reply proves of its question in a zone. Bytes that are no message prove nothing.
+/// What a message proves of a question in a zone. Bytes that are no message prove nothing.
+fn message_proof(
+    alloc: Global,
+    zone: &Name,
+    question: &Query,
+    message: &Result<Message, DecodeError>,
+) -> Result<Proof, NoMemory>
+    ensures { IfOk result (λ p. p ≡ message_proof_of zone.now question.now message.now) }
+{
+    match message {
+        Ok(message) => {
+            let nsecs = nsecs_in(alloc, &message.authorities)?;
+            let answered = answered_by(&question.name, &message.answers);
+            Ok(verify_nsec(question, zone, message.response_code, answered, &nsecs))
+        }
+        Err(_) => Ok(Proof::Bogus),
+    }
+}
+
+/// What a reply proves of its question in a zone: by its message, whatever becomes of it; a fault proves nothing.
 fn reply_proof(alloc: Global, zone: &Name, reply: &Reply) -> Result<Proof, NoMemory>
     ensures { IfOk result (λ p. p ≡ reply_proof_of zone.now reply.now) }
 {
-    match &reply.message {
-        Ok(message) => {
-            let nsecs = nsecs_in(alloc, &message.authorities)?;
-            let answered = answered_by(&reply.query.name, &message.answers);
-            Ok(verify_nsec(&reply.query, zone, message.response_code, answered, &nsecs))
-        }
-        Err(_) => Ok(Proof::Bogus),
+    match &reply.kind {
+        ReplyKind::Message(message) => message_proof(alloc, zone, &reply.query, message),
+        ReplyKind::Empty(message) => message_proof(alloc, zone, &reply.query, message),
+        ReplyKind::Fault(_) => Ok(Proof::Bogus),
     }
 }
 
