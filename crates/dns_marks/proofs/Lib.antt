@@ -1,3 +1,4 @@
+pub mod OwnLemmas
 pub mod ZoneLemmas
 pub mod CallLemmas
 pub mod KeyLemmas

@@ -1,21 +1,20 @@
 -- DS verdicts of zones, from the answers to the asks for their DS sets (RFC 4035, 5.2).
-use Rattle.std.specs.Prelude.{ℕ, Bool, true, false, not, ◌==◌, ◌&&◌, ◌||◌, List, [], ◌∷◌, map, Option, None, Some, Result, Ok, Err, if◌then◌else◌}
+use Rattle.std.specs.Prelude.{ℕ, Bool, true, false, not, ◌==◌, ◌&&◌, ◌||◌, List, [], ◌∷◌, ◌++◌, map, Option, None, Some, Result, Ok, Err, if◌then◌else◌}
 use Rattle.std.specs.Option.{option_map_or}
-use Rattle.std.specs.List.{list_all, find, filter}
-use Rattle.dns_model.specs.declared.proof.Proof.{Proof}
+use Rattle.std.specs.List.{list_all, list_any, find, filter}
 use Rattle.dns_model.specs.declared.proof.Proof.TheVariants as proof
-use Rattle.dns_model.specs.declared.section.Section.TheVariants.{Answer}
-use Rattle.dns_model.specs.Names.{Labels, name_eq}
-use Rattle.dns_model.specs.Types.{type_ds}
-use Rattle.dns_model.specs.Records.{Rr, RrSet}
+use Rattle.dns_model.specs.declared.section.Section.{Section}
+use Rattle.dns_model.specs.declared.section.Section.TheVariants.{Answer, Authority, Additional}
+use Rattle.dns_model.specs.Names.{Labels, name_eq, at_or_above}
+use Rattle.dns_model.specs.Types.{type_ds, type_nsec}
+use Rattle.dns_model.specs.Records.{Rr, RrSet, MessageValue}
 use Rattle.dns_model.specs.Sections.{sets_of}
-use Rattle.dns_model.specs.SoundAnswers.{ResponseValue, first_mark, is_secure}
+use Rattle.dns_model.specs.SoundAnswers.{ResponseValue, is_secure}
 use Rattle.dns_model.specs.Keys.{VerifierAnswers}
 use Rattle.dns_net.specs.declared.error.NetError.{NetError}
 use Rattle.dns_net.specs.declared.error.NetError.TheVariants.{Busy, Dns, Message, Msg, NoConnections, Proto, Io, Timeout, QueryCaseMismatch, ForeignClassRecord, Truncated, NoMemory}
 use Rattle.dns_judgement.specs.Judged.{Judged}
-use Rattle.dns_judgement.specs.Derivation.{proof_eq}
-use Rattle.dns_judgement.specs.ProofErrors.{DsRecordShouldExist}
+use Rattle.dns_judgement.specs.ProofErrors.{DsRecordShouldExist, DsResponseInsecure, UnknownKeyAlgorithm}
 use Rattle.dns_judgement.specs.Delegations as zone
 use Rattle.dns_marks.specs.declared.zone_verdict.ZoneVerdict.{ZoneVerdict}
 use Rattle.dns_marks.specs.declared.zone_verdict.ZoneVerdict.TheVariants.{Signed, Insecure, Bogus}
@@ -26,17 +25,36 @@ verdict_value (Signed ds) = zone.Signed ds.items
 verdict_value (Insecure kind) = zone.Insecure (kind_value kind)
 verdict_value (Bogus kind) = zone.Bogus (kind_value kind)
 
--- the mark that all records of a set have; Bogus where their marks differ
-abbrev pub common_mark : List Rr → Proof
-common_mark records = if list_all (λ r. proof_eq r.proof (first_mark records)) records then first_mark records else proof.Bogus
+-- ---- what a response shows. A set is Secure where all its records are. A record is Insecure by itself, whatever the others of its
+-- set are, since that one record is so only where no more can be expected of its zone (RFC 4035, 4.3)
 
--- a set of an answer section, with the mark that its records have
-abbrev pub marked_set : RrSet → Judged
-marked_set set = record { section = Answer; set = set; mark = common_mark set.records; sig = None }
+abbrev pub are_secure : List Rr → Bool
+are_secure records = list_all (λ r. is_secure r.proof) records
 
--- the sets of a response's answer section
-abbrev pub answered_sets : List Rr → List Judged
-answered_sets answers = map marked_set (sets_of answers)
+-- a set of a section, Secure or not
+abbrev pub marked_set : Section → RrSet → Judged
+marked_set section set = record { section = section; set = set; mark = if are_secure set.records then proof.Secure else proof.Bogus; sig = None }
+
+-- the sets of a section
+abbrev pub marked_sets : Section → List Rr → List Judged
+marked_sets section records = map (marked_set section) (sets_of records)
+
+-- a record by itself, with its mark. Its section is none in which a set is looked for
+abbrev pub lone_record : Rr → Judged
+lone_record r = record {
+  section = Additional;
+  set = record { owner = r.owner; rtype = r.rtype; class = r.class; records = r ∷ []; signatures = [] };
+  mark = r.proof;
+  sig = None;
+}
+
+abbrev pub all_records : MessageValue → List Rr
+all_records message = message.answers ++ (message.authorities ++ message.additionals)
+
+-- the sets of the answer and the authority section, and each record of whatever section, be it a signature, by itself
+abbrev pub shown_by : MessageValue → List Judged
+shown_by message =
+    marked_sets Answer message.answers ++ (marked_sets Authority message.authorities ++ map lone_record (all_records message))
 
 -- the error is want of memory
 abbrev pub is_want : NetError → Bool
@@ -55,29 +73,53 @@ is_want NoMemory = true
 
 -- the DS verdict of a zone by the answer to the ask for its DS set; none where memory ran out in that ask
 abbrev pub answer_verdict : VerifierAnswers → ℕ → Labels → Result ResponseValue NetError → Option zone.ZoneVerdict
-answer_verdict verifier class name (Ok response) = Some (zone.zone_verdict verifier class name (Some (answered_sets response.message.answers)))
+answer_verdict verifier class name (Ok response) = Some (zone.zone_verdict verifier class name (Some (shown_by response.message)))
 answer_verdict verifier class name (Err error) = if is_want error then None else Some (zone.zone_verdict verifier class name None)
 
 -- ---- for private functions of this crate only
 
--- a record of the DS set of a zone
-abbrev pub is_ds_record : Labels → Rr → Bool
-is_ds_record name r = name_eq name r.owner && (r.rtype == type_ds)
+-- a record of the set of a name and a type
+abbrev pub is_record_of : Labels → ℕ → Rr → Bool
+is_record_of name rtype r = name_eq name r.owner && (r.rtype == rtype)
 
--- the class is that of the first record of the DS set, and all its records are Secure
-abbrev pub is_secure_set : ℕ → Labels → List Rr → Bool
-is_secure_set class name answers =
-    option_map_or (λ first. (class == first.class) && list_all (λ r. not (is_ds_record name r) || is_secure r.proof) answers)
-    (find (is_ds_record name) answers) false
+-- all records of that set are Secure
+abbrev pub is_secure_set : Labels → ℕ → List Rr → Bool
+is_secure_set name rtype records = list_all (λ r. not (is_record_of name rtype r) || is_secure r.proof) records
 
--- of a set that is Secure: by its supported DS records
-abbrev pub by_supported : Labels → List Rr → zone.ZoneVerdict
-by_supported name [] = zone.Bogus (DsRecordShouldExist name)
-by_supported name (ds ∷ more) = zone.Signed (ds ∷ more)
+-- there is a DS set of the zone, and the class is that of its first record
+abbrev pub has_ds_set : ℕ → Labels → List Rr → Bool
+has_ds_set class name answers = option_map_or (λ first. class == first.class) (find (is_record_of name type_ds) answers) false
 
--- by the records of an answer section
-abbrev pub by_answers : VerifierAnswers → ℕ → Labels → List Rr → zone.ZoneVerdict
-by_answers verifier class name answers =
-    if is_secure_set class name answers
-    then by_supported name (filter (λ r. is_ds_record name r && zone.is_supported_ds verifier r) answers)
+-- of a DS set that is Secure: by its supported records, and by whether one can be read
+abbrev pub by_supported : Labels → Bool → List Rr → zone.ZoneVerdict
+by_supported name readable [] = if readable then zone.Insecure UnknownKeyAlgorithm else zone.Bogus (DsRecordShouldExist name)
+by_supported name readable (ds ∷ more) = zone.Signed (ds ∷ more)
+
+-- by the records of the zone's DS set
+abbrev pub by_ds : VerifierAnswers → Labels → List Rr → zone.ZoneVerdict
+by_ds verifier name answers =
+    if is_secure_set name type_ds answers
+    then by_supported name (list_any (λ r. is_record_of name type_ds r && zone.is_readable_ds r) answers)
+    (filter (λ r. is_record_of name type_ds r && zone.is_supported_ds verifier r) answers)
     else zone.Bogus (DsRecordShouldExist name)
+
+-- a Secure NSEC set of the zone in the authority section shows that its delegation has no DS
+abbrev pub shows_no_ds : Labels → List Rr → Bool
+shows_no_ds name authorities =
+    is_secure_set name type_nsec authorities && list_any (λ r. is_record_of name type_nsec r && zone.shows_unsigned_cut r) authorities
+
+-- a record that is Insecure, at the zone or above it
+abbrev pub is_insecure_above : Labels → Rr → Bool
+is_insecure_above name r = zone.is_insecure r.proof && at_or_above r.owner name
+
+-- where there is no DS set
+abbrev pub without_ds : Labels → MessageValue → zone.ZoneVerdict
+without_ds name message =
+    if shows_no_ds name message.authorities || list_any (is_insecure_above name) (all_records message)
+    then zone.Insecure (DsResponseInsecure name)
+    else zone.Bogus (DsRecordShouldExist name)
+
+-- by the records of a message
+abbrev pub by_message : VerifierAnswers → ℕ → Labels → MessageValue → zone.ZoneVerdict
+by_message verifier class name message =
+    if has_ds_set class name message.answers then by_ds verifier name message.answers else without_ds name message

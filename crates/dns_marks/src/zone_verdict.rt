@@ -1,15 +1,18 @@
 ghost use Rattle.std.specs.Prelude.{◌≡◌, ◌&&◌, ◌||◌, false, not, IfOk, Some};
-ghost use Rattle.std.specs.List.{find, filter, list_all};
+ghost use Rattle.std.specs.List.{find, filter, list_all, list_any};
 ghost use Rattle.std.specs.Option.{option_copied};
+ghost use Rattle.dns_model.specs.Types.{type_ds, type_nsec};
 ghost use Rattle.dns_model.specs.SoundAnswers.{is_secure};
 ghost use Rattle.dns_judgement.specs.ProofErrors as cause;
 ghost use Rattle.dns_judgement.specs.Delegations as delegations;
-ghost use Rattle.dns_judgement.specs.Delegations.{zone_verdict, ds_question as ds_question_of};
-ghost use Rattle.dns_marks.specs.ZoneVerdicts.{verdict_value, is_want, answer_verdict, answered_sets, is_secure_set, by_supported, is_ds_record as is_ds_record_of};
+ghost use Rattle.dns_judgement.specs.Delegations.{ds_question as ds_question_of};
+ghost use Rattle.dns_marks.specs.ZoneVerdicts.{verdict_value, is_want, answer_verdict, by_message, by_ds as by_ds_set, by_supported, without_ds as without_ds_set, has_ds_set as has_set_in, is_secure_set, shows_no_ds as shows_none, is_insecure_above as is_above, all_records, shown_by, is_record_of};
 
 use crate::ProofErrorKind;
+use dns_message::Message;
 use dns_name::{Name, NoMemory};
 use dns_net::{DnsResponse, NetError, Verifier};
+use dns_rdata::{Ds, Nsec};
 use dns_record::{DNSClass, Proof, Query, Record, RecordType};
 use dns_trust::is_supported_ds;
 use std::alloc::Global;
@@ -28,8 +31,9 @@ pub enum ZoneVerdict {
     Bogus(ProofErrorKind),
 }
 
-/// The DS verdict of a zone, by the answer to the ask for its DS set (RFC 4035, 5.2). A DS set of the answer section counts with
-/// the mark that its records have; where they have different ones, it is Bogus. Want of memory in the ask is want of memory.
+/// The DS verdict of a zone, by the answer to the ask for its DS set (RFC 4035, 5.2). A set counts as Secure where all its records
+/// are; one record of any section that is Insecure, at the zone or above it, is enough where there is no DS set. Want of memory in
+/// the ask is want of memory; any other error is a failed ask.
 #[tactic(auto, unfolding(dns_judgement::specs::Delegations::zone_verdict))]
 pub fn ds_verdict<V: Verifier>(
     alloc: Global,
@@ -41,7 +45,7 @@ pub fn ds_verdict<V: Verifier>(
     ensures { IfOk result (λ v. answer_verdict (V.answers verifier.now) class.0 zone.now answer.now ≡ Some (verdict_value v)) }
 {
     match answer {
-        Ok(response) => verdict_by(alloc, verifier, zone, class, &response.message.answers),
+        Ok(response) => verdict_by(alloc, verifier, zone, class, &response.message),
         Err(error) => unanswered(zone, class, error),
     }
 }
@@ -72,74 +76,171 @@ fn is_no_memory(error: &NetError) -> bool
     }
 }
 
-// The verdict by the records of an answer section.
+// The verdict by the records of a message.
 #[tactic(auto, using(crate::proofs::ZoneLemmas::zone_verdict_by))]
 fn verdict_by<V: Verifier>(
     alloc: Global,
     verifier: &V,
     zone: &Name,
     class: DNSClass,
-    answers: &[Record],
+    message: &Message,
 ) -> Result<ZoneVerdict, NoMemory>
     ensures { IfOk result (λ v. verdict_value v ≡
-        zone_verdict (V.answers verifier.now) class.0 zone.now (Some (answered_sets answers.now))) }
+        delegations.zone_verdict (V.answers verifier.now) class.0 zone.now (Some (shown_by message.now))) }
 {
-    if !is_secure_ds_set(zone, class, answers) {
-        return no_ds(zone);
+    if has_ds_set(zone, class, &message.answers) {
+        by_ds(alloc, verifier, zone, &message.answers)
+    } else {
+        without_ds(zone, message)
     }
-    let ds = supported(alloc, verifier, zone, answers)?;
-    verdict_of(zone, ds)
 }
 
-// A Secure DS set has these supported records.
-fn verdict_of(zone: &Name, ds: Vec<Record>) -> Result<ZoneVerdict, NoMemory>
-    ensures { IfOk result (λ v. verdict_value v ≡ by_supported zone.now ds.items) }
+// The verdict by the DS set of the answer section.
+fn by_ds<V: Verifier>(
+    alloc: Global,
+    verifier: &V,
+    zone: &Name,
+    answers: &[Record],
+) -> Result<ZoneVerdict, NoMemory>
+    ensures { IfOk result (λ v. verdict_value v ≡ by_ds_set (V.answers verifier.now) zone.now answers.now) }
 {
-    if ds.is_empty() {
-        return no_ds(zone);
+    if !are_secure(zone, RecordType::DS, answers) {
+        return unshown(zone);
     }
-    Ok(ZoneVerdict::Signed(ds))
+    let ds = supported(alloc, verifier, zone, answers)?;
+    verdict_of(zone, has_readable_ds(zone, answers), ds)
+}
+
+// A Secure DS set has these supported records, and one that can be read.
+fn verdict_of(zone: &Name, is_readable: bool, ds: Vec<Record>) -> Result<ZoneVerdict, NoMemory>
+    ensures { IfOk result (λ v. verdict_value v ≡ by_supported zone.now is_readable ds.items) }
+{
+    if !ds.is_empty() {
+        return Ok(ZoneVerdict::Signed(ds));
+    }
+    if is_readable {
+        return Ok(ZoneVerdict::Insecure(ProofErrorKind::UnknownKeyAlgorithm));
+    }
+    unshown(zone)
 }
 
 // Neither a DS set nor its absence is shown.
-fn no_ds(zone: &Name) -> Result<ZoneVerdict, NoMemory>
+fn unshown(zone: &Name) -> Result<ZoneVerdict, NoMemory>
     ensures { IfOk result (λ v. verdict_value v ≡ delegations.Bogus (cause.DsRecordShouldExist zone.now)) }
 {
     let name = zone.try_clone()?;
     Ok(ZoneVerdict::Bogus(ProofErrorKind::DsRecordShouldExist { name }))
 }
 
-// There is a DS set of the zone, the class is that of its first record, and all its records are Secure.
-fn is_secure_ds_set(zone: &Name, class: DNSClass, answers: &[Record]) -> bool
-    ensures { result ≡ is_secure_set class.0 zone.now answers.now }
+// The verdict where the answer section has no DS set of the zone.
+fn without_ds(zone: &Name, message: &Message) -> Result<ZoneVerdict, NoMemory>
+    ensures { IfOk result (λ v. verdict_value v ≡ without_ds_set zone.now message.now) }
+{
+    if !is_insecure(zone, message) {
+        return unshown(zone);
+    }
+    let name = zone.try_clone()?;
+    Ok(ZoneVerdict::Insecure(ProofErrorKind::DsResponseInsecure { name }))
+}
+
+// The delegation is shown to have no DS, or a record of the zone or above it is Insecure.
+fn is_insecure(zone: &Name, message: &Message) -> bool
+    ensures { result ≡ (shows_none zone.now message.now.authorities || list_any (is_above zone.now) (all_records message.now)) }
+{
+    shows_no_ds(zone, &message.authorities) || has_insecure(zone, message)
+}
+
+// A Secure NSEC set of the zone shows that its delegation has no DS.
+fn shows_no_ds(zone: &Name, authorities: &[Record]) -> bool
+    ensures { result ≡ shows_none zone.now authorities.now }
+{
+    are_secure(zone, RecordType::NSEC, authorities) && has_unsigned_cut(zone, authorities)
+}
+
+fn has_unsigned_cut(zone: &Name, authorities: &[Record]) -> bool
+    ensures { result ≡ list_any (λ r. is_record_of zone.now type_nsec r && delegations.shows_unsigned_cut r) authorities.now }
+{
+    authorities.iter().any(|next| is_of(zone, RecordType::NSEC, next) && shows_unsigned_cut(next))
+}
+
+// NS is among the types of the NSEC, DS and SOA aren't.
+fn shows_unsigned_cut(next: &Record) -> bool
+    ensures { result ≡ delegations.shows_unsigned_cut next.now }
+{
+    match Nsec::read(next.rdata.as_slice()) {
+        Some(nsec) => is_unsigned_cut(&nsec),
+        None => false,
+    }
+}
+
+fn is_unsigned_cut(nsec: &Nsec<'_>) -> bool
+    ensures { result ≡ delegations.is_unsigned_cut nsec.now }
+{
+    let types = &nsec.types;
+    types.contains(RecordType::NS)
+        && !types.contains(RecordType::DS)
+        && !types.contains(RecordType::SOA)
+}
+
+// A record of some section is Insecure, at the zone or above it.
+fn has_insecure(zone: &Name, message: &Message) -> bool
+    ensures { result ≡ list_any (is_above zone.now) (all_records message.now) }
+{
+    has_insecure_in(zone, &message.answers)
+        || has_insecure_in(zone, &message.authorities)
+        || has_insecure_in(zone, &message.additionals)
+}
+
+fn has_insecure_in(zone: &Name, records: &[Record]) -> bool
+    ensures { result ≡ list_any (is_above zone.now) records.now }
+{
+    records.iter().any(|next| is_insecure_above(zone, next))
+}
+
+fn is_insecure_above(zone: &Name, next: &Record) -> bool
+    ensures { result ≡ is_above zone.now next.now }
+{
+    next.proof == Proof::Insecure && next.name.zone_of(zone)
+}
+
+// There is a DS set of the zone, and the class is that of its first record.
+fn has_ds_set(zone: &Name, class: DNSClass, answers: &[Record]) -> bool
+    ensures { result ≡ has_set_in class.0 zone.now answers.now }
 {
     match first_ds(zone, answers) {
-        Some(first) => class == first.dns_class && are_secure(zone, answers),
+        Some(first) => class == first.dns_class,
         None => false,
     }
 }
 
 // The first DS of the zone.
 fn first_ds<'a>(zone: &Name, answers: &'a [Record]) -> Option<&'a Record>
-    ensures { option_copied result ≡ find (is_ds_record_of zone.now) answers.now }
-{
-    answers.iter().find(|ds| is_ds_record(zone, ds))
-}
-
-// All DS records of the zone are Secure.
-fn are_secure(zone: &Name, answers: &[Record]) -> bool
-    ensures { result ≡ list_all (λ r. not (is_ds_record_of zone.now r) || is_secure r.proof) answers.now }
+    ensures { option_copied result ≡ find (is_record_of zone.now type_ds) answers.now }
 {
     answers
         .iter()
-        .all(|ds| !is_ds_record(zone, ds) || ds.proof == Proof::Secure)
+        .find(|next| is_of(zone, RecordType::DS, next))
 }
 
-// The record is one of the zone's DS set.
-fn is_ds_record(zone: &Name, ds: &Record) -> bool
-    ensures { result ≡ is_ds_record_of zone.now ds.now }
+// All records of a set are Secure.
+fn are_secure(name: &Name, record_type: RecordType, records: &[Record]) -> bool
+    ensures { result ≡ is_secure_set name.now record_type.0 records.now }
 {
-    *zone == ds.name && ds.record_type == RecordType::DS
+    records.iter().all(|next| !is_of(name, record_type, next) || next.proof == Proof::Secure)
+}
+
+// The record is one of the set of a name and a type.
+fn is_of(name: &Name, record_type: RecordType, next: &Record) -> bool
+    ensures { result ≡ is_record_of name.now record_type.0 next.now }
+{
+    *name == next.name && next.record_type == record_type
+}
+
+// A DS of the zone can be read.
+fn has_readable_ds(zone: &Name, answers: &[Record]) -> bool
+    ensures { result ≡ list_any (λ r. is_record_of zone.now type_ds r && delegations.is_readable_ds r) answers.now }
+{
+    answers.iter().any(|next| is_of(zone, RecordType::DS, next) && Ds::of(next).is_some())
 }
 
 // The supported DS records of the zone.
@@ -150,7 +251,7 @@ fn supported<V: Verifier>(
     answers: &[Record],
 ) -> Result<Vec<Record>, NoMemory>
     ensures { IfOk result (λ v. v.items ≡
-        filter (λ r. is_ds_record_of zone.now r && delegations.is_supported_ds (V.answers verifier.now) r) answers.now) }
+        filter (λ r. is_record_of zone.now type_ds r && delegations.is_supported_ds (V.answers verifier.now) r) answers.now) }
 {
     let mut supported = Vec::new(alloc);
     for next in answers {
@@ -163,8 +264,8 @@ fn supported<V: Verifier>(
 }
 
 // The record is a supported one of the zone's DS set.
-fn is_supported_of<V: Verifier>(verifier: &V, zone: &Name, ds: &Record) -> bool
-    ensures { result ≡ (is_ds_record_of zone.now ds.now && delegations.is_supported_ds (V.answers verifier.now) ds.now) }
+fn is_supported_of<V: Verifier>(verifier: &V, zone: &Name, next: &Record) -> bool
+    ensures { result ≡ (is_record_of zone.now type_ds next.now && delegations.is_supported_ds (V.answers verifier.now) next.now) }
 {
-    is_ds_record(zone, ds) && is_supported_ds(verifier, ds)
+    is_of(zone, RecordType::DS, next) && is_supported_ds(verifier, next)
 }
