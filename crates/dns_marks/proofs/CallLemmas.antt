@@ -1,5 +1,5 @@
 -- When the verifier is asked whether it accepts a signature.
-use Rattle.std.proofs.Common.{◌≡◌, ℕ, Bool, true, false, not, ◌==◌, ◌&&◌, cond, List, Option, None, Some, refl, sym, ap, ◌∙◌}
+use Rattle.std.proofs.Common.{◌≡◌, ℕ, Bool, true, false, not, ◌==◌, ◌&&◌, List, Option, None, Some, refl, sym, ap, ◌∙◌}
 use Rattle.std.specs.Prelude.{if◌then◌else◌}
 use Rattle.std.specs.Option.{option_map, option_map_or, option_and_then}
 use Rattle.dns_model.specs.Views.{RrsigValue, DnskeyValue, is_zone_key, is_revoked}
@@ -15,8 +15,8 @@ use Rattle.dns_judgement.specs.Validity.{Validity, ValidRrsig, ExpiredRrsig, Wro
 use Rattle.dns_judgement.specs.MarkParts.{sig_validity}
 use Rattle.dns_judgement.specs.ProofErrors.{ProofErrorValue}
 use Rattle.dns_marks.specs.Kinds.{misfit}
-use Rattle.dns_marks.specs.KeySignatures.{validity_at, key_failure, proof_read, signature_proof, is_put, calls_by_key, calls_if_supported, calls_unless, calls_read}
-use Rattle.dns_marks.specs.SignatureKeys.{judge_at, is_proving}
+use Rattle.dns_marks.specs.KeySignatures.{validity_at, proof_read, signature_proof, is_put, calls_by_key, calls_unless, calls_read}
+use Rattle.dns_marks.specs.SignatureKeys.{is_proving}
 
 and_false : (b : Bool) → (b && false) ≡ false
 and_false true = refl

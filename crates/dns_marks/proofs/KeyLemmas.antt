@@ -1,5 +1,5 @@
 -- Keys in turn, and key sets by the rows that decide them.
-use Rattle.std.proofs.Common.{◌≡◌, ℕ, ◌+◌, ◌<◌, ◌≤◌, Bool, true, false, not, ◌==◌, ◌&&◌, ◌||◌, cond, List, [], ◌∷◌, map, length, drop, Option, None, Some, refl, sym, ap, ◌∙◌, arith}
+use Rattle.std.proofs.Common.{◌≡◌, ℕ, ◌+◌, ◌<◌, ◌≤◌, Bool, true, false, not, ◌==◌, ◌&&◌, ◌||◌, List, [], ◌∷◌, length, drop, Option, None, Some, refl, sym, ap, ◌∙◌, arith}
 use Rattle.std.specs.Prelude.{if◌then◌else◌, slice_index_or, slice_get, is_some}
 use Rattle.std.specs.Option.{option_map_or}
 use Rattle.std.specs.List.{list_any, list_all}
@@ -70,13 +70,13 @@ pub record InTurn (verifier : VerifierAnswers) (now : ℕ) (set : RrSet) (r : Rr
 pub first_turn : (verifier : VerifierAnswers) (now : ℕ) (set : RrSet) (r : Rr) (keys : List (Bor Rr)) (before : ℕ) → InTurn verifier now set r keys 0 before before
 first_turn verifier now set r keys before = record { searched = refl; counted = refl }
 
-turn_of : (verifier : VerifierAnswers) (now : ℕ) (set : RrSet) (r key : Rr) (keys : List Rr)
+pub turn_of : (verifier : VerifierAnswers) (now : ℕ) (set : RrSet) (r key : Rr) (keys : List Rr)
     → calls_in_turn verifier now set r (key ∷ keys)
     ≡ (if is_proving verifier now set r key then 1 else calls_by_key verifier now set r key + calls_in_turn verifier now set r keys)
 unfolding calls_in_turn
 turn_of verifier now set r key keys = refl
 
-none_of : (verifier : VerifierAnswers) (now : ℕ) (set : RrSet) (r : Rr) → calls_in_turn verifier now set r [] ≡ 0
+pub none_of : (verifier : VerifierAnswers) (now : ℕ) (set : RrSet) (r : Rr) → calls_in_turn verifier now set r [] ≡ 0
 unfolding calls_in_turn
 none_of verifier now set r = refl
 

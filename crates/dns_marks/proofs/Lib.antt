@@ -3,3 +3,5 @@ pub mod ZoneLemmas
 pub mod CallLemmas
 pub mod KeyLemmas
 pub mod VerdictLemmas
+pub mod CountLemmas
+pub mod SetLemmas

@@ -1,5 +1,5 @@
 -- Keys that have a mark each, and key sets that have one mark.
-use Rattle.std.proofs.Common.{◌≡◌, ℕ, Bool, true, false, ◌&&◌, ◌||◌, cond, List, [], ◌∷◌, Option, None, Some, refl, sym, ap, ◌∙◌}
+use Rattle.std.proofs.Common.{◌≡◌, ℕ, Bool, true, false, ◌&&◌, ◌||◌, cond, List, [], ◌∷◌, Option, None, Some, refl, ap, ◌∙◌}
 use Rattle.std.specs.Prelude.{if◌then◌else◌, is_some, slice_get}
 use Rattle.std.specs.Option.{option_map_or}
 use Rattle.std.specs.List.{AllByRecursion, find, list_any, list_all}
@@ -10,7 +10,7 @@ use Rattle.dns_model.specs.Keys.{VerifierAnswers, AnchorValue}
 use Rattle.dns_model.specs.Chains.{judge}
 use Rattle.dns_model.specs.SoundAnswers.{is_secure}
 use Rattle.dns_judgement.specs.Validity.{is_good_by}
-use Rattle.dns_judgement.specs.Marks.{Verdict, Proved, Excused, Failed, by_keys}
+use Rattle.dns_judgement.specs.Marks.{Proved, Excused, Failed, by_keys}
 use Rattle.dns_judgement.specs.Derivation.{proof_eq}
 use Rattle.dns_judgement.specs.ProofErrors.{RrsetProofValue}
 use Rattle.dns_marks.specs.Proofs.{proved_by, excused}

@@ -1,5 +1,5 @@
 -- Whether DS records prove a key (RFC 4035, 5.2).
-use Rattle.std.specs.Prelude.{List, Option, Result, Ok, Err, if◌then◌else◌}
+use Rattle.std.specs.Prelude.{List, Result, Ok, Err, if◌then◌else◌}
 use Rattle.std.specs.Option.{option_map_or}
 use Rattle.dns_model.specs.declared.proof.Proof.{Proof}
 use Rattle.dns_model.specs.declared.proof.Proof.TheVariants.{Secure, Insecure, Bogus}

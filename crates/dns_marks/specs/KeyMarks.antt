@@ -1,5 +1,5 @@
 -- The marks of DNSKEY sets as answers (RFC 4035, 5.2).
-use Rattle.std.specs.Prelude.{ℕ, Option, None, Some, Result, Ok, Err}
+use Rattle.std.specs.Prelude.{ℕ, Some, Result, Ok, Err}
 use Rattle.dns_model.specs.Records.{RrSet}
 use Rattle.dns_judgement.specs.ProofErrors.{ProofErrorValue}
 use Rattle.dns_judgement.specs.KeySets.{KeysOutcome, SignedByAnchored, WhollyAnchored, NeedsDs, SignedByMatched, WhollyTrusted, Refused}

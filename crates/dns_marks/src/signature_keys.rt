@@ -24,8 +24,26 @@ use std::sync::ledger::Ledger;
 /// What a signature proves of a set at a moment in seconds since 1970, by keys that have a mark each (RFC 4035, 4.3 and 5.3):
 /// Secure where it is good by a Secure key, else Insecure where all keys are. Of the keys of its signer the first two of each
 /// tag count, whatever their marks. None where it proves nothing, and where it can't be read. A step is counted for each call
-/// of the verifier's `accepts`.
+/// of the verifier's `accepts`, two at the most.
 pub fn verify_rrsig_with_keys<V: Verifier, L: Ledger>(
+    alloc: Global,
+    verifier: &V,
+    keys: &[Record],
+    sig: &Record,
+    set: &RecordSet,
+    now: u64,
+    steps: &mut Steps<L>,
+) -> Result<Option<RrsetProof>, NoMemory>
+    ensures proof { IfOk result (λ p. p ≡ keys_proof (V.answers verifier.now) now keys.now set.now sig.now) }
+    ensures calls { OnOk result (steps.new ≡ steps.old + calls_by_keys (V.answers verifier.now) now keys.now set.now sig.now) }
+    ensures most { steps.new ≤ steps.old + calls_by_keys (V.answers verifier.now) now keys.now set.now sig.now }
+    ensures two { steps.new ≤ steps.old + 2 }
+{
+    proof_by_keys(alloc, verifier, keys, sig, set, now, steps)
+}
+
+// The same; what bounds the steps is that of a tag two keys count.
+fn proof_by_keys<V: Verifier, L: Ledger>(
     alloc: Global,
     verifier: &V,
     keys: &[Record],

@@ -1,4 +1,4 @@
-use Rattle.std.proofs.Common.{◌≡◌, Ok, Err, inr, arith, refl, sym, ap, subst, ◌∙◌, Some, true}
+use Rattle.std.proofs.Common.{◌≡◌, Ok, Err, inr, arith, sym, ap, subst, ◌∙◌, true}
 use Rattle.std.specs.Option.{option_map}
 use Rattle.dns_model.specs.Gives.{Gives}
 use Rattle.dns_model.specs.Chains.{judge}

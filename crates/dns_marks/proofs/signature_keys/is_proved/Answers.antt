@@ -1,4 +1,4 @@
-use Rattle.std.proofs.Common.{sym, ◌∙◌, arith}
+use Rattle.std.proofs.Common.{sym, ◌∙◌}
 use Rattle.dns_marks.proofs.KeyLemmas.{next_turn, found_calls, cut_turn, last_calls}
 use Rattle.dns_marks.proofs.signature_keys.is_proved.Goals as goal
 

@@ -1,6 +1,5 @@
-use Rattle.std.proofs.Common.{◌≡◌, ◌+◌, sym, ap, ◌∙◌, arith}
-use Rattle.std.specs.Prelude.{if◌then◌else◌}
-use Rattle.dns_marks.proofs.CallLemmas.{put_no_signature, put_no_key, unput, unread_signature, unread_key, put_accepted}
+use Rattle.std.proofs.Common.{sym, ◌∙◌, arith}
+use Rattle.dns_marks.proofs.CallLemmas.{put_no_signature, unput, unread_signature, unread_key, put_accepted}
 use Rattle.dns_marks.proofs.signature_keys.is_proving.Goals as goal
 
 pub returns-in_default-clause-proving : goal.returns-in_default-clause-proving

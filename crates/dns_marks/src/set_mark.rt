@@ -1,0 +1,175 @@
+ghost use Rattle.std.specs.Prelude.{◌≡◌, ◌+◌, ◌≤◌, false, length, take, slice_get, IfOk};
+ghost use Rattle.std.specs.List.{list_all, filter_map};
+ghost use Rattle.std.specs.Option.{option_copied};
+ghost use Rattle.dns_model.specs.Gives.{Gives};
+ghost use Rattle.dns_judgement.specs.Unsigned.{is_empty};
+ghost use Rattle.dns_judgement.specs.Marks.{most_signatures};
+ghost use Rattle.dns_marks.specs.Kinds.{kind_value, want_of_memory};
+ghost use Rattle.dns_marks.specs.SetMarks.{set_proof, deciding_proof, answer_proofs, answer_proof, proof_at as proof_of_mark, no_proof as cause_of, is_skipped as is_skipped_answer, failed_ask as failed_question};
+
+use crate::{ProofError, ProofErrorKind, RrsetProof, verify_rrsig_with_keys};
+use dns_name::NoMemory;
+use dns_net::Verifier;
+use dns_record::{Proof, Query, Record, RecordSet};
+use dns_steps::Steps;
+use dns_trust::first_signatures;
+use std::alloc::Global;
+use std::sync::ledger::Ledger;
+
+/// What came of the ask for the keys of a signature's signer.
+#[derive(Drop)]
+pub enum KeyAnswer {
+    /// The signature wasn't asked for.
+    Skipped,
+    /// The ask, by this question, failed or was refused.
+    Failed(Query),
+    /// The records of the answer, each with its mark.
+    Keys(Vec<Record>),
+}
+
+/// The mark of a set that isn't DNSKEY at a moment in seconds since 1970, by the answers to the asks of its first eight signatures,
+/// one for each in order (RFC 4035, 4.3 and 5.3). The first signature that is Secure decides, else the first that is Insecure.
+/// A step is counted for each call of the verifier's `accepts`: two for a signature at the most.
+pub fn mark_rrset<V: Verifier, L: Ledger>(
+    alloc: Global,
+    verifier: &V,
+    set: &RecordSet,
+    answers: &[KeyAnswer],
+    now: u64,
+    steps: &mut Steps<L>,
+) -> Result<RrsetProof, ProofError>
+    requires signed { is_empty set.now.signatures ≡ false }
+    requires answered { length answers.now ≡ length (take most_signatures set.now.signatures) }
+    ensures proof { Gives (λ p. p) want_of_memory result (set_proof (V.answers verifier.now) now set.now answers.now) }
+    ensures most { steps.new ≤ steps.old + 16 }
+{
+    if let Some(found) = deciding(alloc, verifier, set, answers, now, steps)? {
+        return Ok(found);
+    }
+    let kind = no_proof(set, answers)?;
+    Err(ProofError::new(Proof::Bogus, kind))
+}
+
+// What the signature that decides proves.
+fn deciding<V: Verifier, L: Ledger>(
+    alloc: Global,
+    verifier: &V,
+    set: &RecordSet,
+    answers: &[KeyAnswer],
+    now: u64,
+    steps: &mut Steps<L>,
+) -> Result<Option<RrsetProof>, NoMemory>
+    requires { length answers.now ≡ length (take most_signatures set.now.signatures) }
+    ensures proof { IfOk result (λ p. p ≡
+        deciding_proof (answer_proofs (V.answers verifier.now) now set.now (take most_signatures set.now.signatures) answers.now)) }
+    ensures most { steps.new ≤ steps.old + 16 }
+{
+    let signatures = first_signatures(set);
+    let mut excuse = None;
+    for (place, answer) in answers.iter().enumerate() {
+        let sig = &signatures[place];
+        let found = proof_by_answer(alloc, verifier, set, sig, answer, now, steps)?;
+        if let Some(found) = proof_at(Proof::Secure, place as u32, &found) {
+            return Ok(Some(found));
+        }
+        excuse = excuse.or(proof_at(Proof::Insecure, place as u32, &found));
+    }
+    Ok(excuse)
+}
+
+// What a signature proves by the answer to its ask.
+fn proof_by_answer<V: Verifier, L: Ledger>(
+    alloc: Global,
+    verifier: &V,
+    set: &RecordSet,
+    sig: &Record,
+    answer: &KeyAnswer,
+    now: u64,
+    steps: &mut Steps<L>,
+) -> Result<Option<RrsetProof>, NoMemory>
+    ensures proof { IfOk result (λ p. p ≡ answer_proof (V.answers verifier.now) now set.now sig.now answer.now) }
+    ensures most { steps.new ≤ steps.old + 2 }
+{
+    match answer {
+        KeyAnswer::Skipped => Ok(None),
+        KeyAnswer::Failed(_) => Ok(None),
+        KeyAnswer::Keys(keys) => verify_rrsig_with_keys(
+            alloc, verifier, keys, sig, set, now, steps,
+        ),
+    }
+}
+
+// A proof of a mark, as that of the signature at a place.
+fn proof_at(mark: Proof, place: u32, found: &Option<RrsetProof>) -> Option<RrsetProof>
+    ensures { result ≡ proof_of_mark mark place found.now }
+{
+    match found {
+        Some(found) if found.proof == mark => Some(RrsetProof {
+            proof: found.proof,
+            adjusted_ttl: found.adjusted_ttl,
+            rrsig_index: Some(place),
+        }),
+        _ => None,
+    }
+}
+
+// Why no signature decides.
+fn no_proof(set: &RecordSet, answers: &[KeyAnswer]) -> Result<ProofErrorKind, NoMemory>
+    ensures { IfOk result (λ k. kind_value k ≡ cause_of set.now answers.now) }
+{
+    if are_skipped(answers) {
+        let name = set.name.try_clone()?;
+        return Ok(ProofErrorKind::RrsigsNotPresent {
+            name,
+            record_type: set.record_type,
+        });
+    }
+    if let Some(query) = first_failed(answers) {
+        let query = query.try_clone()?;
+        return Ok(ProofErrorKind::Net { query });
+    }
+    let name = set.name.try_clone()?;
+    Ok(ProofErrorKind::RrsigsUnverified {
+        name,
+        record_type: set.record_type,
+    })
+}
+
+// No signature was asked for.
+fn are_skipped(answers: &[KeyAnswer]) -> bool
+    ensures { result ≡ list_all is_skipped_answer answers.now }
+{
+    answers.iter().all(is_skipped)
+}
+
+fn is_skipped(answer: &KeyAnswer) -> bool
+    ensures { result ≡ is_skipped_answer answer.now }
+{
+    match answer {
+        KeyAnswer::Skipped => true,
+        KeyAnswer::Failed(_) => false,
+        KeyAnswer::Keys(_) => false,
+    }
+}
+
+// The question of the first ask that failed.
+fn first_failed(answers: &[KeyAnswer]) -> Option<&Query>
+    ensures { option_copied result ≡ slice_get (filter_map failed_question answers.now) 0 }
+{
+    for answer in answers {
+        if let Some(query) = failed_ask(answer) {
+            return Some(query);
+        }
+    }
+    None
+}
+
+fn failed_ask(answer: &KeyAnswer) -> Option<&Query>
+    ensures { option_copied result ≡ failed_question answer.now }
+{
+    match answer {
+        KeyAnswer::Skipped => None,
+        KeyAnswer::Failed(query) => Some(query),
+        KeyAnswer::Keys(_) => None,
+    }
+}
