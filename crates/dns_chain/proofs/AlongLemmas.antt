@@ -6,6 +6,7 @@ use Rattle.dns_model.specs.Records.{Question, MessageValue}
 use Rattle.dns_model.specs.Trails.{AskedValue}
 use Rattle.dns_net.specs.Errors as seen
 use Rattle.dns_net.specs.Errors.{Reply, ErrorValue}
+use Rattle.dns_net.specs.ErrorKinds.{is_no_records_found}
 use Rattle.dns_net.specs.Handles.{Replies, reply_to, left_after, IsLeft, ReplyIsTold}
 use Rattle.dns_net.specs.declared.request.DnsRequestOptions.{DnsRequestOptions}
 use Rattle.dns_net.specs.declared.handle.DnsHandle as handle
@@ -55,11 +56,31 @@ along_from meanings options now old new (step ∷ steps) along =
 
 -- ---- faults
 
+-- that there are no records is no fault
+none_heard : (e : ErrorValue) → is_no_records_found e ≡ true → is_fault (heard_value (Err e)) ≡ false
+none_heard seen.Busy none = cc
+none_heard (seen.Dns (seen.ResponseCode code)) none = cc
+none_heard (seen.Dns (seen.NoRecordsFound missing)) none = refl
+none_heard (seen.Dns (seen.Nsec asked response proof)) none = refl
+none_heard (seen.Dns seen.DnssecBogus) none = cc
+none_heard (seen.Message notice) none = cc
+none_heard (seen.Msg text) none = cc
+none_heard seen.NoConnections none = cc
+none_heard (seen.Proto error) none = cc
+none_heard (seen.Io kind) none = cc
+none_heard seen.Timeout none = cc
+none_heard seen.QueryCaseMismatch none = cc
+none_heard (seen.ForeignClassRecord owner class rtype) none = cc
+none_heard seen.Truncated none = cc
+none_heard seen.NoMemory none = cc
+
 rose_one : (before after : ℕ) (reply : Reply) (o : Option MessageValue) → heard_message reply ≡ o → (reply ≡ Err seen.NoMemory → ⊥)
     → before ≤ after → IsCaused before after reply → RoseBy (if is_fault (heard_value reply) then 1 else 0) before after
 rose_one before after (Ok response) o is remembered later cause = omega arith
 rose_one before after (Err error) o is remembered later (inl memory) = absurd (remembered (ap (λ e. Err e) memory))
-rose_one before after (Err error) o is remembered later (inr rose) = at_most (is_fault (heard_value (Err error)))
+rose_one before after (Err error) o is remembered later (inr (inl none)) =
+    subst (λ b. RoseBy (if b then 1 else 0) before after) (sym (none_heard error none)) (omega arith)
+rose_one before after (Err error) o is remembered later (inr (inr rose)) = at_most (is_fault (heard_value (Err error)))
   where
     at_most : (b : Bool) → RoseBy (if b then 1 else 0) before after
     at_most true = omega arith

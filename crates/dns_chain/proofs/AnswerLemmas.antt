@@ -1,38 +1,102 @@
 -- What an ask comes to, by what was heard: its step in the trail, and its answer.
-use Rattle.std.proofs.Common.{ℕ, ◌+◌, ◌≡◌, ◌≤◌, ◌<◌, ◌⊎◌, true, false, List, [], ◌∷◌, Option, None, Some, Ok, Err, refl, sym, ap, subst, ◌∙◌, inl, inr}
+use Rattle.std.proofs.Common.{ℕ, ◌+◌, ◌≡◌, ◌≤◌, ◌<◌, ◌⊎◌, true, false, Bool, List, [], ◌∷◌, ◌++◌, Option, None, Some, Ok, Err, refl, sym, ap, subst, ◌∙◌, inl, inr}
 use Rattle.std.specs.Option.{option_map}
 use Rattle.dns_model.specs.declared.trail.AskRef.{AskRef}
-use Rattle.dns_model.specs.Records.{Rr, Question, MessageValue}
+use Rattle.dns_model.specs.declared.trail.AskRef.TheVariants.{TooMany}
+use Rattle.dns_model.specs.Records.{Rr, Question}
 use Rattle.dns_model.specs.Chains.{Judge}
-use Rattle.dns_model.specs.SoundAnswers.{Placed, told_by}
-use Rattle.dns_model.specs.Trails.{AskedValue, HeardValue, JudgedSetValue, EndingValue, Records, Fault, Failed}
+use Rattle.dns_model.specs.SoundAnswers.{Told, Placed, told_by}
+use Rattle.dns_model.specs.Trails.{AskedValue, HeardValue, JudgedSetValue, EndingValue, Records, Fault, Failed, Seen}
 use Rattle.dns_judgement.specs.Asking.{most_sends, judged_part}
 use Rattle.dns_judgement.specs.Chained.{Chained, bare}
-use Rattle.dns_judgement.specs.Derivation.{if_answered, judged_sets, ending_by, step_holds}
+use Rattle.dns_judgement.specs.Derivation.{Unseen, sight_of, if_answered, judged_sets, ending_by, step_holds}
+use Rattle.dns_judgement.specs.Derivation as derived
 use Rattle.dns_judgement.specs.DerivationParts.{asks_of_sets}
-use Rattle.dns_judgement.specs.Outcome.{outcome_of, foreign_record}
+use Rattle.dns_judgement.specs.Outcome.{Outcome, foreign_record}
 use Rattle.dns_net.specs.Errors.{Reply}
 use Rattle.dns_net.specs.declared.error.NetError.{NetError}
 use Rattle.dns_net.specs.declared.error.NetError.TheVariants.{NoMemory}
-use Rattle.dns_chain.specs.Sends.{SendOf}
-use Rattle.dns_chain.specs.Walking.{Heard, Asks, IsAdded, IsAnswer, IsJudgement, judged_step, foreign_ending, accepted_sets}
-use Rattle.dns_chain.proofs.AskLemmas.{asks_none}
+use Rattle.dns_chain.specs.Inquiries.{Ask, judged_ask}
+use Rattle.dns_chain.specs.Walking.{Heard, Asks, IsAdded, IsAnswer, IsSeen, IsJudgement, IsConcluded, judged_step, plain_step, foreign_ending, accepted_sets}
+use Rattle.dns_chain.specs.declared.asking.HeardMessage.{HeardMessage}
+use Rattle.dns_chain.proofs.AskLemmas.{asks_none, asks_then}
 use Rattle.dns_chain.proofs.HeardLemmas.{sent_heard, sent_fault}
-use Rattle.dns_chain.proofs.StepLemmas.{fault_holds, foreign_holds, judged_step_holds, asks_ended, no_answer, judged_answer}
+use Rattle.dns_chain.proofs.JudgementLemmas.{judgement_later}
+use Rattle.dns_chain.proofs.StepLemmas.{fault_holds, plain_fault_holds, plain_holds, foreign_holds, judged_step_holds, asks_ended, no_answer, judged_answer, added_seen}
 
 -- ---- a fault
 
 -- an ask that heard a fault
-pub fault_asks : {H : Type 0} (ask : H → Question → H → Reply → Type 0) (j : Judge) (limit : ℕ) (a b : H) (s t u : List AskedValue)
+pub fault_asks : {H : Type 0} (ask : H → Ask → H → Reply → Type 0) (j : Judge) (limit : ℕ) (a b : H) (s t u : List AskedValue)
     (depth : ℕ) (q : Question) (error : NetError) (made : AskRef) (n k l : ℕ)
-    → (error ≡ NoMemory → ⊥) → Heard ask a b q (Err error) ⊎ ((error ≡ NoMemory) × (b ≡ a))
-    → t ≡ s → k ≡ n + 1 → l ≡ k → n < most_sends → IsAdded t u (judged_step depth q Fault [] Failed) made
+    → (error ≡ NoMemory → ⊥) → Heard ask a b (judged_ask q) (Err error) ⊎ ((error ≡ NoMemory) × (b ≡ a))
+    → t ≡ s → k ≡ n + 1 → l ≡ k → n < most_sends → IsAdded t u (judged_step depth q Fault [] Failed []) made
     → Asks ask j limit a b s u (made ∷ []) n l
 fault_asks ask j limit a b s t u depth q error made n k l other (inr none) still next last few added = absurd (other none.0)
 fault_asks ask j limit a b s t u depth q error made n k l other (inl heard) still next last few added =
-    let P : List AskedValue → Type 0 = λ x. IsAdded x u (judged_step depth q Fault [] Failed) made in
-    asks_ended ask j limit a b b s s u depth q Fault [] Failed made n k k l (sent_fault ask a b depth q error [] Failed other heard)
+    let step = judged_step depth q Fault [] Failed [] in
+    let P : List AskedValue → Type 0 = λ x. IsAdded x u step made in
+    asks_ended ask j limit a b b s s u step made n k k l (sent_fault ask a b step error other heard refl)
     (asks_none ask j limit b s [] k refl) next last few (fault_holds j limit s depth q) (subst P still added)
+
+-- a plain ask that did
+pub plain_fault_asks : {H : Type 0} (ask : H → Ask → H → Reply → Type 0) (j : Judge) (limit : ℕ) (a b : H) (s t u : List AskedValue)
+    (depth : ℕ) (q : Question) (error : NetError) (named made : AskRef) (n k l : ℕ)
+    → (error ≡ NoMemory → ⊥) → Heard ask a b (record { query = q; judged = false }) (Err error) ⊎ ((error ≡ NoMemory) × (b ≡ a))
+    → t ≡ s → k ≡ n + 1 → l ≡ k → n < most_sends → named ≡ made → IsAdded t u (plain_step depth q Fault Failed) made
+    → Asks ask j limit a b s u (named ∷ []) n l
+plain_fault_asks ask j limit a b s t u depth q error named made n k l other (inr none) still next last few same added = absurd (other none.0)
+plain_fault_asks {H} ask j limit a b s t u depth q error named made n k l other (inl heard) still next last few same added =
+    let step = plain_step depth q Fault Failed in
+    let P : List AskedValue → Type 0 = λ x. IsAdded x u step made in
+    let N : AskRef → Type 0 = λ x. Asks ask j limit a b s u (x ∷ []) n l in
+    subst N (sym same)
+    (asks_ended ask j limit a b b s s u step made n k k l (sent_fault ask a b step error other heard refl)
+    (asks_none ask j limit b s [] k refl) next last few (plain_fault_holds j limit s depth q) (subst P still added))
+
+-- ---- a plain ask
+
+-- a step that has seen records follows from them
+plain_so : (j : Judge) (limit : ℕ) (earlier : List AskedValue) (depth : ℕ) (q : Question) (reply : HeardValue) (told : Told) (empty : Bool)
+    → reply ≡ Records told empty → step_holds j limit earlier (plain_step depth q reply Seen) ≡ true
+plain_so j limit earlier depth q reply told empty records =
+    ap (λ x. step_holds j limit earlier (plain_step depth q x Seen)) records ∙ plain_holds j limit earlier depth q told empty
+
+-- a plain ask that heard records
+pub seen_asks : {H : Type 0} (ask : H → Ask → H → Reply → Type 0) (j : Judge) (limit : ℕ) (a b : H) (s t u : List AskedValue)
+    (depth : ℕ) (q : Question) (heard : HeardMessage) (reply : HeardValue) (made : AskRef) (n k l : ℕ)
+    → Heard ask a b (record { query = q; judged = false }) (Ok heard) → reply ≡ Records (told_by heard.message) heard.empty
+    → t ≡ s → k ≡ n + 1 → l ≡ k → n < most_sends → IsAdded t u (plain_step depth q reply Seen) made
+    → Asks ask j limit a b s u (made ∷ []) n l
+seen_asks ask j limit a b s t u depth q heard reply made n k l h records still next last few added =
+    let step = plain_step depth q reply Seen in
+    let P : List AskedValue → Type 0 = λ x. IsAdded x u step made in
+    asks_ended ask j limit a b b s s u step made n k k l (sent_heard ask a b step heard h records)
+    (asks_none ask j limit b s [] k refl) next last few (plain_so j limit s depth q reply (told_by heard.message) heard.empty records) (subst P still added)
+
+-- it saw what is in the records
+pub seen_so : (t u : List AskedValue) (depth : ℕ) (q : Question) (heard : HeardMessage) (reply : HeardValue) (made : AskRef) (sight : derived.Sight)
+    → reply ≡ Records (told_by heard.message) heard.empty → sight ≡ sight_of q.owner (Records (told_by heard.message) heard.empty)
+    → IsAdded t u (plain_step depth q reply Seen) made → IsSeen u depth q made sight
+seen_so t u depth q heard reply made sight records is added =
+    let P : derived.Sight → Type 0 = λ x. IsSeen u depth q made x in
+    subst P (ap (sight_of q.owner) records ∙ sym is) (added_seen t u q depth reply Seen made added)
+
+-- a fault saw nothing
+pub unseen_fault : (t u : List AskedValue) (depth : ℕ) (q : Question) (named made : AskRef) (sight : derived.Sight) → sight ≡ Unseen → named ≡ made
+    → IsAdded t u (plain_step depth q Fault Failed) made → IsSeen u depth q named sight
+unseen_fault t u depth q named made sight is same added =
+    let P : derived.Sight → Type 0 = λ x. IsSeen u depth q named x in
+    let Q : AskRef → Type 0 = λ x. IsSeen u depth q x Unseen in
+    subst P (sym is) (subst Q (sym same) (added_seen t u q depth Fault Failed made added))
+
+-- nor did an ask that was refused as one too many
+pub unseen_many : (steps : List AskedValue) (depth : ℕ) (q : Question) (made : AskRef) (sight : derived.Sight) → made ≡ TooMany → sight ≡ Unseen
+    → IsSeen steps depth q made sight
+unseen_many steps depth q made sight is unseen =
+    let P : derived.Sight → Type 0 = λ x. IsSeen steps depth q made x in
+    let Q : AskRef → Type 0 = λ x. IsSeen steps depth q x Unseen in
+    subst P (sym unseen) (subst Q (sym is) (record { asks = refl; sees = refl }))
 
 -- ---- a record of another class
 
@@ -52,56 +116,71 @@ none_named None e is none = refl
 none_named (Some r) e is none = let no : Some (foreign_ending r) ≡ None = sym is ∙ none in cc
 
 -- a step whose reply has a record of another class
-foreign_so : (j : Judge) (limit : ℕ) (earlier : List AskedValue) (depth : ℕ) (q : Question) (message : MessageValue) (reply : HeardValue) (ending : EndingValue)
-    → reply ≡ Records (told_by message) false → IsNamed (foreign_record q (told_by message)) ending
-    → step_holds j limit earlier (judged_step depth q reply [] ending) ≡ true
-foreign_so j limit earlier depth q message reply ending records named =
-    ap (λ x. step_holds j limit earlier (judged_step depth q x [] ending)) records
-    ∙ ap (λ x. step_holds j limit earlier (judged_step depth q (Records (told_by message) false) [] x)) named.named
-    ∙ foreign_holds j limit earlier depth q (told_by message) named.first named.found
+foreign_so : (j : Judge) (limit : ℕ) (earlier : List AskedValue) (depth : ℕ) (q : Question) (told : Told) (empty : Bool) (reply : HeardValue) (ending : EndingValue)
+    → reply ≡ Records told empty → IsNamed (foreign_record q told) ending
+    → step_holds j limit earlier (judged_step depth q reply [] ending []) ≡ true
+foreign_so j limit earlier depth q told empty reply ending records named =
+    ap (λ x. step_holds j limit earlier (judged_step depth q x [] ending [])) records
+    ∙ ap (λ x. step_holds j limit earlier (judged_step depth q (Records told empty) [] x [])) named.named
+    ∙ foreign_holds j limit earlier depth q told empty named.first named.found
 
 -- an ask that heard a record of another class
-pub foreign_asks : {H : Type 0} (ask : H → Question → H → Reply → Type 0) (j : Judge) (limit : ℕ) (a b : H) (s t u : List AskedValue)
-    (depth : ℕ) (q : Question) (message : MessageValue) (reply : HeardValue) (ending : EndingValue) (made : AskRef) (n k l : ℕ)
-    → Heard ask a b q (Ok message) → reply ≡ Records (told_by message) false → IsNamed (foreign_record q (told_by message)) ending
-    → t ≡ s → k ≡ n + 1 → l ≡ k → n < most_sends → IsAdded t u (judged_step depth q reply [] ending) made
+pub foreign_asks : {H : Type 0} (ask : H → Ask → H → Reply → Type 0) (j : Judge) (limit : ℕ) (a b : H) (s t u : List AskedValue)
+    (depth : ℕ) (q : Question) (heard : HeardMessage) (reply : HeardValue) (ending : EndingValue) (made : AskRef) (n k l : ℕ)
+    → Heard ask a b (judged_ask q) (Ok heard) → reply ≡ Records (told_by heard.message) heard.empty
+    → IsNamed (foreign_record q (told_by heard.message)) ending
+    → t ≡ s → k ≡ n + 1 → l ≡ k → n < most_sends → IsAdded t u (judged_step depth q reply [] ending []) made
     → Asks ask j limit a b s u (made ∷ []) n l
-foreign_asks ask j limit a b s t u depth q message reply ending made n k l heard records named still next last few added =
-    let P : List AskedValue → Type 0 = λ x. IsAdded x u (judged_step depth q reply [] ending) made in
-    let R : HeardValue → Type 0 = λ x. SendOf ask a (judged_step depth q x [] ending) b in
-    asks_ended ask j limit a b b s s u depth q reply [] ending made n k k l (subst R (sym records) (sent_heard ask a b depth q message [] ending heard))
-    (asks_none ask j limit b s [] k refl) next last few (foreign_so j limit s depth q message reply ending records named) (subst P still added)
+foreign_asks ask j limit a b s t u depth q heard reply ending made n k l h records named still next last few added =
+    let step = judged_step depth q reply [] ending [] in
+    let P : List AskedValue → Type 0 = λ x. IsAdded x u step made in
+    asks_ended ask j limit a b b s s u step made n k k l (sent_heard ask a b step heard h records)
+    (asks_none ask j limit b s [] k refl) next last few (foreign_so j limit s depth q (told_by heard.message) heard.empty reply ending records named)
+    (subst P still added)
 
 -- it has no answer
 pub foreign_answer : (j : Judge) (limit : ℕ) (t u : List AskedValue) (q : Question) (depth : ℕ) (o : Option Rr) (reply : HeardValue) (ending : EndingValue)
-    (made : AskRef) (answer : Option (List Chained)) → depth ≤ limit → IsAdded t u (judged_step depth q reply [] ending) made → answer ≡ None
+    (made : AskRef) (answer : Option (List Chained)) → depth ≤ limit → IsAdded t u (judged_step depth q reply [] ending []) made → answer ≡ None
     → IsNamed o ending → IsAnswer j limit u q depth made answer
 foreign_answer j limit t u q depth o reply ending made answer shallow added none named =
-    no_answer j limit t u q depth reply ending made answer shallow added none (ap (λ e. if_answered e (judged_sets (judged_step depth q reply [] ending))) named.named)
+    no_answer j limit t u q depth reply ending made answer shallow added none (ap (λ e. if_answered e (judged_sets (judged_step depth q reply [] ending []))) named.named)
 
 -- ---- judged sets
 
--- an ask whose sets were judged
-pub judged_asks : {H : Type 0} (ask : H → Question → H → Reply → Type 0) (j : Judge) (limit : ℕ) (a b c : H) (s r t u : List AskedValue)
-    (depth : ℕ) (q : Question) (message : MessageValue) (placed : List Placed) (sets : List Chained) (entries : List JudgedSetValue) (made : AskRef) (n k m l : ℕ)
-    → Heard ask a b q (Ok message) → foreign_record q (told_by message) ≡ None → r ≡ s → k ≡ n + 1 → l ≡ m → n < most_sends
-    → placed ≡ judged_part depth (told_by message) → Asks ask j limit b c r t (asks_of_sets entries) k m
+-- sets that were judged by the steps before further asks are judged so by those after them
+pub judged_after : (j : Judge) (limit : ℕ) (t u : List AskedValue) (depth : ℕ) (q : Question) (placed : List Placed) (told : Told) (sets : List Chained)
+    (entries : List JudgedSetValue) (more : List AskedValue) → placed ≡ judged_part depth told → u ≡ t ++ more
     → IsJudgement (record { judge = j; limit = limit; earlier = t; query = q; depth = depth }) placed sets entries
-    → IsAdded t u (judged_step depth q (Records (told_by message) false) entries (ending_by (outcome_of q (told_by message) (bare sets)))) made
-    → Asks ask j limit a c s u (made ∷ []) n l
-judged_asks {H} ask j limit a b c s r t u depth q message placed sets entries made n k m l heard own still next last few part nested judged added =
-    let ending = ending_by (outcome_of q (told_by message) (bare sets)) in
-    let P : List AskedValue → Type 0 = λ x. Asks ask j limit b c x t (asks_of_sets entries) k m in
-    let Q : List Placed → Type 0 = λ x. IsJudgement (record { judge = j; limit = limit; earlier = t; query = q; depth = depth }) x sets entries in
-    asks_ended ask j limit a b c s t u depth q (Records (told_by message) false) entries ending made n k m l
-    (sent_heard ask a b depth q message entries ending heard) (subst P still nested) next last few
-    (judged_step_holds j limit t depth q (told_by message) sets entries own (subst Q part judged)) added
+    → IsJudgement (record { judge = j; limit = limit; earlier = u; query = q; depth = depth }) (judged_part depth told) sets entries
+judged_after j limit t u depth q placed told sets entries more part grown judged =
+    let Q : List Placed → Type 0 = λ x. IsJudgement (record { judge = j; limit = limit; earlier = u; query = q; depth = depth }) x sets entries in
+    subst Q part (judgement_later (record { judge = j; limit = limit; earlier = t; query = q; depth = depth }) u more placed sets entries grown judged)
 
-pub judged_so : (j : Judge) (limit : ℕ) (t u : List AskedValue) (q : Question) (depth : ℕ) (message : MessageValue) (placed : List Placed) (sets : List Chained)
-    (entries : List JudgedSetValue) (made : AskRef) (answer : Option (List Chained)) → depth ≤ limit → placed ≡ judged_part depth (told_by message)
+-- an ask whose sets were judged and came to an outcome, where further asks may have been needed for that
+pub judged_asks : {H : Type 0} (ask : H → Ask → H → Reply → Type 0) (j : Judge) (limit : ℕ) (a b c d : H) (s r t u v : List AskedValue)
+    (depth : ℕ) (q : Question) (heard : HeardMessage) (placed : List Placed) (sets : List Chained) (entries : List JudgedSetValue)
+    (o : Outcome) (excuse : List AskRef) (made : AskRef) (n k m p l : ℕ)
+    → Heard ask a b (judged_ask q) (Ok heard) → foreign_record q (told_by heard.message) ≡ None → r ≡ s → k ≡ n + 1 → l ≡ p → n < most_sends
+    → placed ≡ judged_part depth (told_by heard.message) → Asks ask j limit b c r t (asks_of_sets entries) k m
     → IsJudgement (record { judge = j; limit = limit; earlier = t; query = q; depth = depth }) placed sets entries
-    → IsAdded t u (judged_step depth q (Records (told_by message) false) entries (ending_by (outcome_of q (told_by message) (bare sets)))) made
-    → answer ≡ accepted_sets (outcome_of q (told_by message) (bare sets)) sets → IsAnswer j limit u q depth made answer
-judged_so j limit t u q depth message placed sets entries made answer shallow part judged added is =
-    let Q : List Placed → Type 0 = λ x. IsJudgement (record { judge = j; limit = limit; earlier = t; query = q; depth = depth }) x sets entries in
-    judged_answer j limit t u q depth (told_by message) sets entries made answer shallow added (subst Q part judged) is
+    → Asks ask j limit c d t u excuse m p
+    → IsConcluded (record { judge = j; limit = limit; earlier = u; query = q; depth = depth }) (told_by heard.message) (bare sets) o excuse
+    → IsAdded u v (judged_step depth q (Records (told_by heard.message) heard.empty) entries (ending_by o) excuse) made
+    → Asks ask j limit a d s v (made ∷ []) n l
+judged_asks {H} ask j limit a b c d s r t u v depth q heard placed sets entries o excuse made n k m p l h own still next last few part nested judged further concluded added =
+    let step = judged_step depth q (Records (told_by heard.message) heard.empty) entries (ending_by o) excuse in
+    let P : List AskedValue → Type 0 = λ x. Asks ask j limit b c x t (asks_of_sets entries) k m in
+    let own_asks = asks_then ask j limit b c d s t u (asks_of_sets entries) excuse (asks_of_sets entries ++ excuse) k m p (subst P still nested) further refl in
+    asks_ended ask j limit a b d s u v step made n k p l (sent_heard ask a b step heard h refl) own_asks next last few
+    (judged_step_holds j limit u depth q (told_by heard.message) heard.empty sets entries o excuse own
+    (judged_after j limit t u depth q placed (told_by heard.message) sets entries further.part.more part further.part.grown judged) concluded) added
+
+pub judged_so : (j : Judge) (limit : ℕ) (t u v more : List AskedValue) (q : Question) (depth : ℕ) (heard : HeardMessage) (placed : List Placed) (sets : List Chained)
+    (entries : List JudgedSetValue) (o : Outcome) (excuse : List AskRef) (made : AskRef) (answer : Option (List Chained)) → depth ≤ limit
+    → placed ≡ judged_part depth (told_by heard.message)
+    → IsJudgement (record { judge = j; limit = limit; earlier = t; query = q; depth = depth }) placed sets entries → u ≡ t ++ more
+    → IsAdded u v (judged_step depth q (Records (told_by heard.message) heard.empty) entries (ending_by o) excuse) made
+    → answer ≡ accepted_sets o sets → IsAnswer j limit v q depth made answer
+judged_so j limit t u v more q depth heard placed sets entries o excuse made answer shallow part judged grown added is =
+    judged_answer j limit u v q depth (told_by heard.message) heard.empty sets entries o excuse made answer shallow added
+    (judged_after j limit t u depth q placed (told_by heard.message) sets entries more part grown judged) is

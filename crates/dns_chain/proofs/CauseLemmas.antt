@@ -2,19 +2,20 @@
 use Rattle.std.proofs.Common.{ℕ, ◌≡◌, ◌≢◌, ◌∙◌, Bool, true, false, Option, None, Some, Result, Ok, Err, refl, sym, ap, subst, inl, inr}
 use Rattle.dns_model.specs.Counts.{Rose}
 use Rattle.dns_model.specs.Records.{Question, MessageValue}
-use Rattle.dns_model.specs.SoundAnswers.{told_by, ResponseValue}
-use Rattle.dns_judgement.specs.Chained.{bare}
-use Rattle.dns_judgement.specs.Outcome.{Outcome, Unjudged, Accepted, outcome_of, has_answer, needs_denial, is_wildcard_signature, foreign_record}
+use Rattle.dns_model.specs.SoundAnswers.{ResponseValue}
+use Rattle.dns_judgement.specs.Outcome.{Outcome, Unjudged, Accepted, Searched}
 use Rattle.dns_judgement.specs.Outcome as outcome
 use Rattle.dns_net.specs.Errors as seen
 use Rattle.dns_net.specs.Errors.{Reply, ErrorValue, Dns, Message, ForeignClassRecord, Nsec}
+use Rattle.dns_net.specs.ErrorKinds.{is_no_records_found}
 use Rattle.dns_net.specs.Handles.{reply_to, ReplyIsTold}
 use Rattle.dns_net.specs.Replies.{reply_of}
 use Rattle.dns_net.specs.declared.error.NetError.{NetError}
 use Rattle.dns_net.specs.declared.handle.DnsHandle as handle
 use Rattle.dns_net.specs.declared.notice.Notice.TheVariants.{NotJudgedYet}
-use Rattle.dns_chain.specs.Heard.{heard_message, heard}
+use Rattle.dns_chain.specs.Heard.{heard_message}
 use Rattle.dns_chain.specs.Calls.{Call, IsCaused, ask_of}
+use Rattle.dns_chain.specs.Inquiries.{judged_ask}
 use Rattle.dns_chain.specs.Looked.{UnlessNoMemory}
 use Rattle.dns_chain.specs.Causes.{is_upstreams, PassedOn, PassesOnly, PassesOn}
 use Rattle.dns_chain.specs.Answering.{Findings, answer_by, Looked, Passes, Names, Judges}
@@ -53,16 +54,35 @@ told_to (Some replies) q reply remembered told = sym (told_reply replies q reply
 pub error_memory : (e : ErrorValue) → e ≢ seen.NoMemory → (let x : Reply = Err e in x) ≡ Err seen.NoMemory → ⊥
 error_memory e remembered is = remembered (err_same (Err e) e seen.NoMemory refl is)
 
-rose_by : (before after : ℕ) (e : ErrorValue) → e ≢ seen.NoMemory → IsCaused before after (Err e) → Rose before after
-rose_by before after e remembered (inl memory) = absurd (remembered memory)
-rose_by before after e remembered (inr rose) = rose
+-- that there are no records has a message
+silent_none : (e : ErrorValue) → heard_message (Err e) ≡ None → is_no_records_found e ≡ true → ⊥
+silent_none seen.Busy silent none = cc
+silent_none (Dns (seen.ResponseCode code)) silent none = cc
+silent_none (Dns (seen.NoRecordsFound missing)) silent none = cc
+silent_none (Dns (Nsec asked response proof)) silent none = cc
+silent_none (Dns seen.DnssecBogus) silent none = cc
+silent_none (Message notice) silent none = cc
+silent_none (seen.Msg text) silent none = cc
+silent_none seen.NoConnections silent none = cc
+silent_none (seen.Proto error) silent none = cc
+silent_none (seen.Io kind) silent none = cc
+silent_none seen.Timeout silent none = cc
+silent_none seen.QueryCaseMismatch silent none = cc
+silent_none (ForeignClassRecord owner class rtype) silent none = cc
+silent_none seen.Truncated silent none = cc
+silent_none seen.NoMemory silent none = cc
 
-pub passed_on : {H : Type 0} (meanings : handle.Ghosts H) (call : Call H) (e : ErrorValue) → ask_of meanings call call.old call.query call.new (Err e)
+rose_by : (before after : ℕ) (e : ErrorValue) → heard_message (Err e) ≡ None → e ≢ seen.NoMemory → IsCaused before after (Err e) → Rose before after
+rose_by before after e silent remembered (inl memory) = absurd (remembered memory)
+rose_by before after e silent remembered (inr (inl none)) = absurd (silent_none e silent none)
+rose_by before after e silent remembered (inr (inr rose)) = rose
+
+pub passed_on : {H : Type 0} (meanings : handle.Ghosts H) (call : Call H) (e : ErrorValue) → ask_of meanings call call.old (judged_ask call.query) call.new (Err e)
     → heard_message (Err e) ≡ None → e ≢ seen.NoMemory → PassedOn meanings call e
 passed_on meanings call e made silent remembered = record {
   made = made;
   silent = silent;
-  rose = rose_by (meanings.faults call.old) (meanings.faults call.new) e remembered made.cause;
+  rose = rose_by (meanings.faults call.old) (meanings.faults call.new) e silent remembered made.cause;
 }
 
 -- an error by one that is equal
@@ -75,6 +95,7 @@ passed_as meanings call e error passed is = subst (λ x. PassedOn meanings call 
 not_by : (now : ℕ) (q : Question) (found : Findings) (o : Outcome) (error : ErrorValue) → answer_by now q found o ≡ Err error
     → is_upstreams error ≡ true → ⊥
 not_by now q found Unjudged error is up = no_both (is_upstreams error) up (ap is_upstreams (err_same (Err error) error (Message NotJudgedYet) refl (sym is)))
+not_by now q found Searched error is up = no_both (is_upstreams error) up (ap is_upstreams (err_same (Err error) error (Message NotJudgedYet) refl (sym is)))
 not_by now q found (Accepted d) error is up = cc
 not_by now q found (outcome.Denied p) error is up =
     no_both (is_upstreams error) up (ap is_upstreams (err_same (Err error) error (Dns (Nsec q _ p)) refl (sym is)))
@@ -84,7 +105,7 @@ passed_only meanings call (Passes e made silent remembered) = λ error up is. pa
 passed_only meanings call (Names reply answer from r made heard foreign is) = λ error up passed.
     absurd (no_both (is_upstreams error) up (ap is_upstreams (err_same answer error (ForeignClassRecord r.owner r.class r.rtype) passed is)))
 passed_only meanings call (Judges answer found f is) = λ error up passed.
-    absurd (not_by call.now call.query found (outcome_of call.query (told_by found.message) (bare found.sets)) error (sym is ∙ passed) up)
+    absurd (not_by call.now call.query found found.outcome error (sym is ∙ passed) up)
 
 pub lookup_passed : {H : Type 0} (meanings : handle.Ghosts H) (call : Call H) (result : Result ResponseValue NetError)
     → UnlessNoMemory result (Looked meanings call (reply_of result)) → PassesOnly meanings call (reply_of result)

@@ -3,9 +3,8 @@ use Rattle.std.proofs.Common.{ℕ, ◌≡◌, ◌∙◌, true, None, Some, Resul
 use Rattle.dns_model.specs.Names.{Labels}
 use Rattle.dns_model.specs.Records.{Rr, Question, MessageValue}
 use Rattle.dns_model.specs.SoundAnswers.{Told, told_by, ResponseValue}
-use Rattle.dns_judgement.specs.Chained.{bare}
 use Rattle.dns_judgement.specs.Marking.{cleared_message}
-use Rattle.dns_judgement.specs.Outcome.{Outcome, Unjudged, Accepted, outcome_of, foreign_record}
+use Rattle.dns_judgement.specs.Outcome.{Outcome, Unjudged, Accepted, Searched, foreign_record}
 use Rattle.dns_judgement.specs.Outcome as outcome
 use Rattle.dns_net.specs.Errors.{Reply, ErrorValue, ForeignClassRecord}
 use Rattle.dns_net.specs.Handles.{reply_to}
@@ -36,12 +35,13 @@ names_foreign meanings call (Names reply answer from r made hears foreign is) = 
   named = cc;
 })
 names_foreign meanings call (Judges answer found f is) = λ owner class rtype named.
-    absurd (not_foreign call.now call.query found (outcome_of call.query (told_by found.message) (bare found.sets)) owner class rtype (sym is ∙ named))
+    absurd (not_foreign call.now call.query found found.outcome owner class rtype (sym is ∙ named))
   where
     not_foreign : (now : ℕ) (q : Question) (fs : Findings) (o : Outcome) (owner : Labels) (class rtype : ℕ)
         → answer_by now q fs o ≡ Err (ForeignClassRecord owner class rtype) → ⊥
     not_foreign now q fs Unjudged owner class rtype h = cc
     not_foreign now q fs (Accepted d) owner class rtype h = cc
+    not_foreign now q fs Searched owner class rtype h = cc
     not_foreign now q fs (outcome.Denied p) owner class rtype h = cc
 
 pub lookup_foreign : {H : Type 0} (meanings : handle.Ghosts H) (call : Call H) (result : Result ResponseValue NetError)
@@ -114,6 +114,7 @@ judges_foreign (Some replies) q reply answer m r told hears foreign = λ records
 ends_by : (now : ℕ) (q : Question) (found : Findings) (o : Outcome) → ends_trail (answer_by now q found o) ≡ true
 ends_by now q found Unjudged = refl
 ends_by now q found (Accepted d) = refl
+ends_by now q found Searched = refl
 ends_by now q found (outcome.Denied p) = refl
 
 judges_ended : (tells : Tells) (q : Question) (answer : Reply) → ends_trail answer ≡ true → JudgesTold tells q answer
@@ -129,7 +130,7 @@ judges_told meanings call (Names reply answer from r made hears foreign is) =
     (told_to (meanings.told call.old) call.query reply (memory_some reply from hears) made.told) hears foreign
 judges_told meanings call (Judges answer found f is) =
     judges_ended (meanings.told call.old) call.query answer
-    (ap ends_trail is ∙ ends_by call.now call.query found (outcome_of call.query (told_by found.message) (bare found.sets)))
+    (ap ends_trail is ∙ ends_by call.now call.query found found.outcome)
 
 pub lookup_judges : {H : Type 0} (meanings : handle.Ghosts H) (call : Call H) (result : Result ResponseValue NetError)
     → UnlessNoMemory result (Looked meanings call (reply_of result)) → UnlessNoMemory result (JudgesTold (meanings.told call.old) call.query (reply_of result))

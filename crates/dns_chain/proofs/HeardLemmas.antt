@@ -1,8 +1,9 @@
 -- What was heard of one ask, and the step that keeps it.
-use Rattle.std.proofs.Common.{ℕ, ◌≡◌, ◌≤◌, ◌≢◌, ◌∙◌, false, List, Option, None, Some, Result, Ok, Err, refl, sym, ap, subst, inl, inr}
+use Rattle.std.proofs.Common.{ℕ, ◌≡◌, ◌≤◌, ◌≢◌, ◌∙◌, Bool, true, false, Option, None, Some, Result, Ok, Err, refl, sym, ap, subst, inl, inr}
 use Rattle.dns_model.specs.Records.{Question, MessageValue}
 use Rattle.dns_model.specs.SoundAnswers.{told_by, ResponseValue}
-use Rattle.dns_model.specs.Trails.{JudgedSetValue, EndingValue, Records, Fault}
+use Rattle.dns_model.specs.Trails.{AskedValue, Records, Fault}
+use Rattle.dns_judgement.specs.Marking.{cleared_message}
 use Rattle.dns_net.specs.Errors as seen
 use Rattle.dns_net.specs.Errors.{Reply, ErrorValue}
 use Rattle.dns_net.specs.Causes.{HasCause}
@@ -14,11 +15,12 @@ use Rattle.dns_net.specs.declared.error.NetError.TheVariants.{Busy, Dns, Message
 use Rattle.dns_net.specs.declared.handle.DnsHandle as handle
 use Rattle.dns_net.specs.declared.request.DnsRequestOptions.{DnsRequestOptions}
 use Rattle.dns_chain.specs.Calls.{Asking, IsCaused}
-use Rattle.dns_chain.specs.Heard.{heard_message}
-use Rattle.dns_chain.specs.Inquiries.{asking_request}
-use Rattle.dns_chain.specs.Sends.{SendOf}
-use Rattle.dns_chain.specs.Walking.{IsHeard, IsUnheard, Heard, judged_step}
+use Rattle.dns_chain.specs.Heard.{heard_message, says_none}
+use Rattle.dns_chain.specs.Inquiries.{Ask, request_for}
+use Rattle.dns_chain.specs.Sends.{SendOf, ask_of_step}
+use Rattle.dns_chain.specs.Walking.{IsHeard, IsUnheard, HeardAs, Heard}
 use Rattle.dns_chain.specs.LookupParts.{heard_told, told_of}
+use Rattle.dns_chain.specs.declared.asking.HeardMessage.{HeardMessage}
 
 -- ---- a reply
 
@@ -44,56 +46,71 @@ none_some : (m : MessageValue) → (let x : Option MessageValue = None in x) ≡
 none_some m h = cc
 
 -- a reply with a message isn't want of memory
-pub heard_remembered : (reply : Reply) (message : MessageValue) → IsHeard reply message → reply ≢ Err seen.NoMemory
-heard_remembered reply message heard = λ is. none_some heard.from (sym (ap heard_message is) ∙ heard.is)
+pub heard_remembered : (reply : Reply) (heard : HeardMessage) → IsHeard reply heard → reply ≢ Err seen.NoMemory
+heard_remembered reply heard h = λ is. none_some h.from (sym (ap heard_message is) ∙ h.is)
 
 -- nor is another error
 pub unheard_remembered : (reply : Reply) (error : NetError) → (error ≡ NoMemory → ⊥) → IsUnheard reply error → reply ≢ Err seen.NoMemory
 unheard_remembered reply error other unheard =
     λ is. other (seen_no_memory error (error_same (error_of error) seen.NoMemory (sym unheard.is ∙ is)))
 
+-- an error other than want of memory is that of the reply
+pub unheard_as : (reply : Reply) (error : NetError) → (error ≡ NoMemory → ⊥) → HeardAs reply (Err error) → IsUnheard reply error
+unheard_as reply error other (inl memory) = absurd (other memory)
+unheard_as reply error other (inr unheard) = unheard
+
 -- ---- the step that keeps it
 
 -- a step that keeps the records of a message
-pub sent_heard : {H : Type 0} (ask : H → Question → H → Reply → Type 0) (a b : H) (depth : ℕ) (q : Question) (message : MessageValue)
-    (sets : List JudgedSetValue) (ending : EndingValue)
-    → Heard ask a b q (Ok message) → SendOf ask a (judged_step depth q (Records (told_by message) false) sets ending) b
-sent_heard ask a b depth q message sets ending h = record {
+pub sent_heard : {H : Type 0} (ask : H → Ask → H → Reply → Type 0) (a b : H) (step : AskedValue) (heard : HeardMessage)
+    → Heard ask a b (ask_of_step step) (Ok heard) → step.reply ≡ Records (told_by heard.message) heard.empty → SendOf ask a step b
+sent_heard ask a b step heard h kept = record {
   reply = h.reply;
   made = h.made;
-  heard = ap (λ m. Records (told_by m) false) h.heard.cleared ∙ sym (ap (λ o. heard_told (told_of o)) h.heard.is);
-  remembered = heard_remembered h.reply message h.heard;
+  heard = kept ∙ ap (λ m. Records (told_by m) heard.empty) h.heard.cleared ∙ ap (Records (told_by (cleared_message h.heard.from))) h.heard.empty
+      ∙ sym (ap (λ o. heard_told (says_none h.reply) (told_of o)) h.heard.is);
+  remembered = heard_remembered h.reply heard h.heard;
 }
 
 -- a step that heard a fault
-pub sent_fault : {H : Type 0} (ask : H → Question → H → Reply → Type 0) (a b : H) (depth : ℕ) (q : Question) (error : NetError)
-    (sets : List JudgedSetValue) (ending : EndingValue)
-    → (error ≡ NoMemory → ⊥) → Heard ask a b q (Err error) → SendOf ask a (judged_step depth q Fault sets ending) b
-sent_fault ask a b depth q error sets ending other h = record {
-  reply = h.reply;
-  made = h.made;
-  heard = sym (ap (λ o. heard_told (told_of o)) h.heard.none);
-  remembered = unheard_remembered h.reply error other h.heard;
-}
+pub sent_fault : {H : Type 0} (ask : H → Ask → H → Reply → Type 0) (a b : H) (step : AskedValue) (error : NetError)
+    → (error ≡ NoMemory → ⊥) → Heard ask a b (ask_of_step step) (Err error) → step.reply ≡ Fault → SendOf ask a step b
+sent_fault ask a b step error other h kept =
+    let unheard = unheard_as h.reply error other h.heard in
+    record {
+      reply = h.reply;
+      made = h.made;
+      heard = kept ∙ sym (ap (λ o. heard_told (says_none h.reply) (told_of o)) unheard.none);
+      remembered = unheard_remembered h.reply error other unheard;
+    }
 
 -- ---- one send
 
--- a send of a question's request as a judged ask
-pub asking_made : {H : Type 0} (meanings : handle.Ghosts H) (options : DnsRequestOptions) (now : ℕ) (from to : H) (request : RequestValue) (q : Question) (reply : Reply)
-    → request ≡ asking_request q options → meanings.sent from (first_question request) to reply → meanings.requested from request now to reply
-    → ReplyIsTold (meanings.told from) (first_question request) reply → IsLeft (meanings.told from) (first_question request) reply (meanings.told to)
+-- the request of an ask has its question
+first_asked : (options : DnsRequestOptions) (q : Question) (judged : Bool)
+    → first_question (request_for options (record { query = q; judged = judged })) ≡ Some q
+first_asked options q true = refl
+first_asked options q false = refl
+
+-- a send of the request of an ask
+pub asking_made : {H : Type 0} (meanings : handle.Ghosts H) (options : DnsRequestOptions) (now : ℕ) (from to : H) (request : RequestValue) (q : Question)
+    (judged : Bool) (reply : Reply)
+    → request ≡ request_for options (record { query = q; judged = judged }) → meanings.sent from (first_question request) to reply
+    → meanings.requested from request now to reply → ReplyIsTold (meanings.told from) (first_question request) reply
+    → IsLeft (meanings.told from) (first_question request) reply (meanings.told to)
     → meanings.faults from ≤ meanings.faults to → IsCaused (meanings.faults from) (meanings.faults to) reply
-    → Asking meanings options now from q to reply
-asking_made meanings options now from to request q reply is made carried told left later cause =
-    let Made : RequestValue → Type 0 = λ r. meanings.sent from (first_question r) to reply in
+    → Asking meanings options now from (record { query = q; judged = judged }) to reply
+asking_made meanings options now from to request q judged reply is made carried told left later cause =
+    let asks : first_question request ≡ Some q = ap first_question is ∙ first_asked options q judged in
+    let Made : Option Question → Type 0 = λ o. meanings.sent from o to reply in
     let Carried : RequestValue → Type 0 = λ r. meanings.requested from r now to reply in
-    let Told : RequestValue → Type 0 = λ r. ReplyIsTold (meanings.told from) (first_question r) reply in
-    let Left : RequestValue → Type 0 = λ r. IsLeft (meanings.told from) (first_question r) reply (meanings.told to) in
+    let Told : Option Question → Type 0 = λ o. ReplyIsTold (meanings.told from) o reply in
+    let Left : Option Question → Type 0 = λ o. IsLeft (meanings.told from) o reply (meanings.told to) in
     record {
-      made = subst Made is made;
+      made = subst Made asks made;
       request = subst Carried is carried;
-      told = subst Told is told;
-      left = subst Left is left;
+      told = subst Told asks told;
+      left = subst Left asks left;
       later = later;
       cause = cause;
     }
@@ -102,4 +119,4 @@ asking_made meanings options now from to request q reply is made carried told le
 pub caused : (before now : ℕ) (result : Result ResponseValue NetError) → HasCause before now result → IsCaused before now (reply_of result)
 caused before now (Ok response) cause = tt
 caused before now (Err error) (inl none) = inl (ap error_of none)
-caused before now (Err error) (inr rose) = inr rose
+caused before now (Err error) (inr cause) = inr cause

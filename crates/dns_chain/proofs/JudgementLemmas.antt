@@ -1,31 +1,35 @@
 -- The sets of a step, judged one after another, each with its entry.
-use Rattle.std.proofs.Common.{◌≡◌, ◌==◌, ◌+◌, true, false, List, [], ◌∷◌, ◌++◌, Option, None, Some, refl, sym, ap, subst, ◌∙◌, append-nil}
+use Rattle.std.proofs.Common.{ℕ, ◌≡◌, ◌==◌, ◌+◌, true, false, List, [], ◌∷◌, ◌++◌, Option, None, Some, refl, sym, ap, subst, ◌∙◌, append-nil}
 use Rattle.std.specs.List.{AllByRecursion}
 use Rattle.std.specs.Option.{option_map}
 use Rattle.std.proofs.lemmas.List.{map-append}
 use Rattle.std.proofs.lemmas.List.Concat.{flat_map-append}
+use Rattle.dns_model.specs.declared.proof.Proof.{Proof}
 use Rattle.dns_model.specs.declared.trail.AskRef.{AskRef}
+use Rattle.dns_model.specs.Names.{Labels}
 use Rattle.dns_model.specs.Types.{type_dnskey}
 use Rattle.dns_model.specs.Records.{RrSet, Question}
+use Rattle.dns_model.specs.Chains.{LinkValue}
 use Rattle.dns_model.specs.SoundAnswers.{Placed}
 use Rattle.dns_model.specs.Trails.{AskedValue, JudgedSetValue}
 use Rattle.dns_model.proofs.EachLemmas.{each_append}
 use Rattle.dns_model.proofs.SetLemmas.{IsProper}
-use Rattle.dns_judgement.specs.Chained.{Chained, ChainedVerdict, bare, bare_verdicts, stands, chained_by, chained_keys, chained_by_ds}
-use Rattle.dns_judgement.specs.Delegations.{ds_question, zone_verdict}
-use Rattle.dns_judgement.specs.Derivation.{Grounds, with_entries, entry_holds, entries_hold}
+use Rattle.dns_judgement.specs.Chained.{Chained, ChainedVerdict, bare, bare_verdicts, stands, chained_by, chained_unsigned, chained_keys, chained_by_ds}
+use Rattle.dns_judgement.specs.Delegations.{ZoneVerdict, Signed, Insecure, Bogus, ds_question, zone_verdict}
+use Rattle.dns_judgement.specs.Unsigned.{set_start, is_searched, unsigned_mark, unsigned_by}
+use Rattle.dns_judgement.specs.Derivation.{Grounds, with_entries, entry_holds, entries_hold, search_from}
 use Rattle.dns_judgement.specs.DerivationParts.{asks_of_sets, with_entry}
 use Rattle.dns_judgement.specs.Judged.{Judged, placed_of}
 use Rattle.dns_judgement.specs.KeySets.{needs_ds, judged_keys}
 use Rattle.dns_judgement.specs.Marks.{judged_by, most_signatures}
 use Rattle.dns_judgement.proofs.StandLemmas.{chained_by-stands}
 use Rattle.dns_judgement.proofs.KeySetLemmas.{chained_keys-stands, chained_by_ds-stands}
-use Rattle.dns_judgement.proofs.ChainedLemmas.{chained_keys-bare, chained_by_ds-bare, chained_by-bare, placed_of-judged_keys, placed_of-judged_by}
-use Rattle.dns_judgement.proofs.ExtendLemmas.{entries_stay, entries_none, entries_more, entries_as_many, with_entries-append, has_mark_from, IsEntryOf, entry_of_keys, entry_by_ds, entry_of_verdicts}
+use Rattle.dns_judgement.proofs.ChainedLemmas.{chained_keys-bare, chained_by_ds-bare, chained_by-bare, chained_unsigned-stands, placed_of-judged_keys, placed_of-judged_by, placed_of-unsigned_by}
+use Rattle.dns_judgement.proofs.ExtendLemmas.{entries_stay, entries_none, entries_more, entries_as_many, with_entries-append, has_mark_from, IsEntryOf, entry_of_keys, entry_by_ds, entry_of_search, entry_of_verdicts}
 use Rattle.dns_trust.specs.Steps.{IsKeysStep}
 use Rattle.dns_trust.specs.declared.key_sets.KeysStep.{KeysStep}
 use Rattle.dns_trust.specs.declared.key_sets.KeysStep.TheVariants.{Done, NeedsDs}
-use Rattle.dns_chain.specs.Walking.{entry_of, IsAnswer, AreTried, IsJudgedSet, IsJudgement}
+use Rattle.dns_chain.specs.Walking.{entry_of, IsAnswer, AreTried, IsSearched, IsJudgedSet, IsJudgement}
 
 -- ---- one set
 
@@ -92,17 +96,63 @@ ds_step g placed step own set question s c entry ask asked answer keys by needs 
     ds_judged g placed c entry ask answer keys ds.0 for_ds (same ∙ is ∙ ap (λ p. chained_by_ds g.judge p answer) ds.1)
     (made ∙ ap (λ x. entry_of x.judged asked) (sym same) ∙ ap (entry_of c.judged) one)
 
+-- an unsigned set, by the search for its zone
+unsigned_judged : (g : Grounds) (placed : Placed) (c : Chained) (entry : JudgedSetValue) (asked : List AskRef) (zone : ZoneVerdict)
+    → (placed.set.rtype == type_dnskey) ≡ false → is_searched placed.set ≡ true
+    → search_from g placed.set.class (set_start placed.set) asked ≡ Some zone → c ≡ chained_unsigned placed zone
+    → entry ≡ entry_of c.judged asked → IsJudgedSet g placed c entry
+unsigned_judged g placed c entry asked zone other unsigned found is made =
+    let judged : c.judged ≡ unsigned_by placed zone = ap (λ x. x.judged) is in
+    let own : placed_of c.judged ≡ placed = ap placed_of judged ∙ placed_of-unsigned_by placed zone in
+    let one = entry_of c.judged asked in
+    let holds : entry_holds g placed one ≡ true =
+    entry_of_search g placed one zone (is_entry_of placed c.judged asked own) other unsigned refl found
+    (has_mark_from (unsigned_by placed zone) one (ap (λ x. x.mark) (sym judged)) (ap (λ x. x.sig) (sym judged))) in
+    record {
+      holds = ap (entry_holds g placed) made ∙ holds;
+      same = with_entry-of placed c.judged asked own ∙ ap (λ e. with_entry (placed, e)) (sym made);
+      stand = λ proper. ap (stands g.judge) is ∙ chained_unsigned-stands g.judge placed zone;
+    }
+
+-- no signature decided
+unsigned_sig : (zone : ZoneVerdict) → (unsigned_mark zone).sig ≡ None
+unsigned_sig (Signed ds) = refl
+unsigned_sig (Insecure kind) = refl
+unsigned_sig (Bogus kind) = refl
+
+unsigned_with : (placed : Placed) (zone : ZoneVerdict) (mark : Proof) → mark ≡ (unsigned_mark zone).mark
+    → (let j : Judged = record { section = placed.section; set = placed.set; mark = mark; sig = None } in j) ≡ unsigned_by placed zone
+unfolding unsigned_by
+unsigned_with placed zone mark is =
+    let J : Proof → Option ℕ → Judged = λ m sig. record { section = placed.section; set = placed.set; mark = m; sig = sig } in
+    ap (λ m. J m None) is ∙ ap (J (unsigned_mark zone).mark) (sym (unsigned_sig zone))
+
+pub unsigned_step : (g : Grounds) (placed : Placed) (class : ℕ) (start : Labels) (s c : Chained) (entry : JudgedSetValue) (asks asked : List AskRef) (mark : Proof)
+    → (placed.set.rtype == type_dnskey) ≡ false → is_searched placed.set ≡ true → class ≡ placed.set.class → start ≡ set_start placed.set
+    → IsSearched g class start asks mark → asked ≡ asks
+    → s.judged ≡ record { section = placed.section; set = placed.set; mark = mark; sig = None } → s.chain ≡ []
+    → c ≡ s → entry ≡ entry_of s.judged asked → IsJudgedSet g placed c entry
+unsigned_step g placed class start s c entry asks asked mark other unsigned same_class same_start search same_asks judged chain same made =
+    let zone = search.zone in
+    let From : ℕ → Labels → Type 0 = λ k n. search_from g k n asks ≡ Some zone in
+    let found = subst (λ n. From placed.set.class n) same_start (subst (λ k. From k start) same_class search.found) in
+    let C : Judged → List LinkValue → Chained = λ x l. record { judged = x; chain = l } in
+    let is : s ≡ chained_unsigned placed zone =
+    ap (λ x. C x s.chain) (judged ∙ unsigned_with placed zone mark search.is) ∙ ap (C (unsigned_by placed zone)) chain in
+    unsigned_judged g placed c entry asks zone other unsigned found (same ∙ is)
+    (made ∙ ap (λ x. entry_of x.judged asked) (sym same) ∙ ap (entry_of c.judged) same_asks)
+
 -- another set, by its first signatures
 others_judged : (g : Grounds) (placed : Placed) (set : RrSet) (c : Chained) (entry : JudgedSetValue) (asked : List AskRef) (vs : List ChainedVerdict)
-    → set ≡ placed.set → (placed.set.rtype == type_dnskey) ≡ false → AreTried g set asked vs
+    → set ≡ placed.set → (placed.set.rtype == type_dnskey) ≡ false → is_searched placed.set ≡ false → AreTried g set asked vs
     → c ≡ chained_by placed vs → entry ≡ entry_of c.judged asked → IsJudgedSet g placed c entry
-others_judged g placed set c entry asked vs own_set other tried is made =
+others_judged g placed set c entry asked vs own_set other signed tried is made =
     let P : RrSet → Type 0 = λ x. AreTried g x asked vs in
     let tried : AreTried g placed.set asked vs = subst P own_set tried in
     let judged : c.judged ≡ judged_by placed (bare_verdicts vs) = ap (λ x. x.judged) is ∙ chained_by-bare placed vs in
     let own : placed_of c.judged ≡ placed = ap placed_of judged ∙ placed_of-judged_by placed (bare_verdicts vs) in
     let holds : entry_holds g placed (entry_of c.judged asked) ≡ true =
-    entry_of_verdicts g placed (entry_of c.judged asked) (bare_verdicts vs) (is_entry_of placed c.judged asked own) other refl tried.verdicts
+    entry_of_verdicts g placed (entry_of c.judged asked) (bare_verdicts vs) (is_entry_of placed c.judged asked own) other signed refl tried.verdicts
     (has_mark_from (judged_by placed (bare_verdicts vs)) (entry_of c.judged asked) (ap (λ x. x.mark) (sym judged)) (ap (λ x. x.sig) (sym judged))) in
     record {
       holds = ap (entry_holds g placed) made ∙ holds;
@@ -111,10 +161,10 @@ others_judged g placed set c entry asked vs own_set other tried is made =
     }
 
 pub others_step : (g : Grounds) (placed : Placed) (set : RrSet) (s c : Chained) (entry : JudgedSetValue) (asks asked : List AskRef) (vs ws : List ChainedVerdict)
-    → set ≡ placed.set → (placed.set.rtype == type_dnskey) ≡ false → AreTried g set asks vs → asked ≡ asks → ws ≡ vs
+    → set ≡ placed.set → (placed.set.rtype == type_dnskey) ≡ false → is_searched placed.set ≡ false → AreTried g set asks vs → asked ≡ asks → ws ≡ vs
     → s ≡ chained_by placed ws → c ≡ s → entry ≡ entry_of s.judged asked → IsJudgedSet g placed c entry
-others_step g placed set s c entry asks asked vs ws own other tried same_asks same_verdicts is same made =
-    others_judged g placed set c entry asks vs own other tried (same ∙ is ∙ ap (chained_by placed) same_verdicts)
+others_step g placed set s c entry asks asked vs ws own other signed tried same_asks same_verdicts is same made =
+    others_judged g placed set c entry asks vs own other signed tried (same ∙ is ∙ ap (chained_by placed) same_verdicts)
     (made ∙ ap (λ x. entry_of x.judged asked) (sym same) ∙ ap (entry_of c.judged) same_asks)
 
 -- ---- sets
@@ -126,7 +176,7 @@ judgement_none g cs es no_set no_entry =
     subst P (sym no_set) (subst Q (sym no_entry) (record { hold = entries_none g; same = refl; stand = λ proper. tt }))
 
 -- what was judged stays when steps are added
-judgement_later : (g : Grounds) (after more : List AskedValue) (ps : List Placed) (cs : List Chained) (es : List JudgedSetValue)
+pub judgement_later : (g : Grounds) (after more : List AskedValue) (ps : List Placed) (cs : List Chained) (es : List JudgedSetValue)
     → after ≡ g.earlier ++ more → IsJudgement g ps cs es → IsJudgement (record g { earlier = after }) ps cs es
 judgement_later g after more ps cs es grown judged = record {
   hold =

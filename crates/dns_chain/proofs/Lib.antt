@@ -3,6 +3,8 @@ pub mod HeardLemmas
 pub mod StepLemmas
 pub mod TriedLemmas
 pub mod JudgementLemmas
+pub mod ZoneLemmas
+pub mod ConclusionLemmas
 pub mod AnswerLemmas
 pub mod AlongLemmas
 pub mod TopLemmas

@@ -1,12 +1,13 @@
 -- One lookup, put together from its first ask, the asks for its sets, and its answer.
-use Rattle.std.proofs.Common.{ℕ, ◌≡◌, ◌≢◌, ◌∙◌, ◌⊎◌, ◌≤◌, List, [], None, Some, Result, Ok, Err, refl, sym, ap, subst, inl, inr, arith}
-use Rattle.dns_model.specs.Records.{Rr, Question, MessageValue}
+use Rattle.std.proofs.Common.{ℕ, ◌≡◌, ◌≢◌, ◌∙◌, ◌⊎◌, ◌≤◌, List, [], ◌++◌, None, Some, Result, Ok, Err, refl, sym, ap, subst, inl, inr, arith}
+use Rattle.dns_model.specs.declared.trail.AskRef.{AskRef}
+use Rattle.dns_model.specs.Records.{Rr, Question}
 use Rattle.dns_model.specs.SoundAnswers.{Placed, told_by}
 use Rattle.dns_model.specs.Trails.{AskedValue, JudgedSetValue}
 use Rattle.dns_judgement.specs.Asking.{most_sends, depth_limit, judged_part}
-use Rattle.dns_judgement.specs.Chained.{Chained}
+use Rattle.dns_judgement.specs.Chained.{Chained, bare}
 use Rattle.dns_judgement.specs.DerivationParts.{asks_of_sets}
-use Rattle.dns_judgement.specs.Outcome.{foreign_record}
+use Rattle.dns_judgement.specs.Outcome.{Outcome, foreign_record}
 use Rattle.dns_net.specs.Errors as seen
 use Rattle.dns_net.specs.Errors.{Reply, ForeignClassRecord}
 use Rattle.dns_net.specs.Handles.{OrUnsent}
@@ -18,21 +19,26 @@ use Rattle.dns_net.specs.declared.handle.DnsHandle as handle
 use Rattle.dns_net.proofs.WalkLemmas.{no_walk}
 use Rattle.dns_chain.specs.Heard.{heard_message}
 use Rattle.dns_chain.specs.Calls.{Call, ask_of}
+use Rattle.dns_chain.specs.Inquiries.{Ask, judged_ask}
 use Rattle.dns_chain.specs.Sends.{SendsFor}
-use Rattle.dns_chain.specs.Walking.{Heard, Went, Asks, IsJudgement}
-use Rattle.dns_chain.specs.Answering.{judged_answer, Found, Looked, Passes, Names, Judges}
+use Rattle.dns_chain.specs.Walking.{Heard, Went, Asks, IsJudgement, IsConcluded}
+use Rattle.dns_chain.specs.Answering.{Findings, judged_answer, Found, Looked, Passes, Names, Judges}
+use Rattle.dns_chain.specs.declared.asking.HeardMessage.{HeardMessage}
+use Rattle.dns_chain.proofs.AnswerLemmas.{judged_after}
+use Rattle.dns_chain.proofs.AskLemmas.{asks_then}
+use Rattle.dns_chain.proofs.HeardLemmas.{unheard_as}
 
 -- ---- the sends
 
 -- one ask for a query is all that was sent
-pub sends_once : {H : Type 0} (ask : H → Question → H → Reply → Type 0) (old new : H) (q : Question) (reply : Reply)
-    → ask old q new reply → SendsFor ask old new q
+pub sends_once : {H : Type 0} (ask : H → Ask → H → Reply → Type 0) (old new : H) (q : Question) (reply : Reply)
+    → ask old (judged_ask q) new reply → SendsFor ask old new q
 sends_once ask old new q reply made =
     record { middle = new; reply = reply; sends = 1; first = made; others = no_walk ask new 1 1 (omega arith); few = omega arith }
 
 -- one ask for a query, and a walk of further asks
-pub sends_more : {H : Type 0} (ask : H → Question → H → Reply → Type 0) (faults : H → ℕ) (old middle new : H) (q : Question) (reply : Reply) (n m : ℕ)
-    → ask old q middle reply → n ≡ 1 → Went ask faults middle new n m → SendsFor ask old new q
+pub sends_more : {H : Type 0} (ask : H → Ask → H → Reply → Type 0) (faults : H → ℕ) (old middle new : H) (q : Question) (reply : Reply) (n m : ℕ)
+    → ask old (judged_ask q) middle reply → n ≡ 1 → Went ask faults middle new n m → SendsFor ask old new q
 sends_more ask faults old middle new q reply n m made one went =
     let Way : ℕ → Type 0 = λ k. Walked ask middle new k m in
     record { middle = middle; reply = reply; sends = m; first = made; others = subst Way one went.walk; few = went.few }
@@ -43,8 +49,8 @@ or_sent old new (Ok x) Sent sent = sent
 or_sent old new (Err e) Sent sent = inl sent
 
 -- an ask that was heard, or that wasn't sent
-pub sends_heard : {H : Type 0} (ask : H → Question → H → Reply → Type 0) (old new : H) (q : Question) (e : NetError)
-    → Heard ask old new q (Err e) ⊎ ((e ≡ NoMemory) × (new ≡ old)) → SendsFor ask old new q ⊎ ((e ≡ NoMemory) × (new ≡ old))
+pub sends_heard : {H : Type 0} (ask : H → Ask → H → Reply → Type 0) (old new : H) (q : Question) (e : NetError)
+    → Heard ask old new (judged_ask q) (Err e) ⊎ ((e ≡ NoMemory) × (new ≡ old)) → SendsFor ask old new q ⊎ ((e ≡ NoMemory) × (new ≡ old))
 sends_heard ask old new q e (inl heard) = inl (sends_once ask old new q heard.reply heard.made)
 sends_heard ask old new q e (inr unsent) = inr unsent
 
@@ -69,78 +75,104 @@ or_other (ForeignClass owner class rtype) = IsOther (λ h. cc)
 or_other Truncated = IsOther (λ h. cc)
 or_other NoMemory = IsMemory refl
 
-pass_on : {H : Type 0} (meanings : handle.Ghosts H) (call : Call H) (e : NetError) → Heard (ask_of meanings call) call.old call.new call.query (Err e) → OrOther e
+pass_on : {H : Type 0} (meanings : handle.Ghosts H) (call : Call H) (e : NetError) → Heard (ask_of meanings call) call.old call.new (judged_ask call.query) (Err e) → OrOther e
     → (e ≡ NoMemory) ⊎ Looked meanings call (Err (error_of e))
 pass_on meanings call e heard (IsMemory memory) = inl memory
 pass_on meanings call e heard (IsOther other) =
-    let made = subst (λ r. ask_of meanings call call.old call.query call.new r) heard.heard.is heard.made in
-    inr (Passes (error_of e) made (sym (ap heard_message heard.heard.is) ∙ heard.heard.none) other)
+    let unheard = unheard_as heard.reply e (λ memory. other (ap error_of memory)) heard.heard in
+    let made = subst (λ r. ask_of meanings call call.old (judged_ask call.query) call.new r) unheard.is heard.made in
+    inr (Passes (error_of e) made (sym (ap heard_message unheard.is) ∙ unheard.none) other)
 
 -- an error without a message is passed on, unless memory ran out
 pub look_passes : {H : Type 0} (meanings : handle.Ghosts H) (call : Call H) (e : NetError)
-    → Heard (ask_of meanings call) call.old call.new call.query (Err e) ⊎ ((e ≡ NoMemory) × (call.new ≡ call.old))
+    → Heard (ask_of meanings call) call.old call.new (judged_ask call.query) (Err e) ⊎ ((e ≡ NoMemory) × (call.new ≡ call.old))
     → (e ≡ NoMemory) ⊎ Looked meanings call (Err (error_of e))
 look_passes meanings call e (inl heard) = pass_on meanings call e heard (or_other e)
 look_passes meanings call e (inr unsent) = inl unsent.0
 
 -- ---- a record of another class
 
-pub look_names : {H : Type 0} (meanings : handle.Ghosts H) (call : Call H) (message : MessageValue) (r : Rr) (answer : Reply)
-    → Heard (ask_of meanings call) call.old call.new call.query (Ok message) → foreign_record call.query (told_by message) ≡ Some r
+pub look_names : {H : Type 0} (meanings : handle.Ghosts H) (call : Call H) (heard : HeardMessage) (r : Rr) (answer : Reply)
+    → Heard (ask_of meanings call) call.old call.new (judged_ask call.query) (Ok heard) → foreign_record call.query (told_by heard.message) ≡ Some r
     → answer ≡ Err (ForeignClassRecord r.owner r.class r.rtype) → Looked meanings call answer
-look_names meanings call message r answer heard found is =
-    Names heard.reply answer heard.heard.from r heard.made heard.heard.is (ap (λ m. foreign_record call.query (told_by m)) (sym heard.heard.cleared) ∙ found) is
+look_names meanings call heard r answer h found is =
+    Names h.reply answer h.heard.from r h.made h.heard.is (ap (λ m. foreign_record call.query (told_by m)) (sym h.heard.cleared) ∙ found) is
 
 -- ---- judged sets
 
--- the asks for the sets of a message, behind the first ask, and how its sets were judged
-pub record Review {H : Type 0} (meanings : handle.Ghosts H) (call : Call H) (middle : H) (placed : List Placed)
-    (before steps : List AskedValue) (limit n m : ℕ) (sets : List Chained) (entries : List JudgedSetValue) : Type 0 where
-  pub asks : Asks (ask_of meanings call) call.judge limit middle call.new before steps (asks_of_sets entries) n m
-  pub judged : IsJudgement (record { judge = call.judge; limit = limit; earlier = steps; query = call.query; depth = 0 }) placed sets entries
+-- the asks for the sets of a message, behind the first ask, and how its sets were judged; then the asks for what they come to
+pub record Review {H : Type 0} (meanings : handle.Ghosts H) (call : Call H) (middle then : H) (heard : HeardMessage) (placed : List Placed)
+    (before judged_by steps : List AskedValue) (limit n k m : ℕ) (sets : List Chained) (entries : List JudgedSetValue) (o : Outcome)
+    (excuse : List AskRef) : Type 0 where
+  pub asks : Asks (ask_of meanings call) call.judge limit middle then before judged_by (asks_of_sets entries) n k
+  pub judged : IsJudgement (record { judge = call.judge; limit = limit; earlier = judged_by; query = call.query; depth = 0 }) placed sets entries
+  pub further : Asks (ask_of meanings call) call.judge limit then call.new judged_by steps excuse k m
+  pub concluded : IsConcluded (record { judge = call.judge; limit = limit; earlier = steps; query = call.query; depth = 0 }) (told_by heard.message)
+      (bare sets) o excuse
   pub few : m ≤ most_sends
 
 -- where a review of a lookup begins
-pub record Begins {H : Type 0} (call : Call H) (message : MessageValue) (placed : List Placed) (before : List AskedValue) (limit n : ℕ) : Type 0 where
-  pub part : placed ≡ judged_part 0 (told_by message)
+pub record Begins {H : Type 0} (call : Call H) (heard : HeardMessage) (placed : List Placed) (before : List AskedValue) (limit n : ℕ) : Type 0 where
+  pub part : placed ≡ judged_part 0 (told_by heard.message)
   pub none : before ≡ []
   pub deep : limit ≡ depth_limit call.options.max_request_depth
   pub one : n ≡ 1
 
-review_found : {H : Type 0} (meanings : handle.Ghosts H) (call : Call H) (middle : H) (message : MessageValue) (placed : List Placed)
-    (before steps : List AskedValue) (limit n m : ℕ) (sets : List Chained) (entries : List JudgedSetValue)
-    → Heard (ask_of meanings call) call.old middle call.query (Ok message) → foreign_record call.query (told_by message) ≡ None
-    → Begins call message placed before limit n → Review meanings call middle placed before steps limit n m sets entries
-    → Found meanings call (record { message = message; steps = steps; sets = sets; entries = entries })
-review_found meanings call middle message placed before steps limit n m sets entries heard own begins review =
+-- what was found
+abbrev findings : HeardMessage → List AskedValue → List Chained → List JudgedSetValue → Outcome → List AskRef → Findings
+findings heard steps sets entries o excuse = record {
+  message = heard.message;
+  empty = heard.empty;
+  steps = steps;
+  sets = sets;
+  entries = entries;
+  outcome = o;
+  excuse = excuse;
+}
+
+review_found : {H : Type 0} (meanings : handle.Ghosts H) (call : Call H) (middle then : H) (heard : HeardMessage) (placed : List Placed)
+    (before judged_by steps : List AskedValue) (limit n k m : ℕ) (sets : List Chained) (entries : List JudgedSetValue) (o : Outcome) (excuse : List AskRef)
+    → Heard (ask_of meanings call) call.old middle (judged_ask call.query) (Ok heard) → foreign_record call.query (told_by heard.message) ≡ None
+    → Begins call heard placed before limit n
+    → Review meanings call middle then heard placed before judged_by steps limit n k m sets entries o excuse
+    → Found meanings call (findings heard steps sets entries o excuse)
+review_found meanings call middle then heard placed before judged_by steps limit n k m sets entries o excuse h own begins review =
     let ask = ask_of meanings call in
-    let asks_before = subst (λ b. Asks ask call.judge limit middle call.new b steps (asks_of_sets entries) n m) begins.none review.asks in
-    let asks_one = subst (λ k. Asks ask call.judge limit middle call.new [] steps (asks_of_sets entries) k m) begins.one asks_before in
-    let asks = subst (λ l. Asks ask call.judge l middle call.new [] steps (asks_of_sets entries) 1 m) begins.deep asks_one in
-    let judged_here = subst (λ ps. IsJudgement (record { judge = call.judge; limit = limit; earlier = steps; query = call.query; depth = 0 }) ps sets entries) begins.part review.judged in
+    let both = asks_of_sets entries ++ excuse in
+    let asks_all = asks_then ask call.judge limit middle then call.new before judged_by steps (asks_of_sets entries) excuse both n k m review.asks review.further refl in
+    let asks_before = subst (λ b. Asks ask call.judge limit middle call.new b steps both n m) begins.none asks_all in
+    let asks_one = subst (λ x. Asks ask call.judge limit middle call.new [] steps both x m) begins.one asks_before in
+    let asks = subst (λ l. Asks ask call.judge l middle call.new [] steps both 1 m) begins.deep asks_one in
+    let judged_here = judged_after call.judge limit judged_by steps 0 call.query placed (told_by heard.message) sets entries review.further.part.more begins.part
+    review.further.part.grown review.judged in
     let judged = subst (λ l. IsJudgement (record { judge = call.judge; limit = l; earlier = steps; query = call.query; depth = 0 })
-    (judged_part 0 (told_by message)) sets entries) begins.deep judged_here in
+    (judged_part 0 (told_by heard.message)) sets entries) begins.deep judged_here in
+    let concluded = subst (λ l. IsConcluded (record { judge = call.judge; limit = l; earlier = steps; query = call.query; depth = 0 })
+    (told_by heard.message) (bare sets) o excuse) begins.deep review.concluded in
     record {
-      reply = heard.reply;
-      from = heard.heard.from;
+      reply = h.reply;
+      from = h.heard.from;
       middle = middle;
       sends = m;
-      made = heard.made;
-      heard = heard.heard.is;
-      cleared = heard.heard.cleared;
+      made = h.made;
+      heard = h.heard.is;
+      cleared = h.heard.cleared;
+      empty = h.heard.empty;
       own = own;
       asks = asks;
       judged = judged;
+      concluded = concluded;
       few = review.few;
     }
 
 -- the judged sets of the message make the answer
-pub look_judges : {H : Type 0} (meanings : handle.Ghosts H) (call : Call H) (middle : H) (message : MessageValue) (placed : List Placed)
-    (before steps : List AskedValue) (limit n m : ℕ) (sets : List Chained) (entries : List JudgedSetValue) (answer : Reply)
-    → Heard (ask_of meanings call) call.old middle call.query (Ok message) → foreign_record call.query (told_by message) ≡ None
-    → Begins call message placed before limit n → Review meanings call middle placed before steps limit n m sets entries
-    → answer ≡ judged_answer call.now call.query (record { message = message; steps = steps; sets = sets; entries = entries })
-    → Looked meanings call answer
-look_judges meanings call middle message placed before steps limit n m sets entries answer heard own begins review is =
-    Judges answer (record { message = message; steps = steps; sets = sets; entries = entries })
-    (review_found meanings call middle message placed before steps limit n m sets entries heard own begins review) is
+pub look_judges : {H : Type 0} (meanings : handle.Ghosts H) (call : Call H) (middle then : H) (heard : HeardMessage) (placed : List Placed)
+    (before judged_by steps : List AskedValue) (limit n k m : ℕ) (sets : List Chained) (entries : List JudgedSetValue) (o : Outcome) (excuse : List AskRef)
+    (answer : Reply)
+    → Heard (ask_of meanings call) call.old middle (judged_ask call.query) (Ok heard) → foreign_record call.query (told_by heard.message) ≡ None
+    → Begins call heard placed before limit n
+    → Review meanings call middle then heard placed before judged_by steps limit n k m sets entries o excuse
+    → answer ≡ judged_answer call.now call.query (findings heard steps sets entries o excuse) → Looked meanings call answer
+look_judges meanings call middle then heard placed before judged_by steps limit n k m sets entries o excuse answer h own begins review is =
+    Judges answer (findings heard steps sets entries o excuse)
+    (review_found meanings call middle then heard placed before judged_by steps limit n k m sets entries o excuse h own begins review) is

@@ -1,25 +1,25 @@
 -- What a lookup's answer is, out of why it was given: its soundness, its trail and its marks.
-use Rattle.std.proofs.Common.{ℕ, ◌≡◌, ◌∙◌, ◌⊎◌, true, Option, None, Some, Result, Ok, Err, refl, sym, ap, subst, inl, inr}
+use Rattle.std.proofs.Common.{ℕ, ◌≡◌, ◌∙◌, ◌⊎◌, Option, None, Some, Result, Ok, Err, refl, sym, ap, subst, inl, inr}
 use Rattle.dns_model.specs.declared.proof.Proof.{Proof}
 use Rattle.dns_model.specs.declared.denial.Denial.{Denial}
 use Rattle.dns_model.specs.declared.denial.Denial.TheVariants as denial
 use Rattle.dns_model.specs.Records.{Question, MessageValue}
-use Rattle.dns_model.specs.SoundAnswers.{told_by, ResponseValue}
+use Rattle.dns_model.specs.SoundAnswers.{ResponseValue}
 use Rattle.dns_model.specs.Trails.{EndingValue, Answered, Denied}
-use Rattle.dns_judgement.specs.Chained.{bare, finished}
-use Rattle.dns_judgement.specs.DerivationParts.{is_ending}
-use Rattle.dns_judgement.specs.Outcome.{Outcome, Unjudged, Accepted, outcome_of}
+use Rattle.dns_judgement.specs.Chained.{finished}
+use Rattle.dns_judgement.specs.Derivation.{ending_by}
+use Rattle.dns_judgement.specs.Outcome.{Outcome, Unjudged, Accepted, Searched}
 use Rattle.dns_judgement.specs.Outcome as outcome
 use Rattle.dns_net.specs.Errors as seen
-use Rattle.dns_net.specs.Errors.{Reply, ErrorValue, Busy, Dns, Message, Msg, NoConnections, Proto, Io, Timeout, QueryCaseMismatch, ForeignClassRecord, Truncated, ResponseCode, Nsec, DnssecBogus}
+use Rattle.dns_net.specs.Errors.{Reply, ErrorValue, Busy, Dns, Message, Msg, NoConnections, Proto, Io, Timeout, QueryCaseMismatch, ForeignClassRecord, Truncated, ResponseCode, NoRecordsFound, Nsec, DnssecBogus}
 use Rattle.dns_net.specs.Replies.{reply_of, error_of}
 use Rattle.dns_net.specs.declared.error.NetError.{NetError}
 use Rattle.dns_net.specs.declared.handle.DnsHandle as handle
-use Rattle.dns_chain.specs.Heard.{heard_message}
+use Rattle.dns_chain.specs.Heard.{heard_message, no_records_message}
 use Rattle.dns_chain.specs.Calls.{Call}
 use Rattle.dns_chain.specs.Looked.{UnlessNoMemory, OfAnswer, IsSoundAnswer, IsTrail, HasMarksOfTrail, DeniesQuery}
 use Rattle.dns_chain.specs.Answering.{Findings, trail_of, answer_by, Found, Looked, Passes, Names, Judges}
-use Rattle.dns_chain.proofs.TopLemmas.{ends_so, found_trail, found_marks, found_sound}
+use Rattle.dns_chain.proofs.TopLemmas.{found_trail, found_marks, found_sound}
 
 -- ---- results and replies
 
@@ -43,13 +43,14 @@ silent_message m h = cc
 -- a fact of the answer that was found, with the ending by its outcome
 pub record OfFound {H : Type 0} (meanings : handle.Ghosts H) (call : Call H) (Fact : ResponseValue → EndingValue → Type 0) : Type 0 where
   pub each : (found : Findings) (d : Denial) (ending : EndingValue) → Found meanings call found
-      → is_ending (outcome_of call.query (told_by found.message) (bare found.sets)) ending ≡ true
+      → ending ≡ ending_by found.outcome
       → Fact (finished call.now found.sets found.message d (trail_of call.query found ending)) ending
 
 -- an error without a message has no answer inside
 silent_error : (Fact : ResponseValue → EndingValue → Type 0) (e : ErrorValue) → heard_message (Err e) ≡ None → OfAnswer (Err e) Fact
 silent_error Fact Busy silent = tt
 silent_error Fact (Dns (ResponseCode code)) silent = tt
+silent_error Fact (Dns (NoRecordsFound missing)) silent = absurd (silent_message (no_records_message missing) silent)
 silent_error Fact (Dns (Nsec asked response proof)) silent = absurd (silent_message response.message silent)
 silent_error Fact (Dns DnssecBogus) silent = tt
 silent_error Fact (Message notice) silent = tt
@@ -64,13 +65,12 @@ silent_error Fact Truncated silent = tt
 silent_error Fact seen.NoMemory silent = tt
 
 by_outcome : {H : Type 0} (meanings : handle.Ghosts H) (call : Call H) (Fact : ResponseValue → EndingValue → Type 0) (found : Findings)
-    → OfFound meanings call Fact → Found meanings call found → (o : Outcome) → outcome_of call.query (told_by found.message) (bare found.sets) ≡ o
+    → OfFound meanings call Fact → Found meanings call found → (o : Outcome) → found.outcome ≡ o
     → OfAnswer (answer_by call.now call.query found o) Fact
 by_outcome meanings call Fact found all f Unjudged is = tt
-by_outcome meanings call Fact found all f (Accepted d) is =
-    all.each found d (Answered d) f (ap (λ o. is_ending o (Answered d)) is ∙ ends_so (Accepted d))
-by_outcome meanings call Fact found all f (outcome.Denied p) is =
-    all.each found denial.None (Denied p) f (ap (λ o. is_ending o (Denied p)) is ∙ ends_so (outcome.Denied p))
+by_outcome meanings call Fact found all f (Accepted d) is = all.each found d (Answered d) f (sym (ap ending_by is))
+by_outcome meanings call Fact found all f Searched is = tt
+by_outcome meanings call Fact found all f (outcome.Denied p) is = all.each found denial.None (Denied p) f (sym (ap ending_by is))
 
 of_looked : {H : Type 0} (meanings : handle.Ghosts H) (call : Call H) (Fact : ResponseValue → EndingValue → Type 0) {answer : Reply}
     → OfFound meanings call Fact → Looked meanings call answer → OfAnswer answer Fact
@@ -78,7 +78,7 @@ of_looked meanings call Fact all (Passes e made silent remembered) = silent_erro
 of_looked meanings call Fact all (Names reply answer from r made heard foreign is) = subst (λ x. OfAnswer x Fact) (sym is) tt
 of_looked meanings call Fact all (Judges answer found f is) =
     subst (λ x. OfAnswer x Fact) (sym is)
-    (by_outcome meanings call Fact found all f (outcome_of call.query (told_by found.message) (bare found.sets)) refl)
+    (by_outcome meanings call Fact found all f found.outcome refl)
 
 -- a fact of what was found is one of a lookup's answer
 of_result : {H : Type 0} (meanings : handle.Ghosts H) (call : Call H) (Fact : ResponseValue → EndingValue → Type 0) (result : Result ResponseValue NetError)
@@ -115,6 +115,7 @@ denied_by : (now : ℕ) (q : Question) (found : Findings) (o : Outcome) (asked :
     → answer_by now q found o ≡ Err (Dns (Nsec asked response proof)) → (asked ≡ q) × (response.denial ≡ denial.None)
 denied_by now q found Unjudged asked response proof is = cc
 denied_by now q found (Accepted d) asked response proof is = cc
+denied_by now q found Searched asked response proof is = cc
 denied_by now q found (outcome.Denied p) asked response proof is =
     let same : finished now found.sets found.message denial.None (trail_of q found (Denied p)) ≡ response = cc in
     (cc, sym (ap (λ a. a.denial) same))
@@ -127,7 +128,7 @@ denied_looked : {H : Type 0} (meanings : handle.Ghosts H) (call : Call H) {answe
 denied_looked meanings call (Passes e made silent remembered) = λ asked response proof is. absurd (passed_denial e asked response proof silent is)
 denied_looked meanings call (Names reply answer from r made heard foreign is) = λ asked response proof denied. cc
 denied_looked meanings call (Judges answer found f is) = λ asked response proof denied.
-    denied_by call.now call.query found (outcome_of call.query (told_by found.message) (bare found.sets)) asked response proof (sym is ∙ denied)
+    denied_by call.now call.query found found.outcome asked response proof (sym is ∙ denied)
 
 pub lookup_denied : {H : Type 0} (meanings : handle.Ghosts H) (call : Call H) (result : Result ResponseValue NetError)
     → UnlessNoMemory result (Looked meanings call (reply_of result)) → DeniesQuery call.query (reply_of result)

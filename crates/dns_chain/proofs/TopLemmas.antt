@@ -1,85 +1,43 @@
 -- The last step of a trail: it follows from the steps before it, and ends a derivation whose steps are the sends of the call.
-use Rattle.std.proofs.Common.{ℕ, ◌≡◌, ◌∙◌, true, false, ◌&&◌, List, [], ◌∷◌, ◌++◌, map, drop, Option, None, Some, refl, sym, ap, subst, append-nil, arith}
-use Rattle.std.proofs.lemmas.Bool.{and_parts, and_from}
+use Rattle.std.proofs.Common.{◌≡◌, ◌∙◌, true, List, [], ◌∷◌, ◌++◌, map, drop, Option, None, Some, refl, sym, ap, subst, arith}
+use Rattle.std.proofs.lemmas.Bool.{and_parts}
 use Rattle.dns_model.specs.declared.denial.Denial.{Denial}
-use Rattle.dns_model.specs.declared.denial.Denial.TheVariants as denial
-use Rattle.dns_model.specs.declared.trail.AskRef.{AskRef}
-use Rattle.dns_model.specs.Records.{Question, MessageValue}
-use Rattle.dns_model.specs.Chains.{Judge}
-use Rattle.dns_model.specs.SoundAnswers.{Told, Placed, told_by, placed_sets, Sound}
-use Rattle.dns_model.specs.Trails.{AskedValue, JudgedSetValue, EndingValue, Answered, Denied, Failed, Records}
+use Rattle.dns_model.specs.Records.{MessageValue}
+use Rattle.dns_model.specs.SoundAnswers.{Placed, told_by, placed_sets, Sound}
+use Rattle.dns_model.specs.Trails.{JudgedSetValue, EndingValue, Records}
 use Rattle.dns_judgement.specs.Asking.{depth_limit, judged_part}
 use Rattle.dns_judgement.specs.Chained.{bare, finished}
-use Rattle.dns_judgement.specs.Derivation.{Grounds, with_entries, judged_sets, denial_eq, step_holds, entries_hold, asks_of, in_send_order}
-use Rattle.dns_judgement.specs.DerivationParts.{is_ending, judged_holds, grounds_of, asks_of_sets, steps_at}
+use Rattle.dns_judgement.specs.Derivation.{Grounds, with_entries, judged_sets, ending_by, step_holds, entries_hold, in_send_order}
+use Rattle.dns_judgement.specs.DerivationParts.{steps_at}
 use Rattle.dns_judgement.specs.Judged.{placed_of}
-use Rattle.dns_judgement.specs.Marking.{marked_message, marked_told}
-use Rattle.dns_judgement.specs.Outcome.{Outcome, Unjudged, Accepted, outcome_of, foreign_record}
-use Rattle.dns_judgement.specs.Outcome as outcome
-use Rattle.dns_judgement.proofs.ExtendLemmas.{proof_refl}
+use Rattle.dns_judgement.specs.Marking.{cleared_message, marked_message, marked_told}
 use Rattle.dns_judgement.proofs.ChainedLemmas.{judged_part-top, proper_part}
 use Rattle.dns_judgement.proofs.SoundLemmas.{sound_of_sets}
 use Rattle.dns_judgement.proofs.DerivationLemmas.{top_step_is, top_derivation, top_counts, top_sent}
 use Rattle.dns_judgement.proofs.DerivedLemmas.{derivation_depths, derivation_sent}
-use Rattle.dns_net.specs.Errors.{Reply}
 use Rattle.dns_net.specs.declared.handle.DnsHandle as handle
-use Rattle.dns_chain.specs.Heard.{heard_message}
+use Rattle.dns_chain.specs.Heard.{heard_message, says_none}
 use Rattle.dns_chain.specs.Calls.{Call, ask_of}
 use Rattle.dns_chain.specs.Sends.{SendOf, SendsAlong}
 use Rattle.dns_chain.specs.Looked.{IsSoundAnswer, IsTrail, HasMarksOfTrail}
-use Rattle.dns_chain.specs.Walking.{Asks}
 use Rattle.dns_chain.specs.Answering.{top_of, Findings, trail_of, top_grounds, Found}
 use Rattle.dns_chain.specs.LookupParts.{told_of, heard_told}
+use Rattle.dns_chain.proofs.StepLemmas.{judged_step_holds}
 use Rattle.dns_chain.proofs.AlongLemmas.{along_from, along_rose}
 
--- ---- the last step follows
-
-denial_refl : (d : Denial) → denial_eq d d ≡ true
-denial_refl denial.None = refl
-denial_refl (denial.Absent p) = proof_refl p
-denial_refl (denial.Expanded p) = proof_refl p
-
--- the ending that an outcome makes
-abbrev pub ending_for : Outcome → EndingValue
-ending_for Unjudged = Failed
-ending_for (Accepted d) = Answered d
-ending_for (outcome.Denied p) = Denied p
-
-pub ends_so : (o : Outcome) → is_ending o (ending_for o) ≡ true
-ends_so Unjudged = refl
-ends_so (Accepted d) = denial_refl d
-ends_so (outcome.Denied p) = proof_refl p
-
-top_holds : (j : Judge) (limit : ℕ) (steps : List AskedValue) (q : Question) (told : Told) (entries : List JudgedSetValue) (ending : EndingValue)
-    → foreign_record q told ≡ None → entries_hold (grounds_of j limit steps (top_of q told entries ending)) (judged_part 0 told) entries ≡ true
-    → is_ending (outcome_of q told (with_entries (judged_part 0 told) entries)) ending ≡ true → step_holds j limit steps (top_of q told entries ending) ≡ true
-unfolding step_holds
-top_holds j limit steps q told entries ending own hold ends =
-    let step = top_of q told entries ending in
-    let g = grounds_of j limit steps step in
-    let ends_with = is_ending (outcome_of q told (with_entries (judged_part 0 told) entries)) ending in
-    ap (judged_holds g step told) own
-    ∙ and_from (entries_hold g (judged_part 0 told) entries) (ends_with && true) hold (and_from ends_with true ends refl)
-
--- ---- the asks of the last step
-
-asks_of_top : {H : Type 0} (ask : H → Question → H → Reply → Type 0) (j : Judge) (limit : ℕ) (a b : H) (steps : List AskedValue) (n : ℕ)
-    (q : Question) (told : Told) (entries : List JudgedSetValue) (ending : EndingValue)
-    → Asks ask j limit a b [] steps (asks_of_sets entries) 1 n → Asks ask j limit a b [] steps (asks_of (top_of q told entries ending)) 1 n
-asks_of_top ask j limit a b steps n q told entries ending asks =
-    let P : List AskRef → Type 0 = λ xs. Asks ask j limit a b [] steps xs 1 n in
-    subst P (sym (append-nil (asks_of_sets entries))) asks
+-- ---- the last step
 
 none_some : (m : MessageValue) → (let o : Option MessageValue = None in o) ≡ Some m → ⊥
 none_some m h = cc
 
 -- the first ask, as the last step keeps it
 top_send : {H : Type 0} (meanings : handle.Ghosts H) (call : Call H) (found : Findings) (ending : EndingValue) (f : Found meanings call found)
-    → SendOf (ask_of meanings call) call.old (top_of call.query (told_by found.message) found.entries ending) f.middle
+    → SendOf (ask_of meanings call) call.old (top_of call.query (told_by found.message) found.empty found.entries ending found.excuse) f.middle
 top_send meanings call found ending f = record {
   reply = f.reply;
   made = f.made;
-  heard = ap (λ m. Records (told_by m) false) f.cleared ∙ sym (ap (λ o. heard_told (told_of o)) f.heard);
+  heard = ap (λ m. Records (told_by m) found.empty) f.cleared ∙ ap (Records (told_by (cleared_message f.from))) f.empty
+      ∙ sym (ap (λ o. heard_told (says_none f.reply) (told_of o)) f.heard);
   remembered = λ is. none_some f.from (sym (ap heard_message is) ∙ f.heard);
 }
 
@@ -88,24 +46,25 @@ top_send meanings call found ending f = record {
 -- the trail of what was found, and its last step
 pub record TrailOf {H : Type 0} (meanings : handle.Ghosts H) (call : Call H) (found : Findings) (ending : EndingValue) : Type 0 where
   pub is : IsTrail meanings call (trail_of call.query found ending) ending
-  pub top : is.top ≡ top_of call.query (told_by found.message) found.entries ending
+  pub top : is.top ≡ top_of call.query (told_by found.message) found.empty found.entries ending found.excuse
 
 -- the sets of the last step are those that were judged
 pub sets_of_top : {H : Type 0} (meanings : handle.Ghosts H) (call : Call H) (found : Findings) (ending : EndingValue) → Found meanings call found
-    → judged_sets (top_of call.query (told_by found.message) found.entries ending) ≡ bare found.sets
+    → judged_sets (top_of call.query (told_by found.message) found.empty found.entries ending found.excuse) ≡ bare found.sets
 sets_of_top meanings call found ending f = sym f.judged.same
 
 pub found_trail : {H : Type 0} (meanings : handle.Ghosts H) (call : Call H) (found : Findings) (ending : EndingValue) → Found meanings call found
-    → is_ending (outcome_of call.query (told_by found.message) (bare found.sets)) ending ≡ true → TrailOf meanings call found ending
+    → ending ≡ ending_by found.outcome → TrailOf meanings call found ending
 found_trail meanings call found ending f ends =
     let told = told_by found.message in
-    let step = top_of call.query told found.entries ending in
+    let step = top_of call.query told found.empty found.entries ending found.excuse in
     let trail = found.steps ++ step ∷ [] in
     let d = call.options.max_request_depth in
-    let asks = asks_of_top (ask_of meanings call) call.judge (depth_limit d) f.middle call.new found.steps f.sends call.query told found.entries ending f.asks in
-    let ended : is_ending (outcome_of call.query told (with_entries (judged_part 0 told) found.entries)) ending ≡ true =
-    ap (λ sets. is_ending (outcome_of call.query told sets) ending) (sym f.judged.same) ∙ ends in
-    let holds = top_holds call.judge (depth_limit d) found.steps call.query told found.entries ending f.own f.judged.hold ended in
+    let asks = f.asks in
+    let ended : step_holds call.judge (depth_limit d) found.steps (top_of call.query told found.empty found.entries (ending_by found.outcome) found.excuse) ≡ true =
+    judged_step_holds call.judge (depth_limit d) found.steps 0 call.query told found.empty found.sets found.entries found.outcome found.excuse f.own f.judged f.concluded in
+    let holds : step_holds call.judge (depth_limit d) found.steps step ≡ true =
+    ap (λ e. step_holds call.judge (depth_limit d) found.steps (top_of call.query told found.empty found.entries e found.excuse)) ends ∙ ended in
     let derived = top_derivation call.judge d found.steps step f.sends (record { part = asks.part; holds = holds; top = refl; few = f.few }) in
     let along : SendsAlong (ask_of meanings call) call.old (step ∷ steps_at found.steps (Some asks.part.order)) call.new =
     (f.middle, top_send meanings call found ending f, asks.sends) in
@@ -136,9 +95,10 @@ pub found_marks : {H : Type 0} (meanings : handle.Ghosts H) (call : Call H) (fou
 found_marks meanings call found d ending f =
     let told = told_by found.message in
     record {
-      top = top_of call.query told found.entries ending;
+      top = top_of call.query told found.empty found.entries ending found.excuse;
       told = told;
-      last = top_step_is found.steps (top_of call.query told found.entries ending);
+      empty = found.empty;
+      last = top_step_is found.steps (top_of call.query told found.empty found.entries ending found.excuse);
       heard = refl;
       marked = ap (λ sets. marked_told call.now sets told) f.judged.same;
     }
@@ -159,9 +119,9 @@ pub found_sound : {H : Type 0} (meanings : handle.Ghosts H) (call : Call H) (fou
 found_sound meanings call found d ending f =
     let told = told_by found.message in
     let trail = trail_of call.query found ending in
-    let step = top_of call.query told found.entries ending in
+    let step = top_of call.query told found.empty found.entries ending found.excuse in
     let deep = depth_limit call.options.max_request_depth in
-    let asks = asks_of_top (ask_of meanings call) call.judge deep f.middle call.new found.steps f.sends call.query told found.entries ending f.asks in
+    let asks = f.asks in
     let Header : MessageValue → Type 0 = λ m. marked_message call.now (bare found.sets) m
     ≡ record f.from {
       answers = (marked_message call.now (bare found.sets) m).answers;

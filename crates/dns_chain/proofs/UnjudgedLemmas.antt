@@ -1,17 +1,17 @@
 -- Where denial of existence would have to be judged, and what a lookup answers then.
-use Rattle.std.proofs.Common.{◌≡◌, ◌∙◌, Bool, true, false, not, cond, None, Some, Result, Err, refl, sym, ap, subst, inl, inr, List}
+use Rattle.std.proofs.Common.{◌≡◌, ◌∙◌, Bool, true, false, not, ◌&&◌, if◌then◌else◌, cond, None, Some, Result, Err, refl, sym, ap, subst, inl, inr, List}
 use Rattle.std.specs.List.{list_any}
+use Rattle.dns_model.specs.declared.denial.Denial.{Denial}
 use Rattle.dns_model.specs.declared.denial.Denial.TheVariants as denial
-use Rattle.dns_model.specs.declared.proof.Proof.TheVariants.{Bogus}
+use Rattle.dns_model.specs.declared.proof.Proof.TheVariants.{Insecure}
 use Rattle.dns_model.specs.Records.{Rr, Question, MessageValue}
 use Rattle.dns_model.specs.SoundAnswers.{Told, told_by, ResponseValue}
 use Rattle.dns_model.specs.Trails.{Failed}
 use Rattle.dns_judgement.specs.Chained.{bare}
-use Rattle.dns_judgement.specs.Derivation.{judged_sets}
-use Rattle.dns_judgement.specs.DerivationParts.{is_ending}
+use Rattle.dns_judgement.specs.Derivation.{judged_sets, ending_by}
 use Rattle.dns_judgement.specs.Judged.{Judged}
 use Rattle.dns_judgement.specs.Marking.{cleared_message}
-use Rattle.dns_judgement.specs.Outcome.{Outcome, Unjudged, Accepted, outcome_of, has_answer, needs_denial, is_wildcard_signature, foreign_record}
+use Rattle.dns_judgement.specs.Outcome.{Outcome, Unjudged, Accepted, Searched, outcome_of, insecure_answer, is_insecure_authority, has_answer, needs_denial, is_wildcard_signature, foreign_record}
 use Rattle.dns_judgement.specs.Outcome as outcome
 use Rattle.dns_net.specs.Errors.{Reply, ErrorValue, Message}
 use Rattle.dns_net.specs.Handles.{reply_to}
@@ -23,8 +23,9 @@ use Rattle.dns_chain.specs.Heard.{heard_message}
 use Rattle.dns_chain.specs.Calls.{Call}
 use Rattle.dns_chain.specs.Looked.{UnlessNoMemory}
 use Rattle.dns_chain.specs.Causes.{WantsDenial, IsUnjudged, UnjudgedOnly, UnansweredUnjudged}
-use Rattle.dns_chain.specs.Answering.{Findings, trail_of, answer_by, Found, Looked, Passes, Names, Judges}
+use Rattle.dns_chain.specs.Answering.{Findings, trail_of, answer_by, top_grounds, Found, Looked, Passes, Names, Judges}
 use Rattle.dns_chain.specs.LookupParts.{Tells, IsReplyTo}
+use Rattle.dns_chain.proofs.ConclusionLemmas.{still_unjudged, unjudged_still, never_searched}
 use Rattle.dns_chain.proofs.TopLemmas.{sets_of_top, found_trail}
 use Rattle.dns_chain.proofs.LookedLemmas.{unless_map, or_memory}
 use Rattle.dns_chain.proofs.CauseLemmas.{none_some, memory_some, told_to, error_memory, passed_on, passed_as}
@@ -32,44 +33,51 @@ use Rattle.dns_chain.proofs.ForeignLemmas.{told_records, silent_told}
 
 -- ---- the rows of an outcome
 
-wants_by : (q : Question) (told : Told) (sets : List Judged) (answered needs wildcard : Bool)
+wants_by : (q : Question) (told : Told) (sets : List Judged) (d : Denial) (answered needs insecure plain : Bool)
     → has_answer q told ≡ answered → list_any needs_denial sets ≡ needs
-    → (cond (not answered) Unjudged (cond needs Unjudged (cond (not wildcard) (Accepted denial.None) (outcome.Denied Bogus)))) ≡ Unjudged
+    → (cond (not answered) Unjudged (cond needs Unjudged (cond insecure (Accepted d) (cond plain (Accepted denial.None) Searched)))) ≡ Unjudged
     → WantsDenial q told sets
-wants_by q told sets false needs wildcard a n is = inl a
-wants_by q told sets true true wildcard a n is = inr n
-wants_by q told sets true false true a n is = cc
-wants_by q told sets true false false a n is = cc
+wants_by q told sets d false needs insecure plain a n is = inl a
+wants_by q told sets d true true insecure plain a n is = inr n
+wants_by q told sets d true false true plain a n is = cc
+wants_by q told sets d true false false true a n is = cc
+wants_by q told sets d true false false false a n is = cc
 
 -- sets whose outcome isn't judged yet want a judgement on denial
 wants_denial : (q : Question) (told : Told) (sets : List Judged) → outcome_of q told sets ≡ Unjudged → WantsDenial q told sets
 unfolding outcome_of
 wants_denial q told sets is =
-    wants_by q told sets (has_answer q told) (list_any needs_denial sets) (list_any is_wildcard_signature told.answers) refl refl is
+    wants_by q told sets (if has_answer q told then denial.None else denial.Absent Insecure) (has_answer q told) (list_any needs_denial sets)
+    (is_insecure_authority q told sets && not (list_any is_wildcard_signature told.answers)) (not (list_any is_wildcard_signature told.answers)) refl refl is
 
 -- a message without an answer isn't judged yet
 unanswered_outcome : (q : Question) (told : Told) (sets : List Judged) → has_answer q told ≡ false → outcome_of q told sets ≡ Unjudged
 unfolding outcome_of
 unanswered_outcome q told sets none =
     ap (λ b. cond (not b) Unjudged (cond (list_any needs_denial sets) Unjudged
-    (cond (not (list_any is_wildcard_signature told.answers)) (Accepted denial.None) (outcome.Denied Bogus)))) none
+    (cond (is_insecure_authority q told sets && not (list_any is_wildcard_signature told.answers)) (insecure_answer q told)
+    (cond (not (list_any is_wildcard_signature told.answers)) (Accepted denial.None) Searched)))) none
 
 -- ---- what isn't judged yet
 
 unjudged_by : {H : Type 0} (meanings : handle.Ghosts H) (call : Call H) (found : Findings) → Found meanings call found → (o : Outcome)
-    → outcome_of call.query (told_by found.message) (bare found.sets) ≡ o → answer_by call.now call.query found o ≡ Err (Message NotJudgedYet)
-    → IsUnjudged meanings call
+    → found.outcome ≡ o → answer_by call.now call.query found o ≡ Err (Message NotJudgedYet) → IsUnjudged meanings call
 unjudged_by meanings call found f (Accepted d) is unjudged = cc
 unjudged_by meanings call found f (outcome.Denied p) is unjudged = cc
+unjudged_by meanings call found f Searched is unjudged =
+    absurd (never_searched (top_grounds call found.steps) (told_by found.message) (bare found.sets) found.outcome found.excuse f.concluded is)
 unjudged_by meanings call found f Unjudged is unjudged =
-    let trail = found_trail meanings call found Failed f (ap (λ o. is_ending o Failed) is) in
+    let trail = found_trail meanings call found Failed f (sym (ap ending_by is)) in
     record {
       trail = trail_of call.query found Failed;
       is = trail.is;
       told = told_by found.message;
+      empty = found.empty;
       heard = ap (λ step. step.reply) trail.top;
       wants = subst (λ sets. WantsDenial call.query (told_by found.message) sets)
-          (sym (ap judged_sets trail.top ∙ sets_of_top meanings call found Failed f)) (wants_denial call.query (told_by found.message) (bare found.sets) is);
+          (sym (ap judged_sets trail.top ∙ sets_of_top meanings call found Failed f))
+          (wants_denial call.query (told_by found.message) (bare found.sets)
+          (still_unjudged (top_grounds call found.steps) (told_by found.message) (bare found.sets) found.outcome found.excuse f.concluded is));
     }
 
 unjudged_only : {H : Type 0} (meanings : handle.Ghosts H) (call : Call H) {answer : Reply} → Looked meanings call answer → UnjudgedOnly meanings call answer
@@ -77,7 +85,7 @@ unjudged_only meanings call (Passes e made silent remembered) = λ is.
     inl (passed_as meanings call e (Message NotJudgedYet) (passed_on meanings call e made silent remembered) is)
 unjudged_only meanings call (Names reply answer from r made hears foreign is) = λ unjudged. cc
 unjudged_only meanings call (Judges answer found f is) = λ unjudged.
-    inr (unjudged_by meanings call found f (outcome_of call.query (told_by found.message) (bare found.sets)) refl (sym is ∙ unjudged))
+    inr (unjudged_by meanings call found f found.outcome refl (sym is ∙ unjudged))
 
 pub lookup_unjudged : {H : Type 0} (meanings : handle.Ghosts H) (call : Call H) (result : Result ResponseValue NetError)
     → UnlessNoMemory result (Looked meanings call (reply_of result)) → UnjudgedOnly meanings call (reply_of result)
@@ -119,7 +127,9 @@ unanswered meanings call (Judges answer found f is) =
     (told_to (meanings.told call.old) call.query f.reply (memory_some f.reply f.from f.heard) f.made.told) f.heard
     (λ none.
     let here : has_answer call.query (told_by found.message) ≡ false = ap (λ m. has_answer call.query (told_by m)) f.cleared ∙ none in
-    is ∙ ap (answer_by call.now call.query found) (unanswered_outcome call.query (told_by found.message) (bare found.sets) here))
+    is ∙ ap (answer_by call.now call.query found)
+    (unjudged_still (top_grounds call found.steps) (told_by found.message) (bare found.sets) found.outcome found.excuse f.concluded
+    (unanswered_outcome call.query (told_by found.message) (bare found.sets) here)))
 
 pub lookup_unanswered : {H : Type 0} (meanings : handle.Ghosts H) (call : Call H) (result : Result ResponseValue NetError)
     → UnlessNoMemory result (Looked meanings call (reply_of result)) → UnlessNoMemory result (UnansweredUnjudged (meanings.told call.old) call.query (reply_of result))

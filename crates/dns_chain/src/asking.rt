@@ -1,4 +1,4 @@
-ghost use Rattle.std.specs.Prelude.{◌≡◌, ◌<◌, ◌+◌, IfOk};
+ghost use Rattle.std.specs.Prelude.{◌≡◌, ◌<◌, ◌+◌, false, IfOk};
 ghost use Rattle.std.specs.List.{list_any};
 ghost use Rattle.dns_judgement.specs.Asking.{most_sends};
 ghost use Rattle.dns_judgement.specs.Derivation.{same_record};
@@ -48,10 +48,7 @@ pub(crate) fn hear<H: DnsHandle, V>(
 }
 
 // The message of a reply, or its error.
-fn heard_of(
-    alloc: Global,
-    reply: Result<DnsResponse, NetError>,
-) -> Result<HeardMessage, NetError>
+fn heard_of(alloc: Global, reply: Result<DnsResponse, NetError>) -> Result<HeardMessage, NetError>
     ensures { HeardAs (reply_of reply) result }
 {
     match reply {

@@ -66,7 +66,14 @@ pub(crate) fn unanswered(
         (judged_step depth query (heard_value reply) [] (ending_value ending) []) f.ask) }
     ensures answer { IfOk result (λ f. listed f.answer ≡ None) }
 {
-    let step = ended(query, depth, reply, Vec::new(alloc), ending, Vec::new(alloc));
+    let step = ended(
+        query,
+        depth,
+        reply,
+        Vec::new(alloc),
+        ending,
+        Vec::new(alloc),
+    );
     let ask = add_step(&mut progress.steps, step)?;
     Ok(Finished { ask, answer: None })
 }

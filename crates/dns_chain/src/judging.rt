@@ -7,7 +7,7 @@ ghost use Rattle.dns_chain.specs.Walking.{asks_in, entry_of};
 use crate::steps::entry_for;
 use dns_name::NoMemory;
 use dns_net::{AskRef, JudgedSet};
-use dns_record::{Proof, RecordSet, RecordType};
+use dns_record::{DNSClass, Proof, RecordSet, RecordType};
 use dns_sets::{ChainedSet, MarkedSet, Outcome, PlacedSet};
 use dns_trust::Verdict;
 
@@ -74,6 +74,13 @@ pub(crate) fn set_of(placed: &PlacedSet) -> &RecordSet
     ensures { result.now ≡ placed.now.set }
 {
     &placed.set
+}
+
+/// The class of the set.
+pub(crate) fn class_of(placed: &PlacedSet) -> DNSClass
+    ensures { result.0 ≡ placed.now.set.class }
+{
+    placed.set.dns_class
 }
 
 /// The set holds a zone's keys.

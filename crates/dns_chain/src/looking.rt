@@ -60,8 +60,8 @@ pub(crate) fn look<H: DnsHandle, V: Verifier>(
         &mut progress,
         &query,
         0,
-        &heard.message,
-        &judged.sets,
+        &heard,
+        &judged,
     )?;
     let now = inquiry.judge.moment;
     answer(alloc, now, query, heard, progress.steps, judged, concluded)

@@ -71,7 +71,7 @@ pub(crate) fn find_zone<H: DnsHandle, V: Verifier>(
 {
     let mut asked = Vec::new(alloc);
     let mut name = start.try_clone()?;
-    while !name.is_root() {
+    'names: while !name.is_root() {
         let query = ns_query(&name, class)?;
         let Glimpse { ask, sight } = see(alloc, inquiry, handle, progress, query, depth)?;
         asked.push(ask)?;
@@ -122,7 +122,14 @@ fn see<H: DnsHandle, V: Verifier>(
         },
     };
     let sight = sight_in(&query.name, &heard);
-    let ask = seen(alloc, progress, query, depth, records_of(heard), Ending::Seen)?;
+    let ask = seen(
+        alloc,
+        progress,
+        query,
+        depth,
+        records_of(heard),
+        Ending::Seen,
+    )?;
     Ok(Glimpse { ask, sight })
 }
 
@@ -157,13 +164,13 @@ fn has_ns(name: &Name, message: &Message) -> bool
         .iter()
         .chain(message.authorities.iter())
         .chain(message.additionals.iter())
-        .any(|record| is_ns_of(name, record))
+        .any(|found| is_ns_of(name, found))
 }
 
-fn is_ns_of(name: &Name, record: &Record) -> bool
-    ensures { result ≡ is_ns_record name.now record.now }
+fn is_ns_of(name: &Name, found: &Record) -> bool
+    ensures { result ≡ is_ns_record name.now found.now }
 {
-    *name == record.name && record.record_type == RecordType::NS
+    *name == found.name && found.record_type == RecordType::NS
 }
 
 // The question for the NS records of a name.

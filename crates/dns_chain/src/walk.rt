@@ -11,24 +11,23 @@ ghost use Rattle.dns_trust.specs.Judge.{judge_of};
 ghost use Rattle.dns_trust.specs.Verdicts.{verdict_value, listed};
 ghost use Rattle.dns_chain.specs.Walking.{asking, grounds_at, IsCounted, Went, Walk, IsJudgement, IsJudgedSet, AreTried, IsTried, IsAnswer, IsSearched, IsConcluded, asks_in};
 
-use crate::asking::hear;
+use crate::asking::{HeardMessage, hear};
 use crate::finished::{Finished, answered, refused, unanswered, unheard};
 use crate::inquiry::{Inquiry, MOST_SENDS, Progress};
 use crate::judging::{
-    Concluded, Judgement, OneSet, Searched, Tried, Verdicts, add_ask, is_key_set, set_of, untried,
-    with_entry,
+    Concluded, Judgement, OneSet, Searched, Tried, Verdicts, add_ask, class_of, is_key_set, set_of,
+    untried, with_entry,
 };
 use crate::search::{Way, ds_query, find_zone, is_searched, question_start, set_start};
 use crate::steps::{foreign_of, records_of};
-use dns_message::Message;
 use dns_name::{Name, NoMemory};
 use dns_net::{AskRef, DnsHandle, NetError, Verifier};
 use dns_rdata::Rrsig;
 use dns_record::{DNSClass, Proof, Query, Record, RecordSet};
-use dns_sets::{ChainedSet, Outcome, PlacedSet, outcome_by_zone, outcome_of, placed_sets};
+use dns_sets::{Outcome, PlacedSet, outcome_by_zone, outcome_of, placed_sets};
 use dns_trust::{
-    KeysStep, ask_of, ds_ask_of, first_signatures, is_skipped, judged_by, judged_by_ds, judged_keys,
-    unsigned_by, verdict_of, zone_mark,
+    KeysStep, ask_of, ds_ask_of, first_signatures, is_skipped, judged_by, judged_by_ds,
+    judged_keys, unsigned_by, verdict_of, zone_mark,
 };
 use std::alloc::Global;
 
@@ -98,14 +97,9 @@ fn judge_set<H: DnsHandle, V: Verifier>(
         let one = judge_unsigned(alloc, inquiry, handle, progress, depth, placed)?;
         return Ok(one);
     }
+    let signed = set_of(&placed);
     let Verdicts { verdicts, asked } = judge_signatures(
-        alloc,
-        inquiry,
-        handle,
-        progress,
-        query,
-        depth,
-        set_of(&placed),
+        alloc, inquiry, handle, progress, query, depth, signed,
     )?;
     let set = judged_by(placed, verdicts)?;
     let one = with_entry(set, asked)?;
@@ -174,7 +168,7 @@ fn judge_unsigned<H: DnsHandle, V: Verifier>(
     ensures judged { IfOk result (λ o. (query : Question) → IsJudgedSet
         (grounds_at V.answers inquiry.now progress.new query depth) placed o.set o.entry) }
 {
-    let class = set_of(&placed).dns_class;
+    let class = class_of(&placed);
     let start = set_start(set_of(&placed))?;
     let Searched { mark, asked } = search_zone(
         alloc, inquiry, handle, progress, class, &start, depth,
@@ -230,8 +224,8 @@ pub(crate) fn conclude<H: DnsHandle, V: Verifier>(
     progress: &mut Progress,
     query: &Query,
     depth: u16,
-    message: &Message,
-    sets: &[ChainedSet],
+    heard: &HeardMessage,
+    judged: &Judgement,
 ) -> Result<Concluded, NoMemory>
     requires few { progress.old.sends ≤ most_sends }
     requires counted { length progress.old.steps.items ≤ progress.old.sends }
@@ -243,9 +237,9 @@ pub(crate) fn conclude<H: DnsHandle, V: Verifier>(
     ensures asks { IfOk result (λ c. Walk H.DnsHandle V.answers inquiry.now
         handle.old progress.old handle.new progress.new c.excuse.items) }
     ensures concluded { IfOk result (λ c. IsConcluded (grounds_at V.answers inquiry.now progress.new query.now depth)
-        (told_by message.now) (bare sets.now) (outcome_value c.outcome) c.excuse.items) }
+        (told_by heard.now.message) (bare judged.now.sets.items) (outcome_value c.outcome) c.excuse.items) }
 {
-    match outcome_of(query, message, sets) {
+    match outcome_of(query, &heard.message, &judged.sets) {
         Outcome::Searched => {
             let start = question_start(query)?;
             let class = query.query_class;
@@ -253,7 +247,7 @@ pub(crate) fn conclude<H: DnsHandle, V: Verifier>(
                 alloc, inquiry, handle, progress, class, &start, depth,
             )?;
             Ok(Concluded {
-                outcome: outcome_by_zone(query, message, mark),
+                outcome: outcome_by_zone(query, &heard.message, mark),
                 excuse: asked,
             })
         }
@@ -395,14 +389,7 @@ fn ask<H: DnsHandle, V: Verifier>(
     let placed = placed_sets(alloc, depth, &heard.message)?;
     let judged = judge_sets(alloc, inquiry, handle, progress, &query, depth, placed)?;
     let concluded = conclude(
-        alloc,
-        inquiry,
-        handle,
-        progress,
-        &query,
-        depth,
-        &heard.message,
-        &judged.sets,
+        alloc, inquiry, handle, progress, &query, depth, &heard, &judged,
     )?;
     let finished = answered(progress, query, depth, heard, judged, concluded)?;
     Ok(finished)

@@ -1,4 +1,5 @@
-use Rattle.std.proofs.Common.{Err, ap, sym, inl, inr, ◌∙◌}
+use Rattle.std.proofs.Common.{Err, ap, refl, sym, inl, inr, ◌∙◌}
+use Rattle.dns_chain.proofs.AskLemmas.{went_then}
 use Rattle.dns_chain.proofs.LookedLemmas.{unless_map}
 use Rattle.dns_chain.proofs.LookLemmas.{sends_once, sends_more, or_sent, sends_heard, look_passes, look_names, look_judges}
 use Rattle.dns_chain.proofs.looking.look.Goals as goal
@@ -26,14 +27,26 @@ pub returns-in_err-judged-clause-sends : goal.returns-in_err-judged-clause-sends
 returns-in_err-judged-clause-sends g c =
     or_sent _ _ _ _ (sends_more _ g.H.DnsHandle.faults _ _ _ _ _ _ _ c.in-Ok.ensures.heard.made c.hear.ensures.count c.judge_sets.ensures.went)
 
+pub returns-in_err-concluded-clause-sends : goal.returns-in_err-concluded-clause-sends
+returns-in_err-concluded-clause-sends g c =
+    or_sent _ _ _ _ (sends_more _ g.H.DnsHandle.faults _ _ _ _ _ _ _ c.in-Ok.ensures.heard.made c.hear.ensures.count
+    (went_then _ g.H.DnsHandle.faults _ _ _ _ _ _ _ c.judge_sets.ensures.went c.conclude.ensures.went refl))
+
 pub returns-clause-sends : goal.returns-clause-sends
 returns-clause-sends g c =
-    or_sent _ _ _ _ (sends_more _ g.H.DnsHandle.faults _ _ _ _ _ _ _ c.in-Ok.ensures.heard.made c.hear.ensures.count c.judge_sets.ensures.went)
+    or_sent _ _ _ _ (sends_more _ g.H.DnsHandle.faults _ _ _ _ _ _ _ c.in-Ok.ensures.heard.made c.hear.ensures.count
+    (went_then _ g.H.DnsHandle.faults _ _ _ _ _ _ _ c.judge_sets.ensures.went c.conclude.ensures.went refl))
 
 pub returns-clause-looked : goal.returns-clause-looked
 returns-clause-looked g c =
     unless_map c.answer.result
-    (λ is. look_judges g.H.DnsHandle _ _ _ _ _ _ _ _ _ _ _ _ c.in-Ok.ensures.heard (sym c.in-None.ensures)
+    (λ is. look_judges g.H.DnsHandle _ _ _ _ _ _ _ _ _ _ _ _ _ _ _ _ _ c.in-Ok.ensures.heard (sym c.in-None.ensures)
     (record { part = c.in_ok-placed.ensures; none = ap (λ v. v.items) c.hear.ensures.steps ∙ c.new.ensures.items; deep = c.requires.limit; one = c.hear.ensures.count })
-    (record { asks = c.in_ok-judged.ensures.asks; judged = c.in_ok-judged.ensures.judged; few = c.judge_sets.ensures.went.few }) is)
+    (record {
+      asks = c.in_ok-judged.ensures.asks;
+      judged = c.in_ok-judged.ensures.judged;
+      further = c.in_ok-concluded.ensures.asks;
+      concluded = c.in_ok-concluded.ensures.concluded;
+      few = c.conclude.ensures.went.few;
+    }) is)
     c.answer.ensures

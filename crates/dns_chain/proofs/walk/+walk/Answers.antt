@@ -1,13 +1,18 @@
 use Rattle.std.proofs.Common.{◌∷◌, [], map, length, ap, refl, sym, ◌∙◌, arith}
 use Rattle.std.specs.Option.{option_map}
 use Rattle.std.proofs.lemmas.List.{map-append}
+use Rattle.dns_model.specs.Records.{Question}
 use Rattle.dns_judgement.specs.DerivationParts.{asks_of_sets}
+use Rattle.dns_judgement.specs.Delegations.{ds_question}
+use Rattle.dns_judgement.specs.Unsigned.{set_start, is_searched}
 use Rattle.dns_net.specs.Trail.{ending_value}
 use Rattle.dns_trust.specs.Verdicts.{verdict_value}
 use Rattle.dns_chain.specs.Walking.{asks_in, grounds_at}
 use Rattle.dns_chain.proofs.AnswerLemmas.{fault_asks, named_by, none_named, foreign_asks, foreign_answer, judged_asks, judged_so}
 use Rattle.dns_chain.proofs.AskLemmas.{went_nowhere, went_then, went_still, asks_none, asks_deep, asks_many, asks_then}
-use Rattle.dns_chain.proofs.JudgementLemmas.{keys_step, ds_step, others_step, judgement_none, judgement_step, asks_of_more}
+use Rattle.dns_chain.proofs.ConclusionLemmas.{settled_by, searched_by}
+use Rattle.dns_chain.proofs.ZoneLemmas.{none_searched, zone_searched}
+use Rattle.dns_chain.proofs.JudgementLemmas.{keys_step, ds_step, unsigned_step, others_step, judgement_none, judgement_step, asks_of_more}
 use Rattle.dns_chain.proofs.StepLemmas.{no_answer}
 use Rattle.dns_chain.proofs.TriedLemmas.{tried_none, tried_step, proved_step, tried_all}
 use Rattle.dns_chain.proofs.walk.+walk.Goals as goal
@@ -23,6 +28,11 @@ pub ask-returns-in_err-judged-clause-went : goal.ask-returns-in_err-judged-claus
 ask-returns-in_err-judged-clause-went g t c =
     went_then _ g.H.DnsHandle.faults _ _ _ _ _ _ _ c.hear.ensures.went c.judge_sets.ensures.went refl
 
+pub ask-returns-in_err-concluded-clause-went : goal.ask-returns-in_err-concluded-clause-went
+ask-returns-in_err-concluded-clause-went g t c =
+    went_then _ g.H.DnsHandle.faults _ _ _ _ _ _ _
+    (went_then _ g.H.DnsHandle.faults _ _ _ _ _ _ _ c.hear.ensures.went c.judge_sets.ensures.went refl) c.conclude.ensures.went refl
+
 pub ask-returns-in_default : goal.ask-returns-in_default
 ask-returns-in_default g t c = record {
   counted = omega (arith, c.unheard.ensures.one, c.unheard.ensures.sends, c.hear.ensures.count, ap (λ v. length v.items) c.hear.ensures.steps);
@@ -35,7 +45,7 @@ ask-returns-in_default g t c = record {
 
 pub ask-returns-in-Some-clause-asks : goal.ask-returns-in-Some-clause-asks
 ask-returns-in-Some-clause-asks g t c =
-    foreign_asks _ _ _ _ _ _ _ _ _ _ _ _ _ _ _ _ _ c.in-Ok.ensures.heard c.records_of-reply.ensures
+    foreign_asks _ _ _ _ _ _ _ _ _ _ c.in-Ok.heard _ _ _ _ _ _ c.in-Ok.ensures.heard c.records_of-reply.ensures
     (named_by _ _ _ c.in_ok-foreign.ensures (ap (option_map ending_value) c.in-Some.is))
     (ap (λ v. v.items) c.hear.ensures.steps) c.hear.ensures.count c.unanswered.ensures.sends (omega arith) c.in_ok-seen-in-Some.ensures.added
 
@@ -46,32 +56,83 @@ ask-returns-in-Some-clause-answer g t c =
 
 pub ask-returns-in_err-finished-clause-went : goal.ask-returns-in_err-finished-clause-went
 ask-returns-in_err-finished-clause-went g t c =
-    went_then _ g.H.DnsHandle.faults _ _ _ _ _ _ _ c.hear.ensures.went c.judge_sets.ensures.went c.answered.ensures.sends
+    went_then _ g.H.DnsHandle.faults _ _ _ _ _ _ _
+    (went_then _ g.H.DnsHandle.faults _ _ _ _ _ _ _ c.hear.ensures.went c.judge_sets.ensures.went refl) c.conclude.ensures.went c.answered.ensures.sends
 
 pub ask-returns-clause-went : goal.ask-returns-clause-went
 ask-returns-clause-went g t c =
-    went_then _ g.H.DnsHandle.faults _ _ _ _ _ _ _ c.hear.ensures.went c.judge_sets.ensures.went c.answered.ensures.sends
+    went_then _ g.H.DnsHandle.faults _ _ _ _ _ _ _
+    (went_then _ g.H.DnsHandle.faults _ _ _ _ _ _ _ c.hear.ensures.went c.judge_sets.ensures.went refl) c.conclude.ensures.went c.answered.ensures.sends
 
 pub ask-returns-clause-asks : goal.ask-returns-clause-asks
 ask-returns-clause-asks g t c =
-    judged_asks _ _ _ _ _ _ _ _ _ _ _ _ _ _ _ _ _ _ _ _ _ c.in-Ok.ensures.heard
+    judged_asks _ _ _ _ _ _ _ _ _ _ _ _ _ _ c.in-Ok.heard _ _ _ _ _ _ _ _ _ _ _ c.in-Ok.ensures.heard
     (none_named _ _ c.in_ok-foreign.ensures (ap (option_map ending_value) c.in-None.is))
     (ap (λ v. v.items) c.hear.ensures.steps) c.hear.ensures.count c.answered.ensures.sends (omega arith)
-    c.in_ok-placed.ensures c.in_ok-judged.ensures.asks c.in_ok-judged.ensures.judged c.in_ok-finished.ensures.added
+    c.in_ok-placed.ensures c.in_ok-judged.ensures.asks c.in_ok-judged.ensures.judged c.in_ok-concluded.ensures.asks c.in_ok-concluded.ensures.concluded
+    c.in_ok-finished.ensures.added
 
 pub ask-returns-clause-answer : goal.ask-returns-clause-answer
 ask-returns-clause-answer g t c =
-    judged_so _ _ _ _ _ _ c.in-Ok.message _ _ _ _ _ (omega arith) c.in_ok-placed.ensures c.in_ok-judged.ensures.judged c.in_ok-finished.ensures.added
-    c.in_ok-finished.ensures.answer
+    judged_so _ _ _ _ _ _ _ _ c.in-Ok.heard _ _ _ _ _ _ _ (omega arith) c.in_ok-placed.ensures c.in_ok-judged.ensures.judged
+    c.in_ok-concluded.ensures.asks.part.grown c.in_ok-finished.ensures.added c.in_ok-finished.ensures.answer
 
 pub judge_set-returns-then-is_key_set-clause-judged : goal.judge_set-returns-then-is_key_set-clause-judged
 judge_set-returns-then-is_key_set-clause-judged g t c = c.in_ok-one.ensures.judged c.args.query.now
 
+pub judge_set-returns-then-is_searched-clause-judged : goal.judge_set-returns-then-is_searched-clause-judged
+judge_set-returns-then-is_searched-clause-judged g t c = c.in_ok-one-2.ensures.judged c.args.query.now
+
 pub judge_set-returns-clause-judged : goal.judge_set-returns-clause-judged
 judge_set-returns-clause-judged g t c =
-    others_step _ _ _ _ _ _ _ _ _ _ c.set_of.ensures (sym c.is_key_set.ensures ∙ c.if-is_key_set.false) c.in_ok-verdicts.ensures.tried
+    others_step _ _ _ _ _ _ _ _ _ _ c.set_of-signed.ensures (sym c.is_key_set.ensures ∙ c.if-is_key_set.false)
+    (ap is_searched (sym c.set_of.ensures) ∙ sym c.is_searched.ensures ∙ c.if-is_searched.false) c.in_ok-verdicts.ensures.tried
     refl refl
-    c.in_ok-set.ensures c.in_ok-one-2.ensures.set c.in_ok-one-2.ensures.entry
+    c.in_ok-set.ensures c.in_ok-one-3.ensures.set c.in_ok-one-3.ensures.entry
+
+pub judge_unsigned-returns-clause-judged : goal.judge_unsigned-returns-clause-judged
+judge_unsigned-returns-clause-judged g t c = λ query.
+    unsigned_step _ _ _ _ _ _ _ _ _ _ c.requires.others c.requires.unsigned c.class_of-class.ensures
+    (c.in_ok-start.ensures ∙ ap set_start c.set_of.ensures) (c.in_ok-mark.ensures.searched query) refl c.unsigned_by.ensures.judged
+    c.unsigned_by.ensures.chain c.in_ok-one.ensures.set c.in_ok-one.ensures.entry
+
+pub search_zone-returns-in_default-clause-searched : goal.search_zone-returns-in_default-clause-searched
+search_zone-returns-in_default-clause-searched g t c = λ query.
+    none_searched _ _ _ _ _ (c.in_ok-zone.ensures.way query) c.in_default.is
+
+pub search_zone-returns-in_err-ask-clause-went : goal.search_zone-returns-in_err-ask-clause-went
+search_zone-returns-in_err-ask-clause-went g t c =
+    went_then _ g.H.DnsHandle.faults _ _ _ _ _ _ _ c.find_zone.ensures.went c.ask.ensures.went refl
+
+pub search_zone-returns-in_err-push-clause-went : goal.search_zone-returns-in_err-push-clause-went
+search_zone-returns-in_err-push-clause-went g t c =
+    went_then _ g.H.DnsHandle.faults _ _ _ _ _ _ _ c.find_zone.ensures.went c.ask.ensures.went refl
+
+pub search_zone-returns-clause-went : goal.search_zone-returns-clause-went
+search_zone-returns-clause-went g t c = went_then _ g.H.DnsHandle.faults _ _ _ _ _ _ _ c.find_zone.ensures.went c.ask.ensures.went refl
+
+pub search_zone-returns-clause-asks : goal.search_zone-returns-clause-asks
+search_zone-returns-clause-asks g t c =
+    asks_then _ _ _ _ _ _ _ _ _ _ _ _ _ _ _ c.in_ok-zone.ensures.asks c.in_ok-ask.ensures.asks c.in_ok-push.ensures.items
+
+pub search_zone-returns-clause-searched : goal.search_zone-returns-clause-searched
+search_zone-returns-clause-searched g t c = λ query.
+    zone_searched _ _ _ _ _ _ _ _ _ _ _ _ _ c.in_ok-ask.ensures.asks.part.grown (c.in_ok-zone.ensures.way query) c.in-Some.is
+    (c.ds_query-question.ensures ∙ ap (ds_question c.args.class.0) c.in_ok-try_clone.ensures) c.in_ok-ask.ensures.answer
+    c.in_ok-push.ensures.items c.zone_mark-mark.ensures
+
+pub conclude-returns-in_ok-mark-in-Searched-clause-concluded : goal.conclude-returns-in_ok-mark-in-Searched-clause-concluded
+conclude-returns-in_ok-mark-in-Searched-clause-concluded g t c =
+    searched_by _ _ _ _ _ _ _ _ _ _ _ c.outcome_of.ensures c.deref.ensures.value c.in-Searched.is (ap (λ (q : Question). q.class) c.query.view_is)
+    c.in_ok-start-in-Searched.ensures (c.in_ok-mark-in-Searched.ensures.searched c.args.query.now) refl c.outcome_by_zone.ensures
+
+pub conclude-returns-in_default : goal.conclude-returns-in_default
+conclude-returns-in_default g t c = record {
+  counted = omega arith;
+  went = went_nowhere _ g.H.DnsHandle.faults _ _ _ (omega arith) (omega arith);
+  asks = asks_none _ _ _ _ _ _ _ c.new.ensures.items;
+  concluded = settled_by _ _ _ _ _ _ _ c.outcome_of.ensures c.deref.ensures.value refl c.in_default.not-Searched c.new.ensures.items;
+}
 
 pub judge_keys-returns-in-Done-clause-asks : goal.judge_keys-returns-in-Done-clause-asks
 judge_keys-returns-in-Done-clause-asks g t c =
