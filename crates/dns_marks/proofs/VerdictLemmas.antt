@@ -1,8 +1,9 @@
--- Keys that have a mark each, and key sets that have one mark.
-use Rattle.std.proofs.Common.{◌≡◌, ℕ, Bool, true, false, ◌&&◌, ◌||◌, cond, List, [], ◌∷◌, Option, None, Some, refl, ap, ◌∙◌}
+-- Keys that have a mark each, key sets that have one mark, and the signature that decides on a set.
+use Rattle.std.proofs.Common.{◌≡◌, ℕ, ◌+◌, Bool, true, false, ◌&&◌, ◌||◌, cond, List, [], ◌∷◌, map, Option, None, Some, refl, sym, ap, ◌∙◌}
 use Rattle.std.specs.Prelude.{if◌then◌else◌, is_some, slice_get}
-use Rattle.std.specs.Option.{option_map_or}
-use Rattle.std.specs.List.{AllByRecursion, find, list_any, list_all}
+use Rattle.std.specs.Option.{option_map, option_map_or, option_or}
+use Rattle.std.specs.List.{AllByRecursion, find, list_any, list_all, position, position_from}
+use Rattle.std.proofs.lemmas.Iterator.Adapters.{position_from-zero}
 use Rattle.dns_model.specs.declared.proof.Proof.{Proof}
 use Rattle.dns_model.specs.declared.proof.Proof.TheVariants as proof
 use Rattle.dns_model.specs.Records.{Rr, RrSet}
@@ -10,9 +11,10 @@ use Rattle.dns_model.specs.Keys.{VerifierAnswers, AnchorValue}
 use Rattle.dns_model.specs.Chains.{judge}
 use Rattle.dns_model.specs.SoundAnswers.{is_secure}
 use Rattle.dns_judgement.specs.Validity.{is_good_by}
-use Rattle.dns_judgement.specs.Marks.{Proved, Excused, Failed, by_keys}
+use Rattle.dns_judgement.specs.Marks.{Verdict, Proved, Excused, Failed, is_proved, is_excused, by_keys, Mark, mark_at, set_mark}
 use Rattle.dns_judgement.specs.Derivation.{proof_eq}
 use Rattle.dns_judgement.specs.ProofErrors.{RrsetProofValue}
+use Rattle.dns_marks.specs.SetMarks.{first_proof, deciding_proof}
 use Rattle.dns_marks.specs.Proofs.{proved_by, excused}
 use Rattle.dns_marks.specs.SignatureKeys.{judge_at, is_proving, are_insecure, proof_by_keys, verdict_by_mark, proof_verdict}
 
@@ -91,3 +93,71 @@ by_one_mark verifier anchors now set r proof.Insecure keys h =
     ∙ first_of keys
 by_one_mark verifier anchors now set r proof.Bogus keys h = ap proof_verdict (neither verifier now set r proof.Bogus keys refl refl h)
 by_one_mark verifier anchors now set r proof.Indeterminate keys h = ap proof_verdict (neither verifier now set r proof.Indeterminate keys refl refl h)
+
+-- ---- the signature that decides
+
+-- a mark with the place of its signature
+abbrev found_mark : RrsetProofValue → Mark
+found_mark p = record { mark = p.proof; sig = p.rrsig_index }
+
+secure_step : (m : Proof) (p : RrsetProofValue) (i : ℕ) (rest : Option RrsetProofValue) (places : Option ℕ) → p.proof ≡ m
+    → option_map found_mark rest ≡ option_map (λ n. record { mark = proof.Secure; sig = Some n }) places
+    → option_map found_mark (option_or (if proof_eq m proof.Secure then Some (record p { rrsig_index = Some i }) else None) rest)
+    ≡ option_map (λ n. record { mark = proof.Secure; sig = Some n }) (cond (is_proved (verdict_by_mark m)) (Some i) places)
+secure_step proof.Secure p i rest places is h = ap (λ m. Some (record { mark = m; sig = Some i })) is
+secure_step proof.Insecure p i rest places is h = h
+secure_step proof.Bogus p i rest places is h = h
+secure_step proof.Indeterminate p i rest places is h = h
+
+insecure_step : (m : Proof) (p : RrsetProofValue) (i : ℕ) (rest : Option RrsetProofValue) (places : Option ℕ) → p.proof ≡ m
+    → option_map found_mark rest ≡ option_map (λ n. record { mark = proof.Insecure; sig = Some n }) places
+    → option_map found_mark (option_or (if proof_eq m proof.Insecure then Some (record p { rrsig_index = Some i }) else None) rest)
+    ≡ option_map (λ n. record { mark = proof.Insecure; sig = Some n }) (cond (is_excused (verdict_by_mark m)) (Some i) places)
+insecure_step proof.Secure p i rest places is h = h
+insecure_step proof.Insecure p i rest places is h = ap (λ m. Some (record { mark = m; sig = Some i })) is
+insecure_step proof.Bogus p i rest places is h = h
+insecure_step proof.Indeterminate p i rest places is h = h
+
+secure_places : (i : ℕ) (proofs : List (Option RrsetProofValue))
+    → option_map found_mark (first_proof proof.Secure i proofs)
+    ≡ option_map (λ n. record { mark = proof.Secure; sig = Some n }) (position_from is_proved i (map proof_verdict proofs))
+unfolding first_proof
+secure_places i [] = refl
+secure_places i (None ∷ more) = secure_places (i + 1) more
+secure_places i (Some p ∷ more) =
+    secure_step p.proof p i (first_proof proof.Secure (i + 1) more) (position_from is_proved (i + 1) (map proof_verdict more)) refl (secure_places (i + 1) more)
+
+insecure_places : (i : ℕ) (proofs : List (Option RrsetProofValue))
+    → option_map found_mark (first_proof proof.Insecure i proofs)
+    ≡ option_map (λ n. record { mark = proof.Insecure; sig = Some n }) (position_from is_excused i (map proof_verdict proofs))
+unfolding first_proof
+insecure_places i [] = refl
+insecure_places i (None ∷ more) = insecure_places (i + 1) more
+insecure_places i (Some p ∷ more) =
+    insecure_step p.proof p i (first_proof proof.Insecure (i + 1) more) (position_from is_excused (i + 1) (map proof_verdict more)) refl (insecure_places (i + 1) more)
+
+deciding_case : (s e : Option RrsetProofValue) (proved excused : Option ℕ)
+    → option_map found_mark s ≡ option_map (λ n. record { mark = proof.Secure; sig = Some n }) proved
+    → option_map found_mark e ≡ option_map (λ n. record { mark = proof.Insecure; sig = Some n }) excused
+    → option_map_or found_mark (option_or s e) (record { mark = proof.Bogus; sig = None }) ≡ mark_at proved excused
+deciding_case None None None None is_s is_e = refl
+deciding_case None None None (Some n) is_s is_e = cc
+deciding_case None (Some q) None None is_s is_e = cc
+deciding_case None (Some q) None (Some n) is_s is_e = ap (λ o. option_map_or (λ m. m) o (found_mark q)) is_e
+deciding_case None e (Some n) excused is_s is_e = cc
+deciding_case (Some p) e None excused is_s is_e = cc
+deciding_case (Some p) e (Some n) excused is_s is_e = ap (λ o. option_map_or (λ m. m) o (found_mark p)) is_s
+
+marks_from : (verdicts : List Verdict) → set_mark verdicts ≡ mark_at (position_from is_proved 0 verdicts) (position_from is_excused 0 verdicts)
+marks_from [] = refl
+marks_from (v ∷ vs) =
+    ap (λ o. mark_at o (position is_excused (v ∷ vs))) (position_from-zero is_proved (v ∷ vs))
+    ∙ ap (mark_at (position_from is_proved 0 (v ∷ vs))) (position_from-zero is_excused (v ∷ vs))
+
+-- the mark and the place are those that the verdicts of the signatures give
+pub by_verdicts : (proofs : List (Option RrsetProofValue))
+    → option_map_or found_mark (deciding_proof proofs) (record { mark = proof.Bogus; sig = None }) ≡ set_mark (map proof_verdict proofs)
+by_verdicts proofs =
+    deciding_case (first_proof proof.Secure 0 proofs) (first_proof proof.Insecure 0 proofs) (position_from is_proved 0 (map proof_verdict proofs))
+    (position_from is_excused 0 (map proof_verdict proofs)) (secure_places 0 proofs) (insecure_places 0 proofs)
+    ∙ sym (marks_from (map proof_verdict proofs))

@@ -25,13 +25,14 @@ verdict_value (Signed ds) = zone.Signed ds.items
 verdict_value (Insecure kind) = zone.Insecure (kind_value kind)
 verdict_value (Bogus kind) = zone.Bogus (kind_value kind)
 
--- ---- what a response shows. A set is Secure where all its records are. A record is Insecure by itself, whatever the others of its
--- set are, since that one record is so only where no more can be expected of its zone (RFC 4035, 4.3)
+-- ---- what a response shows. Of the DS set and of the NSEC set the rows of the verdict speak as sets: one is Secure where all its
+-- records are. Of what is Insecure they speak as a record: one is enough, whatever the others of its set are, since none is
+-- Insecure unless no more can be expected of a zone at or above it (RFC 4035, 4.3)
 
 abbrev pub are_secure : List Rr → Bool
 are_secure records = list_all (λ r. is_secure r.proof) records
 
--- a set of a section, Secure or not
+-- a set of a section, Secure or not: whether a record of it is Insecure is told below
 abbrev pub marked_set : Section → RrSet → Judged
 marked_set section set = record { section = section; set = set; mark = if are_secure set.records then proof.Secure else proof.Bogus; sig = None }
 

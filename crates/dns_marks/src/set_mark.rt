@@ -1,8 +1,7 @@
-ghost use Rattle.std.specs.Prelude.{◌≡◌, ◌+◌, ◌≤◌, false, length, take, slice_get, IfOk};
+ghost use Rattle.std.specs.Prelude.{◌≡◌, ◌+◌, ◌≤◌, ◌<◌, length, take, slice_get, IfOk};
 ghost use Rattle.std.specs.List.{list_all, filter_map};
 ghost use Rattle.std.specs.Option.{option_copied};
 ghost use Rattle.dns_model.specs.Gives.{Gives};
-ghost use Rattle.dns_judgement.specs.Unsigned.{is_empty};
 ghost use Rattle.dns_judgement.specs.Marks.{most_signatures};
 ghost use Rattle.dns_marks.specs.Kinds.{kind_value, want_of_memory};
 ghost use Rattle.dns_marks.specs.SetMarks.{set_proof, deciding_proof, answer_proofs, answer_proof, proof_at as proof_of_mark, no_proof as cause_of, is_skipped as is_skipped_answer, failed_ask as failed_question};
@@ -27,8 +26,8 @@ pub enum KeyAnswer {
     Keys(Vec<Record>),
 }
 
-/// The mark of a set that isn't DNSKEY at a moment in seconds since 1970, by the answers to the asks of its first eight signatures,
-/// one for each in order (RFC 4035, 4.3 and 5.3). The first signature that is Secure decides, else the first that is Insecure.
+/// The mark of a set that isn't DNSKEY and has a signature, at a moment in seconds since 1970, by the answers to the asks of its
+/// first eight signatures, one for each in order (RFC 4035, 4.3 and 5.3). The first signature that is Secure decides, else the first that is Insecure.
 /// A step is counted for each call of the verifier's `accepts`: two for a signature at the most.
 pub fn mark_rrset<V: Verifier, L: Ledger>(
     alloc: Global,
@@ -38,7 +37,7 @@ pub fn mark_rrset<V: Verifier, L: Ledger>(
     now: u64,
     steps: &mut Steps<L>,
 ) -> Result<RrsetProof, ProofError>
-    requires signed { is_empty set.now.signatures ≡ false }
+    requires signed { 0 < length set.now.signatures }
     requires answered { length answers.now ≡ length (take most_signatures set.now.signatures) }
     ensures proof { Gives (λ p. p) want_of_memory result (set_proof (V.answers verifier.now) now set.now answers.now) }
     ensures most { steps.new ≤ steps.old + 16 }
