@@ -11,6 +11,7 @@ enum Zone {
     Unknown,
     Signed(&'static [&'static [u8]]),
     Insecure,
+    Unsupported,
     Bogus,
 }
 
@@ -36,7 +37,7 @@ const WHOLE: &str = "whole";
 
 const NEEDS_DS: &str = "needs DS";
 
-const ROWS: [Row; 12] = [
+const ROWS: [Row; 14] = [
     Row {
         shows: "an anchored key signed",
         owner: "example.",
@@ -81,6 +82,24 @@ const ROWS: [Row; 12] = [
         is_anchored: false,
         zone: Zone::Insecure,
         want: "Insecure: ds record does not exist: example.",
+    },
+    Row {
+        shows: "the DS verdict is Insecure by its DS set",
+        owner: "example.",
+        keys: &[KEY],
+        sig: NO_SIGNATURE,
+        is_anchored: false,
+        zone: Zone::Unsupported,
+        want: "Insecure: unknown or reserved key algorithm",
+    },
+    Row {
+        shows: "an anchored key signed, whatever the DS verdict",
+        owner: "example.",
+        keys: &[KEY],
+        sig: OVER_KEYS,
+        is_anchored: true,
+        zone: Zone::Insecure,
+        want: SIGNED,
     },
     Row {
         shows: "the DS verdict is Bogus",
@@ -191,6 +210,7 @@ fn verdict_of(alloc: Global, zone: &Zone) -> Result<Option<ZoneVerdict>, Fail> {
             let kind = ProofErrorKind::DsResponseInsecure { name };
             Ok(Some(ZoneVerdict::Insecure(kind)))
         }
+        Zone::Unsupported => Ok(Some(ZoneVerdict::Insecure(ProofErrorKind::UnknownKeyAlgorithm))),
         Zone::Bogus => {
             let kind = ProofErrorKind::DsRecordShouldExist { name };
             Ok(Some(ZoneVerdict::Bogus(kind)))

@@ -12,6 +12,10 @@ mod key_mark_tests;
 #[cfg(test)]
 mod mark_parts;
 #[cfg(test)]
+mod set_mark_count_tests;
+#[cfg(test)]
+mod set_mark_tests;
+#[cfg(test)]
 mod signature_key_tests;
 #[cfg(test)]
 mod signature_tests;
