@@ -1,0 +1,141 @@
+//! A lookup with an upstream and a verifier of one's own. docs/LIBRARY.md shows parts of this file.
+use dns_chain::DnssecDnsHandle;
+use dns_message::Message;
+use dns_name::{Name, Octets};
+use dns_net::{
+    DnsError, DnsHandle, DnsRequest, DnsRequestOptions, DnsResponse, Link, NetError, Trail,
+    Verifier,
+};
+use dns_record::{DNSClass, Denial, Proof, Query, RecordType};
+use dns_trust::TrustAnchors;
+use std::alloc::Global;
+
+/// The root's NS set with a signature that is good from 900 to 2000, as a message.
+const SERVERS: &[u8] =
+    b"\0\0\x84\0\0\x01\0\x02\0\0\0\0\0\0\x02\0\x01\0\0\x02\0\x01\0\0\x0e\x10\0\x03\x01a\0\0\0\x2e\0\x01\0\0\x0e\x10\0\x15\0\x02\x0d\0\0\0\x0e\x10\0\0\x07\xd0\0\0\x03\x84\xae\xc9\0\xaa\xbb";
+
+/// The root's key set, as a message.
+const KEYS: &[u8] =
+    b"\0\0\x84\0\0\x01\0\x01\0\0\0\0\0\0\x30\0\x01\0\0\x30\0\x01\0\0\x0e\x10\0\x06\x01\x01\x03\x0d\xaa\xbb";
+
+/// The bytes that come for a request. A real upstream uses a socket here.
+fn exchange(request: &DnsRequest) -> &'static [u8] {
+    match request.message.queries.first() {
+        Some(query) if query.query_type == RecordType::NS => SERVERS,
+        _ => KEYS,
+    }
+}
+
+/// What becomes of the bytes that come.
+fn heard(alloc: Global, bytes: &[u8]) -> Result<DnsResponse, NetError> {
+    if bytes.len() > 65_535 {
+        return Err(NetError::Truncated);
+    }
+    let response = DnsResponse {
+        message: Message::from_vec(alloc, bytes)?,
+        chains: Vec::new(alloc),
+        denial: Denial::None,
+        trail: Trail::new(alloc),
+    };
+    Ok(DnsError::from_response(alloc, response)??)
+}
+
+/// An upstream of one's own: it counts what it sends, and each error as a fault.
+#[derive(Default, Drop)]
+struct Upstream {
+    sends: u64,
+    faults: u64,
+}
+
+impl DnsHandle for Upstream {
+    ghost use Rattle.std.specs.Prelude.{⊤, None};
+
+    ghost sends = { λ u. u.sends };
+
+    ghost faults = { λ u. u.faults };
+
+    ghost sent = { λ from asked to reply. ⊤ };
+
+    ghost told = { λ u. None };
+
+    fn send(
+        &mut self,
+        alloc: Global,
+        request: DnsRequest,
+        _now: u64,
+    ) -> Result<DnsResponse, NetError> {
+        self.sends = self.sends.saturating_add(1);
+        let reply = heard(alloc, exchange(&request));
+        if reply.is_err() {
+            self.faults = self.faults.saturating_add(1);
+        }
+        reply
+    }
+}
+
+/// A verifier of one's own: under algorithm 13, the one that it supports, a good signature has the bytes of its key.
+#[derive(Drop)]
+struct KeyItself;
+
+impl Verifier for KeyItself {
+    ghost use Rattle.std.specs.Prelude.{◌==◌};
+    ghost use Rattle.dns_model.specs.Keys.{bytes_eq};
+
+    ghost answers = { λ v. record { supports = λ a. a == 13; accepts = λ a key bytes signature. bytes_eq key signature } };
+
+    fn supports(&self, algorithm: u8) -> bool {
+        algorithm == 13
+    }
+
+    fn accepts(&self, _algorithm: u8, key: &[u8], _bytes: &[u8], signature: &[u8]) -> bool {
+        key == signature
+    }
+
+    fn same(&self, _other: &KeyItself) -> bool {
+        true
+    }
+}
+
+/// Looks the root's name servers up at a moment, and trusts the root's key.
+fn look_up(alloc: Global, now: u64) -> Result<DnsResponse, NetError> {
+    let query = Query {
+        name: Name::root(alloc)?,
+        query_type: RecordType::NS,
+        query_class: DNSClass::IN,
+    };
+    let mut anchors = TrustAnchors::empty(alloc);
+    let key = Octets::from_slice(alloc, b"\xaa\xbb")?;
+    let _ = anchors.insert_with_name(Name::root(alloc)?, 13, key)?;
+    let mut validator = DnssecDnsHandle::new(Upstream::default(), anchors, KeyItself)?;
+    validator.lookup(alloc, query, DnsRequestOptions::default(), now)
+}
+
+/// The first record has this mark.
+fn has_mark(response: &DnsResponse, proof: Proof) -> bool {
+    matches!(response.message.answers.first(), Some(record) if record.proof == proof)
+}
+
+/// The links lead from an anchored key to a signed set.
+fn leads_from_anchor(links: &[Link]) -> bool {
+    matches!(links.first(), Some(Link::Anchored { .. }))
+        && matches!(links.last(), Some(Link::Signed { .. }))
+}
+
+fn is_secure(response: &DnsResponse) -> bool {
+    has_mark(response, Proof::Secure)
+        && matches!(response.chains.as_slice(), [chain] if leads_from_anchor(chain.links.as_slice()))
+}
+
+#[test]
+fn a_record_is_secure_by_its_chain_while_its_signature_holds(rt: HostRuntime) {
+    assert!(rt; matches!(&look_up(rt.alloc(), 1000), Ok(response) if is_secure(response)));
+}
+
+fn is_bogus(response: &DnsResponse) -> bool {
+    has_mark(response, Proof::Bogus) && response.chains.is_empty()
+}
+
+#[test]
+fn a_record_is_bogus_and_has_no_chain_later(rt: HostRuntime) {
+    assert!(rt; matches!(&look_up(rt.alloc(), 3000), Ok(response) if is_bogus(response)));
+}
