@@ -14,8 +14,7 @@ use Rattle.dns_judgement.specs.Delegations.{ZoneVerdict, Signed, Insecure, Bogus
 use Rattle.dns_judgement.specs.Unsigned.{unsigned_by}
 use Rattle.dns_judgement.specs.KeySets.{judged_keys}
 use Rattle.dns_judgement.specs.Chained.{Chained, bare, stands, chain_by, ChainedVerdict, with_chain, chained_verdict, bare_verdicts, chained_by, chained_unsigned, chained_keys, chained_by_ds}
-use Rattle.dns_judgement.specs.Asking.{judged_part}
-use Rattle.dns_judgement.specs.MarkParts.{is_judged_at}
+use Rattle.dns_judgement.specs.Asking.{is_judged_at, judged_part}
 use Rattle.dns_judgement.proofs.StandLemmas.{IsChainFor, IsGoodVerdict, proof_is_chain}
 
 -- ---- what is shown of sets

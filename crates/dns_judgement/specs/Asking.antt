@@ -1,5 +1,5 @@
 -- What a step of a lookup judges and asks (RFC 4035, 4.3 and 5).
-use Rattle.std.specs.Prelude.{ℕ, ◌==◌, ◌||◌, min, List, Option}
+use Rattle.std.specs.Prelude.{ℕ, Bool, ◌==◌, ◌||◌, min, List, Option}
 use Rattle.std.specs.Option.{option_map}
 use Rattle.std.specs.List.{filter}
 use Rattle.dns_model.specs.Types.{type_soa, type_ds, type_nsec, type_dnskey, type_nsec3}
@@ -16,14 +16,14 @@ most_sends = 1024
 abbrev pub depth_limit : ℕ → ℕ
 depth_limit depth = min depth 255
 
--- the sets of a step at a depth that are judged, in order: all at the top, below it those of types by which others are judged
+-- the types whose sets are judged at a depth: all at the top, below it those by which others are judged
+abbrev pub is_judged_at : ℕ → ℕ → Bool
+is_judged_at depth rtype =
+    (depth == 0) || (rtype == type_dnskey) || (rtype == type_ds) || (rtype == type_nsec) || (rtype == type_nsec3) || (rtype == type_soa)
+
+-- the sets of a step at a depth that are judged, in order
 abbrev pub judged_part : ℕ → Told → List Placed
-judged_part depth told =
-    filter
-    (λ p.
-    (depth == 0) || (p.set.rtype == type_dnskey) || (p.set.rtype == type_ds) || (p.set.rtype == type_nsec) || (p.set.rtype == type_nsec3)
-    || (p.set.rtype == type_soa))
-    (placed_sets told)
+judged_part depth told = filter (λ p. is_judged_at depth p.set.rtype) (placed_sets told)
 
 -- the ask of a signature for its signer's keys
 abbrev pub ask_of : RrSet → Rr → Option Question

@@ -3,18 +3,17 @@ use Rattle.std.specs.Prelude.{ℕ, Bool, true, false, not, ◌==◌, ◌&&◌, �
 use Rattle.std.specs.Option.{option_map, option_map_or, option_and_then}
 use Rattle.std.specs.List.{find}
 use Rattle.dns_model.specs.Names.{Labels}
-use Rattle.dns_model.specs.Types.{type_soa, type_ds, type_nsec, type_dnskey, type_nsec3}
 use Rattle.dns_model.specs.Views.{RrsigValue, DnskeyValue, rrsig_in}
 use Rattle.dns_model.specs.Records.{Rr, RrSet, Question, question_eq}
 use Rattle.dns_model.specs.RecordViews.{dnskey_of}
 use Rattle.dns_model.specs.Sections.{is_signature}
 use Rattle.dns_model.specs.Signing.{signed_bytes}
 use Rattle.dns_model.specs.Keys.{usable_key}
-use Rattle.dns_model.specs.Chains.{Judge, rdatas_of, signer_fits, never_expanded, right_below_signer}
+use Rattle.dns_model.specs.Chains.{Judge, rdatas_of, signer_fits}
 use Rattle.dns_model.specs.SoundAnswers.{set_rtype, signed_ttl, ttl_of}
 use Rattle.dns_judgement.specs.Validity.{Validity, ValidRrsig, ExpiredRrsig, WrongDnskey, WrongRrsig, is_of_set, is_by_key}
 use Rattle.dns_judgement.specs.Judged.{Judged}
-use Rattle.dns_judgement.specs.Marks.{Verdict, Proved, Excused, Failed, key_question, same_tag, is_key_set_of, counted_keys, by_keys}
+use Rattle.dns_judgement.specs.Marks.{Verdict, Proved, Excused, Failed, key_question, same_tag, is_key_set_of, counted_keys, by_keys, may_be_signed}
 use Rattle.dns_judgement.specs.KeySets.{SignedKeys, signer_among}
 use Rattle.dns_judgement.specs.Outcome.{is_wildcard_signature}
 use Rattle.dns_judgement.specs.Marking.{cleared, adjusted_ttl}
@@ -71,7 +70,7 @@ abbrev pub verdict_by : Judge → RrSet → Rr → List Judged → Option RrsigV
 verdict_by j set r answer read =
     option_map_or
     (λ sig.
-    if never_expanded set.rtype sig.labels set.owner && right_below_signer set.rtype sig.signer set.owner
+    if may_be_signed set sig
     then by_key_set j set r sig.signer (find (is_key_set_of set.class sig.signer) answer)
     else Failed)
     read Failed
@@ -111,11 +110,6 @@ marked_by now place r judged =
     judged (cleared r)
 
 -- ---- asks
-
--- the types whose sets are judged at a depth
-abbrev pub is_judged_at : ℕ → ℕ → Bool
-is_judged_at depth rtype =
-    (depth == 0) || (rtype == type_dnskey) || (rtype == type_ds) || (rtype == type_nsec) || (rtype == type_nsec3) || (rtype == type_soa)
 
 abbrev pub signer_question : ℕ → Option RrsigValue → Option Question
 signer_question class read = option_map (λ sig. key_question class sig.signer) read

@@ -8,6 +8,7 @@ use Rattle.dns_model.specs.declared.section.Section.TheVariants.{Answer}
 use Rattle.dns_model.specs.Names.{Labels, name_eq}
 use Rattle.dns_model.specs.Types.{type_dnskey}
 use Rattle.dns_model.specs.Records.{Rr, RrSet, Question, question_eq}
+use Rattle.dns_model.specs.Views.{RrsigValue}
 use Rattle.dns_model.specs.RecordViews.{rrsig_of, dnskey_of}
 use Rattle.dns_model.specs.Signing.{key_tag_of}
 use Rattle.dns_model.specs.Chains.{Judge, signer_fits, never_expanded, right_below_signer}
@@ -73,13 +74,17 @@ by_keys j set r Insecure keys = option_map_or (λ key. Excused) (slice_get keys 
 by_keys j set r Bogus keys = Failed
 by_keys j set r Indeterminate keys = Failed
 
+-- an NSEC or NSEC3 isn't expanded from a wildcard, and an NSEC3 stands right below its signer
+abbrev pub may_be_signed : RrSet → RrsigValue → Bool
+may_be_signed set sig = never_expanded set.rtype sig.labels set.owner && right_below_signer set.rtype sig.signer set.owner
+
 -- the verdict of one signature, with the sets of the answer to its ask; none where the ask failed or was refused
 unfoldable pub verdict_of : Judge → RrSet → Rr → Option (List Judged) → Verdict
 verdict_of j set r None = Failed
 verdict_of j set r (Some answer) =
     option_map_or
     (λ sig.
-    if never_expanded set.rtype sig.labels set.owner && right_below_signer set.rtype sig.signer set.owner
+    if may_be_signed set sig
     then option_map_or (λ keys. by_keys j set r keys.mark (counted_keys sig.signer keys.set.records))
     (find (is_key_set_of set.class sig.signer) answer) Failed
     else Failed)

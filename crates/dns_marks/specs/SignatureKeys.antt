@@ -7,12 +7,12 @@ use Rattle.dns_model.specs.declared.proof.Proof.TheVariants.{Insecure}
 use Rattle.dns_model.specs.declared.proof.Proof.TheVariants as proof
 use Rattle.dns_model.specs.Views.{RrsigValue}
 use Rattle.dns_model.specs.Keys.{VerifierAnswers}
-use Rattle.dns_model.specs.Chains.{Judge, judge, never_expanded, right_below_signer}
+use Rattle.dns_model.specs.Chains.{Judge, judge}
 use Rattle.dns_model.specs.Records.{Rr, RrSet}
 use Rattle.dns_model.specs.RecordViews.{rrsig_of}
 use Rattle.dns_model.specs.SoundAnswers.{is_secure}
 use Rattle.dns_judgement.specs.Validity.{is_good_by}
-use Rattle.dns_judgement.specs.Marks.{Verdict, Proved, Excused, Failed, counted_keys}
+use Rattle.dns_judgement.specs.Marks.{Verdict, Proved, Excused, Failed, may_be_signed, counted_keys}
 use Rattle.dns_judgement.specs.Derivation.{proof_eq}
 use Rattle.dns_judgement.specs.ProofErrors.{RrsetProofValue}
 use Rattle.dns_marks.specs.Proofs.{proved_by, excused}
@@ -37,13 +37,9 @@ proof_by_keys verifier now set r keys =
     else if are_insecure keys then Some excused
     else None
 
--- an NSEC or NSEC3 isn't expanded from a wildcard, and an NSEC3 stands right below its signer
-abbrev pub may_cover : RrSet → RrsigValue → Bool
-may_cover set sig = never_expanded set.rtype sig.labels set.owner && right_below_signer set.rtype sig.signer set.owner
-
 abbrev pub keys_proof_read : VerifierAnswers → ℕ → List Rr → RrSet → Rr → RrsigValue → Option RrsetProofValue
 keys_proof_read verifier now keys set r sig =
-    if may_cover set sig then proof_by_keys verifier now set r (counted_keys sig.signer keys) else None
+    if may_be_signed set sig then proof_by_keys verifier now set r (counted_keys sig.signer keys) else None
 
 -- what a signature (last) proves of a set by some keys, of which the first two of each tag count that are the signer's; none
 -- where it proves nothing, and where it can't be read
@@ -62,7 +58,7 @@ calls_in_turn verifier now set r (key ∷ keys) =
 abbrev pub calls_read : VerifierAnswers → ℕ → List Rr → RrSet → Rr → Option RrsigValue → ℕ
 calls_read verifier now keys set r None = 0
 calls_read verifier now keys set r (Some sig) =
-    if may_cover set sig then calls_in_turn verifier now set r (counted_keys sig.signer keys) else 0
+    if may_be_signed set sig then calls_in_turn verifier now set r (counted_keys sig.signer keys) else 0
 
 abbrev pub calls_by_keys : VerifierAnswers → ℕ → List Rr → RrSet → Rr → ℕ
 calls_by_keys verifier now keys set r = calls_read verifier now keys set r (rrsig_of r)

@@ -1,11 +1,10 @@
 ghost use Rattle.std.specs.Prelude.{◌≡◌, ◌+◌, ◌≤◌, Some, IfOk, OnOk};
 ghost use Rattle.std.specs.List.{list_any};
-ghost use Rattle.dns_model.specs.Keys.{usable_key};
 ghost use Rattle.dns_model.specs.RecordViews.{dnskey_of};
 ghost use Rattle.dns_model.specs.declared.proof.Proof.TheVariants.{Insecure};
 ghost use Rattle.dns_judgement.specs.Derivation.{proof_eq};
 ghost use Rattle.dns_trust.specs.Delegating.{shown};
-ghost use Rattle.dns_marks.specs.SignatureKeys.{keys_proof, calls_by_keys, calls_in_turn, may_cover as is_coverable, is_proving as is_proving_key, are_insecure as are_insecure_keys};
+ghost use Rattle.dns_marks.specs.SignatureKeys.{keys_proof, calls_by_keys, calls_in_turn, is_proving as is_proving_key, are_insecure as are_insecure_keys};
 ghost use Rattle.dns_marks.specs.KeySignatures.{calls_by_key, validity_at, is_put as is_put_to};
 ghost use Rattle.dns_judgement.specs.Validity.{is_valid as is_valid_at};
 
@@ -15,9 +14,9 @@ use crate::signature::is_accepted;
 use dns_name::NoMemory;
 use dns_net::Verifier;
 use dns_rdata::{Dnskey, Rrsig, signed_data};
-use dns_record::{Proof, Record, RecordSet, RecordType};
+use dns_record::{Proof, Record, RecordSet};
 use dns_steps::Steps;
-use dns_trust::{RrsigValidity, counted_keys};
+use dns_trust::{RrsigValidity, counted_keys, is_usable, may_be_signed};
 use std::alloc::Global;
 use std::sync::ledger::Ledger;
 
@@ -59,7 +58,7 @@ fn proof_by_keys<V: Verifier, L: Ledger>(
     let Some(read) = Rrsig::of(sig) else {
         return Ok(None);
     };
-    if !may_cover(set, &read) {
+    if !may_be_signed(set, &read) {
         return Ok(None);
     }
     let counted = counted_keys(alloc, &read, keys)?;
@@ -70,17 +69,6 @@ fn proof_by_keys<V: Verifier, L: Ledger>(
         return Ok(Some(excused()));
     }
     Ok(None)
-}
-
-// An NSEC or NSEC3 isn't expanded from a wildcard, and an NSEC3 stands right below its signer.
-fn may_cover(set: &RecordSet, read: &Rrsig<'_>) -> bool
-    ensures { result ≡ is_coverable set.now read.now }
-{
-    let owner = set.name.borrowed();
-    let is_nsec3 = set.record_type == RecordType::NSEC3;
-    let is_denial = is_nsec3 || set.record_type == RecordType::NSEC;
-    let is_whole = !is_denial || read.labels == owner.num_labels();
-    is_whole && (!is_nsec3 || owner.parent().eq_name(&read.signer))
 }
 
 // One of some keys is Secure, and the signature is good by it.
@@ -155,13 +143,6 @@ fn is_valid(sig: &Record, set: &RecordSet, key: &Record, now: u64) -> bool
     ensures { result ≡ is_valid_at (validity_at now set.now sig.now key.now) }
 {
     RrsigValidity::check(sig, set, key, now) == RrsigValidity::ValidRrsig
-}
-
-// The key may sign: a zone's key that isn't revoked, of DNSSEC's protocol, under an algorithm that is supported.
-fn is_usable<V: Verifier>(verifier: &V, key: &Dnskey<'_>) -> bool
-    ensures { result ≡ usable_key (V.answers verifier.now) key.now }
-{
-    key.is_zone_key() && !key.is_revoked() && key.protocol == 3 && verifier.supports(key.algorithm)
 }
 
 // There is a key, and all are Insecure.

@@ -7,7 +7,7 @@ use Rattle.dns_model.specs.Views.{RrsigValue, rrsig_in}
 use Rattle.dns_model.specs.Records.{Rr, RrSet}
 use Rattle.dns_model.specs.Sections.{is_signature, same_set, covers, leaders, unsigned_part}
 use Rattle.dns_model.specs.SoundAnswers.{Placed}
-use Rattle.dns_judgement.specs.MarkParts.{is_judged_at}
+use Rattle.dns_judgement.specs.Asking.{is_judged_at}
 use Rattle.dns_rdata.specs.ReadAs.{read_as}
 
 -- a set of this owner and type

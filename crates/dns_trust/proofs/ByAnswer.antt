@@ -9,10 +9,10 @@ use Rattle.dns_model.specs.RecordViews.{rrsig_of}
 use Rattle.dns_model.specs.Records.{Rr, RrSet}
 use Rattle.dns_model.specs.Chains.{Judge}
 use Rattle.dns_model.proofs.EachLemmas.{find-map}
-use Rattle.dns_judgement.specs.Marks.{Failed, is_key_set_of, verdict_of}
+use Rattle.dns_judgement.specs.Marks.{Failed, is_key_set_of, may_be_signed, verdict_of}
 use Rattle.dns_judgement.specs.Chained.{Chained, bare, ChainedVerdict, with_chain, chain_by_set, chain_by_read, chained_verdict}
 use Rattle.dns_judgement.specs.MarkParts.{by_key_set, verdict_by}
-use Rattle.dns_trust.specs.Verdicts.{may_be_signed, chained_by_set}
+use Rattle.dns_trust.specs.Verdicts.{chained_by_set}
 
 -- no verdict but a proof has a chain
 abbrev pub failed : ChainedVerdict

@@ -1,9 +1,8 @@
 -- Verdicts of signatures with their chains, as the plain ones.
-use Rattle.std.specs.Prelude.{Bool, ◌&&◌, List, [], map, Option, None, Some, Vec}
+use Rattle.std.specs.Prelude.{List, [], map, Option, None, Some, Vec}
 use Rattle.dns_model.specs.Names.{Labels}
 use Rattle.dns_model.specs.Records.{Rr, RrSet}
-use Rattle.dns_model.specs.Views.{RrsigValue}
-use Rattle.dns_model.specs.Chains.{Judge, never_expanded, right_below_signer}
+use Rattle.dns_model.specs.Chains.{Judge}
 use Rattle.dns_net.specs.Link.{link_value}
 use Rattle.dns_judgement.specs.Marks as marks
 use Rattle.dns_judgement.specs.MarkParts.{by_key_set}
@@ -22,10 +21,6 @@ listed None = None
 listed (Some sets) = Some sets.items
 
 -- for private functions of this crate only
-
--- the set is no NSEC or NSEC3 that is expanded from a wildcard, and no NSEC3 elsewhere than right below the signer
-abbrev pub may_be_signed : RrSet → RrsigValue → Bool
-may_be_signed set sig = never_expanded set.rtype sig.labels set.owner && right_below_signer set.rtype sig.signer set.owner
 
 -- the verdict by the key set that was asked for
 abbrev pub chained_by_set : Judge → RrSet → Rr → Labels → Chained → ChainedVerdict

@@ -74,8 +74,9 @@ fn is_valid(sig: &Record, read: &Rrsig<'_>, set: &RecordSet, key: &Record, now: 
     check_read(sig, read, set, key, now) == RrsigValidity::ValidRrsig
 }
 
-// The key may sign: a zone's key that isn't revoked, of DNSSEC's protocol, under an algorithm that is supported.
-fn is_usable<V: Verifier>(verifier: &V, key: &Dnskey<'_>) -> bool
+/// The key may sign: a zone's key that isn't revoked, of DNSSEC's protocol, under an algorithm that the verifier supports
+/// (RFC 4034, 2.1; RFC 5011, 2.1).
+pub fn is_usable<V: Verifier>(verifier: &V, key: &Dnskey<'_>) -> bool
     ensures { result ≡ usable_key (V.answers verifier.now) key.now }
 {
     key.is_zone_key() && !key.is_revoked() && key.protocol == 3 && verifier.supports(key.algorithm)

@@ -4,12 +4,12 @@ ghost use Rattle.std.specs.Option.{option_copied};
 ghost use Rattle.dns_model.specs.RecordViews.{rrsig_of};
 ghost use Rattle.dns_model.specs.Chains.{LinkValue, signer_fits as signer_is_above, never_expanded, right_below_signer};
 ghost use Rattle.dns_judgement.specs.Validity.{is_good_by};
-ghost use Rattle.dns_judgement.specs.Marks.{by_keys, counted_keys, key_question, is_key_set_of, is_proved as is_proof, is_excused as is_excuse};
+ghost use Rattle.dns_judgement.specs.Marks.{by_keys, counted_keys, key_question, is_key_set_of, may_be_signed as may_be_signed_by, is_proved as is_proof, is_excused as is_excuse};
 ghost use Rattle.dns_judgement.specs.Chained.{with_chain, chain_by_key, chained_verdict};
 ghost use Rattle.dns_judgement.specs.MarkParts.{by_insecure_key, is_skipped_read};
 ghost use Rattle.dns_net.specs.Link.{link_value};
 ghost use Rattle.dns_trust.specs.Judge.{judge_of};
-ghost use Rattle.dns_trust.specs.Verdicts.{verdict_value, listed, may_be_signed, chained_by_set};
+ghost use Rattle.dns_trust.specs.Verdicts.{verdict_value, listed, chained_by_set};
 
 use crate::Judge;
 use crate::chains::signed_chain;
@@ -71,7 +71,7 @@ pub fn verdict_of<V: Verifier>(
     let Some(sets) = answer else {
         return Ok(Verdict::Failed);
     };
-    if !may_sign(set, read) {
+    if !may_be_signed(set, read) {
         return Ok(Verdict::Failed);
     }
     let Some(keys) = key_set_of(set.dns_class, &read.signer, sets) else {
@@ -170,9 +170,10 @@ fn is_key_set(class: DNSClass, signer: &NameRef<'_>, judged: &MarkedSet) -> bool
         && class == set.dns_class
 }
 
-// The set is no NSEC or NSEC3 that is expanded from a wildcard, and no NSEC3 elsewhere than right below the signer.
-fn may_sign(set: &RecordSet, read: &Rrsig<'_>) -> bool
-    ensures { result ≡ may_be_signed set.now read.now }
+/// The set is no NSEC or NSEC3 that is expanded from a wildcard, and no NSEC3 elsewhere than right below the signer of this
+/// signature (RFC 4035, 5.3.4; RFC 5155, 3).
+pub fn may_be_signed(set: &RecordSet, read: &Rrsig<'_>) -> bool
+    ensures { result ≡ may_be_signed_by set.now read.now }
 {
     is_never_expanded(set, read) && is_right_below_signer(set, read)
 }

@@ -1,9 +1,9 @@
 use Rattle.std.proofs.Common.{rules, ◌≡◌, true, false, None, Some, IfOk, sym, ap, ◌∙◌, subst}
 use Rattle.std.specs.List.{find}
-use Rattle.dns_judgement.specs.Marks.{is_key_set_of}
+use Rattle.dns_judgement.specs.Marks.{is_key_set_of, may_be_signed}
 use Rattle.dns_judgement.specs.Chained.{Chained, chained_verdict}
 use Rattle.dns_trust.specs.Judge.{judge_of}
-use Rattle.dns_trust.specs.Verdicts.{verdict_value, listed, may_be_signed}
+use Rattle.dns_trust.specs.Verdicts.{verdict_value, listed}
 use Rattle.dns_trust.proofs.ByAnswer.{no_answer, unfit, no_key_set, key_set_decides}
 use Rattle.dns_trust.proofs.verdict.verdict_of.Goals as goal
 
@@ -12,8 +12,8 @@ returns-in_default g c =
     let j = judge_of g.V.Verifier.answers c.args.judge.now in
     no_answer j c.args.set.now c.args.sig.now ∙ ap (λ o. chained_verdict j c.args.set.now c.args.sig.now (listed o)) (sym c.in_default.is)
 
-pub returns-then-not-may_sign : goal.returns-then-not-may_sign
-returns-then-not-may_sign g c =
+pub returns-then-not-may_be_signed : goal.returns-then-not-may_be_signed
+returns-then-not-may_be_signed g c =
     let j = judge_of g.V.Verifier.answers c.args.judge.now in
     let fits : may_be_signed c.args.set.now c.args.read.now ≡ false = search rules in
     sym (unfit j c.args.set.now c.args.sig.now c.in-Some.sets.items c.args.read.now c.requires fits)
