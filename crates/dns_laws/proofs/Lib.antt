@@ -1,0 +1,4 @@
+pub mod GroundParts
+pub mod GroundAnswers
+pub mod GroundMarks
+pub mod GroundLemmas
