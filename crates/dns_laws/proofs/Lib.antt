@@ -2,3 +2,4 @@ pub mod GroundParts
 pub mod GroundAnswers
 pub mod GroundMarks
 pub mod GroundLemmas
+pub mod WorkedGrounds
