@@ -3,3 +3,4 @@ pub mod GroundAnswers
 pub mod GroundMarks
 pub mod GroundLemmas
 pub mod WorkedGrounds
+pub mod WorkedStraight

@@ -1,1 +1,3 @@
 pub mod Ground
+pub mod Straight
+pub mod Valid
