@@ -4,3 +4,5 @@ pub mod GroundMarks
 pub mod GroundLemmas
 pub mod WorkedGrounds
 pub mod WorkedStraight
+pub mod TestLemmas
+pub mod StraightLemmas
