@@ -6,3 +6,4 @@ pub mod WorkedGrounds
 pub mod WorkedStraight
 pub mod TestLemmas
 pub mod StraightLemmas
+pub mod StraightStepLemmas
