@@ -7,3 +7,5 @@ pub mod WorkedStraight
 pub mod TestLemmas
 pub mod StraightLemmas
 pub mod StraightStepLemmas
+pub mod QuestionLemmas
+pub mod SignedEntryLemmas
