@@ -9,3 +9,4 @@ pub mod StraightLemmas
 pub mod StraightStepLemmas
 pub mod QuestionLemmas
 pub mod SignedEntryLemmas
+pub mod KeyEntryLemmas
