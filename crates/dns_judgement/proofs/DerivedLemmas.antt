@@ -14,6 +14,7 @@ use Rattle.dns_model.proofs.SetLemmas.{number_same}
 use Rattle.dns_judgement.specs.Asking.{most_sends, depth_limit}
 use Rattle.dns_judgement.specs.Derivation.{step_holds, steps_hold, asks_of, send_order, end_step, top_step, in_send_order, derivation}
 use Rattle.dns_judgement.specs.DerivationParts.{is_each_met_once, grounds_of, is_top, steps_at}
+use Rattle.dns_judgement.proofs.ExtendLemmas.{place_same}
 use Rattle.dns_judgement.proofs.StayLemmas.{slice_get-stays}
 use Rattle.dns_judgement.proofs.AskLemmas.{IsAskOf, step_asks, step_made}
 use Rattle.dns_judgement.proofs.SentLemmas.{AreBelow, times, times-cons, numbered}
@@ -36,6 +37,7 @@ pub record Derived (j : Judge) (d : ℕ) (trail : List AskedValue) : Type 0 wher
   pub few : length trail ≤ most_sends
   pub top : TopIs (top_step trail)
   pub sent : EachOnce (length trail) (send_order trail)
+  pub ends : end_step (length trail) trail (length trail - 1) 0 ≡ Some (length trail)
   pub hold : steps_hold j (depth_limit d) [] trail ≡ true
 
 top_is : (o : Option AskedValue) → is_top o ≡ true → TopIs o
@@ -66,6 +68,7 @@ derivation_parts j d trail h =
       few = leb-true (length trail) most_sends one.0;
       top = top_is (top_step trail) two.0;
       sent = each_once (length trail) (send_order trail) three.0;
+      ends = place_same (end_step (length trail) trail (length trail - 1) 0) (Some (length trail)) four.0;
       hold = four.1;
     }
 

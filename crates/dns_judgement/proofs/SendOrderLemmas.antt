@@ -54,7 +54,7 @@ then_meets : (Q : ℕ → Type 0) (met found : List ℕ) (o : Option (List ℕ))
 then_meets Q met found None f h first second = cc
 then_meets Q met found (Some middle) f h first second = meets_then Q met middle found (first middle refl) (second middle h)
 
-asks_meet : (Q : ℕ → Type 0) (visit : ℕ → List ℕ → Option (List ℕ)) (n : ℕ) (asks : List AskRef) (met found : List ℕ) → Visits Q visit
+pub asks_meet : (Q : ℕ → Type 0) (visit : ℕ → List ℕ → Option (List ℕ)) (n : ℕ) (asks : List AskRef) (met found : List ℕ) → Visits Q visit
     → OfAsks Q asks → order_asks visit n asks met ≡ Some found → Meets Q met found
 unfolding order_asks
 asks_meet Q visit n [] met found v each h = meets_none Q met found cc

@@ -1,6 +1,6 @@
 -- The entry of a DNSKEY set with one signature or none: by an anchor it asks nothing, and else it asks for the DS set of its owner.
-use Rattle.std.proofs.Common.{◌≡◌, ◌⊎◌, inl, inr, ℕ, ◌+◌, Bool, true, false, not, ◌==◌, List, [], ◌∷◌, take, Option, None, Some, slice_get, refl, sym, ap, ◌∙◌, subst, cond, if◌then◌else◌}
-use Rattle.std.specs.Prelude.{◌&&◌, ◌||◌, is_some}
+use Rattle.std.proofs.Common.{◌≡◌, ◌⊎◌, inl, inr, ℕ, ◌+◌, Bool, true, false, not, ◌==◌, List, [], ◌∷◌, take, Option, None, Some, slice_get, refl, sym, ap, ◌∙◌, cond, if◌then◌else◌}
+use Rattle.std.specs.Prelude.{◌&&◌}
 use Rattle.std.specs.Option.{option_map, option_map_or}
 use Rattle.std.specs.List.{filter, cons_option, find, list_any, list_all, AllByRecursion}
 use Rattle.std.proofs.Math.Logic.{⊎_elim}
@@ -12,14 +12,14 @@ use Rattle.dns_model.specs.Names.{Labels, name_eq}
 use Rattle.dns_model.specs.Types.{type_ds, type_dnskey}
 use Rattle.dns_model.specs.Records.{Rr, RrSet, Question, question_eq}
 use Rattle.dns_model.specs.Chains.{Judge}
-use Rattle.dns_model.specs.SoundAnswers.{Placed, in_section, section_eq}
+use Rattle.dns_model.specs.SoundAnswers.{in_section, section_eq}
 use Rattle.dns_model.specs.Trails.{JudgedSetValue}
 use Rattle.dns_model.proofs.SetLemmas.{name_trans, number_refl}
 use Rattle.dns_judgement.specs.Validity.{is_good_by}
 use Rattle.dns_judgement.specs.Judged.{Judged}
 use Rattle.dns_judgement.specs.Marks.{judged_by, most_signatures}
 use Rattle.dns_judgement.specs.ProofErrors.{DnskeyNotFound, DsRecordShouldExist, DsRecordsButNoDnskey, UnknownKeyAlgorithm}
-use Rattle.dns_judgement.specs.Delegations.{ZoneVerdict, Signed, Insecure, Bogus as Unshown, ds_question, is_supported_ds, is_readable_ds, matching_ds, counted_ds, is_ds_set_of, verdict_by_ds, verdict_without_ds, zone_verdict}
+use Rattle.dns_judgement.specs.Delegations.{ZoneVerdict, Signed, Insecure, Bogus as Unshown, ds_question, is_supported_ds, is_readable_ds, is_ds_set_of, verdict_by_ds, verdict_without_ds, zone_verdict}
 use Rattle.dns_judgement.specs.KeySets.{is_anchored_key, is_matched_key, is_trusted_key, SignedKeys, signer_among, first_signed, signed_by, is_root, KeysOutcome, SignedByAnchored, WhollyAnchored, SignedByMatched, WhollyTrusted, Refused, outcome_by_ds, outcome_by_zone, keys_outcome, is_needing_ds, needs_ds, outcome_mark, judged_keys}
 use Rattle.dns_judgement.specs.Unsigned.{is_empty, is_searched}
 use Rattle.dns_judgement.specs.Derivation.{Grounds, finished_answer, is_ask, verdicts_by, zone_asked, proof_eq, has_mark_of, keys_hold, unsigned_holds, is_by_rules}
@@ -27,8 +27,8 @@ use Rattle.dns_judgement.specs.DerivationParts.{place_eq}
 use Rattle.dns_judgement.proofs.DsLemmas.{filter-filter}
 use Rattle.dns_judgement.proofs.ExtendLemmas.{proof_same}
 use Rattle.dns_laws.specs.Valid.{is_signed_by, is_anchored_set, is_proved_by_ds}
-use Rattle.dns_laws.proofs.TestLemmas.{Passing, passing, if_some, empty_is, any_found, none_any, none_kept}
-use Rattle.dns_laws.proofs.QuestionLemmas.{IsSame, same_parts}
+use Rattle.dns_laws.proofs.TestLemmas.{passing, if_some, empty_is, any_found, none_any, none_kept}
+use Rattle.dns_laws.proofs.QuestionLemmas.{same_parts}
 use Rattle.dns_laws.proofs.SignedEntryLemmas.{IsSecureSet}
 
 -- ---- who signed

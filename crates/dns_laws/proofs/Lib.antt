@@ -10,3 +10,6 @@ pub mod StraightStepLemmas
 pub mod QuestionLemmas
 pub mod SignedEntryLemmas
 pub mod KeyEntryLemmas
+pub mod OrderPathLemmas
+pub mod RankLemmas
+pub mod PathLemmas

@@ -1,10 +1,10 @@
 -- Questions that are the same but for the case of letters.
-use Rattle.std.proofs.Common.{◌≡◌, ℕ, Bool, true, false, ◌==◌, refl, sym, ap, ◌∙◌}
+use Rattle.std.proofs.Common.{◌≡◌, true, ◌==◌, sym, ap, ◌∙◌}
 use Rattle.std.specs.Prelude.{◌&&◌}
 use Rattle.std.proofs.lemmas.Bool.{and_parts, and_from}
 use Rattle.dns_model.specs.Names.{name_eq}
 use Rattle.dns_model.specs.Records.{Question, question_eq}
-use Rattle.dns_model.proofs.SetLemmas.{name_refl, name_back, name_trans, number_same, number_refl}
+use Rattle.dns_model.proofs.SetLemmas.{name_back, name_trans, number_same, number_refl}
 
 -- two questions are the same
 pub record IsSame (a b : Question) : Type 0 where

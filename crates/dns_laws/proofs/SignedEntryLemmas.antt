@@ -1,5 +1,5 @@
 -- The entry of a set that isn't DNSKEY and has one signature: it asks for the signer's keys, and is Secure by them.
-use Rattle.std.proofs.Common.{◌≡◌, ℕ, ◌+◌, Bool, true, false, not, ◌==◌, List, [], ◌∷◌, take, Option, None, Some, refl, sym, ap, ◌∙◌, cond, if◌then◌else◌}
+use Rattle.std.proofs.Common.{◌≡◌, ℕ, ◌+◌, Bool, true, false, not, ◌==◌, List, [], ◌∷◌, take, None, Some, refl, sym, ap, ◌∙◌, cond, if◌then◌else◌}
 use Rattle.std.specs.Prelude.{◌&&◌, ◌||◌}
 use Rattle.std.specs.Option.{option_map, option_map_or}
 use Rattle.std.specs.List.{find, list_any}
@@ -15,7 +15,7 @@ use Rattle.dns_model.specs.RecordViews.{rrsig_of}
 use Rattle.dns_model.specs.Chains.{Judge, signer_fits, never_expanded, right_below_signer}
 use Rattle.dns_model.specs.SoundAnswers.{Placed, in_section, section_eq}
 use Rattle.dns_model.specs.Trails.{JudgedSetValue}
-use Rattle.dns_model.proofs.SetLemmas.{name_back, name_trans, number_refl}
+use Rattle.dns_model.proofs.SetLemmas.{name_trans, number_refl}
 use Rattle.dns_judgement.specs.Validity.{is_good_by}
 use Rattle.dns_judgement.specs.Judged.{Judged}
 use Rattle.dns_judgement.specs.Marks.{Verdict, Proved, is_proved, is_skipped, key_question, counted_keys, is_key_set_of, by_keys, verdict_of, judged_by, most_signatures}
@@ -26,9 +26,9 @@ use Rattle.dns_judgement.specs.Derivation.{Grounds, finished_answer, is_ask, ver
 use Rattle.dns_judgement.specs.DerivationParts.{is_by_verdicts, after_verdict, if_last, place_eq, is_ask_for}
 use Rattle.dns_judgement.proofs.ExtendLemmas.{proof_same}
 use Rattle.dns_laws.specs.Valid.{is_proved_by_keys}
-use Rattle.dns_laws.proofs.TestLemmas.{Passing, passing, if_some, empty_is, any_found}
-use Rattle.dns_laws.proofs.QuestionLemmas.{IsSame, same_parts}
-use Rattle.dns_laws.proofs.StraightLemmas.{IsPlain, IsSigned, IsOneSet}
+use Rattle.dns_laws.proofs.TestLemmas.{passing, if_some, any_found}
+use Rattle.dns_laws.proofs.QuestionLemmas.{same_parts}
+use Rattle.dns_laws.proofs.StraightLemmas.{IsSigned}
 use Rattle.dns_laws.proofs.StraightStepLemmas.{needs_no_denial}
 
 -- a set that is Secure in the answer section

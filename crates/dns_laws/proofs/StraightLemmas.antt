@@ -1,26 +1,26 @@
 -- What a straight reply holds: one set with one signature, or a key set without one.
-use Rattle.std.proofs.Common.{◌≡◌, ◌⊎◌, inl, inr, ℕ, Bool, true, false, not, ◌==◌, List, [], ◌∷◌, ◌++◌, map, length, Option, None, Some, slice_get, refl, sym, ap, ◌∙◌, subst, if◌then◌else◌}
+use Rattle.std.proofs.Common.{◌≡◌, ◌⊎◌, inl, inr, Bool, true, false, not, ◌==◌, List, [], ◌∷◌, map, length, Option, None, Some, slice_get, refl, sym, ap, ◌∙◌, subst, if◌then◌else◌}
 use Rattle.std.specs.Prelude.{◌&&◌, ◌||◌}
 use Rattle.std.specs.Option.{option_map_or, option_and_then}
 use Rattle.std.specs.List.{filter, list_any, list_all, AllByRecursion}
 use Rattle.std.proofs.Math.Logic.{⊎_elim}
 use Rattle.std.proofs.lemmas.Bool.{and_parts, and_from, or_cases, not_from_false}
-use Rattle.dns_model.specs.Names.{Labels, name_eq, num_labels}
-use Rattle.dns_model.specs.Types.{type_rrsig, type_dnskey}
+use Rattle.dns_model.specs.Names.{name_eq, num_labels}
+use Rattle.dns_model.specs.Types.{type_rrsig}
 use Rattle.dns_model.specs.Views.{RrsigValue, rrsig_in}
 use Rattle.dns_model.specs.Records.{Rr, RrSet, Question}
 use Rattle.dns_model.specs.RecordViews.{rrsig_of}
 use Rattle.dns_model.specs.Sections.{same_set, is_signature, covers_rtype, covers, leaders, unsigned_part, set_of, sets_of}
 use Rattle.dns_model.specs.Chains.{Judge, rdatas_of}
 use Rattle.dns_model.specs.SoundAnswers.{Told}
-use Rattle.dns_model.proofs.EachLemmas.{each_more, each_filter}
+use Rattle.dns_model.proofs.EachLemmas.{each_more}
 use Rattle.dns_model.proofs.RecordViewLemmas.{rrsig_read}
 use Rattle.dns_model.proofs.SetLemmas.{name_back, name_trans, number_same, number_refl, each_leader}
 use Rattle.dns_judgement.specs.Unsigned.{is_empty}
 use Rattle.dns_judgement.proofs.FindLemmas.{each_all}
 use Rattle.dns_laws.specs.Straight.{is_queried, is_plain_signature, are_distinct, is_wholly_anchored, is_signed_once, is_straight}
 use Rattle.dns_laws.specs.Valid.{straight_set}
-use Rattle.dns_laws.proofs.TestLemmas.{Passing, passing, if_some, empty_is, IsOne, one_is, only_first, Begins, some_kept, none_kept, kept_alike}
+use Rattle.dns_laws.proofs.TestLemmas.{passing, if_some, empty_is, one_is, only_first, some_kept, none_kept, kept_alike}
 
 -- ---- the records
 

@@ -2,20 +2,18 @@
 use Rattle.std.proofs.Common.{◌≡◌, ℕ, Bool, true, false, not, ◌==◌, List, [], ◌∷◌, ◌++◌, map, Option, None, Some, slice_get, refl, sym, ap, ◌∙◌, subst, zero, suc, arith, if◌then◌else◌}
 use Rattle.std.specs.Prelude.{◌&&◌, ◌||◌, nat_lt}
 use Rattle.std.specs.Option.{option_map_or, option_and_then}
-use Rattle.std.specs.List.{filter, find, list_any, AllByRecursion}
+use Rattle.std.specs.List.{filter, list_any, AllByRecursion}
 use Rattle.std.proofs.Math.Logic.{⊎_elim}
 use Rattle.std.proofs.lemmas.Bool.{and_parts, and_from, or_cases, or_from, or_left, or_right, and_right, not-true}
 use Rattle.std.proofs.lemmas.Bool.Decides.{nat_tests}
 use Rattle.dns_model.specs.declared.section.Section.TheVariants.{Answer, Authority, Additional}
 use Rattle.dns_model.specs.declared.denial.Denial as declared
 use Rattle.dns_model.specs.declared.denial.Denial.TheVariants as denial
-use Rattle.dns_model.specs.declared.proof.Proof.TheVariants.{Secure}
 use Rattle.dns_model.specs.Names.{name_eq, num_labels}
 use Rattle.dns_model.specs.Types.{type_soa, type_ds, type_cname, type_nsec, type_dnskey, type_nsec3}
 use Rattle.dns_model.specs.Records.{Rr, RrSet, Question, question_eq}
 use Rattle.dns_model.specs.Views.{rrsig_in}
-use Rattle.dns_model.specs.RecordViews.{rrsig_of}
-use Rattle.dns_model.specs.Sections.{is_signature, leaders, sets_of}
+use Rattle.dns_model.specs.Sections.{leaders, sets_of}
 use Rattle.dns_model.specs.Chains.{Judge}
 use Rattle.dns_model.specs.SoundAnswers.{Told, Placed, in_section, placed_sets, section_eq, is_secure}
 use Rattle.dns_model.specs.Trails.{AskedValue, JudgedSetValue, EndingValue, Answered, Denied, Foreign, Failed, Seen}

@@ -1,9 +1,9 @@
 -- What tests that pass say of optional values and of the elements of lists.
 use Rattle.std.proofs.Common.{◌≡◌, Bool, true, false, cond, List, [], ◌∷◌, length, Option, None, Some, slice_get, refl, sym, ap, ◌∙◌, arith, if◌then◌else◌, ◌==◌}
-use Rattle.std.specs.Prelude.{◌&&◌, ◌||◌, ℕ, suc, zero}
+use Rattle.std.specs.Prelude.{◌||◌}
 use Rattle.std.specs.Option.{option_map_or}
 use Rattle.std.specs.List.{filter, find, list_any, AllByRecursion}
-use Rattle.std.proofs.lemmas.Bool.{or_parts, or_cases}
+use Rattle.std.proofs.lemmas.Bool.{or_cases}
 use Rattle.std.proofs.Math.Logic.{⊎_elim}
 use Rattle.dns_model.proofs.SetLemmas.{number_same}
 use Rattle.dns_judgement.specs.Unsigned.{is_empty}
@@ -38,7 +38,7 @@ one_is [] h = cc
 one_is (x ∷ []) h = record { value = x; is = refl }
 one_is (x ∷ y ∷ ys) h = absurd (omega (arith, number_same (length (x ∷ y ∷ ys)) 1 h))
 
-some_same : {X : Type 0} (a b : X) → Some a ≡ Some b → a ≡ b
+pub some_same : {X : Type 0} (a b : X) → Some a ≡ Some b → a ≡ b
 some_same a b h = cc
 
 -- the first of a list of one
