@@ -207,9 +207,11 @@ none_signs j set = none_any any set.signatures (each set.signatures)
   where
     any : Rr → Bool
     any r = list_any (λ key. is_matched_key j set [] key && is_good_by j set r key) set.records
+
     keys : (r : Rr) (ks : List Rr) → AllByRecursion (λ key. (is_matched_key j set [] key && is_good_by j set r key) ≡ false) ks
     keys r [] = tt
     keys r (key ∷ ks) = (ap (λ b. b && is_good_by j set r key) (none_matched j set key), keys r ks)
+
     each : (rs : List Rr) → AllByRecursion (λ r. any r ≡ false) rs
     each [] = tt
     each (r ∷ rs) = (none_any (λ key. is_matched_key j set [] key && is_good_by j set r key) set.records (keys r set.records), each rs)

@@ -13,3 +13,4 @@ pub mod KeyEntryLemmas
 pub mod OrderPathLemmas
 pub mod RankLemmas
 pub mod PathLemmas
+pub mod CompleteLemmas

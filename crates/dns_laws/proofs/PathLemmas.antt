@@ -18,7 +18,7 @@ use Rattle.dns_model.specs.Chains.{Judge}
 use Rattle.dns_model.specs.SoundAnswers.{Told, in_section}
 use Rattle.dns_model.specs.Trails.{AskedValue, JudgedSetValue, Answered}
 use Rattle.dns_model.proofs.SetLemmas.{number_same}
-use Rattle.dns_judgement.specs.Asking.{most_sends, judged_part}
+use Rattle.dns_judgement.specs.Asking.{most_sends, is_judged_at, judged_part}
 use Rattle.dns_judgement.specs.Judged.{Judged}
 use Rattle.dns_judgement.specs.Unsigned.{is_empty}
 use Rattle.dns_judgement.specs.Derivation.{told_in, with_entries, judged_sets, finished_answer, is_ask, is_by_rules, is_by_origin, steps_hold, asks_of, order_step, end_step}
@@ -26,29 +26,15 @@ use Rattle.dns_judgement.specs.DerivationParts.{with_entry, answer_of, is_judged
 use Rattle.dns_judgement.proofs.DerivedLemmas.{steps_hold_at}
 use Rattle.dns_judgement.proofs.SentLemmas.{numbered}
 use Rattle.dns_judgement.proofs.StayLemmas.{slice_get-stays}
+use Rattle.dns_laws.specs.Complete.{Upstream, HeardAlong, AreAsked}
 use Rattle.dns_laws.specs.Valid.{straight_set}
 use Rattle.dns_laws.proofs.TestLemmas.{empty_is}
 use Rattle.dns_laws.proofs.QuestionLemmas.{question_back, question_trans}
 use Rattle.dns_laws.proofs.StraightLemmas.{is_other, IsOneSet, answered}
-use Rattle.dns_laws.proofs.StraightStepLemmas.{is_judged_at, needs_no_denial, IsStraightStep, straight_step, one_judged}
+use Rattle.dns_laws.proofs.StraightStepLemmas.{needs_no_denial, IsStraightStep, straight_step, one_judged}
 use Rattle.dns_laws.proofs.SignedEntryLemmas.{IsSecureSet}
 use Rattle.dns_laws.proofs.OrderPathLemmas.{GoesOn, goes_on, met_next, one_met, many_met, EndsAs, ends_as, none_ends, one_ends}
 use Rattle.dns_laws.proofs.RankLemmas.{rank, same_rank}
-
--- ---- what is told
-
--- an upstream: what it tells to a query, and what a send leaves of it. A send changes nothing for another query, and the case of
--- letters tells no query from another
-pub record Upstream (R : Type 0) : Type 0 where
-  pub tells : R → Question → Option Told
-  pub left : R → Question → R
-  pub stays : (r : R) (q other : Question) → question_eq q other ≡ false → tells (left r q) other ≡ tells r other
-  pub alike : (r : R) (q other : Question) → question_eq q other ≡ true → tells r q ≡ tells r other
-
--- each step heard what the upstream tells at its send
-abbrev pub HeardAlong : {R : Type 0} → Upstream R → R → List AskedValue → Type 0
-HeardAlong up r [] = Unit {0}
-HeardAlong up r (step ∷ steps) = (told_in step.reply ≡ up.tells r step.query) × HeardAlong up (up.left r step.query) steps
 
 -- ---- where a walk stands
 
@@ -154,13 +140,6 @@ pub rules : {R : Type 0} (w : Walk R) (q : Question) (r : R) (n : ℕ) (step : A
 rules w q r n step met more set h = origin_rules w q r n step met more set h h.straight.entry.origin h.straight.origin
 
 -- ---- what a step comes to
-
--- the steps ask these queries
-abbrev pub AreAsked : List Question → List AskedValue → Type 0
-AreAsked [] [] = Unit {0}
-AreAsked [] (step ∷ steps) = ⊥
-AreAsked (q ∷ qs) [] = ⊥
-AreAsked (q ∷ qs) (step ∷ steps) = (question_eq q step.query ≡ true) × AreAsked qs steps
 
 -- the set of the query is Secure, the step ends with an answer, and it and the steps after it are those of the list
 pub record IsShown {R : Type 0} (w : Walk R) (q : Question) (rest : List Question) (n : ℕ) (step : AskedValue) (more : List ℕ) : Type 0 where

@@ -47,6 +47,7 @@ keys_lower rtype class owner signer q fits other is as_long = by_cases (rtype ==
   where
     kind_is : kind q.rtype ≡ kind rtype
     kind_is = ap kind is
+
     by_cases : (b : Bool) → (rtype == type_ds) ≡ b → (if b then strictly_above signer owner else at_or_above signer owner) ≡ true
         → rank (key_question class signer) < rank q
     by_cases true ds h =

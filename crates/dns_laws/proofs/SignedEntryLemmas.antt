@@ -51,8 +51,8 @@ pub keys_ask : (j : Judge) (set : RrSet) (next : Question) (keys : RrSet) (r : R
     → IsKeysAsk j set next keys r
 keys_ask j set next keys r h =
     let test = λ (sig : RrsigValue).
-        signer_fits set.rtype sig.signer set.owner && (question_eq (key_question set.class sig.signer) next
-        && list_any (is_good_by j set r) (counted_keys sig.signer keys.records)) in
+    signer_fits set.rtype sig.signer set.owner && (question_eq (key_question set.class sig.signer) next
+    && list_any (is_good_by j set r) (counted_keys sig.signer keys.records)) in
     let read = passing test (rrsig_of r) h in
     let sig = read.value in
     let one = and_parts (signer_fits set.rtype sig.signer set.owner)

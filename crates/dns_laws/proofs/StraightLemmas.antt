@@ -105,6 +105,7 @@ each_plain q records each = unsigned_each q records each
         → AllByRecursion (IsQueried q) (if b then r ∷ rs else rs)
     kept q true r rs here later = (here refl, later)
     kept q false r rs here later = later
+
     unsigned_each : (q : Question) (records : List Rr) → AllByRecursion (OfReply q) records → AllByRecursion (IsQueried q) (unsigned_part records)
     unsigned_each q [] each = tt
     unsigned_each q (r ∷ rs) each =

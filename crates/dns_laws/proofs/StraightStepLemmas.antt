@@ -10,7 +10,7 @@ use Rattle.dns_model.specs.declared.section.Section.TheVariants.{Answer, Authori
 use Rattle.dns_model.specs.declared.denial.Denial as declared
 use Rattle.dns_model.specs.declared.denial.Denial.TheVariants as denial
 use Rattle.dns_model.specs.Names.{name_eq, num_labels}
-use Rattle.dns_model.specs.Types.{type_soa, type_ds, type_cname, type_nsec, type_dnskey, type_nsec3}
+use Rattle.dns_model.specs.Types.{type_cname, type_nsec, type_nsec3}
 use Rattle.dns_model.specs.Records.{Rr, RrSet, Question, question_eq}
 use Rattle.dns_model.specs.Views.{rrsig_in}
 use Rattle.dns_model.specs.Sections.{leaders, sets_of}
@@ -19,7 +19,7 @@ use Rattle.dns_model.specs.SoundAnswers.{Told, Placed, in_section, placed_sets, 
 use Rattle.dns_model.specs.Trails.{AskedValue, JudgedSetValue, EndingValue, Answered, Denied, Foreign, Failed, Seen}
 use Rattle.dns_model.proofs.EachLemmas.{each_more, each_append}
 use Rattle.dns_model.proofs.SetLemmas.{name_back, name_trans, number_same, number_refl}
-use Rattle.dns_judgement.specs.Asking.{judged_part}
+use Rattle.dns_judgement.specs.Asking.{is_judged_at, judged_part}
 use Rattle.dns_judgement.specs.Judged.{Judged, decider}
 use Rattle.dns_judgement.specs.Outcome.{Outcome, outcome_of, answers_query, has_answer, needs_denial, is_wildcard_signature, is_insecure_authority, insecure_answer, foreign_record}
 use Rattle.dns_judgement.specs.Outcome as outcome
@@ -31,11 +31,6 @@ use Rattle.dns_laws.proofs.TestLemmas.{all_kept, none_found, none_any, empty_is}
 use Rattle.dns_laws.proofs.StraightLemmas.{IsQueried, IsPlain, OfReply, IsOneSet, each_signature}
 
 -- ---- its sets
-
--- sets of a type are judged at a depth
-abbrev pub is_judged_at : ℕ → ℕ → Bool
-is_judged_at depth rtype =
-    (depth == 0) || (rtype == type_dnskey) || (rtype == type_ds) || (rtype == type_nsec) || (rtype == type_nsec3) || (rtype == type_soa)
 
 one_placed : (j : Judge) (q : Question) (told : Told) (set : RrSet) → IsOneSet j q told set → placed_sets told ≡ in_section Answer set ∷ []
 unfolding sets_of leaders

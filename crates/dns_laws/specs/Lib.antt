@@ -1,3 +1,4 @@
 pub mod Ground
 pub mod Straight
 pub mod Valid
+pub mod Complete
