@@ -8,6 +8,7 @@ use Rattle.dns_net.specs.Recording.{RecordedValue, replies_of}
 use Rattle.dns_net.specs.contracts.recorded.RecordedDnsHandle.TheImpl as upstream
 use Rattle.dns_net.specs.declared.request.DnsRequestOptions.{DnsRequestOptions}
 use Rattle.dns_chain.specs.Calls.{Call}
+use Rattle.dns_chain.specs.Inquiries.{asking_request}
 use Rattle.dns_chain.specs.Causes.{PassesOn, ForeignNamed, JudgesTold}
 use Rattle.dns_chain.specs.Looked.{OfAnswer, IsSoundAnswer, IsTrail}
 use Rattle.dns_session.specs.SessionValue.{SessionValue}
@@ -28,6 +29,7 @@ abbrev pub call_for : Inquiry → RecordedValue → RecordedValue → Call Recor
 call_for i old new = record {
   judge = i.judge;
   query = i.query;
+  request = asking_request i.query i.options;
   options = i.options;
   now = i.now;
   old = old;

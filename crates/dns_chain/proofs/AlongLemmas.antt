@@ -8,11 +8,13 @@ use Rattle.dns_net.specs.Errors as seen
 use Rattle.dns_net.specs.Errors.{Reply, ErrorValue}
 use Rattle.dns_net.specs.ErrorKinds.{is_no_records_found}
 use Rattle.dns_net.specs.Handles.{Replies, reply_to, left_after, IsLeft, ReplyIsTold}
+use Rattle.dns_net.specs.Requests.{RequestValue}
 use Rattle.dns_net.specs.declared.request.DnsRequestOptions.{DnsRequestOptions}
 use Rattle.dns_net.specs.declared.handle.DnsHandle as handle
 use Rattle.dns_chain.specs.Heard.{heard_message, heard_value}
-use Rattle.dns_chain.specs.Calls.{IsCaused, Asking}
-use Rattle.dns_chain.specs.Sends.{SendsAlong, is_fault}
+use Rattle.dns_chain.specs.Calls.{Call, IsCaused, Sending, Asking, ask_of, first_of}
+use Rattle.dns_chain.specs.Inquiries.{Ask, request_for}
+use Rattle.dns_chain.specs.Sends.{SendOf, SendsAlong, SendsFrom, is_fault}
 use Rattle.dns_chain.specs.LookupParts.{IsFrom, Tells}
 
 -- ---- what an upstream tells, and what is left
@@ -40,19 +42,33 @@ one_from None step steps reply remembered heard told rest = tt
 one_from (Some replies) step steps reply remembered heard told rest =
     (heard ∙ ap heard_value (told_reply replies step.query reply remembered told), rest)
 
+-- a step heard what the upstream replied, and those after it did
+step_from : {H : Type 0} (meanings : handle.Ghosts H) (by : Ask → RequestValue) (now : ℕ) (old new : H) (step : AskedValue) (steps : List AskedValue)
+    → SendOf (λ from ask to reply. Sending meanings (by ask) (Some ask.query) now from to reply) old step new → IsFrom (meanings.told new) steps
+    → IsFrom (meanings.told old) (step ∷ steps)
+step_from meanings by now old new step steps send rest =
+    let left = left_over (meanings.told old) step.query send.reply (meanings.told new) send.remembered send.made.left in
+    one_from (meanings.told old) step steps send.reply send.remembered send.heard send.made.told (subst (λ t. IsFrom t steps) left rest)
+
+-- no step heard anything
+none_from : (tells : Tells) → IsFrom tells []
+none_from None = tt
+none_from (Some replies) = tt
+
 -- the steps heard what the upstream replies, one send after another
-pub along_from : {H : Type 0} (meanings : handle.Ghosts H) (options : DnsRequestOptions) (now : ℕ) (old new : H) (steps : List AskedValue)
+along_from : {H : Type 0} (meanings : handle.Ghosts H) (options : DnsRequestOptions) (now : ℕ) (old new : H) (steps : List AskedValue)
     → SendsAlong (Asking meanings options now) old steps new → IsFrom (meanings.told old) steps
-along_from meanings options now old new [] along = nothing (meanings.told old)
-  where
-    nothing : (tells : Tells) → IsFrom tells []
-    nothing None = tt
-    nothing (Some replies) = tt
+along_from meanings options now old new [] along = none_from (meanings.told old)
 along_from meanings options now old new (step ∷ steps) along =
-    let send = along.1 in
-    let left = left_over (meanings.told old) step.query send.reply (meanings.told along.0) send.remembered send.made.left in
-    one_from (meanings.told old) step steps send.reply send.remembered send.heard send.made.told
-    (subst (λ t. IsFrom t steps) left (along_from meanings options now along.0 new steps along.2))
+    step_from meanings (request_for options) now old along.0 step steps along.1 (along_from meanings options now along.0 new steps along.2)
+
+-- also where the first send is that of a call
+pub first_from : {H : Type 0} (meanings : handle.Ghosts H) (call : Call H) (old : H) (steps : List AskedValue)
+    → SendsFrom (first_of meanings call) (ask_of meanings call) old steps call.new → IsFrom (meanings.told old) steps
+first_from meanings call old [] along = none_from (meanings.told old)
+first_from meanings call old (step ∷ steps) along =
+    step_from meanings (λ ask. call.request) call.now old along.0 step steps along.1
+    (along_from meanings call.options call.now along.0 call.new steps along.2)
 
 -- ---- faults
 
@@ -89,24 +105,30 @@ rose_one before after (Err error) o is remembered later (inr (inr rose)) = at_mo
 rose_then : (a b c n m : ℕ) → RoseBy n a b → RoseBy m b c → RoseBy (n + m) a c
 rose_then a b c n m first second = omega arith
 
+-- a step met a fault where it heard one, and those after it did
+step_rose : {H : Type 0} (meanings : handle.Ghosts H) (by : Ask → RequestValue) (now : ℕ) (old middle new : H) (step : AskedValue) (steps : List AskedValue)
+    → SendOf (λ from ask to reply. Sending meanings (by ask) (Some ask.query) now from to reply) old step middle
+    → RoseBy (count_by (λ s. is_fault s.reply) steps) (meanings.faults middle) (meanings.faults new)
+    → RoseBy (count_by (λ s. is_fault s.reply) (step ∷ steps)) (meanings.faults old) (meanings.faults new)
+step_rose meanings by now old middle new step steps send rest =
+    let one = rose_one (meanings.faults old) (meanings.faults middle) send.reply (heard_message send.reply) refl send.remembered send.made.later send.made.cause in
+    let here : RoseBy (if is_fault step.reply then 1 else 0) (meanings.faults old) (meanings.faults middle) =
+    subst (λ h. RoseBy (if is_fault h then 1 else 0) (meanings.faults old) (meanings.faults middle)) (sym send.heard) one in
+    subst (λ n. RoseBy n (meanings.faults old) (meanings.faults new)) (sym (sum_by-cons (λ s. if is_fault s.reply then 1 else 0) step steps))
+    (rose_then (meanings.faults old) (meanings.faults middle) (meanings.faults new) (if is_fault step.reply then 1 else 0) (count_by (λ s. is_fault s.reply) steps) here rest)
+
 -- as many faults were met as steps heard one
-pub along_rose : {H : Type 0} (meanings : handle.Ghosts H) (options : DnsRequestOptions) (now : ℕ) (old new : H) (steps : List AskedValue)
+along_rose : {H : Type 0} (meanings : handle.Ghosts H) (options : DnsRequestOptions) (now : ℕ) (old new : H) (steps : List AskedValue)
     → SendsAlong (Asking meanings options now) old steps new → RoseBy (count_by (λ step. is_fault step.reply) steps) (meanings.faults old) (meanings.faults new)
 along_rose meanings options now old new [] along = let same : meanings.faults old ≡ meanings.faults new = ap meanings.faults along in omega arith
 along_rose meanings options now old new (step ∷ steps) along =
-    let send = along.1 in
-    let one = rose_one (meanings.faults old) (meanings.faults along.0) send.reply (heard_message send.reply) refl send.remembered send.made.later send.made.cause in
-    let here : RoseBy (if is_fault step.reply then 1 else 0) (meanings.faults old) (meanings.faults along.0) =
-    subst (λ h. RoseBy (if is_fault h then 1 else 0) (meanings.faults old) (meanings.faults along.0)) (sym send.heard) one in
-    let rest = along_rose meanings options now along.0 new steps along.2 in
-    subst (λ n. RoseBy n (meanings.faults old) (meanings.faults new)) (sym (sum_by-cons (λ s. if is_fault s.reply then 1 else 0) step steps))
-    (rose_then (meanings.faults old) (meanings.faults along.0) (meanings.faults new) (if is_fault step.reply then 1 else 0) (count_by (λ s. is_fault s.reply) steps) here rest)
+    step_rose meanings (request_for options) now old along.0 new step steps along.1 (along_rose meanings options now along.0 new steps along.2)
 
--- and the count never falls
-pub along_later : {H : Type 0} (meanings : handle.Ghosts H) (options : DnsRequestOptions) (now : ℕ) (old new : H) (steps : List AskedValue)
-    → SendsAlong (Asking meanings options now) old steps new → meanings.faults old ≤ meanings.faults new
-along_later meanings options now old new [] along = let same : meanings.faults old ≡ meanings.faults new = ap meanings.faults along in omega arith
-along_later meanings options now old new (step ∷ steps) along =
-    let here = along.1.made.later in
-    let rest = along_later meanings options now along.0 new steps along.2 in
-    omega arith
+-- also where the first send is that of a call
+pub first_rose : {H : Type 0} (meanings : handle.Ghosts H) (call : Call H) (old : H) (steps : List AskedValue)
+    → SendsFrom (first_of meanings call) (ask_of meanings call) old steps call.new
+    → RoseBy (count_by (λ step. is_fault step.reply) steps) (meanings.faults old) (meanings.faults call.new)
+first_rose meanings call old [] along = let same : meanings.faults old ≡ meanings.faults call.new = ap meanings.faults along in omega arith
+first_rose meanings call old (step ∷ steps) along =
+    step_rose meanings (λ ask. call.request) call.now old along.0 call.new step steps along.1
+    (along_rose meanings call.options call.now along.0 call.new steps along.2)

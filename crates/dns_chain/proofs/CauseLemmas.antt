@@ -14,7 +14,7 @@ use Rattle.dns_net.specs.declared.error.NetError.{NetError}
 use Rattle.dns_net.specs.declared.handle.DnsHandle as handle
 use Rattle.dns_net.specs.declared.notice.Notice.TheVariants.{NotJudgedYet}
 use Rattle.dns_chain.specs.Heard.{heard_message}
-use Rattle.dns_chain.specs.Calls.{Call, IsCaused, ask_of}
+use Rattle.dns_chain.specs.Calls.{Call, IsCaused, first_of}
 use Rattle.dns_chain.specs.Inquiries.{judged_ask}
 use Rattle.dns_chain.specs.Looked.{UnlessNoMemory}
 use Rattle.dns_chain.specs.Causes.{is_upstreams, PassedOn, PassesOnly, PassesOn}
@@ -77,7 +77,7 @@ rose_by before after e silent remembered (inl memory) = absurd (remembered memor
 rose_by before after e silent remembered (inr (inl none)) = absurd (silent_none e silent none)
 rose_by before after e silent remembered (inr (inr rose)) = rose
 
-pub passed_on : {H : Type 0} (meanings : handle.Ghosts H) (call : Call H) (e : ErrorValue) → ask_of meanings call call.old (judged_ask call.query) call.new (Err e)
+pub passed_on : {H : Type 0} (meanings : handle.Ghosts H) (call : Call H) (e : ErrorValue) → first_of meanings call call.old (judged_ask call.query) call.new (Err e)
     → heard_message (Err e) ≡ None → e ≢ seen.NoMemory → PassedOn meanings call e
 passed_on meanings call e made silent remembered = record {
   made = made;

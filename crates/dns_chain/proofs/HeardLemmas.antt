@@ -14,7 +14,7 @@ use Rattle.dns_net.specs.declared.error.NetError.{NetError}
 use Rattle.dns_net.specs.declared.error.NetError.TheVariants.{Busy, Dns, Message, Msg, NoConnections, Proto, Io, Timeout, QueryCaseMismatch, ForeignClassRecord, Truncated, NoMemory}
 use Rattle.dns_net.specs.declared.handle.DnsHandle as handle
 use Rattle.dns_net.specs.declared.request.DnsRequestOptions.{DnsRequestOptions}
-use Rattle.dns_chain.specs.Calls.{Asking, IsCaused}
+use Rattle.dns_chain.specs.Calls.{Sending, Asking, IsCaused}
 use Rattle.dns_chain.specs.Heard.{heard_message, says_none}
 use Rattle.dns_chain.specs.Inquiries.{Ask, request_for}
 use Rattle.dns_chain.specs.Sends.{SendOf, ask_of_step}
@@ -92,6 +92,26 @@ first_asked : (options : DnsRequestOptions) (q : Question) (judged : Bool)
 first_asked options q true = refl
 first_asked options q false = refl
 
+-- a send of a request, by its first question
+pub sending_made : {H : Type 0} (meanings : handle.Ghosts H) (now : ℕ) (from to : H) (request : RequestValue) (asked : Option Question) (reply : Reply)
+    → first_question request ≡ asked → meanings.sent from (first_question request) to reply
+    → meanings.requested from request now to reply → ReplyIsTold (meanings.told from) (first_question request) reply
+    → IsLeft (meanings.told from) (first_question request) reply (meanings.told to)
+    → meanings.faults from ≤ meanings.faults to → IsCaused (meanings.faults from) (meanings.faults to) reply
+    → Sending meanings request asked now from to reply
+sending_made meanings now from to request asked reply asks made carried told left later cause =
+    let Made : Option Question → Type 0 = λ o. meanings.sent from o to reply in
+    let Told : Option Question → Type 0 = λ o. ReplyIsTold (meanings.told from) o reply in
+    let Left : Option Question → Type 0 = λ o. IsLeft (meanings.told from) o reply (meanings.told to) in
+    record {
+      made = subst Made asks made;
+      carried = carried;
+      told = subst Told asks told;
+      left = subst Left asks left;
+      later = later;
+      cause = cause;
+    }
+
 -- a send of the request of an ask
 pub asking_made : {H : Type 0} (meanings : handle.Ghosts H) (options : DnsRequestOptions) (now : ℕ) (from to : H) (request : RequestValue) (q : Question)
     (judged : Bool) (reply : Reply)
@@ -101,19 +121,9 @@ pub asking_made : {H : Type 0} (meanings : handle.Ghosts H) (options : DnsReques
     → meanings.faults from ≤ meanings.faults to → IsCaused (meanings.faults from) (meanings.faults to) reply
     → Asking meanings options now from (record { query = q; judged = judged }) to reply
 asking_made meanings options now from to request q judged reply is made carried told left later cause =
-    let asks : first_question request ≡ Some q = ap first_question is ∙ first_asked options q judged in
-    let Made : Option Question → Type 0 = λ o. meanings.sent from o to reply in
-    let Carried : RequestValue → Type 0 = λ r. meanings.requested from r now to reply in
-    let Told : Option Question → Type 0 = λ o. ReplyIsTold (meanings.told from) o reply in
-    let Left : Option Question → Type 0 = λ o. IsLeft (meanings.told from) o reply (meanings.told to) in
-    record {
-      made = subst Made asks made;
-      request = subst Carried is carried;
-      told = subst Told asks told;
-      left = subst Left asks left;
-      later = later;
-      cause = cause;
-    }
+    let Sent : RequestValue → Type 0 = λ r. Sending meanings r (Some q) now from to reply in
+    subst Sent is
+    (sending_made meanings now from to request (Some q) reply (ap first_question is ∙ first_asked options q judged) made carried told left later cause)
 
 -- what a reply's error was caused by
 pub caused : (before now : ℕ) (result : Result ResponseValue NetError) → HasCause before now result → IsCaused before now (reply_of result)

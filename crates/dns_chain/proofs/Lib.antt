@@ -13,3 +13,4 @@ pub mod CauseLemmas
 pub mod ForeignLemmas
 pub mod UnjudgedLemmas
 pub mod LookLemmas
+pub mod SendingLemmas

@@ -12,15 +12,17 @@ use Rattle.dns_net.specs.Errors as seen
 use Rattle.dns_net.specs.Errors.{Reply, ForeignClassRecord}
 use Rattle.dns_net.specs.Handles.{OrUnsent}
 use Rattle.dns_net.specs.Replies.{error_of}
+use Rattle.dns_net.specs.Requests.{RequestValue}
 use Rattle.dns_net.specs.Walks.{Walked}
 use Rattle.dns_net.specs.declared.error.NetError.{NetError}
 use Rattle.dns_net.specs.declared.error.NetError.TheVariants.{Busy, Dns, Message, Msg, NoConnections, Proto, Io, Timeout, QueryCaseMismatch, ForeignClassRecord as ForeignClass, Truncated, NoMemory}
 use Rattle.dns_net.specs.declared.handle.DnsHandle as handle
+use Rattle.dns_net.specs.declared.request.DnsRequestOptions.{DnsRequestOptions}
 use Rattle.dns_net.proofs.WalkLemmas.{no_walk}
 use Rattle.dns_chain.specs.Heard.{heard_message}
-use Rattle.dns_chain.specs.Calls.{Call, ask_of}
-use Rattle.dns_chain.specs.Inquiries.{Ask, judged_ask}
-use Rattle.dns_chain.specs.Sends.{SendsFor}
+use Rattle.dns_chain.specs.Calls.{Call, Asking, Requesting, ask_of, first_of}
+use Rattle.dns_chain.specs.Inquiries.{Ask, judged_ask, request_for}
+use Rattle.dns_chain.specs.Sends.{SendsBy, SendsFor}
 use Rattle.dns_chain.specs.Walking.{Heard, Went, Asks, IsJudgement, IsConcluded}
 use Rattle.dns_chain.specs.Answering.{Findings, judged_answer, Found, Looked, Passes, Names, Judges}
 use Rattle.dns_chain.specs.declared.asking.HeardMessage.{HeardMessage}
@@ -31,28 +33,30 @@ use Rattle.dns_chain.proofs.HeardLemmas.{unheard_as}
 -- ---- the sends
 
 -- one ask for a query is all that was sent
-pub sends_once : {H : Type 0} (ask : H → Ask → H → Reply → Type 0) (old new : H) (q : Question) (reply : Reply)
-    → ask old (judged_ask q) new reply → SendsFor ask old new q
-sends_once ask old new q reply made =
+pub sends_once : {H : Type 0} (first ask : H → Ask → H → Reply → Type 0) (old new : H) (q : Question) (reply : Reply)
+    → first old (judged_ask q) new reply → SendsBy first ask old new q
+sends_once first ask old new q reply made =
     record { middle = new; reply = reply; sends = 1; first = made; others = no_walk ask new 1 1 (omega arith); few = omega arith }
 
 -- one ask for a query, and a walk of further asks
-pub sends_more : {H : Type 0} (ask : H → Ask → H → Reply → Type 0) (faults : H → ℕ) (old middle new : H) (q : Question) (reply : Reply) (n m : ℕ)
-    → ask old (judged_ask q) middle reply → n ≡ 1 → Went ask faults middle new n m → SendsFor ask old new q
-sends_more ask faults old middle new q reply n m made one went =
+pub sends_more : {H : Type 0} (first ask : H → Ask → H → Reply → Type 0) (faults : H → ℕ) (old middle new : H) (q : Question) (reply : Reply) (n m : ℕ)
+    → first old (judged_ask q) middle reply → n ≡ 1 → Went ask faults middle new n m → SendsBy first ask old new q
+sends_more first ask faults old middle new q reply n m made one went =
     let Way : ℕ → Type 0 = λ k. Walked ask middle new k m in
     record { middle = middle; reply = reply; sends = m; first = made; others = subst Way one went.walk; few = went.few }
+
+-- the first ask is one like the others
+pub sends_alike : {H : Type 0} (meanings : handle.Ghosts H) (options : DnsRequestOptions) (now : ℕ) (request : RequestValue) (old new : H) (q : Question)
+    → request ≡ request_for options (judged_ask q) → SendsBy (Requesting meanings request now) (Asking meanings options now) old new q
+    → SendsFor (Asking meanings options now) old new q
+sends_alike meanings options now request old new q is by =
+    let First : RequestValue → Type 0 = λ r. Requesting meanings r now old (judged_ask q) by.middle by.reply in
+    record { middle = by.middle; reply = by.reply; sends = by.sends; first = subst First is by.first; others = by.others; few = by.few }
 
 -- a fact of asks that were made, whatever came of them
 pub or_sent : {H X : Type 0} (old new : H) (result : Result X NetError) (Sent : Type 0) → Sent → OrUnsent old new result Sent
 or_sent old new (Ok x) Sent sent = sent
 or_sent old new (Err e) Sent sent = inl sent
-
--- an ask that was heard, or that wasn't sent
-pub sends_heard : {H : Type 0} (ask : H → Ask → H → Reply → Type 0) (old new : H) (q : Question) (e : NetError)
-    → Heard ask old new (judged_ask q) (Err e) ⊎ ((e ≡ NoMemory) × (new ≡ old)) → SendsFor ask old new q ⊎ ((e ≡ NoMemory) × (new ≡ old))
-sends_heard ask old new q e (inl heard) = inl (sends_once ask old new q heard.reply heard.made)
-sends_heard ask old new q e (inr unsent) = inr unsent
 
 -- ---- an error of the first ask
 
@@ -75,25 +79,23 @@ or_other (ForeignClass owner class rtype) = IsOther (λ h. cc)
 or_other Truncated = IsOther (λ h. cc)
 or_other NoMemory = IsMemory refl
 
-pass_on : {H : Type 0} (meanings : handle.Ghosts H) (call : Call H) (e : NetError) → Heard (ask_of meanings call) call.old call.new (judged_ask call.query) (Err e) → OrOther e
+pass_on : {H : Type 0} (meanings : handle.Ghosts H) (call : Call H) (e : NetError) → Heard (first_of meanings call) call.old call.new (judged_ask call.query) (Err e) → OrOther e
     → (e ≡ NoMemory) ⊎ Looked meanings call (Err (error_of e))
 pass_on meanings call e heard (IsMemory memory) = inl memory
 pass_on meanings call e heard (IsOther other) =
     let unheard = unheard_as heard.reply e (λ memory. other (ap error_of memory)) heard.heard in
-    let made = subst (λ r. ask_of meanings call call.old (judged_ask call.query) call.new r) unheard.is heard.made in
+    let made = subst (λ r. first_of meanings call call.old (judged_ask call.query) call.new r) unheard.is heard.made in
     inr (Passes (error_of e) made (sym (ap heard_message unheard.is) ∙ unheard.none) other)
 
 -- an error without a message is passed on, unless memory ran out
 pub look_passes : {H : Type 0} (meanings : handle.Ghosts H) (call : Call H) (e : NetError)
-    → Heard (ask_of meanings call) call.old call.new (judged_ask call.query) (Err e) ⊎ ((e ≡ NoMemory) × (call.new ≡ call.old))
-    → (e ≡ NoMemory) ⊎ Looked meanings call (Err (error_of e))
-look_passes meanings call e (inl heard) = pass_on meanings call e heard (or_other e)
-look_passes meanings call e (inr unsent) = inl unsent.0
+    → Heard (first_of meanings call) call.old call.new (judged_ask call.query) (Err e) → (e ≡ NoMemory) ⊎ Looked meanings call (Err (error_of e))
+look_passes meanings call e heard = pass_on meanings call e heard (or_other e)
 
 -- ---- a record of another class
 
 pub look_names : {H : Type 0} (meanings : handle.Ghosts H) (call : Call H) (heard : HeardMessage) (r : Rr) (answer : Reply)
-    → Heard (ask_of meanings call) call.old call.new (judged_ask call.query) (Ok heard) → foreign_record call.query (told_by heard.message) ≡ Some r
+    → Heard (first_of meanings call) call.old call.new (judged_ask call.query) (Ok heard) → foreign_record call.query (told_by heard.message) ≡ Some r
     → answer ≡ Err (ForeignClassRecord r.owner r.class r.rtype) → Looked meanings call answer
 look_names meanings call heard r answer h found is =
     Names h.reply answer h.heard.from r h.made h.heard.is (ap (λ m. foreign_record call.query (told_by m)) (sym h.heard.cleared) ∙ found) is
@@ -132,7 +134,7 @@ findings heard steps sets entries o excuse = record {
 
 review_found : {H : Type 0} (meanings : handle.Ghosts H) (call : Call H) (middle then : H) (heard : HeardMessage) (placed : List Placed)
     (before judged_by steps : List AskedValue) (limit n k m : ℕ) (sets : List Chained) (entries : List JudgedSetValue) (o : Outcome) (excuse : List AskRef)
-    → Heard (ask_of meanings call) call.old middle (judged_ask call.query) (Ok heard) → foreign_record call.query (told_by heard.message) ≡ None
+    → Heard (first_of meanings call) call.old middle (judged_ask call.query) (Ok heard) → foreign_record call.query (told_by heard.message) ≡ None
     → Begins call heard placed before limit n
     → Review meanings call middle then heard placed before judged_by steps limit n k m sets entries o excuse
     → Found meanings call (findings heard steps sets entries o excuse)
@@ -169,7 +171,7 @@ review_found meanings call middle then heard placed before judged_by steps limit
 pub look_judges : {H : Type 0} (meanings : handle.Ghosts H) (call : Call H) (middle then : H) (heard : HeardMessage) (placed : List Placed)
     (before judged_by steps : List AskedValue) (limit n k m : ℕ) (sets : List Chained) (entries : List JudgedSetValue) (o : Outcome) (excuse : List AskRef)
     (answer : Reply)
-    → Heard (ask_of meanings call) call.old middle (judged_ask call.query) (Ok heard) → foreign_record call.query (told_by heard.message) ≡ None
+    → Heard (first_of meanings call) call.old middle (judged_ask call.query) (Ok heard) → foreign_record call.query (told_by heard.message) ≡ None
     → Begins call heard placed before limit n
     → Review meanings call middle then heard placed before judged_by steps limit n k m sets entries o excuse
     → answer ≡ judged_answer call.now call.query (findings heard steps sets entries o excuse) → Looked meanings call answer

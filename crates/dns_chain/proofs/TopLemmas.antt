@@ -17,13 +17,13 @@ use Rattle.dns_judgement.proofs.DerivationLemmas.{top_step_is, top_derivation, t
 use Rattle.dns_judgement.proofs.DerivedLemmas.{derivation_depths, derivation_sent}
 use Rattle.dns_net.specs.declared.handle.DnsHandle as handle
 use Rattle.dns_chain.specs.Heard.{heard_message, says_none}
-use Rattle.dns_chain.specs.Calls.{Call, ask_of}
-use Rattle.dns_chain.specs.Sends.{SendOf, SendsAlong}
+use Rattle.dns_chain.specs.Calls.{Call, ask_of, first_of}
+use Rattle.dns_chain.specs.Sends.{SendOf, SendsAlong, SendsFrom}
 use Rattle.dns_chain.specs.Looked.{IsSoundAnswer, IsTrail, HasMarksOfTrail}
 use Rattle.dns_chain.specs.Answering.{top_of, Findings, trail_of, top_grounds, Found}
 use Rattle.dns_chain.specs.LookupParts.{told_of, heard_told}
 use Rattle.dns_chain.proofs.StepLemmas.{judged_step_holds}
-use Rattle.dns_chain.proofs.AlongLemmas.{along_from, along_rose}
+use Rattle.dns_chain.proofs.AlongLemmas.{first_from, first_rose}
 
 -- ---- the last step
 
@@ -32,7 +32,7 @@ none_some m h = cc
 
 -- the first ask, as the last step keeps it
 top_send : {H : Type 0} (meanings : handle.Ghosts H) (call : Call H) (found : Findings) (ending : EndingValue) (f : Found meanings call found)
-    → SendOf (ask_of meanings call) call.old (top_of call.query (told_by found.message) found.empty found.entries ending found.excuse) f.middle
+    → SendOf (first_of meanings call) call.old (top_of call.query (told_by found.message) found.empty found.entries ending found.excuse) f.middle
 top_send meanings call found ending f = record {
   reply = f.reply;
   made = f.made;
@@ -66,10 +66,10 @@ found_trail meanings call found ending f ends =
     let holds : step_holds call.judge (depth_limit d) found.steps step ≡ true =
     ap (λ e. step_holds call.judge (depth_limit d) found.steps (top_of call.query told found.empty found.entries e found.excuse)) ends ∙ ended in
     let derived = top_derivation call.judge d found.steps step f.sends (record { part = asks.part; holds = holds; top = refl; few = f.few }) in
-    let along : SendsAlong (ask_of meanings call) call.old (step ∷ steps_at found.steps (Some asks.part.order)) call.new =
+    let along : SendsFrom (first_of meanings call) (ask_of meanings call) call.old (step ∷ steps_at found.steps (Some asks.part.order)) call.new =
     (f.middle, top_send meanings call found ending f, asks.sends) in
-    let walked : SendsAlong (ask_of meanings call) call.old (in_send_order trail) call.new =
-    subst (λ steps. SendsAlong (ask_of meanings call) call.old steps call.new)
+    let walked : SendsFrom (first_of meanings call) (ask_of meanings call) call.old (in_send_order trail) call.new =
+    subst (λ steps. SendsFrom (first_of meanings call) (ask_of meanings call) call.old steps call.new)
     (sym (top_sent call.judge (depth_limit d) found.steps step f.sends asks.part)) along in
     let counts = top_counts call.judge (depth_limit d) found.steps step f.sends asks.part in
     record {
@@ -83,8 +83,8 @@ found_trail meanings call found ending f ends =
         shallow = derivation_depths call.judge d trail derived;
         each = derivation_sent call.judge d trail derived;
         walked = walked;
-        from = along_from meanings call.options call.now call.old call.new (in_send_order trail) walked;
-        faults = along_rose meanings call.options call.now call.old call.new (in_send_order trail) walked;
+        from = first_from meanings call call.old (in_send_order trail) walked;
+        faults = first_rose meanings call call.old (in_send_order trail) walked;
       };
       top = refl;
     }

@@ -15,20 +15,22 @@ use Rattle.dns_judgement.specs.Outcome.{Outcome, Unjudged, Accepted, Searched, f
 use Rattle.dns_judgement.specs.Outcome as outcome
 use Rattle.dns_net.specs.Errors as seen
 use Rattle.dns_net.specs.Errors.{Reply, ErrorValue}
+use Rattle.dns_net.specs.Requests.{RequestValue}
 use Rattle.dns_net.specs.declared.handle.DnsHandle as handle
 use Rattle.dns_net.specs.declared.notice.Notice.TheVariants.{NotJudgedYet}
 use Rattle.dns_trust.specs.Judge.{judge_of}
 use Rattle.dns_chain.specs.Heard.{heard_message, says_none}
-use Rattle.dns_chain.specs.Calls.{Call, ask_of}
+use Rattle.dns_chain.specs.Calls.{Call, ask_of, first_of}
 use Rattle.dns_chain.specs.Inquiries.{judged_ask}
 use Rattle.dns_chain.specs.Walking.{Asks, IsJudgement, IsConcluded, judged_step}
 use Rattle.dns_chain.specs.declared.inquiry.Inquiry.{Inquiry}
 
--- a lookup of an inquiry
-abbrev pub call_by : {H V : Type 0} → (V → VerifierAnswers) → Inquiry V → Question → H → H → Call H
-call_by answers inquiry q old new = record {
+-- a lookup of an inquiry by a request
+abbrev pub call_by : {H V : Type 0} → (V → VerifierAnswers) → Inquiry V → RequestValue → Question → H → H → Call H
+call_by answers inquiry request q old new = record {
   judge = judge_of answers inquiry.judge;
   query = q;
+  request = request;
   options = inquiry.options;
   now = inquiry.judge.moment;
   old = old;
@@ -81,7 +83,7 @@ pub record Found {H : Type 0} (meanings : handle.Ghosts H) (call : Call H) (foun
   pub from : MessageValue
   pub middle : H
   pub sends : ℕ
-  pub made : ask_of meanings call call.old (judged_ask call.query) middle reply
+  pub made : first_of meanings call call.old (judged_ask call.query) middle reply
   pub heard : heard_message reply ≡ Some from
   pub cleared : found.message ≡ cleared_message from
   pub empty : found.empty ≡ says_none reply
@@ -95,10 +97,10 @@ pub record Found {H : Type 0} (meanings : handle.Ghosts H) (call : Call H) (foun
 -- why a lookup answers as it does
 pub data Looked {H : Type 0} (meanings : handle.Ghosts H) (call : Call H) : Reply → Type 0 where
   -- an error without a message is passed on
-  Passes : (e : ErrorValue) → ask_of meanings call call.old (judged_ask call.query) call.new (Err e) → heard_message (Err e) ≡ None
+  Passes : (e : ErrorValue) → first_of meanings call call.old (judged_ask call.query) call.new (Err e) → heard_message (Err e) ≡ None
       → e ≢ seen.NoMemory → Looked meanings call (Err e)
   -- a record of another class is named
-  Names : (reply answer : Reply) (from : MessageValue) (r : Rr) → ask_of meanings call call.old (judged_ask call.query) call.new reply
+  Names : (reply answer : Reply) (from : MessageValue) (r : Rr) → first_of meanings call call.old (judged_ask call.query) call.new reply
       → heard_message reply ≡ Some from → foreign_record call.query (told_by (cleared_message from)) ≡ Some r
       → answer ≡ Err (seen.ForeignClassRecord r.owner r.class r.rtype) → Looked meanings call answer
   -- the sets of the message are judged, and make the answer

@@ -14,7 +14,7 @@ use Rattle.dns_net.specs.Handles.{Replies, reply_to}
 use Rattle.dns_net.specs.declared.handle.DnsHandle as handle
 use Rattle.dns_net.specs.declared.notice.Notice.TheVariants.{NotJudgedYet}
 use Rattle.dns_chain.specs.Heard.{heard_message, heard}
-use Rattle.dns_chain.specs.Calls.{Call, ask_of}
+use Rattle.dns_chain.specs.Calls.{Call, first_of}
 use Rattle.dns_chain.specs.Inquiries.{judged_ask}
 use Rattle.dns_chain.specs.Looked.{IsTrail}
 
@@ -30,7 +30,7 @@ is_upstreams error = true
 
 -- the call made one send and no other, it was answered this error, which has no message, and a fault was met
 pub record PassedOn {H : Type 0} (meanings : handle.Ghosts H) (call : Call H) (error : ErrorValue) : Type 0 where
-  pub made : ask_of meanings call call.old (judged_ask call.query) call.new (Err error)
+  pub made : first_of meanings call call.old (judged_ask call.query) call.new (Err error)
   pub silent : heard_message (Err error) ≡ None
   pub rose : Rose (meanings.faults call.old) (meanings.faults call.new)
 
@@ -52,7 +52,7 @@ pub record NamesForeign {H : Type 0} (meanings : handle.Ghosts H) (call : Call H
   pub reply : Reply
   pub records : Told
   pub first : Rr
-  pub made : ask_of meanings call call.old (judged_ask call.query) call.new reply
+  pub made : first_of meanings call call.old (judged_ask call.query) call.new reply
   pub heard : heard reply ≡ Some records
   pub found : foreign_record call.query records ≡ Some first
   pub named : error ≡ ForeignClassRecord first.owner first.class first.rtype

@@ -5,5 +5,6 @@ pub mod Sends
 pub mod LookupParts
 pub mod Looked
 pub mod Causes
+pub mod Sending
 pub mod Walking
 pub mod Answering

@@ -15,9 +15,9 @@ use Rattle.dns_net.specs.declared.error.NetError.{NetError}
 use Rattle.dns_net.specs.declared.error.NetError.TheVariants.{NoMemory}
 use Rattle.dns_net.specs.declared.handle.DnsHandle as handle
 use Rattle.dns_chain.specs.Heard.{heard_message}
-use Rattle.dns_chain.specs.Calls.{Call, ask_of}
+use Rattle.dns_chain.specs.Calls.{Call, ask_of, first_of}
 use Rattle.dns_chain.specs.Inquiries.{judged_ask}
-use Rattle.dns_chain.specs.Sends.{SendsAlong, IsFromReplies, is_fault}
+use Rattle.dns_chain.specs.Sends.{SendsAlong, SendsFrom, IsFromReplies, is_fault}
 
 -- a fact, unless memory ran out
 abbrev pub UnlessNoMemory : {X : Type 0} → Result X NetError → Type 0 → Type 0
@@ -36,7 +36,7 @@ pub record IsSoundAnswer {H : Type 0} (meanings : handle.Ghosts H) (call : Call 
   pub middle : H
   pub reply : Reply
   pub message : MessageValue
-  pub made : ask_of meanings call call.old (judged_ask call.query) middle reply
+  pub made : first_of meanings call call.old (judged_ask call.query) middle reply
   pub heard : heard_message reply ≡ Some message
   pub header : a.message ≡ record message { answers = a.message.answers; authorities = a.message.authorities; additionals = a.message.additionals }
   pub sound : Sound call.judge call.now (told_by message) a
@@ -54,7 +54,7 @@ pub record IsTrail {H : Type 0} (meanings : handle.Ghosts H) (call : Call H) (tr
   pub few : length trail ≤ most_sends
   pub shallow : All (λ step. step.depth ≤ depth_limit call.options.max_request_depth) trail
   pub each : length (in_send_order trail) ≡ length trail
-  pub walked : SendsAlong (ask_of meanings call) call.old (in_send_order trail) call.new
+  pub walked : SendsFrom (first_of meanings call) (ask_of meanings call) call.old (in_send_order trail) call.new
   pub from : IfSome (meanings.told call.old) (λ replies. IsFromReplies replies (in_send_order trail))
   pub faults : RoseBy (count_by (λ step. is_fault step.reply) (in_send_order trail)) (meanings.faults call.old) (meanings.faults call.new)
 

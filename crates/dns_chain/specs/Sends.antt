@@ -26,6 +26,11 @@ abbrev pub SendsAlong : {H : Type 0} → (H → Ask → H → Reply → Type 0) 
 SendsAlong ask from [] to = from ≡ to
 SendsAlong {H} ask from (step ∷ steps) to = (middle : H) × SendOf ask from step middle × SendsAlong ask middle steps to
 
+-- the first step by an ask of another kind
+abbrev pub SendsFrom : {H : Type 0} → (H → Ask → H → Reply → Type 0) → (H → Ask → H → Reply → Type 0) → H → List AskedValue → H → Type 0
+SendsFrom first ask from [] to = from ≡ to
+SendsFrom {H} first ask from (step ∷ steps) to = (middle : H) × SendOf first from step middle × SendsAlong ask middle steps to
+
 -- each step heard what an upstream that tells its replies replies, one send after another
 abbrev pub IsFromReplies : Replies → List AskedValue → Type 0
 IsFromReplies replies [] = Unit {0}
@@ -37,11 +42,16 @@ abbrev pub is_fault : HeardValue → Bool
 is_fault (Records told empty) = false
 is_fault Fault = true
 
--- a handle went from one state to another by a judged ask for the query and other asks after it, at most so many in all
-pub record SendsFor {H : Type 0} (ask : H → Ask → H → Reply → Type 0) (old new : H) (q : Question) : Type 0 where
+-- a handle went from one state to another by a judged ask for the query, of one kind, and asks of another kind after it, at most
+-- so many in all
+pub record SendsBy {H : Type 0} (begin ask : H → Ask → H → Reply → Type 0) (old new : H) (q : Question) : Type 0 where
   pub middle : H
   pub reply : Reply
   pub sends : ℕ
-  pub first : ask old (judged_ask q) middle reply
+  pub first : begin old (judged_ask q) middle reply
   pub others : Walked ask middle new 1 sends
   pub few : sends ≤ most_sends
+
+-- all of them of one kind
+abbrev pub SendsFor : {H : Type 0} → (H → Ask → H → Reply → Type 0) → H → H → Question → Type 0
+SendsFor ask old new q = SendsBy ask ask old new q

@@ -1,17 +1,21 @@
-ghost use Rattle.std.specs.Prelude.{◌≡◌, ◌<◌, ◌+◌, false, IfOk};
+ghost use Rattle.std.specs.Prelude.{◌≡◌, ◌≤◌, ◌<◌, ◌+◌, false, IfOk, Some};
 ghost use Rattle.std.specs.List.{list_any};
 ghost use Rattle.dns_judgement.specs.Asking.{most_sends};
 ghost use Rattle.dns_judgement.specs.Derivation.{same_record};
 ghost use Rattle.dns_judgement.specs.Marking.{cleared_message};
 ghost use Rattle.dns_net.specs.Handles.{OrUnsent};
+ghost use Rattle.dns_model.specs.Records.{Question};
 ghost use Rattle.dns_net.specs.Replies.{reply_of};
+ghost use Rattle.dns_net.specs.Requests.{first_question};
+ghost use Rattle.dns_chain.specs.Calls.{Requesting};
+ghost use Rattle.dns_chain.specs.Inquiries.{judged_ask};
 ghost use Rattle.dns_chain.specs.Heard.{no_records_message, with_soa as with_soa_of};
 ghost use Rattle.dns_chain.specs.Walking.{asking, Went, HeardAs, Heard};
 
 use crate::inquiry::{Inquiry, Progress, request_for};
 use dns_message::Message;
 use dns_name::NoMemory;
-use dns_net::{DnsError, DnsHandle, DnsResponse, NetError, NoRecords};
+use dns_net::{DnsError, DnsHandle, DnsRequest, DnsResponse, NetError, NoRecords};
 use dns_record::{OpCode, Query, Record};
 use dns_sets::clear_marks;
 use std::alloc::Global;
@@ -45,6 +49,20 @@ pub(crate) fn hear<H: DnsHandle, V>(
     progress.sends += 1;
     let request = request_for(alloc, query, &inquiry.options, judged)?;
     heard_of(alloc, handle.send(alloc, request, inquiry.judge.moment))
+}
+
+/// Sends a request, and hears the message of the reply in the same way.
+pub(crate) fn hear_reply<H: DnsHandle>(
+    alloc: Global,
+    handle: &mut H,
+    request: DnsRequest,
+    now: u64,
+) -> Result<HeardMessage, NetError>
+    ensures later { H.faults handle.old ≤ H.faults handle.new }
+    ensures heard { (q : Question) → first_question request ≡ Some q
+        → Heard (Requesting H.DnsHandle request now) handle.old handle.new (judged_ask q) result }
+{
+    heard_of(alloc, handle.send(alloc, request, now))
 }
 
 // The message of a reply, or its error.

@@ -7,9 +7,10 @@ ghost use Rattle.dns_chain.specs.Looked.{UnlessNoMemory, OfAnswer, IsSoundAnswer
 ghost use Rattle.dns_chain.specs.Sends.{SendsFor};
 
 use crate::inquiry::{Inquiry, depth_limit_of};
-use crate::looking::look;
+use crate::looking::look_up;
+use crate::sending::{answer_request, faults_after};
 use dns_name::NoMemory;
-use dns_net::{DnsHandle, DnsRequestOptions, DnsResponse, NetError, Verifier};
+use dns_net::{DnsHandle, DnsRequest, DnsRequestOptions, DnsResponse, NetError, Verifier};
 use dns_record::Query;
 use dns_trust::{Judge, TrustAnchors};
 use std::alloc::Global;
@@ -20,21 +21,28 @@ pub struct DnssecDnsHandle<H: Drop, V: Drop> {
     handle: H,
     anchors: TrustAnchors,
     verifier: V,
+    sends: u64,
+    faults: u64,
 }
 
 impl<H: DnsHandle + Drop, V: Verifier + Drop> DnssecDnsHandle<H, V> {
     ghost use Rattle.dns_chain.specs.Calls.{inner_of, anchors_of, verifier_of, call_of};
+    ghost use Rattle.dns_chain.specs.Sending.{sends_of, faults_of, IsCounted};
 
     /// A validator that trusts these anchors and tests signatures by this verifier.
     pub fn new(handle: H, anchors: TrustAnchors, verifier: V) -> Result<Self, NoMemory>
         ensures handle { IfOk result (λ h. inner_of h ≡ handle) }
         ensures anchors { IfOk result (λ h. anchors_of h ≡ anchors) }
         ensures verifier { IfOk result (λ h. verifier_of h ≡ verifier) }
+        ensures sends { IfOk result (λ h. sends_of h ≡ 0) }
+        ensures faults { IfOk result (λ h. faults_of h ≡ 0) }
     {
         Ok(DnssecDnsHandle {
             handle,
             anchors,
             verifier,
+            sends: 0,
+            faults: 0,
         })
     }
 
@@ -47,6 +55,8 @@ impl<H: DnsHandle + Drop, V: Verifier + Drop> DnssecDnsHandle<H, V> {
         ensures handle { IfOk result (λ h. inner_of h ≡ handle) }
         ensures anchors { IfOk result (λ h. anchors_of h ≡ anchors) }
         ensures verifier { IfOk result (λ h. verifier_of h ≡ verifier) }
+        ensures sends { IfOk result (λ h. sends_of h ≡ 0) }
+        ensures faults { IfOk result (λ h. faults_of h ≡ 0) }
     {
         DnssecDnsHandle::new(handle, anchors, verifier)
     }
@@ -59,9 +69,10 @@ impl<H: DnsHandle + Drop, V: Verifier + Drop> DnssecDnsHandle<H, V> {
     }
 
     /// Looks a query up at a moment, in seconds: one send for the query, at most 1,024 in all, and asks for the keys of signers
-    /// at most as deep as the options say, and never deeper than 255. Each send has the options with EDNS and DO, AD set and
-    /// CD clear, and the same moment. The marks of the answer are this validator's own, and its trail says what was asked, heard
-    /// and judged for them. Its anchors and verifier stay as they are.
+    /// at most as deep as the options say, and never deeper than 255. Each send has this moment and these options. What is judged is
+    /// asked for with EDNS and DO, AD set and CD clear; the NS records by which a zone is searched are asked for as
+    /// `DnsRequest::from_query` has it. The marks of the answer are this validator's own, and its trail says what was asked, heard
+    /// and judged for them. Its anchors and verifier stay as they are. The call is counted as a `send` is.
     ///
     /// Errors: one of the handle's own send for the query; `ForeignClassRecord` for a record of another class than the query's;
     /// `Message("not judged yet")` where denial of existence would have to be judged; `Dns(Nsec)` where the answer lacks a denial;
@@ -77,8 +88,9 @@ impl<H: DnsHandle + Drop, V: Verifier + Drop> DnssecDnsHandle<H, V> {
         ensures anchors { anchors_of self.new ≡ anchors_of self.old }
         ensures verifier { verifier_of self.new ≡ verifier_of self.old }
         ensures later { H.faults (inner_of self.old) ≤ H.faults (inner_of self.new) }
+        ensures counted { IsCounted self.old self.new (reply_of result) }
 
-        // Whatever the result, each send is an ask with these options at this moment, the first one for the query.
+        // Whatever the result, each send is an ask with these options at this moment, the first one a judged one for the query.
         ensures sends { OrUnsent (inner_of self.old) (inner_of self.new) result
             (SendsFor (Asking H.DnsHandle options now) (inner_of self.old) (inner_of self.new) query) }
 
@@ -113,7 +125,10 @@ impl<H: DnsHandle + Drop, V: Verifier + Drop> DnssecDnsHandle<H, V> {
             options,
             limit: depth_limit_of(&options),
         };
-        look(alloc, &inquiry, &mut self.handle, query)
+        let reply = look_up(alloc, &inquiry, &mut self.handle, query);
+        self.sends = self.sends.saturating_add(1);
+        self.faults = faults_after(self.faults, &reply);
+        reply
     }
 
     /// The handle that is asked.
@@ -121,5 +136,49 @@ impl<H: DnsHandle + Drop, V: Verifier + Drop> DnssecDnsHandle<H, V> {
         ensures { result.now ≡ inner_of self.now }
     {
         &self.handle
+    }
+}
+
+/// A validator is itself a handle. `send` looks a query up as `DnssecDnsHandle::lookup` does, for the request's first question and
+/// with its options; but what is sent for the question is this request, with EDNS (of payload 1,232 where it has none) and DO, AD
+/// set and CD clear (RFC 4035, 3.2 and 4.1). A request of another opcode than Query goes on as it is, and its reply is the answer.
+///
+/// Errors: `Message("no query in request")` exactly for a query without a question, and nothing is sent; else those of a lookup,
+/// or of the handle's own send.
+impl<H: DnsHandle + Drop, V: Verifier + Drop> DnsHandle for DnssecDnsHandle<H, V> {
+    ghost use Rattle.std.specs.Prelude.{None, true};
+    ghost use Rattle.dns_chain.specs.Sending.{ValidatesRequest, ValidatesQuestion};
+
+    ghost sends = { λ h. h.sends };
+
+    ghost faults = { λ h. h.faults };
+
+    ghost sent = { ValidatesQuestion H.DnsHandle V.Verifier };
+
+    ghost told = { λ h. None };
+
+    ghost requested = { ValidatesRequest H.DnsHandle V.Verifier };
+
+    ghost validates = { λ h. true };
+
+    fn send(
+        &mut self,
+        alloc: Global,
+        request: DnsRequest,
+        now: u64,
+    ) -> Result<DnsResponse, NetError> {
+        let judge = Judge {
+            verifier: &self.verifier,
+            anchors: &self.anchors,
+            moment: now,
+        };
+        let reply = answer_request(alloc, judge, &mut self.handle, request);
+        self.sends = self.sends.saturating_add(1);
+        self.faults = faults_after(self.faults, &reply);
+        reply
+    }
+
+    fn is_verifying_dnssec(&self) -> bool {
+        true
     }
 }

@@ -81,7 +81,8 @@ fn asking_request_of(
     Ok(request)
 }
 
-fn asking_options_of(options: &DnsRequestOptions) -> DnsRequestOptions
+/// The options of a judged ask: with EDNS and DO.
+pub(crate) fn asking_options_of(options: &DnsRequestOptions) -> DnsRequestOptions
     ensures { result ≡ asking_options options.now }
 {
     let mut asking = *options;

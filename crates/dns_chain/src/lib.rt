@@ -9,6 +9,7 @@ mod inquiry;
 mod judging;
 mod looking;
 mod search;
+mod sending;
 mod steps;
 mod walk;
 

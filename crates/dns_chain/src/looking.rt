@@ -1,32 +1,35 @@
-ghost use Rattle.std.specs.Prelude.{◌⊎◌, ◌≡◌, ◌≤◌, ◌++◌, ◌∷◌, [], Err, IfOk};
+ghost use Rattle.std.specs.Prelude.{◌⊎◌, ◌≡◌, ◌≤◌, ◌++◌, ◌∷◌, [], Err, IfOk, Some};
 ghost use Rattle.dns_model.specs.SoundAnswers.{told_by};
 ghost use Rattle.dns_judgement.specs.Asking.{depth_limit};
 ghost use Rattle.dns_net.specs.Errors as seen;
 ghost use Rattle.dns_net.specs.Handles.{OrUnsent};
 ghost use Rattle.dns_net.specs.Replies.{reply_of, error_of};
+ghost use Rattle.dns_net.specs.Requests.{first_question};
 ghost use Rattle.dns_net.specs.Trail.{ending_value};
 ghost use Rattle.dns_sets.specs.Outcome.{outcome_value};
 ghost use Rattle.dns_chain.specs.Answering.{call_by, judged_answer, top_of, Looked};
+ghost use Rattle.dns_chain.specs.Calls.{Requesting};
+ghost use Rattle.dns_chain.specs.Inquiries.{asking_request};
 ghost use Rattle.dns_chain.specs.Looked.{UnlessNoMemory};
-ghost use Rattle.dns_chain.specs.Sends.{SendsFor};
+ghost use Rattle.dns_chain.specs.Sends.{SendsBy, SendsFor};
 ghost use Rattle.dns_chain.specs.Walking.{asking};
 
-use crate::asking::{HeardMessage, hear};
-use crate::inquiry::{Inquiry, Progress};
+use crate::asking::{HeardMessage, hear_reply};
+use crate::inquiry::{Inquiry, Progress, request_for};
 use crate::judging::{Concluded, Judgement};
 use crate::walk::{conclude, judge_sets};
 use dns_message::Message;
 use dns_name::NoMemory;
 use dns_net::{
-    AskRef, Asked, DnsError, DnsHandle, DnsResponse, Ending, JudgedSet, NetError, Notice, Reply,
+    AskRef, Asked, DnsError, DnsHandle, DnsRequest, DnsResponse, Ending, JudgedSet, NetError, Notice, Reply,
     Told, Trail, Verifier,
 };
 use dns_record::{Denial, Proof, Query, Record, clone_records};
 use dns_sets::{Outcome, finished, foreign_record, placed_sets};
 use std::alloc::Global;
 
-/// One lookup: a send for the query, the asks for what its sets and its ending need, and the answer with its trail.
-pub(crate) fn look<H: DnsHandle, V: Verifier>(
+/// One lookup by its query's own request. Where memory runs out before the send, nothing is sent and the handle doesn't change.
+pub(crate) fn look_up<H: DnsHandle, V: Verifier>(
     alloc: Global,
     inquiry: &Inquiry<'_, V>,
     handle: &mut H,
@@ -37,13 +40,36 @@ pub(crate) fn look<H: DnsHandle, V: Verifier>(
     ensures sends { OrUnsent handle.old handle.new result
         (SendsFor (asking H.DnsHandle inquiry.now) handle.old handle.new query) }
     ensures looked { UnlessNoMemory result
-        (Looked H.DnsHandle (call_by V.answers inquiry.now query handle.old handle.new) (reply_of result)) }
+        (Looked H.DnsHandle (call_by V.answers inquiry.now (asking_request query inquiry.now.options) query
+        handle.old handle.new) (reply_of result)) }
 {
+    let request = request_for(alloc, &query, &inquiry.options, true)?;
+    look(alloc, inquiry, handle, request, query)
+}
+
+/// One lookup by a request with its query: the send of this request, the asks for what the query's sets and its ending need, and
+/// the answer with its trail.
+pub(crate) fn look<H: DnsHandle, V: Verifier>(
+    alloc: Global,
+    inquiry: &Inquiry<'_, V>,
+    handle: &mut H,
+    request: DnsRequest,
+    query: Query,
+) -> Result<DnsResponse, NetError>
+    requires limit { inquiry.now.limit ≡ depth_limit inquiry.now.options.max_request_depth }
+    requires asked { first_question request ≡ Some query }
+    ensures later { H.faults handle.old ≤ H.faults handle.new }
+    ensures sends { SendsBy (Requesting H.DnsHandle request inquiry.now.judge.moment) (asking H.DnsHandle inquiry.now)
+        handle.old handle.new query }
+    ensures looked { UnlessNoMemory result
+        (Looked H.DnsHandle (call_by V.answers inquiry.now request query handle.old handle.new) (reply_of result)) }
+{
+    let now = inquiry.judge.moment;
     let mut progress = Progress {
         steps: Vec::new(alloc),
-        sends: 0,
+        sends: 1,
     };
-    let heard = match hear(alloc, inquiry, handle, &mut progress, &query, true) {
+    let heard = match hear_reply(alloc, handle, request, now) {
         Ok(heard) => heard,
         Err(error) => return Err(error),
     };
@@ -63,7 +89,6 @@ pub(crate) fn look<H: DnsHandle, V: Verifier>(
         &heard,
         &judged,
     )?;
-    let now = inquiry.judge.moment;
     answer(alloc, now, query, heard, progress.steps, judged, concluded)
 }
 

@@ -4,3 +4,5 @@
 
 #[cfg(test)]
 mod library_tests;
+#[cfg(test)]
+mod request_tests;
