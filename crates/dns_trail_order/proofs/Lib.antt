@@ -1,0 +1,4 @@
+pub mod CountLemmas
+pub mod WalkLemmas
+pub mod OnceLemmas
+pub mod OrderedLemmas
