@@ -182,12 +182,19 @@ fn is_counted(name: &Name, labels: u8, without: u8) -> bool {
         && name.is_wildcard() == (without < labels)
 }
 
-fn has_labels(alloc: Global, row: &Counted) -> Result<bool, NameError> {
-    let (text, labels, without, parent, last) = *row;
-    let name = Name::from_ascii(alloc, text)?;
+fn has_parent(name: &Name, parent: &str) -> Result<bool, NameError> {
     let above = name.base_name()?;
+    is_printed(&above, parent)
+}
+
+fn ends_with_two(name: &Name, last: &str) -> Result<bool, NameError> {
     let two = name.trim_to(2)?;
-    Ok(is_counted(&name, labels, without) && is_printed(&above, parent)? && is_printed(&two, last)?)
+    is_printed(&two, last)
+}
+
+fn has_labels(alloc: Global, row: &Counted) -> Result<bool, NameError> {
+    let name = Name::from_ascii(alloc, row.0)?;
+    Ok(is_counted(&name, row.1, row.2) && has_parent(&name, row.3)? && ends_with_two(&name, row.4)?)
 }
 
 #[test]
@@ -235,13 +242,26 @@ fn folded_behind(alloc: Global, text: &str, front: &[u8]) -> Result<Octets, Name
     Ok(Octets::from_vec(bytes))
 }
 
+/// A copy is equal to these bytes, and so is what a hasher makes of it.
+fn is_copied(bytes: &Octets) -> Result<bool, NameError> {
+    let copy = bytes.try_clone()?;
+    Ok(copy == *bytes && hash_of(&copy) == hash_of(bytes))
+}
+
+fn is_before(bytes: &Octets, other: &Octets) -> bool {
+    bytes < other && bytes != other
+}
+
+/// The folded wire form, which stands before the byte `a`.
+fn is_folded(alloc: Global, bytes: &Octets) -> Result<bool, NameError> {
+    let other = Octets::from_slice(alloc, b"a")?;
+    Ok(*bytes.as_slice() == *b"A\x03www\x04ex-9\0".as_slice() && is_before(bytes, &other))
+}
+
 #[test]
 fn bytes_and_texts(rt: HostRuntime) -> Result<(), Fail> {
     let bytes = folded_behind(rt.alloc(), "WwW.Ex-9", b"A")?;
-    assert!(rt; bytes.as_slice() == b"A\x03www\x04ex-9\0".as_slice());
-    let copy = bytes.try_clone()?;
-    assert!(rt; copy == bytes && hash_of(&bytes) == hash_of(&copy));
-    let other = Octets::from_slice(rt.alloc(), b"a")?;
-    assert!(rt; bytes < other && bytes != other);
+    assert!(rt; is_folded(rt.alloc(), &bytes)?);
+    assert!(rt; is_copied(&bytes)?);
     Ok(())
 }

@@ -41,12 +41,26 @@ const READ: [(&str, &str); 9] = [
     ("a\\.", "a\\.."),
 ];
 
+/// The bytes of the text give the same name.
+fn is_read_as_bytes(alloc: Global, text: &str, name: &Name) -> Result<bool, NameError> {
+    let again = Name::from_bytes(alloc, text.as_bytes())?;
+    Ok(again.eq_case(name))
+}
+
+/// Its Display prints the name so.
+fn is_shown(alloc: Global, name: &Name, printed: &str) -> Result<bool, NameError> {
+    let shown = format!(in alloc; "{name}")?;
+    Ok(shown.as_str() == printed)
+}
+
 /// As a text, as bytes, and printed by its Display.
 fn is_read(alloc: Global, text: &str, printed: &str) -> Result<bool, NameError> {
     let name = Name::from_ascii(alloc, text)?;
-    let again = Name::from_bytes(alloc, text.as_bytes())?;
-    let shown = format!(in alloc; "{name}")?;
-    Ok(is_printed(&name, printed)? && again.eq_case(&name) && shown.as_str() == printed)
+    Ok(
+        is_printed(&name, printed)?
+            && is_read_as_bytes(alloc, text, &name)?
+            && is_shown(alloc, &name, printed)?,
+    )
 }
 
 #[test]
@@ -142,12 +156,20 @@ fn pair_of(alloc: Global, label: &[u8]) -> Result<Vec<Octets>, NameError> {
     Ok(labels)
 }
 
+fn named_by(alloc: Global, label: &[u8]) -> Result<Name, NameError> {
+    let labels = pair_of(alloc, label)?;
+    Name::from_labels(alloc, labels.as_slice())
+}
+
+fn printed_and_read(alloc: Global, name: &Name) -> Result<Name, NameError> {
+    let text = name.to_ascii()?;
+    Name::from_ascii(alloc, text.as_str())
+}
+
 /// Whether a label of these bytes is printed and read again as it was.
 fn comes_back(alloc: Global, label: &[u8]) -> Result<bool, NameError> {
-    let labels = pair_of(alloc, label)?;
-    let name = Name::from_labels(alloc, labels.as_slice())?;
-    let text = name.to_ascii()?;
-    let again = Name::from_ascii(alloc, text.as_str())?;
+    let name = named_by(alloc, label)?;
+    let again = printed_and_read(alloc, &name)?;
     Ok(again.eq_case(&name))
 }
 
@@ -190,11 +212,19 @@ const BELOW: [(&str, &str, &str); 5] = [
     ("*.b", "*.b.Example.org.", "*.b."),
 ];
 
+fn is_parsed_as(
+    alloc: Global,
+    text: &str,
+    origin: Option<&Name>,
+    printed: &str,
+) -> Result<bool, NameError> {
+    let name = Name::parse(alloc, text, origin)?;
+    is_printed(&name, printed)
+}
+
 fn is_parsed(alloc: Global, text: &str, below: &str, alone: &str) -> Result<bool, NameError> {
     let origin = Name::from_ascii(alloc, "Example.org")?;
-    let joined = Name::parse(alloc, text, Some(&origin))?;
-    let name = Name::parse(alloc, text, None)?;
-    Ok(is_printed(&joined, below)? && is_printed(&name, alone)?)
+    Ok(is_parsed_as(alloc, text, Some(&origin), below)? && is_parsed_as(alloc, text, None, alone)?)
 }
 
 #[test]
