@@ -1,0 +1,5 @@
+pub mod Members
+pub mod Steps
+pub mod MoreTrust
+pub mod Laws
+pub mod Fitting

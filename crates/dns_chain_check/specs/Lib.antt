@@ -1,0 +1,4 @@
+pub mod Indexed
+pub mod Prefixes
+pub mod MoreTrust
+pub mod Fitting

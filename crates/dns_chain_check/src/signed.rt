@@ -1,0 +1,181 @@
+ghost use Rattle.std.specs.Prelude.{◌≡◌, ◌==◌, ◌&&◌, IfOk, Some};
+ghost use Rattle.dns_model.specs.Views.{dnskey_in, rrsig_in};
+ghost use Rattle.dns_model.specs.Signing.{key_tag_of, signed_bytes};
+ghost use Rattle.dns_model.specs.Serial.{timely};
+ghost use Rattle.dns_model.specs.Chains.{is_good as is_good_in, is_signed as is_signed_in, key_comes as key_comes_in, never_expanded, right_below_signer, signer_fits as signer_fits_in};
+ghost use Rattle.dns_trust.specs.Judge.{judge_of};
+ghost use Rattle.dns_chain_check.specs.Fitting.{fits_set};
+
+use crate::earlier::Earlier;
+use dns_name::{Name, NoMemory};
+use dns_net::{Verifier, has_rdata};
+use dns_rdata::{Dnskey, Rrsig, SerialNumber, key_tag, signed_data_of};
+use dns_record::{DNSClass, Rdata, RecordType};
+use dns_trust::{Judge, is_usable};
+use std::alloc::Global;
+
+/// The set of a signed link.
+#[derive(Drop)]
+pub(crate) struct SignedSet<'a> {
+    pub(crate) owner: &'a Name,
+    pub(crate) class: DNSClass,
+    pub(crate) record_type: RecordType,
+    pub(crate) rdatas: &'a [Rdata],
+}
+
+/// A key that an earlier link shows signed the set, by a signature that fits it (RFC 4035, 5.3).
+pub(crate) fn is_signed<V: Verifier>(
+    alloc: Global,
+    judge: &Judge<'_, V>,
+    earlier: &Earlier<'_, '_>,
+    set: &SignedSet<'_>,
+    sig: &[u8],
+    key_link: u32,
+    key: &[u8],
+) -> Result<bool, NoMemory>
+    ensures { IfOk result (λ b. b ≡ is_signed_in (judge_of V.answers judge.now) earlier.now
+        set.now.owner.now set.now.class.0 set.now.record_type.0 set.now.rdatas.now key_link key.now (rrsig_in sig.now)) }
+{
+    let Some(read) = Rrsig::read(sig) else {
+        return Ok(false);
+    };
+    if !fits(set, &read) {
+        return Ok(false);
+    }
+    if !is_good(alloc, judge, set, &read, key)? {
+        return Ok(false);
+    }
+    Ok(key_comes(earlier, set, &read, key_link, key))
+}
+
+// The signature is over the set's type, and its signer and its Labels fit the set's owner (RFC 4035, 5.3.1).
+fn fits(set: &SignedSet<'_>, sig: &Rrsig<'_>) -> bool
+    ensures { result ≡ fits_set set.now.owner.now set.now.record_type.0 sig.now }
+{
+    sig.type_covered == set.record_type
+        && signer_fits(set, sig)
+        && sig.labels <= set.owner.borrowed().num_labels()
+        && is_never_expanded(set, sig)
+        && is_right_below_signer(set, sig)
+}
+
+// The signer stands at the owner or above it; a DS stands in the zone above.
+fn signer_fits(set: &SignedSet<'_>, sig: &Rrsig<'_>) -> bool
+    ensures { result ≡ signer_fits_in set.now.record_type.0 sig.now.signer set.now.owner.now }
+{
+    if set.record_type == RecordType::DS {
+        sig.signer.strictly_above(&set.owner.borrowed())
+    } else {
+        sig.signer.zone_of(&set.owner.borrowed())
+    }
+}
+
+// An NSEC or NSEC3 isn't expanded from a wildcard.
+fn is_never_expanded(set: &SignedSet<'_>, sig: &Rrsig<'_>) -> bool
+    ensures { result ≡ never_expanded set.now.record_type.0 sig.now.labels set.now.owner.now }
+{
+    if set.record_type == RecordType::NSEC || set.record_type == RecordType::NSEC3 {
+        sig.labels == set.owner.borrowed().num_labels()
+    } else {
+        true
+    }
+}
+
+// An NSEC3 stands right below its signer.
+fn is_right_below_signer(set: &SignedSet<'_>, sig: &Rrsig<'_>) -> bool
+    ensures { result ≡ right_below_signer set.now.record_type.0 sig.now.signer set.now.owner.now }
+{
+    if set.record_type == RecordType::NSEC3 {
+        set.owner.borrowed().parent().eq_name(&sig.signer)
+    } else {
+        true
+    }
+}
+
+// The signature is timely and the key's, which may sign, and the verifier accepts it (RFC 4035, 5.3.3).
+fn is_good<V: Verifier>(
+    alloc: Global,
+    judge: &Judge<'_, V>,
+    set: &SignedSet<'_>,
+    sig: &Rrsig<'_>,
+    key: &[u8],
+) -> Result<bool, NoMemory>
+    ensures { IfOk result (λ b. b ≡ is_good_in (judge_of V.answers judge.now)
+        set.now.owner.now set.now.class.0 set.now.record_type.0 set.now.rdatas.now sig.now key.now (dnskey_in key.now)) }
+{
+    let Some(read) = Dnskey::read(key) else {
+        return Ok(false);
+    };
+    if !is_usable(judge.verifier, &read) {
+        return Ok(false);
+    }
+    if !is_named(sig, &read, key) {
+        return Ok(false);
+    }
+    if !is_timely(sig, judge.moment) {
+        return Ok(false);
+    }
+    is_accepted(alloc, judge.verifier, set, sig, &read)
+}
+
+// The signature names the key by its algorithm and its tag.
+#[tactic(auto, unfolding(dns_model::specs::Views::dnskey_in))]
+fn is_named(sig: &Rrsig<'_>, key: &Dnskey<'_>, rdata: &[u8]) -> bool
+    requires { dnskey_in rdata.now ≡ Some key.now }
+    ensures { result ≡ ((key.now.algorithm == sig.now.algorithm) && (key_tag_of rdata.now == sig.now.key_tag)) }
+{
+    let Some(tag) = key_tag(rdata) else {
+        return false;
+    };
+    key.algorithm == sig.algorithm && tag == sig.key_tag
+}
+
+// The moment lies in the signature's validity, on the circle of 2^32 seconds (RFC 4034, 3.1.5).
+fn is_timely(sig: &Rrsig<'_>, now: u64) -> bool
+    ensures { result ≡ timely sig.now now }
+{
+    let moment = SerialNumber::of_moment(now);
+    sig.inception.at_or_before(moment) && moment.at_or_before(sig.expiration)
+}
+
+// The verifier accepts the signature over the set as the key's.
+fn is_accepted<V: Verifier>(
+    alloc: Global,
+    verifier: &V,
+    set: &SignedSet<'_>,
+    sig: &Rrsig<'_>,
+    key: &Dnskey<'_>,
+) -> Result<bool, NoMemory>
+    ensures { IfOk result (λ b. b ≡ (V.answers verifier.now).accepts sig.now.algorithm key.now.key
+        (signed_bytes set.now.owner.now set.now.record_type.0 set.now.class.0 set.now.rdatas.now sig.now) sig.now.signature) }
+{
+    let bytes = signed_data_of(
+        alloc,
+        set.owner,
+        set.record_type,
+        set.class,
+        set.rdatas,
+        sig,
+    )?;
+    Ok(verifier.accepts(sig.algorithm, key.key, bytes.as_slice(), sig.signature))
+}
+
+// The key comes from an earlier link: of a key set a key of it that is trusted, of another set a key of the signer's key set.
+fn key_comes(
+    earlier: &Earlier<'_, '_>,
+    set: &SignedSet<'_>,
+    sig: &Rrsig<'_>,
+    key_link: u32,
+    key: &[u8],
+) -> bool
+    ensures { result ≡ key_comes_in earlier.now set.now.owner.now set.now.class.0 set.now.record_type.0 set.now.rdatas.now
+        sig.now.signer key_link key.now }
+{
+    if set.record_type != RecordType::DNSKEY {
+        return earlier.shows_member(key_link, &sig.signer, set.class, key);
+    }
+    let owner = set.owner.borrowed();
+    owner.eq_name(&sig.signer)
+        && has_rdata(set.rdatas, key)
+        && earlier.shows_key(key_link, &owner, set.class, key)
+}
