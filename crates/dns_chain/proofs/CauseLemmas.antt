@@ -37,7 +37,7 @@ some_same o a b x y = cc
 pub none_some : {X : Type 0} (o : Option X) (a : X) → o ≡ None → o ≡ Some a → ⊥
 none_some o a x y = cc
 
-no_both : (b : Bool) → b ≡ true → b ≡ false → ⊥
+pub no_both : (b : Bool) → b ≡ true → b ≡ false → ⊥
 no_both b true_is false_is = cc
 
 pub memory_some : (reply : Reply) (m : MessageValue) → heard_message reply ≡ Some m → reply ≡ Err seen.NoMemory → ⊥

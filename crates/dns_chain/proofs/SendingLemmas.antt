@@ -1,19 +1,24 @@
 -- What a validator answers to a whole request, put together from the lookup that it makes.
-use Rattle.std.proofs.Common.{ℕ, ◌≡◌, Bool, true, false, [], None, Some, Result, refl, ap, if◌then◌else◌}
+use Rattle.std.proofs.Common.{ℕ, ◌≡◌, ◌≢◌, ◌==◌, ◌∙◌, Bool, true, false, [], None, Some, Result, Err, refl, sym, ap, subst, if◌then◌else◌}
+use Rattle.dns_model.specs.Chains.{Judge}
 use Rattle.dns_model.specs.Records.{Question, EdnsValue}
 use Rattle.dns_model.specs.SoundAnswers.{ResponseValue}
+use Rattle.dns_model.proofs.SetLemmas.{number_refl, number_same}
+use Rattle.dns_net.specs.Errors as seen
+use Rattle.dns_net.specs.Errors.{Message}
 use Rattle.dns_net.specs.Replies.{reply_of}
-use Rattle.dns_net.specs.Requests.{RequestValue, query_message, request_of}
+use Rattle.dns_net.specs.Requests.{RequestValue, first_question, query_message, request_of}
 use Rattle.dns_net.specs.declared.error.NetError.{NetError}
 use Rattle.dns_net.specs.declared.handle.DnsHandle as handle
+use Rattle.dns_net.specs.declared.notice.Notice.TheVariants.{NoQueryInRequest}
 use Rattle.dns_net.specs.declared.request.DnsRequestOptions.{DnsRequestOptions}
 use Rattle.dns_chain.specs.Answering.{Looked}
-use Rattle.dns_chain.specs.Calls.{Call, ask_of, first_of}
+use Rattle.dns_chain.specs.Calls.{Call, Sending, Asking, Requesting, ask_of, first_of}
 use Rattle.dns_chain.specs.Inquiries.{asking_options, asking_request}
 use Rattle.dns_chain.specs.Looked.{UnlessNoMemory}
-use Rattle.dns_chain.specs.Sending.{checked_edns, checked_request, IsLookedUp}
+use Rattle.dns_chain.specs.Sending.{checked_edns, checked_request, call_for, IsLookedUp, AnswersRequest, Goes, Refused, LookedUp, Unsent}
 use Rattle.dns_chain.specs.Sends.{SendsBy}
-use Rattle.dns_chain.proofs.CauseLemmas.{lookup_passed, lookup_passes}
+use Rattle.dns_chain.proofs.CauseLemmas.{no_both, lookup_passed, lookup_passes}
 use Rattle.dns_chain.proofs.ForeignLemmas.{lookup_foreign, lookup_names_foreign, lookup_judges}
 use Rattle.dns_chain.proofs.LookedLemmas.{or_memory, lookup_sound, lookup_trail, lookup_marks, lookup_denied}
 use Rattle.dns_chain.proofs.UnjudgedLemmas.{lookup_unjudged, lookup_unanswered}
@@ -57,3 +62,43 @@ looked_up meanings call result sends looked = record {
   unjudged = lookup_unjudged meanings call result looked;
   unanswered = or_memory result _ (lookup_unanswered meanings call result looked);
 }
+
+-- ---- each case of a request
+
+other_code : (code : ℕ) (query : Bool) → query ≡ (code == 0) → query ≡ false → code ≢ 0
+other_code code query by other zero = no_both query (by ∙ ap (λ n. n == 0) zero ∙ number_refl 0) other
+
+-- a request that isn't a query goes on
+pub goes_on : {H : Type 0} (meanings : handle.Ghosts H) (j : Judge) (request : RequestValue) (now : ℕ) (old new : H) (query : Bool)
+    (result : Result ResponseValue NetError) → query ≡ (request.message.op_code == 0) → query ≡ false
+    → Sending meanings request (first_question request) now old new (reply_of result) → AnswersRequest meanings j request now old new (reply_of result)
+goes_on meanings j request now old new query result by other sent =
+    Goes (reply_of result) (other_code request.message.op_code query by other) sent
+
+-- a query without a question is refused
+pub refuses : {H : Type 0} (meanings : handle.Ghosts H) (j : Judge) (request : RequestValue) (now : ℕ) (still : H) (query : Bool)
+    → query ≡ (request.message.op_code == 0) → query ≡ true → first_question request ≡ None
+    → AnswersRequest meanings j request now still still (Err (Message NoQueryInRequest))
+refuses meanings j request now still query by is none = Refused (number_same request.message.op_code 0 (sym by ∙ is)) none refl
+
+-- memory ran out before a query was sent
+pub forgets : {H : Type 0} (meanings : handle.Ghosts H) (j : Judge) (request : RequestValue) (now : ℕ) (still : H) (query : Bool)
+    → query ≡ (request.message.op_code == 0) → query ≡ true → first_question request ≢ None
+    → AnswersRequest meanings j request now still still (Err seen.NoMemory)
+forgets meanings j request now still query by is some = Unsent (number_same request.message.op_code 0 (sym by ∙ is)) some refl
+
+-- a query is looked up by what is sent for it
+pub looks_up : {H : Type 0} (meanings : handle.Ghosts H) (j : Judge) (request sent : RequestValue) (options : DnsRequestOptions) (now : ℕ) (old new : H)
+    (q : Question) (query : Bool) (result : Result ResponseValue NetError)
+    → query ≡ (request.message.op_code == 0) → query ≡ true → first_question request ≡ Some q → sent ≡ checked_request request
+    → options ≡ request.options → SendsBy (Requesting meanings sent now) (Asking meanings options now) old new q
+    → UnlessNoMemory result (Looked meanings (record (call_for j request q now old new) { request = sent; options = options }) (reply_of result))
+    → AnswersRequest meanings j request now old new (reply_of result)
+looks_up meanings j request sent options now old new q query result by is asks checked same sends looked =
+    let Sends : RequestValue → DnsRequestOptions → Type 0 = λ r o. SendsBy (Requesting meanings r now) (Asking meanings o now) old new q in
+    let Answered : RequestValue → DnsRequestOptions → Type 0 =
+    λ r o. UnlessNoMemory result (Looked meanings (record (call_for j request q now old new) { request = r; options = o }) (reply_of result)) in
+    LookedUp (reply_of result) q (number_same request.message.op_code 0 (sym by ∙ is)) asks
+    (looked_up meanings (call_for j request q now old new) result
+    (subst (λ r. Sends r request.options) checked (subst (λ o. Sends sent o) same sends))
+    (subst (λ r. Answered r request.options) checked (subst (λ o. Answered sent o) same looked)))

@@ -82,7 +82,7 @@ pub data AnswersRequest {H : Type 0} (meanings : handle.Ghosts H) (j : Judge) (r
   LookedUp : (reply : Reply) (q : Question) → request.message.op_code ≡ 0 → first_question request ≡ Some q
       → IsLookedUp meanings (call_for j request q now old new) reply → AnswersRequest meanings j request now old new reply
   -- or memory runs out before anything is sent for it
-  Unsent : (q : Question) → request.message.op_code ≡ 0 → first_question request ≡ Some q → new ≡ old
+  Unsent : request.message.op_code ≡ 0 → first_question request ≢ None → new ≡ old
       → AnswersRequest meanings j request now old new (Err seen.NoMemory)
 
 -- ---- the validator
@@ -96,7 +96,7 @@ abbrev pub faults_of : {H V : Type 0} → DnssecDnsHandle H V → ℕ
 faults_of validator = validator.faults
 
 -- it trusts the same keys and tests by the same verifier, and has counted one send and the fault that the reply may be
-pub record IsCounted {H V : Type 0} (old new : DnssecDnsHandle H V) (reply : Reply) : Type 0 where
+pub record CountsSend {H V : Type 0} (old new : DnssecDnsHandle H V) (reply : Reply) : Type 0 where
   pub anchors : anchors_of new ≡ anchors_of old
   pub verifier : verifier_of new ≡ verifier_of old
   pub sends : sends_of new ≡ one_more (sends_of old)
@@ -105,7 +105,7 @@ pub record IsCounted {H V : Type 0} (old new : DnssecDnsHandle H V) (reply : Rep
 -- a validator answers a request
 pub record ValidatesRequest {H V : Type 0} (meanings : handle.Ghosts H) (tests : verifier.Ghosts V)
     (old : DnssecDnsHandle H V) (request : RequestValue) (now : ℕ) (new : DnssecDnsHandle H V) (reply : Reply) : Type 0 where
-  pub counted : IsCounted old new reply
+  pub counted : CountsSend old new reply
   pub later : meanings.faults (inner_of old) ≤ meanings.faults (inner_of new)
   pub answers : AnswersRequest meanings (judge (tests.answers (verifier_of old)) (anchors_of old) now) request now (inner_of old) (inner_of new) reply
 

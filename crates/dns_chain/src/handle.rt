@@ -27,7 +27,7 @@ pub struct DnssecDnsHandle<H: Drop, V: Drop> {
 
 impl<H: DnsHandle + Drop, V: Verifier + Drop> DnssecDnsHandle<H, V> {
     ghost use Rattle.dns_chain.specs.Calls.{inner_of, anchors_of, verifier_of, call_of};
-    ghost use Rattle.dns_chain.specs.Sending.{sends_of, faults_of, IsCounted};
+    ghost use Rattle.dns_chain.specs.Sending.{sends_of, faults_of, CountsSend};
 
     /// A validator that trusts these anchors and tests signatures by this verifier.
     pub fn new(handle: H, anchors: TrustAnchors, verifier: V) -> Result<Self, NoMemory>
@@ -68,8 +68,8 @@ impl<H: DnsHandle + Drop, V: Verifier + Drop> DnssecDnsHandle<H, V> {
         true
     }
 
-    /// Looks a query up at a moment, in seconds: one send for the query, at most 1,024 in all, and asks for the keys of signers
-    /// at most as deep as the options say, and never deeper than 255. Each send has this moment and these options. What is judged is
+    /// Looks a query up at a moment, in seconds: one send for the query, at most 1,024 in all, and asks for the keys of signers at
+    /// most as deep as the options say, and never deeper than 255. Each send has this moment and these options. What is judged is
     /// asked for with EDNS and DO, AD set and CD clear; the NS records by which a zone is searched are asked for as
     /// `DnsRequest::from_query` has it. The marks of the answer are this validator's own, and its trail says what was asked, heard
     /// and judged for them. Its anchors and verifier stay as they are. The call is counted as a `send` is.
@@ -88,9 +88,9 @@ impl<H: DnsHandle + Drop, V: Verifier + Drop> DnssecDnsHandle<H, V> {
         ensures anchors { anchors_of self.new ≡ anchors_of self.old }
         ensures verifier { verifier_of self.new ≡ verifier_of self.old }
         ensures later { H.faults (inner_of self.old) ≤ H.faults (inner_of self.new) }
-        ensures counted { IsCounted self.old self.new (reply_of result) }
+        ensures counted { CountsSend self.old self.new (reply_of result) }
 
-        // Whatever the result, each send is an ask with these options at this moment, the first one a judged one for the query.
+        // Whatever the result, each send is an ask with these options at this moment, judged or plain; the first one is judged.
         ensures sends { OrUnsent (inner_of self.old) (inner_of self.new) result
             (SendsFor (Asking H.DnsHandle options now) (inner_of self.old) (inner_of self.new) query) }
 
@@ -167,12 +167,14 @@ impl<H: DnsHandle + Drop, V: Verifier + Drop> DnsHandle for DnssecDnsHandle<H, V
         request: DnsRequest,
         now: u64,
     ) -> Result<DnsResponse, NetError> {
-        let judge = Judge {
-            verifier: &self.verifier,
-            anchors: &self.anchors,
-            moment: now,
-        };
-        let reply = answer_request(alloc, judge, &mut self.handle, request);
+        let reply = answer_request(
+            alloc,
+            &self.anchors,
+            &self.verifier,
+            now,
+            &mut self.handle,
+            request,
+        );
         self.sends = self.sends.saturating_add(1);
         self.faults = faults_after(self.faults, &reply);
         reply

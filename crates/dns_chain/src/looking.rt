@@ -21,8 +21,8 @@ use crate::walk::{conclude, judge_sets};
 use dns_message::Message;
 use dns_name::NoMemory;
 use dns_net::{
-    AskRef, Asked, DnsError, DnsHandle, DnsRequest, DnsResponse, Ending, JudgedSet, NetError, Notice, Reply,
-    Told, Trail, Verifier,
+    AskRef, Asked, DnsError, DnsHandle, DnsRequest, DnsResponse, Ending, JudgedSet, NetError,
+    Notice, Reply, Told, Trail, Verifier,
 };
 use dns_record::{Denial, Proof, Query, Record, clone_records};
 use dns_sets::{Outcome, finished, foreign_record, placed_sets};

@@ -1,40 +1,53 @@
 //! What a validator does with a whole request: it looks a query up by the request itself, and hands any other one on.
 
-ghost use Rattle.std.specs.Prelude.{◌≡◌, ◌≤◌, ◌==◌};
+ghost use Rattle.std.specs.Prelude.{◌≡◌, ◌≢◌, ◌≤◌, ◌==◌, None, IfOk, IfErr};
+ghost use Rattle.dns_model.specs.Chains.{judge};
 ghost use Rattle.dns_net.specs.Recording.{faults_after as faults_by};
 ghost use Rattle.dns_net.specs.Replies.{reply_of};
-ghost use Rattle.dns_trust.specs.Judge.{judge_of};
-ghost use Rattle.dns_chain.specs.Inquiries.{asking_options};
+ghost use Rattle.dns_net.specs.Requests.{first_question};
 ghost use Rattle.dns_chain.specs.Sending.{checked_edns, checked_request, AnswersRequest};
 
 use crate::inquiry::{Inquiry, asking_options_of, depth_limit_of};
 use crate::looking::look;
-use dns_message::{Edns, Message};
-use dns_name::Octets;
-use dns_net::{DnsError, DnsHandle, DnsRequest, DnsResponse, NetError, Notice, Verifier};
-use dns_record::OpCode;
-use dns_trust::Judge;
+use dns_message::Edns;
+use dns_name::{NoMemory, Octets};
+use dns_net::{
+    DnsError, DnsHandle, DnsRequest, DnsRequestOptions, DnsResponse, NetError, Notice, Verifier,
+};
+use dns_record::{OpCode, Query};
+use dns_trust::{Judge, TrustAnchors};
 use std::alloc::Global;
 
-/// The answer to a request, by what its replies are judged and at that moment.
+/// The answer to a request at a moment, where its replies are judged by these anchors and this verifier.
 pub(crate) fn answer_request<H: DnsHandle, V: Verifier>(
     alloc: Global,
-    judge: Judge<'_, V>,
+    anchors: &TrustAnchors,
+    verifier: &V,
+    now: u64,
     handle: &mut H,
     request: DnsRequest,
 ) -> Result<DnsResponse, NetError>
     ensures later { H.faults handle.old ≤ H.faults handle.new }
-    ensures answers { AnswersRequest H.DnsHandle (judge_of V.answers judge) request judge.moment
+    ensures answers { AnswersRequest H.DnsHandle (judge (V.answers verifier.now) anchors.now now) request now
         handle.old handle.new (reply_of result) }
 {
-    if !is_query(&request.message) {
-        return handle.send(alloc, request, judge.moment);
+    if !is_query(&request) {
+        return handle.send(alloc, request, now);
     }
-    let query = match request.message.queries.first() {
-        None => return Err(NetError::Message(Notice::NoQueryInRequest)),
-        Some(query) => query.try_clone()?,
+    let asked = match question_of(&request) {
+        Ok(asked) => asked,
+        Err(_) => return Err(NetError::NoMemory),
     };
-    let options = request.options;
+    let query = match asked {
+        None => return Err(NetError::Message(Notice::NoQueryInRequest)),
+        Some(query) => query,
+    };
+    let options = options_of(&request);
+    let judge = Judge {
+        verifier,
+        anchors,
+        moment: now,
+    };
     let inquiry = Inquiry {
         judge,
         options,
@@ -44,10 +57,27 @@ pub(crate) fn answer_request<H: DnsHandle, V: Verifier>(
 }
 
 // A query, and no notify, update or other operation.
-fn is_query(message: &Message) -> bool
-    ensures { result ≡ (message.now.op_code == 0) }
+fn is_query(request: &DnsRequest) -> bool
+    ensures { result ≡ (request.now.message.op_code == 0) }
 {
-    message.op_code == OpCode::QUERY
+    request.message.op_code == OpCode::QUERY
+}
+
+// The first question of a request, if it has one.
+fn question_of(request: &DnsRequest) -> Result<Option<Query>, NoMemory>
+    ensures first { IfOk result (λ q. q ≡ first_question request.now) }
+    ensures err { IfErr result (λ e. first_question request.now ≢ None) }
+{
+    match request.message.queries.first() {
+        None => Ok(None),
+        Some(query) => Ok(Some(query.try_clone()?)),
+    }
+}
+
+fn options_of(request: &DnsRequest) -> DnsRequestOptions
+    ensures { result ≡ request.now.options }
+{
+    request.options
 }
 
 // The request with EDNS and DO, AD set and CD clear.

@@ -1,4 +1,4 @@
-use Rattle.std.proofs.Common.{Err, ap, refl, sym, inl, inr, ◌∙◌}
+use Rattle.std.proofs.Common.{Err, ap, refl, sym, inl, inr}
 use Rattle.dns_chain.proofs.AskLemmas.{went_then}
 use Rattle.dns_chain.proofs.LookedLemmas.{unless_map}
 use Rattle.dns_chain.proofs.LookLemmas.{sends_once, sends_more, look_passes, look_names, look_judges}

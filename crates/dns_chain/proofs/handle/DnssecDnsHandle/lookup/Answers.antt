@@ -5,34 +5,34 @@ use Rattle.dns_chain.proofs.UnjudgedLemmas.{lookup_unjudged, lookup_unanswered}
 use Rattle.dns_chain.proofs.handle.DnssecDnsHandle.lookup.Goals as goal
 
 pub returns-clause-sound : goal.returns-clause-sound
-returns-clause-sound g c = lookup_sound g.H.DnsHandle _ _ c.look.ensures.looked
+returns-clause-sound g c = lookup_sound g.H.DnsHandle _ _ c.look_up-reply.ensures.looked
 
 pub returns-clause-trail : goal.returns-clause-trail
-returns-clause-trail g c = lookup_trail g.H.DnsHandle _ _ c.look.ensures.looked
+returns-clause-trail g c = lookup_trail g.H.DnsHandle _ _ c.look_up-reply.ensures.looked
 
 pub returns-clause-marks : goal.returns-clause-marks
-returns-clause-marks g c = lookup_marks g.H.DnsHandle _ _ c.look.ensures.looked
+returns-clause-marks g c = lookup_marks g.H.DnsHandle _ _ c.look_up-reply.ensures.looked
 
 pub returns-clause-denied : goal.returns-clause-denied
-returns-clause-denied g c = lookup_denied g.H.DnsHandle _ _ c.look.ensures.looked
+returns-clause-denied g c = lookup_denied g.H.DnsHandle _ _ c.look_up-reply.ensures.looked
 
 pub returns-clause-passed : goal.returns-clause-passed
-returns-clause-passed g c = lookup_passed g.H.DnsHandle _ _ c.look.ensures.looked
+returns-clause-passed g c = lookup_passed g.H.DnsHandle _ _ c.look_up-reply.ensures.looked
 
 pub returns-clause-passes : goal.returns-clause-passes
-returns-clause-passes g c = lookup_passes g.H.DnsHandle _ _ c.look.ensures.looked
+returns-clause-passes g c = lookup_passes g.H.DnsHandle _ _ c.look_up-reply.ensures.looked
 
 pub returns-clause-foreign : goal.returns-clause-foreign
-returns-clause-foreign g c = lookup_foreign g.H.DnsHandle _ _ c.look.ensures.looked
+returns-clause-foreign g c = lookup_foreign g.H.DnsHandle _ _ c.look_up-reply.ensures.looked
 
 pub returns-clause-names_foreign : goal.returns-clause-names_foreign
-returns-clause-names_foreign g c = lookup_names_foreign g.H.DnsHandle _ _ c.look.ensures.looked
+returns-clause-names_foreign g c = lookup_names_foreign g.H.DnsHandle _ _ c.look_up-reply.ensures.looked
 
 pub returns-clause-judges : goal.returns-clause-judges
-returns-clause-judges g c = lookup_judges g.H.DnsHandle _ _ c.look.ensures.looked
+returns-clause-judges g c = lookup_judges g.H.DnsHandle _ _ c.look_up-reply.ensures.looked
 
 pub returns-clause-unjudged : goal.returns-clause-unjudged
-returns-clause-unjudged g c = lookup_unjudged g.H.DnsHandle _ _ c.look.ensures.looked
+returns-clause-unjudged g c = lookup_unjudged g.H.DnsHandle _ _ c.look_up-reply.ensures.looked
 
 pub returns-clause-unanswered : goal.returns-clause-unanswered
-returns-clause-unanswered g c = lookup_unanswered g.H.DnsHandle _ _ c.look.ensures.looked
+returns-clause-unanswered g c = lookup_unanswered g.H.DnsHandle _ _ c.look_up-reply.ensures.looked
