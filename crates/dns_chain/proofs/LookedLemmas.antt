@@ -15,6 +15,8 @@ use Rattle.dns_net.specs.Errors.{Reply, ErrorValue, Busy, Dns, Message, Msg, NoC
 use Rattle.dns_net.specs.Replies.{reply_of, error_of}
 use Rattle.dns_net.specs.declared.error.NetError.{NetError}
 use Rattle.dns_net.specs.declared.handle.DnsHandle as handle
+use Rattle.dns_laws.specs.Ground.{HasGrounds}
+use Rattle.dns_laws.proofs.GroundLemmas.{insecure_is_grounded}
 use Rattle.dns_chain.specs.Heard.{heard_message, no_records_message}
 use Rattle.dns_chain.specs.Calls.{Call}
 use Rattle.dns_chain.specs.Looked.{UnlessNoMemory, OfAnswer, IsSoundAnswer, IsTrail, HasMarksOfTrail, DeniesQuery}
@@ -102,6 +104,18 @@ pub lookup_trail : {H : Type 0} (meanings : handle.Ghosts H) (call : Call H) (re
 lookup_trail meanings call result looked =
     of_result meanings call (λ a ending. IsTrail meanings call a.trail ending) result
     (record { each = λ found d ending f ends. (found_trail meanings call found ending f ends).is }) looked
+
+-- what holds of each derivation holds of the trail
+pub lookup_ground : {H : Type 0} (meanings : handle.Ghosts H) (call : Call H) (result : Result ResponseValue NetError)
+    → UnlessNoMemory result (Looked meanings call (reply_of result))
+    → OfAnswer (reply_of result) (λ a ending. HasGrounds call.judge.answers a.trail)
+lookup_ground meanings call result looked =
+    of_result meanings call (λ a ending. HasGrounds call.judge.answers a.trail) result
+    (record {
+      each = λ found d ending f ends.
+          let trail = (found_trail meanings call found ending f ends).is in
+          insecure_is_grounded call.judge call.options.max_request_depth (trail_of call.query found ending) trail.derived;
+    }) looked
 
 pub lookup_marks : {H : Type 0} (meanings : handle.Ghosts H) (call : Call H) (result : Result ResponseValue NetError)
     → UnlessNoMemory result (Looked meanings call (reply_of result)) → OfAnswer (reply_of result) (λ a ending. HasMarksOfTrail call.now a)

@@ -20,7 +20,7 @@ use Rattle.dns_chain.specs.Sending.{checked_edns, checked_request, call_for, IsL
 use Rattle.dns_chain.specs.Sends.{SendsBy}
 use Rattle.dns_chain.proofs.CauseLemmas.{no_both, lookup_passed, lookup_passes}
 use Rattle.dns_chain.proofs.ForeignLemmas.{lookup_foreign, lookup_names_foreign, lookup_judges}
-use Rattle.dns_chain.proofs.LookedLemmas.{or_memory, lookup_sound, lookup_trail, lookup_marks, lookup_denied}
+use Rattle.dns_chain.proofs.LookedLemmas.{or_memory, lookup_sound, lookup_trail, lookup_ground, lookup_marks, lookup_denied}
 use Rattle.dns_chain.proofs.UnjudgedLemmas.{lookup_unjudged, lookup_unanswered}
 
 -- ---- the request
@@ -53,6 +53,7 @@ looked_up meanings call result sends looked = record {
   sound = lookup_sound meanings call result looked;
   trail = lookup_trail meanings call result looked;
   marks = lookup_marks meanings call result looked;
+  grounds = lookup_ground meanings call result looked;
   denied = lookup_denied meanings call result looked;
   passed = lookup_passed meanings call result looked;
   passes = or_memory result _ (lookup_passes meanings call result looked);

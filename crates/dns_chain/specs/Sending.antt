@@ -10,6 +10,7 @@ use Rattle.dns_net.specs.Requests.{RequestValue, first_question}
 use Rattle.dns_net.specs.declared.handle.DnsHandle as handle
 use Rattle.dns_net.specs.declared.notice.Notice.TheVariants.{NoQueryInRequest}
 use Rattle.dns_net.specs.declared.verifier.Verifier as verifier
+use Rattle.dns_laws.specs.Ground.{HasGrounds}
 use Rattle.dns_chain.specs.Calls.{Call, Sending, inner_of, anchors_of, verifier_of, ask_of, first_of}
 use Rattle.dns_chain.specs.Causes.{PassesOnly, PassesOn, ForeignOnly, ForeignNamed, JudgesTold, UnjudgedOnly, UnansweredUnjudged}
 use Rattle.dns_chain.specs.Inquiries.{asking_options}
@@ -59,6 +60,7 @@ pub record IsLookedUp {H : Type 0} (meanings : handle.Ghosts H) (call : Call H) 
   pub sound : OfAnswer reply (λ a ending. IsSoundAnswer meanings call a)
   pub trail : OfAnswer reply (λ a ending. IsTrail meanings call a.trail ending)
   pub marks : OfAnswer reply (λ a ending. HasMarksOfTrail call.now a)
+  pub grounds : OfAnswer reply (λ a ending. HasGrounds call.judge.answers a.trail)
   pub denied : DeniesQuery call.query reply
   pub passed : PassesOnly meanings call reply
   pub passes : UnlessForgotten reply (PassesOn (meanings.told call.old) call.query reply)

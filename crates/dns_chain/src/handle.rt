@@ -5,6 +5,7 @@ ghost use Rattle.dns_chain.specs.Calls.{Asking};
 ghost use Rattle.dns_chain.specs.Causes.{PassesOnly, PassesOn, ForeignOnly, ForeignNamed, JudgesTold, UnjudgedOnly, UnansweredUnjudged};
 ghost use Rattle.dns_chain.specs.Looked.{UnlessNoMemory, OfAnswer, IsSoundAnswer, IsTrail, HasMarksOfTrail, DeniesQuery};
 ghost use Rattle.dns_chain.specs.Sends.{SendsFor};
+ghost use Rattle.dns_laws.specs.Ground.{HasGrounds};
 
 use crate::inquiry::{Inquiry, depth_limit_of};
 use crate::looking::look_up;
@@ -94,12 +95,14 @@ impl<H: DnsHandle + Drop, V: Verifier + Drop> DnssecDnsHandle<H, V> {
         ensures sends { OrUnsent (inner_of self.old) (inner_of self.new) result
             (SendsFor (Asking H.DnsHandle options now) (inner_of self.old) (inner_of self.new) query) }
 
-        // An answer, an Ok one or that inside a denial, is sound, its trail says how it came about, and its marks are the trail's.
+        // An answer, an Ok one or that inside a denial, is sound, its trail says how it came about, and its marks are the trail's. Each
+        // set that the trail marks Insecure has a ground in the steps before.
         ensures sound { OfAnswer (reply_of result) (λ a ending.
             IsSoundAnswer H.DnsHandle (call_of V.Verifier self.old self.new query options now) a) }
         ensures trail { OfAnswer (reply_of result) (λ a ending.
             IsTrail H.DnsHandle (call_of V.Verifier self.old self.new query options now) a.trail ending) }
         ensures marks { OfAnswer (reply_of result) (λ a ending. HasMarksOfTrail now a) }
+        ensures grounds { OfAnswer (reply_of result) (λ a ending. HasGrounds (V.answers (verifier_of self.old)) a.trail) }
         ensures denied { DeniesQuery query (reply_of result) }
 
         // An error that only the handle makes is passed on, after one send that met a fault; and whatever error it replies is.

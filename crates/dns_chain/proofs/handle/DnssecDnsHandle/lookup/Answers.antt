@@ -1,4 +1,4 @@
-use Rattle.dns_chain.proofs.LookedLemmas.{lookup_sound, lookup_trail, lookup_marks, lookup_denied}
+use Rattle.dns_chain.proofs.LookedLemmas.{lookup_sound, lookup_trail, lookup_ground, lookup_marks, lookup_denied}
 use Rattle.dns_chain.proofs.CauseLemmas.{lookup_passed, lookup_passes}
 use Rattle.dns_chain.proofs.ForeignLemmas.{lookup_foreign, lookup_names_foreign, lookup_judges}
 use Rattle.dns_chain.proofs.UnjudgedLemmas.{lookup_unjudged, lookup_unanswered}
@@ -12,6 +12,9 @@ returns-clause-trail g c = lookup_trail g.H.DnsHandle _ _ c.look_up-reply.ensure
 
 pub returns-clause-marks : goal.returns-clause-marks
 returns-clause-marks g c = lookup_marks g.H.DnsHandle _ _ c.look_up-reply.ensures.looked
+
+pub returns-clause-grounds : goal.returns-clause-grounds
+returns-clause-grounds g c = lookup_ground g.H.DnsHandle _ _ c.look_up-reply.ensures.looked
 
 pub returns-clause-denied : goal.returns-clause-denied
 returns-clause-denied g c = lookup_denied g.H.DnsHandle _ _ c.look_up-reply.ensures.looked
