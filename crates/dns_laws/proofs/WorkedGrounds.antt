@@ -7,6 +7,7 @@ use Rattle.dns_model.specs.declared.section.Section.{Section}
 use Rattle.dns_model.specs.declared.section.Section.TheVariants.{Answer, Authority}
 use Rattle.dns_model.specs.declared.denial.Denial.TheVariants as denial
 use Rattle.dns_model.specs.declared.trail.AskRef.TheVariants.{Step}
+use Rattle.dns_model.specs.declared.trail.MarkOrigin.TheVariants.{Repeat}
 use Rattle.dns_model.specs.Names.{Labels}
 use Rattle.dns_model.specs.Records.{Rr}
 use Rattle.dns_model.specs.Views.{rrsig_in, ds_in, nsec_in}
@@ -18,12 +19,12 @@ use Rattle.dns_model.proofs.Worked.{letter_a}
 use Rattle.dns_model.proofs.Delegation.{trusting, ds_of_key}
 use Rattle.dns_judgement.specs.Marks.{key_question}
 use Rattle.dns_judgement.specs.Delegations.{ds_question}
-use Rattle.dns_judgement.specs.Derivation.{derivation}
+use Rattle.dns_judgement.specs.Derivation.{derivation, steps_hold}
 use Rattle.dns_judgement.proofs.WorkedTrailValues.{record_of}
 use Rattle.dns_judgement.proofs.WorkedTrails.{computed}
 use Rattle.dns_judgement.proofs.WorkedDelegations.{zone, by_root, step_of, zone_entry, root_keys, ds_found, ds_by_root, other_algorithm, other_digest}
 use Rattle.dns_judgement.proofs.WorkedSearches.{host, host_seen, zone_seen, ds_unsupported, unsigned_step, searched, whole_search, below_an_alias}
-use Rattle.dns_judgement.proofs.WorkedExcuses.{asked_by_the_signature, signed_step, unexpanded}
+use Rattle.dns_judgement.proofs.WorkedExcuses.{keys_insecure, asked_by_the_signature, signed_step, unexpanded}
 use Rattle.dns_judgement.proofs.WorkedVerdicts.{with_ns, with_soa, with_ds, with_a}
 use Rattle.dns_laws.specs.Ground.{is_ground, insecure_has_ground}
 
@@ -178,6 +179,19 @@ of_an_unsigned_set = refl
 pub of_a_signed_set : grounds_computed (asked_by_the_signature ++ signed_step unexpanded (Answered denial.None) [] ∷ []) ≡ true
 unfolding grounds_computed
 of_a_signed_set = refl
+
+-- the zone's keys once more, as the earlier step found them
+abbrev pub keys_again : List AskedValue
+keys_again =
+    asked_by_the_signature ++ record keys_insecure { sets = record (zone_entry 48 Insecure None []) { origin = Repeat 2 } ∷ [] } ∷ []
+
+pub again_as_found : steps_hold by_root 26 [] keys_again ≡ true
+unfolding computed
+again_as_found = refl
+
+pub of_a_set_found_again : grounds_computed keys_again ≡ true
+unfolding grounds_computed
+of_a_set_found_again = refl
 
 -- an SOA beside an alias, and by it an address below
 pub of_a_set_by_another : grounds_computed (below_an_alias Insecure Insecure) ≡ true
