@@ -7,6 +7,8 @@ use Rattle.std.proofs.Math.Logic.{⊎_elim}
 use Rattle.std.proofs.Math.Nat.{min-le_right}
 use Rattle.std.proofs.lemmas.Bool.{and_parts, or_cases, or_from, or_parts, not-true, not_from_false, true≢false}
 use Rattle.std.proofs.lemmas.Option.{slice_get_within}
+use Rattle.dns_model.specs.declared.section.Section.TheVariants.{Answer}
+use Rattle.dns_model.specs.declared.trail.AskRef.{AskRef}
 use Rattle.dns_model.specs.Names.{name_eq}
 use Rattle.dns_model.specs.Types.{class_in, type_soa, type_ds, type_opt, type_rrsig, type_nsec, type_dnskey, type_nsec3}
 use Rattle.dns_model.specs.Records.{Rr, RrSet, Question, question_eq}
@@ -16,13 +18,14 @@ use Rattle.dns_model.proofs.SetLemmas.{number_same, number_back}
 use Rattle.dns_judgement.specs.Asking.{depth_limit, is_judged_at}
 use Rattle.dns_judgement.specs.Judged.{Judged}
 use Rattle.dns_judgement.specs.KeySets.{is_anchored_key}
+use Rattle.dns_judgement.specs.Marking.{marked_section}
 use Rattle.dns_judgement.specs.Marks.{key_question}
 use Rattle.dns_judgement.specs.Delegations.{ds_question}
-use Rattle.dns_judgement.specs.Derivation.{judged_sets, if_answered, top_step, in_send_order, derivation}
-use Rattle.dns_judgement.specs.DerivationParts.{answer_of, grounds_of, steps_at}
+use Rattle.dns_judgement.specs.Derivation.{judged_sets, finished_answer, if_answered, top_step, in_send_order, derivation}
+use Rattle.dns_judgement.specs.DerivationParts.{grounds_of, steps_at}
 use Rattle.dns_judgement.proofs.DerivedLemmas.{derivation_parts}
 use Rattle.dns_judgement.proofs.SentLemmas.{numbered}
-use Rattle.dns_laws.specs.Complete.{Upstream, HeardAlong, AreAsked, ProvesQuery}
+use Rattle.dns_laws.specs.Complete.{Upstream, HeardAlong, AreAsked, shows_secure, ProvesQuery}
 use Rattle.dns_laws.specs.Valid.{is_plain_query, straight_set, is_anchored_set, is_proved_by_keys, is_proved_by_ds, is_proved_by, leads_to_anchor, IsValidSession}
 use Rattle.dns_laws.proofs.TestLemmas.{passing, some_same}
 use Rattle.dns_laws.proofs.QuestionLemmas.{same_parts}
@@ -32,7 +35,8 @@ use Rattle.dns_laws.proofs.SignedEntryLemmas.{IsSecureSet, keys_ask, one_ask, si
 use Rattle.dns_laws.proofs.KeyEntryLemmas.{IsOneOrNone, anchored_entry, ds_proof, ds_asked, ds_mark}
 use Rattle.dns_laws.proofs.OrderPathLemmas.{none_met, none_ends}
 use Rattle.dns_laws.proofs.RankLemmas.{rank, name_lengths, same_rank, keys_lower, ds_lower}
-use Rattle.dns_laws.proofs.PathLemmas.{Walk, IsAt, IsHere, here, rules, IsShown, shown_by, IsLower, asked_next}
+use Rattle.dns_laws.proofs.SecureRecordLemmas.{secure_records}
+use Rattle.dns_laws.proofs.PathLemmas.{Walk, IsAt, IsHere, here, rules, IsShown, shown_by, IsAsked, IsLower, asked_next}
 
 -- ---- one set
 
@@ -103,23 +107,24 @@ abbrev pub ShowsNext : {R : Type 0} → Walk R → Question → List Question �
 ShowsNext {R} w next rest =
     (r : R) (n : ℕ) (step : AskedValue) (met more : List ℕ) → IsAt w next rest r n step met more → IsShown w next rest n step more
 
--- the step that was asked has the set that the list names, Secure
-record IsNextSet {R : Type 0} (w : Walk R) (next : Question) (above : RrSet) (asked : AskedValue) : Type 0 where
+-- the ask found the set that the list names, Secure
+record IsNextSet {R : Type 0} (w : Walk R) (next : Question) (n : ℕ) (ask : AskRef) (above : RrSet) : Type 0 where
   judged : Judged
-  answer : answer_of (Some asked) ≡ Some (judged ∷ [])
+  answer : finished_answer (take n w.trail) ask ≡ Some (judged ∷ [])
   secure : IsSecureSet above judged
   owner : name_eq next.owner above.owner ≡ true
   rtype : above.rtype ≡ next.rtype
   class : above.class ≡ next.class
 
-next_set : {R : Type 0} (w : Walk R) (next : Question) (rest : List Question) (n : ℕ) (step : AskedValue) (more : List ℕ) (above : RrSet)
-    → IsShown w next rest n step more → straight_set w.judge w.tells next ≡ Some above → IsNextSet w next above step
-next_set w next rest n step more above shown found =
+next_set : {R : Type 0} (w : Walk R) (next : Question) (rest : List Question) (r : R) (n : ℕ) (step : AskedValue) (met more : List ℕ) (ask : AskRef) (above : RrSet)
+    → (asked : IsAsked w next rest r n step met more ask) → IsShown w next rest asked.m asked.asked more → straight_set w.judge w.tells next ≡ Some above
+    → IsNextSet w next n ask above
+next_set w next rest r n step met more ask above asked shown found =
     let same = some_same shown.set above (sym shown.straight ∙ found) in
     let one = subst (IsOneSet w.judge next shown.told) same shown.one in
     record {
       judged = shown.judged;
-      answer = ap (λ e. if_answered e (judged_sets step)) shown.ending ∙ ap Some shown.sets;
+      answer = asked.answer ∙ ap (λ e. if_answered e (judged_sets asked.asked)) shown.ending ∙ ap Some shown.sets;
       secure = subst (λ set. IsSecureSet set shown.judged) same shown.secure;
       owner = one.owner;
       rtype = one.rtype;
@@ -143,9 +148,10 @@ shown_signed w q next rest r n step met more set above at is found h other prove
     let lower = keys_lower set.rtype set.class set.owner signer q ask.fits other (sym h.one.rtype) (name_lengths q.owner set.owner h.one.owner) in
     let asked = asked_next w q question next rest r n step met more set by.ask at h by.alone by.asks ask.next_is (keys_are_lower q next question refl ask.next_is lower) in
     let shown = later (w.up.left r step.query) asked.m asked.asked (met ++ n ∷ []) h.on.more asked.at in
-    let keys = next_set w next rest asked.m asked.asked h.on.more above shown found in
+    let keys = next_set w next rest r n step met h.on.more by.ask above asked shown found in
+    let plain : needs_no_denial set.rtype ≡ true = ap needs_no_denial h.one.rtype ∙ at.plain in
     let mark = signed_mark g next set above signed.signature question entry keys.judged by ask keys.owner keys.rtype keys.class
-    (ap needs_no_denial h.one.rtype ∙ at.plain) (asked.answer ∙ keys.answer) keys.secure in
+    plain keys.answer keys.secure in
     shown_by w q (next ∷ rest) r n step met more set at is h mark (omega (arith, asked.before, shown.number)) shown.asked
 
 shown_keys : {R : Type 0} (w : Walk R) (q next : Question) (rest : List Question) (r : R) (n : ℕ) (step : AskedValue) (met more : List ℕ) (set above : RrSet)
@@ -166,8 +172,8 @@ shown_keys w q next rest r n step met more set above at is found h keys proved l
     let lower = ds_lower set.class set.owner q (ap (λ t. t == type_dnskey) q_rtype) (ap (λ t. t == type_ds) q_rtype) (name_lengths q.owner set.owner h.one.owner) in
     let asked = asked_next w q question next rest r n step met more set by.ask at h by.alone by.asks proof.next_is (ds_is_lower q next question refl proof.next_is lower) in
     let shown = later (w.up.left r step.query) asked.m asked.asked (met ++ n ∷ []) h.on.more asked.at in
-    let ds = next_set w next rest asked.m asked.asked h.on.more above shown found in
-    let mark = ds_mark g next set above entry ds.judged one by anchored proof ds.owner ds.rtype ds.class (asked.answer ∙ ds.answer) ds.secure in
+    let ds = next_set w next rest r n step met h.on.more by.ask above asked shown found in
+    let mark = ds_mark g next set above entry ds.judged one by anchored proof ds.owner ds.rtype ds.class ds.answer ds.secure in
     shown_by w q (next ∷ rest) r n step met more set at is h mark (omega (arith, asked.before, shown.number)) shown.asked
 
 shown_next : {R : Type 0} (w : Walk R) (q next : Question) (rest : List Question) (r : R) (n : ℕ) (step : AskedValue) (met more : List ℕ) (set above : RrSet) (b : Bool)
@@ -273,5 +279,8 @@ valid_session_is_proved {R = R} up r j depth q trail top derived last same heard
       is = is.secure.is;
       secure = is.secure.mark;
       ending = is.ending;
+      records = λ now.
+          ap (λ sets. shows_secure q (marked_section now sets Answer is.told.answers)) is.sets
+          ∙ secure_records j q is.told is.set is.judged now types.other is.one is.secure;
       asked = subst (AreAsked (q ∷ valid.queries)) (sym sent) is.asked;
     }

@@ -13,4 +13,5 @@ pub mod KeyEntryLemmas
 pub mod OrderPathLemmas
 pub mod RankLemmas
 pub mod PathLemmas
+pub mod SecureRecordLemmas
 pub mod CompleteLemmas

@@ -1,6 +1,6 @@
 -- What follows for a valid session: the set that was queried is Secure, and no other queries are asked than those that lead from it to
 -- an anchor (RFC 4035, 4.3 and 5).
-use Rattle.std.specs.Prelude.{◌≡◌, Bool, true, false, not, ◌&&◌, ◌||◌, List, [], ◌∷◌, Option, Some}
+use Rattle.std.specs.Prelude.{◌≡◌, ℕ, Bool, true, false, not, ◌&&◌, ◌||◌, List, [], ◌∷◌, Option, Some}
 use Rattle.std.specs.List.{list_any, list_all}
 use Rattle.dns_model.specs.declared.denial.Denial.TheVariants as denial
 use Rattle.dns_model.specs.declared.proof.Proof.TheVariants.{Secure}
@@ -10,6 +10,7 @@ use Rattle.dns_model.specs.Chains.{Judge}
 use Rattle.dns_model.specs.SoundAnswers.{Told, is_secure}
 use Rattle.dns_model.specs.Trails.{AskedValue, Answered}
 use Rattle.dns_judgement.specs.Judged.{Judged}
+use Rattle.dns_judgement.specs.Marking.{marked_section}
 use Rattle.dns_judgement.specs.Derivation.{told_in, judged_sets, top_step, in_send_order}
 use Rattle.dns_laws.specs.Straight.{is_queried}
 use Rattle.dns_laws.specs.Valid.{straight_set}
@@ -38,8 +39,13 @@ AreAsked [] (step ∷ steps) = ⊥
 AreAsked (q ∷ qs) [] = ⊥
 AreAsked (q ∷ qs) (step ∷ steps) = (question_eq q step.query ≡ true) × AreAsked qs steps
 
+-- the records that were queried are there, and each is Secure
+abbrev pub shows_secure : Question → List Rr → Bool
+shows_secure q answers =
+    list_any (is_queried q) answers && list_all (λ r. not (is_queried q r) || is_secure r.proof) answers
+
 -- a trail that proves a query by the queries after it: its last step ends with an answer, and the set that it judges, its only one,
--- is that of the straight reply, and Secure; its steps are the queries of the list, one for each, in the order of the sends
+-- is that of the straight reply, and Secure, with each record that was queried; its steps are the queries of the list, one for each, in the order of the sends
 pub record ProvesQuery (j : Judge) (tells : Question → Option Told) (q : Question) (queries : List Question) (trail : List AskedValue) : Type 0 where
   pub top : AskedValue
   pub last : top_step trail ≡ Some top
@@ -54,8 +60,4 @@ pub record ProvesQuery (j : Judge) (tells : Question → Option Told) (q : Quest
   pub secure : judged.mark ≡ Secure
   pub ending : top.ending ≡ Answered denial.None
   pub asked : AreAsked (q ∷ queries) (in_send_order trail)
-
--- the records that were queried are there, and each is Secure
-abbrev pub shows_secure : Question → List Rr → Bool
-shows_secure q answers =
-    list_any (is_queried q) answers && list_all (λ r. not (is_queried q r) || is_secure r.proof) answers
+  pub records : (now : ℕ) → shows_secure q (marked_section now (judged_sets top) Answer told.answers) ≡ true
