@@ -1,5 +1,5 @@
 -- Completeness: a derivation whose steps heard a valid session proves its query.
-use Rattle.std.proofs.Common.{◌≡◌, ◌⊎◌, inl, inr, ℕ, ◌+◌, ◌-◌, ◌<◌, Bool, true, false, not, ◌==◌, List, [], ◌∷◌, ◌++◌, length, take, Some, refl, sym, ap, ◌∙◌, subst, arith, if◌then◌else◌}
+use Rattle.std.proofs.Common.{◌≡◌, ◌⊎◌, inl, inr, ℕ, ◌+◌, ◌-◌, ◌<◌, Bool, true, false, not, ◌==◌, List, [], ◌∷◌, ◌++◌, length, take, Option, None, Some, refl, sym, ap, ◌∙◌, subst, arith, if◌then◌else◌}
 use Rattle.std.specs.Prelude.{◌&&◌, ◌||◌, nat_le}
 use Rattle.std.specs.Option.{option_map_or}
 use Rattle.std.specs.List.{list_any, list_all}
@@ -13,11 +13,13 @@ use Rattle.dns_model.specs.Names.{name_eq}
 use Rattle.dns_model.specs.Types.{class_in, type_soa, type_ds, type_opt, type_rrsig, type_nsec, type_dnskey, type_nsec3}
 use Rattle.dns_model.specs.Records.{Rr, RrSet, Question, question_eq}
 use Rattle.dns_model.specs.Chains.{Judge}
+use Rattle.dns_model.specs.SoundAnswers.{Told}
 use Rattle.dns_model.specs.Trails.{AskedValue}
 use Rattle.dns_model.proofs.SetLemmas.{number_same, number_back}
 use Rattle.dns_judgement.specs.Asking.{depth_limit, is_judged_at}
 use Rattle.dns_judgement.specs.Judged.{Judged}
 use Rattle.dns_judgement.specs.KeySets.{is_anchored_key}
+use Rattle.dns_judgement.specs.Outcome.{foreign_record}
 use Rattle.dns_judgement.specs.Marking.{marked_section}
 use Rattle.dns_judgement.specs.Marks.{key_question}
 use Rattle.dns_judgement.specs.Delegations.{ds_question}
@@ -28,9 +30,9 @@ use Rattle.dns_judgement.proofs.SentLemmas.{numbered}
 use Rattle.dns_laws.specs.Complete.{Upstream, HeardAlong, AreAsked, shows_secure, ProvesQuery}
 use Rattle.dns_laws.specs.Valid.{is_plain_query, straight_set, is_anchored_set, is_proved_by_keys, is_proved_by_ds, is_proved_by, leads_to_anchor, IsValidSession}
 use Rattle.dns_laws.proofs.TestLemmas.{passing, some_same}
-use Rattle.dns_laws.proofs.QuestionLemmas.{same_parts}
-use Rattle.dns_laws.proofs.StraightLemmas.{is_other, IsOneSet, IsSigned, IsUnsigned, signed_or_anchored}
-use Rattle.dns_laws.proofs.StraightStepLemmas.{needs_no_denial}
+use Rattle.dns_laws.proofs.QuestionLemmas.{same_parts, question_refl}
+use Rattle.dns_laws.proofs.StraightLemmas.{is_other, IsOneSet, answered, IsSigned, IsUnsigned, signed_or_anchored}
+use Rattle.dns_laws.proofs.StraightStepLemmas.{needs_no_denial, none_foreign}
 use Rattle.dns_laws.proofs.SignedEntryLemmas.{IsSecureSet, keys_ask, one_ask, signed_mark}
 use Rattle.dns_laws.proofs.KeyEntryLemmas.{IsOneOrNone, anchored_entry, ds_proof, ds_asked, ds_mark}
 use Rattle.dns_laws.proofs.OrderPathLemmas.{none_met, none_ends}
@@ -226,6 +228,12 @@ by_itself q h =
 same_top : (trail : List AskedValue) (a b : AskedValue) → top_step trail ≡ Some a → top_step trail ≡ Some b → a ≡ b
 same_top trail a b one two = some_same a b (sym one ∙ two)
 
+records_by : {R : Type 0} (w : Walk R) (q : Question) (rest : List Question) (n : ℕ) (step : AskedValue) (more : List ℕ) → is_other q ≡ false
+    → (is : IsShown w q rest n step more) → (now : ℕ) → shows_secure q (marked_section now (judged_sets step) Answer is.told.answers) ≡ true
+records_by w q rest n step more other is now =
+    ap (λ sets. shows_secure q (marked_section now sets Answer is.told.answers)) is.sets
+    ∙ secure_records w.judge q is.told is.set is.judged now other is.one is.secure
+
 -- a derivation whose last step asks a query, and whose steps heard a session that is valid for it, proves it
 pub valid_session_is_proved : {R : Type 0} (up : Upstream R) (r : R) (j : Judge) (depth : ℕ) (q : Question) (trail : List AskedValue) (top : AskedValue)
     → derivation j depth trail ≡ true → top_step trail ≡ Some top → question_eq q top.query ≡ true → HeardAlong up r (in_send_order trail)
@@ -279,8 +287,37 @@ valid_session_is_proved {R = R} up r j depth q trail top derived last same heard
       is = is.secure.is;
       secure = is.secure.mark;
       ending = is.ending;
-      records = λ now.
-          ap (λ sets. shows_secure q (marked_section now sets Answer is.told.answers)) is.sets
-          ∙ secure_records j q is.told is.set is.judged now types.other is.one is.secure;
+      records = records_by w q valid.queries (length trail - 1) top g.sent.order types.other is;
       asked = subst (AreAsked (q ∷ valid.queries)) (sym sent) is.asked;
     }
+
+-- ---- the reply to the query
+
+-- it tells records of the query's class
+pub record HasReply (tells : Question → Option Told) (q : Question) : Type 0 where
+  pub told : Told
+  pub heard : tells q ≡ Some told
+  pub own : foreign_record q told ≡ None
+
+record FirstSet (o : Option RrSet) : Type 0 where
+  set : RrSet
+  found : o ≡ Some set
+
+first_set : (j : Judge) (tells : Question → Option Told) (q : Question) (rest : List Question) → leads_to_anchor j tells q rest ≡ true
+    → FirstSet (straight_set j tells q)
+unfolding leads_to_anchor
+first_set j tells q [] leads =
+    let set = passing (λ s. (s.rtype == type_dnskey) && is_anchored_set j s) (straight_set j tells q) leads in
+    record { set = set.value; found = set.found }
+first_set j tells q (next ∷ rest) leads =
+    let test = λ (s : RrSet). option_map_or (is_proved_by j s next) (straight_set j tells next) false in
+    let parts = and_parts (option_map_or test (straight_set j tells q) false) (leads_to_anchor j tells next rest) leads in
+    let set = passing test (straight_set j tells q) parts.0 in
+    record { set = set.value; found = set.found }
+
+-- the reply of a valid session
+pub valid_reply : (j : Judge) (tells : Question → Option Told) (depth : ℕ) (q : Question) → IsValidSession j tells depth q → HasReply tells q
+valid_reply j tells depth q valid =
+    let first = first_set j tells q valid.queries valid.leads in
+    let reply = answered j tells q first.set ((by_itself q valid.plain).other) first.found in
+    record { told = reply.told; heard = reply.heard; own = none_foreign j q q reply.told first.set reply.is (question_refl q) }

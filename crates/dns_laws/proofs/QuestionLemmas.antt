@@ -1,10 +1,10 @@
 -- Questions that are the same but for the case of letters.
-use Rattle.std.proofs.Common.{◌≡◌, true, ◌==◌, sym, ap, ◌∙◌}
+use Rattle.std.proofs.Common.{◌≡◌, Bool, true, false, ◌==◌, refl, sym, ap, ◌∙◌}
 use Rattle.std.specs.Prelude.{◌&&◌}
 use Rattle.std.proofs.lemmas.Bool.{and_parts, and_from}
 use Rattle.dns_model.specs.Names.{name_eq}
 use Rattle.dns_model.specs.Records.{Question, question_eq}
-use Rattle.dns_model.proofs.SetLemmas.{name_back, name_trans, number_same, number_refl}
+use Rattle.dns_model.proofs.SetLemmas.{name_refl, name_back, name_trans, number_same, number_refl}
 
 -- two questions are the same
 pub record IsSame (a b : Question) : Type 0 where
@@ -38,3 +38,17 @@ question_trans a b c h k =
       rtype = one.rtype ∙ two.rtype;
       class = one.class ∙ two.class;
     })
+
+pub question_refl : (q : Question) → question_eq q q ≡ true
+question_refl q = same_made q q (record { owner = name_refl q.owner; rtype = refl; class = refl })
+
+both_ways_same : (x y : Bool) → (x ≡ true → y ≡ true) → (y ≡ true → x ≡ true) → x ≡ y
+both_ways_same true y over back = sym (over refl)
+both_ways_same false true over back = back refl
+both_ways_same false false over back = refl
+
+-- the same questions are the same to others
+pub question_right : (a b q : Question) → question_eq a b ≡ true → question_eq q a ≡ question_eq q b
+question_right a b q same =
+    both_ways_same (question_eq q a) (question_eq q b) (λ h. question_trans q a b h same)
+    (λ h. question_trans q b a h (question_back a b same))

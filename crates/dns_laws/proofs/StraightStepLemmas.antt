@@ -55,7 +55,7 @@ class_same q asked h =
 class_of : (q : Question) (r : Rr) → OfReply q r → r.class ≡ q.class
 class_of q r of = ⊎_elim (λ (queried : IsQueried q r). queried.class) (λ (plain : IsPlain q r). plain.class) of
 
-none_foreign : (j : Judge) (q asked : Question) (told : Told) (set : RrSet) → IsOneSet j q told set → question_eq q asked ≡ true
+pub none_foreign : (j : Judge) (q asked : Question) (told : Told) (set : RrSet) → IsOneSet j q told set → question_eq q asked ≡ true
     → foreign_record asked told ≡ None
 none_foreign j q asked told set one same =
     let test = λ (r : Rr). not (r.class == asked.class) in
