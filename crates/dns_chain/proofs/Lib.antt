@@ -14,3 +14,4 @@ pub mod ForeignLemmas
 pub mod UnjudgedLemmas
 pub mod LookLemmas
 pub mod SendingLemmas
+pub mod CompletingLemmas

@@ -18,6 +18,7 @@ use Rattle.dns_chain.specs.Inquiries.{asking_options, asking_request}
 use Rattle.dns_chain.specs.Looked.{UnlessNoMemory}
 use Rattle.dns_chain.specs.Sending.{checked_edns, checked_request, call_for, IsLookedUp, AnswersRequest, Goes, Refused, LookedUp, Unsent}
 use Rattle.dns_chain.specs.Sends.{SendsBy}
+use Rattle.dns_chain.proofs.CompletingLemmas.{lookup_completes}
 use Rattle.dns_chain.proofs.CauseLemmas.{no_both, lookup_passed, lookup_passes}
 use Rattle.dns_chain.proofs.ForeignLemmas.{lookup_foreign, lookup_names_foreign, lookup_judges}
 use Rattle.dns_chain.proofs.LookedLemmas.{or_memory, lookup_sound, lookup_trail, lookup_ground, lookup_marks, lookup_denied}
@@ -62,6 +63,7 @@ looked_up meanings call result sends looked = record {
   judges = or_memory result _ (lookup_judges meanings call result looked);
   unjudged = lookup_unjudged meanings call result looked;
   unanswered = or_memory result _ (lookup_unanswered meanings call result looked);
+  completes = or_memory result _ (lookup_completes meanings call result looked);
 }
 
 -- ---- each case of a request

@@ -5,6 +5,7 @@ pub mod Sends
 pub mod LookupParts
 pub mod Looked
 pub mod Causes
+pub mod Completing
 pub mod Sending
 pub mod Walking
 pub mod Answering

@@ -13,6 +13,7 @@ use Rattle.dns_net.specs.declared.verifier.Verifier as verifier
 use Rattle.dns_laws.specs.Ground.{HasGrounds}
 use Rattle.dns_chain.specs.Calls.{Call, Sending, inner_of, anchors_of, verifier_of, ask_of, first_of}
 use Rattle.dns_chain.specs.Causes.{PassesOnly, PassesOn, ForeignOnly, ForeignNamed, JudgesTold, UnjudgedOnly, UnansweredUnjudged}
+use Rattle.dns_chain.specs.Completing.{Completes}
 use Rattle.dns_chain.specs.Inquiries.{asking_options}
 use Rattle.dns_chain.specs.Looked.{OfAnswer, IsSoundAnswer, IsTrail, HasMarksOfTrail, DeniesQuery}
 use Rattle.dns_chain.specs.Sends.{SendsBy}
@@ -69,6 +70,7 @@ pub record IsLookedUp {H : Type 0} (meanings : handle.Ghosts H) (call : Call H) 
   pub judges : UnlessForgotten reply (JudgesTold (meanings.told call.old) call.query reply)
   pub unjudged : UnjudgedOnly meanings call reply
   pub unanswered : UnlessForgotten reply (UnansweredUnjudged (meanings.told call.old) call.query reply)
+  pub completes : UnlessForgotten reply (Completes (meanings.told call.old) call reply)
 
 -- ---- any request
 

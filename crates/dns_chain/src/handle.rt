@@ -3,6 +3,7 @@ ghost use Rattle.dns_net.specs.Replies.{reply_of};
 ghost use Rattle.dns_net.specs.Handles.{OrUnsent};
 ghost use Rattle.dns_chain.specs.Calls.{Asking};
 ghost use Rattle.dns_chain.specs.Causes.{PassesOnly, PassesOn, ForeignOnly, ForeignNamed, JudgesTold, UnjudgedOnly, UnansweredUnjudged};
+ghost use Rattle.dns_chain.specs.Completing.{Completes};
 ghost use Rattle.dns_chain.specs.Looked.{UnlessNoMemory, OfAnswer, IsSoundAnswer, IsTrail, HasMarksOfTrail, DeniesQuery};
 ghost use Rattle.dns_chain.specs.Sends.{SendsFor};
 ghost use Rattle.dns_laws.specs.Ground.{HasGrounds};
@@ -117,6 +118,10 @@ impl<H: DnsHandle + Drop, V: Verifier + Drop> DnssecDnsHandle<H, V> {
         ensures judges { UnlessNoMemory result (JudgesTold (H.told (inner_of self.old)) query (reply_of result)) }
         ensures unjudged { UnjudgedOnly H.DnsHandle (call_of V.Verifier self.old self.new query options now) (reply_of result) }
         ensures unanswered { UnlessNoMemory result (UnansweredUnjudged (H.told (inner_of self.old)) query (reply_of result)) }
+
+        // Where the upstream's replies make a session that is valid for the query, it is answered, and what was queried is Secure.
+        ensures completes { UnlessNoMemory result (Completes (H.told (inner_of self.old))
+            (call_of V.Verifier self.old self.new query options now) (reply_of result)) }
     {
         let judge = Judge {
             verifier: &self.verifier,

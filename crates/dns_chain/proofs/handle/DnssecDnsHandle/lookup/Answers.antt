@@ -2,6 +2,7 @@ use Rattle.dns_chain.proofs.LookedLemmas.{lookup_sound, lookup_trail, lookup_gro
 use Rattle.dns_chain.proofs.CauseLemmas.{lookup_passed, lookup_passes}
 use Rattle.dns_chain.proofs.ForeignLemmas.{lookup_foreign, lookup_names_foreign, lookup_judges}
 use Rattle.dns_chain.proofs.UnjudgedLemmas.{lookup_unjudged, lookup_unanswered}
+use Rattle.dns_chain.proofs.CompletingLemmas.{lookup_completes}
 use Rattle.dns_chain.proofs.handle.DnssecDnsHandle.lookup.Goals as goal
 
 pub returns-clause-sound : goal.returns-clause-sound
@@ -39,3 +40,6 @@ returns-clause-unjudged g c = lookup_unjudged g.H.DnsHandle _ _ c.look_up-reply.
 
 pub returns-clause-unanswered : goal.returns-clause-unanswered
 returns-clause-unanswered g c = lookup_unanswered g.H.DnsHandle _ _ c.look_up-reply.ensures.looked
+
+pub returns-clause-completes : goal.returns-clause-completes
+returns-clause-completes g c = lookup_completes g.H.DnsHandle _ _ c.look_up-reply.ensures.looked
