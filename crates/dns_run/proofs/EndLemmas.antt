@@ -29,7 +29,7 @@ use Rattle.dns_run.proofs.TopLemmas.{some_same, trail_foreign, trail_unanswered,
 -- ---- the ways to end
 
 -- a status below 4 says what was written
-data Ending (shows : Parts) (bytes : List ℕ) (status : ℕ) (before now : Option (List ℕ)) : Type 0 where
+pub data Ending (shows : Parts) (bytes : List ℕ) (status : ℕ) (before now : Option (List ℕ)) : Type 0 where
   Reported : status ≡ 0 → Wrote before now (Derives shows bytes) → Ending shows bytes status before now
   Failed : status ≡ 1 → Wrote before now (Fails bytes) → Ending shows bytes status before now
   Refused : status ≡ 3 → Wrote before now (Refuses bytes) → Ending shows bytes status before now
@@ -42,20 +42,20 @@ pub record Says (shows : Parts) (status : ℕ) (told before now : Option (List �
   pub form : status ≢ 2
   pub grammar : status ≡ 3 → Leaves Refuses told before now
 
-ending : (shows : Parts) (bytes : List ℕ) (status : ℕ) (before now : Option (List ℕ)) → Says shows status (Some bytes) before now → Ending shows bytes status before now
+pub ending : (shows : Parts) (bytes : List ℕ) (status : ℕ) (before now : Option (List ℕ)) → Says shows status (Some bytes) before now → Ending shows bytes status before now
 ending shows bytes zero before now says = Reported refl (says.report refl)
 ending shows bytes (suc zero) before now says = Failed refl (says.fault refl)
 ending shows bytes (suc (suc zero)) before now says = absurd (says.form refl)
 ending shows bytes (suc (suc (suc zero))) before now says = Refused refl (says.grammar refl)
 ending shows bytes (suc (suc (suc (suc n)))) before now says = Later (omega arith)
 
-session_same : (bytes : List ℕ) (s x : SessionValue) → session_of bytes ≡ Ok s → session_of bytes ≡ Ok x → x ≡ s
+pub session_same : (bytes : List ℕ) (s x : SessionValue) → session_of bytes ≡ Ok s → session_of bytes ≡ Ok x → x ≡ s
 session_same bytes s x is also = ok_is (sym also ∙ is)
   where
     ok_is : (let y : Result SessionValue ℕ = Ok x in y) ≡ Ok s → x ≡ s
     ok_is h = cc
 
-no_line : (bytes : List ℕ) (s : SessionValue) (n : ℕ) → session_of bytes ≡ Ok s → session_of bytes ≡ Err n → ⊥
+pub no_line : (bytes : List ℕ) (s : SessionValue) (n : ℕ) → session_of bytes ≡ Ok s → session_of bytes ≡ Err n → ⊥
 no_line bytes s n is also = clash (sym is ∙ also)
   where
     clash : (let y : Result SessionValue ℕ = Ok s in y) ≡ Err n → ⊥
@@ -102,7 +102,7 @@ ends_fault s status before now error f (GivesFault x cause is written) =
 ends_fault s status before now error f (GivesLater late) = Stopped late
 
 -- a session without a message has no records
-no_records : (s : SessionValue) (records : Told) → session_records s ≡ Some records → session_message s ≡ None → ⊥
+pub no_records : (s : SessionValue) (records : Told) → session_records s ≡ Some records → session_message s ≡ None → ⊥
 no_records s records told none = clash (sym told ∙ ap told_of none)
   where
     clash : Some records ≡ None → ⊥
@@ -159,7 +159,7 @@ only_foreign s error f = record {
     not_true answer h = cc
 
 -- a record of another class, where there is none
-own_class : (s : SessionValue) (records : Told) (x : ErrorValue) → session_records s ≡ Some records → foreign_record s.query records ≡ None
+pub own_class : (s : SessionValue) (records : Told) (x : ErrorValue) → session_records s ≡ Some records → foreign_record s.query records ≡ None
     → HasForeign s x → ⊥
 own_class s records x told own g =
     let same : g.records ≡ records = some_same _ g.records records g.told told in

@@ -5,3 +5,4 @@ pub mod JudgeLemmas
 pub mod CauseLemmas
 pub mod TopLemmas
 pub mod EndLemmas
+pub mod CompletingLemmas

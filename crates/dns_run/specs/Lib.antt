@@ -7,3 +7,4 @@ pub mod Causes
 pub mod Outcomes
 pub mod Endings
 pub mod Runs
+pub mod Completing

@@ -4,6 +4,7 @@ ghost use Rattle.std.specs.Io.KnownBytes.{Appends};
 ghost use Rattle.dns_model.specs.Counts.{Rose};
 ghost use Rattle.dns_io.specs.Reading.{input_limit, IsEnded, ReadsFront};
 ghost use Rattle.dns_io.specs.Writing.{TakesPrefix};
+ghost use Rattle.dns_run.specs.Completing.{IsValid, EndsSecurely};
 ghost use Rattle.dns_run.specs.Forms.{AsksFor, asked_form, too_long_text};
 ghost use Rattle.dns_run.specs.Outcomes.{Leaves, LeavesPrefix, Wrote, WrotePrefix, ComesTo, Reports, Derives, Fails, Refuses};
 ghost use Rattle.dns_run.specs.Runs.{EndsAsSession, EndsByGrammar, EndsByLength, EndsByWords, IfSession, WritesText};
@@ -139,6 +140,11 @@ pub fn run<S: Source, W: Sink>(
     // What each session must end with, unless the status is 4 or more.
     ensures session { (shows : Parts) → AsksFor words.now (Validate shows)
         → IfSession (S.left input.old) (λ s. EndsAsSession s result (W.taken output.old) (W.taken output.new)) }
+
+    // A session that is valid for its query is reported with the records that were queried, each of them Secure, unless the
+    // status is 4 or more.
+    ensures completes { (shows : Parts) → AsksFor words.now (Validate shows)
+        → IfSession (S.left input.old) (λ s. IsValid s → EndsSecurely shows s result (W.taken output.old) (W.taken output.new)) }
 
     // 3, and an input that is no session.
     ensures grammar { (shows : Parts) → AsksFor words.now (Validate shows)

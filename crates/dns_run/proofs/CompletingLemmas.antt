@@ -1,0 +1,71 @@
+-- How a run over a valid session ends, out of what it says of its statuses.
+use Rattle.std.proofs.Common.{ℕ, ◌≡◌, ◌≤◌, ◌∙◌, List, Option, None, Some, Ok, sym, ap, subst}
+use Rattle.dns_model.specs.SoundAnswers.{Told}
+use Rattle.dns_model.specs.Trails.{AskedValue, EndingValue, Answered, Denied}
+use Rattle.dns_model.specs.Trails as trails
+use Rattle.dns_judgement.specs.Outcome.{foreign_record}
+use Rattle.dns_laws.proofs.CompleteLemmas.{HasReply, valid_reply}
+use Rattle.dns_net.specs.Errors.{ErrorValue}
+use Rattle.dns_chain.specs.Completing.{first_told}
+use Rattle.dns_chain.specs.Heard.{heard}
+use Rattle.dns_chain.proofs.CompletingLemmas.{IsProved, replies_prove, denied_never, failed_never, answer_secure}
+use Rattle.dns_report.specs.declared.parts.Parts.{Parts}
+use Rattle.dns_session.specs.SessionValue.{SessionValue}
+use Rattle.dns_session.specs.Grammar.{session_of}
+use Rattle.dns_run.specs.Answering.{session_replies, session_depth, IsSessionTrail}
+use Rattle.dns_run.specs.Causes.{FaultCause, NoMessage, OtherClass, NotJudged, NotDenied}
+use Rattle.dns_run.specs.Completing.{IsValid, EndsSecurely, Shown, Stopped}
+use Rattle.dns_run.specs.Outcomes.{IsTrailReport, IsFault}
+use Rattle.dns_run.specs.Replies.{session_records}
+use Rattle.dns_run.specs.Runs.{IfSession}
+use Rattle.dns_run.specs.Soundness.{session_judge}
+use Rattle.dns_run.proofs.EndLemmas.{Ending, Reported, Failed, Refused, Later, Says, ending, session_same, no_line, no_records, own_class}
+use Rattle.dns_run.proofs.ReplyLemmas.{session_replied}
+
+-- a trail for a valid session proves its query
+session_proved : (s : SessionValue) (trail : List AskedValue) (ending : EndingValue) → IsValid s → IsSessionTrail s trail ending
+    → IsProved (session_judge s) (session_replies s) s.query trail ending
+session_proved s trail ending valid is =
+    replies_prove (session_judge s) (session_replies s) (session_depth s) s.query trail is.top ending is.derived is.last is.query is.ends is.from valid
+
+-- the records that a valid session replies to its query
+session_reply_of : (s : SessionValue) → IsValid s → HasReply (first_told (session_replies s)) s.query
+session_reply_of s valid = valid_reply (session_judge s) (first_told (session_replies s)) (session_depth s) s.query valid
+
+records_of : (s : SessionValue) (told : Told) → first_told (session_replies s) s.query ≡ Some told → session_records s ≡ Some told
+records_of s told is = sym (ap heard (session_replied s)) ∙ is
+
+-- a valid session has no cause for an error
+no_fault : (s : SessionValue) (error : ErrorValue) → IsValid s → FaultCause s error → ⊥
+no_fault s error valid (NoMessage h) =
+    let reply = session_reply_of s valid in
+    no_records s reply.told (records_of s reply.told reply.heard) h.silent
+no_fault s error valid (OtherClass g) =
+    let reply = session_reply_of s valid in
+    own_class s reply.told error (records_of s reply.told reply.heard) reply.own g
+no_fault s error valid (NotJudged u is) = failed_never ((session_proved s u.trail trails.Failed valid u.is).ends)
+no_fault s error valid (NotDenied response proof given is) =
+    denied_never proof ((session_proved s response.trail (Denied proof) valid given.trail).ends)
+
+-- how a run over a valid session ended
+valid_ends : (shows : Parts) (bytes : List ℕ) (s : SessionValue) (status : ℕ) (before now : Option (List ℕ)) → session_of bytes ≡ Ok s → IsValid s
+    → Ending shows bytes status before now → EndsSecurely shows s status before now
+valid_ends shows bytes s status before now read valid (Reported is wrote) =
+    let r : IsTrailReport shows s wrote.text =
+    subst (λ x. IsTrailReport shows x wrote.text) (session_same bytes s wrote.fact.session read wrote.fact.read) wrote.fact.report in
+    let answer = r.report.answer in
+    let secure = answer_secure (session_judge s) (session_replies s) s.query s.moment answer
+    (session_proved s answer.trail (Answered answer.denial) valid r.given.trail) r.given.marks in
+    Shown is (record { text = wrote.text; fact = record { is = r; secure = secure }; written = wrote.written })
+valid_ends shows bytes s status before now read valid (Failed is wrote) =
+    let f : IsFault s wrote.text =
+    subst (λ x. IsFault x wrote.text) (session_same bytes s wrote.fact.session read wrote.fact.read) wrote.fact.fault in
+    absurd (no_fault s f.error valid f.cause)
+valid_ends shows bytes s status before now read valid (Refused is wrote) = absurd (no_line bytes s wrote.fact.number read wrote.fact.read)
+valid_ends shows bytes s status before now read valid (Later late) = Stopped late
+
+pub ends_securely : (shows : Parts) (status : ℕ) (told before now : Option (List ℕ)) → Says shows status told before now
+    → IfSession told (λ s. IsValid s → EndsSecurely shows s status before now)
+ends_securely shows status None before now says = tt
+ends_securely shows status (Some bytes) before now says = λ s read valid.
+    valid_ends shows bytes s status before now read valid (ending shows bytes status before now says)
