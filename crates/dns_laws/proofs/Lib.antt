@@ -4,6 +4,7 @@ pub mod GroundMarks
 pub mod GroundLemmas
 pub mod WorkedGrounds
 pub mod WorkedStraight
+pub mod WorkedValid
 pub mod TestLemmas
 pub mod StraightLemmas
 pub mod StraightStepLemmas

@@ -24,17 +24,17 @@ good_computed : Judge → RrSet → Rr → Rr → Bool
 unfolding signed_computed is_good_by validity rrsig_in dnskey_in tag_sum
 good_computed = is_good_by
 
-unfoldable straight_computed : Judge → Question → Told → Bool
+unfoldable pub straight_computed : Judge → Question → Told → Bool
 unfolding good_computed sets_of leaders
 straight_computed = is_straight
 
-unfoldable leads_computed : Judge → (Question → Option Told) → Question → List Question → Bool
+unfoldable pub leads_computed : Judge → (Question → Option Told) → Question → List Question → Bool
 unfolding straight_computed leads_to_anchor first_two ds_in
 leads_computed = leads_to_anchor
 
 -- ---- replies
 
-abbrev answers_of : List Rr → Told
+abbrev pub answers_of : List Rr → Told
 answers_of answers = record { code = 0; answers = answers; authorities = []; additionals = [] }
 
 abbrev keys : List Rr
@@ -111,3 +111,30 @@ pub another_rdata :
     leads_to_anchor root_judge (tells (record_of [] 2 (1 ∷ 98 ∷ 0 ∷ []) ∷ record_of [] 46 signature ∷ []) keys) ns_question (keys_question ∷ []) ≡ false
 unfolding leads_computed
 another_rdata = refl
+
+-- ---- keys of one tag
+
+-- each with the tag of the root's key, and an anchor like it; neither accepted
+abbrev second_key : List ℕ
+second_key = 1 ∷ 1 ∷ 3 ∷ 13 ∷ 170 ∷ 186 ∷ 0 ∷ 1 ∷ []
+
+abbrev third_key : List ℕ
+third_key = 1 ∷ 1 ∷ 3 ∷ 13 ∷ 170 ∷ 185 ∷ 0 ∷ 2 ∷ []
+
+abbrev all_anchored : Judge
+all_anchored =
+    judge verifier
+    (record { owner = []; algorithm = 13; key = 170 ∷ 186 ∷ 0 ∷ 1 ∷ [] } ∷ record { owner = []; algorithm = 13; key = 170 ∷ 185 ∷ 0 ∷ 2 ∷ [] } ∷ anchors) 1000
+
+-- the second key of a tag counts
+pub by_the_second_key :
+    leads_to_anchor all_anchored (tells ns_records (record_of [] 48 second_key ∷ keys)) ns_question (keys_question ∷ []) ≡ true
+unfolding leads_computed
+by_the_second_key = refl
+
+-- a third doesn't
+pub not_by_the_third_key :
+    leads_to_anchor all_anchored (tells ns_records (record_of [] 48 second_key ∷ record_of [] 48 third_key ∷ keys)) ns_question (keys_question ∷ [])
+    ≡ false
+unfolding leads_computed
+not_by_the_third_key = refl
