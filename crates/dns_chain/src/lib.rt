@@ -14,11 +14,12 @@ mod sending;
 mod steps;
 mod walk;
 
+pub use dns_chain_check::check_chain;
 pub use dns_marks::{
     DnsAnswer, KeyAnswer, KeysMark, ProofError, ProofErrorKind, RrsetProof, ZoneVerdict,
     ds_verdict, mark_keys, mark_rrset, verify_dnskey, verify_rrset_with_dnskey,
     verify_rrsig_with_keys,
 };
 pub use dns_net::Verifier;
-pub use dns_trust::{Listed, RrsigValidity, TrustAnchors};
+pub use dns_trust::{Limits, Listed, RrsigValidity, TrustAnchors};
 pub use handle::DnssecDnsHandle;
