@@ -187,11 +187,15 @@ fn make(alloc: Global, sample: Sample) -> Result<NetError, Fail> {
     }
 }
 
+fn copy_shows(alloc: Global, error: &NetError, text: &str) -> Result<bool, Fail> {
+    let copy = error.try_clone()?;
+    shows(alloc, &copy, text)
+}
+
 /// The error and its copy show the text.
 fn is_shown(alloc: Global, row: &Shown) -> Result<bool, Fail> {
     let error = make(alloc, row.sample)?;
-    let copy = error.try_clone()?;
-    Ok(shows(alloc, &error, row.text)? && shows(alloc, &copy, row.text)?)
+    Ok(shows(alloc, &error, row.text)? && copy_shows(alloc, &error, row.text)?)
 }
 
 #[test]

@@ -6,14 +6,32 @@ use std::alloc::Global;
 use std::test::Fail;
 
 /// An SOA of the root, with a minimum of 30 seconds.
-fn soa_rdata() -> &'static [u8] {
-    b"\0\0\0\0\0\x01\0\0\0\x02\0\0\0\x03\0\0\0\x04\0\0\0\x1e"
-}
+const SOA_RDATA: &[u8] = b"\0\0\0\0\0\x01\0\0\0\x02\0\0\0\x03\0\0\0\x04\0\0\0\x1e";
 
 /// The name `ns.`.
-fn server() -> &'static [u8] {
-    b"\x02ns\0"
-}
+const SERVER: &[u8] = b"\x02ns\0";
+
+/// A record by its name, type, ttl and rdata; without a ttl it has the one that is asked for.
+type Held = (&'static str, u16, Option<u32>, &'static [u8]);
+
+/// The authority section of a referral that also denies: NS records, one of whose servers has addresses and one that can't be
+/// read; an SOA that can't be read, and two that can.
+const AUTHORITIES: [Held; 6] = [
+    ("b.", 2, Some(60), SERVER),
+    ("c.", 6, Some(5), b""),
+    ("C.", 6, None, SOA_RDATA),
+    ("b.", 2, Some(60), b"\x02nt\0"),
+    ("d.", 2, Some(60), b""),
+    ("e.", 6, Some(1), SOA_RDATA),
+];
+
+/// Addresses of `ns.` in either case, and records that are none.
+const ADDITIONALS: [Held; 4] = [
+    ("ns.", 28, Some(60), b"0123456789abcdef"),
+    ("a.", 1, Some(60), b"addr"),
+    ("ns.", 16, Some(60), b"\0"),
+    ("NS.", 1, Some(60), b"addr"),
+];
 
 fn record(
     alloc: Global,
@@ -35,33 +53,19 @@ fn record(
     })
 }
 
-/// The authority section of a referral that also denies: NS records, one of whose servers has addresses and one that can't be
-/// read; an SOA that can't be read, and two that can.
-fn authorities(alloc: Global, ttl: u32) -> Result<Vec<Record>, Fail> {
-    Ok(vec![in alloc;
-        record(alloc, "b.", 2, 60, server())?,
-        record(alloc, "c.", 6, 5, b"")?,
-        record(alloc, "C.", 6, ttl, soa_rdata())?,
-        record(alloc, "b.", 2, 60, b"\x02nt\0")?,
-        record(alloc, "d.", 2, 60, b"")?,
-        record(alloc, "e.", 6, 1, soa_rdata())?,
-    ]?)
-}
-
-/// Addresses of `ns.` in either case, and records that are none.
-fn additionals(alloc: Global) -> Result<Vec<Record>, Fail> {
-    Ok(vec![in alloc;
-        record(alloc, "ns.", 28, 60, b"0123456789abcdef")?,
-        record(alloc, "a.", 1, 60, b"addr")?,
-        record(alloc, "ns.", 16, 60, b"\0")?,
-        record(alloc, "NS.", 1, 60, b"addr")?,
-    ]?)
+fn records(alloc: Global, held: &[Held], ttl: u32) -> Result<Vec<Record>, Fail> {
+    let mut records = Vec::new(alloc);
+    for (name, record_type, own, rdata) in held {
+        let next = record(alloc, name, *record_type, own.unwrap_or(ttl), rdata)?;
+        records.push(next)?;
+    }
+    Ok(records)
 }
 
 fn referral(alloc: Global, code: u16, ttl: u32) -> Result<DnsResponse, Fail> {
     let mut made = response(alloc, "a.b.", 16, code)?;
-    made.message.authorities = authorities(alloc, ttl)?;
-    made.message.additionals = additionals(alloc)?;
+    made.message.authorities = records(alloc, &AUTHORITIES, ttl)?;
+    made.message.additionals = records(alloc, &ADDITIONALS, ttl)?;
     Ok(made)
 }
 
@@ -104,11 +108,20 @@ fn text_of(alloc: Global, missing: &NoRecords) -> Result<String, Fail> {
     )?)
 }
 
+fn has_text(alloc: Global, missing: &NoRecords, text: &str) -> Result<bool, Fail> {
+    let shown = text_of(alloc, missing)?;
+    Ok(shown.as_str() == text)
+}
+
+fn copy_has_text(alloc: Global, missing: &NoRecords, text: &str) -> Result<bool, Fail> {
+    let copy = missing.try_clone()?;
+    has_text(alloc, &copy, text)
+}
+
 /// The response becomes this, and so does its copy.
 fn becomes(alloc: Global, response: DnsResponse, text: &str) -> Result<bool, Fail> {
     let missing = missing(alloc, response)?;
-    let copy = missing.try_clone()?;
-    Ok(text_of(alloc, &missing)?.as_str() == text && text_of(alloc, &copy)?.as_str() == text)
+    Ok(has_text(alloc, &missing, text)? && copy_has_text(alloc, &missing, text)?)
 }
 
 /// A response without questions and records.
@@ -118,15 +131,36 @@ fn bare(alloc: Global) -> Result<DnsResponse, Fail> {
     Ok(made)
 }
 
+/// The code and the ttl of the SOA of a referral, and what it becomes.
+const REFERRED: [(u16, u32, &str); 2] = [
+    (
+        3,
+        60,
+        "a.b. IN TXT; 3; C. 60; Some(30); b. ns.-28 NS.-1 b. d.; 6",
+    ),
+    (
+        0,
+        10,
+        "a.b. IN TXT; 0; C. 10; Some(10); b. ns.-28 NS.-1 b. d.; 6",
+    ),
+];
+
+fn referral_becomes(alloc: Global, code: u16, ttl: u32, text: &str) -> Result<bool, Fail> {
+    let made = referral(alloc, code, ttl)?;
+    becomes(alloc, made, text)
+}
+
+fn empty_becomes(alloc: Global, text: &str) -> Result<bool, Fail> {
+    let made = response(alloc, "o.", 43, 0)?;
+    becomes(alloc, made, text)
+}
+
 #[test]
 fn no_records_keep_what_the_server_said(rt: HostRuntime) -> Result<(), Fail> {
-    let alloc = rt.alloc();
-    let longer = "a.b. IN TXT; 3; C. 60; Some(30); b. ns.-28 NS.-1 b. d.; 6";
-    assert!(rt; becomes(alloc, referral(alloc, 3, 60)?, longer)?);
-    let shorter = "a.b. IN TXT; 0; C. 10; Some(10); b. ns.-28 NS.-1 b. d.; 6";
-    assert!(rt; becomes(alloc, referral(alloc, 0, 10)?, shorter)?);
-    let empty = "o. IN DS; 0; none; None;; 0";
-    assert!(rt; becomes(alloc, response(alloc, "o.", 43, 0)?, empty)?);
+    for (code, ttl, text) in &REFERRED {
+        assert!(rt; referral_becomes(rt.alloc(), *code, *ttl, text)?);
+    }
+    assert!(rt; empty_becomes(rt.alloc(), "o. IN DS; 0; none; None;; 0")?);
     Ok(())
 }
 
@@ -162,6 +196,32 @@ fn by_code(alloc: Global, code: u16) -> Result<NetError, Fail> {
     Ok(NetError::from(NoRecords::new(alloc, query, ResponseCode(code))))
 }
 
+/// No records, as a referral says.
+fn by_referral(alloc: Global) -> Result<NetError, Fail> {
+    let made = referral(alloc, 3, 60)?;
+    Ok(NetError::from(missing(alloc, made)?))
+}
+
+/// An error of each kind that is told apart.
+#[derive(Clone, Copy, Drop)]
+enum Sample {
+    ByCode(u16),
+    ByReferral,
+    Failure(u16),
+    Busy,
+    NoMemory,
+}
+
+fn error_of(alloc: Global, sample: Sample) -> Result<NetError, Fail> {
+    match sample {
+        Sample::ByCode(code) => by_code(alloc, code),
+        Sample::ByReferral => by_referral(alloc),
+        Sample::Failure(code) => Ok(NetError::from(DnsError::ResponseCode(ResponseCode(code)))),
+        Sample::Busy => Ok(NetError::Busy),
+        Sample::NoMemory => Ok(NetError::NoMemory),
+    }
+}
+
 /// The tests of an error: NXDOMAIN, no records, a connection that is gone.
 fn tests_of(error: &NetError) -> (bool, bool, bool) {
     (
@@ -171,16 +231,35 @@ fn tests_of(error: &NetError) -> (bool, bool, bool) {
     )
 }
 
+const TESTED: [(Sample, (bool, bool, bool)); 4] = [
+    (Sample::ByCode(3), (true, true, false)),
+    (Sample::ByCode(0), (false, true, false)),
+    (Sample::Failure(3), (false, false, false)),
+    (Sample::NoMemory, (false, false, false)),
+];
+
+fn is_tested(alloc: Global, one: Sample, want: (bool, bool, bool)) -> Result<bool, Fail> {
+    let error = error_of(alloc, one)?;
+    Ok(tests_of(&error) == want)
+}
+
 #[test]
 fn errors_tell_what_is_missing(rt: HostRuntime) -> Result<(), Fail> {
-    let alloc = rt.alloc();
-    assert!(rt; tests_of(&by_code(alloc, 3)?) == (true, true, false));
-    assert!(rt; tests_of(&by_code(alloc, 0)?) == (false, true, false));
-    let failure = NetError::from(DnsError::ResponseCode(ResponseCode(3)));
-    assert!(rt; tests_of(&failure) == (false, false, false));
-    assert!(rt; tests_of(&NetError::NoMemory) == (false, false, false));
+    for (one, want) in &TESTED {
+        assert!(rt; is_tested(rt.alloc(), *one, *want)?);
+    }
+    Ok(())
+}
+
+fn code_shows(alloc: Global, text: &str) -> Result<bool, Fail> {
+    let error = by_code(alloc, 3)?;
+    shows(alloc, &error, text)
+}
+
+#[test]
+fn no_records_show_their_question(rt: HostRuntime) -> Result<(), Fail> {
     let text = "DNS error: no records found for a.b. IN TXT";
-    assert!(rt; shows(alloc, &by_code(alloc, 3)?, text)?);
+    assert!(rt; code_shows(rt.alloc(), text)?);
     Ok(())
 }
 
@@ -217,17 +296,27 @@ fn five_kinds_say_that_a_connection_is_gone(rt: HostRuntime) -> Result<(), Fail>
     Ok(())
 }
 
-/// The owner of the SOA that an error holds.
-fn soa_owner(alloc: Global, error: NetError) -> Result<String, Fail> {
-    soa_text(alloc, &error.into_soa())
+/// Errors, and the owner and the ttl of the SOA that each holds.
+const SOAS: [(Sample, &str); 3] = [
+    (Sample::ByReferral, "C. 60"),
+    (Sample::ByCode(3), "none"),
+    (Sample::Busy, "none"),
+];
+
+fn soa_has_text(alloc: Global, soa: &Option<Record>, want: &str) -> Result<bool, Fail> {
+    let text = soa_text(alloc, soa)?;
+    Ok(text.as_str() == want)
+}
+
+fn holds_soa(alloc: Global, one: Sample, want: &str) -> Result<bool, Fail> {
+    let soa = error_of(alloc, one)?.into_soa();
+    soa_has_text(alloc, &soa, want)
 }
 
 #[test]
 fn no_records_give_their_soa(rt: HostRuntime) -> Result<(), Fail> {
-    let alloc = rt.alloc();
-    let missing = NetError::from(missing(alloc, referral(alloc, 3, 60)?)?);
-    assert!(rt; soa_owner(alloc, missing)?.as_str() == "C. 60");
-    assert!(rt; soa_owner(alloc, by_code(alloc, 3)?)?.as_str() == "none");
-    assert!(rt; soa_owner(alloc, NetError::Busy)?.as_str() == "none");
+    for (one, want) in &SOAS {
+        assert!(rt; holds_soa(rt.alloc(), *one, want)?);
+    }
     Ok(())
 }

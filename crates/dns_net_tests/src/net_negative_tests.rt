@@ -37,23 +37,34 @@ fn of_code(alloc: Global, code: u16) -> Result<Outcome, Fail> {
     outcome_of(alloc, response(alloc, "a.", 1, code)?)
 }
 
+fn is_failure(alloc: Global, code: u16) -> Result<bool, Fail> {
+    Ok(of_code(alloc, code)? == Outcome::Failure(code))
+}
+
 #[test]
-fn codes_say_what_becomes_of_a_response(rt: HostRuntime) -> Result<(), Fail> {
-    for code in FAILURES {
+fn codes_of_a_failure_make_it(rt: HostRuntime) -> Result<(), Fail> {
+    for code in &FAILURES {
+        assert!(rt; is_failure(rt.alloc(), *code)?, "code {code}");
+    }
+    Ok(())
+}
+
+#[test]
+fn codes_of_a_denial_leave_no_records(rt: HostRuntime) -> Result<(), Fail> {
+    for code in &ANSWERS {
         assert!(rt;
-            of_code(rt.alloc(), code)? == Outcome::Failure(code),
+            of_code(rt.alloc(), *code)? == Outcome::Missing,
             "code {code}"
         );
     }
-    for code in ANSWERS {
+    Ok(())
+}
+
+#[test]
+fn other_codes_leave_a_response(rt: HostRuntime) -> Result<(), Fail> {
+    for code in &OTHERS {
         assert!(rt;
-            of_code(rt.alloc(), code)? == Outcome::Missing,
-            "code {code}"
-        );
-    }
-    for code in OTHERS {
-        assert!(rt;
-            of_code(rt.alloc(), code)? == Outcome::Response,
+            of_code(rt.alloc(), *code)? == Outcome::Response,
             "code {code}"
         );
     }
@@ -320,10 +331,16 @@ fn change(alloc: Global, message: &mut Message, but: But) -> Result<(), Fail> {
     Ok(())
 }
 
-fn denying(alloc: Global, but: But, code: u16) -> Result<DnsResponse, Fail> {
+/// A response that denies by an SOA.
+fn denied(alloc: Global, code: u16) -> Result<DnsResponse, Fail> {
     let mut made = response(alloc, "a.b.", A, code)?;
     let soa = record(alloc, Named("b.", SOA))?;
     made.message.authorities.push(soa)?;
+    Ok(made)
+}
+
+fn denying(alloc: Global, but: But, code: u16) -> Result<DnsResponse, Fail> {
+    let mut made = denied(alloc, code)?;
     change(alloc, &mut made.message, but)?;
     Ok(made)
 }

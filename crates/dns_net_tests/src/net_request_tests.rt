@@ -73,9 +73,10 @@ fn asks(question: Option<&Query>, name: &str, record_type: u16) -> Result<bool, 
 
 fn is_cased(alloc: Global, row: &Cased) -> Result<bool, Fail> {
     let request = request(alloc, row.name, 48)?.with_case(row.bits)?;
-    let asked = asks(request.message.queries.first(), row.changed, 48)?;
-    let kept = asks(request.original.as_ref(), row.name, 48)?;
-    Ok(asked && kept)
+    Ok(
+        asks(request.message.queries.first(), row.changed, 48)?
+            && asks(request.original.as_ref(), row.name, 48)?,
+    )
 }
 
 #[test]
@@ -86,11 +87,16 @@ fn letters_change_where_their_bit_is_set(rt: HostRuntime) -> Result<(), Fail> {
     Ok(())
 }
 
+fn two_questions(alloc: Global) -> Result<DnsRequest, Fail> {
+    let mut request = request(alloc, "a.", 1)?;
+    let second = query(alloc, "b.", 2)?;
+    request.message.queries.push(second)?;
+    Ok(request)
+}
+
 /// Of two questions the first alone is changed.
 fn changes_the_first(alloc: Global) -> Result<bool, Fail> {
-    let mut request = request(alloc, "a.", 1)?;
-    request.message.queries.push(query(alloc, "b.", 2)?)?;
-    let request = request.with_case(bits())?;
+    let request = two_questions(alloc)?.with_case(bits())?;
     let queries = request.message.queries.as_slice();
     Ok(asks(queries.first(), "A.", 1)? && asks(queries.last(), "b.", 2)?)
 }
@@ -103,12 +109,15 @@ fn stays_without_a_question(alloc: Global) -> Result<bool, Fail> {
     Ok(request.message.queries.is_empty() && request.original.is_none())
 }
 
+fn changed_twice(alloc: Global) -> Result<DnsRequest, Fail> {
+    let once = request(alloc, "ab.", 1)?.with_case(bits())?;
+    Ok(once.with_case(bits())?)
+}
+
 /// A second change keeps the question as the first has left it.
 fn keeps_what_was_before(alloc: Global) -> Result<bool, Fail> {
-    let once = request(alloc, "ab.", 1)?.with_case(bits())?;
-    let twice = once.with_case(bits())?.try_clone()?;
-    let asked = asks(twice.message.queries.first(), "ab.", 1)?;
-    Ok(asked && asks(twice.original.as_ref(), "AB.", 1)?)
+    let twice = changed_twice(alloc)?.try_clone()?;
+    Ok(asks(twice.message.queries.first(), "ab.", 1)? && asks(twice.original.as_ref(), "AB.", 1)?)
 }
 
 fn bits() -> &'static [u8] {

@@ -4,14 +4,6 @@ use dns_record::{DNSClass, Rdata, RecordType, Section};
 use std::alloc::Global;
 use std::test::Fail;
 
-fn key() -> &'static [u8] {
-    b"key"
-}
-
-fn other_key() -> &'static [u8] {
-    b"kez"
-}
-
 fn rdata(alloc: Global) -> Result<Rdata, Fail> {
     Ok(Rdata::from_slice(alloc, b"key")?)
 }
@@ -53,66 +45,128 @@ fn delegation(alloc: Global) -> Result<Link, Fail> {
     })
 }
 
+/// The link with this number.
+fn link(alloc: Global, number: u32) -> Result<Link, Fail> {
+    match number {
+        0 => anchored(alloc),
+        1 => key_set(alloc),
+        _ => delegation(alloc),
+    }
+}
+
+fn links(alloc: Global) -> Result<Vec<Link>, Fail> {
+    let mut links = Vec::new(alloc);
+    for number in 0..3 {
+        let next = link(alloc, number)?;
+        links.push(next)?;
+    }
+    Ok(links)
+}
+
 /// An anchored key, its key set and a signed set of DS records, whose rdatas are alike.
 fn chain(alloc: Global) -> Result<Chain, Fail> {
-    let mut links = Vec::new(alloc);
-    links.push(anchored(alloc)?)?;
-    links.push(key_set(alloc)?)?;
-    links.push(delegation(alloc)?)?;
     let chain = Chain {
         section: Section::Answer,
-        links,
+        links: links(alloc)?,
     };
     Ok(chain.try_clone()?)
 }
 
-/// What the link with this number shows for `org.`: a trusted key, a member of a key set, a DS.
-fn shown(alloc: Global, number: u32, class: DNSClass, rdata: &[u8]) -> Result<u8, Fail> {
-    let chain = chain(alloc)?;
-    let links = chain.links.as_slice();
-    let owner = Name::from_ascii(alloc, "oRg.")?;
+/// What the link with this number shows for an owner: a trusted key, a member of a key set, a DS.
+fn shown(links: &[Link], owner: &Name, number: u32, class: DNSClass, rdata: &[u8]) -> u8 {
     let owner = owner.borrowed();
     let key = u8::from(shows_key(links, number, &owner, class, rdata));
     let member = u8::from(shows_member(links, number, &owner, class, rdata));
     let ds = u8::from(shows_ds(links, number, &owner, class, rdata));
-    Ok(key + 2 * member + 4 * ds)
+    key + 2 * member + 4 * ds
+}
+
+/// The number of a link, a class and an rdata, and what that link shows of them for `org.`.
+struct Row {
+    number: u32,
+    class: DNSClass,
+    rdata: &'static [u8],
+    want: u8,
+}
+
+const ROWS: [Row; 6] = [
+    Row {
+        number: 0,
+        class: DNSClass::IN,
+        rdata: b"key",
+        want: 1,
+    },
+    Row {
+        number: 1,
+        class: DNSClass::IN,
+        rdata: b"key",
+        want: 2,
+    },
+    Row {
+        number: 2,
+        class: DNSClass::IN,
+        rdata: b"key",
+        want: 4,
+    },
+    Row {
+        number: 3,
+        class: DNSClass::IN,
+        rdata: b"key",
+        want: 0,
+    },
+    Row {
+        number: 1,
+        class: DNSClass::IN,
+        rdata: b"kez",
+        want: 0,
+    },
+    Row {
+        number: 0,
+        class: DNSClass::CH,
+        rdata: b"key",
+        want: 0,
+    },
+];
+
+fn is_shown(alloc: Global, row: &Row) -> Result<bool, Fail> {
+    let chain = chain(alloc)?;
+    let owner = Name::from_ascii(alloc, "oRg.")?;
+    Ok(shown(&chain.links, &owner, row.number, row.class, row.rdata) == row.want)
 }
 
 #[test]
 fn links_show_keys_members_and_delegations(rt: HostRuntime) -> Result<(), Fail> {
-    let alloc = rt.alloc();
-    let class = DNSClass::IN;
-    assert!(rt; shown(alloc, 0, class, key())? == 1);
-    assert!(rt; shown(alloc, 1, class, key())? == 2);
-    assert!(rt; shown(alloc, 2, class, key())? == 4);
-    assert!(rt; shown(alloc, 3, class, key())? == 0);
-    assert!(rt; shown(alloc, 1, class, other_key())? == 0);
-    assert!(rt; shown(alloc, 0, DNSClass::CH, key())? == 0);
+    for row in &ROWS {
+        assert!(rt; is_shown(rt.alloc(), row)?);
+    }
     Ok(())
 }
 
-/// The one key is shown by the link with this number; without a number it isn't.
-fn is_all_shown(alloc: Global, number: Option<u32>) -> Result<bool, Fail> {
-    let chain = chain(alloc)?;
+/// The one key is shown by the links with these numbers.
+fn shows_all(alloc: Global, links: &[Link], numbers: &[u32]) -> Result<bool, Fail> {
     let owner = Name::from_ascii(alloc, "org.")?;
     let keys = one_rdata(alloc)?;
-    let mut numbers = Vec::new(alloc);
-    if let Some(number) = number {
-        numbers.push(number)?;
-    }
     Ok(all_shown(
-        chain.links.as_slice(),
+        links,
         &owner.borrowed(),
         DNSClass::IN,
         keys.as_slice(),
-        numbers.as_slice(),
+        numbers,
     ))
+}
+
+/// The numbers of links, and whether they show the one key.
+const NUMBERED: [(&[u32], bool); 3] = [(&[0], true), (&[1], false), (&[], false)];
+
+fn is_all_shown(alloc: Global, numbers: &[u32]) -> Result<bool, Fail> {
+    let chain = chain(alloc)?;
+    shows_all(alloc, &chain.links, numbers)
 }
 
 #[test]
 fn each_key_has_its_link(rt: HostRuntime) -> Result<(), Fail> {
-    assert!(rt; is_all_shown(rt.alloc(), Some(0))?);
-    assert!(rt; !is_all_shown(rt.alloc(), Some(1))?);
-    assert!(rt; !is_all_shown(rt.alloc(), None)?);
+    for (numbers, want) in &NUMBERED {
+        assert!(rt; is_all_shown(rt.alloc(), numbers)? == *want);
+    }
     Ok(())
 }

@@ -70,49 +70,60 @@ fn told(alloc: Global, code: u16, empty: bool) -> Result<Reply, Fail> {
     }))
 }
 
-fn judged_set(
-    alloc: Global,
+/// A set of `a. SOA`, by what is told of it.
+struct Judged {
     section: Section,
     mark: Proof,
     origin: MarkOrigin,
     sig: Option<u32>,
-) -> Result<JudgedSet, Fail> {
-    Ok(JudgedSet {
-        section,
-        owner: Name::from_ascii(alloc, "a.")?,
-        record_type: RecordType::SOA,
-        mark,
-        origin,
-        sig,
-        asked: Vec::new(alloc),
-    })
+    asked: &'static [AskRef],
 }
 
 /// A set of each origin.
+const JUDGED: [Judged; 3] = [
+    Judged {
+        section: Section::Answer,
+        mark: Proof::Secure,
+        origin: MarkOrigin::Table,
+        sig: Some(7),
+        asked: &[AskRef::Step(1), AskRef::TooMany],
+    },
+    Judged {
+        section: Section::Additional,
+        mark: Proof::Bogus,
+        origin: MarkOrigin::Repeat(2),
+        sig: None,
+        asked: &[],
+    },
+    Judged {
+        section: Section::Authority,
+        mark: Proof::Insecure,
+        origin: MarkOrigin::Cache,
+        sig: Some(0),
+        asked: &[],
+    },
+];
+
+fn judged_set(alloc: Global, judged: &Judged) -> Result<JudgedSet, Fail> {
+    let owner = Name::from_ascii(alloc, "a.")?;
+    Ok(JudgedSet {
+        section: judged.section,
+        owner,
+        record_type: RecordType::SOA,
+        mark: judged.mark,
+        origin: judged.origin,
+        sig: judged.sig,
+        asked: judged.asked.to_vec(alloc)?,
+    })
+}
+
 fn judged_sets(alloc: Global) -> Result<Vec<JudgedSet>, Fail> {
-    let mut first = judged_set(
-        alloc,
-        Section::Answer,
-        Proof::Secure,
-        MarkOrigin::Table,
-        Some(7),
-    )?;
-    first.asked = vec![in alloc; AskRef::Step(1), AskRef::TooMany]?;
-    let second = judged_set(
-        alloc,
-        Section::Additional,
-        Proof::Bogus,
-        MarkOrigin::Repeat(2),
-        None,
-    )?;
-    let third = judged_set(
-        alloc,
-        Section::Authority,
-        Proof::Insecure,
-        MarkOrigin::Cache,
-        Some(0),
-    )?;
-    Ok(vec![in alloc; first, second, third]?)
+    let mut sets = Vec::new(alloc);
+    for judged in &JUDGED {
+        let next = judged_set(alloc, judged)?;
+        sets.push(next)?;
+    }
+    Ok(sets)
 }
 
 /// A step with nothing but a question, a reply and an ending.
@@ -268,12 +279,11 @@ fn copied_trail(alloc: Global) -> Result<Trail, Fail> {
 
 #[test]
 fn each_step_of_a_trail_is_copied(rt: HostRuntime) -> Result<(), Fail> {
-    let alloc = rt.alloc();
-    let trail = copied_trail(alloc)?;
+    let trail = copied_trail(rt.alloc())?;
     assert!(rt; trail.steps.len() == SHOWN.len());
-    let mut steps = trail.steps.iter();
-    for row in &SHOWN {
-        assert!(rt; has_text(alloc, steps.next(), row.text)?, "at {}", row.text);
+    for (number, row) in SHOWN.iter().enumerate() {
+        let step = trail.steps.get(number);
+        assert!(rt; has_text(rt.alloc(), step, row.text)?, "at {}", row.text);
     }
     Ok(())
 }
