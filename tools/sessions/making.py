@@ -12,6 +12,7 @@ NOT_ASKED = [41, 46, 47, 50, 128, 250, 251, 252, 255]
 ALGORITHMS = [[13], [8, 13], [5, 7, 8, 10, 13, 14, 15, 16], [0, 255], [1, 253], [2, 3, 12]]
 MOMENTS = [0, 1, 1000, 2**31 - 1, 2**31, 2**32 - 1, 2**32, 2**32 + 1000, 2**63, 2**64 - 1]
 LONGEST_WAIT = 2**31 - 1
+DEEPEST_ONCE_IN = 500
 
 
 class Session:
@@ -245,6 +246,8 @@ class Session:
 
     def make(self):
         draw = self.draw
+        if draw.is_one_of(DEEPEST_ONCE_IN):
+            return self.deepest()
         asked = draw.choice([DNSKEY, DS, None, None, None])
         below = draw.choice([0, 1, 1, 2, 3, 4]) if not draw.is_one_of(8) else draw.randint(0, 15 if asked else 14)
         zone = [] if draw.is_one_of(2) else draw.name_below([], 0, 3)
@@ -255,19 +258,32 @@ class Session:
             child = draw.name_below(zone, 1, 2 if below > 6 else 3)
             key, zone = self.zone_below(zone, key, child, asked != DNSKEY or last > at), child
         name = zone if asked == DNSKEY else draw.name_below(zone, int(asked == DS), 3, longest=240)
-        kind = asked or draw.choice([*SHAPES, *OTHERS])
         if asked == DS:
             self.delegation(zone, key, name, self.key())
         elif not asked:
             name = [b"*", *zone] if draw.is_one_of(9) and len(wire(zone)) < 254 else name
-            kind = draw.choice(NOT_ASKED) if self.turn("a type that isn't asked for") else kind
-            fields = [random_fields(draw, kind) for _ in range(30 if draw.is_one_of(60) else draw.randint(1, 4))]
-            if draw.is_one_of(4):
-                # the same in other letters, which is signed once
-                fields.append([draw.any_case(one) if isinstance(one, list) else one for one in draw.choice(fields)])
-            fields = list({Record([], kind, one, 0).rdata(): one for one in fields}.values())
-            self.says(name, kind, self.signed(name, self.records(name, kind, fields), zone, key))
-        return self.text(name, kind)
+            return self.text(name, self.answer(zone, key, name))
+        return self.text(name, asked)
+
+    def answer(self, zone, key, name):
+        """A set of some type, which the zone signed; the answer is that type."""
+        draw, kind = self.draw, self.draw.choice([*SHAPES, *OTHERS])
+        kind = draw.choice(NOT_ASKED) if self.turn("a type that isn't asked for") else kind
+        fields = [random_fields(draw, kind) for _ in range(30 if draw.is_one_of(60) else draw.randint(1, 4))]
+        if draw.is_one_of(4):
+            # the same in other letters, which is signed once
+            fields.append([draw.any_case(one) if isinstance(one, list) else one for one in draw.choice(fields)])
+        fields = list({Record([], kind, one, 0).rdata(): one for one in fields}.values())
+        self.says(name, kind, self.signed(name, self.records(name, kind, fields), zone, key))
+        return kind
+
+    def deepest(self):
+        """The longest name has 127 labels, so that a zone at each of them takes 255 asks, which is as deep as they go."""
+        zone, key = [], self.anchored_keys([], True)
+        for _ in range(127):
+            child = [self.draw.choice([b"a", b"B"]), *zone]
+            key, zone = self.zone_below(zone, key, child, True), child
+        return self.text(zone, self.answer(zone, key, zone))
 
     def depth_lines(self):
         draw, needed = self.draw, self.asks
