@@ -11,7 +11,7 @@ OTHERS = [0, 13, 52, 99, 127, 256, 257, 32769, 65280, 65535]
 NOT_ASKED = [41, 46, 47, 50, 128, 250, 251, 252, 255]
 ALGORITHMS = [[13], [8, 13], [5, 7, 8, 10, 13, 14, 15, 16], [0, 255], [1, 253], [2, 3, 12]]
 MOMENTS = [0, 1, 1000, 2**31 - 1, 2**31, 2**32 - 1, 2**32, 2**32 + 1000, 2**63, 2**64 - 1]
-LONGEST_WAIT = 2**31 - 1
+UNLISTED, LONGEST_WAIT = 250, 2**31 - 1
 DEEPEST_ONCE_IN = 500
 
 
@@ -163,15 +163,17 @@ class Session:
         """The key that signs the set, and the one that signs what lies below."""
         own = self.key()
         child = own if self.draw.is_one_of(3) else self.key()
-        for key in {own: None, child: None}:
-            if key is child and not has_child:
-                continue
-            flags = key.flags
-            key.flags = flags | REVOKE if self.turn("a key that is revoked") else key.flags
-            key.flags = key.flags & ~ZONE if self.turn("a key that is none of a zone") else key.flags
-            key.protocol = self.draw.choice([0, 2, 4, 255]) if self.turn("a key of another protocol") else key.protocol
-            key.algorithm = 7 + 13 * (13 in self.algorithms) if self.turn("a key of another algorithm") else key.algorithm
-        return [own, child] if own is not child else [own]
+        needed = [own, child] if own is not child else [own]
+        for key in needed if has_child else [own]:
+            if self.turn("a key that is revoked"):
+                key.flags |= REVOKE
+            elif self.turn("a key that is none of a zone"):
+                key.flags &= ~ZONE
+            elif self.turn("a key of another protocol"):
+                key.protocol = self.draw.choice([0, 2, 4, 255])
+            elif self.turn("a key of an algorithm that isn't listed"):
+                key.algorithm = UNLISTED
+        return needed
 
     def count_of_keys(self):
         return 98 if self.draw.is_one_of(150) else self.draw.choice([0, 0, 1, 2, 3])
