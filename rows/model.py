@@ -3,6 +3,7 @@
 
     python3 rows/model.py SESSION          the report or the fault line
     python3 rows/model.py SESSION trail    with the trail
+    python3 rows/model.py SESSION nsec     as it is once NSEC records are judged; trail may follow
     python3 rows/model.py                  compares the rows and the examples that are looked up, and names those that differ
 
 It keeps to what the crates judge so far: what needs denial of existence is not judged yet, so that no answer without the record
@@ -13,6 +14,7 @@ import os
 import sys
 from collections import namedtuple
 
+import denial
 import reading
 from reading import dnskey_of, ds_of, folded, is_above, num_labels, rrsig_of, shown, type_word
 
@@ -106,8 +108,10 @@ def digest_covers(owner, key, ds):
 class Lookup:
     """One lookup over a session, with the steps in the order in which they end."""
 
-    def __init__(self, session):
+    def __init__(self, session, has_nsec=False):
         self.session, self.steps, self.sends, self.taken = session, [], 0, {}
+        # whether NSEC records are judged
+        self.has_nsec = has_nsec
         self.top = self.ask(0, "judged", *session.query)
 
     # ---- asks
@@ -148,7 +152,7 @@ class Lookup:
             asks.append("deep")
             return None
         asked = self.made(asks, step.depth + 1, "judged", name, kind)
-        return asked if asked and asked.ending == "none" else None
+        return asked if asked and asked.ending.startswith(("none", "absent", "expanded")) else None
 
     def judge(self, step):
         for section in step.message.sections:
@@ -261,6 +265,8 @@ class Lookup:
             return Zone(BOGUS)
         ds_set = next((one for one in asked.sets if is_set(one, name, DS)), None)
         if not ds_set:
+            if self.has_nsec and any(is_unsigned_cut(nsec, name) for nsec in secure_nsecs(asked)):
+                return Zone(INSECURE)
             is_excused = any(one.mark == INSECURE and is_above(one.owner, name) for one in asked.sets)
             return Zone(INSECURE if is_excused else BOGUS)
         readable = list(filter(ds_of, ds_set.records))
@@ -281,15 +287,45 @@ class Lookup:
                 return self.zone(step, asks, name).mark == INSECURE
         return False
 
+    def answer(self, step):
+        """How a step ends, once NSEC records are judged: the first row that holds of the table of answers."""
+        if any(rrset.kind == NSEC3 and rrset.mark == SIGNED for rrset in step.sets):
+            return "failed"
+        answers, answered = step.message.sections[0], answered_by(step)
+        is_plain = not any(sig.labels < num_labels(record.owner) for record, sig in signatures_of(answers))
+        excused = "absent insecure" if answered == denial.NO else "none"
+        if is_plain and is_insecure_above(step):
+            return excused
+        signers = {folded(rrsig_of(rrset.signatures[rrset.place]).signer) for rrset in secure_denials(step)}
+        if len(signers) > 1:
+            return "denied bogus"
+        if signers:
+            signer = signers.pop()
+            return self.by_nsecs(step, signer, answered)
+        if any(rrset.section == "answer" and labels_of_expansion(rrset) is not None for rrset in step.sets):
+            return "denied bogus"
+        if answered != denial.NO and is_plain:
+            return "none"
+        start = step.name[1:] if step.kind == DS else step.name
+        return excused if self.is_insecure(step, step.excuse, start) else "denied bogus"
+
+    @staticmethod
+    def by_nsecs(step, signer, answered):
+        """The verdict on the Secure NSEC records, with their signer as zone."""
+        if not denial.is_denied(step.name, step.kind, signer, step.message.code, answered, secure_nsecs(step)):
+            return "denied bogus"
+        return "absent secure" if answered == denial.NO else "expanded secure"
+
     def outcome(self, step):
         """How a step ends, where its answer section holds an answer: one with a wildcard's signature stands where the zone is
         Insecure, which for a DS is the one above it."""
+        if self.has_nsec:
+            return self.answer(step)
         answers = step.message.sections[0]
         has_answer = any(record.kind in (step.kind, CNAME) and folded(record.owner) == folded(step.name) for record in answers)
         if not has_answer or any(asks_denial(rrset) for rrset in step.sets):
             return "failed"
-        signatures = [(record, rrsig_of(record)) for record in answers if rrsig_of(record)]
-        if not any(sig.labels < num_labels(record.owner) for record, sig in signatures):
+        if not any(sig.labels < num_labels(record.owner) for record, sig in signatures_of(answers)):
             return "none"
         start = step.name[1:] if step.kind == DS else step.name
         return "none" if self.is_insecure(step, step.excuse, start) else "denied bogus"
@@ -328,7 +364,47 @@ def asks_denial(rrset):
     """A Secure set that is of NSEC or NSEC3, or Secure by the signature of a wildcard."""
     if rrset.mark != SIGNED or rrset.place is None:
         return False
-    return rrset.kind in (NSEC, NSEC3) or rrsig_of(rrset.signatures[rrset.place]).labels < num_labels(rrset.owner)
+    return rrset.kind in (NSEC, NSEC3) or labels_of_expansion(rrset) is not None
+
+
+def signatures_of(records):
+    return [(record, rrsig_of(record)) for record in records if rrsig_of(record)]
+
+
+def labels_of_expansion(rrset):
+    """The labels of the signature by which a set is Secure, where they are fewer than the owner's; else None."""
+    if rrset.mark != SIGNED or rrset.place is None:
+        return None
+    labels = rrsig_of(rrset.signatures[rrset.place]).labels
+    return labels if labels < num_labels(rrset.owner) else None
+
+
+def answered_by(step):
+    """Whether a record of the type or a CNAME answers at the name, and by the fewest labels of an expansion that is Secure."""
+    those = [one for one in step.message.sections[0] if one.kind in (step.kind, CNAME) and folded(one.owner) == folded(step.name)]
+    sets = [one for one in step.sets if any(is_set(one, step.name, kind) for kind in (step.kind, CNAME))]
+    expanded = [labels_of_expansion(one) for one in sets if labels_of_expansion(one) is not None]
+    return denial.NO if not those else min(expanded) if expanded else denial.PLAIN
+
+
+def is_insecure_above(step):
+    """The authority section has a record, and all are Insecure and stand at the name or above it; signatures aside."""
+    records = [record for record in step.message.sections[1] if record.kind != RRSIG]
+    sets = [one for one in step.sets if one.section == "authority" and one.mark == INSECURE]
+    return bool(records) and sum(len(one.records) for one in sets if is_above(one.owner, step.name)) == len(records)
+
+
+def secure_denials(step):
+    return [one for one in step.sets if one.section == "authority" and one.kind == NSEC and one.mark == SIGNED]
+
+
+def secure_nsecs(step):
+    """The Secure NSEC records of the authority section that can be read."""
+    return [nsec for one in secure_denials(step) for nsec in map(denial.nsec_of, one.records) if nsec]
+
+
+def is_unsigned_cut(nsec, zone):
+    return folded(nsec.owner) == folded(zone) and denial.is_cut(nsec) and DS not in nsec.types
 
 
 # ---- links
@@ -398,12 +474,12 @@ def fault_line(step):
         return "fault class" + step.ending.removeprefix("foreign")
     if step.ending == "failed":
         return "fault message not judged yet"
-    return "fault nsec bogus" if step.ending == "denied bogus" else None
+    return f"fault nsec {step.ending.removeprefix('denied ')}" if step.ending.startswith("denied") else None
 
 
 def report(lookup, with_trail):
     top, moment = lookup.top, lookup.session.moment
-    yield from ("dns-report 1", f"code {top.message.code}", "denial none")
+    yield from ("dns-report 1", f"code {top.message.code}", f"denial {top.ending}")
     for section, records in zip(SECTIONS, top.message.sections):
         sets = [rrset for rrset in top.sets if rrset.section == section]
         yield from (record_line(section, record, sets, moment) for record in records)
@@ -418,8 +494,8 @@ def report(lookup, with_trail):
 
 
 def written(session, words=(b"validate",)):
-    """What is written for a session that is in its grammar, and the status."""
-    lookup = Lookup(reading.session_in(session))
+    """What is written for a session that is in its grammar, and the status. With the word `nsec` NSEC records are judged."""
+    lookup = Lookup(reading.session_in(session), b"nsec" in words)
     fault = fault_line(lookup.top)
     lines = [fault] if fault else report(lookup, b"trail" in words)
     return "".join(line + "\n" for line in lines).encode("latin-1"), 1 if fault else 0
