@@ -1,0 +1,26 @@
+use Rattle.std.proofs.Common.{rules, ◌≡◌, ◌&&◌, true, false, [], sym, ap, ◌∙◌}
+use Rattle.dns_model.specs.Chains.{judge}
+use Rattle.dns_judgement.specs.Asking.{depth_limit}
+use Rattle.dns_judgement.specs.Derivation.{steps_hold}
+use Rattle.dns_trail_order.specs.Order.{has_order}
+use Rattle.dns_trail_order.proofs.OrderedLemmas.{derivation_by_order}
+use Rattle.dns_trail.proofs.OkLemmas.{ok_map}
+use Rattle.dns_trail.proofs.check.check_trail.Goals as goal
+
+pub returns-then-not-is_in_order : goal.returns-then-not-is_in_order
+returns-then-not-is_in_order g c =
+    let j = judge (g.V.Verifier.answers c.args.verifier.now) c.args.anchors.now c.args.now in
+    let t = c.args.trail.now in
+    let no : has_order t ≡ false = search rules in
+    sym (derivation_by_order j c.args.limits.now.depth t ∙ ap (λ b. b && steps_hold j (depth_limit c.args.limits.now.depth) [] t) no)
+
+pub returns : goal.returns
+returns g c =
+    let j = judge (g.V.Verifier.answers c.args.verifier.now) c.args.anchors.now c.args.now in
+    let t = c.args.trail.now in
+    let yes : has_order t ≡ true = search rules in
+    ok_map c.steps_hold.result
+    (λ b h.
+    h ∙ ap (λ n. steps_hold j n [] c.trail.inside.steps.items) c.limit_of.ensures ∙ ap (steps_hold j (depth_limit c.args.limits.now.depth) []) c.trail.view_is
+    ∙ sym (derivation_by_order j c.args.limits.now.depth t ∙ ap (λ b. b && steps_hold j (depth_limit c.args.limits.now.depth) [] t) yes))
+    c.steps_hold.ensures

@@ -1,0 +1,30 @@
+-- For private functions of this crate only: the entry of a set, by its parts.
+use Rattle.std.specs.Prelude.{Bool, false, ◌==◌, ◌&&◌, List, take, Option}
+use Rattle.std.specs.Option.{option_map, option_map_or}
+use Rattle.std.specs.List.{list_any}
+use Rattle.dns_model.specs.declared.trail.AskRef.{AskRef}
+use Rattle.dns_model.specs.Names.{name_eq}
+use Rattle.dns_model.specs.Records.{RrSet, Question, question_eq}
+use Rattle.dns_model.specs.SoundAnswers.{Placed, section_eq}
+use Rattle.dns_model.specs.Trails.{AskedValue, JudgedSetValue}
+use Rattle.dns_judgement.specs.Chained.{Chained}
+use Rattle.dns_judgement.specs.Derivation.{Grounds, is_repeat, judged_sets, verdicts_by}
+use Rattle.dns_judgement.specs.Judged.{Judged}
+use Rattle.dns_judgement.specs.Marks.{Verdict, most_signatures}
+
+-- the entry has the section, owner and type of the set
+abbrev pub is_of_set : Placed → JudgedSetValue → Bool
+is_of_set placed entry =
+    section_eq placed.section entry.section && (name_eq placed.set.owner entry.owner && (placed.set.rtype == entry.rtype))
+
+-- a set without its chain, if there is one
+abbrev pub judged_if : Option Chained → Option Judged
+judged_if o = option_map (λ c. c.judged) o
+
+-- the verdicts of the first signatures of a set
+abbrev pub verdicts_of_set : Grounds → RrSet → List AskRef → Option (List Verdict)
+verdicts_of_set g set asks = verdicts_by g set (take most_signatures set.signatures) asks
+
+-- a step with this question found this of an equal set
+abbrev pub repeats_from : Question → Placed → JudgedSetValue → Option AskedValue → Bool
+repeats_from q placed entry step = option_map_or (λ s. question_eq q s.query && list_any (is_repeat placed entry) (judged_sets s)) step false

@@ -1,0 +1,42 @@
+ghost use Rattle.std.specs.Prelude.{◌≡◌, IfOk};
+ghost use Rattle.dns_model.specs.Chains.{judge as judge_by};
+ghost use Rattle.dns_judgement.specs.Asking.{depth_limit};
+ghost use Rattle.dns_judgement.specs.Derivation.{derivation};
+
+use crate::steps::steps_hold;
+use dns_name::NoMemory;
+use dns_net::{Trail, Verifier};
+use dns_trail_order::is_in_order;
+use dns_trust::{Judge, Limits, TrustAnchors};
+use std::alloc::Global;
+
+/// Whether a trail is a derivation by these anchors and this verifier at a moment, in seconds since 1970: its asks make a tree
+/// that was gone through in order, and each mark and each ending follows from what was told and from the steps before it
+/// (RFC 4035, 4.3, 5.2 and 5.3). No entry may come from an earlier lookup. It takes any trail.
+pub fn check_trail<V: Verifier>(
+    alloc: Global,
+    anchors: &TrustAnchors,
+    verifier: &V,
+    now: u64,
+    limits: &Limits,
+    trail: &Trail,
+) -> Result<bool, NoMemory>
+    ensures { IfOk result (λ b. b ≡ derivation (judge_by (V.answers verifier.now) anchors.now now) limits.now.depth trail.now) }
+{
+    if !is_in_order(&trail.steps) {
+        return Ok(false);
+    }
+    let judge = Judge {
+        verifier,
+        anchors,
+        moment: now,
+    };
+    steps_hold(alloc, &judge, limit_of(limits), &trail.steps)
+}
+
+// How deep asks go.
+fn limit_of(limits: &Limits) -> u16
+    ensures { result ≡ depth_limit limits.now.depth }
+{
+    limits.depth.min(255)
+}

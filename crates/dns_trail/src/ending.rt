@@ -1,0 +1,134 @@
+//! The ending of a step: it follows from what its judged sets come to (RFC 4035, 5.3.4 and 5.4).
+
+ghost use Rattle.std.specs.Prelude.{◌≡◌, ◌&&◌, IfOk};
+ghost use Rattle.dns_model.specs.SoundAnswers.{told_by};
+ghost use Rattle.dns_judgement.specs.Chained.{bare};
+ghost use Rattle.dns_judgement.specs.Derivation.{ending_eq, ending_by};
+ghost use Rattle.dns_judgement.specs.DerivationParts.{is_failed as is_failure, is_foreign as names_foreign, is_seen as is_sight};
+ghost use Rattle.dns_judgement.specs.Outcome.{outcome_of as told_outcome};
+ghost use Rattle.dns_model.specs.Trails.{Answered, Denied as Refused};
+ghost use Rattle.dns_net.specs.Trail.{ending_value};
+ghost use Rattle.dns_sets.specs.Outcome.{outcome_value};
+ghost use Rattle.dns_trust.specs.Judge.{judge_of};
+ghost use Rattle.dns_trail.specs.Endings.{ending_fits};
+ghost use Rattle.dns_trail.specs.Grounds.{AreKnown, grounds_of};
+
+use crate::grounds::Grounds;
+use crate::search::{question_start, search_zone};
+use dns_message::Message;
+use dns_name::NoMemory;
+use dns_net::{AskRef, Ending, Verifier};
+use dns_record::{Denial, Proof, Record};
+use dns_sets::{ChainedSet, Outcome, outcome_by_zone, outcome_of};
+use dns_trust::Judge;
+
+/// The ending and the asks on which it stands follow from the judged sets of a step.
+pub(crate) fn ending_holds<V: Verifier>(
+    judge: &Judge<'_, V>,
+    grounds: &Grounds<'_>,
+    message: &Message,
+    sets: &[ChainedSet],
+    ending: &Ending,
+    excuse: &[AskRef],
+) -> Result<bool, NoMemory>
+    requires known { AreKnown grounds.now }
+    ensures { IfOk result (λ b. b ≡ ending_fits (grounds_of (judge_of V.answers judge.now) grounds.now) (told_by message.now)
+        (told_outcome grounds.now.query.now (told_by message.now) (bare sets.now)) (ending_value ending.now) excuse.now) }
+{
+    let query = grounds.query;
+    match outcome_of(query, message, sets) {
+        Outcome::Unjudged => Ok(is_failed(ending) && excuse.is_empty()),
+        Outcome::Accepted(denial) => Ok(is_answered(ending, denial) && excuse.is_empty()),
+        Outcome::Denied(proof) => Ok(is_denied(ending, proof) && excuse.is_empty()),
+        Outcome::Searched => {
+            let start = question_start(query)?;
+            match search_zone(judge, grounds, query.query_class, &start, excuse)? {
+                Some(mark) => Ok(is_ending(outcome_by_zone(query, message, mark), ending)),
+                None => Ok(false),
+            }
+        }
+    }
+}
+
+// The ending is that of an outcome. What isn't judged yet fails; no step ends with a search.
+fn is_ending(outcome: Outcome, ending: &Ending) -> bool
+    ensures { result ≡ ending_eq (ending_by (outcome_value outcome)) (ending_value ending.now) }
+{
+    match outcome {
+        Outcome::Unjudged => is_failed(ending),
+        Outcome::Accepted(denial) => is_answered(ending, denial),
+        Outcome::Searched => is_failed(ending),
+        Outcome::Denied(proof) => is_denied(ending, proof),
+    }
+}
+
+// The step ended with an answer that denies this.
+fn is_answered(ending: &Ending, denial: Denial) -> bool
+    ensures { result ≡ ending_eq (Answered denial) (ending_value ending.now) }
+{
+    match ending {
+        Ending::Answered(given) => *given == denial,
+        Ending::Denied(_) => false,
+        Ending::Foreign { .. } => false,
+        Ending::Failed => false,
+        Ending::Seen => false,
+    }
+}
+
+// The step ended with a denial of this proof.
+fn is_denied(ending: &Ending, proof: Proof) -> bool
+    ensures { result ≡ ending_eq (Refused proof) (ending_value ending.now) }
+{
+    match ending {
+        Ending::Answered(_) => false,
+        Ending::Denied(given) => *given == proof,
+        Ending::Foreign { .. } => false,
+        Ending::Failed => false,
+        Ending::Seen => false,
+    }
+}
+
+/// The step ended without an answer.
+pub(crate) fn is_failed(ending: &Ending) -> bool
+    ensures { result ≡ is_failure (ending_value ending.now) }
+{
+    match ending {
+        Ending::Answered(_) => false,
+        Ending::Denied(_) => false,
+        Ending::Foreign { .. } => false,
+        Ending::Failed => true,
+        Ending::Seen => false,
+    }
+}
+
+/// The step's reply was only seen.
+pub(crate) fn is_seen(ending: &Ending) -> bool
+    ensures { result ≡ is_sight (ending_value ending.now) }
+{
+    match ending {
+        Ending::Answered(_) => false,
+        Ending::Denied(_) => false,
+        Ending::Foreign { .. } => false,
+        Ending::Failed => false,
+        Ending::Seen => true,
+    }
+}
+
+/// The ending names a record of another class.
+pub(crate) fn is_foreign(found: &Record, ending: &Ending) -> bool
+    ensures { result ≡ names_foreign found.now (ending_value ending.now) }
+{
+    match ending {
+        Ending::Answered(_) => false,
+        Ending::Denied(_) => false,
+        Ending::Foreign {
+            owner,
+            class,
+            record_type,
+        } => {
+            found.name == *owner && found.dns_class == *class && found.record_type == *record_type
+        }
+        Ending::Failed => false,
+        Ending::Seen => false,
+    }
+}

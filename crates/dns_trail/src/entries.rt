@@ -1,0 +1,300 @@
+//! The entries of a step: each is that of one of its sets, and its mark follows (RFC 4035, 4.3, 5.2 and 5.3).
+
+ghost use Rattle.std.specs.Prelude.{◌≡◌, ◌&&◌, ◌==◌, true, IfOk};
+ghost use Rattle.std.specs.Option.{option_map};
+ghost use Rattle.dns_model.specs.Names.{name_eq};
+ghost use Rattle.dns_model.specs.Types.{type_dnskey};
+ghost use Rattle.dns_judgement.specs.Chained.{bare};
+ghost use Rattle.dns_judgement.specs.Derivation.{entries_hold, entry_holds, has_mark_of, is_by_rules, keys_hold, search_from, unsigned_holds, with_entries};
+ghost use Rattle.dns_judgement.specs.DerivationParts.{is_by_verdicts, with_entry};
+ghost use Rattle.dns_judgement.specs.KeySets.{needs_ds};
+ghost use Rattle.dns_judgement.specs.Unsigned.{is_searched as needs_search, set_start as start_of_set};
+ghost use Rattle.dns_trust.specs.Judge.{judge_of};
+ghost use Rattle.dns_trail.specs.Trying.{zone_proof};
+ghost use Rattle.dns_trail.specs.Ended.{some_if};
+ghost use Rattle.dns_trail.specs.Entries.{is_of_set as is_entry_of, judged_if, verdicts_of_set};
+ghost use Rattle.dns_trail.specs.Grounds.{AreKnown, grounds_of};
+
+use crate::grounds::{Grounds, answer_of, is_ask};
+use crate::repeats::is_repeated;
+use crate::search::{search_zone, set_start};
+use crate::verdicts::verdicts_by;
+use dns_name::NoMemory;
+use dns_net::{AskRef, JudgedSet, MarkOrigin, Verifier};
+use dns_record::{Proof, RecordSet, RecordType};
+use dns_sets::{ChainedSet, MarkedSet, PlacedSet};
+use dns_trust::{
+    Judge, KeysStep, ds_ask_of, first_signatures, judged_by, judged_by_ds, judged_keys, unsigned_by,
+};
+use std::alloc::Global;
+
+/// The sets of a step with the marks of its entries; None where some entry isn't that of its set or its mark doesn't follow.
+pub(crate) fn judged_sets<V: Verifier>(
+    alloc: Global,
+    judge: &Judge<'_, V>,
+    grounds: &Grounds<'_>,
+    mut placed: Vec<PlacedSet>,
+    mut entries: &[JudgedSet],
+) -> Result<Option<Vec<ChainedSet>>, NoMemory>
+    requires known { AreKnown grounds.now }
+    ensures { IfOk result (λ o. option_map (λ v. bare v.items) o ≡
+        some_if (entries_hold (grounds_of (judge_of V.answers judge.now) grounds.now) placed.items entries.entry.now) (with_entries placed.items entries.entry.now)) }
+{
+    let mut sets = Vec::new(alloc);
+    placed.reverse();
+    'sets: while let Some(next) = placed.pop() {
+        let Some((entry, others)) = entries.split_first() else {
+            return Ok(None);
+        };
+        let Some(set) = judged_set(alloc, judge, grounds, next, entry)? else {
+            return Ok(None);
+        };
+        sets.push(set)?;
+        entries = others;
+    }
+    if entries.is_empty() {
+        Ok(Some(sets))
+    } else {
+        Ok(None)
+    }
+}
+
+// A set with the mark of an entry; None where the entry isn't that of the set or its mark doesn't follow.
+fn judged_set<V: Verifier>(
+    alloc: Global,
+    judge: &Judge<'_, V>,
+    grounds: &Grounds<'_>,
+    placed: PlacedSet,
+    entry: &JudgedSet,
+) -> Result<Option<ChainedSet>, NoMemory>
+    requires known { AreKnown grounds.now }
+    ensures { IfOk result (λ o. judged_if o ≡ some_if (entry_holds (grounds_of (judge_of V.answers judge.now) grounds.now) placed entry.now) (with_entry (placed, entry.now))) }
+{
+    if !is_of_set(&placed, entry) {
+        return Ok(None);
+    }
+    match entry.origin {
+        MarkOrigin::Table => judged_by_rules(alloc, judge, grounds, placed, entry),
+        MarkOrigin::Repeat(number) => {
+            let repeated = is_repeated(grounds, &placed, entry, number);
+            Ok(marked_if(alloc, repeated, placed, entry))
+        }
+        MarkOrigin::Cache => Ok(None),
+    }
+}
+
+// The entry has the section, owner and type of the set.
+fn is_of_set(placed: &PlacedSet, entry: &JudgedSet) -> bool
+    ensures { result ≡ is_entry_of placed.now entry.now }
+{
+    placed.section == entry.section && is_for(&placed.set, entry)
+}
+
+fn is_for(set: &RecordSet, entry: &JudgedSet) -> bool
+    ensures { result ≡ (name_eq set.now.owner entry.now.owner && (set.now.rtype == entry.now.rtype)) }
+{
+    set.name == entry.owner && set.record_type == entry.record_type
+}
+
+// A set with the mark of an entry, where it follows.
+fn marked_if(
+    alloc: Global,
+    follows: bool,
+    placed: PlacedSet,
+    entry: &JudgedSet,
+) -> Option<ChainedSet>
+    ensures { judged_if result ≡ some_if follows (with_entry (placed, entry.now)) }
+{
+    if follows {
+        Some(marked(alloc, placed, entry))
+    } else {
+        None
+    }
+}
+
+// A set with the mark of an entry.
+fn marked(alloc: Global, placed: PlacedSet, entry: &JudgedSet) -> ChainedSet
+    ensures { result.judged ≡ with_entry (placed, entry.now) }
+{
+    let PlacedSet { section, set } = placed;
+    let judged = MarkedSet {
+        section,
+        set,
+        mark: entry.mark,
+        sig: entry.sig,
+    };
+    ChainedSet {
+        judged,
+        chain: Vec::new(alloc),
+    }
+}
+
+// A judged set without its chain, where the entry has its mark and names the signature that decided.
+fn as_in_entry(alloc: Global, set: ChainedSet, entry: &JudgedSet) -> Option<ChainedSet>
+    ensures { judged_if result ≡ some_if (has_mark_of set.judged entry.now) set.judged }
+{
+    let ChainedSet { judged, chain: _ } = set;
+    if has_mark(&judged, entry) {
+        Some(ChainedSet {
+            judged,
+            chain: Vec::new(alloc),
+        })
+    } else {
+        None
+    }
+}
+
+fn has_mark(judged: &MarkedSet, entry: &JudgedSet) -> bool
+    ensures { result ≡ has_mark_of judged.now entry.now }
+{
+    judged.mark == entry.mark && judged.sig == entry.sig
+}
+
+// The asks that an entry names.
+fn asks_of(entry: &JudgedSet) -> &[AskRef]
+    ensures { result.now ≡ entry.now.asked }
+{
+    entry.asked.as_slice()
+}
+
+// The set itself.
+fn set_of(placed: &PlacedSet) -> &RecordSet
+    ensures { result.now ≡ placed.now.set }
+{
+    &placed.set
+}
+
+// A set, judged by the rules: a key set by what makes its keys known, an unsigned one by its zone, another by its first signatures.
+fn judged_by_rules<V: Verifier>(
+    alloc: Global,
+    judge: &Judge<'_, V>,
+    grounds: &Grounds<'_>,
+    placed: PlacedSet,
+    entry: &JudgedSet,
+) -> Result<Option<ChainedSet>, NoMemory>
+    requires known { AreKnown grounds.now }
+    ensures { IfOk result (λ o. judged_if o ≡ some_if (is_by_rules (grounds_of (judge_of V.answers judge.now) grounds.now) placed entry.now) (with_entry (placed, entry.now))) }
+{
+    if is_key_set(set_of(&placed)) {
+        judged_key_set(alloc, judge, grounds, placed, entry)
+    } else if is_searched(set_of(&placed)) {
+        judged_unsigned(alloc, judge, grounds, placed, entry)
+    } else {
+        judged_signed(alloc, judge, grounds, placed, entry)
+    }
+}
+
+// The set holds a zone's keys.
+fn is_key_set(set: &RecordSet) -> bool
+    ensures { result ≡ (set.now.rtype == type_dnskey) }
+{
+    set.record_type == RecordType::DNSKEY
+}
+
+// No signature covers the set, and it isn't DS, so that its zone decides.
+fn is_searched(set: &RecordSet) -> bool
+    ensures { result ≡ needs_search set.now }
+{
+    set.rrsigs.is_empty() && set.record_type != RecordType::DS
+}
+
+// A key set, judged by the anchors, and where these don't decide, by the one ask for the DS set of its owner.
+fn judged_key_set<V: Verifier>(
+    alloc: Global,
+    judge: &Judge<'_, V>,
+    grounds: &Grounds<'_>,
+    placed: PlacedSet,
+    entry: &JudgedSet,
+) -> Result<Option<ChainedSet>, NoMemory>
+    requires known { AreKnown grounds.now }
+    ensures { IfOk result (λ o. judged_if o ≡ some_if (keys_hold (grounds_of (judge_of V.answers judge.now) grounds.now) placed entry.now) (with_entry (placed, entry.now))) }
+{
+    let asks = asks_of(entry);
+    match judged_keys(alloc, judge, placed)? {
+        KeysStep::Done(set) => {
+            if asks.is_empty() {
+                Ok(as_in_entry(alloc, set, entry))
+            } else {
+                Ok(None)
+            }
+        }
+        KeysStep::NeedsDs(placed) => judged_by_one_ask(alloc, judge, grounds, placed, entry),
+    }
+}
+
+// A key set that no anchor decides, judged by the one ask for the DS set of its owner.
+fn judged_by_one_ask<V: Verifier>(
+    alloc: Global,
+    judge: &Judge<'_, V>,
+    grounds: &Grounds<'_>,
+    placed: PlacedSet,
+    entry: &JudgedSet,
+) -> Result<Option<ChainedSet>, NoMemory>
+    requires known { AreKnown grounds.now }
+    requires needed { needs_ds (judge_of V.answers judge.now) placed.set ≡ true }
+    ensures { IfOk result (λ o. judged_if o ≡ some_if (keys_hold (grounds_of (judge_of V.answers judge.now) grounds.now) placed entry.now) (with_entry (placed, entry.now))) }
+{
+    let Some((ask, left)) = asks_of(entry).split_first() else {
+        return Ok(None);
+    };
+    let question = ds_ask_of(set_of(&placed))?;
+    if !left.is_empty() || !is_ask(grounds, &question, *ask) {
+        return Ok(None);
+    }
+    let answer = answer_of(grounds, *ask);
+    let set = judged_by_ds(alloc, judge, placed, answer)?;
+    Ok(as_in_entry(alloc, set, entry))
+}
+
+// An unsigned set, judged by its zone, which is searched.
+fn judged_unsigned<V: Verifier>(
+    alloc: Global,
+    judge: &Judge<'_, V>,
+    grounds: &Grounds<'_>,
+    placed: PlacedSet,
+    entry: &JudgedSet,
+) -> Result<Option<ChainedSet>, NoMemory>
+    requires known { AreKnown grounds.now }
+    ensures { IfOk result (λ o. judged_if o ≡ some_if (unsigned_holds (grounds_of (judge_of V.answers judge.now) grounds.now) placed entry.now) (with_entry (placed, entry.now))) }
+{
+    match mark_of_zone(judge, grounds, set_of(&placed), asks_of(entry))? {
+        Some(mark) => Ok(as_in_entry(alloc, unsigned_by(alloc, placed, mark), entry)),
+        None => Ok(None),
+    }
+}
+
+// What the zone of a set leaves to it, by the asks of the search for that zone.
+fn mark_of_zone<V: Verifier>(
+    judge: &Judge<'_, V>,
+    grounds: &Grounds<'_>,
+    set: &RecordSet,
+    asks: &[AskRef],
+) -> Result<Option<Proof>, NoMemory>
+    requires known { AreKnown grounds.now }
+    ensures { IfOk result (λ m. m ≡ option_map zone_proof
+        (search_from (grounds_of (judge_of V.answers judge.now) grounds.now) set.now.class (start_of_set set.now) asks.now)) }
+{
+    let start = set_start(set)?;
+    search_zone(judge, grounds, set.dns_class, &start, asks)
+}
+
+// Another set, judged by its first signatures.
+fn judged_signed<V: Verifier>(
+    alloc: Global,
+    judge: &Judge<'_, V>,
+    grounds: &Grounds<'_>,
+    placed: PlacedSet,
+    entry: &JudgedSet,
+) -> Result<Option<ChainedSet>, NoMemory>
+    requires known { AreKnown grounds.now }
+    ensures { IfOk result (λ o. judged_if o ≡ some_if (is_by_verdicts placed entry.now
+        (verdicts_of_set (grounds_of (judge_of V.answers judge.now) grounds.now) placed.set entry.now.asked)) (with_entry (placed, entry.now))) }
+{
+    let set = set_of(&placed);
+    let signatures = first_signatures(set);
+    let Some(verdicts) = verdicts_by(alloc, judge, grounds, set, signatures, asks_of(entry))? else {
+        return Ok(None);
+    };
+    let set = judged_by(placed, verdicts)?;
+    Ok(as_in_entry(alloc, set, entry))
+}

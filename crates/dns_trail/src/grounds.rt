@@ -1,0 +1,140 @@
+//! What the sets of a step are judged by: the steps before it, and what these came to.
+
+ghost use Rattle.std.specs.Prelude.{◌≡◌, ◌+◌, Some, slice_get};
+ghost use Rattle.std.specs.Option.{option_map};
+ghost use Rattle.dns_judgement.specs.Chained.{bare};
+ghost use Rattle.dns_judgement.specs.Derivation.{finished_answer as finished_for, is_ask as is_ask_in, is_plain_ask as is_plain_ask_in};
+ghost use Rattle.dns_judgement.specs.DerivationParts.{is_judged_ask, is_plain_step as is_plain_in};
+ghost use Rattle.dns_trust.specs.Verdicts.{listed};
+ghost use Rattle.dns_trail.specs.Grounds.{AreKnown};
+
+use dns_net::{AskRef, Asked};
+use dns_record::Query;
+use dns_sets::ChainedSet;
+use std::marker::Model;
+
+/// By what the sets of a step are judged.
+#[derive(Drop)]
+pub(crate) struct Grounds<'a> {
+    /// How deep asks go.
+    pub(crate) limit: u16,
+    /// The steps before it.
+    pub(crate) steps: &'a [Asked],
+    /// What these came to, by their numbers.
+    pub(crate) ended: &'a [Ended],
+    /// The answer of an ask that has none.
+    pub(crate) missing: &'a Option<Vec<ChainedSet>>,
+    pub(crate) query: &'a Query,
+    pub(crate) depth: u16,
+}
+
+/// The judged sets of a step that has ended. They have no chains: no table looks at these.
+#[derive(Drop)]
+pub(crate) struct Ended {
+    /// The sets, where the step answered.
+    pub(crate) answer: Option<Vec<ChainedSet>>,
+    /// The sets, where it didn't.
+    pub(crate) others: Vec<ChainedSet>,
+}
+
+impl Model for Ended {
+    ghost use Rattle.dns_trust.specs.Verdicts.{listed};
+    ghost use Rattle.dns_trail.specs.Ended.{EndedValue, ended_value};
+
+    ghost Value = { EndedValue };
+
+    ghost view = { λ e. ended_value (listed e.answer) e.others.items };
+}
+
+impl Ended {
+    /// The sets of its answer, if it has one.
+    pub(crate) fn answer(&self) -> &Option<Vec<ChainedSet>>
+        ensures { option_map bare (listed result.now) ≡ self.now.answer }
+    {
+        &self.answer
+    }
+
+    /// Its judged sets, whether it answered or not.
+    pub(crate) fn sets(&self) -> &[ChainedSet]
+        ensures { bare result.now ≡ self.now.sets }
+    {
+        match &self.answer {
+            Some(sets) => sets.as_slice(),
+            None => self.others.as_slice(),
+        }
+    }
+}
+
+/// The ask stands for a judged ask for this question, one deeper than the step.
+pub(crate) fn is_ask(grounds: &Grounds<'_>, query: &Query, ask: AskRef) -> bool
+    ensures { result ≡ is_ask_in grounds.now.limit grounds.now.steps.now (grounds.now.depth + 1) query.now ask }
+{
+    let may_ask = grounds.depth < grounds.limit;
+    match ask {
+        AskRef::Step(number) => {
+            may_ask && is_judged_step(grounds, query, number)
+        }
+        AskRef::TooDeep => !may_ask,
+        AskRef::TooMany => may_ask,
+    }
+}
+
+// The step is there, judges what it hears, and asks this question one deeper than the step that is judged.
+fn is_judged_step(grounds: &Grounds<'_>, query: &Query, number: u32) -> bool
+    ensures { result ≡ is_judged_ask (grounds.now.depth + 1) query.now (slice_get grounds.now.steps.now number) }
+{
+    match grounds.steps.get(number as usize) {
+        Some(step) => is_judged_at(u32::from(grounds.depth) + 1, query, step),
+        None => false,
+    }
+}
+
+fn is_judged_at(depth: u32, query: &Query, step: &Asked) -> bool
+    ensures { result ≡ is_judged_ask depth query.now (Some step.now) }
+{
+    step.judged && u32::from(step.depth) == depth && *query == step.query
+}
+
+/// The ask stands for a plain ask for this question, as deep as the step.
+pub(crate) fn is_plain_ask(grounds: &Grounds<'_>, query: &Query, ask: AskRef) -> bool
+    ensures { result ≡ is_plain_ask_in grounds.now.steps.now grounds.now.depth query.now ask }
+{
+    match ask {
+        AskRef::Step(number) => {
+            is_plain_step(grounds, query, number)
+        }
+        AskRef::TooDeep => false,
+        AskRef::TooMany => true,
+    }
+}
+
+// The step is there, only sees what it hears, and asks this question at this depth.
+fn is_plain_step(grounds: &Grounds<'_>, query: &Query, number: u32) -> bool
+    ensures { result ≡ is_plain_in grounds.now.depth query.now (slice_get grounds.now.steps.now number) }
+{
+    match grounds.steps.get(number as usize) {
+        Some(step) => is_plain_at(grounds.depth, query, step),
+        None => false,
+    }
+}
+
+fn is_plain_at(depth: u16, query: &Query, step: &Asked) -> bool
+    ensures { result ≡ is_plain_in depth query.now (Some step.now) }
+{
+    !step.judged && step.depth == depth && *query == step.query
+}
+
+/// The judged sets of the answer that an ask got: none where it was refused, or where its step ends otherwise.
+pub(crate) fn answer_of<'a>(grounds: &Grounds<'a>, ask: AskRef) -> &'a Option<Vec<ChainedSet>>
+    requires known { AreKnown grounds.now }
+    ensures { option_map bare (listed result.now) ≡ finished_for grounds.now.steps.now ask }
+{
+    match ask {
+        AskRef::Step(number) => match grounds.ended.get(number as usize) {
+            Some(ended) => ended.answer(),
+            None => grounds.missing,
+        },
+        AskRef::TooDeep => grounds.missing,
+        AskRef::TooMany => grounds.missing,
+    }
+}

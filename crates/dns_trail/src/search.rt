@@ -1,0 +1,194 @@
+//! The search for the zone of a name, by the plain asks that an entry or an ending names (RFC 4035, 4.3 and 5.2).
+
+ghost use Rattle.std.specs.Prelude.{◌≡◌, not, IfOk};
+ghost use Rattle.std.specs.Option.{option_map};
+ghost use Rattle.dns_model.specs.Names.{Labels};
+ghost use Rattle.dns_judgement.specs.Delegations.{ds_question};
+ghost use Rattle.dns_judgement.specs.Derivation.{is_empty, search_by, sight_by as sight_in, sight_of, zone_asked};
+ghost use Rattle.dns_judgement.specs.Unsigned.{has_ns as shows_ns, is_ns_of as is_ns_record, ns_question, question_start as start_of_question, set_start as start_of_set};
+ghost use Rattle.dns_trail.specs.Grounds.{AreKnown, grounds_of};
+ghost use Rattle.dns_trust.specs.Judge.{judge_of};
+ghost use Rattle.dns_trail.specs.Ended.{some_if};
+ghost use Rattle.dns_trail.specs.Trying.{zone_proof};
+ghost use Rattle.dns_trail.specs.Values.{sight_value};
+ghost use Rattle.dns_model.specs.Trails.{Records};
+
+use crate::grounds::{Grounds, answer_of, is_ask, is_plain_ask};
+use dns_name::{Name, NoMemory};
+use dns_net::{AskRef, Asked, Reply, Told, Verifier};
+use dns_record::{DNSClass, Proof, Query, Record, RecordSet, RecordType};
+use dns_trust::{Judge, zone_mark};
+
+// What a plain ask for the NS records of a name comes to.
+#[derive(Clone, Copy, Debug, PartialEq, Eq)]
+enum Sight {
+    /// They are there.
+    Cut,
+    /// They aren't, so the name above is asked for them.
+    Onward,
+    /// The ask met a fault or was refused.
+    Unseen,
+}
+
+/// What the zone of a name leaves to what is unsigned in it, by the asks of the search for it; None where these aren't the asks
+/// that it makes.
+pub(crate) fn search_zone<V: Verifier>(
+    judge: &Judge<'_, V>,
+    grounds: &Grounds<'_>,
+    class: DNSClass,
+    name: &Name,
+    asks: &[AskRef],
+) -> Result<Option<Proof>, NoMemory>
+    requires known { AreKnown grounds.now }
+    ensures { IfOk result (λ m. (start : Labels)
+        → m ≡ option_map zone_proof (search_by (grounds_of (judge_of V.answers judge.now) grounds.now) class.0 start name.now asks.now)) }
+{
+    if name.is_root() {
+        return Ok(bogus_if_last(asks));
+    }
+    let Some((ask, left)) = asks.split_first() else {
+        return Ok(None);
+    };
+    let question = ns_query(name, class)?;
+    if !is_plain_ask(grounds, &question, *ask) {
+        return Ok(None);
+    }
+    match sight_by(grounds, name, *ask) {
+        Sight::Cut => ask_zone(judge, grounds, class, name, left),
+        Sight::Onward => {
+            let above = name.base_name()?;
+            search_zone(judge, grounds, class, &above, left)
+        }
+        Sight::Unseen => Ok(bogus_if_last(left)),
+    }
+}
+
+// Bogus, where no ask is left.
+fn bogus_if_last(left: &[AskRef]) -> Option<Proof>
+    ensures { result ≡ some_if (is_empty left.now) Proof.Bogus }
+{
+    if left.is_empty() {
+        Some(Proof::Bogus)
+    } else {
+        None
+    }
+}
+
+// What a zone leaves to what is unsigned in it, by the one ask for its DS set that is left.
+fn ask_zone<V: Verifier>(
+    judge: &Judge<'_, V>,
+    grounds: &Grounds<'_>,
+    class: DNSClass,
+    zone: &Name,
+    asks: &[AskRef],
+) -> Result<Option<Proof>, NoMemory>
+    requires known { AreKnown grounds.now }
+    ensures { IfOk result (λ m. m ≡ option_map zone_proof (zone_asked (grounds_of (judge_of V.answers judge.now) grounds.now) class.0 zone.now asks.now)) }
+{
+    let Some((ask, left)) = asks.split_first() else {
+        return Ok(None);
+    };
+    let question = ds_query(zone, class)?;
+    if !left.is_empty() || !is_ask(grounds, &question, *ask) {
+        return Ok(None);
+    }
+    let answer = answer_of(grounds, *ask);
+    Ok(Some(zone_mark(judge.verifier, class, zone, answer)))
+}
+
+// What a plain ask for the NS records of a name came to.
+fn sight_by(grounds: &Grounds<'_>, name: &Name, ask: AskRef) -> Sight
+    ensures { sight_value result ≡ sight_in grounds.now.steps.now name.now ask }
+{
+    match ask {
+        AskRef::Step(number) => match grounds.steps.get(number as usize) {
+            Some(step) => sight_at(name, step),
+            None => Sight::Unseen,
+        },
+        AskRef::TooDeep => Sight::Unseen,
+        AskRef::TooMany => Sight::Unseen,
+    }
+}
+
+fn sight_at(name: &Name, step: &Asked) -> Sight
+    ensures { sight_value result ≡ sight_of name.now step.now.reply }
+{
+    match &step.reply {
+        Reply::Told(told) => sight_told(name, told),
+        Reply::Fault => Sight::Unseen,
+    }
+}
+
+// A reply that says that there are no records leads on, whatever records come with it.
+fn sight_told(name: &Name, told: &Told) -> Sight
+    ensures { sight_value result ≡ sight_of name.now (Records told.now.0 told.now.1) }
+{
+    if !told.empty && has_ns(name, told) {
+        Sight::Cut
+    } else {
+        Sight::Onward
+    }
+}
+
+// Some record is an NS record of the name, whatever its section and its class.
+fn has_ns(name: &Name, told: &Told) -> bool
+    ensures { result ≡ shows_ns name.now told.now.0 }
+{
+    told.answers
+        .iter()
+        .chain(told.authorities.iter())
+        .chain(told.additionals.iter())
+        .any(|found| is_ns_of(name, found))
+}
+
+fn is_ns_of(name: &Name, found: &Record) -> bool
+    ensures { result ≡ is_ns_record name.now found.now }
+{
+    *name == found.name && found.record_type == RecordType::NS
+}
+
+// The question for the NS records of a name.
+fn ns_query(name: &Name, class: DNSClass) -> Result<Query, NoMemory>
+    ensures { IfOk result (λ q. q ≡ ns_question class.0 name.now) }
+{
+    let name = name.try_clone()?;
+    Ok(Query {
+        name,
+        query_type: RecordType::NS,
+        query_class: class,
+    })
+}
+
+// The question for the DS set of a zone.
+fn ds_query(zone: &Name, class: DNSClass) -> Result<Query, NoMemory>
+    ensures { IfOk result (λ q. q ≡ ds_question class.0 zone.now) }
+{
+    let name = zone.try_clone()?;
+    Ok(Query {
+        name,
+        query_type: RecordType::DS,
+        query_class: class,
+    })
+}
+
+/// Where the search for a set's zone begins: an NSEC3 stands right below its zone (RFC 5155, 3).
+pub(crate) fn set_start(set: &RecordSet) -> Result<Name, NoMemory>
+    ensures { IfOk result (λ n. n ≡ start_of_set set.now) }
+{
+    if set.record_type == RecordType::NSEC3 {
+        set.name.base_name()
+    } else {
+        set.name.try_clone()
+    }
+}
+
+/// Where the search for a question's zone begins: a DS stands in the zone above (RFC 4035, 2.4).
+pub(crate) fn question_start(query: &Query) -> Result<Name, NoMemory>
+    ensures { IfOk result (λ n. n ≡ start_of_question query.now) }
+{
+    if query.query_type == RecordType::DS {
+        query.name.base_name()
+    } else {
+        query.name.try_clone()
+    }
+}

@@ -1,0 +1,185 @@
+//! The steps of a trail, one after another: the lines of each follow from what it heard and from the steps before it.
+
+ghost use Rattle.std.specs.Prelude.{◌≡◌, [], None, Some, IfOk};
+ghost use Rattle.dns_model.specs.SoundAnswers.{told_by};
+ghost use Rattle.dns_judgement.specs.Derivation.{if_answered, steps_hold as steps_follow, told_in};
+ghost use Rattle.dns_judgement.specs.DerivationParts.{judged_holds, step_holds_by};
+ghost use Rattle.dns_judgement.specs.Chained.{bare};
+ghost use Rattle.dns_judgement.specs.Outcome.{foreign_record as foreign_in};
+ghost use Rattle.dns_net.specs.Trail.{ending_value};
+ghost use Rattle.dns_trail.specs.Ended.{ended_of, nothing_if, some_if};
+ghost use Rattle.dns_trail.specs.Grounds.{AreKnown, Asks, grounds_of};
+ghost use Rattle.dns_trust.specs.Judge.{judge_of};
+
+use crate::ending::{ending_holds, is_failed, is_foreign, is_seen};
+use crate::entries::judged_sets;
+use crate::grounds::{Ended, Grounds};
+use dns_message::Message;
+use dns_name::NoMemory;
+use dns_net::{Asked, Ending, Reply, Told, Verifier};
+use dns_record::{OpCode, clone_records};
+use dns_sets::{ChainedSet, foreign_record, placed_sets};
+use dns_trust::Judge;
+use std::alloc::Global;
+
+/// The lines of each step follow.
+pub(crate) fn steps_hold<V: Verifier>(
+    alloc: Global,
+    judge: &Judge<'_, V>,
+    limit: u16,
+    steps: &[Asked],
+) -> Result<bool, NoMemory>
+    ensures { IfOk result (λ b. b ≡ steps_follow (judge_of V.answers judge.now) limit [] steps.now) }
+{
+    let mut ended = Vec::new(alloc);
+    let mut number = 0;
+    'steps: while number < steps.len() {
+        let step = &steps[number];
+        let missing = None;
+        let grounds = Grounds {
+            limit,
+            steps: &steps[..number],
+            ended: ended.as_slice(),
+            missing: &missing,
+            query: &step.query,
+            depth: step.depth,
+        };
+        let Some(next) = end_step(alloc, judge, &grounds, step)? else {
+            return Ok(false);
+        };
+        ended.push(next)?;
+        number += 1;
+    }
+    Ok(true)
+}
+
+// What a step comes to; None where its lines don't follow.
+fn end_step<V: Verifier>(
+    alloc: Global,
+    judge: &Judge<'_, V>,
+    grounds: &Grounds<'_>,
+    step: &Asked,
+) -> Result<Option<Ended>, NoMemory>
+    requires known { AreKnown grounds.now }
+    requires own { Asks grounds.now step.now }
+    ensures { IfOk result (λ o. o ≡ some_if (step_holds_by (grounds_of (judge_of V.answers judge.now) grounds.now) step.now step.now.reply) (ended_of step.now)) }
+{
+    match &step.reply {
+        Reply::Told(told) => end_told(alloc, judge, grounds, step, told),
+        Reply::Fault => Ok(end_bare(alloc, step, is_failed(&step.ending))),
+    }
+}
+
+// A step that heard records.
+fn end_told<V: Verifier>(
+    alloc: Global,
+    judge: &Judge<'_, V>,
+    grounds: &Grounds<'_>,
+    step: &Asked,
+    told: &Told,
+) -> Result<Option<Ended>, NoMemory>
+    requires known { AreKnown grounds.now }
+    requires own { Asks grounds.now step.now }
+    requires told { told_in step.now.reply ≡ Some told.now.0 }
+    ensures { IfOk result (λ o. o ≡
+        some_if (step_holds_by (grounds_of (judge_of V.answers judge.now) grounds.now) step.now step.now.reply) (ended_of step.now)) }
+{
+    if !step.judged {
+        return Ok(end_bare(alloc, step, is_seen(&step.ending)));
+    }
+    let message = message_of(alloc, told)?;
+    end_judged(alloc, judge, grounds, step, &message)
+}
+
+// A message with the records that a reply told.
+fn message_of(alloc: Global, told: &Told) -> Result<Message, NoMemory>
+    ensures { IfOk result (λ m. told_by m ≡ told.now.0) }
+{
+    let answers = clone_records(&told.answers)?;
+    let authorities = clone_records(&told.authorities)?;
+    let additionals = clone_records(&told.additionals)?;
+    Ok(Message {
+        id: 0,
+        response: true,
+        op_code: OpCode(0),
+        authoritative: false,
+        truncated: false,
+        recursion_desired: false,
+        recursion_available: false,
+        authentic_data: false,
+        checking_disabled: false,
+        response_code: told.code,
+        queries: Vec::new(alloc),
+        answers,
+        authorities,
+        additionals,
+        edns: None,
+    })
+}
+
+// A step nothing of which is judged, and whether its ending is the one that it may have.
+fn end_bare(alloc: Global, step: &Asked, is_so: bool) -> Option<Ended>
+    ensures { result ≡ nothing_if is_so step.now }
+{
+    if is_so && step.sets.is_empty() && step.excuse.is_empty() {
+        Some(Ended {
+            answer: None,
+            others: Vec::new(alloc),
+        })
+    } else {
+        None
+    }
+}
+
+// A judged step that heard records.
+fn end_judged<V: Verifier>(
+    alloc: Global,
+    judge: &Judge<'_, V>,
+    grounds: &Grounds<'_>,
+    step: &Asked,
+    message: &Message,
+) -> Result<Option<Ended>, NoMemory>
+    requires known { AreKnown grounds.now }
+    requires own { Asks grounds.now step.now }
+    requires told { told_in step.now.reply ≡ Some (told_by message.now) }
+    ensures { IfOk result (λ o. o ≡ some_if (judged_holds (grounds_of (judge_of V.answers judge.now) grounds.now) step.now (told_by message.now)
+        (foreign_in step.now.query (told_by message.now))) (ended_of step.now)) }
+{
+    if let Some(found) = foreign_record(grounds.query, message) {
+        return Ok(end_bare(alloc, step, is_foreign(found, &step.ending)));
+    }
+    let placed = placed_sets(alloc, grounds.depth, message)?;
+    let Some(sets) = judged_sets(alloc, judge, grounds, placed, &step.sets)? else {
+        return Ok(None);
+    };
+    if !ending_holds(judge, grounds, message, &sets, &step.ending, &step.excuse)? {
+        return Ok(None);
+    }
+    Ok(Some(ended_with(alloc, sets, &step.ending)))
+}
+
+// The judged sets of a step, which are its answer where it ends with one.
+fn ended_with(alloc: Global, sets: Vec<ChainedSet>, ending: &Ending) -> Ended
+    ensures { result ≡ record { answer = if_answered (ending_value ending.now) (bare sets.items); sets = bare sets.items } }
+{
+    match ending {
+        Ending::Answered(_) => Ended {
+            answer: Some(sets),
+            others: Vec::new(alloc),
+        },
+        Ending::Denied(_) => unanswered(sets),
+        Ending::Foreign { .. } => unanswered(sets),
+        Ending::Failed => unanswered(sets),
+        Ending::Seen => unanswered(sets),
+    }
+}
+
+// The judged sets of a step that has no answer.
+fn unanswered(sets: Vec<ChainedSet>) -> Ended
+    ensures { result ≡ record { answer = None; sets = bare sets.items } }
+{
+    Ended {
+        answer: None,
+        others: sets,
+    }
+}

@@ -1,0 +1,200 @@
+//! Trails of sessions, whole and turned (RFC 4035, 4.3, 5.2 and 5.3).
+use crate::trail_sessions::{
+    BY_TURN, FAULT, INSECURE_WILDCARD, SEARCH_FAULT, TOO_DEEP, UNSIGNED, WALK_BY_DS,
+};
+use crate::trail_turns::{EntryTurn, StepTurn, Turn, turned};
+use dns_net::{AskRef, MarkOrigin, Trail};
+use dns_record::{Denial, Proof, RecordType};
+use dns_run::{session_anchors, session_answer, session_verifier};
+use dns_session::{Session, read_session};
+use dns_trail::check_trail;
+use dns_trust::Limits;
+use std::alloc::Global;
+
+/// The session whose lookup leaves a trail.
+#[derive(Clone, Copy)]
+enum Given {
+    WalkByDs,
+    InsecureWildcard,
+    Unsigned,
+    TooDeep,
+    Fault,
+    SearchFault,
+    ByTurn,
+}
+
+/// What is shown, by which session, by what change of its trail, and whether that is a derivation then.
+struct Row(&'static str, Given, Turn, bool);
+
+const WHOLE: [Row; 7] = [
+    Row("a walk by DS", Given::WalkByDs, Turn::Whole, true),
+    Row("a wildcard of an Insecure zone", Given::InsecureWildcard, Turn::Whole, true),
+    Row("an unsigned set", Given::Unsigned, Turn::Whole, true),
+    Row("an ask that is too deep", Given::TooDeep, Turn::Whole, true),
+    Row("a fault", Given::Fault, Turn::Whole, true),
+    Row("a search that meets a fault", Given::SearchFault, Turn::Whole, true),
+    Row("two replies to one question", Given::ByTurn, Turn::Whole, true),
+];
+
+const MARKS: [Row; 12] = [
+    Row("Secure as Insecure", Given::WalkByDs, Turn::Step(3, StepTurn::Entry(0, EntryTurn::Mark(Proof::Insecure))), false),
+    Row("Secure as Bogus", Given::WalkByDs, Turn::Step(3, StepTurn::Entry(0, EntryTurn::Mark(Proof::Bogus))), false),
+    Row("Secure as Indeterminate", Given::WalkByDs, Turn::Step(2, StepTurn::Entry(0, EntryTurn::Mark(Proof::Indeterminate))), false),
+    Row("Insecure as Secure", Given::InsecureWildcard, Turn::Step(7, StepTurn::Entry(0, EntryTurn::Mark(Proof::Secure))), false),
+    Row("an unsigned set as Secure", Given::Unsigned, Turn::Step(4, StepTurn::Entry(0, EntryTurn::Mark(Proof::Secure))), false),
+    Row("an unsigned set as Bogus", Given::Unsigned, Turn::Step(4, StepTurn::Entry(0, EntryTurn::Mark(Proof::Bogus))), false),
+    Row("Bogus as Secure", Given::Fault, Turn::Step(1, StepTurn::Entry(0, EntryTurn::Mark(Proof::Secure))), false),
+    Row("keys as Bogus", Given::WalkByDs, Turn::Step(0, StepTurn::Entry(0, EntryTurn::Mark(Proof::Bogus))), false),
+    Row("another signature", Given::WalkByDs, Turn::Step(3, StepTurn::Entry(0, EntryTurn::Sig(Some(1)))), false),
+    Row("no signature", Given::WalkByDs, Turn::Step(1, StepTurn::Entry(0, EntryTurn::Sig(None))), false),
+    Row("a signature of an unsigned set", Given::Unsigned, Turn::Step(4, StepTurn::Entry(0, EntryTurn::Sig(Some(0)))), false),
+    Row("a set of another type", Given::WalkByDs, Turn::Step(3, StepTurn::Entry(0, EntryTurn::RecordType(RecordType::DS))), false),
+];
+
+const REPEATS: [Row; 8] = [
+    Row("a set that an earlier step found", Given::InsecureWildcard, Turn::Step(5, StepTurn::Entry(0, EntryTurn::Origin(MarkOrigin::Repeat(0)))), true),
+    Row(
+        "and its ttl apart",
+        Given::InsecureWildcard,
+        Turn::Both(5, StepTurn::Entry(0, EntryTurn::Origin(MarkOrigin::Repeat(0))), StepTurn::Ttl),
+        true,
+    ),
+    Row(
+        "and its type apart",
+        Given::InsecureWildcard,
+        Turn::Both(5, StepTurn::Entry(0, EntryTurn::Origin(MarkOrigin::Repeat(0))), StepTurn::RecordType),
+        false,
+    ),
+    Row("of itself", Given::InsecureWildcard, Turn::Step(5, StepTurn::Entry(0, EntryTurn::Origin(MarkOrigin::Repeat(5)))), false),
+    Row("of a later step", Given::InsecureWildcard, Turn::Step(0, StepTurn::Entry(0, EntryTurn::Origin(MarkOrigin::Repeat(5)))), false),
+    Row("of another query", Given::InsecureWildcard, Turn::Step(5, StepTurn::Entry(0, EntryTurn::Origin(MarkOrigin::Repeat(1)))), false),
+    Row("from an earlier lookup", Given::InsecureWildcard, Turn::Step(5, StepTurn::Entry(0, EntryTurn::Origin(MarkOrigin::Cache))), false),
+    Row(
+        "with another mark",
+        Given::InsecureWildcard,
+        Turn::Both(
+            5,
+            StepTurn::Entry(0, EntryTurn::Origin(MarkOrigin::Repeat(0))),
+            StepTurn::Entry(0, EntryTurn::Mark(Proof::Bogus)),
+        ),
+        false,
+    ),
+];
+
+const STEPS: [Row; 23] = [
+    Row("a step dropped", Given::WalkByDs, Turn::Drop(0), false),
+    Row("the last step dropped", Given::WalkByDs, Turn::Drop(3), false),
+    Row("a step before what it names", Given::WalkByDs, Turn::Ahead(1), false),
+    Row("another depth", Given::WalkByDs, Turn::Step(1, StepTurn::Depth(1)), false),
+    Row("a judged step only seen", Given::WalkByDs, Turn::Step(2, StepTurn::Judged), false),
+    Row("a step only seen that is judged", Given::Unsigned, Turn::Step(0, StepTurn::Judged), false),
+    Row("another question", Given::WalkByDs, Turn::Step(0, StepTurn::QueryType(RecordType::A)), false),
+    Row("a fault in place of a reply", Given::WalkByDs, Turn::Step(0, StepTurn::Fault), false),
+    Row("a fault in place of what was seen", Given::Unsigned, Turn::Step(1, StepTurn::Fault), false),
+    Row("a record of another class", Given::WalkByDs, Turn::Step(2, StepTurn::Class), false),
+    Row("an entry less", Given::WalkByDs, Turn::Step(3, StepTurn::NoEntry), false),
+    Row("a failed end", Given::WalkByDs, Turn::Step(3, StepTurn::Failed), false),
+    Row("a denied end", Given::WalkByDs, Turn::Step(3, StepTurn::Denied(Proof::Bogus)), false),
+    Row(
+        "another denial",
+        Given::WalkByDs,
+        Turn::Step(3, StepTurn::Answered(Denial::Absent(Proof::Insecure))),
+        false,
+    ),
+    Row("a seen end", Given::WalkByDs, Turn::Step(0, StepTurn::Seen), false),
+    Row("a fault that answers", Given::Fault, Turn::Step(0, StepTurn::Answered(Denial::None)), false),
+    Row("an excuse added", Given::WalkByDs, Turn::Step(3, StepTurn::Excuse(&[AskRef::TooDeep])), false),
+    Row("an excuse dropped", Given::InsecureWildcard, Turn::Step(7, StepTurn::Excuse(&[])), false),
+    Row(
+        "an excuse in another order",
+        Given::InsecureWildcard,
+        Turn::Step(7, StepTurn::Excuse(&[AskRef::Step(4), AskRef::Step(3), AskRef::Step(6)])),
+        false,
+    ),
+    Row("an ask as too deep", Given::Fault, Turn::Step(1, StepTurn::Entry(0, EntryTurn::Asks(&[AskRef::TooDeep]))), false),
+    Row("an ask as one too many", Given::TooDeep, Turn::Step(0, StepTurn::Entry(0, EntryTurn::Asks(&[AskRef::TooMany]))), false),
+    Row("an ask that isn't made", Given::TooDeep, Turn::Step(0, StepTurn::Entry(0, EntryTurn::Asks(&[]))), false),
+    Row(
+        "an ask more",
+        Given::TooDeep,
+        Turn::Step(0, StepTurn::Entry(0, EntryTurn::Asks(&[AskRef::TooDeep, AskRef::TooDeep]))),
+        false,
+    ),
+];
+
+fn text_of(given: Given) -> &'static [u8] {
+    match given {
+        Given::WalkByDs => WALK_BY_DS,
+        Given::InsecureWildcard => INSECURE_WILDCARD,
+        Given::Unsigned => UNSIGNED,
+        Given::TooDeep => TOO_DEEP,
+        Given::Fault => FAULT,
+        Given::SearchFault => SEARCH_FAULT,
+        Given::ByTurn => BY_TURN,
+    }
+}
+
+fn session_of(alloc: Global, text: &[u8]) -> Option<Session> {
+    if text.len() > 65_535 {
+        return None;
+    }
+    read_session(alloc, text).ok()
+}
+
+// The trail that a session's lookup leaves.
+fn trail_of(alloc: Global, text: &[u8]) -> Option<Trail> {
+    let session = session_of(alloc, text)?;
+    let answer = session_answer(alloc, session).ok()?;
+    Some(answer.trail)
+}
+
+// Whether a trail is a derivation by what a session trusts.
+fn is_derivation(alloc: Global, text: &[u8], trail: &Trail) -> Option<bool> {
+    let session = session_of(alloc, text)?;
+    let limits = Limits {
+        depth: session.depth.unwrap_or(26),
+        soft: 0,
+        hard: 0,
+    };
+    let verifier = session_verifier(alloc, &session.algorithms, session.accepts).ok()?;
+    let anchors = session_anchors(alloc, session.anchors).ok()?;
+    check_trail(alloc, &anchors, &verifier, session.moment, &limits, trail).ok()
+}
+
+fn holds(alloc: Global, given: Given, turn: &Turn) -> Option<bool> {
+    let trail = trail_of(alloc, text_of(given))?;
+    let trail = turned(alloc, trail, turn).ok()?;
+    is_derivation(alloc, text_of(given), &trail)
+}
+
+fn is_so(alloc: Global, row: &Row) -> bool {
+    holds(alloc, row.1, &row.2) == Some(row.3)
+}
+
+#[test]
+fn the_trail_of_a_lookup_is_a_derivation(rt: HostRuntime) {
+    for row in &WHOLE {
+        assert!(rt; is_so(rt.alloc(), row), "{}", row.0);
+    }
+}
+
+#[test]
+fn a_mark_follows_and_is_no_other(rt: HostRuntime) {
+    for row in &MARKS {
+        assert!(rt; is_so(rt.alloc(), row), "{}", row.0);
+    }
+}
+
+#[test]
+fn a_repeat_is_looked_up(rt: HostRuntime) {
+    for row in &REPEATS {
+        assert!(rt; is_so(rt.alloc(), row), "{}", row.0);
+    }
+}
+
+#[test]
+fn a_step_that_is_turned_does_not_follow(rt: HostRuntime) {
+    for row in &STEPS {
+        assert!(rt; is_so(rt.alloc(), row), "{}", row.0);
+    }
+}

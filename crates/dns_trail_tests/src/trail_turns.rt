@@ -1,0 +1,143 @@
+//! One change in a trail.
+use dns_net::{AskRef, Asked, Ending, JudgedSet, MarkOrigin, Reply, Told, Trail};
+use dns_record::{DNSClass, Denial, Proof, Query, Record, RecordType};
+use std::alloc::{AllocError, Global};
+
+/// A change of an entry.
+pub(crate) enum EntryTurn {
+    Mark(Proof),
+    Sig(Option<u32>),
+    Origin(MarkOrigin),
+    Asks(&'static [AskRef]),
+    RecordType(RecordType),
+}
+
+/// A change of a step.
+pub(crate) enum StepTurn {
+    /// In the entry with this number.
+    Entry(usize, EntryTurn),
+    /// The last entry goes.
+    NoEntry,
+    Depth(u16),
+    /// It judges what it only saw, or only sees what it judged.
+    Judged,
+    QueryType(RecordType),
+    /// A fault in place of the reply.
+    Fault,
+    /// The first record of the first section is of another class.
+    Class,
+    /// The first record of the first section has another ttl.
+    Ttl,
+    /// And another type.
+    RecordType,
+    Answered(Denial),
+    Denied(Proof),
+    Failed,
+    Seen,
+    Excuse(&'static [AskRef]),
+}
+
+/// A change of a trail.
+pub(crate) enum Turn {
+    /// None.
+    Whole,
+    /// A step goes.
+    Drop(usize),
+    /// A step stands before the one ahead of it.
+    Ahead(usize),
+    /// Both in one step.
+    Both(usize, StepTurn, StepTurn),
+    Step(usize, StepTurn),
+}
+
+/// The trail after a change.
+pub(crate) fn turned(alloc: Global, trail: Trail, turn: &Turn) -> Result<Trail, AllocError> {
+    let mut steps = trail.steps;
+    match turn {
+        Turn::Whole => {}
+        Turn::Drop(number) => {
+            if *number < steps.len() {
+                let _ = steps.remove(*number);
+            }
+        }
+        Turn::Ahead(number) => {
+            if *number > 0 && *number < steps.len() {
+                steps.swap(*number - 1, *number);
+            }
+        }
+        Turn::Both(number, one, other) => {
+            turn_step(alloc, &mut steps, *number, one)?;
+            turn_step(alloc, &mut steps, *number, other)?;
+        }
+        Turn::Step(number, one) => turn_step(alloc, &mut steps, *number, one)?,
+    }
+    Ok(Trail { steps })
+}
+
+fn turn_step(
+    alloc: Global,
+    steps: &mut Vec<Asked>,
+    number: usize,
+    turn: &StepTurn,
+) -> Result<(), AllocError> {
+    match steps.get_mut(number) {
+        Some(step) => turn_one(alloc, step, turn),
+        None => Ok(()),
+    }
+}
+
+fn turn_one(alloc: Global, step: &mut Asked, turn: &StepTurn) -> Result<(), AllocError> {
+    match turn {
+        StepTurn::Entry(place, change) => turn_entries(alloc, &mut step.sets, *place, change)?,
+        StepTurn::NoEntry => {
+            let _ = step.sets.pop();
+        }
+        StepTurn::Depth(depth) => step.depth = *depth,
+        StepTurn::Judged => step.judged = !step.judged,
+        StepTurn::QueryType(rtype) => step.query.query_type = *rtype,
+        StepTurn::Fault => step.reply = Reply::Fault,
+        StepTurn::Class | StepTurn::Ttl | StepTurn::RecordType => turn_reply(&mut step.reply, turn),
+        StepTurn::Answered(denial) => step.ending = Ending::Answered(*denial),
+        StepTurn::Denied(proof) => step.ending = Ending::Denied(*proof),
+        StepTurn::Failed => step.ending = Ending::Failed,
+        StepTurn::Seen => step.ending = Ending::Seen,
+        StepTurn::Excuse(asks) => step.excuse = asks.to_vec(alloc)?,
+    }
+    Ok(())
+}
+
+fn turn_entries(
+    alloc: Global,
+    entries: &mut Vec<JudgedSet>,
+    place: usize,
+    turn: &EntryTurn,
+) -> Result<(), AllocError> {
+    let Some(entry) = entries.get_mut(place) else {
+        return Ok(());
+    };
+    match turn {
+        EntryTurn::Mark(mark) => entry.mark = *mark,
+        EntryTurn::Sig(sig) => entry.sig = *sig,
+        EntryTurn::Origin(origin) => entry.origin = *origin,
+        EntryTurn::Asks(asks) => entry.asked = asks.to_vec(alloc)?,
+        EntryTurn::RecordType(rtype) => entry.record_type = *rtype,
+    }
+    Ok(())
+}
+
+fn turn_reply(reply: &mut Reply, turn: &StepTurn) {
+    if let Reply::Told(told) = reply {
+        match told.answers.get_mut(0) {
+            Some(first) => turn_record(first, turn),
+            None => {}
+        }
+    }
+}
+
+fn turn_record(first: &mut Record, turn: &StepTurn) {
+    match turn {
+        StepTurn::Class => first.dns_class = DNSClass(3),
+        StepTurn::Ttl => first.ttl = 7,
+        _ => first.record_type = RecordType(99),
+    }
+}
