@@ -106,14 +106,20 @@ fn is_sent(alloc: Global, row: &Sent) -> Result<bool, NetError> {
     let request = request_of(alloc, row.given)?;
     match validator.send(alloc, request, 1000) {
         Ok(_) => Ok(false),
-        Err(error) => Ok(is_error(&error, validator.inner().sends)
-            && *validator.inner().kept.as_slice() == *row.sent),
+        Err(error) => Ok(
+            is_error(&error, validator.inner().sends)
+                && *validator.inner().kept.as_slice() == *row.sent,
+        ),
     }
 }
 
 #[test]
 fn a_request_is_sent_to_be_validated(rt: HostRuntime) {
     for row in &SENT {
-        assert!(rt; matches!(is_sent(rt.alloc(), row), Ok(true)), "{}", row.name);
+        assert!(rt;
+            matches!(is_sent(rt.alloc(), row), Ok(true)),
+            "{}",
+            row.name
+        );
     }
 }

@@ -71,9 +71,7 @@ pub(crate) fn is_ask(grounds: &Grounds<'_>, query: &Query, ask: AskRef) -> bool
 {
     let may_ask = grounds.depth < grounds.limit;
     match ask {
-        AskRef::Step(number) => {
-            may_ask && is_judged_step(grounds, query, number)
-        }
+        AskRef::Step(number) => { may_ask && is_judged_step(grounds, query, number) }
         AskRef::TooDeep => !may_ask,
         AskRef::TooMany => may_ask,
     }
@@ -100,9 +98,7 @@ pub(crate) fn is_plain_ask(grounds: &Grounds<'_>, query: &Query, ask: AskRef) ->
     ensures { result ≡ is_plain_ask_in grounds.now.steps.now grounds.now.depth query.now ask }
 {
     match ask {
-        AskRef::Step(number) => {
-            is_plain_step(grounds, query, number)
-        }
+        AskRef::Step(number) => { is_plain_step(grounds, query, number) }
         AskRef::TooDeep => false,
         AskRef::TooMany => true,
     }

@@ -50,7 +50,8 @@ fn found_alike(ended: &Ended, placed: &PlacedSet, entry: &JudgedSet) -> bool
 fn has_repeat(sets: &[ChainedSet], placed: &PlacedSet, entry: &JudgedSet) -> bool
     ensures { result ≡ list_any (λ c. is_repeat_of placed.now entry.now c.judged) sets.now }
 {
-    sets.iter().any(|set| is_repeat(&placed.set, entry, &set.judged))
+    sets.iter()
+        .any(|set| is_repeat(&placed.set, entry, &set.judged))
 }
 
 fn is_repeat(set: &RecordSet, entry: &JudgedSet, judged: &MarkedSet) -> bool
