@@ -202,31 +202,53 @@ fn trail(alloc: Global) -> Result<Trail, Fail> {
     Ok(trail)
 }
 
+fn copy_of(alloc: Global, word: &str) -> Result<String, Fail> {
+    let mut text = String::new(alloc);
+    text.push_str(word)?;
+    Ok(text)
+}
+
+fn told_text(alloc: Global, told: &Told) -> Result<String, Fail> {
+    Ok(format!(in alloc;
+        "code {} empty {} records {} {} {}",
+        told.code.0,
+        told.empty,
+        told.answers.len(),
+        told.authorities.len(),
+        told.additionals.len()
+    )?)
+}
+
 fn reply_text(alloc: Global, reply: &Reply) -> Result<String, Fail> {
     match reply {
-        Reply::Told(told) => Ok(format!(in alloc;
-            "code {} empty {} records {} {} {}",
-            told.code.0,
-            told.empty,
-            told.answers.len(),
-            told.authorities.len(),
-            told.additionals.len()
-        )?),
-        Reply::Fault => Ok(format!(in alloc; "fault")?),
+        Reply::Told(told) => told_text(alloc, told),
+        Reply::Fault => copy_of(alloc, "fault"),
     }
+}
+
+fn denial_text(alloc: Global, denial: Denial) -> Result<String, Fail> {
+    Ok(format!(in alloc; "{denial:?}")?)
+}
+
+fn denied_text(alloc: Global, proof: Proof) -> Result<String, Fail> {
+    Ok(format!(in alloc; "denied {proof:?}")?)
+}
+
+fn foreign_text(alloc: Global, owner: &Name, class: u16, number: u16) -> Result<String, Fail> {
+    Ok(format!(in alloc; "foreign {owner} {class} {number}")?)
 }
 
 fn ending_text(alloc: Global, ending: &Ending) -> Result<String, Fail> {
     match ending {
-        Ending::Answered(denial) => Ok(format!(in alloc; "{denial:?}")?),
-        Ending::Denied(proof) => Ok(format!(in alloc; "denied {proof:?}")?),
+        Ending::Answered(denial) => denial_text(alloc, *denial),
+        Ending::Denied(proof) => denied_text(alloc, *proof),
         Ending::Foreign {
             owner,
             class,
             record_type,
-        } => Ok(format!(in alloc; "foreign {owner} {} {}", class.0, record_type.0)?),
-        Ending::Failed => Ok(format!(in alloc; "failed")?),
-        Ending::Seen => Ok(format!(in alloc; "seen")?),
+        } => foreign_text(alloc, owner, class.0, record_type.0),
+        Ending::Failed => copy_of(alloc, "failed"),
+        Ending::Seen => copy_of(alloc, "seen"),
     }
 }
 
