@@ -1,4 +1,4 @@
-use crate::mark_parts::fails;
+use crate::mark_parts::{fails, reads};
 use dns_marks::{ProofError, ProofErrorKind};
 use dns_name::Name;
 use dns_net::Notice;
@@ -63,17 +63,15 @@ fn cause(name: Name, number: usize) -> ProofErrorKind {
     }
 }
 
-/// A cause reads so.
-fn reads(alloc: Global, kind: &ProofErrorKind, want: &str) -> Result<bool, Fail> {
-    let text = format!(in alloc; "{kind}")?;
-    Ok(text.as_str() == want)
+fn copy_reads(alloc: Global, kind: &ProofErrorKind, want: &str) -> Result<bool, Fail> {
+    let copy = kind.try_clone()?;
+    reads(alloc, &copy, want)
 }
 
 /// The cause with this number reads so, and so does a copy of it.
 fn is_read(alloc: Global, number: usize, want: &str) -> Result<bool, Fail> {
     let kind = cause(Name::from_ascii(alloc, "example.")?, number);
-    let copy = kind.try_clone()?;
-    Ok(reads(alloc, &kind, want)? && reads(alloc, &copy, want)?)
+    Ok(reads(alloc, &kind, want)? && copy_reads(alloc, &kind, want)?)
 }
 
 #[test]
@@ -84,17 +82,20 @@ fn each_cause_has_its_text(rt: HostRuntime) -> Result<(), Fail> {
     Ok(())
 }
 
+fn ds_should_exist(alloc: Global) -> Result<ProofError, Fail> {
+    let name = Name::from_ascii(alloc, "example.")?;
+    Ok(ProofError::ds_should_exist(name))
+}
+
+/// An error reads so with its mark, and its cause alone.
+fn tells(alloc: Global, marked: &str, alone: &str) -> Result<bool, Fail> {
+    let error = ds_should_exist(alloc)?;
+    Ok(fails(alloc, &error, marked)? && reads(alloc, error.kind(), alone)?)
+}
+
 #[test]
 fn an_error_tells_its_mark_and_its_cause(rt: HostRuntime) -> Result<(), Fail> {
-    let name = Name::from_ascii(rt.alloc(), "example.")?;
-    let error = ProofError::ds_should_exist(name);
-    assert!(rt;
-        fails(
-            rt.alloc(),
-            &error,
-            "Bogus: ds record should exist: example."
-        )?
-    );
-    assert!(rt; reads(rt.alloc(), error.kind(), "ds record should exist: example.")?);
+    let marked = "Bogus: ds record should exist: example.";
+    assert!(rt; tells(rt.alloc(), marked, "ds record should exist: example.")?);
     Ok(())
 }

@@ -1,7 +1,7 @@
 use crate::mark_parts::*;
 use dns_marks::{KeysMark, ProofError, ProofErrorKind, ZoneVerdict, mark_keys};
 use dns_name::{Name, Octets};
-use dns_record::{Proof, RecordSet, RecordType};
+use dns_record::{Proof, Record, RecordSet, RecordType};
 use dns_trust::{Listed, TrustAnchors};
 use std::alloc::Global;
 use std::test::Fail;
@@ -166,64 +166,79 @@ const ROWS: [Row; 14] = [
     },
 ];
 
-fn key_set(alloc: Global, row: &Row) -> Result<RecordSet, Fail> {
-    let Some((first, others)) = row.keys.split_first() else {
-        return Err("no key".into());
-    };
-    let first = record(
+fn key_of(alloc: Global, row: &Row, rdata: &[u8]) -> Result<Record, Fail> {
+    record(
         alloc,
         row.owner,
         RecordType::DNSKEY,
-        first,
+        rdata,
         Proof::Indeterminate,
-    )?;
+    )
+}
+
+fn keys_of(alloc: Global, row: &Row) -> Result<RecordSet, Fail> {
+    let Some((first, others)) = row.keys.split_first() else {
+        return Err("no key".into());
+    };
+    let first = key_of(alloc, row, first)?;
     let mut set = RecordSet::of(alloc, first)?;
-    for key in others {
-        let next = record(
-            alloc,
-            row.owner,
-            RecordType::DNSKEY,
-            key,
-            Proof::Indeterminate,
-        )?;
+    for rdata in others {
+        let next = key_of(alloc, row, rdata)?;
         set.records.push(next)?;
-    }
-    if !row.sig.is_empty() {
-        set.rrsigs.push(signature(alloc, row.sig)?)?;
     }
     Ok(set)
 }
 
-fn verdict_of(alloc: Global, zone: &Zone) -> Result<Option<ZoneVerdict>, Fail> {
+fn key_set(alloc: Global, row: &Row) -> Result<RecordSet, Fail> {
+    let mut set = keys_of(alloc, row)?;
+    if !row.sig.is_empty() {
+        let sig = signature(alloc, row.sig)?;
+        set.rrsigs.push(sig)?;
+    }
+    Ok(set)
+}
+
+fn ds_of(alloc: Global, rdatas: &[&[u8]]) -> Result<Vec<Record>, Fail> {
+    let mut ds = Vec::new(alloc);
+    for rdata in rdatas {
+        let next = record(alloc, "example.", RecordType::DS, rdata, Proof::Secure)?;
+        ds.push(next)?;
+    }
+    Ok(ds)
+}
+
+fn insecure(alloc: Global) -> Result<ZoneVerdict, Fail> {
     let name = Name::from_ascii(alloc, "example.")?;
+    Ok(ZoneVerdict::Insecure(ProofErrorKind::DsResponseInsecure { name }))
+}
+
+fn bogus(alloc: Global) -> Result<ZoneVerdict, Fail> {
+    let name = Name::from_ascii(alloc, "example.")?;
+    Ok(ZoneVerdict::Bogus(ProofErrorKind::DsRecordShouldExist { name }))
+}
+
+fn verdict_of(alloc: Global, zone: &Zone) -> Result<Option<ZoneVerdict>, Fail> {
     match zone {
         Zone::Unknown => Ok(None),
-        Zone::Signed(rdatas) => {
-            let mut ds = Vec::new(alloc);
-            for rdata in *rdatas {
-                let next = record(alloc, "example.", RecordType::DS, rdata, Proof::Secure)?;
-                ds.push(next)?;
-            }
-            Ok(Some(ZoneVerdict::Signed(ds)))
-        }
-        Zone::Insecure => {
-            let kind = ProofErrorKind::DsResponseInsecure { name };
-            Ok(Some(ZoneVerdict::Insecure(kind)))
-        }
+        Zone::Signed(rdatas) => Ok(Some(ZoneVerdict::Signed(ds_of(alloc, rdatas)?))),
+        Zone::Insecure => Ok(Some(insecure(alloc)?)),
         Zone::Unsupported => Ok(Some(ZoneVerdict::Insecure(ProofErrorKind::UnknownKeyAlgorithm))),
-        Zone::Bogus => {
-            let kind = ProofErrorKind::DsRecordShouldExist { name };
-            Ok(Some(ZoneVerdict::Bogus(kind)))
-        }
+        Zone::Bogus => Ok(Some(bogus(alloc)?)),
     }
+}
+
+/// Trusts the key of `KEY` at this owner.
+fn trust(alloc: Global, anchors: &mut TrustAnchors, owner: &str) -> Result<(), Fail> {
+    let owner = Name::from_ascii(alloc, owner)?;
+    let key = Octets::from_slice(alloc, b"\xaa\xbb")?;
+    anchors.insert_with_name(owner, 13, key)?;
+    Ok(())
 }
 
 fn anchors_of(alloc: Global, row: &Row) -> Result<TrustAnchors, Fail> {
     let mut anchors = TrustAnchors::empty(alloc);
     if row.is_anchored {
-        let owner = Name::from_ascii(alloc, row.owner)?;
-        let key = Octets::from_slice(alloc, b"\xaa\xbb")?;
-        anchors.insert_with_name(owner, 13, key)?;
+        trust(alloc, &mut anchors, row.owner)?;
     }
     Ok(anchors)
 }
@@ -248,26 +263,37 @@ fn mark_of(alloc: Global, verifier: &Listed, parts: &Parts) -> Result<KeysMark, 
     mark_keys(alloc, verifier, anchors, set, zone.as_ref(), 1500)
 }
 
+/// A mark, or why there is none, is the one that is wanted.
+fn is_wanted(alloc: Global, mark: &Result<KeysMark, ProofError>, want: &str) -> Result<bool, Fail> {
+    match mark {
+        Ok(KeysMark::NeedDs) => Ok(want == NEEDS_DS),
+        Ok(KeysMark::Done(found)) => {
+            Ok(
+                (want == SIGNED && is_found(found, Proof::Secure, Some(500), Some(0)))
+                    || (want == WHOLE && is_found(found, Proof::Secure, None, None)),
+            )
+        }
+        Err(error) => fails(alloc, error, want),
+    }
+}
+
 /// The mark of a row's key set is the one that it names.
 fn is_marked(alloc: Global, verifier: &Listed, row: &Row) -> Result<bool, Fail> {
     let parts = parts_of(alloc, row)?;
-    match mark_of(alloc, verifier, &parts) {
-        Ok(KeysMark::NeedDs) => Ok(row.want == NEEDS_DS),
-        Ok(KeysMark::Done(found)) => {
-            Ok(
-                (row.want == SIGNED && is_found(&found, Proof::Secure, Some(500), Some(0)))
-                    || (row.want == WHOLE && is_found(&found, Proof::Secure, None, None)),
-            )
-        }
-        Err(error) => fails(alloc, &error, row.want),
-    }
+    let mark = mark_of(alloc, verifier, &parts);
+    is_wanted(alloc, &mark, row.want)
+}
+
+/// The same by the verifier of these tests.
+fn is_shown(alloc: Global, row: &Row) -> Result<bool, Fail> {
+    let verifier = verifier(alloc)?;
+    is_marked(alloc, &verifier, row)
 }
 
 #[test]
 fn key_sets_are_marked(rt: HostRuntime) -> Result<(), Fail> {
-    let verifier = verifier(rt.alloc())?;
     for row in &ROWS {
-        assert!(rt; is_marked(rt.alloc(), &verifier, row)?, "{}", row.shows);
+        assert!(rt; is_shown(rt.alloc(), row)?, "{}", row.shows);
     }
     Ok(())
 }

@@ -1,4 +1,4 @@
-use dns_marks::{ProofError, RrsetProof};
+use dns_marks::{ProofError, ProofErrorKind, RrsetProof};
 use dns_name::Name;
 use dns_record::{DNSClass, Proof, Rdata, Record, RecordSet, RecordType};
 use dns_trust::Listed;
@@ -97,6 +97,12 @@ pub(crate) fn servers(alloc: Global) -> Result<RecordSet, Fail> {
 /// The cause and the mark read so.
 pub(crate) fn fails(alloc: Global, error: &ProofError, want: &str) -> Result<bool, Fail> {
     let text = format!(in alloc; "{error}")?;
+    Ok(text.as_str() == want)
+}
+
+/// A cause reads so.
+pub(crate) fn reads(alloc: Global, kind: &ProofErrorKind, want: &str) -> Result<bool, Fail> {
+    let text = format!(in alloc; "{kind}")?;
     Ok(text.as_str() == want)
 }
 

@@ -206,26 +206,38 @@ pub(crate) fn found<V: Verifier, L: Ledger>(
     mark_rrset(alloc, verifier, set, answers, 1500, &mut steps)
 }
 
-/// What a row's signatures come to is what it names.
-fn is_marked(alloc: Global, verifier: &Listed, row: &Row) -> Result<bool, Fail> {
-    let parts = parts_of(alloc, row)?;
-    match (
-        found::<Listed, Brand>(alloc, verifier, &parts, Blank::new(1)),
-        &row.want,
-    ) {
+/// What is found, or why nothing is, is what is wanted.
+fn is_wanted(
+    alloc: Global,
+    mark: &Result<RrsetProof, ProofError>,
+    want: &Want,
+) -> Result<bool, Fail> {
+    match (mark, want) {
         (Ok(found), Want::Found(proof, ttl, place)) => {
-            Ok(is_found(&found, *proof, *ttl, Some(*place)))
+            Ok(is_found(found, *proof, *ttl, Some(*place)))
         }
-        (Err(error), Want::Fails(text)) => fails(alloc, &error, text),
+        (Err(error), Want::Fails(text)) => fails(alloc, error, text),
         _ => Ok(false),
     }
 }
 
+/// What a row's signatures come to is what it names.
+fn is_marked(alloc: Global, verifier: &Listed, row: &Row) -> Result<bool, Fail> {
+    let parts = parts_of(alloc, row)?;
+    let mark = found::<Listed, Brand>(alloc, verifier, &parts, Blank::new(1));
+    is_wanted(alloc, &mark, &row.want)
+}
+
+/// The same by the verifier of these tests.
+fn is_shown(alloc: Global, row: &Row) -> Result<bool, Fail> {
+    let verifier = verifier(alloc)?;
+    is_marked(alloc, &verifier, row)
+}
+
 #[test]
 fn sets_are_marked_by_their_signatures(rt: HostRuntime) -> Result<(), Fail> {
-    let verifier = verifier(rt.alloc())?;
     for row in &ROWS {
-        assert!(rt; is_marked(rt.alloc(), &verifier, row)?, "{}", row.shows);
+        assert!(rt; is_shown(rt.alloc(), row)?, "{}", row.shows);
     }
     Ok(())
 }

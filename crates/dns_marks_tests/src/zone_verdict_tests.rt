@@ -1,9 +1,8 @@
 use crate::mark_parts::*;
-use dns_marks::{DnsAnswer, ProofErrorKind, ZoneVerdict, ds_verdict};
+use dns_marks::{DnsAnswer, ZoneVerdict, ds_verdict};
 use dns_name::{Name, NoMemory};
 use dns_net::{DnsError, DnsRequest, DnsRequestOptions, DnsResponse, NetError, NoRecords, Trail};
 use dns_record::{DNSClass, Denial, Proof, Query, Record, RecordType, ResponseCode, Section};
-use dns_trust::Listed;
 use std::alloc::Global;
 use std::test::Fail;
 
@@ -479,51 +478,53 @@ fn response(alloc: Global, told: &[Told]) -> Result<DnsResponse, Fail> {
     Ok(response)
 }
 
-fn is_cause(alloc: Global, kind: &ProofErrorKind, want: &str) -> Result<bool, Fail> {
-    let text = format!(in alloc; "{kind}")?;
-    Ok(text.as_str() == want)
-}
-
 /// A verdict is this one.
 fn is_verdict(alloc: Global, verdict: &ZoneVerdict, want: &Want) -> Result<bool, Fail> {
     match (verdict, want) {
         (ZoneVerdict::Signed(ds), Want::Signed(number)) => Ok(ds.len() == *number),
-        (ZoneVerdict::Insecure(kind), Want::Insecure(text)) => is_cause(alloc, kind, text),
-        (ZoneVerdict::Bogus(kind), Want::Bogus(text)) => is_cause(alloc, kind, text),
+        (ZoneVerdict::Insecure(kind), Want::Insecure(text)) => reads(alloc, kind, text),
+        (ZoneVerdict::Bogus(kind), Want::Bogus(text)) => reads(alloc, kind, text),
         _ => Ok(false),
     }
 }
 
+/// The DS verdict on a zone by an answer is this one.
+fn gives(
+    alloc: Global,
+    zone: &Name,
+    class: DNSClass,
+    answer: &DnsAnswer,
+    want: &Want,
+) -> Result<bool, Fail> {
+    let verifier = verifier(alloc)?;
+    let verdict = ds_verdict(alloc, &verifier, zone, class, answer)?;
+    is_verdict(alloc, &verdict, want)
+}
+
 /// The DS verdict of a row is the one that it names.
-fn is_judged(alloc: Global, verifier: &Listed, zone: &Name, row: &Row) -> Result<bool, Fail> {
+fn is_judged(alloc: Global, row: &Row) -> Result<bool, Fail> {
+    let zone = Name::from_ascii(alloc, "EXAMPLE.")?;
     let answer = Ok(response(alloc, row.told)?);
-    let verdict = ds_verdict(alloc, verifier, zone, row.class, &answer)?;
-    is_verdict(alloc, &verdict, &row.want)
+    gives(alloc, &zone, row.class, &answer, &row.want)
 }
 
 #[test]
 fn zones_are_judged_by_answers(rt: HostRuntime) -> Result<(), Fail> {
-    let verifier = verifier(rt.alloc())?;
-    let zone = Name::from_ascii(rt.alloc(), "EXAMPLE.")?;
     for row in &ROWS {
-        assert!(rt;
-            is_judged(rt.alloc(), &verifier, &zone, row)?,
-            "{}",
-            row.shows
-        );
+        assert!(rt; is_judged(rt.alloc(), row)?, "{}", row.shows);
     }
     Ok(())
 }
 
-/// An ask that failed makes the verdict Bogus, with the question; want of memory stays it.
-fn is_failed(
-    alloc: Global,
-    verifier: &Listed,
-    zone: &Name,
-    failed: &DnsAnswer,
-) -> Result<bool, Fail> {
-    let verdict = ds_verdict(alloc, verifier, zone, DNSClass::IN, failed)?;
-    is_verdict(alloc, &verdict, &UNANSWERED)
+/// An ask that failed makes the verdict Bogus, with the question.
+fn is_failed(alloc: Global, failed: &DnsAnswer) -> Result<bool, Fail> {
+    let zone = Name::from_ascii(alloc, "example.")?;
+    gives(alloc, &zone, DNSClass::IN, failed, &UNANSWERED)
+}
+
+fn is_timed_out(alloc: Global) -> Result<bool, Fail> {
+    let answer = Err(NetError::Timeout);
+    is_failed(alloc, &answer)
 }
 
 /// There are no records: a lookup never answers so.
@@ -533,18 +534,23 @@ fn no_records(alloc: Global) -> Result<DnsAnswer, Fail> {
     Ok(Err(NetError::Dns(DnsError::NoRecordsFound(none))))
 }
 
-fn is_wanting(alloc: Global, verifier: &Listed, zone: &Name) -> bool {
+fn is_without_records(alloc: Global) -> Result<bool, Fail> {
+    let answer = no_records(alloc)?;
+    is_failed(alloc, &answer)
+}
+
+/// Want of memory stays it.
+fn is_wanting(alloc: Global) -> Result<bool, Fail> {
+    let verifier = verifier(alloc)?;
+    let zone = Name::from_ascii(alloc, "example.")?;
     let wanting = Err(NetError::NoMemory);
-    ds_verdict(alloc, verifier, zone, DNSClass::IN, &wanting).is_err()
+    Ok(ds_verdict(alloc, &verifier, &zone, DNSClass::IN, &wanting).is_err())
 }
 
 #[test]
 fn zones_are_bogus_where_the_ask_failed(rt: HostRuntime) -> Result<(), Fail> {
-    let verifier = verifier(rt.alloc())?;
-    let zone = Name::from_ascii(rt.alloc(), "example.")?;
-    let none = no_records(rt.alloc())?;
-    assert!(rt; is_failed(rt.alloc(), &verifier, &zone, &Err(NetError::Timeout))?);
-    assert!(rt; is_failed(rt.alloc(), &verifier, &zone, &none)?);
-    assert!(rt; is_wanting(rt.alloc(), &verifier, &zone));
+    assert!(rt; is_timed_out(rt.alloc())?);
+    assert!(rt; is_without_records(rt.alloc())?);
+    assert!(rt; is_wanting(rt.alloc())?);
     Ok(())
 }
