@@ -32,7 +32,7 @@ straight_set j tells q =
 abbrev pub is_signed_by : (Rr → Bool) → Judge → RrSet → Bool
 is_signed_by may_sign j set = list_any (λ r. list_any (λ key. may_sign key && is_good_by j set r key) set.records) set.signatures
 
--- all keys of a key set are anchored, or its signature is good by an anchored key of it
+-- what anchors alone prove of a key set: each of its keys is anchored, or one that is made a good signature over it
 abbrev pub is_anchored_set : Judge → RrSet → Bool
 is_anchored_set j set = list_all (is_anchored_key j set) set.records || is_signed_by (is_anchored_key j set) j set
 
@@ -46,8 +46,8 @@ is_proved_by_keys j set next keys r =
     && list_any (is_good_by j set r) (counted_keys sig.signer keys.records)))
     (rrsig_of r) false
 
--- the DS set of the owner comes next, which isn't the root. A key of the set, by which its signature is good, matches a DS that is
--- the first or second supported one with its algorithm and tag
+-- the DS set of the owner comes next, which isn't the root. A DS of it matches the key that made the signature; of the supported DS
+-- records with one algorithm and one tag no more than two count
 abbrev pub is_proved_by_ds : Judge → RrSet → Question → RrSet → Bool
 is_proved_by_ds j set next ds =
     not (is_root set.owner) && (question_eq (ds_question set.class set.owner) next
