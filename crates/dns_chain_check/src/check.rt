@@ -24,7 +24,8 @@ pub fn check_chain<V: Verifier>(
 ) -> Result<bool, NoMemory>
     ensures value { IfOk result (λ b. b ≡ justified (judge (V.answers verifier.now) anchors.now now) chain.now.links) }
     // Where a chain is justified, so is each chain that it begins with.
-    ensures prefixes { IfOk result (λ b. IsTrue b → PrefixesHold (judge (V.answers verifier.now) anchors.now now) chain.now.links) }
+    ensures prefixes { IfOk result (λ b. IsTrue b →
+        PrefixesHold (judge (V.answers verifier.now) anchors.now now) chain.now.links) }
     // It stays so for a verifier that accepts more, and for more anchors.
     ensures more { IfOk result (λ b. IsTrue b → HoldsForMore (V.answers verifier.now) anchors.now now chain.now.links) }
     // And the verifier accepts it by itself, whoever trusts its first keys and whenever.
