@@ -1,9 +1,10 @@
 //! `run` over sources and sinks in memory, for a row.
-use crate::worked_rows::Row;
+use crate::worked_rows::{PARTS, Row, part};
 use dns_io::{Sink, SinkFault, SureSink, SureSource, TextSink, TextSource};
 use dns_name::Octets;
 use dns_run::run;
 use std::alloc::{AllocError, Global};
+use std::test::Fail;
 
 // A sink that takes one byte a write, and fails at its second.
 #[derive(Drop)]
@@ -85,11 +86,42 @@ fn is_end(ended: &(u8, Vec<u8>), status: u8, text: &[u8]) -> bool {
     ended.0 == status && *ended.1.as_slice() == *text
 }
 
+// A row's words over a source whose numbered reads fail end so.
+fn told_ends(
+    alloc: Global,
+    row: &Row,
+    failing: &[u64],
+    status: u8,
+    text: &[u8],
+) -> Result<bool, AllocError> {
+    let ended = told_run(alloc, row.words, row.session, failing)?;
+    Ok(is_end(&ended, status, text))
+}
+
+fn sure_ends(alloc: Global, row: &Row) -> Result<bool, AllocError> {
+    let ended = sure_run(alloc, row.words, row.session)?;
+    Ok(is_end(&ended, row.status, row.text))
+}
+
+// Over a sink whose second write fails a row ends for that, with what was written before.
+fn slow_ends(alloc: Global, row: &Row) -> Result<bool, AllocError> {
+    let ended = slow_run(alloc, row.words, row.session)?;
+    Ok(is_end(&ended, 5, row.text.get(..1).unwrap_or_default()))
+}
+
 // Both kinds of source and sink end as the row says.
-pub(crate) fn ends_so(alloc: Global, row: &Row) -> Result<bool, AllocError> {
-    let told = told_run(alloc, row.words, row.session, &[])?;
-    let sure = sure_run(alloc, row.words, row.session)?;
-    Ok(is_end(&told, row.status, row.text) && is_end(&sure, row.status, row.text))
+fn ends_so(alloc: Global, row: &Row) -> Result<bool, AllocError> {
+    Ok(told_ends(alloc, row, &[], row.status, row.text)? && sure_ends(alloc, row)?)
+}
+
+#[test]
+fn rows_end_as_they_say(rt: HostRuntime) -> Result<(), Fail> {
+    for number in 1..=PARTS {
+        for row in part(number) {
+            assert!(rt; ends_so(rt.alloc(), row)?, "{}", row.name);
+        }
+    }
+    Ok(())
 }
 
 // The words ask for a session to be read.
@@ -97,17 +129,33 @@ fn is_reading(words: &[&str]) -> bool {
     words == ["validate"].as_slice() || words == ["validate", "trail"].as_slice()
 }
 
-// Over a sink whose second write fails a row ends for that, with what was written before; over a source whose first or second
-// read fails it ends for that, if its words ask for a reading.
-pub(crate) fn fails_so(alloc: Global, row: &Row) -> Result<bool, AllocError> {
-    let slow = slow_run(alloc, row.words, row.session)?;
-    let is_slow = is_end(&slow, 5, row.text.get(..1).unwrap_or_default());
-    let unread = told_run(alloc, row.words, row.session, &[0])?;
-    if !is_reading(row.words) {
-        return Ok(is_slow && is_end(&unread, row.status, row.text));
+// Over a source whose first or second read fails a row ends for that; no bytes are read by one read.
+fn breaks_so(alloc: Global, row: &Row) -> Result<bool, AllocError> {
+    Ok(
+        told_ends(alloc, row, &[0], 4, b"")?
+            && (row.session.is_empty() || told_ends(alloc, row, &[1], 4, b"")?),
+    )
+}
+
+// Over a source whose reads fail a row ends for that if its words ask for a reading, and else as it says.
+fn fails_so(alloc: Global, row: &Row) -> Result<bool, AllocError> {
+    if is_reading(row.words) {
+        breaks_so(alloc, row)
+    } else {
+        told_ends(alloc, row, &[0], row.status, row.text)
     }
-    // no bytes are read by one read
-    let broken = told_run(alloc, row.words, row.session, &[1])?;
-    let is_broken = row.session.is_empty() || is_end(&broken, 4, b"");
-    Ok(is_slow && is_end(&unread, 4, b"") && is_broken)
+}
+
+#[test]
+fn rows_end_where_the_outside_fails(rt: HostRuntime) -> Result<(), Fail> {
+    for number in 1..=PARTS {
+        for row in part(number) {
+            assert!(rt;
+                slow_ends(rt.alloc(), row)? && fails_so(rt.alloc(), row)?,
+                "{}",
+                row.name
+            );
+        }
+    }
+    Ok(())
 }

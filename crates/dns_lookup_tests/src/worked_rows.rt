@@ -1,6 +1,4 @@
 //! The rows of `rows/`, as `tools/rows_as_tests` makes them: change those, and not this file.
-use crate::run_tests::{ends_so, fails_so};
-use std::test::Fail;
 
 /// Words, a session, and how `run` ends over them.
 pub(crate) struct Row {
@@ -91,20 +89,8 @@ const ROWS_1: [Row; 11] = [
     },
 ];
 
-#[test]
-fn rows_of_part_1_end_as_they_say(rt: HostRuntime) -> Result<(), Fail> {
-    for row in &ROWS_1 {
-        assert!(rt; ends_so(rt.alloc(), row)?, "{}", row.name);
-    }
-    Ok(())
-}
-
-#[test]
-fn rows_of_part_1_end_where_the_outside_fails(rt: HostRuntime) -> Result<(), Fail> {
-    for row in &ROWS_1 {
-        assert!(rt; fails_so(rt.alloc(), row)?, "{}", row.name);
-    }
-    Ok(())
+fn part_1() -> &'static [Row] {
+    &ROWS_1
 }
 
 const ROWS_2: [Row; 6] = [
@@ -152,20 +138,8 @@ const ROWS_2: [Row; 6] = [
     },
 ];
 
-#[test]
-fn rows_of_part_2_end_as_they_say(rt: HostRuntime) -> Result<(), Fail> {
-    for row in &ROWS_2 {
-        assert!(rt; ends_so(rt.alloc(), row)?, "{}", row.name);
-    }
-    Ok(())
-}
-
-#[test]
-fn rows_of_part_2_end_where_the_outside_fails(rt: HostRuntime) -> Result<(), Fail> {
-    for row in &ROWS_2 {
-        assert!(rt; fails_so(rt.alloc(), row)?, "{}", row.name);
-    }
-    Ok(())
+fn part_2() -> &'static [Row] {
+    &ROWS_2
 }
 
 const ROWS_3: [Row; 20] = [
@@ -311,20 +285,8 @@ const ROWS_3: [Row; 20] = [
     },
 ];
 
-#[test]
-fn rows_of_part_3_end_as_they_say(rt: HostRuntime) -> Result<(), Fail> {
-    for row in &ROWS_3 {
-        assert!(rt; ends_so(rt.alloc(), row)?, "{}", row.name);
-    }
-    Ok(())
-}
-
-#[test]
-fn rows_of_part_3_end_where_the_outside_fails(rt: HostRuntime) -> Result<(), Fail> {
-    for row in &ROWS_3 {
-        assert!(rt; fails_so(rt.alloc(), row)?, "{}", row.name);
-    }
-    Ok(())
+fn part_3() -> &'static [Row] {
+    &ROWS_3
 }
 
 const ROWS_4: [Row; 8] = [
@@ -386,20 +348,8 @@ const ROWS_4: [Row; 8] = [
     },
 ];
 
-#[test]
-fn rows_of_part_4_end_as_they_say(rt: HostRuntime) -> Result<(), Fail> {
-    for row in &ROWS_4 {
-        assert!(rt; ends_so(rt.alloc(), row)?, "{}", row.name);
-    }
-    Ok(())
-}
-
-#[test]
-fn rows_of_part_4_end_where_the_outside_fails(rt: HostRuntime) -> Result<(), Fail> {
-    for row in &ROWS_4 {
-        assert!(rt; fails_so(rt.alloc(), row)?, "{}", row.name);
-    }
-    Ok(())
+fn part_4() -> &'static [Row] {
+    &ROWS_4
 }
 
 const ROWS_5: [Row; 11] = [
@@ -482,20 +432,8 @@ const ROWS_5: [Row; 11] = [
     },
 ];
 
-#[test]
-fn rows_of_part_5_end_as_they_say(rt: HostRuntime) -> Result<(), Fail> {
-    for row in &ROWS_5 {
-        assert!(rt; ends_so(rt.alloc(), row)?, "{}", row.name);
-    }
-    Ok(())
-}
-
-#[test]
-fn rows_of_part_5_end_where_the_outside_fails(rt: HostRuntime) -> Result<(), Fail> {
-    for row in &ROWS_5 {
-        assert!(rt; fails_so(rt.alloc(), row)?, "{}", row.name);
-    }
-    Ok(())
+fn part_5() -> &'static [Row] {
+    &ROWS_5
 }
 
 const ROWS_6: [Row; 18] = [
@@ -627,20 +565,8 @@ const ROWS_6: [Row; 18] = [
     },
 ];
 
-#[test]
-fn rows_of_part_6_end_as_they_say(rt: HostRuntime) -> Result<(), Fail> {
-    for row in &ROWS_6 {
-        assert!(rt; ends_so(rt.alloc(), row)?, "{}", row.name);
-    }
-    Ok(())
-}
-
-#[test]
-fn rows_of_part_6_end_where_the_outside_fails(rt: HostRuntime) -> Result<(), Fail> {
-    for row in &ROWS_6 {
-        assert!(rt; fails_so(rt.alloc(), row)?, "{}", row.name);
-    }
-    Ok(())
+fn part_6() -> &'static [Row] {
+    &ROWS_6
 }
 
 const ROWS_7: [Row; 15] = [
@@ -751,20 +677,8 @@ const ROWS_7: [Row; 15] = [
     },
 ];
 
-#[test]
-fn rows_of_part_7_end_as_they_say(rt: HostRuntime) -> Result<(), Fail> {
-    for row in &ROWS_7 {
-        assert!(rt; ends_so(rt.alloc(), row)?, "{}", row.name);
-    }
-    Ok(())
-}
-
-#[test]
-fn rows_of_part_7_end_where_the_outside_fails(rt: HostRuntime) -> Result<(), Fail> {
-    for row in &ROWS_7 {
-        assert!(rt; fails_so(rt.alloc(), row)?, "{}", row.name);
-    }
-    Ok(())
+fn part_7() -> &'static [Row] {
+    &ROWS_7
 }
 
 const ROWS_8: [Row; 9] = [
@@ -833,20 +747,8 @@ const ROWS_8: [Row; 9] = [
     },
 ];
 
-#[test]
-fn rows_of_part_8_end_as_they_say(rt: HostRuntime) -> Result<(), Fail> {
-    for row in &ROWS_8 {
-        assert!(rt; ends_so(rt.alloc(), row)?, "{}", row.name);
-    }
-    Ok(())
-}
-
-#[test]
-fn rows_of_part_8_end_where_the_outside_fails(rt: HostRuntime) -> Result<(), Fail> {
-    for row in &ROWS_8 {
-        assert!(rt; fails_so(rt.alloc(), row)?, "{}", row.name);
-    }
-    Ok(())
+fn part_8() -> &'static [Row] {
+    &ROWS_8
 }
 
 const ROWS_9: [Row; 11] = [
@@ -929,20 +831,8 @@ const ROWS_9: [Row; 11] = [
     },
 ];
 
-#[test]
-fn rows_of_part_9_end_as_they_say(rt: HostRuntime) -> Result<(), Fail> {
-    for row in &ROWS_9 {
-        assert!(rt; ends_so(rt.alloc(), row)?, "{}", row.name);
-    }
-    Ok(())
-}
-
-#[test]
-fn rows_of_part_9_end_where_the_outside_fails(rt: HostRuntime) -> Result<(), Fail> {
-    for row in &ROWS_9 {
-        assert!(rt; fails_so(rt.alloc(), row)?, "{}", row.name);
-    }
-    Ok(())
+fn part_9() -> &'static [Row] {
+    &ROWS_9
 }
 
 const ROWS_10: [Row; 6] = [
@@ -990,20 +880,8 @@ const ROWS_10: [Row; 6] = [
     },
 ];
 
-#[test]
-fn rows_of_part_10_end_as_they_say(rt: HostRuntime) -> Result<(), Fail> {
-    for row in &ROWS_10 {
-        assert!(rt; ends_so(rt.alloc(), row)?, "{}", row.name);
-    }
-    Ok(())
-}
-
-#[test]
-fn rows_of_part_10_end_where_the_outside_fails(rt: HostRuntime) -> Result<(), Fail> {
-    for row in &ROWS_10 {
-        assert!(rt; fails_so(rt.alloc(), row)?, "{}", row.name);
-    }
-    Ok(())
+fn part_10() -> &'static [Row] {
+    &ROWS_10
 }
 
 const ROWS_11: [Row; 9] = [
@@ -1072,20 +950,8 @@ const ROWS_11: [Row; 9] = [
     },
 ];
 
-#[test]
-fn rows_of_part_11_end_as_they_say(rt: HostRuntime) -> Result<(), Fail> {
-    for row in &ROWS_11 {
-        assert!(rt; ends_so(rt.alloc(), row)?, "{}", row.name);
-    }
-    Ok(())
-}
-
-#[test]
-fn rows_of_part_11_end_where_the_outside_fails(rt: HostRuntime) -> Result<(), Fail> {
-    for row in &ROWS_11 {
-        assert!(rt; fails_so(rt.alloc(), row)?, "{}", row.name);
-    }
-    Ok(())
+fn part_11() -> &'static [Row] {
+    &ROWS_11
 }
 
 const ROWS_12: [Row; 6] = [
@@ -1133,18 +999,28 @@ const ROWS_12: [Row; 6] = [
     },
 ];
 
-#[test]
-fn rows_of_part_12_end_as_they_say(rt: HostRuntime) -> Result<(), Fail> {
-    for row in &ROWS_12 {
-        assert!(rt; ends_so(rt.alloc(), row)?, "{}", row.name);
-    }
-    Ok(())
+fn part_12() -> &'static [Row] {
+    &ROWS_12
 }
 
-#[test]
-fn rows_of_part_12_end_where_the_outside_fails(rt: HostRuntime) -> Result<(), Fail> {
-    for row in &ROWS_12 {
-        assert!(rt; fails_so(rt.alloc(), row)?, "{}", row.name);
+/// How many parts there are.
+pub(crate) const PARTS: usize = 12;
+
+/// The rows of a part, by its number from 1.
+pub(crate) fn part(number: usize) -> &'static [Row] {
+    match number {
+        1 => part_1(),
+        2 => part_2(),
+        3 => part_3(),
+        4 => part_4(),
+        5 => part_5(),
+        6 => part_6(),
+        7 => part_7(),
+        8 => part_8(),
+        9 => part_9(),
+        10 => part_10(),
+        11 => part_11(),
+        12 => part_12(),
+        _ => &[],
     }
-    Ok(())
 }
