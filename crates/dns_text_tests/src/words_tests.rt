@@ -1,131 +1,191 @@
 use dns_record::{DNSClass, RecordType};
 use dns_words::*;
+use std::alloc::Global;
 use std::test::Fail;
 
+/// A number, and its word.
+type Named = (u16, &'static str);
+
+const TYPES: [Named; 30] = [
+    (1, "A"),
+    (28, "AAAA"),
+    (2, "NS"),
+    (5, "CNAME"),
+    (12, "PTR"),
+    (39, "DNAME"),
+    (6, "SOA"),
+    (15, "MX"),
+    (18, "AFSDB"),
+    (21, "RT"),
+    (36, "KX"),
+    (17, "RP"),
+    (26, "PX"),
+    (33, "SRV"),
+    (35, "NAPTR"),
+    (43, "DS"),
+    (46, "RRSIG"),
+    (47, "NSEC"),
+    (48, "DNSKEY"),
+    (50, "NSEC3"),
+    (16, "TXT"),
+    (41, "OPT"),
+    (51, "NSEC3PARAM"),
+    (251, "IXFR"),
+    (252, "AXFR"),
+    (255, "ANY"),
+    (0, "TYPE0"),
+    (3, "TYPE3"),
+    (257, "TYPE257"),
+    (65535, "TYPE65535"),
+];
+
+/// A type is printed as this word, and read from it.
+fn is_type(alloc: Global, number: u16, word: &str) -> Result<bool, Fail> {
+    let mut text = Vec::new(alloc);
+    push_type(&mut text, RecordType(number))?;
+    Ok(text.as_slice() == word.as_bytes())
+}
+
+fn reads_type(number: u16, word: &str) -> bool {
+    type_word_in(word.as_bytes()) == Some(RecordType(number))
+}
+
 #[test]
-fn words_of_types_and_classes(rt: HostRuntime) -> Result<(), Fail> {
-    let alloc = rt.alloc();
-    let types: [(u16, &str); 30] = [
-        (1, "A"),
-        (28, "AAAA"),
-        (2, "NS"),
-        (5, "CNAME"),
-        (12, "PTR"),
-        (39, "DNAME"),
-        (6, "SOA"),
-        (15, "MX"),
-        (18, "AFSDB"),
-        (21, "RT"),
-        (36, "KX"),
-        (17, "RP"),
-        (26, "PX"),
-        (33, "SRV"),
-        (35, "NAPTR"),
-        (43, "DS"),
-        (46, "RRSIG"),
-        (47, "NSEC"),
-        (48, "DNSKEY"),
-        (50, "NSEC3"),
-        (16, "TXT"),
-        (41, "OPT"),
-        (51, "NSEC3PARAM"),
-        (251, "IXFR"),
-        (252, "AXFR"),
-        (255, "ANY"),
-        (0, "TYPE0"),
-        (3, "TYPE3"),
-        (257, "TYPE257"),
-        (65535, "TYPE65535"),
-    ];
-    for (number, word) in types {
-        let mut text = Vec::new(alloc);
-        push_type(&mut text, RecordType(number))?;
-        assert!(rt; text.as_slice() == word.as_bytes(), "{word}");
+fn words_of_types(rt: HostRuntime) -> Result<(), Fail> {
+    for (number, word) in &TYPES {
         assert!(rt;
-            type_word_in(word.as_bytes()) == Some(RecordType(number)),
+            is_type(rt.alloc(), *number, word)? && reads_type(*number, word),
             "{word}"
         );
-    }
-    let classes: [(u16, &str); 7] = [
-        (1, "IN"),
-        (3, "CH"),
-        (4, "HS"),
-        (254, "NONE"),
-        (255, "ANY"),
-        (2, "CLASS2"),
-        (65535, "CLASS65535"),
-    ];
-    for (number, word) in classes {
-        let mut text = Vec::new(alloc);
-        push_class(&mut text, DNSClass(number))?;
-        assert!(rt; text.as_slice() == word.as_bytes(), "{word}");
-        assert!(rt;
-            class_word_in(word.as_bytes()) == Some(DNSClass(number)),
-            "{word}"
-        );
-    }
-    let none: [&str; 10] = [
-        "",
-        "a",
-        "Ns",
-        "TYPE",
-        "TYPE1",
-        "TYPE03",
-        "TYPE65536",
-        "type3",
-        "TYPE 3",
-        "AA",
-    ];
-    for word in none {
-        assert!(rt; type_word_in(word.as_bytes()) == None, "{word}");
-    }
-    let none: [&str; 5] = ["", "in", "CLASS1", "CLASS", "CLASS255"];
-    for word in none {
-        assert!(rt; class_word_in(word.as_bytes()) == None, "{word}");
     }
     Ok(())
 }
 
+const CLASSES: [Named; 7] = [
+    (1, "IN"),
+    (3, "CH"),
+    (4, "HS"),
+    (254, "NONE"),
+    (255, "ANY"),
+    (2, "CLASS2"),
+    (65535, "CLASS65535"),
+];
+
+fn is_class(alloc: Global, number: u16, word: &str) -> Result<bool, Fail> {
+    let mut text = Vec::new(alloc);
+    push_class(&mut text, DNSClass(number))?;
+    Ok(text.as_slice() == word.as_bytes())
+}
+
+fn reads_class(number: u16, word: &str) -> bool {
+    class_word_in(word.as_bytes()) == Some(DNSClass(number))
+}
+
 #[test]
-fn words_of_numbers_bytes_and_names(rt: HostRuntime) -> Result<(), Fail> {
-    let alloc = rt.alloc();
+fn words_of_classes(rt: HostRuntime) -> Result<(), Fail> {
+    for (number, word) in &CLASSES {
+        assert!(rt;
+            is_class(rt.alloc(), *number, word)? && reads_class(*number, word),
+            "{word}"
+        );
+    }
+    Ok(())
+}
+
+const NO_TYPES: [&str; 10] = [
+    "",
+    "a",
+    "Ns",
+    "TYPE",
+    "TYPE1",
+    "TYPE03",
+    "TYPE65536",
+    "type3",
+    "TYPE 3",
+    "AA",
+];
+
+const NO_CLASSES: [&str; 5] = ["", "in", "CLASS1", "CLASS", "CLASS255"];
+
+#[test]
+fn words_of_no_type_and_no_class(rt: HostRuntime) {
+    for word in &NO_TYPES {
+        assert!(rt; type_word_in(word.as_bytes()) == None, "{word}");
+    }
+    for word in &NO_CLASSES {
+        assert!(rt; class_word_in(word.as_bytes()) == None, "{word}");
+    }
+}
+
+#[test]
+fn words_of_numbers(rt: HostRuntime) {
     assert!(rt; u8_in(b"255") == Some(255));
     assert!(rt; u8_in(b"256") == None);
     assert!(rt; u16_in(b"65535") == Some(65535));
     assert!(rt; decimal_in(b"18446744073709551615", u64::MAX) == Some(u64::MAX));
     assert!(rt; decimal_in(b"18446744073709551616", u64::MAX) == None);
-    let bytes: [(&str, &[u8], &str); 3] = [
-        ("-", b"", "-"),
-        ("00fF", b"\x00\xff", "00ff"),
-        ("C0de", b"\xc0\xde", "c0de"),
-    ];
-    for (word, want, printed) in bytes {
-        let Some(octets) = octets_in(alloc, word.as_bytes())? else {
-            return Err(Fail::new(word));
-        };
-        assert!(rt; octets.as_slice() == want, "{word}");
-        let mut text = Vec::new(alloc);
-        push_octets(&mut text, want)?;
-        assert!(rt; text.as_slice() == printed.as_bytes(), "{word}");
+}
+
+/// A word, the bytes that it stands for, and the word that they are printed as.
+type Written = (&'static str, &'static [u8], &'static str);
+
+const BYTES: [Written; 3] = [
+    ("-", b"", "-"),
+    ("00fF", b"\x00\xff", "00ff"),
+    ("C0de", b"\xc0\xde", "c0de"),
+];
+
+/// The word stands for these bytes, or for none.
+fn reads_octets(alloc: Global, word: &str, want: Option<&[u8]>) -> Result<bool, Fail> {
+    match octets_in(alloc, word.as_bytes())? {
+        Some(octets) => Ok(want == Some(octets.as_slice())),
+        None => Ok(want.is_none()),
     }
-    let none: [&str; 5] = ["", "0", "abc", "--", "0x"];
-    for word in none {
-        assert!(rt;
-            matches!(&octets_in(alloc, word.as_bytes())?, None),
-            "{word}"
-        );
+}
+
+fn prints_octets(alloc: Global, bytes: &[u8], word: &str) -> Result<bool, Fail> {
+    let mut text = Vec::new(alloc);
+    push_octets(&mut text, bytes)?;
+    Ok(text.as_slice() == word.as_bytes())
+}
+
+#[test]
+fn words_of_bytes(rt: HostRuntime) -> Result<(), Fail> {
+    for (word, want, printed) in &BYTES {
+        assert!(rt; reads_octets(rt.alloc(), word, Some(want))?, "{word}");
+        assert!(rt; prints_octets(rt.alloc(), want, printed)?, "{word}");
     }
-    let names: [(&str, bool); 6] = [
-        (".", true),
-        ("www.example", true),
-        ("a\\.b\\009.C.", true),
-        ("", false),
-        ("a..b", false),
-        ("a\\256", false),
-    ];
-    for (word, is_name) in names {
-        let name = name_in(alloc, word.as_bytes())?;
-        assert_eq!(rt; matches!(&name, Some(_)), is_name, "{word}");
+    Ok(())
+}
+
+const NO_BYTES: [&str; 5] = ["", "0", "abc", "--", "0x"];
+
+#[test]
+fn words_of_no_bytes(rt: HostRuntime) -> Result<(), Fail> {
+    for word in &NO_BYTES {
+        assert!(rt; reads_octets(rt.alloc(), word, None)?, "{word}");
+    }
+    Ok(())
+}
+
+/// A word, and whether it is a name.
+const NAMES: [(&str, bool); 6] = [
+    (".", true),
+    ("www.example", true),
+    ("a\\.b\\009.C.", true),
+    ("", false),
+    ("a..b", false),
+    ("a\\256", false),
+];
+
+fn is_name(alloc: Global, word: &str) -> Result<bool, Fail> {
+    Ok(name_in(alloc, word.as_bytes())?.is_some())
+}
+
+#[test]
+fn words_of_names(rt: HostRuntime) -> Result<(), Fail> {
+    for (word, want) in &NAMES {
+        assert!(rt; is_name(rt.alloc(), word)? == *want, "{word}");
     }
     Ok(())
 }
