@@ -21,6 +21,7 @@ returns g c =
     let yes : has_order t ≡ true = search rules in
     ok_map c.steps_hold.result
     (λ b h.
-    h ∙ ap (λ n. steps_hold j n [] c.trail.inside.steps.items) c.limit_of.ensures ∙ ap (steps_hold j (depth_limit c.args.limits.now.depth) []) c.trail.view_is
+    h ∙ ap (λ n. steps_hold j n [] c.deref-2.result.now) c.limit_of.ensures
+    ∙ ap (steps_hold j (depth_limit c.args.limits.now.depth) []) (c.deref-2.ensures.value ∙ c.trail.view_is)
     ∙ sym (derivation_by_order j c.args.limits.now.depth t ∙ ap (λ b. b && steps_hold j (depth_limit c.args.limits.now.depth) [] t) yes))
     c.steps_hold.ensures
