@@ -1,0 +1,154 @@
+//! What the checks say of a response (RFC 4035, 4.3, 5.2 and 5.3).
+ghost use Rattle.std.specs.Prelude.{◌≡◌, IfOk};
+ghost use Rattle.dns_trust.specs.Judge.{judge_of};
+ghost use Rattle.dns_net.specs.Replies.{reply_of};
+ghost use Rattle.dns_audit_trial.specs.Audits.{audited_by, response_in as response_of, session_audited, with_chain, with_chains, Responds};
+
+use dns_chain_check::check_chain;
+use dns_name::NoMemory;
+use dns_net::{Chain, DnsError, DnsResponse, NetError, Verifier};
+use dns_run::{session_anchors, session_answer, session_options, session_verifier};
+use dns_session::Session;
+use dns_trail::check_trail;
+use dns_trust::{Judge, Limits};
+use std::alloc::Global;
+
+/// What the checks say of a response. A count stops at the greatest `u64`.
+#[derive(Clone, Copy, Debug, PartialEq, Eq)]
+pub struct Audited {
+    /// How many of the chains are justified.
+    pub justified: u64,
+    pub chains: u64,
+    /// The trail is a derivation.
+    pub is_derived: bool,
+}
+
+// The count, with a chain if it is justified.
+fn counted<V: Verifier>(
+    alloc: Global,
+    judge: &Judge<'_, V>,
+    count: u64,
+    chain: &Chain,
+) -> Result<u64, NoMemory>
+    ensures { IfOk result (λ n. n ≡ with_chain (judge_of V.answers judge.now) count chain.now) }
+{
+    if check_chain(alloc, judge.anchors, judge.verifier, judge.moment, chain)? {
+        Ok(count.saturating_add(1))
+    } else {
+        Ok(count)
+    }
+}
+
+// How many of some chains are justified.
+#[tactic(auto, unfolding(crate::specs::Audits::with_chains))]
+fn count_justified<V: Verifier>(
+    alloc: Global,
+    judge: &Judge<'_, V>,
+    chains: &[Chain],
+) -> Result<u64, NoMemory>
+    ensures { IfOk result (λ n. n ≡ with_chains (judge_of V.answers judge.now) 0 chains.now) }
+{
+    let mut count: u64 = 0;
+    let mut left = chains;
+    'chains: while let Some((chain, more)) = left.split_first() {
+        count = counted(alloc, judge, count, chain)?;
+        left = more;
+    }
+    Ok(count)
+}
+
+// What the checks say of a response, where asks go so deep.
+fn checked<V: Verifier>(
+    alloc: Global,
+    judge: &Judge<'_, V>,
+    depth: u16,
+    response: &DnsResponse,
+) -> Result<Audited, NoMemory>
+    ensures { IfOk result (λ a. a ≡ audited_by (judge_of V.answers judge.now) depth response.now) }
+{
+    let limits = Limits {
+        depth,
+        soft: 0,
+        hard: 0,
+    };
+    let justified = count_justified(alloc, judge, &response.chains)?;
+    let is_derived = check_trail(
+        alloc,
+        judge.anchors,
+        judge.verifier,
+        judge.moment,
+        &limits,
+        &response.trail,
+    )?;
+    Ok(Audited {
+        justified,
+        chains: response.chains.len() as u64,
+        is_derived,
+    })
+}
+
+// The same, checked once and so many times more.
+fn checked_again<V: Verifier>(
+    alloc: Global,
+    judge: &Judge<'_, V>,
+    depth: u16,
+    response: &DnsResponse,
+    more: u32,
+) -> Result<Audited, NoMemory>
+    ensures { IfOk result (λ a. a ≡ audited_by (judge_of V.answers judge.now) depth response.now) }
+{
+    let mut found = checked(alloc, judge, depth, response)?;
+    let mut left = more;
+    'times: while left > 0 {
+        found = checked(alloc, judge, depth, response)?;
+        left -= 1;
+    }
+    Ok(found)
+}
+
+/// What the checks say of a response to a session, by what the session trusts: checked once and so many times more.
+pub(crate) fn session_audited(
+    alloc: Global,
+    session: Session,
+    response: &DnsResponse,
+    more: u32,
+) -> Result<Audited, NoMemory>
+    ensures { IfOk result (λ a. a ≡ session_audited session response.now) }
+{
+    let depth = session_options(session.depth).max_request_depth;
+    let verifier = session_verifier(alloc, &session.algorithms, session.accepts)?;
+    let anchors = session_anchors(alloc, session.anchors)?;
+    let judge = Judge {
+        verifier: &verifier,
+        anchors: &anchors,
+        moment: session.moment,
+    };
+    checked_again(alloc, &judge, depth, response, more)
+}
+
+// The response that an answer has: an Ok one, or that inside a denial.
+fn response_in(answer: Result<DnsResponse, NetError>) -> Result<Option<DnsResponse>, NoMemory>
+    ensures { IfOk result (λ r. r ≡ response_of (reply_of answer)) }
+{
+    match answer {
+        Ok(response) => Ok(Some(response)),
+        Err(
+            NetError::Dns(
+                DnsError::Nsec {
+                    query: _,
+                    response,
+                    proof: _,
+                },
+            ),
+        ) => Ok(Some(Box::into_inner(response))),
+        Err(NetError::NoMemory) => Err(NoMemory),
+        Err(_) => Ok(None),
+    }
+}
+
+/// The response to a session; none where its lookup has none.
+pub(crate) fn response_to(alloc: Global, session: Session) -> Result<Option<DnsResponse>, NoMemory>
+    ensures { IfOk result (λ r. Responds session r) }
+{
+    response_in(session_answer(alloc, session))
+}

@@ -1,0 +1,154 @@
+//! The program over any source and any sink.
+ghost use Rattle.std.specs.Prelude.{ℕ, ◌≡◌, ◌≢◌, ◌<◌, ◌≤◌, length, Some, IfOk, IfSome};
+ghost use Rattle.std.specs.Result.{result_ok};
+ghost use Rattle.dns_model.specs.Counts.{Rose};
+ghost use Rattle.dns_io.specs.Reading.{input_limit, IsEnded};
+ghost use Rattle.dns_session.specs.Grammar.{session_of};
+ghost use Rattle.dns_audit_trial.specs.Forms.{asked_form};
+ghost use Rattle.dns_audit_trial.specs.Endings.{Audits, ComesTo, EndsAs};
+ghost use Rattle.dns_audit_trial.specs.declared.form.Form.TheVariants.{Audit};
+
+use crate::audit::{response_to, session_audited};
+use crate::form::{Form, form_of};
+use crate::growth::is_long_chain_justified;
+use crate::texts::{audit_text, truth_line};
+use dns_io::{ReadStop, Sink, SinkFault, Source, read_all, write_all};
+use dns_name::NoMemory;
+use dns_session::{Session, SessionStop, read_session};
+use std::alloc::Global;
+
+// The session that bytes are.
+fn session_in(alloc: Global, bytes: &[u8]) -> Result<Option<Session>, NoMemory>
+    requires { length bytes.now ≤ input_limit }
+    ensures { IfOk result (λ s. s ≡ result_ok (session_of bytes.now)) }
+{
+    match read_session(alloc, bytes) {
+        Ok(session) => Ok(Some(session)),
+        Err(SessionStop::BadLine(_)) => Ok(None),
+        Err(SessionStop::NoMemory) => Err(NoMemory),
+    }
+}
+
+// The line of an audit. A lookup uses its session up, so that the checks have a second one.
+fn session_text(
+    alloc: Global,
+    session: Session,
+    same: Session,
+    more: u32,
+) -> Result<Vec<u8>, NoMemory>
+    requires { same ≡ session }
+    ensures { IfOk result (λ text. Audits session text.items) }
+{
+    match response_to(alloc, session)? {
+        Some(response) => {
+            let audited = session_audited(alloc, same, &response, more)?;
+            audit_text(alloc, Some(audited))
+        }
+        None => audit_text(alloc, None),
+    }
+}
+
+// The status and the text that bytes come to.
+fn ending(alloc: Global, more: u32, bytes: &[u8]) -> Result<(u8, Vec<u8>), NoMemory>
+    requires { length bytes.now ≤ input_limit }
+    ensures value { IfOk result (λ x. ComesTo (session_of bytes.now) x.0 x.1.items) }
+    ensures status { IfOk result (λ x. x.0 < 4) }
+{
+    let session = session_in(alloc, bytes)?;
+    let same = session_in(alloc, bytes)?;
+    match (session, same) {
+        (Some(session), Some(same)) => {
+            let text = session_text(alloc, session, same, more)?;
+            Ok((0, text))
+        }
+        _ => {
+            let text = Vec::from_slice(alloc, b"no session\n")?;
+            Ok((3, text))
+        }
+    }
+}
+
+// Writes what bytes come to.
+fn answer<W: Sink>(alloc: Global, more: u32, bytes: &[u8], output: &mut W) -> u8
+    requires { length bytes.now ≤ input_limit }
+    ensures ends { result < 4 → EndsAs (session_of bytes.now) result (W.taken output.old) (W.taken output.new) }
+    ensures read { result ≢ 4 }
+    ensures sink { result ≡ 5 → Rose (W.faults output.old) (W.faults output.new) }
+    ensures most { result ≤ 6 }
+{
+    match ending(alloc, more, bytes) {
+        Ok((status, text)) => match write_all(output, &text) {
+            Ok(()) => status,
+            Err(SinkFault::Failed) => 5,
+            Err(SinkFault::NoMemory) => 6,
+        },
+        Err(NoMemory) => 6,
+    }
+}
+
+// Reads a session, and audits the response to it.
+fn audit<S: Source, W: Sink>(alloc: Global, more: u32, input: &mut S, output: &mut W) -> u8
+    ensures ends { result < 4
+        → IfSome (S.left input.old) (λ bytes. EndsAs (session_of bytes) result (W.taken output.old) (W.taken output.new)) }
+    ensures ended { result < 4 → IsEnded (S.left input.old) (S.left input.new) }
+    ensures source { result ≡ 4 → Rose (S.faults input.old) (S.faults input.new) }
+    ensures sink { result ≡ 5 → Rose (W.faults output.old) (W.faults output.new) }
+    ensures long { result ≡ 7 → IfSome (S.left input.old) (λ bytes. input_limit < length bytes) }
+    ensures most { result ≤ 7 }
+{
+    match read_all(alloc, input) {
+        Ok(bytes) => answer(alloc, more, &bytes, output),
+        Err(ReadStop::Failed) => 4,
+        Err(ReadStop::TooLong) => 7,
+        Err(ReadStop::NoMemory) => 6,
+    }
+}
+
+// Writes a text, and answers the status that is given, or why it wasn't written.
+fn write_text<W: Sink>(status: u8, text: &[u8], output: &mut W) -> u8
+    ensures most { status ≤ 7 → result ≤ 7 }
+{
+    match write_all(output, text) {
+        Ok(()) => status,
+        Err(SinkFault::Failed) => 5,
+        Err(SinkFault::NoMemory) => 6,
+    }
+}
+
+// Checks a chain of so many signed links, and writes whether it is justified.
+fn check_long_chain<W: Sink>(alloc: Global, signed: u32, output: &mut W) -> u8
+    ensures most { result ≤ 7 }
+{
+    match is_long_chain_justified(alloc, signed) {
+        Ok(justified) => write_text(0, truth_line(justified), output),
+        Err(NoMemory) => 6,
+    }
+}
+
+/// Runs the program with its words, those after its name, and answers its status.
+///
+/// Without words it looks up what a session asks for, and writes what the checks say of the response: how many of its chains are
+/// justified and whether its trail is a derivation, by what the session trusts, or `none` where the lookup has no response. `again
+/// TIMES` checks the response so many times more. `chains LINKS` reads nothing, and writes whether a chain with so many signed links
+/// is justified.
+///
+/// 0: the line is written. 2: the words are no form. 3: the input is no session. 4: a read failed. 5: a write failed. 6: memory ran
+/// out. 7: the input has more than 16,777,216 bytes.
+pub(crate) fn run<S: Source, W: Sink>(
+    alloc: Global,
+    words: &[Vec<u8>],
+    input: &mut S,
+    output: &mut W,
+) -> u8
+    ensures ends { (more : ℕ) → asked_form words.now ≡ Some (Audit more) → result < 4
+        → IfSome (S.left input.old) (λ bytes. EndsAs (session_of bytes) result (W.taken output.old) (W.taken output.new)) }
+    ensures ended { (more : ℕ) → asked_form words.now ≡ Some (Audit more) → result < 4
+        → IsEnded (S.left input.old) (S.left input.new) }
+    ensures most { result ≤ 7 }
+{
+    match form_of(words) {
+        Some(Form::Audit(more)) => audit(alloc, more, input, output),
+        Some(Form::Chains(signed)) => check_long_chain(alloc, signed, output),
+        None => write_text(2, b"bad words\n", output),
+    }
+}
