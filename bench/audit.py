@@ -1,5 +1,5 @@
 #!/usr/bin/env python3
-"""Growth of the checks of chains and of trails, on a stack of 8 MiB: seconds, and the most memory.
+"""Growth of the checks of chains and of trails, on a stack of 8 MiB: processor seconds, and the most memory.
 
     python3 bench/audit.py [PROGRAM]
 
@@ -13,7 +13,6 @@ import resource
 import subprocess
 import sys
 import tempfile
-import time
 
 import sessions
 from sessions import DNSKEY, END, HEAD, RRSIG, TOP
@@ -49,17 +48,16 @@ def small_stack():
 
 
 def run(path, words, text):
-    """Seconds of the best of some runs, the most MiB of one, and what each wrote."""
+    """Processor seconds of the best of some runs, the most MiB of one, and what each wrote."""
     best, most, wrote = float("inf"), 0, b""
     for _ in range(RUNS):
         with tempfile.TemporaryFile() as source, tempfile.TemporaryFile() as sink:
             source.write(text)
             source.seek(0)
-            start = time.perf_counter()
             child = subprocess.Popen([path, *words], stdin=source, stdout=sink, preexec_fn=small_stack)
             _, status, usage = os.wait4(child.pid, 0)
             child.returncode = os.waitstatus_to_exitcode(status)
-            best, most = min(best, time.perf_counter() - start), max(most, usage.ru_maxrss)
+            best, most = min(best, usage.ru_utime + usage.ru_stime), max(most, usage.ru_maxrss)
             sink.seek(0)
             wrote = sink.read()
         if child.returncode != 0:
