@@ -5,3 +5,5 @@ pub mod EntryLemmas
 pub mod EndingLemmas
 pub mod StepLemmas
 pub mod OkLemmas
+pub mod PlaceLemmas
+pub mod IndexLemmas

@@ -4,3 +4,6 @@ pub mod Endings
 pub mod Trying
 pub mod Grounds
 pub mod Values
+pub mod Places
+pub mod SetKeys
+pub mod Indexed

@@ -76,7 +76,7 @@ fn judged_set<V: Verifier>(
     match entry.origin {
         MarkOrigin::Table => judged_by_rules(alloc, judge, grounds, placed, entry),
         MarkOrigin::Repeat(number) => {
-            let repeated = is_repeated(grounds, &placed, entry, number);
+            let repeated = is_repeated(alloc, grounds, &placed, entry, number)?;
             Ok(marked_if(alloc, repeated, placed, entry))
         }
         MarkOrigin::Cache => Ok(None),

@@ -8,6 +8,7 @@ ghost use Rattle.dns_judgement.specs.DerivationParts.{is_judged_ask, is_plain_st
 ghost use Rattle.dns_trust.specs.Verdicts.{listed};
 ghost use Rattle.dns_trail.specs.Grounds.{AreKnown};
 
+use crate::places::SetPlaces;
 use dns_net::{AskRef, Asked};
 use dns_record::Query;
 use dns_sets::ChainedSet;
@@ -26,6 +27,8 @@ pub(crate) struct Grounds<'a> {
     pub(crate) missing: &'a Option<Vec<ChainedSet>>,
     pub(crate) query: &'a Query,
     pub(crate) depth: u16,
+    /// Some entry of the trail repeats a set, so that sets have to be found.
+    pub(crate) repeats: bool,
 }
 
 /// The judged sets of a step that has ended. They have no chains: no table looks at these.
@@ -35,15 +38,20 @@ pub(crate) struct Ended {
     pub(crate) answer: Option<Vec<ChainedSet>>,
     /// The sets, where it didn't.
     pub(crate) others: Vec<ChainedSet>,
+    /// Where they stand, if some entry of the trail repeats a set.
+    pub(crate) places: Option<SetPlaces>,
 }
 
 impl Model for Ended {
     ghost use Rattle.dns_trust.specs.Verdicts.{listed};
     ghost use Rattle.dns_trail.specs.Ended.{EndedValue, ended_value};
+    ghost use Rattle.dns_trail.specs.Indexed.{MayBeIndexed};
 
     ghost Value = { EndedValue };
 
     ghost view = { λ e. ended_value (listed e.answer) e.others.items };
+
+    ghost invariant = { λ e. MayBeIndexed e.places (ended_value (listed e.answer) e.others.items).sets };
 }
 
 impl Ended {

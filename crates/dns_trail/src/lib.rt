@@ -7,6 +7,7 @@ mod check;
 mod ending;
 mod entries;
 mod grounds;
+mod places;
 mod repeats;
 mod search;
 mod steps;

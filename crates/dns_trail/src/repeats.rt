@@ -1,37 +1,46 @@
 //! Sets of which an entry says what an earlier step with the same question found of an equal one.
 
-ghost use Rattle.std.specs.Prelude.{◌≡◌, ◌&&◌, slice_get};
+ghost use Rattle.std.specs.Prelude.{◌≡◌, ◌&&◌, IfOk, slice_get};
 ghost use Rattle.std.specs.List.{list_any};
 ghost use Rattle.std.specs.Cmp.Lexicographic.{pointwise};
+ghost use Rattle.dns_judgement.specs.Chained.{bare};
 ghost use Rattle.dns_judgement.specs.Derivation.{is_empty, is_repeat as is_repeat_of, same_record as are_same};
 ghost use Rattle.dns_model.specs.Records.{question_eq};
 ghost use Rattle.dns_model.specs.SoundAnswers.{Placed};
 ghost use Rattle.dns_trail.specs.Entries.{repeats_from};
+ghost use Rattle.dns_trail.specs.Places.{passes_at};
 ghost use Rattle.dns_trail.specs.Grounds.{AreKnown};
 
 use crate::grounds::{Ended, Grounds};
-use dns_net::{Asked, JudgedSet};
+use crate::places::{SetKey, places_of};
+use dns_name::NoMemory;
+use dns_net::{Asked, JudgedSet, MarkOrigin};
 use dns_record::{Query, Record, RecordSet};
 use dns_sets::{ChainedSet, MarkedSet, PlacedSet};
+use std::alloc::Global;
 
 /// The entry asks nothing, and says what the step with a number found of an equal set for the same question.
 pub(crate) fn is_repeated(
+    alloc: Global,
     grounds: &Grounds<'_>,
     placed: &PlacedSet,
     entry: &JudgedSet,
     number: u32,
-) -> bool
+) -> Result<bool, NoMemory>
     requires known { AreKnown grounds.now }
-    ensures { result ≡ (is_empty entry.now.asked
-        && repeats_from grounds.now.query.now placed.now entry.now (slice_get grounds.now.steps.now number)) }
+    ensures { IfOk result (λ b. b ≡ (is_empty entry.now.asked
+        && repeats_from grounds.now.query.now placed.now entry.now (slice_get grounds.now.steps.now number))) }
 {
     let Some(step) = grounds.steps.get(number as usize) else {
-        return false;
+        return Ok(false);
     };
     let Some(ended) = grounds.ended.get(number as usize) else {
-        return false;
+        return Ok(false);
     };
-    entry.asked.is_empty() && asks_same(grounds.query, step) && found_alike(ended, placed, entry)
+    if !entry.asked.is_empty() || !asks_same(grounds.query, step) {
+        return Ok(false);
+    }
+    found_alike(alloc, ended, placed, entry)
 }
 
 fn asks_same(query: &Query, step: &Asked) -> bool
@@ -41,10 +50,45 @@ fn asks_same(query: &Query, step: &Asked) -> bool
 }
 
 // Some judged set of a step is equal, and the entry has its mark.
-fn found_alike(ended: &Ended, placed: &PlacedSet, entry: &JudgedSet) -> bool
-    ensures { result ≡ list_any (is_repeat_of placed.now entry.now) ended.now.sets }
+fn found_alike(
+    alloc: Global,
+    ended: &Ended,
+    placed: &PlacedSet,
+    entry: &JudgedSet,
+) -> Result<bool, NoMemory>
+    ensures { IfOk result (λ b. b ≡ list_any (is_repeat_of placed.now entry.now) ended.now.sets) }
 {
-    has_repeat(ended.sets(), placed, entry)
+    match &ended.places {
+        Some(places) => {
+            let key = SetKey::of(alloc, &placed.set)?;
+            let there = places_of(places, &key);
+            Ok(has_repeat_at(ended.sets(), there, placed, entry))
+        }
+        None => Ok(has_repeat(ended.sets(), placed, entry)),
+    }
+}
+
+// One of the sets at some places is equal.
+fn has_repeat_at(
+    sets: &[ChainedSet],
+    places: &[usize],
+    placed: &PlacedSet,
+    entry: &JudgedSet,
+) -> bool
+    ensures { result ≡ list_any (passes_at (is_repeat_of placed.now entry.now) (bare sets.now)) places.now }
+{
+    places
+        .iter()
+        .any(|place| is_repeat_at(sets, *place, placed, entry))
+}
+
+fn is_repeat_at(sets: &[ChainedSet], place: usize, placed: &PlacedSet, entry: &JudgedSet) -> bool
+    ensures { result ≡ passes_at (is_repeat_of placed.now entry.now) (bare sets.now) place }
+{
+    match sets.get(place) {
+        Some(set) => is_repeat(&placed.set, entry, &set.judged),
+        None => false,
+    }
 }
 
 fn has_repeat(sets: &[ChainedSet], placed: &PlacedSet, entry: &JudgedSet) -> bool
@@ -88,4 +132,17 @@ fn same_record(one: &Record, other: &Record) -> bool
         && one.record_type == other.record_type
         && one.dns_class == other.dns_class
         && one.rdata == other.rdata
+}
+
+/// Some entry of a trail repeats a set of an earlier step.
+pub(crate) fn has_repeats(steps: &[Asked]) -> bool {
+    steps.iter().any(step_repeats)
+}
+
+fn step_repeats(step: &Asked) -> bool {
+    step.sets.iter().any(entry_repeats)
+}
+
+fn entry_repeats(entry: &JudgedSet) -> bool {
+    matches!(entry.origin, MarkOrigin::Repeat(_))
 }

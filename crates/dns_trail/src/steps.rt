@@ -8,12 +8,15 @@ ghost use Rattle.dns_judgement.specs.Chained.{bare};
 ghost use Rattle.dns_judgement.specs.Outcome.{foreign_record as foreign_in};
 ghost use Rattle.dns_net.specs.Trail.{ending_value};
 ghost use Rattle.dns_trail.specs.Ended.{ended_of, nothing_if, some_if};
+ghost use Rattle.dns_trail.specs.Indexed.{MayBeIndexed};
 ghost use Rattle.dns_trail.specs.Grounds.{AreKnown, Asks, grounds_of};
 ghost use Rattle.dns_trust.specs.Judge.{judge_of};
 
 use crate::ending::{ending_holds, is_failed, is_foreign, is_seen};
 use crate::entries::judged_sets;
 use crate::grounds::{Ended, Grounds};
+use crate::places::{SetPlaces, places_of_sets};
+use crate::repeats::has_repeats;
 use dns_message::Message;
 use dns_name::NoMemory;
 use dns_net::{Asked, Ending, Reply, Told, Verifier};
@@ -31,6 +34,7 @@ pub(crate) fn steps_hold<V: Verifier>(
 ) -> Result<bool, NoMemory>
     ensures { IfOk result (λ b. b ≡ steps_follow (judge_of V.answers judge.now) limit [] steps.now) }
 {
+    let repeats = has_repeats(steps);
     let mut ended = Vec::new(alloc);
     let mut number = 0;
     'steps: while number < steps.len() {
@@ -43,6 +47,7 @@ pub(crate) fn steps_hold<V: Verifier>(
             missing: &missing,
             query: &step.query,
             depth: step.depth,
+            repeats,
         };
         let Some(next) = end_step(alloc, judge, &grounds, step)? else {
             return Ok(false);
@@ -125,6 +130,7 @@ fn end_bare(alloc: Global, step: &Asked, is_so: bool) -> Option<Ended>
         Some(Ended {
             answer: None,
             others: Vec::new(alloc),
+            places: None,
         })
     } else {
         None
@@ -155,31 +161,56 @@ fn end_judged<V: Verifier>(
     if !ending_holds(judge, grounds, message, &sets, &step.ending, &step.excuse)? {
         return Ok(None);
     }
-    Ok(Some(ended_with(alloc, sets, &step.ending)))
+    let places = places_if(alloc, grounds.repeats, &sets)?;
+    Ok(Some(ended_with(alloc, sets, places, &step.ending)))
+}
+
+// Where judged sets stand, if they have to be found.
+fn places_if(
+    alloc: Global,
+    repeats: bool,
+    sets: &[ChainedSet],
+) -> Result<Option<SetPlaces>, NoMemory>
+    ensures { IfOk result (λ p. MayBeIndexed p (bare sets.now)) }
+{
+    if repeats {
+        Ok(Some(places_of_sets(alloc, sets)?))
+    } else {
+        Ok(None)
+    }
 }
 
 // The judged sets of a step, which are its answer where it ends with one.
-fn ended_with(alloc: Global, sets: Vec<ChainedSet>, ending: &Ending) -> Ended
+fn ended_with(
+    alloc: Global,
+    sets: Vec<ChainedSet>,
+    places: Option<SetPlaces>,
+    ending: &Ending,
+) -> Ended
+    requires { MayBeIndexed places (bare sets.items) }
     ensures { result ≡ record { answer = if_answered (ending_value ending.now) (bare sets.items); sets = bare sets.items } }
 {
     match ending {
         Ending::Answered(_) => Ended {
             answer: Some(sets),
             others: Vec::new(alloc),
+            places,
         },
-        Ending::Denied(_) => unanswered(sets),
-        Ending::Foreign { .. } => unanswered(sets),
-        Ending::Failed => unanswered(sets),
-        Ending::Seen => unanswered(sets),
+        Ending::Denied(_) => unanswered(sets, places),
+        Ending::Foreign { .. } => unanswered(sets, places),
+        Ending::Failed => unanswered(sets, places),
+        Ending::Seen => unanswered(sets, places),
     }
 }
 
 // The judged sets of a step that has no answer.
-fn unanswered(sets: Vec<ChainedSet>) -> Ended
+fn unanswered(sets: Vec<ChainedSet>, places: Option<SetPlaces>) -> Ended
+    requires { MayBeIndexed places (bare sets.items) }
     ensures { result ≡ record { answer = None; sets = bare sets.items } }
 {
     Ended {
         answer: None,
         others: sets,
+        places,
     }
 }

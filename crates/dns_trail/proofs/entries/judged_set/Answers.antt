@@ -27,7 +27,7 @@ returns-in-Repeat g c =
     let gr = grounds_of (judge_of g.V.Verifier.answers c.args.judge.now) c.args.grounds.now in
     let own : is_of_set c.args.placed c.args.entry.now ≡ true = search rules in
     let origin : c.args.entry.now.origin ≡ Repeat c.in-Repeat.number = search rules in
-    c.marked_if.ensures ∙ ap (λ b. some_if b (with_entry (c.args.placed, c.args.entry.now))) c.is_repeated-repeated.ensures
+    c.marked_if.ensures ∙ ap (λ b. some_if b (with_entry (c.args.placed, c.args.entry.now))) c.in_ok-repeated-in-Repeat.ensures
     ∙ entry_given gr c.args.placed c.args.entry.now (Repeat c.in-Repeat.number) own origin
 
 pub returns-in-Cache : goal.returns-in-Cache

@@ -1,0 +1,107 @@
+-- Judged sets by their keys: an equal set has the key of the set that repeats it.
+use Rattle.std.proofs.Common.{◌≡◌, ℕ, ◌<◌, ◌+◌, Bool, true, false, cond, ◌==◌, ◌&&◌, List, [], ◌∷◌, ◌++◌, length, map, take, get_or, Option, None, Some, slice_get, refl, sym, ap, ◌∙◌, subst, arith}
+use Rattle.std.specs.Prelude.{Vec}
+use Rattle.std.specs.Cmp.{IsTotalOrder}
+use Rattle.std.specs.Cmp.Lexicographic.{pointwise}
+use Rattle.std.specs.List.{list_any}
+use Rattle.std.specs.Map.{lookup}
+use Rattle.std.specs.Ordering.{is_eq, ordering_reverse}
+use Rattle.std.specs.declared.cmp.Ordering.{Ordering}
+use Rattle.std.specs.declared.cmp.Ordering.TheVariants.{Less, Equal, Greater}
+use Rattle.std.specs.BTreeMap as tree
+use Rattle.std.specs.BTreeMap.{BTreeMap}
+use Rattle.std.proofs.lemmas.Bool.{and_parts, eqb-true, eq-eqb}
+use Rattle.std.proofs.lemmas.Cmp.{then_total, on_total, nat_cmp_total, nat_list_cmp_total}
+use Rattle.std.proofs.lemmas.List.{append-nil, length-map, length-take-le, map-append, take_more}
+use Rattle.dns_model.specs.Names.{Labels, folded, name_eq, wire}
+use Rattle.dns_model.specs.Records.{Rr, RrSet}
+use Rattle.dns_model.specs.SoundAnswers.{Placed}
+use Rattle.dns_model.specs.Trails.{JudgedSetValue}
+use Rattle.dns_model.proofs.NameLemmas.{name_eq-Decides}
+use Rattle.dns_judgement.specs.Chained.{Chained, bare}
+use Rattle.dns_judgement.specs.Derivation.{is_repeat, same_record}
+use Rattle.dns_judgement.specs.Judged.{Judged}
+use Rattle.dns_trail.specs.declared.places.SetKey.{SetKey}
+use Rattle.dns_trail.specs.Indexed.{AreIndexed}
+use Rattle.dns_trail.specs.Places.{passes_at, Covers}
+use Rattle.dns_trail.specs.SetKeys.{AddedPlace, items_or_none, key_cmp, key_of, key_of_first, key_of_record, places_at}
+use Rattle.dns_trail.proofs.PlaceLemmas.{covers_more, found}
+
+pub key_total : IsTotalOrder key_cmp
+key_total = then_total (on_total (λ k. k.owner) nat_list_cmp_total) (on_total (λ k. k.record_type) nat_cmp_total)
+
+-- ---- the key of an equal set
+
+with_key : List ℕ → ℕ → SetKey
+with_key owner rtype = record { owner = owner; record_type = rtype }
+
+record_alike : (a b : Rr) → same_record a b ≡ true → key_of_record b ≡ key_of_record a
+unfolding with_key
+record_alike a b h =
+    let parts = and_parts (name_eq a.owner b.owner) _ h in
+    let owners : folded a.owner ≡ folded b.owner = (name_eq-Decides a.owner b.owner).0 parts.0 in
+    let types : a.rtype ≡ b.rtype = eqb-true a.rtype b.rtype (and_parts (a.rtype == b.rtype) _ parts.1).0 in
+    sym (ap (λ o. with_key (wire o) a.rtype) owners ∙ ap (with_key (wire (folded b.owner))) types)
+
+records_alike : (xs ys : List Rr) → pointwise same_record xs ys ≡ true → key_of_first (slice_get ys 0) ≡ key_of_first (slice_get xs 0)
+records_alike [] [] h = refl
+records_alike [] (y ∷ ys) h = cc
+records_alike (x ∷ xs) [] h = cc
+records_alike (x ∷ xs) (y ∷ ys) h = record_alike x y (and_parts (same_record x y) _ h).0
+
+repeat_alike : (placed : Placed) (entry : JudgedSetValue) (judged : Judged) → is_repeat placed entry judged ≡ true → key_of judged.set ≡ key_of placed.set
+repeat_alike placed entry judged h = records_alike placed.set.records judged.set.records (and_parts (pointwise same_record placed.set.records judged.set.records) _ h).0
+
+-- a set is found among those with its key
+pub repeat_found : {Z : Type 0} (places : BTreeMap SetKey (Vec ℕ Z)) (sets : List Judged) (placed : Placed) (entry : JudgedSetValue) → AreIndexed places sets
+    → list_any (passes_at (is_repeat placed entry) sets) (places_at places (key_of placed.set)) ≡ list_any (is_repeat placed entry) sets
+repeat_found places sets placed entry indexed =
+    found (λ j. key_of j.set) (is_repeat placed entry) (key_of placed.set) (places_at places) sets (repeat_alike placed entry) indexed
+
+-- ---- a place more
+
+tied_equal : (o : Ordering) → is_eq o ≡ true → o ≡ Equal
+tied_equal Less h = cc
+tied_equal Equal h = refl
+tied_equal Greater h = cc
+
+lookup-same : {K X : Type 0} (p r : K → Bool) → ((x : K) → p x ≡ r x) → (es : List (K × X)) → lookup p es ≡ lookup r es
+lookup-same p r alike [] = refl
+lookup-same p r alike (e ∷ es) = rw (alike e.0, lookup-same p r alike es) refl
+
+get-same : {X : Type 0} (m : BTreeMap SetKey X) (k q : SetKey) → key_cmp k q ≡ Equal → tree.get key_cmp m k ≡ tree.get key_cmp m q
+get-same m k q same = lookup-same _ _ (λ x. ap is_eq (key_total.congr k q x same)) m.entries
+
+added_case : {Z : Type 0} (old : BTreeMap SetKey (Vec ℕ Z)) (key k : SetKey) (place : ℕ) (w : Vec ℕ Z) → w.items ≡ places_at old key ++ place ∷ []
+    → (b : Bool) → is_eq (key_cmp key k) ≡ b → items_or_none (cond b (Some w) (tree.get key_cmp old k)) ≡ places_at old k ++ cond b (place ∷ []) []
+added_case old key k place w items true tied =
+    items ∙ ap (λ o. items_or_none o ++ place ∷ []) (get-same old key k (tied_equal (key_cmp key k) tied))
+added_case old key k place w items false tied = sym (append-nil (places_at old k))
+
+pub added : {Z : Type 0} (old new : BTreeMap SetKey (Vec ℕ Z)) (key : SetKey) (place : ℕ) (w : Vec ℕ Z) → w.items ≡ places_at old key ++ place ∷ []
+    → tree.Updates key_cmp old new key (Some w) → AddedPlace old new key place
+added old new key place w items updates k = ap items_or_none (updates.0 k) ∙ added_case old key k place w items (is_eq (key_cmp key k)) refl
+
+self_reverse : (o : Ordering) → o ≡ ordering_reverse o → o ≡ Equal
+self_reverse Less h = cc
+self_reverse Equal h = refl
+self_reverse Greater h = cc
+
+own_place : (key : SetKey) (place : ℕ) → cond (is_eq (key_cmp key key)) (place ∷ []) [] ≡ place ∷ []
+own_place key place = ap (λ o. cond (is_eq o) (place ∷ []) []) (self_reverse (key_cmp key key) (key_total.antisymm key key))
+
+long_front : (sets : List Chained) (i : ℕ) → i < length sets → length (bare (take i sets)) ≡ i
+long_front sets i lt = let one = length-map (take i sets) (λ x. x.judged) in let two : length (take i sets) ≡ i = grind (arith, length-take-le) in one ∙ two
+
+-- one set more has its place
+pub indexed_more : {Z : Type 0} (old new : BTreeMap SetKey (Vec ℕ Z)) (sets : List Chained) (i : ℕ) (c : Chained) (key : SetKey) → i < length sets
+    → c ≡ get_or sets i c → key ≡ key_of c.judged.set → AreIndexed old (bare (take i sets)) → AddedPlace old new key i
+    → AreIndexed new (bare (take (i + 1) sets))
+indexed_more old new sets i c key lt is own indexed more =
+    let front : take (i + 1) sets ≡ take i sets ++ c ∷ [] = take_more sets i c lt ∙ ap (λ x. take i sets ++ x ∷ []) (sym is) in
+    let whole : bare (take (i + 1) sets) ≡ bare (take i sets) ++ c.judged ∷ [] = ap bare front ∙ map-append (λ x. x.judged) (take i sets) (c ∷ []) in
+    let P : List Judged → Type 0 = λ js. AreIndexed new js in
+    let long : length (bare (take i sets)) ≡ i = long_front sets i lt in
+    subst P (sym whole)
+    (covers_more (λ j. key_of j.set) (places_at old) (places_at new) (bare (take i sets)) c.judged (λ k. cond (is_eq (key_cmp key k)) (i ∷ []) []) indexed more
+    (ap (λ k. cond (is_eq (key_cmp key k)) (i ∷ []) []) (sym own) ∙ own_place key i ∙ ap (λ n. n ∷ []) (sym long)))

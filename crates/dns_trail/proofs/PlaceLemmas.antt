@@ -1,0 +1,72 @@
+-- Sets that are found by a key are those of the list, as equal ones have one key.
+use Rattle.std.proofs.Common.{◌≡◌, ℕ, zero, suc, ◌<◌, ◌≤◌, ◌+◌, Bool, true, false, cond, List, [], ◌∷◌, ◌++◌, length, get_or, refl, sym, ap, ◌∙◌, arith}
+use Rattle.std.specs.Prelude.{◌==◌, ◌&&◌, Option, None, Some, slice_get}
+use Rattle.std.specs.Cmp.Lexicographic.{pointwise}
+use Rattle.std.proofs.Math.Logic.{⊎_elim}
+use Rattle.std.specs.List.{list_any}
+use Rattle.std.proofs.lemmas.Bool.{and_parts, or_left, or_right, or_cases, eqb-true, eq-eqb, cases_lt}
+use Rattle.std.proofs.lemmas.List.{get_or_push, get_or_append_left, length_push}
+use Rattle.std.proofs.lemmas.List.Folds.{list_any-append, Any-from_list_any}
+use Rattle.std.proofs.lemmas.Option.{slice_get-get_or}
+use Rattle.dns_trail.specs.Places.{passes, passes_at, Covers}
+
+-- two tests are one where each follows from the other
+same_test : (a b : Bool) → (a ≡ true → b ≡ true) → (b ≡ true → a ≡ true) → a ≡ b
+same_test true b to from = sym (to refl)
+same_test false true to from = from refl
+same_test false false to from = refl
+
+-- what passes at a place passes in the list
+passes_any : {X : Type 0} (test : X → Bool) (xs : List X) (i : ℕ) → passes_at test xs i ≡ true → list_any test xs ≡ true
+passes_any test [] i h = h
+passes_any test (x ∷ xs) zero h = or_left (test x) (list_any test xs) h
+passes_any test (x ∷ xs) (suc i) h = or_right (test x) (list_any test xs) (passes_any test xs i h)
+
+-- what passes at one of some places passes in the list
+places_any : {X : Type 0} (test : X → Bool) (xs : List X) (places : List ℕ) → list_any (passes_at test xs) places ≡ true → list_any test xs ≡ true
+places_any test xs [] h = cc
+places_any test xs (place ∷ places) h =
+    ⊎_elim (passes_any test xs place) (places_any test xs places) (or_cases (passes_at test xs place) (list_any (passes_at test xs) places) h)
+
+-- a place among some, at which a test passes
+any_place : (p : ℕ → Bool) (i : ℕ) (places : List ℕ) → p i ≡ true → list_any (λ place. i == place) places ≡ true → list_any p places ≡ true
+any_place p i [] good h = cc
+any_place p i (place ∷ places) good h =
+    ⊎_elim (λ (e : (i == place) ≡ true). or_left (p place) (list_any p places) (ap p (sym (eqb-true i place e)) ∙ good))
+    (λ (e : list_any (λ place. i == place) places ≡ true). or_right (p place) (list_any p places) (any_place p i places good e))
+    (or_cases (i == place) (list_any (λ place. i == place) places) h)
+
+-- a test passes at one of the places of a key where it passes in the list
+pub found : {X K : Type 0} (key : X → K) (test : X → Bool) (k : K) (places : K → List ℕ) (xs : List X)
+    → ((x : X) → test x ≡ true → key x ≡ k) → Covers key places xs
+    → list_any (passes_at test xs) (places k) ≡ list_any test xs
+found key test k places xs alike covers =
+    same_test (list_any (passes_at test xs) (places k)) (list_any test xs) (places_any test xs (places k))
+    (λ h. let some = Any-from_list_any test xs h in
+    any_place (passes_at test xs) some.0 (places k)
+    (ap (passes test) (slice_get-get_or xs some.0 some.1 some.2 ∙ ap Some some.3) ∙ some.4)
+    (ap (λ n. list_any (λ place. some.0 == place) (places n)) (sym (alike some.1 some.4)) ∙ covers.each some.0 some.1 some.2 (sym some.3)))
+
+-- places of no element
+pub covers_none : {X K : Type 0} (key : X → K) (places : K → List ℕ) → Covers key places []
+covers_none key places = record { each = λ i x h is. absurd (omega arith) }
+
+-- one element more, at its place
+pub covers_more : {X K : Type 0} (key : X → K) (places next : K → List ℕ) (xs : List X) (y : X) (added : K → List ℕ) → Covers key places xs
+    → ((k : K) → next k ≡ places k ++ added k) → added (key y) ≡ length xs ∷ [] → Covers key next (xs ++ y ∷ [])
+covers_more key places next xs y added covers after one = record {
+  each = λ i x h is.
+      ⊎_elim
+      (λ (below : i < length xs).
+      ap (list_any (λ p. i == p)) (after (key x)) ∙ list_any-append (λ p. i == p) (places (key x)) (added (key x))
+      ∙ or_left (list_any (λ p. i == p) (places (key x))) (list_any (λ p. i == p) (added (key x)))
+      (covers.each i x below (is ∙ get_or_append_left xs (y ∷ []) x i below)))
+      (λ (from : length xs ≤ i).
+      let last : length xs ≡ i = omega (arith, length_push xs y) in
+      let own : x ≡ y = is ∙ get_or_push xs y x i last in
+      ap (λ z. list_any (λ p. i == p) (next (key z))) own
+      ∙ ap (list_any (λ p. i == p)) (after (key y)) ∙ list_any-append (λ p. i == p) (places (key y)) (added (key y))
+      ∙ or_right (list_any (λ p. i == p) (places (key y))) (list_any (λ p. i == p) (added (key y)))
+      (ap (list_any (λ p. i == p)) (one ∙ ap (λ n. n ∷ []) last) ∙ or_left (i == i) false (eq-eqb i i refl)))
+      (cases_lt i (length xs));
+}

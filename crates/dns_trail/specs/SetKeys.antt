@@ -1,0 +1,38 @@
+-- For private functions of this crate only: owners and types of sets as keys of an ordered map.
+use Rattle.std.specs.Prelude.{ℕ, ◌≡◌, List, [], ◌∷◌, ◌++◌, Option, None, Some, Vec, slice_get, if◌then◌else◌}
+use Rattle.std.specs.declared.cmp.Ordering.{Ordering}
+use Rattle.std.specs.Ordering.{is_eq, nat_cmp, ordering_then}
+use Rattle.std.specs.Cmp.Lexicographic.{slice_cmp}
+use Rattle.std.specs.BTreeMap as tree
+use Rattle.std.specs.BTreeMap.{BTreeMap}
+use Rattle.dns_model.specs.Names.{folded, wire}
+use Rattle.dns_model.specs.Records.{Rr, RrSet}
+use Rattle.dns_trail.specs.declared.places.SetKey.{SetKey}
+
+-- the wire form of the owner with A to Z as a to z (RFC 4343, 3), and the type
+abbrev pub key_of_record : Rr → SetKey
+key_of_record r = record { owner = wire (folded r.owner); record_type = r.rtype }
+
+abbrev pub key_of_first : Option Rr → SetKey
+key_of_first None = record { owner = []; record_type = 0 }
+key_of_first (Some r) = key_of_record r
+
+-- the key of a set: that of its first record
+abbrev pub key_of : RrSet → SetKey
+key_of set = key_of_first (slice_get set.records 0)
+
+-- keys in order: by the bytes of the owner, then by type
+abbrev pub key_cmp : SetKey → SetKey → Ordering
+key_cmp a b = ordering_then (slice_cmp nat_cmp a.owner b.owner) (nat_cmp a.record_type b.record_type)
+
+abbrev pub items_or_none : {Z : Type 0} → Option (Vec ℕ Z) → List ℕ
+items_or_none None = []
+items_or_none (Some places) = places.items
+
+-- the places under a key
+abbrev pub places_at : {Z : Type 0} → BTreeMap SetKey (Vec ℕ Z) → SetKey → List ℕ
+places_at places key = items_or_none (tree.get key_cmp places key)
+
+-- a key has one more place behind its others
+abbrev pub AddedPlace : {Z : Type 0} → BTreeMap SetKey (Vec ℕ Z) → BTreeMap SetKey (Vec ℕ Z) → SetKey → ℕ → Type 0
+AddedPlace old new key place = (k : SetKey) → places_at new k ≡ places_at old k ++ (if is_eq (key_cmp key k) then place ∷ [] else [])
