@@ -16,6 +16,8 @@ use Rattle.dns_run.specs.Answering.{session_replies, session_depth, IsSessionTra
 use Rattle.dns_run.specs.Causes.{FaultCause, NoMessage, OtherClass, NotJudged, NotDenied}
 use Rattle.dns_run.specs.Completing.{IsValid, EndsSecurely, Shown, Stopped}
 use Rattle.dns_run.specs.Outcomes.{IsTrailReport, IsFault}
+use Rattle.dns_run.specs.declared.form.Form.{Form}
+use Rattle.dns_run.specs.declared.form.Form.TheVariants.{Validate, Help, Version}
 use Rattle.dns_run.specs.Replies.{session_records}
 use Rattle.dns_run.specs.Runs.{IfSession}
 use Rattle.dns_run.specs.Soundness.{session_judge}
@@ -69,3 +71,17 @@ pub ends_securely : (shows : Parts) (status : ℕ) (told before now : Option (Li
 ends_securely shows status None before now says = tt
 ends_securely shows status (Some bytes) before now says = λ s read valid.
     valid_ends shows bytes s status before now read valid (ending shows bytes status before now says)
+
+-- the parts that words ask to show, where they ask for a session
+abbrev parts_asked : Option Form → Parts → Parts
+parts_asked None other = other
+parts_asked (Some (Validate shows)) other = shows
+parts_asked (Some Help) other = other
+parts_asked (Some Version) other = other
+
+-- the same where the words were read to ask for these parts
+pub ends_securely_as : (asked : Option Form) (read shows : Parts) (status : ℕ) (told before now : Option (List ℕ)) → asked ≡ Some (Validate read)
+    → asked ≡ Some (Validate shows) → Says read status told before now → IfSession told (λ s. IsValid s → EndsSecurely shows s status before now)
+ends_securely_as asked read shows status told before now one two says =
+    subst (λ p. IfSession told (λ s. IsValid s → EndsSecurely p s status before now)) (ap (λ o. parts_asked o read) (sym one ∙ two))
+    (ends_securely read status told before now says)
