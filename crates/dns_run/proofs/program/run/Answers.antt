@@ -1,4 +1,4 @@
-use Rattle.std.proofs.Common.{◌∙◌, sym}
+use Rattle.std.proofs.Common.{◌∙◌, Some, ap, sym}
 use Rattle.dns_run.proofs.CompletingLemmas.{ends_securely_as}
 use Rattle.dns_run.proofs.EndLemmas.{ends_as_session, ends_by_grammar}
 use Rattle.dns_run.proofs.program.run.Goals as goal
@@ -23,7 +23,7 @@ returns-in-Some-Validate-clause-grammar g c = λ shows form.
 
 pub returns-in-Some-Validate-clause-completes : goal.returns-in-Some-Validate-clause-completes
 returns-in-Some-Validate-clause-completes g c = λ shows form.
-    ends_securely_as _ _ shows _ _ _ _ (sym c.form_of.ensures ∙ c.in-Some-Validate.is) form (record {
+    ends_securely_as _ _ shows _ _ _ _ (sym c.form_of.ensures ∙ c.in-Some-Validate.is ∙ ap Some c.in-Some-Validate.field-0-is) form (record {
       report = c.validate.ensures.derived;
       fault = c.validate.ensures.fault;
       form = c.validate.ensures.form;

@@ -22,8 +22,8 @@ returns-in-Table g c =
     let origin : c.args.entry.now.origin ≡ Table = search rules in
     ok_map c.judged_by_rules.result (λ o h. h ∙ entry_given gr c.args.placed c.args.entry.now Table own origin) c.judged_by_rules.ensures
 
-pub returns-in-Repeat : goal.returns-in-Repeat
-returns-in-Repeat g c =
+pub returns-in_ok-repeated-in-Repeat : goal.returns-in_ok-repeated-in-Repeat
+returns-in_ok-repeated-in-Repeat g c =
     let gr = grounds_of (judge_of g.V.Verifier.answers c.args.judge.now) c.args.grounds.now in
     let own : is_of_set c.args.placed c.args.entry.now ≡ true = search rules in
     let origin : c.args.entry.now.origin ≡ Repeat c.in-Repeat.number = search rules in
