@@ -371,15 +371,24 @@ fn trail_of(alloc: Global, text: &[u8]) -> Option<Trail> {
 
 // Whether a trail is a derivation by what a session trusts.
 fn is_derivation(alloc: Global, text: &[u8], trail: &Trail) -> Option<bool> {
-    let session = session_of(alloc, text)?;
+    let Session {
+        by_turn: _,
+        moment,
+        depth,
+        algorithms,
+        anchors,
+        accepts,
+        query: _,
+        replies: _,
+    } = session_of(alloc, text)?;
     let limits = Limits {
-        depth: session.depth.unwrap_or(26),
+        depth: depth.unwrap_or(26),
         soft: 0,
         hard: 0,
     };
-    let verifier = session_verifier(alloc, &session.algorithms, session.accepts).ok()?;
-    let anchors = session_anchors(alloc, session.anchors).ok()?;
-    check_trail(alloc, &anchors, &verifier, session.moment, &limits, trail).ok()
+    let verifier = session_verifier(alloc, &algorithms, accepts).ok()?;
+    let anchors = session_anchors(alloc, anchors).ok()?;
+    check_trail(alloc, &anchors, &verifier, moment, &limits, trail).ok()
 }
 
 fn holds(alloc: Global, given: Given, turn: &Turn) -> Option<bool> {
