@@ -1,8 +1,9 @@
 //! What the checks say of a response (RFC 4035, 4.3, 5.2 and 5.3).
-ghost use Rattle.std.specs.Prelude.{◌≡◌, IfOk};
+ghost use Rattle.std.specs.Prelude.{◌≡◌, ◌↔◌, Err, IfOk, IsTrue};
 ghost use Rattle.dns_trust.specs.Judge.{judge_of};
-ghost use Rattle.dns_net.specs.Replies.{reply_of};
-ghost use Rattle.dns_audit_trial.specs.Audits.{audited_by, response_in as response_of, session_audited, with_chain, with_chains, Responds};
+ghost use Rattle.dns_net.specs.Errors as seen;
+ghost use Rattle.dns_net.specs.Replies.{error_of};
+ghost use Rattle.dns_audit_trial.specs.Audits.{audited_by, response_in, session_audited, with_chain, with_chains, Responds};
 
 use dns_chain_check::check_chain;
 use dns_name::NoMemory;
@@ -115,40 +116,62 @@ pub(crate) fn session_audited(
 ) -> Result<Audited, NoMemory>
     ensures { IfOk result (λ a. a ≡ session_audited session response.now) }
 {
-    let depth = session_options(session.depth).max_request_depth;
-    let verifier = session_verifier(alloc, &session.algorithms, session.accepts)?;
-    let anchors = session_anchors(alloc, session.anchors)?;
+    let Session {
+        by_turn: _,
+        moment,
+        depth,
+        algorithms,
+        anchors,
+        accepts,
+        query: _,
+        replies: _,
+    } = session;
+    let verifier = session_verifier(alloc, &algorithms, accepts)?;
+    let anchors = session_anchors(alloc, anchors)?;
     let judge = Judge {
         verifier: &verifier,
         anchors: &anchors,
-        moment: session.moment,
+        moment,
     };
+    let depth = session_options(depth).max_request_depth;
     checked_again(alloc, &judge, depth, response, more)
 }
 
-// The response that an answer has: an Ok one, or that inside a denial.
-fn response_in(answer: Result<DnsResponse, NetError>) -> Result<Option<DnsResponse>, NoMemory>
-    ensures { IfOk result (λ r. r ≡ response_of (reply_of answer)) }
+// The error is want of memory.
+fn is_no_memory(error: &NetError) -> bool
+    ensures { IsTrue result ↔ (error_of error.now ≡ seen.NoMemory) }
 {
-    match answer {
-        Ok(response) => Ok(Some(response)),
-        Err(
-            NetError::Dns(
-                DnsError::Nsec {
-                    query: _,
-                    response,
-                    proof: _,
-                },
-            ),
-        ) => Ok(Some(Box::into_inner(response))),
-        Err(NetError::NoMemory) => Err(NoMemory),
-        Err(_) => Ok(None),
+    matches!(error, NetError::NoMemory)
+}
+
+// The response inside an error; none but a denial has one.
+fn denied_response(error: NetError) -> Option<DnsResponse>
+    ensures { result ≡ response_in (Err (error_of error)) }
+{
+    match error {
+        NetError::Dns(
+            DnsError::Nsec {
+                query: _,
+                response,
+                proof: _,
+            },
+        ) => Some(Box::into_inner(response)),
+        _ => None,
     }
 }
 
-/// The response to a session; none where its lookup has none.
+/// The response to a session: an Ok one, or that inside a denial; none where its lookup has none.
+#[tactic(auto, using(crate::proofs::AuditLemmas::responds_ok, crate::proofs::AuditLemmas::responds_tested))]
 pub(crate) fn response_to(alloc: Global, session: Session) -> Result<Option<DnsResponse>, NoMemory>
     ensures { IfOk result (λ r. Responds session r) }
 {
-    response_in(session_answer(alloc, session))
+    match session_answer(alloc, session) {
+        Ok(response) => Ok(Some(response)),
+        Err(error) => {
+            if is_no_memory(&error) {
+                return Err(NoMemory);
+            }
+            Ok(denied_response(error))
+        }
+    }
 }

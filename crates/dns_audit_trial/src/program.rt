@@ -5,7 +5,7 @@ ghost use Rattle.dns_model.specs.Counts.{Rose};
 ghost use Rattle.dns_io.specs.Reading.{input_limit, IsEnded};
 ghost use Rattle.dns_session.specs.Grammar.{session_of};
 ghost use Rattle.dns_audit_trial.specs.Forms.{asked_form};
-ghost use Rattle.dns_audit_trial.specs.Endings.{Audits, ComesTo, EndsAs};
+ghost use Rattle.dns_audit_trial.specs.Endings.{Audits, ComesTo, EndsAs, EndsUnread};
 ghost use Rattle.dns_audit_trial.specs.declared.form.Form.TheVariants.{Audit};
 
 use crate::audit::{response_to, session_audited};
@@ -30,6 +30,7 @@ fn session_in(alloc: Global, bytes: &[u8]) -> Result<Option<Session>, NoMemory>
 }
 
 // The line of an audit. A lookup uses its session up, so that the checks have a second one.
+#[tactic(auto, using(crate::proofs::AuditLemmas::audits_response, crate::proofs::AuditLemmas::audits_none))]
 fn session_text(
     alloc: Global,
     session: Session,
@@ -48,27 +49,33 @@ fn session_text(
     }
 }
 
+// The status and the text of bytes that are no session.
+fn unread(alloc: Global) -> Result<(u8, Vec<u8>), NoMemory>
+    ensures { IfOk result (λ x. EndsUnread x.0 x.1.items) }
+{
+    let text = Vec::from_slice(alloc, b"no session\n")?;
+    Ok((3, text))
+}
+
 // The status and the text that bytes come to.
+#[tactic(auto, using(crate::proofs::AuditLemmas::comes_read, crate::proofs::AuditLemmas::comes_unread))]
 fn ending(alloc: Global, more: u32, bytes: &[u8]) -> Result<(u8, Vec<u8>), NoMemory>
     requires { length bytes.now ≤ input_limit }
     ensures value { IfOk result (λ x. ComesTo (session_of bytes.now) x.0 x.1.items) }
     ensures status { IfOk result (λ x. x.0 < 4) }
 {
-    let session = session_in(alloc, bytes)?;
-    let same = session_in(alloc, bytes)?;
-    match (session, same) {
-        (Some(session), Some(same)) => {
-            let text = session_text(alloc, session, same, more)?;
-            Ok((0, text))
-        }
-        _ => {
-            let text = Vec::from_slice(alloc, b"no session\n")?;
-            Ok((3, text))
-        }
-    }
+    let Some(session) = session_in(alloc, bytes)? else {
+        return unread(alloc);
+    };
+    let Some(same) = session_in(alloc, bytes)? else {
+        return unread(alloc);
+    };
+    let text = session_text(alloc, session, same, more)?;
+    Ok((0, text))
 }
 
 // Writes what bytes come to.
+#[tactic(auto, using(crate::proofs::AuditLemmas::ends_written))]
 fn answer<W: Sink>(alloc: Global, more: u32, bytes: &[u8], output: &mut W) -> u8
     requires { length bytes.now ≤ input_limit }
     ensures ends { result < 4 → EndsAs (session_of bytes.now) result (W.taken output.old) (W.taken output.new) }
@@ -87,6 +94,7 @@ fn answer<W: Sink>(alloc: Global, more: u32, bytes: &[u8], output: &mut W) -> u8
 }
 
 // Reads a session, and audits the response to it.
+#[tactic(auto, using(crate::proofs::AuditLemmas::ends_told))]
 fn audit<S: Source, W: Sink>(alloc: Global, more: u32, input: &mut S, output: &mut W) -> u8
     ensures ends { result < 4
         → IfSome (S.left input.old) (λ bytes. EndsAs (session_of bytes) result (W.taken output.old) (W.taken output.new)) }

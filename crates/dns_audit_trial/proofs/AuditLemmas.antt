@@ -1,0 +1,103 @@
+-- What the checks say of the response to a session, and how a run ends: out of what the parts ensure.
+use Rattle.std.proofs.Common.{ℕ, ◌≡◌, ◌⊎◌, ◌↔◌, ◌∙◌, Bool, true, false, List, Option, None, Some, Result, Ok, Err, IfOk, IfSome, IsTrue, refl, ap, ap₂, subst, sym, inl, inr}
+use Rattle.std.specs.Result.{result_ok}
+use Rattle.std.specs.Io.KnownBytes.{Appends}
+use Rattle.dns_model.specs.Keys.{VerifierAnswers, AnchorValue, anchored}
+use Rattle.dns_model.specs.Chains.{Judge, judge}
+use Rattle.dns_model.specs.SoundAnswers.{ResponseValue}
+use Rattle.dns_net.specs.Errors as seen
+use Rattle.dns_net.specs.Replies.{error_of}
+use Rattle.dns_net.specs.declared.error.NetError.{NetError}
+use Rattle.dns_net.specs.declared.error.NetError.TheVariants.{NoMemory}
+use Rattle.dns_trust.specs.Listing.{answers_of}
+use Rattle.dns_session.specs.SessionValue.{SessionValue}
+use Rattle.dns_session.specs.Grammar.{session_of}
+use Rattle.dns_run.specs.Causes.{AnswersSession}
+use Rattle.dns_run.specs.Soundness.{listing}
+use Rattle.dns_run.proofs.JudgeLemmas.{judge_plain}
+use Rattle.dns_audit_trial.specs.declared.audit.Audited.{Audited}
+use Rattle.dns_audit_trial.specs.Audits.{audited_by, depth_of, response_in, session_audited, Responds}
+use Rattle.dns_audit_trial.specs.Forms.{audit_text}
+use Rattle.dns_audit_trial.specs.Endings.{Audits, ComesTo, EndsAs, EndsUnread}
+
+-- ---- the response
+
+no_both : (b : Bool) → b ≡ true → b ≡ false → ⊥
+no_both b true_is false_is = cc
+
+-- an error that was tested for want of memory
+pub responds_tested : (s : SessionValue) (e : NetError) (is_memory : Bool) (response : Option ResponseValue)
+    → (IsTrue is_memory ↔ (error_of e ≡ seen.NoMemory)) → is_memory ≡ false → (e ≡ NoMemory) ⊎ AnswersSession s (Err (error_of e))
+    → response ≡ response_in (Err (error_of e)) → Responds s response
+responds_tested s e is_memory response tells not_memory (inl memory) has =
+    absurd (no_both is_memory (tells.1 (ap error_of memory)) not_memory)
+responds_tested s e is_memory response tells not_memory (inr given) has =
+    record { answer = Err (error_of e); answered = given; has = has }
+
+-- an Ok answer has its response
+pub responds_ok : (s : SessionValue) (response : ResponseValue) → AnswersSession s (Ok response) → Responds s (Some response)
+responds_ok s response given = record { answer = Ok response; answered = given; has = refl }
+
+-- ---- the audit
+
+-- by the judge and the depth that were made of a session, the checks say what they say by its own
+audited_same : {E : Type 0} (s : SessionValue) (response : ResponseValue) (answers : VerifierAnswers) (anchors : List AnchorValue)
+    (depth : ℕ) (given : Result Audited E)
+    → answers ≡ answers_of (listing s.algorithms s.accepts) → anchored anchors ≡ anchored s.anchors → depth ≡ depth_of s
+    → IfOk given (λ a. a ≡ audited_by (judge answers anchors s.moment) depth response)
+    → IfOk given (λ a. a ≡ session_audited s response)
+audited_same s response answers anchors depth given listed trusted deep is =
+    let P : Audited → Type 0 = λ x. IfOk given (λ a. a ≡ x) in
+    subst P (ap₂ (λ (j : Judge) (d : ℕ). audited_by j d response) (judge_plain s answers anchors listed trusted) deep) is
+
+pub audited_made : {E : Type 0} (made s : SessionValue) (response : ResponseValue) (answers : VerifierAnswers)
+    (anchors : List AnchorValue) (depth : ℕ) (given : Result Audited E) → made ≡ s
+    → answers ≡ answers_of (listing made.algorithms made.accepts) → anchored anchors ≡ anchored made.anchors → depth ≡ depth_of made
+    → IfOk given (λ a. a ≡ audited_by (judge answers anchors made.moment) depth response)
+    → IfOk given (λ a. a ≡ session_audited s response)
+audited_made made s response answers anchors depth given same listed trusted deep is =
+    rw (← same) (audited_same made response answers anchors depth given listed trusted deep is)
+
+-- the line of an audit
+pub audits_response : (s : SessionValue) (response : ResponseValue) (audited : Audited) (text : List ℕ)
+    → Responds s (Some response) → audited ≡ session_audited s response → text ≡ audit_text (Some audited) → Audits s text
+audits_response s response audited text responds is spelled =
+    record { response = Some response; responds = responds; spelled = spelled ∙ ap (λ a. audit_text (Some a)) is }
+
+-- the line where there is no response
+pub audits_none : (s : SessionValue) (text : List ℕ) → Responds s None → text ≡ audit_text None → Audits s text
+audits_none s text responds spelled = record { response = None; responds = responds; spelled = spelled }
+
+-- ---- the run
+
+-- the session that was read is the one that was told
+pub comes_read : (told : Result SessionValue ℕ) (s : SessionValue) (text : List ℕ)
+    → Some s ≡ result_ok told → Audits s text → ComesTo told 0 text
+comes_read (Ok x) s text is given = record { status_is = refl; audits = subst (λ y. Audits y text) (same is) given }
+  where
+    same : Some s ≡ Some x → s ≡ x
+    same h = cc
+comes_read (Err n) s text is given = absurd (clash is)
+  where
+    clash : Some s ≡ None → ⊥
+    clash h = cc
+
+-- none was told where none was read
+pub comes_unread : (told : Result SessionValue ℕ) (status : ℕ) (text : List ℕ)
+    → None ≡ result_ok told → EndsUnread status text → ComesTo told status text
+comes_unread (Ok x) status text is given = absurd (clash is)
+  where
+    clash : None ≡ Some x → ⊥
+    clash h = cc
+comes_unread (Err n) status text is given = given
+
+pub ends_written : (told : Result SessionValue ℕ) (status : ℕ) (text : List ℕ) (before now : Option (List ℕ))
+    → ComesTo told status text → Appends before now text → EndsAs told status before now
+ends_written told status text before now comes written = record { text = text; comes = comes; written = written }
+
+-- the bytes that were read are those that the source told
+pub ends_told : (left : Option (List ℕ)) (bytes : List ℕ) (status : ℕ) (before now : Option (List ℕ))
+    → IfSome left (λ xs. bytes ≡ xs) → EndsAs (session_of bytes) status before now
+    → IfSome left (λ xs. EndsAs (session_of xs) status before now)
+ends_told None bytes status before now same ends = tt
+ends_told (Some xs) bytes status before now same ends = rw (sym same) ends
