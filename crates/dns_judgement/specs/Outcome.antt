@@ -1,22 +1,37 @@
 -- What a judged step answers (RFC 4035, 5.3.4 and 5.4).
-use Rattle.std.specs.Prelude.{Bool, false, not, ◌==◌, ◌&&◌, ◌||◌, nat_lt, List, ◌++◌, Option, if◌then◌else◌}
-use Rattle.std.specs.Option.{option_map_or}
-use Rattle.std.specs.List.{list_any, list_all, find}
+use Rattle.std.specs.Prelude.{ℕ, Bool, false, not, ◌==◌, ◌&&◌, ◌||◌, min, nat_lt, List, [], ◌∷◌, ◌++◌, Option, None, Some, if◌then◌else◌}
+use Rattle.std.specs.Option.{option_map, option_map_or, option_and_then}
+use Rattle.std.specs.List.{filter, filter_map, flat_map, list_any, list_all, find}
 use Rattle.dns_model.specs.declared.proof.Proof.{Proof}
-use Rattle.dns_model.specs.declared.proof.Proof.TheVariants.{Insecure, Bogus}
-use Rattle.dns_model.specs.declared.section.Section.TheVariants.{Authority}
+use Rattle.dns_model.specs.declared.proof.Proof.TheVariants.{Secure, Insecure, Bogus}
+use Rattle.dns_model.specs.declared.section.Section.TheVariants.{Answer, Authority}
 use Rattle.dns_model.specs.declared.denial.Denial as denial
 use Rattle.dns_model.specs.declared.denial.Denial.TheVariants as denied
-use Rattle.dns_model.specs.Names.{name_eq, at_or_above, num_labels}
+use Rattle.dns_model.specs.Names.{Labels, name_eq, at_or_above, num_labels}
 use Rattle.dns_model.specs.Types.{type_cname, type_nsec, type_nsec3}
 use Rattle.dns_model.specs.Records.{Rr, Question}
 use Rattle.dns_model.specs.RecordViews.{rrsig_of}
+use Rattle.dns_model.specs.Views.{nsec_in}
+use Rattle.dns_model.specs.Owned.{OwnedNsec}
 use Rattle.dns_model.specs.Sections.{is_signature}
-use Rattle.dns_model.specs.SoundAnswers.{Told, is_secure}
+use Rattle.dns_model.specs.SoundAnswers.{Told, section_eq, is_secure}
+use Rattle.dns_rdata.specs.ReadAs.{read_as}
+use Rattle.dns_denial.specs.declared.answered.Answered.{Answered}
+use Rattle.dns_denial.specs.declared.answered.Answered.TheVariants.{No, Plain, Expanded}
+use Rattle.dns_denial.specs.NsecVerdict.{nsec_verdict}
 use Rattle.dns_judgement.specs.Judged.{Judged, decider}
 use Rattle.dns_judgement.specs.Marking.{is_about}
 use Rattle.dns_judgement.specs.Delegations as zone
 use Rattle.dns_judgement.specs.Delegations.{ZoneVerdict, Signed, is_insecure}
+
+-- how a judged step ends; where neither its sets nor their signatures decide, the zone of its query is searched
+pub data Outcome : Type 0 where
+  Unjudged : Outcome
+  Accepted : denial.Denial → Outcome
+  Searched : Outcome
+  Denied : Proof → Outcome
+
+-- ---- how the answer section answers
 
 -- the record answers: it stands at the name that is asked, and is of the type or a CNAME
 abbrev pub answers_query : Question → Rr → Bool
@@ -29,18 +44,85 @@ has_answer q told = list_any (answers_query q) told.answers
 abbrev pub is_wildcard_signature : Rr → Bool
 is_wildcard_signature r = option_map_or (λ sig. nat_lt sig.labels (num_labels r.owner)) (rrsig_of r) false
 
--- a Secure set that can only be judged with denial of existence: NSEC, NSEC3, or expanded from a wildcard
-abbrev pub needs_denial : Judged → Bool
-needs_denial judged =
-    is_secure judged.mark
-    && ((judged.set.rtype == type_nsec) || (judged.set.rtype == type_nsec3) || option_map_or is_wildcard_signature (decider judged) false)
+abbrev pub has_wildcard_signature : Told → Bool
+has_wildcard_signature told = list_any is_wildcard_signature told.answers
 
--- how a judged step ends; where neither its sets nor their signatures decide, the zone of its query is searched
-pub data Outcome : Type 0 where
-  Unjudged : Outcome
-  Accepted : denial.Denial → Outcome
-  Searched : Outcome
-  Denied : Proof → Outcome
+-- the set is of the answer section, and Secure by such a signature: it was expanded from a wildcard (RFC 4035, 5.3.4)
+abbrev pub is_expanded_answer : Judged → Bool
+is_expanded_answer judged =
+    section_eq Answer judged.section && (is_secure judged.mark && option_map_or is_wildcard_signature (decider judged) false)
+
+-- such a set whose records answer
+abbrev pub is_expanded_for : Question → Judged → Bool
+is_expanded_for q judged =
+    is_expanded_answer judged && (name_eq q.owner judged.set.owner && ((judged.set.rtype == q.rtype) || (judged.set.rtype == type_cname)))
+
+-- Labels of the signature that decided
+abbrev pub decider_labels : Judged → Option ℕ
+decider_labels judged = option_map (λ sig. sig.labels) (option_and_then rrsig_of (decider judged))
+
+unfoldable pub least : List ℕ → Option ℕ
+least [] = None
+least (n ∷ ns) = Some (option_map_or (min n) (least ns) n)
+
+-- an answer is an expansion where a Secure set says so, and of several the one from the wildcard with the fewest labels
+abbrev pub answered_from : Option ℕ → Answered
+answered_from None = Plain
+answered_from (Some labels) = Expanded labels
+
+unfoldable pub answered : Question → Told → List Judged → Answered
+answered q told sets =
+    if has_answer q told then answered_from (least (filter_map decider_labels (filter (is_expanded_for q) sets))) else No
+
+-- ---- what denies existence
+
+-- a Secure NSEC3 set, in any section, isn't judged yet (RFC 5155)
+abbrev pub is_unjudged : Judged → Bool
+is_unjudged judged = is_secure judged.mark && (judged.set.rtype == type_nsec3)
+
+-- a Secure NSEC set of the authority section (RFC 4035, 3.1.3)
+abbrev pub is_denying : Judged → Bool
+is_denying judged = section_eq Authority judged.section && (is_secure judged.mark && (judged.set.rtype == type_nsec))
+
+abbrev pub denying : List Judged → List Judged
+denying sets = filter is_denying sets
+
+-- a record as an NSEC, with its owner
+abbrev pub owned_nsec : Rr → Option OwnedNsec
+owned_nsec r = option_map (λ text. record { owner = r.owner; text = text }) (read_as type_nsec nsec_in r)
+
+-- what the Secure NSEC records of the authority section say; those that can't be read say nothing
+abbrev pub denials : List Judged → List OwnedNsec
+denials sets = flat_map (λ judged. filter_map owned_nsec judged.set.records) (denying sets)
+
+-- the zone that made the signature that decided
+abbrev pub signer_of : Judged → Option Labels
+signer_of judged = option_map (λ sig. sig.signer) (option_and_then rrsig_of (decider judged))
+
+abbrev pub is_made_by : Labels → Judged → Bool
+is_made_by zone judged = option_map_or (name_eq zone) (signer_of judged) false
+
+-- the zone that made them all: NSEC records of two zones prove nothing together (RFC 4035, 5.4)
+abbrev pub one_signer : List Judged → Option Labels
+one_signer [] = None
+one_signer (judged ∷ rest) = option_and_then (λ zone. if list_all (is_made_by zone) rest then Some zone else None) (signer_of judged)
+
+-- ---- what the denials make of the answer
+
+abbrev pub secure_denial : Answered → denial.Denial
+secure_denial No = denied.Absent Secure
+secure_denial Plain = denied.None
+secure_denial (Expanded labels) = denied.Expanded Secure
+
+abbrev pub outcome_by_verdict : Answered → Proof → Outcome
+outcome_by_verdict how proof = if is_secure proof then Accepted (secure_denial how) else Denied proof
+
+-- by the zone that made the denials; the verdict asks whether the query lies in it
+abbrev pub outcome_by_denials : Question → ℕ → Answered → List OwnedNsec → Option Labels → Outcome
+outcome_by_denials q code how nsecs None = Denied Bogus
+outcome_by_denials q code how nsecs (Some zone) = outcome_by_verdict how (nsec_verdict q zone code how nsecs)
+
+-- ---- where no more than Insecure can be expected
 
 -- a record of the authority section is Insecure, with an owner at or above the name that is asked
 abbrev pub is_insecure_record : Question → List Judged → Rr → Bool
@@ -57,15 +139,20 @@ is_insecure_authority q told sets =
 abbrev pub insecure_answer : Question → Told → Outcome
 insecure_answer q told = Accepted (if has_answer q told then denied.None else denied.Absent Insecure)
 
--- until denial of existence is judged, a step without an answer, or with sets that need denial, isn't judged yet. Else, where the
--- answer section has no wildcard signature, an Insecure authority section decides, or the answer is accepted; what is left is
--- decided by the zone of the query
+-- ---- the outcome
+
+-- the first case that holds decides
 unfoldable pub outcome_of : Question → Told → List Judged → Outcome
 outcome_of q told sets =
-    if not (has_answer q told) then Unjudged
-    else if list_any needs_denial sets then Unjudged
-    else if is_insecure_authority q told sets && not (list_any is_wildcard_signature told.answers) then insecure_answer q told
-    else if not (list_any is_wildcard_signature told.answers) then Accepted denied.None
+    if list_any is_unjudged sets then Unjudged
+    -- the zone above the name is Insecure, and nothing is said to come from a wildcard (RFC 4035, 4.3)
+    else if is_insecure_authority q told sets && not (has_wildcard_signature told) then insecure_answer q told
+    -- what is denied has to follow from the denials of one zone (RFC 4035, 5.4)
+    else if list_any is_denying sets then outcome_by_denials q told.code (answered q told sets) (denials sets) (one_signer (denying sets))
+    -- an expansion without a denial of closer names (RFC 4035, 5.3.4)
+    else if list_any is_expanded_answer sets then Denied Bogus
+    else if has_answer q told && not (has_wildcard_signature told) then Accepted denied.None
+    -- a signed zone would have denied (RFC 4035, 3.1.3)
     else Searched
 
 -- the outcome where the zone of the query is searched
