@@ -21,7 +21,7 @@ use Rattle.dns_denial.specs.declared.answered.Answered.TheVariants.{No, Plain, E
 use Rattle.dns_denial.specs.NsecVerdict.{nsec_verdict}
 use Rattle.dns_judgement.specs.Judged.{Judged, decider}
 use Rattle.dns_judgement.specs.Marking.{is_about}
-use Rattle.dns_judgement.specs.Delegations as zone
+use Rattle.dns_judgement.specs.Delegations as delegation
 use Rattle.dns_judgement.specs.Delegations.{ZoneVerdict, Signed, is_insecure}
 
 -- how a judged step ends; where neither its sets nor their signatures decide, the zone of its query is searched
@@ -55,7 +55,8 @@ is_expanded_answer judged =
 -- such a set whose records answer
 abbrev pub is_expanded_for : Question → Judged → Bool
 is_expanded_for q judged =
-    is_expanded_answer judged && (name_eq q.owner judged.set.owner && ((judged.set.rtype == q.rtype) || (judged.set.rtype == type_cname)))
+    is_expanded_answer judged
+    && (name_eq q.owner judged.set.owner && ((judged.set.rtype == q.rtype) || (judged.set.rtype == type_cname)))
 
 -- Labels of the signature that decided
 abbrev pub decider_labels : Judged → Option ℕ
@@ -105,10 +106,12 @@ is_made_by zone judged = option_map_or (name_eq zone) (signer_of judged) false
 -- the zone that made them all: NSEC records of two zones prove nothing together (RFC 4035, 5.4)
 abbrev pub one_signer : List Judged → Option Labels
 one_signer [] = None
-one_signer (judged ∷ rest) = option_and_then (λ zone. if list_all (is_made_by zone) rest then Some zone else None) (signer_of judged)
+one_signer (judged ∷ rest) =
+    option_and_then (λ zone. if list_all (is_made_by zone) rest then Some zone else None) (signer_of judged)
 
 -- ---- what the denials make of the answer
 
+-- the denial of a Secure verdict; the verdict on a plain answer never is Secure
 abbrev pub secure_denial : Answered → denial.Denial
 secure_denial No = denied.Absent Secure
 secure_denial Plain = denied.None
@@ -148,7 +151,8 @@ outcome_of q told sets =
     -- the zone above the name is Insecure, and nothing is said to come from a wildcard (RFC 4035, 4.3)
     else if is_insecure_authority q told sets && not (has_wildcard_signature told) then insecure_answer q told
     -- what is denied has to follow from the denials of one zone (RFC 4035, 5.4)
-    else if list_any is_denying sets then outcome_by_denials q told.code (answered q told sets) (denials sets) (one_signer (denying sets))
+    else if list_any is_denying sets
+    then outcome_by_denials q told.code (answered q told sets) (denials sets) (one_signer (denying sets))
     -- an expansion without a denial of closer names (RFC 4035, 5.3.4)
     else if list_any is_expanded_answer sets then Denied Bogus
     else if has_answer q told && not (has_wildcard_signature told) then Accepted denied.None
@@ -158,8 +162,8 @@ outcome_of q told sets =
 -- the outcome where the zone of the query is searched
 abbrev pub outcome_by_zone : Question → Told → ZoneVerdict → Outcome
 outcome_by_zone q told (Signed ds) = Denied Bogus
-outcome_by_zone q told (zone.Insecure kind) = insecure_answer q told
-outcome_by_zone q told (zone.Bogus kind) = Denied Bogus
+outcome_by_zone q told (delegation.Insecure kind) = insecure_answer q told
+outcome_by_zone q told (delegation.Bogus kind) = Denied Bogus
 
 -- the first record of another class, in section order (RFC 1035, 3.2.4)
 abbrev pub foreign_record : Question → Told → Option Rr

@@ -12,16 +12,18 @@ use Rattle.dns_denial.specs.declared.answered.Answered.TheVariants.{Expanded}
 use Rattle.dns_denial.specs.NsecVerdict.{holds_query}
 use Rattle.dns_denial.specs.DenialInZones.{IsDeniedIn, IsExpandedIn}
 use Rattle.dns_judgement.specs.Judged.{Judged}
-use Rattle.dns_judgement.specs.Outcome.{has_answer, answered, is_expanded_for, is_made_by, denying, denials}
+use Rattle.dns_judgement.specs.Outcome.{has_answer, answered, is_expanded_for, is_denying, is_made_by, denying, denials}
 use Rattle.dns_judgement.specs.Derivation.{told_in, judged_sets}
 
--- a zone holds the query and made the denials: it is the signer of each Secure NSEC set of the authority section
+-- a zone holds the query and made the denials, of which there is one at least: it is the signer of each Secure NSEC set of the
+-- authority section
 pub record IsDenier (q : Question) (sets : List Judged) (apex : Labels) : Type 0 where
-  pub holds : holds_query apex q ≡ true
+  pub some : list_any is_denying sets ≡ true
   pub made : list_all (is_made_by apex) (denying sets) ≡ true
+  pub holds : holds_query apex q ≡ true
 
--- no record answers the query, and none does in each zone with that apex in which the Secure NSEC records of the authority section
--- are true
+-- no record answers the query, and none does in each zone with that apex in which the Secure NSEC records of the authority
+-- section are true
 pub record ShowsAbsence (q : Question) (told : Told) (sets : List Judged) : Type 0 where
   pub unanswered : has_answer q told ≡ false
   pub apex : Labels
