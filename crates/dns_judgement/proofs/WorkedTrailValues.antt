@@ -11,7 +11,7 @@ use Rattle.dns_model.specs.Keys.{VerifierAnswers, bytes_eq}
 use Rattle.dns_model.specs.Chains.{Judge, judge}
 use Rattle.dns_model.specs.Names.{Labels}
 use Rattle.dns_model.specs.Records.{Rr, Question}
-use Rattle.dns_model.specs.Trails.{AskedValue, JudgedSetValue, HeardValue, EndingValue, Records, Fault, Answered, Failed}
+use Rattle.dns_model.specs.Trails.{AskedValue, JudgedSetValue, HeardValue, EndingValue, Records, Fault, Answered, Denied, Failed}
 use Rattle.dns_model.proofs.Worked.{key, signature, signed, name_a, anchors}
 
 -- ---- records, questions and replies
@@ -123,9 +123,9 @@ keys_found = keys_judged (answer_entry 48 Secure None [] ∷ [])
 abbrev pub keys_fault : AskedValue
 keys_fault = keys_step Fault [] Failed
 
--- a reply without records came for the root's keys
+-- a reply without records came for the root's keys: it is denied, since a search from the root finds no unsigned zone
 abbrev pub keys_missed : AskedValue
-keys_missed = keys_step (reply_of [] []) [] Failed
+keys_missed = keys_step (reply_of [] []) [] (Denied Bogus)
 
 -- the NS set came, and got this mark, by this signature, after these asks
 abbrev pub ns_found : Proof → Option ℕ → List AskRef → AskedValue

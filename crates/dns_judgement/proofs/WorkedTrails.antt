@@ -7,23 +7,25 @@ use Rattle.dns_model.specs.declared.trail.AskRef.TheVariants.{Step, TooDeep, Too
 use Rattle.dns_model.specs.declared.trail.MarkOrigin.{MarkOrigin}
 use Rattle.dns_model.specs.declared.trail.MarkOrigin.TheVariants.{Repeat, Cache}
 use Rattle.dns_model.specs.NameForm.{label_in, labels_in, name_in}
-use Rattle.dns_model.specs.Names.{Labels}
-use Rattle.dns_model.specs.Records.{Rr, RrSet}
-use Rattle.dns_model.specs.Views.{RrsigValue, rrsig_in, dnskey_in, ds_in}
-use Rattle.dns_model.specs.Shapes.{parts_in, shape_of, is_lowered_type, canonical_form}
+use Rattle.dns_model.specs.Names.{Labels, common_ancestor}
+use Rattle.dns_model.specs.Records.{Rr, RrSet, Question}
+use Rattle.dns_model.specs.Views.{RrsigValue, rrsig_in, dnskey_in, ds_in, nsec_in}
+use Rattle.dns_model.specs.Shapes.{parts_in, shape_of, is_lowered_type, canonical_form, is_bitmap, bitmap_has, windows_in, window_in}
 use Rattle.dns_model.specs.Signing.{tag_sum, insert_once, rising_once, signed_bytes}
 use Rattle.dns_model.specs.Sections.{leaders, sets_of}
 use Rattle.dns_model.specs.Chains.{Judge, judge}
-use Rattle.dns_model.specs.SoundAnswers.{Placed}
+use Rattle.dns_model.specs.SoundAnswers.{Told, Placed}
 use Rattle.dns_model.specs.Trails.{AskedValue, Fault, Answered, Denied, Foreign, Failed}
 use Rattle.dns_model.proofs.Worked.{name_a, signature, anchors}
+use Rattle.dns_denial.specs.Covering.{covering}
+use Rattle.dns_denial.specs.NsecVerdict.{closest_encloser, nsec_verdict}
 use Rattle.dns_judgement.specs.Judged.{Judged}
 use Rattle.dns_judgement.specs.Validity.{validity, is_good_by}
 use Rattle.dns_judgement.specs.Marks.{first_two, verdict_of, judged_by}
 use Rattle.dns_judgement.specs.Delegations.{ZoneVerdict, zone_verdict}
 use Rattle.dns_judgement.specs.Unsigned.{unsigned_by}
 use Rattle.dns_judgement.specs.KeySets.{first_signed, keys_outcome, judged_keys}
-use Rattle.dns_judgement.specs.Outcome.{outcome_of}
+use Rattle.dns_judgement.specs.Outcome.{Outcome, least, answered, outcome_of}
 use Rattle.dns_judgement.specs.Derivation.{derivation, search_by, verdicts_by, entry_holds, entries_hold, step_holds, steps_hold, order_asks, order_step, end_asks, end_step}
 use Rattle.dns_judgement.proofs.WorkedTrailValues.{verifier, root_judge, ns_records, record_of, reply_of, answer_entry, address_entry, keys_step, ns_step, keys_judged, keys_found, keys_fault, keys_missed, ns_found, ns_secure, ns_beside, both_secure}
 
@@ -41,8 +43,12 @@ keys_computed : Judge → Placed → Option ZoneVerdict → Judged
 unfolding good_computed judged_keys keys_outcome first_signed
 keys_computed = judged_keys
 
+outcome_computed : Question → Told → List Judged → Outcome
+unfolding outcome_of answered least nsec_in is_bitmap bitmap_has windows_in window_in nsec_verdict covering closest_encloser common_ancestor name_in labels_in label_in
+outcome_computed = outcome_of
+
 step_computed : Judge → ℕ → List AskedValue → AskedValue → Bool
-unfolding keys_computed ds_in zone_verdict step_holds entries_hold entry_holds search_by unsigned_by verdicts_by verdict_of judged_by first_two outcome_of sets_of leaders
+unfolding keys_computed ds_in zone_verdict step_holds entries_hold entry_holds search_by unsigned_by verdicts_by verdict_of judged_by first_two outcome_computed sets_of leaders
 step_computed = step_holds
 
 unfoldable pub computed : Judge → ℕ → List AskedValue → Bool
