@@ -4,6 +4,7 @@ pub mod WorkedDelegations
 pub mod WorkedSearches
 pub mod WorkedExcuses
 pub mod WorkedVerdicts
+pub mod WorkedDenials
 pub mod GoodLemmas
 pub mod FindLemmas
 pub mod FirstLemmas
