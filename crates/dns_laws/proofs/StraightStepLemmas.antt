@@ -4,8 +4,9 @@ use Rattle.std.specs.Prelude.{◌&&◌, ◌||◌, nat_lt}
 use Rattle.std.specs.Option.{option_map_or, option_and_then}
 use Rattle.std.specs.List.{filter, list_any, AllByRecursion}
 use Rattle.std.proofs.Math.Logic.{⊎_elim}
-use Rattle.std.proofs.lemmas.Bool.{and_parts, and_from, or_cases, or_from, or_left, or_right, and_right, not-true}
+use Rattle.std.proofs.lemmas.Bool.{and_parts, and_from, or_cases, or_parts, or_left, or_right, and_right, not-true}
 use Rattle.std.proofs.lemmas.Bool.Decides.{nat_tests}
+use Rattle.dns_model.specs.declared.proof.Proof.TheVariants.{Bogus}
 use Rattle.dns_model.specs.declared.section.Section.TheVariants.{Answer, Authority, Additional}
 use Rattle.dns_model.specs.declared.denial.Denial as declared
 use Rattle.dns_model.specs.declared.denial.Denial.TheVariants as denial
@@ -21,7 +22,7 @@ use Rattle.dns_model.proofs.EachLemmas.{each_more, each_append}
 use Rattle.dns_model.proofs.SetLemmas.{name_back, name_trans, number_same, number_refl}
 use Rattle.dns_judgement.specs.Asking.{is_judged_at, judged_part}
 use Rattle.dns_judgement.specs.Judged.{Judged, decider}
-use Rattle.dns_judgement.specs.Outcome.{Outcome, outcome_of, answers_query, has_answer, needs_denial, is_wildcard_signature, is_insecure_authority, insecure_answer, foreign_record}
+use Rattle.dns_judgement.specs.Outcome.{Outcome, outcome_of, outcome_by_denials, answers_query, has_answer, answered, is_wildcard_signature, has_wildcard_signature, is_unjudged, is_denying, is_expanded_answer, denying, denials, one_signer, is_insecure_authority, insecure_answer, foreign_record}
 use Rattle.dns_judgement.specs.Outcome as outcome
 use Rattle.dns_judgement.specs.Unsigned.{is_empty}
 use Rattle.dns_judgement.specs.Derivation.{Grounds, told_in, with_entries, is_by_origin, entry_holds, entries_hold, denial_eq, ending_eq, ends_bare, ending_holds, heard_holds, step_holds}
@@ -109,38 +110,69 @@ none_placed : (test : Rr → Bool) (rs : List Rr) (o : Option ℕ) → AllByRecu
 none_placed test rs None h = refl
 none_placed test rs (Some n) h = none_at test rs n h
 
--- the set needs no denial of existence beside it
+-- the set is none of those by which existence is denied
 abbrev pub needs_no_denial : ℕ → Bool
 needs_no_denial rtype = not ((rtype == type_nsec) || (rtype == type_nsec3))
 
-no_denial : (q : Question) (set : RrSet) (judged : Judged) → AllByRecursion (IsPlain q) set.signatures → judged.set ≡ set
-    → needs_no_denial set.rtype ≡ true → needs_denial judged ≡ false
-no_denial q set judged each same plain =
-    let wild = none_placed is_wildcard_signature set.signatures judged.sig (each_more (IsPlain q) (λ r. is_wildcard_signature r ≡ false) (plain_is_no_wildcard q) set.signatures each) in
-    and_right (is_secure judged.mark) ((judged.set.rtype == type_nsec) || (judged.set.rtype == type_nsec3) || option_map_or is_wildcard_signature (decider judged) false)
-    (or_from ((judged.set.rtype == type_nsec) || (judged.set.rtype == type_nsec3)) (option_map_or is_wildcard_signature (decider judged) false)
-    (ap (λ s. (s.rtype == type_nsec) || (s.rtype == type_nsec3)) same ∙ not-true ((set.rtype == type_nsec) || (set.rtype == type_nsec3)) plain)
-    (ap (λ s. option_map_or is_wildcard_signature (option_and_then (slice_get s.signatures) judged.sig) false) same ∙ wild))
+-- a set that is none of those, of the answer section, and not expanded from a wildcard
+record IsPlainSet (judged : Judged) : Type 0 where
+  section : judged.section ≡ Answer
+  nsec : (judged.set.rtype == type_nsec) ≡ false
+  nsec3 : (judged.set.rtype == type_nsec3) ≡ false
+  unexpanded : option_map_or is_wildcard_signature (decider judged) false ≡ false
 
-decided : (answer denied insecure wild : Bool) (x : Outcome) → answer ≡ true → denied ≡ false → insecure ≡ false → wild ≡ false
-    → (if not answer then outcome.Unjudged
-    else if denied then outcome.Unjudged
+plain_set : (q : Question) (set : RrSet) (judged : Judged) → AllByRecursion (IsPlain q) set.signatures → judged.section ≡ Answer → judged.set ≡ set
+    → needs_no_denial set.rtype ≡ true → IsPlainSet judged
+plain_set q set judged each section same plain =
+    let types = or_parts (set.rtype == type_nsec) (set.rtype == type_nsec3) (not-true ((set.rtype == type_nsec) || (set.rtype == type_nsec3)) plain) in
+    let plainly = each_more (IsPlain q) (λ r. is_wildcard_signature r ≡ false) (plain_is_no_wildcard q) set.signatures each in
+    record {
+      section = section;
+      nsec = ap (λ s. s.rtype == type_nsec) same ∙ types.0;
+      nsec3 = ap (λ s. s.rtype == type_nsec3) same ∙ types.1;
+      unexpanded =
+          ap (λ s. option_map_or is_wildcard_signature (option_and_then (slice_get s.signatures) judged.sig) false) same
+          ∙ none_placed is_wildcard_signature set.signatures judged.sig plainly;
+    }
+
+judged_already : (judged : Judged) → IsPlainSet judged → is_unjudged judged ≡ false
+judged_already judged i = and_right (is_secure judged.mark) (judged.set.rtype == type_nsec3) i.nsec3
+
+denies_nothing : (judged : Judged) → IsPlainSet judged → is_denying judged ≡ false
+denies_nothing judged i =
+    ap (λ s. section_eq Authority s && (is_secure judged.mark && (judged.set.rtype == type_nsec))) i.section
+
+not_expanded : (judged : Judged) → IsPlainSet judged → is_expanded_answer judged ≡ false
+not_expanded judged i =
+    let wild = option_map_or is_wildcard_signature (decider judged) false in
+    and_right (section_eq Answer judged.section) (is_secure judged.mark && wild) (and_right (is_secure judged.mark) wild i.unexpanded)
+
+decided : (unjudged insecure wild denying expanded answer : Bool) (x y : Outcome) → unjudged ≡ false → insecure ≡ false → wild ≡ false
+    → denying ≡ false → expanded ≡ false → answer ≡ true
+    → (if unjudged then outcome.Unjudged
     else if insecure && not wild then x
-    else if not wild then outcome.Accepted denial.None
+    else if denying then y
+    else if expanded then outcome.Denied Bogus
+    else if answer && not wild then outcome.Accepted denial.None
     else outcome.Searched) ≡ outcome.Accepted denial.None
-decided answer denied insecure wild x a b c d = rw (a, b, c, d) refl
+decided unjudged insecure wild denying expanded answer x y a b c d e f = rw (a, b, c, d, e, f) refl
 
 is_accepted : (j : Judge) (q asked : Question) (told : Told) (set : RrSet) (judged : Judged) → IsOneSet j q told set → question_eq q asked ≡ true
-    → judged.set ≡ set → needs_no_denial set.rtype ≡ true → outcome_of asked told (judged ∷ []) ≡ outcome.Accepted denial.None
+    → judged.section ≡ Answer → judged.set ≡ set → needs_no_denial set.rtype ≡ true
+    → outcome_of asked told (judged ∷ []) ≡ outcome.Accepted denial.None
 unfolding outcome_of
-is_accepted j q asked told set judged one same is plain =
+is_accepted j q asked told set judged one same section is plain =
+    let sets : List Judged = judged ∷ [] in
     let each : AllByRecursion (IsPlain q) set.signatures = subst (AllByRecursion (IsPlain q)) (sym one.signatures) (each_signature q told.answers one.each) in
-    decided (has_answer asked told) (list_any needs_denial (judged ∷ [])) (is_insecure_authority asked told (judged ∷ []))
-    (list_any is_wildcard_signature told.answers) (insecure_answer asked told)
-    (any_more (is_queried q) (answers_query asked) told.answers (λ r h. queried_answers q asked r same h) one.any)
-    (none_any needs_denial (judged ∷ []) (no_denial q set judged each is plain, tt))
-    (subst (λ rs. is_insecure_authority asked (record told { authorities = rs }) (judged ∷ []) ≡ false) (sym one.authorities) refl)
+    let i = plain_set q set judged each section is plain in
+    decided (list_any is_unjudged sets) (is_insecure_authority asked told sets) (has_wildcard_signature told) (list_any is_denying sets)
+    (list_any is_expanded_answer sets) (has_answer asked told) (insecure_answer asked told)
+    (outcome_by_denials asked told.code (answered asked told sets) (denials sets) (one_signer (denying sets)))
+    (none_any is_unjudged sets (judged_already judged i, tt))
+    (subst (λ rs. is_insecure_authority asked (record told { authorities = rs }) sets ≡ false) (sym one.authorities) refl)
     (none_any is_wildcard_signature told.answers (each_more (OfReply q) (λ r. is_wildcard_signature r ≡ false) (no_wildcard q) told.answers one.each))
+    (none_any is_denying sets (denies_nothing judged i, tt)) (none_any is_expanded_answer sets (not_expanded judged i, tt))
+    (any_more (is_queried q) (answers_query asked) told.answers (λ r h. queried_answers q asked r same h) one.any)
 
 -- ---- the step
 
@@ -178,14 +210,14 @@ answered_same (Foreign o c t) h = cc
 answered_same Failed h = cc
 answered_same Seen h = cc
 
-judged_parts : (j : Judge) (limit : ℕ) (earlier : List AskedValue) (step : AskedValue) (told : Told) → step_holds j limit earlier step ≡ true
-    → step.judged ≡ true → told_in step.reply ≡ Some told → foreign_record step.query told ≡ None
-    → judged_holds (grounds_of j limit earlier step) step told None ≡ true
+-- a judged step that heard records holds by the first of another class
+pub judged_step : (j : Judge) (limit : ℕ) (earlier : List AskedValue) (step : AskedValue) (told : Told) → step_holds j limit earlier step ≡ true
+    → step.judged ≡ true → told_in step.reply ≡ Some told
+    → judged_holds (grounds_of j limit earlier step) step told (foreign_record step.query told) ≡ true
 unfolding step_holds
-judged_parts j limit earlier step told h judged heard native =
+judged_step j limit earlier step told h judged heard =
     let g = grounds_of j limit earlier step in
-    ap (judged_holds g step told) (sym native)
-    ∙ ap (λ b. if b then judged_holds g step told (foreign_record step.query told) else ends_bare Seen step) (sym judged)
+    ap (λ b. if b then judged_holds g step told (foreign_record step.query told) else ends_bare Seen step) (sym judged)
     ∙ ap (λ o. option_map_or (heard_holds g step) o (ends_bare Failed step)) (sym heard) ∙ h
 
 -- what a straight reply makes of a step
@@ -204,13 +236,13 @@ straight_step j limit earlier step q told set h judged heard same one kept plain
     let g = grounds_of j limit earlier step in
     let placed = judged_part step.depth told in
     let parts = and_parts (entries_hold g placed step.sets) (ending_holds g step told (outcome_of step.query told (with_entries placed step.sets)))
-    (judged_parts j limit earlier step told h judged heard (none_foreign j q step.query told set one same)) in
+    (ap (judged_holds g step told) (sym (none_foreign j q step.query told set one same)) ∙ judged_step j limit earlier step told h judged heard) in
     let alone = one_judged j q told set step.depth one kept in
     let entry = one_entry g (in_section Answer set) step.sets (ap (λ ps. entries_hold g ps step.sets) (sym alone) ∙ parts.0) in
     let sets : with_entries placed step.sets ≡ with_entry (in_section Answer set, entry.entry) ∷ [] =
     ap (λ ps. with_entries ps step.sets) alone ∙ ap (with_entries (in_section Answer set ∷ [])) entry.is in
     let outcome_is : outcome_of step.query told (with_entries placed step.sets) ≡ outcome.Accepted denial.None =
-    ap (outcome_of step.query told) sets ∙ is_accepted j q step.query told set (with_entry (in_section Answer set, entry.entry)) one same refl plain in
+    ap (outcome_of step.query told) sets ∙ is_accepted j q step.query told set (with_entry (in_section Answer set, entry.entry)) one same refl refl plain in
     let ends = and_parts (ending_eq (Answered denial.None) step.ending) (is_empty step.excuse) (ap (ending_holds g step told) (sym outcome_is) ∙ parts.1) in
     record {
       entry = entry.entry;
