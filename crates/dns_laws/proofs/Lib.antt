@@ -8,6 +8,9 @@ pub mod WorkedValid
 pub mod TestLemmas
 pub mod StraightLemmas
 pub mod StraightStepLemmas
+pub mod ToldSetLemmas
+pub mod DeniedOutcomes
+pub mod DenialLemmas
 pub mod QuestionLemmas
 pub mod SignedEntryLemmas
 pub mod KeyEntryLemmas

@@ -1,0 +1,250 @@
+-- What an answer shows by the outcome that led to it: a Secure denial comes from a Secure verdict on the records of one signer.
+use Rattle.std.proofs.Common.{◌≡◌, ◌⊎◌, inl, inr, ℕ, Bool, true, false, not, ◌&&◌, cond, List, [], ◌∷◌, Option, None, Some, if◌then◌else◌, refl, sym, ap, ◌∙◌, subst, true≢false}
+use Rattle.std.specs.Option.{option_map, option_map_or, option_and_then}
+use Rattle.std.specs.List.{filter, filter_map, cons_option, list_any, list_all, AllByRecursion}
+use Rattle.std.proofs.lemmas.Bool.{and_parts, and_from, not-true, false_from_ne_true}
+use Rattle.dns_model.specs.declared.proof.Proof.{Proof}
+use Rattle.dns_model.specs.declared.proof.Proof.TheVariants.{Secure, Insecure, Bogus, Indeterminate}
+use Rattle.dns_model.specs.declared.denial.Denial.{Denial}
+use Rattle.dns_model.specs.declared.denial.Denial.TheVariants as denied
+use Rattle.dns_model.specs.Names.{Labels, name_eq}
+use Rattle.dns_model.specs.Records.{Question}
+use Rattle.dns_model.specs.RecordViews.{rrsig_of}
+use Rattle.dns_model.specs.Owned.{OwnedNsec}
+use Rattle.dns_model.specs.SoundAnswers.{Told, is_secure}
+use Rattle.dns_model.proofs.EachLemmas.{each_passes}
+use Rattle.dns_model.proofs.SetLemmas.{name_refl}
+use Rattle.dns_denial.specs.declared.answered.Answered.{Answered}
+use Rattle.dns_denial.specs.declared.answered.Answered.TheVariants.{No, Plain, Expanded}
+use Rattle.dns_denial.specs.NsecVerdict.{can_deny, holds_query, nsec_verdict}
+use Rattle.dns_denial.proofs.Promises.{denial_of, expansion_of}
+use Rattle.dns_judgement.specs.Judged.{Judged, placed_of}
+use Rattle.dns_judgement.specs.Outcome as outcome
+use Rattle.dns_judgement.specs.Outcome.{Outcome, outcome_of, outcome_by_denials, has_answer, is_wildcard_signature, has_wildcard_signature, is_expanded_answer, is_expanded_for, decider_labels, least, answered, answered_from, is_unjudged, is_denying, denying, denials, signer_of, is_made_by, one_signer, secure_denial, is_insecure_authority, insecure_answer}
+use Rattle.dns_laws.specs.Denials.{IsDenier, ShowsDenial}
+use Rattle.dns_laws.proofs.GroundParts.{any_more, picked}
+use Rattle.dns_laws.proofs.TestLemmas.{passing, if_some, some_same, some_kept}
+use Rattle.dns_laws.proofs.ToldSetLemmas.{IsTold, AreTold, expanded_parts, expanded_answers}
+
+-- ---- how it is answered
+
+-- the decider of an expanded set has a number of labels
+record HasLabels (s : Judged) : Type 0 where
+  labels : ℕ
+  is : decider_labels s ≡ Some labels
+
+labels_of : (q : Question) (s : Judged) → is_expanded_for q s ≡ true → HasLabels s
+labels_of q s h =
+    let wild = (expanded_parts q s h).wild in
+    let read = passing _ (rrsig_of wild.value) wild.passes in
+    record {
+      labels = read.value.labels;
+      is = ap (λ o. option_map (λ sig. sig.labels) (option_and_then rrsig_of o)) wild.found ∙ ap (option_map (λ sig. sig.labels)) read.found;
+    }
+
+pub record IsExpansion (how : Answered) : Type 0 where
+  pub labels : ℕ
+  pub is : how ≡ Expanded labels
+
+least_is : (ns : List ℕ) (n : ℕ) (rest : List ℕ) → ns ≡ n ∷ rest → IsExpansion (answered_from (least ns))
+unfolding least
+least_is ns n rest is = subst (λ ms. IsExpansion (answered_from (least ms))) (sym is) (record { labels = _; is = refl })
+
+-- with an expanded set it is an expansion
+pub expanded_is : (q : Question) (told : Told) (sets : List Judged) → AreTold told sets → list_any (is_expanded_for q) sets ≡ true
+    → IsExpansion (answered q told sets)
+unfolding answered
+expanded_is q told sets each h =
+    let p = picked (is_expanded_for q) (λ s. IsTold told (placed_of s)) sets each h in
+    let kept = filter (is_expanded_for q) sets in
+    let begins = some_kept (is_expanded_for q) (is_expanded_for q) sets (λ s k. k) h in
+    let passes = subst (AllByRecursion (λ s. is_expanded_for q s ≡ true)) begins.is (each_passes (is_expanded_for q) sets) in
+    let first = labels_of q begins.first passes.0 in
+    let labels : filter_map decider_labels kept ≡ first.labels ∷ filter_map decider_labels begins.rest =
+    ap (filter_map decider_labels) begins.is ∙ ap (λ o. cons_option o (filter_map decider_labels begins.rest)) first.is in
+    let by = least_is (filter_map decider_labels kept) first.labels (filter_map decider_labels begins.rest) labels in
+    record {
+      labels = by.labels;
+      is = ap (λ b. cond b (answered_from (least (filter_map decider_labels kept))) No) (expanded_answers q told p.it p.known p.passes).answer ∙ by.is;
+    }
+
+no_answer_step : (answer : Bool) (labels : Option ℕ) → cond answer (answered_from labels) No ≡ No → answer ≡ false
+no_answer_step true None h = cc
+no_answer_step true (Some n) h = cc
+no_answer_step false labels h = refl
+
+no_answer : (q : Question) (told : Told) (sets : List Judged) → answered q told sets ≡ No → has_answer q told ≡ false
+unfolding answered
+no_answer q told sets h =
+    no_answer_step (has_answer q told) (least (filter_map decider_labels (filter (is_expanded_for q) sets))) h
+
+-- ---- the denying zone
+
+held_step : (denies holds : Bool) (rest : Proof) → cond (not denies) Bogus (cond (not holds) Bogus rest) ≡ Secure → holds ≡ true
+held_step true true rest h = refl
+held_step true false rest h = cc
+held_step false holds rest h = cc
+
+-- a Secure verdict asks that the zone holds the query
+verdict_holds : (q : Question) (apex : Labels) (code : ℕ) (how : Answered) (nsecs : List OwnedNsec) → nsec_verdict q apex code how nsecs ≡ Secure
+    → holds_query apex q ≡ true
+unfolding nsec_verdict
+verdict_holds q apex code how nsecs h = held_step (can_deny code) (holds_query apex q) _ h
+
+made_step : (s : Judged) (rest : List Judged) (apex : Labels) (o : Option Labels) → signer_of s ≡ o
+    → option_and_then (λ zone. if list_all (is_made_by zone) rest then Some zone else None) o ≡ Some apex → list_all (is_made_by apex) (s ∷ rest) ≡ true
+made_step s rest apex None is h = cc
+made_step s rest apex (Some zone) is h =
+    let parts = if_some (list_all (is_made_by zone) rest) (Some zone) apex h in
+    let same = some_same zone apex parts.1 in
+    and_from (is_made_by apex s) (list_all (is_made_by apex) rest)
+    (ap (λ o. option_map_or (name_eq apex) o false) is ∙ ap (name_eq apex) same ∙ name_refl apex)
+    (ap (λ z. list_all (is_made_by z) rest) (sym same) ∙ parts.0)
+
+-- the one signer made each set
+made_by_one : (sets : List Judged) (apex : Labels) → one_signer sets ≡ Some apex → list_all (is_made_by apex) sets ≡ true
+made_by_one [] apex h = cc
+made_by_one (s ∷ rest) apex h = made_step s rest apex (signer_of s) refl h
+
+-- ---- what is shown
+
+abbrev pub is_secure_denial : Denial → Bool
+is_secure_denial denied.None = false
+is_secure_denial (denied.Absent proof) = is_secure proof
+is_secure_denial (denied.Expanded proof) = is_secure proof
+
+-- nothing, where the denial isn't Secure and no set was expanded
+nothing_shown : (q : Question) (told : Told) (sets : List Judged) (d : Denial) → is_secure_denial d ≡ false → list_any (is_expanded_for q) sets ≡ false
+    → ShowsDenial q told sets d
+nothing_shown q told sets d plain none = record {
+  absent = λ e. absurd (true≢false (sym (ap is_secure_denial e) ∙ plain));
+  expanded = λ e. absurd (true≢false (sym (ap is_secure_denial e) ∙ plain));
+  denied = λ e. absurd (true≢false (sym e ∙ none));
+}
+
+-- by a Secure verdict, as it is answered
+shown_by : (q : Question) (told : Told) (sets : List Judged) (d : Denial) (apex : Labels) (how : Answered) → AreTold told sets → IsDenier q sets apex
+    → answered q told sets ≡ how → nsec_verdict q apex told.code how (denials sets) ≡ Secure → d ≡ secure_denial how → ShowsDenial q told sets d
+shown_by q told sets d apex No each denier is secure ends = record {
+  absent = λ e. record {
+    unanswered = no_answer q told sets is;
+    apex = apex;
+    denier = denier;
+    holds = denial_of q apex told.code No (denials sets) Secure (sym secure) refl refl;
+  };
+  expanded = λ e. let other : denied.Absent Secure ≡ denied.Expanded Secure = sym ends ∙ e in cc;
+  denied = λ e. let i = expanded_is q told sets each e in let other : No ≡ Expanded i.labels = sym is ∙ i.is in cc;
+}
+shown_by q told sets d apex Plain each denier is secure ends = record {
+  absent = λ e. let other : denied.None ≡ denied.Absent Secure = sym ends ∙ e in cc;
+  expanded = λ e. let other : denied.None ≡ denied.Expanded Secure = sym ends ∙ e in cc;
+  denied = λ e. let i = expanded_is q told sets each e in let other : Plain ≡ Expanded i.labels = sym is ∙ i.is in cc;
+}
+shown_by q told sets d apex (Expanded labels) each denier is secure ends = record {
+  absent = λ e. let other : denied.Expanded Secure ≡ denied.Absent Secure = sym ends ∙ e in cc;
+  expanded = λ e. record {
+    labels = labels;
+    expanded = is;
+    apex = apex;
+    denier = denier;
+    holds = expansion_of q apex told.code (Expanded labels) (denials sets) Secure labels (sym secure) refl refl;
+  };
+  denied = λ e. ends;
+}
+
+-- ---- the outcome behind an answer
+
+-- the outcome is that the answer is accepted with this denial, or a search led to it, which shows no Secure denial
+abbrev pub LeadsTo : Outcome → Denial → Type 0
+LeadsTo o d = (o ≡ outcome.Accepted d) ⊎ ((o ≡ outcome.Searched) × (is_secure_denial d ≡ false))
+
+-- what no answer follows from
+never_unjudged : (d : Denial) → LeadsTo outcome.Unjudged d → ⊥
+never_unjudged d (inl e) = cc
+never_unjudged d (inr e) = let other = e.0 in cc
+
+never_denied : (proof : Proof) (d : Denial) → LeadsTo (outcome.Denied proof) d → ⊥
+never_denied proof d (inl e) = cc
+never_denied proof d (inr e) = let other = e.0 in cc
+
+accepted_is : (c d : Denial) → LeadsTo (outcome.Accepted c) d → d ≡ c
+accepted_is c d (inl e) = cc
+accepted_is c d (inr e) = let other = e.0 in cc
+
+search_is : (d : Denial) → LeadsTo outcome.Searched d → is_secure_denial d ≡ false
+search_is d (inl e) = cc
+search_is d (inr e) = e.1
+
+-- the rows of the answer, of which the first decides
+row : (G : Type 0) (unjudged insecure denying expanded answer : Bool) (x y : Outcome) (d : Denial)
+    → LeadsTo (if unjudged then outcome.Unjudged
+    else if insecure then x
+    else if denying then y
+    else if expanded then outcome.Denied Bogus
+    else if answer then outcome.Accepted denied.None
+    else outcome.Searched) d
+    → (insecure ≡ true → LeadsTo x d → G) → (denying ≡ true → LeadsTo y d → G) → (expanded ≡ false → is_secure_denial d ≡ false → G) → G
+row G true i n e a x y d h insecure verdict plain = absurd (never_unjudged d h)
+row G false true n e a x y d h insecure verdict plain = insecure refl h
+row G false false true e a x y d h insecure verdict plain = verdict refl h
+row G false false false true a x y d h insecure verdict plain = absurd (never_denied Bogus d h)
+row G false false false false true x y d h insecure verdict plain = plain refl (ap is_secure_denial (accepted_is denied.None d h))
+row G false false false false false x y d h insecure verdict plain = plain refl (search_is d h)
+
+-- an Insecure answer is no Secure denial
+pub insecure_is_plain : (answer : Bool) → is_secure_denial (if answer then denied.None else denied.Absent Insecure) ≡ false
+insecure_is_plain true = refl
+insecure_is_plain false = refl
+
+verdict_step : (how : Answered) (proof : Proof) (d : Denial)
+    → LeadsTo (if is_secure proof then outcome.Accepted (secure_denial how) else outcome.Denied proof) d
+    → (proof ≡ Secure) × (d ≡ secure_denial how)
+verdict_step how Secure d h = (refl, accepted_is (secure_denial how) d h)
+verdict_step how Insecure d h = absurd (never_denied Insecure d h)
+verdict_step how Bogus d h = absurd (never_denied Bogus d h)
+verdict_step how Indeterminate d h = absurd (never_denied Indeterminate d h)
+
+-- by the denials of the authority section
+by_denials : (q : Question) (told : Told) (sets : List Judged) (d : Denial) (signer : Option Labels) → AreTold told sets
+    → list_any is_denying sets ≡ true → one_signer (denying sets) ≡ signer
+    → LeadsTo (outcome_by_denials q told.code (answered q told sets) (denials sets) signer) d → ShowsDenial q told sets d
+by_denials q told sets d None each some is h = absurd (never_denied Bogus d h)
+by_denials q told sets d (Some apex) each some is h =
+    let how = answered q told sets in
+    let proof = nsec_verdict q apex told.code how (denials sets) in
+    let parts = verdict_step how proof d h in
+    let denier : IsDenier q sets apex = record {
+      some = some;
+      made = made_by_one (denying sets) apex is;
+      holds = verdict_holds q apex told.code how (denials sets) parts.0;
+    } in
+    shown_by q told sets d apex how each denier refl parts.0 parts.1
+
+unexpanded_for : (q : Question) (sets : List Judged) → list_any is_expanded_answer sets ≡ false → list_any (is_expanded_for q) sets ≡ false
+unexpanded_for q sets none =
+    false_from_ne_true (list_any (is_expanded_for q) sets) (λ h. true≢false
+    (sym (any_more (is_expanded_for q) is_expanded_answer (λ s k. (and_parts (is_expanded_answer s) _ k).0) sets h) ∙ none))
+
+unexpanded_without : (q : Question) (told : Told) (sets : List Judged) → AreTold told sets → not (has_wildcard_signature told) ≡ true
+    → list_any (is_expanded_for q) sets ≡ false
+unexpanded_without q told sets each none =
+    false_from_ne_true (list_any (is_expanded_for q) sets) (λ h.
+    let p = picked (is_expanded_for q) (λ s. IsTold told (placed_of s)) sets each h in
+    true≢false (sym (expanded_answers q told p.it p.known p.passes).wild ∙ not-true (has_wildcard_signature told) none))
+
+-- an answer shows what it denies
+pub outcome_shows : (q : Question) (told : Told) (sets : List Judged) (d : Denial) → AreTold told sets → LeadsTo (outcome_of q told sets) d
+    → ShowsDenial q told sets d
+unfolding outcome_of
+outcome_shows q told sets d each h =
+    let insecure = is_insecure_authority q told sets in
+    let wild = has_wildcard_signature told in
+    let answer = if has_answer q told then denied.None else denied.Absent Insecure in
+    row (ShowsDenial q told sets d) (list_any is_unjudged sets) (insecure && not wild) (list_any is_denying sets) (list_any is_expanded_answer sets)
+    (has_answer q told && not wild) (insecure_answer q told)
+    (outcome_by_denials q told.code (answered q told sets) (denials sets) (one_signer (denying sets))) d h
+    (λ above k.
+    nothing_shown q told sets d (ap is_secure_denial (accepted_is answer d k) ∙ insecure_is_plain (has_answer q told))
+    (unexpanded_without q told sets each ((and_parts insecure (not wild) above).1)))
+    (λ some k. by_denials q told sets d (one_signer (denying sets)) each some refl k)
+    (λ none plain. nothing_shown q told sets d plain (unexpanded_for q sets none))
