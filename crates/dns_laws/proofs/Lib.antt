@@ -11,6 +11,7 @@ pub mod StraightStepLemmas
 pub mod ToldSetLemmas
 pub mod DeniedOutcomes
 pub mod DenialLemmas
+pub mod WorkedPromises
 pub mod QuestionLemmas
 pub mod SignedEntryLemmas
 pub mod KeyEntryLemmas
