@@ -1,4 +1,5 @@
 pub mod Outcome
+pub mod Expansions
 pub mod Joining
 pub mod SetKeys
 pub mod SetPlaces

@@ -1,5 +1,9 @@
+ghost use Rattle.std.specs.Prelude.{◌≡◌};
+ghost use Rattle.std.specs.Option.{option_copied};
+ghost use Rattle.dns_judgement.specs.Judged.{decider as decider_of};
+
 use dns_net::Link;
-use dns_record::{Proof, RecordSet, Section};
+use dns_record::{Proof, Record, RecordSet, Section};
 use std::marker::Model;
 
 /// A set, and the section that it stands in.
@@ -51,4 +55,14 @@ impl Model for ChainedSet {
     ghost Value = { Chained };
 
     ghost view = { λ c. record { judged = c.judged; chain = map link_value c.chain.items } };
+}
+
+/// The signature that decided.
+pub(crate) fn decider<'a>(set: &'a MarkedSet) -> Option<&'a Record>
+    ensures { option_copied result ≡ decider_of set.now }
+{
+    match set.sig {
+        Some(place) => set.set.rrsigs.get(place as usize),
+        None => None,
+    }
 }

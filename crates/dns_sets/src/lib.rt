@@ -2,7 +2,10 @@
 //! may use each call as the definition that its clause names.
 #![tactic(auto)]
 
+mod answering;
+mod denying;
 mod grouping;
+mod insecure_authority;
 mod judged_sets;
 mod marking;
 mod outcome;

@@ -1,18 +1,17 @@
-ghost use Rattle.std.specs.Prelude.{◌≡◌, ◌<◌, ◌^◌, ℕ, IfOk, OnOk, Some, length};
+ghost use Rattle.std.specs.Prelude.{◌≡◌, ◌<◌, ◌^◌, IfOk, OnOk, Some, length};
 ghost use Rattle.std.specs.List.{find};
-ghost use Rattle.dns_model.specs.Names.{Labels};
 ghost use Rattle.dns_model.specs.Views.{rrsig_in};
-ghost use Rattle.dns_model.specs.SoundAnswers.{section_eq, ttl_of, set_rtype as set_rtype_of, signed_ttl as signed_ttl_of};
+ghost use Rattle.dns_model.specs.SoundAnswers.{ttl_of, set_rtype as set_rtype_of, signed_ttl as signed_ttl_of};
 ghost use Rattle.dns_judgement.specs.Judged.{decider as decider_of};
 ghost use Rattle.dns_judgement.specs.Marking.{marked_section, is_about, adjusted_ttl as adjusted_ttl_of};
 ghost use Rattle.dns_judgement.specs.Chained.{bare, chains_of, finished as finished_value};
 ghost use Rattle.dns_judgement.specs.MarkParts.{marked_by, is_place as is_same_place, first_record};
-ghost use Rattle.dns_sets.specs.SetPlaces.{ArePlacedIn, place_of, with_judged};
-ghost use Rattle.dns_sets.specs.Counting.{is_readable, count_at, counted};
+ghost use Rattle.dns_sets.specs.SetPlaces.{ArePlacedIn, place_of};
+ghost use Rattle.dns_sets.specs.Counting.{count_at, counted};
 
 use crate::grouping::clear_one;
-use crate::outcome::decider;
-use crate::set_places::SetPlaces;
+use crate::judged_sets::decider;
+use crate::set_places::{SetPlaces, judged_places, set_rtype};
 use crate::{ChainedSet, MarkedSet};
 use dns_message::Message;
 use dns_name::NoMemory;
@@ -34,12 +33,23 @@ pub fn finished(
     ensures { IfOk result (λ r. r ≡ finished_value now sets.items message denial trail) }
 {
     let mut message = message;
+    let answers = judged_places(alloc, &sets, Section::Answer)?;
+    let authorities = judged_places(alloc, &sets, Section::Authority)?;
+    let additionals = judged_places(alloc, &sets, Section::Additional)?;
     let (marked, chains) = parted(alloc, sets)?;
-    mark_section(alloc, now, &marked, Section::Answer, &mut message.answers)?;
     mark_section(
         alloc,
         now,
         &marked,
+        &answers,
+        Section::Answer,
+        &mut message.answers,
+    )?;
+    mark_section(
+        alloc,
+        now,
+        &marked,
+        &authorities,
         Section::Authority,
         &mut message.authorities,
     )?;
@@ -47,6 +57,7 @@ pub fn finished(
         alloc,
         now,
         &marked,
+        &additionals,
         Section::Additional,
         &mut message.additionals,
     )?;
@@ -82,62 +93,19 @@ fn mark_section(
     alloc: Global,
     now: u64,
     sets: &[MarkedSet],
+    places: &SetPlaces,
     section: Section,
     records: &mut [Record],
 ) -> Result<(), NoMemory>
+    requires { ArePlacedIn places.now section sets.now }
     ensures { OnOk result (records.new ≡ marked_section now sets.now section records.old) }
 {
-    let places = judged_places(alloc, sets, section)?;
     // how many signatures of each set were met
     let mut counts = vec![in alloc; 0usize; sets.len()]?;
     for next in records.iter_mut() {
-        mark(now, sets, &places, section, &mut counts, next);
+        mark(now, sets, places, section, &mut counts, next);
     }
     Ok(())
-}
-
-// The places of the sets of a section.
-fn judged_places(alloc: Global, sets: &[MarkedSet], section: Section) -> Result<SetPlaces, NoMemory>
-    ensures { IfOk result (λ p. ArePlacedIn p section sets.now) }
-{
-    let mut places = SetPlaces::new(alloc);
-    for (place, judged) in sets.iter().enumerate() {
-        add_judged(&mut places, section, judged, place)?;
-    }
-    Ok(places)
-}
-
-// Gives a set of the section its place.
-fn add_judged(
-    places: &mut SetPlaces,
-    section: Section,
-    judged: &MarkedSet,
-    place: usize,
-) -> Result<(), NoMemory>
-    ensures { OnOk result ((o : Labels) (k : ℕ) → place_of places.new o k
-        ≡ with_judged (place_of places.old) section judged.now place o k) }
-{
-    if !is_section(judged.section, section) {
-        return Ok(());
-    }
-    places.add(&judged.set.name, judged.set.record_type, place)
-}
-
-fn is_section(one: Section, other: Section) -> bool
-    ensures { result ≡ section_eq one other }
-{
-    one == other
-}
-
-// The type of the set that a record belongs to, or that it covers as a signature; and whether it is one that can be read.
-fn set_rtype(of: &Record) -> (RecordType, bool)
-    ensures rtype { result.0.0 ≡ set_rtype_of of.now }
-    ensures readable { result.1 ≡ is_readable of.now }
-{
-    match Rrsig::of(of) {
-        Some(sig) => (sig.type_covered, true),
-        None => (of.record_type, false),
-    }
 }
 
 // Gives a record the mark of its set. Of a set's signatures only the one that decided has it, so they are counted.

@@ -1,24 +1,26 @@
-ghost use Rattle.std.specs.Prelude.{◌≡◌};
+ghost use Rattle.std.specs.Prelude.{◌≡◌, ◌&&◌, not, IfOk};
 ghost use Rattle.std.specs.List.{list_any};
 ghost use Rattle.std.specs.Option.{option_copied};
 ghost use Rattle.dns_model.specs.SoundAnswers.{told_by};
-ghost use Rattle.dns_judgement.specs.Judged.{decider as decider_of};
 ghost use Rattle.dns_judgement.specs.Chained.{bare};
 ghost use Rattle.dns_judgement.specs.Delegations.{ZoneVerdict, is_insecure};
 ghost use Rattle.dns_judgement.specs.Unsigned.{unsigned_mark};
-ghost use Rattle.dns_judgement.specs.Outcome.{outcome_of as told_outcome, outcome_by_zone as told_by_zone, insecure_answer as told_insecure, foreign_record as foreign_in, answers_query as answers_asked, is_wildcard_signature as is_expanded_signature, needs_denial as wants_denial};
-ghost use Rattle.dns_judgement.specs.MarkParts.{is_expanded_by};
+ghost use Rattle.dns_judgement.specs.Outcome.{outcome_of as told_outcome, outcome_by_zone as told_by_zone, insecure_answer as told_insecure, foreign_record as foreign_in, is_unjudged as is_unjudged_set, is_insecure_authority as is_told_insecure, has_wildcard_signature as has_told_wildcard};
 ghost use Rattle.dns_sets.specs.Outcome.{outcome_value};
 
-use crate::{ChainedSet, MarkedSet};
+use crate::ChainedSet;
+use crate::answering::{has_answer, has_expanded_answer, has_wildcard_signature};
+use crate::denying::{has_denying, outcome_by_denials};
+use crate::insecure_authority::is_insecure_authority;
 use dns_message::Message;
-use dns_rdata::Rrsig;
+use dns_name::NoMemory;
 use dns_record::{Denial, Proof, Query, Record, RecordType};
+use std::alloc::Global;
 
 /// How a judged step ends.
 #[derive(Clone, Copy, Debug, PartialEq, Eq)]
 pub enum Outcome {
-    /// It can't be judged yet, since denial of existence isn't.
+    /// It can't be judged yet, since NSEC3 isn't.
     Unjudged,
     /// Its response is an answer.
     Accepted(Denial),
@@ -28,19 +30,36 @@ pub enum Outcome {
     Denied(Proof),
 }
 
-/// How a step ends whose sets are judged (RFC 4035, 5.3.4 and 5.4).
-#[tactic(auto, using(crate::proofs::Joining::any_map, crate::proofs::OutcomeLemmas::either_way), unfolding(dns_judgement::specs::Outcome::outcome_of))]
-pub fn outcome_of(query: &Query, message: &Message, sets: &[ChainedSet]) -> Outcome
-    ensures { outcome_value result ≡ told_outcome query.now (told_by message.now) (bare sets.now) }
+/// How a step ends whose sets are judged: the first case that holds decides (RFC 4035, 5.3.4 and 5.4).
+#[tactic(auto, unfolding(dns_judgement::specs::Outcome::outcome_of))]
+pub fn outcome_of(
+    alloc: Global,
+    query: &Query,
+    message: &Message,
+    sets: &[ChainedSet],
+) -> Result<Outcome, NoMemory>
+    ensures { IfOk result (λ o. outcome_value o ≡ told_outcome query.now (told_by message.now) (bare sets.now)) }
 {
-    if !has_answer(query, &message.answers) || has_unjudged(sets) {
-        Outcome::Unjudged
-    } else if !has_wildcard_signature(&message.answers) {
-        // an answer stands beside an Insecure authority section as well, so that section isn't looked at
-        Outcome::Accepted(Denial::None)
-    } else {
-        Outcome::Searched
+    if has_unjudged(sets) {
+        return Ok(Outcome::Unjudged);
     }
+    // the zone above the name is Insecure, and nothing is said to come from a wildcard (RFC 4035, 4.3)
+    if is_insecure_step(alloc, query, message, sets)? {
+        return Ok(insecure_answer(query, message));
+    }
+    // what is denied has to follow from the denials of one zone (RFC 4035, 5.4)
+    if has_denying(sets) {
+        return outcome_by_denials(alloc, query, message, sets);
+    }
+    // an expansion without a denial of closer names (RFC 4035, 5.3.4)
+    if has_expanded_answer(sets) {
+        return Ok(Outcome::Denied(Proof::Bogus));
+    }
+    if has_answer(query, &message.answers) && !has_wildcard_signature(&message.answers) {
+        return Ok(Outcome::Accepted(Denial::None));
+    }
+    // a signed zone would have denied (RFC 4035, 3.1.3)
+    Ok(Outcome::Searched)
 }
 
 /// How a step ends whose query's zone was searched, by the mark that the zone leaves to what is unsigned: where it is Insecure,
@@ -81,78 +100,32 @@ pub fn foreign_record<'a>(query: &Query, message: &'a Message) -> Option<&'a Rec
         .find(|found| found.dns_class != class)
 }
 
-// A record at the query name has the query's type, or is a CNAME.
-fn has_answer(query: &Query, answers: &[Record]) -> bool
-    ensures { result ≡ list_any (answers_asked query.now) answers.now }
-{
-    answers.iter().any(|found| answers_query(query, found))
-}
-
-fn answers_query(query: &Query, found: &Record) -> bool
-    ensures { result ≡ answers_asked query.now found.now }
-{
-    query.name == found.name
-        && (found.record_type == query.query_type || found.record_type == RecordType::CNAME)
-}
-
+#[tactic(auto, using(crate::proofs::Joining::any_map))]
 fn has_unjudged(sets: &[ChainedSet]) -> bool
-    ensures { result ≡ list_any (λ c. wants_denial c.judged) sets.now }
+    ensures { result ≡ list_any is_unjudged_set (bare sets.now) }
 {
     sets.iter().any(is_unjudged)
 }
 
+// Whether a set is of NSEC3 records and Secure (RFC 5155).
 fn is_unjudged(set: &ChainedSet) -> bool
-    ensures { result ≡ wants_denial set.now.judged }
+    ensures { result ≡ is_unjudged_set set.now.judged }
 {
-    needs_denial(&set.judged)
+    set.judged.mark == Proof::Secure && set.judged.set.record_type == RecordType::NSEC3
 }
 
-// Whether a set is Secure and can only be judged with denial of existence.
-fn needs_denial(set: &MarkedSet) -> bool
-    ensures { result ≡ wants_denial set.now }
+// Whether no more than Insecure can be expected of a response, and no signature says that it comes from a wildcard.
+fn is_insecure_step(
+    alloc: Global,
+    query: &Query,
+    message: &Message,
+    sets: &[ChainedSet],
+) -> Result<bool, NoMemory>
+    ensures { IfOk result (λ b. b ≡
+        (is_told_insecure query.now (told_by message.now) (bare sets.now) && not (has_told_wildcard (told_by message.now)))) }
 {
-    if set.mark != Proof::Secure {
-        return false;
+    if has_wildcard_signature(&message.answers) {
+        return Ok(false);
     }
-    let record_type = set.set.record_type;
-    record_type == RecordType::NSEC
-        || record_type == RecordType::NSEC3
-        || is_decided_by_wildcard(set)
-}
-
-// Whether the signature that decided has fewer labels than its owner.
-fn is_decided_by_wildcard(set: &MarkedSet) -> bool
-    ensures { result ≡ is_expanded_by (decider_of set.now) }
-{
-    match decider(set) {
-        Some(signature) => is_expanded(signature),
-        None => false,
-    }
-}
-
-// The signature that decided.
-pub(crate) fn decider<'a>(set: &'a MarkedSet) -> Option<&'a Record>
-    ensures { option_copied result ≡ decider_of set.now }
-{
-    match set.sig {
-        Some(place) => set.set.rrsigs.get(place as usize),
-        None => None,
-    }
-}
-
-// Whether a record is a readable signature that has fewer labels than its owner.
-fn is_expanded(signature: &Record) -> bool
-    ensures { result ≡ is_expanded_signature signature.now }
-{
-    match Rrsig::of(signature) {
-        Some(sig) => sig.labels < signature.name.borrowed().num_labels(),
-        None => false,
-    }
-}
-
-// Whether a readable signature among the records has fewer labels than its owner.
-fn has_wildcard_signature(records: &[Record]) -> bool
-    ensures { result ≡ list_any is_expanded_signature records.now }
-{
-    records.iter().any(is_expanded)
+    is_insecure_authority(alloc, query, message, sets)
 }

@@ -1,10 +1,15 @@
-ghost use Rattle.std.specs.Prelude.{◌≡◌, ℕ, None, OnOk};
+ghost use Rattle.std.specs.Prelude.{◌≡◌, ℕ, None, IfOk, OnOk};
 ghost use Rattle.dns_model.specs.Names.{Labels};
-ghost use Rattle.dns_sets.specs.SetPlaces.{place_at_key, place_of, with_place};
+ghost use Rattle.dns_model.specs.SoundAnswers.{section_eq, set_rtype as set_rtype_of};
+ghost use Rattle.dns_judgement.specs.Chained.{bare};
+ghost use Rattle.dns_sets.specs.SetPlaces.{ArePlacedIn, place_at_key, place_of, with_place, with_judged};
+ghost use Rattle.dns_sets.specs.Counting.{is_readable};
 
 use crate::set_key::SetKey;
+use crate::{ChainedSet, MarkedSet};
 use dns_name::{Name, NoMemory};
-use dns_record::{Record, RecordType};
+use dns_rdata::Rrsig;
+use dns_record::{Record, RecordType, Section};
 use std::alloc::Global;
 use std::collections::BTreeMap;
 
@@ -71,5 +76,54 @@ impl SetPlaces {
             ≡ with_place (place_of self.old) met.now.owner met.now.rtype place o k) }
     {
         self.add(&met.name, met.record_type, place)
+    }
+}
+
+/// The places of the sets of a section.
+pub(crate) fn judged_places(
+    alloc: Global,
+    sets: &[ChainedSet],
+    section: Section,
+) -> Result<SetPlaces, NoMemory>
+    ensures { IfOk result (λ p. ArePlacedIn p section (bare sets.now)) }
+{
+    let mut places = SetPlaces::new(alloc);
+    for (place, set) in sets.iter().enumerate() {
+        add_judged(&mut places, section, &set.judged, place)?;
+    }
+    Ok(places)
+}
+
+// Gives a set of the section its place.
+fn add_judged(
+    places: &mut SetPlaces,
+    section: Section,
+    judged: &MarkedSet,
+    place: usize,
+) -> Result<(), NoMemory>
+    ensures { OnOk result ((o : Labels) (k : ℕ) → place_of places.new o k
+        ≡ with_judged (place_of places.old) section judged.now place o k) }
+{
+    if !is_section(judged.section, section) {
+        return Ok(());
+    }
+    places.add(&judged.set.name, judged.set.record_type, place)
+}
+
+/// Whether sections are one.
+pub(crate) fn is_section(one: Section, other: Section) -> bool
+    ensures { result ≡ section_eq one other }
+{
+    one == other
+}
+
+/// The type of the set that a record belongs to, or that it covers as a signature; and whether it is one that can be read.
+pub(crate) fn set_rtype(of: &Record) -> (RecordType, bool)
+    ensures rtype { result.0.0 ≡ set_rtype_of of.now }
+    ensures readable { result.1 ≡ is_readable of.now }
+{
+    match Rrsig::of(of) {
+        Some(sig) => (sig.type_covered, true),
+        None => (of.record_type, false),
     }
 }

@@ -53,14 +53,14 @@ fn outcome(alloc: Global, records: &[Met]) -> Result<Outcome, Fail> {
     let query = query(alloc, "A.")?;
     let message = message(alloc, records)?;
     let sets: Vec<ChainedSet> = Vec::new(alloc);
-    Ok(outcome_of(&query, &message, &sets))
+    Ok(outcome_of(alloc, &query, &message, &sets)?)
 }
 
 #[test]
 fn a_step_ends_by_its_records(rt: HostRuntime) -> Result<(), Fail> {
     let alloc = rt.alloc();
-    assert!(rt; outcome(alloc, &[])? == Outcome::Unjudged);
-    assert!(rt; outcome(alloc, &UNANSWERED)? == Outcome::Unjudged);
+    assert!(rt; outcome(alloc, &[])? == Outcome::Searched);
+    assert!(rt; outcome(alloc, &UNANSWERED)? == Outcome::Searched);
     assert!(rt; outcome(alloc, &ANSWERED)? == Outcome::Accepted(Denial::None));
     assert!(rt; outcome(alloc, &FROM_WILDCARD)? == Outcome::Searched);
     Ok(())
