@@ -14,13 +14,13 @@ ghost use Rattle.dns_trail.specs.Endings.{ending_fits};
 ghost use Rattle.dns_trail.specs.Grounds.{AreKnown, grounds_of};
 
 use crate::grounds::Grounds;
-use crate::search::{question_start, search_zone};
+use crate::search::search_zone;
 use dns_message::Message;
 use dns_name::NoMemory;
 use dns_net::{AskRef, Ending, Verifier};
 use dns_record::{Denial, Proof, Record};
 use dns_sets::{ChainedSet, Outcome, outcome_by_zone, outcome_of};
-use dns_trust::Judge;
+use dns_trust::{Judge, question_start};
 
 /// The ending and the asks on which it stands follow from the judged sets of a step.
 pub(crate) fn ending_holds<V: Verifier>(

@@ -8,7 +8,7 @@ ghost use Rattle.dns_judgement.specs.Chained.{bare};
 ghost use Rattle.dns_judgement.specs.Derivation.{entries_hold, entry_holds, has_mark_of, is_by_rules, keys_hold, search_from, unsigned_holds, with_entries};
 ghost use Rattle.dns_judgement.specs.DerivationParts.{is_by_verdicts, with_entry};
 ghost use Rattle.dns_judgement.specs.KeySets.{needs_ds};
-ghost use Rattle.dns_judgement.specs.Unsigned.{is_searched as needs_search, set_start as start_of_set};
+ghost use Rattle.dns_judgement.specs.Unsigned.{set_start as start_of_set};
 ghost use Rattle.dns_trust.specs.Judge.{judge_of};
 ghost use Rattle.dns_trail.specs.Trying.{zone_proof};
 ghost use Rattle.dns_trail.specs.Ended.{some_if};
@@ -17,14 +17,15 @@ ghost use Rattle.dns_trail.specs.Grounds.{AreKnown, grounds_of};
 
 use crate::grounds::{Grounds, answer_of, is_ask};
 use crate::repeats::is_repeated;
-use crate::search::{search_zone, set_start};
+use crate::search::search_zone;
 use crate::verdicts::verdicts_by;
 use dns_name::NoMemory;
 use dns_net::{AskRef, JudgedSet, MarkOrigin, Verifier};
 use dns_record::{Proof, RecordSet, RecordType};
 use dns_sets::{ChainedSet, MarkedSet, PlacedSet};
 use dns_trust::{
-    Judge, KeysStep, ds_ask_of, first_signatures, judged_by, judged_by_ds, judged_keys, unsigned_by,
+    Judge, KeysStep, ds_ask_of, first_signatures, is_searched, judged_by, judged_by_ds,
+    judged_keys, set_start, unsigned_by,
 };
 use std::alloc::Global;
 
@@ -189,13 +190,6 @@ fn is_key_set(set: &RecordSet) -> bool
     ensures { result ≡ (set.now.rtype == type_dnskey) }
 {
     set.record_type == RecordType::DNSKEY
-}
-
-// No signature covers the set, and it isn't DS, so that its zone decides.
-fn is_searched(set: &RecordSet) -> bool
-    ensures { result ≡ needs_search set.now }
-{
-    set.rrsigs.is_empty() && set.record_type != RecordType::DS
 }
 
 // A key set, judged by the anchors, and where these don't decide, by the one ask for the DS set of its owner.

@@ -3,9 +3,8 @@
 ghost use Rattle.std.specs.Prelude.{◌≡◌, not, IfOk};
 ghost use Rattle.std.specs.Option.{option_map};
 ghost use Rattle.dns_model.specs.Names.{Labels};
-ghost use Rattle.dns_judgement.specs.Delegations.{ds_question};
 ghost use Rattle.dns_judgement.specs.Derivation.{is_empty, search_by, sight_by as sight_in, sight_of, zone_asked};
-ghost use Rattle.dns_judgement.specs.Unsigned.{has_ns as shows_ns, is_ns_of as is_ns_record, ns_question, question_start as start_of_question, set_start as start_of_set};
+ghost use Rattle.dns_judgement.specs.Unsigned.{has_ns as shows_ns};
 ghost use Rattle.dns_trail.specs.Grounds.{AreKnown, grounds_of};
 ghost use Rattle.dns_trust.specs.Judge.{judge_of};
 ghost use Rattle.dns_trail.specs.Ended.{some_if};
@@ -16,8 +15,8 @@ ghost use Rattle.dns_model.specs.Trails.{Records};
 use crate::grounds::{Grounds, answer_of, is_ask, is_plain_ask};
 use dns_name::{Name, NoMemory};
 use dns_net::{AskRef, Asked, Reply, Told, Verifier};
-use dns_record::{DNSClass, Proof, Query, Record, RecordSet, RecordType};
-use dns_trust::{Judge, zone_mark};
+use dns_record::{DNSClass, Proof};
+use dns_trust::{Judge, ds_query, is_ns_of, ns_query, zone_mark};
 
 // What a plain ask for the NS records of a name comes to.
 #[derive(Clone, Copy, Debug, PartialEq, Eq)]
@@ -88,7 +87,7 @@ fn ask_zone<V: Verifier>(
     let Some((ask, left)) = asks.split_first() else {
         return Ok(None);
     };
-    let question = ds_query(zone, class)?;
+    let question = ds_query(zone.try_clone()?, class);
     if !left.is_empty() || !is_ask(grounds, &question, *ask) {
         return Ok(None);
     }
@@ -139,56 +138,4 @@ fn has_ns(name: &Name, told: &Told) -> bool
         .chain(told.authorities.iter())
         .chain(told.additionals.iter())
         .any(|found| is_ns_of(name, found))
-}
-
-fn is_ns_of(name: &Name, found: &Record) -> bool
-    ensures { result ≡ is_ns_record name.now found.now }
-{
-    *name == found.name && found.record_type == RecordType::NS
-}
-
-// The question for the NS records of a name.
-fn ns_query(name: &Name, class: DNSClass) -> Result<Query, NoMemory>
-    ensures { IfOk result (λ q. q ≡ ns_question class.0 name.now) }
-{
-    let name = name.try_clone()?;
-    Ok(Query {
-        name,
-        query_type: RecordType::NS,
-        query_class: class,
-    })
-}
-
-// The question for the DS set of a zone.
-fn ds_query(zone: &Name, class: DNSClass) -> Result<Query, NoMemory>
-    ensures { IfOk result (λ q. q ≡ ds_question class.0 zone.now) }
-{
-    let name = zone.try_clone()?;
-    Ok(Query {
-        name,
-        query_type: RecordType::DS,
-        query_class: class,
-    })
-}
-
-/// Where the search for a set's zone begins: an NSEC3 stands right below its zone (RFC 5155, 3).
-pub(crate) fn set_start(set: &RecordSet) -> Result<Name, NoMemory>
-    ensures { IfOk result (λ n. n ≡ start_of_set set.now) }
-{
-    if set.record_type == RecordType::NSEC3 {
-        set.name.base_name()
-    } else {
-        set.name.try_clone()
-    }
-}
-
-/// Where the search for a question's zone begins: a DS stands in the zone above (RFC 4035, 2.4).
-pub(crate) fn question_start(query: &Query) -> Result<Name, NoMemory>
-    ensures { IfOk result (λ n. n ≡ start_of_question query.now) }
-{
-    if query.query_type == RecordType::DS {
-        query.name.base_name()
-    } else {
-        query.name.try_clone()
-    }
 }

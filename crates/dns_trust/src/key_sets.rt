@@ -15,10 +15,12 @@ use crate::chains::{
     anchored_chain, anchored_link, last_number, matched_link, self_signed_chain, trusted_chain,
 };
 use crate::unsigned::{ds_set_of, mark_by_unsupported, mark_without_ds};
-use crate::{AnchoredRow, DsIndex, Judge, MatchedRow, SignedBy, anchored_row, matched_row};
+use crate::{
+    AnchoredRow, DsIndex, Judge, MatchedRow, SignedBy, anchored_row, ds_query, matched_row,
+};
 use dns_name::NoMemory;
 use dns_net::{Link, Verifier, clone_links};
-use dns_record::{Proof, Query, Record, RecordSet, RecordType};
+use dns_record::{Proof, Query, Record, RecordSet};
 use dns_sets::{ChainedSet, MarkedSet, PlacedSet};
 use std::alloc::Global;
 
@@ -73,11 +75,7 @@ pub fn ds_ask_of(set: &RecordSet) -> Result<Query, NoMemory>
     ensures { IfOk result (λ q. q ≡ ds_question set.now.class set.now.owner) }
 {
     let name = set.name.try_clone()?;
-    Ok(Query {
-        name,
-        query_type: RecordType::DS,
-        query_class: set.dns_class,
-    })
+    Ok(ds_query(name, set.dns_class))
 }
 
 // A placed set with its mark and its chain.

@@ -1,0 +1,67 @@
+//! What the search for the zone of a name asks, where it begins, and what it looks for (RFC 4035, 4.3 and 5.2).
+
+ghost use Rattle.std.specs.Prelude.{◌≡◌, IfOk};
+ghost use Rattle.dns_judgement.specs.Delegations.{ds_question};
+ghost use Rattle.dns_judgement.specs.Unsigned.{is_ns_of as is_ns_record, is_searched as needs_search, ns_question, question_start as start_of_question, set_start as start_of_set};
+
+use dns_name::{Name, NoMemory};
+use dns_record::{DNSClass, Query, Record, RecordSet, RecordType};
+
+/// No signature covers the set, and it isn't DS, so that its zone decides.
+pub fn is_searched(set: &RecordSet) -> bool
+    ensures { result ≡ needs_search set.now }
+{
+    set.rrsigs.is_empty() && set.record_type != RecordType::DS
+}
+
+/// Where the search for a set's zone begins: an NSEC3 stands right below its zone (RFC 5155, 3).
+pub fn set_start(set: &RecordSet) -> Result<Name, NoMemory>
+    ensures { IfOk result (λ n. n ≡ start_of_set set.now) }
+{
+    if set.record_type == RecordType::NSEC3 {
+        set.name.base_name()
+    } else {
+        set.name.try_clone()
+    }
+}
+
+/// Where the search for a question's zone begins: a DS stands in the zone above (RFC 4035, 2.4).
+pub fn question_start(query: &Query) -> Result<Name, NoMemory>
+    ensures { IfOk result (λ n. n ≡ start_of_question query.now) }
+{
+    if query.query_type == RecordType::DS {
+        query.name.base_name()
+    } else {
+        query.name.try_clone()
+    }
+}
+
+/// The question for the NS records of a name.
+pub fn ns_query(name: &Name, class: DNSClass) -> Result<Query, NoMemory>
+    ensures { IfOk result (λ q. q ≡ ns_question class.0 name.now) }
+{
+    let name = name.try_clone()?;
+    Ok(Query {
+        name,
+        query_type: RecordType::NS,
+        query_class: class,
+    })
+}
+
+/// Whether a record is an NS record of a name, whatever its class.
+pub fn is_ns_of(name: &Name, found: &Record) -> bool
+    ensures { result ≡ is_ns_record name.now found.now }
+{
+    *name == found.name && found.record_type == RecordType::NS
+}
+
+/// The question for the DS set of a zone.
+pub fn ds_query(zone: Name, class: DNSClass) -> Query
+    ensures { result ≡ ds_question class.0 zone }
+{
+    Query {
+        name: zone,
+        query_type: RecordType::DS,
+        query_class: class,
+    }
+}
