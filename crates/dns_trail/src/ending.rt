@@ -21,9 +21,11 @@ use dns_net::{AskRef, Ending, Verifier};
 use dns_record::{Denial, Proof, Record};
 use dns_sets::{ChainedSet, Outcome, outcome_by_zone, outcome_of};
 use dns_trust::{Judge, question_start};
+use std::alloc::Global;
 
 /// The ending and the asks on which it stands follow from the judged sets of a step.
 pub(crate) fn ending_holds<V: Verifier>(
+    alloc: Global,
     judge: &Judge<'_, V>,
     grounds: &Grounds<'_>,
     message: &Message,
@@ -36,7 +38,7 @@ pub(crate) fn ending_holds<V: Verifier>(
         (told_outcome grounds.now.query.now (told_by message.now) (bare sets.now)) (ending_value ending.now) excuse.now) }
 {
     let query = grounds.query;
-    match outcome_of(query, message, sets) {
+    match outcome_of(alloc, query, message, sets)? {
         Outcome::Unjudged => Ok(is_failed(ending) && excuse.is_empty()),
         Outcome::Accepted(denial) => Ok(is_answered(ending, denial) && excuse.is_empty()),
         Outcome::Denied(proof) => Ok(is_denied(ending, proof) && excuse.is_empty()),

@@ -158,7 +158,7 @@ fn end_judged<V: Verifier>(
     let Some(sets) = judged_sets(alloc, judge, grounds, placed, &step.sets)? else {
         return Ok(None);
     };
-    if !ending_holds(judge, grounds, message, &sets, &step.ending, &step.excuse)? {
+    if !ending_holds(alloc, judge, grounds, message, &sets, &step.ending, &step.excuse)? {
         return Ok(None);
     }
     let places = places_if(alloc, grounds.repeats, &sets)?;
