@@ -1,17 +1,18 @@
 ghost use Rattle.std.specs.Prelude.{◌≡◌, ◌==◌, ◌&&◌, IfOk, Some};
 ghost use Rattle.dns_model.specs.Views.{dnskey_in, rrsig_in};
 ghost use Rattle.dns_model.specs.Signing.{key_tag_of, signed_bytes};
-ghost use Rattle.dns_model.specs.Serial.{timely};
-ghost use Rattle.dns_model.specs.Chains.{is_good as is_good_in, is_signed as is_signed_in, key_comes as key_comes_in, never_expanded, right_below_signer, signer_fits as signer_fits_in};
+ghost use Rattle.dns_model.specs.Chains.{is_good as is_good_in, is_signed as is_signed_in, key_comes as key_comes_in};
 ghost use Rattle.dns_trust.specs.Judge.{judge_of};
 ghost use Rattle.dns_chain_check.specs.Fitting.{fits_set};
 
 use crate::earlier::Earlier;
 use dns_name::{Name, NoMemory};
 use dns_net::{Verifier, has_rdata};
-use dns_rdata::{Dnskey, Rrsig, SerialNumber, key_tag, signed_data_of};
+use dns_rdata::{Dnskey, Rrsig, key_tag, signed_data_of};
 use dns_record::{DNSClass, Rdata, RecordType};
-use dns_trust::{Judge, is_usable};
+use dns_trust::{
+    Judge, is_never_expanded, is_right_below_signer, is_timely, is_usable, signer_fits,
+};
 use std::alloc::Global;
 
 /// The set of a signed link.
@@ -53,43 +54,10 @@ fn fits(set: &SignedSet<'_>, sig: &Rrsig<'_>) -> bool
     ensures { result ≡ fits_set set.now.owner.now set.now.record_type.0 sig.now }
 {
     sig.type_covered == set.record_type
-        && signer_fits(set, sig)
+        && signer_fits(set.owner, set.record_type, &sig.signer)
         && sig.labels <= set.owner.borrowed().num_labels()
-        && is_never_expanded(set, sig)
-        && is_right_below_signer(set, sig)
-}
-
-// The signer stands at the owner or above it; a DS stands in the zone above.
-fn signer_fits(set: &SignedSet<'_>, sig: &Rrsig<'_>) -> bool
-    ensures { result ≡ signer_fits_in set.now.record_type.0 sig.now.signer set.now.owner.now }
-{
-    if set.record_type == RecordType::DS {
-        sig.signer.strictly_above(&set.owner.borrowed())
-    } else {
-        sig.signer.zone_of(&set.owner.borrowed())
-    }
-}
-
-// An NSEC or NSEC3 isn't expanded from a wildcard.
-fn is_never_expanded(set: &SignedSet<'_>, sig: &Rrsig<'_>) -> bool
-    ensures { result ≡ never_expanded set.now.record_type.0 sig.now.labels set.now.owner.now }
-{
-    if set.record_type == RecordType::NSEC || set.record_type == RecordType::NSEC3 {
-        sig.labels == set.owner.borrowed().num_labels()
-    } else {
-        true
-    }
-}
-
-// An NSEC3 stands right below its signer.
-fn is_right_below_signer(set: &SignedSet<'_>, sig: &Rrsig<'_>) -> bool
-    ensures { result ≡ right_below_signer set.now.record_type.0 sig.now.signer set.now.owner.now }
-{
-    if set.record_type == RecordType::NSEC3 {
-        set.owner.borrowed().parent().eq_name(&sig.signer)
-    } else {
-        true
-    }
+        && is_never_expanded(set.owner, set.record_type, sig.labels)
+        && is_right_below_signer(set.owner, set.record_type, &sig.signer)
 }
 
 // The signature is timely and the key's, which may sign, and the verifier accepts it (RFC 4035, 5.3.3).
@@ -128,14 +96,6 @@ fn is_named(sig: &Rrsig<'_>, key: &Dnskey<'_>, rdata: &[u8]) -> bool
         return false;
     };
     key.algorithm == sig.algorithm && tag == sig.key_tag
-}
-
-// The moment lies in the signature's validity, on the circle of 2^32 seconds (RFC 4034, 3.1.5).
-fn is_timely(sig: &Rrsig<'_>, now: u64) -> bool
-    ensures { result ≡ timely sig.now now }
-{
-    let moment = SerialNumber::of_moment(now);
-    sig.inception.at_or_before(moment) && moment.at_or_before(sig.expiration)
 }
 
 // The verifier accepts the signature over the set as the key's.

@@ -5,7 +5,8 @@ ghost use Rattle.dns_judgement.specs.Validity.{validity, is_of_set as is_set_sig
 ghost use Rattle.dns_judgement.specs.MarkParts.{sig_validity, key_validity as key_fits};
 ghost use Rattle.dns_trust.specs.Validities.{validity_of};
 
-use dns_rdata::{Dnskey, Rrsig, SerialNumber, key_tag};
+use crate::is_timely;
+use dns_rdata::{Dnskey, Rrsig, key_tag};
 use dns_record::{Record, RecordSet};
 
 /// Whether a signature fits a set, a key and a moment, before any arithmetic on it (RFC 4035, 5.3.1).
@@ -63,14 +64,6 @@ fn is_of_set(set: &RecordSet, sig: &Record, read: &Rrsig<'_>) -> bool
         && read.signer.zone_of(&set.name.borrowed())
         && read.type_covered == set.record_type
         && read.labels <= set.name.borrowed().num_labels()
-}
-
-// The moment lies in the signature's validity, on the circle of 2^32 seconds (RFC 4034, 3.1.5).
-fn is_timely(read: &Rrsig<'_>, now: u64) -> bool
-    ensures { result ≡ timely read.now now }
-{
-    let moment = SerialNumber::of_moment(now);
-    read.inception.at_or_before(moment) && moment.at_or_before(read.expiration)
 }
 
 // The key is the signer's, has the signature's algorithm and tag, and is a zone key.

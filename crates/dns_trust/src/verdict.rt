@@ -2,7 +2,7 @@ ghost use Rattle.std.specs.Prelude.{◌≡◌, IfOk, List, Some, map};
 ghost use Rattle.std.specs.List.{find};
 ghost use Rattle.std.specs.Option.{option_copied};
 ghost use Rattle.dns_model.specs.RecordViews.{rrsig_of};
-ghost use Rattle.dns_model.specs.Chains.{LinkValue, signer_fits as signer_is_above, never_expanded, right_below_signer};
+ghost use Rattle.dns_model.specs.Chains.{LinkValue};
 ghost use Rattle.dns_judgement.specs.Validity.{is_good_by};
 ghost use Rattle.dns_judgement.specs.Marks.{by_keys, counted_keys, key_question, is_key_set_of, may_be_signed as may_be_signed_by, is_proved as is_proof, is_excused as is_excuse};
 ghost use Rattle.dns_judgement.specs.Chained.{with_chain, chain_by_key, chained_verdict};
@@ -11,9 +11,9 @@ ghost use Rattle.dns_net.specs.Link.{link_value};
 ghost use Rattle.dns_trust.specs.Judge.{judge_of};
 ghost use Rattle.dns_trust.specs.Verdicts.{verdict_value, listed, chained_by_set};
 
-use crate::Judge;
 use crate::chains::signed_chain;
 use crate::counted::{first_good, has_key_of};
+use crate::{Judge, is_never_expanded, is_right_below_signer, signer_fits};
 use dns_name::{NameRef, NoMemory};
 use dns_net::{Link, Verifier};
 use dns_rdata::Rrsig;
@@ -175,52 +175,19 @@ fn is_key_set(class: DNSClass, signer: &NameRef<'_>, judged: &MarkedSet) -> bool
 pub fn may_be_signed(set: &RecordSet, read: &Rrsig<'_>) -> bool
     ensures { result ≡ may_be_signed_by set.now read.now }
 {
-    is_never_expanded(set, read) && is_right_below_signer(set, read)
-}
-
-// An NSEC or NSEC3 isn't expanded from a wildcard.
-fn is_never_expanded(set: &RecordSet, read: &Rrsig<'_>) -> bool
-    ensures { result ≡ never_expanded set.now.rtype read.now.labels set.now.owner }
-{
-    if set.record_type == RecordType::NSEC || set.record_type == RecordType::NSEC3 {
-        read.labels == set.name.borrowed().num_labels()
-    } else {
-        true
-    }
-}
-
-// An NSEC3 stands right below its signer.
-fn is_right_below_signer(set: &RecordSet, read: &Rrsig<'_>) -> bool
-    ensures { result ≡ right_below_signer set.now.rtype read.now.signer set.now.owner }
-{
-    if set.record_type == RecordType::NSEC3 {
-        set.name.borrowed().parent().eq_name(&read.signer)
-    } else {
-        true
-    }
+    is_never_expanded(&set.name, set.record_type, read.labels)
+        && is_right_below_signer(&set.name, set.record_type, &read.signer)
 }
 
 /// Whether a signature that is read isn't asked for: its signer doesn't fit, or it asks what is being asked.
 pub fn is_skipped(asked: &Query, set: &RecordSet, read: &Rrsig<'_>) -> bool
     ensures { result ≡ is_skipped_read asked.now set.now (Some read.now) }
 {
-    let fits = signer_fits(set, &read.signer);
+    let fits = signer_fits(&set.name, set.record_type, &read.signer);
     let is_asked = read.signer.eq_name(&asked.name.borrowed())
         && asked.query_type == RecordType::DNSKEY
         && set.dns_class == asked.query_class;
     !fits || is_asked
-}
-
-// The signer stands at the owner or above it; a DS stands in the zone above.
-fn signer_fits(set: &RecordSet, signer: &NameRef<'_>) -> bool
-    ensures { result ≡ signer_is_above set.now.rtype signer.now set.now.owner }
-{
-    let owner = set.name.borrowed();
-    if set.record_type == RecordType::DS {
-        signer.strictly_above(&owner)
-    } else {
-        signer.zone_of(&owner)
-    }
 }
 
 /// The question for the keys of a signature's signer.
