@@ -13,9 +13,11 @@ pub record AnswersMore (less more : VerifierAnswers) : Type 0 where
 -- each key of some trust anchors is one of others too
 abbrev pub TrustsMore : List AnchorValue → List AnchorValue → Type 0
 TrustsMore less more =
-    (owner : Labels) (algorithm : ℕ) (key : List ℕ) → holds_anchor less owner algorithm key ≡ true → holds_anchor more owner algorithm key ≡ true
+    (owner : Labels) (algorithm : ℕ) (key : List ℕ) → holds_anchor less owner algorithm key ≡ true
+    → holds_anchor more owner algorithm key ≡ true
 
 -- a chain is justified for whoever accepts and trusts all that these do
 abbrev pub HoldsForMore : VerifierAnswers → List AnchorValue → ℕ → List LinkValue → Type 0
 HoldsForMore answers anchors now chain =
-    (wider : VerifierAnswers) (more : List AnchorValue) → AnswersMore answers wider → TrustsMore anchors more → justified (judge wider more now) chain ≡ true
+    (wider : VerifierAnswers) (more : List AnchorValue) → AnswersMore answers wider → TrustsMore anchors more
+    → justified (judge wider more now) chain ≡ true

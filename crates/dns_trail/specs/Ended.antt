@@ -24,6 +24,10 @@ ended_of step = record { answer = if_answered step.ending (judged_sets step); se
 abbrev pub some_if : {X : Type 0} → Bool → X → Option X
 some_if b x = if b then Some x else None
 
+-- what a step came to, where it holds
+abbrev pub ended_if : Bool → AskedValue → Option EndedValue
+ended_if holds step = some_if holds (ended_of step)
+
 -- nothing is judged
 abbrev pub nothing : EndedValue
 nothing = record { answer = None; sets = [] }

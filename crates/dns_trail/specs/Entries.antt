@@ -1,5 +1,5 @@
 -- For private functions of this crate only: the entry of a set, by its parts.
-use Rattle.std.specs.Prelude.{Bool, false, ◌==◌, ◌&&◌, List, take, Option}
+use Rattle.std.specs.Prelude.{Bool, ◌≡◌, false, ◌==◌, ◌&&◌, List, take, Option}
 use Rattle.std.specs.Option.{option_map, option_map_or}
 use Rattle.std.specs.List.{list_any}
 use Rattle.dns_model.specs.declared.trail.AskRef.{AskRef}
@@ -9,8 +9,10 @@ use Rattle.dns_model.specs.SoundAnswers.{Placed, section_eq}
 use Rattle.dns_model.specs.Trails.{AskedValue, JudgedSetValue}
 use Rattle.dns_judgement.specs.Chained.{Chained}
 use Rattle.dns_judgement.specs.Derivation.{Grounds, is_repeat, judged_sets, verdicts_by}
+use Rattle.dns_judgement.specs.DerivationParts.{is_by_verdicts, with_entry}
 use Rattle.dns_judgement.specs.Judged.{Judged}
 use Rattle.dns_judgement.specs.Marks.{Verdict, most_signatures}
+use Rattle.dns_trail.specs.Ended.{some_if}
 
 -- the entry has the section, owner and type of the set
 abbrev pub is_of_set : Placed → JudgedSetValue → Bool
@@ -21,10 +23,19 @@ is_of_set placed entry =
 abbrev pub judged_if : Option Chained → Option Judged
 judged_if o = option_map (λ c. c.judged) o
 
+-- a set with the mark of its entry, where a rule says that it follows
+abbrev pub IsMarkedBy : (Grounds → Placed → JudgedSetValue → Bool) → Grounds → Placed → JudgedSetValue → Option Chained → Type 0
+IsMarkedBy follows g placed entry o = judged_if o ≡ some_if (follows g placed entry) (with_entry (placed, entry))
+
 -- the verdicts of the first signatures of a set
 abbrev pub verdicts_of_set : Grounds → RrSet → List AskRef → Option (List Verdict)
 verdicts_of_set g set asks = verdicts_by g set (take most_signatures set.signatures) asks
 
+-- the entry follows from these verdicts
+abbrev pub is_by_signatures : Grounds → Placed → JudgedSetValue → Bool
+is_by_signatures g placed entry = is_by_verdicts placed entry (verdicts_of_set g placed.set entry.asked)
+
 -- a step with this question found this of an equal set
 abbrev pub repeats_from : Question → Placed → JudgedSetValue → Option AskedValue → Bool
-repeats_from q placed entry step = option_map_or (λ s. question_eq q s.query && list_any (is_repeat placed entry) (judged_sets s)) step false
+repeats_from q placed entry step =
+    option_map_or (λ s. question_eq q s.query && list_any (is_repeat placed entry) (judged_sets s)) step false

@@ -1,16 +1,18 @@
 -- For private functions of this crate only: what the steps that have ended leave to a later one.
 use Rattle.std.specs.Prelude.{◌≡◌, map, None}
-use Rattle.dns_model.specs.Chains.{Judge}
+use Rattle.dns_model.specs.Keys.{VerifierAnswers}
 use Rattle.dns_model.specs.Trails.{AskedValue}
 use Rattle.dns_judgement.specs.Derivation as derived
+use Rattle.dns_trust.specs.declared.judge.Judge.{Judge}
+use Rattle.dns_trust.specs.Judge.{judge_of}
 use Rattle.dns_trust.specs.Verdicts.{listed}
 use Rattle.dns_trail.specs.Ended.{ended_of}
 use Rattle.dns_trail.specs.declared.grounds.Grounds.{Grounds}
 
--- by what the sets of a step are judged
-abbrev pub grounds_of : Judge → Grounds → derived.Grounds
-grounds_of j g = record {
-  judge = j;
+-- by what the sets of a step are judged, with a verifier's answers
+abbrev pub grounds_by : {V : Type 0} → (V → VerifierAnswers) → Judge V → Grounds → derived.Grounds
+grounds_by answers judge g = record {
+  judge = judge_of answers judge;
   limit = g.limit;
   earlier = g.steps.now;
   query = g.query.now;

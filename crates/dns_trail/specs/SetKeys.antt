@@ -35,4 +35,5 @@ places_at places key = items_or_none (tree.get key_cmp places key)
 
 -- a key has one more place behind its others
 abbrev pub AddedPlace : {Z : Type 0} → BTreeMap SetKey (Vec ℕ Z) → BTreeMap SetKey (Vec ℕ Z) → SetKey → ℕ → Type 0
-AddedPlace old new key place = (k : SetKey) → places_at new k ≡ places_at old k ++ (if is_eq (key_cmp key k) then place ∷ [] else [])
+AddedPlace old new key place =
+    (k : SetKey) → places_at new k ≡ places_at old k ++ (if is_eq (key_cmp key k) then place ∷ [] else [])

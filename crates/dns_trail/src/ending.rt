@@ -9,9 +9,8 @@ ghost use Rattle.dns_judgement.specs.Outcome.{outcome_of as told_outcome};
 ghost use Rattle.dns_model.specs.Trails.{Answered, Denied as Refused};
 ghost use Rattle.dns_net.specs.Trail.{ending_value};
 ghost use Rattle.dns_sets.specs.Outcome.{outcome_value};
-ghost use Rattle.dns_trust.specs.Judge.{judge_of};
 ghost use Rattle.dns_trail.specs.Endings.{ending_fits};
-ghost use Rattle.dns_trail.specs.Grounds.{AreKnown, grounds_of};
+ghost use Rattle.dns_trail.specs.Grounds.{AreKnown, grounds_by};
 
 use crate::grounds::Grounds;
 use crate::search::search_zone;
@@ -34,7 +33,7 @@ pub(crate) fn ending_holds<V: Verifier>(
     excuse: &[AskRef],
 ) -> Result<bool, NoMemory>
     requires known { AreKnown grounds.now }
-    ensures { IfOk result (λ b. b ≡ ending_fits (grounds_of (judge_of V.answers judge.now) grounds.now) (told_by message.now)
+    ensures { IfOk result (λ b. b ≡ ending_fits (grounds_by V.answers judge.now grounds.now) (told_by message.now)
         (told_outcome grounds.now.query.now (told_by message.now) (bare sets.now)) (ending_value ending.now) excuse.now) }
 {
     let query = grounds.query;

@@ -6,14 +6,14 @@ ghost use Rattle.dns_model.specs.Names.{name_eq};
 ghost use Rattle.dns_model.specs.Types.{type_dnskey};
 ghost use Rattle.dns_judgement.specs.Chained.{bare};
 ghost use Rattle.dns_judgement.specs.Derivation.{entries_hold, entry_holds, has_mark_of, is_by_rules, keys_hold, search_from, unsigned_holds, with_entries};
-ghost use Rattle.dns_judgement.specs.DerivationParts.{is_by_verdicts, with_entry};
+ghost use Rattle.dns_judgement.specs.DerivationParts.{with_entry};
 ghost use Rattle.dns_judgement.specs.KeySets.{needs_ds};
 ghost use Rattle.dns_judgement.specs.Unsigned.{set_start as start_of_set};
 ghost use Rattle.dns_trust.specs.Judge.{judge_of};
 ghost use Rattle.dns_trail.specs.Trying.{zone_proof};
 ghost use Rattle.dns_trail.specs.Ended.{some_if};
-ghost use Rattle.dns_trail.specs.Entries.{is_of_set as is_entry_of, judged_if, verdicts_of_set};
-ghost use Rattle.dns_trail.specs.Grounds.{AreKnown, grounds_of};
+ghost use Rattle.dns_trail.specs.Entries.{is_by_signatures, is_of_set as is_entry_of, judged_if, IsMarkedBy};
+ghost use Rattle.dns_trail.specs.Grounds.{AreKnown, grounds_by};
 
 use crate::grounds::{Grounds, answer_of, is_ask};
 use crate::repeats::is_repeated;
@@ -38,8 +38,9 @@ pub(crate) fn judged_sets<V: Verifier>(
     mut entries: &[JudgedSet],
 ) -> Result<Option<Vec<ChainedSet>>, NoMemory>
     requires known { AreKnown grounds.now }
-    ensures { IfOk result (λ o. option_map (λ v. bare v.items) o ≡
-        some_if (entries_hold (grounds_of (judge_of V.answers judge.now) grounds.now) placed.items entries.entry.now) (with_entries placed.items entries.entry.now)) }
+    ensures { IfOk result (λ o. option_map (λ v. bare v.items) o ≡ some_if
+        (entries_hold (grounds_by V.answers judge.now grounds.now) placed.items entries.entry.now)
+        (with_entries placed.items entries.entry.now)) }
 {
     let mut sets = Vec::new(alloc);
     placed.reverse();
@@ -69,7 +70,7 @@ fn judged_set<V: Verifier>(
     entry: &JudgedSet,
 ) -> Result<Option<ChainedSet>, NoMemory>
     requires known { AreKnown grounds.now }
-    ensures { IfOk result (λ o. judged_if o ≡ some_if (entry_holds (grounds_of (judge_of V.answers judge.now) grounds.now) placed entry.now) (with_entry (placed, entry.now))) }
+    ensures { IfOk result (IsMarkedBy entry_holds (grounds_by V.answers judge.now grounds.now) placed entry.now) }
 {
     if !is_of_set(&placed, entry) {
         return Ok(None);
@@ -165,7 +166,8 @@ fn set_of(placed: &PlacedSet) -> &RecordSet
     &placed.set
 }
 
-// A set, judged by the rules: a key set by what makes its keys known, an unsigned one by its zone, another by its first signatures.
+// A set, judged by the rules: a key set by what makes its keys known, an unsigned one by its zone, another by its first
+// signatures.
 fn judged_by_rules<V: Verifier>(
     alloc: Global,
     judge: &Judge<'_, V>,
@@ -174,7 +176,7 @@ fn judged_by_rules<V: Verifier>(
     entry: &JudgedSet,
 ) -> Result<Option<ChainedSet>, NoMemory>
     requires known { AreKnown grounds.now }
-    ensures { IfOk result (λ o. judged_if o ≡ some_if (is_by_rules (grounds_of (judge_of V.answers judge.now) grounds.now) placed entry.now) (with_entry (placed, entry.now))) }
+    ensures { IfOk result (IsMarkedBy is_by_rules (grounds_by V.answers judge.now grounds.now) placed entry.now) }
 {
     if is_key_set(set_of(&placed)) {
         judged_key_set(alloc, judge, grounds, placed, entry)
@@ -201,7 +203,7 @@ fn judged_key_set<V: Verifier>(
     entry: &JudgedSet,
 ) -> Result<Option<ChainedSet>, NoMemory>
     requires known { AreKnown grounds.now }
-    ensures { IfOk result (λ o. judged_if o ≡ some_if (keys_hold (grounds_of (judge_of V.answers judge.now) grounds.now) placed entry.now) (with_entry (placed, entry.now))) }
+    ensures { IfOk result (IsMarkedBy keys_hold (grounds_by V.answers judge.now grounds.now) placed entry.now) }
 {
     let asks = asks_of(entry);
     match judged_keys(alloc, judge, placed)? {
@@ -226,7 +228,7 @@ fn judged_by_one_ask<V: Verifier>(
 ) -> Result<Option<ChainedSet>, NoMemory>
     requires known { AreKnown grounds.now }
     requires needed { needs_ds (judge_of V.answers judge.now) placed.set ≡ true }
-    ensures { IfOk result (λ o. judged_if o ≡ some_if (keys_hold (grounds_of (judge_of V.answers judge.now) grounds.now) placed entry.now) (with_entry (placed, entry.now))) }
+    ensures { IfOk result (IsMarkedBy keys_hold (grounds_by V.answers judge.now grounds.now) placed entry.now) }
 {
     let Some((ask, left)) = asks_of(entry).split_first() else {
         return Ok(None);
@@ -249,7 +251,7 @@ fn judged_unsigned<V: Verifier>(
     entry: &JudgedSet,
 ) -> Result<Option<ChainedSet>, NoMemory>
     requires known { AreKnown grounds.now }
-    ensures { IfOk result (λ o. judged_if o ≡ some_if (unsigned_holds (grounds_of (judge_of V.answers judge.now) grounds.now) placed entry.now) (with_entry (placed, entry.now))) }
+    ensures { IfOk result (IsMarkedBy unsigned_holds (grounds_by V.answers judge.now grounds.now) placed entry.now) }
 {
     match mark_of_zone(judge, grounds, set_of(&placed), asks_of(entry))? {
         Some(mark) => Ok(as_in_entry(alloc, unsigned_by(alloc, placed, mark), entry)),
@@ -266,7 +268,7 @@ fn mark_of_zone<V: Verifier>(
 ) -> Result<Option<Proof>, NoMemory>
     requires known { AreKnown grounds.now }
     ensures { IfOk result (λ m. m ≡ option_map zone_proof
-        (search_from (grounds_of (judge_of V.answers judge.now) grounds.now) set.now.class (start_of_set set.now) asks.now)) }
+        (search_from (grounds_by V.answers judge.now grounds.now) set.now.class (start_of_set set.now) asks.now)) }
 {
     let start = set_start(set)?;
     search_zone(judge, grounds, set.dns_class, &start, asks)
@@ -281,8 +283,7 @@ fn judged_signed<V: Verifier>(
     entry: &JudgedSet,
 ) -> Result<Option<ChainedSet>, NoMemory>
     requires known { AreKnown grounds.now }
-    ensures { IfOk result (λ o. judged_if o ≡ some_if (is_by_verdicts placed entry.now
-        (verdicts_of_set (grounds_of (judge_of V.answers judge.now) grounds.now) placed.set entry.now.asked)) (with_entry (placed, entry.now))) }
+    ensures { IfOk result (IsMarkedBy is_by_signatures (grounds_by V.answers judge.now grounds.now) placed entry.now) }
 {
     let set = set_of(&placed);
     let signatures = first_signatures(set);

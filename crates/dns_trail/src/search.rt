@@ -5,8 +5,7 @@ ghost use Rattle.std.specs.Option.{option_map};
 ghost use Rattle.dns_model.specs.Names.{Labels};
 ghost use Rattle.dns_judgement.specs.Derivation.{is_empty, search_by, sight_by as sight_in, sight_of, zone_asked};
 ghost use Rattle.dns_judgement.specs.Unsigned.{has_ns as shows_ns};
-ghost use Rattle.dns_trail.specs.Grounds.{AreKnown, grounds_of};
-ghost use Rattle.dns_trust.specs.Judge.{judge_of};
+ghost use Rattle.dns_trail.specs.Grounds.{AreKnown, grounds_by};
 ghost use Rattle.dns_trail.specs.Ended.{some_if};
 ghost use Rattle.dns_trail.specs.Trying.{zone_proof};
 ghost use Rattle.dns_trail.specs.Values.{sight_value};
@@ -39,8 +38,8 @@ pub(crate) fn search_zone<V: Verifier>(
     asks: &[AskRef],
 ) -> Result<Option<Proof>, NoMemory>
     requires known { AreKnown grounds.now }
-    ensures { IfOk result (λ m. (start : Labels)
-        → m ≡ option_map zone_proof (search_by (grounds_of (judge_of V.answers judge.now) grounds.now) class.0 start name.now asks.now)) }
+    ensures { IfOk result (λ m. (start : Labels) → m ≡ option_map zone_proof
+        (search_by (grounds_by V.answers judge.now grounds.now) class.0 start name.now asks.now)) }
 {
     if name.is_root() {
         return Ok(bogus_if_last(asks));
@@ -82,7 +81,8 @@ fn ask_zone<V: Verifier>(
     asks: &[AskRef],
 ) -> Result<Option<Proof>, NoMemory>
     requires known { AreKnown grounds.now }
-    ensures { IfOk result (λ m. m ≡ option_map zone_proof (zone_asked (grounds_of (judge_of V.answers judge.now) grounds.now) class.0 zone.now asks.now)) }
+    ensures { IfOk result (λ m. m ≡ option_map zone_proof
+        (zone_asked (grounds_by V.answers judge.now grounds.now) class.0 zone.now asks.now)) }
 {
     let Some((ask, left)) = asks.split_first() else {
         return Ok(None);

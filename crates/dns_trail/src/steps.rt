@@ -7,9 +7,9 @@ ghost use Rattle.dns_judgement.specs.DerivationParts.{judged_holds, step_holds_b
 ghost use Rattle.dns_judgement.specs.Chained.{bare};
 ghost use Rattle.dns_judgement.specs.Outcome.{foreign_record as foreign_in};
 ghost use Rattle.dns_net.specs.Trail.{ending_value};
-ghost use Rattle.dns_trail.specs.Ended.{ended_of, nothing_if, some_if};
+ghost use Rattle.dns_trail.specs.Ended.{ended_if, nothing_if};
 ghost use Rattle.dns_trail.specs.Indexed.{MayBeIndexed};
-ghost use Rattle.dns_trail.specs.Grounds.{AreKnown, Asks, grounds_of};
+ghost use Rattle.dns_trail.specs.Grounds.{AreKnown, Asks, grounds_by};
 ghost use Rattle.dns_trust.specs.Judge.{judge_of};
 
 use crate::ending::{ending_holds, is_failed, is_foreign, is_seen};
@@ -67,7 +67,8 @@ fn end_step<V: Verifier>(
 ) -> Result<Option<Ended>, NoMemory>
     requires known { AreKnown grounds.now }
     requires own { Asks grounds.now step.now }
-    ensures { IfOk result (λ o. o ≡ some_if (step_holds_by (grounds_of (judge_of V.answers judge.now) grounds.now) step.now step.now.reply) (ended_of step.now)) }
+    ensures { IfOk result (λ o. o ≡ ended_if
+        (step_holds_by (grounds_by V.answers judge.now grounds.now) step.now step.now.reply) step.now) }
 {
     match &step.reply {
         Reply::Told(told) => end_told(alloc, judge, grounds, step, told),
@@ -86,8 +87,8 @@ fn end_told<V: Verifier>(
     requires known { AreKnown grounds.now }
     requires own { Asks grounds.now step.now }
     requires told { told_in step.now.reply ≡ Some told.now.0 }
-    ensures { IfOk result (λ o. o ≡
-        some_if (step_holds_by (grounds_of (judge_of V.answers judge.now) grounds.now) step.now step.now.reply) (ended_of step.now)) }
+    ensures { IfOk result (λ o. o ≡ ended_if
+        (step_holds_by (grounds_by V.answers judge.now grounds.now) step.now step.now.reply) step.now) }
 {
     if !step.judged {
         return Ok(end_bare(alloc, step, is_seen(&step.ending)));
@@ -148,8 +149,9 @@ fn end_judged<V: Verifier>(
     requires known { AreKnown grounds.now }
     requires own { Asks grounds.now step.now }
     requires told { told_in step.now.reply ≡ Some (told_by message.now) }
-    ensures { IfOk result (λ o. o ≡ some_if (judged_holds (grounds_of (judge_of V.answers judge.now) grounds.now) step.now (told_by message.now)
-        (foreign_in step.now.query (told_by message.now))) (ended_of step.now)) }
+    ensures { IfOk result (λ o. o ≡ ended_if
+        (judged_holds (grounds_by V.answers judge.now grounds.now) step.now (told_by message.now)
+        (foreign_in step.now.query (told_by message.now))) step.now) }
 {
     if let Some(found) = foreign_record(grounds.query, message) {
         return Ok(end_bare(alloc, step, is_foreign(found, &step.ending)));
@@ -158,7 +160,15 @@ fn end_judged<V: Verifier>(
     let Some(sets) = judged_sets(alloc, judge, grounds, placed, &step.sets)? else {
         return Ok(None);
     };
-    if !ending_holds(alloc, judge, grounds, message, &sets, &step.ending, &step.excuse)? {
+    if !ending_holds(
+        alloc,
+        judge,
+        grounds,
+        message,
+        &sets,
+        &step.ending,
+        &step.excuse,
+    )? {
         return Ok(None);
     }
     let places = places_if(alloc, grounds.repeats, &sets)?;

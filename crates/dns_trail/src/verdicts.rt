@@ -5,9 +5,8 @@ ghost use Rattle.std.specs.Option.{option_map};
 ghost use Rattle.dns_judgement.specs.Chained.{bare_verdicts};
 ghost use Rattle.dns_judgement.specs.Derivation.{verdicts_by as verdicts_for};
 ghost use Rattle.dns_judgement.specs.Marks as marks;
-ghost use Rattle.dns_trust.specs.Judge.{judge_of};
 ghost use Rattle.dns_trust.specs.Verdicts.{verdict_value};
-ghost use Rattle.dns_trail.specs.Grounds.{AreKnown, grounds_of};
+ghost use Rattle.dns_trail.specs.Grounds.{AreKnown, grounds_by};
 ghost use Rattle.dns_trail.specs.Trying.{tried_by};
 ghost use Rattle.dns_trail.specs.Values.{tried_value};
 ghost use Rattle.dns_judgement.specs.Derivation.{is_empty};
@@ -39,7 +38,7 @@ pub(crate) fn verdicts_by<V: Verifier>(
 ) -> Result<Option<Vec<Verdict>>, NoMemory>
     requires known { AreKnown grounds.now }
     ensures { IfOk result (λ o. option_map (λ v. bare_verdicts (map verdict_value v.items)) o
-        ≡ verdicts_for (grounds_of (judge_of V.answers judge.now) grounds.now) set.now signatures.entry.now asks.entry.now) }
+        ≡ verdicts_for (grounds_by V.answers judge.now grounds.now) set.now signatures.entry.now asks.entry.now) }
 {
     let mut verdicts = Vec::new(alloc);
     'signatures: while let Some((signature, others)) = signatures.split_first() {
@@ -80,7 +79,7 @@ fn try_signature<'a, V: Verifier>(
 ) -> Result<Option<Tried<'a>>, NoMemory>
     requires known { AreKnown grounds.now }
     ensures { IfOk result (λ o. option_map tried_value o
-        ≡ tried_by (grounds_of (judge_of V.answers judge.now) grounds.now) set.now signature.now asks.now) }
+        ≡ tried_by (grounds_by V.answers judge.now grounds.now) set.now signature.now asks.now) }
 {
     let Some(read) = Rrsig::of(signature) else {
         return Ok(Some(untried(asks)));

@@ -17,7 +17,8 @@ pub record ListedValue : Type 0 where
 
 abbrev pub is_entry : ℕ → List ℕ → List ℕ → List ℕ → ListedSignatureValue → Bool
 is_entry algorithm key bytes signature entry =
-    (algorithm == entry.algorithm) && (bytes_eq key entry.key && (bytes_eq bytes entry.bytes && bytes_eq signature entry.signature))
+    (algorithm == entry.algorithm)
+    && (bytes_eq key entry.key && (bytes_eq bytes entry.bytes && bytes_eq signature entry.signature))
 
 abbrev pub is_listed : ListedValue → ℕ → Bool
 is_listed listed algorithm = list_any (λ a. algorithm == a) listed.algorithms
@@ -26,7 +27,8 @@ is_listed listed algorithm = list_any (λ a. algorithm == a) listed.algorithms
 abbrev pub answers_of : ListedValue → VerifierAnswers
 answers_of listed = record {
   supports = λ algorithm. not (algorithm == 1) && is_listed listed algorithm;
-  accepts = λ algorithm key bytes signature. not (algorithm == 1) && list_any (is_entry algorithm key bytes signature) listed.accepted;
+  accepts = λ algorithm key bytes signature.
+      not (algorithm == 1) && list_any (is_entry algorithm key bytes signature) listed.accepted;
 }
 
 -- one algorithm more; algorithm 1 changes nothing

@@ -1,4 +1,4 @@
--- For private functions of this crate only: what DS records that aren't supported leave to the unsigned sets of their zone (RFC 4035, 5.2).
+-- For private functions of this crate only: what unsupported DS records leave to the unsigned sets of their zone (RFC 4035, 5.2).
 use Rattle.std.specs.Prelude.{List, if◌then◌else◌}
 use Rattle.std.specs.List.{list_any}
 use Rattle.dns_model.specs.declared.proof.Proof.{Proof}

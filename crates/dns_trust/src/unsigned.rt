@@ -35,8 +35,8 @@ pub fn unsigned_by(alloc: Global, placed: PlacedSet, mark: Proof) -> ChainedSet
     }
 }
 
-/// What a zone leaves to the sets in it that are unsigned, by the judged sets of the answer to the ask for its DS set; None where the
-/// ask failed or was refused: Insecure where no more can be expected, and else Bogus (RFC 4035, 4.3 and 5.2).
+/// What a zone leaves to the sets in it that are unsigned, by the judged sets of the answer to the ask for its DS set; None where
+/// the ask failed or was refused: Insecure where no more can be expected, and else Bogus (RFC 4035, 4.3 and 5.2).
 pub fn zone_mark<V: Verifier>(
     verifier: &V,
     class: DNSClass,
@@ -103,7 +103,8 @@ pub(crate) fn mark_without_ds(zone: &Name, sets: &[ChainedSet]) -> Proof
 
 // The answer shows that the delegation has no DS, or an Insecure set of the zone or above it.
 fn is_insecure_without_ds(zone: &Name, sets: &[ChainedSet]) -> bool
-    ensures { result ≡ (list_any (λ c. shows_none zone.now c.judged) sets.now || list_any (λ c. is_above zone.now c.judged) sets.now) }
+    ensures { result ≡ (list_any (λ c. shows_none zone.now c.judged) sets.now
+        || list_any (λ c. is_above zone.now c.judged) sets.now) }
 {
     has_no_ds(zone, sets) || has_insecure_above(zone, sets)
 }

@@ -2,16 +2,15 @@ use Rattle.std.proofs.Common.{rules, ◌≡◌, ◌+◌, true, ◌∷◌, length
 use Rattle.std.proofs.lemmas.Bool.{and_from}
 use Rattle.dns_judgement.specs.Delegations.{ds_question}
 use Rattle.dns_judgement.specs.Derivation.{is_ask, is_empty}
-use Rattle.dns_trust.specs.Judge.{judge_of}
 use Rattle.dns_trust.specs.Verdicts.{listed}
-use Rattle.dns_trail.specs.Grounds.{grounds_of}
+use Rattle.dns_trail.specs.Grounds.{grounds_by}
 use Rattle.dns_trail.proofs.OkLemmas.{no_more}
 use Rattle.dns_trail.proofs.EntryLemmas.{ds_given}
 use Rattle.dns_trail.proofs.entries.judged_by_one_ask.Goals as goal
 
 pub returns : goal.returns
 returns g c =
-    let gr = grounds_of (judge_of g.V.Verifier.answers c.args.judge.now) c.args.grounds.now in
+    let gr = grounds_by g.V.Verifier.answers c.args.judge.now c.args.grounds.now in
     let asked : c.args.entry.now.asked ≡ c.in-Some.ask.now ∷ c.in-Some.left.now = search rules in
     let long : length c.in-Some.left.now ≡ 0 = search rules in
     let none = no_more c.in-Some.left.now long in

@@ -3,17 +3,16 @@ use Rattle.dns_judgement.specs.Chained.{bare}
 use Rattle.dns_judgement.specs.Derivation.{entry_holds}
 use Rattle.dns_judgement.specs.DerivationParts.{with_entry}
 use Rattle.dns_judgement.specs.Judged.{Judged}
-use Rattle.dns_trust.specs.Judge.{judge_of}
 use Rattle.dns_trail.specs.Ended.{some_if}
 use Rattle.dns_trail.specs.Entries.{judged_if}
-use Rattle.dns_trail.specs.Grounds.{grounds_of}
+use Rattle.dns_trail.specs.Grounds.{grounds_by}
 use Rattle.dns_trail.proofs.EntryLemmas.{AreLeft, left_alone, left_next, left_none, left_over, left_refused}
 use Rattle.dns_trail.proofs.OkLemmas.{bare_set_more, no_more}
 use Rattle.dns_trail.proofs.entries.judged_sets.Goals as goal
 
 pub returns-in_default-split_first : goal.returns-in_default-split_first
 returns-in_default-split_first g c =
-    let gr = grounds_of (judge_of g.V.Verifier.answers c.args.judge.now) c.args.grounds.now in
+    let gr = grounds_by g.V.Verifier.answers c.args.judge.now c.args.grounds.now in
     let p0 = c.args.placed.items in
     let e0 = c.args.entries.now in
     let sets = bare c.sets.sets.items in
@@ -23,7 +22,7 @@ returns-in_default-split_first g c =
 
 pub returns-in_default-2 : goal.returns-in_default-2
 returns-in_default-2 g c =
-    let gr = grounds_of (judge_of g.V.Verifier.answers c.args.judge.now) c.args.grounds.now in
+    let gr = grounds_by g.V.Verifier.answers c.args.judge.now c.args.grounds.now in
     let p0 = c.args.placed.items in
     let e0 = c.args.entries.now in
     let sets = bare c.sets.sets.items in
@@ -34,7 +33,7 @@ returns-in_default-2 g c =
 
 pub sets-preserved : goal.sets-preserved
 sets-preserved g c =
-    let gr = grounds_of (judge_of g.V.Verifier.answers c.args.judge.now) c.args.grounds.now in
+    let gr = grounds_by g.V.Verifier.answers c.args.judge.now c.args.grounds.now in
     let p0 = c.args.placed.items in
     let e0 = c.args.entries.now in
     let sets = bare c.sets.sets.items in
@@ -47,14 +46,14 @@ sets-preserved g c =
 
 pub returns-then-is_empty : goal.returns-then-is_empty
 returns-then-is_empty g c =
-    let gr = grounds_of (judge_of g.V.Verifier.answers c.args.judge.now) c.args.grounds.now in
+    let gr = grounds_by g.V.Verifier.answers c.args.judge.now c.args.grounds.now in
     let none : c.sets.placed.items ≡ [] = search rules in
     let long : length c.sets.entries.now ≡ 0 = search rules in
     left_none gr c.args.placed.items c.sets.placed.items c.args.entries.now c.sets.entries.now (bare c.sets.sets.items) c.sets.invariant none (no_more c.sets.entries.now long)
 
 pub returns : goal.returns
 returns g c =
-    let gr = grounds_of (judge_of g.V.Verifier.answers c.args.judge.now) c.args.grounds.now in
+    let gr = grounds_by g.V.Verifier.answers c.args.judge.now c.args.grounds.now in
     let none : c.sets.placed.items ≡ [] = search rules in
     let more : length c.sets.entries.now ≢ 0 = search rules in
     left_over gr c.args.placed.items c.sets.placed.items c.args.entries.now c.sets.entries.now (bare c.sets.sets.items) c.sets.invariant none more

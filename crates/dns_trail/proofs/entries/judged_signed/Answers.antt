@@ -1,16 +1,15 @@
 use Rattle.std.proofs.Common.{rules, ◌≡◌, map, Some, ap, ◌∙◌}
 use Rattle.dns_judgement.specs.Chained.{bare_verdicts}
 use Rattle.dns_judgement.proofs.ChainedLemmas.{chained_by-bare}
-use Rattle.dns_trust.specs.Judge.{judge_of}
 use Rattle.dns_trust.specs.Verdicts.{verdict_value}
 use Rattle.dns_trail.specs.Entries.{verdicts_of_set}
-use Rattle.dns_trail.specs.Grounds.{grounds_of}
+use Rattle.dns_trail.specs.Grounds.{grounds_by}
 use Rattle.dns_trail.proofs.EntryLemmas.{signed_given}
 use Rattle.dns_trail.proofs.entries.judged_signed.Goals as goal
 
 pub returns : goal.returns
 returns g c =
-    let gr = grounds_of (judge_of g.V.Verifier.answers c.args.judge.now) c.args.grounds.now in
+    let gr = grounds_by g.V.Verifier.answers c.args.judge.now c.args.grounds.now in
     let vs = map verdict_value c.in-Some.verdicts.items in
     let found : Some (bare_verdicts vs) ≡ verdicts_of_set gr c.args.placed.set c.args.entry.now.asked = search rules in
     c.as_in_entry.ensures

@@ -8,14 +8,14 @@ use Rattle.dns_judgement.specs.Marks.{key_question, verdict_of}
 use Rattle.dns_judgement.proofs.ChainedLemmas.{chained_verdict-bare}
 use Rattle.dns_trust.specs.Judge.{judge_of}
 use Rattle.dns_trust.specs.Verdicts.{listed}
-use Rattle.dns_trail.specs.Grounds.{grounds_of}
+use Rattle.dns_trail.specs.Grounds.{grounds_by}
 use Rattle.dns_trail.proofs.TryLemmas.{tried_asked}
 use Rattle.dns_trail.proofs.verdicts.try_signature.Goals as goal
 
 pub returns : goal.returns
 returns g c =
     let j = judge_of g.V.Verifier.answers c.args.judge.now in
-    let gr = grounds_of (judge_of g.V.Verifier.answers c.args.judge.now) c.args.grounds.now in
+    let gr = grounds_by g.V.Verifier.answers c.args.judge.now c.args.grounds.now in
     let set = c.args.set.now in
     let r = c.args.signature.now in
     let read : rrsig_of r ≡ Some c.in-Some.read = search rules in

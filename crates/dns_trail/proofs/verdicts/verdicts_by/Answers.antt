@@ -2,11 +2,10 @@ use Rattle.std.proofs.Common.{rules, ◌≡◌, [], ◌∷◌, ◌++◌, length,
 use Rattle.std.specs.Option.{option_map}
 use Rattle.dns_judgement.specs.Chained.{bare_verdicts}
 use Rattle.dns_judgement.specs.Derivation.{is_empty, verdicts_by}
-use Rattle.dns_trust.specs.Judge.{judge_of}
 use Rattle.dns_trust.specs.Verdicts.{verdict_value}
 use Rattle.dns_trust.specs.declared.verdict.Verdict.{Verdict}
 use Rattle.dns_trail.specs.Ended.{some_if}
-use Rattle.dns_trail.specs.Grounds.{grounds_of}
+use Rattle.dns_trail.specs.Grounds.{grounds_by}
 use Rattle.dns_trail.specs.Trying.{behind, tried_by}
 use Rattle.dns_trail.specs.Values.{tried_value}
 use Rattle.dns_trail.proofs.OkLemmas.{bare_more, no_more, seen_further}
@@ -15,7 +14,7 @@ use Rattle.dns_trail.proofs.verdicts.verdicts_by.Goals as goal
 
 pub returns-in_default-2 : goal.returns-in_default-2
 returns-in_default-2 g c =
-    let gr = grounds_of (judge_of g.V.Verifier.answers c.args.judge.now) c.args.grounds.now in
+    let gr = grounds_by g.V.Verifier.answers c.args.judge.now c.args.grounds.now in
     let done = bare_verdicts (map verdict_value c.signatures.verdicts.items) in
     let whole = verdicts_by gr c.args.set.now c.args.signatures.now c.args.asks.now in
     let first : c.signatures.signatures.now ≡ c.in-Some.signature.now ∷ c.in-Some.others.now = search rules in
@@ -24,7 +23,7 @@ returns-in_default-2 g c =
 
 pub returns-then-proved : goal.returns-then-proved
 returns-then-proved g c =
-    let gr = grounds_of (judge_of g.V.Verifier.answers c.args.judge.now) c.args.grounds.now in
+    let gr = grounds_by g.V.Verifier.answers c.args.judge.now c.args.grounds.now in
     let done = bare_verdicts (map verdict_value c.signatures.verdicts.items) in
     let whole = verdicts_by gr c.args.set.now c.args.signatures.now c.args.asks.now in
     let first : c.signatures.signatures.now ≡ c.in-Some.signature.now ∷ c.in-Some.others.now = search rules in
@@ -39,7 +38,7 @@ returns-then-proved g c =
 
 pub signatures-preserved : goal.signatures-preserved
 signatures-preserved g c =
-    let gr = grounds_of (judge_of g.V.Verifier.answers c.args.judge.now) c.args.grounds.now in
+    let gr = grounds_by g.V.Verifier.answers c.args.judge.now c.args.grounds.now in
     let done = bare_verdicts (map verdict_value c.signatures.verdicts.items) in
     let whole = verdicts_by gr c.args.set.now c.args.signatures.now c.args.asks.now in
     let first : c.signatures.signatures.now ≡ c.in-Some.signature.now ∷ c.in-Some.others.now = search rules in
@@ -54,7 +53,7 @@ signatures-preserved g c =
 
 pub returns : goal.returns
 returns g c =
-    let gr = grounds_of (judge_of g.V.Verifier.answers c.args.judge.now) c.args.grounds.now in
+    let gr = grounds_by g.V.Verifier.answers c.args.judge.now c.args.grounds.now in
     let done = bare_verdicts (map verdict_value c.signatures.verdicts.items) in
     let whole = verdicts_by gr c.args.set.now c.args.signatures.now c.args.asks.now in
     let long : length c.signatures.signatures.now ≡ 0 = search rules in
