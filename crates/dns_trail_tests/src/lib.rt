@@ -6,6 +6,10 @@
 #[cfg(test)]
 mod trail_check_tests;
 #[cfg(test)]
+mod trail_denial_tests;
+#[cfg(test)]
+mod trail_rows;
+#[cfg(test)]
 mod trail_sessions;
 #[cfg(test)]
 mod trail_turns;

@@ -1,30 +1,8 @@
 //! Trails of sessions, whole and turned (RFC 4035, 4.3, 5.2 and 5.3).
-use crate::trail_sessions::{
-    BY_TURN, FAULT, INSECURE_WILDCARD, SEARCH_FAULT, TOO_DEEP, UNSIGNED, WALK_BY_DS,
-};
-use crate::trail_turns::{EntryTurn, StepTurn, Turn, turned};
-use dns_net::{AskRef, MarkOrigin, Trail};
+use crate::trail_rows::{Given, Row, is_so};
+use crate::trail_turns::{EntryTurn, StepTurn, Turn};
+use dns_net::{AskRef, MarkOrigin};
 use dns_record::{Denial, Proof, RecordType};
-use dns_run::{session_anchors, session_answer, session_verifier};
-use dns_session::{Session, read_session};
-use dns_trail::check_trail;
-use dns_trust::Limits;
-use std::alloc::Global;
-
-/// The session whose lookup leaves a trail.
-#[derive(Clone, Copy)]
-enum Given {
-    WalkByDs,
-    InsecureWildcard,
-    Unsigned,
-    TooDeep,
-    Fault,
-    SearchFault,
-    ByTurn,
-}
-
-/// What is shown, by which session, by what change of its trail, and whether that is a derivation then.
-struct Row(&'static str, Given, Turn, bool);
 
 const WHOLE: [Row; 7] = [
     Row("a walk by DS", Given::WalkByDs, Turn::Whole, true),
@@ -342,64 +320,6 @@ const STEPS: [Row; 23] = [
         false,
     ),
 ];
-
-fn text_of(given: Given) -> &'static [u8] {
-    match given {
-        Given::WalkByDs => WALK_BY_DS,
-        Given::InsecureWildcard => INSECURE_WILDCARD,
-        Given::Unsigned => UNSIGNED,
-        Given::TooDeep => TOO_DEEP,
-        Given::Fault => FAULT,
-        Given::SearchFault => SEARCH_FAULT,
-        Given::ByTurn => BY_TURN,
-    }
-}
-
-fn session_of(alloc: Global, text: &[u8]) -> Option<Session> {
-    if text.len() > 65_535 {
-        return None;
-    }
-    read_session(alloc, text).ok()
-}
-
-// The trail that a session's lookup leaves.
-fn trail_of(alloc: Global, text: &[u8]) -> Option<Trail> {
-    let session = session_of(alloc, text)?;
-    let answer = session_answer(alloc, session).ok()?;
-    Some(answer.trail)
-}
-
-// Whether a trail is a derivation by what a session trusts.
-fn is_derivation(alloc: Global, text: &[u8], trail: &Trail) -> Option<bool> {
-    let Session {
-        by_turn: _,
-        moment,
-        depth,
-        algorithms,
-        anchors,
-        accepts,
-        query: _,
-        replies: _,
-    } = session_of(alloc, text)?;
-    let limits = Limits {
-        depth: depth.unwrap_or(26),
-        soft: 0,
-        hard: 0,
-    };
-    let verifier = session_verifier(alloc, &algorithms, accepts).ok()?;
-    let anchors = session_anchors(alloc, anchors).ok()?;
-    check_trail(alloc, &anchors, &verifier, moment, &limits, trail).ok()
-}
-
-fn holds(alloc: Global, given: Given, turn: &Turn) -> Option<bool> {
-    let trail = trail_of(alloc, text_of(given))?;
-    let trail = turned(alloc, trail, turn).ok()?;
-    is_derivation(alloc, text_of(given), &trail)
-}
-
-fn is_so(alloc: Global, row: &Row) -> bool {
-    holds(alloc, row.1, &row.2) == Some(row.3)
-}
 
 #[test]
 fn the_trail_of_a_lookup_is_a_derivation(rt: HostRuntime) {

@@ -1,0 +1,117 @@
+//! Trails with steps that NSEC records end, whole and turned (RFC 4035, 5.4).
+use crate::trail_rows::{Given, Row, is_so};
+use crate::trail_turns::{EntryTurn, StepTurn, Turn};
+use dns_net::AskRef;
+use dns_record::{Denial, Proof};
+
+const WHOLE: [Row; 4] = [
+    Row(
+        "a delegation without DS",
+        Given::UnsignedCut,
+        Turn::Whole,
+        true,
+    ),
+    Row("a name error", Given::NameError, Turn::Whole, true),
+    Row("an expansion", Given::Expansion, Turn::Whole, true),
+    Row(
+        "no record of an unsigned zone",
+        Given::NothingThere,
+        Turn::Whole,
+        true,
+    ),
+];
+
+const DENIALS: [Row; 13] = [
+    Row(
+        "no DS as Insecure",
+        Given::UnsignedCut,
+        Turn::Step(2, StepTurn::Answered(Denial::Absent(Proof::Insecure))),
+        false,
+    ),
+    Row(
+        "no DS as an answer",
+        Given::UnsignedCut,
+        Turn::Step(2, StepTurn::Answered(Denial::None)),
+        false,
+    ),
+    Row(
+        "no DS as refused",
+        Given::UnsignedCut,
+        Turn::Step(2, StepTurn::Denied(Proof::Bogus)),
+        false,
+    ),
+    Row(
+        "no DS as a failed end",
+        Given::UnsignedCut,
+        Turn::Step(2, StepTurn::Failed),
+        false,
+    ),
+    Row(
+        "no DS by a Bogus NSEC",
+        Given::UnsignedCut,
+        Turn::Step(2, StepTurn::Entry(0, EntryTurn::Mark(Proof::Bogus))),
+        false,
+    ),
+    Row(
+        "no DS by an excuse",
+        Given::UnsignedCut,
+        Turn::Step(2, StepTurn::Excuse(&[AskRef::Step(0)])),
+        false,
+    ),
+    Row(
+        "no DS without its entry",
+        Given::UnsignedCut,
+        Turn::Step(2, StepTurn::NoEntry),
+        false,
+    ),
+    Row(
+        "a name error as an answer",
+        Given::NameError,
+        Turn::Step(2, StepTurn::Answered(Denial::None)),
+        false,
+    ),
+    Row(
+        "a name error refused",
+        Given::NameError,
+        Turn::Step(2, StepTurn::Denied(Proof::Bogus)),
+        false,
+    ),
+    Row(
+        "an expansion as an answer",
+        Given::Expansion,
+        Turn::Step(2, StepTurn::Answered(Denial::None)),
+        false,
+    ),
+    Row(
+        "an expansion as an absence",
+        Given::Expansion,
+        Turn::Step(2, StepTurn::Answered(Denial::Absent(Proof::Secure))),
+        false,
+    ),
+    Row(
+        "an absence of an unsigned zone as Secure",
+        Given::NothingThere,
+        Turn::Step(4, StepTurn::Answered(Denial::Absent(Proof::Secure))),
+        false,
+    ),
+    Row(
+        "an absence of an unsigned zone without its search",
+        Given::NothingThere,
+        Turn::Step(4, StepTurn::Excuse(&[])),
+        false,
+    ),
+];
+
+#[test]
+fn a_trail_with_denials_is_a_derivation(rt: HostRuntime) {
+    for row in &WHOLE {
+        assert!(rt; is_so(rt.alloc(), row), "{}", row.0);
+    }
+}
+
+#[test]
+fn a_denial_follows_and_is_no_other(rt: HostRuntime) {
+    for row in &DENIALS {
+        assert!(rt; is_so(rt.alloc(), row), "{}", row.0);
+    }
+}

@@ -1,0 +1,99 @@
+//! Trails of sessions, and whether they are derivations.
+use crate::trail_sessions::{
+    BY_TURN, EXPANSION, FAULT, INSECURE_WILDCARD, NAME_ERROR, NOTHING_THERE, SEARCH_FAULT,
+    TOO_DEEP, UNSIGNED, UNSIGNED_CUT, WALK_BY_DS,
+};
+use crate::trail_turns::{Turn, turned};
+use dns_net::Trail;
+use dns_run::{session_anchors, session_answer, session_verifier};
+use dns_session::{Session, read_session};
+use dns_trail::check_trail;
+use dns_trust::Limits;
+use std::alloc::Global;
+
+/// The session whose lookup leaves a trail.
+#[derive(Clone, Copy)]
+pub(crate) enum Given {
+    WalkByDs,
+    InsecureWildcard,
+    Unsigned,
+    TooDeep,
+    Fault,
+    SearchFault,
+    ByTurn,
+    UnsignedCut,
+    NameError,
+    Expansion,
+    NothingThere,
+}
+
+/// What is shown, by which session, by what change of its trail, and whether that is a derivation then.
+pub(crate) struct Row(
+    pub(crate) &'static str,
+    pub(crate) Given,
+    pub(crate) Turn,
+    pub(crate) bool,
+);
+
+fn text_of(given: Given) -> &'static [u8] {
+    match given {
+        Given::WalkByDs => WALK_BY_DS,
+        Given::InsecureWildcard => INSECURE_WILDCARD,
+        Given::Unsigned => UNSIGNED,
+        Given::TooDeep => TOO_DEEP,
+        Given::Fault => FAULT,
+        Given::SearchFault => SEARCH_FAULT,
+        Given::ByTurn => BY_TURN,
+        Given::UnsignedCut => UNSIGNED_CUT,
+        Given::NameError => NAME_ERROR,
+        Given::Expansion => EXPANSION,
+        Given::NothingThere => NOTHING_THERE,
+    }
+}
+
+fn session_of(alloc: Global, text: &[u8]) -> Option<Session> {
+    if text.len() > 65_535 {
+        return None;
+    }
+    read_session(alloc, text).ok()
+}
+
+// The trail that a session's lookup leaves.
+fn trail_of(alloc: Global, text: &[u8]) -> Option<Trail> {
+    let session = session_of(alloc, text)?;
+    let answer = session_answer(alloc, session).ok()?;
+    Some(answer.trail)
+}
+
+// Whether a trail is a derivation by what a session trusts.
+fn is_derivation(alloc: Global, text: &[u8], trail: &Trail) -> Option<bool> {
+    let Session {
+        by_turn: _,
+        moment,
+        depth,
+        algorithms,
+        anchors,
+        accepts,
+        query: _,
+        replies: _,
+    } = session_of(alloc, text)?;
+    let limits = Limits {
+        depth: depth.unwrap_or(26),
+        soft: 0,
+        hard: 0,
+    };
+    let verifier = session_verifier(alloc, &algorithms, accepts).ok()?;
+    let anchors = session_anchors(alloc, anchors).ok()?;
+    check_trail(alloc, &anchors, &verifier, moment, &limits, trail).ok()
+}
+
+fn holds(alloc: Global, given: Given, turn: &Turn) -> Option<bool> {
+    let trail = trail_of(alloc, text_of(given))?;
+    let trail = turned(alloc, trail, turn).ok()?;
+    is_derivation(alloc, text_of(given), &trail)
+}
+
+/// Whether the trail, with its change, is a derivation as the row says.
+pub(crate) fn is_so(alloc: Global, row: &Row) -> bool {
+    holds(alloc, row.1, &row.2) == Some(row.3)
+}
