@@ -5,12 +5,10 @@ ghost use Rattle.std.specs.Prelude.{◌==◌, ◌≡◌, ◌≤◌, ◌∷◌, [
 ghost use Rattle.std.specs.List.{list_any};
 ghost use Rattle.dns_model.specs.SoundAnswers.{told_by};
 ghost use Rattle.dns_model.specs.Trails.{Records};
-ghost use Rattle.dns_model.specs.Types.{type_dnskey, type_ds};
 ghost use Rattle.dns_model.specs.Records.{Question};
 ghost use Rattle.dns_judgement.specs.Asking.{most_sends};
-ghost use Rattle.dns_judgement.specs.Delegations.{ds_question};
 ghost use Rattle.dns_judgement.specs.Derivation.{sight_of};
-ghost use Rattle.dns_judgement.specs.Unsigned.{has_ns as shows_ns, is_ns_of as is_ns_record, is_searched as needs_search, ns_question, question_start as start_of_question, set_start as start_of_set};
+ghost use Rattle.dns_judgement.specs.Unsigned.{has_ns as shows_ns};
 ghost use Rattle.dns_chain.specs.Walking.{asking, grounds_at, sight_value, IsCounted, IsSeen, IsWay, Went, Walk};
 
 use crate::asking::{HeardMessage, hear};
@@ -20,7 +18,8 @@ use crate::steps::records_of;
 use dns_message::Message;
 use dns_name::{Name, NoMemory};
 use dns_net::{AskRef, DnsHandle, Ending, NetError, Reply, Verifier};
-use dns_record::{DNSClass, Query, Record, RecordSet, RecordType};
+use dns_record::{DNSClass, Query};
+use dns_trust::{is_ns_of, ns_query};
 use std::alloc::Global;
 
 /// Where the plain asks of a search lead.
@@ -165,62 +164,4 @@ fn has_ns(name: &Name, message: &Message) -> bool
         .chain(message.authorities.iter())
         .chain(message.additionals.iter())
         .any(|found| is_ns_of(name, found))
-}
-
-fn is_ns_of(name: &Name, found: &Record) -> bool
-    ensures { result ≡ is_ns_record name.now found.now }
-{
-    *name == found.name && found.record_type == RecordType::NS
-}
-
-// The question for the NS records of a name.
-fn ns_query(name: &Name, class: DNSClass) -> Result<Query, NoMemory>
-    ensures { IfOk result (λ q. q ≡ ns_question class.0 name.now) }
-{
-    let name = name.try_clone()?;
-    Ok(Query {
-        name,
-        query_type: RecordType::NS,
-        query_class: class,
-    })
-}
-
-/// The question for the DS set of a zone.
-pub(crate) fn ds_query(name: Name, class: DNSClass) -> Query
-    ensures { result ≡ ds_question class.0 name }
-{
-    Query {
-        name,
-        query_type: RecordType::DS,
-        query_class: class,
-    }
-}
-
-/// No signature covers the set, and it isn't DS, so that its zone decides.
-pub(crate) fn is_searched(set: &RecordSet) -> bool
-    ensures { result ≡ needs_search set.now }
-{
-    set.rrsigs.is_empty() && set.record_type != RecordType::DS
-}
-
-/// Where the search for a set's zone begins: an NSEC3 stands right below its zone (RFC 5155, 3).
-pub(crate) fn set_start(set: &RecordSet) -> Result<Name, NoMemory>
-    ensures { IfOk result (λ n. n ≡ start_of_set set.now) }
-{
-    if set.record_type == RecordType::NSEC3 {
-        set.name.base_name()
-    } else {
-        set.name.try_clone()
-    }
-}
-
-/// Where the search for a question's zone begins: a DS stands in the zone above (RFC 4035, 2.4).
-pub(crate) fn question_start(query: &Query) -> Result<Name, NoMemory>
-    ensures { IfOk result (λ n. n ≡ start_of_question query.now) }
-{
-    if query.query_type == RecordType::DS {
-        query.name.base_name()
-    } else {
-        query.name.try_clone()
-    }
 }

@@ -18,7 +18,7 @@ use crate::judging::{
     Concluded, Judgement, OneSet, Searched, Tried, Verdicts, add_ask, class_of, is_key_set, set_of,
     untried, with_entry,
 };
-use crate::search::{Way, ds_query, find_zone, is_searched, question_start, set_start};
+use crate::search::{Way, find_zone};
 use crate::steps::{foreign_of, records_of};
 use dns_name::{Name, NoMemory};
 use dns_net::{AskRef, DnsHandle, NetError, Verifier};
@@ -26,8 +26,8 @@ use dns_rdata::Rrsig;
 use dns_record::{DNSClass, Proof, Query, Record, RecordSet};
 use dns_sets::{Outcome, PlacedSet, outcome_by_zone, outcome_of, placed_sets};
 use dns_trust::{
-    KeysStep, ask_of, ds_ask_of, first_signatures, is_skipped, judged_by, judged_by_ds,
-    judged_keys, unsigned_by, verdict_of, zone_mark,
+    KeysStep, ask_of, ds_ask_of, ds_query, first_signatures, is_searched, is_skipped, judged_by,
+    judged_by_ds, judged_keys, question_start, set_start, unsigned_by, verdict_of, zone_mark,
 };
 use std::alloc::Global;
 
