@@ -1,11 +1,11 @@
 -- What a lookup's answer is, out of why it was given: its soundness, its trail and its marks.
-use Rattle.std.proofs.Common.{ℕ, ◌≡◌, ◌∙◌, ◌⊎◌, Option, None, Some, Result, Ok, Err, refl, sym, ap, subst, inl, inr}
+use Rattle.std.proofs.Common.{ℕ, ◌≡◌, ◌≢◌, ◌∙◌, ◌⊎◌, Option, None, Some, Result, Ok, Err, refl, sym, ap, subst, inl, inr}
 use Rattle.dns_model.specs.declared.proof.Proof.{Proof}
 use Rattle.dns_model.specs.declared.denial.Denial.{Denial}
 use Rattle.dns_model.specs.declared.denial.Denial.TheVariants as denial
 use Rattle.dns_model.specs.Records.{Question, MessageValue}
 use Rattle.dns_model.specs.SoundAnswers.{ResponseValue}
-use Rattle.dns_model.specs.Trails.{EndingValue, Answered, Denied}
+use Rattle.dns_model.specs.Trails.{EndingValue, Answered, Denied, Failed}
 use Rattle.dns_judgement.specs.Chained.{finished}
 use Rattle.dns_judgement.specs.Derivation.{ending_by}
 use Rattle.dns_judgement.specs.Outcome.{Outcome, Unjudged, Accepted, Searched}
@@ -45,7 +45,7 @@ silent_message m h = cc
 -- a fact of the answer that was found, with the ending by its outcome
 pub record OfFound {H : Type 0} (meanings : handle.Ghosts H) (call : Call H) (Fact : ResponseValue → EndingValue → Type 0) : Type 0 where
   pub each : (found : Findings) (d : Denial) (ending : EndingValue) → Found meanings call found
-      → ending ≡ ending_by found.outcome
+      → ending ≡ ending_by found.outcome → ending ≢ Failed
       → Fact (finished call.now found.sets found.message d (trail_of call.query found ending)) ending
 
 -- an error without a message has no answer inside
@@ -70,9 +70,9 @@ by_outcome : {H : Type 0} (meanings : handle.Ghosts H) (call : Call H) (Fact : R
     → OfFound meanings call Fact → Found meanings call found → (o : Outcome) → found.outcome ≡ o
     → OfAnswer (answer_by call.now call.query found o) Fact
 by_outcome meanings call Fact found all f Unjudged is = tt
-by_outcome meanings call Fact found all f (Accepted d) is = all.each found d (Answered d) f (sym (ap ending_by is))
+by_outcome meanings call Fact found all f (Accepted d) is = all.each found d (Answered d) f (sym (ap ending_by is)) (λ h. cc)
 by_outcome meanings call Fact found all f Searched is = tt
-by_outcome meanings call Fact found all f (outcome.Denied p) is = all.each found denial.None (Denied p) f (sym (ap ending_by is))
+by_outcome meanings call Fact found all f (outcome.Denied p) is = all.each found denial.None (Denied p) f (sym (ap ending_by is)) (λ h. cc)
 
 of_looked : {H : Type 0} (meanings : handle.Ghosts H) (call : Call H) (Fact : ResponseValue → EndingValue → Type 0) {answer : Reply}
     → OfFound meanings call Fact → Looked meanings call answer → OfAnswer answer Fact
@@ -83,7 +83,7 @@ of_looked meanings call Fact all (Judges answer found f is) =
     (by_outcome meanings call Fact found all f found.outcome refl)
 
 -- a fact of what was found is one of a lookup's answer
-of_result : {H : Type 0} (meanings : handle.Ghosts H) (call : Call H) (Fact : ResponseValue → EndingValue → Type 0) (result : Result ResponseValue NetError)
+pub of_result : {H : Type 0} (meanings : handle.Ghosts H) (call : Call H) (Fact : ResponseValue → EndingValue → Type 0) (result : Result ResponseValue NetError)
     → OfFound meanings call Fact → UnlessNoMemory result (Looked meanings call (reply_of result)) → OfAnswer (reply_of result) Fact
 of_result meanings call Fact result all looked =
     elim (or_memory result (Looked meanings call (reply_of result)) looked) [
@@ -97,13 +97,13 @@ pub lookup_sound : {H : Type 0} (meanings : handle.Ghosts H) (call : Call H) (re
     → UnlessNoMemory result (Looked meanings call (reply_of result)) → OfAnswer (reply_of result) (λ a ending. IsSoundAnswer meanings call a)
 lookup_sound meanings call result looked =
     of_result meanings call (λ a ending. IsSoundAnswer meanings call a) result
-    (record { each = λ found d ending f ends. found_sound meanings call found d ending f }) looked
+    (record { each = λ found d ending f ends other. found_sound meanings call found d ending f }) looked
 
 pub lookup_trail : {H : Type 0} (meanings : handle.Ghosts H) (call : Call H) (result : Result ResponseValue NetError)
     → UnlessNoMemory result (Looked meanings call (reply_of result)) → OfAnswer (reply_of result) (λ a ending. IsTrail meanings call a.trail ending)
 lookup_trail meanings call result looked =
     of_result meanings call (λ a ending. IsTrail meanings call a.trail ending) result
-    (record { each = λ found d ending f ends. (found_trail meanings call found ending f ends).is }) looked
+    (record { each = λ found d ending f ends other. (found_trail meanings call found ending f ends).is }) looked
 
 -- what holds of each derivation holds of the trail
 pub lookup_ground : {H : Type 0} (meanings : handle.Ghosts H) (call : Call H) (result : Result ResponseValue NetError)
@@ -112,7 +112,7 @@ pub lookup_ground : {H : Type 0} (meanings : handle.Ghosts H) (call : Call H) (r
 lookup_ground meanings call result looked =
     of_result meanings call (λ a ending. HasGrounds call.judge.answers a.trail) result
     (record {
-      each = λ found d ending f ends.
+      each = λ found d ending f ends other.
           let trail = (found_trail meanings call found ending f ends).is in
           insecure_is_grounded call.judge call.options.max_request_depth (trail_of call.query found ending) trail.derived;
     }) looked
@@ -121,7 +121,7 @@ pub lookup_marks : {H : Type 0} (meanings : handle.Ghosts H) (call : Call H) (re
     → UnlessNoMemory result (Looked meanings call (reply_of result)) → OfAnswer (reply_of result) (λ a ending. HasMarksOfTrail call.now a)
 lookup_marks meanings call result looked =
     of_result meanings call (λ a ending. HasMarksOfTrail call.now a) result
-    (record { each = λ found d ending f ends. found_marks meanings call found d ending f }) looked
+    (record { each = λ found d ending f ends other. found_marks meanings call found d ending f }) looked
 
 -- ---- a denial
 

@@ -22,7 +22,8 @@ use Rattle.dns_chain.proofs.CompletingLemmas.{lookup_completes}
 use Rattle.dns_chain.proofs.CauseLemmas.{no_both, lookup_passed, lookup_passes}
 use Rattle.dns_chain.proofs.ForeignLemmas.{lookup_foreign, lookup_names_foreign, lookup_judges}
 use Rattle.dns_chain.proofs.LookedLemmas.{or_memory, lookup_sound, lookup_trail, lookup_ground, lookup_marks, lookup_denied}
-use Rattle.dns_chain.proofs.UnjudgedLemmas.{lookup_unjudged, lookup_unanswered}
+use Rattle.dns_chain.proofs.DenyingLemmas.{lookup_denials, lookup_denies}
+use Rattle.dns_chain.proofs.UnjudgedLemmas.{lookup_unjudged, lookup_judged}
 
 -- ---- the request
 
@@ -55,6 +56,8 @@ looked_up meanings call result sends looked = record {
   trail = lookup_trail meanings call result looked;
   marks = lookup_marks meanings call result looked;
   grounds = lookup_ground meanings call result looked;
+  denials = lookup_denials meanings call result looked;
+  denies = lookup_denies meanings call result looked;
   denied = lookup_denied meanings call result looked;
   passed = lookup_passed meanings call result looked;
   passes = or_memory result _ (lookup_passes meanings call result looked);
@@ -62,7 +65,7 @@ looked_up meanings call result sends looked = record {
   names_foreign = or_memory result _ (lookup_names_foreign meanings call result looked);
   judges = or_memory result _ (lookup_judges meanings call result looked);
   unjudged = lookup_unjudged meanings call result looked;
-  unanswered = or_memory result _ (lookup_unanswered meanings call result looked);
+  judged = lookup_judged meanings call result looked;
   completes = or_memory result _ (lookup_completes meanings call result looked);
 }
 

@@ -1,14 +1,14 @@
 -- Why a lookup gives each answer that has no response (RFC 4035, 4.3 and 5.4; RFC 1035, 3.2.4).
 use Rattle.std.specs.Prelude.{ℕ, ◌≡◌, ◌⊎◌, Bool, true, false, List, Option, None, Some, Ok, Err}
 use Rattle.std.specs.List.{list_any}
+use Rattle.std.specs.Option.{option_map_or}
 use Rattle.dns_model.specs.Counts.{Rose}
 use Rattle.dns_model.specs.Names.{Labels}
 use Rattle.dns_model.specs.Records.{Rr, Question}
-use Rattle.dns_model.specs.Trails.{AskedValue, Records, Failed}
+use Rattle.dns_model.specs.Trails.{AskedValue, Failed}
 use Rattle.dns_model.specs.SoundAnswers.{Told}
-use Rattle.dns_judgement.specs.Judged.{Judged}
-use Rattle.dns_judgement.specs.Derivation.{judged_sets}
-use Rattle.dns_judgement.specs.Outcome.{has_answer, needs_denial, foreign_record}
+use Rattle.dns_judgement.specs.Derivation.{top_step, judged_sets}
+use Rattle.dns_judgement.specs.Outcome.{is_unjudged, foreign_record}
 use Rattle.dns_net.specs.Errors.{Reply, ErrorValue, Dns, Message, ForeignClassRecord, NoMemory, Nsec}
 use Rattle.dns_net.specs.Handles.{Replies, reply_to}
 use Rattle.dns_net.specs.declared.handle.DnsHandle as handle
@@ -72,30 +72,20 @@ ForeignNamed (Some replies) q answer =
 
 -- ---- what isn't judged yet
 
--- denial of existence would have to be judged: no record answers the query, or a Secure set needs it
-abbrev pub WantsDenial : Question → Told → List Judged → Type 0
-WantsDenial q told sets = (has_answer q told ≡ false) ⊎ (list_any needs_denial sets ≡ true)
+-- the last step of a trail saw a Secure NSEC3 set, in any section: what such records deny isn't judged yet (RFC 5155, 8)
+abbrev pub sees_nsec3 : List AskedValue → Bool
+sees_nsec3 trail = option_map_or (λ top. list_any is_unjudged (judged_sets top)) (top_step trail) false
 
--- there is a trail whose last step fails, since denial of existence would have to be judged
+-- there is a trail whose last step fails, since it saw such a set
 pub record IsUnjudged {H : Type 0} (meanings : handle.Ghosts H) (call : Call H) : Type 0 where
   pub trail : List AskedValue
   pub is : IsTrail meanings call trail Failed
-  pub told : Told
-  pub empty : Bool
-  pub heard : is.top.reply ≡ Records told empty
-  pub wants : WantsDenial call.query told (judged_sets is.top)
+  pub sees : sees_nsec3 trail ≡ true
 
 -- `not judged yet` is answered where the upstream did so, or with such a trail
 abbrev pub UnjudgedOnly : {H : Type 0} → handle.Ghosts H → Call H → Reply → Type 0
 UnjudgedOnly meanings call answer =
     answer ≡ Err (Message NotJudgedYet) → PassedOn meanings call (Message NotJudgedYet) ⊎ IsUnjudged meanings call
-
--- where a known upstream's reply has records of the query's class alone and none that answers the query, that isn't judged yet
-abbrev pub UnansweredUnjudged : Option Replies → Question → Reply → Type 0
-UnansweredUnjudged None q answer = Unit {0}
-UnansweredUnjudged (Some replies) q answer =
-    (records : Told) → heard (reply_to replies.list q) ≡ Some records → foreign_record q records ≡ None → has_answer q records ≡ false
-    → answer ≡ Err (Message NotJudgedYet)
 
 -- ---- all else has a trail
 

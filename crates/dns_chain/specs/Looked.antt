@@ -8,8 +8,9 @@ use Rattle.dns_model.specs.Records.{Question, MessageValue}
 use Rattle.dns_model.specs.Trails.{AskedValue, Records, EndingValue, Answered, Denied}
 use Rattle.dns_model.specs.SoundAnswers.{Told, told_by, ResponseValue, Sound}
 use Rattle.dns_judgement.specs.Asking.{most_sends, depth_limit}
-use Rattle.dns_judgement.specs.Derivation.{derivation, top_step, judged_sets, in_send_order}
+use Rattle.dns_judgement.specs.Derivation.{derivation, top_step, told_in, judged_sets, in_send_order}
 use Rattle.dns_judgement.specs.Marking.{marked_told}
+use Rattle.dns_laws.specs.Denials.{ShowsDenial}
 use Rattle.dns_net.specs.Errors.{Reply, Dns, Nsec}
 use Rattle.dns_net.specs.declared.error.NetError.{NetError}
 use Rattle.dns_net.specs.declared.error.NetError.TheVariants.{NoMemory}
@@ -66,6 +67,16 @@ pub record HasMarksOfTrail (now : ℕ) (a : ResponseValue) : Type 0 where
   pub last : top_step a.trail ≡ Some top
   pub heard : top.reply ≡ Records told empty
   pub marked : told_by a.message ≡ marked_told now (judged_sets top) told
+
+-- an answer shows what it denies, by the records that the last step of its trail heard: they are its own, with the marks that the
+-- step gives its sets
+pub record ShowsItsDenial (now : ℕ) (q : Question) (a : ResponseValue) : Type 0 where
+  pub top : AskedValue
+  pub told : Told
+  pub last : top_step a.trail ≡ Some top
+  pub heard : told_in top.reply ≡ Some told
+  pub marked : told_by a.message ≡ marked_told now (judged_sets top) told
+  pub shows : ShowsDenial q told (judged_sets top) a.denial
 
 -- a denial names the call's query, and the response inside it denies nothing by itself
 abbrev pub DeniesQuery : Question → Reply → Type 0

@@ -1,5 +1,5 @@
 -- What a validator answers to a whole request (RFC 1035, 4.1.1; RFC 4035, 3.2 and 4.1; RFC 6840, 5.7).
-use Rattle.std.specs.Prelude.{ℕ, ◌≡◌, ◌≢◌, ◌≤◌, ◌⊎◌, true, false, [], Option, None, Some, Err}
+use Rattle.std.specs.Prelude.{ℕ, ◌≡◌, ◌≢◌, ◌≤◌, ◌⊎◌, true, false, [], Option, None, Some, Err, IfOk}
 use Rattle.dns_model.specs.Counts.{one_more}
 use Rattle.dns_model.specs.Records.{Question, EdnsValue}
 use Rattle.dns_model.specs.Chains.{Judge, judge}
@@ -10,12 +10,13 @@ use Rattle.dns_net.specs.Requests.{RequestValue, first_question}
 use Rattle.dns_net.specs.declared.handle.DnsHandle as handle
 use Rattle.dns_net.specs.declared.notice.Notice.TheVariants.{NoQueryInRequest}
 use Rattle.dns_net.specs.declared.verifier.Verifier as verifier
+use Rattle.dns_laws.specs.Denials.{HasDenials}
 use Rattle.dns_laws.specs.Ground.{HasGrounds}
 use Rattle.dns_chain.specs.Calls.{Call, Sending, inner_of, anchors_of, verifier_of, ask_of, first_of}
-use Rattle.dns_chain.specs.Causes.{PassesOnly, PassesOn, ForeignOnly, ForeignNamed, JudgesTold, UnjudgedOnly, UnansweredUnjudged}
+use Rattle.dns_chain.specs.Causes.{PassesOnly, PassesOn, ForeignOnly, ForeignNamed, JudgesTold, UnjudgedOnly, sees_nsec3}
 use Rattle.dns_chain.specs.Completing.{Completes}
 use Rattle.dns_chain.specs.Inquiries.{asking_options}
-use Rattle.dns_chain.specs.Looked.{OfAnswer, IsSoundAnswer, IsTrail, HasMarksOfTrail, DeniesQuery}
+use Rattle.dns_chain.specs.Looked.{OfAnswer, IsSoundAnswer, IsTrail, HasMarksOfTrail, ShowsItsDenial, DeniesQuery}
 use Rattle.dns_chain.specs.Sends.{SendsBy}
 use Rattle.dns_chain.specs.declared.handle.DnssecDnsHandle.{DnssecDnsHandle}
 
@@ -62,6 +63,8 @@ pub record IsLookedUp {H : Type 0} (meanings : handle.Ghosts H) (call : Call H) 
   pub trail : OfAnswer reply (λ a ending. IsTrail meanings call a.trail ending)
   pub marks : OfAnswer reply (λ a ending. HasMarksOfTrail call.now a)
   pub grounds : OfAnswer reply (λ a ending. HasGrounds call.judge.answers a.trail)
+  pub denials : OfAnswer reply (λ a ending. HasDenials a.trail)
+  pub denies : IfOk reply (λ a. ShowsItsDenial call.now call.query a)
   pub denied : DeniesQuery call.query reply
   pub passed : PassesOnly meanings call reply
   pub passes : UnlessForgotten reply (PassesOn (meanings.told call.old) call.query reply)
@@ -69,7 +72,7 @@ pub record IsLookedUp {H : Type 0} (meanings : handle.Ghosts H) (call : Call H) 
   pub names_foreign : UnlessForgotten reply (ForeignNamed (meanings.told call.old) call.query reply)
   pub judges : UnlessForgotten reply (JudgesTold (meanings.told call.old) call.query reply)
   pub unjudged : UnjudgedOnly meanings call reply
-  pub unanswered : UnlessForgotten reply (UnansweredUnjudged (meanings.told call.old) call.query reply)
+  pub judged : OfAnswer reply (λ a ending. sees_nsec3 a.trail ≡ false)
   pub completes : UnlessForgotten reply (Completes (meanings.told call.old) call reply)
 
 -- ---- any request

@@ -1,11 +1,12 @@
-ghost use Rattle.std.specs.Prelude.{◌≡◌, ◌≤◌, IfOk, true};
+ghost use Rattle.std.specs.Prelude.{◌≡◌, ◌≤◌, IfOk, true, false};
 ghost use Rattle.dns_net.specs.Replies.{reply_of};
 ghost use Rattle.dns_net.specs.Handles.{OrUnsent};
 ghost use Rattle.dns_chain.specs.Calls.{Asking};
-ghost use Rattle.dns_chain.specs.Causes.{PassesOnly, PassesOn, ForeignOnly, ForeignNamed, JudgesTold, UnjudgedOnly, UnansweredUnjudged};
+ghost use Rattle.dns_chain.specs.Causes.{PassesOnly, PassesOn, ForeignOnly, ForeignNamed, JudgesTold, UnjudgedOnly, sees_nsec3};
 ghost use Rattle.dns_chain.specs.Completing.{Completes};
-ghost use Rattle.dns_chain.specs.Looked.{UnlessNoMemory, OfAnswer, IsSoundAnswer, IsTrail, HasMarksOfTrail, DeniesQuery};
+ghost use Rattle.dns_chain.specs.Looked.{UnlessNoMemory, OfAnswer, IsSoundAnswer, IsTrail, HasMarksOfTrail, ShowsItsDenial, DeniesQuery};
 ghost use Rattle.dns_chain.specs.Sends.{SendsFor};
+ghost use Rattle.dns_laws.specs.Denials.{HasDenials};
 ghost use Rattle.dns_laws.specs.Ground.{HasGrounds};
 
 use crate::inquiry::{Inquiry, depth_limit_of};
@@ -76,9 +77,13 @@ impl<H: DnsHandle + Drop, V: Verifier + Drop> DnssecDnsHandle<H, V> {
     /// `DnsRequest::from_query` has it. The marks of the answer are this validator's own, and its trail says what was asked, heard
     /// and judged for them. Its anchors and verifier stay as they are. The call is counted as a `send` is.
     ///
+    /// An answer's denial says what was proved beside the records (RFC 4035, 5.3.4 and 5.4): `Absent(Secure)` that the query has no
+    /// answer, by NSEC; `Expanded(Secure)` that the answer was rightly made from a wildcard; `Absent(Insecure)` that no more than
+    /// Insecure can be expected where nothing is; `None` nothing.
+    ///
     /// Errors: one of the handle's own send for the query; `ForeignClassRecord` for a record of another class than the query's;
-    /// `Message("not judged yet")` where denial of existence would have to be judged; `Dns(Nsec)` where the answer lacks a denial;
-    /// `NoMemory`.
+    /// `Dns(Nsec)`, with the answer inside, exactly where its records lack a denial that they need, or have one that doesn't hold;
+    /// `Message("not judged yet")` exactly where a record of the reply is a Secure NSEC3, in any section; `NoMemory`.
     pub fn lookup(
         &mut self,
         alloc: Global,
@@ -106,6 +111,11 @@ impl<H: DnsHandle + Drop, V: Verifier + Drop> DnssecDnsHandle<H, V> {
         ensures grounds { OfAnswer (reply_of result) (λ a ending. HasGrounds (V.answers (verifier_of self.old)) a.trail) }
         ensures denied { DeniesQuery query (reply_of result) }
 
+        // What an answer denies follows from the Secure NSEC records of the reply, in each zone in which they are true; and so do the
+        // denials of the steps before.
+        ensures denies { IfOk result (λ a. ShowsItsDenial now query a) }
+        ensures denials { OfAnswer (reply_of result) (λ a ending. HasDenials a.trail) }
+
         // An error that only the handle makes is passed on, after one send that met a fault; and whatever error it replies is.
         ensures passed { PassesOnly H.DnsHandle (call_of V.Verifier self.old self.new query options now) (reply_of result) }
         ensures passes { UnlessNoMemory result (PassesOn (H.told (inner_of self.old)) query (reply_of result)) }
@@ -114,10 +124,10 @@ impl<H: DnsHandle + Drop, V: Verifier + Drop> DnssecDnsHandle<H, V> {
         ensures foreign { ForeignOnly H.DnsHandle (call_of V.Verifier self.old self.new query options now) (reply_of result) }
         ensures names_foreign { UnlessNoMemory result (ForeignNamed (H.told (inner_of self.old)) query (reply_of result)) }
 
-        // Else the sets are judged: there is an answer, or there is a trail that fails, since denial would have to be judged.
+        // Else the sets are judged: there is an answer, or there is a trail that fails, exactly where a Secure NSEC3 was seen.
         ensures judges { UnlessNoMemory result (JudgesTold (H.told (inner_of self.old)) query (reply_of result)) }
         ensures unjudged { UnjudgedOnly H.DnsHandle (call_of V.Verifier self.old self.new query options now) (reply_of result) }
-        ensures unanswered { UnlessNoMemory result (UnansweredUnjudged (H.told (inner_of self.old)) query (reply_of result)) }
+        ensures judged { OfAnswer (reply_of result) (λ a ending. sees_nsec3 a.trail ≡ false) }
 
         // Where the upstream's replies make a session that is valid for the query, it is answered, and what was queried is Secure.
         ensures completes { UnlessNoMemory result (Completes (H.told (inner_of self.old))

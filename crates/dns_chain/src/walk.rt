@@ -239,7 +239,8 @@ pub(crate) fn conclude<H: DnsHandle, V: Verifier>(
     ensures concluded { IfOk result (λ c. IsConcluded (grounds_at V.answers inquiry.now progress.new query.now depth)
         (told_by heard.now.message) (bare judged.now.sets.items) (outcome_value c.outcome) c.excuse.items) }
 {
-    match outcome_of(query, &heard.message, &judged.sets) {
+    let outcome = outcome_of(alloc, query, &heard.message, &judged.sets)?;
+    match outcome {
         Outcome::Searched => {
             let start = question_start(query)?;
             let class = query.query_class;

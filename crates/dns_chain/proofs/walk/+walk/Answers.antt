@@ -123,7 +123,7 @@ search_zone-returns-clause-searched g t c = λ query.
 
 pub conclude-returns-in_ok-mark-in-Searched-clause-concluded : goal.conclude-returns-in_ok-mark-in-Searched-clause-concluded
 conclude-returns-in_ok-mark-in-Searched-clause-concluded g t c =
-    searched_by _ _ _ _ _ _ _ _ _ _ _ c.outcome_of.ensures c.deref.ensures.value c.in-Searched.is (ap (λ (q : Question). q.class) c.query.view_is)
+    searched_by _ _ _ _ _ _ _ _ _ _ _ c.in_ok-outcome.ensures c.deref.ensures.value c.in-Searched.is (ap (λ (q : Question). q.class) c.query.view_is)
     c.in_ok-start-in-Searched.ensures (c.in_ok-mark-in-Searched.ensures.searched c.args.query.now) refl c.outcome_by_zone.ensures
 
 pub conclude-returns-in_default : goal.conclude-returns-in_default
@@ -131,7 +131,7 @@ conclude-returns-in_default g t c = record {
   counted = omega arith;
   went = went_nowhere _ g.H.DnsHandle.faults _ _ _ (omega arith) (omega arith);
   asks = asks_none _ _ _ _ _ _ _ c.new.ensures.items;
-  concluded = settled_by _ _ _ _ _ _ _ c.outcome_of.ensures c.deref.ensures.value refl c.in_default.not-Searched c.new.ensures.items;
+  concluded = settled_by _ _ _ _ _ _ _ c.in_ok-outcome.ensures c.deref.ensures.value refl c.in_default.not-Searched c.new.ensures.items;
 }
 
 pub judge_keys-returns-in-Done-clause-asks : goal.judge_keys-returns-in-Done-clause-asks

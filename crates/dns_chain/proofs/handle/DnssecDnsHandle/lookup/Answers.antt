@@ -1,7 +1,8 @@
 use Rattle.dns_chain.proofs.LookedLemmas.{lookup_sound, lookup_trail, lookup_ground, lookup_marks, lookup_denied}
 use Rattle.dns_chain.proofs.CauseLemmas.{lookup_passed, lookup_passes}
 use Rattle.dns_chain.proofs.ForeignLemmas.{lookup_foreign, lookup_names_foreign, lookup_judges}
-use Rattle.dns_chain.proofs.UnjudgedLemmas.{lookup_unjudged, lookup_unanswered}
+use Rattle.dns_chain.proofs.DenyingLemmas.{lookup_denials, lookup_denies, ok_result}
+use Rattle.dns_chain.proofs.UnjudgedLemmas.{lookup_unjudged, lookup_judged}
 use Rattle.dns_chain.proofs.CompletingLemmas.{lookup_completes}
 use Rattle.dns_chain.proofs.handle.DnssecDnsHandle.lookup.Goals as goal
 
@@ -16,6 +17,12 @@ returns-clause-marks g c = lookup_marks g.H.DnsHandle _ _ c.look_up-reply.ensure
 
 pub returns-clause-grounds : goal.returns-clause-grounds
 returns-clause-grounds g c = lookup_ground g.H.DnsHandle _ _ c.look_up-reply.ensures.looked
+
+pub returns-clause-denies : goal.returns-clause-denies
+returns-clause-denies g c = ok_result _ _ (lookup_denies g.H.DnsHandle _ _ c.look_up-reply.ensures.looked)
+
+pub returns-clause-denials : goal.returns-clause-denials
+returns-clause-denials g c = lookup_denials g.H.DnsHandle _ _ c.look_up-reply.ensures.looked
 
 pub returns-clause-denied : goal.returns-clause-denied
 returns-clause-denied g c = lookup_denied g.H.DnsHandle _ _ c.look_up-reply.ensures.looked
@@ -38,8 +45,8 @@ returns-clause-judges g c = lookup_judges g.H.DnsHandle _ _ c.look_up-reply.ensu
 pub returns-clause-unjudged : goal.returns-clause-unjudged
 returns-clause-unjudged g c = lookup_unjudged g.H.DnsHandle _ _ c.look_up-reply.ensures.looked
 
-pub returns-clause-unanswered : goal.returns-clause-unanswered
-returns-clause-unanswered g c = lookup_unanswered g.H.DnsHandle _ _ c.look_up-reply.ensures.looked
+pub returns-clause-judged : goal.returns-clause-judged
+returns-clause-judged g c = lookup_judged g.H.DnsHandle _ _ c.look_up-reply.ensures.looked
 
 pub returns-clause-completes : goal.returns-clause-completes
 returns-clause-completes g c = lookup_completes g.H.DnsHandle _ _ c.look_up-reply.ensures.looked
