@@ -3,31 +3,30 @@
 
     python3 rows/model.py SESSION          the report or the fault line
     python3 rows/model.py SESSION trail    with the trail
-    python3 rows/model.py SESSION nsec     as it is once NSEC records are judged; trail may follow
     python3 rows/model.py                  compares the rows and the examples that are looked up, and names those that differ
 
-It keeps to what the crates judge so far: what needs denial of existence is not judged yet, so that no answer without the record
-asked for tells of a zone."""
+It keeps to what the crates judge so far: denial by NSEC3 is not judged yet."""
 import glob
 import hashlib
 import os
 import sys
 from collections import namedtuple
 
-import denial
+import answers
 import reading
+import report
+from answers import is_set, secure_nsecs
 from reading import dnskey_of, ds_of, folded, is_above, num_labels, rrsig_of, shown, type_word
+from report import BOGUS, INSECURE, SECTIONS, SIGNED, anchored_link, matched_link, signed_link, with_key_set
 
 FOLDER = os.path.dirname(os.path.realpath(__file__))
-NS, CNAME, SOA, DS, RRSIG, NSEC, DNSKEY, NSEC3, IN = 2, 5, 6, 43, 46, 47, 48, 50, 1
-SECTIONS = ("answer", "authority", "additional")
+NS, SOA, DS, RRSIG, NSEC, DNSKEY, NSEC3, IN = 2, 6, 43, 46, 47, 48, 50, 1
 MOST_SIGNATURES, MOST_SENDS, MOST_DEPTH, MOST_OF_A_TAG = 8, 1024, 255, 2
 JUDGED_BELOW = (DNSKEY, DS, NSEC, NSEC3, SOA)
 DIGESTS = {1: hashlib.sha1, 2: hashlib.sha256, 4: hashlib.sha384}
 ZONE_KEY, REVOKED = 0x0100, 0x0080
 # what is known of a zone by the ask for its DS set: the mark that its sets can have, that set's chain and its records that count
 Zone = namedtuple("Zone", "mark chain records", defaults=((), ()))
-SIGNED, INSECURE, BOGUS = "secure", "insecure", "bogus"
 
 
 class Set:
@@ -108,10 +107,8 @@ def digest_covers(owner, key, ds):
 class Lookup:
     """One lookup over a session, with the steps in the order in which they end."""
 
-    def __init__(self, session, has_nsec=False):
+    def __init__(self, session):
         self.session, self.steps, self.sends, self.taken = session, [], 0, {}
-        # whether NSEC records are judged
-        self.has_nsec = has_nsec
         self.top = self.ask(0, "judged", *session.query)
 
     # ---- asks
@@ -167,7 +164,7 @@ class Lookup:
                     self.mark_keys(step, rrset)
                 else:
                     self.mark_set(step, rrset)
-        step.ending = self.outcome(step)
+        step.ending = answers.ending(step, lambda start: self.is_insecure(step, step.excuse, start))
 
     # ---- signatures
 
@@ -258,17 +255,16 @@ class Lookup:
 
     def zone(self, step, asks, name):
         """By a Secure DS set of the zone, in the answer section, it is signed, or Insecure where no readable record is supported. An
-        answer without a DS set, as a CNAME is one, tells of an Insecure zone by a set that is Insecure at it or above it. A Secure
-        NSEC set would tell so too, but its step has no answer so far."""
+        answer without a DS set tells of an Insecure zone by a Secure NSEC of the delegation, and by a set that is Insecure at the
+        zone or above it."""
         asked = self.nested(step, asks, name, DS)
         if not asked:
             return Zone(BOGUS)
         ds_set = next((one for one in asked.sets if is_set(one, name, DS)), None)
         if not ds_set:
-            if self.has_nsec and any(is_unsigned_cut(nsec, name) for nsec in secure_nsecs(asked)):
-                return Zone(INSECURE)
+            is_cut = any(answers.is_unsigned_cut(nsec, name) for nsec in secure_nsecs(asked))
             is_excused = any(one.mark == INSECURE and is_above(one.owner, name) for one in asked.sets)
-            return Zone(INSECURE if is_excused else BOGUS)
+            return Zone(INSECURE if is_cut or is_excused else BOGUS)
         readable = list(filter(ds_of, ds_set.records))
         if ds_set.mark != SIGNED or not readable:
             return Zone(BOGUS)
@@ -287,49 +283,6 @@ class Lookup:
                 return self.zone(step, asks, name).mark == INSECURE
         return False
 
-    def answer(self, step):
-        """How a step ends, once NSEC records are judged: the first row that holds of the table of answers."""
-        if any(rrset.kind == NSEC3 and rrset.mark == SIGNED for rrset in step.sets):
-            return "failed"
-        answers, answered = step.message.sections[0], answered_by(step)
-        is_plain = not any(sig.labels < num_labels(record.owner) for record, sig in signatures_of(answers))
-        excused = "absent insecure" if answered == denial.NO else "none"
-        if is_plain and is_insecure_above(step):
-            return excused
-        signers = {folded(rrsig_of(rrset.signatures[rrset.place]).signer) for rrset in secure_denials(step)}
-        if len(signers) > 1:
-            return "denied bogus"
-        if signers:
-            signer = signers.pop()
-            return self.by_nsecs(step, signer, answered)
-        if any(rrset.section == "answer" and labels_of_expansion(rrset) is not None for rrset in step.sets):
-            return "denied bogus"
-        if answered != denial.NO and is_plain:
-            return "none"
-        start = step.name[1:] if step.kind == DS else step.name
-        return excused if self.is_insecure(step, step.excuse, start) else "denied bogus"
-
-    @staticmethod
-    def by_nsecs(step, signer, answered):
-        """The verdict on the Secure NSEC records, with their signer as zone."""
-        if not denial.is_denied(step.name, step.kind, signer, step.message.code, answered, secure_nsecs(step)):
-            return "denied bogus"
-        return "absent secure" if answered == denial.NO else "expanded secure"
-
-    def outcome(self, step):
-        """How a step ends, where its answer section holds an answer: one with a wildcard's signature stands where the zone is
-        Insecure, which for a DS is the one above it."""
-        if self.has_nsec:
-            return self.answer(step)
-        answers = step.message.sections[0]
-        has_answer = any(record.kind in (step.kind, CNAME) and folded(record.owner) == folded(step.name) for record in answers)
-        if not has_answer or any(asks_denial(rrset) for rrset in step.sets):
-            return "failed"
-        if not any(sig.labels < num_labels(record.owner) for record, sig in signatures_of(answers)):
-            return "none"
-        start = step.name[1:] if step.kind == DS else step.name
-        return "none" if self.is_insecure(step, step.excuse, start) else "denied bogus"
-
     def is_supported(self, ds):
         return ds is not None and ds.algorithm in self.session.algorithms and ds.digest_type in DIGESTS
 
@@ -337,11 +290,6 @@ class Lookup:
     def matches(owner, record, ds_record):
         key, ds = dnskey_of(record), ds_of(ds_record)
         return key is not None and (key.algorithm, key.tag) == (ds.algorithm, ds.tag) and digest_covers(owner, record, ds)
-
-
-def is_set(rrset, owner, kind):
-    """In the answer section."""
-    return rrset.section == "answer" and rrset.kind == kind and folded(rrset.owner) == folded(owner)
 
 
 def has_ns(message, name):
@@ -360,144 +308,11 @@ def counted_keys(keys):
     return first_of_each(filter(dnskey_of, keys.records), lambda key: dnskey_of(key).tag)
 
 
-def asks_denial(rrset):
-    """A Secure set that is of NSEC or NSEC3, or Secure by the signature of a wildcard."""
-    if rrset.mark != SIGNED or rrset.place is None:
-        return False
-    return rrset.kind in (NSEC, NSEC3) or labels_of_expansion(rrset) is not None
-
-
-def signatures_of(records):
-    return [(record, rrsig_of(record)) for record in records if rrsig_of(record)]
-
-
-def labels_of_expansion(rrset):
-    """The labels of the signature by which a set is Secure, where they are fewer than the owner's; else None."""
-    if rrset.mark != SIGNED or rrset.place is None:
-        return None
-    labels = rrsig_of(rrset.signatures[rrset.place]).labels
-    return labels if labels < num_labels(rrset.owner) else None
-
-
-def answered_by(step):
-    """Whether a record of the type or a CNAME answers at the name, and by the fewest labels of an expansion that is Secure."""
-    those = [one for one in step.message.sections[0] if one.kind in (step.kind, CNAME) and folded(one.owner) == folded(step.name)]
-    sets = [one for one in step.sets if any(is_set(one, step.name, kind) for kind in (step.kind, CNAME))]
-    expanded = [labels_of_expansion(one) for one in sets if labels_of_expansion(one) is not None]
-    return denial.NO if not those else min(expanded) if expanded else denial.PLAIN
-
-
-def is_insecure_above(step):
-    """The authority section has a record, and all are Insecure and stand at the name or above it; signatures aside."""
-    records = [record for record in step.message.sections[1] if record.kind != RRSIG]
-    sets = [one for one in step.sets if one.section == "authority" and one.mark == INSECURE]
-    return bool(records) and sum(len(one.records) for one in sets if is_above(one.owner, step.name)) == len(records)
-
-
-def secure_denials(step):
-    return [one for one in step.sets if one.section == "authority" and one.kind == NSEC and one.mark == SIGNED]
-
-
-def secure_nsecs(step):
-    """The Secure NSEC records of the authority section that can be read."""
-    return [nsec for one in secure_denials(step) for nsec in map(denial.nsec_of, one.records) if nsec]
-
-
-def is_unsigned_cut(nsec, zone):
-    return folded(nsec.owner) == folded(zone) and denial.is_cut(nsec) and DS not in nsec.types
-
-
-# ---- links
-
-def anchored_link(rrset, key):
-    return f"anchored {shown(rrset.owner)} IN {key.rdata.hex()}"
-
-
-def matched_link(rrset, key, place, ds):
-    return f"matched {shown(rrset.owner)} IN {key.rdata.hex()} {place} {ds.rdata.hex()}"
-
-
-def with_key_set(rrset, chain, links):
-    """The chain, a link for each key of the set, and the set, which names them."""
-    named = [f"{len(chain) + place} {rdata}" for place, rdata in enumerate(rrset.rdatas())]
-    return [*chain, *links, " ".join([f"keyset {shown(rrset.owner)} IN", *named])]
-
-
-def signed_link(rrset, signature, place, key):
-    shows = f"{place} {key.rdata.hex()} {signature.rdata.hex()}"
-    return " ".join([f"signed {shown(rrset.owner)} IN {type_word(rrset.kind)} {shows}", *rrset.rdatas()])
-
-
-# ---- texts
-
-def adjusted_ttl(rrset, moment):
-    """RFC 4035, 5.3.3."""
-    sig = rrsig_of(rrset.signatures[rrset.place])
-    return min(rrset.records[0].ttl, sig.ttl, (sig.expiration - moment) % 2**32)
-
-
-def record_line(section, record, sets, moment):
-    ttl, mark = record.ttl, "indeterminate"
-    for rrset in sets:
-        decided = rrset.place is not None and record is rrset.signatures[rrset.place]
-        if decided or any(record is one for one in rrset.records):
-            mark = rrset.mark
-            ttl = adjusted_ttl(rrset, moment) if mark == SIGNED and rrset.place is not None else ttl
-    return f"{told_words(section, record)} {ttl} {mark} {record.rdata.hex() or '-'}"
-
-
-def told_words(section, record):
-    return f"{section} {shown(record.owner)} {reading.class_word(record.klass)} {type_word(record.kind)}"
-
-
-def step_lines(step):
-    yield f"step {step.depth} {step.purpose} {shown(step.name)} {type_word(step.kind)}"
-    if not step.message:
-        yield "got fault"
-    else:
-        yield f"got {step.message.code}{' empty' if step.message.is_empty else ''}"
-        for section, records in zip(SECTIONS, step.message.sections):
-            for record in records:
-                yield f"told {told_words(section, record)} {record.ttl} {record.rdata.hex() or '-'}"
-    for rrset in step.sets:
-        place = "-" if rrset.place is None else rrset.place
-        words = (rrset.section, shown(rrset.owner), type_word(rrset.kind), rrset.mark, "table", place, *rrset.asks)
-        yield " ".join(["set", *map(str, words)])
-    yield " ".join(["ending", step.ending, *map(str, step.excuse)])
-
-
-def fault_line(step):
-    """What is written in place of a report, or None."""
-    if not step.message:
-        return f"fault {step.fault}"
-    if step.ending.startswith("foreign"):
-        return "fault class" + step.ending.removeprefix("foreign")
-    if step.ending == "failed":
-        return "fault message not judged yet"
-    return f"fault nsec {step.ending.removeprefix('denied ')}" if step.ending.startswith("denied") else None
-
-
-def report(lookup, with_trail):
-    top, moment = lookup.top, lookup.session.moment
-    yield from ("dns-report 1", f"code {top.message.code}", f"denial {top.ending}")
-    for section, records in zip(SECTIONS, top.message.sections):
-        sets = [rrset for rrset in top.sets if rrset.section == section]
-        yield from (record_line(section, record, sets, moment) for record in records)
-    for rrset in top.sets:
-        if rrset.chain:
-            yield from (f"chain {rrset.section} {len(rrset.chain)}", *rrset.chain)
-    if with_trail:
-        yield f"trail {len(lookup.steps)}"
-        for step in lookup.steps:
-            yield from step_lines(step)
-    yield "end"
-
-
 def written(session, words=(b"validate",)):
-    """What is written for a session that is in its grammar, and the status. With the word `nsec` NSEC records are judged."""
-    lookup = Lookup(reading.session_in(session), b"nsec" in words)
-    fault = fault_line(lookup.top)
-    lines = [fault] if fault else report(lookup, b"trail" in words)
+    """What is written for a session that is in its grammar, and the status."""
+    lookup = Lookup(reading.session_in(session))
+    fault = report.fault_line(lookup.top)
+    lines = [fault] if fault else report.lines(lookup, b"trail" in words)
     return "".join(line + "\n" for line in lines).encode("latin-1"), 1 if fault else 0
 
 

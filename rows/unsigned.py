@@ -82,17 +82,15 @@ def unsigned_in_a_zone_with_another_ds_beside():
 
 
 def unsigned_below_a_delegation_without_ds():
-    """a secure NSEC that shows a delegation without DS isn't judged so far: the ask for the DS fails, and the set is bogus"""
-    # once denial by NSEC is judged, the step of the DS ends `absent secure`, the address is insecure in its record and in the line
-    # of its set, and all else is the same
+    """an unsigned set is insecure at a delegation whose secure NSEC record says that there is no DS"""
     scene = Scene((EXAMPLE, KEYS[0]))
     scene.says(CHILD, A, [Record(CHILD, A, ADDRESS)])
     scene.says(CHILD, NS, [ns_of(CHILD)])
     shown = Record(CHILD, NSEC, texts.wire(EXAMPLE) + bytes.fromhex("0006200000000003"))
     scene.says(CHILD, DS, authorities=scene.signed([shown], KEYS[0], EXAMPLE))
     scene.has_keys(EXAMPLE, KEYS[:1])
-    says = ["set authority child.example. NSEC secure table 0 1", "ending failed",
-            "set answer child.example. A bogus table - 0 2"]
+    says = ["set authority child.example. NSEC secure table 0 1", "ending absent secure", "step 1 judged child.example. DS",
+            "step 2 judged example. DNSKEY", "set answer child.example. A insecure table - 0 2", "asks 4"]
     return scene.session(CHILD, A), says, TRAIL
 
 
@@ -368,8 +366,8 @@ def io_in_place_of_the_keys():
 
 
 def no_records_in_place_of_the_first_reply():
-    """that there are no records is no error, and isn't judged so far"""
-    return stored("empty . NS 000084000000000000000000", texts.keys_reply([KEY])), "fault message not judged yet"
+    """that there are no records is no error of the upstream, and of a signed zone it is denied where nothing shows it"""
+    return stored("empty . NS 000084000000000000000000", texts.keys_reply([KEY])), "fault nsec bogus"
 
 
 def no_message_in_place_of_the_first_reply():

@@ -157,14 +157,14 @@ def ds_of_another_zone(*beside):
 
 
 def ds_of_another_zone_alone():
-    """a DS of another zone is no answer for this one: the ask fails"""
-    says = ["set answer other. DS secure table 0 0", bogus_by(1), "ending failed", "chains 0"]
+    """a DS of another zone is no answer for this one, and nothing denies that there is one: the ask is denied"""
+    says = ["set answer other. DS secure table 0 0", bogus_by(1), "ending denied bogus", "chains 0", "asks 3"]
     return ds_of_another_zone(), says, TRAIL
 
 
 def ds_of_another_zone_beside():
     """nor does it match where a DS of this zone answers and matches nothing"""
-    says = ["set answer other. DS secure table 0 1", DS_IS_SECURE, bogus_by(2), "no ending failed"]
+    says = ["set answer other. DS secure table 0 1", DS_IS_SECURE, bogus_by(2), "no ending denied bogus"]
     return ds_of_another_zone(of_nothing(KEYS[0], 1)), says, TRAIL
 
 
