@@ -1,6 +1,6 @@
 pub mod ByAnswer
 pub mod ChainOf
-pub mod Searching
+pub mod Searches
 pub mod Reading
 pub mod ByteSets
 pub mod Counts

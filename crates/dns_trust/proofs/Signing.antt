@@ -11,7 +11,7 @@ use Rattle.dns_judgement.specs.KeySets.{is_anchored_key, is_matched_key, signed_
 use Rattle.dns_judgement.proofs.SignerLemmas.{IsKeyOf, anchored_is_key, matched_is_key, good_alike, signed_among, others_sign}
 use Rattle.dns_judgement.proofs.KeySetLemmas.{needs_ds-unsigned}
 use Rattle.dns_trust.specs.Signers.{AreOnce, first_signed_by, is_matched_only}
-use Rattle.dns_trust.proofs.Searching.{first_signed_by-from}
+use Rattle.dns_trust.proofs.Searches.{first_signed_by-from}
 
 all_step : (may : Rr → Bool) (b : Bool) (r : Rr) (kept : List Rr) → may r ≡ b → list_all may kept ≡ true → list_all may (cond b (r ∷ kept) kept) ≡ true
 all_step may true r kept is h = ap (λ c. c && list_all may kept) is ∙ h

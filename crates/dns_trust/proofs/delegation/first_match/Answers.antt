@@ -2,7 +2,7 @@ use Rattle.std.proofs.Common.{◌∙◌, sym}
 use Rattle.dns_model.specs.Records.{Rr}
 use Rattle.dns_model.specs.Keys.{matches}
 use Rattle.dns_trust.specs.Delegating.{shown}
-use Rattle.dns_trust.proofs.Searching.{find_here, find_past}
+use Rattle.dns_trust.proofs.Searches.{find_here, find_past}
 use Rattle.dns_trust.proofs.Shown.{shown_at, shown_within}
 use Rattle.dns_trust.proofs.delegation.first_match.Goals as goal
 

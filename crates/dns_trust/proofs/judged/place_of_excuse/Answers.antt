@@ -2,7 +2,7 @@ use Rattle.std.proofs.Common.{map}
 use Rattle.dns_judgement.specs.Marks.{is_excused}
 use Rattle.dns_judgement.specs.Chained.{ChainedVerdict}
 use Rattle.dns_trust.specs.Verdicts.{verdict_value}
-use Rattle.dns_trust.proofs.Searching.{position-map}
+use Rattle.dns_trust.proofs.Searches.{position-map}
 use Rattle.dns_trust.proofs.judged.place_of_excuse.Goals as goal
 
 pub returns : goal.returns

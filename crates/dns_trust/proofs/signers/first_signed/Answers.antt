@@ -3,7 +3,7 @@ use Rattle.std.specs.Option.{option_copied}
 use Rattle.dns_trust.specs.Judge.{judge_of}
 use Rattle.dns_trust.specs.Delegating.{shown}
 use Rattle.dns_trust.specs.Signers.{signer_of, first_signed_by}
-use Rattle.dns_trust.proofs.Searching.{signed_here, signed_past, signed_end, first_signed_by-from}
+use Rattle.dns_trust.proofs.Searches.{signed_here, signed_past, signed_end, first_signed_by-from}
 use Rattle.dns_trust.proofs.signers.first_signed.Goals as goal
 
 pub returns-in-Some : goal.returns-in-Some
