@@ -8,4 +8,8 @@ pub mod DepthLemmas
 pub mod MarkSteps
 pub mod CountSteps
 pub mod MarkLoop
+pub mod BareLemmas
+pub mod ExpansionLemmas
+pub mod DenyingLemmas
+pub mod AuthorityLemmas
 pub mod OutcomeLemmas

@@ -47,9 +47,8 @@ fn is_expanded(signature: &Record) -> bool
 }
 
 /// Whether a set of the answer section is Secure and was expanded from a wildcard.
-#[tactic(auto, using(crate::proofs::Joining::any_map))]
 pub(crate) fn has_expanded_answer(sets: &[ChainedSet]) -> bool
-    ensures { result ≡ list_any is_expanded_in (bare sets.now) }
+    ensures { result ≡ list_any (λ c. is_expanded_in c.judged) sets.now }
 {
     sets.iter().any(|set| is_expanded_answer(&set.judged))
 }

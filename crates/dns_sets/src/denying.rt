@@ -2,7 +2,6 @@
 ghost use Rattle.std.specs.Prelude.{◌≡◌, ◌++◌, [], ◌∷◌, not, ◌||◌, IfOk, OnOk};
 ghost use Rattle.std.specs.List.{filter_map, list_any, list_all, find};
 ghost use Rattle.std.specs.Option.{option_copied};
-ghost use Rattle.dns_model.specs.Owned.{OwnedNsec};
 ghost use Rattle.dns_model.specs.SoundAnswers.{told_by};
 ghost use Rattle.dns_judgement.specs.Chained.{bare, Chained};
 ghost use Rattle.dns_judgement.specs.Outcome.{is_denying as is_denying_set, denying, owned_nsec, denials as denials_in, signer_of, is_made_by as is_made_by_zone, one_signer as one_signer_of, answered as answered_in, secure_denial as denial_of, outcome_by_verdict as told_by_verdict, outcome_by_denials as told_by_denials};
@@ -19,21 +18,19 @@ use dns_record::{Denial, Proof, Query, Record, RecordType, Section};
 use std::alloc::Global;
 
 /// Whether a set denies existence.
-#[tactic(auto, using(crate::proofs::Joining::any_map))]
 pub(crate) fn has_denying(sets: &[ChainedSet]) -> bool
-    ensures { result ≡ list_any is_denying_set (bare sets.now) }
+    ensures { result ≡ list_any (λ c. is_denying_set c.judged) sets.now }
 {
-    sets.iter().any(is_denying)
+    sets.iter().any(|set| is_denying(&set.judged))
 }
 
 // Whether a set is of NSEC records of the authority section, and Secure.
-fn is_denying(set: &ChainedSet) -> bool
-    ensures { result ≡ is_denying_set set.now.judged }
+fn is_denying(set: &MarkedSet) -> bool
+    ensures { result ≡ is_denying_set set.now }
 {
-    let judged = &set.judged;
-    judged.section == Section::Authority
-        && judged.mark == Proof::Secure
-        && judged.set.record_type == RecordType::NSEC
+    set.section == Section::Authority
+        && set.mark == Proof::Secure
+        && set.set.record_type == RecordType::NSEC
 }
 
 /// How a step ends by the sets that deny existence: they are to be made by one zone, whose records prove what is denied.
@@ -82,26 +79,22 @@ fn denials(alloc: Global, sets: &[ChainedSet]) -> Result<Vec<NsecRecord>, NoMemo
 {
     let mut nsecs = Vec::new(alloc);
     for set in sets {
-        push_denials(alloc, &mut nsecs, set)?;
+        push_denials(alloc, &mut nsecs, &set.judged)?;
     }
     Ok(nsecs)
 }
 
 // Adds what the records of a set say, if it denies existence.
-fn push_denials(
-    alloc: Global,
-    nsecs: &mut Vec<NsecRecord>,
-    set: &ChainedSet,
-) -> Result<(), NoMemory>
-    ensures { OnOk result (nsecs.new.items ≡ nsecs.old.items ++ denials_in (set.now.judged ∷ [])) }
+fn push_denials(alloc: Global, nsecs: &mut Vec<NsecRecord>, set: &MarkedSet) -> Result<(), NoMemory>
+    ensures { OnOk result (nsecs.new.items ≡ nsecs.old.items ++ denials_in (set.now ∷ [])) }
 {
     if !is_denying(set) {
         return Ok(());
     }
-    push_nsecs(alloc, nsecs, &set.judged.set.records)
+    push_nsecs(alloc, nsecs, &set.set.records)
 }
 
-// Adds what the records say as NSEC records.
+// Adds what records say as NSEC records.
 fn push_nsecs(
     alloc: Global,
     nsecs: &mut Vec<NsecRecord>,
@@ -110,19 +103,27 @@ fn push_nsecs(
     ensures { OnOk result (nsecs.new.items ≡ nsecs.old.items ++ filter_map owned_nsec records.now) }
 {
     for found in records {
-        if let Some(nsec) = NsecRecord::of(alloc, found)? {
-            nsecs.push(nsec)?;
-        }
+        push_nsec(alloc, nsecs, found)?;
+    }
+    Ok(())
+}
+
+// Adds what a record says, if it can be read as an NSEC record.
+fn push_nsec(alloc: Global, nsecs: &mut Vec<NsecRecord>, found: &Record) -> Result<(), NoMemory>
+    ensures { OnOk result (nsecs.new.items ≡ nsecs.old.items ++ filter_map owned_nsec (found.now ∷ [])) }
+{
+    if let Some(nsec) = NsecRecord::of(alloc, found)? {
+        nsecs.push(nsec)?;
     }
     Ok(())
 }
 
 // The zone that made all sets that deny existence, if one did.
+#[tactic(auto, using(crate::proofs::DenyingLemmas::one_signer_is))]
 fn one_signer(sets: &[ChainedSet]) -> Option<NameRef<'_>>
     ensures { result ≡ one_signer_of (denying (bare sets.now)) }
 {
-    let first = sets.iter().find(|set| is_denying(set))?;
-    let zone = signer(&first.judged)?;
+    let zone = signer(&first_denying(sets)?.judged)?;
     if are_made_by(&zone, sets) {
         Some(zone)
     } else {
@@ -130,12 +131,18 @@ fn one_signer(sets: &[ChainedSet]) -> Option<NameRef<'_>>
     }
 }
 
+// The first set that denies existence.
+fn first_denying<'a>(sets: &'a [ChainedSet]) -> Option<&'a ChainedSet>
+    ensures { option_copied result ≡ find (λ c. is_denying_set c.judged) sets.now }
+{
+    sets.iter().find(|set| is_denying(&set.judged))
+}
+
 // Whether a zone made all sets that deny existence.
 fn are_made_by(zone: &NameRef<'_>, sets: &[ChainedSet]) -> bool
-    ensures { result ≡ list_all (is_made_by_zone zone.now) (denying (bare sets.now)) }
+    ensures { result ≡ list_all (λ c. not (is_denying_set c.judged) || is_made_by_zone zone.now c.judged) sets.now }
 {
-    sets.iter()
-        .all(|set| !is_denying(set) || is_made_by(zone, &set.judged))
+    sets.iter().all(|set| !is_denying(&set.judged) || is_made_by(zone, &set.judged))
 }
 
 // Whether a zone made the signature that decided.

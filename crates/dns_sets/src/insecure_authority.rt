@@ -80,13 +80,13 @@ fn is_insecure_set(sets: &[ChainedSet], places: &SetPlaces, found: &Record) -> b
 {
     let (record_type, _) = set_rtype(found);
     match places.get(&found.name, record_type) {
-        Some(place) => is_insecure(sets[place].judged.mark),
+        Some(place) => is_insecure(&sets[place]),
         None => false,
     }
 }
 
-fn is_insecure(mark: Proof) -> bool
-    ensures { result ≡ is_insecure_mark mark }
+fn is_insecure(set: &ChainedSet) -> bool
+    ensures { result ≡ is_insecure_mark set.now.judged.mark }
 {
-    mark == Proof::Insecure
+    set.judged.mark == Proof::Insecure
 }

@@ -31,7 +31,7 @@ pub enum Outcome {
 }
 
 /// How a step ends whose sets are judged: the first case that holds decides (RFC 4035, 5.3.4 and 5.4).
-#[tactic(auto, unfolding(dns_judgement::specs::Outcome::outcome_of))]
+#[tactic(auto, using(crate::proofs::Joining::any_map), unfolding(dns_judgement::specs::Outcome::outcome_of))]
 pub fn outcome_of(
     alloc: Global,
     query: &Query,
@@ -100,9 +100,8 @@ pub fn foreign_record<'a>(query: &Query, message: &'a Message) -> Option<&'a Rec
         .find(|found| found.dns_class != class)
 }
 
-#[tactic(auto, using(crate::proofs::Joining::any_map))]
 fn has_unjudged(sets: &[ChainedSet]) -> bool
-    ensures { result ≡ list_any is_unjudged_set (bare sets.now) }
+    ensures { result ≡ list_any (λ c. is_unjudged_set c.judged) sets.now }
 {
     sets.iter().any(is_unjudged)
 }
@@ -115,6 +114,7 @@ fn is_unjudged(set: &ChainedSet) -> bool
 }
 
 // Whether no more than Insecure can be expected of a response, and no signature says that it comes from a wildcard.
+#[tactic(auto, using(crate::proofs::OutcomeLemmas::never_both, crate::proofs::OutcomeLemmas::always_both))]
 fn is_insecure_step(
     alloc: Global,
     query: &Query,

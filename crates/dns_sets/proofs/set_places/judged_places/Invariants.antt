@@ -1,6 +1,7 @@
 use Rattle.std.proofs.Common.{take}
+use Rattle.dns_judgement.specs.Chained.{bare}
 use Rattle.dns_sets.specs.SetPlaces.{ArePlacedIn}
-use Rattle.dns_sets.proofs.marking.judged_places.Given as goal
+use Rattle.dns_sets.proofs.set_places.judged_places.Given as goal
 
 abbrev pub invariant-loop-place : goal.invariant-loop-place
-invariant-loop-place l = ArePlacedIn l.places l.section (take l.place l.sets)
+invariant-loop-place l = ArePlacedIn l.places l.section (bare (take l.place l.sets))
