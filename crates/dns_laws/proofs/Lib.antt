@@ -19,4 +19,6 @@ pub mod OrderPathLemmas
 pub mod RankLemmas
 pub mod PathLemmas
 pub mod SecureRecordLemmas
+pub mod RecordDenials
+pub mod SignatureDenials
 pub mod CompleteLemmas

@@ -22,7 +22,8 @@ use Rattle.dns_laws.proofs.SignedEntryLemmas.{IsSecureSet}
 
 -- ---- lists
 
-any_after : (test : Rr → Bool) (f : List Rr → Rr → Rr) → ((b : List Rr) (r : Rr) → test (f b r) ≡ test r) → (before rs : List Rr)
+-- a test that the changes keep
+pub any_after : (test : Rr → Bool) (f : List Rr → Rr → Rr) → ((b : List Rr) (r : Rr) → test (f b r) ≡ test r) → (before rs : List Rr)
     → list_any test (map_after f before rs) ≡ list_any test rs
 unfolding map_after
 any_after test f same before [] = refl

@@ -1,5 +1,6 @@
 pub mod Ground
 pub mod Denials
+pub mod OwnDenials
 pub mod Straight
 pub mod Valid
 pub mod Complete

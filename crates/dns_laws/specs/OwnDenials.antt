@@ -1,0 +1,73 @@
+-- What an answer denies of zones, by its own records and their marks (RFC 4035, 5.3.4 and 5.4; RFC 4592).
+use Rattle.std.specs.Prelude.{◌≡◌, ℕ, Bool, true, false, not, ◌==◌, ◌&&◌, ◌||◌, nat_le, List}
+use Rattle.std.specs.Option.{option_map_or}
+use Rattle.std.specs.List.{filter, filter_map, list_any, list_all}
+use Rattle.dns_model.specs.declared.proof.Proof.TheVariants.{Secure}
+use Rattle.dns_model.specs.declared.denial.Denial.{Denial}
+use Rattle.dns_model.specs.declared.denial.Denial.TheVariants.{Absent, Expanded}
+use Rattle.dns_model.specs.Names.{Labels, name_eq}
+use Rattle.dns_model.specs.Types.{type_cname, type_nsec}
+use Rattle.dns_model.specs.Owned.{OwnedNsec}
+use Rattle.dns_model.specs.Records.{Rr, Question}
+use Rattle.dns_model.specs.RecordViews.{rrsig_of}
+use Rattle.dns_model.specs.Sections.{is_signature}
+use Rattle.dns_model.specs.SoundAnswers.{Told, is_secure, set_rtype}
+use Rattle.dns_denial.specs.NsecVerdict.{holds_query}
+use Rattle.dns_denial.specs.DenialInZones.{IsDeniedIn, IsExpandedIn}
+use Rattle.dns_judgement.specs.Outcome.{has_answer, is_wildcard_signature, owned_nsec}
+
+-- ---- the Secure NSEC records of a section
+
+abbrev pub is_secure_nsec : Rr → Bool
+is_secure_nsec r = is_secure r.proof && (r.rtype == type_nsec)
+
+-- what they say; one that can't be read says nothing
+abbrev pub secure_nsecs : List Rr → List OwnedNsec
+secure_nsecs records = filter_map owned_nsec (filter is_secure_nsec records)
+
+-- a Secure signature of such records
+abbrev pub signs_nsec : Rr → Bool
+signs_nsec r = is_secure r.proof && (is_signature r && (set_rtype r == type_nsec))
+
+abbrev pub is_signed_by : Labels → Rr → Bool
+is_signed_by zone r = option_map_or (λ sig. name_eq zone sig.signer) (rrsig_of r) false
+
+-- a zone holds the query, and made the Secure NSEC records of the authority section, of which there are some
+pub record IsDenyingZone (q : Question) (records : List Rr) (apex : Labels) : Type 0 where
+  pub holds : holds_query apex q ≡ true
+  pub some : list_any is_secure_nsec records ≡ true
+  pub made : list_all (λ r. not (signs_nsec r) || is_signed_by apex r) records ≡ true
+
+-- ---- what is denied
+
+-- no record answers the query, and none does in any zone with that apex in which those NSEC records are true
+pub record DeniesAnswer (q : Question) (told : Told) : Type 0 where
+  pub unanswered : has_answer q told ≡ false
+  pub apex : Labels
+  pub zone : IsDenyingZone q told.authorities apex
+  pub holds : IsDeniedIn q apex told.code (secure_nsecs told.authorities)
+
+-- a Secure signature by which the answer was made from a wildcard: at the name that is asked, of the type or of CNAME
+abbrev pub is_expansion : Question → Rr → Bool
+is_expansion q r =
+    is_secure r.proof && (is_signature r && (name_eq q.owner r.owner
+    && (((set_rtype r == q.rtype) || (set_rtype r == type_cname)) && is_wildcard_signature r)))
+
+-- it has at least so many labels
+abbrev pub has_labels_from : ℕ → Rr → Bool
+has_labels_from labels r = option_map_or (λ sig. nat_le labels sig.labels) (rrsig_of r) false
+
+-- no such signature has fewer labels, and in each zone with that apex in which those NSEC records are true neither the name nor a
+-- wildcard with more labels exists
+pub record DeniesCloser (q : Question) (told : Told) : Type 0 where
+  pub labels : ℕ
+  pub fewest : list_all (λ r. not (is_expansion q r) || has_labels_from labels r) told.answers ≡ true
+  pub apex : Labels
+  pub zone : IsDenyingZone q told.authorities apex
+  pub holds : IsExpandedIn q apex labels (secure_nsecs told.authorities)
+
+-- what the denial of an Ok answer says by its records; a Secure answer from a wildcard stands only beside a Secure expansion
+pub record DeniesByRecords (q : Question) (told : Told) (denial : Denial) : Type 0 where
+  pub absent : denial ≡ Absent Secure → DeniesAnswer q told
+  pub expanded : denial ≡ Expanded Secure → DeniesCloser q told
+  pub denied : list_any (is_expansion q) told.answers ≡ true → denial ≡ Expanded Secure
