@@ -1,16 +1,17 @@
 -- What a lookup's answer denies, and the steps of its trail: by the law on derivations.
-use Rattle.std.proofs.Common.{◌≡◌, [], ◌∷◌, Some, Result, Ok, Err, IfOk, refl, ap}
+use Rattle.std.proofs.Common.{◌≡◌, [], ◌∷◌, Some, Result, Ok, Err, IfOk, refl, sym, ap, subst}
 use Rattle.dns_model.specs.declared.denial.Denial.{Denial}
 use Rattle.dns_model.specs.Records.{Question}
 use Rattle.dns_model.specs.SoundAnswers.{told_by, ResponseValue}
 use Rattle.dns_model.specs.Trails.{EndingValue, Answered}
 use Rattle.dns_model.proofs.EachLemmas.{each_back}
-use Rattle.dns_judgement.specs.Chained.{finished}
+use Rattle.dns_judgement.specs.Chained.{bare, finished}
 use Rattle.dns_judgement.specs.Derivation.{ending_by}
 use Rattle.dns_judgement.specs.Marking.{marked_told}
 use Rattle.dns_judgement.proofs.DerivationLemmas.{top_step_is}
-use Rattle.dns_laws.specs.Denials.{StepDenies, HasDenials}
+use Rattle.dns_laws.specs.Denials.{ShowsDenial, StepDenies, HasDenials}
 use Rattle.dns_laws.proofs.DenialLemmas.{denials_hold}
+use Rattle.dns_laws.proofs.SignatureDenials.{denies_by_records}
 use Rattle.dns_net.specs.Errors.{Reply}
 use Rattle.dns_net.specs.Replies.{reply_of}
 use Rattle.dns_net.specs.declared.error.NetError.{NetError}
@@ -19,7 +20,7 @@ use Rattle.dns_chain.specs.Calls.{Call}
 use Rattle.dns_chain.specs.Looked.{UnlessNoMemory, OfAnswer, ShowsItsDenial}
 use Rattle.dns_chain.specs.Answering.{top_of, Findings, trail_of, Found, Looked}
 use Rattle.dns_chain.proofs.LookedLemmas.{of_result}
-use Rattle.dns_chain.proofs.TopLemmas.{found_trail}
+use Rattle.dns_chain.proofs.TopLemmas.{found_trail, found_grouped}
 
 -- the steps of what was found show what they deny
 found_denials : {H : Type 0} (meanings : handle.Ghosts H) (call : Call H) (found : Findings) (ending : EndingValue) → Found meanings call found
@@ -41,13 +42,16 @@ found_denies : {H : Type 0} (meanings : handle.Ghosts H) (call : Call H) (found 
 found_denies meanings call found d ending f ends answered =
     let told = told_by found.message in
     let top = top_of call.query told found.empty found.entries ending found.excuse in
+    let shows = (each_back StepDenies found.steps (top ∷ []) (found_denials meanings call found ending f ends)).0 told d refl refl answered in
     record {
       top = top;
       told = told;
       last = top_step_is found.steps top;
       heard = refl;
       marked = ap (λ sets. marked_told call.now sets told) f.judged.same;
-      shows = (each_back StepDenies found.steps (top ∷ []) (found_denials meanings call found ending f ends)).0 told d refl refl answered;
+      shows = shows;
+      own = denies_by_records call.now call.query told (bare found.sets) d (found_grouped meanings call found f)
+          (subst (λ sets. ShowsDenial call.query told sets d) (sym f.judged.same) shows);
     }
 
 ok_answer : (reply : Reply) (Fact : ResponseValue → Type 0) → OfAnswer reply (λ a ending. ending ≡ Answered a.denial → Fact a) → IfOk reply Fact

@@ -113,6 +113,13 @@ placed_with g [] (e ∷ es) h = cc
 placed_with g (p ∷ ps) [] h = cc
 placed_with g (p ∷ ps) (e ∷ es) h = ap (λ xs. p ∷ xs) (placed_with g ps es ((and_parts _ (entries_hold g ps es) h).1))
 
+-- the judged sets are those of the message
+pub found_grouped : {H : Type 0} (meanings : handle.Ghosts H) (call : Call H) (found : Findings) → Found meanings call found
+    → map placed_of (bare found.sets) ≡ placed_sets (told_by found.message)
+found_grouped meanings call found f =
+    let told = told_by found.message in
+    ap (map placed_of) f.judged.same ∙ placed_with (top_grounds call found.steps) (judged_part 0 told) found.entries f.judged.hold ∙ judged_part-top told
+
 -- an answer of what was found is sound for the records of the first reply
 pub found_sound : {H : Type 0} (meanings : handle.Ghosts H) (call : Call H) (found : Findings) (d : Denial) (ending : EndingValue) → Found meanings call found
     → IsSoundAnswer meanings call (finished call.now found.sets found.message d (trail_of call.query found ending))
@@ -128,8 +135,7 @@ found_sound meanings call found d ending f =
       authorities = (marked_message call.now (bare found.sets) m).authorities;
       additionals = (marked_message call.now (bare found.sets) m).additionals;
     } in
-    let grouped : map placed_of (bare found.sets) ≡ placed_sets told =
-    ap (map placed_of) f.judged.same ∙ placed_with (top_grounds call found.steps) (judged_part 0 told) found.entries f.judged.hold ∙ judged_part-top told in
+    let grouped = found_grouped meanings call found f in
     let IsSound : MessageValue → Type 0 = λ m. Sound call.judge call.now (told_by f.from) (finished call.now found.sets m d trail) in
     record {
       middle = f.middle;

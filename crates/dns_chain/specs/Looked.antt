@@ -11,6 +11,7 @@ use Rattle.dns_judgement.specs.Asking.{most_sends, depth_limit}
 use Rattle.dns_judgement.specs.Derivation.{derivation, top_step, told_in, judged_sets, in_send_order}
 use Rattle.dns_judgement.specs.Marking.{marked_told}
 use Rattle.dns_laws.specs.Denials.{ShowsDenial}
+use Rattle.dns_laws.specs.OwnDenials.{DeniesByRecords}
 use Rattle.dns_net.specs.Errors.{Reply, Dns, Nsec}
 use Rattle.dns_net.specs.declared.error.NetError.{NetError}
 use Rattle.dns_net.specs.declared.error.NetError.TheVariants.{NoMemory}
@@ -69,7 +70,7 @@ pub record HasMarksOfTrail (now : ℕ) (a : ResponseValue) : Type 0 where
   pub marked : told_by a.message ≡ marked_told now (judged_sets top) told
 
 -- an answer shows what it denies, by the records that the last step of its trail heard: they are its own, with the marks that the
--- step gives its sets
+-- step gives its sets; and so it does by its own records alone
 pub record ShowsItsDenial (now : ℕ) (q : Question) (a : ResponseValue) : Type 0 where
   pub top : AskedValue
   pub told : Told
@@ -77,6 +78,7 @@ pub record ShowsItsDenial (now : ℕ) (q : Question) (a : ResponseValue) : Type 
   pub heard : told_in top.reply ≡ Some told
   pub marked : told_by a.message ≡ marked_told now (judged_sets top) told
   pub shows : ShowsDenial q told (judged_sets top) a.denial
+  pub own : DeniesByRecords q (told_by a.message) a.denial
 
 -- a denial names the call's query, and the response inside it denies nothing by itself
 abbrev pub DeniesQuery : Question → Reply → Type 0

@@ -71,19 +71,20 @@ impl<H: DnsHandle + Drop, V: Verifier + Drop> DnssecDnsHandle<H, V> {
         true
     }
 
-    /// Looks a query up at a moment, in seconds: one send for the query, at most 1,024 in all, and asks for the keys of signers at
-    /// most as deep as the options say, and never deeper than 255. Each send has this moment and these options. What is judged is
-    /// asked for with EDNS and DO, AD set and CD clear; the NS records by which a zone is searched are asked for as
-    /// `DnsRequest::from_query` has it. The marks of the answer are this validator's own, and its trail says what was asked, heard
-    /// and judged for them. Its anchors and verifier stay as they are. The call is counted as a `send` is.
+    /// Looks a query up at a moment, in seconds: one send for the query, at most 1,024 in all, and asks for the keys of signers
+    /// at most as deep as the options say, and never deeper than 255. Each send has this moment and these options. What is
+    /// judged is asked for with EDNS and DO, AD set and CD clear; the NS records by which a zone is searched are asked for as
+    /// `DnsRequest::from_query` has it. The marks of the answer are this validator's own, and its trail says what was asked,
+    /// heard and judged for them. Its anchors and verifier stay as they are. The call is counted as a `send` is.
     ///
-    /// An answer's denial says what was proved beside the records (RFC 4035, 5.3.4 and 5.4): `Absent(Secure)` that the query has no
-    /// answer, by NSEC; `Expanded(Secure)` that the answer was rightly made from a wildcard; `Absent(Insecure)` that no more than
-    /// Insecure can be expected where nothing is; `None` nothing.
+    /// The denial of an answer says what its records prove beside (RFC 4035, 5.3.4 and 5.4): `Absent(Secure)`, that no zone has
+    /// an answer in which its Secure NSEC records are true; `Expanded(Secure)`, that the answer comes from the right wildcard;
+    /// `Absent(Insecure)`, that nothing is there where no more than Insecure can be expected. A Secure denial promises nothing
+    /// where the query is for ANY, RRSIG, NSEC, NSEC3, OPT or a type from 128 to 255.
     ///
-    /// Errors: one of the handle's own send for the query; `ForeignClassRecord` for a record of another class than the query's;
-    /// `Dns(Nsec)`, with the answer inside, exactly where its records lack a denial that they need, or have one that doesn't hold;
-    /// `Message("not judged yet")` exactly where a record of the reply is a Secure NSEC3, in any section; `NoMemory`.
+    /// Errors: one of the handle's own send for the query; `ForeignClassRecord` for a record of another class than the
+    /// query's; `Dns(Nsec)`, with the answer inside, exactly where its records lack a denial that they need, or have one that
+    /// doesn't hold; `Message("not judged yet")` exactly where a Secure NSEC3 stands in the reply, in any section; `NoMemory`.
     pub fn lookup(
         &mut self,
         alloc: Global,
@@ -101,8 +102,8 @@ impl<H: DnsHandle + Drop, V: Verifier + Drop> DnssecDnsHandle<H, V> {
         ensures sends { OrUnsent (inner_of self.old) (inner_of self.new) result
             (SendsFor (Asking H.DnsHandle options now) (inner_of self.old) (inner_of self.new) query) }
 
-        // An answer, an Ok one or that inside a denial, is sound, its trail says how it came about, and its marks are the trail's. Each
-        // set that the trail marks Insecure has a ground in the steps before.
+        // An answer, an Ok one or that inside a denial, is sound, its trail says how it came about, and its marks are the trail's.
+        // Each set that the trail marks Insecure has a ground in the steps before.
         ensures sound { OfAnswer (reply_of result) (λ a ending.
             IsSoundAnswer H.DnsHandle (call_of V.Verifier self.old self.new query options now) a) }
         ensures trail { OfAnswer (reply_of result) (λ a ending.
@@ -111,7 +112,7 @@ impl<H: DnsHandle + Drop, V: Verifier + Drop> DnssecDnsHandle<H, V> {
         ensures grounds { OfAnswer (reply_of result) (λ a ending. HasGrounds (V.answers (verifier_of self.old)) a.trail) }
         ensures denied { DeniesQuery query (reply_of result) }
 
-        // What an answer denies follows from the Secure NSEC records of the reply, in each zone in which they are true; and so do the
+        // What an Ok answer denies follows from its Secure NSEC records, in each zone in which they are true; and so do the
         // denials of the steps before.
         ensures denies { IfOk result (λ a. ShowsItsDenial now query a) }
         ensures denials { OfAnswer (reply_of result) (λ a ending. HasDenials a.trail) }
@@ -129,7 +130,8 @@ impl<H: DnsHandle + Drop, V: Verifier + Drop> DnssecDnsHandle<H, V> {
         ensures unjudged { UnjudgedOnly H.DnsHandle (call_of V.Verifier self.old self.new query options now) (reply_of result) }
         ensures judged { OfAnswer (reply_of result) (λ a ending. sees_nsec3 a.trail ≡ false) }
 
-        // Where the upstream's replies make a session that is valid for the query, it is answered, and what was queried is Secure.
+        // Where the upstream's replies make a session that is valid for the query, it is answered, and what was queried is
+        // Secure.
         ensures completes { UnlessNoMemory result (Completes (H.told (inner_of self.old))
             (call_of V.Verifier self.old self.new query options now) (reply_of result)) }
     {
@@ -157,9 +159,10 @@ impl<H: DnsHandle + Drop, V: Verifier + Drop> DnssecDnsHandle<H, V> {
     }
 }
 
-/// A validator is itself a handle. `send` looks a query up as `DnssecDnsHandle::lookup` does, for the request's first question and
-/// with its options; but what is sent for the question is this request, with EDNS (of payload 1,232 where it has none) and DO, AD
-/// set and CD clear (RFC 4035, 3.2 and 4.1). A request of another opcode than Query goes on as it is, and its reply is the answer.
+/// A validator is itself a handle. `send` looks a query up as `DnssecDnsHandle::lookup` does, for the request's first question
+/// and with its options; but what is sent for the question is this request, with EDNS (of payload 1,232 where it has none) and
+/// DO, AD set and CD clear (RFC 4035, 3.2 and 4.1). A request of another opcode than Query goes on as it is, and its reply is
+/// the answer.
 ///
 /// Errors: `Message("no query in request")` exactly for a query without a question, and nothing is sent; else those of a lookup,
 /// or of the handle's own send.
