@@ -22,6 +22,7 @@ pub report_given : (shows : Parts) (s : SessionValue) (answer : ResponseValue) (
 report_given shows s answer text given is fits tells = record {
   report = record { answer = answer; sound = given.answered.sound; spelled = is; fits = fits; tells = tells };
   given = given.answered;
+  denies = given.denies;
 }
 
 no_both : (b : Bool) → b ≡ true → b ≡ false → ⊥

@@ -4,7 +4,7 @@ use Rattle.std.specs.Io.KnownBytes.{Appends}
 use Rattle.dns_model.specs.SoundAnswers.{Told, ResponseValue}
 use Rattle.dns_model.specs.Trails as trails
 use Rattle.dns_model.specs.Trails.{Answered, Denied}
-use Rattle.dns_judgement.specs.DerivationParts.{is_foreign, is_failed}
+use Rattle.dns_judgement.specs.DerivationParts.{is_foreign}
 use Rattle.dns_judgement.specs.Outcome.{foreign_record}
 use Rattle.dns_net.specs.declared.notice.Notice.TheVariants.{NotJudgedYet}
 use Rattle.dns_net.specs.Errors.{ErrorValue, Message, ForeignClassRecord}
@@ -19,12 +19,12 @@ use Rattle.dns_run.specs.Forms.{bad_line_text}
 use Rattle.dns_run.specs.Soundness.{IsSound}
 use Rattle.dns_run.specs.Replies.{session_told, session_message, session_records}
 use Rattle.dns_run.specs.Answering.{IsSessionAnswer}
-use Rattle.dns_run.specs.Causes.{HasNoMessage, HasForeign, HasNoAnswer, FaultCause, NoMessage, OtherClass, NotJudged, NotDenied}
+use Rattle.dns_run.specs.Causes.{HasNoMessage, HasForeign, FaultCause, NoMessage, OtherClass, NotJudged, NotDenied}
 use Rattle.dns_run.specs.Outcomes.{IsTrailReport, IsFault, Derives, Fails, Refuses, Wrote, Leaves}
 use Rattle.dns_run.specs.Runs.{EndsWith, Ended, Stopped, EndsAsJudged, EndsAsSession, EndsByGrammar, EndsByWords, IfSession, IfBadLine}
 use Rattle.dns_run.specs.Runs as runs
 use Rattle.dns_run.proofs.ReplyLemmas.{err_same}
-use Rattle.dns_run.proofs.TopLemmas.{some_same, trail_foreign, trail_unanswered, trail_told}
+use Rattle.dns_run.proofs.TopLemmas.{some_same, trail_foreign, trail_seen}
 
 -- ---- the ways to end
 
@@ -120,7 +120,7 @@ no_message_only s error x h (NoMessage other) =
     err_same (session_told s) x error other.told h.told
 no_message_only s error x h (OtherClass f) = absurd (no_records s f.records f.told h.silent)
 no_message_only s error x h (NotJudged u is) =
-    absurd (trail_told s u.trail trails.Failed u.is u.told u.empty u.heard (ap told_of h.silent))
+    absurd (trail_seen s u.trail trails.Failed u.is u.sees (ap told_of h.silent))
 no_message_only s error x h (NotDenied response proof given is) =
     absurd (sound_message s response given.sound h.silent)
 
@@ -168,26 +168,6 @@ own_class s records x told own g =
     clash : Some g.first ≡ None → ⊥
     clash h = cc
 
--- without an answer
-unanswered_only : (s : SessionValue) (x : ErrorValue) → HasNoAnswer s → FaultCause s x → x ≡ Message NotJudgedYet
-unanswered_only s x h (NoMessage other) = absurd (no_records s h.records h.told other.silent)
-unanswered_only s x h (OtherClass g) = absurd (own_class s h.records x h.told h.own g)
-unanswered_only s x h (NotJudged u is) = is
-unanswered_only s x h (NotDenied response proof given is) =
-    absurd (not_true (trail_unanswered s response.trail (Denied proof) h.records given.trail h.told h.own h.none))
-  where
-    not_true : is_failed (Denied proof) ≡ true → ⊥
-    not_true h = cc
-
-only_unjudged : (s : SessionValue) → HasNoAnswer s → OnlyFault s (Message NotJudgedYet)
-only_unjudged s h = record {
-  no_answer = λ answer given. not_true answer (trail_unanswered s answer.trail (Answered answer.denial) h.records given.trail h.told h.own h.none);
-  only = λ x cause. unanswered_only s x h cause;
-}
-  where
-    not_true : (answer : ResponseValue) → is_failed (Answered answer.denial) ≡ true → ⊥
-    not_true answer h = cc
-
 -- with records of the query's class alone
 denial_caused : (s : SessionValue) (records : Told) (x : ErrorValue) → session_records s ≡ Some records → foreign_record s.query records ≡ None
     → FaultCause s x → ends_trail (Err x) ≡ true
@@ -208,7 +188,6 @@ ends_session : (s : SessionValue) (status : ℕ) (before now : Option (List ℕ)
 ends_session s status before now ended = record {
   no_message = λ error none. ends_fault s status before now error (only_no_message s error none) ended;
   other_class = λ error foreign. ends_fault s status before now error (only_foreign s error foreign) ended;
-  no_answer = λ none. ends_fault s status before now (Message NotJudgedYet) (only_unjudged s none) ended;
   judged = ends_judged s status before now ended;
 }
 

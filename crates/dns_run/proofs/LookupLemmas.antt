@@ -1,11 +1,13 @@
 -- What a lookup of a session's query answers: out of the clauses of a lookup.
-use Rattle.std.proofs.Common.{◌≡◌, ◌≢◌, ◌⊎◌, ◌∙◌, List, map, Option, None, Some, IfSome, Result, Ok, Err, refl, sym, ap, subst, inl, inr}
+use Rattle.std.proofs.Common.{◌≡◌, ◌≢◌, ◌⊎◌, ◌∙◌, false, List, map, Option, None, Some, IfSome, IfOk, Result, Ok, Err, refl, sym, ap, subst, inl, inr}
 use Rattle.dns_model.specs.Keys.{anchored}
 use Rattle.dns_model.specs.Records.{Question}
 use Rattle.dns_model.specs.SoundAnswers.{told_by, Sound, ResponseValue}
 use Rattle.dns_model.specs.Trails.{AskedValue, EndingValue, Answered, Failed, Denied}
-use Rattle.dns_judgement.specs.Derivation.{derivation, judged_sets, in_send_order}
+use Rattle.dns_judgement.specs.Derivation.{derivation, in_send_order}
 use Rattle.dns_judgement.specs.Outcome.{foreign_record}
+use Rattle.dns_laws.specs.Denials.{HasDenials}
+use Rattle.dns_laws.specs.Ground.{HasGrounds}
 use Rattle.dns_net.specs.Errors as seen
 use Rattle.dns_net.specs.Errors.{Reply, ErrorValue, DnsErrorValue, Busy, Dns, Message, Msg, NoConnections, Proto, Io, Timeout, QueryCaseMismatch, ForeignClassRecord, Truncated, ResponseCode, NoRecordsFound, Nsec, DnssecBogus}
 use Rattle.dns_net.specs.Handles.{Replies, reply_to, ReplyIsTold}
@@ -21,8 +23,8 @@ use Rattle.dns_trust.specs.Listing.{ListedValue, answers_of}
 use Rattle.dns_chain.specs.declared.handle.DnssecDnsHandle.{DnssecDnsHandle}
 use Rattle.dns_chain.specs.Calls.{Call, inner_of, anchors_of, verifier_of, call_of}
 use Rattle.dns_chain.specs.Sends.{IsFromReplies}
-use Rattle.dns_chain.specs.Causes.{WantsDenial, PassedOn, PassesOnly, PassesOn, NamesForeign, ForeignOnly, ForeignNamed, IsUnjudged, UnjudgedOnly, UnansweredUnjudged, JudgesTold}
-use Rattle.dns_chain.specs.Looked.{UnlessNoMemory, OfAnswer, IsSoundAnswer, IsTrail, HasMarksOfTrail, DeniesQuery}
+use Rattle.dns_chain.specs.Causes.{sees_nsec3, PassedOn, PassesOnly, PassesOn, NamesForeign, ForeignOnly, ForeignNamed, IsUnjudged, UnjudgedOnly, JudgesTold}
+use Rattle.dns_chain.specs.Looked.{UnlessNoMemory, OfAnswer, IsSoundAnswer, IsTrail, HasMarksOfTrail, ShowsItsDenial, DeniesQuery}
 use Rattle.dns_session.specs.SessionValue.{SessionValue}
 use Rattle.dns_run.specs.Replies.{recorded, session_told}
 use Rattle.dns_run.specs.Soundness.{listing, session_judge, IsSound}
@@ -88,47 +90,55 @@ pub record SaysOf {H : Type 0} (meanings : handle.Ghosts H) (call : Call H) (ans
   pub sound : OfAnswer answer (λ a ending. IsSoundAnswer meanings call a)
   pub trail : OfAnswer answer (λ a ending. IsTrail meanings call a.trail ending)
   pub marks : OfAnswer answer (λ a ending. HasMarksOfTrail call.now a)
+  pub judged : OfAnswer answer (λ a ending. sees_nsec3 a.trail ≡ false)
+  pub grounds : OfAnswer answer (λ a ending. HasGrounds call.judge.answers a.trail)
+  pub denials : OfAnswer answer (λ a ending. HasDenials a.trail)
+  pub denies : IfOk answer (λ a. ShowsItsDenial call.now call.query a)
   pub denied : DeniesQuery call.query answer
   pub passed : PassesOnly meanings call answer
   pub foreign : ForeignOnly meanings call answer
   pub unjudged : UnjudgedOnly meanings call answer
 
--- a fact of an answer that follows from three
-record Follows (F G K T : ResponseValue → EndingValue → Type 0) : Type 0 where
-  pub each : (a : ResponseValue) (ending : EndingValue) → F a ending → G a ending → K a ending → T a ending
-
-follows : (F G K T : ResponseValue → EndingValue → Type 0) (answer : Reply) → Follows F G K T
-    → OfAnswer answer F → OfAnswer answer G → OfAnswer answer K → OfAnswer answer T
-follows F G K T (Ok a) all f g k = all.each a (Answered a.denial) f g k
-follows F G K T (Err Busy) all f g k = tt
-follows F G K T (Err (Dns (ResponseCode code))) all f g k = tt
-follows F G K T (Err (Dns (NoRecordsFound missing))) all f g k = tt
-follows F G K T (Err (Dns (Nsec asked response proof))) all f g k = all.each response (Denied proof) f g k
-follows F G K T (Err (Dns DnssecBogus)) all f g k = tt
-follows F G K T (Err (Message notice)) all f g k = tt
-follows F G K T (Err (Msg text)) all f g k = tt
-follows F G K T (Err NoConnections) all f g k = tt
-follows F G K T (Err (Proto error)) all f g k = tt
-follows F G K T (Err (Io kind)) all f g k = tt
-follows F G K T (Err Timeout) all f g k = tt
-follows F G K T (Err QueryCaseMismatch) all f g k = tt
-follows F G K T (Err (ForeignClassRecord owner class rtype)) all f g k = tt
-follows F G K T (Err Truncated) all f g k = tt
-follows F G K T (Err seen.NoMemory) all f g k = tt
+-- a response of the call is one of the session
+session_response : {H : Type 0} (meanings : handle.Ghosts H) (s : SessionValue) (call : Call H) (a : ResponseValue) (ending : EndingValue)
+    → IsSessionCall meanings s call → IsSoundAnswer meanings call a → IsTrail meanings call a.trail ending → HasMarksOfTrail call.now a
+    → sees_nsec3 a.trail ≡ false → HasGrounds call.judge.answers a.trail → HasDenials a.trail → IsSessionAnswer s a ending
+session_response meanings s call a ending c sound trail marks judged grounds denials = record {
+  sound = session_sound meanings s call a c sound;
+  trail = session_trail meanings s call a.trail ending c trail;
+  marks = subst (λ now. HasMarksOfTrail now a) c.moment marks;
+  judged = judged;
+  grounds = subst (λ j. HasGrounds j.answers a.trail) c.judge grounds;
+  denials = denials;
+}
 
 session_answered : {H : Type 0} (meanings : handle.Ghosts H) (s : SessionValue) (call : Call H) (answer : Reply)
     → IsSessionCall meanings s call → SaysOf meanings call answer → OfAnswer answer (IsSessionAnswer s)
-session_answered meanings s call answer c says =
-    follows (λ a ending. IsSoundAnswer meanings call a) (λ a ending. IsTrail meanings call a.trail ending) (λ a ending. HasMarksOfTrail call.now a)
-    (IsSessionAnswer s) answer
-    (record {
-      each = λ a ending sound trail marks. record {
-        sound = session_sound meanings s call a c sound;
-        trail = session_trail meanings s call a.trail ending c trail;
-        marks = subst (λ now. HasMarksOfTrail now a) c.moment marks;
-      };
-    })
-    says.sound says.trail says.marks
+session_answered meanings s call (Ok a) c says =
+    session_response meanings s call a (Answered a.denial) c says.sound says.trail says.marks says.judged says.grounds says.denials
+session_answered meanings s call (Err Busy) c says = tt
+session_answered meanings s call (Err (Dns (ResponseCode code))) c says = tt
+session_answered meanings s call (Err (Dns (NoRecordsFound missing))) c says = tt
+session_answered meanings s call (Err (Dns (Nsec asked response proof))) c says =
+    session_response meanings s call response (Denied proof) c says.sound says.trail says.marks says.judged says.grounds says.denials
+session_answered meanings s call (Err (Dns DnssecBogus)) c says = tt
+session_answered meanings s call (Err (Message notice)) c says = tt
+session_answered meanings s call (Err (Msg text)) c says = tt
+session_answered meanings s call (Err NoConnections) c says = tt
+session_answered meanings s call (Err (Proto error)) c says = tt
+session_answered meanings s call (Err (Io kind)) c says = tt
+session_answered meanings s call (Err Timeout) c says = tt
+session_answered meanings s call (Err QueryCaseMismatch) c says = tt
+session_answered meanings s call (Err (ForeignClassRecord owner class rtype)) c says = tt
+session_answered meanings s call (Err Truncated) c says = tt
+session_answered meanings s call (Err seen.NoMemory) c says = tt
+
+-- an Ok answer shows what it denies
+session_denies : {H : Type 0} (meanings : handle.Ghosts H) (s : SessionValue) (call : Call H) (answer : Reply)
+    → IsSessionCall meanings s call → SaysOf meanings call answer → IfOk answer (λ a. ShowsItsDenial s.moment s.query a)
+session_denies meanings s call answer c says =
+    subst (λ now. IfOk answer (λ a. ShowsItsDenial now s.query a)) c.moment
+    (subst (λ q. IfOk answer (λ a. ShowsItsDenial call.now q a)) c.query says.denies)
 
 -- ---- the cause of an error
 
@@ -157,15 +167,8 @@ foreign_cause meanings s call e c names =
 
 unjudged_cause : {H : Type 0} (meanings : handle.Ghosts H) (s : SessionValue) (call : Call H)
     → IsSessionCall meanings s call → IsUnjudged meanings call → HasUnjudged s
-unfolding session_trail
-unjudged_cause meanings s call c u = record {
-  trail = u.trail;
-  is = session_trail meanings s call u.trail Failed c u.is;
-  told = u.told;
-  empty = u.empty;
-  heard = u.heard;
-  wants = subst (λ q. WantsDenial q u.told (judged_sets u.is.top)) c.query u.wants;
-}
+unjudged_cause meanings s call c u =
+    record { trail = u.trail; is = session_trail meanings s call u.trail Failed c u.is; sees = u.sees }
 
 dns_cause : {H : Type 0} (meanings : handle.Ghosts H) (s : SessionValue) (call : Call H) (e : DnsErrorValue)
     → IsSessionCall meanings s call → SaysOf meanings call (Err (Dns e)) → Dns e ≢ seen.NoMemory → FaultCause s (Dns e)
@@ -212,18 +215,15 @@ pub record Known (told : Option Replies) (q : Question) (answer : Reply) : Type 
   pub passes : PassesOn told q answer
   pub foreign : ForeignNamed told q answer
   pub judges : JudgesTold told q answer
-  pub unanswered : UnansweredUnjudged told q answer
 
 pub all_known : (told : Option Replies) (q : Question) (result : Result ResponseValue NetError)
     → UnlessNoMemory result (PassesOn told q (reply_of result)) → UnlessNoMemory result (ForeignNamed told q (reply_of result))
-    → UnlessNoMemory result (JudgesTold told q (reply_of result)) → UnlessNoMemory result (UnansweredUnjudged told q (reply_of result))
-    → UnlessNoMemory result (Known told q (reply_of result))
-all_known told q (Ok x) p f j u = record { passes = p; foreign = f; judges = j; unanswered = u }
-all_known told q (Err e) (inl memory) f j u = inl memory
-all_known told q (Err e) (inr p) (inl memory) j u = inl memory
-all_known told q (Err e) (inr p) (inr f) (inl memory) u = inl memory
-all_known told q (Err e) (inr p) (inr f) (inr j) (inl memory) = inl memory
-all_known told q (Err e) (inr p) (inr f) (inr j) (inr u) = inr (record { passes = p; foreign = f; judges = j; unanswered = u })
+    → UnlessNoMemory result (JudgesTold told q (reply_of result)) → UnlessNoMemory result (Known told q (reply_of result))
+all_known told q (Ok x) p f j = record { passes = p; foreign = f; judges = j }
+all_known told q (Err e) (inl memory) f j = inl memory
+all_known told q (Err e) (inr p) (inl memory) j = inl memory
+all_known told q (Err e) (inr p) (inr f) (inl memory) = inl memory
+all_known told q (Err e) (inr p) (inr f) (inr j) = inr (record { passes = p; foreign = f; judges = j })
 
 session_known : {H : Type 0} (meanings : handle.Ghosts H) (s : SessionValue) (call : Call H) (answer : Reply)
     → IsSessionCall meanings s call → SaysOf meanings call answer → Known (meanings.told call.old) call.query answer → AnswersSession s answer
@@ -231,11 +231,11 @@ session_known meanings s call answer c says given =
     let known : Known (Some (session_replies s)) s.query answer = at_session meanings s call (λ told q. Known told q answer) c given in
     record {
       answered = session_answered meanings s call answer c says;
+      denies = session_denies meanings s call answer c says;
       caused = session_caused meanings s call answer c says;
       passes = known.passes;
       foreign = known.foreign;
       judges = known.judges;
-      unanswered = known.unanswered;
     }
 
 -- the answer to a session is that of its lookup

@@ -1,16 +1,18 @@
 -- How the last step of a session's trail ends: by what the session replies to its query.
 use Rattle.std.proofs.Common.{◌≡◌, ◌∙◌, ◌-◌, ◌++◌, Bool, true, false, List, [], map, length, take, Option, None, Some, sym, ap, subst}
+use Rattle.std.specs.List.{list_any}
+use Rattle.std.specs.Option.{option_map_or}
 use Rattle.std.proofs.lemmas.Bool.{and_parts}
 use Rattle.dns_model.specs.Records.{Rr}
 use Rattle.dns_model.specs.SoundAnswers.{Told}
-use Rattle.dns_model.specs.Trails.{AskedValue, Records, Fault, EndingValue}
+use Rattle.dns_model.specs.Trails.{AskedValue, HeardValue, Records, Fault, EndingValue}
 use Rattle.dns_judgement.specs.Asking.{depth_limit, judged_part}
-use Rattle.dns_judgement.specs.Derivation.{Grounds, entries_hold, with_entries, ending_holds, step_holds}
-use Rattle.dns_judgement.specs.Unsigned.{is_empty}
-use Rattle.dns_judgement.specs.DerivationParts.{grounds_of, is_foreign, is_failed, is_bare, judged_holds, step_holds_by}
-use Rattle.dns_judgement.specs.Outcome.{Unjudged, has_answer, foreign_record, outcome_of}
+use Rattle.dns_judgement.specs.Derivation.{Grounds, with_entries, judged_sets, told_in, step_holds}
+use Rattle.dns_judgement.specs.DerivationParts.{grounds_of, is_foreign, is_bare, judged_holds, step_holds_by}
+use Rattle.dns_judgement.specs.Outcome.{is_unjudged, foreign_record}
 use Rattle.dns_judgement.proofs.DerivedLemmas.{Derived, derivation_parts, steps_hold_at, TopFirst, derivation_first}
 use Rattle.dns_net.specs.Handles.{reply_to}
+use Rattle.dns_chain.specs.Causes.{sees_nsec3}
 use Rattle.dns_chain.specs.Heard.{heard_value, says_none}
 use Rattle.dns_chain.specs.LookupParts.{heard_told}
 use Rattle.dns_chain.specs.Sends.{IsFromReplies}
@@ -72,18 +74,6 @@ foreign_ends : (g : Grounds) (step : AskedValue) (records : Told) (o : Option Rr
 foreign_ends g step records o r is holds =
     (and_parts (is_foreign r step.ending) (is_bare step) (ap (judged_holds g step records) (sym is) ∙ holds)).0
 
--- without an answer its sets aren't judged yet
-unanswered_ends : (g : Grounds) (step : AskedValue) (records : Told) (o : Option Rr) → o ≡ None → has_answer step.query records ≡ false
-    → judged_holds g step records o ≡ true → is_failed step.ending ≡ true
-unfolding outcome_of
-unanswered_ends g step records o is none holds =
-    let part = judged_part step.depth records in
-    let own : judged_holds g step records None ≡ true = ap (judged_holds g step records) (sym is) ∙ holds in
-    let ends = ending_holds g step records (outcome_of step.query records (with_entries part step.sets)) in
-    let e : ends ≡ true = (and_parts (entries_hold g part step.sets) ends own).1 in
-    let failed : ending_holds g step records Unjudged ≡ true = rw none at e in
-    (and_parts (is_failed step.ending) (is_empty step.excuse) failed).0
-
 -- where the reply has a record of another class, the trail names the first
 pub trail_foreign : (s : SessionValue) (trail : List AskedValue) (ending : EndingValue) (records : Told) (r : Rr) → IsSessionTrail s trail ending
     → session_records s ≡ Some records → foreign_record s.query records ≡ Some r → is_foreign r ending ≡ true
@@ -93,22 +83,17 @@ trail_foreign s trail ending records r is told found =
     ∙ foreign_ends t.before t.step records (foreign_record t.step.query records) r (ap (λ q. foreign_record q records) t.query ∙ found)
     (records_judged t.before t.step (says_none (session_told s)) (session_records s) records t.judged t.heard told t.holds)
 
--- where none of its records answers the query, the trail fails
-pub trail_unanswered : (s : SessionValue) (trail : List AskedValue) (ending : EndingValue) (records : Told) → IsSessionTrail s trail ending
-    → session_records s ≡ Some records → foreign_record s.query records ≡ None → has_answer s.query records ≡ false → is_failed ending ≡ true
-trail_unanswered s trail ending records is told own none =
-    let t : IsTop s trail ending = is_top s trail ending is in
-    ap is_failed (sym t.ends)
-    ∙ unanswered_ends t.before t.step records (foreign_record t.step.query records) (ap (λ q. foreign_record q records) t.query ∙ own)
-    (ap (λ q. has_answer q records) t.query ∙ none)
-    (records_judged t.before t.step (says_none (session_told s)) (session_records s) records t.judged t.heard told t.holds)
-
--- a trail whose last step heard records is of a session that has them
-pub trail_told : (s : SessionValue) (trail : List AskedValue) (ending : EndingValue) (is : IsSessionTrail s trail ending) (told : Told) (empty : Bool)
-    → is.top.reply ≡ Records told empty → session_records s ≡ None → ⊥
-trail_told s trail ending is told empty heard none =
+-- a trail whose last step saw a Secure NSEC3 is of a session that has records
+pub trail_seen : (s : SessionValue) (trail : List AskedValue) (ending : EndingValue) (is : IsSessionTrail s trail ending)
+    → sees_nsec3 trail ≡ true → session_records s ≡ None → ⊥
+trail_seen s trail ending is sees none =
     let f : TopFirst trail = derivation_first (session_judge s) (session_depth s) trail is.derived in
-    clash (sym heard ∙ top_heard s trail ending is f ∙ ap (heard_told (says_none (session_told s))) none)
+    let silent : is.top.reply ≡ Fault = top_heard s trail ending is f ∙ ap (heard_told (says_none (session_told s))) none in
+    clash (sym (ap (sees_in is.top) silent) ∙ ap (λ o. option_map_or (λ top. list_any is_unjudged (judged_sets top)) o false) (sym is.last) ∙ sees)
   where
-    clash : Records told empty ≡ Fault → ⊥
+    -- what a step sees where it hears this
+    sees_in : AskedValue → HeardValue → Bool
+    sees_in step reply =
+        list_any is_unjudged (option_map_or (λ told. with_entries (judged_part step.depth told) step.sets) (told_in reply) [])
+    clash : false ≡ true → ⊥
     clash h = cc

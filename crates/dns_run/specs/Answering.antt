@@ -1,12 +1,15 @@
 -- The lookup that a session asks for: over its replies, with its keys and signatures, at its moment.
-use Rattle.std.specs.Prelude.{ℕ, ◌≡◌, Bool, true, List, map, unwrap_or, Some}
+use Rattle.std.specs.Prelude.{ℕ, ◌≡◌, Bool, true, false, List, map, unwrap_or, Some}
 use Rattle.dns_model.specs.SoundAnswers.{ResponseValue}
 use Rattle.dns_model.specs.Trails.{AskedValue, EndingValue}
 use Rattle.dns_judgement.specs.Derivation.{derivation, top_step, in_send_order}
+use Rattle.dns_laws.specs.Ground.{HasGrounds}
+use Rattle.dns_laws.specs.Denials.{HasDenials}
 use Rattle.dns_net.specs.Handles.{Replies}
 use Rattle.dns_net.specs.Requests.{plain_options}
 use Rattle.dns_net.specs.Recording.{RecordedValue}
 use Rattle.dns_chain.specs.Sends.{IsFromReplies}
+use Rattle.dns_chain.specs.Causes.{sees_nsec3}
 use Rattle.dns_chain.specs.Looked.{HasMarksOfTrail}
 use Rattle.dns_session.specs.SessionValue.{ReplyValue, SessionValue}
 use Rattle.dns_run.specs.Replies.{recorded}
@@ -34,8 +37,12 @@ pub record IsSessionTrail (s : SessionValue) (trail : List AskedValue) (ending :
   pub ends : top.ending ≡ ending
   pub from : IsFromReplies (session_replies s) (in_send_order trail)
 
--- a sound answer with such a trail, whose last step has the answer's marks
+-- a sound answer with such a trail, whose last step has the answer's marks and saw no Secure NSEC3. In the trail what is Insecure
+-- has its ground, and each step that ends with an answer shows what it denies
 pub record IsSessionAnswer (s : SessionValue) (answer : ResponseValue) (ending : EndingValue) : Type 0 where
   pub sound : IsSound s answer
   pub trail : IsSessionTrail s answer.trail ending
   pub marks : HasMarksOfTrail s.moment answer
+  pub judged : sees_nsec3 answer.trail ≡ false
+  pub grounds : HasGrounds (session_judge s).answers answer.trail
+  pub denials : HasDenials answer.trail

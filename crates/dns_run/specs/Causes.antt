@@ -1,15 +1,14 @@
 -- Why a session is answered with an error (RFC 4035, 4.3 and 5.4), and what its replies must be answered with.
-use Rattle.std.specs.Prelude.{◌≡◌, ◌≢◌, Bool, false, List, None, Some, Err}
+use Rattle.std.specs.Prelude.{◌≡◌, ◌≢◌, true, List, None, Some, Err, IfOk}
 use Rattle.dns_model.specs.declared.proof.Proof.{Proof}
 use Rattle.dns_model.specs.Records.{Rr}
 use Rattle.dns_model.specs.SoundAnswers.{Told, ResponseValue}
-use Rattle.dns_model.specs.Trails.{AskedValue, Records, Denied, Failed}
-use Rattle.dns_judgement.specs.Derivation.{judged_sets}
-use Rattle.dns_judgement.specs.Outcome.{has_answer, foreign_record}
+use Rattle.dns_model.specs.Trails.{AskedValue, Denied, Failed}
+use Rattle.dns_judgement.specs.Outcome.{foreign_record}
 use Rattle.dns_net.specs.declared.notice.Notice.TheVariants.{NotJudgedYet}
 use Rattle.dns_net.specs.Errors.{Reply, ErrorValue, Dns, Message, ForeignClassRecord, Nsec, NoMemory}
-use Rattle.dns_chain.specs.Looked.{OfAnswer}
-use Rattle.dns_chain.specs.Causes.{WantsDenial, PassesOn, ForeignNamed, UnansweredUnjudged, JudgesTold}
+use Rattle.dns_chain.specs.Looked.{OfAnswer, ShowsItsDenial}
+use Rattle.dns_chain.specs.Causes.{sees_nsec3, PassesOn, ForeignNamed, JudgesTold}
 use Rattle.dns_session.specs.SessionValue.{SessionValue}
 use Rattle.dns_run.specs.Replies.{session_told, session_message, session_records}
 use Rattle.dns_run.specs.Answering.{session_replies, IsSessionTrail, IsSessionAnswer}
@@ -28,38 +27,28 @@ pub record HasForeign (s : SessionValue) (error : ErrorValue) : Type 0 where
   pub found : foreign_record s.query records ≡ Some first
   pub named : error ≡ ForeignClassRecord first.owner first.class first.rtype
 
--- the records of the reply have the query's class, and none of them answers the query
-pub record HasNoAnswer (s : SessionValue) : Type 0 where
-  pub records : Told
-  pub told : session_records s ≡ Some records
-  pub own : foreign_record s.query records ≡ None
-  pub none : has_answer s.query records ≡ false
-
--- there is a trail whose last step fails, since denial of existence would have to be judged
+-- there is a trail whose last step fails, since it saw a Secure NSEC3: what such records deny isn't judged yet (RFC 5155, 8)
 pub record HasUnjudged (s : SessionValue) : Type 0 where
   pub trail : List AskedValue
   pub is : IsSessionTrail s trail Failed
-  pub told : Told
-  pub empty : Bool
-  pub heard : is.top.reply ≡ Records told empty
-  pub wants : WantsDenial s.query told (judged_sets is.top)
+  pub sees : sees_nsec3 trail ≡ true
 
 -- why a session is answered with an error
 pub data FaultCause (s : SessionValue) (error : ErrorValue) : Type 0 where
   NoMessage : HasNoMessage s error → FaultCause s error
   OtherClass : HasForeign s error → FaultCause s error
-  -- denial of existence would have to be judged
+  -- denial by NSEC3 would have to be judged
   NotJudged : HasUnjudged s → error ≡ Message NotJudgedYet → FaultCause s error
   -- an answer is refused, with this proof, by a trail that ends so
   NotDenied : (response : ResponseValue) (proof : Proof) → IsSessionAnswer s response (Denied proof)
       → error ≡ Dns (Nsec s.query response proof) → FaultCause s error
 
--- a lookup of the session's query, over its replies, gives this answer: an answer has its trail, an error its cause, and each reply to the
--- query its answer
+-- a lookup of the session's query, over its replies, gives this answer: an answer has its trail and shows what it denies, an error
+-- has its cause, and each reply to the query its answer
 pub record AnswersSession (s : SessionValue) (answer : Reply) : Type 0 where
   pub answered : OfAnswer answer (IsSessionAnswer s)
+  pub denies : IfOk answer (λ a. ShowsItsDenial s.moment s.query a)
   pub caused : (error : ErrorValue) → answer ≡ Err error → error ≢ NoMemory → FaultCause s error
   pub passes : PassesOn (Some (session_replies s)) s.query answer
   pub foreign : ForeignNamed (Some (session_replies s)) s.query answer
   pub judges : JudgesTold (Some (session_replies s)) s.query answer
-  pub unanswered : UnansweredUnjudged (Some (session_replies s)) s.query answer

@@ -5,6 +5,7 @@ use Rattle.dns_model.specs.SoundAnswers.{ResponseValue}
 use Rattle.dns_net.specs.Errors as seen
 use Rattle.dns_net.specs.Errors.{ErrorValue}
 use Rattle.dns_model.specs.Trails.{Answered}
+use Rattle.dns_chain.specs.Looked.{ShowsItsDenial}
 use Rattle.dns_report.specs.declared.parts.Parts.{Parts}
 use Rattle.dns_report.specs.View.{View, view_of, fitting_view}
 use Rattle.dns_report.specs.Report.{report_text, view_text}
@@ -27,10 +28,11 @@ pub record IsReport (shows : Parts) (session : SessionValue) (text : List ℕ) :
   pub fits : IsTrue (fitting_view (view_of shows answer))
   pub tells : (other : View) → IsTrue (fitting_view other) → view_text other ≡ text → other ≡ view_of shows answer
 
--- the text is the report of an answer that has a trail for the session
+-- the text is the report of an answer that has a trail for the session and shows what it denies
 pub record IsTrailReport (shows : Parts) (session : SessionValue) (text : List ℕ) : Type 0 where
   pub report : IsReport shows session text
   pub given : IsSessionAnswer session report.answer (Answered report.answer.denial)
+  pub denies : ShowsItsDenial session.moment session.query report.answer
 
 -- the text is the line of one error, which has its cause in the session and isn't want of memory
 pub record IsFault (session : SessionValue) (text : List ℕ) : Type 0 where
@@ -45,7 +47,7 @@ pub record Reports (shows : Parts) (bytes text : List ℕ) : Type 0 where
   pub read : session_of bytes ≡ Ok session
   pub report : IsReport shows session text
 
--- the bytes are a session, and the text is the report of an answer that has a trail for it
+-- the bytes are a session, and the text is the report of an answer that has a trail for it and shows what it denies
 pub record Derives (shows : Parts) (bytes text : List ℕ) : Type 0 where
   pub session : SessionValue
   pub read : session_of bytes ≡ Ok session

@@ -3,8 +3,7 @@ use Rattle.std.specs.Prelude.{ℕ, ◌≡◌, ◌≢◌, ◌<◌, ◌≤◌, tru
 use Rattle.std.specs.Io.KnownBytes.{Appends}
 use Rattle.dns_model.specs.SoundAnswers.{Told}
 use Rattle.dns_judgement.specs.Outcome.{foreign_record}
-use Rattle.dns_net.specs.declared.notice.Notice.TheVariants.{NotJudgedYet}
-use Rattle.dns_net.specs.Errors.{ErrorValue, Message}
+use Rattle.dns_net.specs.Errors.{ErrorValue}
 use Rattle.dns_chain.specs.Causes.{ends_trail}
 use Rattle.dns_report.specs.Faults.{fault_text}
 use Rattle.dns_session.specs.SessionValue.{SessionValue}
@@ -15,7 +14,7 @@ use Rattle.dns_run.specs.declared.form.Form.{Form}
 use Rattle.dns_run.specs.declared.form.Form.TheVariants.{Validate, Help, Version}
 use Rattle.dns_run.specs.Forms.{help_text, version_text, bad_words_text, bad_line_text, too_long_text}
 use Rattle.dns_run.specs.Replies.{session_records}
-use Rattle.dns_run.specs.Causes.{HasNoMessage, HasForeign, HasNoAnswer}
+use Rattle.dns_run.specs.Causes.{HasNoMessage, HasForeign}
 use Rattle.dns_run.specs.Outcomes.{Leaves, Refuses}
 
 -- ---- by its words
@@ -48,11 +47,10 @@ pub data EndsAsJudged (status : ℕ) (before now : Option (List ℕ)) : Type 0 w
   Refused : (error : ErrorValue) → ends_trail (Err error) ≡ true → EndsWith status 1 before now (fault_text error) → EndsAsJudged status before now
 
 -- what a session must end with: without a message in reply to its query with that error's line, with a record of another class
--- with the line that names the first, without an answer as not judged yet, and else as it is judged
+-- with the line that names the first, and else as it is judged
 pub record EndsAsSession (s : SessionValue) (status : ℕ) (before now : Option (List ℕ)) : Type 0 where
   pub no_message : (error : ErrorValue) → HasNoMessage s error → EndsWith status 1 before now (fault_text error)
   pub other_class : (error : ErrorValue) → HasForeign s error → EndsWith status 1 before now (fault_text error)
-  pub no_answer : HasNoAnswer s → EndsWith status 1 before now (fault_text (Message NotJudgedYet))
   pub judged : (records : Told) → session_records s ≡ Some records → foreign_record s.query records ≡ None → EndsAsJudged status before now
 
 -- a fact of the session that told bytes are

@@ -13,9 +13,13 @@ returns c =
       sound = c.lookup.ensures.sound;
       trail = c.lookup.ensures.trail;
       marks = c.lookup.ensures.marks;
+      judged = c.lookup.ensures.judged;
+      grounds = c.lookup.ensures.grounds;
+      denials = c.lookup.ensures.denials;
+      denies = c.lookup.ensures.denies;
       denied = c.lookup.ensures.denied;
       passed = c.lookup.ensures.passed;
       foreign = c.lookup.ensures.foreign;
       unjudged = c.lookup.ensures.unjudged;
     })
-    (all_known _ _ c.lookup.result c.lookup.ensures.passes c.lookup.ensures.names_foreign c.lookup.ensures.judges c.lookup.ensures.unanswered))
+    (all_known _ _ c.lookup.result c.lookup.ensures.passes c.lookup.ensures.names_foreign c.lookup.ensures.judges))
