@@ -40,6 +40,10 @@ def nsec(owner, following, *types):
     return Record(name(owner), NSEC, texts.wire(name(following)) + bitmap(*types, RRSIG, NSEC))
 
 
+# a record of the hash of some name
+HASHED = Record([b"0p9mhaveqvm6t7vbl5lop2u3t2rp3tom", *EXAMPLE], NSEC3, bytes.fromhex("0100000000") + b"\x14" + bytes(20) + bitmap(A))
+
+
 def signed_zone(*further):
     """`example.` has one key, which is anchored and signs what lies in the zone; and so have further zones."""
     zones = [(EXAMPLE, KEYS[0]), *further]
@@ -135,9 +139,15 @@ def expansion_past_a_closer_name():
 
 def denials_of_both_kinds():
     """a secure NSEC3 record beside secure NSEC records isn't judged yet"""
-    hashed = Record([b"0p9mhaveqvm6t7vbl5lop2u3t2rp3tom", *EXAMPLE], NSEC3, bytes.fromhex("0100000000") + b"\x14" + bytes(20) + bitmap(A))
     denials = nsec("b.example", "ns1.example", A), nsec("example", "a.example", SOA, NS)
-    return asked(A, *denials, hashed, code=NAME_ERROR), "fault message not judged yet"
+    return asked(A, *denials, HASHED, code=NAME_ERROR), "fault message not judged yet"
+
+
+def hashed_denial_beside_an_answer():
+    """nor is one in another section, beside whatever answer"""
+    scene = signed_zone()
+    scene.says(WWW, A, by_example(scene, Record(WWW, A, ADDRESS)), additionals=by_example(scene, HASHED))
+    return scene.session(WWW, A), "fault message not judged yet"
 
 
 def denial_elsewhere(section):
@@ -235,9 +245,10 @@ def no_record_at_all_of_an_unsigned_zone():
 
 MADE = (name_error_by_two_records, name_error_of_a_name_with_another_below, type_that_a_name_lacks, denial_that_cannot_be_read,
         address_at_an_apex, expansion_with_its_denial, expansion_without_a_denial, expansion_past_a_closer_name,
-        denials_of_both_kinds, denial_in_the_answer_section, denial_in_the_additional_section, expanded_denial_beside_an_answer,
-        denials_of_two_zones, denial_by_its_second_signature, ds_denied_by_its_own_zone, denial_of_the_target_of_a_cname,
-        unsigned_soa_above_the_name, unsigned_soa_beside_the_name, no_record_at_all_of_an_unsigned_zone)
+        denials_of_both_kinds, hashed_denial_beside_an_answer, denial_in_the_answer_section, denial_in_the_additional_section,
+        expanded_denial_beside_an_answer, denials_of_two_zones, denial_by_its_second_signature, ds_denied_by_its_own_zone,
+        denial_of_the_target_of_a_cname, unsigned_soa_above_the_name, unsigned_soa_beside_the_name,
+        no_record_at_all_of_an_unsigned_zone)
 
 if __name__ == "__main__":
     sys.exit(main(sys.modules[__name__], sys.argv[1:]))
