@@ -3,7 +3,7 @@ ghost use Rattle.std.specs.Prelude.{◌≡◌, ◌++◌, [], ◌∷◌, not, ◌
 ghost use Rattle.std.specs.List.{filter_map, list_any, list_all, find};
 ghost use Rattle.std.specs.Option.{option_copied};
 ghost use Rattle.dns_model.specs.SoundAnswers.{told_by};
-ghost use Rattle.dns_judgement.specs.Chained.{bare, Chained};
+ghost use Rattle.dns_judgement.specs.Chained.{bare};
 ghost use Rattle.dns_judgement.specs.Outcome.{is_denying as is_denying_set, denying, owned_nsec, denials as denials_in, signer_of, is_made_by as is_made_by_zone, one_signer as one_signer_of, answered as answered_in, secure_denial as denial_of, outcome_by_verdict as told_by_verdict, outcome_by_denials as told_by_denials};
 ghost use Rattle.dns_sets.specs.Outcome.{outcome_value};
 
@@ -41,7 +41,8 @@ pub(crate) fn outcome_by_denials(
     sets: &[ChainedSet],
 ) -> Result<Outcome, NoMemory>
     ensures { IfOk result (λ o. outcome_value o ≡ told_by_denials query.now (told_by message.now).code
-        (answered_in query.now (told_by message.now) (bare sets.now)) (denials_in (bare sets.now)) (one_signer_of (denying (bare sets.now)))) }
+        (answered_in query.now (told_by message.now) (bare sets.now)) (denials_in (bare sets.now))
+        (one_signer_of (denying (bare sets.now)))) }
 {
     let Some(signer) = one_signer(sets) else {
         return Ok(Outcome::Denied(Proof::Bogus));

@@ -76,7 +76,8 @@ fn is_insecure_record(
 // Whether the set of a record is Insecure.
 fn is_insecure_set(sets: &[ChainedSet], places: &SetPlaces, found: &Record) -> bool
     requires { ArePlacedIn places.now Authority (bare sets.now) }
-    ensures { result ≡ option_map_or (λ judged. is_insecure_mark judged.mark) (find (is_about Authority found.now) (bare sets.now)) false }
+    ensures { result
+        ≡ option_map_or (λ judged. is_insecure_mark judged.mark) (find (is_about Authority found.now) (bare sets.now)) false }
 {
     let (record_type, _) = set_rtype(found);
     match places.get(&found.name, record_type) {
