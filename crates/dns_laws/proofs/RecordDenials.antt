@@ -112,9 +112,12 @@ of_denying P Q now told sets grouped keeps h =
     let Known = IsKnown told sets in
     let drawn = each_in If told sets grouped (of_marked P Q (marked now sets Authority) keeps [] told.authorities h) in
     each_more (λ s. Known s × IfAuthority If (placed_of s)) (λ s. Known s × (is_denying s ≡ true → AllByRecursion Q s.set.records))
-    (λ s k. (k.0, λ denies.
-    each_more (λ r. If r × Stays r) Q (λ r p. p.0 p.1) s.set.records
-    (each_both If Stays s.set.records (k.1 (denying_parts s denies).section) (stays_secure now told sets s k.0 denies)))) sets
+    (λ s k. (
+      k.0,
+      λ denies.
+          each_more (λ r. If r × Stays r) Q (λ r p. p.0 p.1) s.set.records
+          (each_both If Stays s.set.records (k.1 (denying_parts s denies).section) (stays_secure now told sets s k.0 denies)),
+    )) sets
     (each_both Known (λ s. IfAuthority If (placed_of s)) sets (each_known told sets grouped) drawn)
 
 -- ---- what is said
