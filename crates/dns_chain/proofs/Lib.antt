@@ -12,6 +12,7 @@ pub mod LookedLemmas
 pub mod CauseLemmas
 pub mod ForeignLemmas
 pub mod UnjudgedLemmas
+pub mod AnsweredLemmas
 pub mod DenyingLemmas
 pub mod LookLemmas
 pub mod SendingLemmas

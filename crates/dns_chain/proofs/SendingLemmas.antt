@@ -22,6 +22,7 @@ use Rattle.dns_chain.proofs.CompletingLemmas.{lookup_completes}
 use Rattle.dns_chain.proofs.CauseLemmas.{no_both, lookup_passed, lookup_passes}
 use Rattle.dns_chain.proofs.ForeignLemmas.{lookup_foreign, lookup_names_foreign, lookup_judges}
 use Rattle.dns_chain.proofs.LookedLemmas.{or_memory, lookup_sound, lookup_trail, lookup_ground, lookup_marks, lookup_denied}
+use Rattle.dns_chain.proofs.AnsweredLemmas.{lookup_answers}
 use Rattle.dns_chain.proofs.DenyingLemmas.{lookup_denials, lookup_denies}
 use Rattle.dns_chain.proofs.UnjudgedLemmas.{lookup_unjudged, lookup_judged}
 
@@ -66,6 +67,7 @@ looked_up meanings call result sends looked = record {
   judges = or_memory result _ (lookup_judges meanings call result looked);
   unjudged = lookup_unjudged meanings call result looked;
   judged = lookup_judged meanings call result looked;
+  answers = or_memory result _ (lookup_answers meanings call result looked);
   completes = or_memory result _ (lookup_completes meanings call result looked);
 }
 

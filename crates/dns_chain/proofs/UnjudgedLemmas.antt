@@ -63,7 +63,7 @@ first_row true o decides is = refl
 first_row false o decides is = absurd (decides is)
 
 -- sets whose outcome isn't judged yet have a Secure NSEC3 set among them
-unjudged_sees : (q : Question) (told : Told) (sets : List Judged) → outcome_of q told sets ≡ Unjudged → list_any is_unjudged sets ≡ true
+pub unjudged_sees : (q : Question) (told : Told) (sets : List Judged) → outcome_of q told sets ≡ Unjudged → list_any is_unjudged sets ≡ true
 unfolding outcome_of
 unjudged_sees q told sets is =
     first_row (list_any is_unjudged sets) _

@@ -1,9 +1,10 @@
 -- Why a lookup gives each answer that has no response (RFC 4035, 4.3 and 5.4; RFC 1035, 3.2.4).
-use Rattle.std.specs.Prelude.{ℕ, ◌≡◌, ◌⊎◌, Bool, true, false, List, Option, None, Some, Ok, Err}
+use Rattle.std.specs.Prelude.{ℕ, ◌≡◌, ◌⊎◌, Bool, true, false, ◌==◌, List, ◌++◌, Option, None, Some, Ok, Err}
 use Rattle.std.specs.List.{list_any}
 use Rattle.std.specs.Option.{option_map_or}
 use Rattle.dns_model.specs.Counts.{Rose}
 use Rattle.dns_model.specs.Names.{Labels}
+use Rattle.dns_model.specs.Types.{type_nsec3}
 use Rattle.dns_model.specs.Records.{Rr, Question}
 use Rattle.dns_model.specs.Trails.{AskedValue, Failed}
 use Rattle.dns_model.specs.SoundAnswers.{Told}
@@ -61,7 +62,8 @@ pub record NamesForeign {H : Type 0} (meanings : handle.Ghosts H) (call : Call H
 abbrev pub ForeignOnly : {H : Type 0} → handle.Ghosts H → Call H → Reply → Type 0
 ForeignOnly meanings call answer =
     (owner : Labels) (class rtype : ℕ) → answer ≡ Err (ForeignClassRecord owner class rtype)
-    → PassedOn meanings call (ForeignClassRecord owner class rtype) ⊎ NamesForeign meanings call (ForeignClassRecord owner class rtype)
+    → PassedOn meanings call (ForeignClassRecord owner class rtype)
+    ⊎ NamesForeign meanings call (ForeignClassRecord owner class rtype)
 
 -- the first such record of a known upstream's reply is named
 abbrev pub ForeignNamed : Option Replies → Question → Reply → Type 0
@@ -101,3 +103,20 @@ abbrev pub JudgesTold : Option Replies → Question → Reply → Type 0
 JudgesTold None q answer = Unit {0}
 JudgesTold (Some replies) q answer =
     (records : Told) → heard (reply_to replies.list q) ≡ Some records → foreign_record q records ≡ None → ends_trail answer ≡ true
+
+-- an Ok answer or a denial
+abbrev pub has_response : Reply → Bool
+has_response (Ok response) = true
+has_response (Err (Dns (Nsec asked response proof))) = true
+has_response (Err error) = false
+
+-- an NSEC3 record was told, in any section
+abbrev pub tells_nsec3 : Told → Bool
+tells_nsec3 told = list_any (λ r. r.rtype == type_nsec3) (told.answers ++ told.authorities ++ told.additionals)
+
+-- and where no NSEC3 is among them, they are answered or denied
+abbrev pub AnswersTold : Option Replies → Question → Reply → Type 0
+AnswersTold None q answer = Unit {0}
+AnswersTold (Some replies) q answer =
+    (records : Told) → heard (reply_to replies.list q) ≡ Some records → foreign_record q records ≡ None
+    → tells_nsec3 records ≡ false → has_response answer ≡ true

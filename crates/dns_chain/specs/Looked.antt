@@ -40,14 +40,16 @@ pub record IsSoundAnswer {H : Type 0} (meanings : handle.Ghosts H) (call : Call 
   pub message : MessageValue
   pub made : first_of meanings call call.old (judged_ask call.query) middle reply
   pub heard : heard_message reply ≡ Some message
-  pub header : a.message ≡ record message { answers = a.message.answers; authorities = a.message.authorities; additionals = a.message.additionals }
+  pub header : a.message
+      ≡ record message { answers = a.message.answers; authorities = a.message.authorities; additionals = a.message.additionals }
   pub sound : Sound call.judge call.now (told_by message) a
   pub rest : SendsAlong (ask_of meanings call) middle (drop 1 (in_send_order a.trail)) call.new
 
 -- a trail with this ending: a derivation whose last step has the call's query, and whose steps are the asks that were made,
 -- one for each send, in the order of the sends. They are as shallow as the options say, and at most as many heard a fault as the
 -- handle met
-pub record IsTrail {H : Type 0} (meanings : handle.Ghosts H) (call : Call H) (trail : List AskedValue) (ending : EndingValue) : Type 0 where
+pub record IsTrail {H : Type 0} (meanings : handle.Ghosts H) (call : Call H) (trail : List AskedValue) (ending : EndingValue)
+    : Type 0 where
   pub derived : derivation call.judge call.options.max_request_depth trail ≡ true
   pub top : AskedValue
   pub last : top_step trail ≡ Some top
@@ -58,7 +60,8 @@ pub record IsTrail {H : Type 0} (meanings : handle.Ghosts H) (call : Call H) (tr
   pub each : length (in_send_order trail) ≡ length trail
   pub walked : SendsFrom (first_of meanings call) (ask_of meanings call) call.old (in_send_order trail) call.new
   pub from : IfSome (meanings.told call.old) (λ replies. IsFromReplies replies (in_send_order trail))
-  pub faults : RoseBy (count_by (λ step. is_fault step.reply) (in_send_order trail)) (meanings.faults call.old) (meanings.faults call.new)
+  pub faults : RoseBy (count_by (λ step. is_fault step.reply) (in_send_order trail))
+      (meanings.faults call.old) (meanings.faults call.new)
 
 -- the records of the response are those that the last step of its trail heard, with the marks that the step gives its sets
 pub record HasMarksOfTrail (now : ℕ) (a : ResponseValue) : Type 0 where

@@ -13,7 +13,8 @@ use Rattle.dns_net.specs.declared.verifier.Verifier as verifier
 use Rattle.dns_laws.specs.Denials.{HasDenials}
 use Rattle.dns_laws.specs.Ground.{HasGrounds}
 use Rattle.dns_chain.specs.Calls.{Call, Sending, inner_of, anchors_of, verifier_of, ask_of, first_of}
-use Rattle.dns_chain.specs.Causes.{PassesOnly, PassesOn, ForeignOnly, ForeignNamed, JudgesTold, UnjudgedOnly, sees_nsec3}
+use Rattle.dns_chain.specs.Causes.{PassesOnly, PassesOn, ForeignOnly, ForeignNamed, JudgesTold, UnjudgedOnly}
+use Rattle.dns_chain.specs.Causes.{sees_nsec3, AnswersTold}
 use Rattle.dns_chain.specs.Completing.{Completes}
 use Rattle.dns_chain.specs.Inquiries.{asking_options}
 use Rattle.dns_chain.specs.Looked.{OfAnswer, IsSoundAnswer, IsTrail, HasMarksOfTrail, ShowsItsDenial, DeniesQuery}
@@ -73,12 +74,14 @@ pub record IsLookedUp {H : Type 0} (meanings : handle.Ghosts H) (call : Call H) 
   pub judges : UnlessForgotten reply (JudgesTold (meanings.told call.old) call.query reply)
   pub unjudged : UnjudgedOnly meanings call reply
   pub judged : OfAnswer reply (λ a ending. sees_nsec3 a.trail ≡ false)
+  pub answers : UnlessForgotten reply (AnswersTold (meanings.told call.old) call.query reply)
   pub completes : UnlessForgotten reply (Completes (meanings.told call.old) call reply)
 
 -- ---- any request
 
 -- the answer to a request, by a handle that was asked for it and by what its replies are judged
-pub data AnswersRequest {H : Type 0} (meanings : handle.Ghosts H) (j : Judge) (request : RequestValue) (now : ℕ) (old new : H) : Reply → Type 0 where
+pub data AnswersRequest {H : Type 0} (meanings : handle.Ghosts H) (j : Judge) (request : RequestValue) (now : ℕ) (old new : H)
+    : Reply → Type 0 where
   -- a request of another opcode than Query goes on as it is, and its reply is the answer
   Goes : (reply : Reply) → request.message.op_code ≢ 0 → Sending meanings request (first_question request) now old new reply
       → AnswersRequest meanings j request now old new reply
@@ -114,7 +117,8 @@ pub record ValidatesRequest {H V : Type 0} (meanings : handle.Ghosts H) (tests :
     (old : DnssecDnsHandle H V) (request : RequestValue) (now : ℕ) (new : DnssecDnsHandle H V) (reply : Reply) : Type 0 where
   pub counted : CountsSend old new reply
   pub later : meanings.faults (inner_of old) ≤ meanings.faults (inner_of new)
-  pub answers : AnswersRequest meanings (judge (tests.answers (verifier_of old)) (anchors_of old) now) request now (inner_of old) (inner_of new) reply
+  pub answers : AnswersRequest meanings (judge (tests.answers (verifier_of old)) (anchors_of old) now) request now
+      (inner_of old) (inner_of new) reply
 
 -- a validator answers some request with this first question, at some moment
 pub record ValidatesQuestion {H V : Type 0} (meanings : handle.Ghosts H) (tests : verifier.Ghosts V)

@@ -2,9 +2,11 @@ ghost use Rattle.std.specs.Prelude.{◌≡◌, ◌≤◌, IfOk, true, false};
 ghost use Rattle.dns_net.specs.Replies.{reply_of};
 ghost use Rattle.dns_net.specs.Handles.{OrUnsent};
 ghost use Rattle.dns_chain.specs.Calls.{Asking};
-ghost use Rattle.dns_chain.specs.Causes.{PassesOnly, PassesOn, ForeignOnly, ForeignNamed, JudgesTold, UnjudgedOnly, sees_nsec3};
+ghost use Rattle.dns_chain.specs.Causes.{PassesOnly, PassesOn, ForeignOnly, ForeignNamed, JudgesTold, UnjudgedOnly};
+ghost use Rattle.dns_chain.specs.Causes.{sees_nsec3, AnswersTold};
 ghost use Rattle.dns_chain.specs.Completing.{Completes};
-ghost use Rattle.dns_chain.specs.Looked.{UnlessNoMemory, OfAnswer, IsSoundAnswer, IsTrail, HasMarksOfTrail, ShowsItsDenial, DeniesQuery};
+ghost use Rattle.dns_chain.specs.Looked.{UnlessNoMemory, OfAnswer, IsSoundAnswer, IsTrail, HasMarksOfTrail};
+ghost use Rattle.dns_chain.specs.Looked.{ShowsItsDenial, DeniesQuery};
 ghost use Rattle.dns_chain.specs.Sends.{SendsFor};
 ghost use Rattle.dns_laws.specs.Denials.{HasDenials};
 ghost use Rattle.dns_laws.specs.Ground.{HasGrounds};
@@ -102,8 +104,8 @@ impl<H: DnsHandle + Drop, V: Verifier + Drop> DnssecDnsHandle<H, V> {
         ensures sends { OrUnsent (inner_of self.old) (inner_of self.new) result
             (SendsFor (Asking H.DnsHandle options now) (inner_of self.old) (inner_of self.new) query) }
 
-        // An answer, an Ok one or that inside a denial, is sound, its trail says how it came about, and its marks are the trail's.
-        // Each set that the trail marks Insecure has a ground in the steps before.
+        // An answer, an Ok one or that inside a denial, is sound, its trail says how it came about, and its marks are the
+        // trail's. Each set that the trail marks Insecure has a ground in the steps before.
         ensures sound { OfAnswer (reply_of result) (λ a ending.
             IsSoundAnswer H.DnsHandle (call_of V.Verifier self.old self.new query options now) a) }
         ensures trail { OfAnswer (reply_of result) (λ a ending.
@@ -129,6 +131,7 @@ impl<H: DnsHandle + Drop, V: Verifier + Drop> DnssecDnsHandle<H, V> {
         ensures judges { UnlessNoMemory result (JudgesTold (H.told (inner_of self.old)) query (reply_of result)) }
         ensures unjudged { UnjudgedOnly H.DnsHandle (call_of V.Verifier self.old self.new query options now) (reply_of result) }
         ensures judged { OfAnswer (reply_of result) (λ a ending. sees_nsec3 a.trail ≡ false) }
+        ensures answers { UnlessNoMemory result (AnswersTold (H.told (inner_of self.old)) query (reply_of result)) }
 
         // Where the upstream's replies make a session that is valid for the query, it is answered, and what was queried is
         // Secure.

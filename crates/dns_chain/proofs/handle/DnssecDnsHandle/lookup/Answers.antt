@@ -1,6 +1,7 @@
 use Rattle.dns_chain.proofs.LookedLemmas.{lookup_sound, lookup_trail, lookup_ground, lookup_marks, lookup_denied}
 use Rattle.dns_chain.proofs.CauseLemmas.{lookup_passed, lookup_passes}
 use Rattle.dns_chain.proofs.ForeignLemmas.{lookup_foreign, lookup_names_foreign, lookup_judges}
+use Rattle.dns_chain.proofs.AnsweredLemmas.{lookup_answers}
 use Rattle.dns_chain.proofs.DenyingLemmas.{lookup_denials, lookup_denies, ok_result}
 use Rattle.dns_chain.proofs.UnjudgedLemmas.{lookup_unjudged, lookup_judged}
 use Rattle.dns_chain.proofs.CompletingLemmas.{lookup_completes}
@@ -47,6 +48,9 @@ returns-clause-unjudged g c = lookup_unjudged g.H.DnsHandle _ _ c.look_up-reply.
 
 pub returns-clause-judged : goal.returns-clause-judged
 returns-clause-judged g c = lookup_judged g.H.DnsHandle _ _ c.look_up-reply.ensures.looked
+
+pub returns-clause-answers : goal.returns-clause-answers
+returns-clause-answers g c = lookup_answers g.H.DnsHandle _ _ c.look_up-reply.ensures.looked
 
 pub returns-clause-completes : goal.returns-clause-completes
 returns-clause-completes g c = lookup_completes g.H.DnsHandle _ _ c.look_up-reply.ensures.looked
