@@ -95,5 +95,6 @@ trail_seen s trail ending is sees none =
     sees_in : AskedValue → HeardValue → Bool
     sees_in step reply =
         list_any is_unjudged (option_map_or (λ told. with_entries (judged_part step.depth told) step.sets) (told_in reply) [])
+
     clash : false ≡ true → ⊥
     clash h = cc

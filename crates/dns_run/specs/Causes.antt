@@ -13,8 +13,8 @@ use Rattle.dns_session.specs.SessionValue.{SessionValue}
 use Rattle.dns_run.specs.Replies.{session_told, session_message, session_records}
 use Rattle.dns_run.specs.Answering.{session_replies, IsSessionTrail, IsSessionAnswer}
 
--- the session's upstream answers this error to its query, which has no message: nothing came in time, the bytes are none, a server
--- failed, or there was a fault
+-- the session's upstream answers this error to its query, which has no message: nothing came in time, the bytes are none, a
+-- server failed, or there was a fault
 pub record HasNoMessage (s : SessionValue) (error : ErrorValue) : Type 0 where
   pub told : session_told s ≡ Err error
   pub silent : session_message s ≡ None
@@ -43,8 +43,8 @@ pub data FaultCause (s : SessionValue) (error : ErrorValue) : Type 0 where
   NotDenied : (response : ResponseValue) (proof : Proof) → IsSessionAnswer s response (Denied proof)
       → error ≡ Dns (Nsec s.query response proof) → FaultCause s error
 
--- a lookup of the session's query, over its replies, gives this answer: an answer has its trail and shows what it denies, an error
--- has its cause, and each reply to the query its answer
+-- a lookup of the session's query, over its replies, gives this answer: an answer has its trail and shows what it denies, an
+-- error has its cause, and each reply to the query its answer
 pub record AnswersSession (s : SessionValue) (answer : Reply) : Type 0 where
   pub answered : OfAnswer answer (IsSessionAnswer s)
   pub denies : IfOk answer (λ a. ShowsItsDenial s.moment s.query a)

@@ -18,8 +18,8 @@ pub record IsSecureReport (shows : Parts) (s : SessionValue) (text : List ℕ) :
   pub is : IsTrailReport shows s text
   pub secure : AnswersSecurely s.query (Ok is.report.answer)
 
--- such a report was written, and the status says so; or the status is 4 or more: a read or a write failed, memory ran out, or the input
--- is too long, as the clauses on the source, the sink and the length say
+-- such a report was written, and the status says so; or the status is 4 or more: a read or a write failed, memory ran out, or the
+-- input is too long, as the clauses on the source, the sink and the length say
 pub data EndsSecurely (shows : Parts) (s : SessionValue) (status : ℕ) (before now : Option (List ℕ)) : Type 0 where
   Shown : status ≡ 0 → Wrote before now (IsSecureReport shows s) → EndsSecurely shows s status before now
   Stopped : 4 ≤ status → EndsSecurely shows s status before now

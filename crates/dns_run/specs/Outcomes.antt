@@ -19,8 +19,8 @@ use Rattle.dns_run.specs.Answering.{IsSessionAnswer}
 use Rattle.dns_run.specs.Soundness.{IsSound}
 use Rattle.dns_run.specs.Causes.{FaultCause}
 
--- the text is the report of one answer, with its trail or without, and the answer is sound; what is shown of it, its view, fits, and no
--- other fitting view has this text
+-- the text is the report of one answer, with its trail or without, and the answer is sound; what is shown of it, its view, fits,
+-- and no other fitting view has this text
 pub record IsReport (shows : Parts) (session : SessionValue) (text : List ℕ) : Type 0 where
   pub answer : ResponseValue
   pub sound : IsSound session answer

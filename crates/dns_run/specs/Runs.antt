@@ -44,14 +44,16 @@ pub data EndsWith (status expected : ℕ) (before now : Option (List ℕ)) (text
 -- judged yet; whatever nested asks meet, no other line is
 pub data EndsAsJudged (status : ℕ) (before now : Option (List ℕ)) : Type 0 where
   Reported : status ≡ 0 → EndsAsJudged status before now
-  Refused : (error : ErrorValue) → ends_trail (Err error) ≡ true → EndsWith status 1 before now (fault_text error) → EndsAsJudged status before now
+  Refused : (error : ErrorValue) → ends_trail (Err error) ≡ true → EndsWith status 1 before now (fault_text error)
+      → EndsAsJudged status before now
 
 -- what a session must end with: without a message in reply to its query with that error's line, with a record of another class
 -- with the line that names the first, and else as it is judged
 pub record EndsAsSession (s : SessionValue) (status : ℕ) (before now : Option (List ℕ)) : Type 0 where
   pub no_message : (error : ErrorValue) → HasNoMessage s error → EndsWith status 1 before now (fault_text error)
   pub other_class : (error : ErrorValue) → HasForeign s error → EndsWith status 1 before now (fault_text error)
-  pub judged : (records : Told) → session_records s ≡ Some records → foreign_record s.query records ≡ None → EndsAsJudged status before now
+  pub judged : (records : Told) → session_records s ≡ Some records → foreign_record s.query records ≡ None
+      → EndsAsJudged status before now
 
 -- a fact of the session that told bytes are
 abbrev pub IfSession : Option (List ℕ) → (SessionValue → Type 0) → Type 0
@@ -71,8 +73,8 @@ pub record EndsByGrammar (status : ℕ) (told before now : Option (List ℕ)) : 
   pub only : status ≡ 3 → Leaves Refuses told before now
   pub always : IfBadLine told (λ number. EndsWith status 3 before now (bad_line_text number))
 
--- status 7 is answered only for an input that is too long, which is said; and such an input ends so, at the source, at the sink or
--- for want of memory
+-- status 7 is answered only for an input that is too long, which is said; and such an input ends so, at the source, at the sink
+-- or for want of memory
 pub record EndsByLength (status : ℕ) (told before now : Option (List ℕ)) : Type 0 where
   pub only : status ≡ 7 → IfSome told (λ left. input_limit < length left)
   pub written : status ≡ 7 → Appends before now too_long_text

@@ -130,8 +130,8 @@ pub fn run<S: Source, W: Sink>(
     ensures report { (shows : Parts) → AsksFor words.now (Validate shows) → result ≡ 0
         → Leaves (Reports shows) (S.left input.old) (W.taken output.old) (W.taken output.new) }
 
-    // That answer has a trail for the session, a derivation from the session's replies, in which what is Insecure has its ground. And
-    // what it denies holds in each zone in which the Secure NSEC records of the reply are true.
+    // That answer has a trail for the session, a derivation from the session's replies, in which what is Insecure has its ground.
+    // And what it denies holds in each zone in which the Secure NSEC records of the reply are true.
     ensures derived { (shows : Parts) → AsksFor words.now (Validate shows) → result ≡ 0
         → Leaves (Derives shows) (S.left input.old) (W.taken output.old) (W.taken output.new) }
 
@@ -170,7 +170,8 @@ pub fn run<S: Source, W: Sink>(
 
     // An input that is answered, or refused by the grammar, was read to its end; and one byte past the limit is the most that
     // is read.
-    ensures ended { (shows : Parts) → AsksFor words.now (Validate shows) → result < 4 → IsEnded (S.left input.old) (S.left input.new) }
+    ensures ended { (shows : Parts) → AsksFor words.now (Validate shows)
+        → result < 4 → IsEnded (S.left input.old) (S.left input.new) }
     ensures reads { ReadsFront (input_limit + 1) (S.left input.old) (S.left input.new) }
 
     ensures most { result ≤ 7 }
