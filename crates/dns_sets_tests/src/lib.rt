@@ -4,6 +4,8 @@
 #![tactic(auto)]
 
 #[cfg(test)]
+mod judged_steps;
+#[cfg(test)]
 mod sets_denial_tests;
 #[cfg(test)]
 mod sets_marking_tests;

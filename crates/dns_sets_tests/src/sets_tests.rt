@@ -7,6 +7,7 @@ use std::alloc::Global;
 use std::test::Fail;
 
 /// A record of class IN and ttl 300, which says that it is Secure, and the section that it stands in.
+#[derive(Drop)]
 pub(crate) struct Met {
     pub(crate) section: Section,
     pub(crate) owner: &'static str,
@@ -53,7 +54,7 @@ pub(crate) fn record(alloc: Global, met: &Met) -> Result<Record, Fail> {
     })
 }
 
-fn add(alloc: Global, message: &mut Message, met: &Met) -> Result<(), Fail> {
+pub(crate) fn add(alloc: Global, message: &mut Message, met: &Met) -> Result<(), Fail> {
     let record = record(alloc, met)?;
     match met.section {
         Section::Answer => message.answers.push(record)?,

@@ -1,0 +1,167 @@
+//! Steps whose sets are judged, and how they end.
+use crate::sets_tests::{Met, add, message, query, record};
+use dns_message::Message;
+use dns_record::{Denial, Proof, Query, RecordSet, RecordType, ResponseCode, Section};
+use dns_sets::*;
+use std::alloc::Global;
+use std::test::Fail;
+
+/// A set of one record in its section, with its mark, its signatures, and the place of the one that decided.
+#[derive(Drop)]
+pub(crate) struct Told {
+    pub(crate) section: Section,
+    pub(crate) owner: &'static str,
+    pub(crate) record_type: RecordType,
+    pub(crate) rdata: &'static [u8],
+    pub(crate) mark: Proof,
+    pub(crate) signatures: &'static [&'static [u8]],
+    pub(crate) decider: Option<u32>,
+}
+
+/// A query, the response's code, its sets, and how the step ends.
+#[derive(Drop)]
+pub(crate) struct Row {
+    pub(crate) shows: &'static str,
+    pub(crate) name: &'static str,
+    pub(crate) record_type: RecordType,
+    pub(crate) code: ResponseCode,
+    pub(crate) told: &'static [Told],
+    pub(crate) outcome: Outcome,
+}
+
+/// A signature by `example.`, with two labels.
+pub(crate) const BY_EXAMPLE: &[u8] =
+    b"\0\x2f\x08\x02\0\0\0\xc8\0\0\x03\xe8\0\0\0\0\0\x01\x07example\0\x01";
+
+/// `example.`, with NS and SOA, to `a.example.`: no wildcard is below it.
+pub(crate) const APEX: Told = Told {
+    section: Section::Authority,
+    owner: "example.",
+    record_type: RecordType::NSEC,
+    rdata: b"\x01a\x07example\0\0\x01\x22",
+    mark: Proof::Secure,
+    signatures: &[BY_EXAMPLE],
+    decider: Some(0),
+};
+
+/// `b.example.` to `ns1.example.`
+pub(crate) const COVERS_ML: Told = Told {
+    section: Section::Authority,
+    owner: "b.example.",
+    record_type: RecordType::NSEC,
+    rdata: b"\x03ns1\x07example\0\0\x01\x20",
+    mark: Proof::Secure,
+    signatures: &[BY_EXAMPLE],
+    decider: Some(0),
+};
+
+pub(crate) const PLAIN: Told = Told {
+    section: Section::Answer,
+    owner: "ml.example.",
+    record_type: RecordType::A,
+    rdata: b"\x01\x01\x01\x01",
+    mark: Proof::Secure,
+    signatures: &[BY_EXAMPLE],
+    decider: Some(0),
+};
+
+/// The SOA set of an unsigned zone above the name.
+pub(crate) const UNSIGNED: Told = Told {
+    section: Section::Authority,
+    owner: "example.",
+    record_type: RecordType::SOA,
+    rdata: b"\0\0\0\0\0\0\0\0\0\0\0\0\0\0\0\0\0\0\0\0\0\0",
+    mark: Proof::Insecure,
+    signatures: &[],
+    decider: None,
+};
+
+pub(crate) const STANDS: Outcome = Outcome::Accepted(Denial::None);
+
+pub(crate) const BOGUS: Outcome = Outcome::Denied(Proof::Bogus);
+
+/// A name error for `ml.example.`; the rows are this one with other sets.
+pub(crate) const NO_NAME: Row = Row {
+    shows: "the name is covered, and the wildcard that would answer for it",
+    name: "ml.example.",
+    record_type: RecordType::A,
+    code: ResponseCode::NX_DOMAIN,
+    told: &[APEX, COVERS_ML],
+    outcome: Outcome::Accepted(Denial::Absent(Proof::Secure)),
+};
+
+/// A plain answer; the rows are this one with other sets.
+pub(crate) const ANSWER: Row = Row {
+    shows: "an answer stands",
+    name: "ml.example.",
+    record_type: RecordType::A,
+    code: ResponseCode::NO_ERROR,
+    told: &[PLAIN],
+    outcome: STANDS,
+};
+
+/// The record of a set, or with another type and rdata a signature of it.
+fn met(told: &Told, record_type: RecordType, rdata: &'static [u8]) -> Met {
+    Met {
+        section: told.section,
+        owner: told.owner,
+        record_type: record_type.0,
+        rdata,
+    }
+}
+
+fn step_query(alloc: Global, row: &Row) -> Result<Query, Fail> {
+    let mut query = query(alloc, row.name)?;
+    query.query_type = row.record_type;
+    Ok(query)
+}
+
+/// The response of a row: of each set the record, and then its signatures.
+fn response(alloc: Global, row: &Row) -> Result<Message, Fail> {
+    let mut message = message(alloc, &[])?;
+    message.response_code = row.code;
+    for told in row.told {
+        add(
+            alloc,
+            &mut message,
+            &met(told, told.record_type, told.rdata),
+        )?;
+        for signature in told.signatures {
+            add(
+                alloc,
+                &mut message,
+                &met(told, RecordType::RRSIG, signature),
+            )?;
+        }
+    }
+    Ok(message)
+}
+
+/// A set as it is judged.
+fn judged(alloc: Global, told: &Told) -> Result<ChainedSet, Fail> {
+    let first = record(alloc, &met(told, told.record_type, told.rdata))?;
+    let mut set = RecordSet::of(alloc, first)?;
+    for signature in told.signatures {
+        let next = record(alloc, &met(told, RecordType::RRSIG, signature))?;
+        set.rrsigs.push(next)?;
+    }
+    let judged = MarkedSet {
+        section: told.section,
+        set,
+        mark: told.mark,
+        sig: told.decider,
+    };
+    let chain = Vec::new(alloc);
+    Ok(ChainedSet { judged, chain })
+}
+
+/// The step of a row ends as it says.
+pub(crate) fn ends(alloc: Global, row: &Row) -> Result<bool, Fail> {
+    let mut sets = Vec::new(alloc);
+    for told in row.told {
+        sets.push(judged(alloc, told)?)?;
+    }
+    let query = step_query(alloc, row)?;
+    let message = response(alloc, row)?;
+    Ok(outcome_of(alloc, &query, &message, &sets)? == row.outcome)
+}
