@@ -65,7 +65,10 @@ lookup_denies meanings call result looked =
     (of_result meanings call (λ a ending. ending ≡ Answered a.denial → ShowsItsDenial call.now call.query a) result
     (record { each = λ found d ending f ends other. found_denies meanings call found d ending f ends }) looked)
 
--- a fact of an Ok reply is one of the result
-pub ok_result : (result : Result ResponseValue NetError) (Fact : ResponseValue → Type 0) → IfOk (reply_of result) Fact → IfOk result Fact
+ok_result : (result : Result ResponseValue NetError) (Fact : ResponseValue → Type 0) → IfOk (reply_of result) Fact → IfOk result Fact
 ok_result (Ok a) Fact of = of
 ok_result (Err e) Fact of = tt
+
+pub lookup_shows : {H : Type 0} (meanings : handle.Ghosts H) (call : Call H) (result : Result ResponseValue NetError)
+    → UnlessNoMemory result (Looked meanings call (reply_of result)) → IfOk result (ShowsItsDenial call.now call.query)
+lookup_shows meanings call result looked = ok_result result (ShowsItsDenial call.now call.query) (lookup_denies meanings call result looked)

@@ -2,6 +2,7 @@
 use Rattle.std.proofs.Common.{ℕ, ◌≡◌, ◌≢◌, ◌∙◌, Bool, true, false, if◌then◌else◌, List, Option, None, Some, Result, Err, refl, sym, ap, inl, inr}
 use Rattle.std.specs.List.{list_any}
 use Rattle.std.specs.Option.{option_map_or}
+use Rattle.std.proofs.lemmas.Bool.{false_from_ne_true}
 use Rattle.dns_model.specs.declared.denial.Denial.{Denial}
 use Rattle.dns_model.specs.declared.denial.Denial.TheVariants as denial
 use Rattle.dns_model.specs.declared.proof.Proof.{Proof}
@@ -87,10 +88,6 @@ trail_sees meanings call found ending f =
     ap (λ step. option_map_or (λ s. list_any is_unjudged (judged_sets s)) step false) (top_step_is found.steps top)
     ∙ ap (list_any is_unjudged) (sets_of_top meanings call found ending f)
 
-unless_true : (b : Bool) → (b ≡ true → ⊥) → b ≡ false
-unless_true true no = absurd (no refl)
-unless_true false no = refl
-
 -- ---- what isn't judged yet
 
 unjudged_by : {H : Type 0} (meanings : handle.Ghosts H) (call : Call H) (found : Findings) → Found meanings call found → (o : Outcome)
@@ -129,7 +126,7 @@ judged_by : {H : Type 0} (meanings : handle.Ghosts H) (call : Call H) (found : F
     → ending ≡ ending_by found.outcome → ending ≢ Failed → sees_nsec3 (trail_of call.query found ending) ≡ false
 judged_by meanings call found ending f ends other =
     trail_sees meanings call found ending f
-    ∙ unless_true (list_any is_unjudged (bare found.sets))
+    ∙ false_from_ne_true (list_any is_unjudged (bare found.sets))
     (λ sees. other (ends ∙ ap ending_by
     (unjudged_still (top_grounds call found.steps) (told_by found.message) (bare found.sets) found.outcome found.excuse f.concluded
     (sees_unjudged call.query (told_by found.message) (bare found.sets) sees))))

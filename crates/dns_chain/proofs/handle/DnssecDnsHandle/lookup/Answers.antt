@@ -2,7 +2,7 @@ use Rattle.dns_chain.proofs.LookedLemmas.{lookup_sound, lookup_trail, lookup_gro
 use Rattle.dns_chain.proofs.CauseLemmas.{lookup_passed, lookup_passes}
 use Rattle.dns_chain.proofs.ForeignLemmas.{lookup_foreign, lookup_names_foreign, lookup_judges}
 use Rattle.dns_chain.proofs.AnsweredLemmas.{lookup_answers}
-use Rattle.dns_chain.proofs.DenyingLemmas.{lookup_denials, lookup_denies, ok_result}
+use Rattle.dns_chain.proofs.DenyingLemmas.{lookup_denials, lookup_shows}
 use Rattle.dns_chain.proofs.UnjudgedLemmas.{lookup_unjudged, lookup_judged}
 use Rattle.dns_chain.proofs.CompletingLemmas.{lookup_completes}
 use Rattle.dns_chain.proofs.handle.DnssecDnsHandle.lookup.Goals as goal
@@ -20,7 +20,7 @@ pub returns-clause-grounds : goal.returns-clause-grounds
 returns-clause-grounds g c = lookup_ground g.H.DnsHandle _ _ c.look_up-reply.ensures.looked
 
 pub returns-clause-denies : goal.returns-clause-denies
-returns-clause-denies g c = ok_result _ _ (lookup_denies g.H.DnsHandle _ _ c.look_up-reply.ensures.looked)
+returns-clause-denies g c = lookup_shows g.H.DnsHandle _ _ c.look_up-reply.ensures.looked
 
 pub returns-clause-denials : goal.returns-clause-denials
 returns-clause-denials g c = lookup_denials g.H.DnsHandle _ _ c.look_up-reply.ensures.looked
