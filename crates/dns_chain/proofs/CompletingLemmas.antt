@@ -9,8 +9,8 @@ use Rattle.dns_model.specs.declared.proof.Proof.{Proof}
 use Rattle.dns_model.specs.declared.section.Section.TheVariants.{Answer}
 use Rattle.dns_model.specs.Records.{Question, question_eq}
 use Rattle.dns_model.specs.Chains.{Judge}
-use Rattle.dns_model.specs.SoundAnswers.{Told, told_by, ResponseValue}
-use Rattle.dns_model.specs.Trails.{AskedValue, HeardValue, Records, Fault, EndingValue, Answered, Denied, Foreign, Failed, Seen}
+use Rattle.dns_model.specs.SoundAnswers.{Told, ResponseValue}
+use Rattle.dns_model.specs.Trails.{AskedValue, Records, Fault, EndingValue, Answered, Denied, Failed}
 use Rattle.dns_judgement.specs.Derivation.{told_in, judged_sets, top_step, in_send_order, derivation}
 use Rattle.dns_judgement.specs.Marking.{marked_section}
 use Rattle.dns_laws.specs.Complete.{Upstream, HeardAlong, shows_secure, ProvesQuery}
@@ -18,8 +18,7 @@ use Rattle.dns_laws.specs.Valid.{IsValidSession}
 use Rattle.dns_laws.proofs.CompleteLemmas.{valid_reply, valid_session_is_proved}
 use Rattle.dns_laws.proofs.TestLemmas.{some_same}
 use Rattle.dns_laws.proofs.QuestionLemmas.{question_refl, question_back, question_trans, question_right}
-use Rattle.dns_net.specs.Errors as seen
-use Rattle.dns_net.specs.Errors.{Reply, ErrorValue, Dns, Message, Nsec}
+use Rattle.dns_net.specs.Errors.{Reply, Dns, Message, Nsec}
 use Rattle.dns_net.specs.Handles.{Replies, reply_to, after_turn, left_after, ReplyIsTold}
 use Rattle.dns_net.specs.Replies.{reply_of}
 use Rattle.dns_net.specs.declared.error.NetError.{NetError}

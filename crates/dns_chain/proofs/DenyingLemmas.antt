@@ -1,7 +1,6 @@
 -- What a lookup's answer denies, and the steps of its trail: by the law on derivations.
-use Rattle.std.proofs.Common.{◌≡◌, [], ◌∷◌, Some, Result, Ok, Err, IfOk, refl, sym, ap, subst}
+use Rattle.std.proofs.Common.{◌≡◌, [], ◌∷◌, Result, Ok, Err, IfOk, refl, sym, ap, subst}
 use Rattle.dns_model.specs.declared.denial.Denial.{Denial}
-use Rattle.dns_model.specs.Records.{Question}
 use Rattle.dns_model.specs.SoundAnswers.{told_by, ResponseValue}
 use Rattle.dns_model.specs.Trails.{EndingValue, Answered}
 use Rattle.dns_model.proofs.EachLemmas.{each_back}

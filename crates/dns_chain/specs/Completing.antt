@@ -7,7 +7,6 @@ use Rattle.dns_laws.specs.Complete.{shows_secure}
 use Rattle.dns_laws.specs.Valid.{IsValidSession}
 use Rattle.dns_net.specs.Errors.{Reply}
 use Rattle.dns_net.specs.Handles.{Replies, reply_to}
-use Rattle.dns_net.specs.declared.handle.DnsHandle as handle
 use Rattle.dns_chain.specs.Heard.{heard}
 use Rattle.dns_chain.specs.Calls.{Call}
 
