@@ -1,15 +1,14 @@
 -- What a session must end with, out of how a run ended.
-use Rattle.std.proofs.Common.{ℕ, ◌≡◌, ◌≢◌, ◌≤◌, ◌∙◌, true, zero, suc, List, Option, None, Some, Result, Ok, Err, refl, sym, ap, subst, arith}
+use Rattle.std.proofs.Common.{ℕ, ◌≡◌, ◌≢◌, ◌≤◌, ◌∙◌, Bool, true, false, zero, suc, List, Option, None, Some, Result, Ok, Err, refl, sym, ap, subst, arith}
 use Rattle.std.specs.Io.KnownBytes.{Appends}
 use Rattle.dns_model.specs.SoundAnswers.{Told, ResponseValue}
 use Rattle.dns_model.specs.Trails as trails
 use Rattle.dns_model.specs.Trails.{Answered, Denied}
 use Rattle.dns_judgement.specs.DerivationParts.{is_foreign}
 use Rattle.dns_judgement.specs.Outcome.{foreign_record}
-use Rattle.dns_net.specs.declared.notice.Notice.TheVariants.{NotJudgedYet}
-use Rattle.dns_net.specs.Errors.{ErrorValue, Message, ForeignClassRecord}
+use Rattle.dns_net.specs.Errors.{Reply, ErrorValue, ForeignClassRecord}
 use Rattle.dns_chain.specs.LookupParts.{told_of}
-use Rattle.dns_chain.specs.Causes.{ends_trail}
+use Rattle.dns_chain.specs.Causes.{ends_trail, has_response, tells_nsec3}
 use Rattle.dns_report.specs.declared.parts.Parts.{Parts}
 use Rattle.dns_report.specs.Faults.{fault_text}
 use Rattle.dns_session.specs.SessionValue.{SessionValue}
@@ -24,7 +23,7 @@ use Rattle.dns_run.specs.Outcomes.{IsTrailReport, IsFault, Derives, Fails, Refus
 use Rattle.dns_run.specs.Runs.{EndsWith, Ended, Stopped, EndsAsJudged, EndsAsSession, EndsByGrammar, EndsByWords, IfSession, IfBadLine}
 use Rattle.dns_run.specs.Runs as runs
 use Rattle.dns_run.proofs.ReplyLemmas.{err_same}
-use Rattle.dns_run.proofs.TopLemmas.{some_same, trail_foreign, trail_seen}
+use Rattle.dns_run.proofs.TopLemmas.{some_same, trail_foreign}
 
 -- ---- the ways to end
 
@@ -119,8 +118,7 @@ no_message_only : (s : SessionValue) (error x : ErrorValue) → HasNoMessage s e
 no_message_only s error x h (NoMessage other) =
     err_same (session_told s) x error other.told h.told
 no_message_only s error x h (OtherClass f) = absurd (no_records s f.records f.told h.silent)
-no_message_only s error x h (NotJudged u is) =
-    absurd (trail_seen s u.trail trails.Failed u.is u.sees (ap told_of h.silent))
+no_message_only s error x h (NotJudged u is) = absurd (no_records s u.records u.told h.silent)
 no_message_only s error x h (NotDenied response proof given is) =
     absurd (sound_message s response given.sound h.silent)
 
@@ -176,19 +174,33 @@ denial_caused s records x told own (OtherClass g) = absurd (own_class s records 
 denial_caused s records x told own (NotJudged u is) = ap (λ y. ends_trail (Err y)) is
 denial_caused s records x told own (NotDenied response proof given is) = ap (λ y. ends_trail (Err y)) is
 
-ends_judged : (s : SessionValue) (status : ℕ) (before now : Option (List ℕ)) → Session s status before now → (records : Told)
-    → session_records s ≡ Some records → foreign_record s.query records ≡ None → EndsAsJudged status before now
-ends_judged s status before now (GivesReport answer given is) records told own = runs.Reported is
-ends_judged s status before now (GivesFault x cause is written) records told own =
-    runs.Refused x (denial_caused s records x told own cause) (Ended is written)
-ends_judged s status before now (GivesLater late) records told own = runs.Refused (Message NotJudgedYet) refl (Stopped late)
+-- and without an NSEC3 among them
+response_caused : (s : SessionValue) (records : Told) (x : ErrorValue) → session_records s ≡ Some records → foreign_record s.query records ≡ None
+    → tells_nsec3 records ≡ false → FaultCause s x → has_response (Err x) ≡ true
+response_caused s records x told own none (NoMessage other) = absurd (no_records s records told other.silent)
+response_caused s records x told own none (OtherClass g) = absurd (own_class s records x told own g)
+response_caused s records x told own none (NotJudged u is) =
+    absurd (clash (sym none ∙ ap tells_nsec3 (some_same _ records u.records told u.told) ∙ u.has))
+  where
+    clash : false ≡ true → ⊥
+    clash h = cc
+response_caused s records x told own none (NotDenied response proof given is) = ap (λ y. has_response (Err y)) is
+
+-- errors are of a kind in which each cause of a session is
+ends_judged : (s : SessionValue) (is_kind : Reply → Bool) (status : ℕ) (before now : Option (List ℕ)) → Session s status before now
+    → ((x : ErrorValue) → FaultCause s x → is_kind (Err x) ≡ true) → EndsAsJudged is_kind status before now
+ends_judged s is_kind status before now (GivesReport answer given is) kind = runs.Reported is
+ends_judged s is_kind status before now (GivesFault x cause is written) kind = runs.Refused x (kind x cause) (Ended is written)
+ends_judged s is_kind status before now (GivesLater late) kind = runs.Late late
 
 -- what a run over a session ends with
 ends_session : (s : SessionValue) (status : ℕ) (before now : Option (List ℕ)) → Session s status before now → EndsAsSession s status before now
 ends_session s status before now ended = record {
   no_message = λ error none. ends_fault s status before now error (only_no_message s error none) ended;
   other_class = λ error foreign. ends_fault s status before now error (only_foreign s error foreign) ended;
-  judged = ends_judged s status before now ended;
+  judged = λ records told own. ends_judged s ends_trail status before now ended (λ x cause. denial_caused s records x told own cause);
+  answered = λ records told own none.
+      ends_judged s has_response status before now ended (λ x cause. response_caused s records x told own none cause);
 }
 
 pub ends_as_session : (shows : Parts) (status : ℕ) (told before now : Option (List ℕ)) → Says shows status told before now

@@ -1,10 +1,11 @@
 -- What a lookup of a session's query answers: out of the clauses of a lookup.
-use Rattle.std.proofs.Common.{◌≡◌, ◌≢◌, ◌⊎◌, ◌∙◌, false, List, map, Option, None, Some, IfSome, IfOk, Result, Ok, Err, refl, sym, ap, subst, inl, inr}
+use Rattle.std.proofs.Common.{◌≡◌, ◌≢◌, ◌⊎◌, ◌∙◌, Bool, true, false, List, map, Option, None, Some, IfSome, IfOk, Result, Ok, Err, refl, sym, ap, subst, inl, inr}
 use Rattle.dns_model.specs.Keys.{anchored}
-use Rattle.dns_model.specs.Records.{Question}
-use Rattle.dns_model.specs.SoundAnswers.{told_by, Sound, ResponseValue}
+use Rattle.dns_model.specs.Records.{Rr, Question}
+use Rattle.dns_model.specs.SoundAnswers.{Told, told_by, Sound, ResponseValue}
 use Rattle.dns_model.specs.Trails.{AskedValue, EndingValue, Answered, Failed, Denied}
 use Rattle.dns_judgement.specs.Derivation.{derivation, in_send_order}
+use Rattle.dns_judgement.specs.DerivationParts.{is_foreign}
 use Rattle.dns_judgement.specs.Outcome.{foreign_record}
 use Rattle.dns_laws.specs.Denials.{HasDenials}
 use Rattle.dns_laws.specs.Ground.{HasGrounds}
@@ -23,15 +24,16 @@ use Rattle.dns_trust.specs.Listing.{ListedValue, answers_of}
 use Rattle.dns_chain.specs.declared.handle.DnssecDnsHandle.{DnssecDnsHandle}
 use Rattle.dns_chain.specs.Calls.{Call, inner_of, anchors_of, verifier_of, call_of}
 use Rattle.dns_chain.specs.Sends.{IsFromReplies}
-use Rattle.dns_chain.specs.Causes.{sees_nsec3, PassedOn, PassesOnly, PassesOn, NamesForeign, ForeignOnly, ForeignNamed, IsUnjudged, UnjudgedOnly, JudgesTold}
+use Rattle.dns_chain.specs.Causes.{sees_nsec3, tells_nsec3, has_response, PassedOn, PassesOnly, PassesOn, NamesForeign, ForeignOnly, ForeignNamed, IsUnjudged, UnjudgedOnly, JudgesTold, AnswersTold}
 use Rattle.dns_chain.specs.Looked.{UnlessNoMemory, OfAnswer, IsSoundAnswer, IsTrail, HasMarksOfTrail, ShowsItsDenial, DeniesQuery}
 use Rattle.dns_session.specs.SessionValue.{SessionValue}
-use Rattle.dns_run.specs.Replies.{recorded, session_told}
+use Rattle.dns_run.specs.Replies.{recorded, session_told, session_records}
 use Rattle.dns_run.specs.Soundness.{listing, session_judge, IsSound}
 use Rattle.dns_run.specs.Answering.{recorded_by, session_replies, session_depth, IsSessionTrail, IsSessionAnswer}
 use Rattle.dns_run.specs.Causes.{HasNoMessage, HasUnjudged, FaultCause, NoMessage, OtherClass, NotJudged, NotDenied, AnswersSession}
 use Rattle.dns_run.proofs.JudgeLemmas.{judge_plain}
 use Rattle.dns_run.proofs.ReplyLemmas.{err_same, session_replied}
+use Rattle.dns_run.proofs.TopLemmas.{trail_foreign, trail_seen}
 
 -- the lookup that a session asks for
 pub record IsSessionCall {H : Type 0} (meanings : handle.Ghosts H) (s : SessionValue) (call : Call H) : Type 0 where
@@ -165,10 +167,41 @@ foreign_cause meanings s call e c names =
       named = names.named;
     })
 
+-- what a session's reply must be answered with, where it isn't judged yet
+abbrev Unanswered : SessionValue → Type 0
+Unanswered s = AnswersTold (Some (session_replies s)) s.query (Err (Message NotJudgedYet))
+
+-- the records of a session that isn't judged yet have an NSEC3 among them
+nsec3_told : (s : SessionValue) (trail : List AskedValue) → IsSessionTrail s trail Failed → Unanswered s → (records : Told)
+    → session_records s ≡ Some records → (foreign : Option Rr) → foreign_record s.query records ≡ foreign
+    → (has : Bool) → tells_nsec3 records ≡ has → tells_nsec3 records ≡ true
+nsec3_told s trail is answers records told (Some r) found has tells = absurd (not_true (trail_foreign s trail Failed records r is told found))
+  where
+    not_true : is_foreign r Failed ≡ true → ⊥
+    not_true h = cc
+nsec3_told s trail is answers records told None own true tells = tells
+nsec3_told s trail is answers records told None own false tells =
+    absurd (not_true (answers records (ap heard (session_replied s) ∙ told) own tells))
+  where
+    not_true : has_response (Err (Message NotJudgedYet)) ≡ true → ⊥
+    not_true h = cc
+
+unjudged_by : (s : SessionValue) (trail : List AskedValue) → IsSessionTrail s trail Failed → sees_nsec3 trail ≡ true → Unanswered s
+    → (o : Option Told) → session_records s ≡ o → HasUnjudged s
+unjudged_by s trail is sees answers None none = absurd (trail_seen s trail Failed is sees none)
+unjudged_by s trail is sees answers (Some records) told = record {
+  trail = trail;
+  is = is;
+  sees = sees;
+  records = records;
+  told = told;
+  has = nsec3_told s trail is answers records told (foreign_record s.query records) refl (tells_nsec3 records) refl;
+}
+
 unjudged_cause : {H : Type 0} (meanings : handle.Ghosts H) (s : SessionValue) (call : Call H)
-    → IsSessionCall meanings s call → IsUnjudged meanings call → HasUnjudged s
-unjudged_cause meanings s call c u =
-    record { trail = u.trail; is = session_trail meanings s call u.trail Failed c u.is; sees = u.sees }
+    → IsSessionCall meanings s call → Unanswered s → IsUnjudged meanings call → HasUnjudged s
+unjudged_cause meanings s call c answers u =
+    unjudged_by s u.trail (session_trail meanings s call u.trail Failed c u.is) u.sees answers (session_records s) refl
 
 dns_cause : {H : Type 0} (meanings : handle.Ghosts H) (s : SessionValue) (call : Call H) (e : DnsErrorValue)
     → IsSessionCall meanings s call → SaysOf meanings call (Err (Dns e)) → Dns e ≢ seen.NoMemory → FaultCause s (Dns e)
@@ -180,33 +213,37 @@ dns_cause meanings s call (Nsec asked response proof) c says own =
 dns_cause meanings s call DnssecBogus c says own = passed_cause meanings s call _ c own (says.passed _ refl refl)
 
 error_cause : {H : Type 0} (meanings : handle.Ghosts H) (s : SessionValue) (call : Call H) (e : ErrorValue)
-    → IsSessionCall meanings s call → SaysOf meanings call (Err e) → e ≢ seen.NoMemory → FaultCause s e
-error_cause meanings s call Busy c says own = passed_cause meanings s call _ c own (says.passed _ refl refl)
-error_cause meanings s call (Dns error) c says own = dns_cause meanings s call error c says own
-error_cause meanings s call (Message NotJudgedYet) c says own = elim (says.unjudged refl) [
+    → IsSessionCall meanings s call → SaysOf meanings call (Err e) → AnswersTold (Some (session_replies s)) s.query (Err e)
+    → e ≢ seen.NoMemory → FaultCause s e
+error_cause meanings s call Busy c says answers own = passed_cause meanings s call _ c own (says.passed _ refl refl)
+error_cause meanings s call (Dns error) c says answers own = dns_cause meanings s call error c says own
+error_cause meanings s call (Message NotJudgedYet) c says answers own = elim (says.unjudged refl) [
   | inl p ↦ passed_cause meanings s call _ c own p
-  | inr u ↦ NotJudged (unjudged_cause meanings s call c u) refl
+  | inr u ↦ NotJudged (unjudged_cause meanings s call c answers u) refl
 ]
-error_cause meanings s call (Message NoQueryInRequest) c says own = passed_cause meanings s call _ c own (says.passed _ refl refl)
-error_cause meanings s call (Message ExpiredRrsig) c says own = passed_cause meanings s call _ c own (says.passed _ refl refl)
-error_cause meanings s call (Message WrongDnskey) c says own = passed_cause meanings s call _ c own (says.passed _ refl refl)
-error_cause meanings s call (Message WrongRrsig) c says own = passed_cause meanings s call _ c own (says.passed _ refl refl)
-error_cause meanings s call (Msg text) c says own = passed_cause meanings s call _ c own (says.passed _ refl refl)
-error_cause meanings s call NoConnections c says own = passed_cause meanings s call _ c own (says.passed _ refl refl)
-error_cause meanings s call (Proto error) c says own = passed_cause meanings s call _ c own (says.passed _ refl refl)
-error_cause meanings s call (Io kind) c says own = passed_cause meanings s call _ c own (says.passed _ refl refl)
-error_cause meanings s call Timeout c says own = passed_cause meanings s call _ c own (says.passed _ refl refl)
-error_cause meanings s call QueryCaseMismatch c says own = passed_cause meanings s call _ c own (says.passed _ refl refl)
-error_cause meanings s call (ForeignClassRecord owner class rtype) c says own = elim (says.foreign owner class rtype refl) [
+error_cause meanings s call (Message NoQueryInRequest) c says answers own = passed_cause meanings s call _ c own (says.passed _ refl refl)
+error_cause meanings s call (Message ExpiredRrsig) c says answers own = passed_cause meanings s call _ c own (says.passed _ refl refl)
+error_cause meanings s call (Message WrongDnskey) c says answers own = passed_cause meanings s call _ c own (says.passed _ refl refl)
+error_cause meanings s call (Message WrongRrsig) c says answers own = passed_cause meanings s call _ c own (says.passed _ refl refl)
+error_cause meanings s call (Msg text) c says answers own = passed_cause meanings s call _ c own (says.passed _ refl refl)
+error_cause meanings s call NoConnections c says answers own = passed_cause meanings s call _ c own (says.passed _ refl refl)
+error_cause meanings s call (Proto error) c says answers own = passed_cause meanings s call _ c own (says.passed _ refl refl)
+error_cause meanings s call (Io kind) c says answers own = passed_cause meanings s call _ c own (says.passed _ refl refl)
+error_cause meanings s call Timeout c says answers own = passed_cause meanings s call _ c own (says.passed _ refl refl)
+error_cause meanings s call QueryCaseMismatch c says answers own = passed_cause meanings s call _ c own (says.passed _ refl refl)
+error_cause meanings s call (ForeignClassRecord owner class rtype) c says answers own = elim (says.foreign owner class rtype refl) [
   | inl p ↦ passed_cause meanings s call _ c own p
   | inr names ↦ foreign_cause meanings s call _ c names
 ]
-error_cause meanings s call Truncated c says own = passed_cause meanings s call _ c own (says.passed _ refl refl)
-error_cause meanings s call seen.NoMemory c says own = absurd (own refl)
+error_cause meanings s call Truncated c says answers own = passed_cause meanings s call _ c own (says.passed _ refl refl)
+error_cause meanings s call seen.NoMemory c says answers own = absurd (own refl)
 
 session_caused : {H : Type 0} (meanings : handle.Ghosts H) (s : SessionValue) (call : Call H) (answer : Reply)
-    → IsSessionCall meanings s call → SaysOf meanings call answer → (e : ErrorValue) → answer ≡ Err e → e ≢ seen.NoMemory → FaultCause s e
-session_caused meanings s call answer c says e is own = error_cause meanings s call e c (subst (λ x. SaysOf meanings call x) is says) own
+    → IsSessionCall meanings s call → SaysOf meanings call answer → AnswersTold (Some (session_replies s)) s.query answer
+    → (e : ErrorValue) → answer ≡ Err e → e ≢ seen.NoMemory → FaultCause s e
+session_caused meanings s call answer c says answers e is own =
+    error_cause meanings s call e c (subst (λ x. SaysOf meanings call x) is says)
+    (subst (λ x. AnswersTold (Some (session_replies s)) s.query x) is answers) own
 
 -- ---- the whole
 
@@ -215,15 +252,18 @@ pub record Known (told : Option Replies) (q : Question) (answer : Reply) : Type 
   pub passes : PassesOn told q answer
   pub foreign : ForeignNamed told q answer
   pub judges : JudgesTold told q answer
+  pub answers : AnswersTold told q answer
 
 pub all_known : (told : Option Replies) (q : Question) (result : Result ResponseValue NetError)
     → UnlessNoMemory result (PassesOn told q (reply_of result)) → UnlessNoMemory result (ForeignNamed told q (reply_of result))
-    → UnlessNoMemory result (JudgesTold told q (reply_of result)) → UnlessNoMemory result (Known told q (reply_of result))
-all_known told q (Ok x) p f j = record { passes = p; foreign = f; judges = j }
-all_known told q (Err e) (inl memory) f j = inl memory
-all_known told q (Err e) (inr p) (inl memory) j = inl memory
-all_known told q (Err e) (inr p) (inr f) (inl memory) = inl memory
-all_known told q (Err e) (inr p) (inr f) (inr j) = inr (record { passes = p; foreign = f; judges = j })
+    → UnlessNoMemory result (JudgesTold told q (reply_of result)) → UnlessNoMemory result (AnswersTold told q (reply_of result))
+    → UnlessNoMemory result (Known told q (reply_of result))
+all_known told q (Ok x) p f j a = record { passes = p; foreign = f; judges = j; answers = a }
+all_known told q (Err e) (inl memory) f j a = inl memory
+all_known told q (Err e) (inr p) (inl memory) j a = inl memory
+all_known told q (Err e) (inr p) (inr f) (inl memory) a = inl memory
+all_known told q (Err e) (inr p) (inr f) (inr j) (inl memory) = inl memory
+all_known told q (Err e) (inr p) (inr f) (inr j) (inr a) = inr (record { passes = p; foreign = f; judges = j; answers = a })
 
 session_known : {H : Type 0} (meanings : handle.Ghosts H) (s : SessionValue) (call : Call H) (answer : Reply)
     → IsSessionCall meanings s call → SaysOf meanings call answer → Known (meanings.told call.old) call.query answer → AnswersSession s answer
@@ -232,10 +272,11 @@ session_known meanings s call answer c says given =
     record {
       answered = session_answered meanings s call answer c says;
       denies = session_denies meanings s call answer c says;
-      caused = session_caused meanings s call answer c says;
+      caused = session_caused meanings s call answer c says known.answers;
       passes = known.passes;
       foreign = known.foreign;
       judges = known.judges;
+      answers = known.answers;
     }
 
 -- the answer to a session is that of its lookup

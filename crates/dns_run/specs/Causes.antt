@@ -8,7 +8,7 @@ use Rattle.dns_judgement.specs.Outcome.{foreign_record}
 use Rattle.dns_net.specs.declared.notice.Notice.TheVariants.{NotJudgedYet}
 use Rattle.dns_net.specs.Errors.{Reply, ErrorValue, Dns, Message, ForeignClassRecord, Nsec, NoMemory}
 use Rattle.dns_chain.specs.Looked.{OfAnswer, ShowsItsDenial}
-use Rattle.dns_chain.specs.Causes.{sees_nsec3, PassesOn, ForeignNamed, JudgesTold}
+use Rattle.dns_chain.specs.Causes.{sees_nsec3, tells_nsec3, PassesOn, ForeignNamed, JudgesTold, AnswersTold}
 use Rattle.dns_session.specs.SessionValue.{SessionValue}
 use Rattle.dns_run.specs.Replies.{session_told, session_message, session_records}
 use Rattle.dns_run.specs.Answering.{session_replies, IsSessionTrail, IsSessionAnswer}
@@ -27,11 +27,15 @@ pub record HasForeign (s : SessionValue) (error : ErrorValue) : Type 0 where
   pub found : foreign_record s.query records ≡ Some first
   pub named : error ≡ ForeignClassRecord first.owner first.class first.rtype
 
--- there is a trail whose last step fails, since it saw a Secure NSEC3: what such records deny isn't judged yet (RFC 5155, 8)
+-- there is a trail whose last step fails, since it saw a Secure NSEC3: what such records deny isn't judged yet (RFC 5155, 8). The
+-- reply to the query has the record
 pub record HasUnjudged (s : SessionValue) : Type 0 where
   pub trail : List AskedValue
   pub is : IsSessionTrail s trail Failed
   pub sees : sees_nsec3 trail ≡ true
+  pub records : Told
+  pub told : session_records s ≡ Some records
+  pub has : tells_nsec3 records ≡ true
 
 -- why a session is answered with an error
 pub data FaultCause (s : SessionValue) (error : ErrorValue) : Type 0 where
@@ -52,3 +56,4 @@ pub record AnswersSession (s : SessionValue) (answer : Reply) : Type 0 where
   pub passes : PassesOn (Some (session_replies s)) s.query answer
   pub foreign : ForeignNamed (Some (session_replies s)) s.query answer
   pub judges : JudgesTold (Some (session_replies s)) s.query answer
+  pub answers : AnswersTold (Some (session_replies s)) s.query answer

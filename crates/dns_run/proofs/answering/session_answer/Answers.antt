@@ -22,4 +22,5 @@ returns c =
       foreign = c.lookup.ensures.foreign;
       unjudged = c.lookup.ensures.unjudged;
     })
-    (all_known _ _ c.lookup.result c.lookup.ensures.passes c.lookup.ensures.names_foreign c.lookup.ensures.judges))
+    (all_known _ _ c.lookup.result c.lookup.ensures.passes c.lookup.ensures.names_foreign c.lookup.ensures.judges
+    c.lookup.ensures.answers))
