@@ -247,6 +247,11 @@ session_caused meanings s call answer c says answers e is own =
 
 -- ---- the whole
 
+-- a fact of an Ok result is one of its reply
+pub reply_ok : (result : Result ResponseValue NetError) (Fact : ResponseValue → Type 0) → IfOk result Fact → IfOk (reply_of result) Fact
+reply_ok (Ok a) Fact fact = fact
+reply_ok (Err e) Fact fact = tt
+
 -- what is said of the answer where the upstream tells its replies
 pub record Known (told : Option Replies) (q : Question) (answer : Reply) : Type 0 where
   pub passes : PassesOn told q answer

@@ -1,7 +1,7 @@
 use Rattle.std.proofs.Common.{refl, rules}
 use Rattle.dns_net.specs.contracts.recorded.RecordedDnsHandle.TheImpl as upstream
 use Rattle.dns_trust.specs.contracts.listed.ListedVerifier.TheImpl as tests
-use Rattle.dns_run.proofs.LookupLemmas.{all_known, answers_looked}
+use Rattle.dns_run.proofs.LookupLemmas.{reply_ok, all_known, answers_looked}
 use Rattle.dns_run.proofs.answering.session_answer.Goals as goal
 
 pub returns : goal.returns
@@ -16,7 +16,7 @@ returns c =
       judged = c.lookup.ensures.judged;
       grounds = c.lookup.ensures.grounds;
       denials = c.lookup.ensures.denials;
-      denies = c.lookup.ensures.denies;
+      denies = reply_ok c.lookup.result _ c.lookup.ensures.denies;
       denied = c.lookup.ensures.denied;
       passed = c.lookup.ensures.passed;
       foreign = c.lookup.ensures.foreign;
