@@ -1,9 +1,8 @@
 -- How a run over a valid session ends, out of what it says of its statuses.
-use Rattle.std.proofs.Common.{ℕ, ◌≡◌, ◌≤◌, ◌∙◌, List, Option, None, Some, Ok, sym, ap, subst}
+use Rattle.std.proofs.Common.{ℕ, ◌≡◌, ◌∙◌, List, Option, None, Some, Ok, sym, ap, subst}
 use Rattle.dns_model.specs.SoundAnswers.{Told}
 use Rattle.dns_model.specs.Trails.{AskedValue, EndingValue, Answered, Denied}
 use Rattle.dns_model.specs.Trails as trails
-use Rattle.dns_judgement.specs.Outcome.{foreign_record}
 use Rattle.dns_laws.proofs.CompleteLemmas.{HasReply, valid_reply}
 use Rattle.dns_net.specs.Errors.{ErrorValue}
 use Rattle.dns_chain.specs.Completing.{first_told}
