@@ -3,8 +3,7 @@ use Rattle.std.proofs.Common.{◌≡◌, inl, inr, ℕ, true, false, List, [], �
 use Rattle.std.specs.Option.{option_map_or}
 use Rattle.std.specs.List.{AllByRecursion}
 use Rattle.std.proofs.lemmas.Bool.{and_parts}
-use Rattle.dns_model.specs.declared.proof.Proof.{Proof}
-use Rattle.dns_model.specs.declared.proof.Proof.TheVariants.{Secure, Insecure, Bogus, Indeterminate}
+use Rattle.dns_model.specs.declared.proof.Proof.TheVariants.{Insecure}
 use Rattle.dns_model.specs.declared.denial.Denial.{Denial}
 use Rattle.dns_model.specs.declared.denial.Denial.TheVariants as denied
 use Rattle.dns_model.specs.Records.{Rr, Question}
@@ -17,33 +16,16 @@ use Rattle.dns_judgement.specs.Delegations.{ZoneVerdict}
 use Rattle.dns_judgement.specs.Unsigned.{question_start, is_empty}
 use Rattle.dns_judgement.specs.Outcome as outcome
 use Rattle.dns_judgement.specs.Outcome.{Outcome, outcome_of, outcome_by_zone, has_answer, foreign_record}
-use Rattle.dns_judgement.specs.Derivation.{Grounds, search_from, proof_eq, denial_eq, ending_eq, ending_by, ending_holds, entries_hold, with_entries, judged_sets, step_holds, steps_hold, derivation}
+use Rattle.dns_judgement.specs.Derivation.{Grounds, search_from, denial_eq, ending_eq, ending_by, ending_holds, entries_hold, with_entries, judged_sets, step_holds, steps_hold, derivation}
 use Rattle.dns_judgement.specs.DerivationParts.{grounds_of, is_bare, judged_holds, ends_by_search}
 use Rattle.dns_judgement.proofs.DerivedLemmas.{derivation_parts}
+use Rattle.dns_judgement.proofs.ExtendLemmas.{proof_same}
 use Rattle.dns_laws.specs.Denials.{ShowsDenial, StepDenies, HasDenials}
 use Rattle.dns_laws.proofs.StraightStepLemmas.{judged_step}
 use Rattle.dns_laws.proofs.ToldSetLemmas.{judged_told}
 use Rattle.dns_laws.proofs.DeniedOutcomes.{LeadsTo, is_secure_denial, insecure_is_plain, outcome_shows}
 
 -- ---- the outcome by the ending
-
-proof_same : (a b : Proof) → proof_eq a b ≡ true → a ≡ b
-proof_same Secure Secure h = refl
-proof_same Secure Insecure h = cc
-proof_same Secure Bogus h = cc
-proof_same Secure Indeterminate h = cc
-proof_same Insecure Secure h = cc
-proof_same Insecure Insecure h = refl
-proof_same Insecure Bogus h = cc
-proof_same Insecure Indeterminate h = cc
-proof_same Bogus Secure h = cc
-proof_same Bogus Insecure h = cc
-proof_same Bogus Bogus h = refl
-proof_same Bogus Indeterminate h = cc
-proof_same Indeterminate Secure h = cc
-proof_same Indeterminate Insecure h = cc
-proof_same Indeterminate Bogus h = cc
-proof_same Indeterminate Indeterminate h = refl
 
 denial_same : (c d : Denial) → denial_eq c d ≡ true → c ≡ d
 denial_same denied.None denied.None h = refl
