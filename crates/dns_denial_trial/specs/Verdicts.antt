@@ -2,14 +2,14 @@
 use Rattle.std.specs.Prelude.{ℕ, nat_lt, List, [], ◌∷◌, ◌++◌, codes, Option, None, Some, Result, Ok, Err, if◌then◌else◌}
 use Rattle.std.specs.Option.{option_map}
 use Rattle.dns_model.specs.Names.{Labels, num_labels}
-use Rattle.dns_model.specs.Types.{type_rrsig, type_nsec}
+use Rattle.dns_model.specs.Types.{type_nsec}
 use Rattle.dns_model.specs.Records.{Rr, Question, MessageValue}
-use Rattle.dns_model.specs.Views.{RrsigValue, rrsig_in, nsec_in}
+use Rattle.dns_model.specs.Views.{RrsigValue, nsec_in}
 use Rattle.dns_model.specs.Owned.{OwnedNsec}
 use Rattle.dns_model.specs.declared.proof.Proof.{Proof}
 use Rattle.dns_model.specs.declared.proof.Proof.TheVariants.{Secure, Insecure, Bogus, Indeterminate}
 use Rattle.dns_message.specs.declared.decode_error.DecodeError.{DecodeError}
-use Rattle.dns_rdata.specs.ReadAs.{read_as}
+use Rattle.dns_model.specs.RecordViews.{read_as, rrsig_of}
 use Rattle.dns_denial.specs.declared.answered.Answered.{Answered}
 use Rattle.dns_denial.specs.declared.answered.Answered.TheVariants.{No, Plain, Expanded}
 use Rattle.dns_denial.specs.NsecVerdict.{nsec_verdict}
@@ -21,7 +21,7 @@ answered_by_signature name None = Plain
 answered_by_signature name (Some sig) = if nat_lt sig.labels (num_labels name) then Expanded sig.labels else Plain
 
 abbrev pub signed_for : Labels → Rr → Answered
-signed_for name record_ = answered_by_signature name (read_as type_rrsig rrsig_in record_)
+signed_for name record_ = answered_by_signature name (rrsig_of record_)
 
 -- how an answer section answers for the name, by its first record
 abbrev pub answered_by : Labels → List Rr → Answered

@@ -10,12 +10,11 @@ use Rattle.dns_model.specs.declared.denial.Denial.TheVariants as denied
 use Rattle.dns_model.specs.Names.{Labels, name_eq, at_or_above, num_labels}
 use Rattle.dns_model.specs.Types.{type_cname, type_nsec, type_nsec3}
 use Rattle.dns_model.specs.Records.{Rr, Question}
-use Rattle.dns_model.specs.RecordViews.{rrsig_of}
+use Rattle.dns_model.specs.RecordViews.{rrsig_of, read_as}
 use Rattle.dns_model.specs.Views.{nsec_in}
 use Rattle.dns_model.specs.Owned.{OwnedNsec}
 use Rattle.dns_model.specs.Sections.{is_signature}
 use Rattle.dns_model.specs.SoundAnswers.{Told, section_eq, is_secure}
-use Rattle.dns_rdata.specs.ReadAs.{read_as}
 use Rattle.dns_denial.specs.declared.answered.Answered.{Answered}
 use Rattle.dns_denial.specs.declared.answered.Answered.TheVariants.{No, Plain, Expanded}
 use Rattle.dns_denial.specs.NsecVerdict.{nsec_verdict}

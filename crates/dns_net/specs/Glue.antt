@@ -10,7 +10,7 @@ use Rattle.dns_model.specs.Names.{Labels, name_eq, folded, wire}
 use Rattle.dns_model.specs.Types.{type_a, type_ns}
 use Rattle.dns_model.specs.Views.{ns_in}
 use Rattle.dns_model.specs.Records.{Rr}
-use Rattle.dns_rdata.specs.ReadAs.{read_as}
+use Rattle.dns_model.specs.RecordViews.{read_as}
 use Rattle.dns_net.specs.NoRecords.{ForwardNsValue}
 use Rattle.dns_net.specs.Responses.{type_aaaa}
 

@@ -7,7 +7,7 @@ use Rattle.dns_model.specs.Types.{type_a, type_ns, type_soa, class_in}
 use Rattle.dns_model.specs.Views.{SoaValue, ns_in, soa_in}
 use Rattle.dns_model.specs.Records.{Rr, Question, MessageValue}
 use Rattle.dns_model.specs.SoundAnswers.{ResponseValue}
-use Rattle.dns_rdata.specs.ReadAs.{read_as}
+use Rattle.dns_model.specs.RecordViews.{read_as}
 use Rattle.dns_net.specs.Requests.{first_query}
 use Rattle.dns_net.specs.NoRecords.{ForwardNsValue, NoRecordsValue}
 use Rattle.dns_net.specs.Errors.{DnsErrorValue, ResponseCode, NoRecordsFound}

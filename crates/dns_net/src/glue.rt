@@ -4,7 +4,7 @@ ghost use Rattle.std.specs.List.{filter};
 ghost use Rattle.dns_model.specs.Names.{Labels, folded, wire};
 ghost use Rattle.dns_model.specs.Types.{type_ns};
 ghost use Rattle.dns_model.specs.Views.{ns_in};
-ghost use Rattle.dns_rdata.specs.ReadAs.{read_as};
+ghost use Rattle.dns_model.specs.RecordViews.{read_as};
 ghost use Rattle.dns_net.specs.Responses.{is_address_of, is_ns};
 ghost use Rattle.dns_net.specs.Glue.{Joined, addresses_at, forwarded_by, glue_by, is_address};
 

@@ -1,4 +1,3 @@
-pub mod ReadAs
 pub mod Windows
 pub mod Fields
 pub mod Lowered

@@ -1,7 +1,6 @@
 ghost use Rattle.std.specs.Prelude.{◌≡◌};
-ghost use Rattle.dns_model.specs.Types.{type_dnskey};
 ghost use Rattle.dns_model.specs.Views.{dnskey_in, is_zone_key, is_revoked};
-ghost use Rattle.dns_rdata.specs.ReadAs.{read_as};
+ghost use Rattle.dns_model.specs.RecordViews.{dnskey_of};
 
 use crate::bytes::u16_at;
 use dns_record::{Record, RecordType};
@@ -52,7 +51,7 @@ impl<'a> Dnskey<'a> {
 
     /// What a record says as a DNSKEY; None exactly where its type or its shape is another.
     pub fn of(from: &'a Record) -> Option<Dnskey<'a>>
-        ensures { result ≡ read_as type_dnskey dnskey_in from.now }
+        ensures { result ≡ dnskey_of from.now }
     {
         if from.record_type != RecordType::DNSKEY {
             return None;

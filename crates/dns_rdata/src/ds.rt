@@ -1,7 +1,7 @@
 ghost use Rattle.std.specs.Prelude.{◌≡◌};
 ghost use Rattle.dns_model.specs.Types.{type_ds};
 ghost use Rattle.dns_model.specs.Views.{ds_in};
-ghost use Rattle.dns_rdata.specs.ReadAs.{read_as};
+ghost use Rattle.dns_model.specs.RecordViews.{read_as};
 
 use crate::bytes::u16_at;
 use dns_record::{Record, RecordType};

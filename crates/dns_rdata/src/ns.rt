@@ -1,7 +1,7 @@
 ghost use Rattle.std.specs.Prelude.{◌≡◌};
 ghost use Rattle.dns_model.specs.Types.{type_ns};
 ghost use Rattle.dns_model.specs.Views.{ns_in};
-ghost use Rattle.dns_rdata.specs.ReadAs.{read_as};
+ghost use Rattle.dns_model.specs.RecordViews.{read_as};
 
 use dns_name::NameRef;
 use dns_record::{Record, RecordType};

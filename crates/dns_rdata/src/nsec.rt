@@ -2,7 +2,7 @@ ghost use Rattle.std.specs.Prelude.{◌≡◌, IfOk};
 ghost use Rattle.std.specs.Option.{option_map};
 ghost use Rattle.dns_model.specs.Types.{type_nsec};
 ghost use Rattle.dns_model.specs.Views.{nsec_in};
-ghost use Rattle.dns_rdata.specs.ReadAs.{read_as};
+ghost use Rattle.dns_model.specs.RecordViews.{read_as};
 
 use crate::TypeSet;
 use crate::type_set::is_bitmap;

@@ -1,7 +1,6 @@
 ghost use Rattle.std.specs.Prelude.{◌≡◌};
-ghost use Rattle.dns_model.specs.Types.{type_rrsig};
 ghost use Rattle.dns_model.specs.Views.{rrsig_in};
-ghost use Rattle.dns_rdata.specs.ReadAs.{read_as};
+ghost use Rattle.dns_model.specs.RecordViews.{rrsig_of};
 
 use crate::SerialNumber;
 use crate::bytes::{u16_at, u32_at};
@@ -72,7 +71,7 @@ impl<'a> Rrsig<'a> {
 
     /// What a record says as an RRSIG; None exactly where its type or its shape is another.
     pub fn of(from: &'a Record) -> Option<Rrsig<'a>>
-        ensures { result ≡ read_as type_rrsig rrsig_in from.now }
+        ensures { result ≡ rrsig_of from.now }
     {
         if from.record_type != RecordType::RRSIG {
             return None;

@@ -1,7 +1,7 @@
 ghost use Rattle.std.specs.Prelude.{◌≡◌};
 ghost use Rattle.dns_model.specs.Types.{type_soa};
 ghost use Rattle.dns_model.specs.Views.{soa_in};
-ghost use Rattle.dns_rdata.specs.ReadAs.{read_as};
+ghost use Rattle.dns_model.specs.RecordViews.{read_as};
 
 use crate::bytes::u32_at;
 use dns_name::NameRef;

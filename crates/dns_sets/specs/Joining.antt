@@ -2,13 +2,12 @@
 use Rattle.std.specs.Prelude.{ℕ, Bool, ◌==◌, ◌&&◌, List, [], ◌∷◌, ◌++◌, map, Option, None, Some, if◌then◌else◌}
 use Rattle.std.specs.List.{filter, list_any}
 use Rattle.dns_model.specs.Names.{Labels, name_eq}
-use Rattle.dns_model.specs.Types.{type_rrsig}
-use Rattle.dns_model.specs.Views.{RrsigValue, rrsig_in}
+use Rattle.dns_model.specs.Views.{RrsigValue}
 use Rattle.dns_model.specs.Records.{Rr, RrSet}
 use Rattle.dns_model.specs.Sections.{is_signature, same_set, covers, leaders, unsigned_part}
 use Rattle.dns_model.specs.SoundAnswers.{Placed}
 use Rattle.dns_judgement.specs.Asking.{is_judged_at}
-use Rattle.dns_rdata.specs.ReadAs.{read_as}
+use Rattle.dns_model.specs.RecordViews.{rrsig_of}
 
 -- a set of this owner and type
 abbrev pub is_at : Labels → ℕ → RrSet → Bool
@@ -44,7 +43,7 @@ signed_by r (Some sig) sets = touched (is_at r.owner sig.covered) (with_signatur
 
 -- a signature that can be read is given to the first set that it covers
 abbrev pub given : Rr → List RrSet → List RrSet
-given r sets = signed_by r (read_as type_rrsig rrsig_in r) sets
+given r sets = signed_by r (rrsig_of r) sets
 
 -- the set of the first record of an owner and type, without signatures
 abbrev pub bare_set : List Rr → Rr → RrSet

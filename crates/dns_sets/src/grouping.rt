@@ -4,9 +4,7 @@ ghost use Rattle.dns_model.specs.SoundAnswers.{told_by, in_section};
 ghost use Rattle.dns_judgement.specs.Marking.{cleared, cleared_message};
 ghost use Rattle.dns_judgement.specs.Asking.{judged_part, is_judged_at as is_judged_at_depth};
 ghost use Rattle.dns_sets.specs.Joining.{judged_at, joined_by, met_by, given, with_record as record_added, with_signature as signature_added};
-ghost use Rattle.dns_model.specs.Types.{type_rrsig};
-ghost use Rattle.dns_model.specs.Views.{rrsig_in};
-ghost use Rattle.dns_rdata.specs.ReadAs.{read_as};
+ghost use Rattle.dns_model.specs.RecordViews.{rrsig_of};
 ghost use Rattle.dns_sets.specs.SetPlaces.{ArePlaces, place_of, place_covered};
 
 use crate::PlacedSet;
@@ -143,7 +141,7 @@ fn give(sets: &mut Vec<RecordSet>, places: &SetPlaces, met: &Record) -> Result<(
 
 // The place of the set that a signature covers.
 fn covered_place(places: &SetPlaces, met: &Record) -> Option<usize>
-    ensures { result ≡ place_covered (place_of places.now) met.now.owner (read_as type_rrsig rrsig_in met.now) }
+    ensures { result ≡ place_covered (place_of places.now) met.now.owner (rrsig_of met.now) }
 {
     let sig = Rrsig::of(met)?;
     places.get(&met.name, sig.type_covered)
