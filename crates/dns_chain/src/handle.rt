@@ -13,9 +13,11 @@ ghost use Rattle.dns_laws.specs.Ground.{HasGrounds};
 
 use crate::inquiry::{Inquiry, depth_limit_of};
 use crate::looking::look_up;
-use crate::sending::{answer_request, faults_after};
+use crate::sending::answer_request;
 use dns_name::NoMemory;
-use dns_net::{DnsHandle, DnsRequest, DnsRequestOptions, DnsResponse, NetError, Verifier};
+use dns_net::{
+    DnsHandle, DnsRequest, DnsRequestOptions, DnsResponse, NetError, Verifier, faults_after,
+};
 use dns_record::Query;
 use dns_trust::{Judge, TrustAnchors};
 use std::alloc::Global;
@@ -204,7 +206,11 @@ impl<H: DnsHandle + Drop, V: Verifier + Drop> DnsHandle for DnssecDnsHandle<H, V
         reply
     }
 
-    fn is_verifying_dnssec(&self) -> bool {
+    // The trait's clause, and that the answer is always so.
+    fn is_verifying_dnssec(&self) -> bool
+        ensures validates { result ≡ true → true ≡ true }
+        ensures always { result ≡ true }
+    {
         true
     }
 }

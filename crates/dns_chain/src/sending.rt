@@ -2,7 +2,6 @@
 
 ghost use Rattle.std.specs.Prelude.{◌≡◌, ◌≢◌, ◌≤◌, ◌==◌, None, IfOk, IfErr};
 ghost use Rattle.dns_model.specs.Chains.{judge};
-ghost use Rattle.dns_net.specs.Recording.{faults_after as faults_by};
 ghost use Rattle.dns_net.specs.Replies.{reply_of};
 ghost use Rattle.dns_net.specs.Requests.{first_question};
 ghost use Rattle.dns_chain.specs.Sending.{checked_edns, checked_request, AnswersRequest};
@@ -11,9 +10,7 @@ use crate::inquiry::{Inquiry, asking_options_of, depth_limit_of};
 use crate::looking::look;
 use dns_message::Edns;
 use dns_name::{NoMemory, Octets};
-use dns_net::{
-    DnsError, DnsHandle, DnsRequest, DnsRequestOptions, DnsResponse, NetError, Notice, Verifier,
-};
+use dns_net::{DnsHandle, DnsRequest, DnsRequestOptions, DnsResponse, NetError, Notice, Verifier};
 use dns_record::{OpCode, Query};
 use dns_trust::{Judge, TrustAnchors};
 use std::alloc::Global;
@@ -110,16 +107,5 @@ fn with_do(alloc: Global, edns: Option<Edns>) -> Edns
             edns.dnssec_ok = true;
             edns
         }
-    }
-}
-
-/// The count of faults after an answer. That there are no records is no fault, nor is want of memory.
-pub(crate) fn faults_after(count: u64, reply: &Result<DnsResponse, NetError>) -> u64
-    ensures { result ≡ faults_by count (reply_of reply.now) }
-{
-    match reply {
-        Ok(_) => count,
-        Err(NetError::Dns(DnsError::NoRecordsFound(_)) | NetError::NoMemory) => count,
-        Err(_) => count.saturating_add(1),
     }
 }

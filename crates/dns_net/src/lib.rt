@@ -33,7 +33,7 @@ pub use link::{Chain, Link, clone_links, clone_rdatas};
 pub use link_shows::{all_shown, has_rdata, shows_ds, shows_key, shows_member};
 pub use no_records::{ForwardNSData, NoRecords};
 pub use notice::Notice;
-pub use recorded::Recorded;
+pub use recorded::{Recorded, faults_after};
 pub use request::{DnsRequest, DnsRequestOptions};
 pub use response::DnsResponse;
 pub use trail::{Asked, Ending, JudgedSet, Reply, Told, Trail};

@@ -83,8 +83,9 @@ fn next_reply(
     }
 }
 
-/// The count of faults after a reply. That there are no records is no fault, nor is want of memory.
-fn faults_after(count: u64, reply: &Result<DnsResponse, NetError>) -> u64
+/// A handle's count of faults after a reply, which stops at the largest u64. That there are no records is no fault, nor is want of
+/// memory.
+pub fn faults_after(count: u64, reply: &Result<DnsResponse, NetError>) -> u64
     ensures { result ≡ faults_after count (reply_of reply.now) }
 {
     match reply {
