@@ -12,7 +12,7 @@ use Rattle.dns_judgement.specs.ProofErrors.{ProofErrorKindValue, ProofErrorValue
 use Rattle.dns_marks.specs.declared.set_mark.KeyAnswer.{KeyAnswer}
 use Rattle.dns_marks.specs.declared.set_mark.KeyAnswer.TheVariants.{Skipped, Failed, Keys}
 use Rattle.dns_marks.specs.Kinds.{because}
-use Rattle.dns_marks.specs.SignatureKeys.{keys_proof}
+use Rattle.dns_marks.specs.SignatureKeys.{keys_proof, calls_by_keys}
 
 -- what a signature proves of a set by the answer to its ask; none where it proves nothing
 abbrev pub answer_proof : VerifierAnswers → ℕ → RrSet → Rr → KeyAnswer → Option RrsetProofValue
@@ -60,3 +60,21 @@ abbrev pub set_proof : VerifierAnswers → ℕ → RrSet → List KeyAnswer → 
 set_proof verifier now set answers =
     option_map_or Ok (deciding_proof (answer_proofs verifier now set (take most_signatures set.signatures) answers))
     (Err (because Bogus (no_proof set answers)))
+
+-- ---- how often the verifier is asked whether it accepts a signature
+
+-- for a signature, by the answer to its ask
+abbrev pub answer_calls : VerifierAnswers → ℕ → RrSet → Rr → KeyAnswer → ℕ
+answer_calls verifier now set r Skipped = 0
+answer_calls verifier now set r (Failed query) = 0
+answer_calls verifier now set r (Keys keys) = calls_by_keys verifier now keys.items set r
+
+abbrev pub is_secure_proof : Option RrsetProofValue → Bool
+is_secure_proof found = option_map_or (λ p. proof_eq p.proof Secure) found false
+
+-- for each signature in turn, up to the first that is Secure
+unfoldable pub set_calls : VerifierAnswers → ℕ → RrSet → List (Rr × KeyAnswer) → ℕ
+set_calls verifier now set [] = 0
+set_calls verifier now set (signed ∷ more) =
+    answer_calls verifier now set signed.0 signed.1
+    + (if is_secure_proof (answer_proof verifier now set signed.0 signed.1) then 0 else set_calls verifier now set more)

@@ -1,9 +1,11 @@
-ghost use Rattle.std.specs.Prelude.{◌≡◌, ◌+◌, ◌≤◌, ◌<◌, length, take, slice_get, IfOk};
-ghost use Rattle.std.specs.List.{list_all, filter_map};
+ghost use Rattle.std.specs.Prelude.{◌≡◌, ◌+◌, ◌≤◌, ◌<◌, length, take, slice_get, IfOk, OnOk};
+ghost use Rattle.std.specs.List.{list_all, filter_map, zip};
 ghost use Rattle.std.specs.Option.{option_copied};
 ghost use Rattle.dns_model.specs.Gives.{Gives};
 ghost use Rattle.dns_judgement.specs.Marks.{most_signatures};
 ghost use Rattle.dns_marks.specs.Kinds.{kind_value, want_of_memory};
+ghost use Rattle.dns_marks.specs.KeySignatures.{Unless};
+ghost use Rattle.dns_marks.specs.SetMarks.{set_calls, answer_calls};
 ghost use Rattle.dns_marks.specs.SetMarks.{set_proof, deciding_proof, answer_proofs, answer_proof, proof_at as proof_of_mark, no_proof as cause_of, is_skipped as is_skipped_answer, failed_ask as failed_question};
 
 use crate::{ProofError, ProofErrorKind, RrsetProof, verify_rrsig_with_keys};
@@ -28,7 +30,8 @@ pub enum KeyAnswer {
 
 /// The mark of a set that isn't DNSKEY and has a signature, at a moment in seconds since 1970, by the answers to the asks of its
 /// first eight signatures, one for each in order (RFC 4035, 4.3 and 5.3). The first signature that is Secure decides, else the first that is Insecure.
-/// A step is counted for each call of the verifier's `accepts`: two for a signature at the most.
+/// A step is counted for each call of the verifier's `accepts`, up to the first signature that is Secure: two for a signature at
+/// the most.
 pub fn mark_rrset<V: Verifier, L: Ledger>(
     alloc: Global,
     verifier: &V,
@@ -40,6 +43,8 @@ pub fn mark_rrset<V: Verifier, L: Ledger>(
     requires signed { 0 < length set.now.signatures }
     requires answered { length answers.now ≡ length (take most_signatures set.now.signatures) }
     ensures proof { Gives (λ p. p) want_of_memory result (set_proof (V.answers verifier.now) now set.now answers.now) }
+    ensures calls { Unless want_of_memory result (steps.new ≡ steps.old
+        + set_calls (V.answers verifier.now) now set.now (zip (take most_signatures set.now.signatures) answers.now)) }
     ensures most { steps.new ≤ steps.old + 16 }
 {
     if let Some(found) = deciding(alloc, verifier, set, answers, now, steps)? {
@@ -61,6 +66,8 @@ fn deciding<V: Verifier, L: Ledger>(
     requires { length answers.now ≡ length (take most_signatures set.now.signatures) }
     ensures proof { IfOk result (λ p. p ≡
         deciding_proof (answer_proofs (V.answers verifier.now) now set.now (take most_signatures set.now.signatures) answers.now)) }
+    ensures calls { OnOk result (steps.new ≡ steps.old
+        + set_calls (V.answers verifier.now) now set.now (zip (take most_signatures set.now.signatures) answers.now)) }
     ensures most { steps.new ≤ steps.old + 16 }
 {
     let signatures = first_signatures(set);
@@ -87,6 +94,7 @@ fn proof_by_answer<V: Verifier, L: Ledger>(
     steps: &mut Steps<L>,
 ) -> Result<Option<RrsetProof>, NoMemory>
     ensures proof { IfOk result (λ p. p ≡ answer_proof (V.answers verifier.now) now set.now sig.now answer.now) }
+    ensures calls { OnOk result (steps.new ≡ steps.old + answer_calls (V.answers verifier.now) now set.now sig.now answer.now) }
     ensures most { steps.new ≤ steps.old + 2 }
 {
     match answer {

@@ -1,8 +1,9 @@
 ghost use Rattle.std.specs.Prelude.{◌≡◌, ◌+◌, ◌≤◌, Some, IfOk, OnOk};
 ghost use Rattle.std.specs.List.{list_any};
-ghost use Rattle.dns_model.specs.RecordViews.{dnskey_of};
+ghost use Rattle.dns_model.specs.RecordViews.{rrsig_of, dnskey_of};
 ghost use Rattle.dns_model.specs.declared.proof.Proof.TheVariants.{Insecure};
 ghost use Rattle.dns_judgement.specs.Derivation.{proof_eq};
+ghost use Rattle.dns_trust.specs.Built.{IsBuilt};
 ghost use Rattle.dns_trust.specs.Delegating.{shown};
 ghost use Rattle.dns_marks.specs.SignatureKeys.{keys_proof, calls_by_keys, calls_in_turn, is_proving as is_proving_key, are_insecure as are_insecure_keys};
 ghost use Rattle.dns_marks.specs.KeySignatures.{calls_by_key, validity_at, is_put as is_put_to};
@@ -11,12 +12,12 @@ ghost use Rattle.dns_judgement.specs.Validity.{is_valid as is_valid_at};
 use crate::RrsetProof;
 use crate::rrset_proof::{excused, proved_by};
 use crate::signature::is_accepted;
-use dns_name::NoMemory;
+use dns_name::{NoMemory, Octets};
 use dns_net::Verifier;
-use dns_rdata::{Dnskey, Rrsig, signed_data};
+use dns_rdata::{Dnskey, Rrsig};
 use dns_record::{Proof, Record, RecordSet};
 use dns_steps::Steps;
-use dns_trust::{RrsigValidity, counted_keys, is_usable, may_be_signed};
+use dns_trust::{RrsigValidity, counted_keys, is_usable, may_be_signed, signed_data_once};
 use std::alloc::Global;
 use std::sync::ledger::Ledger;
 
@@ -62,7 +63,7 @@ fn proof_by_keys<V: Verifier, L: Ledger>(
         return Ok(None);
     }
     let counted = counted_keys(alloc, &read, keys)?;
-    if is_proved(alloc, verifier, &counted, sig, set, now, steps)? {
+    if is_proved(alloc, verifier, &counted, sig, &read, set, now, steps)? {
         return Ok(Some(proved_by(now, set, sig, None)));
     }
     if are_insecure(&counted) {
@@ -71,56 +72,63 @@ fn proof_by_keys<V: Verifier, L: Ledger>(
     Ok(None)
 }
 
-// One of some keys is Secure, and the signature is good by it.
+// One of some keys is Secure, and the signature, which is read, is good by it. The bytes that it is over are built once.
 fn is_proved<V: Verifier, L: Ledger>(
     alloc: Global,
     verifier: &V,
     keys: &[&Record],
     sig: &Record,
+    read: &Rrsig<'_>,
     set: &RecordSet,
     now: u64,
     steps: &mut Steps<L>,
 ) -> Result<bool, NoMemory>
+    requires { rrsig_of sig.now ≡ Some read.now }
     ensures proved { IfOk result (λ b. b ≡
         list_any (is_proving_key (V.answers verifier.now) now set.now sig.now) (shown keys.now)) }
     ensures calls { OnOk result
         (steps.new ≡ steps.old + calls_in_turn (V.answers verifier.now) now set.now sig.now (shown keys.now)) }
     ensures most { steps.new ≤ steps.old + calls_in_turn (V.answers verifier.now) now set.now sig.now (shown keys.now) }
 {
+    let mut built = None;
     for key in keys {
         let key = *key;
-        if is_proving(alloc, verifier, key, sig, set, now, steps)? {
+        if is_proving(alloc, verifier, key, sig, read, set, now, &mut built, steps)? {
             return Ok(true);
         }
     }
     Ok(false)
 }
 
-// The key is Secure, and the signature is good by it.
+// The key is Secure, and the signature is good by it. The bytes are built for the first key that the verifier is asked about, and kept.
 fn is_proving<V: Verifier, L: Ledger>(
     alloc: Global,
     verifier: &V,
     key: &Record,
     sig: &Record,
+    read: &Rrsig<'_>,
     set: &RecordSet,
     now: u64,
+    built: &mut Option<Octets>,
     steps: &mut Steps<L>,
 ) -> Result<bool, NoMemory>
+    requires read { rrsig_of sig.now ≡ Some read.now }
+    requires built { IsBuilt set.now read.now built.old }
+    ensures built { OnOk result (IsBuilt set.now read.now built.new) }
     ensures proving { IfOk result (λ b. b ≡ is_proving_key (V.answers verifier.now) now set.now sig.now key.now) }
     ensures calls { OnOk result (steps.new ≡ steps.old + calls_by_key (V.answers verifier.now) now set.now sig.now key.now) }
     ensures most { steps.new ≤ steps.old + calls_by_key (V.answers verifier.now) now set.now sig.now key.now }
 {
-    let Some(read) = Rrsig::of(sig) else {
-        return Ok(false);
-    };
     let Some(dnskey) = Dnskey::of(key) else {
         return Ok(false);
     };
     if !is_put(verifier, key, &dnskey, sig, set, now) {
         return Ok(false);
     }
-    let bytes = signed_data(alloc, set, &read)?;
-    Ok(is_accepted(verifier, &read, &dnskey, &bytes, steps))
+    let bytes = signed_data_once(alloc, set, read, built.take())?;
+    let accepted = is_accepted(verifier, read, &dnskey, &bytes, steps);
+    *built = Some(bytes);
+    Ok(accepted)
 }
 
 // The verifier is to be asked: the key is Secure and may sign, and signature, set, key and moment fit.

@@ -61,7 +61,7 @@ pub(crate) fn is_good_read<V: Verifier>(
     if !is_usable(judge.verifier, &dnskey) {
         return Ok(false);
     }
-    let bytes = bytes_of(alloc, set, read, built.take())?;
+    let bytes = signed_data_once(alloc, set, read, built.take())?;
     let accepted = is_accepted(judge.verifier, read, &dnskey, &bytes);
     *built = Some(bytes);
     Ok(accepted)
@@ -94,8 +94,9 @@ fn is_accepted<V: Verifier>(
     verifier.accepts(read.algorithm, key.key, bytes.as_slice(), read.signature)
 }
 
-// The bytes that the signature is over, as they were kept or built now.
-fn bytes_of(
+/// The bytes that a signature of a set is over (RFC 4034, 3.1.8.1): those that were kept, or else built now. Whoever asks several
+/// keys for one signature keeps them, and builds them once.
+pub fn signed_data_once(
     alloc: Global,
     set: &RecordSet,
     read: &Rrsig<'_>,

@@ -25,7 +25,7 @@ pub use anchors::TrustAnchors;
 pub use counted::counted_keys;
 pub use delegation::{DsIndex, is_supported_ds, matching_ds};
 pub use fitting::{is_never_expanded, is_right_below_signer, is_timely, signer_fits};
-pub use good::{is_good_by, is_usable};
+pub use good::{is_good_by, is_usable, signed_data_once};
 pub use judge::Judge;
 pub use judged::judged_by;
 pub use key_sets::{KeysStep, ds_ask_of, judged_by_ds, judged_keys};

@@ -1,6 +1,8 @@
+use Rattle.dns_trust.specs.Built.{IsBuilt}
 use Rattle.dns_marks.proofs.KeyLemmas.{InTurn}
 use Rattle.dns_marks.proofs.signature_keys.is_proved.Given as goal
 
--- no key so far proves the set, and the calls so far are counted
+-- no key so far proves the set, the calls so far are counted, and the bytes are kept once they are built
 abbrev pub invariant-loop-key : goal.invariant-loop-key
-invariant-loop-key g l = InTurn (g.V.Verifier.answers l.verifier) l.now l.set l.sig l.keys l.key-index l.initial.steps l.steps
+invariant-loop-key g l =
+    InTurn (g.V.Verifier.answers l.verifier) l.now l.set l.sig l.keys l.key-index l.initial.steps l.steps × IsBuilt l.set l.read l.built
