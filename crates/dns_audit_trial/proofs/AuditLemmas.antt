@@ -17,8 +17,8 @@ use Rattle.dns_run.specs.Soundness.{listing}
 use Rattle.dns_run.proofs.JudgeLemmas.{judge_plain}
 use Rattle.dns_audit_trial.specs.declared.audit.Audited.{Audited}
 use Rattle.dns_audit_trial.specs.Audits.{audited_by, depth_of, response_in, session_audited, Responds}
-use Rattle.dns_audit_trial.specs.Forms.{audit_text}
-use Rattle.dns_audit_trial.specs.Endings.{Audits, ComesTo, EndsAs, EndsUnread}
+use Rattle.dns_audit_trial.specs.Forms.{audit_text, truth_line}
+use Rattle.dns_audit_trial.specs.Endings.{Audits, ComesTo, EndsAs, EndsTold, EndsUnread}
 
 -- ---- the response
 
@@ -101,3 +101,9 @@ pub ends_told : (left : Option (List ℕ)) (bytes : List ℕ) (status : ℕ) (be
     → IfSome left (λ xs. EndsAs (session_of xs) status before now)
 ends_told None bytes status before now same ends = tt
 ends_told (Some xs) bytes status before now same ends = rw (sym same) ends
+
+-- the line of a truth value
+pub told_line : (status : ℕ) (told : Bool) (text : List ℕ) (before now : Option (List ℕ))
+    → status ≡ 0 → text ≡ truth_line told → Appends before now text → EndsTold status before now
+told_line status told text before now is spelled written =
+    record { told = told; status_is = is; written = subst (λ line. Appends before now line) spelled written }

@@ -1,12 +1,13 @@
 //! The program over any source and any sink.
-ghost use Rattle.std.specs.Prelude.{ℕ, ◌≡◌, ◌≢◌, ◌<◌, ◌≤◌, length, Some, IfOk, IfSome};
+ghost use Rattle.std.specs.Prelude.{ℕ, ◌≡◌, ◌≢◌, ◌<◌, ◌≤◌, length, codes, None, Some, IfOk, IfSome};
 ghost use Rattle.std.specs.Result.{result_ok};
+ghost use Rattle.std.specs.Io.KnownBytes.{Appends};
 ghost use Rattle.dns_model.specs.Counts.{Rose};
 ghost use Rattle.dns_io.specs.Reading.{input_limit, IsEnded};
 ghost use Rattle.dns_session.specs.Grammar.{session_of};
 ghost use Rattle.dns_audit_trial.specs.Forms.{asked_form};
-ghost use Rattle.dns_audit_trial.specs.Endings.{Audits, ComesTo, EndsAs, EndsUnread};
-ghost use Rattle.dns_audit_trial.specs.declared.form.Form.TheVariants.{Audit};
+ghost use Rattle.dns_audit_trial.specs.Endings.{Audits, ComesTo, EndsAs, EndsTold, EndsUnread};
+ghost use Rattle.dns_audit_trial.specs.declared.form.Form.TheVariants.{Audit, Chains};
 
 use crate::audit::{response_to, session_audited};
 use crate::form::{Form, form_of};
@@ -63,6 +64,7 @@ fn ending(alloc: Global, more: u32, bytes: &[u8]) -> Result<(u8, Vec<u8>), NoMem
     requires { length bytes.now ≤ input_limit }
     ensures value { IfOk result (λ x. ComesTo (session_of bytes.now) x.0 x.1.items) }
     ensures status { IfOk result (λ x. x.0 < 4) }
+    ensures form { IfOk result (λ x. x.0 ≢ 2) }
 {
     let Some(session) = session_in(alloc, bytes)? else {
         return unread(alloc);
@@ -79,6 +81,7 @@ fn ending(alloc: Global, more: u32, bytes: &[u8]) -> Result<(u8, Vec<u8>), NoMem
 fn answer<W: Sink>(alloc: Global, more: u32, bytes: &[u8], output: &mut W) -> u8
     requires { length bytes.now ≤ input_limit }
     ensures ends { result < 4 → EndsAs (session_of bytes.now) result (W.taken output.old) (W.taken output.new) }
+    ensures form { result ≢ 2 }
     ensures read { result ≢ 4 }
     ensures sink { result ≡ 5 → Rose (W.faults output.old) (W.faults output.new) }
     ensures most { result ≤ 6 }
@@ -99,6 +102,7 @@ fn audit<S: Source, W: Sink>(alloc: Global, more: u32, input: &mut S, output: &m
     ensures ends { result < 4
         → IfSome (S.left input.old) (λ bytes. EndsAs (session_of bytes) result (W.taken output.old) (W.taken output.new)) }
     ensures ended { result < 4 → IsEnded (S.left input.old) (S.left input.new) }
+    ensures form { result ≢ 2 }
     ensures source { result ≡ 4 → Rose (S.faults input.old) (S.faults input.new) }
     ensures sink { result ≡ 5 → Rose (W.faults output.old) (W.faults output.new) }
     ensures long { result ≡ 7 → IfSome (S.left input.old) (λ bytes. input_limit < length bytes) }
@@ -114,7 +118,11 @@ fn audit<S: Source, W: Sink>(alloc: Global, more: u32, input: &mut S, output: &m
 
 // Writes a text, and answers the status that is given, or why it wasn't written.
 fn write_text<W: Sink>(status: u8, text: &[u8], output: &mut W) -> u8
-    ensures most { status ≤ 7 → result ≤ 7 }
+    ensures written { result < 4 → Appends (W.taken output.old) (W.taken output.new) text.now }
+    ensures kept { status < 4 → result < 4 → result ≡ status }
+    ensures read { status < 4 → result ≢ 4 }
+    ensures sink { status < 4 → result ≡ 5 → Rose (W.faults output.old) (W.faults output.new) }
+    ensures most { status < 4 → result ≤ 6 }
 {
     match write_all(output, text) {
         Ok(()) => status,
@@ -124,8 +132,12 @@ fn write_text<W: Sink>(status: u8, text: &[u8], output: &mut W) -> u8
 }
 
 // Checks a chain of so many signed links, and writes whether it is justified.
+#[tactic(auto, using(crate::proofs::AuditLemmas::told_line))]
 fn check_long_chain<W: Sink>(alloc: Global, signed: u32, output: &mut W) -> u8
-    ensures most { result ≤ 7 }
+    ensures told { result < 4 → EndsTold result (W.taken output.old) (W.taken output.new) }
+    ensures read { result ≢ 4 }
+    ensures sink { result ≡ 5 → Rose (W.faults output.old) (W.faults output.new) }
+    ensures most { result ≤ 6 }
 {
     match is_long_chain_justified(alloc, signed) {
         Ok(justified) => write_text(0, truth_line(justified), output),
@@ -152,6 +164,17 @@ pub(crate) fn run<S: Source, W: Sink>(
         → IfSome (S.left input.old) (λ bytes. EndsAs (session_of bytes) result (W.taken output.old) (W.taken output.new)) }
     ensures ended { (more : ℕ) → asked_form words.now ≡ Some (Audit more) → result < 4
         → IsEnded (S.left input.old) (S.left input.new) }
+    ensures chains { (signed : ℕ) → asked_form words.now ≡ Some (Chains signed) → result < 4
+        → EndsTold result (W.taken output.old) (W.taken output.new) }
+
+    // 2 is answered only for words that are no form, and where such words end below 4, that is told.
+    ensures words { result ≡ 2 → asked_form words.now ≡ None }
+    ensures refused { asked_form words.now ≡ None → result < 4 → result ≡ 2 }
+    ensures told { asked_form words.now ≡ None → result < 4 → Appends (W.taken output.old) (W.taken output.new) (codes "bad words\n") }
+
+    ensures source { result ≡ 4 → Rose (S.faults input.old) (S.faults input.new) }
+    ensures sink { result ≡ 5 → Rose (W.faults output.old) (W.faults output.new) }
+    ensures long { result ≡ 7 → IfSome (S.left input.old) (λ bytes. input_limit < length bytes) }
     ensures most { result ≤ 7 }
 {
     match form_of(words) {
