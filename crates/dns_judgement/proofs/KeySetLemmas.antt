@@ -12,7 +12,7 @@ use Rattle.dns_model.proofs.SetLemmas.{IsProper}
 use Rattle.dns_judgement.specs.Marks.{most_signatures}
 use Rattle.dns_judgement.specs.ProofErrors.{DnskeyNotFound, DsRecordsButNoDnskey}
 use Rattle.dns_judgement.specs.Delegations.{ZoneVerdict, Signed, Insecure, Bogus, is_supported_ds, zone_verdict}
-use Rattle.dns_judgement.specs.KeySets.{SignedKeys, KeysOutcome, SignedByAnchored, WhollyAnchored, NeedsDs, SignedByMatched, WhollyTrusted, Refused, is_anchored_key, is_matched_key, is_trusted_key, signer_among, signed_by, is_root, is_needing_ds, outcome_by_ds, outcome_by_zone, keys_outcome, needs_ds}
+use Rattle.dns_judgement.specs.KeySets.{SignedKeys, KeysOutcome, SignedByAnchored, WhollyAnchored, NeedsDs, SignedByMatched, WhollyTrusted, Refused, is_anchored_key, is_matched_key, is_trusted_key, signer_among, signed_by, is_root, is_needing_ds, outcome_by_ds, outcome_by_verdict, keys_outcome, needs_ds}
 use Rattle.dns_judgement.specs.Chained.{Chained, bare, stands, anchored_link, matched_by, trusted_link, whole_chain, self_signed_chain, keys_chained, chained_keys, ds_chain, chained_by_ds}
 use Rattle.dns_judgement.proofs.FindLemmas.{each_all}
 use Rattle.dns_judgement.proofs.FirstLemmas.{first_signed-from}
@@ -73,7 +73,7 @@ ds_stands j placed front ds proper keys shows =
 -- by the DS verdict, where the links before show its DS records
 zone_stands : (j : Judge) (placed : Placed) (front : List LinkValue) (zone : Option ZoneVerdict) → IsProper placed.set
     → (placed.set.rtype == type_dnskey) ≡ true → ((ds : List Rr) → zone ≡ Some (Signed ds) → ShowsDs j placed.set front ds)
-    → stands j (keys_chained j placed front (outcome_by_zone j placed.set zone)) ≡ true
+    → stands j (keys_chained j placed front (outcome_by_verdict j placed.set zone)) ≡ true
 zone_stands j placed front None proper keys shows = refl
 zone_stands j placed front (Some (Signed ds)) proper keys shows =
     ds_stands j placed front (filter (is_supported_ds j.answers) ds) proper keys (shows_of j placed.set front ds (is_supported_ds j.answers) (shows ds refl))
@@ -104,7 +104,7 @@ unfolding keys_outcome links_hold
 outcome_stands j placed front zone proper keys shows =
     let set = placed.set in
     let anchored = is_anchored_key j set in
-    rows_step j placed front (signed_by anchored j set) (list_all anchored set.records) (is_root set.owner) (outcome_by_zone j set zone)
+    rows_step j placed front (signed_by anchored j set) (list_all anchored set.records) (is_root set.owner) (outcome_by_verdict j set zone)
     (λ s is. stands_from j (keys_chained j placed front (SignedByAnchored s))
     (signed_chain_for anchored j set [] (anchored_link set) s proper keys refl (anchored_by j set []) is))
     (λ all. stands_from j (keys_chained j placed front WhollyAnchored)
@@ -137,11 +137,11 @@ needs_step set None false false later h = refl
 
 -- a set that asks is judged by the DS verdict of its owner
 pub needs_ds-outcome : (j : Judge) (set : RrSet) (zone : ZoneVerdict) → needs_ds j set ≡ true
-    → keys_outcome j set (Some zone) ≡ outcome_by_zone j set (Some zone)
+    → keys_outcome j set (Some zone) ≡ outcome_by_verdict j set (Some zone)
 unfolding keys_outcome
 needs_ds-outcome j set zone h =
     let anchored = is_anchored_key j set in
-    needs_step set (signed_by anchored j set) (list_all anchored set.records) (is_root set.owner) (outcome_by_zone j set (Some zone)) h
+    needs_step set (signed_by anchored j set) (list_all anchored set.records) (is_root set.owner) (outcome_by_verdict j set (Some zone)) h
 
 unsigned_step : (set : RrSet) (o : Option SignedKeys) (all root : Bool) → is_needing_ds (by_rows set o all root NeedsDs) ≡ true → o ≡ None
 unsigned_step set (Some s) all root h = cc

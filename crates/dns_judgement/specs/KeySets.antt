@@ -79,11 +79,11 @@ outcome_by_ds j set ds =
     (if list_all (is_trusted_key j set ds) set.records then WhollyTrusted ds else Refused proof.Bogus (DsRecordsButNoDnskey set.owner))
 
 -- by the DS verdict of the owner; of its DS records the supported ones count
-abbrev pub outcome_by_zone : Judge → RrSet → Option ZoneVerdict → KeysOutcome
-outcome_by_zone j set None = NeedsDs
-outcome_by_zone j set (Some (Signed ds)) = outcome_by_ds j set (filter (is_supported_ds j.answers) ds)
-outcome_by_zone j set (Some (Insecure kind)) = Refused proof.Insecure kind
-outcome_by_zone j set (Some (Bogus kind)) = Refused proof.Bogus kind
+abbrev pub outcome_by_verdict : Judge → RrSet → Option ZoneVerdict → KeysOutcome
+outcome_by_verdict j set None = NeedsDs
+outcome_by_verdict j set (Some (Signed ds)) = outcome_by_ds j set (filter (is_supported_ds j.answers) ds)
+outcome_by_verdict j set (Some (Insecure kind)) = Refused proof.Insecure kind
+outcome_by_verdict j set (Some (Bogus kind)) = Refused proof.Bogus kind
 
 -- the first row that holds, with the DS verdict of the owner if it is known: an anchored key signed, all keys are anchored,
 -- the root's keys have no DS, and else the DS verdict
@@ -92,7 +92,7 @@ keys_outcome j set zone =
     option_map_or SignedByAnchored (signed_by (is_anchored_key j set) j set)
     (if list_all (is_anchored_key j set) set.records then WhollyAnchored
     else if is_root set.owner then Refused proof.Bogus (DnskeyNotFound set.owner)
-    else outcome_by_zone j set zone)
+    else outcome_by_verdict j set zone)
 
 abbrev pub is_needing_ds : KeysOutcome → Bool
 is_needing_ds (SignedByAnchored signed) = false

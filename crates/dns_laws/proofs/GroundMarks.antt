@@ -30,7 +30,7 @@ use Rattle.dns_judgement.specs.ProofErrors.{Net, DsRecordShouldExist, DnskeyNotF
 use Rattle.dns_judgement.specs.Delegations.{ZoneVerdict, ds_question, is_supported_ds, is_insecure, zone_verdict}
 use Rattle.dns_judgement.specs.Delegations as delegation
 use Rattle.dns_judgement.specs.Unsigned.{is_empty, ns_question, set_start, is_searched, unsigned_by}
-use Rattle.dns_judgement.specs.KeySets.{SignedKeys, KeysOutcome, SignedByAnchored, WhollyAnchored, SignedByMatched, WhollyTrusted, Refused, signed_by, is_anchored_key, is_matched_key, is_trusted_key, is_root, outcome_by_zone, keys_outcome, needs_ds, outcome_mark, judged_keys}
+use Rattle.dns_judgement.specs.KeySets.{SignedKeys, KeysOutcome, SignedByAnchored, WhollyAnchored, SignedByMatched, WhollyTrusted, Refused, signed_by, is_anchored_key, is_matched_key, is_trusted_key, is_root, outcome_by_verdict, keys_outcome, needs_ds, outcome_mark, judged_keys}
 use Rattle.dns_judgement.specs.Asking.{ask_of}
 use Rattle.dns_judgement.specs.MarkParts.{is_skipped_read, by_key_set, verdict_by}
 use Rattle.dns_judgement.specs.Derivation.{Grounds, finished_answer, is_ask, verdicts_after, verdicts_asked, verdicts_by, Sight, Cut, Onward, Unseen, sight_by, zone_asked, search_after, search_by, search_from, proof_eq, has_mark_of, keys_hold, unsigned_holds, is_by_rules, is_plain_ask}
@@ -192,7 +192,7 @@ ds_step (Some signed) ds wholly kind h = cc
 ds_step None ds true kind h = cc
 ds_step None ds false kind h = cc
 
-zone_step : (j : Judge) (set : RrSet) (zone : ZoneVerdict) → is_insecure ((outcome_mark (outcome_by_zone j set (Some zone))).mark) ≡ true
+zone_step : (j : Judge) (set : RrSet) (zone : ZoneVerdict) → is_insecure ((outcome_mark (outcome_by_verdict j set (Some zone))).mark) ≡ true
     → is_insecure_zone zone ≡ true
 zone_step j set (delegation.Signed ds) h =
     let supported = filter (is_supported_ds j.answers) ds in
@@ -208,7 +208,7 @@ unfolding judged_keys keys_outcome
 keys_insecure j placed zone h =
     let set = placed.set in
     let step = keys_step (signed_by (is_anchored_key j set) j set) (list_all (is_anchored_key j set) set.records) (is_root set.owner)
-    (DnskeyNotFound set.owner) (outcome_by_zone j set (Some zone)) h in
+    (DnskeyNotFound set.owner) (outcome_by_verdict j set (Some zone)) h in
     (step.0, zone_step j set zone step.1)
 
 never_without : (j : Judge) (placed : Placed) → is_insecure ((judged_keys j placed None).mark) ≡ true → ⊥
@@ -216,7 +216,7 @@ unfolding judged_keys keys_outcome
 never_without j placed h =
     let set = placed.set in
     let step = keys_step (signed_by (is_anchored_key j set) j set) (list_all (is_anchored_key j set) set.records) (is_root set.owner)
-    (DnskeyNotFound set.owner) (outcome_by_zone j set None) h in
+    (DnskeyNotFound set.owner) (outcome_by_verdict j set None) h in
     cc
 
 same_mark : (a b : Proof) → proof_eq a b ≡ true → is_insecure b ≡ true → is_insecure a ≡ true

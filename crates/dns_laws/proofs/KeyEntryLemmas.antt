@@ -20,7 +20,7 @@ use Rattle.dns_judgement.specs.Judged.{Judged}
 use Rattle.dns_judgement.specs.Marks.{judged_by, most_signatures}
 use Rattle.dns_judgement.specs.ProofErrors.{DnskeyNotFound, DsRecordShouldExist, DsRecordsButNoDnskey, UnknownKeyAlgorithm}
 use Rattle.dns_judgement.specs.Delegations.{ZoneVerdict, Signed, Insecure, Bogus as Unshown, ds_question, is_supported_ds, is_readable_ds, is_ds_set_of, verdict_by_ds, verdict_without_ds, zone_verdict}
-use Rattle.dns_judgement.specs.KeySets.{is_anchored_key, is_matched_key, is_trusted_key, SignedKeys, signer_among, first_signed, signed_by, is_root, KeysOutcome, SignedByAnchored, WhollyAnchored, SignedByMatched, WhollyTrusted, Refused, outcome_by_ds, outcome_by_zone, keys_outcome, is_needing_ds, needs_ds, outcome_mark, judged_keys}
+use Rattle.dns_judgement.specs.KeySets.{is_anchored_key, is_matched_key, is_trusted_key, SignedKeys, signer_among, first_signed, signed_by, is_root, KeysOutcome, SignedByAnchored, WhollyAnchored, SignedByMatched, WhollyTrusted, Refused, outcome_by_ds, outcome_by_verdict, keys_outcome, is_needing_ds, needs_ds, outcome_mark, judged_keys}
 use Rattle.dns_judgement.specs.Unsigned.{is_empty, is_searched}
 use Rattle.dns_judgement.specs.Derivation.{Grounds, finished_answer, is_ask, verdicts_by, zone_asked, proof_eq, has_mark_of, keys_hold, unsigned_holds, is_by_rules}
 use Rattle.dns_judgement.specs.DerivationParts.{place_eq}
@@ -107,7 +107,7 @@ anchored_outcome : (j : Judge) (set : RrSet) → IsOneOrNone set → is_anchored
 unfolding keys_outcome
 anchored_outcome j set one h =
     settled_by (signed_by (is_anchored_key j set) j set) (list_all (is_anchored_key j set) set.records)
-    (if is_root set.owner then Refused Bogus (DnskeyNotFound set.owner) else outcome_by_zone j set None)
+    (if is_root set.owner then Refused Bogus (DnskeyNotFound set.owner) else outcome_by_verdict j set None)
     (λ none. ⊎_elim (λ (all : list_all (is_anchored_key j set) set.records ≡ true). all)
     (λ signed. let has = has_signed (is_anchored_key j set) j set one signed in cc (has.found, none))
     (or_cases (list_all (is_anchored_key j set) set.records) (is_signed_by (is_anchored_key j set) j set) h))
@@ -147,11 +147,11 @@ anchored_entry g set entry one is anchored h =
 
 -- neither an anchor nor the root settles it
 unsettled : (j : Judge) (set : RrSet) (zone : Option ZoneVerdict) → IsOneOrNone set → is_anchored_set j set ≡ false → is_root set.owner ≡ false
-    → keys_outcome j set zone ≡ outcome_by_zone j set zone
+    → keys_outcome j set zone ≡ outcome_by_verdict j set zone
 unfolding keys_outcome
 unsettled j set zone one h root =
     let parts = or_parts (list_all (is_anchored_key j set) set.records) (is_signed_by (is_anchored_key j set) j set) h in
-    let rest = outcome_by_zone j set zone in
+    let rest = outcome_by_verdict j set zone in
     ap (λ o.
     option_map_or SignedByAnchored o
     (if list_all (is_anchored_key j set) set.records then WhollyAnchored else if is_root set.owner then Refused Bogus (DnskeyNotFound set.owner) else rest))

@@ -13,7 +13,7 @@ use Rattle.dns_model.specs.Keys.{VerifierAnswers}
 use Rattle.dns_model.specs.Chains.{Judge}
 use Rattle.dns_judgement.specs.ProofErrors.{ProofErrorKindValue, DnskeyNotFound}
 use Rattle.dns_judgement.specs.Delegations.{ZoneVerdict}
-use Rattle.dns_judgement.specs.KeySets.{KeysOutcome, SignedKeys, SignedByAnchored, WhollyAnchored, NeedsDs, Refused, is_needing_ds, is_anchored_key, signed_by, is_root, keys_outcome, outcome_by_zone}
+use Rattle.dns_judgement.specs.KeySets.{KeysOutcome, SignedKeys, SignedByAnchored, WhollyAnchored, NeedsDs, Refused, is_needing_ds, is_anchored_key, signed_by, is_root, keys_outcome, outcome_by_verdict}
 use Rattle.dns_trust.specs.Delegating.{shown}
 use Rattle.dns_marks.specs.KeySignatures.{is_put, calls_by_key}
 use Rattle.dns_marks.specs.SignatureKeys.{is_proving, calls_in_turn}
@@ -173,5 +173,5 @@ pub by_row : (j : Judge) (set : RrSet) (zone : Option ZoneVerdict) (own : KeysOu
     → keys_outcome j set zone ≡ own
 unfolding keys_outcome
 by_row j set zone own is decided =
-    row_case set (signed_by (is_anchored_key j set) j set) (list_all (is_anchored_key j set) set.records) (is_root set.owner) (outcome_by_zone j set zone) own
+    row_case set (signed_by (is_anchored_key j set) j set) (list_all (is_anchored_key j set) set.records) (is_root set.owner) (outcome_by_verdict j set zone) own
     proof.Bogus (DnskeyNotFound set.owner) is decided

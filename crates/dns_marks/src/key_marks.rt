@@ -4,7 +4,7 @@ ghost use Rattle.std.specs.List.{filter};
 ghost use Rattle.dns_judgement.specs.Delegations.{is_supported_ds};
 ghost use Rattle.dns_model.specs.Gives.{Gives};
 ghost use Rattle.dns_model.specs.Chains.{judge};
-ghost use Rattle.dns_judgement.specs.KeySets.{needs_ds, keys_outcome, outcome_by_zone, outcome_by_ds};
+ghost use Rattle.dns_judgement.specs.KeySets.{needs_ds, keys_outcome, outcome_by_verdict, outcome_by_ds};
 ghost use Rattle.dns_trust.specs.Judge.{judge_of};
 ghost use Rattle.dns_marks.specs.Kinds.{want_of_memory};
 ghost use Rattle.dns_marks.specs.KeyMarks.{keys_mark};
@@ -81,7 +81,7 @@ fn marked_by_zone<V: Verifier>(
     requires { needs_ds (judge_of V.answers judge.now) set.now ≡ true }
     ensures { Gives (λ mark. mark) want_of_memory result
         (keys_mark judge.now.moment set.now
-        (outcome_by_zone (judge_of V.answers judge.now) set.now (Some (verdict_value zone.now)))) }
+        (outcome_by_verdict (judge_of V.answers judge.now) set.now (Some (verdict_value zone.now)))) }
 {
     match zone {
         ZoneVerdict::Signed(ds) => marked_by_ds(alloc, judge, set, ds),

@@ -15,7 +15,7 @@ use Rattle.dns_judgement.specs.Judged.{Judged}
 use Rattle.dns_judgement.specs.ProofErrors.{DsRecordShouldExist, DsResponseInsecure, UnknownKeyAlgorithm}
 use Rattle.dns_judgement.specs.Delegations.{ZoneVerdict, Signed, Insecure, Bogus, is_ds_set_of, is_supported_ds, is_readable_ds, verdict_by_ds, shows_no_ds, is_insecure_above, verdict_without_ds, zone_verdict}
 use Rattle.dns_judgement.specs.Unsigned.{unsigned_mark}
-use Rattle.dns_judgement.specs.KeySets.{needs_ds, keys_outcome, outcome_by_ds, outcome_by_zone}
+use Rattle.dns_judgement.specs.KeySets.{needs_ds, keys_outcome, outcome_by_ds, outcome_by_verdict}
 use Rattle.dns_judgement.specs.Chained.{Chained, bare, ds_chain, keys_chained, chained_keys, chained_by_ds}
 use Rattle.dns_judgement.proofs.DsLemmas.{filter-filter}
 use Rattle.dns_judgement.proofs.KeySetLemmas.{needs_ds-outcome}
@@ -66,9 +66,9 @@ verdict_of_answer verifier class zone answer found is =
 marked_found : (j : Judge) (set : RrSet) (answer : List Chained) (found : Option Chained)
     → find (λ c. is_ds_set_of set.class set.owner c.judged) answer ≡ found
     → marked_by_zone j set (Some answer)
-    ≡ outcome_marked j set (option_map_or (λ c. c.chain) found []) (outcome_by_zone j set (Some (verdict_found j.answers set.owner answer found)))
+    ≡ outcome_marked j set (option_map_or (λ c. c.chain) found []) (outcome_by_verdict j set (Some (verdict_found j.answers set.owner answer found)))
 marked_found j set answer found is =
-    let marked = λ (o : Option Chained) (v : ZoneVerdict). outcome_marked j set (option_map_or (λ c. c.chain) o []) (outcome_by_zone j set (Some v)) in
+    let marked = λ (o : Option Chained) (v : ZoneVerdict). outcome_marked j set (option_map_or (λ c. c.chain) o []) (outcome_by_verdict j set (Some v)) in
     ap (λ o. marked o (zone_verdict j.answers set.class set.owner (Some (bare answer)))) is
     ∙ ap (marked found) (verdict_of_answer j.answers set.class set.owner answer found is)
 
@@ -79,7 +79,7 @@ by_found j set answer found is = sym (marked_found j set answer (Some found) is)
 -- what an answer without a DS set of the owner leaves
 unproved_if : (j : Judge) (set : RrSet) (b : Bool)
     → unproved ((unsigned_mark (if b then Insecure (DsResponseInsecure set.owner) else Bogus (DsRecordShouldExist set.owner))).mark)
-    ≡ outcome_marked j set [] (outcome_by_zone j set (Some (if b then Insecure (DsResponseInsecure set.owner) else Bogus (DsRecordShouldExist set.owner))))
+    ≡ outcome_marked j set [] (outcome_by_verdict j set (Some (if b then Insecure (DsResponseInsecure set.owner) else Bogus (DsRecordShouldExist set.owner))))
 unproved_if j set true = refl
 unproved_if j set false = refl
 
@@ -110,7 +110,7 @@ one_if (r ∷ rs) h = refl
 
 abbrev by_test : Judge → RrSet → List LinkValue → List Rr → Bool → Bool → MarkedValue
 by_test j set front kept readable any =
-    outcome_marked j set front (outcome_by_zone j set (Some
+    outcome_marked j set front (outcome_by_verdict j set (Some
     (if any then Signed kept else if readable then Insecure UnknownKeyAlgorithm else Bogus (DsRecordShouldExist set.owner))))
 
 by_unsupported : (j : Judge) (set : RrSet) (front : List LinkValue) (kept : List Rr) (readable : Bool)

@@ -8,7 +8,7 @@ use Rattle.dns_model.specs.Chains.{Judge, LinkValue}
 use Rattle.dns_model.specs.SoundAnswers.{Placed}
 use Rattle.dns_net.specs.Link.{link_value}
 use Rattle.dns_judgement.specs.Delegations.{verdict_by_ds, verdict_without_ds, zone_verdict}
-use Rattle.dns_judgement.specs.KeySets.{KeysOutcome, keys_outcome, outcome_by_zone, outcome_mark, needs_ds}
+use Rattle.dns_judgement.specs.KeySets.{KeysOutcome, keys_outcome, outcome_by_verdict, outcome_mark, needs_ds}
 use Rattle.dns_judgement.specs.Chained.{Chained, bare, ds_chain, outcome_chain}
 use Rattle.dns_trust.specs.declared.key_sets.KeysMarked.{KeysMarked}
 
@@ -32,23 +32,23 @@ outcome_marked j set front outcome = record {
 -- those that the records of the owner's DS set give, which is Secure by a chain
 abbrev pub by_ds_records : Judge → RrSet → List LinkValue → List Rr → MarkedValue
 by_ds_records j set front records =
-    outcome_marked j set front (outcome_by_zone j set (Some (verdict_by_ds j.answers set.owner proof.Secure records)))
+    outcome_marked j set front (outcome_by_verdict j set (Some (verdict_by_ds j.answers set.owner proof.Secure records)))
 
 -- those that the answer to the ask for the owner's DS set gives
 abbrev pub marked_by_zone : Judge → RrSet → Option (List Chained) → MarkedValue
 marked_by_zone j set answer =
     outcome_marked j set (ds_chain set.class set.owner answer)
-    (outcome_by_zone j set (Some (zone_verdict j.answers set.class set.owner (option_map bare answer))))
+    (outcome_by_verdict j set (Some (zone_verdict j.answers set.class set.owner (option_map bare answer))))
 
 -- those that the owner's DS set gives
 abbrev pub marked_by_found : Judge → RrSet → Chained → MarkedValue
 marked_by_found j set found =
     outcome_marked j set found.chain
-    (outcome_by_zone j set (Some (verdict_by_ds j.answers set.owner found.judged.mark found.judged.set.records)))
+    (outcome_by_verdict j set (Some (verdict_by_ds j.answers set.owner found.judged.mark found.judged.set.records)))
 
 -- those that an answer without such a set gives
 abbrev pub marked_without : Judge → RrSet → List Chained → MarkedValue
-marked_without j set answer = outcome_marked j set [] (outcome_by_zone j set (Some (verdict_without_ds set.owner (bare answer))))
+marked_without j set answer = outcome_marked j set [] (outcome_by_verdict j set (Some (verdict_without_ds set.owner (bare answer))))
 
 -- a placed set with them
 abbrev pub chained_with : Placed → MarkedValue → Chained
