@@ -27,7 +27,7 @@ use Rattle.dns_judgement.proofs.FindLemmas.{each_all}
 use Rattle.dns_judgement.proofs.MarkedLemmas.{marked-keeps, IsAbout, about_parts, IsKnown, each_known, made_secure}
 use Rattle.dns_laws.specs.Denials.{IsDenier, ShowsDenial}
 use Rattle.dns_laws.proofs.GroundParts.{picked, found_any}
-use Rattle.dns_laws.specs.OwnDenials.{secure_nsecs, IsDenyingZone, signs_nsec, is_signed_by, is_expansion, has_labels_from, DeniesByRecords}
+use Rattle.dns_laws.specs.OwnDenials.{secure_nsecs, IsDenyingZone, signs_nsec, has_signer, is_expansion, has_labels_from, DeniesByRecords}
 use Rattle.dns_laws.proofs.RecordDenials.{kept_parts, each_given, each_denial, some_denial}
 use Rattle.dns_laws.proofs.SecureRecordLemmas.{any_after}
 
@@ -109,13 +109,13 @@ signer_same : (apex : Labels) (o : Option RrsigValue)
 signer_same apex None = refl
 signer_same apex (Some sig) = refl
 
-signed_by : (apex : Labels) (s : Judged) (r : Rr) → decider s ≡ Some r → is_made_by apex s ≡ is_signed_by apex r
+signed_by : (apex : Labels) (s : Judged) (r : Rr) → decider s ≡ Some r → is_made_by apex s ≡ has_signer apex r
 signed_by apex s r decides =
     ap (λ o. option_map_or (name_eq apex) (option_map (λ sig. sig.signer) (option_and_then rrsig_of o)) false) decides ∙ signer_same apex (rrsig_of r)
 
 made_step : (now : ℕ) (told : Told) (sets : List Judged) (apex : Labels) (before rest : List Rr) (r : Rr) → map placed_of sets ≡ placed_sets told
     → AllByRecursion (λ s. is_denying s ≡ true → is_made_by apex s ≡ true) sets → before ++ r ∷ rest ≡ told.authorities
-    → signs_nsec (marked now sets Authority before r) ≡ true → is_signed_by apex (marked now sets Authority before r) ≡ true
+    → signs_nsec (marked now sets Authority before r) ≡ true → has_signer apex (marked now sets Authority before r) ≡ true
 made_step now told sets apex before rest r grouped made split signs =
     let f = marked now sets Authority before in
     let k = marked-keeps now sets Authority before in
@@ -132,14 +132,14 @@ made_step now told sets apex before rest r grouped made split signs =
 
 made_by_zone : (now : ℕ) (told : Told) (sets : List Judged) (apex : Labels) → map placed_of sets ≡ placed_sets told
     → list_all (is_made_by apex) (denying sets) ≡ true
-    → list_all (λ r. not (signs_nsec r) || is_signed_by apex r) (marked_section now sets Authority told.authorities) ≡ true
+    → list_all (λ r. not (signs_nsec r) || has_signer apex r) (marked_section now sets Authority told.authorities) ≡ true
 made_by_zone now told sets apex grouped made =
-    let test = λ (r : Rr). not (signs_nsec r) || is_signed_by apex r in
+    let test = λ (r : Rr). not (signs_nsec r) || has_signer apex r in
     let each = each_kept (λ s. is_made_by apex s ≡ true) is_denying sets (each_all (is_made_by apex) (λ s. is_made_by apex s ≡ true) (λ s is. is) (denying sets) made) in
     all_from test (marked_section now sets Authority told.authorities)
     (each_changed (λ r. test r ≡ true) (marked now sets Authority) told.authorities [] told.authorities refl
     (λ before rest r split.
-    if_then (signs_nsec (marked now sets Authority before r)) (is_signed_by apex (marked now sets Authority before r))
+    if_then (signs_nsec (marked now sets Authority before r)) (has_signer apex (marked now sets Authority before r))
     (made_step now told sets apex before rest r grouped each split)))
 
 -- ---- an answer from a wildcard

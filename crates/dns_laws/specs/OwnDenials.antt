@@ -29,14 +29,15 @@ secure_nsecs records = filter_map owned_nsec (filter is_secure_nsec records)
 abbrev pub signs_nsec : Rr → Bool
 signs_nsec r = is_secure r.proof && (is_signature r && (set_rtype r == type_nsec))
 
-abbrev pub is_signed_by : Labels → Rr → Bool
-is_signed_by zone r = option_map_or (λ sig. name_eq zone sig.signer) (rrsig_of r) false
+-- this name is its signer
+abbrev pub has_signer : Labels → Rr → Bool
+has_signer zone r = option_map_or (λ sig. name_eq zone sig.signer) (rrsig_of r) false
 
 -- a zone holds the query, and made the Secure NSEC records of the authority section, of which there are some
 pub record IsDenyingZone (q : Question) (records : List Rr) (apex : Labels) : Type 0 where
   pub holds : holds_query apex q ≡ true
   pub some : list_any is_secure_nsec records ≡ true
-  pub made : list_all (λ r. not (signs_nsec r) || is_signed_by apex r) records ≡ true
+  pub made : list_all (λ r. not (signs_nsec r) || has_signer apex r) records ≡ true
 
 -- ---- what is denied
 
