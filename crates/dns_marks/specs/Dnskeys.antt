@@ -14,9 +14,12 @@ use Rattle.dns_marks.specs.Kinds.{because}
 abbrev pub unmatched : VerifierAnswers → Rr → ProofErrorValue
 unmatched verifier key =
     option_map_or
-    (λ text. if verifier.supports text.algorithm then because Bogus (DnsKeyHasNoDs key.owner) else because Insecure UnsupportedKeyAlgorithm)
+    (λ text. if verifier.supports text.algorithm then because Bogus (DnsKeyHasNoDs key.owner)
+    else because Insecure UnsupportedKeyAlgorithm)
     (dnskey_of key) (because Insecure (ErrorComputingKeyTag key.owner))
 
--- Secure exactly where a DS of the key's owner matches it; of those with its algorithm and tag the first two of the list count
+-- Secure exactly where a DS of the key's owner matches it; of those with its algorithm and tag the first two of the
+-- list count
 abbrev pub key_proof : VerifierAnswers → Rr → List Rr → Result Proof ProofErrorValue
-key_proof verifier key ds = option_map_or (λ found. Ok Secure) (matching_ds verifier key.owner key ds) (Err (unmatched verifier key))
+key_proof verifier key ds =
+    option_map_or (λ found. Ok Secure) (matching_ds verifier key.owner key ds) (Err (unmatched verifier key))

@@ -24,23 +24,29 @@ abbrev pub key_failure : Rr → RrsigValue → DnskeyValue → Option ProofError
 key_failure key sig text =
     if not (is_secure key.proof) then Some (because key.proof (InsecureDnsKey key.owner sig.key_tag))
     else if is_revoked text then Some (because Bogus (DnsKeyRevoked key.owner sig.key_tag))
-    else if not (is_zone_key text && (text.protocol == 3)) then Some (because Bogus (NotZoneDnsKey key.owner sig.key_tag))
-    else if not (text.algorithm == sig.algorithm) then Some (because Bogus (AlgorithmMismatch sig.algorithm text.algorithm))
+    else if not (is_zone_key text && (text.protocol == 3))
+    then Some (because Bogus (NotZoneDnsKey key.owner sig.key_tag))
+    else if not (text.algorithm == sig.algorithm)
+    then Some (because Bogus (AlgorithmMismatch sig.algorithm text.algorithm))
     else None
 
 -- the algorithm is supported, and the verifier accepts the signature of the set as the key's
 abbrev pub is_verified : VerifierAnswers → RrSet → RrsigValue → DnskeyValue → Bool
 is_verified verifier set sig text =
     verifier.supports text.algorithm
-    && verifier.accepts sig.algorithm text.key (signed_bytes set.owner set.rtype set.class (rdatas_of set.records) sig) sig.signature
+    && verifier.accepts sig.algorithm text.key
+    (signed_bytes set.owner set.rtype set.class (rdatas_of set.records) sig) sig.signature
 
 -- by a key that passes these tests
-abbrev pub proof_by_key : VerifierAnswers → ℕ → RrSet → Rr → Rr → RrsigValue → DnskeyValue → Result RrsetProofValue ProofErrorValue
+abbrev pub proof_by_key : VerifierAnswers → ℕ → RrSet → Rr → Rr → RrsigValue → DnskeyValue
+    → Result RrsetProofValue ProofErrorValue
 proof_by_key verifier now set r key sig text =
     option_map_or (λ name. Err (because Bogus (Msg name))) (misfit (validity_at now set r key))
-    (if is_verified verifier set sig text then Ok (proved_by now set r None) else Err (because Bogus (DnsKeyVerifyRrsig key.owner sig.key_tag)))
+    (if is_verified verifier set sig text then Ok (proved_by now set r None)
+    else Err (because Bogus (DnsKeyVerifyRrsig key.owner sig.key_tag)))
 
-abbrev pub proof_read : VerifierAnswers → ℕ → RrSet → Rr → Rr → RrsigValue → DnskeyValue → Result RrsetProofValue ProofErrorValue
+abbrev pub proof_read : VerifierAnswers → ℕ → RrSet → Rr → Rr → RrsigValue → DnskeyValue
+    → Result RrsetProofValue ProofErrorValue
 proof_read verifier now set r key sig text =
     option_map_or Err (key_failure key sig text) (proof_by_key verifier now set r key sig text)
 
@@ -49,10 +55,12 @@ abbrev pub signature_proof : VerifierAnswers → ℕ → RrSet → Rr → Rr →
 signature_proof verifier now set r key =
     option_and_then (λ sig. option_map (proof_read verifier now set r key sig) (dnskey_of key)) (rrsig_of r)
 
--- the verifier is asked whether it accepts the signature: the key is Secure and may sign, and signature, set, key and moment fit
+-- the verifier is asked whether it accepts the signature: the key is Secure and may sign, and signature, set, key and
+-- moment fit
 abbrev pub is_put : VerifierAnswers → ℕ → RrSet → Rr → Rr → Bool
 is_put verifier now set r key =
-    is_secure key.proof && (is_valid (validity_at now set r key) && option_map_or (usable_key verifier) (dnskey_of key) false)
+    is_secure key.proof
+    && (is_valid (validity_at now set r key) && option_map_or (usable_key verifier) (dnskey_of key) false)
 
 -- how often
 abbrev pub calls_by_key : VerifierAnswers → ℕ → RrSet → Rr → Rr → ℕ
@@ -77,4 +85,5 @@ calls_unless calls (Some failure) = 0
 -- how often, where key and signature are read
 abbrev pub calls_read : VerifierAnswers → ℕ → RrSet → Rr → Rr → RrsigValue → DnskeyValue → ℕ
 calls_read verifier now set r key sig text =
-    calls_unless (calls_unless (calls_if_supported verifier text) (misfit (validity_at now set r key))) (key_failure key sig text)
+    calls_unless (calls_unless (calls_if_supported verifier text) (misfit (validity_at now set r key)))
+    (key_failure key sig text)

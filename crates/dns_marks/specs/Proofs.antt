@@ -6,8 +6,8 @@ use Rattle.dns_model.specs.Records.{Rr, RrSet}
 use Rattle.dns_model.specs.SoundAnswers.{signed_ttl, ttl_of}
 use Rattle.dns_judgement.specs.ProofErrors.{RrsetProofValue}
 
--- the ttl that a signature leaves to a set at a moment: no more than that of the set's first record, than the original ttl and
--- than the seconds for which the signature is still valid
+-- the ttl that a signature leaves to a set at a moment: no more than that of the set's first record, than the original
+-- ttl and than the seconds for which the signature is still valid
 abbrev pub ttl_by : ℕ → RrSet → Rr → ℕ
 ttl_by now set r = min (ttl_of (slice_get set.records 0)) (signed_ttl (rrsig_in r.rdata) now)
 

@@ -22,7 +22,8 @@ answer_proof verifier now set r (Keys keys) = keys_proof verifier now keys.items
 
 -- what some signatures prove, each by its answer
 abbrev pub answer_proofs : VerifierAnswers → ℕ → RrSet → List Rr → List KeyAnswer → List (Option RrsetProofValue)
-answer_proofs verifier now set signatures answers = map (λ p. answer_proof verifier now set p.0 p.1) (zip signatures answers)
+answer_proofs verifier now set signatures answers =
+    map (λ p. answer_proof verifier now set p.0 p.1) (zip signatures answers)
 
 -- a proof of a mark, as that of the signature at a place
 abbrev pub proof_at : Proof → ℕ → Option RrsetProofValue → Option RrsetProofValue

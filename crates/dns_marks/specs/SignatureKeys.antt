@@ -41,8 +41,8 @@ abbrev pub keys_proof_read : VerifierAnswers → ℕ → List Rr → RrSet → R
 keys_proof_read verifier now keys set r sig =
     if may_be_signed set sig then proof_by_keys verifier now set r (counted_keys sig.signer keys) else None
 
--- what a signature (last) proves of a set by some keys, of which the first two of each tag count that are the signer's; none
--- where it proves nothing, and where it can't be read
+-- what a signature (last) proves of a set by some keys, of which the first two of each tag count that are the signer's;
+-- none where it proves nothing, and where it can't be read
 abbrev pub keys_proof : VerifierAnswers → ℕ → List Rr → RrSet → Rr → Option RrsetProofValue
 keys_proof verifier now keys set r = option_and_then (keys_proof_read verifier now keys set r) (rrsig_of r)
 

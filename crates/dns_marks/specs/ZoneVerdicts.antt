@@ -25,16 +25,21 @@ verdict_value (Signed ds) = zone.Signed ds.items
 verdict_value (Insecure kind) = zone.Insecure (kind_value kind)
 verdict_value (Bogus kind) = zone.Bogus (kind_value kind)
 
--- ---- what a response shows. Of the DS set and of the NSEC set the rows of the verdict speak as sets: one is Secure where all its
--- records are. Of what is Insecure they speak as a record: one is enough, whatever the others of its set are, since none is
--- Insecure unless no more can be expected of a zone at or above it (RFC 4035, 4.3)
+-- ---- what a response shows. Of the DS set and of the NSEC set the rows of the verdict speak as sets: one is Secure
+-- where all its records are. Of what is Insecure they speak as a record: one is enough, whatever the others of its set
+-- are, since none is Insecure unless no more can be expected of a zone at or above it (RFC 4035, 4.3)
 
 abbrev pub are_secure : List Rr → Bool
 are_secure records = list_all (λ r. is_secure r.proof) records
 
 -- a set of a section, Secure or not: whether a record of it is Insecure is told below
 abbrev pub marked_set : Section → RrSet → Judged
-marked_set section set = record { section = section; set = set; mark = if are_secure set.records then proof.Secure else proof.Bogus; sig = None }
+marked_set section set = record {
+  section = section;
+  set = set;
+  mark = if are_secure set.records then proof.Secure else proof.Bogus;
+  sig = None;
+}
 
 -- the sets of a section
 abbrev pub marked_sets : Section → List Rr → List Judged
@@ -55,7 +60,8 @@ all_records message = message.answers ++ (message.authorities ++ message.additio
 -- the sets of the answer and the authority section, and each record of whatever section, be it a signature, by itself
 abbrev pub shown_by : MessageValue → List Judged
 shown_by message =
-    marked_sets Answer message.answers ++ (marked_sets Authority message.authorities ++ map lone_record (all_records message))
+    marked_sets Answer message.answers
+    ++ (marked_sets Authority message.authorities ++ map lone_record (all_records message))
 
 -- the error is want of memory
 abbrev pub is_want : NetError → Bool
@@ -74,8 +80,10 @@ is_want NoMemory = true
 
 -- the DS verdict of a zone by the answer to the ask for its DS set; none where memory ran out in that ask
 abbrev pub answer_verdict : VerifierAnswers → ℕ → Labels → Result ResponseValue NetError → Option zone.ZoneVerdict
-answer_verdict verifier class name (Ok response) = Some (zone.zone_verdict verifier class name (Some (shown_by response.message)))
-answer_verdict verifier class name (Err error) = if is_want error then None else Some (zone.zone_verdict verifier class name None)
+answer_verdict verifier class name (Ok response) =
+    Some (zone.zone_verdict verifier class name (Some (shown_by response.message)))
+answer_verdict verifier class name (Err error) =
+    if is_want error then None else Some (zone.zone_verdict verifier class name None)
 
 -- ---- for private functions of this crate only
 
@@ -89,11 +97,13 @@ is_secure_set name rtype records = list_all (λ r. not (is_record_of name rtype 
 
 -- there is a DS set of the zone, and the class is that of its first record
 abbrev pub has_ds_set : ℕ → Labels → List Rr → Bool
-has_ds_set class name answers = option_map_or (λ first. class == first.class) (find (is_record_of name type_ds) answers) false
+has_ds_set class name answers =
+    option_map_or (λ first. class == first.class) (find (is_record_of name type_ds) answers) false
 
 -- of a DS set that is Secure: by its supported records, and by whether one can be read
 abbrev pub by_supported : Labels → Bool → List Rr → zone.ZoneVerdict
-by_supported name readable [] = if readable then zone.Insecure UnknownKeyAlgorithm else zone.Bogus (DsRecordShouldExist name)
+by_supported name readable [] =
+    if readable then zone.Insecure UnknownKeyAlgorithm else zone.Bogus (DsRecordShouldExist name)
 by_supported name readable (ds ∷ more) = zone.Signed (ds ∷ more)
 
 -- by the records of the zone's DS set
@@ -107,7 +117,8 @@ by_ds verifier name answers =
 -- a Secure NSEC set of the zone in the authority section shows that its delegation has no DS
 abbrev pub shows_no_ds : Labels → List Rr → Bool
 shows_no_ds name authorities =
-    is_secure_set name type_nsec authorities && list_any (λ r. is_record_of name type_nsec r && zone.shows_unsigned_cut r) authorities
+    is_secure_set name type_nsec authorities
+    && list_any (λ r. is_record_of name type_nsec r && zone.shows_unsigned_cut r) authorities
 
 -- a record that is Insecure, at the zone or above it
 abbrev pub is_insecure_above : Labels → Rr → Bool

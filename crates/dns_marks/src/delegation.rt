@@ -10,9 +10,9 @@ use dns_rdata::Dnskey;
 use dns_record::{Proof, Record};
 use dns_trust::matching_ds;
 
-/// Secure exactly where one of some DS records matches a key (RFC 4035, 5.2). Of those of its owner, algorithm and tag the
-/// first two of the list count, whether or not they are supported. A key that can't be read and one of an algorithm that isn't
-/// supported are Insecure, any other that no DS matches is Bogus.
+/// Secure exactly where one of some DS records matches a key (RFC 4035, 5.2). Of those of its owner, algorithm and tag
+/// the first two of the list count, whether or not they are supported. A key that can't be read and one of an algorithm
+/// that isn't supported are Insecure, any other that no DS matches is Bogus.
 pub fn verify_dnskey<V: Verifier>(
     verifier: &V,
     key: &Record,

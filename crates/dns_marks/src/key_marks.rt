@@ -30,8 +30,8 @@ pub enum KeysMark {
     Done(RrsetProof),
 }
 
-/// The mark of a DNSKEY set at a moment in seconds since 1970, by trust anchors and then by the DS verdict of its owner, if
-/// that is known (RFC 4035, 5.2).
+/// The mark of a DNSKEY set at a moment in seconds since 1970, by trust anchors and then by the DS verdict of its
+/// owner, if that is known (RFC 4035, 5.2).
 pub fn mark_keys<V: Verifier>(
     alloc: Global,
     verifier: &V,
@@ -42,7 +42,8 @@ pub fn mark_keys<V: Verifier>(
 ) -> Result<KeysMark, ProofError>
     ensures { Gives (λ mark. mark) want_of_memory result
         (keys_mark now set.now
-        (keys_outcome (judge (V.answers verifier.now) anchors.now now) set.now (option_map (λ z. verdict_value z.now) zone.entry))) }
+        (keys_outcome (judge (V.answers verifier.now) anchors.now now) set.now
+        (option_map (λ z. verdict_value z.now) zone.entry))) }
 {
     let judge = Judge {
         verifier,
@@ -106,7 +107,8 @@ fn marked_by_ds<V: Verifier>(
     requires { needs_ds (judge_of V.answers judge.now) set.now ≡ true }
     ensures { Gives (λ mark. mark) want_of_memory result
         (keys_mark judge.now.moment set.now
-        (outcome_by_ds (judge_of V.answers judge.now) set.now (filter (is_supported_ds (V.answers judge.now.verifier.now)) ds.now))) }
+        (outcome_by_ds (judge_of V.answers judge.now) set.now
+        (filter (is_supported_ds (V.answers judge.now.verifier.now)) ds.now))) }
 {
     let index = DsIndex::of_supported(alloc, judge.verifier, &set.name, ds)?;
     match matched_row(alloc, judge, set, &index)? {

@@ -28,10 +28,10 @@ pub enum KeyAnswer {
     Keys(Vec<Record>),
 }
 
-/// The mark of a set that isn't DNSKEY and has a signature, at a moment in seconds since 1970, by the answers to the asks of its
-/// first eight signatures, one for each in order (RFC 4035, 4.3 and 5.3). The first signature that is Secure decides, else the first that is Insecure.
-/// A step is counted for each call of the verifier's `accepts`, up to the first signature that is Secure: two for a signature at
-/// the most.
+/// The mark of a set that isn't DNSKEY and has a signature, at a moment in seconds since 1970, by the answers to the
+/// asks of its first eight signatures, one for each in order (RFC 4035, 4.3 and 5.3). The first signature that is
+/// Secure decides, else the first that is Insecure. A step is counted for each call of the verifier's `accepts`, up to
+/// the first signature that is Secure: two for a signature at the most.
 pub fn mark_rrset<V: Verifier, L: Ledger>(
     alloc: Global,
     verifier: &V,
@@ -64,8 +64,8 @@ fn deciding<V: Verifier, L: Ledger>(
     steps: &mut Steps<L>,
 ) -> Result<Option<RrsetProof>, NoMemory>
     requires { length answers.now ≡ length (take most_signatures set.now.signatures) }
-    ensures proof { IfOk result (λ p. p ≡
-        deciding_proof (answer_proofs (V.answers verifier.now) now set.now (take most_signatures set.now.signatures) answers.now)) }
+    ensures proof { IfOk result (λ p. p ≡ deciding_proof
+        (answer_proofs (V.answers verifier.now) now set.now (take most_signatures set.now.signatures) answers.now)) }
     ensures calls { OnOk result (steps.new ≡ steps.old
         + set_calls (V.answers verifier.now) now set.now (zip (take most_signatures set.now.signatures) answers.now)) }
     ensures most { steps.new ≤ steps.old + 16 }
@@ -94,7 +94,8 @@ fn proof_by_answer<V: Verifier, L: Ledger>(
     steps: &mut Steps<L>,
 ) -> Result<Option<RrsetProof>, NoMemory>
     ensures proof { IfOk result (λ p. p ≡ answer_proof (V.answers verifier.now) now set.now sig.now answer.now) }
-    ensures calls { OnOk result (steps.new ≡ steps.old + answer_calls (V.answers verifier.now) now set.now sig.now answer.now) }
+    ensures calls { OnOk result
+        (steps.new ≡ steps.old + answer_calls (V.answers verifier.now) now set.now sig.now answer.now) }
     ensures most { steps.new ≤ steps.old + 2 }
 {
     match answer {

@@ -59,7 +59,8 @@ fn verify_read<V: Verifier, L: Ledger>(
         (proof_read (V.answers verifier.now) now set.now sig.now key.now read.now dnskey.now) }
     ensures calls { Unless want_of_memory result
         (steps.new ≡ steps.old + calls_read (V.answers verifier.now) now set.now sig.now key.now read.now dnskey.now) }
-    ensures most { steps.new ≤ steps.old + calls_read (V.answers verifier.now) now set.now sig.now key.now read.now dnskey.now }
+    ensures most { steps.new
+        ≤ steps.old + calls_read (V.answers verifier.now) now set.now sig.now key.now read.now dnskey.now }
 {
     if let Some(failure) = key_failure(key, read, dnskey)? {
         return Err(failure);
@@ -157,7 +158,8 @@ pub(crate) fn is_accepted<V: Verifier, L: Ledger>(
     bytes: &Octets,
     steps: &mut Steps<L>,
 ) -> bool
-    ensures accepted { result ≡ (V.answers verifier.now).accepts read.now.algorithm dnskey.now.key bytes.now read.now.signature }
+    ensures accepted { result
+        ≡ (V.answers verifier.now).accepts read.now.algorithm dnskey.now.key bytes.now read.now.signature }
     ensures calls { steps.new ≡ steps.old + 1 }
 {
     steps.tick();

@@ -21,10 +21,10 @@ use dns_trust::{RrsigValidity, counted_keys, is_usable, may_be_signed, signed_da
 use std::alloc::Global;
 use std::sync::ledger::Ledger;
 
-/// What a signature proves of a set at a moment in seconds since 1970, by keys that have a mark each (RFC 4035, 4.3 and 5.3):
-/// Secure where it is good by a Secure key, else Insecure where all keys are. Of the keys of its signer the first two of each
-/// tag count, whatever their marks. None where it proves nothing, and where it can't be read. A step is counted for each call
-/// of the verifier's `accepts`, two at the most.
+/// What a signature proves of a set at a moment in seconds since 1970, by keys that have a mark each (RFC 4035, 4.3 and
+/// 5.3): Secure where it is good by a Secure key, else Insecure where all keys are. Of the keys of its signer the first
+/// two of each tag count, whatever their marks. None where it proves nothing, and where it can't be read. A step is
+/// counted for each call of the verifier's `accepts`, two at the most.
 pub fn verify_rrsig_with_keys<V: Verifier, L: Ledger>(
     alloc: Global,
     verifier: &V,
@@ -35,7 +35,8 @@ pub fn verify_rrsig_with_keys<V: Verifier, L: Ledger>(
     steps: &mut Steps<L>,
 ) -> Result<Option<RrsetProof>, NoMemory>
     ensures proof { IfOk result (λ p. p ≡ keys_proof (V.answers verifier.now) now keys.now set.now sig.now) }
-    ensures calls { OnOk result (steps.new ≡ steps.old + calls_by_keys (V.answers verifier.now) now keys.now set.now sig.now) }
+    ensures calls { OnOk result
+        (steps.new ≡ steps.old + calls_by_keys (V.answers verifier.now) now keys.now set.now sig.now) }
     ensures most { steps.new ≤ steps.old + calls_by_keys (V.answers verifier.now) now keys.now set.now sig.now }
     ensures two { steps.new ≤ steps.old + 2 }
 {
@@ -53,7 +54,8 @@ fn proof_by_keys<V: Verifier, L: Ledger>(
     steps: &mut Steps<L>,
 ) -> Result<Option<RrsetProof>, NoMemory>
     ensures proof { IfOk result (λ p. p ≡ keys_proof (V.answers verifier.now) now keys.now set.now sig.now) }
-    ensures calls { OnOk result (steps.new ≡ steps.old + calls_by_keys (V.answers verifier.now) now keys.now set.now sig.now) }
+    ensures calls { OnOk result
+        (steps.new ≡ steps.old + calls_by_keys (V.answers verifier.now) now keys.now set.now sig.now) }
     ensures most { steps.new ≤ steps.old + calls_by_keys (V.answers verifier.now) now keys.now set.now sig.now }
 {
     let Some(read) = Rrsig::of(sig) else {
@@ -72,7 +74,8 @@ fn proof_by_keys<V: Verifier, L: Ledger>(
     Ok(None)
 }
 
-// One of some keys is Secure, and the signature, which is read, is good by it. The bytes that it is over are built once.
+// One of some keys is Secure, and the signature, which is read, is good by it. The bytes that it is over are built
+// once.
 fn is_proved<V: Verifier, L: Ledger>(
     alloc: Global,
     verifier: &V,
@@ -100,7 +103,8 @@ fn is_proved<V: Verifier, L: Ledger>(
     Ok(false)
 }
 
-// The key is Secure, and the signature is good by it. The bytes are built for the first key that the verifier is asked about, and kept.
+// The key is Secure, and the signature is good by it. The bytes are built for the first key that the verifier is asked
+// about, and kept.
 fn is_proving<V: Verifier, L: Ledger>(
     alloc: Global,
     verifier: &V,
@@ -116,7 +120,8 @@ fn is_proving<V: Verifier, L: Ledger>(
     requires built { IsBuilt set.now read.now built.old }
     ensures built { OnOk result (IsBuilt set.now read.now built.new) }
     ensures proving { IfOk result (λ b. b ≡ is_proving_key (V.answers verifier.now) now set.now sig.now key.now) }
-    ensures calls { OnOk result (steps.new ≡ steps.old + calls_by_key (V.answers verifier.now) now set.now sig.now key.now) }
+    ensures calls { OnOk result
+        (steps.new ≡ steps.old + calls_by_key (V.answers verifier.now) now set.now sig.now key.now) }
     ensures most { steps.new ≤ steps.old + calls_by_key (V.answers verifier.now) now set.now sig.now key.now }
 {
     let Some(dnskey) = Dnskey::of(key) else {

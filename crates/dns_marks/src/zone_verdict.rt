@@ -31,9 +31,9 @@ pub enum ZoneVerdict {
     Bogus(ProofErrorKind),
 }
 
-/// The DS verdict of a zone, by the answer to the ask for its DS set (RFC 4035, 5.2). A set counts as Secure where all its records
-/// are; one record of any section that is Insecure, at the zone or above it, is enough where there is no DS set. Want of memory in
-/// the ask is want of memory; any other error is a failed ask.
+/// The DS verdict of a zone, by the answer to the ask for its DS set (RFC 4035, 5.2). A set counts as Secure where all
+/// its records are; one record of any section that is Insecure, at the zone or above it, is enough where there is no
+/// DS set. Want of memory in the ask is want of memory; any other error is a failed ask.
 #[tactic(auto, unfolding(dns_judgement::specs::Delegations::zone_verdict))]
 pub fn ds_verdict<V: Verifier>(
     alloc: Global,
@@ -42,7 +42,8 @@ pub fn ds_verdict<V: Verifier>(
     class: DNSClass,
     answer: &DnsAnswer,
 ) -> Result<ZoneVerdict, NoMemory>
-    ensures { IfOk result (λ v. answer_verdict (V.answers verifier.now) class.0 zone.now answer.now ≡ Some (verdict_value v)) }
+    ensures { IfOk result
+        (λ v. answer_verdict (V.answers verifier.now) class.0 zone.now answer.now ≡ Some (verdict_value v)) }
 {
     match answer {
         Ok(response) => verdict_by(alloc, verifier, zone, class, &response.message),
@@ -53,7 +54,8 @@ pub fn ds_verdict<V: Verifier>(
 // The ask failed.
 fn unanswered(zone: &Name, class: DNSClass, error: &NetError) -> Result<ZoneVerdict, NoMemory>
     ensures wanting { IfOk result (λ v. is_want error.now ≡ false) }
-    ensures verdict { IfOk result (λ v. verdict_value v ≡ delegations.Bogus (cause.Net (ds_question_of class.0 zone.now))) }
+    ensures verdict { IfOk result
+        (λ v. verdict_value v ≡ delegations.Bogus (cause.Net (ds_question_of class.0 zone.now))) }
 {
     if is_no_memory(error) {
         return Err(NoMemory);
@@ -145,7 +147,8 @@ fn without_ds(zone: &Name, message: &Message) -> Result<ZoneVerdict, NoMemory>
 
 // The delegation is shown to have no DS, or a record of the zone or above it is Insecure.
 fn is_insecure(zone: &Name, message: &Message) -> bool
-    ensures { result ≡ (shows_none zone.now message.now.authorities || list_any (is_above zone.now) (all_records message.now)) }
+    ensures { result
+        ≡ (shows_none zone.now message.now.authorities || list_any (is_above zone.now) (all_records message.now)) }
 {
     shows_no_ds(zone, &message.authorities) || has_insecure(zone, message)
 }
@@ -158,7 +161,8 @@ fn shows_no_ds(zone: &Name, authorities: &[Record]) -> bool
 }
 
 fn has_unsigned_cut(zone: &Name, authorities: &[Record]) -> bool
-    ensures { result ≡ list_any (λ r. is_record_of zone.now type_nsec r && delegations.shows_unsigned_cut r) authorities.now }
+    ensures { result
+        ≡ list_any (λ r. is_record_of zone.now type_nsec r && delegations.shows_unsigned_cut r) authorities.now }
 {
     authorities.iter().any(|next| is_of(zone, RecordType::NSEC, next) && shows_unsigned_cut(next))
 }
@@ -250,8 +254,8 @@ fn supported<V: Verifier>(
     zone: &Name,
     answers: &[Record],
 ) -> Result<Vec<Record>, NoMemory>
-    ensures { IfOk result (λ v. v.items ≡
-        filter (λ r. is_record_of zone.now type_ds r && delegations.is_supported_ds (V.answers verifier.now) r) answers.now) }
+    ensures { IfOk result (λ v. v.items ≡ filter
+        (λ r. is_record_of zone.now type_ds r && delegations.is_supported_ds (V.answers verifier.now) r) answers.now) }
 {
     let mut supported = Vec::new(alloc);
     for next in answers {
@@ -265,7 +269,8 @@ fn supported<V: Verifier>(
 
 // The record is a supported one of the zone's DS set.
 fn is_supported_of<V: Verifier>(verifier: &V, zone: &Name, next: &Record) -> bool
-    ensures { result ≡ (is_record_of zone.now type_ds next.now && delegations.is_supported_ds (V.answers verifier.now) next.now) }
+    ensures { result
+        ≡ (is_record_of zone.now type_ds next.now && delegations.is_supported_ds (V.answers verifier.now) next.now) }
 {
     is_of(zone, RecordType::DS, next) && is_supported_ds(verifier, next)
 }
