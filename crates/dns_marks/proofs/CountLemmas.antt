@@ -18,7 +18,7 @@ use Rattle.dns_judgement.specs.Marks.{is_key_of, same_tag, may_be_signed, counte
 use Rattle.dns_judgement.specs.MarkParts.{sig_validity}
 use Rattle.dns_judgement.proofs.FirstLemmas.{early_after, first_two-after}
 use Rattle.dns_marks.specs.KeySignatures.{validity_at, is_put}
-use Rattle.dns_marks.specs.SignatureKeys.{is_proving, calls_in_turn, calls_read, calls_by_keys}
+use Rattle.dns_marks.specs.SignatureKeys.{is_proving, calls_in_turn, calls_by_keys_read, calls_by_keys}
 use Rattle.dns_marks.proofs.CallLemmas.{unput, put_no_key}
 use Rattle.dns_marks.proofs.KeyLemmas.{turn_of, none_of}
 
@@ -136,7 +136,7 @@ read_most verifier now keys set r sig true read = counted_most verifier now set 
 read_most verifier now keys set r sig false read = omega arith
 
 calls_case : (verifier : VerifierAnswers) (now : ℕ) (keys : List Rr) (set : RrSet) (r : Rr) (read : Option RrsigValue) → rrsig_of r ≡ read
-    → calls_read verifier now keys set r read ≤ 2
+    → calls_by_keys_read verifier now keys set r read ≤ 2
 calls_case verifier now keys set r None is = omega arith
 calls_case verifier now keys set r (Some sig) is = read_most verifier now keys set r sig (may_be_signed set sig) is
 

@@ -12,11 +12,12 @@ use Rattle.dns_model.specs.Records.{Rr, MessageValue}
 use Rattle.dns_model.specs.Sections.{same_set, set_of, sets_of}
 use Rattle.dns_model.specs.Keys.{VerifierAnswers}
 use Rattle.dns_model.specs.SoundAnswers.{is_secure}
+use Rattle.dns_net.specs.Responses.{all_records}
 use Rattle.dns_judgement.specs.Judged.{Judged}
 use Rattle.dns_judgement.specs.ProofErrors.{DsRecordShouldExist, DsResponseInsecure, UnknownKeyAlgorithm}
 use Rattle.dns_judgement.specs.Delegations as zone
 use Rattle.dns_judgement.specs.Delegations.{ZoneVerdict, Signed, Insecure, Bogus, is_supported_ds, is_readable_ds, is_ds_set_of, shows_unsigned_cut, is_insecure, verdict_by_ds, verdict_without_ds, zone_verdict}
-use Rattle.dns_marks.specs.ZoneVerdicts.{are_secure, marked_set, marked_sets, lone_record, all_records, shown_by, is_record_of, is_secure_set, has_ds_set, by_supported, by_ds, shows_no_ds, is_insecure_above, without_ds, by_message}
+use Rattle.dns_marks.specs.ZoneVerdicts.{are_secure, marked_set, marked_sets, lone_record, shown_by, is_record_of, are_secure_in_set, has_ds_set, by_supported, by_ds, authority_shows_no_ds, is_insecure_record_above, without_ds, by_message}
 use Rattle.dns_marks.proofs.OwnLemmas.{kept, find_set, own_records, filter_twice, filter_all, filter_any}
 
 -- ---- the DS set
@@ -66,7 +67,7 @@ by_records verifier name answers =
     proved verifier name (filter own answers) (are_secure (filter own answers))
     ∙ ap (λ b. if b then verdict_by_ds verifier name proof.Secure (filter own answers) else Bogus (DsRecordShouldExist name))
     (filter_all own (λ s. is_secure s.proof) answers)
-    ∙ ap (λ v. if is_secure_set name type_ds answers then v else Bogus (DsRecordShouldExist name))
+    ∙ ap (λ v. if are_secure_in_set name type_ds answers then v else Bogus (DsRecordShouldExist name))
     (supported_by verifier name (list_any is_readable_ds (filter own answers)) (filter own answers)
     ∙ ap (λ b. by_supported name b (filter (is_supported_ds verifier) (filter own answers))) (filter_any own is_readable_ds answers)
     ∙ ap (by_supported name (list_any (λ s. own s && is_readable_ds s) answers)) (filter_twice own (is_supported_ds verifier) answers))
@@ -142,19 +143,19 @@ some_case true r f = refl
 some_case false r f = refl
 
 by_nsec : (name : Labels) (authorities : List Rr) (first : Option Rr) → find (is_record_of name type_nsec) authorities ≡ first
-    → is_some (option_map (λ r. marked_set Authority (set_of authorities r)) (kept (set_shows authorities) first)) ≡ shows_no_ds name authorities
+    → is_some (option_map (λ r. marked_set Authority (set_of authorities r)) (kept (set_shows authorities) first)) ≡ authority_shows_no_ds name authorities
 unfolding kept
 by_nsec name authorities None h =
-    sym (ap (λ b. is_secure_set name type_nsec authorities && b) (any_none (is_record_of name type_nsec) shows_unsigned_cut authorities h)
-    ∙ and_no (is_secure_set name type_nsec authorities))
+    sym (ap (λ b. are_secure_in_set name type_nsec authorities && b) (any_none (is_record_of name type_nsec) shows_unsigned_cut authorities h)
+    ∙ and_no (are_secure_in_set name type_nsec authorities))
 by_nsec name authorities (Some r) h =
     let own = is_record_of name type_nsec in
     some_case (set_shows authorities r) r (λ r. marked_set Authority (set_of authorities r))
     ∙ ap (λ rs. are_secure rs && list_any shows_unsigned_cut rs) (own_records name type_nsec authorities r h)
     ∙ ap (λ b. b && list_any shows_unsigned_cut (filter own authorities)) (filter_all own (λ s. is_secure s.proof) authorities)
-    ∙ ap (λ b. is_secure_set name type_nsec authorities && b) (filter_any own shows_unsigned_cut authorities)
+    ∙ ap (λ b. are_secure_in_set name type_nsec authorities && b) (filter_any own shows_unsigned_cut authorities)
 
-any_nsec : (name : Labels) (authorities : List Rr) → list_any (zone.shows_no_ds name) (marked_sets Authority authorities) ≡ shows_no_ds name authorities
+any_nsec : (name : Labels) (authorities : List Rr) → list_any (zone.shows_no_ds name) (marked_sets Authority authorities) ≡ authority_shows_no_ds name authorities
 any_nsec name authorities =
     any_found (zone.shows_no_ds name) (marked_sets Authority authorities)
     ∙ ap is_some (find_set name type_nsec refl Authority authorities (zone.shows_no_ds name) (set_shows authorities) (shows_case name authorities))
@@ -194,7 +195,7 @@ shown_ds class name m =
     ∙ or_none (find test (marked_sets Answer m.answers))
 
 -- the NSEC set is one of the authority section
-shown_nsec : (name : Labels) (m : MessageValue) → list_any (zone.shows_no_ds name) (shown_by m) ≡ shows_no_ds name m.authorities
+shown_nsec : (name : Labels) (m : MessageValue) → list_any (zone.shows_no_ds name) (shown_by m) ≡ authority_shows_no_ds name m.authorities
 shown_nsec name m =
     let test = zone.shows_no_ds name in
     list_any-append test (marked_sets Answer m.answers) (marked_sets Authority m.authorities ++ map lone_record (all_records m))
@@ -210,7 +211,7 @@ set_case true above = refl
 set_case false above = refl
 
 -- what is Insecure is a record
-shown_insecure : (name : Labels) (m : MessageValue) → list_any (zone.is_insecure_above name) (shown_by m) ≡ list_any (is_insecure_above name) (all_records m)
+shown_insecure : (name : Labels) (m : MessageValue) → list_any (zone.is_insecure_above name) (shown_by m) ≡ list_any (is_insecure_record_above name) (all_records m)
 shown_insecure name m =
     let test = zone.is_insecure_above name in
     list_any-append test (marked_sets Answer m.answers) (marked_sets Authority m.authorities ++ map lone_record (all_records m))
@@ -227,7 +228,7 @@ shown_without : (name : Labels) (m : MessageValue) → verdict_without_ds name (
 shown_without name m =
     ap (λ b. if b || list_any (zone.is_insecure_above name) (shown_by m) then Insecure (DsResponseInsecure name) else Bogus (DsRecordShouldExist name))
     (shown_nsec name m)
-    ∙ ap (λ b. if shows_no_ds name m.authorities || b then Insecure (DsResponseInsecure name) else Bogus (DsRecordShouldExist name)) (shown_insecure name m)
+    ∙ ap (λ b. if authority_shows_no_ds name m.authorities || b then Insecure (DsResponseInsecure name) else Bogus (DsRecordShouldExist name)) (shown_insecure name m)
 
 -- the DS verdict of a zone by the records of a message
 pub zone_verdict_by : (verifier : VerifierAnswers) (class : ℕ) (name : Labels) (m : MessageValue)

@@ -39,10 +39,10 @@ first_proof mark place (found ∷ more) = option_or (proof_at mark place found) 
 abbrev pub deciding_proof : List (Option RrsetProofValue) → Option RrsetProofValue
 deciding_proof proofs = option_or (first_proof Secure 0 proofs) (first_proof Insecure 0 proofs)
 
-abbrev pub is_skipped : KeyAnswer → Bool
-is_skipped Skipped = true
-is_skipped (Failed query) = false
-is_skipped (Keys keys) = false
+abbrev pub is_skipped_answer : KeyAnswer → Bool
+is_skipped_answer Skipped = true
+is_skipped_answer (Failed query) = false
+is_skipped_answer (Keys keys) = false
 
 -- the question of an ask that failed
 abbrev pub failed_ask : KeyAnswer → Option Question
@@ -53,7 +53,7 @@ failed_ask (Keys keys) = None
 -- why no signature decides: none was asked for; an ask failed, of which the first is told; or none proves the set
 abbrev pub no_proof : RrSet → List KeyAnswer → ProofErrorKindValue
 no_proof set answers =
-    if list_all is_skipped answers then RrsigsNotPresent set.owner set.rtype
+    if list_all is_skipped_answer answers then RrsigsNotPresent set.owner set.rtype
     else option_map_or Net (slice_get (filter_map failed_ask answers) 0) (RrsigsUnverified set.owner set.rtype)
 
 -- the mark of a set that isn't DNSKEY and has a signature, by the answers to the asks of its first eight signatures

@@ -55,13 +55,13 @@ calls_in_turn verifier now set r (key ∷ keys) =
     if is_proving verifier now set r key then 1
     else (if is_put verifier now set r key then 1 else 0) + calls_in_turn verifier now set r keys
 
-abbrev pub calls_read : VerifierAnswers → ℕ → List Rr → RrSet → Rr → Option RrsigValue → ℕ
-calls_read verifier now keys set r None = 0
-calls_read verifier now keys set r (Some sig) =
+abbrev pub calls_by_keys_read : VerifierAnswers → ℕ → List Rr → RrSet → Rr → Option RrsigValue → ℕ
+calls_by_keys_read verifier now keys set r None = 0
+calls_by_keys_read verifier now keys set r (Some sig) =
     if may_be_signed set sig then calls_in_turn verifier now set r (counted_keys sig.signer keys) else 0
 
 abbrev pub calls_by_keys : VerifierAnswers → ℕ → List Rr → RrSet → Rr → ℕ
-calls_by_keys verifier now keys set r = calls_read verifier now keys set r (rrsig_of r)
+calls_by_keys verifier now keys set r = calls_by_keys_read verifier now keys set r (rrsig_of r)
 
 -- ---- as a verdict
 

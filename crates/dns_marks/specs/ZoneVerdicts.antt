@@ -11,6 +11,7 @@ use Rattle.dns_model.specs.Records.{Rr, RrSet, MessageValue}
 use Rattle.dns_model.specs.Sections.{sets_of}
 use Rattle.dns_model.specs.SoundAnswers.{ResponseValue, is_secure}
 use Rattle.dns_model.specs.Keys.{VerifierAnswers}
+use Rattle.dns_net.specs.Responses.{all_records}
 use Rattle.dns_net.specs.declared.error.NetError.{NetError}
 use Rattle.dns_net.specs.declared.error.NetError.TheVariants.{Busy, Dns, Message, Msg, NoConnections, Proto, Io, Timeout, QueryCaseMismatch, ForeignClassRecord, Truncated, NoMemory}
 use Rattle.dns_judgement.specs.Judged.{Judged}
@@ -20,10 +21,10 @@ use Rattle.dns_marks.specs.declared.zone_verdict.ZoneVerdict.{ZoneVerdict}
 use Rattle.dns_marks.specs.declared.zone_verdict.ZoneVerdict.TheVariants.{Signed, Insecure, Bogus}
 use Rattle.dns_marks.specs.Kinds.{kind_value}
 
-abbrev pub verdict_value : ZoneVerdict → zone.ZoneVerdict
-verdict_value (Signed ds) = zone.Signed ds.items
-verdict_value (Insecure kind) = zone.Insecure (kind_value kind)
-verdict_value (Bogus kind) = zone.Bogus (kind_value kind)
+abbrev pub zone_verdict_value : ZoneVerdict → zone.ZoneVerdict
+zone_verdict_value (Signed ds) = zone.Signed ds.items
+zone_verdict_value (Insecure kind) = zone.Insecure (kind_value kind)
+zone_verdict_value (Bogus kind) = zone.Bogus (kind_value kind)
 
 -- ---- what a response shows. Of the DS set and of the NSEC set the rows of the verdict speak as sets: one is Secure
 -- where all its records are. Of what is Insecure they speak as a record: one is enough, whatever the others of its set
@@ -53,9 +54,6 @@ lone_record r = record {
   mark = r.proof;
   sig = None;
 }
-
-abbrev pub all_records : MessageValue → List Rr
-all_records message = message.answers ++ (message.authorities ++ message.additionals)
 
 -- the sets of the answer and the authority section, and each record of whatever section, be it a signature, by itself
 abbrev pub shown_by : MessageValue → List Judged
@@ -92,8 +90,8 @@ abbrev pub is_record_of : Labels → ℕ → Rr → Bool
 is_record_of name rtype r = name_eq name r.owner && (r.rtype == rtype)
 
 -- all records of that set are Secure
-abbrev pub is_secure_set : Labels → ℕ → List Rr → Bool
-is_secure_set name rtype records = list_all (λ r. not (is_record_of name rtype r) || is_secure r.proof) records
+abbrev pub are_secure_in_set : Labels → ℕ → List Rr → Bool
+are_secure_in_set name rtype records = list_all (λ r. not (is_record_of name rtype r) || is_secure r.proof) records
 
 -- there is a DS set of the zone, and the class is that of its first record
 abbrev pub has_ds_set : ℕ → Labels → List Rr → Bool
@@ -109,25 +107,25 @@ by_supported name readable (ds ∷ more) = zone.Signed (ds ∷ more)
 -- by the records of the zone's DS set
 abbrev pub by_ds : VerifierAnswers → Labels → List Rr → zone.ZoneVerdict
 by_ds verifier name answers =
-    if is_secure_set name type_ds answers
+    if are_secure_in_set name type_ds answers
     then by_supported name (list_any (λ r. is_record_of name type_ds r && zone.is_readable_ds r) answers)
     (filter (λ r. is_record_of name type_ds r && zone.is_supported_ds verifier r) answers)
     else zone.Bogus (DsRecordShouldExist name)
 
 -- a Secure NSEC set of the zone in the authority section shows that its delegation has no DS
-abbrev pub shows_no_ds : Labels → List Rr → Bool
-shows_no_ds name authorities =
-    is_secure_set name type_nsec authorities
+abbrev pub authority_shows_no_ds : Labels → List Rr → Bool
+authority_shows_no_ds name authorities =
+    are_secure_in_set name type_nsec authorities
     && list_any (λ r. is_record_of name type_nsec r && zone.shows_unsigned_cut r) authorities
 
 -- a record that is Insecure, at the zone or above it
-abbrev pub is_insecure_above : Labels → Rr → Bool
-is_insecure_above name r = zone.is_insecure r.proof && at_or_above r.owner name
+abbrev pub is_insecure_record_above : Labels → Rr → Bool
+is_insecure_record_above name r = zone.is_insecure r.proof && at_or_above r.owner name
 
 -- where there is no DS set
 abbrev pub without_ds : Labels → MessageValue → zone.ZoneVerdict
 without_ds name message =
-    if shows_no_ds name message.authorities || list_any (is_insecure_above name) (all_records message)
+    if authority_shows_no_ds name message.authorities || list_any (is_insecure_record_above name) (all_records message)
     then zone.Insecure (DsResponseInsecure name)
     else zone.Bogus (DsRecordShouldExist name)
 

@@ -9,7 +9,7 @@ ghost use Rattle.dns_trust.specs.Judge.{judge_of};
 ghost use Rattle.dns_marks.specs.Kinds.{want_of_memory};
 ghost use Rattle.dns_marks.specs.KeyMarks.{keys_mark};
 ghost use Rattle.dns_marks.specs.Proofs.{proved_by as proved_under};
-ghost use Rattle.dns_marks.specs.ZoneVerdicts.{verdict_value};
+ghost use Rattle.dns_marks.specs.ZoneVerdicts.{zone_verdict_value};
 ghost use Rattle.dns_marks.specs.declared.key_marks.KeysMark.TheVariants.{Done};
 
 use crate::rrset_proof::{proved_by, proved_whole};
@@ -43,7 +43,7 @@ pub fn mark_keys<V: Verifier>(
     ensures { Gives (λ mark. mark) want_of_memory result
         (keys_mark now set.now
         (keys_outcome (judge (V.answers verifier.now) anchors.now now) set.now
-        (option_map (λ z. verdict_value z.now) zone.entry))) }
+        (option_map (λ z. zone_verdict_value z.now) zone.entry))) }
 {
     let judge = Judge {
         verifier,
@@ -82,7 +82,7 @@ fn marked_by_zone<V: Verifier>(
     requires { needs_ds (judge_of V.answers judge.now) set.now ≡ true }
     ensures { Gives (λ mark. mark) want_of_memory result
         (keys_mark judge.now.moment set.now
-        (outcome_by_verdict (judge_of V.answers judge.now) set.now (Some (verdict_value zone.now)))) }
+        (outcome_by_verdict (judge_of V.answers judge.now) set.now (Some (zone_verdict_value zone.now)))) }
 {
     match zone {
         ZoneVerdict::Signed(ds) => marked_by_ds(alloc, judge, set, ds),

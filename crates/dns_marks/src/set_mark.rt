@@ -6,7 +6,7 @@ ghost use Rattle.dns_judgement.specs.Marks.{most_signatures};
 ghost use Rattle.dns_marks.specs.Kinds.{kind_value, want_of_memory};
 ghost use Rattle.dns_marks.specs.KeySignatures.{Unless};
 ghost use Rattle.dns_marks.specs.SetMarks.{set_calls, answer_calls};
-ghost use Rattle.dns_marks.specs.SetMarks.{set_proof, deciding_proof, answer_proofs, answer_proof, proof_at as proof_of_mark, no_proof as cause_of, is_skipped as is_skipped_answer, failed_ask as failed_question};
+ghost use Rattle.dns_marks.specs.SetMarks.{set_proof, deciding_proof, answer_proofs, answer_proof, proof_at as proof_of_mark, no_proof as cause_of, is_skipped_answer, failed_ask as failed_question};
 
 use crate::{ProofError, ProofErrorKind, RrsetProof, verify_rrsig_with_keys};
 use dns_name::NoMemory;

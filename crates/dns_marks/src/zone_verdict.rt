@@ -3,10 +3,11 @@ ghost use Rattle.std.specs.List.{find, filter, list_all, list_any};
 ghost use Rattle.std.specs.Option.{option_copied};
 ghost use Rattle.dns_model.specs.Types.{type_ds, type_nsec};
 ghost use Rattle.dns_model.specs.SoundAnswers.{is_secure};
+ghost use Rattle.dns_net.specs.Responses.{all_records};
 ghost use Rattle.dns_judgement.specs.ProofErrors as cause;
 ghost use Rattle.dns_judgement.specs.Delegations as delegations;
 ghost use Rattle.dns_judgement.specs.Delegations.{ds_question as ds_question_of};
-ghost use Rattle.dns_marks.specs.ZoneVerdicts.{verdict_value, is_want, answer_verdict, by_message, by_ds as by_ds_set, by_supported, without_ds as without_ds_set, has_ds_set as has_set_in, is_secure_set, shows_no_ds as shows_none, is_insecure_above as is_above, all_records, shown_by, is_record_of};
+ghost use Rattle.dns_marks.specs.ZoneVerdicts.{zone_verdict_value, is_want, answer_verdict, by_message, by_ds as by_ds_set, by_supported, without_ds as without_ds_set, has_ds_set as has_set_in, are_secure_in_set, authority_shows_no_ds as shows_none, is_insecure_record_above as is_above, shown_by, is_record_of};
 
 use crate::ProofErrorKind;
 use dns_message::Message;
@@ -43,7 +44,7 @@ pub fn ds_verdict<V: Verifier>(
     answer: &DnsAnswer,
 ) -> Result<ZoneVerdict, NoMemory>
     ensures { IfOk result
-        (λ v. answer_verdict (V.answers verifier.now) class.0 zone.now answer.now ≡ Some (verdict_value v)) }
+        (λ v. answer_verdict (V.answers verifier.now) class.0 zone.now answer.now ≡ Some (zone_verdict_value v)) }
 {
     match answer {
         Ok(response) => verdict_by(alloc, verifier, zone, class, &response.message),
@@ -55,7 +56,7 @@ pub fn ds_verdict<V: Verifier>(
 fn unanswered(zone: &Name, class: DNSClass, error: &NetError) -> Result<ZoneVerdict, NoMemory>
     ensures wanting { IfOk result (λ v. is_want error.now ≡ false) }
     ensures verdict { IfOk result
-        (λ v. verdict_value v ≡ delegations.Bogus (cause.Net (ds_question_of class.0 zone.now))) }
+        (λ v. zone_verdict_value v ≡ delegations.Bogus (cause.Net (ds_question_of class.0 zone.now))) }
 {
     if is_no_memory(error) {
         return Err(NoMemory);
@@ -87,7 +88,7 @@ fn verdict_by<V: Verifier>(
     class: DNSClass,
     message: &Message,
 ) -> Result<ZoneVerdict, NoMemory>
-    ensures { IfOk result (λ v. verdict_value v ≡
+    ensures { IfOk result (λ v. zone_verdict_value v ≡
         delegations.zone_verdict (V.answers verifier.now) class.0 zone.now (Some (shown_by message.now))) }
 {
     if has_ds_set(zone, class, &message.answers) {
@@ -104,7 +105,7 @@ fn by_ds<V: Verifier>(
     zone: &Name,
     answers: &[Record],
 ) -> Result<ZoneVerdict, NoMemory>
-    ensures { IfOk result (λ v. verdict_value v ≡ by_ds_set (V.answers verifier.now) zone.now answers.now) }
+    ensures { IfOk result (λ v. zone_verdict_value v ≡ by_ds_set (V.answers verifier.now) zone.now answers.now) }
 {
     if !are_secure(zone, RecordType::DS, answers) {
         return unshown(zone);
@@ -115,7 +116,7 @@ fn by_ds<V: Verifier>(
 
 // A Secure DS set has these supported records, and one that can be read.
 fn verdict_of(zone: &Name, is_readable: bool, ds: Vec<Record>) -> Result<ZoneVerdict, NoMemory>
-    ensures { IfOk result (λ v. verdict_value v ≡ by_supported zone.now is_readable ds.items) }
+    ensures { IfOk result (λ v. zone_verdict_value v ≡ by_supported zone.now is_readable ds.items) }
 {
     if !ds.is_empty() {
         return Ok(ZoneVerdict::Signed(ds));
@@ -128,7 +129,7 @@ fn verdict_of(zone: &Name, is_readable: bool, ds: Vec<Record>) -> Result<ZoneVer
 
 // Neither a DS set nor its absence is shown.
 fn unshown(zone: &Name) -> Result<ZoneVerdict, NoMemory>
-    ensures { IfOk result (λ v. verdict_value v ≡ delegations.Bogus (cause.DsRecordShouldExist zone.now)) }
+    ensures { IfOk result (λ v. zone_verdict_value v ≡ delegations.Bogus (cause.DsRecordShouldExist zone.now)) }
 {
     let name = zone.try_clone()?;
     Ok(ZoneVerdict::Bogus(ProofErrorKind::DsRecordShouldExist { name }))
@@ -136,7 +137,7 @@ fn unshown(zone: &Name) -> Result<ZoneVerdict, NoMemory>
 
 // The verdict where the answer section has no DS set of the zone.
 fn without_ds(zone: &Name, message: &Message) -> Result<ZoneVerdict, NoMemory>
-    ensures { IfOk result (λ v. verdict_value v ≡ without_ds_set zone.now message.now) }
+    ensures { IfOk result (λ v. zone_verdict_value v ≡ without_ds_set zone.now message.now) }
 {
     if !is_insecure(zone, message) {
         return unshown(zone);
@@ -228,7 +229,7 @@ fn first_ds<'a>(zone: &Name, answers: &'a [Record]) -> Option<&'a Record>
 
 // All records of a set are Secure.
 fn are_secure(name: &Name, record_type: RecordType, records: &[Record]) -> bool
-    ensures { result ≡ is_secure_set name.now record_type.0 records.now }
+    ensures { result ≡ are_secure_in_set name.now record_type.0 records.now }
 {
     records.iter().all(|next| !is_of(name, record_type, next) || next.proof == Proof::Secure)
 }

@@ -10,7 +10,7 @@ use Rattle.dns_marks.specs.declared.key_marks.KeysMark.TheVariants.{Done}
 use Rattle.dns_trust.specs.Rows.{anchored_outcome}
 use Rattle.dns_marks.specs.Kinds.{want_of_memory}
 use Rattle.dns_marks.specs.KeyMarks.{keys_mark}
-use Rattle.dns_marks.specs.ZoneVerdicts.{verdict_value}
+use Rattle.dns_marks.specs.ZoneVerdicts.{zone_verdict_value}
 use Rattle.dns_marks.proofs.KeyLemmas.{by_row}
 use Rattle.dns_marks.proofs.key_marks.mark_keys.Goals as goal
 
@@ -40,6 +40,6 @@ returns-in-Some g c =
     let needing : needs_ds j c.args.set.now ≡ true =
     ap is_needing_ds (sym c.in_ok-by.ensures ∙ ap (anchored_outcome c.args.set.now) c.in-NeedsDs.is) in
     subst (λ o. Gives (λ mark. mark) want_of_memory c.marked_by_zone.result (keys_mark c.args.now c.args.set.now o))
-    (sym (ap (λ zone. keys_outcome j c.args.set.now (option_map (λ z. verdict_value z.now) zone)) c.in-Some.is
-    ∙ needs_ds-outcome j c.args.set.now (verdict_value c.in-Some.zone.now) needing))
+    (sym (ap (λ zone. keys_outcome j c.args.set.now (option_map (λ z. zone_verdict_value z.now) zone)) c.in-Some.is
+    ∙ needs_ds-outcome j c.args.set.now (zone_verdict_value c.in-Some.zone.now) needing))
     c.marked_by_zone.ensures
