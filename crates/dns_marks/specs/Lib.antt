@@ -1,6 +1,7 @@
 pub mod Kinds
 pub mod Proofs
 pub mod Dnskeys
+pub mod Tested
 pub mod KeySignatures
 pub mod SignatureKeys
 pub mod SetMarks

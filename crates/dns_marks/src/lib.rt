@@ -9,6 +9,7 @@ mod rrset_proof;
 mod set_mark;
 mod signature;
 mod signature_keys;
+mod tested;
 mod zone_verdict;
 
 pub use delegation::verify_dnskey;

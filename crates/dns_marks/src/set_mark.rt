@@ -5,9 +5,11 @@ ghost use Rattle.dns_model.specs.Gives.{Gives};
 ghost use Rattle.dns_judgement.specs.Marks.{most_signatures};
 ghost use Rattle.dns_marks.specs.Kinds.{kind_value, want_of_memory};
 ghost use Rattle.dns_marks.specs.KeySignatures.{Unless};
+ghost use Rattle.dns_marks.specs.Tested.{of_tested};
 ghost use Rattle.dns_marks.specs.SetMarks.{set_calls, answer_calls};
 ghost use Rattle.dns_marks.specs.SetMarks.{set_proof, deciding_proof, answer_proofs, answer_proof, proof_at as proof_of_mark, no_proof as cause_of, is_skipped_answer, failed_ask as failed_question};
 
+use crate::tested::Tested;
 use crate::{ProofError, ProofErrorKind, RrsetProof, verify_rrsig_with_keys};
 use dns_name::NoMemory;
 use dns_net::Verifier;
@@ -74,7 +76,13 @@ fn deciding<V: Verifier, L: Ledger>(
     let mut excuse = None;
     for (place, answer) in answers.iter().enumerate() {
         let sig = &signatures[place];
-        let found = proof_by_answer(alloc, verifier, set, sig, answer, now, steps)?;
+        let tested = Tested {
+            verifier,
+            set,
+            sig,
+            moment: now,
+        };
+        let found = proof_by_answer(alloc, &tested, answer, steps)?;
         if let Some(found) = proof_at(Proof::Secure, place as u32, &found) {
             return Ok(Some(found));
         }
@@ -86,23 +94,25 @@ fn deciding<V: Verifier, L: Ledger>(
 // What a signature proves by the answer to its ask.
 fn proof_by_answer<V: Verifier, L: Ledger>(
     alloc: Global,
-    verifier: &V,
-    set: &RecordSet,
-    sig: &Record,
+    tested: &Tested<'_, V>,
     answer: &KeyAnswer,
-    now: u64,
     steps: &mut Steps<L>,
 ) -> Result<Option<RrsetProof>, NoMemory>
-    ensures proof { IfOk result (λ p. p ≡ answer_proof (V.answers verifier.now) now set.now sig.now answer.now) }
-    ensures calls { OnOk result
-        (steps.new ≡ steps.old + answer_calls (V.answers verifier.now) now set.now sig.now answer.now) }
+    ensures proof { IfOk result (λ p. p ≡ of_tested V.answers tested.now answer_proof answer.now) }
+    ensures calls { OnOk result (steps.new ≡ steps.old + of_tested V.answers tested.now answer_calls answer.now) }
     ensures most { steps.new ≤ steps.old + 2 }
 {
     match answer {
         KeyAnswer::Skipped => Ok(None),
         KeyAnswer::Failed(_) => Ok(None),
         KeyAnswer::Keys(keys) => verify_rrsig_with_keys(
-            alloc, verifier, keys, sig, set, now, steps,
+            alloc,
+            tested.verifier,
+            keys,
+            tested.sig,
+            tested.set,
+            tested.moment,
+            steps,
         ),
     }
 }

@@ -5,9 +5,11 @@ ghost use Rattle.dns_model.specs.Views.{is_zone_key};
 ghost use Rattle.dns_model.specs.RecordViews.{rrsig_of, dnskey_of};
 ghost use Rattle.dns_net.specs.Notices.{notice_text};
 ghost use Rattle.dns_marks.specs.Kinds.{want_of_memory, misfit as misfit_of};
+ghost use Rattle.dns_marks.specs.Tested.{of_tested};
 ghost use Rattle.dns_marks.specs.KeySignatures.{Unless, validity_at, signature_proof, proof_read, calls_by_key, calls_read, calls_if_supported, key_failure as failure_of, is_verified as is_verified_by};
 
 use crate::rrset_proof::proved_by;
+use crate::tested::Tested;
 use crate::{ProofError, ProofErrorKind, RrsetProof};
 use dns_name::{NoMemory, Octets};
 use dns_net::{Notice, Verifier};
@@ -40,36 +42,38 @@ pub fn verify_rrset_with_dnskey<V: Verifier, L: Ledger>(
     let (Some(read), Some(dnskey)) = (Rrsig::of(sig), Dnskey::of(key)) else {
         unreachable!()
     };
-    verify_read(alloc, verifier, key, &dnskey, sig, &read, set, now, steps)
+    let tested = Tested {
+        verifier,
+        set,
+        sig,
+        moment: now,
+    };
+    verify_read(alloc, &tested, key, &dnskey, &read, steps)
 }
 
 // The same of a key and a signature that are read.
 fn verify_read<V: Verifier, L: Ledger>(
     alloc: Global,
-    verifier: &V,
+    tested: &Tested<'_, V>,
     key: &Record,
     dnskey: &Dnskey<'_>,
-    sig: &Record,
     read: &Rrsig<'_>,
-    set: &RecordSet,
-    now: u64,
     steps: &mut Steps<L>,
 ) -> Result<RrsetProof, ProofError>
     ensures proof { Gives (λ p. p) want_of_memory result
-        (proof_read (V.answers verifier.now) now set.now sig.now key.now read.now dnskey.now) }
+        (of_tested V.answers tested.now proof_read key.now read.now dnskey.now) }
     ensures calls { Unless want_of_memory result
-        (steps.new ≡ steps.old + calls_read (V.answers verifier.now) now set.now sig.now key.now read.now dnskey.now) }
-    ensures most { steps.new
-        ≤ steps.old + calls_read (V.answers verifier.now) now set.now sig.now key.now read.now dnskey.now }
+        (steps.new ≡ steps.old + of_tested V.answers tested.now calls_read key.now read.now dnskey.now) }
+    ensures most { steps.new ≤ steps.old + of_tested V.answers tested.now calls_read key.now read.now dnskey.now }
 {
     if let Some(failure) = key_failure(key, read, dnskey)? {
         return Err(failure);
     }
-    if let Some(notice) = misfit(sig, set, key, now) {
+    if let Some(notice) = misfit(tested.sig, tested.set, key, tested.moment) {
         return Err(ProofError::new(Proof::Bogus, ProofErrorKind::Msg(notice)));
     }
-    if is_verified(alloc, verifier, set, read, dnskey, steps)? {
-        return Ok(proved_by(now, set, sig, None));
+    if is_verified(alloc, tested.verifier, tested.set, read, dnskey, steps)? {
+        return Ok(proved_by(tested.moment, tested.set, tested.sig, None));
     }
     let name = key.name.try_clone()?;
     let key_tag = read.key_tag;

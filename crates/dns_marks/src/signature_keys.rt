@@ -5,6 +5,7 @@ ghost use Rattle.dns_model.specs.declared.proof.Proof.TheVariants.{Insecure};
 ghost use Rattle.dns_judgement.specs.Derivation.{proof_eq};
 ghost use Rattle.dns_trust.specs.Built.{IsBuilt};
 ghost use Rattle.dns_trust.specs.Delegating.{shown};
+ghost use Rattle.dns_marks.specs.Tested.{of_tested};
 ghost use Rattle.dns_marks.specs.SignatureKeys.{keys_proof, calls_by_keys, calls_in_turn, is_proving as is_proving_key, are_insecure as are_insecure_keys};
 ghost use Rattle.dns_marks.specs.KeySignatures.{calls_by_key, validity_at, is_put as is_put_to};
 ghost use Rattle.dns_judgement.specs.Validity.{is_valid as is_valid_at};
@@ -12,6 +13,7 @@ ghost use Rattle.dns_judgement.specs.Validity.{is_valid as is_valid_at};
 use crate::RrsetProof;
 use crate::rrset_proof::{excused, proved_by};
 use crate::signature::is_accepted;
+use crate::tested::Tested;
 use dns_name::{NoMemory, Octets};
 use dns_net::Verifier;
 use dns_rdata::{Dnskey, Rrsig};
@@ -40,33 +42,38 @@ pub fn verify_rrsig_with_keys<V: Verifier, L: Ledger>(
     ensures most { steps.new ≤ steps.old + calls_by_keys (V.answers verifier.now) now keys.now set.now sig.now }
     ensures two { steps.new ≤ steps.old + 2 }
 {
-    proof_by_keys(alloc, verifier, keys, sig, set, now, steps)
+    let tested = Tested {
+        verifier,
+        set,
+        sig,
+        moment: now,
+    };
+    proof_by_keys(alloc, &tested, keys, steps)
 }
 
 // The same; what bounds the steps is that of a tag two keys count.
 fn proof_by_keys<V: Verifier, L: Ledger>(
     alloc: Global,
-    verifier: &V,
+    tested: &Tested<'_, V>,
     keys: &[Record],
-    sig: &Record,
-    set: &RecordSet,
-    now: u64,
     steps: &mut Steps<L>,
 ) -> Result<Option<RrsetProof>, NoMemory>
-    ensures proof { IfOk result (λ p. p ≡ keys_proof (V.answers verifier.now) now keys.now set.now sig.now) }
-    ensures calls { OnOk result
-        (steps.new ≡ steps.old + calls_by_keys (V.answers verifier.now) now keys.now set.now sig.now) }
-    ensures most { steps.new ≤ steps.old + calls_by_keys (V.answers verifier.now) now keys.now set.now sig.now }
+    ensures proof { IfOk result (λ p. p ≡
+        of_tested V.answers tested.now (λ answers now. keys_proof answers now keys.now)) }
+    ensures calls { OnOk result (steps.new ≡ steps.old
+        + of_tested V.answers tested.now (λ answers now. calls_by_keys answers now keys.now)) }
+    ensures most { steps.new ≤ steps.old
+        + of_tested V.answers tested.now (λ answers now. calls_by_keys answers now keys.now) }
 {
-    let Some(read) = Rrsig::of(sig) else {
+    let Some(read) = Rrsig::of(tested.sig) else {
         return Ok(None);
     };
-    if !may_be_signed(set, &read) {
+    if !may_be_signed(tested.set, &read) {
         return Ok(None);
     }
     let counted = counted_keys(alloc, &read, keys)?;
-    if is_proved(alloc, verifier, &counted, sig, &read, set, now, steps)? {
-        return Ok(Some(proved_by(now, set, sig, None)));
+    if is_proved(alloc, tested, &counted, &read, steps)? {
+        return Ok(Some(proved_by(tested.moment, tested.set, tested.sig, None)));
     }
     if are_insecure(&counted) {
         return Ok(Some(excused()));
@@ -78,25 +85,22 @@ fn proof_by_keys<V: Verifier, L: Ledger>(
 // once.
 fn is_proved<V: Verifier, L: Ledger>(
     alloc: Global,
-    verifier: &V,
+    tested: &Tested<'_, V>,
     keys: &[&Record],
-    sig: &Record,
     read: &Rrsig<'_>,
-    set: &RecordSet,
-    now: u64,
     steps: &mut Steps<L>,
 ) -> Result<bool, NoMemory>
-    requires { rrsig_of sig.now ≡ Some read.now }
+    requires { rrsig_of tested.now.sig.now ≡ Some read.now }
     ensures proved { IfOk result (λ b. b ≡
-        list_any (is_proving_key (V.answers verifier.now) now set.now sig.now) (shown keys.now)) }
+        list_any (of_tested V.answers tested.now is_proving_key) (shown keys.now)) }
     ensures calls { OnOk result
-        (steps.new ≡ steps.old + calls_in_turn (V.answers verifier.now) now set.now sig.now (shown keys.now)) }
-    ensures most { steps.new ≤ steps.old + calls_in_turn (V.answers verifier.now) now set.now sig.now (shown keys.now) }
+        (steps.new ≡ steps.old + of_tested V.answers tested.now calls_in_turn (shown keys.now)) }
+    ensures most { steps.new ≤ steps.old + of_tested V.answers tested.now calls_in_turn (shown keys.now) }
 {
     let mut built = None;
     for key in keys {
         let key = *key;
-        if is_proving(alloc, verifier, key, sig, read, set, now, &mut built, steps)? {
+        if is_proving(alloc, tested, key, read, &mut built, steps)? {
             return Ok(true);
         }
     }
@@ -107,55 +111,45 @@ fn is_proved<V: Verifier, L: Ledger>(
 // about, and kept.
 fn is_proving<V: Verifier, L: Ledger>(
     alloc: Global,
-    verifier: &V,
+    tested: &Tested<'_, V>,
     key: &Record,
-    sig: &Record,
     read: &Rrsig<'_>,
-    set: &RecordSet,
-    now: u64,
     built: &mut Option<Octets>,
     steps: &mut Steps<L>,
 ) -> Result<bool, NoMemory>
-    requires read { rrsig_of sig.now ≡ Some read.now }
-    requires built { IsBuilt set.now read.now built.old }
-    ensures built { OnOk result (IsBuilt set.now read.now built.new) }
-    ensures proving { IfOk result (λ b. b ≡ is_proving_key (V.answers verifier.now) now set.now sig.now key.now) }
-    ensures calls { OnOk result
-        (steps.new ≡ steps.old + calls_by_key (V.answers verifier.now) now set.now sig.now key.now) }
-    ensures most { steps.new ≤ steps.old + calls_by_key (V.answers verifier.now) now set.now sig.now key.now }
+    requires read { rrsig_of tested.now.sig.now ≡ Some read.now }
+    requires built { IsBuilt tested.now.set.now read.now built.old }
+    ensures built { OnOk result (IsBuilt tested.now.set.now read.now built.new) }
+    ensures proving { IfOk result (λ b. b ≡ of_tested V.answers tested.now is_proving_key key.now) }
+    ensures calls { OnOk result (steps.new ≡ steps.old + of_tested V.answers tested.now calls_by_key key.now) }
+    ensures most { steps.new ≤ steps.old + of_tested V.answers tested.now calls_by_key key.now }
 {
     let Some(dnskey) = Dnskey::of(key) else {
         return Ok(false);
     };
-    if !is_put(verifier, key, &dnskey, sig, set, now) {
+    if !is_put(tested, key, &dnskey) {
         return Ok(false);
     }
-    let bytes = signed_data_once(alloc, set, read, built.take())?;
-    let accepted = is_accepted(verifier, read, &dnskey, &bytes, steps);
+    let bytes = signed_data_once(alloc, tested.set, read, built.take())?;
+    let accepted = is_accepted(tested.verifier, read, &dnskey, &bytes, steps);
     *built = Some(bytes);
     Ok(accepted)
 }
 
 // The verifier is to be asked: the key is Secure and may sign, and signature, set, key and moment fit.
-fn is_put<V: Verifier>(
-    verifier: &V,
-    key: &Record,
-    dnskey: &Dnskey<'_>,
-    sig: &Record,
-    set: &RecordSet,
-    now: u64,
-) -> bool
+fn is_put<V: Verifier>(tested: &Tested<'_, V>, key: &Record, dnskey: &Dnskey<'_>) -> bool
     requires { dnskey_of key.now ≡ Some dnskey.now }
-    ensures { result ≡ is_put_to (V.answers verifier.now) now set.now sig.now key.now }
+    ensures { result ≡ of_tested V.answers tested.now is_put_to key.now }
 {
-    key.proof == Proof::Secure && is_valid(sig, set, key, now) && is_usable(verifier, dnskey)
+    key.proof == Proof::Secure && is_valid(tested, key) && is_usable(tested.verifier, dnskey)
 }
 
 // The signature fits the set, the key and the moment.
-fn is_valid(sig: &Record, set: &RecordSet, key: &Record, now: u64) -> bool
-    ensures { result ≡ is_valid_at (validity_at now set.now sig.now key.now) }
+fn is_valid<V>(tested: &Tested<'_, V>, key: &Record) -> bool
+    ensures { result ≡ is_valid_at (validity_at tested.now.moment tested.now.set.now tested.now.sig.now key.now) }
 {
-    RrsigValidity::check(sig, set, key, now) == RrsigValidity::ValidRrsig
+    let validity = RrsigValidity::check(tested.sig, tested.set, key, tested.moment);
+    validity == RrsigValidity::ValidRrsig
 }
 
 // There is a key, and all are Insecure.

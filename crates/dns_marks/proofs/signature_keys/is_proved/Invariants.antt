@@ -5,4 +5,5 @@ use Rattle.dns_marks.proofs.signature_keys.is_proved.Given as goal
 -- no key so far proves the set, the calls so far are counted, and the bytes are kept once they are built
 abbrev pub invariant-loop-key : goal.invariant-loop-key
 invariant-loop-key g l =
-    InTurn (g.V.Verifier.answers l.verifier) l.now l.set l.sig l.keys l.key-index l.initial.steps l.steps × IsBuilt l.set l.read l.built
+    InTurn (g.V.Verifier.answers l.tested.verifier.now) l.tested.moment l.tested.set.now l.tested.sig.now l.keys l.key-index l.initial.steps l.steps
+    × IsBuilt l.tested.set.now l.read l.built
