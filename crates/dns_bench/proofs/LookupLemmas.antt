@@ -12,7 +12,7 @@ use Rattle.dns_net.specs.Requests.{plain_options}
 use Rattle.dns_net.specs.Recording.{RecordedValue, replies_of}
 use Rattle.dns_trust.specs.Listing.{answers_of}
 use Rattle.dns_chain.specs.Causes.{PassesOn, ForeignNamed, JudgesTold}
-use Rattle.dns_chain.specs.Looked.{UnlessNoMemory, OfAnswer, IsSoundAnswer, IsTrail}
+use Rattle.dns_chain.specs.LookupAnswers.{UnlessNoMemory, OfAnswer, IsSoundAnswer, IsTrail}
 use Rattle.dns_chain.specs.Calls.{inner_of, anchors_of, verifier_of}
 use Rattle.dns_session.specs.SessionValue.{SessionValue}
 use Rattle.dns_run.specs.Soundness.{listing, session_judge}

@@ -8,9 +8,9 @@ use Rattle.dns_net.specs.Recording.{RecordedValue, replies_of}
 use Rattle.dns_net.specs.contracts.recorded.RecordedDnsHandle.TheImpl as upstream
 use Rattle.dns_net.specs.declared.request.DnsRequestOptions.{DnsRequestOptions}
 use Rattle.dns_chain.specs.Calls.{Call}
-use Rattle.dns_chain.specs.Inquiries.{asking_request}
+use Rattle.dns_chain.specs.AskRequests.{asking_request}
 use Rattle.dns_chain.specs.Causes.{PassesOn, ForeignNamed, JudgesTold}
-use Rattle.dns_chain.specs.Looked.{OfAnswer, IsSoundAnswer, IsTrail}
+use Rattle.dns_chain.specs.LookupAnswers.{OfAnswer, IsSoundAnswer, IsTrail}
 use Rattle.dns_session.specs.SessionValue.{SessionValue}
 use Rattle.dns_run.specs.Soundness.{session_judge}
 use Rattle.dns_run.specs.Answering.{recorded_by, session_depth}

@@ -1,7 +1,7 @@
 //! Lookups of a session's query, one after another.
 ghost use Rattle.std.specs.Prelude.{◌≡◌, IfOk};
 ghost use Rattle.dns_net.specs.Replies.{reply_of};
-ghost use Rattle.dns_chain.specs.Looked.{UnlessNoMemory};
+ghost use Rattle.dns_chain.specs.LookupAnswers.{UnlessNoMemory};
 ghost use Rattle.dns_chain.specs.Calls.{inner_of};
 ghost use Rattle.dns_bench.specs.Lookups.{with_answer, GivesAnswer, Repeats, RepeatsSession};
 ghost use Rattle.dns_bench.specs.Steps.{OneMore, SameValidator, inquiry_by};

@@ -1,4 +1,4 @@
--- What an ask comes to, by what was heard: its step in the trail, and its answer.
+-- What an ask comes to, by what was received: its step in the trail, and its answer.
 use Rattle.std.proofs.Common.{ℕ, ◌+◌, ◌≡◌, ◌≤◌, ◌<◌, ◌⊎◌, true, false, Bool, List, [], ◌∷◌, ◌++◌, Option, None, Some, Ok, Err, refl, sym, ap, subst, ◌∙◌, inl, inr}
 use Rattle.std.specs.Option.{option_map}
 use Rattle.dns_model.specs.declared.trail.AskRef.{AskRef}
@@ -16,42 +16,42 @@ use Rattle.dns_judgement.specs.Outcome.{Outcome, foreign_record}
 use Rattle.dns_net.specs.Errors.{Reply}
 use Rattle.dns_net.specs.declared.error.NetError.{NetError}
 use Rattle.dns_net.specs.declared.error.NetError.TheVariants.{NoMemory}
-use Rattle.dns_chain.specs.Inquiries.{Ask, judged_ask}
-use Rattle.dns_chain.specs.Walking.{Heard, Asks, IsAdded, IsAnswer, IsSeen, IsJudgement, IsConcluded, judged_step, plain_step, foreign_ending, accepted_sets}
-use Rattle.dns_chain.specs.declared.asking.HeardMessage.{HeardMessage}
+use Rattle.dns_chain.specs.AskRequests.{Ask, judged_ask}
+use Rattle.dns_chain.specs.Walking.{Received, Asks, IsAdded, IsAnswer, IsSeen, IsJudgement, IsConcluded, judged_step, plain_step, foreign_ending, accepted_sets}
+use Rattle.dns_chain.specs.declared.receiving.ReceivedMessage.{ReceivedMessage}
 use Rattle.dns_chain.proofs.AskLemmas.{asks_none, asks_then}
-use Rattle.dns_chain.proofs.HeardLemmas.{sent_heard, sent_fault}
+use Rattle.dns_chain.proofs.ReceivedLemmas.{sent_received, sent_fault}
 use Rattle.dns_chain.proofs.JudgementLemmas.{judgement_later}
 use Rattle.dns_chain.proofs.StepLemmas.{fault_holds, plain_fault_holds, plain_holds, foreign_holds, judged_step_holds, asks_ended, no_answer, judged_answer, added_seen}
 
 -- ---- a fault
 
--- an ask that heard a fault
+-- an ask that received a fault
 pub fault_asks : {H : Type 0} (ask : H → Ask → H → Reply → Type 0) (j : Judge) (limit : ℕ) (a b : H) (s t u : List AskedValue)
     (depth : ℕ) (q : Question) (error : NetError) (made : AskRef) (n k l : ℕ)
-    → (error ≡ NoMemory → ⊥) → Heard ask a b (judged_ask q) (Err error) ⊎ ((error ≡ NoMemory) × (b ≡ a))
+    → (error ≡ NoMemory → ⊥) → Received ask a b (judged_ask q) (Err error) ⊎ ((error ≡ NoMemory) × (b ≡ a))
     → t ≡ s → k ≡ n + 1 → l ≡ k → n < most_sends → IsAdded t u (judged_step depth q Fault [] Failed []) made
     → Asks ask j limit a b s u (made ∷ []) n l
 fault_asks ask j limit a b s t u depth q error made n k l other (inr none) still next last few added = absurd (other none.0)
-fault_asks ask j limit a b s t u depth q error made n k l other (inl heard) still next last few added =
+fault_asks ask j limit a b s t u depth q error made n k l other (inl received) still next last few added =
     let step = judged_step depth q Fault [] Failed [] in
     let P : List AskedValue → Type 0 = λ x. IsAdded x u step made in
-    asks_ended ask j limit a b b s s u step made n k k l (sent_fault ask a b step error other heard refl)
+    asks_ended ask j limit a b b s s u step made n k k l (sent_fault ask a b step error other received refl)
     (asks_none ask j limit b s [] k refl) next last few (fault_holds j limit s depth q) (subst P still added)
 
 -- a plain ask that did
 pub plain_fault_asks : {H : Type 0} (ask : H → Ask → H → Reply → Type 0) (j : Judge) (limit : ℕ) (a b : H) (s t u : List AskedValue)
     (depth : ℕ) (q : Question) (error : NetError) (named made : AskRef) (n k l : ℕ)
-    → (error ≡ NoMemory → ⊥) → Heard ask a b (record { query = q; judged = false }) (Err error) ⊎ ((error ≡ NoMemory) × (b ≡ a))
+    → (error ≡ NoMemory → ⊥) → Received ask a b (record { query = q; judged = false }) (Err error) ⊎ ((error ≡ NoMemory) × (b ≡ a))
     → t ≡ s → k ≡ n + 1 → l ≡ k → n < most_sends → named ≡ made → IsAdded t u (plain_step depth q Fault Failed) made
     → Asks ask j limit a b s u (named ∷ []) n l
 plain_fault_asks ask j limit a b s t u depth q error named made n k l other (inr none) still next last few same added = absurd (other none.0)
-plain_fault_asks {H} ask j limit a b s t u depth q error named made n k l other (inl heard) still next last few same added =
+plain_fault_asks {H} ask j limit a b s t u depth q error named made n k l other (inl received) still next last few same added =
     let step = plain_step depth q Fault Failed in
     let P : List AskedValue → Type 0 = λ x. IsAdded x u step made in
     let N : AskRef → Type 0 = λ x. Asks ask j limit a b s u (x ∷ []) n l in
     subst N (sym same)
-    (asks_ended ask j limit a b b s s u step made n k k l (sent_fault ask a b step error other heard refl)
+    (asks_ended ask j limit a b b s s u step made n k k l (sent_fault ask a b step error other received refl)
     (asks_none ask j limit b s [] k refl) next last few (plain_fault_holds j limit s depth q) (subst P still added))
 
 -- ---- a plain ask
@@ -62,23 +62,23 @@ plain_so : (j : Judge) (limit : ℕ) (earlier : List AskedValue) (depth : ℕ) (
 plain_so j limit earlier depth q reply told empty records =
     ap (λ x. step_holds j limit earlier (plain_step depth q x Seen)) records ∙ plain_holds j limit earlier depth q told empty
 
--- a plain ask that heard records
+-- a plain ask that received records
 pub seen_asks : {H : Type 0} (ask : H → Ask → H → Reply → Type 0) (j : Judge) (limit : ℕ) (a b : H) (s t u : List AskedValue)
-    (depth : ℕ) (q : Question) (heard : HeardMessage) (reply : HeardValue) (made : AskRef) (n k l : ℕ)
-    → Heard ask a b (record { query = q; judged = false }) (Ok heard) → reply ≡ Records (told_by heard.message) heard.empty
+    (depth : ℕ) (q : Question) (received : ReceivedMessage) (reply : HeardValue) (made : AskRef) (n k l : ℕ)
+    → Received ask a b (record { query = q; judged = false }) (Ok received) → reply ≡ Records (told_by received.message) received.empty
     → t ≡ s → k ≡ n + 1 → l ≡ k → n < most_sends → IsAdded t u (plain_step depth q reply Seen) made
     → Asks ask j limit a b s u (made ∷ []) n l
-seen_asks ask j limit a b s t u depth q heard reply made n k l h records still next last few added =
+seen_asks ask j limit a b s t u depth q received reply made n k l h records still next last few added =
     let step = plain_step depth q reply Seen in
     let P : List AskedValue → Type 0 = λ x. IsAdded x u step made in
-    asks_ended ask j limit a b b s s u step made n k k l (sent_heard ask a b step heard h records)
-    (asks_none ask j limit b s [] k refl) next last few (plain_so j limit s depth q reply (told_by heard.message) heard.empty records) (subst P still added)
+    asks_ended ask j limit a b b s s u step made n k k l (sent_received ask a b step received h records)
+    (asks_none ask j limit b s [] k refl) next last few (plain_so j limit s depth q reply (told_by received.message) received.empty records) (subst P still added)
 
 -- it saw what is in the records
-pub seen_so : (t u : List AskedValue) (depth : ℕ) (q : Question) (heard : HeardMessage) (reply : HeardValue) (made : AskRef) (sight : derived.Sight)
-    → reply ≡ Records (told_by heard.message) heard.empty → sight ≡ sight_of q.owner (Records (told_by heard.message) heard.empty)
+pub seen_so : (t u : List AskedValue) (depth : ℕ) (q : Question) (received : ReceivedMessage) (reply : HeardValue) (made : AskRef) (sight : derived.Sight)
+    → reply ≡ Records (told_by received.message) received.empty → sight ≡ sight_of q.owner (Records (told_by received.message) received.empty)
     → IsAdded t u (plain_step depth q reply Seen) made → IsSeen u depth q made sight
-seen_so t u depth q heard reply made sight records is added =
+seen_so t u depth q received reply made sight records is added =
     let P : derived.Sight → Type 0 = λ x. IsSeen u depth q made x in
     subst P (ap (sight_of q.owner) records ∙ sym is) (added_seen t u q depth reply Seen made added)
 
@@ -124,18 +124,18 @@ foreign_so j limit earlier depth q told empty reply ending records named =
     ∙ ap (λ x. step_holds j limit earlier (judged_step depth q (Records told empty) [] x [])) named.named
     ∙ foreign_holds j limit earlier depth q told empty named.first named.found
 
--- an ask that heard a record of another class
+-- an ask that received a record of another class
 pub foreign_asks : {H : Type 0} (ask : H → Ask → H → Reply → Type 0) (j : Judge) (limit : ℕ) (a b : H) (s t u : List AskedValue)
-    (depth : ℕ) (q : Question) (heard : HeardMessage) (reply : HeardValue) (ending : EndingValue) (made : AskRef) (n k l : ℕ)
-    → Heard ask a b (judged_ask q) (Ok heard) → reply ≡ Records (told_by heard.message) heard.empty
-    → IsNamed (foreign_record q (told_by heard.message)) ending
+    (depth : ℕ) (q : Question) (received : ReceivedMessage) (reply : HeardValue) (ending : EndingValue) (made : AskRef) (n k l : ℕ)
+    → Received ask a b (judged_ask q) (Ok received) → reply ≡ Records (told_by received.message) received.empty
+    → IsNamed (foreign_record q (told_by received.message)) ending
     → t ≡ s → k ≡ n + 1 → l ≡ k → n < most_sends → IsAdded t u (judged_step depth q reply [] ending []) made
     → Asks ask j limit a b s u (made ∷ []) n l
-foreign_asks ask j limit a b s t u depth q heard reply ending made n k l h records named still next last few added =
+foreign_asks ask j limit a b s t u depth q received reply ending made n k l h records named still next last few added =
     let step = judged_step depth q reply [] ending [] in
     let P : List AskedValue → Type 0 = λ x. IsAdded x u step made in
-    asks_ended ask j limit a b b s s u step made n k k l (sent_heard ask a b step heard h records)
-    (asks_none ask j limit b s [] k refl) next last few (foreign_so j limit s depth q (told_by heard.message) heard.empty reply ending records named)
+    asks_ended ask j limit a b b s s u step made n k k l (sent_received ask a b step received h records)
+    (asks_none ask j limit b s [] k refl) next last few (foreign_so j limit s depth q (told_by received.message) received.empty reply ending records named)
     (subst P still added)
 
 -- it has no answer
@@ -158,29 +158,29 @@ judged_after j limit t u depth q placed told sets entries more part grown judged
 
 -- an ask whose sets were judged and came to an outcome, where further asks may have been needed for that
 pub judged_asks : {H : Type 0} (ask : H → Ask → H → Reply → Type 0) (j : Judge) (limit : ℕ) (a b c d : H) (s r t u v : List AskedValue)
-    (depth : ℕ) (q : Question) (heard : HeardMessage) (placed : List Placed) (sets : List Chained) (entries : List JudgedSetValue)
+    (depth : ℕ) (q : Question) (received : ReceivedMessage) (placed : List Placed) (sets : List Chained) (entries : List JudgedSetValue)
     (o : Outcome) (excuse : List AskRef) (made : AskRef) (n k m p l : ℕ)
-    → Heard ask a b (judged_ask q) (Ok heard) → foreign_record q (told_by heard.message) ≡ None → r ≡ s → k ≡ n + 1 → l ≡ p → n < most_sends
-    → placed ≡ judged_part depth (told_by heard.message) → Asks ask j limit b c r t (asks_of_sets entries) k m
+    → Received ask a b (judged_ask q) (Ok received) → foreign_record q (told_by received.message) ≡ None → r ≡ s → k ≡ n + 1 → l ≡ p → n < most_sends
+    → placed ≡ judged_part depth (told_by received.message) → Asks ask j limit b c r t (asks_of_sets entries) k m
     → IsJudgement (record { judge = j; limit = limit; earlier = t; query = q; depth = depth }) placed sets entries
     → Asks ask j limit c d t u excuse m p
-    → IsConcluded (record { judge = j; limit = limit; earlier = u; query = q; depth = depth }) (told_by heard.message) (bare sets) o excuse
-    → IsAdded u v (judged_step depth q (Records (told_by heard.message) heard.empty) entries (ending_by o) excuse) made
+    → IsConcluded (record { judge = j; limit = limit; earlier = u; query = q; depth = depth }) (told_by received.message) (bare sets) o excuse
+    → IsAdded u v (judged_step depth q (Records (told_by received.message) received.empty) entries (ending_by o) excuse) made
     → Asks ask j limit a d s v (made ∷ []) n l
-judged_asks {H} ask j limit a b c d s r t u v depth q heard placed sets entries o excuse made n k m p l h own still next last few part nested judged further concluded added =
-    let step = judged_step depth q (Records (told_by heard.message) heard.empty) entries (ending_by o) excuse in
+judged_asks {H} ask j limit a b c d s r t u v depth q received placed sets entries o excuse made n k m p l h own still next last few part nested judged further concluded added =
+    let step = judged_step depth q (Records (told_by received.message) received.empty) entries (ending_by o) excuse in
     let P : List AskedValue → Type 0 = λ x. Asks ask j limit b c x t (asks_of_sets entries) k m in
     let own_asks = asks_then ask j limit b c d s t u (asks_of_sets entries) excuse (asks_of_sets entries ++ excuse) k m p (subst P still nested) further refl in
-    asks_ended ask j limit a b d s u v step made n k p l (sent_heard ask a b step heard h refl) own_asks next last few
-    (judged_step_holds j limit u depth q (told_by heard.message) heard.empty sets entries o excuse own
-    (judged_after j limit t u depth q placed (told_by heard.message) sets entries further.part.more part further.part.grown judged) concluded) added
+    asks_ended ask j limit a b d s u v step made n k p l (sent_received ask a b step received h refl) own_asks next last few
+    (judged_step_holds j limit u depth q (told_by received.message) received.empty sets entries o excuse own
+    (judged_after j limit t u depth q placed (told_by received.message) sets entries further.part.more part further.part.grown judged) concluded) added
 
-pub judged_so : (j : Judge) (limit : ℕ) (t u v more : List AskedValue) (q : Question) (depth : ℕ) (heard : HeardMessage) (placed : List Placed) (sets : List Chained)
+pub judged_so : (j : Judge) (limit : ℕ) (t u v more : List AskedValue) (q : Question) (depth : ℕ) (received : ReceivedMessage) (placed : List Placed) (sets : List Chained)
     (entries : List JudgedSetValue) (o : Outcome) (excuse : List AskRef) (made : AskRef) (answer : Option (List Chained)) → depth ≤ limit
-    → placed ≡ judged_part depth (told_by heard.message)
+    → placed ≡ judged_part depth (told_by received.message)
     → IsJudgement (record { judge = j; limit = limit; earlier = t; query = q; depth = depth }) placed sets entries → u ≡ t ++ more
-    → IsAdded u v (judged_step depth q (Records (told_by heard.message) heard.empty) entries (ending_by o) excuse) made
+    → IsAdded u v (judged_step depth q (Records (told_by received.message) received.empty) entries (ending_by o) excuse) made
     → answer ≡ accepted_sets o sets → IsAnswer j limit v q depth made answer
-judged_so j limit t u v more q depth heard placed sets entries o excuse made answer shallow part judged grown added is =
-    judged_answer j limit u v q depth (told_by heard.message) heard.empty sets entries o excuse made answer shallow added
-    (judged_after j limit t u depth q placed (told_by heard.message) sets entries more part grown judged) is
+judged_so j limit t u v more q depth received placed sets entries o excuse made answer shallow part judged grown added is =
+    judged_answer j limit u v q depth (told_by received.message) received.empty sets entries o excuse made answer shallow added
+    (judged_after j limit t u depth q placed (told_by received.message) sets entries more part grown judged) is

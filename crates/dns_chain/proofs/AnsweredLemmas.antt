@@ -24,14 +24,14 @@ use Rattle.dns_net.specs.Handles.{reply_to}
 use Rattle.dns_net.specs.Replies.{reply_of}
 use Rattle.dns_net.specs.declared.error.NetError.{NetError}
 use Rattle.dns_net.specs.declared.handle.DnsHandle as handle
-use Rattle.dns_chain.specs.Heard.{heard_message}
+use Rattle.dns_chain.specs.Received.{received_message}
 use Rattle.dns_chain.specs.Calls.{Call}
-use Rattle.dns_chain.specs.Looked.{UnlessNoMemory}
+use Rattle.dns_chain.specs.LookupAnswers.{UnlessNoMemory}
 use Rattle.dns_chain.specs.Causes.{has_response, tells_nsec3, AnswersTold}
-use Rattle.dns_chain.specs.Answering.{Findings, answer_by, top_grounds, Found, Looked, Passes, Names, Judges}
-use Rattle.dns_chain.specs.LookupParts.{Tells, IsReplyTo}
+use Rattle.dns_chain.specs.Answering.{Findings, answer_by, top_grounds, Found, AnswersLookup, Passes, Names, Judges}
+use Rattle.dns_chain.specs.LookupParts.{KnownReplies, IsReplyTo}
 use Rattle.dns_chain.proofs.ConclusionLemmas.{still_unjudged, never_searched}
-use Rattle.dns_chain.proofs.LookedLemmas.{unless_map}
+use Rattle.dns_chain.proofs.LookupAnswerLemmas.{unless_map}
 use Rattle.dns_chain.proofs.CauseLemmas.{none_some, memory_some, told_to, error_memory}
 use Rattle.dns_chain.proofs.ForeignLemmas.{told_records, silent_told}
 use Rattle.dns_chain.proofs.TopLemmas.{found_grouped}
@@ -75,18 +75,18 @@ unjudged_told told sets grouped any =
 
 -- ---- each answer
 
-answers_silent : (tells : Tells) (q : Question) (e : ErrorValue) → IsReplyTo tells q (Err e) → heard_message (Err e) ≡ None → AnswersTold tells q (Err e)
+answers_silent : (tells : KnownReplies) (q : Question) (e : ErrorValue) → IsReplyTo tells q (Err e) → received_message (Err e) ≡ None → AnswersTold tells q (Err e)
 answers_silent None q e told silent = tt
 answers_silent (Some replies) q e told silent = λ records is own none. absurd (silent_told (reply_to replies.list q) e records told silent is)
 
-answers_foreign : (tells : Tells) (q : Question) (reply answer : Reply) (m : MessageValue) (r : Rr) → IsReplyTo tells q reply → heard_message reply ≡ Some m
+answers_foreign : (tells : KnownReplies) (q : Question) (reply answer : Reply) (m : MessageValue) (r : Rr) → IsReplyTo tells q reply → received_message reply ≡ Some m
     → foreign_record q (told_by (cleared_message m)) ≡ Some r → AnswersTold tells q answer
 answers_foreign None q reply answer m r told hears foreign = tt
 answers_foreign (Some replies) q reply answer m r told hears foreign = λ records is own none.
     let same = told_records reply (reply_to replies.list q) m records told hears is in
     absurd (none_some (foreign_record q records) r own (ap (foreign_record q) (sym same) ∙ foreign))
 
-answers_judged : (tells : Tells) (q : Question) (reply answer : Reply) (m : MessageValue) → IsReplyTo tells q reply → heard_message reply ≡ Some m
+answers_judged : (tells : KnownReplies) (q : Question) (reply answer : Reply) (m : MessageValue) → IsReplyTo tells q reply → received_message reply ≡ Some m
     → (tells_nsec3 (told_by (cleared_message m)) ≡ false → has_response answer ≡ true) → AnswersTold tells q answer
 answers_judged None q reply answer m told hears by = tt
 answers_judged (Some replies) q reply answer m told hears by = λ records is own none.
@@ -104,7 +104,7 @@ responds_by meanings call found f Unjudged is none =
     (still_unjudged (top_grounds call found.steps) told (bare found.sets) found.outcome found.excuse f.concluded is) in
     absurd (true≢false (sym (unjudged_told told (bare found.sets) (found_grouped meanings call found f) sees) ∙ none))
 
-answers_told : {H : Type 0} (meanings : handle.Ghosts H) (call : Call H) {answer : Reply} → Looked meanings call answer
+answers_told : {H : Type 0} (meanings : handle.Ghosts H) (call : Call H) {answer : Reply} → AnswersLookup meanings call answer
     → AnswersTold (meanings.told call.old) call.query answer
 answers_told meanings call (Passes e made silent remembered) =
     answers_silent (meanings.told call.old) call.query e (told_to (meanings.told call.old) call.query (Err e) (error_memory e remembered) made.told) silent
@@ -113,11 +113,11 @@ answers_told meanings call (Names reply answer from r made hears foreign is) =
     (told_to (meanings.told call.old) call.query reply (memory_some reply from hears) made.told) hears foreign
 answers_told meanings call (Judges answer found f is) =
     answers_judged (meanings.told call.old) call.query f.reply answer f.from
-    (told_to (meanings.told call.old) call.query f.reply (memory_some f.reply f.from f.heard) f.made.told) f.heard
+    (told_to (meanings.told call.old) call.query f.reply (memory_some f.reply f.from f.received) f.made.told) f.received
     (λ none.
     ap has_response is
     ∙ responds_by meanings call found f found.outcome refl (ap (λ m. tells_nsec3 (told_by m)) f.cleared ∙ none))
 
 pub lookup_answers : {H : Type 0} (meanings : handle.Ghosts H) (call : Call H) (result : Result ResponseValue NetError)
-    → UnlessNoMemory result (Looked meanings call (reply_of result)) → UnlessNoMemory result (AnswersTold (meanings.told call.old) call.query (reply_of result))
-lookup_answers meanings call result looked = unless_map result (λ l. answers_told meanings call l) looked
+    → UnlessNoMemory result (AnswersLookup meanings call (reply_of result)) → UnlessNoMemory result (AnswersTold (meanings.told call.old) call.query (reply_of result))
+lookup_answers meanings call result lookup = unless_map result (λ l. answers_told meanings call l) lookup

@@ -10,22 +10,22 @@ use Rattle.dns_judgement.proofs.PartLemmas.{part_none, part_deep, part_many, par
 use Rattle.dns_judgement.proofs.SentLemmas.{sent_of_none, sent_of_deep, sent_of_many, sent_of_then, sent_of_step}
 use Rattle.dns_net.specs.Errors.{Reply}
 use Rattle.dns_net.proofs.WalkLemmas.{no_walk, then_walk}
-use Rattle.dns_chain.specs.Inquiries.{Ask}
+use Rattle.dns_chain.specs.AskRequests.{Ask}
 use Rattle.dns_chain.specs.Sends.{SendOf, SendsAlong}
-use Rattle.dns_chain.specs.Walking.{Went, Asks}
+use Rattle.dns_chain.specs.Walking.{CountedSends, Asks}
 
 -- ---- whatever the result
 
 -- a handle that wasn't asked
-pub went_nowhere : {H : Type 0} (ask : H → Ask → H → Reply → Type 0) (faults : H → ℕ) (a : H) (n m : ℕ) → n ≤ m → m ≤ most_sends
-    → Went ask faults a a n m
-went_nowhere ask faults a n m more few = record { walk = no_walk ask a n m more; few = few; later = omega arith }
+pub counted_nowhere : {H : Type 0} (ask : H → Ask → H → Reply → Type 0) (faults : H → ℕ) (a : H) (n m : ℕ) → n ≤ m → m ≤ most_sends
+    → CountedSends ask faults a a n m
+counted_nowhere ask faults a n m more few = record { walk = no_walk ask a n m more; few = few; later = omega arith }
 
 -- asks, and then others
-pub went_then : {H : Type 0} (ask : H → Ask → H → Reply → Type 0) (faults : H → ℕ) (a b c : H) (n k m l : ℕ)
-    → Went ask faults a b n k → Went ask faults b c k m → l ≡ m → Went ask faults a c n l
-went_then {H} ask faults a b c n k m l first rest is =
-    let P : ℕ → Type 0 = λ x. Went ask faults a c n x in
+pub counted_then : {H : Type 0} (ask : H → Ask → H → Reply → Type 0) (faults : H → ℕ) (a b c : H) (n k m l : ℕ)
+    → CountedSends ask faults a b n k → CountedSends ask faults b c k m → l ≡ m → CountedSends ask faults a c n l
+counted_then {H} ask faults a b c n k m l first rest is =
+    let P : ℕ → Type 0 = λ x. CountedSends ask faults a c n x in
     subst P (sym is) (record {
       walk = then_walk ask a b c n k m first.walk rest.walk;
       few = rest.few;
@@ -33,9 +33,9 @@ went_then {H} ask faults a b c n k m l first rest is =
     })
 
 -- asks, and nothing after them
-pub went_still : {H : Type 0} (ask : H → Ask → H → Reply → Type 0) (faults : H → ℕ) (a b : H) (n m l : ℕ)
-    → Went ask faults a b n m → l ≡ m → Went ask faults a b n l
-went_still ask faults a b n m l went is = let P : ℕ → Type 0 = λ x. Went ask faults a b n x in subst P (sym is) went
+pub counted_still : {H : Type 0} (ask : H → Ask → H → Reply → Type 0) (faults : H → ℕ) (a b : H) (n m l : ℕ)
+    → CountedSends ask faults a b n m → l ≡ m → CountedSends ask faults a b n l
+counted_still ask faults a b n m l sent is = let P : ℕ → Type 0 = λ x. CountedSends ask faults a b n x in subst P (sym is) sent
 
 -- ---- the way along steps
 

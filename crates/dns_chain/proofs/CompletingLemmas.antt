@@ -24,16 +24,16 @@ use Rattle.dns_net.specs.Replies.{reply_of}
 use Rattle.dns_net.specs.declared.error.NetError.{NetError}
 use Rattle.dns_net.specs.declared.handle.DnsHandle as handle
 use Rattle.dns_net.specs.declared.notice.Notice.TheVariants.{NotJudgedYet}
-use Rattle.dns_chain.specs.Heard.{heard, heard_value, says_none}
+use Rattle.dns_chain.specs.Received.{received, heard_from, says_none}
 use Rattle.dns_chain.specs.Calls.{Call}
 use Rattle.dns_chain.specs.Causes.{ends_trail, JudgesTold, PassedOn, IsUnjudged, UnjudgedOnly}
 use Rattle.dns_chain.specs.Completing.{first_told, AnswersSecurely, Completes}
-use Rattle.dns_chain.specs.Looked.{UnlessNoMemory, OfAnswer, IsTrail, HasMarksOfTrail}
+use Rattle.dns_chain.specs.LookupAnswers.{UnlessNoMemory, OfAnswer, IsTrail, HasMarksOfTrail}
 use Rattle.dns_chain.specs.Sends.{IsFromReplies}
 use Rattle.dns_chain.proofs.AlongLemmas.{told_reply}
-use Rattle.dns_chain.specs.Answering.{Looked}
+use Rattle.dns_chain.specs.Answering.{AnswersLookup}
 use Rattle.dns_chain.proofs.ForeignLemmas.{lookup_judges}
-use Rattle.dns_chain.proofs.LookedLemmas.{unless_map, lookup_trail, lookup_marks}
+use Rattle.dns_chain.proofs.LookupAnswerLemmas.{unless_map, lookup_trail, lookup_marks}
 use Rattle.dns_chain.proofs.UnjudgedLemmas.{lookup_unjudged}
 
 -- ---- what a send leaves
@@ -89,23 +89,23 @@ abbrev replying : Upstream Replies
 replying = record {
   tells = first_told;
   left = left_after;
-  stays = λ replies q other apart. ap heard (left_stays replies.by_turn replies.list q other apart);
-  alike = λ replies q other same. ap heard (reply_alike replies.list q other same);
+  stays = λ replies q other apart. ap received (left_stays replies.by_turn replies.list q other apart);
+  alike = λ replies q other same. ap received (reply_alike replies.list q other same);
 }
 
--- ---- what was heard
+-- ---- what was received
 
 told_value : (o : Option Told) (empty : Bool) → told_in (option_map_or (λ told. Records told empty) o Fault) ≡ o
 told_value None empty = refl
 told_value (Some told) empty = refl
 
-told_of_reply : (reply : Reply) → told_in (heard_value reply) ≡ heard reply
-told_of_reply reply = told_value (heard reply) (says_none reply)
+told_of_reply : (reply : Reply) → told_in (heard_from reply) ≡ received reply
+told_of_reply reply = told_value (received reply) (says_none reply)
 
-heard_replies : (replies : Replies) (steps : List AskedValue) → IsFromReplies replies steps → HeardAlong replying replies steps
-heard_replies replies [] from = tt
-heard_replies replies (step ∷ steps) from =
-    (ap told_in from.0 ∙ told_of_reply (reply_to replies.list step.query), heard_replies (left_after replies step.query) steps from.1)
+received_replies : (replies : Replies) (steps : List AskedValue) → IsFromReplies replies steps → HeardAlong replying replies steps
+received_replies replies [] from = tt
+received_replies replies (step ∷ steps) from =
+    (ap told_in from.0 ∙ told_of_reply (reply_to replies.list step.query), received_replies (left_after replies step.query) steps from.1)
 
 of_some : {X : Type 0} (P : X → Type 0) (o : Option X) (x : X) → o ≡ Some x → IfSome o P → P x
 of_some P None x is h = cc
@@ -125,7 +125,7 @@ pub replies_prove : (j : Judge) (replies : Replies) (depth : ℕ) (q : Question)
     → IsValidSession j (first_told replies) depth q → IsProved j replies q trail ending
 replies_prove j replies depth q trail top ending derived last query ends from valid =
     let asked = ap (question_eq q) query ∙ question_refl q in
-    let proved = valid_session_is_proved replying replies j depth q trail top derived last asked (heard_replies replies (in_send_order trail) from) valid in
+    let proved = valid_session_is_proved replying replies j depth q trail top derived last asked (received_replies replies (in_send_order trail) from) valid in
     let same = some_same proved.top top (sym proved.last ∙ last) in
     record { queries = valid.queries; proved = proved; ends = sym ends ∙ ap (λ step. step.ending) (sym same) ∙ proved.ending }
 
@@ -178,7 +178,7 @@ passed_never meanings call replies told valid passed =
     let reply = valid_reply call.judge (first_told replies) call.options.max_request_depth call.query valid in
     let is = told_reply replies call.query (Err (Message NotJudgedYet)) (λ memory. cc)
     (subst (λ tells. ReplyIsTold tells (Some call.query) (Err (Message NotJudgedYet))) told passed.made.told) in
-    none_never reply.told (ap heard is ∙ reply.heard)
+    none_never reply.told (ap received is ∙ reply.heard)
 
 unjudged_never : {H : Type 0} (meanings : handle.Ghosts H) (call : Call H) (replies : Replies) → meanings.told call.old ≡ Some replies
     → IsValidCall call replies → PassedOn meanings call (Message NotJudgedYet) ⊎ IsUnjudged meanings call → ⊥
@@ -212,9 +212,9 @@ completes meanings call answer trail marks judges unjudged = by_told (meanings.t
         secure_answer meanings call replies answer is valid trail marks (judges reply.told reply.heard reply.own) unjudged
 
 pub lookup_completes : {H : Type 0} (meanings : handle.Ghosts H) (call : Call H) (result : Result ResponseValue NetError)
-    → UnlessNoMemory result (Looked meanings call (reply_of result)) → UnlessNoMemory result (Completes (meanings.told call.old) call (reply_of result))
-lookup_completes meanings call result looked =
-    let trail = lookup_trail meanings call result looked in
-    let marks = lookup_marks meanings call result looked in
-    let unjudged = lookup_unjudged meanings call result looked in
-    unless_map result (λ judges. completes meanings call (reply_of result) trail marks judges unjudged) (lookup_judges meanings call result looked)
+    → UnlessNoMemory result (AnswersLookup meanings call (reply_of result)) → UnlessNoMemory result (Completes (meanings.told call.old) call (reply_of result))
+lookup_completes meanings call result lookup =
+    let trail = lookup_trail meanings call result lookup in
+    let marks = lookup_marks meanings call result lookup in
+    let unjudged = lookup_unjudged meanings call result lookup in
+    unless_map result (λ judges. completes meanings call (reply_of result) trail marks judges unjudged) (lookup_judges meanings call result lookup)

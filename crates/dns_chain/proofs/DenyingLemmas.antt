@@ -16,9 +16,9 @@ use Rattle.dns_net.specs.Replies.{reply_of}
 use Rattle.dns_net.specs.declared.error.NetError.{NetError}
 use Rattle.dns_net.specs.declared.handle.DnsHandle as handle
 use Rattle.dns_chain.specs.Calls.{Call}
-use Rattle.dns_chain.specs.Looked.{UnlessNoMemory, OfAnswer, ShowsItsDenial}
-use Rattle.dns_chain.specs.Answering.{top_of, Findings, trail_of, Found, Looked}
-use Rattle.dns_chain.proofs.LookedLemmas.{of_result}
+use Rattle.dns_chain.specs.LookupAnswers.{UnlessNoMemory, OfAnswer, ShowsItsDenial}
+use Rattle.dns_chain.specs.Answering.{top_of, Findings, trail_of, Found, AnswersLookup}
+use Rattle.dns_chain.proofs.LookupAnswerLemmas.{of_result}
 use Rattle.dns_chain.proofs.TopLemmas.{found_trail, found_grouped}
 
 -- the steps of what was found show what they deny
@@ -29,10 +29,10 @@ found_denials meanings call found ending f ends =
     denials_hold call.judge call.options.max_request_depth (trail_of call.query found ending) trail.derived
 
 pub lookup_denials : {H : Type 0} (meanings : handle.Ghosts H) (call : Call H) (result : Result ResponseValue NetError)
-    → UnlessNoMemory result (Looked meanings call (reply_of result)) → OfAnswer (reply_of result) (λ a ending. HasDenials a.trail)
-lookup_denials meanings call result looked =
+    → UnlessNoMemory result (AnswersLookup meanings call (reply_of result)) → OfAnswer (reply_of result) (λ a ending. HasDenials a.trail)
+lookup_denials meanings call result lookup =
     of_result meanings call (λ a ending. HasDenials a.trail) result
-    (record { each = λ found d ending f ends other. found_denials meanings call found ending f ends }) looked
+    (record { each = λ found d ending f ends other. found_denials meanings call found ending f ends }) lookup
 
 -- and so does the last one, whose denial is the answer's
 found_denies : {H : Type 0} (meanings : handle.Ghosts H) (call : Call H) (found : Findings) (d : Denial) (ending : EndingValue) → Found meanings call found
@@ -58,16 +58,16 @@ ok_answer (Ok a) Fact of = of refl
 ok_answer (Err e) Fact of = tt
 
 pub lookup_denies : {H : Type 0} (meanings : handle.Ghosts H) (call : Call H) (result : Result ResponseValue NetError)
-    → UnlessNoMemory result (Looked meanings call (reply_of result)) → IfOk (reply_of result) (ShowsItsDenial call.now call.query)
-lookup_denies meanings call result looked =
+    → UnlessNoMemory result (AnswersLookup meanings call (reply_of result)) → IfOk (reply_of result) (ShowsItsDenial call.now call.query)
+lookup_denies meanings call result lookup =
     ok_answer (reply_of result) (ShowsItsDenial call.now call.query)
     (of_result meanings call (λ a ending. ending ≡ Answered a.denial → ShowsItsDenial call.now call.query a) result
-    (record { each = λ found d ending f ends other. found_denies meanings call found d ending f ends }) looked)
+    (record { each = λ found d ending f ends other. found_denies meanings call found d ending f ends }) lookup)
 
 ok_result : (result : Result ResponseValue NetError) (Fact : ResponseValue → Type 0) → IfOk (reply_of result) Fact → IfOk result Fact
 ok_result (Ok a) Fact of = of
 ok_result (Err e) Fact of = tt
 
 pub lookup_shows : {H : Type 0} (meanings : handle.Ghosts H) (call : Call H) (result : Result ResponseValue NetError)
-    → UnlessNoMemory result (Looked meanings call (reply_of result)) → IfOk result (ShowsItsDenial call.now call.query)
-lookup_shows meanings call result looked = ok_result result (ShowsItsDenial call.now call.query) (lookup_denies meanings call result looked)
+    → UnlessNoMemory result (AnswersLookup meanings call (reply_of result)) → IfOk result (ShowsItsDenial call.now call.query)
+lookup_shows meanings call result lookup = ok_result result (ShowsItsDenial call.now call.query) (lookup_denies meanings call result lookup)

@@ -11,18 +11,18 @@ use Rattle.dns_net.specs.Handles.{reply_to}
 use Rattle.dns_net.specs.Replies.{reply_of}
 use Rattle.dns_net.specs.declared.error.NetError.{NetError}
 use Rattle.dns_net.specs.declared.handle.DnsHandle as handle
-use Rattle.dns_chain.specs.Heard.{heard_message, heard}
+use Rattle.dns_chain.specs.Received.{received_message, received}
 use Rattle.dns_chain.specs.Calls.{Call}
-use Rattle.dns_chain.specs.Looked.{UnlessNoMemory}
+use Rattle.dns_chain.specs.LookupAnswers.{UnlessNoMemory}
 use Rattle.dns_chain.specs.Causes.{ForeignOnly, ForeignNamed, ends_trail, JudgesTold}
-use Rattle.dns_chain.specs.Answering.{Findings, answer_by, Looked, Passes, Names, Judges}
-use Rattle.dns_chain.specs.LookupParts.{told_of, Tells, IsReplyTo}
-use Rattle.dns_chain.proofs.LookedLemmas.{unless_map, or_memory}
+use Rattle.dns_chain.specs.Answering.{Findings, answer_by, AnswersLookup, Passes, Names, Judges}
+use Rattle.dns_chain.specs.LookupParts.{told_of, KnownReplies, IsReplyTo}
+use Rattle.dns_chain.proofs.LookupAnswerLemmas.{unless_map, or_memory}
 use Rattle.dns_chain.proofs.CauseLemmas.{some_same, none_some, memory_some, told_to, error_memory, passed_on, passed_as}
 
 -- ---- a record of another class
 
-names_foreign : {H : Type 0} (meanings : handle.Ghosts H) (call : Call H) {answer : Reply} → Looked meanings call answer → ForeignOnly meanings call answer
+names_foreign : {H : Type 0} (meanings : handle.Ghosts H) (call : Call H) {answer : Reply} → AnswersLookup meanings call answer → ForeignOnly meanings call answer
 names_foreign meanings call (Passes e made silent remembered) = λ owner class rtype is.
     inl (passed_as meanings call e (ForeignClassRecord owner class rtype) (passed_on meanings call e made silent remembered) is)
 names_foreign meanings call (Names reply answer from r made hears foreign is) = λ owner class rtype named. inr (record {
@@ -30,7 +30,7 @@ names_foreign meanings call (Names reply answer from r made hears foreign is) = 
   records = told_by (cleared_message from);
   first = r;
   made = made;
-  heard = ap told_of hears;
+  received = ap told_of hears;
   found = foreign;
   named = cc;
 })
@@ -45,66 +45,66 @@ names_foreign meanings call (Judges answer found f is) = λ owner class rtype na
     not_foreign now q fs (outcome.Denied p) owner class rtype h = cc
 
 pub lookup_foreign : {H : Type 0} (meanings : handle.Ghosts H) (call : Call H) (result : Result ResponseValue NetError)
-    → UnlessNoMemory result (Looked meanings call (reply_of result)) → ForeignOnly meanings call (reply_of result)
-lookup_foreign meanings call result looked =
-    elim (or_memory result (Looked meanings call (reply_of result)) looked) [
+    → UnlessNoMemory result (AnswersLookup meanings call (reply_of result)) → ForeignOnly meanings call (reply_of result)
+lookup_foreign meanings call result lookup =
+    elim (or_memory result (AnswersLookup meanings call (reply_of result)) lookup) [
       | inl memory ↦ λ owner class rtype is. cc
       | inr l ↦ names_foreign meanings call l
     ]
 
 -- ---- where the upstream tells its replies
 
--- the records that a told reply has, and those that were heard
-pub told_records : (reply told : Reply) (m : MessageValue) (records : Told) → told ≡ reply → heard_message reply ≡ Some m → heard told ≡ Some records
+-- the records that a told reply has, and those that were received
+pub told_records : (reply told : Reply) (m : MessageValue) (records : Told) → told ≡ reply → received_message reply ≡ Some m → received told ≡ Some records
     → told_by (cleared_message m) ≡ records
-told_records reply told m records same hears is = some_same (heard reply) (told_by (cleared_message m)) records (ap told_of hears) (ap heard (sym same) ∙ is)
+told_records reply told m records same hears is = some_same (received reply) (told_by (cleared_message m)) records (ap told_of hears) (ap received (sym same) ∙ is)
 
 -- an error without a message tells no records
-pub silent_told : (told : Reply) (e : ErrorValue) (records : Told) → told ≡ Err e → heard_message (Err e) ≡ None → heard told ≡ Some records → ⊥
-silent_told told e records same silent is = none_some (heard told) records (ap heard same ∙ ap told_of silent) is
+pub silent_told : (told : Reply) (e : ErrorValue) (records : Told) → told ≡ Err e → received_message (Err e) ≡ None → received told ≡ Some records → ⊥
+silent_told told e records same silent is = none_some (received told) records (ap received same ∙ ap told_of silent) is
 
-foreign_silent : (tells : Tells) (q : Question) (e : ErrorValue) → IsReplyTo tells q (Err e) → heard_message (Err e) ≡ None → ForeignNamed tells q (Err e)
+foreign_silent : (tells : KnownReplies) (q : Question) (e : ErrorValue) → IsReplyTo tells q (Err e) → received_message (Err e) ≡ None → ForeignNamed tells q (Err e)
 foreign_silent None q e told silent = tt
 foreign_silent (Some replies) q e told silent = λ records first is found. absurd (silent_told (reply_to replies.list q) e records told silent is)
 
-foreign_heard : (tells : Tells) (q : Question) (reply answer : Reply) (m : MessageValue) (r : Rr) → IsReplyTo tells q reply → heard_message reply ≡ Some m
+foreign_received : (tells : KnownReplies) (q : Question) (reply answer : Reply) (m : MessageValue) (r : Rr) → IsReplyTo tells q reply → received_message reply ≡ Some m
     → foreign_record q (told_by (cleared_message m)) ≡ Some r → answer ≡ Err (ForeignClassRecord r.owner r.class r.rtype) → ForeignNamed tells q answer
-foreign_heard None q reply answer m r told hears foreign named = tt
-foreign_heard (Some replies) q reply answer m r told hears foreign named = λ records first is found.
+foreign_received None q reply answer m r told hears foreign named = tt
+foreign_received (Some replies) q reply answer m r told hears foreign named = λ records first is found.
     let same = told_records reply (reply_to replies.list q) m records told hears is in
     let one : r ≡ first = some_same (foreign_record q records) r first (ap (foreign_record q) (sym same) ∙ foreign) found in
     named ∙ ap (λ (x : Rr). Err (ForeignClassRecord x.owner x.class x.rtype)) one
 
-foreign_own : (tells : Tells) (q : Question) (reply answer : Reply) (m : MessageValue) → IsReplyTo tells q reply → heard_message reply ≡ Some m
+foreign_own : (tells : KnownReplies) (q : Question) (reply answer : Reply) (m : MessageValue) → IsReplyTo tells q reply → received_message reply ≡ Some m
     → foreign_record q (told_by (cleared_message m)) ≡ None → ForeignNamed tells q answer
 foreign_own None q reply answer m told hears own = tt
 foreign_own (Some replies) q reply answer m told hears own = λ records first is found.
     let same = told_records reply (reply_to replies.list q) m records told hears is in
     absurd (none_some (foreign_record q records) first (ap (foreign_record q) (sym same) ∙ own) found)
 
-foreign_named : {H : Type 0} (meanings : handle.Ghosts H) (call : Call H) {answer : Reply} → Looked meanings call answer
+foreign_named : {H : Type 0} (meanings : handle.Ghosts H) (call : Call H) {answer : Reply} → AnswersLookup meanings call answer
     → ForeignNamed (meanings.told call.old) call.query answer
 foreign_named meanings call (Passes e made silent remembered) =
     foreign_silent (meanings.told call.old) call.query e (told_to (meanings.told call.old) call.query (Err e) (error_memory e remembered) made.told) silent
 foreign_named meanings call (Names reply answer from r made hears foreign is) =
-    foreign_heard (meanings.told call.old) call.query reply answer from r
+    foreign_received (meanings.told call.old) call.query reply answer from r
     (told_to (meanings.told call.old) call.query reply (memory_some reply from hears) made.told) hears foreign is
 foreign_named meanings call (Judges answer found f is) =
     foreign_own (meanings.told call.old) call.query f.reply answer f.from
-    (told_to (meanings.told call.old) call.query f.reply (memory_some f.reply f.from f.heard) f.made.told) f.heard
+    (told_to (meanings.told call.old) call.query f.reply (memory_some f.reply f.from f.received) f.made.told) f.received
     (ap (λ m. foreign_record call.query (told_by m)) (sym f.cleared) ∙ f.own)
 
 pub lookup_names_foreign : {H : Type 0} (meanings : handle.Ghosts H) (call : Call H) (result : Result ResponseValue NetError)
-    → UnlessNoMemory result (Looked meanings call (reply_of result)) → UnlessNoMemory result (ForeignNamed (meanings.told call.old) call.query (reply_of result))
-lookup_names_foreign meanings call result looked = unless_map result (λ l. foreign_named meanings call l) looked
+    → UnlessNoMemory result (AnswersLookup meanings call (reply_of result)) → UnlessNoMemory result (ForeignNamed (meanings.told call.old) call.query (reply_of result))
+lookup_names_foreign meanings call result lookup = unless_map result (λ l. foreign_named meanings call l) lookup
 
 -- ---- records of the query's class alone are judged
 
-judges_silent : (tells : Tells) (q : Question) (e : ErrorValue) → IsReplyTo tells q (Err e) → heard_message (Err e) ≡ None → JudgesTold tells q (Err e)
+judges_silent : (tells : KnownReplies) (q : Question) (e : ErrorValue) → IsReplyTo tells q (Err e) → received_message (Err e) ≡ None → JudgesTold tells q (Err e)
 judges_silent None q e told silent = tt
 judges_silent (Some replies) q e told silent = λ records is own. absurd (silent_told (reply_to replies.list q) e records told silent is)
 
-judges_foreign : (tells : Tells) (q : Question) (reply answer : Reply) (m : MessageValue) (r : Rr) → IsReplyTo tells q reply → heard_message reply ≡ Some m
+judges_foreign : (tells : KnownReplies) (q : Question) (reply answer : Reply) (m : MessageValue) (r : Rr) → IsReplyTo tells q reply → received_message reply ≡ Some m
     → foreign_record q (told_by (cleared_message m)) ≡ Some r → JudgesTold tells q answer
 judges_foreign None q reply answer m r told hears foreign = tt
 judges_foreign (Some replies) q reply answer m r told hears foreign = λ records is own.
@@ -117,11 +117,11 @@ ends_by now q found (Accepted d) = refl
 ends_by now q found Searched = refl
 ends_by now q found (outcome.Denied p) = refl
 
-judges_ended : (tells : Tells) (q : Question) (answer : Reply) → ends_trail answer ≡ true → JudgesTold tells q answer
+judges_ended : (tells : KnownReplies) (q : Question) (answer : Reply) → ends_trail answer ≡ true → JudgesTold tells q answer
 judges_ended None q answer ended = tt
 judges_ended (Some replies) q answer ended = λ records is own. ended
 
-judges_told : {H : Type 0} (meanings : handle.Ghosts H) (call : Call H) {answer : Reply} → Looked meanings call answer
+judges_told : {H : Type 0} (meanings : handle.Ghosts H) (call : Call H) {answer : Reply} → AnswersLookup meanings call answer
     → JudgesTold (meanings.told call.old) call.query answer
 judges_told meanings call (Passes e made silent remembered) =
     judges_silent (meanings.told call.old) call.query e (told_to (meanings.told call.old) call.query (Err e) (error_memory e remembered) made.told) silent
@@ -133,5 +133,5 @@ judges_told meanings call (Judges answer found f is) =
     (ap ends_trail is ∙ ends_by call.now call.query found found.outcome)
 
 pub lookup_judges : {H : Type 0} (meanings : handle.Ghosts H) (call : Call H) (result : Result ResponseValue NetError)
-    → UnlessNoMemory result (Looked meanings call (reply_of result)) → UnlessNoMemory result (JudgesTold (meanings.told call.old) call.query (reply_of result))
-lookup_judges meanings call result looked = unless_map result (λ l. judges_told meanings call l) looked
+    → UnlessNoMemory result (AnswersLookup meanings call (reply_of result)) → UnlessNoMemory result (JudgesTold (meanings.told call.old) call.query (reply_of result))
+lookup_judges meanings call result lookup = unless_map result (λ l. judges_told meanings call l) lookup

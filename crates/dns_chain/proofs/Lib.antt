@@ -1,5 +1,5 @@
 pub mod AskLemmas
-pub mod HeardLemmas
+pub mod ReceivedLemmas
 pub mod StepLemmas
 pub mod TriedLemmas
 pub mod JudgementLemmas
@@ -8,12 +8,12 @@ pub mod ConclusionLemmas
 pub mod AnswerLemmas
 pub mod AlongLemmas
 pub mod TopLemmas
-pub mod LookedLemmas
+pub mod LookupAnswerLemmas
 pub mod CauseLemmas
 pub mod ForeignLemmas
 pub mod UnjudgedLemmas
 pub mod AnsweredLemmas
 pub mod DenyingLemmas
-pub mod LookLemmas
+pub mod LookupLemmas
 pub mod SendingLemmas
 pub mod CompletingLemmas

@@ -12,16 +12,16 @@ use Rattle.dns_net.specs.declared.error.NetError.{NetError}
 use Rattle.dns_net.specs.declared.handle.DnsHandle as handle
 use Rattle.dns_net.specs.declared.notice.Notice.TheVariants.{NoQueryInRequest}
 use Rattle.dns_net.specs.declared.request.DnsRequestOptions.{DnsRequestOptions}
-use Rattle.dns_chain.specs.Answering.{Looked}
-use Rattle.dns_chain.specs.Calls.{Call, Sending, Asking, Requesting, ask_of, first_of}
-use Rattle.dns_chain.specs.Inquiries.{asking_options, asking_request}
-use Rattle.dns_chain.specs.Looked.{UnlessNoMemory}
+use Rattle.dns_chain.specs.Answering.{AnswersLookup}
+use Rattle.dns_chain.specs.Calls.{Call, Sending, Asking, Requesting, ask_of_call, first_ask_of_call}
+use Rattle.dns_chain.specs.AskRequests.{asking_options, asking_request}
+use Rattle.dns_chain.specs.LookupAnswers.{UnlessNoMemory}
 use Rattle.dns_chain.specs.Sending.{checked_edns, checked_request, call_for, IsLookedUp, AnswersRequest, Goes, Refused, LookedUp, Unsent}
 use Rattle.dns_chain.specs.Sends.{SendsBy}
 use Rattle.dns_chain.proofs.CompletingLemmas.{lookup_completes}
 use Rattle.dns_chain.proofs.CauseLemmas.{no_both, lookup_passed, lookup_passes}
 use Rattle.dns_chain.proofs.ForeignLemmas.{lookup_foreign, lookup_names_foreign, lookup_judges}
-use Rattle.dns_chain.proofs.LookedLemmas.{or_memory, lookup_sound, lookup_trail, lookup_ground, lookup_marks, lookup_denied}
+use Rattle.dns_chain.proofs.LookupAnswerLemmas.{or_memory, lookup_sound, lookup_trail, lookup_ground, lookup_marks, lookup_denied}
 use Rattle.dns_chain.proofs.AnsweredLemmas.{lookup_answers}
 use Rattle.dns_chain.proofs.DenyingLemmas.{lookup_denials, lookup_denies}
 use Rattle.dns_chain.proofs.UnjudgedLemmas.{lookup_unjudged, lookup_judged}
@@ -49,26 +49,26 @@ checked_query q options =
 
 -- all that is promised of a lookup, by how it came to its answer
 pub looked_up : {H : Type 0} (meanings : handle.Ghosts H) (call : Call H) (result : Result ResponseValue NetError)
-    → SendsBy (first_of meanings call) (ask_of meanings call) call.old call.new call.query
-    → UnlessNoMemory result (Looked meanings call (reply_of result)) → IsLookedUp meanings call (reply_of result)
-looked_up meanings call result sends looked = record {
+    → SendsBy (first_ask_of_call meanings call) (ask_of_call meanings call) call.old call.new call.query
+    → UnlessNoMemory result (AnswersLookup meanings call (reply_of result)) → IsLookedUp meanings call (reply_of result)
+looked_up meanings call result sends lookup = record {
   sends = sends;
-  sound = lookup_sound meanings call result looked;
-  trail = lookup_trail meanings call result looked;
-  marks = lookup_marks meanings call result looked;
-  grounds = lookup_ground meanings call result looked;
-  denials = lookup_denials meanings call result looked;
-  denies = lookup_denies meanings call result looked;
-  denied = lookup_denied meanings call result looked;
-  passed = lookup_passed meanings call result looked;
-  passes = or_memory result _ (lookup_passes meanings call result looked);
-  foreign = lookup_foreign meanings call result looked;
-  names_foreign = or_memory result _ (lookup_names_foreign meanings call result looked);
-  judges = or_memory result _ (lookup_judges meanings call result looked);
-  unjudged = lookup_unjudged meanings call result looked;
-  judged = lookup_judged meanings call result looked;
-  answers = or_memory result _ (lookup_answers meanings call result looked);
-  completes = or_memory result _ (lookup_completes meanings call result looked);
+  sound = lookup_sound meanings call result lookup;
+  trail = lookup_trail meanings call result lookup;
+  marks = lookup_marks meanings call result lookup;
+  grounds = lookup_ground meanings call result lookup;
+  denials = lookup_denials meanings call result lookup;
+  denies = lookup_denies meanings call result lookup;
+  denied = lookup_denied meanings call result lookup;
+  passed = lookup_passed meanings call result lookup;
+  passes = or_memory result _ (lookup_passes meanings call result lookup);
+  foreign = lookup_foreign meanings call result lookup;
+  names_foreign = or_memory result _ (lookup_names_foreign meanings call result lookup);
+  judges = or_memory result _ (lookup_judges meanings call result lookup);
+  unjudged = lookup_unjudged meanings call result lookup;
+  judged = lookup_judged meanings call result lookup;
+  answers = or_memory result _ (lookup_answers meanings call result lookup);
+  completes = or_memory result _ (lookup_completes meanings call result lookup);
 }
 
 -- ---- each case of a request
@@ -100,13 +100,13 @@ pub looks_up : {H : Type 0} (meanings : handle.Ghosts H) (j : Judge) (request se
     (q : Question) (query : Bool) (result : Result ResponseValue NetError)
     → query ≡ (request.message.op_code == 0) → query ≡ true → first_question request ≡ Some q → sent ≡ checked_request request
     → options ≡ request.options → SendsBy (Requesting meanings sent now) (Asking meanings options now) old new q
-    → UnlessNoMemory result (Looked meanings (record (call_for j request q now old new) { request = sent; options = options }) (reply_of result))
+    → UnlessNoMemory result (AnswersLookup meanings (record (call_for j request q now old new) { request = sent; options = options }) (reply_of result))
     → AnswersRequest meanings j request now old new (reply_of result)
-looks_up meanings j request sent options now old new q query result by is asks checked same sends looked =
+looks_up meanings j request sent options now old new q query result by is asks checked same sends lookup =
     let Sends : RequestValue → DnsRequestOptions → Type 0 = λ r o. SendsBy (Requesting meanings r now) (Asking meanings o now) old new q in
     let Answered : RequestValue → DnsRequestOptions → Type 0 =
-    λ r o. UnlessNoMemory result (Looked meanings (record (call_for j request q now old new) { request = r; options = o }) (reply_of result)) in
+    λ r o. UnlessNoMemory result (AnswersLookup meanings (record (call_for j request q now old new) { request = r; options = o }) (reply_of result)) in
     LookedUp (reply_of result) q (number_same request.message.op_code 0 (sym by ∙ is)) asks
     (looked_up meanings (call_for j request q now old new) result
     (subst (λ r. Sends r request.options) checked (subst (λ o. Sends sent o) same sends))
-    (subst (λ r. Answered r request.options) checked (subst (λ o. Answered sent o) same looked)))
+    (subst (λ r. Answered r request.options) checked (subst (λ o. Answered sent o) same lookup)))

@@ -26,7 +26,7 @@ use Rattle.dns_judgement.proofs.ExtendLemmas.{proof_refl}
 use Rattle.dns_judgement.proofs.OrderLemmas.{slice_get_appended}
 use Rattle.dns_judgement.proofs.SearchLemmas.{plain_asked, plain_sees}
 use Rattle.dns_net.specs.Errors.{Reply}
-use Rattle.dns_chain.specs.Inquiries.{Ask}
+use Rattle.dns_chain.specs.AskRequests.{Ask}
 use Rattle.dns_chain.specs.Sends.{SendOf}
 use Rattle.dns_chain.specs.Walking.{Asks, IsAdded, IsAnswer, IsSeen, IsJudgement, IsConcluded, judged_step, plain_step, foreign_ending, accepted_sets}
 use Rattle.dns_chain.proofs.AskLemmas.{asks_step}

@@ -16,10 +16,10 @@ use Rattle.dns_judgement.proofs.SoundLemmas.{sound_of_sets}
 use Rattle.dns_judgement.proofs.DerivationLemmas.{top_step_is, top_derivation, top_counts, top_sent}
 use Rattle.dns_judgement.proofs.DerivedLemmas.{derivation_depths, derivation_sent}
 use Rattle.dns_net.specs.declared.handle.DnsHandle as handle
-use Rattle.dns_chain.specs.Heard.{heard_message, says_none}
-use Rattle.dns_chain.specs.Calls.{Call, ask_of, first_of}
+use Rattle.dns_chain.specs.Received.{received_message, says_none}
+use Rattle.dns_chain.specs.Calls.{Call, ask_of_call, first_ask_of_call}
 use Rattle.dns_chain.specs.Sends.{SendOf, SendsAlong, SendsFrom}
-use Rattle.dns_chain.specs.Looked.{IsSoundAnswer, IsTrail, HasMarksOfTrail}
+use Rattle.dns_chain.specs.LookupAnswers.{IsSoundAnswer, IsTrail, HasMarksOfTrail}
 use Rattle.dns_chain.specs.Answering.{top_of, Findings, trail_of, top_grounds, Found}
 use Rattle.dns_chain.specs.LookupParts.{told_of, heard_told}
 use Rattle.dns_chain.proofs.StepLemmas.{judged_step_holds}
@@ -32,13 +32,13 @@ none_some m h = cc
 
 -- the first ask, as the last step keeps it
 top_send : {H : Type 0} (meanings : handle.Ghosts H) (call : Call H) (found : Findings) (ending : EndingValue) (f : Found meanings call found)
-    → SendOf (first_of meanings call) call.old (top_of call.query (told_by found.message) found.empty found.entries ending found.excuse) f.middle
+    → SendOf (first_ask_of_call meanings call) call.old (top_of call.query (told_by found.message) found.empty found.entries ending found.excuse) f.middle
 top_send meanings call found ending f = record {
   reply = f.reply;
   made = f.made;
   heard = ap (λ m. Records (told_by m) found.empty) f.cleared ∙ ap (Records (told_by (cleared_message f.from))) f.empty
-      ∙ sym (ap (λ o. heard_told (says_none f.reply) (told_of o)) f.heard);
-  remembered = λ is. none_some f.from (sym (ap heard_message is) ∙ f.heard);
+      ∙ sym (ap (λ o. heard_told (says_none f.reply) (told_of o)) f.received);
+  remembered = λ is. none_some f.from (sym (ap received_message is) ∙ f.received);
 }
 
 -- ---- the trail
@@ -66,10 +66,10 @@ found_trail meanings call found ending f ends =
     let holds : step_holds call.judge (depth_limit d) found.steps step ≡ true =
     ap (λ e. step_holds call.judge (depth_limit d) found.steps (top_of call.query told found.empty found.entries e found.excuse)) ends ∙ ended in
     let derived = top_derivation call.judge d found.steps step f.sends (record { part = asks.part; holds = holds; top = refl; few = f.few }) in
-    let along : SendsFrom (first_of meanings call) (ask_of meanings call) call.old (step ∷ steps_at found.steps (Some asks.part.order)) call.new =
+    let along : SendsFrom (first_ask_of_call meanings call) (ask_of_call meanings call) call.old (step ∷ steps_at found.steps (Some asks.part.order)) call.new =
     (f.middle, top_send meanings call found ending f, asks.sends) in
-    let walked : SendsFrom (first_of meanings call) (ask_of meanings call) call.old (in_send_order trail) call.new =
-    subst (λ steps. SendsFrom (first_of meanings call) (ask_of meanings call) call.old steps call.new)
+    let walked : SendsFrom (first_ask_of_call meanings call) (ask_of_call meanings call) call.old (in_send_order trail) call.new =
+    subst (λ steps. SendsFrom (first_ask_of_call meanings call) (ask_of_call meanings call) call.old steps call.new)
     (sym (top_sent call.judge (depth_limit d) found.steps step f.sends asks.part)) along in
     let counts = top_counts call.judge (depth_limit d) found.steps step f.sends asks.part in
     record {
@@ -142,11 +142,11 @@ found_sound meanings call found d ending f =
       reply = f.reply;
       message = f.from;
       made = f.made;
-      heard = f.heard;
+      received = f.received;
       header = subst Header (sym f.cleared) refl;
       sound = subst IsSound (sym f.cleared)
           (sound_of_sets call.judge call.now f.from found.sets d trail
           (subst (λ m. map placed_of (bare found.sets) ≡ placed_sets (told_by m)) f.cleared grouped) (f.judged.stand (proper_part 0 told)));
-      rest = subst (λ steps. SendsAlong (ask_of meanings call) f.middle (drop 1 steps) call.new)
+      rest = subst (λ steps. SendsAlong (ask_of_call meanings call) f.middle (drop 1 steps) call.new)
           (sym (top_sent call.judge deep found.steps step f.sends asks.part)) asks.sends;
     }

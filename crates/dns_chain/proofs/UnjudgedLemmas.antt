@@ -26,12 +26,12 @@ use Rattle.dns_net.specs.declared.error.NetError.{NetError}
 use Rattle.dns_net.specs.declared.handle.DnsHandle as handle
 use Rattle.dns_net.specs.declared.notice.Notice.TheVariants.{NotJudgedYet}
 use Rattle.dns_chain.specs.Calls.{Call}
-use Rattle.dns_chain.specs.Looked.{UnlessNoMemory, OfAnswer}
+use Rattle.dns_chain.specs.LookupAnswers.{UnlessNoMemory, OfAnswer}
 use Rattle.dns_chain.specs.Causes.{sees_nsec3, IsUnjudged, UnjudgedOnly}
-use Rattle.dns_chain.specs.Answering.{top_of, Findings, trail_of, answer_by, top_grounds, Found, Looked, Passes, Names, Judges}
+use Rattle.dns_chain.specs.Answering.{top_of, Findings, trail_of, answer_by, top_grounds, Found, AnswersLookup, Passes, Names, Judges}
 use Rattle.dns_chain.proofs.ConclusionLemmas.{still_unjudged, unjudged_still, never_searched}
 use Rattle.dns_chain.proofs.TopLemmas.{sets_of_top, found_trail}
-use Rattle.dns_chain.proofs.LookedLemmas.{or_memory, of_result}
+use Rattle.dns_chain.proofs.LookupAnswerLemmas.{or_memory, of_result}
 use Rattle.dns_chain.proofs.CauseLemmas.{passed_on, passed_as}
 
 -- ---- the rows of an outcome
@@ -105,7 +105,7 @@ unjudged_by meanings call found f Unjudged is unjudged = record {
       (still_unjudged (top_grounds call found.steps) (told_by found.message) (bare found.sets) found.outcome found.excuse f.concluded is);
 }
 
-unjudged_only : {H : Type 0} (meanings : handle.Ghosts H) (call : Call H) {answer : Reply} → Looked meanings call answer → UnjudgedOnly meanings call answer
+unjudged_only : {H : Type 0} (meanings : handle.Ghosts H) (call : Call H) {answer : Reply} → AnswersLookup meanings call answer → UnjudgedOnly meanings call answer
 unjudged_only meanings call (Passes e made silent remembered) = λ is.
     inl (passed_as meanings call e (Message NotJudgedYet) (passed_on meanings call e made silent remembered) is)
 unjudged_only meanings call (Names reply answer from r made hears foreign is) = λ unjudged. cc
@@ -113,9 +113,9 @@ unjudged_only meanings call (Judges answer found f is) = λ unjudged.
     inr (unjudged_by meanings call found f found.outcome refl (sym is ∙ unjudged))
 
 pub lookup_unjudged : {H : Type 0} (meanings : handle.Ghosts H) (call : Call H) (result : Result ResponseValue NetError)
-    → UnlessNoMemory result (Looked meanings call (reply_of result)) → UnjudgedOnly meanings call (reply_of result)
-lookup_unjudged meanings call result looked =
-    elim (or_memory result (Looked meanings call (reply_of result)) looked) [
+    → UnlessNoMemory result (AnswersLookup meanings call (reply_of result)) → UnjudgedOnly meanings call (reply_of result)
+lookup_unjudged meanings call result lookup =
+    elim (or_memory result (AnswersLookup meanings call (reply_of result)) lookup) [
       | inl memory ↦ λ is. cc
       | inr l ↦ unjudged_only meanings call l
     ]
@@ -133,7 +133,7 @@ judged_by meanings call found ending f ends other =
 
 -- an answer saw no Secure NSEC3
 pub lookup_judged : {H : Type 0} (meanings : handle.Ghosts H) (call : Call H) (result : Result ResponseValue NetError)
-    → UnlessNoMemory result (Looked meanings call (reply_of result)) → OfAnswer (reply_of result) (λ a ending. sees_nsec3 a.trail ≡ false)
-lookup_judged meanings call result looked =
+    → UnlessNoMemory result (AnswersLookup meanings call (reply_of result)) → OfAnswer (reply_of result) (λ a ending. sees_nsec3 a.trail ≡ false)
+lookup_judged meanings call result lookup =
     of_result meanings call (λ a ending. sees_nsec3 a.trail ≡ false) result
-    (record { each = λ found d ending f ends other. judged_by meanings call found ending f ends other }) looked
+    (record { each = λ found d ending f ends other. judged_by meanings call found ending f ends other }) lookup

@@ -19,20 +19,20 @@ use Rattle.dns_net.specs.Requests.{RequestValue}
 use Rattle.dns_net.specs.declared.handle.DnsHandle as handle
 use Rattle.dns_net.specs.declared.notice.Notice.TheVariants.{NotJudgedYet}
 use Rattle.dns_trust.specs.Judge.{judge_of}
-use Rattle.dns_chain.specs.Heard.{heard_message, says_none}
-use Rattle.dns_chain.specs.Calls.{Call, ask_of, first_of}
-use Rattle.dns_chain.specs.Inquiries.{judged_ask}
+use Rattle.dns_chain.specs.Received.{received_message, says_none}
+use Rattle.dns_chain.specs.Calls.{Call, ask_of_call, first_ask_of_call}
+use Rattle.dns_chain.specs.AskRequests.{judged_ask}
 use Rattle.dns_chain.specs.Walking.{Asks, IsJudgement, IsConcluded, judged_step}
-use Rattle.dns_chain.specs.declared.inquiry.Inquiry.{Inquiry}
+use Rattle.dns_chain.specs.declared.context.LookupContext.{LookupContext}
 
--- a lookup of an inquiry by a request
-abbrev pub call_by : {H V : Type 0} → (V → VerifierAnswers) → Inquiry V → RequestValue → Question → H → H → Call H
-call_by answers inquiry request q old new = record {
-  judge = judge_of answers inquiry.judge;
+-- a lookup in a context, by a request
+abbrev pub call_by : {H V : Type 0} → (V → VerifierAnswers) → LookupContext V → RequestValue → Question → H → H → Call H
+call_by answers context request q old new = record {
+  judge = judge_of answers context.judge;
   query = q;
   request = request;
-  options = inquiry.options;
-  now = inquiry.judge.moment;
+  options = context.options;
+  now = context.judge.moment;
   old = old;
   new = new;
 }
@@ -83,26 +83,27 @@ pub record Found {H : Type 0} (meanings : handle.Ghosts H) (call : Call H) (foun
   pub from : MessageValue
   pub middle : H
   pub sends : ℕ
-  pub made : first_of meanings call call.old (judged_ask call.query) middle reply
-  pub heard : heard_message reply ≡ Some from
+  pub made : first_ask_of_call meanings call call.old (judged_ask call.query) middle reply
+  pub received : received_message reply ≡ Some from
   pub cleared : found.message ≡ cleared_message from
   pub empty : found.empty ≡ says_none reply
   pub own : foreign_record call.query (told_by found.message) ≡ None
-  pub asks : Asks (ask_of meanings call) call.judge (depth_limit call.options.max_request_depth) middle call.new [] found.steps
-      (asks_of_sets found.entries ++ found.excuse) 1 sends
+  pub asks : Asks (ask_of_call meanings call) call.judge (depth_limit call.options.max_request_depth) middle call.new
+      [] found.steps (asks_of_sets found.entries ++ found.excuse) 1 sends
   pub judged : IsJudgement (top_grounds call found.steps) (judged_part 0 (told_by found.message)) found.sets found.entries
   pub concluded : IsConcluded (top_grounds call found.steps) (told_by found.message) (bare found.sets) found.outcome found.excuse
   pub few : sends ≤ most_sends
 
 -- why a lookup answers as it does
-pub data Looked {H : Type 0} (meanings : handle.Ghosts H) (call : Call H) : Reply → Type 0 where
+pub data AnswersLookup {H : Type 0} (meanings : handle.Ghosts H) (call : Call H) : Reply → Type 0 where
   -- an error without a message is passed on
-  Passes : (e : ErrorValue) → first_of meanings call call.old (judged_ask call.query) call.new (Err e) → heard_message (Err e) ≡ None
-      → e ≢ seen.NoMemory → Looked meanings call (Err e)
+  Passes : (e : ErrorValue) → first_ask_of_call meanings call call.old (judged_ask call.query) call.new (Err e)
+      → received_message (Err e) ≡ None → e ≢ seen.NoMemory → AnswersLookup meanings call (Err e)
   -- a record of another class is named
-  Names : (reply answer : Reply) (from : MessageValue) (r : Rr) → first_of meanings call call.old (judged_ask call.query) call.new reply
-      → heard_message reply ≡ Some from → foreign_record call.query (told_by (cleared_message from)) ≡ Some r
-      → answer ≡ Err (seen.ForeignClassRecord r.owner r.class r.rtype) → Looked meanings call answer
+  Names : (reply answer : Reply) (from : MessageValue) (r : Rr)
+      → first_ask_of_call meanings call call.old (judged_ask call.query) call.new reply
+      → received_message reply ≡ Some from → foreign_record call.query (told_by (cleared_message from)) ≡ Some r
+      → answer ≡ Err (seen.ForeignClassRecord r.owner r.class r.rtype) → AnswersLookup meanings call answer
   -- the sets of the message are judged, and make the answer
   Judges : (answer : Reply) (found : Findings) → Found meanings call found
-      → answer ≡ judged_answer call.now call.query found → Looked meanings call answer
+      → answer ≡ judged_answer call.now call.query found → AnswersLookup meanings call answer

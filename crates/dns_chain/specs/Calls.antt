@@ -12,7 +12,7 @@ use Rattle.dns_net.specs.Requests.{RequestValue}
 use Rattle.dns_net.specs.declared.request.DnsRequestOptions.{DnsRequestOptions}
 use Rattle.dns_net.specs.declared.handle.DnsHandle as handle
 use Rattle.dns_net.specs.declared.verifier.Verifier as verifier
-use Rattle.dns_chain.specs.Inquiries.{Ask, asking_request, request_for}
+use Rattle.dns_chain.specs.AskRequests.{Ask, asking_request, request_for}
 use Rattle.dns_chain.specs.declared.handle.DnssecDnsHandle.{DnssecDnsHandle}
 
 -- the handle that a validator asks
@@ -39,7 +39,8 @@ pub record Call (H : Type 0) : Type 0 where
   pub new : H
 
 -- a call of a validator: it sends its query's own request
-abbrev pub call_of : {H V : Type 0} → verifier.Ghosts V → DnssecDnsHandle H V → DnssecDnsHandle H V → Question → DnsRequestOptions → ℕ → Call H
+abbrev pub call_of : {H V : Type 0} → verifier.Ghosts V → DnssecDnsHandle H V → DnssecDnsHandle H V
+    → Question → DnsRequestOptions → ℕ → Call H
 call_of tests old new q options now = record {
   judge = judge (tests.answers (verifier_of old)) (anchors_of old) now;
   query = q;
@@ -75,9 +76,9 @@ abbrev pub Requesting : {H : Type 0} → handle.Ghosts H → RequestValue → �
 Requesting meanings request now from ask to reply = Sending meanings request (Some ask.query) now from to reply
 
 -- an ask of a call
-abbrev pub ask_of : {H : Type 0} → handle.Ghosts H → Call H → H → Ask → H → Reply → Type 0
-ask_of meanings call = Asking meanings call.options call.now
+abbrev pub ask_of_call : {H : Type 0} → handle.Ghosts H → Call H → H → Ask → H → Reply → Type 0
+ask_of_call meanings call = Asking meanings call.options call.now
 
 -- its first ask, the one for its query
-abbrev pub first_of : {H : Type 0} → handle.Ghosts H → Call H → H → Ask → H → Reply → Type 0
-first_of meanings call = Requesting meanings call.request call.now
+abbrev pub first_ask_of_call : {H : Type 0} → handle.Ghosts H → Call H → H → Ask → H → Reply → Type 0
+first_ask_of_call meanings call = Requesting meanings call.request call.now

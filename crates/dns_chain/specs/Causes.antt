@@ -14,10 +14,10 @@ use Rattle.dns_net.specs.Errors.{Reply, ErrorValue, Dns, Message, ForeignClassRe
 use Rattle.dns_net.specs.Handles.{Replies, reply_to}
 use Rattle.dns_net.specs.declared.handle.DnsHandle as handle
 use Rattle.dns_net.specs.declared.notice.Notice.TheVariants.{NotJudgedYet}
-use Rattle.dns_chain.specs.Heard.{heard_message, heard}
-use Rattle.dns_chain.specs.Calls.{Call, first_of}
-use Rattle.dns_chain.specs.Inquiries.{judged_ask}
-use Rattle.dns_chain.specs.Looked.{IsTrail}
+use Rattle.dns_chain.specs.Received.{received_message, received}
+use Rattle.dns_chain.specs.Calls.{Call, first_ask_of_call}
+use Rattle.dns_chain.specs.AskRequests.{judged_ask}
+use Rattle.dns_chain.specs.LookupAnswers.{IsTrail}
 
 -- ---- an error that the upstream answered
 
@@ -31,8 +31,8 @@ is_upstreams error = true
 
 -- the call made one send and no other, it was answered this error, which has no message, and a fault was met
 pub record PassedOn {H : Type 0} (meanings : handle.Ghosts H) (call : Call H) (error : ErrorValue) : Type 0 where
-  pub made : first_of meanings call call.old (judged_ask call.query) call.new (Err error)
-  pub silent : heard_message (Err error) ≡ None
+  pub made : first_ask_of_call meanings call call.old (judged_ask call.query) call.new (Err error)
+  pub silent : received_message (Err error) ≡ None
   pub rose : Rose (meanings.faults call.old) (meanings.faults call.new)
 
 -- an error that only an upstream makes is passed on; so that there are no records is never answered, since it has a message
@@ -43,7 +43,7 @@ PassesOnly meanings call answer =
 -- whatever error without a message a known upstream replies is the answer
 abbrev pub PassesOn : Option Replies → Question → Reply → Type 0
 PassesOn None q answer = Unit {0}
-PassesOn (Some replies) q answer = heard_message (reply_to replies.list q) ≡ None → answer ≡ reply_to replies.list q
+PassesOn (Some replies) q answer = received_message (reply_to replies.list q) ≡ None → answer ≡ reply_to replies.list q
 
 -- ---- a record of another class
 
@@ -53,8 +53,8 @@ pub record NamesForeign {H : Type 0} (meanings : handle.Ghosts H) (call : Call H
   pub reply : Reply
   pub records : Told
   pub first : Rr
-  pub made : first_of meanings call call.old (judged_ask call.query) call.new reply
-  pub heard : heard reply ≡ Some records
+  pub made : first_ask_of_call meanings call call.old (judged_ask call.query) call.new reply
+  pub received : received reply ≡ Some records
   pub found : foreign_record call.query records ≡ Some first
   pub named : error ≡ ForeignClassRecord first.owner first.class first.rtype
 
@@ -69,7 +69,7 @@ ForeignOnly meanings call answer =
 abbrev pub ForeignNamed : Option Replies → Question → Reply → Type 0
 ForeignNamed None q answer = Unit {0}
 ForeignNamed (Some replies) q answer =
-    (records : Told) (first : Rr) → heard (reply_to replies.list q) ≡ Some records → foreign_record q records ≡ Some first
+    (records : Told) (first : Rr) → received (reply_to replies.list q) ≡ Some records → foreign_record q records ≡ Some first
     → answer ≡ Err (ForeignClassRecord first.owner first.class first.rtype)
 
 -- ---- what isn't judged yet
@@ -102,7 +102,8 @@ ends_trail (Err error) = false
 abbrev pub JudgesTold : Option Replies → Question → Reply → Type 0
 JudgesTold None q answer = Unit {0}
 JudgesTold (Some replies) q answer =
-    (records : Told) → heard (reply_to replies.list q) ≡ Some records → foreign_record q records ≡ None → ends_trail answer ≡ true
+    (records : Told) → received (reply_to replies.list q) ≡ Some records → foreign_record q records ≡ None
+    → ends_trail answer ≡ true
 
 -- an Ok answer or a denial
 abbrev pub has_response : Reply → Bool
@@ -118,5 +119,5 @@ tells_nsec3 told = list_any (λ r. r.rtype == type_nsec3) (told.answers ++ told.
 abbrev pub AnswersTold : Option Replies → Question → Reply → Type 0
 AnswersTold None q answer = Unit {0}
 AnswersTold (Some replies) q answer =
-    (records : Told) → heard (reply_to replies.list q) ≡ Some records → foreign_record q records ≡ None
+    (records : Told) → received (reply_to replies.list q) ≡ Some records → foreign_record q records ≡ None
     → tells_nsec3 records ≡ false → has_response answer ≡ true

@@ -7,12 +7,12 @@ use Rattle.dns_laws.specs.Complete.{shows_secure}
 use Rattle.dns_laws.specs.Valid.{IsValidSession}
 use Rattle.dns_net.specs.Errors.{Reply}
 use Rattle.dns_net.specs.Handles.{Replies, reply_to}
-use Rattle.dns_chain.specs.Heard.{heard}
+use Rattle.dns_chain.specs.Received.{received}
 use Rattle.dns_chain.specs.Calls.{Call}
 
 -- the records of an upstream's first reply to a query, before any send
 abbrev pub first_told : Replies → Question → Option Told
-first_told replies q = heard (reply_to replies.list q)
+first_told replies q = received (reply_to replies.list q)
 
 -- an answer without a denial, in which the records that were queried stand, each of them Secure
 abbrev pub AnswersSecurely : Question → Reply → Type 0

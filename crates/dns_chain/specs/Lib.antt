@@ -1,9 +1,9 @@
-pub mod Inquiries
-pub mod Heard
+pub mod AskRequests
+pub mod Received
 pub mod Calls
 pub mod Sends
 pub mod LookupParts
-pub mod Looked
+pub mod LookupAnswers
 pub mod Causes
 pub mod Completing
 pub mod Sending

@@ -18,13 +18,13 @@ abbrev pub heard_told : Bool → Option Told → HeardValue
 heard_told empty told = option_map_or (λ t. Records t empty) told Fault
 
 -- what an upstream tells: its replies, or nothing
-abbrev pub Tells : Type 0
-Tells = Option Replies
+abbrev pub KnownReplies : Type 0
+KnownReplies = Option Replies
 
 -- the steps, in send order, heard what the upstream replies, where it tells that
-abbrev pub IsFrom : Tells → List AskedValue → Type 0
+abbrev pub IsFrom : KnownReplies → List AskedValue → Type 0
 IsFrom tells steps = IfSome tells (λ replies. IsFromReplies replies steps)
 
 -- the reply to a question, where the upstream tells its replies
-abbrev pub IsReplyTo : Tells → Question → Reply → Type 0
+abbrev pub IsReplyTo : KnownReplies → Question → Reply → Type 0
 IsReplyTo tells q reply = IfSome tells (λ replies. reply_to replies.list q ≡ reply)

@@ -12,12 +12,12 @@ use Rattle.dns_net.specs.declared.notice.Notice.TheVariants.{NoQueryInRequest}
 use Rattle.dns_net.specs.declared.verifier.Verifier as verifier
 use Rattle.dns_laws.specs.Denials.{HasDenials}
 use Rattle.dns_laws.specs.Ground.{HasGrounds}
-use Rattle.dns_chain.specs.Calls.{Call, Sending, inner_of, anchors_of, verifier_of, ask_of, first_of}
+use Rattle.dns_chain.specs.Calls.{Call, Sending, inner_of, anchors_of, verifier_of, ask_of_call, first_ask_of_call}
 use Rattle.dns_chain.specs.Causes.{PassesOnly, PassesOn, ForeignOnly, ForeignNamed, JudgesTold, UnjudgedOnly}
 use Rattle.dns_chain.specs.Causes.{sees_nsec3, AnswersTold}
 use Rattle.dns_chain.specs.Completing.{Completes}
-use Rattle.dns_chain.specs.Inquiries.{asking_options}
-use Rattle.dns_chain.specs.Looked.{OfAnswer, IsSoundAnswer, IsTrail, HasMarksOfTrail, ShowsItsDenial, DeniesQuery}
+use Rattle.dns_chain.specs.AskRequests.{asking_options}
+use Rattle.dns_chain.specs.LookupAnswers.{OfAnswer, IsSoundAnswer, IsTrail, HasMarksOfTrail, ShowsItsDenial, DeniesQuery}
 use Rattle.dns_chain.specs.Sends.{SendsBy}
 use Rattle.dns_chain.specs.declared.handle.DnssecDnsHandle.{DnssecDnsHandle}
 
@@ -59,7 +59,7 @@ UnlessForgotten reply Fact = (reply ≡ Err seen.NoMemory) ⊎ Fact
 
 -- all that a lookup promises of its sends and its answer, whichever request it sends first
 pub record IsLookedUp {H : Type 0} (meanings : handle.Ghosts H) (call : Call H) (reply : Reply) : Type 0 where
-  pub sends : SendsBy (first_of meanings call) (ask_of meanings call) call.old call.new call.query
+  pub sends : SendsBy (first_ask_of_call meanings call) (ask_of_call meanings call) call.old call.new call.query
   pub sound : OfAnswer reply (λ a ending. IsSoundAnswer meanings call a)
   pub trail : OfAnswer reply (λ a ending. IsTrail meanings call a.trail ending)
   pub marks : OfAnswer reply (λ a ending. HasMarksOfTrail call.now a)

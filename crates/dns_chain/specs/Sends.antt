@@ -7,8 +7,8 @@ use Rattle.dns_net.specs.Errors as seen
 use Rattle.dns_net.specs.Errors.{Reply}
 use Rattle.dns_net.specs.Handles.{Replies, reply_to, left_after}
 use Rattle.dns_net.specs.Walks.{Walked}
-use Rattle.dns_chain.specs.Heard.{heard_value}
-use Rattle.dns_chain.specs.Inquiries.{Ask, judged_ask}
+use Rattle.dns_chain.specs.Received.{heard_from}
+use Rattle.dns_chain.specs.AskRequests.{Ask, judged_ask}
 
 -- the ask of a step
 abbrev pub ask_of_step : AskedValue → Ask
@@ -18,7 +18,7 @@ ask_of_step step = record { query = step.query; judged = step.judged }
 pub record SendOf {H : Type 0} (ask : H → Ask → H → Reply → Type 0) (from : H) (step : AskedValue) (to : H) : Type 0 where
   pub reply : Reply
   pub made : ask from (ask_of_step step) to reply
-  pub heard : step.reply ≡ heard_value reply
+  pub heard : step.reply ≡ heard_from reply
   pub remembered : reply ≢ Err seen.NoMemory
 
 -- a handle went from one state to another by one ask for each step, in order
@@ -27,7 +27,8 @@ SendsAlong ask from [] to = from ≡ to
 SendsAlong {H} ask from (step ∷ steps) to = (middle : H) × SendOf ask from step middle × SendsAlong ask middle steps to
 
 -- the first step by an ask of another kind
-abbrev pub SendsFrom : {H : Type 0} → (H → Ask → H → Reply → Type 0) → (H → Ask → H → Reply → Type 0) → H → List AskedValue → H → Type 0
+abbrev pub SendsFrom : {H : Type 0} → (H → Ask → H → Reply → Type 0) → (H → Ask → H → Reply → Type 0)
+    → H → List AskedValue → H → Type 0
 SendsFrom first ask from [] to = from ≡ to
 SendsFrom {H} first ask from (step ∷ steps) to = (middle : H) × SendOf first from step middle × SendsAlong ask middle steps to
 
@@ -35,12 +36,12 @@ SendsFrom {H} first ask from (step ∷ steps) to = (middle : H) × SendOf first 
 abbrev pub IsFromReplies : Replies → List AskedValue → Type 0
 IsFromReplies replies [] = Unit {0}
 IsFromReplies replies (step ∷ steps) =
-    (step.reply ≡ heard_value (reply_to replies.list step.query)) × IsFromReplies (left_after replies step.query) steps
+    (step.reply ≡ heard_from (reply_to replies.list step.query)) × IsFromReplies (left_after replies step.query) steps
 
 -- a step heard a fault
-abbrev pub is_fault : HeardValue → Bool
-is_fault (Records told empty) = false
-is_fault Fault = true
+abbrev pub heard_fault : HeardValue → Bool
+heard_fault (Records told empty) = false
+heard_fault Fault = true
 
 -- a handle went from one state to another by a judged ask for the query, of one kind, and asks of another kind after it, at most
 -- so many in all

@@ -38,45 +38,45 @@ use Rattle.dns_net.specs.declared.error.NetError.{NetError}
 use Rattle.dns_net.specs.declared.error.NetError.TheVariants.{NoMemory}
 use Rattle.dns_net.specs.declared.handle.DnsHandle as handle
 use Rattle.dns_trust.specs.Judge.{judge_of}
-use Rattle.dns_chain.specs.Heard.{heard_message, says_none}
-use Rattle.dns_chain.specs.Inquiries.{Ask}
+use Rattle.dns_chain.specs.Received.{received_message, says_none}
+use Rattle.dns_chain.specs.AskRequests.{Ask}
 use Rattle.dns_chain.specs.Calls.{Asking}
 use Rattle.dns_chain.specs.Sends.{SendsAlong}
-use Rattle.dns_chain.specs.declared.asking.HeardMessage.{HeardMessage}
-use Rattle.dns_chain.specs.declared.inquiry.Inquiry.{Inquiry}
-use Rattle.dns_chain.specs.declared.inquiry.Progress.{Progress}
+use Rattle.dns_chain.specs.declared.receiving.ReceivedMessage.{ReceivedMessage}
+use Rattle.dns_chain.specs.declared.context.LookupContext.{LookupContext}
+use Rattle.dns_chain.specs.declared.context.Progress.{Progress}
 use Rattle.dns_chain.specs.declared.search.Sight.{Sight}
 use Rattle.dns_chain.specs.declared.search.Sight.TheVariants.{Cut, Onward, Unseen}
 
 -- ---- one ask
 
--- an ask of an inquiry
-abbrev pub asking : {H V : Type 0} → handle.Ghosts H → Inquiry V → H → Ask → H → Reply → Type 0
-asking meanings inquiry = Asking meanings inquiry.options inquiry.judge.moment
+-- an ask of a lookup
+abbrev pub asking : {H V : Type 0} → handle.Ghosts H → LookupContext V → H → Ask → H → Reply → Type 0
+asking meanings context = Asking meanings context.options context.judge.moment
 
 -- the message of a reply, without its marks, and whether it said that there are no records
-pub record IsHeard (reply : Reply) (heard : HeardMessage) : Type 0 where
+pub record IsReceived (reply : Reply) (received : ReceivedMessage) : Type 0 where
   pub from : MessageValue
-  pub is : heard_message reply ≡ Some from
-  pub cleared : heard.message ≡ cleared_message from
-  pub empty : heard.empty ≡ says_none reply
+  pub is : received_message reply ≡ Some from
+  pub cleared : received.message ≡ cleared_message from
+  pub empty : received.empty ≡ says_none reply
 
 -- the reply has no message, and is this error
-pub record IsUnheard (reply : Reply) (error : NetError) : Type 0 where
-  pub none : heard_message reply ≡ None
+pub record IsReceivedError (reply : Reply) (error : NetError) : Type 0 where
+  pub none : received_message reply ≡ None
   pub is : reply ≡ Err (error_of error)
 
 -- memory may run out where a message is made of that there are no records
-abbrev pub HeardAs : Reply → Result HeardMessage NetError → Type 0
-HeardAs reply (Ok heard) = IsHeard reply heard
-HeardAs reply (Err error) = (error ≡ NoMemory) ⊎ IsUnheard reply error
+abbrev pub ReceivedAs : Reply → Result ReceivedMessage NetError → Type 0
+ReceivedAs reply (Ok received) = IsReceived reply received
+ReceivedAs reply (Err error) = (error ≡ NoMemory) ⊎ IsReceivedError reply error
 
--- one ask, its reply, and what was heard of it
-pub record Heard {H : Type 0} (ask : H → Ask → H → Reply → Type 0) (old new : H) (made_for : Ask)
-    (result : Result HeardMessage NetError) : Type 0 where
+-- one ask, its reply, and what was received by it
+pub record Received {H : Type 0} (ask : H → Ask → H → Reply → Type 0) (old new : H) (made_for : Ask)
+    (result : Result ReceivedMessage NetError) : Type 0 where
   pub reply : Reply
   pub made : ask old made_for new reply
-  pub heard : HeardAs reply result
+  pub received : ReceivedAs reply result
 
 -- a sight, as the definitions have it
 abbrev pub sight_value : Sight → derived.Sight
@@ -91,11 +91,16 @@ abbrev pub IsCounted : Progress → Progress → Type 0
 IsCounted old new = length new.steps.items + old.sends ≤ length old.steps.items + new.sends
 
 -- whatever the result: a handle went from one state to another by asks that a counter of sends covers
-pub record Went {H : Type 0} (ask : H → Ask → H → Reply → Type 0) (faults : H → ℕ) (old new : H)
+pub record CountedSends {H : Type 0} (ask : H → Ask → H → Reply → Type 0) (faults : H → ℕ) (old new : H)
     (n m : ℕ) : Type 0 where
   pub walk : Walked ask old new n m
   pub few : m ≤ most_sends
   pub later : faults old ≤ faults new
+
+-- the same of a lookup, between two states of its progress
+abbrev pub HasSent : {H V : Type 0} → handle.Ghosts H → LookupContext V → H → Progress → H → Progress → Type 0
+HasSent meanings context old before new after =
+    CountedSends (asking meanings context) meanings.faults old new before.sends after.sends
 
 -- asks in order, with the steps that they added to the trail; the handle went along these steps, in the order of the sends
 pub record Asks {H : Type 0} (ask : H → Ask → H → Reply → Type 0) (j : Judge) (limit : ℕ)
@@ -103,18 +108,18 @@ pub record Asks {H : Type 0} (ask : H → Ask → H → Reply → Type 0) (j : J
   pub part : Part j limit before after asks n m
   pub sends : SendsAlong ask old (steps_at after (Some part.order)) new
 
--- asks of an inquiry, between two states of its progress
-abbrev pub Walk : {H V : Type 0} → handle.Ghosts H → (V → VerifierAnswers) → Inquiry V → H → Progress → H → Progress
+-- asks of a lookup, with the steps that they added to its progress
+abbrev pub Walk : {H V : Type 0} → handle.Ghosts H → (V → VerifierAnswers) → LookupContext V → H → Progress → H → Progress
     → List AskRef → Type 0
-Walk meanings answers inquiry old before new after asks =
-    Asks (asking meanings inquiry) (judge_of answers inquiry.judge) inquiry.limit old new before.steps.items after.steps.items asks
+Walk meanings answers context old before new after asks =
+    Asks (asking meanings context) (judge_of answers context.judge) context.limit old new before.steps.items after.steps.items asks
     before.sends after.sends
 
 -- by what the sets of a step are judged, at a state of the progress
-abbrev pub grounds_at : {V : Type 0} → (V → VerifierAnswers) → Inquiry V → Progress → Question → ℕ → Grounds
-grounds_at answers inquiry progress q depth = record {
-  judge = judge_of answers inquiry.judge;
-  limit = inquiry.limit;
+abbrev pub grounds_at : {V : Type 0} → (V → VerifierAnswers) → LookupContext V → Progress → Question → ℕ → Grounds
+grounds_at answers context progress q depth = record {
+  judge = judge_of answers context.judge;
+  limit = context.limit;
   earlier = progress.steps.items;
   query = q;
   depth = depth;

@@ -8,9 +8,9 @@ ghost use Rattle.dns_sets.specs.Outcome.{outcome_value};
 ghost use Rattle.dns_trust.specs.Verdicts.{listed};
 ghost use Rattle.dns_chain.specs.Walking.{IsAdded, accepted_sets, judged_step, plain_step};
 
-use crate::asking::HeardMessage;
-use crate::inquiry::Progress;
+use crate::context::Progress;
 use crate::judging::{Concluded, Judgement};
+use crate::receiving::ReceivedMessage;
 use crate::steps::{add_step, ended, ending_of, only_seen, records_of};
 use dns_name::NoMemory;
 use dns_net::{AskRef, Ending, Reply};
@@ -34,7 +34,7 @@ pub(crate) fn refused(ask: AskRef) -> Finished
 }
 
 /// Ends a step that heard a fault.
-pub(crate) fn unheard(
+pub(crate) fn faulted(
     alloc: Global,
     progress: &mut Progress,
     query: Query,
@@ -103,7 +103,7 @@ pub(crate) fn answered(
     progress: &mut Progress,
     query: Query,
     depth: u16,
-    heard: HeardMessage,
+    received: ReceivedMessage,
     judged: Judgement,
     concluded: Concluded,
 ) -> Result<Finished, NoMemory>
@@ -111,7 +111,7 @@ pub(crate) fn answered(
     ensures sends { progress.new.sends ≡ progress.old.sends }
     ensures one { length progress.new.steps.items ≤ length progress.old.steps.items + 1 }
     ensures added { IfOk result (λ f. IsAdded progress.old.steps.items progress.new.steps.items
-        (judged_step depth query (Records (told_by heard.message) heard.empty) judged.entries.items
+        (judged_step depth query (Records (told_by received.message) received.empty) judged.entries.items
         (ending_by (outcome_value concluded.outcome)) concluded.excuse.items) f.ask) }
     ensures answer { IfOk result (λ f. listed f.answer ≡ accepted_sets (outcome_value concluded.outcome) judged.sets.items) }
 {
@@ -120,7 +120,7 @@ pub(crate) fn answered(
     let step = ended(
         query,
         depth,
-        records_of(heard),
+        records_of(received),
         entries,
         ending_of(outcome),
         excuse,

@@ -5,14 +5,14 @@ ghost use Rattle.dns_chain.specs.Calls.{Asking};
 ghost use Rattle.dns_chain.specs.Causes.{PassesOnly, PassesOn, ForeignOnly, ForeignNamed, JudgesTold, UnjudgedOnly};
 ghost use Rattle.dns_chain.specs.Causes.{sees_nsec3, AnswersTold};
 ghost use Rattle.dns_chain.specs.Completing.{Completes};
-ghost use Rattle.dns_chain.specs.Looked.{UnlessNoMemory, OfAnswer, IsSoundAnswer, IsTrail, HasMarksOfTrail};
-ghost use Rattle.dns_chain.specs.Looked.{ShowsItsDenial, DeniesQuery};
+ghost use Rattle.dns_chain.specs.LookupAnswers.{UnlessNoMemory, OfAnswer, IsSoundAnswer, IsTrail, HasMarksOfTrail};
+ghost use Rattle.dns_chain.specs.LookupAnswers.{ShowsItsDenial, DeniesQuery};
 ghost use Rattle.dns_chain.specs.Sends.{SendsFor};
 ghost use Rattle.dns_laws.specs.Denials.{HasDenials};
 ghost use Rattle.dns_laws.specs.Ground.{HasGrounds};
 
-use crate::inquiry::{Inquiry, depth_limit_of};
-use crate::looking::look_up;
+use crate::context::{LookupContext, depth_limit_of};
+use crate::lookup::look_up;
 use crate::sending::answer_request;
 use dns_name::NoMemory;
 use dns_net::{
@@ -145,12 +145,12 @@ impl<H: DnsHandle + Drop, V: Verifier + Drop> DnssecDnsHandle<H, V> {
             anchors: &self.anchors,
             moment: now,
         };
-        let inquiry = Inquiry {
+        let context = LookupContext {
             judge,
             options,
             limit: depth_limit_of(&options),
         };
-        let reply = look_up(alloc, &inquiry, &mut self.handle, query);
+        let reply = look_up(alloc, &context, &mut self.handle, query);
         self.sends = self.sends.saturating_add(1);
         self.faults = faults_after(self.faults, &reply);
         reply

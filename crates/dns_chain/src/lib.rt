@@ -3,12 +3,12 @@
 //! `DnssecDnsHandle::lookup`, and its `send` as that of a `DnsHandle`, by their clauses.
 #![tactic(auto)]
 
-mod asking;
+mod context;
 mod finished;
 mod handle;
-mod inquiry;
 mod judging;
-mod looking;
+mod lookup;
+mod receiving;
 mod search;
 mod sending;
 mod steps;

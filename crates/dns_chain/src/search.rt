@@ -9,11 +9,11 @@ ghost use Rattle.dns_model.specs.Records.{Question};
 ghost use Rattle.dns_judgement.specs.Asking.{most_sends};
 ghost use Rattle.dns_judgement.specs.Derivation.{sight_of};
 ghost use Rattle.dns_judgement.specs.Unsigned.{has_ns as shows_ns};
-ghost use Rattle.dns_chain.specs.Walking.{asking, grounds_at, sight_value, IsCounted, IsSeen, IsWay, Went, Walk};
+ghost use Rattle.dns_chain.specs.Walking.{grounds_at, sight_value, IsCounted, IsSeen, IsWay, HasSent, Walk};
 
-use crate::asking::{HeardMessage, hear};
+use crate::context::{LookupContext, MOST_SENDS, Progress};
 use crate::finished::seen;
-use crate::inquiry::{Inquiry, MOST_SENDS, Progress};
+use crate::receiving::{ReceivedMessage, send_query};
 use crate::steps::records_of;
 use dns_message::Message;
 use dns_name::{Name, NoMemory};
@@ -51,7 +51,7 @@ struct Glimpse {
 /// Asks from a name on up to the root for NS records, until they are seen or nothing is. Each ask is as deep as its step.
 pub(crate) fn find_zone<H: DnsHandle, V: Verifier>(
     alloc: Global,
-    inquiry: &Inquiry<'_, V>,
+    context: &LookupContext<'_, V>,
     handle: &mut H,
     progress: &mut Progress,
     class: DNSClass,
@@ -61,18 +61,17 @@ pub(crate) fn find_zone<H: DnsHandle, V: Verifier>(
     requires few { progress.old.sends ≤ most_sends }
     requires counted { length progress.old.steps.items ≤ progress.old.sends }
     ensures counted { IsCounted progress.old progress.new }
-    ensures went { Went (asking H.DnsHandle inquiry.now) H.faults
-        handle.old handle.new progress.old.sends progress.new.sends }
-    ensures asks { IfOk result (λ w. Walk H.DnsHandle V.answers inquiry.now
+    ensures sent { HasSent H.DnsHandle context.now handle.old progress.old handle.new progress.new }
+    ensures asks { IfOk result (λ w. Walk H.DnsHandle V.answers context.now
         handle.old progress.old handle.new progress.new w.asked.items) }
     ensures way { IfOk result (λ w. (query : Question) → IsWay
-        (grounds_at V.answers inquiry.now progress.new query depth) class.0 start.now w.asked.items w.zone) }
+        (grounds_at V.answers context.now progress.new query depth) class.0 start.now w.asked.items w.zone) }
 {
     let mut asked = Vec::new(alloc);
     let mut name = start.try_clone()?;
     'names: while !name.is_root() {
         let query = ns_query(&name, class)?;
-        let Glimpse { ask, sight } = see(alloc, inquiry, handle, progress, query, depth)?;
+        let Glimpse { ask, sight } = see(alloc, context, handle, progress, query, depth)?;
         asked.push(ask)?;
         match sight {
             Sight::Cut => {
@@ -91,7 +90,7 @@ pub(crate) fn find_zone<H: DnsHandle, V: Verifier>(
 // Asks plainly for the NS records of a name, and adds the step that this makes to the trail.
 fn see<H: DnsHandle, V: Verifier>(
     alloc: Global,
-    inquiry: &Inquiry<'_, V>,
+    context: &LookupContext<'_, V>,
     handle: &mut H,
     progress: &mut Progress,
     query: Query,
@@ -100,17 +99,16 @@ fn see<H: DnsHandle, V: Verifier>(
     requires few { progress.old.sends ≤ most_sends }
     requires counted { length progress.old.steps.items ≤ progress.old.sends }
     ensures counted { IsCounted progress.old progress.new }
-    ensures went { Went (asking H.DnsHandle inquiry.now) H.faults
-        handle.old handle.new progress.old.sends progress.new.sends }
-    ensures asks { IfOk result (λ g. Walk H.DnsHandle V.answers inquiry.now
+    ensures sent { HasSent H.DnsHandle context.now handle.old progress.old handle.new progress.new }
+    ensures asks { IfOk result (λ g. Walk H.DnsHandle V.answers context.now
         handle.old progress.old handle.new progress.new (g.ask ∷ [])) }
     ensures seen { IfOk result (λ g. IsSeen progress.new.steps.items depth query g.ask (sight_value g.sight)) }
 {
     if progress.sends >= MOST_SENDS {
         return Ok(unseen(AskRef::TooMany));
     }
-    let heard = match hear(alloc, inquiry, handle, progress, &query, false) {
-        Ok(heard) => heard,
+    let received = match send_query(alloc, context, handle, progress, &query, false) {
+        Ok(received) => received,
         Err(error) => match error {
             NetError::NoMemory => return Err(NoMemory),
             _ => {
@@ -120,13 +118,13 @@ fn see<H: DnsHandle, V: Verifier>(
             }
         },
     };
-    let sight = sight_in(&query.name, &heard);
+    let sight = sight_in(&query.name, &received);
     let ask = seen(
         alloc,
         progress,
         query,
         depth,
-        records_of(heard),
+        records_of(received),
         Ending::Seen,
     )?;
     Ok(Glimpse { ask, sight })
@@ -144,10 +142,10 @@ fn unseen(ask: AskRef) -> Glimpse
 }
 
 // A reply that says that there are no records leads on, whatever records come with it.
-fn sight_in(name: &Name, heard: &HeardMessage) -> Sight
-    ensures { sight_value result ≡ sight_of name.now (Records (told_by heard.now.message) heard.now.empty) }
+fn sight_in(name: &Name, received: &ReceivedMessage) -> Sight
+    ensures { sight_value result ≡ sight_of name.now (Records (told_by received.now.message) received.now.empty) }
 {
-    if !heard.empty && has_ns(name, &heard.message) {
+    if !received.empty && has_ns(name, &received.message) {
         Sight::Cut
     } else {
         Sight::Onward

@@ -6,8 +6,8 @@ ghost use Rattle.dns_net.specs.Replies.{reply_of};
 ghost use Rattle.dns_net.specs.Requests.{first_question};
 ghost use Rattle.dns_chain.specs.Sending.{checked_edns, checked_request, AnswersRequest};
 
-use crate::inquiry::{Inquiry, asking_options_of, depth_limit_of};
-use crate::looking::look;
+use crate::context::{LookupContext, asking_options_of, depth_limit_of};
+use crate::lookup::look_up_by_request;
 use dns_message::Edns;
 use dns_name::{NoMemory, Octets};
 use dns_net::{DnsHandle, DnsRequest, DnsRequestOptions, DnsResponse, NetError, Notice, Verifier};
@@ -45,12 +45,12 @@ pub(crate) fn answer_request<H: DnsHandle, V: Verifier>(
         anchors,
         moment: now,
     };
-    let inquiry = Inquiry {
+    let context = LookupContext {
         judge,
         options,
         limit: depth_limit_of(&options),
     };
-    look(alloc, &inquiry, handle, checked(alloc, request), query)
+    look_up_by_request(alloc, &context, handle, checked(alloc, request), query)
 }
 
 // A query, and no notify, update or other operation.

@@ -9,7 +9,7 @@ ghost use Rattle.dns_net.specs.Trail.{heard_value, ending_value};
 ghost use Rattle.dns_sets.specs.Outcome.{outcome_value};
 ghost use Rattle.dns_chain.specs.Walking.{IsAdded, entry_of, judged_step, plain_step, foreign_ending};
 
-use crate::asking::HeardMessage;
+use crate::receiving::ReceivedMessage;
 use dns_message::Message;
 use dns_name::NoMemory;
 use dns_net::{AskRef, Asked, Ending, JudgedSet, MarkOrigin, Reply, Told};
@@ -72,10 +72,10 @@ pub(crate) fn only_seen(
 }
 
 /// The records of a message, and whether the reply said that there are none, as a step keeps them.
-pub(crate) fn records_of(heard: HeardMessage) -> Reply
-    ensures { heard_value result ≡ Records (told_by heard.message) heard.empty }
+pub(crate) fn records_of(received: ReceivedMessage) -> Reply
+    ensures { heard_value result ≡ Records (told_by received.message) received.empty }
 {
-    let HeardMessage { message, empty } = heard;
+    let ReceivedMessage { message, empty } = received;
     Reply::Told(Told {
         code: message.response_code,
         empty,

@@ -9,15 +9,15 @@ ghost use Rattle.dns_judgement.specs.Unsigned.{is_searched as needs_search};
 ghost use Rattle.dns_sets.specs.Outcome.{outcome_value};
 ghost use Rattle.dns_trust.specs.Judge.{judge_of};
 ghost use Rattle.dns_trust.specs.Verdicts.{verdict_value, listed};
-ghost use Rattle.dns_chain.specs.Walking.{asking, grounds_at, IsCounted, Went, Walk, IsJudgement, IsJudgedSet, AreTried, IsTried, IsAnswer, IsSearched, IsConcluded, asks_in};
+ghost use Rattle.dns_chain.specs.Walking.{grounds_at, IsCounted, HasSent, Walk, IsJudgement, IsJudgedSet, AreTried, IsTried, IsAnswer, IsSearched, IsConcluded, asks_in};
 
-use crate::asking::{HeardMessage, hear};
-use crate::finished::{Finished, answered, refused, unanswered, unheard};
-use crate::inquiry::{Inquiry, MOST_SENDS, Progress};
+use crate::context::{LookupContext, MOST_SENDS, Progress};
+use crate::finished::{Finished, answered, faulted, refused, unanswered};
 use crate::judging::{
     Concluded, Judgement, OneSet, Searched, Tried, Verdicts, add_ask, class_of, is_key_set, set_of,
     untried, with_entry,
 };
+use crate::receiving::{ReceivedMessage, send_query};
 use crate::search::{Way, find_zone};
 use crate::steps::{foreign_of, records_of};
 use dns_name::{Name, NoMemory};
@@ -35,7 +35,7 @@ use std::alloc::Global;
 #[cycle(walk)]
 pub(crate) fn judge_sets<H: DnsHandle, V: Verifier>(
     alloc: Global,
-    inquiry: &Inquiry<'_, V>,
+    context: &LookupContext<'_, V>,
     handle: &mut H,
     progress: &mut Progress,
     query: &Query,
@@ -44,21 +44,20 @@ pub(crate) fn judge_sets<H: DnsHandle, V: Verifier>(
 ) -> Result<Judgement, NoMemory>
     requires few { progress.old.sends ≤ most_sends }
     requires counted { length progress.old.steps.items ≤ progress.old.sends }
-    requires limit { inquiry.now.limit ≤ 255 }
+    requires limit { context.now.limit ≤ 255 }
     requires shallow { depth ≤ 255 }
     ensures counted { IsCounted progress.old progress.new }
-    ensures went { Went (asking H.DnsHandle inquiry.now) H.faults
-        handle.old handle.new progress.old.sends progress.new.sends }
-    ensures asks { IfOk result (λ v. Walk H.DnsHandle V.answers inquiry.now
+    ensures sent { HasSent H.DnsHandle context.now handle.old progress.old handle.new progress.new }
+    ensures asks { IfOk result (λ v. Walk H.DnsHandle V.answers context.now
         handle.old progress.old handle.new progress.new (asks_of_sets v.entries.items)) }
     ensures judged { IfOk result (λ v. IsJudgement
-        (grounds_at V.answers inquiry.now progress.new query.now depth) placed.items v.sets.items v.entries.items) }
+        (grounds_at V.answers context.now progress.new query.now depth) placed.items v.sets.items v.entries.items) }
 {
     let mut sets = Vec::new(alloc);
     let mut entries = Vec::new(alloc);
     for next in placed {
         let OneSet { set, entry } = judge_set(
-            alloc, inquiry, handle, progress, query, depth, next,
+            alloc, context, handle, progress, query, depth, next,
         )?;
         sets.push(set)?;
         entries.push(entry)?;
@@ -70,7 +69,7 @@ pub(crate) fn judge_sets<H: DnsHandle, V: Verifier>(
 #[cycle(walk)]
 fn judge_set<H: DnsHandle, V: Verifier>(
     alloc: Global,
-    inquiry: &Inquiry<'_, V>,
+    context: &LookupContext<'_, V>,
     handle: &mut H,
     progress: &mut Progress,
     query: &Query,
@@ -79,27 +78,26 @@ fn judge_set<H: DnsHandle, V: Verifier>(
 ) -> Result<OneSet, NoMemory>
     requires few { progress.old.sends ≤ most_sends }
     requires counted { length progress.old.steps.items ≤ progress.old.sends }
-    requires limit { inquiry.now.limit ≤ 255 }
+    requires limit { context.now.limit ≤ 255 }
     requires shallow { depth ≤ 255 }
     ensures counted { IsCounted progress.old progress.new }
-    ensures went { Went (asking H.DnsHandle inquiry.now) H.faults
-        handle.old handle.new progress.old.sends progress.new.sends }
-    ensures asks { IfOk result (λ o. Walk H.DnsHandle V.answers inquiry.now
+    ensures sent { HasSent H.DnsHandle context.now handle.old progress.old handle.new progress.new }
+    ensures asks { IfOk result (λ o. Walk H.DnsHandle V.answers context.now
         handle.old progress.old handle.new progress.new o.entry.asked) }
     ensures judged { IfOk result (λ o. IsJudgedSet
-        (grounds_at V.answers inquiry.now progress.new query.now depth) placed o.set o.entry) }
+        (grounds_at V.answers context.now progress.new query.now depth) placed o.set o.entry) }
 {
     if is_key_set(&placed) {
-        let one = judge_keys(alloc, inquiry, handle, progress, depth, placed)?;
+        let one = judge_keys(alloc, context, handle, progress, depth, placed)?;
         return Ok(one);
     }
     if is_searched(set_of(&placed)) {
-        let one = judge_unsigned(alloc, inquiry, handle, progress, depth, placed)?;
+        let one = judge_unsigned(alloc, context, handle, progress, depth, placed)?;
         return Ok(one);
     }
     let signed = set_of(&placed);
     let Verdicts { verdicts, asked } = judge_signatures(
-        alloc, inquiry, handle, progress, query, depth, signed,
+        alloc, context, handle, progress, query, depth, signed,
     )?;
     let set = judged_by(placed, verdicts)?;
     let one = with_entry(set, asked)?;
@@ -110,7 +108,7 @@ fn judge_set<H: DnsHandle, V: Verifier>(
 #[cycle(walk)]
 fn judge_keys<H: DnsHandle, V: Verifier>(
     alloc: Global,
-    inquiry: &Inquiry<'_, V>,
+    context: &LookupContext<'_, V>,
     handle: &mut H,
     progress: &mut Progress,
     depth: u16,
@@ -118,18 +116,17 @@ fn judge_keys<H: DnsHandle, V: Verifier>(
 ) -> Result<OneSet, NoMemory>
     requires few { progress.old.sends ≤ most_sends }
     requires counted { length progress.old.steps.items ≤ progress.old.sends }
-    requires limit { inquiry.now.limit ≤ 255 }
+    requires limit { context.now.limit ≤ 255 }
     requires shallow { depth ≤ 255 }
     requires keys { (placed.set.rtype == type_dnskey) ≡ true }
     ensures counted { IsCounted progress.old progress.new }
-    ensures went { Went (asking H.DnsHandle inquiry.now) H.faults
-        handle.old handle.new progress.old.sends progress.new.sends }
-    ensures asks { IfOk result (λ o. Walk H.DnsHandle V.answers inquiry.now
+    ensures sent { HasSent H.DnsHandle context.now handle.old progress.old handle.new progress.new }
+    ensures asks { IfOk result (λ o. Walk H.DnsHandle V.answers context.now
         handle.old progress.old handle.new progress.new o.entry.asked) }
     ensures judged { IfOk result (λ o. (query : Question) → IsJudgedSet
-        (grounds_at V.answers inquiry.now progress.new query depth) placed o.set o.entry) }
+        (grounds_at V.answers context.now progress.new query depth) placed o.set o.entry) }
 {
-    let placed = match judged_keys(alloc, &inquiry.judge, placed)? {
+    let placed = match judged_keys(alloc, &context.judge, placed)? {
         KeysStep::Done(set) => {
             let one = with_entry(set, Vec::new(alloc))?;
             return Ok(one);
@@ -137,8 +134,8 @@ fn judge_keys<H: DnsHandle, V: Verifier>(
         KeysStep::NeedsDs(placed) => placed,
     };
     let ds_query = ds_ask_of(set_of(&placed))?;
-    let Finished { ask, answer } = ask(alloc, inquiry, handle, progress, ds_query, depth + 1)?;
-    let set = judged_by_ds(alloc, &inquiry.judge, placed, &answer)?;
+    let Finished { ask, answer } = ask(alloc, context, handle, progress, ds_query, depth + 1)?;
+    let set = judged_by_ds(alloc, &context.judge, placed, &answer)?;
     let asked = vec![in alloc; ask]?;
     let one = with_entry(set, asked)?;
     Ok(one)
@@ -148,7 +145,7 @@ fn judge_keys<H: DnsHandle, V: Verifier>(
 #[cycle(walk)]
 fn judge_unsigned<H: DnsHandle, V: Verifier>(
     alloc: Global,
-    inquiry: &Inquiry<'_, V>,
+    context: &LookupContext<'_, V>,
     handle: &mut H,
     progress: &mut Progress,
     depth: u16,
@@ -156,22 +153,21 @@ fn judge_unsigned<H: DnsHandle, V: Verifier>(
 ) -> Result<OneSet, NoMemory>
     requires few { progress.old.sends ≤ most_sends }
     requires counted { length progress.old.steps.items ≤ progress.old.sends }
-    requires limit { inquiry.now.limit ≤ 255 }
+    requires limit { context.now.limit ≤ 255 }
     requires shallow { depth ≤ 255 }
     requires others { (placed.set.rtype == type_dnskey) ≡ false }
     requires unsigned { needs_search placed.set ≡ true }
     ensures counted { IsCounted progress.old progress.new }
-    ensures went { Went (asking H.DnsHandle inquiry.now) H.faults
-        handle.old handle.new progress.old.sends progress.new.sends }
-    ensures asks { IfOk result (λ o. Walk H.DnsHandle V.answers inquiry.now
+    ensures sent { HasSent H.DnsHandle context.now handle.old progress.old handle.new progress.new }
+    ensures asks { IfOk result (λ o. Walk H.DnsHandle V.answers context.now
         handle.old progress.old handle.new progress.new o.entry.asked) }
     ensures judged { IfOk result (λ o. (query : Question) → IsJudgedSet
-        (grounds_at V.answers inquiry.now progress.new query depth) placed o.set o.entry) }
+        (grounds_at V.answers context.now progress.new query depth) placed o.set o.entry) }
 {
     let class = class_of(&placed);
     let start = set_start(set_of(&placed))?;
     let Searched { mark, asked } = search_zone(
-        alloc, inquiry, handle, progress, class, &start, depth,
+        alloc, context, handle, progress, class, &start, depth,
     )?;
     let one = with_entry(unsigned_by(alloc, placed, mark), asked)?;
     Ok(one)
@@ -181,7 +177,7 @@ fn judge_unsigned<H: DnsHandle, V: Verifier>(
 #[cycle(walk)]
 fn search_zone<H: DnsHandle, V: Verifier>(
     alloc: Global,
-    inquiry: &Inquiry<'_, V>,
+    context: &LookupContext<'_, V>,
     handle: &mut H,
     progress: &mut Progress,
     class: DNSClass,
@@ -190,17 +186,16 @@ fn search_zone<H: DnsHandle, V: Verifier>(
 ) -> Result<Searched, NoMemory>
     requires few { progress.old.sends ≤ most_sends }
     requires counted { length progress.old.steps.items ≤ progress.old.sends }
-    requires limit { inquiry.now.limit ≤ 255 }
+    requires limit { context.now.limit ≤ 255 }
     requires shallow { depth ≤ 255 }
     ensures counted { IsCounted progress.old progress.new }
-    ensures went { Went (asking H.DnsHandle inquiry.now) H.faults
-        handle.old handle.new progress.old.sends progress.new.sends }
-    ensures asks { IfOk result (λ s. Walk H.DnsHandle V.answers inquiry.now
+    ensures sent { HasSent H.DnsHandle context.now handle.old progress.old handle.new progress.new }
+    ensures asks { IfOk result (λ s. Walk H.DnsHandle V.answers context.now
         handle.old progress.old handle.new progress.new s.asked.items) }
     ensures searched { IfOk result (λ s. (query : Question) → IsSearched
-        (grounds_at V.answers inquiry.now progress.new query depth) class.0 start.now s.asked.items s.mark) }
+        (grounds_at V.answers context.now progress.new query depth) class.0 start.now s.asked.items s.mark) }
 {
-    let Way { zone, asked } = find_zone(alloc, inquiry, handle, progress, class, start, depth)?;
+    let Way { zone, asked } = find_zone(alloc, context, handle, progress, class, start, depth)?;
     let Some(zone) = zone else {
         return Ok(Searched {
             mark: Proof::Bogus,
@@ -209,9 +204,9 @@ fn search_zone<H: DnsHandle, V: Verifier>(
     };
     let mut asked = asked;
     let question = ds_query(zone.try_clone()?, class);
-    let Finished { ask, answer } = ask(alloc, inquiry, handle, progress, question, depth + 1)?;
+    let Finished { ask, answer } = ask(alloc, context, handle, progress, question, depth + 1)?;
     asked.push(ask)?;
-    let mark = zone_mark(inquiry.judge.verifier, class, &zone, &answer);
+    let mark = zone_mark(context.judge.verifier, class, &zone, &answer);
     Ok(Searched { mark, asked })
 }
 
@@ -219,36 +214,35 @@ fn search_zone<H: DnsHandle, V: Verifier>(
 #[cycle(walk)]
 pub(crate) fn conclude<H: DnsHandle, V: Verifier>(
     alloc: Global,
-    inquiry: &Inquiry<'_, V>,
+    context: &LookupContext<'_, V>,
     handle: &mut H,
     progress: &mut Progress,
     query: &Query,
     depth: u16,
-    heard: &HeardMessage,
+    received: &ReceivedMessage,
     judged: &Judgement,
 ) -> Result<Concluded, NoMemory>
     requires few { progress.old.sends ≤ most_sends }
     requires counted { length progress.old.steps.items ≤ progress.old.sends }
-    requires limit { inquiry.now.limit ≤ 255 }
+    requires limit { context.now.limit ≤ 255 }
     requires shallow { depth ≤ 255 }
     ensures counted { IsCounted progress.old progress.new }
-    ensures went { Went (asking H.DnsHandle inquiry.now) H.faults
-        handle.old handle.new progress.old.sends progress.new.sends }
-    ensures asks { IfOk result (λ c. Walk H.DnsHandle V.answers inquiry.now
+    ensures sent { HasSent H.DnsHandle context.now handle.old progress.old handle.new progress.new }
+    ensures asks { IfOk result (λ c. Walk H.DnsHandle V.answers context.now
         handle.old progress.old handle.new progress.new c.excuse.items) }
-    ensures concluded { IfOk result (λ c. IsConcluded (grounds_at V.answers inquiry.now progress.new query.now depth)
-        (told_by heard.now.message) (bare judged.now.sets.items) (outcome_value c.outcome) c.excuse.items) }
+    ensures concluded { IfOk result (λ c. IsConcluded (grounds_at V.answers context.now progress.new query.now depth)
+        (told_by received.now.message) (bare judged.now.sets.items) (outcome_value c.outcome) c.excuse.items) }
 {
-    let outcome = outcome_of(alloc, query, &heard.message, &judged.sets)?;
+    let outcome = outcome_of(alloc, query, &received.message, &judged.sets)?;
     match outcome {
         Outcome::Searched => {
             let start = question_start(query)?;
             let class = query.query_class;
             let Searched { mark, asked } = search_zone(
-                alloc, inquiry, handle, progress, class, &start, depth,
+                alloc, context, handle, progress, class, &start, depth,
             )?;
             Ok(Concluded {
-                outcome: outcome_by_zone(query, &heard.message, mark),
+                outcome: outcome_by_zone(query, &received.message, mark),
                 excuse: asked,
             })
         }
@@ -263,7 +257,7 @@ pub(crate) fn conclude<H: DnsHandle, V: Verifier>(
 #[cycle(walk)]
 fn judge_signatures<H: DnsHandle, V: Verifier>(
     alloc: Global,
-    inquiry: &Inquiry<'_, V>,
+    context: &LookupContext<'_, V>,
     handle: &mut H,
     progress: &mut Progress,
     query: &Query,
@@ -272,15 +266,14 @@ fn judge_signatures<H: DnsHandle, V: Verifier>(
 ) -> Result<Verdicts, NoMemory>
     requires few { progress.old.sends ≤ most_sends }
     requires counted { length progress.old.steps.items ≤ progress.old.sends }
-    requires limit { inquiry.now.limit ≤ 255 }
+    requires limit { context.now.limit ≤ 255 }
     requires shallow { depth ≤ 255 }
     ensures counted { IsCounted progress.old progress.new }
-    ensures went { Went (asking H.DnsHandle inquiry.now) H.faults
-        handle.old handle.new progress.old.sends progress.new.sends }
-    ensures asks { IfOk result (λ v. Walk H.DnsHandle V.answers inquiry.now
+    ensures sent { HasSent H.DnsHandle context.now handle.old progress.old handle.new progress.new }
+    ensures asks { IfOk result (λ v. Walk H.DnsHandle V.answers context.now
         handle.old progress.old handle.new progress.new v.asked.items) }
     ensures tried { IfOk result (λ v. AreTried
-        (grounds_at V.answers inquiry.now progress.new query.now depth) set.now
+        (grounds_at V.answers context.now progress.new query.now depth) set.now
         v.asked.items (map verdict_value v.verdicts.items)) }
 {
     let mut verdicts = Vec::new(alloc);
@@ -288,7 +281,7 @@ fn judge_signatures<H: DnsHandle, V: Verifier>(
     let tried = first_signatures(set);
     for sig in tried {
         let Tried { verdict, ask } = judge_signature(
-            alloc, inquiry, handle, progress, query, depth, set, sig,
+            alloc, context, handle, progress, query, depth, set, sig,
         )?;
         add_ask(&mut asked, ask)?;
         let proved = verdict.is_proved();
@@ -304,7 +297,7 @@ fn judge_signatures<H: DnsHandle, V: Verifier>(
 #[cycle(walk)]
 fn judge_signature<H: DnsHandle, V: Verifier>(
     alloc: Global,
-    inquiry: &Inquiry<'_, V>,
+    context: &LookupContext<'_, V>,
     handle: &mut H,
     progress: &mut Progress,
     query: &Query,
@@ -314,15 +307,14 @@ fn judge_signature<H: DnsHandle, V: Verifier>(
 ) -> Result<Tried, NoMemory>
     requires few { progress.old.sends ≤ most_sends }
     requires counted { length progress.old.steps.items ≤ progress.old.sends }
-    requires limit { inquiry.now.limit ≤ 255 }
+    requires limit { context.now.limit ≤ 255 }
     requires shallow { depth ≤ 255 }
     ensures counted { IsCounted progress.old progress.new }
-    ensures went { Went (asking H.DnsHandle inquiry.now) H.faults
-        handle.old handle.new progress.old.sends progress.new.sends }
-    ensures asks { IfOk result (λ t. Walk H.DnsHandle V.answers inquiry.now
+    ensures sent { HasSent H.DnsHandle context.now handle.old progress.old handle.new progress.new }
+    ensures asks { IfOk result (λ t. Walk H.DnsHandle V.answers context.now
         handle.old progress.old handle.new progress.new (asks_in t.ask)) }
     ensures tried { IfOk result (λ t. IsTried
-        (grounds_at V.answers inquiry.now progress.new query.now depth) set.now sig.now t.ask (verdict_value t.verdict)) }
+        (grounds_at V.answers context.now progress.new query.now depth) set.now sig.now t.ask (verdict_value t.verdict)) }
 {
     let Some(read) = Rrsig::of(sig) else {
         return Ok(untried());
@@ -332,8 +324,8 @@ fn judge_signature<H: DnsHandle, V: Verifier>(
         return Ok(untried());
     }
     let question = ask_of(alloc, set, &read)?;
-    let Finished { ask, answer } = ask(alloc, inquiry, handle, progress, question, depth + 1)?;
-    let verdict = verdict_of(alloc, &inquiry.judge, set, sig, &read, &answer)?;
+    let Finished { ask, answer } = ask(alloc, context, handle, progress, question, depth + 1)?;
+    let verdict = verdict_of(alloc, &context.judge, set, sig, &read, &answer)?;
     Ok(Tried {
         verdict,
         ask: Some(ask),
@@ -344,7 +336,7 @@ fn judge_signature<H: DnsHandle, V: Verifier>(
 #[cycle(walk)]
 fn ask<H: DnsHandle, V: Verifier>(
     alloc: Global,
-    inquiry: &Inquiry<'_, V>,
+    context: &LookupContext<'_, V>,
     handle: &mut H,
     progress: &mut Progress,
     query: Query,
@@ -352,46 +344,45 @@ fn ask<H: DnsHandle, V: Verifier>(
 ) -> Result<Finished, NoMemory>
     requires few { progress.old.sends ≤ most_sends }
     requires counted { length progress.old.steps.items ≤ progress.old.sends }
-    requires limit { inquiry.now.limit ≤ 255 }
+    requires limit { context.now.limit ≤ 255 }
     requires shallow { depth ≤ 256 }
     ensures counted { IsCounted progress.old progress.new }
-    ensures went { Went (asking H.DnsHandle inquiry.now) H.faults
-        handle.old handle.new progress.old.sends progress.new.sends }
-    ensures asks { IfOk result (λ f. Walk H.DnsHandle V.answers inquiry.now
+    ensures sent { HasSent H.DnsHandle context.now handle.old progress.old handle.new progress.new }
+    ensures asks { IfOk result (λ f. Walk H.DnsHandle V.answers context.now
         handle.old progress.old handle.new progress.new (f.ask ∷ [])) }
-    ensures answer { IfOk result (λ f. IsAnswer (judge_of V.answers inquiry.now.judge) inquiry.now.limit
+    ensures answer { IfOk result (λ f. IsAnswer (judge_of V.answers context.now.judge) context.now.limit
         progress.new.steps.items query depth f.ask (listed f.answer)) }
 {
-    if depth > inquiry.limit {
+    if depth > context.limit {
         return Ok(refused(AskRef::TooDeep));
     }
     if progress.sends >= MOST_SENDS {
         return Ok(refused(AskRef::TooMany));
     }
-    let heard = match hear(alloc, inquiry, handle, progress, &query, true) {
-        Ok(heard) => heard,
+    let received = match send_query(alloc, context, handle, progress, &query, true) {
+        Ok(received) => received,
         Err(error) => match error {
             NetError::NoMemory => return Err(NoMemory),
             _ => {
-                let failed = unheard(alloc, progress, query, depth)?;
+                let failed = faulted(alloc, progress, query, depth)?;
                 return Ok(failed);
             }
         },
     };
-    let foreign = foreign_of(&query, &heard.message)?;
+    let foreign = foreign_of(&query, &received.message)?;
     match foreign {
         Some(ending) => {
-            let reply = records_of(heard);
+            let reply = records_of(received);
             let seen = unanswered(alloc, progress, query, depth, reply, ending)?;
             return Ok(seen);
         }
         None => {}
     }
-    let placed = placed_sets(alloc, depth, &heard.message)?;
-    let judged = judge_sets(alloc, inquiry, handle, progress, &query, depth, placed)?;
+    let placed = placed_sets(alloc, depth, &received.message)?;
+    let judged = judge_sets(alloc, context, handle, progress, &query, depth, placed)?;
     let concluded = conclude(
-        alloc, inquiry, handle, progress, &query, depth, &heard, &judged,
+        alloc, context, handle, progress, &query, depth, &received, &judged,
     )?;
-    let finished = answered(progress, query, depth, heard, judged, concluded)?;
+    let finished = answered(progress, query, depth, received, judged, concluded)?;
     Ok(finished)
 }

@@ -6,7 +6,7 @@ use Rattle.dns_model.specs.Trails as trails
 use Rattle.dns_laws.proofs.CompleteLemmas.{HasReply, valid_reply}
 use Rattle.dns_net.specs.Errors.{ErrorValue}
 use Rattle.dns_chain.specs.Completing.{first_told}
-use Rattle.dns_chain.specs.Heard.{heard}
+use Rattle.dns_chain.specs.Received.{received}
 use Rattle.dns_chain.proofs.CompletingLemmas.{IsProved, replies_prove, denied_never, failed_never, answer_secure}
 use Rattle.dns_report.specs.declared.parts.Parts.{Parts}
 use Rattle.dns_session.specs.SessionValue.{SessionValue}
@@ -34,7 +34,7 @@ session_reply_of : (s : SessionValue) → IsValid s → HasReply (first_told (se
 session_reply_of s valid = valid_reply (session_judge s) (first_told (session_replies s)) (session_depth s) s.query valid
 
 records_of : (s : SessionValue) (told : Told) → first_told (session_replies s) s.query ≡ Some told → session_records s ≡ Some told
-records_of s told is = sym (ap heard (session_replied s)) ∙ is
+records_of s told is = sym (ap received (session_replied s)) ∙ is
 
 -- a valid session has no cause for an error
 no_fault : (s : SessionValue) (error : ErrorValue) → IsValid s → FaultCause s error → ⊥

@@ -16,7 +16,7 @@ use Rattle.dns_net.specs.Replies.{reply_of}
 use Rattle.dns_net.specs.declared.error.NetError.{NetError}
 use Rattle.dns_net.specs.declared.handle.DnsHandle as handle
 use Rattle.dns_net.specs.declared.notice.Notice.TheVariants.{NotJudgedYet, NoQueryInRequest, ExpiredRrsig, WrongDnskey, WrongRrsig}
-use Rattle.dns_chain.specs.Heard.{heard_message, heard}
+use Rattle.dns_chain.specs.Received.{received_message, received}
 use Rattle.dns_net.specs.declared.request.DnsRequestOptions.{DnsRequestOptions}
 use Rattle.dns_net.specs.declared.verifier.Verifier as verifier
 use Rattle.dns_net.specs.Recording.{RecordedValue, replies_of}
@@ -25,7 +25,7 @@ use Rattle.dns_chain.specs.declared.handle.DnssecDnsHandle.{DnssecDnsHandle}
 use Rattle.dns_chain.specs.Calls.{Call, inner_of, anchors_of, verifier_of, call_of}
 use Rattle.dns_chain.specs.Sends.{IsFromReplies}
 use Rattle.dns_chain.specs.Causes.{sees_nsec3, tells_nsec3, has_response, PassedOn, PassesOnly, PassesOn, NamesForeign, ForeignOnly, ForeignNamed, IsUnjudged, UnjudgedOnly, JudgesTold, AnswersTold}
-use Rattle.dns_chain.specs.Looked.{UnlessNoMemory, OfAnswer, IsSoundAnswer, IsTrail, HasMarksOfTrail, ShowsItsDenial, DeniesQuery}
+use Rattle.dns_chain.specs.LookupAnswers.{UnlessNoMemory, OfAnswer, IsSoundAnswer, IsTrail, HasMarksOfTrail, ShowsItsDenial, DeniesQuery}
 use Rattle.dns_session.specs.SessionValue.{SessionValue}
 use Rattle.dns_run.specs.Replies.{recorded, session_told, session_records}
 use Rattle.dns_run.specs.Soundness.{listing, session_judge, IsSound}
@@ -80,7 +80,7 @@ session_sound meanings s call a c is =
     let told = at_session meanings s call (λ told q. ReplyIsTold told (Some q) is.reply) c is.made.told in
     record {
       message = is.message;
-      told = told_heard heard_message (map recorded s.replies) s.query is.reply (session_told s) is.message told (session_replied s) refl is.heard;
+      told = told_heard received_message (map recorded s.replies) s.query is.reply (session_told s) is.message told (session_replied s) refl is.received;
       sound =
           subst (λ j. Sound j s.moment (told_by is.message) a) c.judge (subst (λ now. Sound call.judge now (told_by is.message) a) c.moment is.sound);
     }
@@ -153,7 +153,7 @@ passed_cause meanings s call e c own p =
     ]
   where
     no_message : session_told s ≡ Err e → HasNoMessage s e
-    no_message told = record { told = told; silent = ap heard_message told ∙ p.silent }
+    no_message told = record { told = told; silent = ap received_message told ∙ p.silent }
 
 foreign_cause : {H : Type 0} (meanings : handle.Ghosts H) (s : SessionValue) (call : Call H) (e : ErrorValue)
     → IsSessionCall meanings s call → NamesForeign meanings call e → FaultCause s e
@@ -162,7 +162,7 @@ foreign_cause meanings s call e c names =
     OtherClass (record {
       records = names.records;
       first = names.first;
-      told = told_heard heard (map recorded s.replies) s.query names.reply (session_told s) names.records told (session_replied s) refl names.heard;
+      told = told_heard received (map recorded s.replies) s.query names.reply (session_told s) names.records told (session_replied s) refl names.received;
       found = ap (λ q. foreign_record q names.records) (sym c.query) ∙ names.found;
       named = names.named;
     })
@@ -181,7 +181,7 @@ nsec3_told s trail is answers records told (Some r) found has tells = absurd (no
     not_true h = cc
 nsec3_told s trail is answers records told None own true tells = tells
 nsec3_told s trail is answers records told None own false tells =
-    absurd (not_true (answers records (ap heard (session_replied s) ∙ told) own tells))
+    absurd (not_true (answers records (ap received (session_replied s) ∙ told) own tells))
   where
     not_true : has_response (Err (Message NotJudgedYet)) ≡ true → ⊥
     not_true h = cc

@@ -13,7 +13,7 @@ use Rattle.dns_judgement.specs.Outcome.{is_unjudged, foreign_record}
 use Rattle.dns_judgement.proofs.DerivedLemmas.{Derived, derivation_parts, steps_hold_at, TopFirst, derivation_first}
 use Rattle.dns_net.specs.Handles.{reply_to}
 use Rattle.dns_chain.specs.Causes.{sees_nsec3}
-use Rattle.dns_chain.specs.Heard.{heard_value, says_none}
+use Rattle.dns_chain.specs.Received.{heard_from, says_none}
 use Rattle.dns_chain.specs.LookupParts.{heard_told}
 use Rattle.dns_chain.specs.Sends.{IsFromReplies}
 use Rattle.dns_session.specs.SessionValue.{SessionValue}
@@ -41,8 +41,8 @@ top_heard s trail ending is f =
     let same : is.top ≡ f.top = some_same _ is.top f.top is.last f.last in
     let from = subst (λ steps. IsFromReplies (session_replies s) steps) f.first is.from in
     ap (λ step. step.reply) same ∙ from.0
-    ∙ ap (λ q. heard_value (reply_to (map recorded s.replies) q)) (ap (λ step. step.query) (sym same) ∙ is.query)
-    ∙ ap heard_value (session_replied s)
+    ∙ ap (λ q. heard_from (reply_to (map recorded s.replies) q)) (ap (λ step. step.query) (sym same) ∙ is.query)
+    ∙ ap heard_from (session_replied s)
 
 is_top : (s : SessionValue) (trail : List AskedValue) (ending : EndingValue) → IsSessionTrail s trail ending → IsTop s trail ending
 unfolding step_holds

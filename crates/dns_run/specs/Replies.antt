@@ -8,7 +8,7 @@ use Rattle.dns_net.specs.declared.error.ProtoError.TheVariants.{Decode}
 use Rattle.dns_net.specs.declared.io_kind.IoKind.TheVariants.{Other}
 use Rattle.dns_net.specs.Errors.{Reply, ErrorValue, DnsErrorValue, Busy, Dns, Proto, Io, Timeout}
 use Rattle.dns_net.specs.Responses.{from_response}
-use Rattle.dns_chain.specs.Heard.{heard_message, heard}
+use Rattle.dns_chain.specs.Received.{received_message, received}
 use Rattle.dns_session.specs.declared.reply.ReplyFault.{ReplyFault}
 use Rattle.dns_session.specs.declared.reply.ReplyFault.TheVariants as lacking
 use Rattle.dns_session.specs.SessionValue.{ReplyValue, ReplyKindValue, Message, Empty, Fault, SessionValue}
@@ -56,8 +56,8 @@ session_told s = told_by_reply (session_reply s)
 
 -- the message of that
 abbrev pub session_message : SessionValue → Option MessageValue
-session_message s = heard_message (session_told s)
+session_message s = received_message (session_told s)
 
 -- and the records of the message
 abbrev pub session_records : SessionValue → Option Told
-session_records s = heard (session_told s)
+session_records s = received (session_told s)

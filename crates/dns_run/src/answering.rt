@@ -4,7 +4,7 @@ ghost use Rattle.dns_model.specs.Keys.{anchored};
 ghost use Rattle.dns_net.specs.Replies.{reply_of};
 ghost use Rattle.dns_net.specs.Requests.{plain_options};
 ghost use Rattle.dns_trust.specs.Listing.{answers_of};
-ghost use Rattle.dns_chain.specs.Looked.{UnlessNoMemory};
+ghost use Rattle.dns_chain.specs.LookupAnswers.{UnlessNoMemory};
 ghost use Rattle.dns_run.specs.Adding.{with_algorithms, with_accepts};
 ghost use Rattle.dns_run.specs.Answering.{recorded_by};
 ghost use Rattle.dns_run.specs.Causes.{AnswersSession};

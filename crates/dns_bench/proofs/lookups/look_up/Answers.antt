@@ -1,6 +1,6 @@
 use Rattle.std.proofs.Common.{subst}
 use Rattle.dns_net.specs.Replies.{reply_of}
-use Rattle.dns_chain.specs.Looked.{UnlessNoMemory}
+use Rattle.dns_chain.specs.LookupAnswers.{UnlessNoMemory}
 use Rattle.dns_chain.specs.Calls.{inner_of}
 use Rattle.dns_bench.specs.Lookups.{GivesAnswer}
 use Rattle.dns_bench.specs.Steps.{inquiry_by}

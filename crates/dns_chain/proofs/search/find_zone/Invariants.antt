@@ -1,7 +1,7 @@
 use Rattle.std.proofs.Common.{length}
 use Rattle.dns_model.specs.Records.{Question}
 use Rattle.dns_judgement.proofs.SearchLemmas.{SearchDone}
-use Rattle.dns_chain.specs.Walking.{asking, IsCounted, grounds_at, Went, Walk}
+use Rattle.dns_chain.specs.Walking.{IsCounted, grounds_at, HasSent, Walk}
 use Rattle.dns_chain.proofs.search.find_zone.Given as goal
 
 abbrev pub decreases-names : goal.decreases-names
@@ -10,9 +10,8 @@ decreases-names g l = length l.name
 abbrev pub invariant-names : goal.invariant-names
 invariant-names g l =
     IsCounted l.initial.progress l.progress ×
-    Went (asking g.H.DnsHandle l.inquiry) g.H.DnsHandle.faults l.initial.handle l.handle
-    l.initial.progress.sends l.progress.sends ×
-    Walk g.H.DnsHandle g.V.Verifier.answers l.inquiry l.initial.handle l.initial.progress l.handle
+    HasSent g.H.DnsHandle l.context l.initial.handle l.initial.progress l.handle l.progress ×
+    Walk g.H.DnsHandle g.V.Verifier.answers l.context l.initial.handle l.initial.progress l.handle
     l.progress l.asked.items ×
-    ((query : Question) → SearchDone (grounds_at g.V.Verifier.answers l.inquiry l.progress query l.depth)
+    ((query : Question) → SearchDone (grounds_at g.V.Verifier.answers l.context l.progress query l.depth)
     l.class.0 l.start l.start l.asked.items l.name)

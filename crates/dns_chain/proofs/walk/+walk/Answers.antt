@@ -9,7 +9,7 @@ use Rattle.dns_net.specs.Trail.{ending_value}
 use Rattle.dns_trust.specs.Verdicts.{verdict_value}
 use Rattle.dns_chain.specs.Walking.{asks_in, grounds_at}
 use Rattle.dns_chain.proofs.AnswerLemmas.{fault_asks, named_by, none_named, foreign_asks, foreign_answer, judged_asks, judged_so}
-use Rattle.dns_chain.proofs.AskLemmas.{went_nowhere, went_then, went_still, asks_none, asks_deep, asks_many, asks_then}
+use Rattle.dns_chain.proofs.AskLemmas.{counted_nowhere, counted_then, counted_still, asks_none, asks_deep, asks_many, asks_then}
 use Rattle.dns_chain.proofs.ConclusionLemmas.{settled_by, searched_by}
 use Rattle.dns_chain.proofs.ZoneLemmas.{none_searched, zone_searched}
 use Rattle.dns_chain.proofs.JudgementLemmas.{keys_step, ds_step, unsigned_step, others_step, judgement_none, judgement_step, asks_of_more}
@@ -17,64 +17,64 @@ use Rattle.dns_chain.proofs.StepLemmas.{no_answer}
 use Rattle.dns_chain.proofs.TriedLemmas.{tried_none, tried_step, proved_step, tried_all}
 use Rattle.dns_chain.proofs.walk.+walk.Goals as goal
 
-pub ask-returns-then-depth-inquiry-clause-asks : goal.ask-returns-then-depth-inquiry-clause-asks
-ask-returns-then-depth-inquiry-clause-asks g t c = asks_deep _ _ _ _ _ _ _ c.refused.ensures.ask
+pub ask-returns-then-depth-context-clause-asks : goal.ask-returns-then-depth-context-clause-asks
+ask-returns-then-depth-context-clause-asks g t c = asks_deep _ _ _ _ _ _ _ c.refused.ensures.ask
 
 pub ask-returns-then-progress-ge-MOST_SENDS-clause-asks : goal.ask-returns-then-progress-ge-MOST_SENDS-clause-asks
 ask-returns-then-progress-ge-MOST_SENDS-clause-asks g t c =
     asks_many _ _ _ _ _ _ _ c.refused-then-progress-ge-MOST_SENDS.ensures.ask (omega arith)
 
-pub ask-returns-in_err-judged-clause-went : goal.ask-returns-in_err-judged-clause-went
-ask-returns-in_err-judged-clause-went g t c =
-    went_then _ g.H.DnsHandle.faults _ _ _ _ _ _ _ c.hear.ensures.went c.judge_sets.ensures.went refl
+pub ask-returns-in_err-judged-clause-sent : goal.ask-returns-in_err-judged-clause-sent
+ask-returns-in_err-judged-clause-sent g t c =
+    counted_then _ g.H.DnsHandle.faults _ _ _ _ _ _ _ c.send_query.ensures.sent c.judge_sets.ensures.sent refl
 
-pub ask-returns-in_err-concluded-clause-went : goal.ask-returns-in_err-concluded-clause-went
-ask-returns-in_err-concluded-clause-went g t c =
-    went_then _ g.H.DnsHandle.faults _ _ _ _ _ _ _
-    (went_then _ g.H.DnsHandle.faults _ _ _ _ _ _ _ c.hear.ensures.went c.judge_sets.ensures.went refl) c.conclude.ensures.went refl
+pub ask-returns-in_err-concluded-clause-sent : goal.ask-returns-in_err-concluded-clause-sent
+ask-returns-in_err-concluded-clause-sent g t c =
+    counted_then _ g.H.DnsHandle.faults _ _ _ _ _ _ _
+    (counted_then _ g.H.DnsHandle.faults _ _ _ _ _ _ _ c.send_query.ensures.sent c.judge_sets.ensures.sent refl) c.conclude.ensures.sent refl
 
 pub ask-returns-in_default : goal.ask-returns-in_default
 ask-returns-in_default g t c = record {
-  counted = omega (arith, c.unheard.ensures.one, c.unheard.ensures.sends, c.hear.ensures.count, ap (λ v. length v.items) c.hear.ensures.steps);
-  went = went_still _ g.H.DnsHandle.faults _ _ _ _ _ c.hear.ensures.went c.unheard.ensures.sends;
+  counted = omega (arith, c.faulted.ensures.one, c.faulted.ensures.sends, c.send_query.ensures.count, ap (λ v. length v.items) c.send_query.ensures.steps);
+  sent = counted_still _ g.H.DnsHandle.faults _ _ _ _ _ c.send_query.ensures.sent c.faulted.ensures.sends;
   asks =
-      fault_asks _ _ _ _ _ _ _ _ _ _ c.in-Err.error _ _ _ _ c.in_default.not-NoMemory c.in-Err.ensures.heard (ap (λ v. v.items) c.hear.ensures.steps)
-      c.hear.ensures.count c.unheard.ensures.sends (omega arith) c.in_ok-failed-in_default.ensures.added;
+      fault_asks _ _ _ _ _ _ _ _ _ _ c.in-Err.error _ _ _ _ c.in_default.not-NoMemory c.in-Err.ensures.received (ap (λ v. v.items) c.send_query.ensures.steps)
+      c.send_query.ensures.count c.faulted.ensures.sends (omega arith) c.in_ok-failed-in_default.ensures.added;
   answer = no_answer _ _ _ _ _ _ _ _ _ _ (omega arith) c.in_ok-failed-in_default.ensures.added c.in_ok-failed-in_default.ensures.answer refl;
 }
 
 pub ask-returns-in-Some-clause-asks : goal.ask-returns-in-Some-clause-asks
 ask-returns-in-Some-clause-asks g t c =
-    foreign_asks _ _ _ _ _ _ _ _ _ _ c.in-Ok.heard _ _ _ _ _ _ c.in-Ok.ensures.heard c.records_of-reply.ensures
+    foreign_asks _ _ _ _ _ _ _ _ _ _ c.in-Ok.received _ _ _ _ _ _ c.in-Ok.ensures.received c.records_of-reply.ensures
     (named_by _ _ _ c.in_ok-foreign.ensures (ap (option_map ending_value) c.in-Some.is))
-    (ap (λ v. v.items) c.hear.ensures.steps) c.hear.ensures.count c.unanswered.ensures.sends (omega arith) c.in_ok-seen-in-Some.ensures.added
+    (ap (λ v. v.items) c.send_query.ensures.steps) c.send_query.ensures.count c.unanswered.ensures.sends (omega arith) c.in_ok-seen-in-Some.ensures.added
 
 pub ask-returns-in-Some-clause-answer : goal.ask-returns-in-Some-clause-answer
 ask-returns-in-Some-clause-answer g t c =
     foreign_answer _ _ _ _ _ _ _ _ _ _ _ (omega arith) c.in_ok-seen-in-Some.ensures.added c.in_ok-seen-in-Some.ensures.answer
     (named_by _ _ _ c.in_ok-foreign.ensures (ap (option_map ending_value) c.in-Some.is))
 
-pub ask-returns-in_err-finished-clause-went : goal.ask-returns-in_err-finished-clause-went
-ask-returns-in_err-finished-clause-went g t c =
-    went_then _ g.H.DnsHandle.faults _ _ _ _ _ _ _
-    (went_then _ g.H.DnsHandle.faults _ _ _ _ _ _ _ c.hear.ensures.went c.judge_sets.ensures.went refl) c.conclude.ensures.went c.answered.ensures.sends
+pub ask-returns-in_err-finished-clause-sent : goal.ask-returns-in_err-finished-clause-sent
+ask-returns-in_err-finished-clause-sent g t c =
+    counted_then _ g.H.DnsHandle.faults _ _ _ _ _ _ _
+    (counted_then _ g.H.DnsHandle.faults _ _ _ _ _ _ _ c.send_query.ensures.sent c.judge_sets.ensures.sent refl) c.conclude.ensures.sent c.answered.ensures.sends
 
-pub ask-returns-clause-went : goal.ask-returns-clause-went
-ask-returns-clause-went g t c =
-    went_then _ g.H.DnsHandle.faults _ _ _ _ _ _ _
-    (went_then _ g.H.DnsHandle.faults _ _ _ _ _ _ _ c.hear.ensures.went c.judge_sets.ensures.went refl) c.conclude.ensures.went c.answered.ensures.sends
+pub ask-returns-clause-sent : goal.ask-returns-clause-sent
+ask-returns-clause-sent g t c =
+    counted_then _ g.H.DnsHandle.faults _ _ _ _ _ _ _
+    (counted_then _ g.H.DnsHandle.faults _ _ _ _ _ _ _ c.send_query.ensures.sent c.judge_sets.ensures.sent refl) c.conclude.ensures.sent c.answered.ensures.sends
 
 pub ask-returns-clause-asks : goal.ask-returns-clause-asks
 ask-returns-clause-asks g t c =
-    judged_asks _ _ _ _ _ _ _ _ _ _ _ _ _ _ c.in-Ok.heard _ _ _ _ _ _ _ _ _ _ _ c.in-Ok.ensures.heard
+    judged_asks _ _ _ _ _ _ _ _ _ _ _ _ _ _ c.in-Ok.received _ _ _ _ _ _ _ _ _ _ _ c.in-Ok.ensures.received
     (none_named _ _ c.in_ok-foreign.ensures (ap (option_map ending_value) c.in-None.is))
-    (ap (λ v. v.items) c.hear.ensures.steps) c.hear.ensures.count c.answered.ensures.sends (omega arith)
+    (ap (λ v. v.items) c.send_query.ensures.steps) c.send_query.ensures.count c.answered.ensures.sends (omega arith)
     c.in_ok-placed.ensures c.in_ok-judged.ensures.asks c.in_ok-judged.ensures.judged c.in_ok-concluded.ensures.asks c.in_ok-concluded.ensures.concluded
     c.in_ok-finished.ensures.added
 
 pub ask-returns-clause-answer : goal.ask-returns-clause-answer
 ask-returns-clause-answer g t c =
-    judged_so _ _ _ _ _ _ _ _ c.in-Ok.heard _ _ _ _ _ _ _ (omega arith) c.in_ok-placed.ensures c.in_ok-judged.ensures.judged
+    judged_so _ _ _ _ _ _ _ _ c.in-Ok.received _ _ _ _ _ _ _ (omega arith) c.in_ok-placed.ensures c.in_ok-judged.ensures.judged
     c.in_ok-concluded.ensures.asks.part.grown c.in_ok-finished.ensures.added c.in_ok-finished.ensures.answer
 
 pub judge_set-returns-then-is_key_set-clause-judged : goal.judge_set-returns-then-is_key_set-clause-judged
@@ -100,16 +100,16 @@ pub search_zone-returns-in_default-clause-searched : goal.search_zone-returns-in
 search_zone-returns-in_default-clause-searched g t c = λ query.
     none_searched _ _ _ _ _ (c.in_ok-zone.ensures.way query) c.in_default.is
 
-pub search_zone-returns-in_err-ask-clause-went : goal.search_zone-returns-in_err-ask-clause-went
-search_zone-returns-in_err-ask-clause-went g t c =
-    went_then _ g.H.DnsHandle.faults _ _ _ _ _ _ _ c.find_zone.ensures.went c.ask.ensures.went refl
+pub search_zone-returns-in_err-ask-clause-sent : goal.search_zone-returns-in_err-ask-clause-sent
+search_zone-returns-in_err-ask-clause-sent g t c =
+    counted_then _ g.H.DnsHandle.faults _ _ _ _ _ _ _ c.find_zone.ensures.sent c.ask.ensures.sent refl
 
-pub search_zone-returns-in_err-push-clause-went : goal.search_zone-returns-in_err-push-clause-went
-search_zone-returns-in_err-push-clause-went g t c =
-    went_then _ g.H.DnsHandle.faults _ _ _ _ _ _ _ c.find_zone.ensures.went c.ask.ensures.went refl
+pub search_zone-returns-in_err-push-clause-sent : goal.search_zone-returns-in_err-push-clause-sent
+search_zone-returns-in_err-push-clause-sent g t c =
+    counted_then _ g.H.DnsHandle.faults _ _ _ _ _ _ _ c.find_zone.ensures.sent c.ask.ensures.sent refl
 
-pub search_zone-returns-clause-went : goal.search_zone-returns-clause-went
-search_zone-returns-clause-went g t c = went_then _ g.H.DnsHandle.faults _ _ _ _ _ _ _ c.find_zone.ensures.went c.ask.ensures.went refl
+pub search_zone-returns-clause-sent : goal.search_zone-returns-clause-sent
+search_zone-returns-clause-sent g t c = counted_then _ g.H.DnsHandle.faults _ _ _ _ _ _ _ c.find_zone.ensures.sent c.ask.ensures.sent refl
 
 pub search_zone-returns-clause-asks : goal.search_zone-returns-clause-asks
 search_zone-returns-clause-asks g t c =
@@ -129,7 +129,7 @@ conclude-returns-in_ok-mark-in-Searched-clause-concluded g t c =
 pub conclude-returns-in_default : goal.conclude-returns-in_default
 conclude-returns-in_default g t c = record {
   counted = omega arith;
-  went = went_nowhere _ g.H.DnsHandle.faults _ _ _ (omega arith) (omega arith);
+  sent = counted_nowhere _ g.H.DnsHandle.faults _ _ _ (omega arith) (omega arith);
   asks = asks_none _ _ _ _ _ _ _ c.new.ensures.items;
   concluded = settled_by _ _ _ _ _ _ _ c.in_ok-outcome.ensures c.deref.ensures.value refl c.in_default.not-Searched c.new.ensures.items;
 }
@@ -153,36 +153,36 @@ judge_sets-loop-next-init g t c = (
   tt,
   tt,
   omega arith,
-  went_nowhere _ g.H.DnsHandle.faults _ _ _ (omega arith) (omega arith),
+  counted_nowhere _ g.H.DnsHandle.faults _ _ _ (omega arith) (omega arith),
   asks_none _ _ _ _ _ _ _ (ap asks_of_sets c.new-entries.ensures.items),
   judgement_none _ _ _ c.new-sets.ensures.items c.new-entries.ensures.items,
 )
 
-pub judge_sets-returns-in_err-set-clause-went : goal.judge_sets-returns-in_err-set-clause-went
-judge_sets-returns-in_err-set-clause-went g t c =
-    went_then _ g.H.DnsHandle.faults _ _ _ _ _ _ _ c.loop-next.invariant.3 c.judge_set.ensures.went refl
+pub judge_sets-returns-in_err-set-clause-sent : goal.judge_sets-returns-in_err-set-clause-sent
+judge_sets-returns-in_err-set-clause-sent g t c =
+    counted_then _ g.H.DnsHandle.faults _ _ _ _ _ _ _ c.loop-next.invariant.3 c.judge_set.ensures.sent refl
 
-pub judge_sets-returns-in_err-push-clause-went : goal.judge_sets-returns-in_err-push-clause-went
-judge_sets-returns-in_err-push-clause-went g t c =
-    went_then _ g.H.DnsHandle.faults _ _ _ _ _ _ _ c.loop-next.invariant.3 c.judge_set.ensures.went refl
+pub judge_sets-returns-in_err-push-clause-sent : goal.judge_sets-returns-in_err-push-clause-sent
+judge_sets-returns-in_err-push-clause-sent g t c =
+    counted_then _ g.H.DnsHandle.faults _ _ _ _ _ _ _ c.loop-next.invariant.3 c.judge_set.ensures.sent refl
 
 pub judge_sets-loop-next-preserved : goal.judge_sets-loop-next-preserved
 judge_sets-loop-next-preserved g t c = (
   tt,
   tt,
   omega (arith, c.loop-next.invariant.2, c.judge_set.ensures.counted),
-  went_then _ g.H.DnsHandle.faults _ _ _ _ _ _ _ c.loop-next.invariant.3 c.judge_set.ensures.went refl,
+  counted_then _ g.H.DnsHandle.faults _ _ _ _ _ _ _ c.loop-next.invariant.3 c.judge_set.ensures.sent refl,
   asks_then _ _ _ _ _ _ _ _ _ _ _ _ _ _ _ c.loop-next.invariant.4 c.in_ok-set.ensures.asks
       (asks_of_more _ _ _ _ refl c.in_ok-push-2.ensures.items),
-  judgement_step (grounds_at g.V.Verifier.answers c.args.inquiry.now c.loop-next.progress c.args.query.now c.args.depth)
+  judgement_step (grounds_at g.V.Verifier.answers c.args.context.now c.loop-next.progress c.args.query.now c.args.depth)
       c.judge_set.new.progress.steps.items _ _ _ _ _ _ _ _ _ _ _
       c.in_ok-set.ensures.asks.part.grown c.loop-next.invariant.5 c.in_ok-set.ensures.judged refl refl
       c.in_ok-push.ensures.items c.in_ok-push-2.ensures.items,
 )
 
-pub judge_sets-returns-in_err-push-2-clause-went : goal.judge_sets-returns-in_err-push-2-clause-went
-judge_sets-returns-in_err-push-2-clause-went g t c =
-    went_then _ g.H.DnsHandle.faults _ _ _ _ _ _ _ c.loop-next.invariant.3 c.judge_set.ensures.went refl
+pub judge_sets-returns-in_err-push-2-clause-sent : goal.judge_sets-returns-in_err-push-2-clause-sent
+judge_sets-returns-in_err-push-2-clause-sent g t c =
+    counted_then _ g.H.DnsHandle.faults _ _ _ _ _ _ _ c.loop-next.invariant.3 c.judge_set.ensures.sent refl
 
 pub judge_signature-returns-in_default-clause-asks : goal.judge_signature-returns-in_default-clause-asks
 judge_signature-returns-in_default-clause-asks g t c = asks_none _ _ _ _ _ _ _ (ap asks_in c.untried.ensures.ask)
@@ -193,26 +193,26 @@ judge_signature-returns-then-skipped-clause-asks g t c = asks_none _ _ _ _ _ _ _
 pub judge_signatures-loop-sig-init : goal.judge_signatures-loop-sig-init
 judge_signatures-loop-sig-init g t c = (
   omega arith,
-  went_nowhere _ g.H.DnsHandle.faults _ _ _ (omega arith) (omega arith),
+  counted_nowhere _ g.H.DnsHandle.faults _ _ _ (omega arith) (omega arith),
   asks_none _ _ _ _ _ _ _ c.new-asked.ensures.items,
   tried_none _ _ _ _ c.new-asked.ensures.items (ap (map verdict_value) c.new-verdicts.ensures.items),
 )
 
-pub judge_signatures-returns-in_err-verdict-clause-went : goal.judge_signatures-returns-in_err-verdict-clause-went
-judge_signatures-returns-in_err-verdict-clause-went g t c =
-    went_then _ g.H.DnsHandle.faults _ _ _ _ _ _ _ c.loop-sig.invariant.1 c.judge_signature.ensures.went refl
+pub judge_signatures-returns-in_err-verdict-clause-sent : goal.judge_signatures-returns-in_err-verdict-clause-sent
+judge_signatures-returns-in_err-verdict-clause-sent g t c =
+    counted_then _ g.H.DnsHandle.faults _ _ _ _ _ _ _ c.loop-sig.invariant.1 c.judge_signature.ensures.sent refl
 
-pub judge_signatures-returns-in_err-add_ask-clause-went : goal.judge_signatures-returns-in_err-add_ask-clause-went
-judge_signatures-returns-in_err-add_ask-clause-went g t c =
-    went_then _ g.H.DnsHandle.faults _ _ _ _ _ _ _ c.loop-sig.invariant.1 c.judge_signature.ensures.went refl
+pub judge_signatures-returns-in_err-add_ask-clause-sent : goal.judge_signatures-returns-in_err-add_ask-clause-sent
+judge_signatures-returns-in_err-add_ask-clause-sent g t c =
+    counted_then _ g.H.DnsHandle.faults _ _ _ _ _ _ _ c.loop-sig.invariant.1 c.judge_signature.ensures.sent refl
 
-pub judge_signatures-returns-in_err-push-clause-went : goal.judge_signatures-returns-in_err-push-clause-went
-judge_signatures-returns-in_err-push-clause-went g t c =
-    went_then _ g.H.DnsHandle.faults _ _ _ _ _ _ _ c.loop-sig.invariant.1 c.judge_signature.ensures.went refl
+pub judge_signatures-returns-in_err-push-clause-sent : goal.judge_signatures-returns-in_err-push-clause-sent
+judge_signatures-returns-in_err-push-clause-sent g t c =
+    counted_then _ g.H.DnsHandle.faults _ _ _ _ _ _ _ c.loop-sig.invariant.1 c.judge_signature.ensures.sent refl
 
-pub judge_signatures-returns-then-proved-clause-went : goal.judge_signatures-returns-then-proved-clause-went
-judge_signatures-returns-then-proved-clause-went g t c =
-    went_then _ g.H.DnsHandle.faults _ _ _ _ _ _ _ c.loop-sig.invariant.1 c.judge_signature.ensures.went refl
+pub judge_signatures-returns-then-proved-clause-sent : goal.judge_signatures-returns-then-proved-clause-sent
+judge_signatures-returns-then-proved-clause-sent g t c =
+    counted_then _ g.H.DnsHandle.faults _ _ _ _ _ _ _ c.loop-sig.invariant.1 c.judge_signature.ensures.sent refl
 
 pub judge_signatures-returns-then-proved-clause-asks : goal.judge_signatures-returns-then-proved-clause-asks
 judge_signatures-returns-then-proved-clause-asks g t c =
@@ -221,7 +221,7 @@ judge_signatures-returns-then-proved-clause-asks g t c =
 
 pub judge_signatures-returns-then-proved-clause-tried : goal.judge_signatures-returns-then-proved-clause-tried
 judge_signatures-returns-then-proved-clause-tried g t c =
-    proved_step (grounds_at g.V.Verifier.answers c.args.inquiry.now c.loop-sig.progress c.args.query.now c.args.depth)
+    proved_step (grounds_at g.V.Verifier.answers c.args.context.now c.loop-sig.progress c.args.query.now c.args.depth)
     c.judge_signature.new.progress.steps.items _ _ _ _ _ _ _ _ _ _ _ _ _
     c.first_signatures-tried.ensures.first c.in_ok-verdict.ensures.asks.part.grown c.loop-sig-test.true c.sig-item.is c.loop-sig.invariant.3 c.in_ok-verdict.ensures.tried
     refl refl (sym c.is_proved-proved.ensures ∙ c.if-proved.true)
@@ -230,10 +230,10 @@ judge_signatures-returns-then-proved-clause-tried g t c =
 pub judge_signatures-loop-sig-preserved : goal.judge_signatures-loop-sig-preserved
 judge_signatures-loop-sig-preserved g t c = (
   omega (arith, c.loop-sig.invariant.0, c.judge_signature.ensures.counted),
-  went_then _ g.H.DnsHandle.faults _ _ _ _ _ _ _ c.loop-sig.invariant.1 c.judge_signature.ensures.went refl,
+  counted_then _ g.H.DnsHandle.faults _ _ _ _ _ _ _ c.loop-sig.invariant.1 c.judge_signature.ensures.sent refl,
   asks_then _ _ _ _ _ _ _ _ _ _ _ _ _ _ _ c.loop-sig.invariant.2 c.in_ok-verdict.ensures.asks
       c.in_ok-add_ask.ensures,
-  tried_step (grounds_at g.V.Verifier.answers c.args.inquiry.now c.loop-sig.progress c.args.query.now c.args.depth)
+  tried_step (grounds_at g.V.Verifier.answers c.args.context.now c.loop-sig.progress c.args.query.now c.args.depth)
       c.judge_signature.new.progress.steps.items _ _ _ _ _ _ _ _ _ _ _ _ _
       c.in_ok-verdict.ensures.asks.part.grown c.loop-sig-test.true c.sig-item.is c.loop-sig.invariant.3 c.in_ok-verdict.ensures.tried
       refl refl (sym c.is_proved-proved.ensures ∙ c.if-proved.false)

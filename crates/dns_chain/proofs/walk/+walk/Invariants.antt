@@ -1,7 +1,7 @@
 use Rattle.std.proofs.Common.{◌+◌, ◌-◌, ◌*◌, map, take}
 use Rattle.dns_judgement.specs.DerivationParts.{asks_of_sets}
 use Rattle.dns_trust.specs.Verdicts.{verdict_value}
-use Rattle.dns_chain.specs.Walking.{asking, IsCounted, grounds_at, Went, Walk, IsJudgement}
+use Rattle.dns_chain.specs.Walking.{IsCounted, grounds_at, HasSent, Walk, IsJudgement}
 use Rattle.dns_chain.proofs.TriedLemmas.{TriedDone}
 use Rattle.dns_chain.proofs.walk.+walk.Given as goal
 
@@ -37,19 +37,17 @@ invariant-judge_sets-loop-next g l =
     (goal.iterator-judge_sets-loop-next g).can_next l.next-iterator ×
     (goal.iterator-judge_sets-loop-next g).is_finite l.next-iterator ×
     IsCounted l.initial.progress l.progress ×
-    Went (asking g.H.DnsHandle l.inquiry) g.H.DnsHandle.faults l.initial.handle l.handle
-    l.initial.progress.sends l.progress.sends ×
-    Walk g.H.DnsHandle g.V.Verifier.answers l.inquiry l.initial.handle l.initial.progress l.handle
+    HasSent g.H.DnsHandle l.context l.initial.handle l.initial.progress l.handle l.progress ×
+    Walk g.H.DnsHandle g.V.Verifier.answers l.context l.initial.handle l.initial.progress l.handle
     l.progress (asks_of_sets l.entries.items) ×
-    IsJudgement (grounds_at g.V.Verifier.answers l.inquiry l.progress l.query l.depth)
+    IsJudgement (grounds_at g.V.Verifier.answers l.context l.progress l.query l.depth)
     l.yielded l.sets.items l.entries.items
 
 abbrev pub invariant-judge_signatures-loop-sig : goal.invariant-judge_signatures-loop-sig
 invariant-judge_signatures-loop-sig g l =
     IsCounted l.initial.progress l.progress ×
-    Went (asking g.H.DnsHandle l.inquiry) g.H.DnsHandle.faults l.initial.handle l.handle
-    l.initial.progress.sends l.progress.sends ×
-    Walk g.H.DnsHandle g.V.Verifier.answers l.inquiry l.initial.handle l.initial.progress l.handle
+    HasSent g.H.DnsHandle l.context l.initial.handle l.initial.progress l.handle l.progress ×
+    Walk g.H.DnsHandle g.V.Verifier.answers l.context l.initial.handle l.initial.progress l.handle
     l.progress l.asked.items ×
-    TriedDone (grounds_at g.V.Verifier.answers l.inquiry l.progress l.query l.depth)
+    TriedDone (grounds_at g.V.Verifier.answers l.context l.progress l.query l.depth)
     l.set (take l.sig-index l.tried) l.asked.items (map verdict_value l.verdicts.items)

@@ -19,16 +19,16 @@ use Rattle.dns_net.specs.declared.error.NetError.TheVariants.{Busy, Dns, Message
 use Rattle.dns_net.specs.declared.handle.DnsHandle as handle
 use Rattle.dns_net.specs.declared.request.DnsRequestOptions.{DnsRequestOptions}
 use Rattle.dns_net.proofs.WalkLemmas.{no_walk}
-use Rattle.dns_chain.specs.Heard.{heard_message}
-use Rattle.dns_chain.specs.Calls.{Call, Asking, Requesting, ask_of, first_of}
-use Rattle.dns_chain.specs.Inquiries.{Ask, judged_ask, request_for}
+use Rattle.dns_chain.specs.Received.{received_message}
+use Rattle.dns_chain.specs.Calls.{Call, Asking, Requesting, ask_of_call, first_ask_of_call}
+use Rattle.dns_chain.specs.AskRequests.{Ask, judged_ask, request_for}
 use Rattle.dns_chain.specs.Sends.{SendsBy, SendsFor}
-use Rattle.dns_chain.specs.Walking.{Heard, Went, Asks, IsJudgement, IsConcluded}
-use Rattle.dns_chain.specs.Answering.{Findings, judged_answer, Found, Looked, Passes, Names, Judges}
-use Rattle.dns_chain.specs.declared.asking.HeardMessage.{HeardMessage}
+use Rattle.dns_chain.specs.Walking.{Received, CountedSends, Asks, IsJudgement, IsConcluded}
+use Rattle.dns_chain.specs.Answering.{Findings, judged_answer, Found, AnswersLookup, Passes, Names, Judges}
+use Rattle.dns_chain.specs.declared.receiving.ReceivedMessage.{ReceivedMessage}
 use Rattle.dns_chain.proofs.AnswerLemmas.{judged_after}
 use Rattle.dns_chain.proofs.AskLemmas.{asks_then}
-use Rattle.dns_chain.proofs.HeardLemmas.{unheard_as}
+use Rattle.dns_chain.proofs.ReceivedLemmas.{received_error}
 
 -- ---- the sends
 
@@ -40,10 +40,10 @@ sends_once first ask old new q reply made =
 
 -- one ask for a query, and a walk of further asks
 pub sends_more : {H : Type 0} (first ask : H → Ask → H → Reply → Type 0) (faults : H → ℕ) (old middle new : H) (q : Question) (reply : Reply) (n m : ℕ)
-    → first old (judged_ask q) middle reply → n ≡ 1 → Went ask faults middle new n m → SendsBy first ask old new q
-sends_more first ask faults old middle new q reply n m made one went =
+    → first old (judged_ask q) middle reply → n ≡ 1 → CountedSends ask faults middle new n m → SendsBy first ask old new q
+sends_more first ask faults old middle new q reply n m made one sent =
     let Way : ℕ → Type 0 = λ k. Walked ask middle new k m in
-    record { middle = middle; reply = reply; sends = m; first = made; others = subst Way one went.walk; few = went.few }
+    record { middle = middle; reply = reply; sends = m; first = made; others = subst Way one sent.walk; few = sent.few }
 
 -- the first ask is one like the others
 pub sends_alike : {H : Type 0} (meanings : handle.Ghosts H) (options : DnsRequestOptions) (now : ℕ) (request : RequestValue) (old new : H) (q : Question)
@@ -79,52 +79,52 @@ or_other (ForeignClass owner class rtype) = IsOther (λ h. cc)
 or_other Truncated = IsOther (λ h. cc)
 or_other NoMemory = IsMemory refl
 
-pass_on : {H : Type 0} (meanings : handle.Ghosts H) (call : Call H) (e : NetError) → Heard (first_of meanings call) call.old call.new (judged_ask call.query) (Err e) → OrOther e
-    → (e ≡ NoMemory) ⊎ Looked meanings call (Err (error_of e))
-pass_on meanings call e heard (IsMemory memory) = inl memory
-pass_on meanings call e heard (IsOther other) =
-    let unheard = unheard_as heard.reply e (λ memory. other (ap error_of memory)) heard.heard in
-    let made = subst (λ r. first_of meanings call call.old (judged_ask call.query) call.new r) unheard.is heard.made in
-    inr (Passes (error_of e) made (sym (ap heard_message unheard.is) ∙ unheard.none) other)
+pass_on : {H : Type 0} (meanings : handle.Ghosts H) (call : Call H) (e : NetError) → Received (first_ask_of_call meanings call) call.old call.new (judged_ask call.query) (Err e) → OrOther e
+    → (e ≡ NoMemory) ⊎ AnswersLookup meanings call (Err (error_of e))
+pass_on meanings call e received (IsMemory memory) = inl memory
+pass_on meanings call e received (IsOther other) =
+    let faulted = received_error received.reply e (λ memory. other (ap error_of memory)) received.received in
+    let made = subst (λ r. first_ask_of_call meanings call call.old (judged_ask call.query) call.new r) faulted.is received.made in
+    inr (Passes (error_of e) made (sym (ap received_message faulted.is) ∙ faulted.none) other)
 
 -- an error without a message is passed on, unless memory ran out
-pub look_passes : {H : Type 0} (meanings : handle.Ghosts H) (call : Call H) (e : NetError)
-    → Heard (first_of meanings call) call.old call.new (judged_ask call.query) (Err e) → (e ≡ NoMemory) ⊎ Looked meanings call (Err (error_of e))
-look_passes meanings call e heard = pass_on meanings call e heard (or_other e)
+pub passes_lookup : {H : Type 0} (meanings : handle.Ghosts H) (call : Call H) (e : NetError)
+    → Received (first_ask_of_call meanings call) call.old call.new (judged_ask call.query) (Err e) → (e ≡ NoMemory) ⊎ AnswersLookup meanings call (Err (error_of e))
+passes_lookup meanings call e received = pass_on meanings call e received (or_other e)
 
 -- ---- a record of another class
 
-pub look_names : {H : Type 0} (meanings : handle.Ghosts H) (call : Call H) (heard : HeardMessage) (r : Rr) (answer : Reply)
-    → Heard (first_of meanings call) call.old call.new (judged_ask call.query) (Ok heard) → foreign_record call.query (told_by heard.message) ≡ Some r
-    → answer ≡ Err (ForeignClassRecord r.owner r.class r.rtype) → Looked meanings call answer
-look_names meanings call heard r answer h found is =
-    Names h.reply answer h.heard.from r h.made h.heard.is (ap (λ m. foreign_record call.query (told_by m)) (sym h.heard.cleared) ∙ found) is
+pub names_lookup : {H : Type 0} (meanings : handle.Ghosts H) (call : Call H) (received : ReceivedMessage) (r : Rr) (answer : Reply)
+    → Received (first_ask_of_call meanings call) call.old call.new (judged_ask call.query) (Ok received) → foreign_record call.query (told_by received.message) ≡ Some r
+    → answer ≡ Err (ForeignClassRecord r.owner r.class r.rtype) → AnswersLookup meanings call answer
+names_lookup meanings call received r answer h found is =
+    Names h.reply answer h.received.from r h.made h.received.is (ap (λ m. foreign_record call.query (told_by m)) (sym h.received.cleared) ∙ found) is
 
 -- ---- judged sets
 
 -- the asks for the sets of a message, behind the first ask, and how its sets were judged; then the asks for what they come to
-pub record Review {H : Type 0} (meanings : handle.Ghosts H) (call : Call H) (middle then : H) (heard : HeardMessage) (placed : List Placed)
+pub record Review {H : Type 0} (meanings : handle.Ghosts H) (call : Call H) (middle then : H) (received : ReceivedMessage) (placed : List Placed)
     (before judged_by steps : List AskedValue) (limit n k m : ℕ) (sets : List Chained) (entries : List JudgedSetValue) (o : Outcome)
     (excuse : List AskRef) : Type 0 where
-  pub asks : Asks (ask_of meanings call) call.judge limit middle then before judged_by (asks_of_sets entries) n k
+  pub asks : Asks (ask_of_call meanings call) call.judge limit middle then before judged_by (asks_of_sets entries) n k
   pub judged : IsJudgement (record { judge = call.judge; limit = limit; earlier = judged_by; query = call.query; depth = 0 }) placed sets entries
-  pub further : Asks (ask_of meanings call) call.judge limit then call.new judged_by steps excuse k m
-  pub concluded : IsConcluded (record { judge = call.judge; limit = limit; earlier = steps; query = call.query; depth = 0 }) (told_by heard.message)
+  pub further : Asks (ask_of_call meanings call) call.judge limit then call.new judged_by steps excuse k m
+  pub concluded : IsConcluded (record { judge = call.judge; limit = limit; earlier = steps; query = call.query; depth = 0 }) (told_by received.message)
       (bare sets) o excuse
   pub few : m ≤ most_sends
 
 -- where a review of a lookup begins
-pub record Begins {H : Type 0} (call : Call H) (heard : HeardMessage) (placed : List Placed) (before : List AskedValue) (limit n : ℕ) : Type 0 where
-  pub part : placed ≡ judged_part 0 (told_by heard.message)
+pub record Begins {H : Type 0} (call : Call H) (received : ReceivedMessage) (placed : List Placed) (before : List AskedValue) (limit n : ℕ) : Type 0 where
+  pub part : placed ≡ judged_part 0 (told_by received.message)
   pub none : before ≡ []
   pub deep : limit ≡ depth_limit call.options.max_request_depth
   pub one : n ≡ 1
 
 -- what was found
-abbrev findings : HeardMessage → List AskedValue → List Chained → List JudgedSetValue → Outcome → List AskRef → Findings
-findings heard steps sets entries o excuse = record {
-  message = heard.message;
-  empty = heard.empty;
+abbrev findings : ReceivedMessage → List AskedValue → List Chained → List JudgedSetValue → Outcome → List AskRef → Findings
+findings received steps sets entries o excuse = record {
+  message = received.message;
+  empty = received.empty;
   steps = steps;
   sets = sets;
   entries = entries;
@@ -132,34 +132,34 @@ findings heard steps sets entries o excuse = record {
   excuse = excuse;
 }
 
-review_found : {H : Type 0} (meanings : handle.Ghosts H) (call : Call H) (middle then : H) (heard : HeardMessage) (placed : List Placed)
+review_found : {H : Type 0} (meanings : handle.Ghosts H) (call : Call H) (middle then : H) (received : ReceivedMessage) (placed : List Placed)
     (before judged_by steps : List AskedValue) (limit n k m : ℕ) (sets : List Chained) (entries : List JudgedSetValue) (o : Outcome) (excuse : List AskRef)
-    → Heard (first_of meanings call) call.old middle (judged_ask call.query) (Ok heard) → foreign_record call.query (told_by heard.message) ≡ None
-    → Begins call heard placed before limit n
-    → Review meanings call middle then heard placed before judged_by steps limit n k m sets entries o excuse
-    → Found meanings call (findings heard steps sets entries o excuse)
-review_found meanings call middle then heard placed before judged_by steps limit n k m sets entries o excuse h own begins review =
-    let ask = ask_of meanings call in
+    → Received (first_ask_of_call meanings call) call.old middle (judged_ask call.query) (Ok received) → foreign_record call.query (told_by received.message) ≡ None
+    → Begins call received placed before limit n
+    → Review meanings call middle then received placed before judged_by steps limit n k m sets entries o excuse
+    → Found meanings call (findings received steps sets entries o excuse)
+review_found meanings call middle then received placed before judged_by steps limit n k m sets entries o excuse h own begins review =
+    let ask = ask_of_call meanings call in
     let both = asks_of_sets entries ++ excuse in
     let asks_all = asks_then ask call.judge limit middle then call.new before judged_by steps (asks_of_sets entries) excuse both n k m review.asks review.further refl in
     let asks_before = subst (λ b. Asks ask call.judge limit middle call.new b steps both n m) begins.none asks_all in
     let asks_one = subst (λ x. Asks ask call.judge limit middle call.new [] steps both x m) begins.one asks_before in
     let asks = subst (λ l. Asks ask call.judge l middle call.new [] steps both 1 m) begins.deep asks_one in
-    let judged_here = judged_after call.judge limit judged_by steps 0 call.query placed (told_by heard.message) sets entries review.further.part.more begins.part
+    let judged_here = judged_after call.judge limit judged_by steps 0 call.query placed (told_by received.message) sets entries review.further.part.more begins.part
     review.further.part.grown review.judged in
     let judged = subst (λ l. IsJudgement (record { judge = call.judge; limit = l; earlier = steps; query = call.query; depth = 0 })
-    (judged_part 0 (told_by heard.message)) sets entries) begins.deep judged_here in
+    (judged_part 0 (told_by received.message)) sets entries) begins.deep judged_here in
     let concluded = subst (λ l. IsConcluded (record { judge = call.judge; limit = l; earlier = steps; query = call.query; depth = 0 })
-    (told_by heard.message) (bare sets) o excuse) begins.deep review.concluded in
+    (told_by received.message) (bare sets) o excuse) begins.deep review.concluded in
     record {
       reply = h.reply;
-      from = h.heard.from;
+      from = h.received.from;
       middle = middle;
       sends = m;
       made = h.made;
-      heard = h.heard.is;
-      cleared = h.heard.cleared;
-      empty = h.heard.empty;
+      received = h.received.is;
+      cleared = h.received.cleared;
+      empty = h.received.empty;
       own = own;
       asks = asks;
       judged = judged;
@@ -168,13 +168,13 @@ review_found meanings call middle then heard placed before judged_by steps limit
     }
 
 -- the judged sets of the message make the answer
-pub look_judges : {H : Type 0} (meanings : handle.Ghosts H) (call : Call H) (middle then : H) (heard : HeardMessage) (placed : List Placed)
+pub judges_lookup : {H : Type 0} (meanings : handle.Ghosts H) (call : Call H) (middle then : H) (received : ReceivedMessage) (placed : List Placed)
     (before judged_by steps : List AskedValue) (limit n k m : ℕ) (sets : List Chained) (entries : List JudgedSetValue) (o : Outcome) (excuse : List AskRef)
     (answer : Reply)
-    → Heard (first_of meanings call) call.old middle (judged_ask call.query) (Ok heard) → foreign_record call.query (told_by heard.message) ≡ None
-    → Begins call heard placed before limit n
-    → Review meanings call middle then heard placed before judged_by steps limit n k m sets entries o excuse
-    → answer ≡ judged_answer call.now call.query (findings heard steps sets entries o excuse) → Looked meanings call answer
-look_judges meanings call middle then heard placed before judged_by steps limit n k m sets entries o excuse answer h own begins review is =
-    Judges answer (findings heard steps sets entries o excuse)
-    (review_found meanings call middle then heard placed before judged_by steps limit n k m sets entries o excuse h own begins review) is
+    → Received (first_ask_of_call meanings call) call.old middle (judged_ask call.query) (Ok received) → foreign_record call.query (told_by received.message) ≡ None
+    → Begins call received placed before limit n
+    → Review meanings call middle then received placed before judged_by steps limit n k m sets entries o excuse
+    → answer ≡ judged_answer call.now call.query (findings received steps sets entries o excuse) → AnswersLookup meanings call answer
+judges_lookup meanings call middle then received placed before judged_by steps limit n k m sets entries o excuse answer h own begins review is =
+    Judges answer (findings received steps sets entries o excuse)
+    (review_found meanings call middle then received placed before judged_by steps limit n k m sets entries o excuse h own begins review) is

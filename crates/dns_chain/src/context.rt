@@ -1,7 +1,7 @@
 ghost use Rattle.std.specs.Prelude.{◌≡◌, IfOk};
 ghost use Rattle.dns_judgement.specs.Asking.{depth_limit};
 ghost use Rattle.dns_net.specs.Requests.{request_of};
-ghost use Rattle.dns_chain.specs.Inquiries.{asking_options, asking_request, request_for as request_by};
+ghost use Rattle.dns_chain.specs.AskRequests.{asking_options, asking_request, request_for as request_by};
 
 use dns_name::NoMemory;
 use dns_net::{Asked, DnsRequest, DnsRequestOptions};
@@ -12,9 +12,9 @@ use std::alloc::Global;
 /// How many sends one lookup makes at the most.
 pub(crate) const MOST_SENDS: u32 = 1024;
 
-/// What stays the same over all asks of one lookup.
+/// The context of a lookup: what stays the same over all of its asks.
 #[derive(Drop)]
-pub(crate) struct Inquiry<'a, V> {
+pub(crate) struct LookupContext<'a, V> {
     /// By what sets are judged, and at which moment.
     pub(crate) judge: Judge<'a, V>,
     pub(crate) options: DnsRequestOptions,

@@ -16,10 +16,10 @@ use Rattle.dns_net.specs.Errors.{Reply, Dns, Nsec}
 use Rattle.dns_net.specs.declared.error.NetError.{NetError}
 use Rattle.dns_net.specs.declared.error.NetError.TheVariants.{NoMemory}
 use Rattle.dns_net.specs.declared.handle.DnsHandle as handle
-use Rattle.dns_chain.specs.Heard.{heard_message}
-use Rattle.dns_chain.specs.Calls.{Call, ask_of, first_of}
-use Rattle.dns_chain.specs.Inquiries.{judged_ask}
-use Rattle.dns_chain.specs.Sends.{SendsAlong, SendsFrom, IsFromReplies, is_fault}
+use Rattle.dns_chain.specs.Received.{received_message}
+use Rattle.dns_chain.specs.Calls.{Call, ask_of_call, first_ask_of_call}
+use Rattle.dns_chain.specs.AskRequests.{judged_ask}
+use Rattle.dns_chain.specs.Sends.{SendsAlong, SendsFrom, IsFromReplies, heard_fault}
 
 -- a fact, unless memory ran out
 abbrev pub UnlessNoMemory : {X : Type 0} → Result X NetError → Type 0 → Type 0
@@ -38,12 +38,12 @@ pub record IsSoundAnswer {H : Type 0} (meanings : handle.Ghosts H) (call : Call 
   pub middle : H
   pub reply : Reply
   pub message : MessageValue
-  pub made : first_of meanings call call.old (judged_ask call.query) middle reply
-  pub heard : heard_message reply ≡ Some message
+  pub made : first_ask_of_call meanings call call.old (judged_ask call.query) middle reply
+  pub received : received_message reply ≡ Some message
   pub header : a.message
       ≡ record message { answers = a.message.answers; authorities = a.message.authorities; additionals = a.message.additionals }
   pub sound : Sound call.judge call.now (told_by message) a
-  pub rest : SendsAlong (ask_of meanings call) middle (drop 1 (in_send_order a.trail)) call.new
+  pub rest : SendsAlong (ask_of_call meanings call) middle (drop 1 (in_send_order a.trail)) call.new
 
 -- a trail with this ending: a derivation whose last step has the call's query, and whose steps are the asks that were made,
 -- one for each send, in the order of the sends. They are as shallow as the options say, and at most as many heard a fault as the
@@ -58,9 +58,9 @@ pub record IsTrail {H : Type 0} (meanings : handle.Ghosts H) (call : Call H) (tr
   pub few : length trail ≤ most_sends
   pub shallow : All (λ step. step.depth ≤ depth_limit call.options.max_request_depth) trail
   pub each : length (in_send_order trail) ≡ length trail
-  pub walked : SendsFrom (first_of meanings call) (ask_of meanings call) call.old (in_send_order trail) call.new
+  pub walked : SendsFrom (first_ask_of_call meanings call) (ask_of_call meanings call) call.old (in_send_order trail) call.new
   pub from : IfSome (meanings.told call.old) (λ replies. IsFromReplies replies (in_send_order trail))
-  pub faults : RoseBy (count_by (λ step. is_fault step.reply) (in_send_order trail))
+  pub faults : RoseBy (count_by (λ step. heard_fault step.reply) (in_send_order trail))
       (meanings.faults call.old) (meanings.faults call.new)
 
 -- the records of the response are those that the last step of its trail heard, with the marks that the step gives its sets

@@ -17,10 +17,10 @@ use Rattle.dns_net.specs.declared.error.NetError.{NetError}
 use Rattle.dns_net.specs.declared.handle.DnsHandle as handle
 use Rattle.dns_laws.specs.Ground.{HasGrounds}
 use Rattle.dns_laws.proofs.GroundLemmas.{insecure_is_grounded}
-use Rattle.dns_chain.specs.Heard.{heard_message, no_records_message}
+use Rattle.dns_chain.specs.Received.{received_message, no_records_message}
 use Rattle.dns_chain.specs.Calls.{Call}
-use Rattle.dns_chain.specs.Looked.{UnlessNoMemory, OfAnswer, IsSoundAnswer, IsTrail, HasMarksOfTrail, DeniesQuery}
-use Rattle.dns_chain.specs.Answering.{Findings, trail_of, answer_by, Found, Looked, Passes, Names, Judges}
+use Rattle.dns_chain.specs.LookupAnswers.{UnlessNoMemory, OfAnswer, IsSoundAnswer, IsTrail, HasMarksOfTrail, DeniesQuery}
+use Rattle.dns_chain.specs.Answering.{Findings, trail_of, answer_by, Found, AnswersLookup, Passes, Names, Judges}
 use Rattle.dns_chain.proofs.TopLemmas.{found_trail, found_marks, found_sound}
 
 -- ---- results and replies
@@ -49,7 +49,7 @@ pub record OfFound {H : Type 0} (meanings : handle.Ghosts H) (call : Call H) (Fa
       → Fact (finished call.now found.sets found.message d (trail_of call.query found ending)) ending
 
 -- an error without a message has no answer inside
-silent_error : (Fact : ResponseValue → EndingValue → Type 0) (e : ErrorValue) → heard_message (Err e) ≡ None → OfAnswer (Err e) Fact
+silent_error : (Fact : ResponseValue → EndingValue → Type 0) (e : ErrorValue) → received_message (Err e) ≡ None → OfAnswer (Err e) Fact
 silent_error Fact Busy silent = tt
 silent_error Fact (Dns (ResponseCode code)) silent = tt
 silent_error Fact (Dns (NoRecordsFound missing)) silent = absurd (silent_message (no_records_message missing) silent)
@@ -74,54 +74,54 @@ by_outcome meanings call Fact found all f (Accepted d) is = all.each found d (An
 by_outcome meanings call Fact found all f Searched is = tt
 by_outcome meanings call Fact found all f (outcome.Denied p) is = all.each found denial.None (Denied p) f (sym (ap ending_by is)) (λ h. cc)
 
-of_looked : {H : Type 0} (meanings : handle.Ghosts H) (call : Call H) (Fact : ResponseValue → EndingValue → Type 0) {answer : Reply}
-    → OfFound meanings call Fact → Looked meanings call answer → OfAnswer answer Fact
-of_looked meanings call Fact all (Passes e made silent remembered) = silent_error Fact e silent
-of_looked meanings call Fact all (Names reply answer from r made heard foreign is) = subst (λ x. OfAnswer x Fact) (sym is) tt
-of_looked meanings call Fact all (Judges answer found f is) =
+of_lookup : {H : Type 0} (meanings : handle.Ghosts H) (call : Call H) (Fact : ResponseValue → EndingValue → Type 0) {answer : Reply}
+    → OfFound meanings call Fact → AnswersLookup meanings call answer → OfAnswer answer Fact
+of_lookup meanings call Fact all (Passes e made silent remembered) = silent_error Fact e silent
+of_lookup meanings call Fact all (Names reply answer from r made received foreign is) = subst (λ x. OfAnswer x Fact) (sym is) tt
+of_lookup meanings call Fact all (Judges answer found f is) =
     subst (λ x. OfAnswer x Fact) (sym is)
     (by_outcome meanings call Fact found all f found.outcome refl)
 
 -- a fact of what was found is one of a lookup's answer
 pub of_result : {H : Type 0} (meanings : handle.Ghosts H) (call : Call H) (Fact : ResponseValue → EndingValue → Type 0) (result : Result ResponseValue NetError)
-    → OfFound meanings call Fact → UnlessNoMemory result (Looked meanings call (reply_of result)) → OfAnswer (reply_of result) Fact
-of_result meanings call Fact result all looked =
-    elim (or_memory result (Looked meanings call (reply_of result)) looked) [
+    → OfFound meanings call Fact → UnlessNoMemory result (AnswersLookup meanings call (reply_of result)) → OfAnswer (reply_of result) Fact
+of_result meanings call Fact result all lookup =
+    elim (or_memory result (AnswersLookup meanings call (reply_of result)) lookup) [
       | inl memory ↦ subst (λ x. OfAnswer x Fact) (sym memory) tt
-      | inr l ↦ of_looked meanings call Fact all l
+      | inr l ↦ of_lookup meanings call Fact all l
     ]
 
 -- ---- the clauses of a lookup
 
 pub lookup_sound : {H : Type 0} (meanings : handle.Ghosts H) (call : Call H) (result : Result ResponseValue NetError)
-    → UnlessNoMemory result (Looked meanings call (reply_of result)) → OfAnswer (reply_of result) (λ a ending. IsSoundAnswer meanings call a)
-lookup_sound meanings call result looked =
+    → UnlessNoMemory result (AnswersLookup meanings call (reply_of result)) → OfAnswer (reply_of result) (λ a ending. IsSoundAnswer meanings call a)
+lookup_sound meanings call result lookup =
     of_result meanings call (λ a ending. IsSoundAnswer meanings call a) result
-    (record { each = λ found d ending f ends other. found_sound meanings call found d ending f }) looked
+    (record { each = λ found d ending f ends other. found_sound meanings call found d ending f }) lookup
 
 pub lookup_trail : {H : Type 0} (meanings : handle.Ghosts H) (call : Call H) (result : Result ResponseValue NetError)
-    → UnlessNoMemory result (Looked meanings call (reply_of result)) → OfAnswer (reply_of result) (λ a ending. IsTrail meanings call a.trail ending)
-lookup_trail meanings call result looked =
+    → UnlessNoMemory result (AnswersLookup meanings call (reply_of result)) → OfAnswer (reply_of result) (λ a ending. IsTrail meanings call a.trail ending)
+lookup_trail meanings call result lookup =
     of_result meanings call (λ a ending. IsTrail meanings call a.trail ending) result
-    (record { each = λ found d ending f ends other. (found_trail meanings call found ending f ends).is }) looked
+    (record { each = λ found d ending f ends other. (found_trail meanings call found ending f ends).is }) lookup
 
 -- what holds of each derivation holds of the trail
 pub lookup_ground : {H : Type 0} (meanings : handle.Ghosts H) (call : Call H) (result : Result ResponseValue NetError)
-    → UnlessNoMemory result (Looked meanings call (reply_of result))
+    → UnlessNoMemory result (AnswersLookup meanings call (reply_of result))
     → OfAnswer (reply_of result) (λ a ending. HasGrounds call.judge.answers a.trail)
-lookup_ground meanings call result looked =
+lookup_ground meanings call result lookup =
     of_result meanings call (λ a ending. HasGrounds call.judge.answers a.trail) result
     (record {
       each = λ found d ending f ends other.
           let trail = (found_trail meanings call found ending f ends).is in
           insecure_is_grounded call.judge call.options.max_request_depth (trail_of call.query found ending) trail.derived;
-    }) looked
+    }) lookup
 
 pub lookup_marks : {H : Type 0} (meanings : handle.Ghosts H) (call : Call H) (result : Result ResponseValue NetError)
-    → UnlessNoMemory result (Looked meanings call (reply_of result)) → OfAnswer (reply_of result) (λ a ending. HasMarksOfTrail call.now a)
-lookup_marks meanings call result looked =
+    → UnlessNoMemory result (AnswersLookup meanings call (reply_of result)) → OfAnswer (reply_of result) (λ a ending. HasMarksOfTrail call.now a)
+lookup_marks meanings call result lookup =
     of_result meanings call (λ a ending. HasMarksOfTrail call.now a) result
-    (record { each = λ found d ending f ends other. found_marks meanings call found d ending f }) looked
+    (record { each = λ found d ending f ends other. found_marks meanings call found d ending f }) lookup
 
 -- ---- a denial
 
@@ -134,20 +134,20 @@ denied_by now q found (outcome.Denied p) asked response proof is =
     let same : finished now found.sets found.message denial.None (trail_of q found (Denied p)) ≡ response = cc in
     (cc, sym (ap (λ a. a.denial) same))
 
-passed_denial : (e : ErrorValue) (asked : Question) (response : ResponseValue) (proof : Proof) → heard_message (Err e) ≡ None
+passed_denial : (e : ErrorValue) (asked : Question) (response : ResponseValue) (proof : Proof) → received_message (Err e) ≡ None
     → (let x : Reply = Err e in x) ≡ Err (Dns (Nsec asked response proof)) → ⊥
-passed_denial e asked response proof silent is = silent_message response.message (sym (ap heard_message is) ∙ silent)
+passed_denial e asked response proof silent is = silent_message response.message (sym (ap received_message is) ∙ silent)
 
-denied_looked : {H : Type 0} (meanings : handle.Ghosts H) (call : Call H) {answer : Reply} → Looked meanings call answer → DeniesQuery call.query answer
-denied_looked meanings call (Passes e made silent remembered) = λ asked response proof is. absurd (passed_denial e asked response proof silent is)
-denied_looked meanings call (Names reply answer from r made heard foreign is) = λ asked response proof denied. cc
-denied_looked meanings call (Judges answer found f is) = λ asked response proof denied.
+denied_lookup : {H : Type 0} (meanings : handle.Ghosts H) (call : Call H) {answer : Reply} → AnswersLookup meanings call answer → DeniesQuery call.query answer
+denied_lookup meanings call (Passes e made silent remembered) = λ asked response proof is. absurd (passed_denial e asked response proof silent is)
+denied_lookup meanings call (Names reply answer from r made received foreign is) = λ asked response proof denied. cc
+denied_lookup meanings call (Judges answer found f is) = λ asked response proof denied.
     denied_by call.now call.query found found.outcome asked response proof (sym is ∙ denied)
 
 pub lookup_denied : {H : Type 0} (meanings : handle.Ghosts H) (call : Call H) (result : Result ResponseValue NetError)
-    → UnlessNoMemory result (Looked meanings call (reply_of result)) → DeniesQuery call.query (reply_of result)
-lookup_denied meanings call result looked =
-    elim (or_memory result (Looked meanings call (reply_of result)) looked) [
+    → UnlessNoMemory result (AnswersLookup meanings call (reply_of result)) → DeniesQuery call.query (reply_of result)
+lookup_denied meanings call result lookup =
+    elim (or_memory result (AnswersLookup meanings call (reply_of result)) lookup) [
       | inl memory ↦ λ asked response proof is. cc
-      | inr l ↦ denied_looked meanings call l
+      | inr l ↦ denied_lookup meanings call l
     ]

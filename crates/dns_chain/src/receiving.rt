@@ -8,11 +8,11 @@ ghost use Rattle.dns_model.specs.Records.{Question};
 ghost use Rattle.dns_net.specs.Replies.{reply_of};
 ghost use Rattle.dns_net.specs.Requests.{first_question};
 ghost use Rattle.dns_chain.specs.Calls.{Requesting};
-ghost use Rattle.dns_chain.specs.Inquiries.{judged_ask};
-ghost use Rattle.dns_chain.specs.Heard.{no_records_message, with_soa as with_soa_of};
-ghost use Rattle.dns_chain.specs.Walking.{asking, Went, HeardAs, Heard};
+ghost use Rattle.dns_chain.specs.AskRequests.{judged_ask};
+ghost use Rattle.dns_chain.specs.Received.{no_records_message, with_soa as with_soa_of};
+ghost use Rattle.dns_chain.specs.Walking.{asking, HasSent, ReceivedAs, Received};
 
-use crate::inquiry::{Inquiry, Progress, request_for};
+use crate::context::{LookupContext, Progress, request_for};
 use dns_message::Message;
 use dns_name::NoMemory;
 use dns_net::{DnsError, DnsHandle, DnsRequest, DnsResponse, NetError, NoRecords};
@@ -22,55 +22,57 @@ use std::alloc::Global;
 
 /// The message of a reply, without the marks that came with it.
 #[derive(Drop)]
-pub(crate) struct HeardMessage {
+pub(crate) struct ReceivedMessage {
     pub(crate) message: Message,
     /// The reply said that there are no records.
     pub(crate) empty: bool,
 }
 
-/// Sends a query, as one whose reply is judged or only seen, and hears the message of the reply, also of a denial and of one that
-/// says that there are no records. Where memory runs out before the send, nothing is sent and the handle doesn't change.
-pub(crate) fn hear<H: DnsHandle, V>(
+/// Sends a query, as one whose reply is judged or only seen, and receives the message of the reply, also of a denial and of one
+/// that says that there are no records. Where memory runs out before the send, nothing is sent and the handle doesn't change.
+pub(crate) fn send_query<H: DnsHandle, V>(
     alloc: Global,
-    inquiry: &Inquiry<'_, V>,
+    context: &LookupContext<'_, V>,
     handle: &mut H,
     progress: &mut Progress,
     query: &Query,
     judged: bool,
-) -> Result<HeardMessage, NetError>
+) -> Result<ReceivedMessage, NetError>
     requires few { progress.old.sends < most_sends }
     ensures count { progress.new.sends ≡ progress.old.sends + 1 }
     ensures steps { progress.new.steps ≡ progress.old.steps }
-    ensures went { Went (asking H.DnsHandle inquiry.now) H.faults
-        handle.old handle.new progress.old.sends progress.new.sends }
-    ensures heard { OrUnsent handle.old handle.new result
-        (Heard (asking H.DnsHandle inquiry.now) handle.old handle.new (record { query = query.now; judged = judged }) result) }
+    ensures sent { HasSent H.DnsHandle context.now handle.old progress.old handle.new progress.new }
+    ensures received { OrUnsent handle.old handle.new result
+        (Received (asking H.DnsHandle context.now) handle.old handle.new (record { query = query.now; judged = judged }) result) }
 {
     progress.sends += 1;
-    let request = request_for(alloc, query, &inquiry.options, judged)?;
-    heard_of(alloc, handle.send(alloc, request, inquiry.judge.moment))
+    let request = request_for(alloc, query, &context.options, judged)?;
+    received_of(alloc, handle.send(alloc, request, context.judge.moment))
 }
 
-/// Sends a request, and hears the message of the reply in the same way.
-pub(crate) fn hear_reply<H: DnsHandle>(
+/// Sends a request, and receives the message of the reply in the same way.
+pub(crate) fn send_request<H: DnsHandle>(
     alloc: Global,
     handle: &mut H,
     request: DnsRequest,
     now: u64,
-) -> Result<HeardMessage, NetError>
+) -> Result<ReceivedMessage, NetError>
     ensures later { H.faults handle.old ≤ H.faults handle.new }
-    ensures heard { (q : Question) → first_question request ≡ Some q
-        → Heard (Requesting H.DnsHandle request now) handle.old handle.new (judged_ask q) result }
+    ensures received { (q : Question) → first_question request ≡ Some q
+        → Received (Requesting H.DnsHandle request now) handle.old handle.new (judged_ask q) result }
 {
-    heard_of(alloc, handle.send(alloc, request, now))
+    received_of(alloc, handle.send(alloc, request, now))
 }
 
 // The message of a reply, or its error.
-fn heard_of(alloc: Global, reply: Result<DnsResponse, NetError>) -> Result<HeardMessage, NetError>
-    ensures { HeardAs (reply_of reply) result }
+fn received_of(
+    alloc: Global,
+    reply: Result<DnsResponse, NetError>,
+) -> Result<ReceivedMessage, NetError>
+    ensures { ReceivedAs (reply_of reply) result }
 {
     match reply {
-        Ok(response) => Ok(records_heard(response.message)),
+        Ok(response) => Ok(received_records(response.message)),
         Err(
             NetError::Dns(
                 DnsError::Nsec {
@@ -79,10 +81,10 @@ fn heard_of(alloc: Global, reply: Result<DnsResponse, NetError>) -> Result<Heard
                     proof: _,
                 },
             ),
-        ) => { Ok(records_heard(Box::into_inner(response).message)) }
+        ) => { Ok(received_records(Box::into_inner(response).message)) }
         Err(NetError::Dns(DnsError::NoRecordsFound(missing))) => {
             let message = message_without_records(alloc, missing)?;
-            Ok(HeardMessage {
+            Ok(ReceivedMessage {
                 message: cleared(message),
                 empty: true,
             })
@@ -91,12 +93,12 @@ fn heard_of(alloc: Global, reply: Result<DnsResponse, NetError>) -> Result<Heard
     }
 }
 
-// What is heard of a message.
-fn records_heard(message: Message) -> HeardMessage
+// What is received by a message.
+fn received_records(message: Message) -> ReceivedMessage
     ensures message { result.message ≡ cleared_message message }
     ensures empty { result.empty ≡ false }
 {
-    HeardMessage {
+    ReceivedMessage {
         message: cleared(message),
         empty: false,
     }

@@ -7,16 +7,16 @@ ghost use Rattle.dns_net.specs.Replies.{reply_of, error_of};
 ghost use Rattle.dns_net.specs.Requests.{first_question};
 ghost use Rattle.dns_net.specs.Trail.{ending_value};
 ghost use Rattle.dns_sets.specs.Outcome.{outcome_value};
-ghost use Rattle.dns_chain.specs.Answering.{call_by, judged_answer, top_of, Looked};
+ghost use Rattle.dns_chain.specs.Answering.{call_by, judged_answer, top_of, AnswersLookup};
 ghost use Rattle.dns_chain.specs.Calls.{Requesting};
-ghost use Rattle.dns_chain.specs.Inquiries.{asking_request};
-ghost use Rattle.dns_chain.specs.Looked.{UnlessNoMemory};
+ghost use Rattle.dns_chain.specs.AskRequests.{asking_request};
+ghost use Rattle.dns_chain.specs.LookupAnswers.{UnlessNoMemory};
 ghost use Rattle.dns_chain.specs.Sends.{SendsBy, SendsFor};
 ghost use Rattle.dns_chain.specs.Walking.{asking};
 
-use crate::asking::{HeardMessage, hear_reply};
-use crate::inquiry::{Inquiry, Progress, request_for};
+use crate::context::{LookupContext, Progress, request_for};
 use crate::judging::{Concluded, Judgement};
+use crate::receiving::{ReceivedMessage, send_request};
 use crate::walk::{conclude, judge_sets};
 use dns_message::Message;
 use dns_name::NoMemory;
@@ -31,65 +31,73 @@ use std::alloc::Global;
 /// One lookup by its query's own request. Where memory runs out before the send, nothing is sent and the handle doesn't change.
 pub(crate) fn look_up<H: DnsHandle, V: Verifier>(
     alloc: Global,
-    inquiry: &Inquiry<'_, V>,
+    context: &LookupContext<'_, V>,
     handle: &mut H,
     query: Query,
 ) -> Result<DnsResponse, NetError>
-    requires limit { inquiry.now.limit ≡ depth_limit inquiry.now.options.max_request_depth }
+    requires limit { context.now.limit ≡ depth_limit context.now.options.max_request_depth }
     ensures later { H.faults handle.old ≤ H.faults handle.new }
     ensures sends { OrUnsent handle.old handle.new result
-        (SendsFor (asking H.DnsHandle inquiry.now) handle.old handle.new query) }
-    ensures looked { UnlessNoMemory result
-        (Looked H.DnsHandle (call_by V.answers inquiry.now (asking_request query inquiry.now.options) query
+        (SendsFor (asking H.DnsHandle context.now) handle.old handle.new query) }
+    ensures lookup { UnlessNoMemory result
+        (AnswersLookup H.DnsHandle (call_by V.answers context.now (asking_request query context.now.options) query
         handle.old handle.new) (reply_of result)) }
 {
-    let request = request_for(alloc, &query, &inquiry.options, true)?;
-    look(alloc, inquiry, handle, request, query)
+    let request = request_for(alloc, &query, &context.options, true)?;
+    look_up_by_request(alloc, context, handle, request, query)
 }
 
 /// One lookup by a request with its query: the send of this request, the asks for what the query's sets and its ending need, and
 /// the answer with its trail.
-pub(crate) fn look<H: DnsHandle, V: Verifier>(
+pub(crate) fn look_up_by_request<H: DnsHandle, V: Verifier>(
     alloc: Global,
-    inquiry: &Inquiry<'_, V>,
+    context: &LookupContext<'_, V>,
     handle: &mut H,
     request: DnsRequest,
     query: Query,
 ) -> Result<DnsResponse, NetError>
-    requires limit { inquiry.now.limit ≡ depth_limit inquiry.now.options.max_request_depth }
+    requires limit { context.now.limit ≡ depth_limit context.now.options.max_request_depth }
     requires asked { first_question request ≡ Some query }
     ensures later { H.faults handle.old ≤ H.faults handle.new }
-    ensures sends { SendsBy (Requesting H.DnsHandle request inquiry.now.judge.moment) (asking H.DnsHandle inquiry.now)
+    ensures sends { SendsBy (Requesting H.DnsHandle request context.now.judge.moment) (asking H.DnsHandle context.now)
         handle.old handle.new query }
-    ensures looked { UnlessNoMemory result
-        (Looked H.DnsHandle (call_by V.answers inquiry.now request query handle.old handle.new) (reply_of result)) }
+    ensures lookup { UnlessNoMemory result
+        (AnswersLookup H.DnsHandle (call_by V.answers context.now request query handle.old handle.new) (reply_of result)) }
 {
-    let now = inquiry.judge.moment;
+    let now = context.judge.moment;
     let mut progress = Progress {
         steps: Vec::new(alloc),
         sends: 1,
     };
-    let heard = match hear_reply(alloc, handle, request, now) {
-        Ok(heard) => heard,
+    let received = match send_request(alloc, handle, request, now) {
+        Ok(received) => received,
         Err(error) => return Err(error),
     };
-    match foreign_record(&query, &heard.message) {
+    match foreign_record(&query, &received.message) {
         Some(record) => return Err(foreign_error(record)),
         None => {}
     }
-    let placed = placed_sets(alloc, 0, &heard.message)?;
-    let judged = judge_sets(alloc, inquiry, handle, &mut progress, &query, 0, placed)?;
+    let placed = placed_sets(alloc, 0, &received.message)?;
+    let judged = judge_sets(alloc, context, handle, &mut progress, &query, 0, placed)?;
     let concluded = conclude(
         alloc,
-        inquiry,
+        context,
         handle,
         &mut progress,
         &query,
         0,
-        &heard,
+        &received,
         &judged,
     )?;
-    answer(alloc, now, query, heard, progress.steps, judged, concluded)
+    answer(
+        alloc,
+        now,
+        query,
+        received,
+        progress.steps,
+        judged,
+        concluded,
+    )
 }
 
 // The error that names a record of another class.
@@ -112,14 +120,14 @@ fn answer(
     alloc: Global,
     now: u64,
     query: Query,
-    heard: HeardMessage,
+    received: ReceivedMessage,
     steps: Vec<Asked>,
     judged: Judgement,
     concluded: Concluded,
 ) -> Result<DnsResponse, NetError>
     ensures { UnlessNoMemory result (reply_of result ≡ judged_answer now query (record {
-      message = heard.message;
-      empty = heard.empty;
+      message = received.message;
+      empty = received.empty;
       steps = steps.items;
       sets = judged.sets.items;
       entries = judged.entries.items;
@@ -134,14 +142,14 @@ fn answer(
         Outcome::Searched => Err(NetError::Message(Notice::NotJudgedYet)),
         Outcome::Accepted(denial) => {
             let ending = Ending::Answered(denial);
-            let trail = trail_of(query, &heard, steps, entries, ending, excuse)?;
-            Ok(finished(alloc, now, sets, heard.message, denial, trail)?)
+            let trail = trail_of(query, &received, steps, entries, ending, excuse)?;
+            Ok(finished(alloc, now, sets, received.message, denial, trail)?)
         }
         Outcome::Denied(proof) => {
             let asked = query.try_clone()?;
             let ending = Ending::Denied(proof);
-            let trail = trail_of(query, &heard, steps, entries, ending, excuse)?;
-            let response = finished(alloc, now, sets, heard.message, Denial::None, trail)?;
+            let trail = trail_of(query, &received, steps, entries, ending, excuse)?;
+            let response = finished(alloc, now, sets, received.message, Denial::None, trail)?;
             denied(alloc, asked, response, proof)
         }
     }
@@ -167,17 +175,17 @@ fn denied(
 // The steps of the asks, and then the step that asked for the query.
 fn trail_of(
     query: Query,
-    heard: &HeardMessage,
+    received: &ReceivedMessage,
     steps: Vec<Asked>,
     entries: Vec<JudgedSet>,
     ending: Ending,
     excuse: Vec<AskRef>,
 ) -> Result<Trail, NoMemory>
     ensures { IfOk result (λ t. t ≡ steps.items
-        ++ top_of query (told_by heard.now.message) heard.now.empty entries.items (ending_value ending) excuse.items ∷ []) }
+        ++ top_of query (told_by received.now.message) received.now.empty entries.items (ending_value ending) excuse.items ∷ []) }
 {
     let mut steps = steps;
-    let told = told_of(&heard.message, heard.empty)?;
+    let told = told_of(&received.message, received.empty)?;
     steps.push(Asked {
         depth: 0,
         judged: true,

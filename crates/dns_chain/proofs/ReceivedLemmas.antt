@@ -1,4 +1,4 @@
--- What was heard of one ask, and the step that keeps it.
+-- What was received by one ask, and the step that keeps it.
 use Rattle.std.proofs.Common.{ℕ, ◌≡◌, ◌≤◌, ◌≢◌, ◌∙◌, Bool, true, false, Option, None, Some, Result, Ok, Err, refl, sym, ap, subst, inl, inr}
 use Rattle.dns_model.specs.Records.{Question, MessageValue}
 use Rattle.dns_model.specs.SoundAnswers.{told_by, ResponseValue}
@@ -15,12 +15,12 @@ use Rattle.dns_net.specs.declared.error.NetError.TheVariants.{Busy, Dns, Message
 use Rattle.dns_net.specs.declared.handle.DnsHandle as handle
 use Rattle.dns_net.specs.declared.request.DnsRequestOptions.{DnsRequestOptions}
 use Rattle.dns_chain.specs.Calls.{Sending, Asking, IsCaused}
-use Rattle.dns_chain.specs.Heard.{heard_message, says_none}
-use Rattle.dns_chain.specs.Inquiries.{Ask, request_for}
+use Rattle.dns_chain.specs.Received.{received_message, says_none}
+use Rattle.dns_chain.specs.AskRequests.{Ask, request_for}
 use Rattle.dns_chain.specs.Sends.{SendOf, ask_of_step}
-use Rattle.dns_chain.specs.Walking.{IsHeard, IsUnheard, HeardAs, Heard}
+use Rattle.dns_chain.specs.Walking.{IsReceived, IsReceivedError, ReceivedAs, Received}
 use Rattle.dns_chain.specs.LookupParts.{heard_told, told_of}
-use Rattle.dns_chain.specs.declared.asking.HeardMessage.{HeardMessage}
+use Rattle.dns_chain.specs.declared.receiving.ReceivedMessage.{ReceivedMessage}
 
 -- ---- a reply
 
@@ -46,42 +46,42 @@ none_some : (m : MessageValue) → (let x : Option MessageValue = None in x) ≡
 none_some m h = cc
 
 -- a reply with a message isn't want of memory
-pub heard_remembered : (reply : Reply) (heard : HeardMessage) → IsHeard reply heard → reply ≢ Err seen.NoMemory
-heard_remembered reply heard h = λ is. none_some h.from (sym (ap heard_message is) ∙ h.is)
+pub received_remembered : (reply : Reply) (received : ReceivedMessage) → IsReceived reply received → reply ≢ Err seen.NoMemory
+received_remembered reply received h = λ is. none_some h.from (sym (ap received_message is) ∙ h.is)
 
 -- nor is another error
-pub unheard_remembered : (reply : Reply) (error : NetError) → (error ≡ NoMemory → ⊥) → IsUnheard reply error → reply ≢ Err seen.NoMemory
-unheard_remembered reply error other unheard =
-    λ is. other (seen_no_memory error (error_same (error_of error) seen.NoMemory (sym unheard.is ∙ is)))
+pub error_remembered : (reply : Reply) (error : NetError) → (error ≡ NoMemory → ⊥) → IsReceivedError reply error → reply ≢ Err seen.NoMemory
+error_remembered reply error other faulted =
+    λ is. other (seen_no_memory error (error_same (error_of error) seen.NoMemory (sym faulted.is ∙ is)))
 
 -- an error other than want of memory is that of the reply
-pub unheard_as : (reply : Reply) (error : NetError) → (error ≡ NoMemory → ⊥) → HeardAs reply (Err error) → IsUnheard reply error
-unheard_as reply error other (inl memory) = absurd (other memory)
-unheard_as reply error other (inr unheard) = unheard
+pub received_error : (reply : Reply) (error : NetError) → (error ≡ NoMemory → ⊥) → ReceivedAs reply (Err error) → IsReceivedError reply error
+received_error reply error other (inl memory) = absurd (other memory)
+received_error reply error other (inr faulted) = faulted
 
 -- ---- the step that keeps it
 
 -- a step that keeps the records of a message
-pub sent_heard : {H : Type 0} (ask : H → Ask → H → Reply → Type 0) (a b : H) (step : AskedValue) (heard : HeardMessage)
-    → Heard ask a b (ask_of_step step) (Ok heard) → step.reply ≡ Records (told_by heard.message) heard.empty → SendOf ask a step b
-sent_heard ask a b step heard h kept = record {
+pub sent_received : {H : Type 0} (ask : H → Ask → H → Reply → Type 0) (a b : H) (step : AskedValue) (received : ReceivedMessage)
+    → Received ask a b (ask_of_step step) (Ok received) → step.reply ≡ Records (told_by received.message) received.empty → SendOf ask a step b
+sent_received ask a b step received h kept = record {
   reply = h.reply;
   made = h.made;
-  heard = kept ∙ ap (λ m. Records (told_by m) heard.empty) h.heard.cleared ∙ ap (Records (told_by (cleared_message h.heard.from))) h.heard.empty
-      ∙ sym (ap (λ o. heard_told (says_none h.reply) (told_of o)) h.heard.is);
-  remembered = heard_remembered h.reply heard h.heard;
+  heard = kept ∙ ap (λ m. Records (told_by m) received.empty) h.received.cleared ∙ ap (Records (told_by (cleared_message h.received.from))) h.received.empty
+      ∙ sym (ap (λ o. heard_told (says_none h.reply) (told_of o)) h.received.is);
+  remembered = received_remembered h.reply received h.received;
 }
 
 -- a step that heard a fault
 pub sent_fault : {H : Type 0} (ask : H → Ask → H → Reply → Type 0) (a b : H) (step : AskedValue) (error : NetError)
-    → (error ≡ NoMemory → ⊥) → Heard ask a b (ask_of_step step) (Err error) → step.reply ≡ Fault → SendOf ask a step b
+    → (error ≡ NoMemory → ⊥) → Received ask a b (ask_of_step step) (Err error) → step.reply ≡ Fault → SendOf ask a step b
 sent_fault ask a b step error other h kept =
-    let unheard = unheard_as h.reply error other h.heard in
+    let faulted = received_error h.reply error other h.received in
     record {
       reply = h.reply;
       made = h.made;
-      heard = kept ∙ sym (ap (λ o. heard_told (says_none h.reply) (told_of o)) unheard.none);
-      remembered = unheard_remembered h.reply error other unheard;
+      heard = kept ∙ sym (ap (λ o. heard_told (says_none h.reply) (told_of o)) faulted.none);
+      remembered = error_remembered h.reply error other faulted;
     }
 
 -- ---- one send

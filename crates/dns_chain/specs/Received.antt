@@ -1,4 +1,4 @@
--- What a lookup hears of a reply (RFC 2308, 2; RFC 4035, 4.2 and 5).
+-- What a lookup receives by a reply (RFC 2308, 2; RFC 4035, 4.2 and 5).
 use Rattle.std.specs.Prelude.{Bool, true, false, List, [], ◌∷◌, ◌++◌, Option, None, Some, Ok, Err, if◌then◌else◌}
 use Rattle.std.specs.List.{list_any}
 use Rattle.std.specs.Option.{option_map, option_map_or}
@@ -38,11 +38,11 @@ no_records_message missing = record {
 
 -- the message of a reply, also that of the response inside a denial, and that which says that there are no records; none for
 -- another error
-abbrev pub heard_message : Reply → Option MessageValue
-heard_message (Ok response) = Some response.message
-heard_message (Err (Dns (Nsec query response proof))) = Some response.message
-heard_message (Err (Dns (NoRecordsFound missing))) = Some (no_records_message missing)
-heard_message (Err error) = None
+abbrev pub received_message : Reply → Option MessageValue
+received_message (Ok response) = Some response.message
+received_message (Err (Dns (Nsec query response proof))) = Some response.message
+received_message (Err (Dns (NoRecordsFound missing))) = Some (no_records_message missing)
+received_message (Err error) = None
 
 -- the reply said that there are no records
 abbrev pub says_none : Reply → Bool
@@ -50,9 +50,9 @@ says_none (Ok response) = false
 says_none (Err error) = is_no_records_found error
 
 -- the records that a reply tells, without the marks that came with them
-abbrev pub heard : Reply → Option Told
-heard reply = option_map (λ message. told_by (cleared_message message)) (heard_message reply)
+abbrev pub received : Reply → Option Told
+received reply = option_map (λ message. told_by (cleared_message message)) (received_message reply)
 
--- what a step of a trail says of a reply: its records and whether it said that there are none, or a fault
-abbrev pub heard_value : Reply → HeardValue
-heard_value reply = option_map_or (λ told. Records told (says_none reply)) (heard reply) Fault
+-- what a step of a trail says that it heard of a reply: its records and whether it said that there are none, or a fault
+abbrev pub heard_from : Reply → HeardValue
+heard_from reply = option_map_or (λ told. Records told (says_none reply)) (received reply) Fault
