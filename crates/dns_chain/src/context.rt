@@ -15,6 +15,7 @@ pub(crate) const MOST_SENDS: u32 = 1024;
 /// The context of a lookup: what stays the same over all of its asks.
 #[derive(Drop)]
 pub(crate) struct LookupContext<'a, V> {
+    pub(crate) alloc: Global,
     /// By what sets are judged, and at which moment.
     pub(crate) judge: Judge<'a, V>,
     pub(crate) options: DnsRequestOptions,

@@ -146,11 +146,12 @@ impl<H: DnsHandle + Drop, V: Verifier + Drop> DnssecDnsHandle<H, V> {
             moment: now,
         };
         let context = LookupContext {
+            alloc,
             judge,
             options,
             limit: depth_limit_of(&options),
         };
-        let reply = look_up(alloc, &context, &mut self.handle, query);
+        let reply = look_up(&context, &mut self.handle, query);
         self.sends = self.sends.saturating_add(1);
         self.faults = faults_after(self.faults, &reply);
         reply

@@ -30,7 +30,6 @@ use std::alloc::Global;
 
 /// One lookup by its query's own request. Where memory runs out before the send, nothing is sent and the handle doesn't change.
 pub(crate) fn look_up<H: DnsHandle, V: Verifier>(
-    alloc: Global,
     context: &LookupContext<'_, V>,
     handle: &mut H,
     query: Query,
@@ -43,14 +42,13 @@ pub(crate) fn look_up<H: DnsHandle, V: Verifier>(
         (AnswersLookup H.DnsHandle (call_by V.answers context.now (asking_request query context.now.options) query
         handle.old handle.new) (reply_of result)) }
 {
-    let request = request_for(alloc, &query, &context.options, true)?;
-    look_up_by_request(alloc, context, handle, request, query)
+    let request = request_for(context.alloc, &query, &context.options, true)?;
+    look_up_by_request(context, handle, request, query)
 }
 
 /// One lookup by a request with its query: the send of this request, the asks for what the query's sets and its ending need, and
 /// the answer with its trail.
 pub(crate) fn look_up_by_request<H: DnsHandle, V: Verifier>(
-    alloc: Global,
     context: &LookupContext<'_, V>,
     handle: &mut H,
     request: DnsRequest,
@@ -64,12 +62,11 @@ pub(crate) fn look_up_by_request<H: DnsHandle, V: Verifier>(
     ensures lookup { UnlessNoMemory result
         (AnswersLookup H.DnsHandle (call_by V.answers context.now request query handle.old handle.new) (reply_of result)) }
 {
-    let now = context.judge.moment;
     let mut progress = Progress {
-        steps: Vec::new(alloc),
+        steps: Vec::new(context.alloc),
         sends: 1,
     };
-    let received = match send_request(alloc, handle, request, now) {
+    let received = match send_request(context.alloc, handle, request, context.judge.moment) {
         Ok(received) => received,
         Err(error) => return Err(error),
     };
@@ -77,10 +74,9 @@ pub(crate) fn look_up_by_request<H: DnsHandle, V: Verifier>(
         Some(record) => return Err(foreign_error(record)),
         None => {}
     }
-    let placed = placed_sets(alloc, 0, &received.message)?;
-    let judged = judge_sets(alloc, context, handle, &mut progress, &query, 0, placed)?;
+    let placed = placed_sets(context.alloc, 0, &received.message)?;
+    let judged = judge_sets(context, handle, &mut progress, &query, 0, placed)?;
     let concluded = conclude(
-        alloc,
         context,
         handle,
         &mut progress,
@@ -89,15 +85,7 @@ pub(crate) fn look_up_by_request<H: DnsHandle, V: Verifier>(
         &received,
         &judged,
     )?;
-    answer(
-        alloc,
-        now,
-        query,
-        received,
-        progress.steps,
-        judged,
-        concluded,
-    )
+    answer(context, query, received, progress.steps, judged, concluded)
 }
 
 // The error that names a record of another class.
@@ -116,16 +104,15 @@ fn foreign_error(record: &Record) -> NetError
 }
 
 // The answer that the judged sets of a message make, behind the steps of the asks for them.
-fn answer(
-    alloc: Global,
-    now: u64,
+fn answer<V>(
+    context: &LookupContext<'_, V>,
     query: Query,
     received: ReceivedMessage,
     steps: Vec<Asked>,
     judged: Judgement,
     concluded: Concluded,
 ) -> Result<DnsResponse, NetError>
-    ensures { UnlessNoMemory result (reply_of result ≡ judged_answer now query (record {
+    ensures { UnlessNoMemory result (reply_of result ≡ judged_answer context.now.judge.moment query (record {
       message = received.message;
       empty = received.empty;
       steps = steps.items;
@@ -135,6 +122,8 @@ fn answer(
       excuse = concluded.excuse.items;
     })) }
 {
+    let alloc = context.alloc;
+    let now = context.judge.moment;
     let Judgement { sets, entries } = judged;
     let Concluded { outcome, excuse } = concluded;
     match outcome {

@@ -31,7 +31,6 @@ pub(crate) struct ReceivedMessage {
 /// Sends a query, as one whose reply is judged or only seen, and receives the message of the reply, also of a denial and of one
 /// that says that there are no records. Where memory runs out before the send, nothing is sent and the handle doesn't change.
 pub(crate) fn send_query<H: DnsHandle, V>(
-    alloc: Global,
     context: &LookupContext<'_, V>,
     handle: &mut H,
     progress: &mut Progress,
@@ -46,8 +45,11 @@ pub(crate) fn send_query<H: DnsHandle, V>(
         (Received (asking H.DnsHandle context.now) handle.old handle.new (record { query = query.now; judged = judged }) result) }
 {
     progress.sends += 1;
-    let request = request_for(alloc, query, &context.options, judged)?;
-    received_of(alloc, handle.send(alloc, request, context.judge.moment))
+    let request = request_for(context.alloc, query, &context.options, judged)?;
+    received_of(
+        context.alloc,
+        handle.send(context.alloc, request, context.judge.moment),
+    )
 }
 
 /// Sends a request, and receives the message of the reply in the same way.

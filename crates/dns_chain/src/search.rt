@@ -20,7 +20,6 @@ use dns_name::{Name, NoMemory};
 use dns_net::{AskRef, DnsHandle, Ending, NetError, Reply, Verifier};
 use dns_record::{DNSClass, Query};
 use dns_trust::{is_ns_of, ns_query};
-use std::alloc::Global;
 
 /// Where the plain asks of a search lead.
 #[derive(Drop)]
@@ -50,7 +49,6 @@ struct Glimpse {
 
 /// Asks from a name on up to the root for NS records, until they are seen or nothing is. Each ask is as deep as its step.
 pub(crate) fn find_zone<H: DnsHandle, V: Verifier>(
-    alloc: Global,
     context: &LookupContext<'_, V>,
     handle: &mut H,
     progress: &mut Progress,
@@ -67,11 +65,11 @@ pub(crate) fn find_zone<H: DnsHandle, V: Verifier>(
     ensures way { IfOk result (λ w. (query : Question) → IsWay
         (grounds_at V.answers context.now progress.new query depth) class.0 start.now w.asked.items w.zone) }
 {
-    let mut asked = Vec::new(alloc);
+    let mut asked = Vec::new(context.alloc);
     let mut name = start.try_clone()?;
     'names: while !name.is_root() {
         let query = ns_query(&name, class)?;
-        let Glimpse { ask, sight } = see(alloc, context, handle, progress, query, depth)?;
+        let Glimpse { ask, sight } = see(context, handle, progress, query, depth)?;
         asked.push(ask)?;
         match sight {
             Sight::Cut => {
@@ -89,7 +87,6 @@ pub(crate) fn find_zone<H: DnsHandle, V: Verifier>(
 
 // Asks plainly for the NS records of a name, and adds the step that this makes to the trail.
 fn see<H: DnsHandle, V: Verifier>(
-    alloc: Global,
     context: &LookupContext<'_, V>,
     handle: &mut H,
     progress: &mut Progress,
@@ -107,20 +104,20 @@ fn see<H: DnsHandle, V: Verifier>(
     if progress.sends >= MOST_SENDS {
         return Ok(unseen(AskRef::TooMany));
     }
-    let received = match send_query(alloc, context, handle, progress, &query, false) {
+    let received = match send_query(context, handle, progress, &query, false) {
         Ok(received) => received,
         Err(error) => match error {
             NetError::NoMemory => return Err(NoMemory),
             _ => {
                 let fault = Reply::Fault;
-                let failed = seen(alloc, progress, query, depth, fault, Ending::Failed)?;
+                let failed = seen(context.alloc, progress, query, depth, fault, Ending::Failed)?;
                 return Ok(unseen(failed));
             }
         },
     };
     let sight = sight_in(&query.name, &received);
     let ask = seen(
-        alloc,
+        context.alloc,
         progress,
         query,
         depth,

@@ -46,11 +46,12 @@ pub(crate) fn answer_request<H: DnsHandle, V: Verifier>(
         moment: now,
     };
     let context = LookupContext {
+        alloc,
         judge,
         options,
         limit: depth_limit_of(&options),
     };
-    look_up_by_request(alloc, &context, handle, checked(alloc, request), query)
+    look_up_by_request(&context, handle, checked(alloc, request), query)
 }
 
 // A query, and no notify, update or other operation.

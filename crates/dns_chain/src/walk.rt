@@ -29,12 +29,10 @@ use dns_trust::{
     KeysStep, ask_of, ds_ask_of, ds_query, first_signatures, is_searched, is_skipped, judged_by,
     judged_by_ds, judged_keys, question_start, set_start, unsigned_by, verdict_of, zone_mark,
 };
-use std::alloc::Global;
 
 /// Judges the sets of a step at a depth, in order.
 #[cycle(walk)]
 pub(crate) fn judge_sets<H: DnsHandle, V: Verifier>(
-    alloc: Global,
     context: &LookupContext<'_, V>,
     handle: &mut H,
     progress: &mut Progress,
@@ -53,12 +51,10 @@ pub(crate) fn judge_sets<H: DnsHandle, V: Verifier>(
     ensures judged { IfOk result (λ v. IsJudgement
         (grounds_at V.answers context.now progress.new query.now depth) placed.items v.sets.items v.entries.items) }
 {
-    let mut sets = Vec::new(alloc);
-    let mut entries = Vec::new(alloc);
+    let mut sets = Vec::new(context.alloc);
+    let mut entries = Vec::new(context.alloc);
     for next in placed {
-        let OneSet { set, entry } = judge_set(
-            alloc, context, handle, progress, query, depth, next,
-        )?;
+        let OneSet { set, entry } = judge_set(context, handle, progress, query, depth, next)?;
         sets.push(set)?;
         entries.push(entry)?;
     }
@@ -68,7 +64,6 @@ pub(crate) fn judge_sets<H: DnsHandle, V: Verifier>(
 // Judges one set: a key set by what makes its keys known, an unsigned one by its zone, another by its first signatures.
 #[cycle(walk)]
 fn judge_set<H: DnsHandle, V: Verifier>(
-    alloc: Global,
     context: &LookupContext<'_, V>,
     handle: &mut H,
     progress: &mut Progress,
@@ -88,16 +83,16 @@ fn judge_set<H: DnsHandle, V: Verifier>(
         (grounds_at V.answers context.now progress.new query.now depth) placed o.set o.entry) }
 {
     if is_key_set(&placed) {
-        let one = judge_keys(alloc, context, handle, progress, depth, placed)?;
+        let one = judge_keys(context, handle, progress, depth, placed)?;
         return Ok(one);
     }
     if is_searched(set_of(&placed)) {
-        let one = judge_unsigned(alloc, context, handle, progress, depth, placed)?;
+        let one = judge_unsigned(context, handle, progress, depth, placed)?;
         return Ok(one);
     }
     let signed = set_of(&placed);
     let Verdicts { verdicts, asked } = judge_signatures(
-        alloc, context, handle, progress, query, depth, signed,
+        context, handle, progress, query, depth, signed,
     )?;
     let set = judged_by(placed, verdicts)?;
     let one = with_entry(set, asked)?;
@@ -107,7 +102,6 @@ fn judge_set<H: DnsHandle, V: Verifier>(
 // Judges a key set: by the anchors, and where these don't decide, by the DS set of its owner, which it asks for.
 #[cycle(walk)]
 fn judge_keys<H: DnsHandle, V: Verifier>(
-    alloc: Global,
     context: &LookupContext<'_, V>,
     handle: &mut H,
     progress: &mut Progress,
@@ -126,17 +120,17 @@ fn judge_keys<H: DnsHandle, V: Verifier>(
     ensures judged { IfOk result (λ o. (query : Question) → IsJudgedSet
         (grounds_at V.answers context.now progress.new query depth) placed o.set o.entry) }
 {
-    let placed = match judged_keys(alloc, &context.judge, placed)? {
+    let placed = match judged_keys(context.alloc, &context.judge, placed)? {
         KeysStep::Done(set) => {
-            let one = with_entry(set, Vec::new(alloc))?;
+            let one = with_entry(set, Vec::new(context.alloc))?;
             return Ok(one);
         }
         KeysStep::NeedsDs(placed) => placed,
     };
     let ds_query = ds_ask_of(set_of(&placed))?;
-    let Finished { ask, answer } = ask(alloc, context, handle, progress, ds_query, depth + 1)?;
-    let set = judged_by_ds(alloc, &context.judge, placed, &answer)?;
-    let asked = vec![in alloc; ask]?;
+    let Finished { ask, answer } = ask(context, handle, progress, ds_query, depth + 1)?;
+    let set = judged_by_ds(context.alloc, &context.judge, placed, &answer)?;
+    let asked = vec![in context.alloc; ask]?;
     let one = with_entry(set, asked)?;
     Ok(one)
 }
@@ -144,7 +138,6 @@ fn judge_keys<H: DnsHandle, V: Verifier>(
 // Judges an unsigned set by its zone, which it searches.
 #[cycle(walk)]
 fn judge_unsigned<H: DnsHandle, V: Verifier>(
-    alloc: Global,
     context: &LookupContext<'_, V>,
     handle: &mut H,
     progress: &mut Progress,
@@ -166,17 +159,14 @@ fn judge_unsigned<H: DnsHandle, V: Verifier>(
 {
     let class = class_of(&placed);
     let start = set_start(set_of(&placed))?;
-    let Searched { mark, asked } = search_zone(
-        alloc, context, handle, progress, class, &start, depth,
-    )?;
-    let one = with_entry(unsigned_by(alloc, placed, mark), asked)?;
+    let Searched { mark, asked } = search_zone(context, handle, progress, class, &start, depth)?;
+    let one = with_entry(unsigned_by(context.alloc, placed, mark), asked)?;
     Ok(one)
 }
 
 // Searches the zone of a name, and finds the mark that it leaves to what is unsigned in it (RFC 4035, 4.3 and 5.2).
 #[cycle(walk)]
 fn search_zone<H: DnsHandle, V: Verifier>(
-    alloc: Global,
     context: &LookupContext<'_, V>,
     handle: &mut H,
     progress: &mut Progress,
@@ -195,7 +185,7 @@ fn search_zone<H: DnsHandle, V: Verifier>(
     ensures searched { IfOk result (λ s. (query : Question) → IsSearched
         (grounds_at V.answers context.now progress.new query depth) class.0 start.now s.asked.items s.mark) }
 {
-    let Way { zone, asked } = find_zone(alloc, context, handle, progress, class, start, depth)?;
+    let Way { zone, asked } = find_zone(context, handle, progress, class, start, depth)?;
     let Some(zone) = zone else {
         return Ok(Searched {
             mark: Proof::Bogus,
@@ -204,7 +194,7 @@ fn search_zone<H: DnsHandle, V: Verifier>(
     };
     let mut asked = asked;
     let question = ds_query(zone.try_clone()?, class);
-    let Finished { ask, answer } = ask(alloc, context, handle, progress, question, depth + 1)?;
+    let Finished { ask, answer } = ask(context, handle, progress, question, depth + 1)?;
     asked.push(ask)?;
     let mark = zone_mark(context.judge.verifier, class, &zone, &answer);
     Ok(Searched { mark, asked })
@@ -213,7 +203,6 @@ fn search_zone<H: DnsHandle, V: Verifier>(
 /// What the judged sets of a step come to; where they leave it open, the zone of its query is searched.
 #[cycle(walk)]
 pub(crate) fn conclude<H: DnsHandle, V: Verifier>(
-    alloc: Global,
     context: &LookupContext<'_, V>,
     handle: &mut H,
     progress: &mut Progress,
@@ -233,13 +222,13 @@ pub(crate) fn conclude<H: DnsHandle, V: Verifier>(
     ensures concluded { IfOk result (λ c. IsConcluded (grounds_at V.answers context.now progress.new query.now depth)
         (told_by received.now.message) (bare judged.now.sets.items) (outcome_value c.outcome) c.excuse.items) }
 {
-    let outcome = outcome_of(alloc, query, &received.message, &judged.sets)?;
+    let outcome = outcome_of(context.alloc, query, &received.message, &judged.sets)?;
     match outcome {
         Outcome::Searched => {
             let start = question_start(query)?;
             let class = query.query_class;
             let Searched { mark, asked } = search_zone(
-                alloc, context, handle, progress, class, &start, depth,
+                context, handle, progress, class, &start, depth,
             )?;
             Ok(Concluded {
                 outcome: outcome_by_zone(query, &received.message, mark),
@@ -248,7 +237,7 @@ pub(crate) fn conclude<H: DnsHandle, V: Verifier>(
         }
         outcome => Ok(Concluded {
             outcome,
-            excuse: Vec::new(alloc),
+            excuse: Vec::new(context.alloc),
         }),
     }
 }
@@ -256,7 +245,6 @@ pub(crate) fn conclude<H: DnsHandle, V: Verifier>(
 // The verdicts of a set's first signatures, up to the first that proves the set.
 #[cycle(walk)]
 fn judge_signatures<H: DnsHandle, V: Verifier>(
-    alloc: Global,
     context: &LookupContext<'_, V>,
     handle: &mut H,
     progress: &mut Progress,
@@ -276,12 +264,12 @@ fn judge_signatures<H: DnsHandle, V: Verifier>(
         (grounds_at V.answers context.now progress.new query.now depth) set.now
         v.asked.items (map verdict_value v.verdicts.items)) }
 {
-    let mut verdicts = Vec::new(alloc);
-    let mut asked = Vec::new(alloc);
+    let mut verdicts = Vec::new(context.alloc);
+    let mut asked = Vec::new(context.alloc);
     let tried = first_signatures(set);
     for sig in tried {
         let Tried { verdict, ask } = judge_signature(
-            alloc, context, handle, progress, query, depth, set, sig,
+            context, handle, progress, query, depth, set, sig,
         )?;
         add_ask(&mut asked, ask)?;
         let proved = verdict.is_proved();
@@ -296,7 +284,6 @@ fn judge_signatures<H: DnsHandle, V: Verifier>(
 // The verdict of one signature, after the ask for its signer's keys.
 #[cycle(walk)]
 fn judge_signature<H: DnsHandle, V: Verifier>(
-    alloc: Global,
     context: &LookupContext<'_, V>,
     handle: &mut H,
     progress: &mut Progress,
@@ -323,9 +310,9 @@ fn judge_signature<H: DnsHandle, V: Verifier>(
     if skipped {
         return Ok(untried());
     }
-    let question = ask_of(alloc, set, &read)?;
-    let Finished { ask, answer } = ask(alloc, context, handle, progress, question, depth + 1)?;
-    let verdict = verdict_of(alloc, &context.judge, set, sig, &read, &answer)?;
+    let question = ask_of(context.alloc, set, &read)?;
+    let Finished { ask, answer } = ask(context, handle, progress, question, depth + 1)?;
+    let verdict = verdict_of(context.alloc, &context.judge, set, sig, &read, &answer)?;
     Ok(Tried {
         verdict,
         ask: Some(ask),
@@ -335,7 +322,6 @@ fn judge_signature<H: DnsHandle, V: Verifier>(
 // Asks a question at a depth, and adds the steps that this makes to the trail.
 #[cycle(walk)]
 fn ask<H: DnsHandle, V: Verifier>(
-    alloc: Global,
     context: &LookupContext<'_, V>,
     handle: &mut H,
     progress: &mut Progress,
@@ -359,12 +345,12 @@ fn ask<H: DnsHandle, V: Verifier>(
     if progress.sends >= MOST_SENDS {
         return Ok(refused(AskRef::TooMany));
     }
-    let received = match send_query(alloc, context, handle, progress, &query, true) {
+    let received = match send_query(context, handle, progress, &query, true) {
         Ok(received) => received,
         Err(error) => match error {
             NetError::NoMemory => return Err(NoMemory),
             _ => {
-                let failed = faulted(alloc, progress, query, depth)?;
+                let failed = faulted(context.alloc, progress, query, depth)?;
                 return Ok(failed);
             }
         },
@@ -373,16 +359,14 @@ fn ask<H: DnsHandle, V: Verifier>(
     match foreign {
         Some(ending) => {
             let reply = records_of(received);
-            let seen = unanswered(alloc, progress, query, depth, reply, ending)?;
+            let seen = unanswered(context.alloc, progress, query, depth, reply, ending)?;
             return Ok(seen);
         }
         None => {}
     }
-    let placed = placed_sets(alloc, depth, &received.message)?;
-    let judged = judge_sets(alloc, context, handle, progress, &query, depth, placed)?;
-    let concluded = conclude(
-        alloc, context, handle, progress, &query, depth, &received, &judged,
-    )?;
+    let placed = placed_sets(context.alloc, depth, &received.message)?;
+    let judged = judge_sets(context, handle, progress, &query, depth, placed)?;
+    let concluded = conclude(context, handle, progress, &query, depth, &received, &judged)?;
     let finished = answered(progress, query, depth, received, judged, concluded)?;
     Ok(finished)
 }
