@@ -1,5 +1,5 @@
 -- The sets of a step, judged one after another, each with its entry.
-use Rattle.std.proofs.Common.{ℕ, ◌≡◌, ◌==◌, ◌+◌, true, false, List, [], ◌∷◌, ◌++◌, Option, None, Some, refl, sym, ap, subst, ◌∙◌, append-nil}
+use Rattle.std.proofs.Common.{ℕ, ◌≡◌, ◌==◌, ◌+◌, true, false, List, [], ◌∷◌, ◌++◌, take, Option, None, Some, refl, sym, ap, subst, ◌∙◌, append-nil}
 use Rattle.std.specs.List.{AllByRecursion}
 use Rattle.std.specs.Option.{option_map}
 use Rattle.std.proofs.lemmas.List.{map-append}
@@ -13,7 +13,6 @@ use Rattle.dns_model.specs.Chains.{LinkValue}
 use Rattle.dns_model.specs.SoundAnswers.{Placed}
 use Rattle.dns_model.specs.Trails.{AskedValue, JudgedSetValue}
 use Rattle.dns_model.proofs.EachLemmas.{each_append}
-use Rattle.dns_model.proofs.SetLemmas.{IsProper}
 use Rattle.dns_judgement.specs.Chained.{Chained, ChainedVerdict, bare, bare_verdicts, stands, chained_by, chained_unsigned, chained_keys, chained_by_ds}
 use Rattle.dns_judgement.specs.Delegations.{ZoneVerdict, Signed, Insecure, Bogus, ds_question, zone_verdict}
 use Rattle.dns_judgement.specs.Unsigned.{set_start, is_searched, unsigned_mark, unsigned_by}
@@ -29,7 +28,9 @@ use Rattle.dns_judgement.proofs.ExtendLemmas.{entries_stay, entries_none, entrie
 use Rattle.dns_trust.specs.Steps.{IsKeysStep}
 use Rattle.dns_trust.specs.declared.key_sets.KeysStep.{KeysStep}
 use Rattle.dns_trust.specs.declared.key_sets.KeysStep.TheVariants.{Done, NeedsDs}
+use Rattle.dns_chain.specs.Standing.{IsPlainSet}
 use Rattle.dns_chain.specs.Walking.{entry_of, IsAnswer, AreTried, IsSearched, IsJudgedSet, IsJudgement}
+use Rattle.dns_chain.proofs.StandingLemmas.{proper_set, good_answer, good_verdicts}
 
 -- ---- one set
 
@@ -53,7 +54,7 @@ keys_judged g placed c entry keys settled is made =
     record {
       holds = ap (entry_holds g placed) made ∙ holds;
       same = with_entry-of placed c.judged [] own ∙ ap (λ e. with_entry (placed, e)) (sym made);
-      stand = λ proper. ap (stands g.judge) is ∙ chained_keys-stands g.judge placed proper keys;
+      stand = λ plain. ap (stands g.judge) is ∙ chained_keys-stands g.judge placed (proper_set placed.set plain) keys;
     }
 
 pub keys_step : (g : Grounds) (placed : Placed) (step : KeysStep) (s c : Chained) (entry : JudgedSetValue) (asked : List AskRef)
@@ -80,7 +81,7 @@ ds_judged g placed c entry ask answer keys needs asked is made =
     record {
       holds = ap (entry_holds g placed) made ∙ holds;
       same = with_entry-of placed c.judged (ask ∷ []) own ∙ ap (λ e. with_entry (placed, e)) (sym made);
-      stand = λ proper. ap (stands g.judge) is ∙ chained_by_ds-stands g.judge placed answer proper keys asked.stand;
+      stand = λ plain. ap (stands g.judge) is ∙ chained_by_ds-stands g.judge placed answer (proper_set placed.set plain) keys (good_answer g.judge answer asked.stand);
     }
 
 pub ds_step : (g : Grounds) (placed : Placed) (step : KeysStep) (own : Placed) (set : RrSet) (question : Question) (s c : Chained) (entry : JudgedSetValue)
@@ -111,7 +112,7 @@ unsigned_judged g placed c entry asked zone other unsigned found is made =
     record {
       holds = ap (entry_holds g placed) made ∙ holds;
       same = with_entry-of placed c.judged asked own ∙ ap (λ e. with_entry (placed, e)) (sym made);
-      stand = λ proper. ap (stands g.judge) is ∙ chained_unsigned-stands g.judge placed zone;
+      stand = λ plain. ap (stands g.judge) is ∙ chained_unsigned-stands g.judge placed zone;
     }
 
 -- no signature decided
@@ -157,7 +158,8 @@ others_judged g placed set c entry asked vs own_set other signed tried is made =
     record {
       holds = ap (entry_holds g placed) made ∙ holds;
       same = with_entry-of placed c.judged asked own ∙ ap (λ e. with_entry (placed, e)) (sym made);
-      stand = λ proper. ap (stands g.judge) is ∙ chained_by-stands g.judge placed most_signatures vs (tried.good proper other);
+      stand = λ plain. ap (stands g.judge) is ∙ chained_by-stands g.judge placed most_signatures vs
+          (good_verdicts g.judge placed.set (take most_signatures placed.set.signatures) vs (tried.good plain other));
     }
 
 pub others_step : (g : Grounds) (placed : Placed) (set : RrSet) (s c : Chained) (entry : JudgedSetValue) (asks asked : List AskRef) (vs ws : List ChainedVerdict)
@@ -173,7 +175,7 @@ pub judgement_none : (g : Grounds) (cs : List Chained) (es : List JudgedSetValue
 judgement_none g cs es no_set no_entry =
     let P : List Chained → Type 0 = λ xs. IsJudgement g [] xs es in
     let Q : List JudgedSetValue → Type 0 = λ xs. IsJudgement g [] [] xs in
-    subst P (sym no_set) (subst Q (sym no_entry) (record { hold = entries_none g; same = refl; stand = λ proper. tt }))
+    subst P (sym no_set) (subst Q (sym no_entry) (record { hold = entries_none g; same = refl; stand = λ plain. tt }))
 
 -- what was judged stays when steps are added
 pub judgement_later : (g : Grounds) (after more : List AskedValue) (ps : List Placed) (cs : List Chained) (es : List JudgedSetValue)
@@ -202,9 +204,9 @@ judgement_more g ps p cs c es e judged one = record {
   same =
       map-append (λ x. x.judged) cs (c ∷ []) ∙ ap (λ xs. xs ++ c.judged ∷ []) judged.same ∙ ap (λ x. with_entries ps es ++ x ∷ []) one.same
       ∙ sym (with_entries-append ps (p ∷ []) es (e ∷ []) (entries_as_many g ps es judged.hold));
-  stand = λ proper.
-      each_append (λ x. stands g.judge x ≡ true) cs (c ∷ []) (judged.stand (all_front (λ x. IsProper x.set) ps (p ∷ []) proper))
-      (one.stand (all_last (λ x. IsProper x.set) ps p proper), tt);
+  stand = λ plain.
+      each_append (λ x. stands g.judge x ≡ true) cs (c ∷ []) (judged.stand (all_front (λ x. IsPlainSet x.set) ps (p ∷ []) plain))
+      (one.stand (all_last (λ x. IsPlainSet x.set) ps p plain), tt);
 }
 
 -- a set more, once its steps were added

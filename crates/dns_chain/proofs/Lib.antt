@@ -1,5 +1,6 @@
 pub mod AskLemmas
 pub mod ReceivedLemmas
+pub mod StandingLemmas
 pub mod StepLemmas
 pub mod TriedLemmas
 pub mod JudgementLemmas

@@ -20,7 +20,6 @@ use Rattle.dns_judgement.specs.Unsigned.{question_start}
 use Rattle.dns_judgement.specs.Derivation.{Grounds, sight_of, search_from, entries_hold, with_entries, asks_of, if_answered, judged_sets, is_ask, is_empty, denial_eq, ending_eq, ending_by, ending_holds, step_holds}
 use Rattle.dns_judgement.specs.DerivationParts.{answer_of, grounds_of, is_bare, is_ending, is_judged_ask, judged_holds}
 use Rattle.dns_judgement.specs.Outcome.{Outcome, Unjudged, Accepted, Searched, Denied, outcome_of, outcome_by_zone, foreign_record}
-use Rattle.dns_judgement.proofs.ChainedLemmas.{AllStand, IsGoodAnswer, proper_part}
 use Rattle.dns_judgement.proofs.EndingLemmas.{ending_without, ending_by_search}
 use Rattle.dns_judgement.proofs.ExtendLemmas.{proof_refl}
 use Rattle.dns_judgement.proofs.OrderLemmas.{slice_get_appended}
@@ -28,8 +27,10 @@ use Rattle.dns_judgement.proofs.SearchLemmas.{plain_asked, plain_sees}
 use Rattle.dns_net.specs.Errors.{Reply}
 use Rattle.dns_chain.specs.AskRequests.{Ask}
 use Rattle.dns_chain.specs.Sends.{SendOf}
+use Rattle.dns_chain.specs.Standing.{AllStand, AnswerStands}
 use Rattle.dns_chain.specs.Walking.{Asks, IsAdded, IsAnswer, IsSeen, IsJudgement, IsConcluded, judged_step, plain_step, foreign_ending, accepted_sets}
 use Rattle.dns_chain.proofs.AskLemmas.{asks_step}
+use Rattle.dns_chain.proofs.StandingLemmas.{plain_part}
 
 -- ---- the lines of a step
 
@@ -138,7 +139,7 @@ question_refl q =
 -- the step that was added answers its ask
 added_answer : (j : Judge) (limit : ℕ) (before after : List AskedValue) (q : Question) (depth : ℕ) (reply : HeardValue) (sets : List JudgedSetValue) (ending : EndingValue)
     (excuse : List AskRef) (ask : AskRef) (answer : Option (List Chained)) → depth ≤ limit → IsAdded before after (judged_step depth q reply sets ending excuse) ask
-    → option_map bare answer ≡ if_answered ending (judged_sets (judged_step depth q reply sets ending excuse)) → IsGoodAnswer j answer
+    → option_map bare answer ≡ if_answered ending (judged_sets (judged_step depth q reply sets ending excuse)) → AnswerStands j answer
     → IsAnswer j limit after q depth ask answer
 added_answer j limit before after q depth reply sets ending excuse ask answer shallow added same stand =
     let step = judged_step depth q reply sets ending excuse in
@@ -169,7 +170,7 @@ accepted_same q depth told empty entries excuse sets (Accepted d) same = ap Some
 accepted_same q depth told empty entries excuse sets Searched same = refl
 accepted_same q depth told empty entries excuse sets (Denied p) same = refl
 
-accepted_stand : (j : Judge) (sets : List Chained) (o : Outcome) → AllStand j sets → IsGoodAnswer j (accepted_sets o sets)
+accepted_stand : (j : Judge) (sets : List Chained) (o : Outcome) → AllStand j sets → AnswerStands j (accepted_sets o sets)
 accepted_stand j sets Unjudged stand = tt
 accepted_stand j sets (Accepted d) stand = stand
 accepted_stand j sets Searched stand = tt
@@ -185,7 +186,7 @@ judged_answer j limit before after q depth told empty sets entries o excuse ask 
     let P : Option (List Chained) → Type 0 = λ x. IsAnswer j limit after q depth ask x in
     subst P (sym is)
     (added_answer j limit before after q depth (Records told empty) entries (ending_by o) excuse ask (accepted_sets o sets) shallow added
-    (accepted_same q depth told empty entries excuse sets o judged.same) (accepted_stand j sets o (judged.stand (proper_part depth told))))
+    (accepted_same q depth told empty entries excuse sets o judged.same) (accepted_stand j sets o (judged.stand (plain_part depth told))))
 
 -- ---- what a plain ask saw
 

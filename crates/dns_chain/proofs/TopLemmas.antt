@@ -11,7 +11,7 @@ use Rattle.dns_judgement.specs.Derivation.{Grounds, with_entries, judged_sets, e
 use Rattle.dns_judgement.specs.DerivationParts.{steps_at}
 use Rattle.dns_judgement.specs.Judged.{placed_of}
 use Rattle.dns_judgement.specs.Marking.{cleared_message, marked_message, marked_told}
-use Rattle.dns_judgement.proofs.ChainedLemmas.{judged_part-top, proper_part}
+use Rattle.dns_judgement.proofs.ChainedLemmas.{judged_part-top}
 use Rattle.dns_judgement.proofs.SoundLemmas.{sound_of_sets}
 use Rattle.dns_judgement.proofs.DerivationLemmas.{top_step_is, top_derivation, top_counts, top_sent}
 use Rattle.dns_judgement.proofs.DerivedLemmas.{derivation_depths, derivation_sent}
@@ -22,6 +22,7 @@ use Rattle.dns_chain.specs.Sends.{SendOf, SendsAlong, SendsFrom}
 use Rattle.dns_chain.specs.LookupAnswers.{IsSoundAnswer, IsTrail, HasMarksOfTrail}
 use Rattle.dns_chain.specs.Answering.{top_of, Findings, trail_of, top_grounds, Found}
 use Rattle.dns_chain.specs.LookupParts.{told_of, heard_told}
+use Rattle.dns_chain.proofs.StandingLemmas.{plain_part}
 use Rattle.dns_chain.proofs.StepLemmas.{judged_step_holds}
 use Rattle.dns_chain.proofs.AlongLemmas.{first_from, first_rose}
 
@@ -146,7 +147,7 @@ found_sound meanings call found d ending f =
       header = subst Header (sym f.cleared) refl;
       sound = subst IsSound (sym f.cleared)
           (sound_of_sets call.judge call.now f.from found.sets d trail
-          (subst (λ m. map placed_of (bare found.sets) ≡ placed_sets (told_by m)) f.cleared grouped) (f.judged.stand (proper_part 0 told)));
+          (subst (λ m. map placed_of (bare found.sets) ≡ placed_sets (told_by m)) f.cleared grouped) (f.judged.stand (plain_part 0 told)));
       rest = subst (λ steps. SendsAlong (ask_of_call meanings call) f.middle (drop 1 steps) call.new)
           (sym (top_sent call.judge deep found.steps step f.sends asks.part)) asks.sends;
     }

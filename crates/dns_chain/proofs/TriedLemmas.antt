@@ -5,26 +5,26 @@ use Rattle.dns_model.specs.declared.trail.AskRef.{AskRef}
 use Rattle.dns_model.specs.Types.{type_dnskey}
 use Rattle.dns_model.specs.Records.{Rr, RrSet}
 use Rattle.dns_model.specs.Trails.{AskedValue}
-use Rattle.dns_model.proofs.SetLemmas.{IsProper}
 use Rattle.dns_judgement.specs.Chained.{ChainedVerdict, bare_verdicts}
 use Rattle.dns_judgement.specs.Derivation.{Grounds, verdicts_by}
 use Rattle.dns_judgement.specs.Marks.{Verdict, is_proved, verdict_of, most_signatures}
-use Rattle.dns_judgement.proofs.StandLemmas.{IsGoodVerdict, AreGood}
 use Rattle.dns_judgement.proofs.ChainedLemmas.{chained_verdict-bare, failed_verdict, good_verdict}
 use Rattle.dns_judgement.proofs.VerdictLemmas.{VerdictsDone, verdicts_none, verdicts_done_stay, verdicts_skip, AskFits, asked_verdict, verdicts_ask, verdicts_all, verdicts_proved}
+use Rattle.dns_chain.specs.Standing.{IsPlainSet, HasChain, HaveChains}
 use Rattle.dns_chain.specs.Walking.{asks_in, IsAskedFor, IsTried, AreTried}
+use Rattle.dns_chain.proofs.StandingLemmas.{proper_set, good_answer, good_chain}
 
 -- the first signatures of a set, none of which proved it
 pub record TriedDone (g : Grounds) (set : RrSet) (front : List Rr) (asks : List AskRef) (vs : List ChainedVerdict) : Type 0 where
   pub done : VerdictsDone g set front asks (bare_verdicts vs)
-  pub good : IsProper set → (set.rtype == type_dnskey) ≡ false → (rest : List Rr) (ws : List ChainedVerdict)
-      → AreGood g.judge set rest ws → AreGood g.judge set (front ++ rest) (vs ++ ws)
+  pub good : IsPlainSet set → (set.rtype == type_dnskey) ≡ false → (rest : List Rr) (ws : List ChainedVerdict)
+      → HaveChains g.judge set rest ws → HaveChains g.judge set (front ++ rest) (vs ++ ws)
 
 pub tried_none : (g : Grounds) (set : RrSet) (asks : List AskRef) (vs : List ChainedVerdict) → asks ≡ [] → vs ≡ [] → TriedDone g set [] asks vs
 tried_none g set asks vs no_ask no_verdict =
     let P : List AskRef → Type 0 = λ xs. TriedDone g set [] xs vs in
     let Q : List ChainedVerdict → Type 0 = λ xs. TriedDone g set [] [] xs in
-    subst P (sym no_ask) (subst Q (sym no_verdict) (record { done = verdicts_none g set; good = λ proper other rest ws h. h }))
+    subst P (sym no_ask) (subst Q (sym no_verdict) (record { done = verdicts_none g set; good = λ plain other rest ws h. h }))
 
 -- what was tried stays when steps are added
 tried_later : (g : Grounds) (after more : List AskedValue) (set : RrSet) (front : List Rr) (asks : List AskRef) (vs : List ChainedVerdict)
@@ -40,13 +40,14 @@ tried_later g after more set front asks vs grown tried = record {
 
 -- the chain of a signature that proves its set is for the set
 good_one : (g : Grounds) (set : RrSet) (r : Rr) (ask : Option AskRef) (v : ChainedVerdict) → IsTried g set r ask v
-    → IsProper set → (set.rtype == type_dnskey) ≡ false → IsGoodVerdict g.judge set r v
-good_one g set r ask v (inl untried) proper other =
-    let P : ChainedVerdict → Type 0 = λ w. IsGoodVerdict g.judge set r w in
-    subst P (sym untried.failed) (failed_verdict g.judge set r)
-good_one g set r ask v (inr asked) proper other =
-    let P : ChainedVerdict → Type 0 = λ w. IsGoodVerdict g.judge set r w in
-    subst P (sym asked.verdict) (good_verdict g.judge set g.query r asked.answer proper other asked.kept asked.stand)
+    → IsPlainSet set → (set.rtype == type_dnskey) ≡ false → HasChain g.judge set r v
+good_one g set r ask v (inl untried) plain other =
+    let P : ChainedVerdict → Type 0 = λ w. HasChain g.judge set r w in
+    subst P (sym untried.failed) (good_chain g.judge set r _ (failed_verdict g.judge set r))
+good_one g set r ask v (inr asked) plain other =
+    let P : ChainedVerdict → Type 0 = λ w. HasChain g.judge set r w in
+    subst P (sym asked.verdict) (good_chain g.judge set r _
+    (good_verdict g.judge set g.query r asked.answer (proper_set set plain) other asked.kept (good_answer g.judge asked.answer asked.stand)))
 
 -- the verdict of a signature that was asked for is that of the table
 asked_by : (g : Grounds) (set : RrSet) (r : Rr) (ask : Option AskRef) (v : ChainedVerdict) (asked : IsAskedFor g set r ask v)
@@ -94,12 +95,12 @@ tried_more g set front r asks ask vs v tried one failed = record {
   done =
       let P : List Verdict → Type 0 = λ ws. VerdictsDone g set (front ++ r ∷ []) (asks ++ asks_in ask) ws in
       subst P (sym (map-append (λ w. w.verdict) vs (v ∷ []))) (verdict_more g set front r asks ask (bare_verdicts vs) v tried.done one failed);
-  good = λ proper other rest ws h.
-      let P : List Rr → Type 0 = λ xs. AreGood g.judge set xs ((vs ++ v ∷ []) ++ ws) in
-      let Q : List ChainedVerdict → Type 0 = λ ys. AreGood g.judge set (front ++ (r ∷ rest)) ys in
+  good = λ plain other rest ws h.
+      let P : List Rr → Type 0 = λ xs. HaveChains g.judge set xs ((vs ++ v ∷ []) ++ ws) in
+      let Q : List ChainedVerdict → Type 0 = λ ys. HaveChains g.judge set (front ++ (r ∷ rest)) ys in
       subst P (sym (append_assoc front (r ∷ []) rest))
       (subst Q (sym (append_assoc vs (v ∷ []) ws))
-      (tried.good proper other (r ∷ rest) (v ∷ ws) (good_one g set r ask v one proper other, h)));
+      (tried.good plain other (r ∷ rest) (v ∷ ws) (good_one g set r ask v one plain other, h)));
 }
 
 -- ---- by their places
@@ -138,13 +139,13 @@ proved_at : (g : Grounds) (set : RrSet) (tried : List Rr) (i : ℕ) (r : Rr) (as
 proved_at g set tried i r asks ask vs v own lt is done one proved =
     let whole : take i tried ++ (r ∷ drop (i + 1) tried) ≡ take most_signatures set.signatures = around tried i r lt is ∙ own in
     let P : List Rr → Type 0 = λ xs. verdicts_by g set xs (asks ++ asks_in ask) ≡ Some (bare_verdicts (vs ++ v ∷ [])) in
-    let Q : List Rr → Type 0 = λ xs. AreGood g.judge set xs (vs ++ v ∷ []) in
+    let Q : List Rr → Type 0 = λ xs. HaveChains g.judge set xs (vs ++ v ∷ []) in
     record {
       verdicts = subst P whole
           (verdict_proves g set (take i tried) r (drop (i + 1) tried) asks ask (bare_verdicts vs) v done.done one proved
           ∙ ap Some (sym (map-append (λ w. w.verdict) vs (v ∷ []))));
-      good = λ proper other. subst Q whole
-          (done.good proper other (r ∷ drop (i + 1) tried) (v ∷ []) (good_one g set r ask v one proper other, tt));
+      good = λ plain other. subst Q whole
+          (done.good plain other (r ∷ drop (i + 1) tried) (v ∷ []) (good_one g set r ask v one plain other, tt));
     }
 
 -- the signature at a place proves it
@@ -169,10 +170,10 @@ pub tried_all : (g : Grounds) (set : RrSet) (tried : List Rr) (i : ℕ) (asks : 
 tried_all g set tried i asks vs own past done =
     let whole : take i tried ≡ take most_signatures set.signatures = take_all i tried past ∙ own in
     let P : List Rr → Type 0 = λ xs. verdicts_by g set xs asks ≡ Some (bare_verdicts vs) in
-    let Q : List Rr → List ChainedVerdict → Type 0 = λ xs ys. AreGood g.judge set xs ys in
+    let Q : List Rr → List ChainedVerdict → Type 0 = λ xs ys. HaveChains g.judge set xs ys in
     record {
       verdicts = subst P whole (verdicts_all g set (take i tried) asks (bare_verdicts vs) done.done);
-      good = λ proper other.
-          let h : Q (take i tried ++ []) (vs ++ []) = done.good proper other [] [] tt in
+      good = λ plain other.
+          let h : Q (take i tried ++ []) (vs ++ []) = done.good plain other [] [] tt in
           subst (λ xs. Q xs vs) whole (subst (λ xs. Q xs vs) (append-nil (take i tried)) (subst (λ ys. Q (take i tried ++ []) ys) (append-nil vs) h));
     }

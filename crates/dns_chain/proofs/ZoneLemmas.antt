@@ -12,9 +12,8 @@ use Rattle.dns_judgement.specs.Delegations.{Bogus, ds_question, zone_verdict}
 use Rattle.dns_judgement.specs.ProofErrors.{Net, DsRecordShouldExist}
 use Rattle.dns_judgement.specs.Unsigned.{ns_question, unsigned_mark}
 use Rattle.dns_judgement.specs.Derivation.{Grounds, Sight, Cut, Onward, Unseen, zone_asked, search_by, search_from}
-use Rattle.dns_judgement.proofs.StayLemmas.{later_grounds}
 use Rattle.dns_judgement.proofs.SearchLemmas.{SearchDone, search_begun, search_done_stays, search_goes_on, search_ends, search_root, search_cut, search_unseen, plain_stays, zone_from}
-use Rattle.dns_chain.specs.Walking.{IsAnswer, IsSeen, LeadsTo, IsSearched, IsWay}
+use Rattle.dns_chain.specs.Walking.{later_grounds, IsAnswer, IsSeen, LeadsTo, IsSearched, IsWay}
 
 -- a search that has begun
 pub climb_begun : (g : Grounds) (class : ℕ) (start name : Labels) (asks : List AskRef) → name ≡ start → asks ≡ [] → SearchDone g class start start asks name

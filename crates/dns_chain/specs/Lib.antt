@@ -7,5 +7,6 @@ pub mod LookupAnswers
 pub mod Causes
 pub mod Completing
 pub mod Sending
+pub mod Standing
 pub mod Walking
 pub mod Answering

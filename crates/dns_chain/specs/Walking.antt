@@ -14,7 +14,6 @@ use Rattle.dns_model.specs.Chains.{Judge}
 use Rattle.dns_model.specs.SoundAnswers.{Told, Placed}
 use Rattle.dns_model.specs.Trails.{AskedValue, HeardValue, JudgedSetValue, EndingValue}
 use Rattle.dns_model.specs.Trails as trails
-use Rattle.dns_model.proofs.SetLemmas.{IsProper}
 use Rattle.dns_judgement.specs.Asking.{most_sends, ask_of}
 use Rattle.dns_judgement.specs.Chained.{Chained, bare, stands, ChainedVerdict, chained_verdict, bare_verdicts}
 use Rattle.dns_judgement.specs.Delegations.{ZoneVerdict}
@@ -28,9 +27,6 @@ use Rattle.dns_judgement.specs.Marks as marks
 use Rattle.dns_judgement.specs.Outcome.{Outcome, Unjudged, Accepted, Searched, Denied, outcome_of, outcome_by_zone}
 use Rattle.dns_judgement.specs.Parts.{Part}
 use Rattle.dns_judgement.specs.Unsigned.{question_start, unsigned_mark}
-use Rattle.dns_judgement.proofs.StandLemmas.{AreGood}
-use Rattle.dns_judgement.proofs.StayLemmas.{later_grounds}
-use Rattle.dns_judgement.proofs.ChainedLemmas.{AllStand, AreProper, IsGoodAnswer}
 use Rattle.dns_net.specs.Errors.{Reply}
 use Rattle.dns_net.specs.Replies.{error_of}
 use Rattle.dns_net.specs.Walks.{Walked}
@@ -42,6 +38,7 @@ use Rattle.dns_chain.specs.Received.{received_message, says_none}
 use Rattle.dns_chain.specs.AskRequests.{Ask}
 use Rattle.dns_chain.specs.Calls.{Asking}
 use Rattle.dns_chain.specs.Sends.{SendsAlong}
+use Rattle.dns_chain.specs.Standing.{IsPlainSet, ArePlainSets, AllStand, AnswerStands, HaveChains}
 use Rattle.dns_chain.specs.declared.receiving.ReceivedMessage.{ReceivedMessage}
 use Rattle.dns_chain.specs.declared.context.LookupContext.{LookupContext}
 use Rattle.dns_chain.specs.declared.context.Progress.{Progress}
@@ -112,8 +109,8 @@ pub record Asks {H : Type 0} (ask : H → Ask → H → Reply → Type 0) (j : J
 abbrev pub Walk : {H V : Type 0} → handle.Ghosts H → (V → VerifierAnswers) → LookupContext V → H → Progress → H → Progress
     → List AskRef → Type 0
 Walk meanings answers context old before new after asks =
-    Asks (asking meanings context) (judge_of answers context.judge) context.limit old new before.steps.items after.steps.items asks
-    before.sends after.sends
+    Asks (asking meanings context) (judge_of answers context.judge) context.limit old new
+    before.steps.items after.steps.items asks before.sends after.sends
 
 -- by what the sets of a step are judged, at a state of the progress
 abbrev pub grounds_at : {V : Type 0} → (V → VerifierAnswers) → LookupContext V → Progress → Question → ℕ → Grounds
@@ -124,6 +121,10 @@ grounds_at answers context progress q depth = record {
   query = q;
   depth = depth;
 }
+
+-- the same grounds, with further steps
+abbrev pub later_grounds : Grounds → List AskedValue → Grounds
+later_grounds g more = record g { earlier = g.earlier ++ more }
 
 -- ---- a step
 
@@ -186,7 +187,7 @@ pub record IsAnswer (j : Judge) (limit : ℕ) (steps : List AskedValue) (q : Que
     (answer : Option (List Chained)) : Type 0 where
   pub asks : is_ask limit steps depth q ask ≡ true
   pub same : option_map bare answer ≡ finished_answer steps ask
-  pub stand : IsGoodAnswer j answer
+  pub stand : AnswerStands j answer
 
 -- a plain ask, as the trail has it, and what it saw
 pub record IsSeen (steps : List AskedValue) (depth : ℕ) (q : Question) (ask : AskRef) (sight : derived.Sight) : Type 0 where
@@ -196,7 +197,8 @@ pub record IsSeen (steps : List AskedValue) (depth : ℕ) (q : Question) (ask : 
 -- the search that began at a name leads to a zone by these plain asks: what its DS verdict comes to is what the search comes to
 pub record LeadsTo (g : Grounds) (class : ℕ) (start : Labels) (asks : List AskRef) (zone : Labels) : Type 0 where
   pub search : (later : List AskedValue) (rest : List AskRef) (verdict : ZoneVerdict)
-      → zone_asked (later_grounds g later) class zone rest ≡ Some verdict → search_from (later_grounds g later) class start (asks ++ rest) ≡ Some verdict
+      → zone_asked (later_grounds g later) class zone rest ≡ Some verdict
+      → search_from (later_grounds g later) class start (asks ++ rest) ≡ Some verdict
 
 -- the search comes to a verdict by which what is unsigned has this mark
 pub record IsSearched (g : Grounds) (class : ℕ) (start : Labels) (asks : List AskRef) (mark : Proof) : Type 0 where
@@ -245,7 +247,7 @@ pub record IsAskedFor (g : Grounds) (set : RrSet) (r : Rr) (ask : Option AskRef)
   pub kept : is_skipped g.query set r ≡ false
   pub asks : is_ask_for g (ask_of set r) made ≡ true
   pub same : option_map bare answer ≡ finished_answer g.earlier made
-  pub stand : IsGoodAnswer g.judge answer
+  pub stand : AnswerStands g.judge answer
   pub verdict : v ≡ chained_verdict g.judge set r answer
 
 abbrev pub IsTried : Grounds → RrSet → Rr → Option AskRef → ChainedVerdict → Type 0
@@ -254,16 +256,16 @@ IsTried g set r ask v = IsUntried g set r ask v ⊎ IsAskedFor g set r ask v
 -- the verdicts of a set's first signatures, and the asks that they made
 pub record AreTried (g : Grounds) (set : RrSet) (asks : List AskRef) (vs : List ChainedVerdict) : Type 0 where
   pub verdicts : verdicts_by g set (take most_signatures set.signatures) asks ≡ Some (bare_verdicts vs)
-  pub good : IsProper set → (set.rtype == type_dnskey) ≡ false → AreGood g.judge set (take most_signatures set.signatures) vs
+  pub good : IsPlainSet set → (set.rtype == type_dnskey) ≡ false → HaveChains g.judge set (take most_signatures set.signatures) vs
 
 -- a set with its chain, and the entry that a step has for it
 pub record IsJudgedSet (g : Grounds) (placed : Placed) (c : Chained) (entry : JudgedSetValue) : Type 0 where
   pub holds : entry_holds g placed entry ≡ true
   pub same : c.judged ≡ with_entry (placed, entry)
-  pub stand : IsProper placed.set → stands g.judge c ≡ true
+  pub stand : IsPlainSet placed.set → stands g.judge c ≡ true
 
 -- sets with their chains, and the entries that a step has for them
 pub record IsJudgement (g : Grounds) (placed : List Placed) (sets : List Chained) (entries : List JudgedSetValue) : Type 0 where
   pub hold : entries_hold g placed entries ≡ true
   pub same : bare sets ≡ with_entries placed entries
-  pub stand : AreProper placed → AllStand g.judge sets
+  pub stand : ArePlainSets placed → AllStand g.judge sets
