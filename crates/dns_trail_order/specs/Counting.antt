@@ -31,7 +31,8 @@ end_at n counts = if counts.ended == n then Some (record { sent = counts.sent; e
 unfoldable pub count_step : ℕ → List AskedValue → ℕ → Counts → Option Counts
 count_step zero trail n counts = None
 count_step (suc above) trail n counts =
-    option_and_then (λ step. option_and_then (end_at n) (count_asks (count_step above trail) n (asks_of step) (one_sent counts)))
+    option_and_then
+    (λ step. option_and_then (end_at n) (count_asks (count_step above trail) n (asks_of step) (one_sent counts)))
     (slice_get trail n)
 
 -- how the asks of step n are sent and end: each is a step before it

@@ -19,10 +19,10 @@ pub(crate) struct Counts {
     pub(crate) ended: usize,
 }
 
-/// Whether the steps of a trail stand in order: there are at most 1,024, the last one is judged at depth 0, and from it on each is
-/// sent once, before what it asks, and ends after that with the next number; an ask is refused as one too many exactly where
-/// 1,024 steps were sent (RFC 4035, 4.3 and 5). What the steps heard and how they were judged isn't looked at. It takes time that
-/// grows as the steps and their asks.
+/// Whether the steps of a trail stand in order: there are at most 1,024, the last one is judged at depth 0, and from it
+/// on each is sent once, before what it asks, and ends after that with the next number; an ask is refused as one too
+/// many exactly where 1,024 steps were sent (RFC 4035, 4.3 and 5). What the steps heard and how they were judged isn't
+/// looked at. It takes time that grows as the steps and their asks.
 pub fn is_in_order(steps: &[Asked]) -> bool
     ensures { result ≡ has_order steps.now }
 {
@@ -47,7 +47,8 @@ fn has_top(steps: &[Asked]) -> bool
 
 // The walk from the last step on ends all steps.
 fn end_in_turn(steps: &[Asked]) -> bool
-    ensures { result ≡ ends_with (length steps.now) (step_counted (length steps.now) steps.now (length steps.now - 1) none_yet) }
+    ensures { result ≡ ends_with (length steps.now)
+        (step_counted (length steps.now) steps.now (length steps.now - 1) none_yet) }
 {
     if steps.is_empty() {
         return false;
@@ -59,8 +60,9 @@ fn end_in_turn(steps: &[Asked]) -> bool
     }
 }
 
-// Sends a step, then what it asks, and ends it with the next number. Where a step was sent before, its number is past, as are those
-// of what it asks, and the walk stops at the first of them that asks for no step. So no step is gone through more than twice.
+// Sends a step, then what it asks, and ends it with the next number. Where a step was sent before, its number is past,
+// as are those of what it asks, and the walk stops at the first of them that asks for no step. So no step is gone
+// through more than twice.
 #[cycle(count)]
 fn count_step(steps: &[Asked], n: usize, from: Counts) -> Option<Counts>
     requires few { from.sent < most_sends }
