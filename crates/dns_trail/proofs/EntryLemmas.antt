@@ -21,7 +21,7 @@ use Rattle.dns_judgement.specs.Unsigned.{set_start, unsigned_by, unsigned_mark}
 use Rattle.dns_judgement.proofs.ChainedLemmas.{chained_by_ds-bare, chained_keys-bare, placed_of-judged_by, placed_of-judged_keys, placed_of-unsigned_by}
 use Rattle.dns_judgement.proofs.ExtendLemmas.{place_same, proof_same}
 use Rattle.dns_trail.specs.Ended.{some_if}
-use Rattle.dns_trail.specs.Entries.{is_of_set}
+use Rattle.dns_trail.specs.Entries.{is_entry_of}
 use Rattle.dns_trail.specs.Trying.{zone_proof}
 
 -- ---- the set with the mark of its entry
@@ -261,17 +261,17 @@ four true false c d = refl
 four false b c d = refl
 
 -- by whether it is that of the set, and by its origin
-entry_by : (g : Grounds) (placed : Placed) (entry : JudgedSetValue) (b : Bool) (o : MarkOrigin) → is_of_set placed entry ≡ b → entry.origin ≡ o
+entry_by : (g : Grounds) (placed : Placed) (entry : JudgedSetValue) (b : Bool) (o : MarkOrigin) → is_entry_of placed entry ≡ b → entry.origin ≡ o
     → entry_holds g placed entry ≡ (b && is_by_origin g placed entry o)
 unfolding entry_holds
 entry_by g placed entry b o of origin =
     four (section_eq placed.section entry.section) (name_eq placed.set.owner entry.owner) (placed.set.rtype == entry.rtype) (is_by_origin g placed entry entry.origin)
     ∙ ap (λ x. x && is_by_origin g placed entry entry.origin) of ∙ ap (λ x. b && is_by_origin g placed entry x) origin
 
-pub entry_other : (g : Grounds) (placed : Placed) (entry : JudgedSetValue) → is_of_set placed entry ≡ false
+pub entry_other : (g : Grounds) (placed : Placed) (entry : JudgedSetValue) → is_entry_of placed entry ≡ false
     → None ≡ some_if (entry_holds g placed entry) (with_entry (placed, entry))
 entry_other g placed entry other = none_step (entry_holds g placed entry) (with_entry (placed, entry)) (entry_by g placed entry false entry.origin other refl)
 
-pub entry_given : (g : Grounds) (placed : Placed) (entry : JudgedSetValue) (o : MarkOrigin) → is_of_set placed entry ≡ true → entry.origin ≡ o
+pub entry_given : (g : Grounds) (placed : Placed) (entry : JudgedSetValue) (o : MarkOrigin) → is_entry_of placed entry ≡ true → entry.origin ≡ o
     → some_if (is_by_origin g placed entry o) (with_entry (placed, entry)) ≡ some_if (entry_holds g placed entry) (with_entry (placed, entry))
 entry_given g placed entry o of origin = ap (λ b. some_if b (with_entry (placed, entry))) (sym (entry_by g placed entry true o of origin))

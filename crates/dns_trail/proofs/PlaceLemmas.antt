@@ -8,13 +8,9 @@ use Rattle.std.proofs.lemmas.Bool.{and_parts, or_left, or_right, or_cases, eqb-t
 use Rattle.std.proofs.lemmas.List.{get_or_push, get_or_append_left, length_push}
 use Rattle.std.proofs.lemmas.List.Folds.{list_any-append, Any-from_list_any}
 use Rattle.std.proofs.lemmas.Option.{slice_get-get_or}
-use Rattle.dns_trail.specs.Places.{passes, passes_at, Covers}
-
--- two tests are one where each follows from the other
-same_test : (a b : Bool) → (a ≡ true → b ≡ true) → (b ≡ true → a ≡ true) → a ≡ b
-same_test true b to from = sym (to refl)
-same_test false true to from = from refl
-same_test false false to from = refl
+use Rattle.dns_trust.specs.Finding.{passes, passes_at}
+use Rattle.dns_trust.proofs.Found.{same_test}
+use Rattle.dns_trail.specs.Places.{Covers}
 
 -- what passes at a place passes in the list
 passes_any : {X : Type 0} (test : X → Bool) (xs : List X) (i : ℕ) → passes_at test xs i ≡ true → list_any test xs ≡ true

@@ -15,16 +15,18 @@ use Rattle.dns_judgement.specs.Marks.{Verdict, most_signatures}
 use Rattle.dns_trail.specs.Ended.{some_if}
 
 -- the entry has the section, owner and type of the set
-abbrev pub is_of_set : Placed → JudgedSetValue → Bool
-is_of_set placed entry =
-    section_eq placed.section entry.section && (name_eq placed.set.owner entry.owner && (placed.set.rtype == entry.rtype))
+abbrev pub is_entry_of : Placed → JudgedSetValue → Bool
+is_entry_of placed entry =
+    section_eq placed.section entry.section
+    && (name_eq placed.set.owner entry.owner && (placed.set.rtype == entry.rtype))
 
 -- a set without its chain, if there is one
 abbrev pub judged_if : Option Chained → Option Judged
 judged_if o = option_map (λ c. c.judged) o
 
 -- a set with the mark of its entry, where a rule says that it follows
-abbrev pub IsMarkedBy : (Grounds → Placed → JudgedSetValue → Bool) → Grounds → Placed → JudgedSetValue → Option Chained → Type 0
+abbrev pub IsMarkedBy : (Grounds → Placed → JudgedSetValue → Bool) → Grounds → Placed → JudgedSetValue → Option Chained
+    → Type 0
 IsMarkedBy follows g placed entry o = judged_if o ≡ some_if (follows g placed entry) (with_entry (placed, entry))
 
 -- the verdicts of the first signatures of a set

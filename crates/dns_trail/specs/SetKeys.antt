@@ -7,6 +7,7 @@ use Rattle.std.specs.BTreeMap as tree
 use Rattle.std.specs.BTreeMap.{BTreeMap}
 use Rattle.dns_model.specs.Names.{folded, wire}
 use Rattle.dns_model.specs.Records.{Rr, RrSet}
+use Rattle.dns_trust.specs.Finding.{items_or_none}
 use Rattle.dns_trail.specs.declared.places.SetKey.{SetKey}
 
 -- the wire form of the owner with A to Z as a to z (RFC 4343, 3), and the type
@@ -24,10 +25,6 @@ key_of set = key_of_first (slice_get set.records 0)
 -- keys in order: by the bytes of the owner, then by type
 abbrev pub key_cmp : SetKey → SetKey → Ordering
 key_cmp a b = ordering_then (slice_cmp nat_cmp a.owner b.owner) (nat_cmp a.record_type b.record_type)
-
-abbrev pub items_or_none : {Z : Type 0} → Option (Vec ℕ Z) → List ℕ
-items_or_none None = []
-items_or_none (Some places) = places.items
 
 -- the places under a key
 abbrev pub places_at : {Z : Type 0} → BTreeMap SetKey (Vec ℕ Z) → SetKey → List ℕ

@@ -16,7 +16,8 @@ use Rattle.dns_model.specs.declared.proof.Proof.{Proof}
 abbrev pub asked_by : Grounds → RrSet → Rr → List AskRef → Option (Verdict × List AskRef)
 asked_by g set r [] = None
 asked_by g set r (ask ∷ left) =
-    if is_ask_for g (ask_of set r) ask then Some (verdict_of g.judge set r (finished_answer g.earlier ask), left) else None
+    if is_ask_for g (ask_of set r) ask then Some (verdict_of g.judge set r (finished_answer g.earlier ask), left)
+    else None
 
 -- a signature that may ask; none where the first ask isn't its own
 abbrev pub tried_by : Grounds → RrSet → Rr → List AskRef → Option (Verdict × List AskRef)

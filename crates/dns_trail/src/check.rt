@@ -10,9 +10,9 @@ use dns_trail_order::is_in_order;
 use dns_trust::{Judge, Limits, TrustAnchors};
 use std::alloc::Global;
 
-/// Whether a trail is a derivation by these anchors and this verifier at a moment, in seconds since 1970: its asks make a tree
-/// that was gone through in order, and each mark and each ending follows from what was told and from the steps before it
-/// (RFC 4035, 4.3, 5.2 and 5.3). No entry may come from an earlier lookup. It takes any trail.
+/// Whether a trail is a derivation by these anchors and this verifier at a moment, in seconds since 1970: its asks make
+/// a tree that was gone through in order, and each mark and each ending follows from what was told and from the steps
+/// before it (RFC 4035, 4.3, 5.2 and 5.3). No entry may come from an earlier lookup. It takes any trail.
 pub fn check_trail<V: Verifier>(
     alloc: Global,
     anchors: &TrustAnchors,
@@ -21,7 +21,8 @@ pub fn check_trail<V: Verifier>(
     limits: &Limits,
     trail: &Trail,
 ) -> Result<bool, NoMemory>
-    ensures { IfOk result (λ b. b ≡ derivation (judge_by (V.answers verifier.now) anchors.now now) limits.now.depth trail.now) }
+    ensures { IfOk result (λ b. b
+        ≡ derivation (judge_by (V.answers verifier.now) anchors.now now) limits.now.depth trail.now) }
 {
     if !is_in_order(&trail.steps) {
         return Ok(false);

@@ -12,7 +12,7 @@ ghost use Rattle.dns_judgement.specs.Unsigned.{set_start as start_of_set};
 ghost use Rattle.dns_trust.specs.Judge.{judge_of};
 ghost use Rattle.dns_trail.specs.Trying.{zone_proof};
 ghost use Rattle.dns_trail.specs.Ended.{some_if};
-ghost use Rattle.dns_trail.specs.Entries.{is_by_signatures, is_of_set as is_entry_of, judged_if, IsMarkedBy};
+ghost use Rattle.dns_trail.specs.Entries.{is_by_signatures, is_entry_of as is_own_entry, judged_if, IsMarkedBy};
 ghost use Rattle.dns_trail.specs.Grounds.{AreKnown, grounds_by};
 
 use crate::grounds::{Grounds, answer_of, is_ask};
@@ -29,7 +29,8 @@ use dns_trust::{
 };
 use std::alloc::Global;
 
-/// The sets of a step with the marks of its entries; None where some entry isn't that of its set or its mark doesn't follow.
+/// The sets of a step with the marks of its entries; None where some entry isn't that of its set or its mark doesn't
+/// follow.
 pub(crate) fn judged_sets<V: Verifier>(
     alloc: Global,
     judge: &Judge<'_, V>,
@@ -72,7 +73,7 @@ fn judged_set<V: Verifier>(
     requires known { AreKnown grounds.now }
     ensures { IfOk result (IsMarkedBy entry_holds (grounds_by V.answers judge.now grounds.now) placed entry.now) }
 {
-    if !is_of_set(&placed, entry) {
+    if !is_entry_of(&placed, entry) {
         return Ok(None);
     }
     match entry.origin {
@@ -86,8 +87,8 @@ fn judged_set<V: Verifier>(
 }
 
 // The entry has the section, owner and type of the set.
-fn is_of_set(placed: &PlacedSet, entry: &JudgedSet) -> bool
-    ensures { result ≡ is_entry_of placed.now entry.now }
+fn is_entry_of(placed: &PlacedSet, entry: &JudgedSet) -> bool
+    ensures { result ≡ is_own_entry placed.now entry.now }
 {
     placed.section == entry.section && is_for(&placed.set, entry)
 }

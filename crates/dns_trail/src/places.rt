@@ -1,4 +1,5 @@
-//! Where the judged sets of a step stand, by the owner and type of their records, so that an equal set is found without a walk.
+//! Where the judged sets of a step stand, by the owner and type of their records, so that an equal set is found without
+//! a walk.
 
 ghost use Rattle.std.specs.Prelude.{◌≡◌, IfOk, OnOk};
 ghost use Rattle.dns_judgement.specs.Chained.{bare};
@@ -11,8 +12,9 @@ use dns_sets::ChainedSet;
 use std::alloc::Global;
 use std::collections::BTreeMap;
 
-/// The owner and type of a set's first record as a key of an ordered map. The owner's bytes are folded once, so that two keys are
-/// compared in one pass; and no choice of names makes a search longer, as it would where a hash can be foreseen.
+/// The owner and type of a set's first record as a key of an ordered map. The owner's bytes are folded once, so that
+/// two keys are compared in one pass; and no choice of names makes a search longer, as it would where a hash can be
+/// foreseen.
 #[derive(PartialEq, Eq, PartialOrd, Ord, Drop)]
 pub(crate) struct SetKey {
     /// The wire form, with A to Z as a to z.

@@ -7,8 +7,8 @@ ghost use Rattle.dns_judgement.specs.Chained.{bare};
 ghost use Rattle.dns_judgement.specs.Derivation.{is_empty, is_repeat as is_repeat_of, same_record as are_same};
 ghost use Rattle.dns_model.specs.Records.{question_eq};
 ghost use Rattle.dns_model.specs.SoundAnswers.{Placed};
+ghost use Rattle.dns_trust.specs.Finding.{passes_at};
 ghost use Rattle.dns_trail.specs.Entries.{repeats_from};
-ghost use Rattle.dns_trail.specs.Places.{passes_at};
 ghost use Rattle.dns_trail.specs.Grounds.{AreKnown};
 
 use crate::grounds::{Ended, Grounds};

@@ -28,8 +28,8 @@ enum Sight {
     Unseen,
 }
 
-/// What the zone of a name leaves to what is unsigned in it, by the asks of the search for it; None where these aren't the asks
-/// that it makes.
+/// What the zone of a name leaves to what is unsigned in it, by the asks of the search for it; None where these aren't
+/// the asks that it makes.
 pub(crate) fn search_zone<V: Verifier>(
     judge: &Judge<'_, V>,
     grounds: &Grounds<'_>,

@@ -27,7 +27,8 @@ struct Tried<'a> {
     left: &'a [AskRef],
 }
 
-/// The verdicts of signatures of a set, up to the first that proves it; None where these aren't the asks that they make.
+/// The verdicts of signatures of a set, up to the first that proves it; None where these aren't the asks that they
+/// make.
 pub(crate) fn verdicts_by<V: Verifier>(
     alloc: Global,
     judge: &Judge<'_, V>,
