@@ -16,27 +16,28 @@ use crate::grounds::Grounds;
 use crate::search::search_zone;
 use dns_message::Message;
 use dns_name::NoMemory;
-use dns_net::{AskRef, Ending, Verifier};
+use dns_net::{Asked, Ending, Verifier};
 use dns_record::{Denial, Proof, Record};
 use dns_sets::{ChainedSet, Outcome, outcome_by_zone, outcome_of};
 use dns_trust::{Judge, question_start};
 use std::alloc::Global;
 
-/// The ending and the asks on which it stands follow from the judged sets of a step.
+/// The ending of a step and the asks on which it stands follow from its judged sets.
 pub(crate) fn ending_holds<V: Verifier>(
     alloc: Global,
     judge: &Judge<'_, V>,
     grounds: &Grounds<'_>,
     message: &Message,
     sets: &[ChainedSet],
-    ending: &Ending,
-    excuse: &[AskRef],
+    step: &Asked,
 ) -> Result<bool, NoMemory>
     requires known { AreKnown grounds.now }
     ensures { IfOk result (λ b. b ≡ ending_fits (grounds_by V.answers judge.now grounds.now) (told_by message.now)
-        (told_outcome grounds.now.query.now (told_by message.now) (bare sets.now)) (ending_value ending.now) excuse.now) }
+        (told_outcome grounds.now.query.now (told_by message.now) (bare sets.now)) step.now.ending step.now.excuse) }
 {
     let query = grounds.query;
+    let ending = &step.ending;
+    let excuse = &step.excuse;
     match outcome_of(alloc, query, message, sets)? {
         Outcome::Unjudged => Ok(is_failed(ending) && excuse.is_empty()),
         Outcome::Accepted(denial) => Ok(is_answered(ending, denial) && excuse.is_empty()),

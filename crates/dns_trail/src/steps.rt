@@ -160,15 +160,7 @@ fn end_judged<V: Verifier>(
     let Some(sets) = judged_sets(alloc, judge, grounds, placed, &step.sets)? else {
         return Ok(None);
     };
-    if !ending_holds(
-        alloc,
-        judge,
-        grounds,
-        message,
-        &sets,
-        &step.ending,
-        &step.excuse,
-    )? {
+    if !ending_holds(alloc, judge, grounds, message, &sets, step)? {
         return Ok(None);
     }
     let places = places_if(alloc, grounds.repeats, &sets)?;
@@ -198,7 +190,8 @@ fn ended_with(
     ending: &Ending,
 ) -> Ended
     requires { MayBeIndexed places (bare sets.items) }
-    ensures { result ≡ record { answer = if_answered (ending_value ending.now) (bare sets.items); sets = bare sets.items } }
+    ensures { result
+        ≡ record { answer = if_answered (ending_value ending.now) (bare sets.items); sets = bare sets.items } }
 {
     match ending {
         Ending::Answered(_) => Ended {
