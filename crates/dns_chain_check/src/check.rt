@@ -13,8 +13,8 @@ use dns_net::{Chain, Link, Verifier};
 use dns_trust::{Judge, TrustAnchors};
 use std::alloc::Global;
 
-/// Whether a chain is justified by trust anchors and a verifier at a moment in seconds since 1970: it has a link, and each link
-/// holds by the anchors or by links before it (RFC 4035, 5.2 and 5.3). Any chain may be handed in.
+/// Whether a chain is justified by trust anchors and a verifier at a moment in seconds since 1970: it has a link, and
+/// each link holds by the anchors or by links before it (RFC 4035, 5.2 and 5.3). Any chain may be handed in.
 pub fn check_chain<V: Verifier>(
     alloc: Global,
     anchors: &TrustAnchors,
@@ -81,7 +81,8 @@ fn holds_after<V: Verifier>(
     link: &Link,
 ) -> Result<bool, NoMemory>
     requires { indexed.now ≡ map link_value links.now }
-    ensures { IfOk result (λ b. b ≡ link_holds (judge_of V.answers judge.now) (map link_value links.now) (link_value link.now)) }
+    ensures { IfOk result (λ b. b
+        ≡ link_holds (judge_of V.answers judge.now) (map link_value links.now) (link_value link.now)) }
 {
     let earlier = Earlier::of(links, indexed);
     holds(alloc, judge, &earlier, link)

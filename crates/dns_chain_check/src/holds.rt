@@ -6,11 +6,10 @@ ghost use Rattle.dns_net.specs.Link.{link_value};
 ghost use Rattle.dns_trust.specs.Judge.{judge_of};
 
 use crate::earlier::Earlier;
-use crate::signed::{SignedSet, is_signed};
+use crate::signed::signed_holds;
 use dns_name::{Name, NoMemory};
 use dns_net::{Link, Verifier};
 use dns_rdata::{Dnskey, Ds, key_tag};
-use dns_record::RecordType;
 use dns_trust::{Judge, TrustAnchors};
 use std::alloc::Global;
 
@@ -47,34 +46,7 @@ pub(crate) fn holds<V: Verifier>(
             let some = !keys.is_empty();
             Ok(some && earlier.shows_all(&owner.borrowed(), *class, keys, links))
         }
-        Link::Signed {
-            owner,
-            class,
-            record_type,
-            rdatas,
-            sig,
-            key_link,
-            key,
-        } => {
-            let set = SignedSet {
-                owner,
-                class: *class,
-                record_type: *record_type,
-                rdatas,
-            };
-            if set.record_type == RecordType::RRSIG || rdatas.is_empty() {
-                return Ok(false);
-            }
-            is_signed(
-                alloc,
-                judge,
-                earlier,
-                &set,
-                sig.as_slice(),
-                *key_link,
-                key.as_slice(),
-            )
-        }
+        Link::Signed { .. } => signed_holds(alloc, judge, earlier, link),
     }
 }
 

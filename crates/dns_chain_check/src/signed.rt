@@ -2,12 +2,13 @@ ghost use Rattle.std.specs.Prelude.{◌≡◌, ◌==◌, ◌&&◌, IfOk, Some};
 ghost use Rattle.dns_model.specs.Views.{dnskey_in, rrsig_in};
 ghost use Rattle.dns_model.specs.Signing.{key_tag_of, signed_bytes};
 ghost use Rattle.dns_model.specs.Chains.{is_good as is_good_in, is_signed as is_signed_in, key_comes as key_comes_in};
+ghost use Rattle.dns_net.specs.Link.{link_value};
 ghost use Rattle.dns_trust.specs.Judge.{judge_of};
-ghost use Rattle.dns_chain_check.specs.Fitting.{fits_set};
+ghost use Rattle.dns_chain_check.specs.Fitting.{fits_set, signed_link_holds};
 
 use crate::earlier::Earlier;
 use dns_name::{Name, NoMemory};
-use dns_net::{Verifier, has_rdata};
+use dns_net::{Link, Verifier, has_rdata};
 use dns_rdata::{Dnskey, Rrsig, key_tag, signed_data_of};
 use dns_record::{DNSClass, Rdata, RecordType};
 use dns_trust::{
@@ -15,38 +16,89 @@ use dns_trust::{
 };
 use std::alloc::Global;
 
-/// The set of a signed link.
+// The set of a signed link.
 #[derive(Drop)]
-pub(crate) struct SignedSet<'a> {
-    pub(crate) owner: &'a Name,
-    pub(crate) class: DNSClass,
-    pub(crate) record_type: RecordType,
-    pub(crate) rdatas: &'a [Rdata],
+struct SignedSet<'a> {
+    owner: &'a Name,
+    class: DNSClass,
+    record_type: RecordType,
+    rdatas: &'a [Rdata],
 }
 
-/// A key that an earlier link shows signed the set, by a signature that fits it (RFC 4035, 5.3).
-pub(crate) fn is_signed<V: Verifier>(
+// The signature of a signed link, and the key that made it.
+#[derive(Drop)]
+struct LinkSignature<'a> {
+    sig: &'a [u8],
+    // The number of the link that shows the key.
+    key_link: u32,
+    key: &'a [u8],
+}
+
+/// The link is a signed one, and holds by links before it (RFC 4035, 5.3).
+#[tactic(auto, unfolding(dns_model::specs::Chains::link_holds))]
+pub(crate) fn signed_holds<V: Verifier>(
+    alloc: Global,
+    judge: &Judge<'_, V>,
+    earlier: &Earlier<'_, '_>,
+    link: &Link,
+) -> Result<bool, NoMemory>
+    ensures { IfOk result (λ b. b
+        ≡ signed_link_holds (judge_of V.answers judge.now) earlier.now (link_value link.now)) }
+{
+    match link {
+        Link::Anchored { .. } => Ok(false),
+        Link::Matched { .. } => Ok(false),
+        Link::KeySet { .. } => Ok(false),
+        Link::Signed {
+            owner,
+            class,
+            record_type,
+            rdatas,
+            sig,
+            key_link,
+            key,
+        } => {
+            let set = SignedSet {
+                owner,
+                class: *class,
+                record_type: *record_type,
+                rdatas,
+            };
+            let by = LinkSignature {
+                sig: sig.as_slice(),
+                key_link: *key_link,
+                key: key.as_slice(),
+            };
+            if set.record_type == RecordType::RRSIG || rdatas.is_empty() {
+                return Ok(false);
+            }
+            is_signed(alloc, judge, earlier, &set, &by)
+        }
+    }
+}
+
+// A key that an earlier link shows signed the set, by a signature that fits it.
+fn is_signed<V: Verifier>(
     alloc: Global,
     judge: &Judge<'_, V>,
     earlier: &Earlier<'_, '_>,
     set: &SignedSet<'_>,
-    sig: &[u8],
-    key_link: u32,
-    key: &[u8],
+    by: &LinkSignature<'_>,
 ) -> Result<bool, NoMemory>
     ensures { IfOk result (λ b. b ≡ is_signed_in (judge_of V.answers judge.now) earlier.now
-        set.now.owner.now set.now.class.0 set.now.record_type.0 set.now.rdatas.now key_link key.now (rrsig_in sig.now)) }
+        set.now.owner.now set.now.class.0 set.now.record_type.0 set.now.rdatas.now
+        by.now.key_link by.now.key.now (rrsig_in by.now.sig.now)) }
 {
-    let Some(read) = Rrsig::read(sig) else {
+    let Some(read) = Rrsig::read(by.sig) else {
         return Ok(false);
     };
     if !fits(set, &read) {
         return Ok(false);
     }
-    if !is_good(alloc, judge, set, &read, key)? {
+    if !is_good(alloc, judge, set, &read, by.key)? {
         return Ok(false);
     }
-    Ok(key_comes(earlier, set, &read, key_link, key))
+    Ok(key_comes(earlier, set, &read, by.key_link, by.key))
 }
 
 // The signature is over the set's type, and its signer and its Labels fit the set's owner (RFC 4035, 5.3.1).
@@ -69,7 +121,8 @@ fn is_good<V: Verifier>(
     key: &[u8],
 ) -> Result<bool, NoMemory>
     ensures { IfOk result (λ b. b ≡ is_good_in (judge_of V.answers judge.now)
-        set.now.owner.now set.now.class.0 set.now.record_type.0 set.now.rdatas.now sig.now key.now (dnskey_in key.now)) }
+        set.now.owner.now set.now.class.0 set.now.record_type.0 set.now.rdatas.now
+        sig.now key.now (dnskey_in key.now)) }
 {
     let Some(read) = Dnskey::read(key) else {
         return Ok(false);
@@ -107,7 +160,8 @@ fn is_accepted<V: Verifier>(
     key: &Dnskey<'_>,
 ) -> Result<bool, NoMemory>
     ensures { IfOk result (λ b. b ≡ (V.answers verifier.now).accepts sig.now.algorithm key.now.key
-        (signed_bytes set.now.owner.now set.now.record_type.0 set.now.class.0 set.now.rdatas.now sig.now) sig.now.signature) }
+        (signed_bytes set.now.owner.now set.now.record_type.0 set.now.class.0 set.now.rdatas.now sig.now)
+        sig.now.signature) }
 {
     let bytes = signed_data_of(
         alloc,
@@ -120,7 +174,8 @@ fn is_accepted<V: Verifier>(
     Ok(verifier.accepts(sig.algorithm, key.key, bytes.as_slice(), sig.signature))
 }
 
-// The key comes from an earlier link: of a key set a key of it that is trusted, of another set a key of the signer's key set.
+// The key comes from an earlier link: of a key set a key of it that is trusted, of another set a key of the signer's
+// key set.
 fn key_comes(
     earlier: &Earlier<'_, '_>,
     set: &SignedSet<'_>,
@@ -128,7 +183,8 @@ fn key_comes(
     key_link: u32,
     key: &[u8],
 ) -> bool
-    ensures { result ≡ key_comes_in earlier.now set.now.owner.now set.now.class.0 set.now.record_type.0 set.now.rdatas.now
+    ensures { result ≡ key_comes_in earlier.now
+        set.now.owner.now set.now.class.0 set.now.record_type.0 set.now.rdatas.now
         sig.now.signer key_link key.now }
 {
     if set.record_type != RecordType::DNSKEY {
