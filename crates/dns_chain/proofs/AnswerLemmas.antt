@@ -1,5 +1,5 @@
 -- What an ask comes to, by what was received: its step in the trail, and its answer.
-use Rattle.std.proofs.Common.{ℕ, ◌+◌, ◌≡◌, ◌≤◌, ◌<◌, ◌⊎◌, true, false, Bool, List, [], ◌∷◌, ◌++◌, Option, None, Some, Ok, Err, refl, sym, ap, subst, ◌∙◌, inl, inr}
+use Rattle.std.proofs.Common.{ℕ, ◌+◌, ◌≡◌, ◌≤◌, ◌<◌, true, false, Bool, List, [], ◌∷◌, ◌++◌, Option, None, Some, Ok, refl, sym, ap, subst, ◌∙◌}
 use Rattle.std.specs.Option.{option_map}
 use Rattle.dns_model.specs.declared.trail.AskRef.{AskRef}
 use Rattle.dns_model.specs.declared.trail.AskRef.TheVariants.{TooMany}
@@ -14,10 +14,8 @@ use Rattle.dns_judgement.specs.Derivation as derived
 use Rattle.dns_judgement.specs.DerivationParts.{asks_of_sets}
 use Rattle.dns_judgement.specs.Outcome.{Outcome, foreign_record}
 use Rattle.dns_net.specs.Errors.{Reply}
-use Rattle.dns_net.specs.declared.error.NetError.{NetError}
-use Rattle.dns_net.specs.declared.error.NetError.TheVariants.{NoMemory}
 use Rattle.dns_chain.specs.AskRequests.{Ask, judged_ask}
-use Rattle.dns_chain.specs.Walking.{Received, Asks, IsAdded, IsAnswer, IsSeen, IsJudgement, IsConcluded, judged_step, plain_step, foreign_ending, accepted_sets}
+use Rattle.dns_chain.specs.Walking.{MetFault, Received, Asks, IsAdded, IsAnswer, IsSeen, IsJudgement, IsConcluded, judged_step, plain_step, foreign_ending, accepted_sets}
 use Rattle.dns_chain.specs.declared.receiving.ReceivedMessage.{ReceivedMessage}
 use Rattle.dns_chain.proofs.AskLemmas.{asks_none, asks_then}
 use Rattle.dns_chain.proofs.ReceivedLemmas.{sent_received, sent_fault}
@@ -28,30 +26,26 @@ use Rattle.dns_chain.proofs.StepLemmas.{fault_holds, plain_fault_holds, plain_ho
 
 -- an ask that received a fault
 pub fault_asks : {H : Type 0} (ask : H → Ask → H → Reply → Type 0) (j : Judge) (limit : ℕ) (a b : H) (s t u : List AskedValue)
-    (depth : ℕ) (q : Question) (error : NetError) (made : AskRef) (n k l : ℕ)
-    → (error ≡ NoMemory → ⊥) → Received ask a b (judged_ask q) (Err error) ⊎ ((error ≡ NoMemory) × (b ≡ a))
+    (depth : ℕ) (q : Question) (made : AskRef) (n k l : ℕ) → MetFault ask a b (judged_ask q)
     → t ≡ s → k ≡ n + 1 → l ≡ k → n < most_sends → IsAdded t u (judged_step depth q Fault [] Failed []) made
     → Asks ask j limit a b s u (made ∷ []) n l
-fault_asks ask j limit a b s t u depth q error made n k l other (inr none) still next last few added = absurd (other none.0)
-fault_asks ask j limit a b s t u depth q error made n k l other (inl received) still next last few added =
+fault_asks ask j limit a b s t u depth q made n k l fault still next last few added =
     let step = judged_step depth q Fault [] Failed [] in
     let P : List AskedValue → Type 0 = λ x. IsAdded x u step made in
-    asks_ended ask j limit a b b s s u step made n k k l (sent_fault ask a b step error other received refl)
+    asks_ended ask j limit a b b s s u step made n k k l (sent_fault ask a b step fault.error fault.other fault.received refl)
     (asks_none ask j limit b s [] k refl) next last few (fault_holds j limit s depth q) (subst P still added)
 
 -- a plain ask that did
 pub plain_fault_asks : {H : Type 0} (ask : H → Ask → H → Reply → Type 0) (j : Judge) (limit : ℕ) (a b : H) (s t u : List AskedValue)
-    (depth : ℕ) (q : Question) (error : NetError) (named made : AskRef) (n k l : ℕ)
-    → (error ≡ NoMemory → ⊥) → Received ask a b (record { query = q; judged = false }) (Err error) ⊎ ((error ≡ NoMemory) × (b ≡ a))
+    (depth : ℕ) (q : Question) (named made : AskRef) (n k l : ℕ) → MetFault ask a b (record { query = q; judged = false })
     → t ≡ s → k ≡ n + 1 → l ≡ k → n < most_sends → named ≡ made → IsAdded t u (plain_step depth q Fault Failed) made
     → Asks ask j limit a b s u (named ∷ []) n l
-plain_fault_asks ask j limit a b s t u depth q error named made n k l other (inr none) still next last few same added = absurd (other none.0)
-plain_fault_asks {H} ask j limit a b s t u depth q error named made n k l other (inl received) still next last few same added =
+plain_fault_asks {H} ask j limit a b s t u depth q named made n k l fault still next last few same added =
     let step = plain_step depth q Fault Failed in
     let P : List AskedValue → Type 0 = λ x. IsAdded x u step made in
     let N : AskRef → Type 0 = λ x. Asks ask j limit a b s u (x ∷ []) n l in
     subst N (sym same)
-    (asks_ended ask j limit a b b s s u step made n k k l (sent_fault ask a b step error other received refl)
+    (asks_ended ask j limit a b b s s u step made n k k l (sent_fault ask a b step fault.error fault.other fault.received refl)
     (asks_none ask j limit b s [] k refl) next last few (plain_fault_holds j limit s depth q) (subst P still added))
 
 -- ---- a plain ask

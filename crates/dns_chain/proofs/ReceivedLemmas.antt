@@ -18,7 +18,7 @@ use Rattle.dns_chain.specs.Calls.{Sending, Asking, IsCaused}
 use Rattle.dns_chain.specs.Received.{received_message, says_none}
 use Rattle.dns_chain.specs.AskRequests.{Ask, request_for}
 use Rattle.dns_chain.specs.Sends.{SendOf, ask_of_step}
-use Rattle.dns_chain.specs.Walking.{IsReceived, IsReceivedError, ReceivedAs, Received}
+use Rattle.dns_chain.specs.Walking.{IsReceived, IsReceivedError, ReceivedAs, Received, MetFault, HasReceived}
 use Rattle.dns_chain.specs.LookupParts.{heard_told, told_of}
 use Rattle.dns_chain.specs.declared.receiving.ReceivedMessage.{ReceivedMessage}
 
@@ -58,6 +58,15 @@ error_remembered reply error other faulted =
 pub received_error : (reply : Reply) (error : NetError) → (error ≡ NoMemory → ⊥) → ReceivedAs reply (Err error) → IsReceivedError reply error
 received_error reply error other (inl memory) = absurd (other memory)
 received_error reply error other (inr faulted) = faulted
+
+-- a query that was sent has a message, or met a fault
+pub received_some : {H : Type 0} (ask : H → Ask → H → Reply → Type 0) (a b : H) (made_for : Ask) (o : Option ReceivedMessage) (received : ReceivedMessage)
+    → HasReceived ask a b made_for o → o ≡ Some received → Received ask a b made_for (Ok received)
+received_some ask a b made_for o received h is = let P : Option ReceivedMessage → Type 0 = λ x. HasReceived ask a b made_for x in subst P is h
+
+pub received_none : {H : Type 0} (ask : H → Ask → H → Reply → Type 0) (a b : H) (made_for : Ask) (o : Option ReceivedMessage)
+    → HasReceived ask a b made_for o → o ≡ None → MetFault ask a b made_for
+received_none ask a b made_for o h is = let P : Option ReceivedMessage → Type 0 = λ x. HasReceived ask a b made_for x in subst P is h
 
 -- ---- the step that keeps it
 

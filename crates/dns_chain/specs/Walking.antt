@@ -75,6 +75,17 @@ pub record Received {H : Type 0} (ask : H → Ask → H → Reply → Type 0) (o
   pub made : ask old made_for new reply
   pub received : ReceivedAs reply result
 
+-- one ask that met a fault, which isn't want of memory
+pub record MetFault {H : Type 0} (ask : H → Ask → H → Reply → Type 0) (old new : H) (made_for : Ask) : Type 0 where
+  pub error : NetError
+  pub other : error ≡ NoMemory → ⊥
+  pub received : Received ask old new made_for (Err error)
+
+-- one ask, with its message or a fault
+abbrev pub HasReceived : {H : Type 0} → (H → Ask → H → Reply → Type 0) → H → H → Ask → Option ReceivedMessage → Type 0
+HasReceived ask old new made_for (Some received) = Received ask old new made_for (Ok received)
+HasReceived ask old new made_for None = MetFault ask old new made_for
+
 -- a sight, as the definitions have it
 abbrev pub sight_value : Sight → derived.Sight
 sight_value Cut = derived.Cut

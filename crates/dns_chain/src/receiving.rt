@@ -10,7 +10,7 @@ ghost use Rattle.dns_net.specs.Requests.{first_question};
 ghost use Rattle.dns_chain.specs.Calls.{Requesting};
 ghost use Rattle.dns_chain.specs.AskRequests.{judged_ask};
 ghost use Rattle.dns_chain.specs.Received.{no_records_message, with_soa as with_soa_of};
-ghost use Rattle.dns_chain.specs.Walking.{asking, HasSent, ReceivedAs, Received};
+ghost use Rattle.dns_chain.specs.Walking.{asking, HasReceived, HasSent, ReceivedAs, Received};
 
 use crate::context::{LookupContext, Progress, request_for};
 use dns_message::Message;
@@ -50,6 +50,28 @@ pub(crate) fn send_query<H: DnsHandle, V>(
         context.alloc,
         handle.send(context.alloc, request, context.judge.moment),
     )
+}
+
+/// Sends a query in the same way, and receives the message of the reply, if it has one: where not, a fault was met.
+pub(crate) fn receive<H: DnsHandle, V>(
+    context: &LookupContext<'_, V>,
+    handle: &mut H,
+    progress: &mut Progress,
+    query: &Query,
+    judged: bool,
+) -> Result<Option<ReceivedMessage>, NoMemory>
+    requires few { progress.old.sends < most_sends }
+    ensures count { progress.new.sends ≡ progress.old.sends + 1 }
+    ensures steps { progress.new.steps ≡ progress.old.steps }
+    ensures sent { HasSent H.DnsHandle context.now handle.old progress.old handle.new progress.new }
+    ensures received { IfOk result (λ r. HasReceived (asking H.DnsHandle context.now) handle.old handle.new
+        (record { query = query.now; judged = judged }) r) }
+{
+    match send_query(context, handle, progress, query, judged) {
+        Ok(received) => Ok(Some(received)),
+        Err(NetError::NoMemory) => Err(NoMemory),
+        Err(_) => Ok(None),
+    }
 }
 
 /// Sends a request, and receives the message of the reply in the same way.

@@ -13,11 +13,11 @@ ghost use Rattle.dns_chain.specs.Walking.{grounds_at, sight_value, IsCounted, Is
 
 use crate::context::{LookupContext, MOST_SENDS, Progress};
 use crate::finished::seen;
-use crate::receiving::{ReceivedMessage, send_query};
+use crate::receiving::{ReceivedMessage, receive};
 use crate::steps::records_of;
 use dns_message::Message;
 use dns_name::{Name, NoMemory};
-use dns_net::{AskRef, DnsHandle, Ending, NetError, Reply, Verifier};
+use dns_net::{AskRef, DnsHandle, Ending, Reply, Verifier};
 use dns_record::{DNSClass, Query};
 use dns_trust::{is_ns_of, ns_query};
 
@@ -104,16 +104,10 @@ fn see<H: DnsHandle, V: Verifier>(
     if progress.sends >= MOST_SENDS {
         return Ok(unseen(AskRef::TooMany));
     }
-    let received = match send_query(context, handle, progress, &query, false) {
-        Ok(received) => received,
-        Err(error) => match error {
-            NetError::NoMemory => return Err(NoMemory),
-            _ => {
-                let fault = Reply::Fault;
-                let failed = seen(context.alloc, progress, query, depth, fault, Ending::Failed)?;
-                return Ok(unseen(failed));
-            }
-        },
+    let Some(received) = receive(context, handle, progress, &query, false)? else {
+        let fault = Reply::Fault;
+        let failed = seen(context.alloc, progress, query, depth, fault, Ending::Failed)?;
+        return Ok(unseen(failed));
     };
     let sight = sight_in(&query.name, &received);
     let ask = seen(

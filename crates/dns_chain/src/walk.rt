@@ -17,11 +17,11 @@ use crate::judging::{
     Concluded, Judgement, OneSet, Searched, Tried, Verdicts, add_ask, class_of, is_key_set, set_of,
     untried, with_entry,
 };
-use crate::receiving::{ReceivedMessage, send_query};
+use crate::receiving::{ReceivedMessage, receive};
 use crate::search::{Way, find_zone};
 use crate::steps::{foreign_of, records_of};
 use dns_name::{Name, NoMemory};
-use dns_net::{AskRef, DnsHandle, NetError, Verifier};
+use dns_net::{AskRef, DnsHandle, Verifier};
 use dns_rdata::Rrsig;
 use dns_record::{DNSClass, Proof, Query, Record, RecordSet};
 use dns_sets::{Outcome, PlacedSet, outcome_by_zone, outcome_of, placed_sets};
@@ -345,15 +345,9 @@ fn ask<H: DnsHandle, V: Verifier>(
     if progress.sends >= MOST_SENDS {
         return Ok(refused(AskRef::TooMany));
     }
-    let received = match send_query(context, handle, progress, &query, true) {
-        Ok(received) => received,
-        Err(error) => match error {
-            NetError::NoMemory => return Err(NoMemory),
-            _ => {
-                let failed = faulted(context.alloc, progress, query, depth)?;
-                return Ok(failed);
-            }
-        },
+    let Some(received) = receive(context, handle, progress, &query, true)? else {
+        let failed = faulted(context.alloc, progress, query, depth)?;
+        return Ok(failed);
     };
     let foreign = foreign_of(&query, &received.message)?;
     match foreign {

@@ -13,6 +13,7 @@ use Rattle.dns_chain.proofs.AskLemmas.{counted_nowhere, counted_then, counted_st
 use Rattle.dns_chain.proofs.ConclusionLemmas.{settled_by, searched_by}
 use Rattle.dns_chain.proofs.ZoneLemmas.{none_searched, zone_searched}
 use Rattle.dns_chain.proofs.JudgementLemmas.{keys_step, ds_step, unsigned_step, others_step, judgement_none, judgement_step, asks_of_more}
+use Rattle.dns_chain.proofs.ReceivedLemmas.{received_some, received_none}
 use Rattle.dns_chain.proofs.StepLemmas.{no_answer}
 use Rattle.dns_chain.proofs.TriedLemmas.{tried_none, tried_step, proved_step, tried_all}
 use Rattle.dns_chain.proofs.walk.+walk.Goals as goal
@@ -26,55 +27,55 @@ ask-returns-then-progress-ge-MOST_SENDS-clause-asks g t c =
 
 pub ask-returns-in_err-judged-clause-sent : goal.ask-returns-in_err-judged-clause-sent
 ask-returns-in_err-judged-clause-sent g t c =
-    counted_then _ g.H.DnsHandle.faults _ _ _ _ _ _ _ c.send_query.ensures.sent c.judge_sets.ensures.sent refl
+    counted_then _ g.H.DnsHandle.faults _ _ _ _ _ _ _ c.receive.ensures.sent c.judge_sets.ensures.sent refl
 
 pub ask-returns-in_err-concluded-clause-sent : goal.ask-returns-in_err-concluded-clause-sent
 ask-returns-in_err-concluded-clause-sent g t c =
     counted_then _ g.H.DnsHandle.faults _ _ _ _ _ _ _
-    (counted_then _ g.H.DnsHandle.faults _ _ _ _ _ _ _ c.send_query.ensures.sent c.judge_sets.ensures.sent refl) c.conclude.ensures.sent refl
+    (counted_then _ g.H.DnsHandle.faults _ _ _ _ _ _ _ c.receive.ensures.sent c.judge_sets.ensures.sent refl) c.conclude.ensures.sent refl
 
 pub ask-returns-in_default : goal.ask-returns-in_default
 ask-returns-in_default g t c = record {
-  counted = omega (arith, c.faulted.ensures.one, c.faulted.ensures.sends, c.send_query.ensures.count, ap (λ v. length v.items) c.send_query.ensures.steps);
-  sent = counted_still _ g.H.DnsHandle.faults _ _ _ _ _ c.send_query.ensures.sent c.faulted.ensures.sends;
+  counted = omega (arith, c.faulted.ensures.one, c.faulted.ensures.sends, c.receive.ensures.count, ap (λ v. length v.items) c.receive.ensures.steps);
+  sent = counted_still _ g.H.DnsHandle.faults _ _ _ _ _ c.receive.ensures.sent c.faulted.ensures.sends;
   asks =
-      fault_asks _ _ _ _ _ _ _ _ _ _ c.in-Err.error _ _ _ _ c.in_default.not-NoMemory c.in-Err.ensures.received (ap (λ v. v.items) c.send_query.ensures.steps)
-      c.send_query.ensures.count c.faulted.ensures.sends (omega arith) c.in_ok-failed-in_default.ensures.added;
-  answer = no_answer _ _ _ _ _ _ _ _ _ _ (omega arith) c.in_ok-failed-in_default.ensures.added c.in_ok-failed-in_default.ensures.answer refl;
+      fault_asks _ _ _ _ _ _ _ _ _ _ _ _ _ _ (received_none _ _ _ _ _ c.in_ok-received.ensures.received c.in_default.is) (ap (λ v. v.items) c.receive.ensures.steps)
+      c.receive.ensures.count c.faulted.ensures.sends (omega arith) c.in_ok-failed.ensures.added;
+  answer = no_answer _ _ _ _ _ _ _ _ _ _ (omega arith) c.in_ok-failed.ensures.added c.in_ok-failed.ensures.answer refl;
 }
 
-pub ask-returns-in-Some-clause-asks : goal.ask-returns-in-Some-clause-asks
-ask-returns-in-Some-clause-asks g t c =
-    foreign_asks _ _ _ _ _ _ _ _ _ _ c.in-Ok.received _ _ _ _ _ _ c.in-Ok.ensures.received c.records_of-reply.ensures
-    (named_by _ _ _ c.in_ok-foreign.ensures (ap (option_map ending_value) c.in-Some.is))
-    (ap (λ v. v.items) c.send_query.ensures.steps) c.send_query.ensures.count c.unanswered.ensures.sends (omega arith) c.in_ok-seen-in-Some.ensures.added
+pub ask-returns-in-Some-foreign-clause-asks : goal.ask-returns-in-Some-foreign-clause-asks
+ask-returns-in-Some-foreign-clause-asks g t c =
+    foreign_asks _ _ _ _ _ _ _ _ _ _ c.in-Some.received _ _ _ _ _ _ (received_some _ _ _ _ _ _ c.in_ok-received.ensures.received c.in-Some.is) c.records_of-reply.ensures
+    (named_by _ _ _ c.in_ok-foreign.ensures (ap (option_map ending_value) c.in-Some-foreign.is))
+    (ap (λ v. v.items) c.receive.ensures.steps) c.receive.ensures.count c.unanswered.ensures.sends (omega arith) c.in_ok-seen-in-Some-foreign.ensures.added
 
-pub ask-returns-in-Some-clause-answer : goal.ask-returns-in-Some-clause-answer
-ask-returns-in-Some-clause-answer g t c =
-    foreign_answer _ _ _ _ _ _ _ _ _ _ _ (omega arith) c.in_ok-seen-in-Some.ensures.added c.in_ok-seen-in-Some.ensures.answer
-    (named_by _ _ _ c.in_ok-foreign.ensures (ap (option_map ending_value) c.in-Some.is))
+pub ask-returns-in-Some-foreign-clause-answer : goal.ask-returns-in-Some-foreign-clause-answer
+ask-returns-in-Some-foreign-clause-answer g t c =
+    foreign_answer _ _ _ _ _ _ _ _ _ _ _ (omega arith) c.in_ok-seen-in-Some-foreign.ensures.added c.in_ok-seen-in-Some-foreign.ensures.answer
+    (named_by _ _ _ c.in_ok-foreign.ensures (ap (option_map ending_value) c.in-Some-foreign.is))
 
 pub ask-returns-in_err-finished-clause-sent : goal.ask-returns-in_err-finished-clause-sent
 ask-returns-in_err-finished-clause-sent g t c =
     counted_then _ g.H.DnsHandle.faults _ _ _ _ _ _ _
-    (counted_then _ g.H.DnsHandle.faults _ _ _ _ _ _ _ c.send_query.ensures.sent c.judge_sets.ensures.sent refl) c.conclude.ensures.sent c.answered.ensures.sends
+    (counted_then _ g.H.DnsHandle.faults _ _ _ _ _ _ _ c.receive.ensures.sent c.judge_sets.ensures.sent refl) c.conclude.ensures.sent c.answered.ensures.sends
 
 pub ask-returns-clause-sent : goal.ask-returns-clause-sent
 ask-returns-clause-sent g t c =
     counted_then _ g.H.DnsHandle.faults _ _ _ _ _ _ _
-    (counted_then _ g.H.DnsHandle.faults _ _ _ _ _ _ _ c.send_query.ensures.sent c.judge_sets.ensures.sent refl) c.conclude.ensures.sent c.answered.ensures.sends
+    (counted_then _ g.H.DnsHandle.faults _ _ _ _ _ _ _ c.receive.ensures.sent c.judge_sets.ensures.sent refl) c.conclude.ensures.sent c.answered.ensures.sends
 
 pub ask-returns-clause-asks : goal.ask-returns-clause-asks
 ask-returns-clause-asks g t c =
-    judged_asks _ _ _ _ _ _ _ _ _ _ _ _ _ _ c.in-Ok.received _ _ _ _ _ _ _ _ _ _ _ c.in-Ok.ensures.received
+    judged_asks _ _ _ _ _ _ _ _ _ _ _ _ _ _ c.in-Some.received _ _ _ _ _ _ _ _ _ _ _ (received_some _ _ _ _ _ _ c.in_ok-received.ensures.received c.in-Some.is)
     (none_named _ _ c.in_ok-foreign.ensures (ap (option_map ending_value) c.in-None.is))
-    (ap (λ v. v.items) c.send_query.ensures.steps) c.send_query.ensures.count c.answered.ensures.sends (omega arith)
+    (ap (λ v. v.items) c.receive.ensures.steps) c.receive.ensures.count c.answered.ensures.sends (omega arith)
     c.in_ok-placed.ensures c.in_ok-judged.ensures.asks c.in_ok-judged.ensures.judged c.in_ok-concluded.ensures.asks c.in_ok-concluded.ensures.concluded
     c.in_ok-finished.ensures.added
 
 pub ask-returns-clause-answer : goal.ask-returns-clause-answer
 ask-returns-clause-answer g t c =
-    judged_so _ _ _ _ _ _ _ _ c.in-Ok.received _ _ _ _ _ _ _ (omega arith) c.in_ok-placed.ensures c.in_ok-judged.ensures.judged
+    judged_so _ _ _ _ _ _ _ _ c.in-Some.received _ _ _ _ _ _ _ (omega arith) c.in_ok-placed.ensures c.in_ok-judged.ensures.judged
     c.in_ok-concluded.ensures.asks.part.grown c.in_ok-finished.ensures.added c.in_ok-finished.ensures.answer
 
 pub judge_set-returns-then-is_key_set-clause-judged : goal.judge_set-returns-then-is_key_set-clause-judged
