@@ -1,5 +1,5 @@
-//! A chain that costs the most of the honest kinds: a key set of many anchored keys, and sets that its members signed. Nothing is
-//! said of how it is made; the check's own contract says what its answer is worth.
+//! A chain that costs the most of the honest kinds: a key set of many anchored keys, and sets that its members signed.
+//! Nothing is said of how it is made; the check's own contract says what its answer is worth.
 
 use dns_chain_check::check_chain;
 use dns_name::{Name, NoMemory, Octets};

@@ -1,8 +1,8 @@
-//! `dns_audit_trial`: audits the response to a session. It looks up what the session asks for, and checks each chain and the trail
-//! of what came, by the session's own verifier, anchors, depth and moment.
+//! `dns_audit_trial`: audits the response to a session. It looks up what the session asks for, and checks each chain
+//! and the trail of what came, by the session's own verifier, anchors, depth and moment.
 //!
-//! Its contracts say that the line tells what `check_chain` and `check_trail` define of a response by which the session is answered
-//! rightly. Nothing is said of how the long chain is made that is only there to be measured.
+//! Its contracts say that the line tells what `check_chain` and `check_trail` define of a response by which the session
+//! is answered rightly. Nothing is said of how the long chain is made that is only there to be measured.
 #![tactic(auto)]
 
 mod audit;

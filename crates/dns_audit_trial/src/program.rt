@@ -147,13 +147,13 @@ fn check_long_chain<W: Sink>(alloc: Global, signed: u32, output: &mut W) -> u8
 
 /// Runs the program with its words, those after its name, and answers its status.
 ///
-/// Without words it looks up what a session asks for, and writes what the checks say of the response: how many of its chains are
-/// justified and whether its trail is a derivation, by what the session trusts, or `none` where the lookup has no response. `again
-/// TIMES` checks the response so many times more. `chains LINKS` reads nothing, and writes whether a chain with so many signed links
-/// is justified.
+/// Without words it looks up what a session asks for, and writes what the checks say of the response: how many of its
+/// chains are justified and whether its trail is a derivation, by what the session trusts, or `none` where the lookup
+/// has no response. `again TIMES` checks the response so many times more. `chains LINKS` reads nothing, and writes
+/// whether a chain with so many signed links is justified.
 ///
-/// 0: the line is written. 2: the words are no form. 3: the input is no session. 4: a read failed. 5: a write failed. 6: memory ran
-/// out. 7: the input has more than 16,777,216 bytes.
+/// 0: the line is written. 2: the words are no form. 3: the input is no session. 4: a read failed. 5: a write failed.
+/// 6: memory ran out. 7: the input has more than 16,777,216 bytes.
 pub(crate) fn run<S: Source, W: Sink>(
     alloc: Global,
     words: &[Vec<u8>],
@@ -170,7 +170,8 @@ pub(crate) fn run<S: Source, W: Sink>(
     // 2 is answered only for words that are no form, and where such words end below 4, that is told.
     ensures words { result ≡ 2 → asked_form words.now ≡ None }
     ensures refused { asked_form words.now ≡ None → result < 4 → result ≡ 2 }
-    ensures told { asked_form words.now ≡ None → result < 4 → Appends (W.taken output.old) (W.taken output.new) (codes "bad words\n") }
+    ensures told { asked_form words.now ≡ None → result < 4
+        → Appends (W.taken output.old) (W.taken output.new) (codes "bad words\n") }
 
     ensures source { result ≡ 4 → Rose (S.faults input.old) (S.faults input.new) }
     ensures sink { result ≡ 5 → Rose (W.faults output.old) (W.faults output.new) }
