@@ -18,8 +18,8 @@ use Rattle.dns_session.specs.SessionValue.{SessionValue}
 use Rattle.dns_run.specs.Soundness.{listing, session_judge}
 use Rattle.dns_run.specs.Answering.{recorded_by, session_depth}
 use Rattle.dns_run.proofs.JudgeLemmas.{judge_plain}
-use Rattle.dns_bench.specs.Lookups.{Inquiry, call_for, GivesAnswer, with_answer, counts_of, Repeats, RepeatsSession}
-use Rattle.dns_bench.specs.Steps.{OneMore, Going, Validator, inquiry_by, SameValidator, Repeating}
+use Rattle.dns_bench.specs.Lookups.{RepeatedLookup, repeated_call, GivesAnswer, with_answer, counts_of, Repeats, RepeatsSession}
+use Rattle.dns_bench.specs.Steps.{OneMore, Going, Validator, repeated_by, SameValidator, Repeating}
 use Rattle.dns_bench.specs.declared.lookups.Lookups.{Lookups}
 
 -- ---- by one validator
@@ -39,13 +39,13 @@ none_made v q options now times counts none = record {
 
 -- one more, by a validator that judges the same
 more_moved : (old mid : Validator) (q : Question) (options : DnsRequestOptions) (now : ℕ) (from to : RecordedValue) (before after : Lookups)
-    → SameValidator old mid → OneMore (inquiry_by mid q options now) from to before after → OneMore (inquiry_by old q options now) from to before after
+    → SameValidator old mid → OneMore (repeated_by mid q options now) from to before after → OneMore (repeated_by old q options now) from to before after
 more_moved old mid q options now from to before after same more = rw (same.anchors, same.verifier) at more
 
-going_on : (i : Inquiry) (old mid new : RecordedValue) (times left : ℕ) (before after : Lookups)
-    → 0 < left → Going i old mid times left before → OneMore i mid new before after → Going i old new times (left - 1) after
+going_on : (what : RepeatedLookup) (old mid new : RecordedValue) (times left : ℕ) (before after : Lookups)
+    → 0 < left → Going what old mid times left before → OneMore what mid new before after → Going what old new times (left - 1) after
 unfolding counts_of
-going_on i old mid new times left before after some g m = record {
+going_on what old mid new times left before after some g m = record {
   given = m.answer ∷ g.given;
   each = (mid, g.each, m.gives);
   number = let made = g.number in omega (arith, some, made);
@@ -55,17 +55,17 @@ going_on i old mid new times left before after some g m = record {
 -- one more is made
 pub one_made : (old mid new : Validator) (q : Question) (options : DnsRequestOptions) (now times left : ℕ) (before after : Lookups)
     → 0 < left → Repeating old mid q options now times left before → SameValidator mid new
-    → OneMore (inquiry_by mid q options now) (inner_of mid) (inner_of new) before after
+    → OneMore (repeated_by mid q options now) (inner_of mid) (inner_of new) before after
     → Repeating old new q options now times (left - 1) after
 one_made old mid new q options now times left before after some r same more = record {
   same = record { anchors = same.anchors ∙ r.same.anchors; verifier = same.verifier ∙ r.same.verifier };
-  going = going_on (inquiry_by old q options now) (inner_of old) (inner_of mid) (inner_of new) times left before after some r.going
+  going = going_on (repeated_by old q options now) (inner_of old) (inner_of mid) (inner_of new) times left before after some r.going
       (more_moved old mid q options now (inner_of mid) (inner_of new) before after r.same more);
 }
 
 -- all are made
 pub all_made : (old new : Validator) (q : Question) (options : DnsRequestOptions) (now times left : ℕ) (counts : Lookups)
-    → left ≡ 0 → Repeating old new q options now times left counts → Repeats (inquiry_by old q options now) (inner_of old) times counts
+    → left ≡ 0 → Repeating old new q options now times left counts → Repeats (repeated_by old q options now) (inner_of old) times counts
 all_made old new q options now times left counts none r = record {
   new = inner_of new;
   given = r.going.given;
@@ -76,30 +76,30 @@ all_made old new q options now times left counts none r = record {
 
 -- ---- one lookup
 
-pub gives_answer : (i : Inquiry) (old new : RecordedValue) (result : Result ResponseValue NetError)
-    → OfAnswer (reply_of result) (λ a ending. IsSoundAnswer upstream.ghosts (call_for i old new) a)
-    → OfAnswer (reply_of result) (λ a ending. IsTrail upstream.ghosts (call_for i old new) a.trail ending)
-    → UnlessNoMemory result (PassesOn (Some (replies_of old)) i.query (reply_of result))
-    → UnlessNoMemory result (ForeignNamed (Some (replies_of old)) i.query (reply_of result))
-    → UnlessNoMemory result (JudgesTold (Some (replies_of old)) i.query (reply_of result))
-    → UnlessNoMemory result (GivesAnswer i old (reply_of result) new)
-gives_answer i old new (Ok a) sound trail p f j = record { sound = sound; trail = trail; passes = p; foreign = f; judges = j }
-gives_answer i old new (Err e) sound trail (inl memory) f j = inl memory
-gives_answer i old new (Err e) sound trail (inr p) (inl memory) j = inl memory
-gives_answer i old new (Err e) sound trail (inr p) (inr f) (inl memory) = inl memory
-gives_answer i old new (Err e) sound trail (inr p) (inr f) (inr j) =
+pub gives_answer : (what : RepeatedLookup) (old new : RecordedValue) (result : Result ResponseValue NetError)
+    → OfAnswer (reply_of result) (λ a ending. IsSoundAnswer upstream.ghosts (repeated_call what old new) a)
+    → OfAnswer (reply_of result) (λ a ending. IsTrail upstream.ghosts (repeated_call what old new) a.trail ending)
+    → UnlessNoMemory result (PassesOn (Some (replies_of old)) what.query (reply_of result))
+    → UnlessNoMemory result (ForeignNamed (Some (replies_of old)) what.query (reply_of result))
+    → UnlessNoMemory result (JudgesTold (Some (replies_of old)) what.query (reply_of result))
+    → UnlessNoMemory result (GivesAnswer what old (reply_of result) new)
+gives_answer what old new (Ok a) sound trail p f j = record { sound = sound; trail = trail; passes = p; foreign = f; judges = j }
+gives_answer what old new (Err e) sound trail (inl memory) f j = inl memory
+gives_answer what old new (Err e) sound trail (inr p) (inl memory) j = inl memory
+gives_answer what old new (Err e) sound trail (inr p) (inr f) (inl memory) = inl memory
+gives_answer what old new (Err e) sound trail (inr p) (inr f) (inr j) =
     inr (record { sound = sound; trail = trail; passes = p; foreign = f; judges = j })
 
 -- it gave an answer
-pub answer_counted : (i : Inquiry) (old new : RecordedValue) (response : ResponseValue) (before after : Lookups)
-    → GivesAnswer i old (Ok response) new → after ≡ with_answer before (Ok response) → OneMore i old new before after
-answer_counted i old new response before after given is = record { answer = Ok response; gives = given; counted = is }
+pub answer_counted : (what : RepeatedLookup) (old new : RecordedValue) (response : ResponseValue) (before after : Lookups)
+    → GivesAnswer what old (Ok response) new → after ≡ with_answer before (Ok response) → OneMore what old new before after
+answer_counted what old new response before after given is = record { answer = Ok response; gives = given; counted = is }
 
 -- it gave a fault other than want of memory
-pub fault_counted : (i : Inquiry) (old new : RecordedValue) (error : NetError) (before after : Lookups)
-    → (error ≡ NoMemory → ⊥) → (error ≡ NoMemory) ⊎ GivesAnswer i old (Err (error_of error)) new
-    → after ≡ with_answer before (Err (error_of error)) → OneMore i old new before after
-fault_counted i old new error before after other given is = elim given [
+pub fault_counted : (what : RepeatedLookup) (old new : RecordedValue) (error : NetError) (before after : Lookups)
+    → (error ≡ NoMemory → ⊥) → (error ≡ NoMemory) ⊎ GivesAnswer what old (Err (error_of error)) new
+    → after ≡ with_answer before (Err (error_of error)) → OneMore what old new before after
+fault_counted what old new error before after other given is = elim given [
   | inl memory ↦ absurd (other memory)
   | inr looked ↦ record { answer = Err (error_of error); gives = looked; counted = is }
 ]
@@ -110,9 +110,9 @@ fault_counted i old new error before after other given is = elim given [
 pub repeats_session : (s : SessionValue) (times : ℕ) (counts : Lookups) (v : Validator) (options : DnsRequestOptions)
     → inner_of v ≡ recorded_by s.by_turn s.replies → answers_of (verifier_of v) ≡ answers_of (listing s.algorithms s.accepts)
     → anchored (anchors_of v) ≡ anchored s.anchors → options ≡ record plain_options { max_request_depth = session_depth s }
-    → Repeats (inquiry_by v s.query options s.moment) (inner_of v) times counts → RepeatsSession s times counts
+    → Repeats (repeated_by v s.query options s.moment) (inner_of v) times counts → RepeatsSession s times counts
 repeats_session s times counts v options over listed by deep r =
-    let O : DnsRequestOptions → Inquiry = λ o. record { judge = session_judge s; query = s.query; options = o; now = s.moment } in
+    let O : DnsRequestOptions → RepeatedLookup = λ o. record { judge = session_judge s; query = s.query; options = o; now = s.moment } in
     subst (λ u. Repeats (O (record plain_options { max_request_depth = session_depth s })) u times counts) over
     (subst (λ o. Repeats (O o) (inner_of v) times counts) deep
     (subst (λ j. Repeats (record { judge = j; query = s.query; options = options; now = s.moment }) (inner_of v) times counts)
@@ -123,7 +123,7 @@ pub repeats_ok : {E : Type 0} (parts s : SessionValue) (result : Result Lookups 
     → parts ≡ s → inner_of v ≡ recorded_by parts.by_turn parts.replies
     → answers_of (verifier_of v) ≡ answers_of (listing parts.algorithms parts.accepts)
     → anchored (anchors_of v) ≡ anchored parts.anchors → options ≡ record plain_options { max_request_depth = session_depth parts }
-    → IfOk result (λ counts. Repeats (inquiry_by v parts.query options parts.moment) (inner_of v) times counts)
+    → IfOk result (λ counts. Repeats (repeated_by v parts.query options parts.moment) (inner_of v) times counts)
     → IfOk result (λ counts. RepeatsSession s times counts)
 repeats_ok parts s (Ok counts) times v options same over listed by deep r =
     subst (λ x. RepeatsSession x times counts) same (repeats_session parts times counts v options over listed by deep r)

@@ -18,36 +18,37 @@ use Rattle.dns_bench.specs.Counting.{raised}
 use Rattle.dns_bench.specs.declared.lookups.Lookups.{Lookups}
 
 -- what is looked up: the query, with these options, by what it is judged, and at which moment
-pub record Inquiry : Type 0 where
+pub record RepeatedLookup : Type 0 where
   pub judge : Judge
   pub query : Question
   pub options : DnsRequestOptions
   pub now : ℕ
 
 -- a lookup of it that took the upstream from one state to another
-abbrev pub call_for : Inquiry → RecordedValue → RecordedValue → Call RecordedValue
-call_for i old new = record {
-  judge = i.judge;
-  query = i.query;
-  request = asking_request i.query i.options;
-  options = i.options;
-  now = i.now;
+abbrev pub repeated_call : RepeatedLookup → RecordedValue → RecordedValue → Call RecordedValue
+repeated_call what old new = record {
+  judge = what.judge;
+  query = what.query;
+  request = asking_request what.query what.options;
+  options = what.options;
+  now = what.now;
   old = old;
   new = new;
 }
 
 -- a lookup gave this answer: one that is sound and has its trail, or what the first reply asks for
-pub record GivesAnswer (i : Inquiry) (old : RecordedValue) (answer : Reply) (new : RecordedValue) : Type 0 where
-  pub sound : OfAnswer answer (λ a ending. IsSoundAnswer upstream.ghosts (call_for i old new) a)
-  pub trail : OfAnswer answer (λ a ending. IsTrail upstream.ghosts (call_for i old new) a.trail ending)
-  pub passes : PassesOn (Some (replies_of old)) i.query answer
-  pub foreign : ForeignNamed (Some (replies_of old)) i.query answer
-  pub judges : JudgesTold (Some (replies_of old)) i.query answer
+pub record GivesAnswer (what : RepeatedLookup) (old : RecordedValue) (answer : Reply) (new : RecordedValue) : Type 0 where
+  pub sound : OfAnswer answer (λ a ending. IsSoundAnswer upstream.ghosts (repeated_call what old new) a)
+  pub trail : OfAnswer answer (λ a ending. IsTrail upstream.ghosts (repeated_call what old new) a.trail ending)
+  pub passes : PassesOn (Some (replies_of old)) what.query answer
+  pub foreign : ForeignNamed (Some (replies_of old)) what.query answer
+  pub judges : JudgesTold (Some (replies_of old)) what.query answer
 
 -- one lookup after another gave these answers, the last one first, and took the upstream from one state to another
-abbrev pub GiveAnswers : Inquiry → RecordedValue → List Reply → RecordedValue → Type 0
-GiveAnswers i old [] new = old ≡ new
-GiveAnswers i old (answer ∷ answers) new = (middle : RecordedValue) × GiveAnswers i old answers middle × GivesAnswer i middle answer new
+abbrev pub GiveAnswers : RepeatedLookup → RecordedValue → List Reply → RecordedValue → Type 0
+GiveAnswers what old [] new = old ≡ new
+GiveAnswers what old (answer ∷ answers) new =
+    (middle : RecordedValue) × GiveAnswers what old answers middle × GivesAnswer what middle answer new
 
 -- the counts, with one more answer
 abbrev pub with_answer : Lookups → Reply → Lookups
@@ -60,22 +61,23 @@ counts_of [] = record { answers = 0; faults = 0 }
 counts_of (answer ∷ answers) = with_answer (counts_of answers) answer
 
 -- so many lookups over an upstream, one after another, give answers of which these are the counts
-pub record Repeats (i : Inquiry) (old : RecordedValue) (times : ℕ) (counts : Lookups) : Type 0 where
+pub record Repeats (what : RepeatedLookup) (old : RecordedValue) (times : ℕ) (counts : Lookups) : Type 0 where
   pub new : RecordedValue
   pub given : List Reply
-  pub each : GiveAnswers i old given new
+  pub each : GiveAnswers what old given new
   pub number : length given ≡ times
   pub counted : counts ≡ counts_of given
 
 -- what a session asks to be looked up
-abbrev pub session_inquiry : SessionValue → Inquiry
-session_inquiry s = record {
+abbrev pub session_lookup : SessionValue → RepeatedLookup
+session_lookup s = record {
   judge = session_judge s;
   query = s.query;
   options = record plain_options { max_request_depth = session_depth s };
   now = s.moment;
 }
 
--- so many lookups of a session's query, over one upstream of its replies, with its keys and signatures, at its moment, give these counts
+-- so many lookups of a session's query, over one upstream of its replies, with its keys and signatures, at its moment,
+-- give these counts
 abbrev pub RepeatsSession : SessionValue → ℕ → Lookups → Type 0
-RepeatsSession s times counts = Repeats (session_inquiry s) (recorded_by s.by_turn s.replies) times counts
+RepeatsSession s times counts = Repeats (session_lookup s) (recorded_by s.by_turn s.replies) times counts

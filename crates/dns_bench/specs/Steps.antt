@@ -9,7 +9,7 @@ use Rattle.dns_trust.specs.Listing.{ListedValue, answers_of}
 use Rattle.dns_chain.specs.declared.handle.DnssecDnsHandle.{DnssecDnsHandle}
 use Rattle.dns_chain.specs.Calls.{inner_of, anchors_of, verifier_of}
 use Rattle.dns_bench.specs.Frames.{frames}
-use Rattle.dns_bench.specs.Lookups.{Inquiry, GivesAnswer, GiveAnswers, with_answer, counts_of}
+use Rattle.dns_bench.specs.Lookups.{RepeatedLookup, GivesAnswer, GiveAnswers, with_answer, counts_of}
 use Rattle.dns_bench.specs.declared.lookups.Lookups.{Lookups}
 
 -- these messages were read from the front of the bytes, and this is left
@@ -18,15 +18,15 @@ pub record ReadSoFar (bytes rest : List ℕ) (messages : List (List ℕ)) : Type
   pub few : length messages + length rest ≤ length bytes
 
 -- one more lookup was counted, which took the upstream from one state to another
-pub record OneMore (i : Inquiry) (old new : RecordedValue) (before after : Lookups) : Type 0 where
+pub record OneMore (what : RepeatedLookup) (old new : RecordedValue) (before after : Lookups) : Type 0 where
   pub answer : Reply
-  pub gives : GivesAnswer i old answer new
+  pub gives : GivesAnswer what old answer new
   pub counted : after ≡ with_answer before answer
 
 -- of so many lookups all but these were made, and counted
-pub record Going (i : Inquiry) (old new : RecordedValue) (times left : ℕ) (counts : Lookups) : Type 0 where
+pub record Going (what : RepeatedLookup) (old new : RecordedValue) (times left : ℕ) (counts : Lookups) : Type 0 where
   pub given : List Reply
-  pub each : GiveAnswers i old given new
+  pub each : GiveAnswers what old given new
   pub number : length given + left ≡ times
   pub counted : counts ≡ counts_of given
 
@@ -35,8 +35,13 @@ abbrev pub Validator : Type 0
 Validator = DnssecDnsHandle RecordedValue ListedValue
 
 -- what it looks up
-abbrev pub inquiry_by : Validator → Question → DnsRequestOptions → ℕ → Inquiry
-inquiry_by v q options now = record { judge = judge (answers_of (verifier_of v)) (anchors_of v) now; query = q; options = options; now = now }
+abbrev pub repeated_by : Validator → Question → DnsRequestOptions → ℕ → RepeatedLookup
+repeated_by v q options now = record {
+  judge = judge (answers_of (verifier_of v)) (anchors_of v) now;
+  query = q;
+  options = options;
+  now = now;
+}
 
 -- it trusts and accepts what another one does
 pub record SameValidator (old new : Validator) : Type 0 where
@@ -46,4 +51,4 @@ pub record SameValidator (old new : Validator) : Type 0 where
 -- by one validator all but these lookups were made, and counted
 pub record Repeating (old new : Validator) (q : Question) (options : DnsRequestOptions) (now times left : ℕ) (counts : Lookups) : Type 0 where
   pub same : SameValidator old new
-  pub going : Going (inquiry_by old q options now) (inner_of old) (inner_of new) times left counts
+  pub going : Going (repeated_by old q options now) (inner_of old) (inner_of new) times left counts

@@ -4,7 +4,7 @@ ghost use Rattle.dns_net.specs.Replies.{reply_of};
 ghost use Rattle.dns_chain.specs.LookupAnswers.{UnlessNoMemory};
 ghost use Rattle.dns_chain.specs.Calls.{inner_of};
 ghost use Rattle.dns_bench.specs.Lookups.{with_answer, GivesAnswer, Repeats, RepeatsSession};
-ghost use Rattle.dns_bench.specs.Steps.{OneMore, SameValidator, inquiry_by};
+ghost use Rattle.dns_bench.specs.Steps.{OneMore, SameValidator, repeated_by};
 
 use dns_chain::{DnssecDnsHandle, Listed};
 use dns_name::NoMemory;
@@ -31,7 +31,7 @@ fn look_up(
     now: u64,
 ) -> Result<DnsResponse, NetError>
     ensures same { SameValidator handle.old handle.new }
-    ensures gives { UnlessNoMemory result (GivesAnswer (inquiry_by handle.old query.now options now)
+    ensures gives { UnlessNoMemory result (GivesAnswer (repeated_by handle.old query.now options now)
         (inner_of handle.old) (reply_of result) (inner_of handle.new)) }
 {
     let query = query.try_clone()?;
@@ -49,7 +49,7 @@ fn count_one(
     counts: Lookups,
 ) -> Result<Lookups, NoMemory>
     ensures same { SameValidator handle.old handle.new }
-    ensures more { IfOk result (λ after. OneMore (inquiry_by handle.old query.now options now)
+    ensures more { IfOk result (λ after. OneMore (repeated_by handle.old query.now options now)
         (inner_of handle.old) (inner_of handle.new) counts after) }
 {
     match look_up(alloc, handle, query, options, now) {
@@ -75,7 +75,7 @@ fn count_all(
     now: u64,
     times: u32,
 ) -> Result<Lookups, NoMemory>
-    ensures { IfOk result (λ n. Repeats (inquiry_by handle.old query.now options now) (inner_of handle.old) times n) }
+    ensures { IfOk result (λ n. Repeats (repeated_by handle.old query.now options now) (inner_of handle.old) times n) }
 {
     let mut counts = Lookups {
         answers: 0,

@@ -3,7 +3,7 @@ use Rattle.dns_net.specs.Replies.{reply_of}
 use Rattle.dns_chain.specs.LookupAnswers.{UnlessNoMemory}
 use Rattle.dns_chain.specs.Calls.{inner_of}
 use Rattle.dns_bench.specs.Lookups.{GivesAnswer}
-use Rattle.dns_bench.specs.Steps.{inquiry_by}
+use Rattle.dns_bench.specs.Steps.{repeated_by}
 use Rattle.dns_bench.proofs.LookupLemmas.{gives_answer}
 use Rattle.dns_bench.proofs.lookups.look_up.Goals as goal
 
@@ -12,7 +12,7 @@ returns-clause-gives c =
     let old = c.args.handle.now in
     let new = c.lookup.new.self in
     subst (λ q. UnlessNoMemory c.lookup.result
-    (GivesAnswer (inquiry_by old q c.args.options c.args.now) (inner_of old) (reply_of c.lookup.result) (inner_of new)))
+    (GivesAnswer (repeated_by old q c.args.options c.args.now) (inner_of old) (reply_of c.lookup.result) (inner_of new)))
     c.in_ok-query.ensures
-    (gives_answer (inquiry_by old c.in_ok-query.query c.args.options c.args.now) (inner_of old) (inner_of new) c.lookup.result
+    (gives_answer (repeated_by old c.in_ok-query.query c.args.options c.args.now) (inner_of old) (inner_of new) c.lookup.result
     c.lookup.ensures.sound c.lookup.ensures.trail c.lookup.ensures.passes c.lookup.ensures.names_foreign c.lookup.ensures.judges)
