@@ -1,15 +1,17 @@
-use crate::rdata_tests::{bytes_of, name_of};
-use dns_name::{Name, NoMemory, Octets};
+//! Signed texts, views of rdata, and records that own what a view shows (RFC 4034, 3 to 5 and 6.3; RFC 5155, 3).
+use crate::rdata_tests::name_of;
+use crate::rows::check_row;
+use dns_name::{Name, NameError, NoMemory, Octets};
 use dns_rdata::*;
 use dns_record::{DNSClass, Proof, Rdata, Record, RecordSet, RecordType};
 use std::alloc::Global;
-use std::test::Fail;
 
 /// The RRSIG rdata of a signature over the root's NS set: algorithm 13, valid from 900 to 2000, original ttl 3600.
-const ROOT_SIG: &str = "00020d0000000e10000007d000000384aec900c0de";
+const ROOT_SIG: &[u8] = b"\0\x02\x0d\0\0\0\x0e\x10\0\0\x07\xd0\0\0\x03\x84\xae\xc9\0\xc0\xde";
 
 /// The same over an A set below `W.`, with one label.
-const WILD_SIG: &str = "00010d0100000e10000007d000000384aec9015700c0de";
+const WILD_SIG: &[u8] =
+    b"\0\x01\x0d\x01\0\0\x0e\x10\0\0\x07\xd0\0\0\x03\x84\xae\xc9\x01\x57\0\xc0\xde";
 
 fn rdata(alloc: Global, bytes: &[u8]) -> Result<Rdata, NoMemory> {
     Rdata::from_slice(alloc, &bytes[..bytes.len().min(65535)])
@@ -27,50 +29,53 @@ fn record(alloc: Global, owner: &Name, record_type: u16, bytes: &[u8]) -> Result
 }
 
 /// A record of the root.
-fn at_root(alloc: Global, record_type: u16, bytes: &[u8]) -> Result<Record, NoMemory> {
+pub(crate) fn at_root(alloc: Global, record_type: u16, bytes: &[u8]) -> Result<Record, NoMemory> {
     let owner = Name::root(alloc)?;
     record(alloc, &owner, record_type, bytes)
 }
 
-/// A set's owner in wire form, its type and rdatas, a signature, and the signed text.
+/// What is shown, a set's owner in wire form, its type and rdatas, a signature, and the signed text.
 struct Signed {
+    name: &'static str,
     owner: &'static [u8],
     record_type: u16,
     rdatas: &'static [&'static [u8]],
-    sig: &'static str,
-    want: &'static str,
+    sig: &'static [u8],
+    want: &'static [u8],
 }
 
 const SIGNED: [Signed; 4] = [
     Signed {
+        name: "one record",
         owner: b"\0",
         record_type: 2,
         rdatas: &[b"\x01a\0"],
         sig: ROOT_SIG,
-        want: "00020d0000000e10000007d000000384aec900000002000100000e100003016100",
+        want: b"\0\x02\x0d\0\0\0\x0e\x10\0\0\x07\xd0\0\0\x03\x84\xae\xc9\0\0\0\x02\0\x01\0\0\x0e\x10\0\x03\x01\x61\0",
     },
-    // Lower-cased, equal records once, in rising order.
     Signed {
+        name: "lower-cased, equal records once, in rising order",
         owner: b"\0",
         record_type: 2,
         rdatas: &[b"\x01b\0", b"\x01A\0", b"\x01a\0", b"\0"],
         sig: ROOT_SIG,
-        want: "00020d0000000e10000007d000000384aec900000002000100000e10000100000002000100000e100003016100000002000100000e100003016200",
+        want: b"\0\x02\x0d\0\0\0\x0e\x10\0\0\x07\xd0\0\0\x03\x84\xae\xc9\0\0\0\x02\0\x01\0\0\x0e\x10\0\x01\0\0\0\x02\0\x01\0\0\x0e\x10\0\x03\x01\x61\0\0\0\x02\0\x01\0\0\x0e\x10\0\x03\x01\x62\0",
     },
-    // An owner that was expanded from a wildcard, and the wildcard itself.
     Signed {
+        name: "an owner that was expanded from a wildcard",
         owner: b"\x01X\x01W\0",
         record_type: 1,
         rdatas: &[b"\xc0\0\x02\x01"],
         sig: WILD_SIG,
-        want: "00010d0100000e10000007d000000384aec9017700012a0177000001000100000e100004c0000201",
+        want: b"\0\x01\x0d\x01\0\0\x0e\x10\0\0\x07\xd0\0\0\x03\x84\xae\xc9\x01\x77\0\x01\x2a\x01\x77\0\0\x01\0\x01\0\0\x0e\x10\0\x04\xc0\0\x02\x01",
     },
     Signed {
+        name: "the wildcard itself",
         owner: b"\x01*\x01W\0",
         record_type: 1,
         rdatas: &[b"\xc0\0\x02\x01"],
         sig: WILD_SIG,
-        want: "00010d0100000e10000007d000000384aec9017700012a0177000001000100000e100004c0000201",
+        want: b"\0\x01\x0d\x01\0\0\x0e\x10\0\0\x07\xd0\0\0\x03\x84\xae\xc9\x01\x77\0\x01\x2a\x01\x77\0\0\x01\0\x01\0\0\x0e\x10\0\x04\xc0\0\x02\x01",
     },
 ];
 
@@ -82,14 +87,19 @@ fn rdatas_of(alloc: Global, row: &Signed) -> Result<Vec<Rdata>, NoMemory> {
     Ok(rdatas)
 }
 
-fn set_of(alloc: Global, row: &Signed) -> Result<RecordSet, NoMemory> {
-    let owner = name_of(alloc, row.owner)?;
+fn records_of(alloc: Global, owner: &Name, row: &Signed) -> Result<Vec<Record>, NoMemory> {
     let mut records = Vec::new(alloc);
     for bytes in row.rdatas {
-        records.push(record(alloc, &owner, row.record_type, bytes)?)?;
+        records.push(record(alloc, owner, row.record_type, bytes)?)?;
     }
+    Ok(records)
+}
+
+fn set_of(alloc: Global, row: &Signed) -> Result<RecordSet, NoMemory> {
+    let name = name_of(alloc, row.owner)?;
+    let records = records_of(alloc, &name, row)?;
     Ok(RecordSet {
-        name: owner,
+        name,
         record_type: RecordType(row.record_type),
         dns_class: DNSClass::IN,
         records,
@@ -117,39 +127,51 @@ fn text_of_set(alloc: Global, row: &Signed, sig: &Rrsig) -> Result<Octets, NoMem
     signed_data(alloc, &set, sig)
 }
 
-fn is_signed_as(alloc: Global, row: &Signed) -> Result<bool, NoMemory> {
-    let bytes = bytes_of(alloc, row.sig)?;
-    let want = bytes_of(alloc, row.want)?;
-    match Rrsig::read(&bytes) {
-        Some(sig) => Ok(
-            text_of_rdatas(alloc, row, &sig)?.as_slice() == want.as_slice()
-                && text_of_set(alloc, row, &sig)?.as_slice() == want.as_slice(),
-        ),
+fn are_rdatas_signed(alloc: Global, row: &Signed, sig: &Rrsig) -> Result<bool, NameError> {
+    let text = text_of_rdatas(alloc, row, sig)?;
+    Ok(*text.as_slice() == *row.want)
+}
+
+fn is_set_signed(alloc: Global, row: &Signed, sig: &Rrsig) -> Result<bool, NameError> {
+    let text = text_of_set(alloc, row, sig)?;
+    Ok(*text.as_slice() == *row.want)
+}
+
+fn is_signed_as(alloc: Global, row: &Signed) -> Result<bool, NameError> {
+    match Rrsig::read(row.sig) {
+        Some(sig) => Ok(are_rdatas_signed(alloc, row, &sig)? && is_set_signed(alloc, row, &sig)?),
         None => Ok(false),
     }
 }
 
 #[test]
-fn the_text_that_is_signed_is_the_standards(rt: HostRuntime) -> Result<(), Fail> {
+fn the_text_that_is_signed_is_the_standards(rt: HostRuntime) {
     for row in &SIGNED {
-        assert!(rt; is_signed_as(rt.alloc(), row)?);
+        check_row(&rt, row.name, is_signed_as(rt.alloc(), row));
     }
-    Ok(())
 }
 
-/// A type, an rdata of its shape, and the place of the view that there is: RRSIG, DNSKEY, DS, NSEC, NSEC3, SOA, NS.
-const VIEWS: [(u16, &[u8], usize); 7] = [
-    (46, b"\0\x02\x0d\0aaaabbbbcccctt\0", 0),
-    (48, b"\x01\x01\x03\x0d", 1),
-    (43, b"\x01\x01\x03\x0d", 2),
-    (47, b"\x01b\0\0\x01\x40", 3),
-    (50, b"\x01\x01\0\x0c\x02\xaa\xbb\x01\xcc\0\x01\x20", 4),
+/// A type and its number, an rdata of its shape, and the place of the view that there is.
+type Viewed = (&'static str, u16, &'static [u8], usize);
+
+const VIEWS: [Viewed; 7] = [
+    ("RRSIG", 46, b"\0\x02\x0d\0aaaabbbbcccctt\0", 0),
+    ("DNSKEY", 48, b"\x01\x01\x03\x0d", 1),
+    ("DS", 43, b"\x01\x01\x03\x0d", 2),
+    ("NSEC", 47, b"\x01b\0\0\x01\x40", 3),
     (
+        "NSEC3",
+        50,
+        b"\x01\x01\0\x0c\x02\xaa\xbb\x01\xcc\0\x01\x20",
+        4,
+    ),
+    (
+        "SOA",
         6,
         b"\0\x01r\0\0\0\0\x01\0\0\0\x02\0\0\0\x03\0\0\0\x04\0\0\0\x05",
         5,
     ),
-    (2, b"\x01b\0", 6),
+    ("NS", 2, b"\x01b\0", 6),
 ];
 
 /// The views of signatures and keys there are.
@@ -167,30 +189,20 @@ fn other_views(from: &Record, place: usize) -> bool {
         && Ns::of(from).is_some() == (place == 6)
 }
 
-fn has_its_view(
-    alloc: Global,
-    record_type: u16,
-    bytes: &[u8],
-    place: usize,
-) -> Result<bool, NoMemory> {
-    let from = at_root(alloc, record_type, bytes)?;
-    Ok(key_views(&from, place) && other_views(&from, place))
+fn has_its_view(alloc: Global, row: &Viewed) -> Result<bool, NameError> {
+    let from = at_root(alloc, row.1, row.2)?;
+    Ok(key_views(&from, row.3) && other_views(&from, row.3))
 }
 
 #[test]
-fn views_read_their_own_type_alone(rt: HostRuntime) -> Result<(), Fail> {
-    for (record_type, bytes, place) in &VIEWS {
-        assert!(rt;
-            has_its_view(rt.alloc(), *record_type, bytes, *place)?,
-            "{record_type}"
-        );
+fn views_read_their_own_type_alone(rt: HostRuntime) {
+    for row in &VIEWS {
+        check_row(&rt, row.0, has_its_view(rt.alloc(), row));
     }
-    Ok(())
 }
 
-fn sig_has_its_numbers(alloc: Global, text: &str) -> Result<bool, NoMemory> {
-    let bytes = bytes_of(alloc, text)?;
-    let from = at_root(alloc, 46, &bytes)?;
+fn sig_has_its_numbers(alloc: Global, bytes: &[u8]) -> Result<bool, NameError> {
+    let from = at_root(alloc, 46, bytes)?;
     match Rrsig::of(&from) {
         Some(sig) => Ok(
             sig.type_covered == RecordType::NS
@@ -204,9 +216,8 @@ fn sig_has_its_numbers(alloc: Global, text: &str) -> Result<bool, NoMemory> {
     }
 }
 
-fn soa_has_its_numbers(alloc: Global, text: &str) -> Result<bool, NoMemory> {
-    let bytes = bytes_of(alloc, text)?;
-    let from = at_root(alloc, 6, &bytes)?;
+fn soa_has_its_numbers(alloc: Global, bytes: &[u8]) -> Result<bool, NameError> {
+    let from = at_root(alloc, 6, bytes)?;
     match Soa::of(&from) {
         Some(soa) => Ok(
             soa.serial == 1
@@ -219,74 +230,95 @@ fn soa_has_its_numbers(alloc: Global, text: &str) -> Result<bool, NoMemory> {
     }
 }
 
+/// An SOA with the numbers from 1 to 5.
+const SOA: &[u8] = b"\0\x01\x72\0\0\0\0\x01\0\0\0\x02\0\0\0\x03\0\0\0\x04\0\0\0\x05";
+
 #[test]
-fn numbers_stand_in_their_places(rt: HostRuntime) -> Result<(), Fail> {
-    assert!(rt; sig_has_its_numbers(rt.alloc(), ROOT_SIG)?);
-    assert!(rt;
-        soa_has_its_numbers(
-            rt.alloc(),
-            "000172000000000100000002000000030000000400000005"
-        )?
+fn numbers_stand_in_their_places(rt: HostRuntime) {
+    check_row(&rt, "RRSIG", sig_has_its_numbers(rt.alloc(), ROOT_SIG));
+    check_row(&rt, "SOA", soa_has_its_numbers(rt.alloc(), SOA));
+}
+
+fn nsec_of(alloc: Global, bytes: &[u8]) -> Result<Option<NsecRecord>, NoMemory> {
+    let from = at_root(alloc, 47, bytes)?;
+    NsecRecord::of(alloc, &from)
+}
+
+fn is_nsec_copied(nsec: &NsecRecord) -> Result<bool, NameError> {
+    let copy = nsec.try_clone()?;
+    Ok(
+        copy.owner == nsec.owner
+            && copy.next.wire() == b"\x01b\0".as_slice()
+            && copy.type_set().contains(RecordType::A),
+    )
+}
+
+fn nsec_is_copied(alloc: Global, bytes: &[u8]) -> Result<bool, NameError> {
+    match nsec_of(alloc, bytes)? {
+        Some(nsec) => is_nsec_copied(&nsec),
+        None => Ok(false),
+    }
+}
+
+fn nsec3_of(alloc: Global, bytes: &[u8]) -> Result<Option<Nsec3Record>, NoMemory> {
+    let from = at_root(alloc, 50, bytes)?;
+    Nsec3Record::of(alloc, &from)
+}
+
+fn is_nsec3_copied(nsec3: &Nsec3Record) -> Result<bool, NameError> {
+    let copy = nsec3.try_clone()?;
+    Ok(
+        copy.owner == nsec3.owner
+            && copy.iterations == 12
+            && copy.salt.as_slice() == b"\xaa\xbb".as_slice()
+            && copy.next.as_slice() == b"\xcc".as_slice()
+            && copy.type_set().contains(RecordType::NS),
+    )
+}
+
+fn nsec3_is_copied(alloc: Global, bytes: &[u8]) -> Result<bool, NameError> {
+    match nsec3_of(alloc, bytes)? {
+        Some(nsec3) => is_nsec3_copied(&nsec3),
+        None => Ok(false),
+    }
+}
+
+#[test]
+fn owned_denials_say_what_their_records_say(rt: HostRuntime) {
+    check_row(
+        &rt,
+        "NSEC",
+        nsec_is_copied(rt.alloc(), b"\x01b\0\0\x01\x40"),
     );
-    Ok(())
-}
-
-fn nsec_is_copied(alloc: Global, text: &str) -> Result<bool, NoMemory> {
-    let bytes = bytes_of(alloc, text)?;
-    let from = at_root(alloc, 47, &bytes)?;
-    match NsecRecord::of(alloc, &from)? {
-        Some(nsec) => {
-            let copy = nsec.try_clone()?;
-            Ok(
-                copy.owner == nsec.owner
-                    && copy.next.wire() == b"\x01b\0".as_slice()
-                    && copy.type_set().contains(RecordType::A),
-            )
-        }
-        None => Ok(false),
-    }
-}
-
-fn nsec3_is_copied(alloc: Global, text: &str) -> Result<bool, NoMemory> {
-    let bytes = bytes_of(alloc, text)?;
-    let from = at_root(alloc, 50, &bytes)?;
-    match Nsec3Record::of(alloc, &from)? {
-        Some(nsec3) => {
-            let copy = nsec3.try_clone()?;
-            Ok(
-                copy.owner == nsec3.owner
-                    && copy.iterations == 12
-                    && copy.salt.as_slice() == b"\xaa\xbb".as_slice()
-                    && copy.next.as_slice() == b"\xcc".as_slice()
-                    && copy.type_set().contains(RecordType::NS),
-            )
-        }
-        None => Ok(false),
-    }
-}
-
-#[test]
-fn owned_denials_say_what_their_records_say(rt: HostRuntime) -> Result<(), Fail> {
-    assert!(rt; nsec_is_copied(rt.alloc(), "016200000140")?);
-    assert!(rt; nsec3_is_copied(rt.alloc(), "0101000c02aabb01cc000120")?);
-    Ok(())
+    check_row(
+        &rt,
+        "NSEC3",
+        nsec3_is_copied(rt.alloc(), b"\x01\x01\0\x0c\x02\xaa\xbb\x01\xcc\0\x01\x20"),
+    );
 }
 
 /// Whether a set takes a second record of its name, type and class.
-fn grows(alloc: Global, first: &[u8], second: &[u8]) -> Result<bool, NoMemory> {
-    let next = at_root(alloc, 2, second)?;
-    let mut set = RecordSet::of(alloc, at_root(alloc, 2, first)?)?;
+fn takes(set: &mut RecordSet, next: Record) -> bool {
     if set.name != next.name
         || set.record_type != next.record_type
         || set.dns_class != next.dns_class
     {
-        return Ok(false);
+        return false;
     }
-    Ok(set.push(next).is_ok() && set.records.len() == 2)
+    set.push(next).is_ok() && set.records.len() == 2
+}
+
+fn grows(alloc: Global, first: &[u8], second: &[u8]) -> Result<bool, NameError> {
+    let mut set = RecordSet::of(alloc, at_root(alloc, 2, first)?)?;
+    let next = at_root(alloc, 2, second)?;
+    Ok(takes(&mut set, next))
 }
 
 #[test]
-fn a_set_grows_by_records_of_its_own(rt: HostRuntime) -> Result<(), Fail> {
-    assert!(rt; grows(rt.alloc(), b"\x01b\0", b"\x01c\0")?);
-    Ok(())
+fn a_set_grows_by_records_of_its_own(rt: HostRuntime) {
+    check_row(
+        &rt,
+        "two records",
+        grows(rt.alloc(), b"\x01b\0", b"\x01c\0"),
+    );
 }

@@ -1,17 +1,13 @@
+//! Questions and sets of records: how they compare, are shown and are copied.
+use crate::name_tests::hash_of;
+use crate::rdata_signed_tests::at_root;
+use crate::rows::check_row;
 use dns_name::NameError;
 use dns_record::*;
 use std::alloc::Global;
 use std::cmp::Ordering;
-use std::hash::{DefaultHasher, Hash, Hasher};
-use std::test::Fail;
 
-fn hash_of(query: &Query) -> u64 {
-    let mut state = DefaultHasher::new();
-    query.hash(&mut state);
-    state.finish()
-}
-
-fn query_of(alloc: Global, text: &str, record_type: u16) -> Result<Query, NameError> {
+pub(crate) fn query_of(alloc: Global, text: &str, record_type: u16) -> Result<Query, NameError> {
     let name = Name::from_ascii(alloc, text)?;
     Ok(Query {
         name,
@@ -34,19 +30,22 @@ fn are_one(one: &Query, two: &Query, same: bool) -> bool {
         && (hash_of(one) == hash_of(two)) == same
 }
 
+fn is_copied(query: &Query) -> Result<bool, NameError> {
+    let copy = query.try_clone()?;
+    Ok(copy == *query)
+}
+
 fn is_compared(alloc: Global, row: &(&str, u16, &str, u16, bool)) -> Result<bool, NameError> {
     let one = query_of(alloc, row.0, row.1)?;
     let two = query_of(alloc, row.2, row.3)?;
-    let copy = one.try_clone()?;
-    Ok(are_one(&one, &two, row.4) && copy == one)
+    Ok(are_one(&one, &two, row.4) && is_copied(&one)?)
 }
 
 #[test]
-fn questions_compare_with_names_folded(rt: HostRuntime) -> Result<(), Fail> {
+fn questions_compare_with_names_folded(rt: HostRuntime) {
     for row in &QUERIES {
-        assert!(rt; is_compared(rt.alloc(), row)?);
+        check_row(&rt, row.0, is_compared(rt.alloc(), row));
     }
-    Ok(())
 }
 
 /// A name and a type, and how a question of class IN for them is shown.
@@ -63,36 +62,31 @@ fn is_shown(alloc: Global, row: &(&str, u16, &str)) -> Result<bool, NameError> {
 }
 
 #[test]
-fn questions_are_shown(rt: HostRuntime) -> Result<(), Fail> {
+fn questions_are_shown(rt: HostRuntime) {
     for row in &SHOWN {
-        assert!(rt; is_shown(rt.alloc(), row)?, "at {}", row.2);
+        check_row(&rt, row.2, is_shown(rt.alloc(), row));
     }
-    Ok(())
 }
 
-fn record_of(alloc: Global, bytes: &[u8]) -> Result<Record, NoMemory> {
-    Ok(Record {
-        name: Name::root(alloc)?,
-        record_type: RecordType::NS,
-        dns_class: DNSClass::IN,
-        ttl: 3600,
-        rdata: Rdata::from_slice(alloc, &bytes[..bytes.len().min(65535)])?,
-        proof: Proof::Indeterminate,
-    })
+fn set_of(alloc: Global, bytes: &[u8]) -> Result<RecordSet, NoMemory> {
+    RecordSet::of(alloc, at_root(alloc, 2, bytes)?)
+}
+
+fn is_of_one(set: &RecordSet, bytes: &[u8]) -> bool {
+    match set.records.as_slice() {
+        [record] => record.rdata.as_slice() == bytes && record.ttl == 3600,
+        _ => false,
+    }
 }
 
 /// Whether a set of one record, copied, has that record's rdata.
-fn is_copied(alloc: Global, bytes: &[u8]) -> Result<bool, NoMemory> {
-    let set = RecordSet::of(alloc, record_of(alloc, bytes)?)?;
+fn is_set_copied(alloc: Global, bytes: &[u8]) -> Result<bool, NameError> {
+    let set = set_of(alloc, bytes)?;
     let copy = set.try_clone()?;
-    match copy.records.as_slice() {
-        [record] => Ok(record.rdata.as_slice() == bytes && record.ttl == 3600),
-        _ => Ok(false),
-    }
+    Ok(is_of_one(&copy, bytes))
 }
 
 #[test]
-fn sets_are_copied(rt: HostRuntime) -> Result<(), Fail> {
-    assert!(rt; is_copied(rt.alloc(), b"\x01a\0")?);
-    Ok(())
+fn sets_are_copied(rt: HostRuntime) {
+    check_row(&rt, "a set of one", is_set_copied(rt.alloc(), b"\x01a\0"));
 }

@@ -1,9 +1,11 @@
+//! Verdicts on zones and queries from the RFCs and from reports of broken validators (RFC 4035, 5.4).
+use crate::record_tests::query_of;
+use crate::rows::check_row;
 use dns_denial::*;
-use dns_name::{Name, Octets};
+use dns_name::{Name, NameError, Octets};
 use dns_rdata::NsecRecord;
-use dns_record::{DNSClass, Proof, Query, RecordType, ResponseCode};
+use dns_record::{Proof, RecordType, ResponseCode};
 use std::alloc::Global;
-use std::test::Fail;
 
 /// Type bitmaps: A; A and MX; MX; TXT; NS; NS and DS; NS and SOA; NS, SOA and TXT.
 const A_ALONE: &[u8] = b"\0\x01\x40";
@@ -41,27 +43,31 @@ struct Row {
     verdict: Proof,
 }
 
-fn records_of(alloc: Global, told: &[Told]) -> Result<Vec<NsecRecord>, Fail> {
+fn record_of(alloc: Global, told: &Told) -> Result<NsecRecord, NameError> {
+    let owner = Name::from_ascii(alloc, told.owner)?;
+    let next = Name::from_ascii(alloc, told.next)?;
+    let types = Octets::from_slice(alloc, told.types)?;
+    Ok(NsecRecord { owner, next, types })
+}
+
+fn records_of(alloc: Global, told: &[Told]) -> Result<Vec<NsecRecord>, NameError> {
     let mut records = Vec::new(alloc);
     for one in told {
-        let owner = Name::from_ascii(alloc, one.owner)?;
-        let next = Name::from_ascii(alloc, one.next)?;
-        let types = Octets::from_slice(alloc, one.types)?;
-        records.push(NsecRecord { owner, next, types })?;
+        records.push(record_of(alloc, one)?)?;
     }
     Ok(records)
 }
 
-/// The verdict on a row is the one that it names.
-fn is_judged(alloc: Global, row: &Row) -> Result<bool, Fail> {
-    let query = Query {
-        name: Name::from_ascii(alloc, row.name)?,
-        query_type: row.record_type,
-        query_class: DNSClass::IN,
-    };
+fn is_judged_by(alloc: Global, row: &Row, records: &[NsecRecord]) -> Result<bool, NameError> {
+    let query = query_of(alloc, row.name, row.record_type.0)?;
     let zone = Name::from_ascii(alloc, row.zone)?;
+    Ok(verify_nsec(&query, &zone, row.code, row.answered, records) == row.verdict)
+}
+
+/// The verdict on a row is the one that it names.
+fn is_judged(alloc: Global, row: &Row) -> Result<bool, NameError> {
     let records = records_of(alloc, row.told)?;
-    Ok(verify_nsec(&query, &zone, row.code, row.answered, &records) == row.verdict)
+    is_judged_by(alloc, row, &records)
 }
 
 const ROWS: [Row; 18] = [
@@ -337,11 +343,10 @@ const ROWS: [Row; 18] = [
 ];
 
 #[test]
-fn denials_are_judged(rt: HostRuntime) -> Result<(), Fail> {
+fn denials_are_judged(rt: HostRuntime) {
     for row in &ROWS {
-        assert!(rt; is_judged(rt.alloc(), row)?, "{}", row.shows);
+        check_row(&rt, row.shows, is_judged(rt.alloc(), row));
     }
-    Ok(())
 }
 
 const NEAREST: [Told; 2] = [
@@ -389,28 +394,30 @@ const BELOW: [Told; 3] = [
     },
 ];
 
-/// The number of the record that covers a name is this one.
-fn is_covered_by(
-    alloc: Global,
-    name: &str,
-    told: &[Told],
-    number: Option<u32>,
-) -> Result<bool, Fail> {
-    let name = Name::from_ascii(alloc, name)?;
-    let records = records_of(alloc, told)?;
-    if records.len() > 9 {
-        return Err("too many".into());
-    }
-    Ok(nsec_covering(&name, &records) == number)
+/// What is shown, a name, records, and the number of the one that covers it.
+type Nearest = (&'static str, &'static str, &'static [Told], Option<u32>);
+
+const COVERS: [Nearest; 5] = [
+    ("the nearest", "m.", &NEAREST, Some(0)),
+    ("the first of two that are equal", "m.", &EQUAL, Some(0)),
+    ("none of none", "m.", &[], None),
+    ("the nearer owner", "m.", &BELOW, Some(1)),
+    ("none below a zone cut", "a.m.", &BELOW, None),
+];
+
+fn is_covering(name: &Name, records: &[NsecRecord], number: Option<u32>) -> bool {
+    records.len() < 10 && nsec_covering(name, records) == number
+}
+
+fn is_covered_by(alloc: Global, row: &Nearest) -> Result<bool, NameError> {
+    let name = Name::from_ascii(alloc, row.1)?;
+    let records = records_of(alloc, row.2)?;
+    Ok(is_covering(&name, &records, row.3))
 }
 
 #[test]
-fn the_nearest_record_covers(rt: HostRuntime) -> Result<(), Fail> {
-    let alloc = rt.alloc();
-    assert!(rt; is_covered_by(alloc, "m.", &NEAREST, Some(0))?);
-    assert!(rt; is_covered_by(alloc, "m.", &EQUAL, Some(0))?);
-    assert!(rt; is_covered_by(alloc, "m.", &[], None)?);
-    assert!(rt; is_covered_by(alloc, "m.", &BELOW, Some(1))?);
-    assert!(rt; is_covered_by(alloc, "a.m.", &BELOW, None)?);
-    Ok(())
+fn the_nearest_record_covers(rt: HostRuntime) {
+    for row in &COVERS {
+        check_row(&rt, row.0, is_covered_by(rt.alloc(), row));
+    }
 }
