@@ -1,5 +1,6 @@
 use dns_io::*;
 use dns_name::Octets;
+use std::alloc::{AllocError, Global};
 use std::io;
 use std::io::{Read, Write};
 use std::test::Fail;
@@ -110,143 +111,264 @@ impl Write for Broken {
     }
 }
 
+/// What a read of everything gives, or why it stops.
+fn reads_all<S: Source>(alloc: Global, source: &mut S, want: Result<&[u8], ReadStop>) -> bool {
+    match (read_all(alloc, source), want) {
+        (Ok(all), Ok(bytes)) => all.as_slice() == bytes,
+        (Err(stop), Err(other)) => stop == other,
+        _ => false,
+    }
+}
+
+/// A read into a buffer of so many bytes, at most four, and what it puts there, or that it fails.
+type ReadRow = (usize, Result<&'static [u8], Failed>);
+
+fn reads_once<S: Source>(source: &mut S, row: &ReadRow) -> bool {
+    let mut buffer = [0; 4];
+    match (source.read(&mut buffer[..row.0.min(4)]), row.1) {
+        (Ok(count), Ok(bytes)) => &buffer[..count.min(4)] == bytes,
+        (Err(_), Err(_)) => true,
+        _ => false,
+    }
+}
+
+fn reads_so<S: Source>(source: &mut S, rows: &[ReadRow]) -> bool {
+    for row in rows {
+        if !reads_once(source, row) {
+            return false;
+        }
+    }
+    true
+}
+
+const DONE: Result<(), SinkFault> = Ok(());
+
+const FAILED: Result<(), SinkFault> = Err(SinkFault::Failed);
+
+/// A text that is to be written whole, and what that comes to.
+type WriteRow = (&'static [u8], Result<(), SinkFault>);
+
+fn writes_so<K: Sink>(sink: &mut K, rows: &[WriteRow]) -> bool {
+    for (text, want) in rows {
+        if write_all(sink, text) != *want {
+            return false;
+        }
+    }
+    true
+}
+
+/// A source of these bytes, and the numbers of the reads that fail.
+fn text_source(alloc: Global, bytes: &[u8], fails: &[u64]) -> Result<TextSource, AllocError> {
+    let octets = Octets::from_vec(bytes.to_vec(alloc)?);
+    Ok(TextSource::new(octets, fails.to_vec(alloc)?))
+}
+
+/// How many bytes a source has, the reads that fail, and whether all is read. The last read finds the end.
+const SOURCES: [(usize, &[u64], bool); 8] = [
+    (0, &[], true),
+    (0, &[0], false),
+    (1, &[1], false),
+    (65_536, &[2], true),
+    (65_537, &[], true),
+    (65_537, &[1], false),
+    (65_537, &[3, 4], true),
+    (65_537, &[9, 2], false),
+];
+
+fn is_read(alloc: Global, len: usize, fails: &[u64], whole: bool) -> Result<bool, AllocError> {
+    let bytes = vec![in alloc; 7u8; len]?;
+    let mut source = text_source(alloc, &bytes, fails)?;
+    let want = if whole {
+        Ok(bytes.as_slice())
+    } else {
+        Err(ReadStop::Failed)
+    };
+    Ok(reads_all(alloc, &mut source, want))
+}
+
 #[test]
 fn a_source_is_read_to_its_end_or_to_its_fault(rt: HostRuntime) -> Result<(), Fail> {
-    let alloc = rt.alloc();
-    // The length, the reads that fail, and whether all is read. The last read finds the end.
-    let cases: [(usize, &[u64], bool); 8] = [
-        (0, &[], true),
-        (0, &[0], false),
-        (1, &[1], false),
-        (65_536, &[2], true),
-        (65_537, &[], true),
-        (65_537, &[1], false),
-        (65_537, &[3, 4], true),
-        (65_537, &[9, 2], false),
-    ];
-    for (len, fails, whole) in cases {
-        let bytes = vec![in alloc; 7u8; len]?;
-        let want = if whole {
-            Ok(vec![in alloc; 7u8; len]?)
-        } else {
-            Err(ReadStop::Failed)
-        };
-        let mut source = TextSource::new(Octets::from_vec(bytes), fails.to_vec(alloc)?);
-        assert!(rt; read_all(alloc, &mut source) == want, "{len} bytes");
+    for (len, fails, whole) in &SOURCES {
+        assert!(rt; is_read(rt.alloc(), *len, fails, *whole)?, "{len} bytes");
     }
     Ok(())
 }
+
+/// The reads of a source of three bytes whose second read fails.
+const READS: [ReadRow; 5] = [
+    (2, Ok(b"ab")),
+    (2, Err(Failed)),
+    (0, Ok(b"")),
+    (2, Ok(b"c")),
+    (2, Ok(b"")),
+];
 
 #[test]
 fn a_failed_read_loses_nothing(rt: HostRuntime) -> Result<(), Fail> {
-    let alloc = rt.alloc();
-    let mut source = TextSource::new(Octets::from_vec(b"abc".to_vec(alloc)?), vec![in alloc; 1]?);
-    let mut buf = [0; 2];
-    assert_eq!(rt; source.read(&mut buf), Ok(2));
-    assert_eq!(rt; buf, *b"ab");
-    assert_eq!(rt; source.read(&mut buf), Err(Failed));
-    assert_eq!(rt; source.read(&mut []), Ok(0));
-    assert_eq!(rt; source.read(&mut buf), Ok(1));
-    assert_eq!(rt; buf[0], b'c');
-    assert_eq!(rt; source.read(&mut buf), Ok(0));
+    let mut source = text_source(rt.alloc(), b"abc", &[1])?;
+    assert!(rt; reads_so(&mut source, &READS));
     Ok(())
 }
 
-#[test]
-fn an_input_of_the_limit_is_read_and_a_longer_one_is_not(rt: HostRuntime) -> Result<(), Fail> {
-    let alloc = rt.alloc();
+/// An input of the limit.
+fn longest_is_read(alloc: Global) -> bool {
     let mut longest = Zeros { left: 16_777_216 };
-    let read = read_all(alloc, &mut longest);
-    assert!(rt; read.is_ok_and(|all| all.len() == 16_777_216));
-    // One byte past the limit is read, and no more.
-    for over in [1, 2, 70_000] {
-        let mut long = Zeros {
-            left: 16_777_216 + over,
-        };
-        assert!(rt;
-            read_all(alloc, &mut long) == Err(ReadStop::TooLong),
-            "{over} bytes"
-        );
-        assert_eq!(rt; long.left, over - 1);
+    match read_all(alloc, &mut longest) {
+        Ok(all) => all.len() == 16_777_216,
+        Err(_) => false,
     }
-    Ok(())
+}
+
+/// One byte past the limit is read, and no more.
+fn is_too_long(alloc: Global, over: usize) -> bool {
+    let mut long = Zeros {
+        left: 16_777_216 + over % 16_777_216,
+    };
+    reads_all(alloc, &mut long, Err(ReadStop::TooLong)) && long.left == over.saturating_sub(1)
+}
+
+#[test]
+fn an_input_of_the_limit_is_read_and_a_longer_one_is_not(rt: HostRuntime) {
+    assert!(rt; longest_is_read(rt.alloc()));
+    for over in [1, 2, 70_000] {
+        assert!(rt; is_too_long(rt.alloc(), over), "{over} bytes");
+    }
+}
+
+/// The writes that fail, what three texts in a row get, and what was taken.
+const SINKS: [(&[u64], [WriteRow; 3], &[u8]); 4] = [
+    (
+        &[],
+        [(b"dns", DONE), (b"se", DONE), (b"c", DONE)],
+        b"dnssec",
+    ),
+    (
+        &[0],
+        [(b"dns", FAILED), (b"se", DONE), (b"c", DONE)],
+        b"sec",
+    ),
+    (
+        &[5, 1],
+        [(b"dns", DONE), (b"se", FAILED), (b"c", DONE)],
+        b"dnsc",
+    ),
+    (
+        &[2, 2],
+        [(b"dns", DONE), (b"se", DONE), (b"c", FAILED)],
+        b"dnsse",
+    ),
+];
+
+fn is_taken(
+    alloc: Global,
+    fails: &[u64],
+    rows: &[WriteRow],
+    taken: &[u8],
+) -> Result<bool, AllocError> {
+    let mut sink = TextSink::new(alloc, fails.to_vec(alloc)?);
+    Ok(writes_so(&mut sink, rows) && sink.taken() == taken)
 }
 
 #[test]
 fn a_text_is_written_whole_or_to_the_fault(rt: HostRuntime) -> Result<(), Fail> {
-    let alloc = rt.alloc();
-    // The writes that fail, what three texts in a row get, and what was taken.
-    let failed = Err(SinkFault::Failed);
-    let cases: [(&[u64], [Result<(), SinkFault>; 3], &[u8]); 4] = [
-        (&[], [Ok(()); 3], b"dnssec"),
-        (&[0], [failed, Ok(()), Ok(())], b"sec"),
-        (&[5, 1], [Ok(()), failed, Ok(())], b"dnsc"),
-        (&[2, 2], [Ok(()), Ok(()), failed], b"dnsse"),
-    ];
-    for (fails, want, taken) in cases {
-        let mut sink = TextSink::new(alloc, fails.to_vec(alloc)?);
-        let first = write_all(&mut sink, b"dns");
-        let second = write_all(&mut sink, b"se");
-        let third = write_all(&mut sink, b"c");
-        assert_eq!(rt; [first, second, third], want);
-        assert_eq!(rt; sink.taken(), taken);
+    for (fails, rows, taken) in &SINKS {
+        assert!(rt; is_taken(rt.alloc(), fails, rows, taken)?);
     }
     Ok(())
 }
 
-#[test]
-fn a_slow_sink_takes_one_byte_and_then_fails(rt: HostRuntime) -> Result<(), Fail> {
+fn slow_takes_one_byte(alloc: Global) -> bool {
     let mut sink = Slow {
-        taken: Vec::new(rt.alloc()),
+        taken: Vec::new(alloc),
         faults: 0,
     };
-    assert_eq!(rt;
-        write_all(&mut sink, b"dns-report 1\n"),
-        Err(SinkFault::Failed)
-    );
-    assert_eq!(rt; sink.taken.as_slice(), b"d".as_slice());
-    assert_eq!(rt; sink.faults, 1);
-    Ok(())
+    writes_so(&mut sink, &[(b"dns-report 1\n", FAILED)])
+        && sink.taken.as_slice() == b"d".as_slice()
+        && sink.faults == 1
+}
+
+#[test]
+fn a_slow_sink_takes_one_byte_and_then_fails(rt: HostRuntime) {
+    assert!(rt; slow_takes_one_byte(rt.alloc()));
+}
+
+/// The room of a sink, and whether eight bytes are taken.
+const ROOMS: [(usize, Result<(), SinkFault>); 3] = [
+    (8, Ok(())),
+    (9, Ok(())),
+    (7, Err(SinkFault::Failed)),
+];
+
+fn full_takes(room: usize, want: Result<(), SinkFault>) -> bool {
+    let mut sink = Full { room, faults: 0 };
+    write_all(&mut sink, b"12345678") == want
 }
 
 #[test]
 fn a_sink_that_takes_nothing_has_failed(rt: HostRuntime) {
-    for (room, want) in [(8, Ok(())), (9, Ok(())), (7, Err(SinkFault::Failed))] {
-        let mut sink = Full { room, faults: 0 };
-        assert_eq!(rt; write_all(&mut sink, b"12345678"), want, "room for {room}");
+    for (room, want) in &ROOMS {
+        assert!(rt; full_takes(*room, *want), "room for {room}");
     }
+}
+
+fn sure_source_gives_all(alloc: Global) -> Result<bool, AllocError> {
+    let mut source = SureSource::new(Octets::from_vec(b"report".to_vec(alloc)?));
+    Ok(reads_all(alloc, &mut source, Ok(b"report")) && reads_all(alloc, &mut source, Ok(b"")))
+}
+
+fn sure_sink_takes_all(alloc: Global) -> bool {
+    let mut sink = SureSink::new(alloc);
+    writes_so(&mut sink, &[(b"report", DONE), (b"\n", DONE)])
+        && sink.taken() == b"report\n".as_slice()
 }
 
 #[test]
 fn the_sure_ones_pass_all_on(rt: HostRuntime) -> Result<(), Fail> {
-    let alloc = rt.alloc();
-    let mut source = SureSource::new(Octets::from_vec(b"report".to_vec(alloc)?));
-    let mut sink = SureSink::new(alloc);
-    assert!(rt; read_all(alloc, &mut source) == Ok(b"report".to_vec(alloc)?));
-    assert!(rt; read_all(alloc, &mut source) == Ok(Vec::new(alloc)));
-    assert_eq!(rt; write_all(&mut sink, b"report"), Ok(()));
-    assert_eq!(rt; write_all(&mut sink, b"\n"), Ok(()));
-    assert_eq!(rt; sink.taken(), b"report\n".as_slice());
+    assert!(rt; sure_source_gives_all(rt.alloc())?);
+    assert!(rt; sure_sink_takes_all(rt.alloc()));
     Ok(())
 }
 
-#[test]
-fn readers_and_writers_of_std_are_sources_and_sinks(rt: HostRuntime) -> Result<(), Fail> {
-    let alloc = rt.alloc();
+fn std_reader_is_read(alloc: Global) -> bool {
     let mut input = InputSource::new(b"input".as_slice());
-    assert!(rt; read_all(alloc, &mut input) == Ok(b"input".to_vec(alloc)?));
+    reads_all(alloc, &mut input, Ok(b"input"))
+}
+
+fn std_writer_is_written(alloc: Global) -> bool {
     let mut output = OutputSink::new(Vec::new(alloc));
-    assert_eq!(rt; write_all(&mut output, b"output"), Ok(()));
+    writes_so(&mut output, &[(b"output", DONE)])
+}
 
+fn broken_reader_is_read() -> bool {
     let mut broken = InputSource::new(Broken { calls: 0 });
-    assert_eq!(rt; broken.read(&mut [0; 4]), Ok(1));
-    assert_eq!(rt; broken.read(&mut [0; 4]), Err(Failed));
-    assert_eq!(rt; broken.read(&mut [0; 4]), Ok(1));
+    reads_so(
+        &mut broken,
+        &[(4, Ok(b"d")), (4, Err(Failed)), (4, Ok(b"d"))],
+    )
+}
 
+/// Each write to the broken writer, and what it comes to.
+const WRITES: [(&[u8], Result<usize, SinkFault>); 4] = [
+    (b"ab", Ok(1)),
+    (b"b", Err(SinkFault::Failed)),
+    (b"b", Err(SinkFault::Failed)),
+    (b"", Ok(0)),
+];
+
+fn broken_writer_is_written() -> bool {
     let mut broken = OutputSink::new(Broken { calls: 0 });
-    assert_eq!(rt; broken.write(b"ab"), Ok(1));
-    assert_eq!(rt; broken.write(b"b"), Err(SinkFault::Failed));
-    assert_eq!(rt; broken.write(b"b"), Err(SinkFault::Failed));
-    assert_eq!(rt; broken.write(b""), Ok(0));
-    Ok(())
+    for (bytes, want) in &WRITES {
+        if broken.write(bytes) != *want {
+            return false;
+        }
+    }
+    true
+}
+
+#[test]
+fn readers_and_writers_of_std_are_sources_and_sinks(rt: HostRuntime) {
+    assert!(rt; std_reader_is_read(rt.alloc()));
+    assert!(rt; std_writer_is_written(rt.alloc()));
+    assert!(rt; broken_reader_is_read());
+    assert!(rt; broken_writer_is_written());
 }

@@ -4,16 +4,16 @@
 #![tactic(auto)]
 
 #[cfg(test)]
+mod answer_rows;
+#[cfg(test)]
 mod io_tests;
 #[cfg(test)]
-mod reply_tests;
+mod line_tests;
 #[cfg(test)]
 mod report_tests;
 #[cfg(test)]
 mod session_tests;
 #[cfg(test)]
-mod trail_tests;
-#[cfg(test)]
-mod version_tests;
+mod session_texts;
 #[cfg(test)]
 mod words_tests;

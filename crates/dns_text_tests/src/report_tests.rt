@@ -1,36 +1,324 @@
+use crate::answer_rows::{AnswerRow, EndingRow, RecordRow, SetRow, StepRow, ToldRow, answer_of};
 use dns_message::Message;
-use dns_name::{Name, NoMemory};
-use dns_net::{Chain, DnsResponse, Link, NetError, Trail};
-use dns_record::{DNSClass, Denial, Proof, Rdata, Section};
+use dns_name::{NameError, NoMemory};
+use dns_net::{AskRef, MarkOrigin, NetError};
+use dns_record::{DNSClass, Denial, Proof, RecordType, Section};
 use dns_report::*;
 use std::alloc::Global;
 use std::test::Fail;
 
-/// A response with one record, whose owner's first label has bytes that are escaped: 0, a dot, a space, a backslash.
-fn message_bytes() -> &'static [u8] {
-    b"\x00\x00\x84\x03\x00\x00\x00\x01\x00\x00\x00\x00\x06\x00a.b \\\x07Example\x00\xff\x00\x00\x01\x00\x00\x0e\x10\x00\x02\x01a"
+/// The header of a response without a record.
+const NO_RECORDS: &[u8] = b"\x00\x00\x84\x00\x00\x00\x00\x00\x00\x00\x00\x00";
+
+/// The ask for the root's keys.
+const KEYS_STEP: StepRow = StepRow {
+    depth: 1,
+    judged: true,
+    name: ".",
+    query_type: RecordType::DNSKEY,
+    reply: Some(ToldRow {
+        code: 0,
+        empty: false,
+        answers: &[RecordRow {
+            name: ".",
+            class: DNSClass::IN,
+            record_type: RecordType::DNSKEY,
+            rdata: b"\x01\x01\x03\x0d\xaa\xbb",
+        }],
+        authorities: &[],
+        additionals: &[],
+    }),
+    sets: &[SetRow {
+        section: Section::Answer,
+        owner: ".",
+        record_type: RecordType::DNSKEY,
+        mark: Proof::Secure,
+        origin: MarkOrigin::Table,
+        sig: None,
+        asked: &[],
+    }],
+    ending: EndingRow::Answered(Denial::None),
+    excuse: &[],
+};
+
+/// The ask for the root's name servers, which stands on the one for its keys.
+const ROOT_STEP: StepRow = StepRow {
+    depth: 0,
+    judged: true,
+    name: ".",
+    query_type: RecordType::NS,
+    reply: Some(ToldRow {
+        code: 0,
+        empty: false,
+        answers: &[
+            RecordRow {
+                name: ".",
+                class: DNSClass::IN,
+                record_type: RecordType::NS,
+                rdata: b"\x01a\x00",
+            },
+            RecordRow {
+                name: ".",
+                class: DNSClass::IN,
+                record_type: RecordType::RRSIG,
+                rdata: b"\x00\x02\x0d\x00\x00\x00\x0e\x10\x00\x00\x07\xd0\x00\x00\x03\x84\xae\xc9\x00\xc0\xde",
+            },
+        ],
+        authorities: &[],
+        additionals: &[],
+    }),
+    sets: &[SetRow {
+        section: Section::Answer,
+        owner: ".",
+        record_type: RecordType::NS,
+        mark: Proof::Secure,
+        origin: MarkOrigin::Table,
+        sig: Some(0),
+        asked: &[AskRef::Step(0)],
+    }],
+    ending: EndingRow::Answered(Denial::None),
+    excuse: &[],
+};
+
+/// An ask that met a fault.
+const FAILED_STEP: StepRow = StepRow {
+    depth: 2,
+    judged: true,
+    name: "Example.",
+    query_type: RecordType(65280),
+    reply: None,
+    sets: &[],
+    ending: EndingRow::Failed,
+    excuse: &[],
+};
+
+/// An ask that was only to see name servers, and heard that there are none.
+const SEEN_STEP: StepRow = StepRow {
+    depth: 2,
+    judged: false,
+    name: "a\\.b.Example.",
+    query_type: RecordType::NS,
+    reply: Some(ToldRow {
+        code: 3,
+        empty: true,
+        answers: &[],
+        authorities: &[RecordRow {
+            name: "x.Example.",
+            class: DNSClass::CH,
+            record_type: RecordType(65280),
+            rdata: b"",
+        }],
+        additionals: &[],
+    }),
+    sets: &[],
+    ending: EndingRow::Seen,
+    excuse: &[],
+};
+
+/// An ask that ends at a record of another class.
+const FOREIGN_STEP: StepRow = StepRow {
+    depth: 1,
+    judged: true,
+    name: "Example.",
+    query_type: RecordType::A,
+    reply: Some(ToldRow {
+        code: 0,
+        empty: false,
+        answers: &[],
+        authorities: &[],
+        additionals: &[],
+    }),
+    sets: &[],
+    ending: EndingRow::Foreign("x.Example.", DNSClass::CH, RecordType(65280)),
+    excuse: &[AskRef::Step(1), AskRef::TooMany],
+};
+
+/// An ask whose reply is denied, with a mark that was kept.
+const DENIED_STEP: StepRow = StepRow {
+    depth: 1,
+    judged: true,
+    name: "Example.",
+    query_type: RecordType::DS,
+    reply: Some(ToldRow {
+        code: 4095,
+        empty: false,
+        answers: &[],
+        authorities: &[],
+        additionals: &[RecordRow {
+            name: "Example.",
+            class: DNSClass::IN,
+            record_type: RecordType::A,
+            rdata: b"\x01\x02\x03\x04",
+        }],
+    }),
+    sets: &[SetRow {
+        section: Section::Additional,
+        owner: "Example.",
+        record_type: RecordType::A,
+        mark: Proof::Indeterminate,
+        origin: MarkOrigin::Cache,
+        sig: Some(4_294_967_295),
+        asked: &[],
+    }],
+    ending: EndingRow::Denied(Proof::Indeterminate),
+    excuse: &[],
+};
+
+/// An ask that is answered from a wildcard, with a set that an earlier step judged.
+const REPEATING_STEP: StepRow = StepRow {
+    depth: 0,
+    judged: true,
+    name: "Example.",
+    query_type: RecordType::SOA,
+    reply: Some(ToldRow {
+        code: 0,
+        empty: true,
+        answers: &[RecordRow {
+            name: "Example.",
+            class: DNSClass::IN,
+            record_type: RecordType::A,
+            rdata: b"",
+        }],
+        authorities: &[RecordRow {
+            name: "Example.",
+            class: DNSClass::IN,
+            record_type: RecordType::NS,
+            rdata: b"\x00",
+        }],
+        additionals: &[],
+    }),
+    sets: &[SetRow {
+        section: Section::Authority,
+        owner: "Example.",
+        record_type: RecordType::NS,
+        mark: Proof::Bogus,
+        origin: MarkOrigin::Repeat(3),
+        sig: None,
+        asked: &[AskRef::Step(3), AskRef::TooDeep, AskRef::TooMany],
+    }],
+    ending: EndingRow::Answered(Denial::Expanded(Proof::Insecure)),
+    excuse: &[AskRef::Step(2), AskRef::TooDeep],
+};
+
+/// An answer, and what the report with these parts is.
+struct Reported {
+    answer: AnswerRow,
+    parts: Parts,
+    text: &'static str,
 }
 
-fn owner() -> &'static str {
-    "\\200z.Example"
-}
-
-fn report() -> &'static str {
-    "dns-report 1\n\
-     code 3\n\
-     denial absent bogus\n\
-     answer \\000a\\.b\\032\\\\.Example. IN TYPE65280 3600 indeterminate 0161\n\
-     chain authority 1\n\
-     anchored \\200z.Example. IN 0aff\n\
-     end\n"
-}
-
-fn key() -> &'static [u8] {
-    b"\x0a\xff"
-}
+const REPORTED: [Reported; 5] = [
+    // a response with one record, whose owner's first label has bytes that are escaped: 0, a dot, a space, a backslash
+    Reported {
+        answer: AnswerRow {
+            message: b"\x00\x00\x84\x03\x00\x00\x00\x01\x00\x00\x00\x00\x06\x00a.b \\\x07Example\x00\xff\x00\x00\x01\x00\x00\x0e\x10\x00\x02\x01a",
+            anchors: &[("\\200z.Example", b"\x0a\xff")],
+            denial: Denial::Absent(Proof::Bogus),
+            trail: &[],
+        },
+        parts: Parts::Answer,
+        text: "dns-report 1\n\
+            code 3\n\
+            denial absent bogus\n\
+            answer \\000a\\.b\\032\\\\.Example. IN TYPE65280 3600 indeterminate 0161\n\
+            chain authority 1\n\
+            anchored \\200z.Example. IN 0aff\n\
+            end\n",
+    },
+    // the trail of a signed root set, whose zone's keys are asked for first
+    Reported {
+        answer: AnswerRow {
+            message: NO_RECORDS,
+            anchors: &[],
+            denial: Denial::None,
+            trail: &[KEYS_STEP, ROOT_STEP],
+        },
+        parts: Parts::WithTrail,
+        text: "dns-report 1\n\
+            code 0\n\
+            denial none\n\
+            trail 2\n\
+            step 1 judged . DNSKEY\n\
+            got 0\n\
+            told answer . IN DNSKEY 3600 0101030daabb\n\
+            set answer . DNSKEY secure table -\n\
+            ending none\n\
+            step 0 judged . NS\n\
+            got 0\n\
+            told answer . IN NS 3600 016100\n\
+            told answer . IN RRSIG 3600 00020d0000000e10000007d000000384aec900c0de\n\
+            set answer . NS secure table 0 0\n\
+            ending none\n\
+            end\n",
+    },
+    // a trail with each other kind of line
+    Reported {
+        answer: AnswerRow {
+            message: NO_RECORDS,
+            anchors: &[],
+            denial: Denial::None,
+            trail: &[
+                FAILED_STEP,
+                SEEN_STEP,
+                FOREIGN_STEP,
+                DENIED_STEP,
+                REPEATING_STEP,
+            ],
+        },
+        parts: Parts::WithTrail,
+        text: "dns-report 1\n\
+            code 0\n\
+            denial none\n\
+            trail 5\n\
+            step 2 judged Example. TYPE65280\n\
+            got fault\n\
+            ending failed\n\
+            step 2 ns a\\.b.Example. NS\n\
+            got 3 empty\n\
+            told authority x.Example. CH TYPE65280 3600 -\n\
+            ending seen\n\
+            step 1 judged Example. A\n\
+            got 0\n\
+            ending foreign x.Example. CH TYPE65280 1 many\n\
+            step 1 judged Example. DS\n\
+            got 4095\n\
+            told additional Example. IN A 3600 01020304\n\
+            set additional Example. A indeterminate cache 4294967295\n\
+            ending denied indeterminate\n\
+            step 0 judged Example. SOA\n\
+            got 0 empty\n\
+            told answer Example. IN A 3600 -\n\
+            told authority Example. IN NS 3600 00\n\
+            set authority Example. NS bogus repeat-3 - 3 deep many\n\
+            ending expanded insecure 2 deep\n\
+            end\n",
+    },
+    // no step
+    Reported {
+        answer: AnswerRow {
+            message: NO_RECORDS,
+            anchors: &[],
+            denial: Denial::None,
+            trail: &[],
+        },
+        parts: Parts::WithTrail,
+        text: "dns-report 1\ncode 0\ndenial none\ntrail 0\nend\n",
+    },
+    // a trail that isn't asked for
+    Reported {
+        answer: AnswerRow {
+            message: NO_RECORDS,
+            anchors: &[],
+            denial: Denial::None,
+            trail: &[KEYS_STEP],
+        },
+        parts: Parts::Answer,
+        text: "dns-report 1\ncode 0\ndenial none\nend\n",
+    },
+];
 
 /// The message that bytes are, if there are few.
-pub(crate) fn message_of(alloc: Global, bytes: &[u8]) -> Option<Message> {
+fn message_of(alloc: Global, bytes: &[u8]) -> Option<Message> {
     if bytes.len() < 1000 {
         Message::from_vec(alloc, bytes).ok()
     } else {
@@ -38,56 +326,37 @@ pub(crate) fn message_of(alloc: Global, bytes: &[u8]) -> Option<Message> {
     }
 }
 
-/// A key as rdata, if it is short.
-fn rdata_of(alloc: Global, bytes: &[u8]) -> Result<Option<Rdata>, NoMemory> {
-    if bytes.len() < 1000 {
-        Ok(Some(Rdata::from_slice(alloc, bytes)?))
-    } else {
-        Ok(None)
-    }
-}
-
-/// Chains with one link each.
-fn chains_of(alloc: Global, owner: Name, key: Rdata) -> Result<Vec<Chain>, Fail> {
-    let class = DNSClass::IN;
-    let links = vec![in alloc; Link::Anchored { owner, class, key }]?;
-    let section = Section::Authority;
-    Ok(vec![in alloc; Chain { section, links }]?)
-}
-
-/// The report on a message and a chain of one key is the text.
-fn reports(alloc: Global, bytes: &[u8], owner: &str, key: &[u8], text: &str) -> Result<bool, Fail> {
-    let owner = Name::from_ascii(alloc, owner)?;
-    let (Some(message), Some(key)) = (message_of(alloc, bytes), rdata_of(alloc, key)?) else {
+/// The row's report is its text.
+fn reports(alloc: Global, row: &Reported) -> Result<bool, NameError> {
+    let Some(message) = message_of(alloc, row.answer.message) else {
         return Ok(false);
     };
-    let answer = DnsResponse {
-        message,
-        chains: chains_of(alloc, owner, key)?,
-        denial: Denial::Absent(Proof::Bogus),
-        trail: Trail::new(alloc),
-    };
-    let written = write_report(alloc, &answer, Parts::Answer)?;
-    Ok(written.as_slice() == text.as_bytes())
+    let answer = answer_of(alloc, message, &row.answer)?;
+    let written = write_report(alloc, &answer, row.parts)?;
+    Ok(written.as_slice() == row.text.as_bytes())
 }
 
 #[test]
-fn a_report_escapes_names(rt: HostRuntime) -> Result<(), Fail> {
-    let alloc = rt.alloc();
-    assert!(rt; reports(alloc, message_bytes(), owner(), key(), report())?);
+fn an_answer_is_printed_line_by_line(rt: HostRuntime) -> Result<(), Fail> {
+    for row in &REPORTED {
+        assert!(rt; reports(rt.alloc(), row)?, "{}", row.text);
+    }
     Ok(())
 }
 
 /// The line of an error is the text.
-fn tells(alloc: Global, error: &NetError, text: &str) -> Result<bool, Fail> {
+fn tells(alloc: Global, error: &NetError, text: &str) -> Result<bool, NoMemory> {
     let written = write_fault(alloc, error)?;
     Ok(written.as_slice() == text.as_bytes())
 }
 
 #[test]
 fn a_fault_has_one_line(rt: HostRuntime) -> Result<(), Fail> {
-    let alloc = rt.alloc();
-    assert!(rt; tells(alloc, &NetError::Timeout, "fault timeout\n")?);
-    assert!(rt; tells(alloc, &NetError::NoMemory, "")?);
+    for (error, text) in &[
+        (NetError::Timeout, "fault timeout\n"),
+        (NetError::NoMemory, ""),
+    ] {
+        assert!(rt; tells(rt.alloc(), error, text)?, "{text}");
+    }
     Ok(())
 }
