@@ -1,8 +1,10 @@
-//! Tests of requests, errors and links, by what `dns_net` gives.
+//! Tests of requests, errors and links, by what `dns_net` gives, and of the order of a trail, by what `dns_trail_order` gives.
 //!
 //! They stand apart, since a crate with tests of its own is proved twice.
 #![tactic(auto)]
 
+#[cfg(test)]
+mod long_order_tests;
 #[cfg(test)]
 mod net_error_tests;
 #[cfg(test)]
@@ -14,8 +16,10 @@ mod net_request_tests;
 #[cfg(test)]
 mod net_shown_tests;
 #[cfg(test)]
-mod net_tests;
-#[cfg(test)]
 mod net_trail_tests;
 #[cfg(test)]
 mod net_turn_tests;
+#[cfg(test)]
+mod order_tests;
+#[cfg(test)]
+mod parts;

@@ -1,147 +1,118 @@
-use crate::net_tests::{query, response, shows};
+use crate::net_missing_tests::{denied_by_referral, write_soa};
+use crate::parts::{query, response, shows};
 use dns_message::{DecodeError, DecodeKind};
 use dns_name::{Name, NoMemory, Text};
 use dns_net::{DnsError, IoKind, NetError, NoRecords, Notice, ProtoError};
-use dns_record::{DNSClass, Proof, RecordType, ResponseCode};
+use dns_record::{DNSClass, Proof, Record, RecordType, ResponseCode};
 use std::alloc::Global;
 use std::test::Fail;
 
-/// An error for each text.
+/// An error of each kind.
 #[derive(Clone, Copy, Drop)]
 enum Sample {
     Busy,
-    Code,
-    Missing,
-    Denied,
+    Code(u16),
     Bogus,
-    Notice,
-    Expired,
-    WrongKey,
-    WrongSignature,
-    NoQuery,
-    OwnText,
+    Notice(Notice),
     NoConnections,
-    Decode,
-    DecodeMemory,
+    Decode(DecodeKind),
     TooLong,
-    BrokenPipe,
-    TimedOut,
+    Io(IoKind),
     Timeout,
     Case,
-    Foreign,
     Truncated,
     NoMemory,
+    /// No records of this name and type, by this code, with nothing beside.
+    Missing(&'static str, u16, u16),
+    /// No records, as a referral says.
+    Referred,
+    Denied,
+    OwnText,
+    Foreign,
 }
 
-struct Shown {
-    sample: Sample,
-    text: &'static str,
-}
+struct Shown(Sample, &'static str);
 
-const SHOWN: [Shown; 22] = [
-    Shown {
-        sample: Sample::Busy,
-        text: "resource too busy",
-    },
-    Shown {
-        sample: Sample::Code,
-        text: "DNS error: error response: 5",
-    },
-    Shown {
-        sample: Sample::Missing,
-        text: "DNS error: no records found for o\\.g.\\128-. IN DNSKEY",
-    },
-    Shown {
-        sample: Sample::Denied,
-        text: "DNS error: DNSSEC Negative Record Response for o\\.g.\\128-. IN DNSKEY, Bogus",
-    },
-    Shown {
-        sample: Sample::Bogus,
-        text: "DNS error: DNSSEC validation failed",
-    },
-    Shown {
-        sample: Sample::Notice,
-        text: "not judged yet",
-    },
-    Shown {
-        sample: Sample::Expired,
-        text: "ExpiredRrsig",
-    },
-    Shown {
-        sample: Sample::WrongKey,
-        text: "WrongDnskey",
-    },
-    Shown {
-        sample: Sample::WrongSignature,
-        text: "WrongRrsig",
-    },
-    Shown {
-        sample: Sample::NoQuery,
-        text: "no query in request",
-    },
-    Shown {
-        sample: Sample::OwnText,
-        text: "the pool is closed",
-    },
-    Shown {
-        sample: Sample::NoConnections,
-        text: "no connections available",
-    },
-    Shown {
-        sample: Sample::Decode,
-        text: "protocol error: Short 12",
-    },
-    Shown {
-        sample: Sample::DecodeMemory,
-        text: "out of memory",
-    },
-    Shown {
-        sample: Sample::TooLong,
-        text: "protocol error: TooLong",
-    },
-    Shown {
-        sample: Sample::BrokenPipe,
-        text: "io error: BrokenPipe",
-    },
-    Shown {
-        sample: Sample::TimedOut,
-        text: "request timed out",
-    },
-    Shown {
-        sample: Sample::Timeout,
-        text: "request timed out",
-    },
-    Shown {
-        sample: Sample::Case,
-        text: "case of query name in response did not match",
-    },
-    Shown {
-        sample: Sample::Foreign,
-        text: "foreign class record in response: . CH TYPE65534",
-    },
-    Shown {
-        sample: Sample::Truncated,
-        text: "response was truncated; TCP already tried or no other transport available",
-    },
-    Shown {
-        sample: Sample::NoMemory,
-        text: "out of memory",
-    },
+const SHOWN: [Shown; 23] = [
+    Shown(Sample::Busy, "resource too busy"),
+    Shown(Sample::Code(5), "DNS error: error response: 5"),
+    Shown(
+        Sample::Missing("o\\.g.\\128-.", 48, 3),
+        "DNS error: no records found for o\\.g.\\128-. IN DNSKEY",
+    ),
+    Shown(
+        Sample::Missing("a.b.", 16, 3),
+        "DNS error: no records found for a.b. IN TXT",
+    ),
+    Shown(
+        Sample::Denied,
+        "DNS error: DNSSEC Negative Record Response for o\\.g.\\128-. IN DNSKEY, Bogus",
+    ),
+    Shown(Sample::Bogus, "DNS error: DNSSEC validation failed"),
+    Shown(Sample::Notice(Notice::NotJudgedYet), "not judged yet"),
+    Shown(Sample::Notice(Notice::ExpiredRrsig), "ExpiredRrsig"),
+    Shown(Sample::Notice(Notice::WrongDnskey), "WrongDnskey"),
+    Shown(Sample::Notice(Notice::WrongRrsig), "WrongRrsig"),
+    Shown(
+        Sample::Notice(Notice::NoQueryInRequest),
+        "no query in request",
+    ),
+    Shown(Sample::OwnText, "the pool is closed"),
+    Shown(Sample::NoConnections, "no connections available"),
+    Shown(
+        Sample::Decode(DecodeKind::Short),
+        "protocol error: Short 12",
+    ),
+    Shown(Sample::Decode(DecodeKind::NoMemory), "out of memory"),
+    Shown(Sample::TooLong, "protocol error: TooLong"),
+    Shown(Sample::Io(IoKind::BrokenPipe), "io error: BrokenPipe"),
+    Shown(Sample::Io(IoKind::TimedOut), "request timed out"),
+    Shown(Sample::Timeout, "request timed out"),
+    Shown(Sample::Case, "case of query name in response did not match"),
+    Shown(
+        Sample::Foreign,
+        "foreign class record in response: . CH TYPE65534",
+    ),
+    Shown(
+        Sample::Truncated,
+        "response was truncated; TCP already tried or no other transport available",
+    ),
+    Shown(Sample::NoMemory, "out of memory"),
 ];
 
+/// An error that holds nothing; another sample is taken for `NoMemory`.
+fn plain(sample: Sample) -> NetError {
+    match sample {
+        Sample::Busy => NetError::Busy,
+        Sample::Code(code) => NetError::from(DnsError::ResponseCode(ResponseCode(code))),
+        Sample::Bogus => NetError::from(DnsError::DnssecBogus),
+        Sample::Notice(notice) => NetError::from(notice),
+        Sample::NoConnections => NetError::NoConnections,
+        Sample::Decode(kind) => NetError::from(DecodeError { kind, offset: 12 }),
+        Sample::TooLong => NetError::from(ProtoError::TooLong),
+        Sample::Io(kind) => NetError::from(kind),
+        Sample::Timeout => NetError::Timeout,
+        Sample::Case => NetError::QueryCaseMismatch,
+        Sample::Truncated => NetError::Truncated,
+        _ => NetError::from(NoMemory),
+    }
+}
+
+fn missing(alloc: Global, name: &str, record_type: u16, code: u16) -> Result<NetError, Fail> {
+    let query = query(alloc, name, record_type)?;
+    Ok(NetError::from(NoRecords::new(alloc, query, ResponseCode(code))))
+}
+
 fn denied(alloc: Global) -> Result<NetError, Fail> {
-    let query = query(alloc, "o\\.g.\\128-.", 48)?;
-    let response = Box::new(alloc, response(alloc, ".", 48, 3)?)?;
     Ok(NetError::from(DnsError::Nsec {
-        query,
-        response,
+        query: query(alloc, "o\\.g.\\128-.", 48)?,
+        response: Box::new(alloc, response(alloc, ".", 48, 3)?)?,
         proof: Proof::Bogus,
     }))
 }
 
-fn missing(alloc: Global) -> Result<NetError, Fail> {
-    let query = query(alloc, "o\\.g.\\128-.", 48)?;
-    Ok(NetError::from(NoRecords::new(alloc, query, ResponseCode(3))))
+fn own_text(alloc: Global) -> Result<NetError, Fail> {
+    Ok(NetError::from(Text::from_str(alloc, "the pool is closed")?))
 }
 
 fn foreign(alloc: Global) -> Result<NetError, Fail> {
@@ -152,38 +123,14 @@ fn foreign(alloc: Global) -> Result<NetError, Fail> {
     })
 }
 
-fn undecoded(kind: DecodeKind) -> NetError {
-    NetError::from(DecodeError { kind, offset: 12 })
-}
-
-fn own_text(alloc: Global) -> Result<NetError, Fail> {
-    Ok(NetError::from(Text::from_str(alloc, "the pool is closed")?))
-}
-
-fn make(alloc: Global, sample: Sample) -> Result<NetError, Fail> {
+fn error_of(alloc: Global, sample: Sample) -> Result<NetError, Fail> {
     match sample {
-        Sample::Busy => Ok(NetError::Busy),
-        Sample::Code => Ok(NetError::from(DnsError::ResponseCode(ResponseCode(5)))),
-        Sample::Missing => missing(alloc),
+        Sample::Missing(name, record_type, code) => missing(alloc, name, record_type, code),
+        Sample::Referred => denied_by_referral(alloc),
         Sample::Denied => denied(alloc),
-        Sample::Bogus => Ok(NetError::from(DnsError::DnssecBogus)),
-        Sample::Notice => Ok(NetError::from(Notice::NotJudgedYet)),
-        Sample::Expired => Ok(NetError::from(Notice::ExpiredRrsig)),
-        Sample::WrongKey => Ok(NetError::from(Notice::WrongDnskey)),
-        Sample::WrongSignature => Ok(NetError::from(Notice::WrongRrsig)),
-        Sample::NoQuery => Ok(NetError::from(Notice::NoQueryInRequest)),
         Sample::OwnText => own_text(alloc),
-        Sample::NoConnections => Ok(NetError::NoConnections),
-        Sample::Decode => Ok(undecoded(DecodeKind::Short)),
-        Sample::DecodeMemory => Ok(undecoded(DecodeKind::NoMemory)),
-        Sample::TooLong => Ok(NetError::from(ProtoError::TooLong)),
-        Sample::BrokenPipe => Ok(NetError::from(IoKind::BrokenPipe)),
-        Sample::TimedOut => Ok(NetError::from(IoKind::TimedOut)),
-        Sample::Timeout => Ok(NetError::Timeout),
-        Sample::Case => Ok(NetError::QueryCaseMismatch),
         Sample::Foreign => foreign(alloc),
-        Sample::Truncated => Ok(NetError::Truncated),
-        Sample::NoMemory => Ok(NetError::from(NoMemory)),
+        _ => Ok(plain(sample)),
     }
 }
 
@@ -193,15 +140,98 @@ fn copy_shows(alloc: Global, error: &NetError, text: &str) -> Result<bool, Fail>
 }
 
 /// The error and its copy show the text.
+fn both_show(alloc: Global, error: &NetError, text: &str) -> Result<bool, Fail> {
+    Ok(shows(alloc, error, text)? && copy_shows(alloc, error, text)?)
+}
+
 fn is_shown(alloc: Global, row: &Shown) -> Result<bool, Fail> {
-    let error = make(alloc, row.sample)?;
-    Ok(shows(alloc, &error, row.text)? && copy_shows(alloc, &error, row.text)?)
+    let error = error_of(alloc, row.0)?;
+    both_show(alloc, &error, row.1)
 }
 
 #[test]
 fn errors_show_their_texts(rt: HostRuntime) -> Result<(), Fail> {
+    let alloc = rt.alloc();
     for row in &SHOWN {
-        assert!(rt; is_shown(rt.alloc(), row)?, "{}", row.text);
+        let is_right = is_shown(alloc, row)?;
+        assert!(rt; is_right, "{}", row.1);
+    }
+    Ok(())
+}
+
+/// An error, and whether it is NXDOMAIN, there are no records, and a connection is gone.
+struct Tested(Sample, bool, bool, bool);
+
+const TESTED: [Tested; 18] = [
+    Tested(Sample::Missing("a.b.", 16, 3), true, true, false),
+    Tested(Sample::Missing("a.b.", 16, 0), false, true, false),
+    Tested(Sample::Code(3), false, false, false),
+    Tested(Sample::NoMemory, false, false, false),
+    // five kinds say that a connection is gone
+    Tested(Sample::Io(IoKind::PermissionDenied), false, false, false),
+    Tested(Sample::Io(IoKind::ConnectionRefused), false, false, false),
+    Tested(Sample::Io(IoKind::ConnectionReset), false, false, true),
+    Tested(Sample::Io(IoKind::ConnectionAborted), false, false, true),
+    Tested(Sample::Io(IoKind::NotConnected), false, false, true),
+    Tested(Sample::Io(IoKind::AddrInUse), false, false, false),
+    Tested(Sample::Io(IoKind::AddrNotAvailable), false, false, false),
+    Tested(Sample::Io(IoKind::BrokenPipe), false, false, true),
+    Tested(Sample::Io(IoKind::InvalidData), false, false, false),
+    // `Timeout`
+    Tested(Sample::Io(IoKind::TimedOut), false, false, false),
+    Tested(Sample::Io(IoKind::UnexpectedEof), false, false, true),
+    Tested(Sample::Io(IoKind::RequestTooLong), false, false, false),
+    Tested(Sample::Io(IoKind::Other), false, false, false),
+    Tested(Sample::Timeout, false, false, false),
+];
+
+fn answers_as(error: &NetError, row: &Tested) -> bool {
+    error.is_nx_domain() == row.1
+        && error.is_no_records_found() == row.2
+        && error.is_connection_closed() == row.3
+}
+
+fn is_tested(alloc: Global, row: &Tested) -> Result<bool, Fail> {
+    let error = error_of(alloc, row.0)?;
+    Ok(answers_as(&error, row))
+}
+
+#[test]
+fn errors_tell_what_is_missing(rt: HostRuntime) -> Result<(), Fail> {
+    let alloc = rt.alloc();
+    for (number, row) in TESTED.iter().enumerate() {
+        let is_right = is_tested(alloc, row)?;
+        assert!(rt; is_right, "row {number}");
+    }
+    Ok(())
+}
+
+/// An error, and the owner and the ttl of the SOA that it holds.
+struct Held(Sample, &'static str);
+
+const SOAS: [Held; 3] = [
+    Held(Sample::Referred, "C. 60"),
+    Held(Sample::Missing("a.b.", 16, 3), "none"),
+    Held(Sample::Busy, "none"),
+];
+
+fn soa_has_text(alloc: Global, soa: &Option<Record>, want: &str) -> Result<bool, Fail> {
+    let mut text = String::new(alloc);
+    write_soa(&mut text, soa)?;
+    Ok(text.as_str() == want)
+}
+
+fn holds_soa(alloc: Global, row: &Held) -> Result<bool, Fail> {
+    let soa = error_of(alloc, row.0)?.into_soa();
+    soa_has_text(alloc, &soa, row.1)
+}
+
+#[test]
+fn no_records_give_their_soa(rt: HostRuntime) -> Result<(), Fail> {
+    let alloc = rt.alloc();
+    for row in &SOAS {
+        let is_right = holds_soa(alloc, row)?;
+        assert!(rt; is_right, "{}", row.1);
     }
     Ok(())
 }

@@ -1,74 +1,17 @@
-use crate::net_tests::{query, response};
+use crate::parts::{query, record, response};
 use dns_message::Message;
-use dns_name::Name;
 use dns_net::{DnsError, DnsResponse};
-use dns_record::{DNSClass, Proof, Rdata, Record, RecordType, Section};
+use dns_record::{Record, Section};
 use std::alloc::Global;
 use std::test::Fail;
 
 /// What becomes of a response.
-#[derive(Clone, Copy, Debug, PartialEq, Eq)]
+#[derive(Clone, Copy, PartialEq)]
 enum Outcome {
     Failure(u16),
     Missing,
     Response,
-}
-
-/// The codes by which a server says that it failed (RFC 6895, 2.3): FORMERR, SERVFAIL, NOTIMP to NOTZONE, BADVERS to BADCOOKIE.
-const FAILURES: [u16; 17] = [1, 2, 4, 5, 6, 7, 8, 9, 10, 16, 17, 18, 19, 20, 21, 22, 23];
-
-/// NOERROR and NXDOMAIN.
-const ANSWERS: [u16; 2] = [0, 3];
-
-/// Codes that aren't assigned to any answer of a server.
-const OTHERS: [u16; 8] = [11, 12, 13, 14, 15, 24, 256, 4095];
-
-fn outcome_of(alloc: Global, response: DnsResponse) -> Result<Outcome, Fail> {
-    match DnsError::from_response(alloc, response)? {
-        Ok(_) => Ok(Outcome::Response),
-        Err(DnsError::ResponseCode(code)) => Ok(Outcome::Failure(code.0)),
-        Err(DnsError::NoRecordsFound(_)) => Ok(Outcome::Missing),
-        Err(_) => Err(Fail::new("another error")),
-    }
-}
-
-/// What becomes of a response with that code and one question, and with no record.
-fn of_code(alloc: Global, code: u16) -> Result<Outcome, Fail> {
-    outcome_of(alloc, response(alloc, "a.", 1, code)?)
-}
-
-fn is_failure(alloc: Global, code: u16) -> Result<bool, Fail> {
-    Ok(of_code(alloc, code)? == Outcome::Failure(code))
-}
-
-#[test]
-fn codes_of_a_failure_make_it(rt: HostRuntime) -> Result<(), Fail> {
-    for code in &FAILURES {
-        assert!(rt; is_failure(rt.alloc(), *code)?, "code {code}");
-    }
-    Ok(())
-}
-
-#[test]
-fn codes_of_a_denial_leave_no_records(rt: HostRuntime) -> Result<(), Fail> {
-    for code in &ANSWERS {
-        assert!(rt;
-            of_code(rt.alloc(), *code)? == Outcome::Missing,
-            "code {code}"
-        );
-    }
-    Ok(())
-}
-
-#[test]
-fn other_codes_leave_a_response(rt: HostRuntime) -> Result<(), Fail> {
-    for code in &OTHERS {
-        assert!(rt;
-            of_code(rt.alloc(), *code)? == Outcome::Response,
-            "code {code}"
-        );
-    }
-    Ok(())
+    OtherError,
 }
 
 /// A question or the owner and type of a record.
@@ -227,47 +170,56 @@ const ROWS: [Row; 22] = [
     ),
 ];
 
-fn record(alloc: Global, named: Named) -> Result<Record, Fail> {
-    Ok(Record {
-        name: Name::from_ascii(alloc, named.0)?,
-        record_type: RecordType(named.1),
-        dns_class: DNSClass::IN,
-        ttl: 60,
-        rdata: Rdata::from_slice(alloc, b"")?,
-        proof: Proof::Indeterminate,
-    })
+fn outcome_of(became: &Result<DnsResponse, DnsError>) -> Outcome {
+    match became {
+        Ok(_) => Outcome::Response,
+        Err(DnsError::ResponseCode(code)) => Outcome::Failure(code.0),
+        Err(DnsError::NoRecordsFound(_)) => Outcome::Missing,
+        Err(_) => Outcome::OtherError,
+    }
 }
 
-fn push(message: &mut Message, section: Section, next: Record) -> Result<(), Fail> {
+fn becomes(alloc: Global, response: DnsResponse, want: Outcome) -> Result<bool, Fail> {
+    let became = DnsError::from_response(alloc, response)?;
+    Ok(outcome_of(&became) == want)
+}
+
+fn bare(alloc: Global, named: Named) -> Result<Record, Fail> {
+    record(alloc, named.0, named.1, 60, b"")
+}
+
+fn section_of(message: &mut Message, section: Section) -> &mut Vec<Record> {
     match section {
-        Section::Answer => message.answers.push(next)?,
-        Section::Authority => message.authorities.push(next)?,
-        Section::Additional => message.additionals.push(next)?,
+        Section::Answer => &mut message.answers,
+        Section::Authority => &mut message.authorities,
+        Section::Additional => &mut message.additionals,
     }
+}
+
+/// Adds a record to a section.
+fn add(alloc: Global, message: &mut Message, section: Section, named: Named) -> Result<(), Fail> {
+    let next = bare(alloc, named)?;
+    section_of(message, section).push(next)?;
     Ok(())
 }
 
 fn response_of(alloc: Global, row: &Row) -> Result<DnsResponse, Fail> {
     let mut made = response(alloc, row.0.0, row.0.1, 0)?;
-    let given = record(alloc, row.2)?;
-    push(&mut made.message, row.1, given)?;
+    add(alloc, &mut made.message, row.1, row.2)?;
     Ok(made)
 }
 
-/// The number of the first row that goes otherwise than it says.
-fn first_other(alloc: Global, rows: &[Row]) -> Result<Option<usize>, Fail> {
-    for (number, row) in rows.iter().enumerate() {
-        if outcome_of(alloc, response_of(alloc, row)?)? != row.3 {
-            return Ok(Some(number));
-        }
-    }
-    Ok(None)
+fn is_row(alloc: Global, row: &Row) -> Result<bool, Fail> {
+    becomes(alloc, response_of(alloc, row)?, row.3)
 }
 
 #[test]
 fn a_contained_answer_is_no_denial(rt: HostRuntime) -> Result<(), Fail> {
-    let other = first_other(rt.alloc(), &ROWS)?;
-    assert!(rt; other.is_none(), "row {}", other.unwrap_or(0));
+    let alloc = rt.alloc();
+    for (number, row) in ROWS.iter().enumerate() {
+        let is_right = is_row(alloc, row)?;
+        assert!(rt; is_right, "row {number}");
+    }
     Ok(())
 }
 
@@ -276,6 +228,8 @@ fn a_contained_answer_is_no_denial(rt: HostRuntime) -> Result<(), Fail> {
 enum But {
     /// Nothing.
     AsItIs,
+    /// It has no record at all.
+    Empty,
     /// It was cut off.
     Truncated,
     /// A second question, which the authority section answers.
@@ -288,9 +242,41 @@ enum But {
     NoQuestionAnswered,
 }
 
+/// A response that denies by an SOA, but for one thing, with its code; what becomes of it.
 struct Case(But, u16, Outcome);
 
-const CASES: [Case; 10] = [
+const CASES: [Case; 37] = [
+    // the codes by which a server says that it failed (RFC 6895, 2.3): FORMERR, SERVFAIL, NOTIMP to NOTZONE, BADVERS to BADCOOKIE
+    Case(But::Empty, 1, Outcome::Failure(1)),
+    Case(But::Empty, 2, Outcome::Failure(2)),
+    Case(But::Empty, 4, Outcome::Failure(4)),
+    Case(But::Empty, 5, Outcome::Failure(5)),
+    Case(But::Empty, 6, Outcome::Failure(6)),
+    Case(But::Empty, 7, Outcome::Failure(7)),
+    Case(But::Empty, 8, Outcome::Failure(8)),
+    Case(But::Empty, 9, Outcome::Failure(9)),
+    Case(But::Empty, 10, Outcome::Failure(10)),
+    Case(But::Empty, 16, Outcome::Failure(16)),
+    Case(But::Empty, 17, Outcome::Failure(17)),
+    Case(But::Empty, 18, Outcome::Failure(18)),
+    Case(But::Empty, 19, Outcome::Failure(19)),
+    Case(But::Empty, 20, Outcome::Failure(20)),
+    Case(But::Empty, 21, Outcome::Failure(21)),
+    Case(But::Empty, 22, Outcome::Failure(22)),
+    Case(But::Empty, 23, Outcome::Failure(23)),
+    // NOERROR and NXDOMAIN
+    Case(But::Empty, 0, Outcome::Missing),
+    Case(But::Empty, 3, Outcome::Missing),
+    // codes that aren't assigned to any answer of a server
+    Case(But::Empty, 11, Outcome::Response),
+    Case(But::Empty, 12, Outcome::Response),
+    Case(But::Empty, 13, Outcome::Response),
+    Case(But::Empty, 14, Outcome::Response),
+    Case(But::Empty, 15, Outcome::Response),
+    Case(But::Empty, 24, Outcome::Response),
+    Case(But::Empty, 256, Outcome::Response),
+    Case(But::Empty, 4095, Outcome::Response),
+    // with an SOA
     Case(But::AsItIs, 0, Outcome::Missing),
     Case(But::AsItIs, 3, Outcome::Missing),
     Case(But::Truncated, 0, Outcome::Response),
@@ -307,21 +293,18 @@ const CASES: [Case; 10] = [
 
 /// Asks for the SOA of a name too.
 fn ask_also(alloc: Global, message: &mut Message, name: &str) -> Result<(), Fail> {
-    let next = query(alloc, name, SOA)?;
-    message.queries.push(next)?;
+    message.queries.push(query(alloc, name, SOA)?)?;
     Ok(())
 }
 
 fn answer_nothing(alloc: Global, message: &mut Message) -> Result<(), Fail> {
-    let next = record(alloc, Named("a.b.", A))?;
     message.queries.clear();
-    message.answers.push(next)?;
-    Ok(())
+    add(alloc, message, Section::Answer, Named("a.b.", A))
 }
 
 fn change(alloc: Global, message: &mut Message, but: But) -> Result<(), Fail> {
     match but {
-        But::AsItIs => {}
+        But::AsItIs | But::Empty => {}
         But::Truncated => message.truncated = true,
         But::SecondAnswered => ask_also(alloc, message, "b.")?,
         But::SecondUnanswered => ask_also(alloc, message, "c.")?,
@@ -331,28 +314,37 @@ fn change(alloc: Global, message: &mut Message, but: But) -> Result<(), Fail> {
     Ok(())
 }
 
-/// A response that denies by an SOA.
+/// A response with this code, whose denial is an SOA.
 fn denied(alloc: Global, code: u16) -> Result<DnsResponse, Fail> {
     let mut made = response(alloc, "a.b.", A, code)?;
-    let soa = record(alloc, Named("b.", SOA))?;
-    made.message.authorities.push(soa)?;
+    add(
+        alloc,
+        &mut made.message,
+        Section::Authority,
+        Named("b.", SOA),
+    )?;
     Ok(made)
 }
 
-fn denying(alloc: Global, but: But, code: u16) -> Result<DnsResponse, Fail> {
-    let mut made = denied(alloc, code)?;
-    change(alloc, &mut made.message, but)?;
+fn denying(alloc: Global, row: &Case) -> Result<DnsResponse, Fail> {
+    if matches!(row.0, But::Empty) {
+        return response(alloc, "a.", A, row.1);
+    }
+    let mut made = denied(alloc, row.1)?;
+    change(alloc, &mut made.message, row.0)?;
     Ok(made)
 }
 
-fn is_as_said(alloc: Global, row: &Case) -> Result<bool, Fail> {
-    Ok(outcome_of(alloc, denying(alloc, row.0, row.1)?)? == row.2)
+fn is_case(alloc: Global, row: &Case) -> Result<bool, Fail> {
+    becomes(alloc, denying(alloc, row)?, row.2)
 }
 
 #[test]
 fn a_denial_is_whole_and_answers_no_question(rt: HostRuntime) -> Result<(), Fail> {
+    let alloc = rt.alloc();
     for (number, row) in CASES.iter().enumerate() {
-        assert!(rt; is_as_said(rt.alloc(), row)?, "row {number}");
+        let is_right = is_case(alloc, row)?;
+        assert!(rt; is_right, "row {number}");
     }
     Ok(())
 }

@@ -1,4 +1,5 @@
-use crate::net_tests::{query, request};
+use crate::parts::{nothing, query, request};
+use dns_message::Message;
 use dns_net::{DnsRequest, DnsRequestOptions};
 use dns_record::Query;
 use std::alloc::Global;
@@ -71,64 +72,82 @@ fn asks(question: Option<&Query>, name: &str, record_type: u16) -> Result<bool, 
     Ok(printed.as_str() == name && question.query_type.0 == record_type)
 }
 
-fn is_cased(alloc: Global, row: &Cased) -> Result<bool, Fail> {
-    let request = request(alloc, row.name, 48)?.with_case(row.bits)?;
+/// The request asks so, and says what was asked before.
+fn is_changed(request: &DnsRequest, row: &Cased) -> Result<bool, Fail> {
     Ok(
         asks(request.message.queries.first(), row.changed, 48)?
             && asks(request.original.as_ref(), row.name, 48)?,
     )
 }
 
+fn is_cased(alloc: Global, row: &Cased) -> Result<bool, Fail> {
+    let request = request(alloc, row.name, 48)?.with_case(row.bits)?;
+    is_changed(&request, row)
+}
+
 #[test]
 fn letters_change_where_their_bit_is_set(rt: HostRuntime) -> Result<(), Fail> {
+    let alloc = rt.alloc();
     for row in &CASED {
-        assert!(rt; is_cased(rt.alloc(), row)?, "at {}", row.changed);
+        let is_right = is_cased(alloc, row)?;
+        assert!(rt; is_right, "at {}", row.changed);
     }
     Ok(())
-}
-
-fn two_questions(alloc: Global) -> Result<DnsRequest, Fail> {
-    let mut request = request(alloc, "a.", 1)?;
-    let second = query(alloc, "b.", 2)?;
-    request.message.queries.push(second)?;
-    Ok(request)
-}
-
-/// Of two questions the first alone is changed.
-fn changes_the_first(alloc: Global) -> Result<bool, Fail> {
-    let request = two_questions(alloc)?.with_case(bits())?;
-    let queries = request.message.queries.as_slice();
-    Ok(asks(queries.first(), "A.", 1)? && asks(queries.last(), "b.", 2)?)
-}
-
-/// A request without a question stays without one, and has no original.
-fn stays_without_a_question(alloc: Global) -> Result<bool, Fail> {
-    let mut request = request(alloc, "a.", 1)?;
-    request.message.queries.clear();
-    let request = request.with_case(bits())?;
-    Ok(request.message.queries.is_empty() && request.original.is_none())
-}
-
-fn changed_twice(alloc: Global) -> Result<DnsRequest, Fail> {
-    let once = request(alloc, "ab.", 1)?.with_case(bits())?;
-    Ok(once.with_case(bits())?)
-}
-
-/// A second change keeps the question as the first has left it.
-fn keeps_what_was_before(alloc: Global) -> Result<bool, Fail> {
-    let twice = changed_twice(alloc)?.try_clone()?;
-    Ok(asks(twice.message.queries.first(), "ab.", 1)? && asks(twice.original.as_ref(), "AB.", 1)?)
 }
 
 fn bits() -> &'static [u8] {
     b"\xff"
 }
 
+fn two_questions(alloc: Global) -> Result<DnsRequest, Fail> {
+    let mut request = request(alloc, "a.", 1)?;
+    request.message.queries.push(query(alloc, "b.", 2)?)?;
+    Ok(request)
+}
+
+fn asks_these(queries: &[Query]) -> Result<bool, Fail> {
+    Ok(asks(queries.first(), "A.", 1)? && asks(queries.last(), "b.", 2)?)
+}
+
+/// Of two questions the first alone is changed.
+fn changes_the_first(alloc: Global) -> Result<bool, Fail> {
+    let request = two_questions(alloc)?.with_case(bits())?;
+    asks_these(&request.message.queries)
+}
+
+/// A request without a question stays without one, and has no original.
+fn stays_without_a_question(alloc: Global) -> Result<bool, Fail> {
+    let request = nothing(alloc)?.with_case(bits())?;
+    Ok(request.message.queries.is_empty() && request.original.is_none())
+}
+
+fn changed_once(alloc: Global) -> Result<DnsRequest, Fail> {
+    Ok(request(alloc, "ab.", 1)?.with_case(bits())?)
+}
+
+fn changed_twice(alloc: Global) -> Result<DnsRequest, Fail> {
+    Ok(changed_once(alloc)?.with_case(bits())?)
+}
+
+fn asks_as_before(request: &DnsRequest) -> Result<bool, Fail> {
+    Ok(
+        asks(request.message.queries.first(), "ab.", 1)?
+            && asks(request.original.as_ref(), "AB.", 1)?,
+    )
+}
+
+/// A second change keeps the question as the first has left it.
+fn keeps_what_was_before(alloc: Global) -> Result<bool, Fail> {
+    let twice = changed_twice(alloc)?.try_clone()?;
+    asks_as_before(&twice)
+}
+
 #[test]
 fn the_first_question_is_changed_and_kept(rt: HostRuntime) -> Result<(), Fail> {
-    assert!(rt; changes_the_first(rt.alloc())?);
-    assert!(rt; stays_without_a_question(rt.alloc())?);
-    assert!(rt; keeps_what_was_before(rt.alloc())?);
+    let alloc = rt.alloc();
+    assert!(rt; changes_the_first(alloc)?);
+    assert!(rt; stays_without_a_question(alloc)?);
+    assert!(rt; keeps_what_was_before(alloc)?);
     Ok(())
 }
 
@@ -183,32 +202,41 @@ fn options_of(row: &Written) -> DnsRequestOptions {
     }
 }
 
+fn request_of(alloc: Global, row: &Written) -> Result<DnsRequest, Fail> {
+    Ok(DnsRequest::from_query(alloc, query(alloc, ".", 2)?, options_of(row))?)
+}
+
+fn has_bytes(alloc: Global, message: &Message, bytes: &[u8]) -> Result<bool, Fail> {
+    let written = message.to_vec(alloc)?;
+    Ok(written.as_slice() == bytes)
+}
+
 fn is_written(alloc: Global, row: &Written) -> Result<bool, Fail> {
-    let request = DnsRequest::from_query(alloc, query(alloc, ".", 2)?, options_of(row))?;
-    let written = request.message.to_vec(alloc)?;
-    Ok(written.as_slice() == row.bytes && request.original.is_none())
+    let request = request_of(alloc, row)?;
+    Ok(request.original.is_none() && has_bytes(alloc, &request.message, row.bytes)?)
 }
 
 #[test]
 fn requests_are_written(rt: HostRuntime) -> Result<(), Fail> {
+    let alloc = rt.alloc();
     for row in &WRITTEN {
-        assert!(rt; is_written(rt.alloc(), row)?, "payload {}", row.payload);
+        let is_right = is_written(alloc, row)?;
+        assert!(rt; is_right, "payload {}", row.payload);
     }
     Ok(())
 }
 
-fn has_plain_switches(options: &DnsRequestOptions) -> bool {
-    options.recursion_desired
-        && !options.use_edns
-        && !options.edns_set_dnssec_ok
-        && !options.case_randomization
-}
+const BY_DEFAULT: DnsRequestOptions = DnsRequestOptions {
+    use_edns: false,
+    edns_payload_len: 1232,
+    edns_set_dnssec_ok: false,
+    recursion_desired: true,
+    case_randomization: false,
+    max_request_depth: 26,
+    retry_interval_ms: 0,
+};
 
 #[test]
 fn options_by_default(rt: HostRuntime) {
-    let options = DnsRequestOptions::default();
-    assert!(rt; has_plain_switches(&options));
-    assert!(rt; options.edns_payload_len == 1232);
-    assert!(rt; options.max_request_depth == 26);
-    assert!(rt; options.retry_interval_ms == 0);
+    assert!(rt; DnsRequestOptions::default() == BY_DEFAULT);
 }

@@ -1,35 +1,32 @@
-use dns_name::Name;
+use crate::parts::rdata;
+use dns_name::{Name, NameRef};
 use dns_net::*;
-use dns_record::{DNSClass, Rdata, RecordType, Section};
+use dns_record::{DNSClass, Rdata, RecordType};
 use std::alloc::Global;
 use std::test::Fail;
 
-fn rdata(alloc: Global) -> Result<Rdata, Fail> {
-    Ok(Rdata::from_slice(alloc, b"key")?)
+fn key(alloc: Global) -> Result<Rdata, Fail> {
+    rdata(alloc, b"key")
 }
 
-fn one_rdata(alloc: Global) -> Result<Vec<Rdata>, Fail> {
-    let mut rdatas = Vec::new(alloc);
-    rdatas.push(rdata(alloc)?)?;
-    Ok(rdatas)
+fn one_key(alloc: Global) -> Result<Vec<Rdata>, Fail> {
+    Ok(vec![in alloc; key(alloc)?]?)
 }
 
 fn anchored(alloc: Global) -> Result<Link, Fail> {
     Ok(Link::Anchored {
         owner: Name::from_ascii(alloc, "ORG.")?,
         class: DNSClass::IN,
-        key: rdata(alloc)?,
+        key: key(alloc)?,
     })
 }
 
 fn key_set(alloc: Global) -> Result<Link, Fail> {
-    let mut links = Vec::new(alloc);
-    links.push(0)?;
     Ok(Link::KeySet {
         owner: Name::from_ascii(alloc, "org.")?,
         class: DNSClass::IN,
-        keys: one_rdata(alloc)?,
-        links,
+        keys: one_key(alloc)?,
+        links: vec![in alloc; 0]?,
     })
 }
 
@@ -38,47 +35,33 @@ fn delegation(alloc: Global) -> Result<Link, Fail> {
         owner: Name::from_ascii(alloc, "org.")?,
         class: DNSClass::IN,
         record_type: RecordType::DS,
-        rdatas: one_rdata(alloc)?,
-        sig: rdata(alloc)?,
+        rdatas: one_key(alloc)?,
+        sig: key(alloc)?,
         key_link: 1,
-        key: rdata(alloc)?,
+        key: key(alloc)?,
     })
 }
 
-/// The link with this number.
-fn link(alloc: Global, number: u32) -> Result<Link, Fail> {
-    match number {
-        0 => anchored(alloc),
-        1 => key_set(alloc),
-        _ => delegation(alloc),
-    }
-}
-
-fn links(alloc: Global) -> Result<Vec<Link>, Fail> {
-    let mut links = Vec::new(alloc);
-    for number in 0..3 {
-        let next = link(alloc, number)?;
-        links.push(next)?;
-    }
-    Ok(links)
+fn add_links(alloc: Global, links: &mut Vec<Link>) -> Result<(), Fail> {
+    links.push(anchored(alloc)?)?;
+    links.push(key_set(alloc)?)?;
+    links.push(delegation(alloc)?)?;
+    Ok(())
 }
 
 /// An anchored key, its key set and a signed set of DS records, whose rdatas are alike.
-fn chain(alloc: Global) -> Result<Chain, Fail> {
-    let chain = Chain {
+fn first_chain(alloc: Global) -> Result<Chain, Fail> {
+    let mut chain = Chain {
         section: Section::Answer,
-        links: links(alloc)?,
+        links: Vec::new(alloc),
     };
-    Ok(chain.try_clone()?)
+    add_links(alloc, &mut chain.links)?;
+    Ok(chain)
 }
 
-/// What the link with this number shows for an owner: a trusted key, a member of a key set, a DS.
-fn shown(links: &[Link], owner: &Name, number: u32, class: DNSClass, rdata: &[u8]) -> u8 {
-    let owner = owner.borrowed();
-    let key = u8::from(shows_key(links, number, &owner, class, rdata));
-    let member = u8::from(shows_member(links, number, &owner, class, rdata));
-    let ds = u8::from(shows_ds(links, number, &owner, class, rdata));
-    key + 2 * member + 4 * ds
+fn chain(alloc: Global) -> Result<Chain, Fail> {
+    let chain = first_chain(alloc)?;
+    Ok(chain.try_clone()?)
 }
 
 /// The number of a link, a class and an rdata, and what that link shows of them for `org.`.
@@ -128,45 +111,65 @@ const ROWS: [Row; 6] = [
     },
 ];
 
+/// What the link shows for an owner: a trusted key, a member of a key set, a DS.
+fn shown(links: &[Link], owner: &NameRef, row: &Row) -> u8 {
+    let key = u8::from(shows_key(links, row.number, owner, row.class, row.rdata));
+    let member = u8::from(shows_member(links, row.number, owner, row.class, row.rdata));
+    let ds = u8::from(shows_ds(links, row.number, owner, row.class, row.rdata));
+    key + 2 * member + 4 * ds
+}
+
+fn shows_as(alloc: Global, links: &[Link], row: &Row) -> Result<bool, Fail> {
+    let owner = Name::from_ascii(alloc, "oRg.")?;
+    Ok(shown(links, &owner.borrowed(), row) == row.want)
+}
+
 fn is_shown(alloc: Global, row: &Row) -> Result<bool, Fail> {
     let chain = chain(alloc)?;
-    let owner = Name::from_ascii(alloc, "oRg.")?;
-    Ok(shown(&chain.links, &owner, row.number, row.class, row.rdata) == row.want)
+    shows_as(alloc, &chain.links, row)
 }
 
 #[test]
 fn links_show_keys_members_and_delegations(rt: HostRuntime) -> Result<(), Fail> {
+    let alloc = rt.alloc();
     for row in &ROWS {
-        assert!(rt; is_shown(rt.alloc(), row)?);
+        let is_right = is_shown(alloc, row)?;
+        assert!(rt; is_right, "link {}", row.number);
     }
     Ok(())
 }
 
-/// The one key is shown by the links with these numbers.
-fn shows_all(alloc: Global, links: &[Link], numbers: &[u32]) -> Result<bool, Fail> {
+/// The numbers of links, and whether they show the one key.
+struct Numbered(&'static [u32], bool);
+
+const NUMBERED: [Numbered; 3] = [
+    Numbered(&[0], true),
+    Numbered(&[1], false),
+    Numbered(&[], false),
+];
+
+fn show_keys(alloc: Global, links: &[Link], keys: &[Rdata], numbers: &[u32]) -> Result<bool, Fail> {
     let owner = Name::from_ascii(alloc, "org.")?;
-    let keys = one_rdata(alloc)?;
-    Ok(all_shown(
-        links,
-        &owner.borrowed(),
-        DNSClass::IN,
-        keys.as_slice(),
-        numbers,
-    ))
+    Ok(all_shown(links, &owner.borrowed(), DNSClass::IN, keys, numbers))
 }
 
-/// The numbers of links, and whether they show the one key.
-const NUMBERED: [(&[u32], bool); 3] = [(&[0], true), (&[1], false), (&[], false)];
+/// The one key is shown by the links with these numbers.
+fn show_the_key(alloc: Global, links: &[Link], numbers: &[u32]) -> Result<bool, Fail> {
+    let keys = one_key(alloc)?;
+    show_keys(alloc, links, &keys, numbers)
+}
 
-fn is_all_shown(alloc: Global, numbers: &[u32]) -> Result<bool, Fail> {
+fn is_all_shown(alloc: Global, row: &Numbered) -> Result<bool, Fail> {
     let chain = chain(alloc)?;
-    shows_all(alloc, &chain.links, numbers)
+    Ok(show_the_key(alloc, &chain.links, row.0)? == row.1)
 }
 
 #[test]
 fn each_key_has_its_link(rt: HostRuntime) -> Result<(), Fail> {
-    for (numbers, want) in &NUMBERED {
-        assert!(rt; is_all_shown(rt.alloc(), numbers)? == *want);
+    let alloc = rt.alloc();
+    for (number, row) in NUMBERED.iter().enumerate() {
+        let is_right = is_all_shown(alloc, row)?;
+        assert!(rt; is_right, "row {number}");
     }
     Ok(())
 }

@@ -1,73 +1,20 @@
-use crate::net_tests::{query, response};
+use crate::parts::{bare_set, bare_step, query, record, response};
 use dns_name::Name;
-use dns_net::{AskRef, Asked, Ending, JudgedSet, MarkOrigin, Reply, Told, Trail};
-use dns_record::{DNSClass, Denial, Proof, Rdata, Record, RecordType, ResponseCode, Section};
+use dns_net::*;
+use dns_record::{DNSClass, Proof, Record, RecordType, ResponseCode};
 use std::alloc::Global;
+use std::fmt::Write;
 use std::test::Fail;
 
 /// How a step ends.
 #[derive(Clone, Copy, Drop)]
-enum Kind {
+enum End {
     Seen,
     Failed,
-    Foreign,
-    Answered,
-    Denied,
-}
-
-/// A step and its text: depth, whether it was to be judged, question; reply; sets; ending; excuse.
-#[derive(Drop)]
-struct Shown {
-    kind: Kind,
-    text: &'static str,
-}
-
-const SHOWN: [Shown; 5] = [
-    Shown {
-        kind: Kind::Seen,
-        text: "2 false org. IN NS; code 0 empty true records 1 2 3; ; seen; []",
-    },
-    Shown {
-        kind: Kind::Failed,
-        text: "1 true org. IN DS; fault; ; failed; [TooDeep]",
-    },
-    Shown {
-        kind: Kind::Foreign,
-        text: "65535 true org. IN A; code 3 empty false records 1 2 3; ; foreign a. 3 16; []",
-    },
-    Shown {
-        kind: Kind::Answered,
-        text: "1 true org. IN DNSKEY; code 0 empty false records 1 2 3; Answer a. 6 Secure Table Some(7) [Step(1), TooMany], Additional a. 6 Bogus Repeat(2) None [], Authority a. 6 Insecure Cache Some(0) []; Expanded(Secure); []",
-    },
-    Shown {
-        kind: Kind::Denied,
-        text: "0 true org. IN A; code 3 empty false records 1 2 3; ; denied Bogus; [Step(3), TooMany]",
-    },
-];
-
-fn records(alloc: Global, count: usize) -> Result<Vec<Record>, Fail> {
-    let mut records = Vec::new(alloc);
-    for _ in 0..count {
-        records.push(Record {
-            name: Name::from_ascii(alloc, "a.")?,
-            record_type: RecordType::A,
-            dns_class: DNSClass::IN,
-            ttl: 60,
-            rdata: Rdata::from_slice(alloc, b"addr")?,
-            proof: Proof::Indeterminate,
-        })?;
-    }
-    Ok(records)
-}
-
-fn told(alloc: Global, code: u16, empty: bool) -> Result<Reply, Fail> {
-    Ok(Reply::Told(Told {
-        code: ResponseCode(code),
-        empty,
-        answers: records(alloc, 1)?,
-        authorities: records(alloc, 2)?,
-        additionals: records(alloc, 3)?,
-    }))
+    /// By a record of the class CH at `a.`.
+    Foreign(RecordType),
+    Answered(Denial),
+    Denied(Proof),
 }
 
 /// A set of `a. SOA`, by what is told of it.
@@ -104,208 +51,274 @@ const JUDGED: [Judged; 3] = [
     },
 ];
 
-fn judged_set(alloc: Global, judged: &Judged) -> Result<JudgedSet, Fail> {
-    let owner = Name::from_ascii(alloc, "a.")?;
-    Ok(JudgedSet {
-        section: judged.section,
-        owner,
-        record_type: RecordType::SOA,
-        mark: judged.mark,
-        origin: judged.origin,
-        sig: judged.sig,
-        asked: judged.asked.to_vec(alloc)?,
-    })
-}
-
-fn judged_sets(alloc: Global) -> Result<Vec<JudgedSet>, Fail> {
-    let mut sets = Vec::new(alloc);
-    for judged in &JUDGED {
-        let next = judged_set(alloc, judged)?;
-        sets.push(next)?;
-    }
-    Ok(sets)
-}
-
-/// A step with nothing but a question, a reply and an ending.
-fn asked(
-    alloc: Global,
+/// A step that asks for `org.`, and its text: depth, whether it was to be judged, question; reply; sets; ending; excuse.
+struct Shown {
     depth: u16,
-    record_type: RecordType,
-    reply: Reply,
-    ending: Ending,
-) -> Result<Asked, Fail> {
-    Ok(Asked {
-        depth,
+    judged: bool,
+    record_type: u16,
+    /// The code of the reply, and whether it was empty; none for a fault.
+    reply: Option<(u16, bool)>,
+    /// Whether it has the three sets.
+    has_sets: bool,
+    ending: End,
+    excuse: &'static [AskRef],
+    text: &'static str,
+}
+
+const SHOWN: [Shown; 5] = [
+    Shown {
+        depth: 2,
+        judged: false,
+        record_type: 2,
+        reply: Some((0, true)),
+        has_sets: false,
+        ending: End::Seen,
+        excuse: &[],
+        text: "2 false org. IN NS; code 0 empty true records 1 2 3; ; seen; []",
+    },
+    Shown {
+        depth: 1,
         judged: true,
-        query: query(alloc, "org.", record_type.0)?,
-        reply,
-        sets: Vec::new(alloc),
-        ending,
-        excuse: Vec::new(alloc),
-    })
+        record_type: 43,
+        reply: None,
+        has_sets: false,
+        ending: End::Failed,
+        excuse: &[AskRef::TooDeep],
+        text: "1 true org. IN DS; fault; ; failed; [TooDeep]",
+    },
+    Shown {
+        depth: 65535,
+        judged: true,
+        record_type: 1,
+        reply: Some((3, false)),
+        has_sets: false,
+        ending: End::Foreign(RecordType(16)),
+        excuse: &[],
+        text: "65535 true org. IN A; code 3 empty false records 1 2 3; ; foreign a. 3 16; []",
+    },
+    Shown {
+        depth: 1,
+        judged: true,
+        record_type: 48,
+        reply: Some((0, false)),
+        has_sets: true,
+        ending: End::Answered(Denial::Expanded(Proof::Secure)),
+        excuse: &[],
+        text: "1 true org. IN DNSKEY; code 0 empty false records 1 2 3; Answer a. 6 Secure Table Some(7) [Step(1), TooMany], Additional a. 6 Bogus Repeat(2) None [], Authority a. 6 Insecure Cache Some(0) []; Expanded(Secure); []",
+    },
+    Shown {
+        depth: 0,
+        judged: true,
+        record_type: 1,
+        reply: Some((3, false)),
+        has_sets: false,
+        ending: End::Denied(Proof::Bogus),
+        excuse: &[AskRef::Step(3), AskRef::TooMany],
+        text: "0 true org. IN A; code 3 empty false records 1 2 3; ; denied Bogus; [Step(3), TooMany]",
+    },
+];
+
+fn records(alloc: Global, count: usize) -> Result<Vec<Record>, Fail> {
+    let mut records = Vec::new(alloc);
+    for _ in 0..count {
+        records.push(record(alloc, "a.", 1, 60, b"addr")?)?;
+    }
+    Ok(records)
 }
 
-fn seen(alloc: Global) -> Result<Asked, Fail> {
-    let reply = told(alloc, 0, true)?;
-    let mut step = asked(alloc, 2, RecordType::NS, reply, Ending::Seen)?;
-    step.judged = false;
-    Ok(step)
+fn told(alloc: Global, code: u16, empty: bool) -> Result<Reply, Fail> {
+    Ok(Reply::Told(Told {
+        code: ResponseCode(code),
+        empty,
+        answers: records(alloc, 1)?,
+        authorities: records(alloc, 2)?,
+        additionals: records(alloc, 3)?,
+    }))
 }
 
-fn failed(alloc: Global) -> Result<Asked, Fail> {
-    let mut step = asked(alloc, 1, RecordType::DS, Reply::Fault, Ending::Failed)?;
-    step.excuse = vec![in alloc; AskRef::TooDeep]?;
-    Ok(step)
+fn reply(alloc: Global, reply: Option<(u16, bool)>) -> Result<Reply, Fail> {
+    match reply {
+        Some((code, empty)) => told(alloc, code, empty),
+        None => Ok(Reply::Fault),
+    }
 }
 
-fn foreign(alloc: Global) -> Result<Asked, Fail> {
-    let reply = told(alloc, 3, false)?;
-    let ending = Ending::Foreign {
+fn judged_set(alloc: Global, judged: &Judged) -> Result<JudgedSet, Fail> {
+    let mut set = bare_set(alloc)?;
+    set.section = judged.section;
+    set.record_type = RecordType::SOA;
+    set.mark = judged.mark;
+    set.origin = judged.origin;
+    set.sig = judged.sig;
+    set.asked = judged.asked.to_vec(alloc)?;
+    Ok(set)
+}
+
+fn add_sets(alloc: Global, sets: &mut Vec<JudgedSet>) -> Result<(), Fail> {
+    for judged in &JUDGED {
+        sets.push(judged_set(alloc, judged)?)?;
+    }
+    Ok(())
+}
+
+fn foreign(alloc: Global, record_type: RecordType) -> Result<Ending, Fail> {
+    Ok(Ending::Foreign {
         owner: Name::from_ascii(alloc, "a.")?,
         class: DNSClass::CH,
-        record_type: RecordType(16),
-    };
-    asked(alloc, 65535, RecordType::A, reply, ending)
+        record_type,
+    })
 }
 
-fn answered(alloc: Global) -> Result<Asked, Fail> {
-    let reply = told(alloc, 0, false)?;
-    let ending = Ending::Answered(Denial::Expanded(Proof::Secure));
-    let mut step = asked(alloc, 1, RecordType::DNSKEY, reply, ending)?;
-    step.sets = judged_sets(alloc)?;
-    Ok(step)
-}
-
-fn denied(alloc: Global) -> Result<Asked, Fail> {
-    let reply = told(alloc, 3, false)?;
-    let mut step = asked(alloc, 0, RecordType::A, reply, Ending::Denied(Proof::Bogus))?;
-    step.excuse = vec![in alloc; AskRef::Step(3), AskRef::TooMany]?;
-    Ok(step)
-}
-
-fn step(alloc: Global, kind: Kind) -> Result<Asked, Fail> {
-    match kind {
-        Kind::Seen => seen(alloc),
-        Kind::Failed => failed(alloc),
-        Kind::Foreign => foreign(alloc),
-        Kind::Answered => answered(alloc),
-        Kind::Denied => denied(alloc),
+fn ending(alloc: Global, end: End) -> Result<Ending, Fail> {
+    match end {
+        End::Seen => Ok(Ending::Seen),
+        End::Failed => Ok(Ending::Failed),
+        End::Foreign(record_type) => foreign(alloc, record_type),
+        End::Answered(denial) => Ok(Ending::Answered(denial)),
+        End::Denied(proof) => Ok(Ending::Denied(proof)),
     }
+}
+
+fn fill(alloc: Global, step: &mut Asked, row: &Shown) -> Result<(), Fail> {
+    step.query = query(alloc, "org.", row.record_type)?;
+    step.reply = reply(alloc, row.reply)?;
+    if row.has_sets {
+        add_sets(alloc, &mut step.sets)?;
+    }
+    step.ending = ending(alloc, row.ending)?;
+    step.excuse = row.excuse.to_vec(alloc)?;
+    Ok(())
+}
+
+fn step(alloc: Global, row: &Shown) -> Result<Asked, Fail> {
+    let mut step = bare_step(alloc)?;
+    step.depth = row.depth;
+    step.judged = row.judged;
+    fill(alloc, &mut step, row)?;
+    Ok(step)
+}
+
+fn add_steps(alloc: Global, steps: &mut Vec<Asked>) -> Result<(), Fail> {
+    for row in &SHOWN {
+        steps.push(step(alloc, row)?)?;
+    }
+    Ok(())
 }
 
 /// A trail with a step of each kind.
 fn trail(alloc: Global) -> Result<Trail, Fail> {
-    let mut trail = Trail::new(alloc);
-    for row in &SHOWN {
-        trail.steps.push(step(alloc, row.kind)?)?;
-    }
-    Ok(trail)
+    let mut steps = Vec::new(alloc);
+    add_steps(alloc, &mut steps)?;
+    Ok(Trail { steps })
 }
 
-fn copy_of(alloc: Global, word: &str) -> Result<String, Fail> {
-    let mut text = String::new(alloc);
-    text.push_str(word)?;
-    Ok(text)
+fn with_trail(alloc: Global) -> Result<DnsResponse, Fail> {
+    let mut response = response(alloc, "org.", 1, 3)?;
+    response.trail = trail(alloc)?;
+    Ok(response)
 }
 
-fn told_text(alloc: Global, told: &Told) -> Result<String, Fail> {
-    Ok(format!(in alloc;
+fn copy_with_trail(alloc: Global) -> Result<DnsResponse, Fail> {
+    let response = with_trail(alloc)?;
+    Ok(response.try_clone()?)
+}
+
+fn write_told(text: &mut String, told: &Told) -> Result<(), Fail> {
+    write!(
+        text,
         "code {} empty {} records {} {} {}",
         told.code.0,
         told.empty,
         told.answers.len(),
         told.authorities.len(),
         told.additionals.len()
-    )?)
+    )?;
+    Ok(())
 }
 
-fn reply_text(alloc: Global, reply: &Reply) -> Result<String, Fail> {
+fn write_reply(text: &mut String, reply: &Reply) -> Result<(), Fail> {
     match reply {
-        Reply::Told(told) => told_text(alloc, told),
-        Reply::Fault => copy_of(alloc, "fault"),
+        Reply::Told(told) => write_told(text, told),
+        Reply::Fault => Ok(text.push_str("fault")?),
     }
 }
 
-fn denial_text(alloc: Global, denial: Denial) -> Result<String, Fail> {
-    Ok(format!(in alloc; "{denial:?}")?)
+fn write_foreign(text: &mut String, owner: &Name, class: u16, number: u16) -> Result<(), Fail> {
+    Ok(write!(text, "foreign {owner} {class} {number}")?)
 }
 
-fn denied_text(alloc: Global, proof: Proof) -> Result<String, Fail> {
-    Ok(format!(in alloc; "denied {proof:?}")?)
-}
-
-fn foreign_text(alloc: Global, owner: &Name, class: u16, number: u16) -> Result<String, Fail> {
-    Ok(format!(in alloc; "foreign {owner} {class} {number}")?)
-}
-
-fn ending_text(alloc: Global, ending: &Ending) -> Result<String, Fail> {
+fn write_ending(text: &mut String, ending: &Ending) -> Result<(), Fail> {
     match ending {
-        Ending::Answered(denial) => denial_text(alloc, *denial),
-        Ending::Denied(proof) => denied_text(alloc, *proof),
+        Ending::Answered(denial) => write!(text, "{denial:?}")?,
+        Ending::Denied(proof) => write!(text, "denied {proof:?}")?,
         Ending::Foreign {
             owner,
             class,
             record_type,
-        } => foreign_text(alloc, owner, class.0, record_type.0),
-        Ending::Failed => copy_of(alloc, "failed"),
-        Ending::Seen => copy_of(alloc, "seen"),
+        } => write_foreign(text, owner, class.0, record_type.0)?,
+        Ending::Failed => text.push_str("failed")?,
+        Ending::Seen => text.push_str("seen")?,
     }
+    Ok(())
 }
 
-fn set_text(alloc: Global, set: &JudgedSet) -> Result<String, Fail> {
-    Ok(format!(in alloc;
+fn write_set(text: &mut String, set: &JudgedSet) -> Result<(), Fail> {
+    write!(
+        text,
         "{:?} {} {} {:?} {:?} {:?} {:?}",
         set.section, set.owner, set.record_type.0, set.mark, set.origin, set.sig, set.asked
-    )?)
+    )?;
+    Ok(())
 }
 
 /// The texts of the sets, with commas between them.
-fn sets_text(alloc: Global, sets: &[JudgedSet]) -> Result<String, Fail> {
-    let mut all = String::new(alloc);
+fn write_sets(text: &mut String, sets: &[JudgedSet]) -> Result<(), Fail> {
+    let mut between = "";
     for set in sets {
-        if !all.is_empty() {
-            all.push_str(", ")?;
-        }
-        all.push_str(&set_text(alloc, set)?)?;
+        text.push_str(between)?;
+        write_set(text, set)?;
+        between = ", ";
     }
-    Ok(all)
+    Ok(())
 }
 
-fn step_text(alloc: Global, step: &Asked) -> Result<String, Fail> {
-    Ok(format!(in alloc;
-        "{} {} {}; {}; {}; {}; {:?}",
-        step.depth,
-        step.judged,
-        step.query,
-        reply_text(alloc, &step.reply)?,
-        sets_text(alloc, &step.sets)?,
-        ending_text(alloc, &step.ending)?,
-        step.excuse
-    )?)
+fn write_step(text: &mut String, step: &Asked) -> Result<(), Fail> {
+    write!(text, "{} {} {}; ", step.depth, step.judged, step.query)?;
+    write_reply(text, &step.reply)?;
+    text.push_str("; ")?;
+    write_sets(text, &step.sets)?;
+    text.push_str("; ")?;
+    write_ending(text, &step.ending)?;
+    write!(text, "; {:?}", step.excuse)?;
+    Ok(())
 }
 
-fn has_text(alloc: Global, step: Option<&Asked>, text: &str) -> Result<bool, Fail> {
+fn has_text(alloc: Global, step: Option<&Asked>, want: &str) -> Result<bool, Fail> {
     let Some(step) = step else {
         return Ok(false);
     };
-    Ok(step_text(alloc, step)?.as_str() == text)
+    let mut text = String::new(alloc);
+    write_step(&mut text, step)?;
+    Ok(text.as_str() == want)
 }
 
-/// The trail of a copy of a response with such a trail.
-fn copied_trail(alloc: Global) -> Result<Trail, Fail> {
-    let mut response = response(alloc, "org.", 1, 3)?;
-    response.trail = trail(alloc)?;
-    let copy = response.try_clone()?;
-    Ok(copy.trail)
+/// The trail has five steps, and the step with this number has the text.
+fn step_has_text(alloc: Global, trail: &Trail, number: usize, want: &str) -> Result<bool, Fail> {
+    Ok(trail.steps.len() == 5 && has_text(alloc, trail.steps.get(number), want)?)
+}
+
+/// It is so for the trail of a copy.
+fn is_copied(alloc: Global, number: usize, want: &str) -> Result<bool, Fail> {
+    let copy = copy_with_trail(alloc)?;
+    step_has_text(alloc, &copy.trail, number, want)
 }
 
 #[test]
 fn each_step_of_a_trail_is_copied(rt: HostRuntime) -> Result<(), Fail> {
-    let trail = copied_trail(rt.alloc())?;
-    assert!(rt; trail.steps.len() == SHOWN.len());
+    let alloc = rt.alloc();
     for (number, row) in SHOWN.iter().enumerate() {
-        let step = trail.steps.get(number);
-        assert!(rt; has_text(rt.alloc(), step, row.text)?, "at {}", row.text);
+        let is_right = is_copied(alloc, number, row.text)?;
+        assert!(rt; is_right, "at {}", row.text);
     }
     Ok(())
 }

@@ -1,4 +1,4 @@
-use crate::net_tests::{query, response, shows};
+use crate::parts::{nothing, query, response, shows};
 use dns_net::*;
 use std::alloc::Global;
 use std::test::Fail;
@@ -76,35 +76,73 @@ const ONE_EACH: [Step; 6] = [
     Step::Send("b.", 1, 2),
 ];
 
-fn put(
+/// What a handle was told, of which one query each is sent.
+const TOLD: [Step; 5] = [
+    Step::Put("org.", 2, 0),
+    Step::Put("ORG.", 2, 5),
+    Step::Put("org.", 1, 3),
+    Step::Put(".", 2, 2),
+    Step::Put("net.", 2, 16),
+];
+
+const ASKED: [Step; 8] = [
+    // the first reply serves
+    Step::Send("org.", 2, 0),
+    // in whatever case the name is
+    Step::Send("oRg.", 2, 0),
+    Step::Send("org.", 1, 3),
+    Step::Send(".", 2, 2),
+    Step::Send("net.", 2, 16),
+    // none was recorded
+    Step::Send("net.", 1, 99),
+    Step::Send("a.org.", 2, 99),
+    // none was asked for
+    Step::SendNothing,
+];
+
+fn reply(
+    alloc: Global,
+    name: &str,
+    record_type: u16,
+    code: u16,
+) -> Result<Result<DnsResponse, NetError>, Fail> {
+    if code == 16 {
+        return Ok(Err(NetError::Busy));
+    }
+    Ok(Ok(response(alloc, name, record_type, code)?))
+}
+
+/// Puts the reply in. It says true.
+fn puts(
     alloc: Global,
     handle: &mut Recorded,
     name: &str,
     record_type: u16,
     code: u16,
-) -> Result<(), Fail> {
-    let reply = if code == 16 {
-        Err(NetError::Busy)
-    } else {
-        Ok(response(alloc, name, record_type, code)?)
-    };
+) -> Result<bool, Fail> {
+    let reply = reply(alloc, name, record_type, code)?;
     handle.push(query(alloc, name, record_type)?, reply)?;
-    Ok(())
+    Ok(true)
 }
 
-/// The reply has that code, or is the error that it stands for.
-fn is_reply(alloc: Global, reply: Result<DnsResponse, NetError>, code: u16) -> Result<bool, Fail> {
-    match reply {
-        Ok(response) => Ok(response.message.response_code.0 == code),
-        Err(error) => match code {
-            16 => shows(alloc, &error, "resource too busy"),
-            99 => shows(alloc, &error, "request timed out"),
-            _ => Ok(false),
-        },
+/// The text of the error that a code stands for.
+fn fault_of(code: u16) -> &'static str {
+    match code {
+        16 => "resource too busy",
+        99 => "request timed out",
+        _ => "none",
     }
 }
 
-fn sends_as(
+/// The reply has that code, or is the error that it stands for.
+fn is_reply(alloc: Global, reply: &Result<DnsResponse, NetError>, code: u16) -> Result<bool, Fail> {
+    match reply {
+        Ok(response) => Ok(response.message.response_code.0 == code),
+        Err(error) => shows(alloc, error, fault_of(code)),
+    }
+}
+
+fn sends(
     alloc: Global,
     handle: &mut Recorded,
     name: &str,
@@ -113,51 +151,56 @@ fn sends_as(
 ) -> Result<bool, Fail> {
     let query = query(alloc, name, record_type)?;
     let reply = handle.lookup(alloc, query, DnsRequestOptions::default(), 1000);
-    is_reply(alloc, reply, code)
+    is_reply(alloc, &reply, code)
 }
 
 fn sends_nothing(alloc: Global, handle: &mut Recorded) -> Result<bool, Fail> {
-    let mut request = crate::net_tests::request(alloc, "a.", 1)?;
-    request.message.queries.clear();
-    let reply = handle.send(alloc, request, 1000);
-    is_reply(alloc, reply, 99)
+    let reply = handle.send(alloc, nothing(alloc)?, 1000);
+    is_reply(alloc, &reply, 99)
 }
 
-/// The handle after a step, or none where another reply came.
-fn after(alloc: Global, mut handle: Recorded, step: Step) -> Result<Option<Recorded>, Fail> {
-    let as_said = match step {
-        Step::Put(name, record_type, code) => {
-            put(alloc, &mut handle, name, record_type, code)?;
-            true
-        }
-        Step::Send(name, record_type, code) => {
-            sends_as(alloc, &mut handle, name, record_type, code)?
-        }
-        Step::SendNothing => sends_nothing(alloc, &mut handle)?,
-    };
-    if as_said { Ok(Some(handle)) } else { Ok(None) }
+/// The step goes as it says.
+fn goes(alloc: Global, handle: &mut Recorded, step: Step) -> Result<bool, Fail> {
+    match step {
+        Step::Put(name, record_type, code) => puts(alloc, handle, name, record_type, code),
+        Step::Send(name, record_type, code) => sends(alloc, handle, name, record_type, code),
+        Step::SendNothing => sends_nothing(alloc, handle),
+    }
 }
 
 /// The number of the first step that goes otherwise than it says.
-fn first_other(alloc: Global, mut handle: Recorded, steps: &[Step]) -> Result<Option<usize>, Fail> {
+fn first_other(
+    alloc: Global,
+    handle: &mut Recorded,
+    steps: &[Step],
+) -> Result<Option<usize>, Fail> {
     for (number, step) in steps.iter().enumerate() {
-        match after(alloc, handle, *step)? {
-            None => return Ok(Some(number)),
-            Some(next) => handle = next,
+        if !goes(alloc, handle, *step)? {
+            return Ok(Some(number));
         }
     }
     Ok(None)
 }
 
+fn other_by_turn(alloc: Global, steps: &[Step]) -> Result<Option<usize>, Fail> {
+    let mut handle = Recorded::in_turn(alloc);
+    first_other(alloc, &mut handle, steps)
+}
+
+fn other_without_turns(alloc: Global, steps: &[Step]) -> Result<Option<usize>, Fail> {
+    let mut handle = Recorded::new(alloc);
+    first_other(alloc, &mut handle, steps)
+}
+
 #[test]
 fn replies_are_served_by_turn(rt: HostRuntime) -> Result<(), Fail> {
+    let alloc = rt.alloc();
     for steps in [
         BY_TURN.as_slice(),
         PUT_LATER.as_slice(),
         ONE_EACH.as_slice(),
     ] {
-        let handle = Recorded::in_turn(rt.alloc());
-        let other = first_other(rt.alloc(), handle, steps)?;
+        let other = other_by_turn(alloc, steps)?;
         assert!(rt; other.is_none(), "at step {}", other.unwrap_or(0));
     }
     Ok(())
@@ -165,10 +208,38 @@ fn replies_are_served_by_turn(rt: HostRuntime) -> Result<(), Fail> {
 
 #[test]
 fn without_turns_the_first_reply_serves(rt: HostRuntime) -> Result<(), Fail> {
+    let alloc = rt.alloc();
     for steps in [NOT_BY_TURN.as_slice(), ONE_EACH.as_slice()] {
-        let handle = Recorded::new(rt.alloc());
-        let other = first_other(rt.alloc(), handle, steps)?;
+        let other = other_without_turns(alloc, steps)?;
         assert!(rt; other.is_none(), "at step {}", other.unwrap_or(0));
     }
     Ok(())
+}
+
+/// A handle that was told so, and is asked nothing else.
+fn is_answered(alloc: Global, step: Step) -> Result<bool, Fail> {
+    let mut handle = Recorded::new(alloc);
+    first_other(alloc, &mut handle, &TOLD)?;
+    goes(alloc, &mut handle, step)
+}
+
+#[test]
+fn recorded_answers_the_first_reply_to_a_query(rt: HostRuntime) -> Result<(), Fail> {
+    let alloc = rt.alloc();
+    for (number, step) in ASKED.iter().enumerate() {
+        let is_right = is_answered(alloc, *step)?;
+        assert!(rt; is_right, "row {number}");
+    }
+    Ok(())
+}
+
+/// It takes what a server says, and verifies nothing.
+fn is_plain(handle: &Recorded) -> bool {
+    !handle.is_verifying_dnssec() && handle.is_using_edns()
+}
+
+#[test]
+fn recorded_verifies_nothing(rt: HostRuntime) {
+    let handle = Recorded::new(rt.alloc());
+    assert!(rt; is_plain(&handle));
 }

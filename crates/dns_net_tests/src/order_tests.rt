@@ -1,8 +1,8 @@
-use dns_name::Name;
-use dns_net::{AskRef, Asked, Ending, JudgedSet, MarkOrigin, Reply};
-use dns_record::{DNSClass, Proof, Query, RecordType, Section};
+use crate::parts::{bare_set, bare_step};
+use dns_net::{AskRef, Asked, JudgedSet};
 use dns_trail_order::is_in_order;
 use std::alloc::Global;
+use std::slice;
 use std::test::Fail;
 
 /// A trail, by what each of its steps asks.
@@ -129,61 +129,41 @@ const ROWS: [Row; 21] = [
     },
 ];
 
-/// A set that asked so.
-fn set(alloc: Global, asked: Vec<AskRef>) -> Result<JudgedSet, Fail> {
-    Ok(JudgedSet {
-        section: Section::Answer,
-        owner: Name::from_ascii(alloc, "a.")?,
-        record_type: RecordType::A,
-        mark: Proof::Bogus,
-        origin: MarkOrigin::Table,
-        sig: None,
-        asked,
-    })
+fn set(alloc: Global, ask: AskRef) -> Result<JudgedSet, Fail> {
+    let mut set = bare_set(alloc)?;
+    set.asked.push(ask)?;
+    Ok(set)
 }
 
-/// A step with these sets, whose excuse stands on these asks.
-pub(crate) fn step(
-    alloc: Global,
-    depth: u16,
-    sets: Vec<JudgedSet>,
-    excuse: Vec<AskRef>,
-) -> Result<Asked, Fail> {
-    Ok(Asked {
-        depth,
-        judged: true,
-        query: Query {
-            name: Name::from_ascii(alloc, "a.")?,
-            query_type: RecordType::A,
-            query_class: DNSClass::IN,
-        },
-        reply: Reply::Fault,
-        sets,
-        ending: Ending::Failed,
-        excuse,
-    })
-}
-
-/// A step that asks so: for its first set, for its second one, and the rest for its excuse.
-fn asking(alloc: Global, asks: &[AskRef]) -> Result<Asked, Fail> {
-    let mut sets = Vec::new(alloc);
-    let mut excuse = Vec::new(alloc);
+/// The step asks so: for its first set, for its second one, and the rest for its excuse.
+fn ask(alloc: Global, step: &mut Asked, asks: &[AskRef]) -> Result<(), Fail> {
     for ask in asks {
-        if sets.len() < 2 {
-            sets.push(set(alloc, vec![in alloc; *ask]?)?)?;
+        if step.sets.len() < 2 {
+            step.sets.push(set(alloc, *ask)?)?;
         } else {
-            excuse.push(*ask)?;
+            step.excuse.push(*ask)?;
         }
     }
-    step(alloc, 0, sets, excuse)
+    Ok(())
 }
 
-fn trail(alloc: Global, asked: &[&'static [AskRef]]) -> Result<Vec<Asked>, Fail> {
-    let mut steps = Vec::new(alloc);
+fn asking(alloc: Global, asks: &[AskRef]) -> Result<Asked, Fail> {
+    let mut step = bare_step(alloc)?;
+    ask(alloc, &mut step, asks)?;
+    Ok(step)
+}
+
+fn add_all(alloc: Global, steps: &mut Vec<Asked>, asked: &[&'static [AskRef]]) -> Result<(), Fail> {
     for asks in asked {
         steps.push(asking(alloc, asks)?)?;
     }
-    Ok(steps)
+    Ok(())
+}
+
+fn is_right(alloc: Global, row: &Row) -> Result<bool, Fail> {
+    let mut steps = Vec::new(alloc);
+    add_all(alloc, &mut steps, row.steps)?;
+    Ok(is_in_order(&steps) == row.is_in_order)
 }
 
 #[test]
@@ -192,28 +172,35 @@ fn a_trail_is_in_order_where_each_step_is_asked_once_and_ends_in_turn(
 ) -> Result<(), Fail> {
     let alloc = rt.alloc();
     for row in &ROWS {
-        let steps = trail(alloc, row.steps)?;
-        let is_right = is_in_order(&steps) == row.is_in_order;
+        let is_right = is_right(alloc, row)?;
         assert!(rt; is_right, "{}", row.what);
     }
     Ok(())
 }
 
-/// One step, at this depth, to be judged or only to be seen.
-fn is_top(alloc: Global, depth: u16, judged: bool) -> Result<bool, Fail> {
-    let mut top = step(alloc, depth, Vec::new(alloc), Vec::new(alloc))?;
-    top.judged = judged;
-    let mut steps = Vec::new(alloc);
-    steps.push(top)?;
-    Ok(is_in_order(&steps))
+/// One step, by its depth and whether it is to be judged or only to be seen; whether it is in order.
+struct Top(u16, bool, bool);
+
+const TOPS: [Top; 4] = [
+    Top(0, true, true),
+    Top(0, false, false),
+    Top(1, true, false),
+    Top(65535, false, false),
+];
+
+fn is_top(alloc: Global, row: &Top) -> Result<bool, Fail> {
+    let mut step = bare_step(alloc)?;
+    step.depth = row.0;
+    step.judged = row.1;
+    Ok(is_in_order(slice::from_ref(&step)) == row.2)
 }
 
 #[test]
 fn the_last_step_is_judged_at_depth_0(rt: HostRuntime) -> Result<(), Fail> {
     let alloc = rt.alloc();
-    assert!(rt; is_top(alloc, 0, true)?);
-    assert!(rt; !is_top(alloc, 0, false)?);
-    assert!(rt; !is_top(alloc, 1, true)?);
-    assert!(rt; !is_top(alloc, 65535, false)?);
+    for row in &TOPS {
+        let is_right = is_top(alloc, row)?;
+        assert!(rt; is_right, "depth {}", row.0);
+    }
     Ok(())
 }

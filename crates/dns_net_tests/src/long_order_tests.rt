@@ -1,0 +1,111 @@
+use crate::parts::bare_step;
+use dns_net::{AskRef, Asked};
+use dns_trail_order::is_in_order;
+use std::alloc::Global;
+use std::test::Fail;
+
+fn add(alloc: Global, steps: &mut Vec<Asked>, ask: Option<AskRef>) -> Result<(), Fail> {
+    let mut step = bare_step(alloc)?;
+    if let Some(ask) = ask {
+        step.excuse.push(ask)?;
+    }
+    steps.push(step)?;
+    Ok(())
+}
+
+/// Adds so many steps of which each asks the one before it, and the first one this.
+fn add_chain(
+    alloc: Global,
+    steps: &mut Vec<Asked>,
+    count: u32,
+    first: Option<AskRef>,
+) -> Result<(), Fail> {
+    let mut ask = first;
+    for number in 0..count {
+        add(alloc, steps, ask)?;
+        ask = Some(AskRef::Step(number));
+    }
+    Ok(())
+}
+
+/// Adds asks for so many steps in turn, with one ask that is refused as one too many at this place.
+fn add_asks(asks: &mut Vec<AskRef>, count: u32, refused: u32) -> Result<(), Fail> {
+    for number in 0..count {
+        if number == refused {
+            asks.push(AskRef::TooMany)?;
+        }
+        asks.push(AskRef::Step(number))?;
+    }
+    if refused == count {
+        asks.push(AskRef::TooMany)?;
+    }
+    Ok(())
+}
+
+fn asking_all(alloc: Global, count: u32, refused: u32) -> Result<Asked, Fail> {
+    let mut step = bare_step(alloc)?;
+    add_asks(&mut step.excuse, count, refused)?;
+    Ok(step)
+}
+
+/// Adds so many steps that ask nothing, and one that asks them all.
+fn add_fan(alloc: Global, steps: &mut Vec<Asked>, count: u32, refused: u32) -> Result<(), Fail> {
+    for _ in 0..count {
+        add(alloc, steps, None)?;
+    }
+    steps.push(asking_all(alloc, count, refused)?)?;
+    Ok(())
+}
+
+fn is_chain(alloc: Global, row: &Chain) -> Result<bool, Fail> {
+    let mut steps = Vec::new(alloc);
+    add_chain(alloc, &mut steps, row.0, row.1)?;
+    Ok(is_in_order(&steps) == row.2)
+}
+
+fn is_fan(alloc: Global, row: &Fan) -> Result<bool, Fail> {
+    let mut steps = Vec::new(alloc);
+    add_fan(alloc, &mut steps, row.0, row.1)?;
+    Ok(is_in_order(&steps) == row.2)
+}
+
+/// So many steps one below the other, of which the first one asks this; whether they are in order.
+struct Chain(u32, Option<AskRef>, bool);
+
+const CHAINS: [Chain; 4] = [
+    Chain(1024, None, true),
+    Chain(1024, Some(AskRef::TooMany), true),
+    Chain(1023, Some(AskRef::TooMany), false),
+    Chain(1025, None, false),
+];
+
+#[test]
+fn a_trail_has_at_most_1024_steps_one_below_the_other(rt: HostRuntime) -> Result<(), Fail> {
+    let alloc = rt.alloc();
+    for row in &CHAINS {
+        let is_right = is_chain(alloc, row)?;
+        assert!(rt; is_right, "{} steps", row.0);
+    }
+    Ok(())
+}
+
+/// So many steps one beside the other, and the place where one too many is asked for; whether they are in order.
+struct Fan(u32, u32, bool);
+
+const FANS: [Fan; 5] = [
+    Fan(1023, 2000, true),
+    Fan(1023, 1023, true),
+    Fan(1023, 1022, false),
+    Fan(1022, 1022, false),
+    Fan(1024, 2000, false),
+];
+
+#[test]
+fn a_trail_has_at_most_1024_steps_one_beside_the_other(rt: HostRuntime) -> Result<(), Fail> {
+    let alloc = rt.alloc();
+    for row in &FANS {
+        let is_right = is_fan(alloc, row)?;
+        assert!(rt; is_right, "{} steps", row.0);
+    }
+    Ok(())
+}

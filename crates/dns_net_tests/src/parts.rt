@@ -1,0 +1,103 @@
+use dns_name::Name;
+use dns_net::*;
+use dns_record::{DNSClass, Proof, Query, Rdata, Record, RecordType, ResponseCode};
+use std::alloc::Global;
+use std::test::Fail;
+
+pub(crate) fn query(alloc: Global, name: &str, record_type: u16) -> Result<Query, Fail> {
+    Ok(Query {
+        name: Name::from_ascii(alloc, name)?,
+        query_type: RecordType(record_type),
+        query_class: DNSClass::IN,
+    })
+}
+
+pub(crate) fn request(alloc: Global, name: &str, record_type: u16) -> Result<DnsRequest, Fail> {
+    let query = query(alloc, name, record_type)?;
+    Ok(DnsRequest::from_query(alloc, query, DnsRequestOptions::default())?)
+}
+
+/// A request without a question.
+pub(crate) fn nothing(alloc: Global) -> Result<DnsRequest, Fail> {
+    let mut request = request(alloc, "a.", 1)?;
+    request.message.queries.clear();
+    Ok(request)
+}
+
+/// A response to this request.
+fn answer(alloc: Global, request: DnsRequest, code: u16) -> DnsResponse {
+    let mut message = request.message;
+    message.response_code = ResponseCode(code);
+    DnsResponse {
+        message,
+        chains: Vec::new(alloc),
+        denial: Denial::None,
+        trail: Trail::new(alloc),
+    }
+}
+
+/// A response with this question and code.
+pub(crate) fn response(
+    alloc: Global,
+    name: &str,
+    record_type: u16,
+    code: u16,
+) -> Result<DnsResponse, Fail> {
+    Ok(answer(alloc, request(alloc, name, record_type)?, code))
+}
+
+pub(crate) fn rdata(alloc: Global, bytes: &[u8]) -> Result<Rdata, Fail> {
+    if bytes.len() > 65535 {
+        return Err(Fail::new("too long"));
+    }
+    Ok(Rdata::from_slice(alloc, bytes)?)
+}
+
+pub(crate) fn record(
+    alloc: Global,
+    name: &str,
+    record_type: u16,
+    ttl: u32,
+    bytes: &[u8],
+) -> Result<Record, Fail> {
+    Ok(Record {
+        name: Name::from_ascii(alloc, name)?,
+        record_type: RecordType(record_type),
+        dns_class: DNSClass::IN,
+        ttl,
+        rdata: rdata(alloc, bytes)?,
+        proof: Proof::Indeterminate,
+    })
+}
+
+/// The text that an error shows is this one.
+pub(crate) fn shows(alloc: Global, error: &NetError, want: &str) -> Result<bool, Fail> {
+    let text = format!(in alloc; "{error}")?;
+    Ok(text.as_str() == want)
+}
+
+/// A step of a trail that asked for `a. A` in vain, and told of no set and no further ask.
+pub(crate) fn bare_step(alloc: Global) -> Result<Asked, Fail> {
+    Ok(Asked {
+        depth: 0,
+        judged: true,
+        query: query(alloc, "a.", 1)?,
+        reply: Reply::Fault,
+        sets: Vec::new(alloc),
+        ending: Ending::Failed,
+        excuse: Vec::new(alloc),
+    })
+}
+
+/// A set of `a. A` that no ask was needed for.
+pub(crate) fn bare_set(alloc: Global) -> Result<JudgedSet, Fail> {
+    Ok(JudgedSet {
+        section: Section::Answer,
+        owner: Name::from_ascii(alloc, "a.")?,
+        record_type: RecordType::A,
+        mark: Proof::Bogus,
+        origin: MarkOrigin::Table,
+        sig: None,
+        asked: Vec::new(alloc),
+    })
+}
