@@ -369,15 +369,21 @@ fn a_session_without_its_end_is_bad_at_the_end(rt: HostRuntime) -> Result<(), Fa
     Ok(())
 }
 
+/// The first wrong one of the texts behind this header and the algorithms.
+fn wrong_tail(alloc: Global, header: &str) -> Result<Option<&'static str>, AllocError> {
+    for row in &TAILS {
+        let wrong = wrong_text(alloc, header, "moment 1\nalgorithms\n", row)?;
+        if wrong.is_some() {
+            return Ok(wrong);
+        }
+    }
+    Ok(None)
+}
+
 #[test]
 fn replies_stand_between_the_query_and_the_end(rt: HostRuntime) -> Result<(), Fail> {
     for (header, _) in &HEADERS {
-        for row in &TAILS {
-            assert_eq!(rt;
-                wrong_text(rt.alloc(), header, "moment 1\nalgorithms\n", row)?,
-                None
-            );
-        }
+        assert_eq!(rt; wrong_tail(rt.alloc(), header)?, None);
     }
     Ok(())
 }

@@ -106,13 +106,17 @@ fn words_of_no_type_and_no_class(rt: HostRuntime) {
     }
 }
 
+fn numbers_are_read() -> bool {
+    u8_in(b"255") == Some(255)
+        && u8_in(b"256") == None
+        && u16_in(b"65535") == Some(65535)
+        && decimal_in(b"18446744073709551615", u64::MAX) == Some(u64::MAX)
+        && decimal_in(b"18446744073709551616", u64::MAX) == None
+}
+
 #[test]
 fn words_of_numbers(rt: HostRuntime) {
-    assert!(rt; u8_in(b"255") == Some(255));
-    assert!(rt; u8_in(b"256") == None);
-    assert!(rt; u16_in(b"65535") == Some(65535));
-    assert!(rt; decimal_in(b"18446744073709551615", u64::MAX) == Some(u64::MAX));
-    assert!(rt; decimal_in(b"18446744073709551616", u64::MAX) == None);
+    assert!(rt; numbers_are_read());
 }
 
 /// A word, the bytes that it stands for, and the word that they are printed as.
