@@ -1,291 +1,191 @@
-use crate::trust_tests::*;
-use dns_name::{Name, Octets};
-use dns_rdata::Rrsig;
+use crate::parts::*;
 use dns_record::{Proof, Record, RecordSet, RecordType, Section};
-use dns_sets::{ChainedSet, MarkedSet, PlacedSet};
+use dns_sets::{ChainedSet, PlacedSet};
 use dns_trust::*;
 use std::alloc::Global;
 use std::test::Fail;
-
-/// The root's key set of these keys, with the signature by the first.
-fn key_set(
-    alloc: Global,
-    owner: &str,
-    keys: &[&[u8]],
-    sig: Option<&[u8]>,
-) -> Result<RecordSet, Fail> {
-    let Some((first, others)) = keys.split_first() else {
-        return Err("no key".into());
-    };
-    let mut set = RecordSet::of(alloc, key_record(alloc, owner, first)?)?;
-    for key in others {
-        set.records.push(key_record(alloc, owner, key)?)?;
-    }
-    if let Some(sig) = sig {
-        set.rrsigs.push(signature_of(alloc, owner, sig)?)?;
-    }
-    Ok(set)
-}
-
-const ONE: [&[u8]; 1] = [KEY];
-
-const TWO: [&[u8]; 2] = [KEY, OTHER_KEY];
-
-/// Anchors that hold the root's key, or none.
-fn anchors(alloc: Global, is_trusted: bool) -> Result<TrustAnchors, Fail> {
-    let mut anchors = TrustAnchors::empty(alloc);
-    if is_trusted {
-        let key = Octets::from_slice(alloc, public_key())?;
-        anchors.insert_with_name(Name::root(alloc)?, 13, key)?;
-    }
-    Ok(anchors)
-}
-
-/// A key set that anchors decide.
-fn anchored(step: KeysStep) -> Result<ChainedSet, Fail> {
-    match step {
-        KeysStep::Done(chained) => Ok(chained),
-        KeysStep::NeedsDs(_) => Err("the root has no DS".into()),
-    }
-}
-
-/// The mark of the root's key set at second 1500, the place of the signature that decided, and the number of links.
-fn keys_mark(
-    alloc: Global,
-    is_trusted: bool,
-    keys: &[&[u8]],
-    sig: Option<&[u8]>,
-) -> Result<(Proof, Option<u32>, usize), Fail> {
-    let set = key_set(alloc, ".", keys, sig)?;
-    let placed = PlacedSet {
-        section: Section::Answer,
-        set,
-    };
-    let anchors = anchors(alloc, is_trusted)?;
-    let judge = Judge {
-        verifier: &verifier(alloc)?,
-        anchors: &anchors,
-        moment: 1500,
-    };
-    let ChainedSet { judged, chain } = anchored(judged_keys(alloc, &judge, placed)?)?;
-    Ok((judged.mark, judged.sig, chain.len()))
-}
-
-fn signed() -> Option<&'static [u8]> {
-    Some(OVER_KEYS)
-}
-
-fn is_secure(marked: (Proof, Option<u32>, usize), sig: Option<u32>, links: usize) -> bool {
-    marked.0 == Proof::Secure && marked.1 == sig && marked.2 == links
-}
-
-fn is_bogus(marked: (Proof, Option<u32>, usize)) -> bool {
-    marked.0 == Proof::Bogus && marked.1.is_none() && marked.2 == 0
-}
-
-#[test]
-fn key_sets_are_marked_by_anchors(rt: HostRuntime) -> Result<(), Fail> {
-    let alloc = rt.alloc();
-    assert!(rt; is_secure(keys_mark(alloc, true, &ONE, signed())?, Some(0), 2));
-    assert!(rt; is_bogus(keys_mark(alloc, false, &ONE, signed())?));
-    // no signature: each key is to be trusted
-    assert!(rt; is_secure(keys_mark(alloc, true, &ONE, None)?, None, 2));
-    assert!(rt; is_bogus(keys_mark(alloc, true, &TWO, None)?));
-    // the signature isn't over two keys
-    assert!(rt; is_bogus(keys_mark(alloc, true, &TWO, signed())?));
-    Ok(())
-}
-
-/// The judged sets that an ask for keys was answered with: one key set.
-fn answered(
-    alloc: Global,
-    owner: &str,
-    section: Section,
-    mark: Proof,
-) -> Result<Vec<ChainedSet>, Fail> {
-    let mut sets = Vec::new(alloc);
-    let judged = MarkedSet {
-        section,
-        set: key_set(alloc, owner, &ONE, None)?,
-        mark,
-        sig: None,
-    };
-    let chain = Vec::new(alloc);
-    sets.push(ChainedSet { judged, chain })?;
-    Ok(sets)
-}
-
-/// What the signature over the root's NS set does for it.
-fn verdict(alloc: Global, now: u64, answer: Option<Vec<ChainedSet>>) -> Result<Verdict, Fail> {
-    let set = servers(alloc)?;
-    let sig = signature_of(alloc, ".", OVER_NS)?;
-    let anchors = anchors(alloc, true)?;
-    let verifier = verifier(alloc)?;
-    let judge = Judge {
-        verifier: &verifier,
-        anchors: &anchors,
-        moment: now,
-    };
-    let Some(read) = Rrsig::of(&sig) else {
-        return Err("no signature".into());
-    };
-    Ok(verdict_of(alloc, &judge, &set, &sig, &read, &answer)?)
-}
-
-fn proves(
-    alloc: Global,
-    now: u64,
-    owner: &str,
-    section: Section,
-    mark: Proof,
-) -> Result<bool, Fail> {
-    let answer = answered(alloc, owner, section, mark)?;
-    Ok(verdict(alloc, now, Some(answer))?.is_proved())
-}
-
-fn excuses(alloc: Global, owner: &str, mark: Proof) -> Result<bool, Fail> {
-    let answer = answered(alloc, owner, Section::Answer, mark)?;
-    Ok(verdict(alloc, 1500, Some(answer))?.is_excused())
-}
-
-fn proves_unanswered(alloc: Global) -> Result<bool, Fail> {
-    let verdict = verdict(alloc, 1500, None)?;
-    Ok(verdict.is_proved() || verdict.is_excused())
-}
-
-#[test]
-fn signatures_prove_by_the_keys_of_their_signer(rt: HostRuntime) -> Result<(), Fail> {
-    let alloc = rt.alloc();
-    assert!(rt; proves(alloc, 1500, ".", Section::Answer, Proof::Secure)?);
-    assert!(rt; !proves(alloc, 2001, ".", Section::Answer, Proof::Secure)?);
-    assert!(rt; !proves(alloc, 1500, "a.", Section::Answer, Proof::Secure)?);
-    assert!(rt; !proves(alloc, 1500, ".", Section::Additional, Proof::Secure)?);
-    assert!(rt; !proves(alloc, 1500, ".", Section::Answer, Proof::Bogus)?);
-    assert!(rt; !proves(alloc, 1500, ".", Section::Answer, Proof::Insecure)?);
-    assert!(rt; !proves_unanswered(alloc)?);
-    Ok(())
-}
-
-#[test]
-fn signatures_excuse_by_insecure_keys(rt: HostRuntime) -> Result<(), Fail> {
-    let alloc = rt.alloc();
-    assert!(rt; excuses(alloc, ".", Proof::Insecure)?);
-    assert!(rt; !excuses(alloc, ".", Proof::Bogus)?);
-    assert!(rt; !excuses(alloc, "a.", Proof::Insecure)?);
-    Ok(())
-}
 
 /// A key of the tag 44745 for each letter: K is the one that signed, O and H are others; A is K as another zone's, T is K in a
 /// record of type TXT.
 fn key_by_letter(alloc: Global, letter: u8) -> Result<Record, Fail> {
     match letter {
-        b'K' => key_record(alloc, ".", KEY),
-        b'O' => key_record(alloc, ".", OTHER_KEY),
-        b'H' => key_record(alloc, ".", HOST_KEY),
-        b'A' => key_record(alloc, "a.", KEY),
+        b'K' => root_key(alloc, KEY),
+        b'O' => root_key(alloc, OTHER_KEY),
+        b'H' => root_key(alloc, HOST_KEY),
+        b'A' => record(alloc, "a.", RecordType::DNSKEY, KEY),
         _ => record(alloc, ".", RecordType::TXT, KEY),
     }
 }
 
-fn keys_by_letters(alloc: Global, letters: &[u8]) -> Result<RecordSet, Fail> {
-    let mut set = key_set(alloc, ".", &ONE, None)?;
-    set.records = Vec::new(alloc);
+fn put_keys(alloc: Global, records: &mut Vec<Record>, letters: &[u8]) -> Result<(), Fail> {
     for letter in letters {
-        set.records.push(key_by_letter(alloc, *letter)?)?;
+        records.push(key_by_letter(alloc, *letter)?)?;
+    }
+    Ok(())
+}
+
+/// An owner's key set without a key.
+fn bare_key_set(alloc: Global, owner: &str) -> Result<RecordSet, Fail> {
+    let first = record(alloc, owner, RecordType::DNSKEY, KEY)?;
+    let mut set = RecordSet::of(alloc, first)?;
+    set.records.clear();
+    Ok(set)
+}
+
+/// An owner's key set of these keys.
+pub(crate) fn key_set(alloc: Global, owner: &str, letters: &[u8]) -> Result<RecordSet, Fail> {
+    let mut set = bare_key_set(alloc, owner)?;
+    put_keys(alloc, &mut set.records, letters)?;
+    Ok(set)
+}
+
+/// The root's key set, with whether the signature by K stands beside it and which keys are trusted; and its mark, the place of
+/// the signature that decided, and the number of links.
+struct Keys {
+    letters: &'static [u8],
+    is_signed: bool,
+    trusted: &'static [Trusted],
+    mark: Proof,
+    sig: Option<u32>,
+    links: usize,
+}
+
+const SECURE: Keys = Keys {
+    letters: b"K",
+    is_signed: true,
+    trusted: ROOT,
+    mark: Proof::Secure,
+    sig: Some(0),
+    links: 2,
+};
+
+const BOGUS: Keys = Keys {
+    mark: Proof::Bogus,
+    sig: None,
+    links: 0,
+    ..SECURE
+};
+
+const KEYS: &[Keys] = &[
+    SECURE,
+    Keys {
+        trusted: &[],
+        ..BOGUS
+    },
+    // no signature: each key is to be trusted
+    Keys {
+        is_signed: false,
+        sig: None,
+        ..SECURE
+    },
+    Keys {
+        letters: b"KO",
+        is_signed: false,
+        ..BOGUS
+    },
+    // the signature isn't over two keys
+    Keys {
+        letters: b"KO",
+        ..BOGUS
+    },
+];
+
+fn root_keys(alloc: Global, row: &Keys) -> Result<RecordSet, Fail> {
+    let mut set = key_set(alloc, ".", row.letters)?;
+    if row.is_signed {
+        set.rrsigs.push(root_signature(alloc, OVER_KEYS)?)?;
     }
     Ok(set)
 }
 
-/// The keys of the answer to an ask, and whether the signature proves its set by them.
-struct Counted {
-    keys: &'static [u8],
-    proves: bool,
+fn keys_step_by(alloc: Global, judge: &Judge<'_, Listed>, row: &Keys) -> Result<KeysStep, Fail> {
+    let placed = PlacedSet {
+        section: Section::Answer,
+        set: root_keys(alloc, row)?,
+    };
+    Ok(judged_keys(alloc, judge, placed)?)
 }
 
-const COUNTED: [Counted; 8] = [
-    Counted {
-        keys: b"K",
-        proves: true,
-    },
-    Counted {
-        keys: b"OK",
-        proves: true,
-    },
-    Counted {
-        keys: b"OHK",
-        proves: false,
-    },
-    // records that are no keys of the zone count for nothing
-    Counted {
-        keys: b"A",
-        proves: false,
-    },
-    Counted {
-        keys: b"T",
-        proves: false,
-    },
-    Counted {
-        keys: b"AAOK",
-        proves: true,
-    },
-    Counted {
-        keys: b"TTOK",
-        proves: true,
-    },
-    Counted {
-        keys: b"ATOHK",
-        proves: false,
-    },
-];
+/// How far the key set is judged at second 1500.
+fn keys_step(alloc: Global, row: &Keys) -> Result<KeysStep, Fail> {
+    let trust = trust_in_keys(alloc, row.trusted)?;
+    keys_step_by(alloc, &judge_at(&trust, 1500), row)
+}
 
-fn is_counted(alloc: Global, row: &Counted) -> Result<bool, Fail> {
-    let mut answer = answered(alloc, ".", Section::Answer, Proof::Secure)?;
-    for chained in &mut answer {
-        chained.judged.set = keys_by_letters(alloc, row.keys)?;
+fn has_mark(found: &ChainedSet, mark: Proof, sig: Option<u32>) -> bool {
+    found.judged.mark == mark && found.judged.sig == sig
+}
+
+/// Anchors decide as the row says.
+fn is_marked_as(step: &KeysStep, row: &Keys) -> bool {
+    match step {
+        KeysStep::Done(found) => has_mark(found, row.mark, row.sig)
+            && found.chain.len() == row.links,
+        KeysStep::NeedsDs(_) => false,
     }
-    Ok(verdict(alloc, 1500, Some(answer))?.is_proved() == row.proves)
+}
+
+fn is_marked(alloc: Global, row: &Keys) -> Result<bool, Fail> {
+    Ok(is_marked_as(&keys_step(alloc, row)?, row))
 }
 
 #[test]
-fn the_first_two_keys_of_a_tag_count(rt: HostRuntime) -> Result<(), Fail> {
-    for row in &COUNTED {
-        assert!(rt; is_counted(rt.alloc(), row)?, "{} keys", row.keys.len());
+fn key_sets_are_marked_by_anchors(rt: HostRuntime) -> Result<(), Fail> {
+    for row in KEYS {
+        assert!(rt;
+            is_marked(rt.alloc(), row)?,
+            "{} keys, mark {:?}",
+            row.letters.len(),
+            row.mark
+        );
     }
     Ok(())
 }
 
-/// The mark of the root's unsigned key set of these records, of which the public key of K is trusted.
-fn unsigned_mark(alloc: Global, letters: &[u8]) -> Result<Proof, Fail> {
-    let placed = PlacedSet {
-        section: Section::Answer,
-        set: keys_by_letters(alloc, letters)?,
-    };
-    let anchors = anchors(alloc, true)?;
-    let judge = Judge {
-        verifier: &verifier(alloc)?,
-        anchors: &anchors,
-        moment: 1500,
-    };
-    Ok(anchored(judged_keys(alloc, &judge, placed)?)?.judged.mark)
+fn mark_of(step: &KeysStep) -> Option<Proof> {
+    match step {
+        KeysStep::Done(found) => Some(found.judged.mark),
+        KeysStep::NeedsDs(_) => None,
+    }
+}
+
+/// Unsigned sets whose second record is a key, or has its rdata and another type; the public key of K is trusted.
+const KEY_TWICE: &Keys = &Keys {
+    letters: b"KK",
+    is_signed: false,
+    ..SECURE
+};
+
+const KEY_BESIDE_TXT: &Keys = &Keys {
+    letters: b"KT",
+    is_signed: false,
+    ..SECURE
+};
+
+fn mark(alloc: Global, row: &Keys) -> Result<Option<Proof>, Fail> {
+    Ok(mark_of(&keys_step(alloc, row)?))
 }
 
 #[test]
 fn a_record_of_another_type_is_no_anchor(rt: HostRuntime) -> Result<(), Fail> {
-    assert!(rt; unsigned_mark(rt.alloc(), b"KK")? == Proof::Secure);
-    assert!(rt; unsigned_mark(rt.alloc(), b"KT")? == Proof::Bogus);
+    assert!(rt; mark(rt.alloc(), KEY_TWICE)? == Some(Proof::Secure));
+    assert!(rt; mark(rt.alloc(), KEY_BESIDE_TXT)? == Some(Proof::Bogus));
     Ok(())
 }
 
-/// A verdict for each letter: P proves, E excuses, another fails.
+/// P proves, E excuses, another letter fails.
+fn verdict_by_letter(alloc: Global, letter: u8) -> Verdict {
+    match letter {
+        b'P' => Verdict::Proved(Vec::new(alloc)),
+        b'E' => Verdict::Excused,
+        _ => Verdict::Failed,
+    }
+}
+
 fn verdicts(alloc: Global, letters: &[u8]) -> Result<Vec<Verdict>, Fail> {
     let mut verdicts = Vec::new(alloc);
     for letter in letters {
-        let verdict = match letter {
-            b'P' => Verdict::Proved(Vec::new(alloc)),
-            b'E' => Verdict::Excused,
-            _ => Verdict::Failed,
-        };
-        verdicts.push(verdict)?;
+        verdicts.push(verdict_by_letter(alloc, *letter))?;
     }
     Ok(verdicts)
 }
@@ -297,7 +197,7 @@ struct Decided {
     sig: Option<u32>,
 }
 
-const DECIDED: [Decided; 5] = [
+const DECIDED: &[Decided] = &[
     Decided {
         verdicts: b"FEPP",
         mark: Proof::Secure,
@@ -325,18 +225,21 @@ const DECIDED: [Decided; 5] = [
     },
 ];
 
-fn is_decided(alloc: Global, row: &Decided) -> Result<bool, Fail> {
+fn judged_by_letters(alloc: Global, letters: &[u8]) -> Result<ChainedSet, Fail> {
     let placed = PlacedSet {
         section: Section::Answer,
         set: servers(alloc)?,
     };
-    let judged = judged_by(placed, verdicts(alloc, row.verdicts)?)?.judged;
-    Ok(judged.mark == row.mark && judged.sig == row.sig)
+    Ok(judged_by(placed, verdicts(alloc, letters)?)?)
+}
+
+fn is_decided(alloc: Global, row: &Decided) -> Result<bool, Fail> {
+    Ok(has_mark(&judged_by_letters(alloc, row.verdicts)?, row.mark, row.sig))
 }
 
 #[test]
 fn sets_are_marked_by_the_first_verdict(rt: HostRuntime) -> Result<(), Fail> {
-    for row in &DECIDED {
+    for row in DECIDED {
         assert!(rt;
             is_decided(rt.alloc(), row)?,
             "mark {:?}, {} signatures",

@@ -1,6 +1,6 @@
-use crate::trust_tests::*;
+use crate::parts::*;
 use dns_rdata::Rrsig;
-use dns_record::RecordType;
+use dns_record::{Record, RecordSet, RecordType};
 use dns_trust::*;
 use std::alloc::Global;
 use std::test::Fail;
@@ -14,7 +14,7 @@ struct Timed {
     want: RrsigValidity,
 }
 
-const TIMED: [Timed; 11] = [
+const TIMED: &[Timed] = &[
     Timed {
         labels: 0,
         inception: 1000,
@@ -99,35 +99,59 @@ const TIMED: [Timed; 11] = [
 ];
 
 /// The signature's rdata: over NS, of algorithm 13, original ttl 3600 and the key's tag.
-fn timed_rdata(alloc: Global, row: &Timed) -> Result<Vec<u8>, Fail> {
-    let mut rdata = Vec::new(alloc);
-    rdata.extend_from_slice(b"\0\x02\x0d")?;
-    rdata.push(row.labels)?;
-    rdata.extend_from_slice(b"\0\0\x0e\x10")?;
-    push_number(&mut rdata, row.expiration)?;
-    push_number(&mut rdata, row.inception)?;
-    rdata.extend_from_slice(b"\xae\xc9\0\xcc")?;
-    Ok(rdata)
+fn timed_rdata(row: &Timed) -> [u8; 20] {
+    let [e0, e1, e2, e3] = row.expiration.to_be_bytes();
+    let [i0, i1, i2, i3] = row.inception.to_be_bytes();
+    [
+        0, 2, 13, row.labels, 0, 0, 14, 16, e0, e1, e2, e3, i0, i1, i2, i3, 0xae, 0xc9, 0, 0xcc,
+    ]
 }
 
-fn push_number(bytes: &mut Vec<u8>, number: u32) -> Result<(), Fail> {
-    bytes.push((number >> 24) as u8)?;
-    bytes.push((number >> 16 & 0xff) as u8)?;
-    bytes.push((number >> 8 & 0xff) as u8)?;
-    bytes.push((number & 0xff) as u8)?;
-    Ok(())
+/// A record of the signature tests.
+struct Written {
+    owner: &'static str,
+    record_type: RecordType,
+    rdata: &'static [u8],
+}
+
+const SIGNATURE: Written = Written {
+    owner: ".",
+    record_type: RecordType::RRSIG,
+    rdata: OVER_NS,
+};
+
+const ROOT_KEY: Written = Written {
+    owner: ".",
+    record_type: RecordType::DNSKEY,
+    rdata: KEY,
+};
+
+fn record_of(alloc: Global, row: &Written) -> Result<Record, Fail> {
+    record(alloc, row.owner, row.record_type, row.rdata)
+}
+
+/// What is found out of a signature over the root's NS set and a key.
+fn validity(alloc: Global, sig: &Record, key: &Record, now: u64) -> Result<RrsigValidity, Fail> {
+    Ok(RrsigValidity::check(sig, &servers(alloc)?, key, now))
+}
+
+fn validity_by(
+    alloc: Global,
+    sig: &Record,
+    key: &Written,
+    now: u64,
+) -> Result<RrsigValidity, Fail> {
+    validity(alloc, sig, &record_of(alloc, key)?, now)
 }
 
 fn is_timed(alloc: Global, row: &Timed) -> Result<bool, Fail> {
-    let rdata = timed_rdata(alloc, row)?;
-    let sig = signature_of(alloc, ".", rdata.as_slice())?;
-    let key = key_record(alloc, ".", KEY)?;
-    Ok(RrsigValidity::check(&sig, &servers(alloc)?, &key, row.now) == row.want)
+    let sig = root_signature(alloc, &timed_rdata(row))?;
+    Ok(validity_by(alloc, &sig, &ROOT_KEY, row.now)? == row.want)
 }
 
 #[test]
 fn signatures_have_their_time_and_labels(rt: HostRuntime) -> Result<(), Fail> {
-    for row in &TIMED {
+    for row in TIMED {
         assert!(rt;
             is_timed(rt.alloc(), row)?,
             "{} {} at {}",
@@ -139,124 +163,228 @@ fn signatures_have_their_time_and_labels(rt: HostRuntime) -> Result<(), Fail> {
     Ok(())
 }
 
-/// A signature over the NS set of the root by a key of some owner, at second 1500.
-fn checked(
-    alloc: Global,
-    sig_owner: &str,
-    sig: &[u8],
-    owner: &str,
-    key: &[u8],
-) -> Result<RrsigValidity, Fail> {
-    let sig = signature_of(alloc, sig_owner, sig)?;
-    let key = key_record(alloc, owner, key)?;
-    Ok(RrsigValidity::check(&sig, &servers(alloc)?, &key, 1500))
-}
-
-#[test]
-fn signatures_fit_their_set_and_key(rt: HostRuntime) -> Result<(), Fail> {
-    let alloc = rt.alloc();
-    assert!(rt; checked(alloc, ".", OVER_NS, ".", KEY)? == RrsigValidity::ValidRrsig);
-    assert!(rt;
-        checked(alloc, ".", OVER_NS_REVOKED, ".", REVOKED_KEY)? == RrsigValidity::ValidRrsig
-    );
-    assert!(rt; checked(alloc, "a.", OVER_NS, ".", KEY)? == RrsigValidity::WrongRrsig);
-    assert!(rt; checked(alloc, ".", OVER_KEYS, ".", KEY)? == RrsigValidity::WrongRrsig);
-    assert!(rt; checked(alloc, ".", OVER_NS, "a.", KEY)? == RrsigValidity::WrongDnskey);
-    assert!(rt; checked(alloc, ".", OVER_NS, ".", REVOKED_KEY)? == RrsigValidity::WrongDnskey);
-    assert!(rt; checked(alloc, ".", OVER_NS, ".", HOST_KEY)? == RrsigValidity::WrongDnskey);
-    Ok(())
-}
-
-/// The rdata of a signature and of a key, in records of these types, and what is found out of them.
-struct Typed {
-    sig: RecordType,
-    key: RecordType,
+/// A signature over the NS set of the root, a key, and what is found out of them at second 1500.
+struct Fitting {
+    sig: Written,
+    key: Written,
     want: RrsigValidity,
 }
 
-const TYPED: [Typed; 4] = [
-    Typed {
-        sig: RecordType::RRSIG,
-        key: RecordType::DNSKEY,
+const ROOT_REVOKED_KEY: Written = Written {
+    rdata: REVOKED_KEY,
+    ..ROOT_KEY
+};
+
+const FITTING: &[Fitting] = &[
+    Fitting {
+        sig: SIGNATURE,
+        key: ROOT_KEY,
         want: RrsigValidity::ValidRrsig,
     },
-    Typed {
-        sig: RecordType::TXT,
-        key: RecordType::DNSKEY,
+    Fitting {
+        sig: Written {
+            rdata: OVER_NS_REVOKED,
+            ..SIGNATURE
+        },
+        key: ROOT_REVOKED_KEY,
+        want: RrsigValidity::ValidRrsig,
+    },
+    Fitting {
+        sig: Written {
+            owner: "a.",
+            ..SIGNATURE
+        },
+        key: ROOT_KEY,
         want: RrsigValidity::WrongRrsig,
     },
-    Typed {
-        sig: RecordType::RRSIG,
-        key: RecordType::TXT,
+    Fitting {
+        sig: Written {
+            rdata: OVER_KEYS,
+            ..SIGNATURE
+        },
+        key: ROOT_KEY,
+        want: RrsigValidity::WrongRrsig,
+    },
+    Fitting {
+        sig: SIGNATURE,
+        key: Written {
+            owner: "a.",
+            ..ROOT_KEY
+        },
+        want: RrsigValidity::WrongDnskey,
+    },
+    Fitting {
+        sig: SIGNATURE,
+        key: ROOT_REVOKED_KEY,
+        want: RrsigValidity::WrongDnskey,
+    },
+    Fitting {
+        sig: SIGNATURE,
+        key: Written {
+            rdata: HOST_KEY,
+            ..ROOT_KEY
+        },
+        want: RrsigValidity::WrongDnskey,
+    },
+];
+
+/// The rdata of a signature and of a key, in records of these types.
+const TYPED: &[Fitting] = &[
+    Fitting {
+        sig: SIGNATURE,
+        key: ROOT_KEY,
+        want: RrsigValidity::ValidRrsig,
+    },
+    Fitting {
+        sig: Written {
+            record_type: RecordType::TXT,
+            ..SIGNATURE
+        },
+        key: ROOT_KEY,
+        want: RrsigValidity::WrongRrsig,
+    },
+    Fitting {
+        sig: SIGNATURE,
+        key: Written {
+            record_type: RecordType::TXT,
+            ..ROOT_KEY
+        },
         want: RrsigValidity::WrongDnskey,
     },
     // the signature is tested first
-    Typed {
-        sig: RecordType::DNSKEY,
-        key: RecordType::RRSIG,
+    Fitting {
+        sig: Written {
+            record_type: RecordType::DNSKEY,
+            ..SIGNATURE
+        },
+        key: Written {
+            record_type: RecordType::RRSIG,
+            ..ROOT_KEY
+        },
         want: RrsigValidity::WrongRrsig,
     },
 ];
 
-fn is_typed(alloc: Global, row: &Typed) -> Result<bool, Fail> {
-    let sig = record(alloc, ".", row.sig, OVER_NS)?;
-    let key = record(alloc, ".", row.key, KEY)?;
-    Ok(RrsigValidity::check(&sig, &servers(alloc)?, &key, 1500) == row.want)
+fn fits(alloc: Global, row: &Fitting) -> Result<bool, Fail> {
+    let sig = record_of(alloc, &row.sig)?;
+    Ok(validity_by(alloc, &sig, &row.key, 1500)? == row.want)
 }
 
 #[test]
-fn records_of_another_type_are_not_read(rt: HostRuntime) -> Result<(), Fail> {
-    for row in &TYPED {
+fn signatures_fit_their_set_and_key(rt: HostRuntime) -> Result<(), Fail> {
+    for row in FITTING {
         assert!(rt;
-            is_typed(rt.alloc(), row)?,
-            "types {} and {}",
-            row.sig.0,
-            row.key.0
+            fits(rt.alloc(), row)?,
+            "{} by {}",
+            row.sig.owner,
+            row.key.owner
         );
     }
     Ok(())
 }
 
-/// A signature over the NS set of the root is good by a key of the root at a moment.
-fn is_good(alloc: Global, sig: &[u8], key: &[u8], now: u64) -> Result<bool, Fail> {
-    let sig = signature_of(alloc, ".", sig)?;
-    let key = key_record(alloc, ".", key)?;
-    let set = servers(alloc)?;
-    let judge = Judge {
-        verifier: &verifier(alloc)?,
-        anchors: &TrustAnchors::empty(alloc),
-        moment: now,
-    };
-    Ok(is_good_by(alloc, &judge, &set, &sig, &key)?)
+#[test]
+fn records_of_another_type_are_not_read(rt: HostRuntime) -> Result<(), Fail> {
+    for row in TYPED {
+        assert!(rt;
+            fits(rt.alloc(), row)?,
+            "types {} and {}",
+            row.sig.record_type.0,
+            row.key.record_type.0
+        );
+    }
+    Ok(())
+}
+
+/// A signature over the NS set of the root, a key of the root, a moment, and whether the signature is good by the key.
+struct Good {
+    sig: &'static [u8],
+    key: &'static [u8],
+    now: u64,
+    is_good: bool,
+}
+
+const GOOD: &[Good] = &[
+    Good {
+        sig: OVER_NS,
+        key: KEY,
+        now: 1500,
+        is_good: true,
+    },
+    Good {
+        sig: OVER_NS,
+        key: KEY,
+        now: 2001,
+        is_good: false,
+    },
+    Good {
+        sig: OVER_NS,
+        key: OTHER_KEY,
+        now: 1500,
+        is_good: false,
+    },
+    // the verifier accepts it, and yet a revoked key isn't good
+    Good {
+        sig: OVER_NS_REVOKED,
+        key: REVOKED_KEY,
+        now: 1500,
+        is_good: false,
+    },
+];
+
+fn is_good_with(
+    alloc: Global,
+    judge: &Judge<'_, Listed>,
+    sig: &Record,
+    key: &Record,
+) -> Result<bool, Fail> {
+    Ok(is_good_by(alloc, judge, &servers(alloc)?, sig, key)?)
+}
+
+fn is_good_to(alloc: Global, judge: &Judge<'_, Listed>, row: &Good) -> Result<bool, Fail> {
+    let sig = root_signature(alloc, row.sig)?;
+    is_good_with(alloc, judge, &sig, &root_key(alloc, row.key)?)
+}
+
+/// No key is an anchor here.
+fn is_good(alloc: Global, row: &Good) -> Result<bool, Fail> {
+    let trust = trust_in_keys(alloc, &[])?;
+    is_good_to(alloc, &judge_at(&trust, row.now), row)
 }
 
 #[test]
 fn signatures_are_good_by_their_key(rt: HostRuntime) -> Result<(), Fail> {
-    let alloc = rt.alloc();
-    assert!(rt; is_good(alloc, OVER_NS, KEY, 1500)?);
-    assert!(rt; !is_good(alloc, OVER_NS, KEY, 2001)?);
-    assert!(rt; !is_good(alloc, OVER_NS, OTHER_KEY, 1500)?);
-    // the verifier accepts it, and yet a revoked key isn't good
-    assert!(rt; !is_good(alloc, OVER_NS_REVOKED, REVOKED_KEY, 1500)?);
+    for row in GOOD {
+        assert!(rt; is_good(rt.alloc(), row)? == row.is_good, "at {}", row.now);
+    }
     Ok(())
 }
 
-/// A signature over the root's NS set asks for the root's keys, unless they are what is asked for.
-fn is_skipped_at(alloc: Global, record_type: RecordType, sig: &[u8]) -> Result<bool, Fail> {
-    let set = servers(alloc)?;
-    let sig = signature_of(alloc, ".", sig)?;
-    let Some(read) = Rrsig::of(&sig) else {
+/// The keys of its signer are asked for, as far as they aren't what is asked for.
+fn is_skipped_in(
+    alloc: Global,
+    set: &RecordSet,
+    sig: &Record,
+    record_type: RecordType,
+) -> Result<bool, Fail> {
+    let Some(read) = Rrsig::of(sig) else {
         return Err("no signature".into());
     };
-    let mut query = ask_of(alloc, &set, &read)?;
+    let mut query = ask_of(alloc, set, &read)?;
     query.query_type = record_type;
-    Ok(is_skipped(&query, &set, &read))
+    Ok(is_skipped(&query, set, &read))
+}
+
+/// A signature over the root's NS set asks for the root's keys, unless they are what is asked for.
+fn is_skipped_at(alloc: Global, record_type: RecordType) -> Result<bool, Fail> {
+    let set = servers(alloc)?;
+    let sig = root_signature(alloc, OVER_NS)?;
+    is_skipped_in(alloc, &set, &sig, record_type)
 }
 
 #[test]
 fn signatures_ask_for_their_keys(rt: HostRuntime) -> Result<(), Fail> {
-    let alloc = rt.alloc();
-    assert!(rt; !is_skipped_at(alloc, RecordType::NS, OVER_NS)?);
-    assert!(rt; is_skipped_at(alloc, RecordType::DNSKEY, OVER_NS)?);
+    assert!(rt; !is_skipped_at(rt.alloc(), RecordType::NS)?);
+    assert!(rt; is_skipped_at(rt.alloc(), RecordType::DNSKEY)?);
     Ok(())
 }

@@ -1,13 +1,12 @@
 //! Steps whose sets are judged, and how they end.
-use crate::sets_tests::{Met, add, message, query, record};
+use crate::sets_tests::{Met, bare_message, put, query, records_of, set_of};
 use dns_message::Message;
-use dns_record::{Denial, Proof, Query, RecordSet, RecordType, ResponseCode, Section};
+use dns_record::{Denial, Proof, Query, Record, RecordSet, RecordType, ResponseCode, Section};
 use dns_sets::*;
 use std::alloc::Global;
 use std::test::Fail;
 
 /// A set of one record in its section, with its mark, its signatures, and the place of the one that decided.
-#[derive(Drop)]
 pub(crate) struct Told {
     pub(crate) section: Section,
     pub(crate) owner: &'static str,
@@ -19,7 +18,6 @@ pub(crate) struct Told {
 }
 
 /// A query, the response's code, its sets, and how the step ends.
-#[derive(Drop)]
 pub(crate) struct Row {
     pub(crate) shows: &'static str,
     pub(crate) name: &'static str,
@@ -110,44 +108,49 @@ fn met(told: &Told, record_type: RecordType, rdata: &'static [u8]) -> Met {
     }
 }
 
-fn step_query(alloc: Global, row: &Row) -> Result<Query, Fail> {
-    let mut query = query(alloc, row.name)?;
-    query.query_type = row.record_type;
-    Ok(query)
+fn record_of(told: &Told) -> Met {
+    met(told, told.record_type, told.rdata)
 }
 
-/// The response of a row: of each set the record, and then its signatures.
-fn response(alloc: Global, row: &Row) -> Result<Message, Fail> {
-    let mut message = message(alloc, &[])?;
-    message.response_code = row.code;
-    for told in row.told {
-        add(
-            alloc,
-            &mut message,
-            &met(told, told.record_type, told.rdata),
-        )?;
-        for signature in told.signatures {
-            add(
-                alloc,
-                &mut message,
-                &met(told, RecordType::RRSIG, signature),
-            )?;
-        }
+fn put_signatures(alloc: Global, records: &mut Vec<Record>, told: &Told) -> Result<(), Fail> {
+    for signature in told.signatures {
+        put(alloc, records, &met(told, RecordType::RRSIG, signature))?;
     }
+    Ok(())
+}
+
+fn put_told(alloc: Global, records: &mut Vec<Record>, told: &Told) -> Result<(), Fail> {
+    put(alloc, records, &record_of(told))?;
+    put_signatures(alloc, records, told)
+}
+
+/// Of each set the record, and then its signatures.
+fn put_sets(alloc: Global, message: &mut Message, all: &[Told]) -> Result<(), Fail> {
+    for told in all {
+        put_told(alloc, records_of(message, told.section), told)?;
+    }
+    Ok(())
+}
+
+/// The response of a row.
+fn response(alloc: Global, row: &Row) -> Result<Message, Fail> {
+    let mut message = bare_message(alloc)?;
+    message.response_code = row.code;
+    put_sets(alloc, &mut message, row.told)?;
     Ok(message)
+}
+
+fn signed_set(alloc: Global, told: &Told) -> Result<RecordSet, Fail> {
+    let mut set = set_of(alloc, &record_of(told))?;
+    put_signatures(alloc, &mut set.rrsigs, told)?;
+    Ok(set)
 }
 
 /// A set as it is judged.
 fn judged(alloc: Global, told: &Told) -> Result<ChainedSet, Fail> {
-    let first = record(alloc, &met(told, told.record_type, told.rdata))?;
-    let mut set = RecordSet::of(alloc, first)?;
-    for signature in told.signatures {
-        let next = record(alloc, &met(told, RecordType::RRSIG, signature))?;
-        set.rrsigs.push(next)?;
-    }
     let judged = MarkedSet {
         section: told.section,
-        set,
+        set: signed_set(alloc, told)?,
         mark: told.mark,
         sig: told.decider,
     };
@@ -155,13 +158,31 @@ fn judged(alloc: Global, told: &Told) -> Result<ChainedSet, Fail> {
     Ok(ChainedSet { judged, chain })
 }
 
-/// The step of a row ends as it says.
-pub(crate) fn ends(alloc: Global, row: &Row) -> Result<bool, Fail> {
+fn judged_sets(alloc: Global, all: &[Told]) -> Result<Vec<ChainedSet>, Fail> {
     let mut sets = Vec::new(alloc);
-    for told in row.told {
+    for told in all {
         sets.push(judged(alloc, told)?)?;
     }
-    let query = step_query(alloc, row)?;
-    let message = response(alloc, row)?;
-    Ok(outcome_of(alloc, &query, &message, &sets)? == row.outcome)
+    Ok(sets)
+}
+
+fn outcome_to(
+    alloc: Global,
+    query: &Query,
+    row: &Row,
+    sets: &[ChainedSet],
+) -> Result<Outcome, Fail> {
+    Ok(outcome_of(alloc, query, &response(alloc, row)?, sets)?)
+}
+
+/// How a step of these sets ends.
+fn outcome(alloc: Global, row: &Row, sets: &[ChainedSet]) -> Result<Outcome, Fail> {
+    let query = query(alloc, row.name, row.record_type)?;
+    outcome_to(alloc, &query, row, sets)
+}
+
+/// The step of a row ends as it says.
+pub(crate) fn ends(alloc: Global, row: &Row) -> Result<bool, Fail> {
+    let sets = judged_sets(alloc, row.told)?;
+    Ok(outcome(alloc, row, &sets)? == row.outcome)
 }

@@ -67,7 +67,7 @@ const ABSENT: Outcome = Outcome::Accepted(Denial::Absent(Proof::Secure));
 
 const EXPANDED: Outcome = Outcome::Accepted(Denial::Expanded(Proof::Secure));
 
-const DENIALS: [Row; 12] = [
+const DENIALS: &[Row] = &[
     NO_NAME,
     Row {
         shows: "one record that covers the name doesn't deny the wildcard",
@@ -178,7 +178,7 @@ const FROM_WILDCARD: Row = Row {
     outcome: EXPANDED,
 };
 
-const EXPANSIONS: [Row; 12] = [
+const EXPANSIONS: &[Row] = &[
     FROM_WILDCARD,
     Row {
         shows: "closer names aren't denied",
@@ -279,7 +279,7 @@ const EXPANSIONS: [Row; 12] = [
 
 #[test]
 fn secure_denials_decide(rt: HostRuntime) -> Result<(), Fail> {
-    for row in &DENIALS {
+    for row in DENIALS {
         assert!(rt; ends(rt.alloc(), row)?, "{}", row.shows);
     }
     Ok(())
@@ -287,7 +287,7 @@ fn secure_denials_decide(rt: HostRuntime) -> Result<(), Fail> {
 
 #[test]
 fn an_expansion_stands_only_beside_its_denial(rt: HostRuntime) -> Result<(), Fail> {
-    for row in &EXPANSIONS {
+    for row in EXPANSIONS {
         assert!(rt; ends(rt.alloc(), row)?, "{}", row.shows);
     }
     Ok(())

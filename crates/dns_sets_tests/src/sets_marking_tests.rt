@@ -1,7 +1,8 @@
-use crate::sets_tests::{A, Met, OVER_A, OVER_A_TOO, RRSIG, TXT, message, record};
+use crate::sets_tests::{A, Met, OVER_A, OVER_A_TOO, RRSIG, TXT, message, put, rdata, set_of};
+use dns_message::Message;
 use dns_name::Name;
 use dns_net::{Chain, DnsResponse, Link, Trail};
-use dns_record::{DNSClass, Denial, Proof, Rdata, Record, RecordSet, Section};
+use dns_record::{DNSClass, Denial, Proof, Record, RecordSet, Section};
 use dns_sets::*;
 use std::alloc::Global;
 use std::test::Fail;
@@ -28,7 +29,7 @@ const DECIDER: Met = Met {
 };
 
 /// The address in another case, its signatures, and a record of no judged set; the address again in another section.
-const TOLD: [Met; 5] = [
+const TOLD: &[Met] = &[
     Met {
         section: Section::Answer,
         owner: "A.",
@@ -51,156 +52,263 @@ const TOLD: [Met; 5] = [
     },
 ];
 
-/// The address's set with its two signatures, of which the second decided.
-fn signed_set(alloc: Global) -> Result<RecordSet, Fail> {
-    let mut set = RecordSet::of(alloc, record(alloc, &ADDRESS)?)?;
-    set.rrsigs.push(record(alloc, &SIGNATURE)?)?;
-    set.rrsigs.push(record(alloc, &DECIDER)?)?;
+/// A judged set: the address with these signatures, of which one decided.
+struct JudgedSet {
+    section: Section,
+    mark: Proof,
+    signatures: &'static [Met],
+    decider: u32,
+}
+
+fn signed_set(alloc: Global, signatures: &[Met]) -> Result<RecordSet, Fail> {
+    let mut set = set_of(alloc, &ADDRESS)?;
+    for signature in signatures {
+        put(alloc, &mut set.rrsigs, signature)?;
+    }
     Ok(set)
 }
 
-/// A link, by which the section of a chain is told from others: its key is the section's number.
+/// The key by which a section's chain is told from others.
+fn key_of(section: Section) -> &'static [u8] {
+    match section {
+        Section::Answer => b"\x01",
+        Section::Authority => b"\x02",
+        Section::Additional => b"\x03",
+    }
+}
+
 fn links(alloc: Global, section: Section) -> Result<Vec<Link>, Fail> {
-    let key = match section {
-        Section::Answer => Rdata::from_slice(alloc, b"\x01")?,
-        Section::Authority => Rdata::from_slice(alloc, b"\x02")?,
-        Section::Additional => Rdata::from_slice(alloc, b"\x03")?,
-    };
-    let owner = Name::root(alloc)?;
     let mut links = Vec::new(alloc);
-    links.push(Link::Anchored {
-        owner,
-        class: DNSClass::IN,
-        key,
-    })?;
+    links.push(link(alloc, section)?)?;
     Ok(links)
 }
 
-fn judged(alloc: Global, section: Section, mark: Proof) -> Result<ChainedSet, Fail> {
+fn link(alloc: Global, section: Section) -> Result<Link, Fail> {
+    Ok(Link::Anchored {
+        owner: Name::root(alloc)?,
+        class: DNSClass::IN,
+        key: rdata(alloc, key_of(section))?,
+    })
+}
+
+fn judged(alloc: Global, row: &JudgedSet) -> Result<ChainedSet, Fail> {
     let judged = MarkedSet {
-        section,
-        set: signed_set(alloc)?,
-        mark,
-        sig: Some(1),
+        section: row.section,
+        set: signed_set(alloc, row.signatures)?,
+        mark: row.mark,
+        sig: Some(row.decider),
     };
-    let chain = links(alloc, section)?;
+    let chain = links(alloc, row.section)?;
     Ok(ChainedSet { judged, chain })
 }
 
-/// The answer of a step whose set in the authority section has one mark and that in the answer section another.
-fn answer(alloc: Global, now: u64, mark: Proof, other: Proof) -> Result<DnsResponse, Fail> {
+fn judged_sets(alloc: Global, rows: &[JudgedSet]) -> Result<Vec<ChainedSet>, Fail> {
     let mut sets = Vec::new(alloc);
-    sets.push(judged(alloc, Section::Authority, other)?)?;
-    sets.push(judged(alloc, Section::Answer, mark)?)?;
-    let message = message(alloc, &TOLD)?;
-    let trail = Trail::new(alloc);
-    Ok(finished(alloc, now, sets, message, Denial::None, trail)?)
+    for row in rows {
+        sets.push(judged(alloc, row)?)?;
+    }
+    Ok(sets)
 }
 
-fn is_marked(record: Option<&Record>, mark: Proof, ttl: u32) -> bool {
-    match record {
+/// The answer of a step of these sets and records.
+fn answer(alloc: Global, now: u64, rows: &[JudgedSet], told: &[Met]) -> Result<DnsResponse, Fail> {
+    let message = message(alloc, told)?;
+    let sets = judged_sets(alloc, rows)?;
+    Ok(finished(alloc, now, sets, message, Denial::None, Trail::new(alloc))?)
+}
+
+const BOTH_SIGNATURES: &[Met] = &[SIGNATURE, DECIDER];
+
+/// A set in the authority section, of which the second signature decided.
+const IN_AUTHORITY: JudgedSet = JudgedSet {
+    section: Section::Authority,
+    mark: Proof::Bogus,
+    signatures: BOTH_SIGNATURES,
+    decider: 1,
+};
+
+const IN_ANSWER: JudgedSet = JudgedSet {
+    section: Section::Answer,
+    mark: Proof::Secure,
+    ..IN_AUTHORITY
+};
+
+const SECURE: &[JudgedSet] = &[IN_AUTHORITY, IN_ANSWER];
+
+const INSECURE: &[JudgedSet] = &[
+    IN_AUTHORITY,
+    JudgedSet {
+        mark: Proof::Insecure,
+        ..IN_ANSWER
+    },
+];
+
+const BOTH_BOGUS: &[JudgedSet] = &[
+    IN_AUTHORITY,
+    JudgedSet {
+        mark: Proof::Bogus,
+        ..IN_ANSWER
+    },
+];
+
+/// The judged sets and the moment of a step, and what the address and the signature that decided get.
+struct Left {
+    shows: &'static str,
+    sets: &'static [JudgedSet],
+    now: u64,
+    mark: Proof,
+    ttl: u32,
+}
+
+/// The signature's original ttl is 200, and it ends at second 1000.
+const LEFT: &[Left] = &[
+    Left {
+        shows: "the original ttl is less than its own",
+        sets: SECURE,
+        now: 500,
+        mark: Proof::Secure,
+        ttl: 200,
+    },
+    Left {
+        shows: "what the signature is still valid for is less",
+        sets: SECURE,
+        now: 900,
+        mark: Proof::Secure,
+        ttl: 100,
+    },
+    Left {
+        shows: "2^32 seconds later too",
+        sets: SECURE,
+        now: 4_294_968_246,
+        mark: Proof::Secure,
+        ttl: 50,
+    },
+    Left {
+        shows: "an Insecure record keeps its ttl",
+        sets: INSECURE,
+        now: 900,
+        mark: Proof::Insecure,
+        ttl: 300,
+    },
+    Left {
+        shows: "a Bogus record too",
+        sets: BOTH_BOGUS,
+        now: 900,
+        mark: Proof::Bogus,
+        ttl: 300,
+    },
+];
+
+fn is_marked(records: &[Record], place: usize, mark: Proof, ttl: u32) -> bool {
+    match records.get(place) {
         Some(record) => record.proof == mark && record.ttl == ttl,
         None => false,
     }
 }
 
-/// The address and the signature that decided have this mark and ttl; the others have none, and their own ttl.
-fn leaves(alloc: Global, now: u64, mark: Proof, ttl: u32) -> Result<bool, Fail> {
-    let answer = answer(alloc, now, mark, Proof::Bogus)?;
-    let records = answer.message.answers.as_slice();
-    let by_set = is_marked(records.first(), mark, ttl) && is_marked(records.get(2), mark, ttl);
-    let none = Proof::Indeterminate;
-    let apart = is_marked(records.get(1), none, 300) && is_marked(records.get(3), none, 300);
-    let authorities = answer.message.authorities.as_slice();
-    Ok(by_set && apart && is_marked(authorities.first(), Proof::Bogus, 300))
+fn is_unmarked(records: &[Record], place: usize) -> bool {
+    is_marked(records, place, Proof::Indeterminate, 300)
+}
+
+/// The address and the signature that decided have the row's mark and ttl; the others have none, and their own ttl.
+fn is_left(message: &Message, row: &Left) -> bool {
+    is_marked(&message.answers, 0, row.mark, row.ttl)
+        && is_unmarked(&message.answers, 1)
+        && is_marked(&message.answers, 2, row.mark, row.ttl)
+        && is_unmarked(&message.answers, 3)
+        && is_marked(&message.authorities, 0, Proof::Bogus, 300)
+}
+
+fn leaves(alloc: Global, row: &Left) -> Result<bool, Fail> {
+    let answer = answer(alloc, row.now, row.sets, TOLD)?;
+    Ok(is_left(&answer.message, row))
 }
 
 #[test]
 fn records_are_marked_by_their_sets(rt: HostRuntime) -> Result<(), Fail> {
-    let alloc = rt.alloc();
-    // the signature's original ttl is 200, and it ends at second 1000
-    assert!(rt; leaves(alloc, 500, Proof::Secure, 200)?);
-    assert!(rt; leaves(alloc, 900, Proof::Secure, 100)?);
-    assert!(rt; leaves(alloc, 4_294_968_246, Proof::Secure, 50)?);
-    assert!(rt; leaves(alloc, 900, Proof::Insecure, 300)?);
-    assert!(rt; leaves(alloc, 900, Proof::Bogus, 300)?);
+    for row in LEFT {
+        assert!(rt; leaves(rt.alloc(), row)?, "{}", row.shows);
+    }
     Ok(())
 }
 
-/// The address, a signature, and another one twice.
-const TOLD_TWICE: [Met; 4] = [ADDRESS, SIGNATURE, DECIDER, DECIDER];
+/// A set of the answer section that has a signature twice.
+const SIGNED_TWICE: JudgedSet = JudgedSet {
+    signatures: &[SIGNATURE, DECIDER, DECIDER],
+    ..IN_ANSWER
+};
 
-/// The records of an answer whose set has a signature twice and was decided by the signature at this place.
-fn answers_decided_by(alloc: Global, place: u32) -> Result<Vec<Record>, Fail> {
-    let mut set = signed_set(alloc)?;
-    set.rrsigs.push(record(alloc, &DECIDER)?)?;
-    let mut sets = Vec::new(alloc);
-    let judged = MarkedSet {
-        section: Section::Answer,
-        set,
-        mark: Proof::Secure,
-        sig: Some(place),
-    };
-    let chain = links(alloc, Section::Answer)?;
-    sets.push(ChainedSet { judged, chain })?;
-    let message = message(alloc, &TOLD_TWICE)?;
-    let trail = Trail::new(alloc);
-    let answer = finished(alloc, 500, sets, message, Denial::None, trail)?;
-    Ok(answer.message.answers)
+const FIRST_DECIDES: &[JudgedSet] = &[SIGNED_TWICE];
+
+const SECOND_DECIDES: &[JudgedSet] = &[JudgedSet {
+    decider: 2,
+    ..SIGNED_TWICE
+}];
+
+/// The address, a signature, and another one twice.
+const TOLD_TWICE: &[Met] = &[ADDRESS, SIGNATURE, DECIDER, DECIDER];
+
+/// Of the records at two places of an answer the first is marked, and the second isn't.
+fn marks_one(alloc: Global, sets: &[JudgedSet], marked: usize, other: usize) -> Result<bool, Fail> {
+    let answer = answer(alloc, 500, sets, TOLD_TWICE)?;
+    let records = answer.message.answers.as_slice();
+    Ok(is_marked(records, marked, Proof::Secure, 200) && is_unmarked(records, other))
 }
 
 #[test]
 fn a_copy_of_the_deciding_signature_is_not_marked(rt: HostRuntime) -> Result<(), Fail> {
-    let first = answers_decided_by(rt.alloc(), 1)?;
-    assert!(rt; is_marked(first.get(2), Proof::Secure, 200));
-    assert!(rt; is_marked(first.get(3), Proof::Indeterminate, 300));
-    let second = answers_decided_by(rt.alloc(), 2)?;
-    assert!(rt; is_marked(second.get(2), Proof::Indeterminate, 300));
-    assert!(rt; is_marked(second.get(3), Proof::Secure, 200));
+    assert!(rt; marks_one(rt.alloc(), FIRST_DECIDES, 2, 3)?);
+    assert!(rt; marks_one(rt.alloc(), SECOND_DECIDES, 3, 2)?);
     Ok(())
 }
 
-fn is_chain_of(chain: &Chain, section: Section, key: &[u8]) -> bool {
+const SECURE_BESIDE_INSECURE: &[JudgedSet] = &[
+    JudgedSet {
+        mark: Proof::Insecure,
+        ..IN_AUTHORITY
+    },
+    IN_ANSWER,
+];
+
+const BOTH_SECURE: &[JudgedSet] = &[
+    JudgedSet {
+        mark: Proof::Secure,
+        ..IN_AUTHORITY
+    },
+    IN_ANSWER,
+];
+
+fn is_chain_of(chain: &Chain, section: Section) -> bool {
     match chain.links.first() {
-        Some(Link::Anchored { key: found, .. }) => {
-            chain.section == section && found.as_slice() == key
+        Some(Link::Anchored { key, .. }) => {
+            chain.section == section && key.as_slice() == key_of(section)
         }
         _ => false,
     }
 }
 
-fn answer_key() -> &'static [u8] {
-    b"\x01"
+/// There is a chain for the set of each of these sections, in their order.
+fn has_chains(alloc: Global, sets: &[JudgedSet], sections: &[Section]) -> Result<bool, Fail> {
+    let answer = answer(alloc, 500, sets, TOLD)?;
+    Ok(are_chains_of(&answer.chains, sections))
 }
 
-fn authority_key() -> &'static [u8] {
-    b"\x02"
-}
-
-/// There is a chain for the answer section's set alone.
-fn has_one_chain(alloc: Global) -> Result<bool, Fail> {
-    let answer = answer(alloc, 500, Proof::Secure, Proof::Insecure)?;
-    match answer.chains.as_slice() {
-        [only] => Ok(is_chain_of(only, Section::Answer, answer_key())),
-        _ => Ok(false),
+fn are_chains_of(chains: &[Chain], sections: &[Section]) -> bool {
+    for (chain, section) in chains.iter().zip(sections.iter()) {
+        if !is_chain_of(chain, *section) {
+            return false;
+        }
     }
+    chains.len() == sections.len()
 }
 
-/// There is a chain for each of the two sets, in their order.
-fn has_two_chains(alloc: Global) -> Result<bool, Fail> {
-    let answer = answer(alloc, 500, Proof::Secure, Proof::Secure)?;
-    match answer.chains.as_slice() {
-        [first, second] => Ok(
-            is_chain_of(first, Section::Authority, authority_key())
-                && is_chain_of(second, Section::Answer, answer_key()),
-        ),
-        _ => Ok(false),
-    }
-}
+const ONE_SECTION: &[Section] = &[Section::Answer];
+
+const TWO_SECTIONS: &[Section] = &[Section::Authority, Section::Answer];
 
 #[test]
 fn secure_sets_have_their_chains(rt: HostRuntime) -> Result<(), Fail> {
-    assert!(rt; has_one_chain(rt.alloc())?);
-    assert!(rt; has_two_chains(rt.alloc())?);
+    assert!(rt; has_chains(rt.alloc(), SECURE_BESIDE_INSECURE, ONE_SECTION)?);
+    assert!(rt; has_chains(rt.alloc(), BOTH_SECURE, TWO_SECTIONS)?);
     Ok(())
 }

@@ -1,10 +1,9 @@
 use crate::judged_steps::{
     ANSWER, APEX, BOGUS, BY_EXAMPLE, COVERS_ML, NO_NAME, PLAIN, Row, Told, UNSIGNED, ends,
 };
-use crate::sets_tests::{
-    A, CNAME, Met, OVER_CNAME, OVER_EXPANDED, RRSIG, TXT, message, query, record,
-};
-use dns_record::{DNSClass, Denial, Proof, RecordType, Section};
+use crate::sets_tests::{A, CNAME, Met, OVER_CNAME, OVER_EXPANDED, RRSIG, TXT, message, query};
+use dns_message::Message;
+use dns_record::{DNSClass, Denial, Proof, Query, Record, RecordType, Section};
 use dns_sets::*;
 use std::alloc::Global;
 use std::test::Fail;
@@ -45,27 +44,51 @@ const EXPANDED: Met = Met {
     rdata: OVER_EXPANDED,
 };
 
-const UNANSWERED: [Met; 2] = [OTHER_NAME, OTHER_TYPE];
+const UNANSWERED: &[Met] = &[OTHER_NAME, OTHER_TYPE];
 
-const ANSWERED: [Met; 4] = [OTHER_NAME, OTHER_TYPE, ALIAS, SIGNED];
+const ANSWERED: &[Met] = &[OTHER_NAME, OTHER_TYPE, ALIAS, SIGNED];
 
-const FROM_WILDCARD: [Met; 3] = [ALIAS, SIGNED, EXPANDED];
+const FROM_WILDCARD: &[Met] = &[ALIAS, SIGNED, EXPANDED];
 
-/// How a step ends whose query is for A records of `A.`, and whose sets aren't Secure.
+/// The records of a response, and how a step ends whose query is for A records of `A.`, and whose sets aren't Secure.
+struct Ended {
+    records: &'static [Met],
+    outcome: Outcome,
+}
+
+const ENDED: &[Ended] = &[
+    Ended {
+        records: &[],
+        outcome: Outcome::Searched,
+    },
+    Ended {
+        records: UNANSWERED,
+        outcome: Outcome::Searched,
+    },
+    Ended {
+        records: ANSWERED,
+        outcome: Outcome::Accepted(Denial::None),
+    },
+    Ended {
+        records: FROM_WILDCARD,
+        outcome: Outcome::Searched,
+    },
+];
+
+fn outcome_to(alloc: Global, query: &Query, records: &[Met]) -> Result<Outcome, Fail> {
+    Ok(outcome_of(alloc, query, &message(alloc, records)?, &[])?)
+}
+
 fn outcome(alloc: Global, records: &[Met]) -> Result<Outcome, Fail> {
-    let query = query(alloc, "A.")?;
-    let message = message(alloc, records)?;
-    let sets: Vec<ChainedSet> = Vec::new(alloc);
-    Ok(outcome_of(alloc, &query, &message, &sets)?)
+    outcome_to(alloc, &query(alloc, "A.", RecordType::A)?, records)
 }
 
 #[test]
 fn a_step_ends_by_its_records(rt: HostRuntime) -> Result<(), Fail> {
-    let alloc = rt.alloc();
-    assert!(rt; outcome(alloc, &[])? == Outcome::Searched);
-    assert!(rt; outcome(alloc, &UNANSWERED)? == Outcome::Searched);
-    assert!(rt; outcome(alloc, &ANSWERED)? == Outcome::Accepted(Denial::None));
-    assert!(rt; outcome(alloc, &FROM_WILDCARD)? == Outcome::Searched);
+    for row in ENDED {
+        let found = outcome(rt.alloc(), row.records)?;
+        assert!(rt; found == row.outcome, "{} records", row.records.len());
+    }
     Ok(())
 }
 
@@ -81,7 +104,7 @@ const NSEC3: Told = Told {
 
 const ABSENT_INSECURE: Outcome = Outcome::Accepted(Denial::Absent(Proof::Insecure));
 
-const OTHERS: [Row; 16] = [
+const OTHERS: &[Row] = &[
     ANSWER,
     Row {
         shows: "an answer that is no expansion has no denial beside it",
@@ -235,50 +258,93 @@ const OTHERS: [Row; 16] = [
 
 #[test]
 fn a_step_without_denials_ends_by_its_other_sets(rt: HostRuntime) -> Result<(), Fail> {
-    for row in &OTHERS {
+    for row in OTHERS {
         assert!(rt; ends(rt.alloc(), row)?, "{}", row.shows);
     }
     Ok(())
 }
 
-/// How a step ends whose zone was searched, by the mark that the zone of its query leaves to what is unsigned.
+/// The records of a response, the mark that the zone of its query leaves to what is unsigned, and how a step ends whose zone was
+/// searched.
+struct EndedInZone {
+    records: &'static [Met],
+    mark: Proof,
+    outcome: Outcome,
+}
+
+const ENDED_IN_ZONE: &[EndedInZone] = &[
+    EndedInZone {
+        records: FROM_WILDCARD,
+        mark: Proof::Insecure,
+        outcome: Outcome::Accepted(Denial::None),
+    },
+    EndedInZone {
+        records: UNANSWERED,
+        mark: Proof::Insecure,
+        outcome: ABSENT_INSECURE,
+    },
+    EndedInZone {
+        records: FROM_WILDCARD,
+        mark: Proof::Bogus,
+        outcome: BOGUS,
+    },
+];
+
 fn outcome_in_zone(alloc: Global, records: &[Met], mark: Proof) -> Result<Outcome, Fail> {
-    let query = query(alloc, "A.")?;
+    let query = query(alloc, "A.", RecordType::A)?;
     let message = message(alloc, records)?;
     Ok(outcome_by_zone(&query, &message, mark))
 }
 
 #[test]
 fn a_searched_step_ends_by_its_zone(rt: HostRuntime) -> Result<(), Fail> {
-    let alloc = rt.alloc();
-    let answered = outcome_in_zone(alloc, &FROM_WILDCARD, Proof::Insecure)?;
-    assert!(rt; answered == Outcome::Accepted(Denial::None));
-    let absent = outcome_in_zone(alloc, &UNANSWERED, Proof::Insecure)?;
-    assert!(rt; absent == Outcome::Accepted(Denial::Absent(Proof::Insecure)));
-    let refused = outcome_in_zone(alloc, &FROM_WILDCARD, Proof::Bogus)?;
-    assert!(rt; refused == Outcome::Denied(Proof::Bogus));
+    for row in ENDED_IN_ZONE {
+        let found = outcome_in_zone(rt.alloc(), row.records, row.mark)?;
+        assert!(rt; found == row.outcome, "{} records", row.records.len());
+    }
     Ok(())
 }
 
-/// The type of the first record of another class than the query's, where the additional section has a CH record of this type.
-fn foreign_type(alloc: Global, record_type: u16) -> Result<Option<u16>, Fail> {
-    let query = query(alloc, "A.")?;
-    let mut message = message(alloc, &ANSWERED)?;
-    if record_type != 0 {
-        let mut foreign = record(alloc, &OTHER_TYPE)?;
-        foreign.record_type.0 = record_type;
-        foreign.dns_class = DNSClass::CH;
-        message.additionals.push(foreign)?;
+/// The same beside a record in the additional section, which gets the class CH.
+const BESIDE_FOREIGN: &[Met] = &[
+    OTHER_NAME,
+    OTHER_TYPE,
+    ALIAS,
+    SIGNED,
+    Met {
+        section: Section::Additional,
+        ..OTHER_TYPE
+    },
+];
+
+fn make_foreign(records: &mut Vec<Record>) {
+    for record in records {
+        record.dns_class = DNSClass::CH;
     }
-    match foreign_record(&query, &message) {
-        Some(found) => Ok(Some(found.record_type.0)),
-        None => Ok(None),
+}
+
+fn type_of(found: Option<&Record>) -> u16 {
+    match found {
+        Some(record) => record.record_type.0,
+        None => 0,
     }
+}
+
+fn foreign_type_in(alloc: Global, message: &Message) -> Result<u16, Fail> {
+    let query = query(alloc, "A.", RecordType::A)?;
+    Ok(type_of(foreign_record(&query, message)))
+}
+
+/// The type of the first record of another class than the query's, or 0 where there is none.
+fn foreign_type(alloc: Global, records: &[Met]) -> Result<u16, Fail> {
+    let mut message = message(alloc, records)?;
+    make_foreign(&mut message.additionals);
+    foreign_type_in(alloc, &message)
 }
 
 #[test]
 fn a_record_of_another_class_is_found(rt: HostRuntime) -> Result<(), Fail> {
-    assert!(rt; foreign_type(rt.alloc(), 0)?.is_none());
-    assert!(rt; foreign_type(rt.alloc(), TXT)? == Some(TXT));
+    assert!(rt; foreign_type(rt.alloc(), ANSWERED)? == 0);
+    assert!(rt; foreign_type(rt.alloc(), BESIDE_FOREIGN)? == TXT);
     Ok(())
 }

@@ -1,7 +1,7 @@
 use dns_message::Message;
 use dns_name::Name;
 use dns_net::{DnsRequest, DnsRequestOptions};
-use dns_record::{DNSClass, Proof, Query, Rdata, Record, RecordType, Section};
+use dns_record::{DNSClass, Proof, Query, Rdata, Record, RecordSet, RecordType, Section};
 use dns_sets::*;
 use std::alloc::Global;
 use std::test::Fail;
@@ -40,45 +40,61 @@ const OVER_SOA: &[u8] = b"\0\x06\x08\0\0\0\0\xc8\0\0\x03\xe8\0\0\0\0\0\x01\0\x01
 
 const OVER_TXT: &[u8] = b"\0\x10\x08\x01\0\0\0\xc8\0\0\x03\xe8\0\0\0\0\0\x01\0\x01";
 
-pub(crate) fn record(alloc: Global, met: &Met) -> Result<Record, Fail> {
-    if met.rdata.len() > 65535 {
+pub(crate) fn rdata(alloc: Global, bytes: &[u8]) -> Result<Rdata, Fail> {
+    if bytes.len() > 65535 {
         return Err("too long".into());
     }
+    Ok(Rdata::from_slice(alloc, bytes)?)
+}
+
+pub(crate) fn record(alloc: Global, met: &Met) -> Result<Record, Fail> {
     Ok(Record {
         name: Name::from_ascii(alloc, met.owner)?,
         record_type: RecordType(met.record_type),
         dns_class: DNSClass::IN,
         ttl: 300,
-        rdata: Rdata::from_slice(alloc, met.rdata)?,
+        rdata: rdata(alloc, met.rdata)?,
         proof: Proof::Secure,
     })
 }
 
-pub(crate) fn add(alloc: Global, message: &mut Message, met: &Met) -> Result<(), Fail> {
-    let record = record(alloc, met)?;
-    match met.section {
-        Section::Answer => message.answers.push(record)?,
-        Section::Authority => message.authorities.push(record)?,
-        Section::Additional => message.additionals.push(record)?,
-    }
+pub(crate) fn put(alloc: Global, records: &mut Vec<Record>, met: &Met) -> Result<(), Fail> {
+    records.push(record(alloc, met)?)?;
     Ok(())
 }
 
-pub(crate) fn query(alloc: Global, owner: &str) -> Result<Query, Fail> {
+/// The set of one record, without a signature.
+pub(crate) fn set_of(alloc: Global, met: &Met) -> Result<RecordSet, Fail> {
+    Ok(RecordSet::of(alloc, record(alloc, met)?)?)
+}
+
+pub(crate) fn records_of(message: &mut Message, section: Section) -> &mut Vec<Record> {
+    match section {
+        Section::Answer => &mut message.answers,
+        Section::Authority => &mut message.authorities,
+        Section::Additional => &mut message.additionals,
+    }
+}
+
+pub(crate) fn query(alloc: Global, owner: &str, record_type: RecordType) -> Result<Query, Fail> {
     Ok(Query {
         name: Name::from_ascii(alloc, owner)?,
-        query_type: RecordType(A),
+        query_type: record_type,
         query_class: DNSClass::IN,
     })
 }
 
+/// A message without records.
+pub(crate) fn bare_message(alloc: Global) -> Result<Message, Fail> {
+    let query = query(alloc, "a.", RecordType::A)?;
+    Ok(DnsRequest::from_query(alloc, query, DnsRequestOptions::default())?.message)
+}
+
 /// A message of these records.
 pub(crate) fn message(alloc: Global, records: &[Met]) -> Result<Message, Fail> {
-    let query = query(alloc, "a.")?;
-    let request = DnsRequest::from_query(alloc, query, DnsRequestOptions::default())?;
-    let mut message = request.message;
+    let mut message = bare_message(alloc)?;
     for met in records {
-        add(alloc, &mut message, met)?;
+        put(alloc, records_of(&mut message, met.section), met)?;
     }
     Ok(message)
 }
@@ -91,7 +107,7 @@ struct Grouped {
     signatures: usize,
 }
 
-const GROUPED: [Grouped; 4] = [
+const GROUPED: &[Grouped] = &[
     Grouped {
         section: Section::Answer,
         record_type: A,
@@ -119,7 +135,7 @@ const GROUPED: [Grouped; 4] = [
 ];
 
 /// The sets that are judged below the top, here the SOA record's alone.
-const GROUPED_BELOW: [Grouped; 1] = [Grouped {
+const GROUPED_BELOW: &[Grouped] = &[Grouped {
     section: Section::Authority,
     record_type: SOA,
     records: 1,
@@ -128,7 +144,7 @@ const GROUPED_BELOW: [Grouped; 1] = [Grouped {
 
 /// A signature before its set, a name in another case, a signature that can't be read, one that covers nothing, and one in
 /// another section than what it covers.
-const MET: [Met; 9] = [
+const MET: &[Met] = &[
     Met {
         section: Section::Answer,
         owner: "A.",
@@ -192,25 +208,25 @@ fn is_grouped(placed: &PlacedSet, want: &Grouped) -> bool {
         && placed.set.rrsigs.len() == want.signatures
 }
 
-/// The records make these sets at a depth.
-fn are_grouped(alloc: Global, depth: u16, want: &[Grouped]) -> Result<bool, Fail> {
-    let message = message(alloc, &MET)?;
-    let placed = placed_sets(alloc, depth, &message)?;
-    if placed.len() != want.len() {
-        return Ok(false);
-    }
+fn are_grouped(placed: &[PlacedSet], want: &[Grouped]) -> bool {
     for (placed, want) in placed.iter().zip(want.iter()) {
         if !is_grouped(placed, want) {
-            return Ok(false);
+            return false;
         }
     }
-    Ok(true)
+    placed.len() == want.len()
+}
+
+/// The records make these sets at a depth.
+fn makes(alloc: Global, depth: u16, want: &[Grouped]) -> Result<bool, Fail> {
+    let message = message(alloc, MET)?;
+    Ok(are_grouped(&placed_sets(alloc, depth, &message)?, want))
 }
 
 #[test]
 fn records_are_grouped_into_sets(rt: HostRuntime) -> Result<(), Fail> {
-    assert!(rt; are_grouped(rt.alloc(), 0, &GROUPED)?);
-    assert!(rt; are_grouped(rt.alloc(), 1, &GROUPED_BELOW)?);
+    assert!(rt; makes(rt.alloc(), 0, GROUPED)?);
+    assert!(rt; makes(rt.alloc(), 1, GROUPED_BELOW)?);
     Ok(())
 }
 
@@ -220,15 +236,17 @@ fn is_unmarked(records: &[Record]) -> bool {
         .all(|record| record.proof == Proof::Indeterminate)
 }
 
+fn are_unmarked(message: &Message) -> bool {
+    is_unmarked(&message.answers)
+        && is_unmarked(&message.authorities)
+        && is_unmarked(&message.additionals)
+}
+
 /// Marks from outside are cleared in each section.
 fn are_cleared(alloc: Global) -> Result<bool, Fail> {
-    let mut message = message(alloc, &MET)?;
+    let mut message = message(alloc, MET)?;
     clear_marks(&mut message);
-    Ok(
-        is_unmarked(&message.answers)
-            && is_unmarked(&message.authorities)
-            && is_unmarked(&message.additionals),
-    )
+    Ok(are_unmarked(&message))
 }
 
 #[test]

@@ -1,7 +1,4 @@
-use dns_name::{Name, Octets};
-use dns_trust::{Listed, TrustAnchors};
-use std::alloc::Global;
-use std::test::Fail;
+use crate::parts::{Accepted, PUBLIC_KEY, TRUSTED_ROOT, Trusted};
 
 /// The root's anchored key, and its second key.
 pub(crate) const ROOT_KEY: &[u8] = b"\x01\x01\x03\x0d\xaa\xbb";
@@ -65,40 +62,52 @@ const KEYS_BYTES: &[u8] =
 const HOST_BYTES: &[u8] =
     b"\0\x01\x0d\x02\0\0\x0e\x10\0\0\x07\xd0\0\0\x03\x84\xe5\x0e\x07example\0\x03www\x07example\0\0\x01\0\x01\0\0\x0e\x10\0\x04\xc0\0\x02\x01";
 
-const ACCEPTED: &[(&[u8], &[u8])] = &[
-    (b"\xaa\xbb", ROOT_BYTES),
-    (b"\xcc\xdd", DS_BYTES),
-    (b"\xaa\xbb", HOST_KEY_BYTES),
-    (b"\xaa\xbb", TWO_DS_BYTES),
-    (b"\xe1", KEYS_BYTES),
-    (b"\xe1", HOST_BYTES),
+/// A signature by the root's first key over the set of the two DS.
+const BY_ROOT: Accepted = Accepted {
+    key: PUBLIC_KEY,
+    bytes: TWO_DS_BYTES,
+    signature: b"\xc0\xde",
+};
+
+/// A signature by the key of `example.` over its keys.
+const BY_EXAMPLE: Accepted = Accepted {
+    key: b"\xe1",
+    bytes: KEYS_BYTES,
+    ..BY_ROOT
+};
+
+/// What the verifier of all chains here accepts.
+pub(crate) const ACCEPTED: &[Accepted] = &[
+    Accepted {
+        bytes: ROOT_BYTES,
+        ..BY_ROOT
+    },
+    Accepted {
+        key: b"\xcc\xdd",
+        bytes: DS_BYTES,
+        ..BY_ROOT
+    },
+    Accepted {
+        bytes: HOST_KEY_BYTES,
+        ..BY_ROOT
+    },
+    BY_ROOT,
+    BY_EXAMPLE,
+    Accepted {
+        bytes: HOST_BYTES,
+        ..BY_EXAMPLE
+    },
 ];
 
-/// The verifier of all chains here: algorithm 13, and these signatures.
-pub(crate) fn verifier(alloc: Global) -> Result<Listed, Fail> {
-    let mut listed = Listed::new(alloc);
-    listed.support(13);
-    for (key, bytes) in ACCEPTED {
-        listed.accept(13, *key, *bytes, b"\xc0\xde")?;
-    }
-    Ok(listed)
-}
-
-/// Trust in one key of a zone.
-fn trust(anchors: &mut TrustAnchors, alloc: Global, owner: &str, key: &[u8]) -> Result<(), Fail> {
-    let owner = Name::from_ascii(alloc, owner)?;
-    let key = Octets::from_slice(alloc, key)?;
-    let _new = anchors.insert_with_name(owner, 13, key)?;
-    Ok(())
-}
-
-/// The anchors of all chains here: the root's key, and two keys of `example.` where they are wanted.
-pub(crate) fn anchors(alloc: Global, below: bool) -> Result<TrustAnchors, Fail> {
-    let mut anchors = TrustAnchors::empty(alloc);
-    trust(&mut anchors, alloc, ".", b"\xaa\xbb")?;
-    if below {
-        trust(&mut anchors, alloc, "example.", b"\xe2")?;
-        trust(&mut anchors, alloc, "example.", b"\xe3")?;
-    }
-    Ok(anchors)
-}
+/// The anchors of chains that need no more than the root's key and two keys of `example.`
+pub(crate) const ROOT_AND_BELOW: &[Trusted] = &[
+    TRUSTED_ROOT,
+    Trusted {
+        owner: "example.",
+        key: b"\xe2",
+    },
+    Trusted {
+        owner: "example.",
+        key: b"\xe3",
+    },
+];

@@ -1,4 +1,5 @@
-use crate::parts::*;
+use crate::chain_values::*;
+use crate::parts::{Trust, Trusted, rdata, trust_in};
 use dns_chain_check::check_chain;
 use dns_name::Name;
 use dns_net::{Chain, Link};
@@ -131,87 +132,132 @@ pub(crate) const WHOLE_KEYS: Row = Row {
     ..ANCHOR
 };
 
-fn rdata(alloc: Global, bytes: &[u8]) -> Result<Rdata, Fail> {
-    if bytes.len() > 65535 {
-        return Err("too long".into());
+/// A chain: a letter for each link, of which x, y and z are the first, second and third of the other rows.
+pub(crate) struct Case {
+    pub(crate) links: &'static str,
+    pub(crate) others: &'static [Row],
+}
+
+/// The row of a letter.
+fn row_of(case: &Case, letter: u8) -> Option<&Row> {
+    match letter {
+        b'A' => Some(&ANCHOR),
+        b'R' => Some(&ROOT_KEYS),
+        b'D' => Some(&DS_SET),
+        b'M' => Some(&MATCHED),
+        b'K' => Some(&KEYS),
+        b'H' => Some(&HOST),
+        b'W' => Some(&WHOLE_ROOT),
+        b'T' => Some(&TWO_DS),
+        b'S' => Some(&SECOND_ANCHOR),
+        b'L' => Some(&LAST_ANCHOR),
+        b'E' => Some(&WHOLE_KEYS),
+        b'x' => case.others.first(),
+        b'y' => case.others.get(1),
+        _ => case.others.get(2),
     }
-    Ok(Rdata::from_slice(alloc, bytes)?)
 }
 
 fn rdatas(alloc: Global, all: &[&[u8]]) -> Result<Vec<Rdata>, Fail> {
     let mut rdatas = Vec::new(alloc);
     for bytes in all {
-        let next = rdata(alloc, *bytes)?;
-        rdatas.push(next)?;
+        rdatas.push(rdata(alloc, bytes)?)?;
     }
     Ok(rdatas)
 }
 
-fn key_set(alloc: Global, row: &Row, owner: Name) -> Result<Link, Fail> {
-    let mut links = Vec::new(alloc);
-    for number in row.numbers {
-        links.push(*number)?;
+fn numbers(alloc: Global, all: &[u32]) -> Result<Vec<u32>, Fail> {
+    let mut numbers = Vec::new(alloc);
+    for number in all {
+        numbers.push(*number)?;
     }
-    Ok(Link::KeySet {
-        owner,
+    Ok(numbers)
+}
+
+fn owner(alloc: Global, row: &Row) -> Result<Name, Fail> {
+    Ok(Name::from_ascii(alloc, row.owner)?)
+}
+
+fn anchored(alloc: Global, row: &Row) -> Result<Link, Fail> {
+    Ok(Link::Anchored {
+        owner: owner(alloc, row)?,
         class: DNSClass(row.class),
-        keys: rdatas(alloc, row.rdatas)?,
-        links,
+        key: rdata(alloc, row.key)?,
     })
 }
 
-fn signed(alloc: Global, row: &Row, owner: Name, key: Rdata) -> Result<Link, Fail> {
-    let rdatas = rdatas(alloc, row.rdatas)?;
+fn matched(alloc: Global, row: &Row) -> Result<Link, Fail> {
+    Ok(Link::Matched {
+        owner: owner(alloc, row)?,
+        class: DNSClass(row.class),
+        key: rdata(alloc, row.key)?,
+        ds_link: row.number,
+        ds: rdata(alloc, row.by)?,
+    })
+}
+
+fn key_set(alloc: Global, row: &Row) -> Result<Link, Fail> {
+    Ok(Link::KeySet {
+        owner: owner(alloc, row)?,
+        class: DNSClass(row.class),
+        keys: rdatas(alloc, row.rdatas)?,
+        links: numbers(alloc, row.numbers)?,
+    })
+}
+
+fn signed(alloc: Global, row: &Row) -> Result<Link, Fail> {
     Ok(Link::Signed {
-        owner,
+        owner: owner(alloc, row)?,
         class: DNSClass(row.class),
         record_type: RecordType(row.record_type),
-        rdatas,
+        rdatas: rdatas(alloc, row.rdatas)?,
         sig: rdata(alloc, row.by)?,
         key_link: row.number,
-        key,
+        key: rdata(alloc, row.key)?,
     })
 }
 
 fn link(alloc: Global, row: &Row) -> Result<Link, Fail> {
-    let owner = Name::from_ascii(alloc, row.owner)?;
-    let key = rdata(alloc, row.key)?;
-    let class = DNSClass(row.class);
     match row.kind {
-        Kind::Anchored => Ok(Link::Anchored { owner, class, key }),
-        Kind::Matched => Ok(Link::Matched {
-            owner,
-            class,
-            key,
-            ds_link: row.number,
-            ds: rdata(alloc, row.by)?,
-        }),
-        Kind::KeySet => key_set(alloc, row, owner),
-        Kind::Signed => signed(alloc, row, owner, key),
+        Kind::Anchored => anchored(alloc, row),
+        Kind::Matched => matched(alloc, row),
+        Kind::KeySet => key_set(alloc, row),
+        Kind::Signed => signed(alloc, row),
     }
 }
 
-fn chain(alloc: Global, rows: &[Row]) -> Result<Chain, Fail> {
+fn put_link(alloc: Global, links: &mut Vec<Link>, case: &Case, letter: u8) -> Result<(), Fail> {
+    let Some(row) = row_of(case, letter) else {
+        return Err("no row".into());
+    };
+    links.push(link(alloc, row)?)?;
+    Ok(())
+}
+
+fn links(alloc: Global, case: &Case) -> Result<Vec<Link>, Fail> {
     let mut links = Vec::new(alloc);
-    for row in rows {
-        let next = link(alloc, row)?;
-        links.push(next)?;
+    for letter in case.links.as_bytes() {
+        put_link(alloc, &mut links, case, *letter)?;
     }
-    Ok(Chain {
-        section: Section::Answer,
-        links,
-    })
+    Ok(links)
 }
 
-/// What the call finds of a chain at a moment; the keys of `example.` are anchors where that is wanted.
+/// What the call finds of a chain at a moment.
+fn is_justified_by(alloc: Global, trust: &Trust, case: &Case, now: u64) -> Result<bool, Fail> {
+    let chain = Chain {
+        section: Section::Answer,
+        links: links(alloc, case)?,
+    };
+    Ok(check_chain(alloc, &trust.anchors, &trust.verifier, now, &chain)?)
+}
+
+/// The same where these keys are trusted.
 pub(crate) fn is_justified(
     alloc: Global,
-    rows: &[Row],
-    below: bool,
+    case: &Case,
+    trusted: &[Trusted],
     now: u64,
 ) -> Result<bool, Fail> {
-    let anchors = anchors(alloc, below)?;
-    let verifier = verifier(alloc)?;
-    let chain = chain(alloc, rows)?;
-    Ok(check_chain(alloc, &anchors, &verifier, now, &chain)?)
+    let trust = trust_in(alloc, trusted, ACCEPTED)?;
+    is_justified_by(alloc, &trust, case, now)
 }
