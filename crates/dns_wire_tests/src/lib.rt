@@ -4,8 +4,6 @@
 #![tactic(auto)]
 
 #[cfg(test)]
-mod message_longest_tests;
-#[cfg(test)]
 mod message_pointer_tests;
 #[cfg(test)]
 mod message_tests;

@@ -24,17 +24,30 @@ fn long_fault(alloc: Global, last: u8, most: usize) -> Result<Option<DecodeError
     Ok(error_of(alloc, &bytes[..bytes.len().min(most)]))
 }
 
-/// A fault at the length byte of the fourth label.
-fn at_the_fourth(kind: DecodeKind) -> Option<DecodeError> {
-    Some(DecodeError { kind, offset: 204 })
+/// The last label's size, how many bytes are given at most, and the fault at the length byte of the fourth label.
+const LONG: [(u8, usize, Option<DecodeKind>); 3] = [
+    (61, 1000, None),
+    (62, 1000, Some(DecodeKind::BadName)),
+    // the label that passes the limit also reaches past the end
+    (62, 250, Some(DecodeKind::Short)),
+];
+
+fn is_so(fault: Option<DecodeError>, want: Option<DecodeKind>) -> bool {
+    match (fault, want) {
+        (Some(error), Some(kind)) => error == DecodeError { kind, offset: 204 },
+        (None, None) => true,
+        _ => false,
+    }
 }
 
 #[test]
 fn long_names(rt: HostRuntime) -> Result<(), Fail> {
-    assert!(rt; long_fault(rt.alloc(), 61, 1000)?.is_none());
-    assert!(rt; long_fault(rt.alloc(), 62, 1000)? == at_the_fourth(DecodeKind::BadName));
-    // the label that passes the limit also reaches past the end
-    assert!(rt; long_fault(rt.alloc(), 62, 250)? == at_the_fourth(DecodeKind::Short));
+    for (last, most, want) in &LONG {
+        assert!(rt;
+            is_so(long_fault(rt.alloc(), *last, *most)?, *want),
+            "{last} {most}"
+        );
+    }
     Ok(())
 }
 
@@ -45,12 +58,10 @@ fn row_of_pointers(alloc: Global) -> Result<Vec<u8>, AllocError> {
         alloc,
         "000080000000000200000000 00 ff00 0003 00000000 07d3 016100",
     )?;
-    let mut target: u16 = 23;
-    for i in 0..1000u16 {
+    for i in 0..=1000u16 {
+        let target = if i == 0 { 23 } else { 24 + 2 * i };
         bytes.extend_from_slice(&(49152 + target % 16384).to_be_bytes())?;
-        target = 26 + 2 * i;
     }
-    bytes.extend_from_slice(&(49152 + target % 16384).to_be_bytes())?;
     bytes.extend_from_slice(&[255, 0, 0, 3, 0, 0, 0, 0, 0, 0])?;
     Ok(bytes)
 }
@@ -83,12 +94,14 @@ enum Seen {
     Fault(DecodeKind, u32),
 }
 
-/// A message with a pointer at a place, what it comes to for each of the first targets, and for all others.
+/// A message with a pointer at a place, and what it comes to: for each of the first targets a letter, which is a for the first that
+/// is seen, and for all other targets.
 struct Pointed {
     name: &'static str,
     message: [u8; 35],
     place: usize,
-    first: &'static [Seen],
+    first: &'static [u8],
+    seen: &'static [Seen],
     others: Seen,
 }
 
@@ -101,19 +114,10 @@ const POINTED: [Pointed; 3] = [
             14, 16, 0, 4, 192, 0, 2, 1,
         ],
         place: 12,
-        first: &[
-            Seen::Fault(DecodeKind::Short, 33),
+        first: b"aabaaaaaaaaa",
+        seen: &[
             Seen::Fault(DecodeKind::Short, 33),
             Seen::Fault(DecodeKind::BadName, 2),
-            Seen::Fault(DecodeKind::Short, 33),
-            Seen::Fault(DecodeKind::Short, 33),
-            Seen::Fault(DecodeKind::Short, 33),
-            Seen::Fault(DecodeKind::Short, 33),
-            Seen::Fault(DecodeKind::Short, 33),
-            Seen::Fault(DecodeKind::Short, 33),
-            Seen::Fault(DecodeKind::Short, 33),
-            Seen::Fault(DecodeKind::Short, 33),
-            Seen::Fault(DecodeKind::Short, 33),
         ],
         others: Seen::Fault(DecodeKind::BadName, 12),
     },
@@ -125,25 +129,14 @@ const POINTED: [Pointed; 3] = [
             14, 16, 0, 4, 192, 0, 2, 1,
         ],
         place: 19,
-        first: &[
-            Seen::Owner(b"\0"),
+        first: b"aabaacadaaaaefaagag",
+        seen: &[
             Seen::Owner(b"\0"),
             Seen::Fault(DecodeKind::BadName, 2),
-            Seen::Owner(b"\0"),
-            Seen::Owner(b"\0"),
             Seen::Owner(b"\x01\0\x01\0\0"),
-            Seen::Owner(b"\0"),
             Seen::Owner(b"\x01\0\0"),
-            Seen::Owner(b"\0"),
-            Seen::Owner(b"\0"),
-            Seen::Owner(b"\0"),
-            Seen::Owner(b"\0"),
             Seen::Owner(b"\x01a\0"),
             Seen::Fault(DecodeKind::BadName, 13),
-            Seen::Owner(b"\0"),
-            Seen::Owner(b"\0"),
-            Seen::Fault(DecodeKind::Short, 20),
-            Seen::Owner(b"\0"),
             Seen::Fault(DecodeKind::Short, 20),
         ],
         others: Seen::Fault(DecodeKind::BadName, 19),
@@ -156,38 +149,14 @@ const POINTED: [Pointed; 3] = [
             14, 16, 0, 4, 1, 98, 192, 12,
         ],
         place: 33,
-        first: &[
-            Seen::Rdata(b"\x01b\0"),
+        first: b"aabaacadaaaaebaababebafadaabbab",
+        seen: &[
             Seen::Rdata(b"\x01b\0"),
             Seen::Fault(DecodeKind::BadRdata, 31),
-            Seen::Rdata(b"\x01b\0"),
-            Seen::Rdata(b"\x01b\0"),
             Seen::Rdata(b"\x01b\x01\0\x01\0\0"),
-            Seen::Rdata(b"\x01b\0"),
             Seen::Rdata(b"\x01b\x01\0\0"),
-            Seen::Rdata(b"\x01b\0"),
-            Seen::Rdata(b"\x01b\0"),
-            Seen::Rdata(b"\x01b\0"),
-            Seen::Rdata(b"\x01b\0"),
             Seen::Rdata(b"\x01b\x01a\0"),
-            Seen::Fault(DecodeKind::BadRdata, 31),
-            Seen::Rdata(b"\x01b\0"),
-            Seen::Rdata(b"\x01b\0"),
-            Seen::Fault(DecodeKind::BadRdata, 31),
-            Seen::Rdata(b"\x01b\0"),
-            Seen::Fault(DecodeKind::BadRdata, 31),
-            Seen::Rdata(b"\x01b\x01a\0"),
-            Seen::Fault(DecodeKind::BadRdata, 31),
-            Seen::Rdata(b"\x01b\0"),
             Seen::Rdata(b"\x01b\x02\0\x01\0"),
-            Seen::Rdata(b"\x01b\0"),
-            Seen::Rdata(b"\x01b\x01\0\0"),
-            Seen::Rdata(b"\x01b\0"),
-            Seen::Rdata(b"\x01b\0"),
-            Seen::Fault(DecodeKind::BadRdata, 31),
-            Seen::Fault(DecodeKind::BadRdata, 31),
-            Seen::Rdata(b"\x01b\0"),
-            Seen::Fault(DecodeKind::BadRdata, 31),
         ],
         others: Seen::Fault(DecodeKind::BadRdata, 31),
     },
@@ -215,14 +184,24 @@ fn is_seen(read: &Result<Message, DecodeError>, seen: &Seen) -> bool {
     }
 }
 
+// What a row says of a target.
+fn seen_at(row: &Pointed, target: u16) -> &Seen {
+    match row.first.get(usize::from(target)) {
+        Some(letter) => {
+            let place = usize::from(letter.wrapping_sub(b'a'));
+            row.seen.get(place).unwrap_or(&row.others)
+        }
+        None => &row.others,
+    }
+}
+
 // The row's message with this pointer is what the row says.
 fn is_read(alloc: Global, row: &Pointed, target: u16) -> bool {
     let [high, low] = (49_152 | target).to_be_bytes();
     let mut bytes = row.message;
     put(&mut bytes, row.place, high);
     put(&mut bytes, row.place.saturating_add(1), low);
-    let seen = row.first.get(usize::from(target)).unwrap_or(&row.others);
-    is_seen(&Message::from_vec(alloc, &bytes), seen)
+    is_seen(&Message::from_vec(alloc, &bytes), seen_at(row, target))
 }
 
 #[test]

@@ -163,11 +163,8 @@ pub(crate) fn with_rdata(
     rdata: &[u8],
 ) -> Result<Vec<u8>, AllocError> {
     let mut bytes = bytes_of(alloc, "000080000000000100000000 0000")?;
-    bytes.push(record_type)?;
-    bytes.push(0)?;
-    bytes.push(class)?;
-    bytes.extend_from_slice(&[0, 0, 0, 0, 0])?;
-    bytes.push((rdata.len() % 256) as u8)?;
+    let size = (rdata.len() % 256) as u8;
+    bytes.extend_from_slice(&[record_type, 0, class, 0, 0, 0, 0, 0, size])?;
     bytes.extend_from_slice(rdata)?;
     Ok(bytes)
 }
@@ -202,8 +199,22 @@ fn is_bad(alloc: Global, record_type: u8, rdata: &[u8]) -> Result<bool, AllocErr
     Ok(error_of(alloc, &bytes) == Some(bad))
 }
 
-/// Taken as it is, refused one byte short, and one byte long taken only where the shape ends in any bytes. In a class of another
-/// kind, and where it is empty, any rdata is taken.
+/// An rdata and a zero: taken without the zero, refused one byte shorter, and with the zero taken only where the shape ends in any
+/// bytes. In a class of another kind, and where it is empty, any rdata is taken.
+fn has_shape(
+    alloc: Global,
+    record_type: u8,
+    longer: &[u8],
+    long: bool,
+) -> Result<bool, AllocError> {
+    let exact = &longer[..longer.len().saturating_sub(1)];
+    let short = &longer[..longer.len().saturating_sub(2)];
+    let taken = is_taken(alloc, record_type, 1, exact)?
+        && is_taken(alloc, record_type, 3, short)?
+        && is_taken(alloc, record_type, 1, &[])?;
+    Ok(taken && is_bad(alloc, record_type, short)? && is_bad(alloc, record_type, longer)? != long)
+}
+
 fn has_its_shape(
     alloc: Global,
     record_type: u8,
@@ -212,14 +223,7 @@ fn has_its_shape(
 ) -> Result<bool, AllocError> {
     let mut rdata = bytes_of(alloc, text)?;
     rdata.push(0)?;
-    let size = rdata.len();
-    let exact = &rdata[..size.saturating_sub(1)];
-    let short = &rdata[..size.saturating_sub(2)];
-    let taken = is_taken(alloc, record_type, 1, exact)?
-        && is_taken(alloc, record_type, 3, short)?
-        && is_taken(alloc, record_type, 1, &[])?;
-    let refused = is_bad(alloc, record_type, short)? && is_bad(alloc, record_type, &rdata)? != long;
-    Ok(taken && refused)
+    has_shape(alloc, record_type, &rdata, long)
 }
 
 /// A type, an rdata of its shape that has no bytes to spare, and whether one byte more is taken.

@@ -66,20 +66,22 @@ fn is_same_record(one: &Record, two: &Record) -> bool {
         && one.proof == two.proof
 }
 
-fn are_same_records(one: &Vec<Record>, two: &Vec<Record>) -> bool {
+fn are_same_records(one: &[Record], two: &[Record]) -> bool {
+    for (a, b) in one.iter().zip(two.iter()) {
+        if !is_same_record(a, b) {
+            return false;
+        }
+    }
     one.len() == two.len()
-        && one
-            .iter()
-            .zip(two.iter())
-            .all(|(a, b)| is_same_record(a, b))
 }
 
-fn are_same_queries(one: &Vec<Query>, two: &Vec<Query>) -> bool {
+fn are_same_queries(one: &[Query], two: &[Query]) -> bool {
+    for (a, b) in one.iter().zip(two.iter()) {
+        if a != b || !a.name.eq_case(&b.name) {
+            return false;
+        }
+    }
     one.len() == two.len()
-        && one
-            .iter()
-            .zip(two.iter())
-            .all(|(a, b)| a == b && a.name.eq_case(&b.name))
 }
 
 fn is_same_edns(one: &Option<Edns>, two: &Option<Edns>) -> bool {
@@ -118,32 +120,42 @@ fn is_same(one: &Message, two: &Message) -> bool {
         && is_same_edns(&one.edns, &two.edns)
 }
 
+/// Whether a message, written, is read as the same.
+fn is_read_again(alloc: Global, message: &Message) -> bool {
+    match written(alloc, message) {
+        Some(bytes) => match read(alloc, &bytes) {
+            Some(other) => is_same(message, &other),
+            None => false,
+        },
+        None => false,
+    }
+}
+
+/// Whether a copy of a message is the same.
+fn is_copied(message: &Message) -> bool {
+    match message.try_clone() {
+        Ok(copy) => is_same(&copy, message),
+        Err(_) => false,
+    }
+}
+
 /// Whether bytes are a message that, written, is read as the same, and so is a copy of it.
-fn comes_back(alloc: Global, bytes: &[u8]) -> Result<bool, AllocError> {
-    let Some(message) = read(alloc, bytes) else {
-        return Ok(false);
-    };
-    let Some(again) = written(alloc, &message) else {
-        return Ok(false);
-    };
-    let Ok(copy) = message.try_clone() else {
-        return Err(AllocError);
-    };
-    match read(alloc, &again) {
-        Some(other) => Ok(is_same(&message, &other) && is_same(&copy, &other)),
-        None => Ok(false),
+fn comes_back(alloc: Global, bytes: &[u8]) -> bool {
+    match read(alloc, bytes) {
+        Some(message) => is_read_again(alloc, &message) && is_copied(&message),
+        None => false,
     }
 }
 
 fn text_comes_back(alloc: Global, text: &str) -> Result<bool, AllocError> {
     let bytes = bytes_of(alloc, text)?;
-    comes_back(alloc, &bytes)
+    Ok(comes_back(alloc, &bytes))
 }
 
 fn rdata_comes_back(alloc: Global, record_type: u8, text: &str) -> Result<bool, AllocError> {
     let rdata = bytes_of(alloc, text)?;
     let bytes = with_rdata(alloc, record_type, 1, &rdata)?;
-    comes_back(alloc, &bytes)
+    Ok(comes_back(alloc, &bytes))
 }
 
 #[test]
@@ -161,33 +173,48 @@ fn what_is_written_is_read_again(rt: HostRuntime) -> Result<(), Fail> {
     Ok(())
 }
 
-/// A message with one root record of an opaque type and so many bytes of rdata.
-fn with_size(alloc: Global, size: u16) -> Result<Option<Message>, AllocError> {
+/// The bytes of a message with one root record of an opaque type and so many bytes of rdata.
+fn with_size(alloc: Global, size: u16) -> Result<Vec<u8>, AllocError> {
     let mut bytes = bytes_of(alloc, "000000000000000100000000 00 ff00 0001 00000000")?;
     bytes.extend_from_slice(&size.to_be_bytes())?;
     for _ in 0..size {
         bytes.push(7)?;
     }
-    Ok(read(alloc, &bytes))
+    Ok(bytes)
 }
 
-/// How many bytes that message is written as, or why it isn't.
-fn written_size(
+/// Whether the bytes are a message that is written as these very bytes, or the message isn't written by this error.
+fn is_written_so(alloc: Global, bytes: &[u8], want: Option<EncodeError>) -> bool {
+    let Some(message) = read(alloc, bytes) else {
+        return false;
+    };
+    match message.to_vec(alloc) {
+        Ok(written) => want.is_none() && written.as_slice() == bytes,
+        Err(error) => want == Some(error),
+    }
+}
+
+/// The longest message that can be written, read again (RFC 1035, 4.2.2), and one that is a byte longer: the bytes of the rdata,
+/// those of the message, and why it isn't written.
+const SIZES: [(u16, usize, Option<EncodeError>); 2] = [
+    (65_512, 65_535, None),
+    (65_513, 65_536, Some(EncodeError::TooLong)),
+];
+
+fn is_so_long(
     alloc: Global,
     size: u16,
-) -> Result<Option<Result<usize, EncodeError>>, AllocError> {
-    match with_size(alloc, size)? {
-        None => Ok(None),
-        Some(message) => match message.to_vec(alloc) {
-            Ok(bytes) => Ok(Some(Ok(bytes.len()))),
-            Err(error) => Ok(Some(Err(error))),
-        },
-    }
+    all: usize,
+    want: Option<EncodeError>,
+) -> Result<bool, AllocError> {
+    let bytes = with_size(alloc, size)?;
+    Ok(bytes.len() == all && is_written_so(alloc, &bytes, want))
 }
 
 #[test]
 fn longest_message(rt: HostRuntime) -> Result<(), Fail> {
-    assert!(rt; written_size(rt.alloc(), 65512)? == Some(Ok(65535)));
-    assert!(rt; written_size(rt.alloc(), 65513)? == Some(Err(EncodeError::TooLong)));
+    for (size, all, want) in &SIZES {
+        assert!(rt; is_so_long(rt.alloc(), *size, *all, *want)?, "{size}");
+    }
     Ok(())
 }
