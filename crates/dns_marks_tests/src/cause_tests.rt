@@ -7,7 +7,7 @@ use std::alloc::Global;
 use std::test::Fail;
 
 /// The texts of the causes, in the order of `cause`.
-const TEXTS: [&str; 18] = [
+const TEXTS: &[&str] = &[
     "rrsigs are not present for: example. record_type: NS",
     "communication failure for query: example. IN DS",
     "rrsigs were not able to be verified: example., type: NS",
@@ -28,8 +28,13 @@ const TEXTS: [&str; 18] = [
     "out of memory",
 ];
 
-/// Each cause by its number; past the last it is want of memory.
-fn cause(name: Name, number: usize) -> ProofErrorKind {
+/// The one function that names the table, since its proof goes over it.
+fn texts() -> &'static [&'static str] {
+    TEXTS
+}
+
+/// Each cause that has a name, by its number.
+fn named(name: Name, number: usize) -> ProofErrorKind {
     let record_type = RecordType::NS;
     let key_tag = 44745;
     match number {
@@ -46,20 +51,32 @@ fn cause(name: Name, number: usize) -> ProofErrorKind {
         4 => ProofErrorKind::DsRecordsButNoDnskey { name },
         5 => ProofErrorKind::DsRecordShouldExist { name },
         6 => ProofErrorKind::DsResponseInsecure { name },
-        7 => ProofErrorKind::UnknownKeyAlgorithm,
         8 => ProofErrorKind::ErrorComputingKeyTag { name },
-        9 => ProofErrorKind::UnsupportedKeyAlgorithm,
         10 => ProofErrorKind::DnsKeyHasNoDs { name },
         11 => ProofErrorKind::InsecureDnsKey { name, key_tag },
         12 => ProofErrorKind::DnsKeyRevoked { name, key_tag },
         13 => ProofErrorKind::NotZoneDnsKey { name, key_tag },
-        14 => ProofErrorKind::AlgorithmMismatch {
+        _ => ProofErrorKind::DnsKeyVerifyRrsig { name, key_tag },
+    }
+}
+
+fn named_example(alloc: Global, number: usize) -> Result<ProofErrorKind, Fail> {
+    let name = Name::from_ascii(alloc, "example.")?;
+    Ok(named(name, number))
+}
+
+/// Each cause by its number.
+fn cause(alloc: Global, number: usize) -> Result<ProofErrorKind, Fail> {
+    match number {
+        7 => Ok(ProofErrorKind::UnknownKeyAlgorithm),
+        9 => Ok(ProofErrorKind::UnsupportedKeyAlgorithm),
+        14 => Ok(ProofErrorKind::AlgorithmMismatch {
             rrsig: 13,
             dnskey: 8,
-        },
-        15 => ProofErrorKind::Msg(Notice::ExpiredRrsig),
-        16 => ProofErrorKind::DnsKeyVerifyRrsig { name, key_tag },
-        _ => ProofErrorKind::NoMemory,
+        }),
+        15 => Ok(ProofErrorKind::Msg(Notice::ExpiredRrsig)),
+        17 => Ok(ProofErrorKind::NoMemory),
+        _ => named_example(alloc, number),
     }
 }
 
@@ -68,15 +85,19 @@ fn copy_reads(alloc: Global, kind: &ProofErrorKind, want: &str) -> Result<bool, 
     reads(alloc, &copy, want)
 }
 
+fn both_read(alloc: Global, kind: &ProofErrorKind, want: &str) -> Result<bool, Fail> {
+    Ok(reads(alloc, kind, want)? && copy_reads(alloc, kind, want)?)
+}
+
 /// The cause with this number reads so, and so does a copy of it.
 fn is_read(alloc: Global, number: usize, want: &str) -> Result<bool, Fail> {
-    let kind = cause(Name::from_ascii(alloc, "example.")?, number);
-    Ok(reads(alloc, &kind, want)? && copy_reads(alloc, &kind, want)?)
+    let kind = cause(alloc, number)?;
+    both_read(alloc, &kind, want)
 }
 
 #[test]
 fn each_cause_has_its_text(rt: HostRuntime) -> Result<(), Fail> {
-    for (number, want) in TEXTS.iter().enumerate() {
+    for (number, want) in texts().iter().enumerate() {
         assert!(rt; is_read(rt.alloc(), number, want)?, "cause {number}");
     }
     Ok(())
@@ -88,14 +109,22 @@ fn ds_should_exist(alloc: Global) -> Result<ProofError, Fail> {
 }
 
 /// An error reads so with its mark, and its cause alone.
-fn tells(alloc: Global, marked: &str, alone: &str) -> Result<bool, Fail> {
+fn tells(alloc: Global, error: &ProofError, marked: &str, alone: &str) -> Result<bool, Fail> {
+    Ok(fails(alloc, error, marked)? && reads(alloc, error.kind(), alone)?)
+}
+
+fn is_told(alloc: Global) -> Result<bool, Fail> {
     let error = ds_should_exist(alloc)?;
-    Ok(fails(alloc, &error, marked)? && reads(alloc, error.kind(), alone)?)
+    tells(
+        alloc,
+        &error,
+        "Bogus: ds record should exist: example.",
+        "ds record should exist: example.",
+    )
 }
 
 #[test]
 fn an_error_tells_its_mark_and_its_cause(rt: HostRuntime) -> Result<(), Fail> {
-    let marked = "Bogus: ds record should exist: example.";
-    assert!(rt; tells(rt.alloc(), marked, "ds record should exist: example.")?);
+    assert!(rt; is_told(rt.alloc())?);
     Ok(())
 }

@@ -1,4 +1,5 @@
-//! Tests of what single calls find of keys, signatures and DS sets, by what `dns_marks` gives.
+//! Tests of what single calls find of keys, signatures and DS sets, by what `dns_marks` gives, and of how often a verifier is asked
+//! for copies of one key, which no clause says.
 //!
 //! They stand apart, since a crate with tests of its own is proved twice.
 #![tactic(auto)]
@@ -6,11 +7,15 @@
 #[cfg(test)]
 mod cause_tests;
 #[cfg(test)]
+mod copies_tests;
+#[cfg(test)]
 mod dnskey_tests;
 #[cfg(test)]
 mod key_mark_tests;
 #[cfg(test)]
 mod mark_parts;
+#[cfg(test)]
+mod refusing;
 #[cfg(test)]
 mod set_mark_count_tests;
 #[cfg(test)]

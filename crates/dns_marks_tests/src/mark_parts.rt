@@ -68,10 +68,37 @@ pub(crate) fn record(
     })
 }
 
-pub(crate) fn key_record(alloc: Global, rdata: &[u8], proof: Proof) -> Result<Record, Fail> {
-    record(alloc, "example.", RecordType::DNSKEY, rdata, proof)
+/// Records of one owner and type with one mark.
+pub(crate) fn records_of(
+    alloc: Global,
+    owner: &str,
+    record_type: RecordType,
+    rdatas: &[&[u8]],
+    proof: Proof,
+) -> Result<Vec<Record>, Fail> {
+    let mut records = Vec::new(alloc);
+    for rdata in rdatas {
+        let next = record(alloc, owner, record_type, rdata, proof)?;
+        records.push(next)?;
+    }
+    Ok(records)
 }
 
+/// Keys, each with its mark.
+pub(crate) fn keys_of(
+    alloc: Global,
+    owner: &str,
+    keys: &[(&[u8], Proof)],
+) -> Result<Vec<Record>, Fail> {
+    let mut records = Vec::new(alloc);
+    for key in keys {
+        let next = record(alloc, owner, RecordType::DNSKEY, key.0, key.1)?;
+        records.push(next)?;
+    }
+    Ok(records)
+}
+
+/// A signature with no mark.
 pub(crate) fn signature(alloc: Global, rdata: &[u8]) -> Result<Record, Fail> {
     record(
         alloc,
@@ -82,16 +109,42 @@ pub(crate) fn signature(alloc: Global, rdata: &[u8]) -> Result<Record, Fail> {
     )
 }
 
-/// The NS set of `example.`.
-pub(crate) fn servers(alloc: Global) -> Result<RecordSet, Fail> {
-    let first = record(
+/// A set with signatures, none of them with a mark.
+pub(crate) fn set_of(
+    alloc: Global,
+    owner: &str,
+    record_type: RecordType,
+    records: &[&[u8]],
+    signatures: &[&[u8]],
+) -> Result<RecordSet, Fail> {
+    let name = Name::from_ascii(alloc, owner)?;
+    let records = records_of(alloc, owner, record_type, records, Proof::Indeterminate)?;
+    let rrsigs = records_of(
         alloc,
-        "example.",
-        RecordType::NS,
-        b"\x01a\0",
+        owner,
+        RecordType::RRSIG,
+        signatures,
         Proof::Indeterminate,
     )?;
-    Ok(RecordSet::of(alloc, first)?)
+    Ok(RecordSet {
+        name,
+        record_type,
+        dns_class: DNSClass::IN,
+        records,
+        rrsigs,
+    })
+}
+
+/// An NS set with signatures.
+pub(crate) fn servers(alloc: Global, owner: &str, signatures: &[&[u8]]) -> Result<RecordSet, Fail> {
+    set_of(alloc, owner, RecordType::NS, &[b"\x01a\0"], signatures)
+}
+
+/// A mark with the ttl that a signature leaves and the place of the signature, or the text of the error, or neither.
+pub(crate) enum Want {
+    Found(Proof, Option<u32>, Option<u32>),
+    Fails(&'static str),
+    Nothing,
 }
 
 /// The cause and the mark read so.
@@ -107,11 +160,31 @@ pub(crate) fn reads(alloc: Global, kind: &ProofErrorKind, want: &str) -> Result<
 }
 
 /// What is found is this mark, this ttl and this place.
-pub(crate) fn is_found(
-    found: &RrsetProof,
-    proof: Proof,
-    ttl: Option<u32>,
-    place: Option<u32>,
-) -> bool {
-    found.proof == proof && found.adjusted_ttl == ttl && found.rrsig_index == place
+pub(crate) fn is_found(found: &RrsetProof, want: &Want) -> bool {
+    match want {
+        Want::Found(proof, ttl, place) => {
+            found.proof == *proof && found.adjusted_ttl == *ttl && found.rrsig_index == *place
+        }
+        _ => false,
+    }
+}
+
+/// The error is what is wanted.
+pub(crate) fn is_error(alloc: Global, error: &ProofError, want: &Want) -> Result<bool, Fail> {
+    match want {
+        Want::Fails(text) => fails(alloc, error, text),
+        _ => Ok(false),
+    }
+}
+
+/// What is found, or why nothing is, is what is wanted.
+pub(crate) fn is_wanted(
+    alloc: Global,
+    mark: &Result<RrsetProof, ProofError>,
+    want: &Want,
+) -> Result<bool, Fail> {
+    match mark {
+        Ok(found) => Ok(is_found(found, want)),
+        Err(error) => is_error(alloc, error, want),
+    }
 }

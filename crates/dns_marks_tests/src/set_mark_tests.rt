@@ -4,7 +4,7 @@ use crate::mark_parts::*;
 use dns_marks::{KeyAnswer, ProofError, ProofErrorKind, RrsetProof, mark_rrset};
 use dns_name::Name;
 use dns_net::Verifier;
-use dns_record::{DNSClass, Proof, Query, Record, RecordSet, RecordType};
+use dns_record::{DNSClass, Proof, Query, RecordSet, RecordType};
 use dns_steps::Steps;
 use dns_trust::{Listed, first_signatures};
 use std::alloc::Global;
@@ -13,23 +13,19 @@ use std::sync::ledger::{Blank, Ledger};
 use std::test::Fail;
 
 /// What came of the ask of a signature: the signer that was asked for in vain, or keys by rdata and mark.
-enum Told {
+pub(crate) enum Told {
     Skipped,
     Failed(&'static str),
     Keys(&'static [(&'static [u8], Proof)]),
 }
 
-/// A mark with the ttl and the place of the signature, or the text of the error.
-enum Want {
-    Found(Proof, Option<u32>, u32),
-    Fails(&'static str),
-}
-
-/// Signatures of the NS set by rdata, each with what came of its ask, and what they come to at second 1500.
-struct Row {
-    shows: &'static str,
-    signatures: &'static [(&'static [u8], Told)],
-    want: Want,
+/// The owner of an NS set, its signatures by rdata, what came of the asks of the first eight, and what they come to at second 1500.
+pub(crate) struct Row {
+    pub(crate) shows: &'static str,
+    pub(crate) owner: &'static str,
+    pub(crate) signatures: &'static [&'static [u8]],
+    pub(crate) told: &'static [Told],
+    pub(crate) want: Want,
 }
 
 /// A signature like `OVER_NS` that no verifier accepts.
@@ -40,149 +36,159 @@ const UNVERIFIED: Want = Want::Fails(
     "Bogus: rrsigs were not able to be verified: example., type: NS",
 );
 
-const ROWS: [Row; 11] = [
+const ROWS: &[Row] = &[
     Row {
         shows: "the first Secure signature decides",
-        signatures: &[
-            (OVER_NS, Told::Keys(&[(KEY, Proof::Insecure)])),
-            (OVER_NS, Told::Keys(&[(KEY, Proof::Secure)])),
-            (OVER_NS, Told::Keys(&[(KEY, Proof::Secure)])),
+        owner: "example.",
+        signatures: &[OVER_NS, OVER_NS, OVER_NS],
+        told: &[
+            Told::Keys(&[(KEY, Proof::Insecure)]),
+            Told::Keys(&[(KEY, Proof::Secure)]),
+            Told::Keys(&[(KEY, Proof::Secure)]),
         ],
-        want: Want::Found(Proof::Secure, Some(500), 1),
+        want: Want::Found(Proof::Secure, Some(500), Some(1)),
     },
     Row {
         shows: "one that fails goes before it",
-        signatures: &[
-            (REFUSED, Told::Keys(&[(KEY, Proof::Secure)])),
-            (OVER_NS, Told::Keys(&[(KEY, Proof::Bogus)])),
-            (OVER_NS, Told::Keys(&[(KEY, Proof::Secure)])),
+        owner: "example.",
+        signatures: &[REFUSED, OVER_NS, OVER_NS],
+        told: &[
+            Told::Keys(&[(KEY, Proof::Secure)]),
+            Told::Keys(&[(KEY, Proof::Bogus)]),
+            Told::Keys(&[(KEY, Proof::Secure)]),
         ],
-        want: Want::Found(Proof::Secure, Some(500), 2),
+        want: Want::Found(Proof::Secure, Some(500), Some(2)),
     },
     Row {
         shows: "else the first Insecure one",
-        signatures: &[
-            (OVER_NS, Told::Keys(&[(KEY, Proof::Bogus)])),
-            (REFUSED, Told::Keys(&[(KEY, Proof::Insecure)])),
-            (OVER_NS, Told::Keys(&[(KEY, Proof::Insecure)])),
+        owner: "example.",
+        signatures: &[OVER_NS, REFUSED, OVER_NS],
+        told: &[
+            Told::Keys(&[(KEY, Proof::Bogus)]),
+            Told::Keys(&[(KEY, Proof::Insecure)]),
+            Told::Keys(&[(KEY, Proof::Insecure)]),
         ],
-        want: Want::Found(Proof::Insecure, None, 1),
+        want: Want::Found(Proof::Insecure, None, Some(1)),
     },
     Row {
         shows: "it decides whatever asks failed",
-        signatures: &[
-            (OVER_NS, Told::Failed("a.")),
-            (OVER_NS, Told::Keys(&[(KEY, Proof::Insecure)])),
-        ],
-        want: Want::Found(Proof::Insecure, None, 1),
+        owner: "example.",
+        signatures: &[OVER_NS, OVER_NS],
+        told: &[Told::Failed("a."), Told::Keys(&[(KEY, Proof::Insecure)])],
+        want: Want::Found(Proof::Insecure, None, Some(1)),
     },
     Row {
         shows: "no signature was asked for",
-        signatures: &[(OVER_NS, Told::Skipped), (OVER_NS, Told::Skipped)],
+        owner: "example.",
+        signatures: &[OVER_NS, OVER_NS],
+        told: &[Told::Skipped, Told::Skipped],
         want: Want::Fails("Bogus: rrsigs are not present for: example. record_type: NS"),
     },
     Row {
         shows: "the first ask that failed is told",
-        signatures: &[
-            (OVER_NS, Told::Skipped),
-            (OVER_NS, Told::Keys(&[(KEY, Proof::Bogus)])),
-            (OVER_NS, Told::Failed("a.")),
-            (OVER_NS, Told::Failed("b.")),
+        owner: "example.",
+        signatures: &[OVER_NS, OVER_NS, OVER_NS, OVER_NS],
+        told: &[
+            Told::Skipped,
+            Told::Keys(&[(KEY, Proof::Bogus)]),
+            Told::Failed("a."),
+            Told::Failed("b."),
         ],
         want: Want::Fails("Bogus: communication failure for query: a. IN DNSKEY"),
     },
     Row {
         shows: "every ask was answered",
-        signatures: &[
-            (REFUSED, Told::Keys(&[(KEY, Proof::Secure)])),
-            (OVER_NS, Told::Skipped),
-        ],
+        owner: "example.",
+        signatures: &[REFUSED, OVER_NS],
+        told: &[Told::Keys(&[(KEY, Proof::Secure)]), Told::Skipped],
         want: UNVERIFIED,
     },
     Row {
         shows: "a signature by a key that is Bogus excuses nothing",
-        signatures: &[(OVER_NS, Told::Keys(&[(KEY, Proof::Bogus)]))],
+        owner: "example.",
+        signatures: &[OVER_NS],
+        told: &[Told::Keys(&[(KEY, Proof::Bogus)])],
         want: UNVERIFIED,
     },
     Row {
         shows: "nor one beside which another key is Bogus",
-        signatures: &[(
-            OVER_NS,
-            Told::Keys(&[(KEY, Proof::Insecure), (OTHER_KEY, Proof::Bogus)]),
-        )],
+        owner: "example.",
+        signatures: &[OVER_NS],
+        told: &[Told::Keys(&[(KEY, Proof::Insecure), (OTHER_KEY, Proof::Bogus)])],
         want: UNVERIFIED,
     },
     Row {
         shows: "nor one without a key",
-        signatures: &[(OVER_NS, Told::Keys(&[]))],
+        owner: "example.",
+        signatures: &[OVER_NS],
+        told: &[Told::Keys(&[])],
         want: UNVERIFIED,
     },
     Row {
         shows: "the ninth signature counts for nothing",
+        owner: "example.",
         signatures: &[
-            (REFUSED, Told::Keys(&[(KEY, Proof::Bogus)])),
-            (REFUSED, Told::Keys(&[(KEY, Proof::Bogus)])),
-            (REFUSED, Told::Keys(&[(KEY, Proof::Bogus)])),
-            (REFUSED, Told::Keys(&[(KEY, Proof::Bogus)])),
-            (REFUSED, Told::Keys(&[(KEY, Proof::Bogus)])),
-            (REFUSED, Told::Keys(&[(KEY, Proof::Bogus)])),
-            (REFUSED, Told::Keys(&[(KEY, Proof::Bogus)])),
-            (REFUSED, Told::Keys(&[(KEY, Proof::Bogus)])),
-            (OVER_NS, Told::Keys(&[(KEY, Proof::Secure)])),
+            REFUSED, REFUSED, REFUSED, REFUSED, REFUSED, REFUSED, REFUSED, REFUSED, OVER_NS,
+        ],
+        told: &[
+            Told::Keys(&[(KEY, Proof::Bogus)]),
+            Told::Keys(&[(KEY, Proof::Bogus)]),
+            Told::Keys(&[(KEY, Proof::Bogus)]),
+            Told::Keys(&[(KEY, Proof::Bogus)]),
+            Told::Keys(&[(KEY, Proof::Bogus)]),
+            Told::Keys(&[(KEY, Proof::Bogus)]),
+            Told::Keys(&[(KEY, Proof::Bogus)]),
+            Told::Keys(&[(KEY, Proof::Bogus)]),
         ],
         want: UNVERIFIED,
     },
 ];
 
+/// The one function that names the table, since its proof goes over it.
+fn rows() -> &'static [Row] {
+    ROWS
+}
+
 /// A set and the answers to the asks of its signatures.
 #[derive(Drop)]
 pub(crate) struct Parts {
-    pub(crate) set: RecordSet,
-    pub(crate) answers: Vec<KeyAnswer>,
+    set: RecordSet,
+    answers: Vec<KeyAnswer>,
 }
 
-fn keys_of(alloc: Global, keys: &[(&[u8], Proof)]) -> Result<Vec<Record>, Fail> {
-    let mut records = Vec::new(alloc);
-    for key in keys {
-        let next = key_record(alloc, key.0, key.1)?;
-        records.push(next)?;
-    }
-    Ok(records)
+fn failed(alloc: Global, signer: &str) -> Result<KeyAnswer, Fail> {
+    let name = Name::from_ascii(alloc, signer)?;
+    Ok(KeyAnswer::Failed(Query {
+        name,
+        query_type: RecordType::DNSKEY,
+        query_class: DNSClass::IN,
+    }))
 }
 
-fn answer_of(alloc: Global, told: &Told) -> Result<KeyAnswer, Fail> {
+fn answered(alloc: Global, owner: &str, keys: &[(&[u8], Proof)]) -> Result<KeyAnswer, Fail> {
+    let keys = keys_of(alloc, owner, keys)?;
+    Ok(KeyAnswer::Keys(keys))
+}
+
+fn answer_of(alloc: Global, owner: &str, told: &Told) -> Result<KeyAnswer, Fail> {
     match told {
         Told::Skipped => Ok(KeyAnswer::Skipped),
-        Told::Failed(signer) => Ok(KeyAnswer::Failed(Query {
-            name: Name::from_ascii(alloc, signer)?,
-            query_type: RecordType::DNSKEY,
-            query_class: DNSClass::IN,
-        })),
-        Told::Keys(keys) => Ok(KeyAnswer::Keys(keys_of(alloc, keys)?)),
+        Told::Failed(signer) => failed(alloc, signer),
+        Told::Keys(keys) => answered(alloc, owner, keys),
     }
 }
 
-fn signed_set(alloc: Global, row: &Row) -> Result<RecordSet, Fail> {
-    let mut set = servers(alloc)?;
-    for one in row.signatures {
-        let next = signature(alloc, one.0)?;
-        set.rrsigs.push(next)?;
-    }
-    Ok(set)
-}
-
-/// The answers to the asks of the first eight signatures.
 fn answers_of(alloc: Global, row: &Row) -> Result<Vec<KeyAnswer>, Fail> {
     let mut answers = Vec::new(alloc);
-    for one in row.signatures.iter().take(8) {
-        let next = answer_of(alloc, &one.1)?;
+    for one in row.told {
+        let next = answer_of(alloc, row.owner, one)?;
         answers.push(next)?;
     }
     Ok(answers)
 }
 
-fn parts_of(alloc: Global, row: &Row) -> Result<Parts, Fail> {
-    let set = signed_set(alloc, row)?;
+pub(crate) fn parts_of(alloc: Global, row: &Row) -> Result<Parts, Fail> {
+    let set = servers(alloc, row.owner, row.signatures)?;
     let answers = answers_of(alloc, row)?;
     Ok(Parts { set, answers })
 }
@@ -206,37 +212,22 @@ pub(crate) fn found<V: Verifier, L: Ledger>(
     mark_rrset(alloc, verifier, set, answers, 1500, &mut steps)
 }
 
-/// What is found, or why nothing is, is what is wanted.
-fn is_wanted(
-    alloc: Global,
-    mark: &Result<RrsetProof, ProofError>,
-    want: &Want,
-) -> Result<bool, Fail> {
-    match (mark, want) {
-        (Ok(found), Want::Found(proof, ttl, place)) => {
-            Ok(is_found(found, *proof, *ttl, Some(*place)))
-        }
-        (Err(error), Want::Fails(text)) => fails(alloc, error, text),
-        _ => Ok(false),
-    }
+/// A set is marked so.
+fn is_marked(alloc: Global, verifier: &Listed, parts: &Parts, want: &Want) -> Result<bool, Fail> {
+    let mark = found::<Listed, Brand>(alloc, verifier, parts, Blank::new(1));
+    is_wanted(alloc, &mark, want)
 }
 
-/// What a row's signatures come to is what it names.
-fn is_marked(alloc: Global, verifier: &Listed, row: &Row) -> Result<bool, Fail> {
-    let parts = parts_of(alloc, row)?;
-    let mark = found::<Listed, Brand>(alloc, verifier, &parts, Blank::new(1));
-    is_wanted(alloc, &mark, &row.want)
-}
-
-/// The same by the verifier of these tests.
+/// The mark of a row's set is the one that it names.
 fn is_shown(alloc: Global, row: &Row) -> Result<bool, Fail> {
     let verifier = verifier(alloc)?;
-    is_marked(alloc, &verifier, row)
+    let parts = parts_of(alloc, row)?;
+    is_marked(alloc, &verifier, &parts, &row.want)
 }
 
 #[test]
 fn sets_are_marked_by_their_signatures(rt: HostRuntime) -> Result<(), Fail> {
-    for row in &ROWS {
+    for row in rows() {
         assert!(rt; is_shown(rt.alloc(), row)?, "{}", row.shows);
     }
     Ok(())

@@ -1,9 +1,10 @@
 ghost use Rattle.std.specs.Prelude.{◌≡◌, ◌<◌};
 
 use crate::mark_parts::*;
+use crate::signature_tests::{Parts, parts_of};
 use dns_marks::{RrsetProof, verify_rrsig_with_keys};
 use dns_name::NoMemory;
-use dns_record::{Proof, Record, RecordSet, RecordType};
+use dns_record::{Proof, RecordType};
 use dns_steps::Steps;
 use dns_trust::Listed;
 use std::alloc::Global;
@@ -12,34 +13,31 @@ use std::sync::ledger::{Blank, Ledger};
 use std::test::Fail;
 
 /// Keys of `example.` by their rdatas and marks, a signature by its rdata, the type of the set that is handed in in place of
-/// NS, and the mark and the ttl that the signature gives at second 1500; Bogus stands for nothing.
+/// NS, and what the signature proves at second 1500.
 struct Row {
     shows: &'static str,
     keys: &'static [(&'static [u8], Proof)],
     sig: &'static [u8],
     record_type: RecordType,
-    want: Proof,
-    ttl: Option<u32>,
+    want: Want,
 }
 
 const THIRD_KEY: &[u8] = b"\x01\x01\x03\x0d\xaa\xb9\x00\x02";
 
-const ROWS: [Row; 10] = [
+const ROWS: &[Row] = &[
     Row {
         shows: "a Secure key by which the signature is good",
         keys: &[(KEY, Proof::Secure)],
         sig: OVER_NS,
         record_type: RecordType::NS,
-        want: Proof::Secure,
-        ttl: Some(500),
+        want: Want::Found(Proof::Secure, Some(500), None),
     },
     Row {
         shows: "it proves the set behind an Insecure one of its tag",
         keys: &[(OTHER_KEY, Proof::Insecure), (KEY, Proof::Secure)],
         sig: OVER_NS,
         record_type: RecordType::NS,
-        want: Proof::Secure,
-        ttl: Some(500),
+        want: Want::Found(Proof::Secure, Some(500), None),
     },
     Row {
         shows: "the third key of a tag doesn't count, whatever the marks of the first two",
@@ -50,96 +48,62 @@ const ROWS: [Row; 10] = [
         ],
         sig: OVER_NS,
         record_type: RecordType::NS,
-        want: Proof::Bogus,
-        ttl: None,
+        want: Want::Nothing,
     },
     Row {
         shows: "a key that is Bogus proves nothing, beside a Secure one by which the signature isn't good",
         keys: &[(OTHER_KEY, Proof::Secure), (KEY, Proof::Bogus)],
         sig: OVER_NS,
         record_type: RecordType::NS,
-        want: Proof::Bogus,
-        ttl: None,
+        want: Want::Nothing,
     },
     Row {
         shows: "all keys are Insecure",
         keys: &[(KEY, Proof::Insecure), (OTHER_KEY, Proof::Insecure)],
         sig: OVER_NS,
         record_type: RecordType::NS,
-        want: Proof::Insecure,
-        ttl: None,
+        want: Want::Found(Proof::Insecure, None, None),
     },
     Row {
         shows: "one of them isn't",
         keys: &[(KEY, Proof::Insecure), (OTHER_KEY, Proof::Bogus)],
         sig: OVER_NS,
         record_type: RecordType::NS,
-        want: Proof::Bogus,
-        ttl: None,
+        want: Want::Nothing,
     },
     Row {
         shows: "no key is there",
         keys: &[],
         sig: OVER_NS,
         record_type: RecordType::NS,
-        want: Proof::Bogus,
-        ttl: None,
+        want: Want::Nothing,
     },
     Row {
         shows: "a key that can't be read is none",
         keys: &[(b"\x01", Proof::Insecure)],
         sig: OVER_NS,
         record_type: RecordType::NS,
-        want: Proof::Bogus,
-        ttl: None,
+        want: Want::Nothing,
     },
     Row {
         shows: "the signature can't be read",
         keys: &[(KEY, Proof::Insecure)],
         sig: b"\0\x02",
         record_type: RecordType::NS,
-        want: Proof::Bogus,
-        ttl: None,
+        want: Want::Nothing,
     },
     Row {
         shows: "an NSEC3 stands right below its signer",
         keys: &[(KEY, Proof::Insecure)],
         sig: OVER_NS,
         record_type: RecordType::NSEC3,
-        want: Proof::Bogus,
-        ttl: None,
+        want: Want::Nothing,
     },
 ];
 
-fn keys_of(alloc: Global, keys: &[(&[u8], Proof)]) -> Result<Vec<Record>, Fail> {
-    let mut records = Vec::new(alloc);
-    for key in keys {
-        let next = key_record(alloc, key.0, key.1)?;
-        records.push(next)?;
-    }
-    Ok(records)
-}
-
-/// The NS set, of another type.
-fn set_of(alloc: Global, record_type: RecordType) -> Result<RecordSet, Fail> {
-    let mut set = servers(alloc)?;
-    set.record_type = record_type;
-    Ok(set)
-}
-
-/// A set, a signature and keys.
-#[derive(Drop)]
-struct Parts {
-    keys: Vec<Record>,
-    sig: Record,
-    set: RecordSet,
-}
-
-fn parts_of(alloc: Global, row: &Row) -> Result<Parts, Fail> {
-    let keys = keys_of(alloc, row.keys)?;
-    let sig = signature(alloc, row.sig)?;
-    let set = set_of(alloc, row.record_type)?;
-    Ok(Parts { keys, sig, set })
+/// The one function that names the table, since its proof goes over it.
+fn rows() -> &'static [Row] {
+    ROWS
 }
 
 fn found<L: Ledger>(
@@ -158,23 +122,23 @@ fn found<L: Ledger>(
 }
 
 /// What a row's signature proves is what it names.
-fn is_proved(alloc: Global, verifier: &Listed, row: &Row) -> Result<bool, Fail> {
-    let parts = parts_of(alloc, row)?;
-    match found::<Brand>(alloc, verifier, &parts, Blank::new(1))? {
-        Some(found) => Ok(is_found(&found, row.want, row.ttl, None)),
-        None => Ok(row.want == Proof::Bogus),
+fn is_proved(alloc: Global, verifier: &Listed, parts: &Parts, want: &Want) -> Result<bool, Fail> {
+    match found::<Brand>(alloc, verifier, parts, Blank::new(1))? {
+        Some(found) => Ok(is_found(&found, want)),
+        None => Ok(matches!(want, Want::Nothing)),
     }
 }
 
 /// The same by the verifier of these tests.
 fn is_shown(alloc: Global, row: &Row) -> Result<bool, Fail> {
     let verifier = verifier(alloc)?;
-    is_proved(alloc, &verifier, row)
+    let parts = parts_of(alloc, row.keys, row.sig, row.record_type)?;
+    is_proved(alloc, &verifier, &parts, &row.want)
 }
 
 #[test]
 fn signatures_are_judged_by_keys_with_marks(rt: HostRuntime) -> Result<(), Fail> {
-    for row in &ROWS {
+    for row in rows() {
         assert!(rt; is_shown(rt.alloc(), row)?, "{}", row.shows);
     }
     Ok(())

@@ -3,7 +3,7 @@ ghost use Rattle.std.specs.Prelude.{◌≡◌, ◌<◌};
 use crate::mark_parts::*;
 use dns_marks::{ProofError, ProofErrorKind, RrsetProof, verify_rrset_with_dnskey};
 use dns_rdata::{Dnskey, Rrsig};
-use dns_record::{Proof, Record, RecordSet};
+use dns_record::{Proof, Record, RecordSet, RecordType};
 use dns_steps::Steps;
 use dns_trust::Listed;
 use std::alloc::Global;
@@ -11,30 +11,27 @@ use std::marker::Brand;
 use std::sync::ledger::{Blank, Ledger};
 use std::test::Fail;
 
-/// A key of `example.` by its rdata and mark, a signature by its rdata, a moment, and the ttl that the signature leaves to the
-/// NS set, or why it proves nothing of it.
+/// A key of `example.` by its rdata and mark, a signature by its rdata, a moment, and what the signature proves then of the NS set.
 struct Row {
     shows: &'static str,
     key: &'static [u8],
     proof: Proof,
     sig: &'static [u8],
     now: u64,
-    ttl: u32,
-    want: &'static str,
+    want: Want,
 }
 
 /// The tag of the revoked key is another, but the signature's is told.
 const REVOKED: &[u8] = b"\x01\x81\x03\x0d\xaa\xbb";
 
-const ROWS: [Row; 11] = [
+const ROWS: &[Row] = &[
     Row {
         shows: "the signature is good: the original ttl is the least",
         key: KEY,
         proof: Proof::Secure,
         sig: OVER_NS,
         now: 1000,
-        ttl: 600,
-        want: "",
+        want: Want::Found(Proof::Secure, Some(600), None),
     },
     Row {
         shows: "the seconds that it is still valid are the least",
@@ -42,8 +39,7 @@ const ROWS: [Row; 11] = [
         proof: Proof::Secure,
         sig: OVER_NS,
         now: 1500,
-        ttl: 500,
-        want: "",
+        want: Want::Found(Proof::Secure, Some(500), None),
     },
     Row {
         shows: "an Insecure key is told before its flags",
@@ -51,8 +47,7 @@ const ROWS: [Row; 11] = [
         proof: Proof::Insecure,
         sig: OVER_NS,
         now: 1500,
-        ttl: 0,
-        want: "Insecure: dnskey insecure: example., key_tag: 44745",
+        want: Want::Fails("Insecure: dnskey insecure: example., key_tag: 44745"),
     },
     Row {
         shows: "a key whose mark is Bogus gives it on",
@@ -60,8 +55,7 @@ const ROWS: [Row; 11] = [
         proof: Proof::Bogus,
         sig: OVER_NS,
         now: 1500,
-        ttl: 0,
-        want: "Bogus: dnskey insecure: example., key_tag: 44745",
+        want: Want::Fails("Bogus: dnskey insecure: example., key_tag: 44745"),
     },
     Row {
         shows: "a revoked key",
@@ -69,8 +63,7 @@ const ROWS: [Row; 11] = [
         proof: Proof::Secure,
         sig: OVER_NS,
         now: 1500,
-        ttl: 0,
-        want: "Bogus: dnskey revoked: example., key_tag: 44745",
+        want: Want::Fails("Bogus: dnskey revoked: example., key_tag: 44745"),
     },
     Row {
         shows: "a key without the zone flag",
@@ -78,8 +71,7 @@ const ROWS: [Row; 11] = [
         proof: Proof::Secure,
         sig: OVER_NS,
         now: 1500,
-        ttl: 0,
-        want: "Bogus: not a zone signing key: example. key_tag: 44745",
+        want: Want::Fails("Bogus: not a zone signing key: example. key_tag: 44745"),
     },
     Row {
         shows: "a key of another protocol",
@@ -87,8 +79,7 @@ const ROWS: [Row; 11] = [
         proof: Proof::Secure,
         sig: OVER_NS,
         now: 1500,
-        ttl: 0,
-        want: "Bogus: not a zone signing key: example. key_tag: 44745",
+        want: Want::Fails("Bogus: not a zone signing key: example. key_tag: 44745"),
     },
     Row {
         shows: "another algorithm is told before the moment",
@@ -96,8 +87,7 @@ const ROWS: [Row; 11] = [
         proof: Proof::Secure,
         sig: OVER_NS,
         now: 2500,
-        ttl: 0,
-        want: "Bogus: algorithm mismatch rrsig: 13 dnskey: 8",
+        want: Want::Fails("Bogus: algorithm mismatch rrsig: 13 dnskey: 8"),
     },
     Row {
         shows: "the moment lies after the expiration",
@@ -105,8 +95,7 @@ const ROWS: [Row; 11] = [
         proof: Proof::Secure,
         sig: OVER_NS,
         now: 2500,
-        ttl: 0,
-        want: "Bogus: ExpiredRrsig",
+        want: Want::Fails("Bogus: ExpiredRrsig"),
     },
     Row {
         shows: "the signature covers another type",
@@ -114,8 +103,7 @@ const ROWS: [Row; 11] = [
         proof: Proof::Secure,
         sig: OVER_KEYS,
         now: 1500,
-        ttl: 0,
-        want: "Bogus: WrongRrsig",
+        want: Want::Fails("Bogus: WrongRrsig"),
     },
     Row {
         shows: "the verifier doesn't accept another key of the same tag",
@@ -123,24 +111,35 @@ const ROWS: [Row; 11] = [
         proof: Proof::Secure,
         sig: OVER_NS,
         now: 1500,
-        ttl: 0,
-        want: "Bogus: dnskey and rrset failed to verify: example. key_tag: 44745",
+        want: Want::Fails("Bogus: dnskey and rrset failed to verify: example. key_tag: 44745"),
     },
 ];
 
-/// A key, a signature and a set.
-#[derive(Drop)]
-struct Parts {
-    key: Record,
-    sig: Record,
-    set: RecordSet,
+/// The one function that names the table, since its proof goes over it.
+fn rows() -> &'static [Row] {
+    ROWS
 }
 
-fn parts_of(alloc: Global, row: &Row) -> Result<Parts, Fail> {
-    let key = key_record(alloc, row.key, row.proof)?;
-    let sig = signature(alloc, row.sig)?;
-    let set = servers(alloc)?;
-    Ok(Parts { key, sig, set })
+/// Keys, a signature and a set.
+#[derive(Drop)]
+pub(crate) struct Parts {
+    pub(crate) keys: Vec<Record>,
+    pub(crate) sig: Record,
+    pub(crate) set: RecordSet,
+}
+
+/// The set is the NS set, of another type where that is wanted.
+pub(crate) fn parts_of(
+    alloc: Global,
+    keys: &[(&[u8], Proof)],
+    sig: &[u8],
+    record_type: RecordType,
+) -> Result<Parts, Fail> {
+    let keys = keys_of(alloc, "example.", keys)?;
+    let sig = signature(alloc, sig)?;
+    let mut set = servers(alloc, "example.", &[])?;
+    set.record_type = record_type;
+    Ok(Parts { keys, sig, set })
 }
 
 fn found<L: Ledger>(
@@ -154,42 +153,32 @@ fn found<L: Ledger>(
     requires parts { blank.parts ≡ L.parts }
     requires some { 0 < blank.parts }
 {
-    let Parts { key, sig, set } = parts;
-    if Dnskey::of(key).is_none() || Rrsig::of(sig).is_none() {
-        return Err(ProofError::new(Proof::Bogus, ProofErrorKind::NoMemory));
-    }
-    let mut steps = Steps::<L>::new(blank);
-    verify_rrset_with_dnskey(alloc, verifier, key, sig, set, now, &mut steps)
-}
-
-/// What a signature proves, or why nothing, is what a row names.
-fn is_wanted(
-    alloc: Global,
-    mark: &Result<RrsetProof, ProofError>,
-    row: &Row,
-) -> Result<bool, Fail> {
-    match mark {
-        Ok(found) => Ok(is_found(found, Proof::Secure, Some(row.ttl), None)),
-        Err(error) => fails(alloc, error, row.want),
+    let Parts { keys, sig, set } = parts;
+    match keys.as_slice() {
+        [key] if Dnskey::of(key).is_some() && Rrsig::of(sig).is_some() => {
+            let mut steps = Steps::<L>::new(blank);
+            verify_rrset_with_dnskey(alloc, verifier, key, sig, set, now, &mut steps)
+        }
+        _ => Err(ProofError::new(Proof::Bogus, ProofErrorKind::NoMemory)),
     }
 }
 
 /// What a row's signature proves is what it names.
-fn is_proved(alloc: Global, verifier: &Listed, row: &Row) -> Result<bool, Fail> {
-    let parts = parts_of(alloc, row)?;
-    let mark = found::<Brand>(alloc, verifier, &parts, row.now, Blank::new(1));
-    is_wanted(alloc, &mark, row)
+fn is_proved(alloc: Global, verifier: &Listed, parts: &Parts, row: &Row) -> Result<bool, Fail> {
+    let mark = found::<Brand>(alloc, verifier, parts, row.now, Blank::new(1));
+    is_wanted(alloc, &mark, &row.want)
 }
 
 /// The same by the verifier of these tests.
 fn is_shown(alloc: Global, row: &Row) -> Result<bool, Fail> {
     let verifier = verifier(alloc)?;
-    is_proved(alloc, &verifier, row)
+    let parts = parts_of(alloc, &[(row.key, row.proof)], row.sig, RecordType::NS)?;
+    is_proved(alloc, &verifier, &parts, row)
 }
 
 #[test]
 fn signatures_are_judged_by_one_key(rt: HostRuntime) -> Result<(), Fail> {
-    for row in &ROWS {
+    for row in rows() {
         assert!(rt; is_shown(rt.alloc(), row)?, "{}", row.shows);
     }
     Ok(())

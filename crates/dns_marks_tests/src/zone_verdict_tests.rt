@@ -1,26 +1,23 @@
-use crate::mark_parts::*;
+use crate::mark_parts::{DS, MISS, OVER_NS, UNSUPPORTED, reads, record, verifier};
 use dns_marks::{DnsAnswer, ZoneVerdict, ds_verdict};
+use dns_message::Message;
 use dns_name::{Name, NoMemory};
 use dns_net::{DnsError, DnsRequest, DnsRequestOptions, DnsResponse, NetError, NoRecords, Trail};
+use dns_record::Proof::{Bogus, Insecure, Secure};
+use dns_record::Section::{Additional, Answer, Authority};
 use dns_record::{DNSClass, Denial, Proof, Query, Record, RecordType, ResponseCode, Section};
 use std::alloc::Global;
 use std::test::Fail;
 
-/// A record of a response, by its section, owner, type, rdata and mark.
-struct Told {
-    section: Section,
-    owner: &'static str,
-    record_type: RecordType,
-    rdata: &'static [u8],
-    proof: Proof,
-}
+/// A record of a response: its section, owner, type, rdata and mark.
+struct Told(Section, &'static str, RecordType, &'static [u8], Proof);
 
-/// A verdict, by the number of its DS records or the text of its cause.
-#[derive(Clone, Copy)]
+/// A verdict, by the number of its DS records or the text of its cause, or want of memory.
 enum Want {
     Signed(usize),
     Insecure(&'static str),
     Bogus(&'static str),
+    NoMemory,
 }
 
 /// The records of a response, the class that is asked, and the verdict on `EXAMPLE.`.
@@ -50,43 +47,19 @@ const APEX: &[u8] = b"\0\0\x06\x22\0\0\0\0\x03";
 
 const HOST: &[u8] = b"\0\0\x06\x40\0\0\0\0\x03";
 
-const ROWS: [Row; 26] = [
+const ROWS: &[Row] = &[
     Row {
         shows: "a Secure DS",
-        told: &[Told {
-            section: Section::Answer,
-            owner: "example.",
-            record_type: RecordType::DS,
-            rdata: DS,
-            proof: Proof::Secure,
-        }],
+        told: &[Told(Answer, "example.", RecordType::DS, DS, Secure)],
         class: DNSClass::IN,
         want: Want::Signed(1),
     },
     Row {
         shows: "the supported ones of a Secure set",
         told: &[
-            Told {
-                section: Section::Answer,
-                owner: "example.",
-                record_type: RecordType::DS,
-                rdata: UNSUPPORTED,
-                proof: Proof::Secure,
-            },
-            Told {
-                section: Section::Answer,
-                owner: "example.",
-                record_type: RecordType::DS,
-                rdata: DS,
-                proof: Proof::Secure,
-            },
-            Told {
-                section: Section::Answer,
-                owner: "example.",
-                record_type: RecordType::DS,
-                rdata: MISS,
-                proof: Proof::Secure,
-            },
+            Told(Answer, "example.", RecordType::DS, UNSUPPORTED, Secure),
+            Told(Answer, "example.", RecordType::DS, DS, Secure),
+            Told(Answer, "example.", RecordType::DS, MISS, Secure),
         ],
         class: DNSClass::IN,
         want: Want::Signed(2),
@@ -94,33 +67,15 @@ const ROWS: [Row; 26] = [
     Row {
         shows: "none of them is supported",
         told: &[
-            Told {
-                section: Section::Answer,
-                owner: "example.",
-                record_type: RecordType::DS,
-                rdata: UNSUPPORTED,
-                proof: Proof::Secure,
-            },
-            Told {
-                section: Section::Answer,
-                owner: "example.",
-                record_type: RecordType::DS,
-                rdata: UNREADABLE,
-                proof: Proof::Secure,
-            },
+            Told(Answer, "example.", RecordType::DS, UNSUPPORTED, Secure),
+            Told(Answer, "example.", RecordType::DS, UNREADABLE, Secure),
         ],
         class: DNSClass::IN,
         want: Want::Insecure("unknown or reserved key algorithm"),
     },
     Row {
         shows: "none of them can be read",
-        told: &[Told {
-            section: Section::Answer,
-            owner: "example.",
-            record_type: RecordType::DS,
-            rdata: UNREADABLE,
-            proof: Proof::Secure,
-        }],
+        told: &[Told(Answer, "example.", RecordType::DS, UNREADABLE, Secure)],
         class: DNSClass::IN,
         want: SHOULD_EXIST,
     },
@@ -132,285 +87,135 @@ const ROWS: [Row; 26] = [
     },
     Row {
         shows: "a DS of another owner",
-        told: &[Told {
-            section: Section::Answer,
-            owner: "other.",
-            record_type: RecordType::DS,
-            rdata: DS,
-            proof: Proof::Secure,
-        }],
+        told: &[Told(Answer, "other.", RecordType::DS, DS, Secure)],
         class: DNSClass::IN,
         want: SHOULD_EXIST,
     },
     Row {
         shows: "one of another owner beside one of the zone",
         told: &[
-            Told {
-                section: Section::Answer,
-                owner: "other.",
-                record_type: RecordType::DS,
-                rdata: DS,
-                proof: Proof::Bogus,
-            },
-            Told {
-                section: Section::Answer,
-                owner: "example.",
-                record_type: RecordType::DS,
-                rdata: DS,
-                proof: Proof::Secure,
-            },
+            Told(Answer, "other.", RecordType::DS, DS, Bogus),
+            Told(Answer, "example.", RecordType::DS, DS, Secure),
         ],
         class: DNSClass::IN,
         want: Want::Signed(1),
     },
     Row {
         shows: "a DS that isn't Secure",
-        told: &[Told {
-            section: Section::Answer,
-            owner: "example.",
-            record_type: RecordType::DS,
-            rdata: DS,
-            proof: Proof::Insecure,
-        }],
+        told: &[Told(Answer, "example.", RecordType::DS, DS, Insecure)],
         class: DNSClass::IN,
         want: SHOULD_EXIST,
     },
     Row {
         shows: "one that isn't Secure beside a Secure one",
         told: &[
-            Told {
-                section: Section::Answer,
-                owner: "example.",
-                record_type: RecordType::DS,
-                rdata: DS,
-                proof: Proof::Secure,
-            },
-            Told {
-                section: Section::Answer,
-                owner: "example.",
-                record_type: RecordType::DS,
-                rdata: MISS,
-                proof: Proof::Bogus,
-            },
+            Told(Answer, "example.", RecordType::DS, DS, Secure),
+            Told(Answer, "example.", RecordType::DS, MISS, Bogus),
         ],
         class: DNSClass::IN,
         want: SHOULD_EXIST,
     },
     Row {
         shows: "another class",
-        told: &[Told {
-            section: Section::Answer,
-            owner: "example.",
-            record_type: RecordType::DS,
-            rdata: DS,
-            proof: Proof::Secure,
-        }],
+        told: &[Told(Answer, "example.", RecordType::DS, DS, Secure)],
         class: DNSClass::CH,
         want: SHOULD_EXIST,
     },
     Row {
         shows: "a DS of another section is none",
-        told: &[Told {
-            section: Section::Authority,
-            owner: "example.",
-            record_type: RecordType::DS,
-            rdata: DS,
-            proof: Proof::Secure,
-        }],
+        told: &[Told(Authority, "example.", RecordType::DS, DS, Secure)],
         class: DNSClass::IN,
         want: SHOULD_EXIST,
     },
     Row {
         shows: "an NSEC of a delegation without DS",
-        told: &[Told {
-            section: Section::Authority,
-            owner: "example.",
-            record_type: RecordType::NSEC,
-            rdata: CUT,
-            proof: Proof::Secure,
-        }],
+        told: &[Told(Authority, "example.", RecordType::NSEC, CUT, Secure)],
         class: DNSClass::IN,
         want: NO_DS,
     },
     Row {
         shows: "it lists DS",
-        told: &[Told {
-            section: Section::Authority,
-            owner: "example.",
-            record_type: RecordType::NSEC,
-            rdata: SIGNED_CUT,
-            proof: Proof::Secure,
-        }],
+        told: &[Told(Authority, "example.", RecordType::NSEC, SIGNED_CUT, Secure)],
         class: DNSClass::IN,
         want: SHOULD_EXIST,
     },
     Row {
         shows: "it lists SOA, so the zone itself made it",
-        told: &[Told {
-            section: Section::Authority,
-            owner: "example.",
-            record_type: RecordType::NSEC,
-            rdata: APEX,
-            proof: Proof::Secure,
-        }],
+        told: &[Told(Authority, "example.", RecordType::NSEC, APEX, Secure)],
         class: DNSClass::IN,
         want: SHOULD_EXIST,
     },
     Row {
         shows: "it lists no NS",
-        told: &[Told {
-            section: Section::Authority,
-            owner: "example.",
-            record_type: RecordType::NSEC,
-            rdata: HOST,
-            proof: Proof::Secure,
-        }],
+        told: &[Told(Authority, "example.", RecordType::NSEC, HOST, Secure)],
         class: DNSClass::IN,
         want: SHOULD_EXIST,
     },
     Row {
         shows: "it isn't Secure",
-        told: &[Told {
-            section: Section::Authority,
-            owner: "example.",
-            record_type: RecordType::NSEC,
-            rdata: CUT,
-            proof: Proof::Bogus,
-        }],
+        told: &[Told(Authority, "example.", RecordType::NSEC, CUT, Bogus)],
         class: DNSClass::IN,
         want: SHOULD_EXIST,
     },
     Row {
         shows: "one of its set is not",
         told: &[
-            Told {
-                section: Section::Authority,
-                owner: "example.",
-                record_type: RecordType::NSEC,
-                rdata: CUT,
-                proof: Proof::Secure,
-            },
-            Told {
-                section: Section::Authority,
-                owner: "example.",
-                record_type: RecordType::NSEC,
-                rdata: HOST,
-                proof: Proof::Bogus,
-            },
+            Told(Authority, "example.", RecordType::NSEC, CUT, Secure),
+            Told(Authority, "example.", RecordType::NSEC, HOST, Bogus),
         ],
         class: DNSClass::IN,
         want: SHOULD_EXIST,
     },
     Row {
         shows: "it is of another owner",
-        told: &[Told {
-            section: Section::Authority,
-            owner: "a.example.",
-            record_type: RecordType::NSEC,
-            rdata: CUT,
-            proof: Proof::Secure,
-        }],
+        told: &[Told(Authority, "a.example.", RecordType::NSEC, CUT, Secure)],
         class: DNSClass::IN,
         want: SHOULD_EXIST,
     },
     Row {
         shows: "it stands in the answer section",
-        told: &[Told {
-            section: Section::Answer,
-            owner: "example.",
-            record_type: RecordType::NSEC,
-            rdata: CUT,
-            proof: Proof::Secure,
-        }],
+        told: &[Told(Answer, "example.", RecordType::NSEC, CUT, Secure)],
         class: DNSClass::IN,
         want: SHOULD_EXIST,
     },
     Row {
         shows: "it stands beside a DS",
         told: &[
-            Told {
-                section: Section::Answer,
-                owner: "example.",
-                record_type: RecordType::DS,
-                rdata: DS,
-                proof: Proof::Bogus,
-            },
-            Told {
-                section: Section::Authority,
-                owner: "example.",
-                record_type: RecordType::NSEC,
-                rdata: CUT,
-                proof: Proof::Secure,
-            },
+            Told(Answer, "example.", RecordType::DS, DS, Bogus),
+            Told(Authority, "example.", RecordType::NSEC, CUT, Secure),
         ],
         class: DNSClass::IN,
         want: SHOULD_EXIST,
     },
     Row {
         shows: "an Insecure record of the zone",
-        told: &[Told {
-            section: Section::Additional,
-            owner: "example.",
-            record_type: RecordType::A,
-            rdata: ADDRESS,
-            proof: Proof::Insecure,
-        }],
+        told: &[Told(Additional, "example.", RecordType::A, ADDRESS, Insecure)],
         class: DNSClass::IN,
         want: NO_DS,
     },
     Row {
         shows: "one above it",
-        told: &[Told {
-            section: Section::Answer,
-            owner: ".",
-            record_type: RecordType::A,
-            rdata: ADDRESS,
-            proof: Proof::Insecure,
-        }],
+        told: &[Told(Answer, ".", RecordType::A, ADDRESS, Insecure)],
         class: DNSClass::IN,
         want: NO_DS,
     },
     Row {
         shows: "one below it",
-        told: &[Told {
-            section: Section::Answer,
-            owner: "a.example.",
-            record_type: RecordType::A,
-            rdata: ADDRESS,
-            proof: Proof::Insecure,
-        }],
+        told: &[Told(Answer, "a.example.", RecordType::A, ADDRESS, Insecure)],
         class: DNSClass::IN,
         want: SHOULD_EXIST,
     },
     Row {
         shows: "a signature that is Insecure",
-        told: &[Told {
-            section: Section::Authority,
-            owner: "example.",
-            record_type: RecordType::RRSIG,
-            rdata: OVER_NS,
-            proof: Proof::Insecure,
-        }],
+        told: &[Told(Authority, "example.", RecordType::RRSIG, OVER_NS, Insecure)],
         class: DNSClass::IN,
         want: NO_DS,
     },
     Row {
         shows: "one record of a set that is not",
         told: &[
-            Told {
-                section: Section::Answer,
-                owner: "example.",
-                record_type: RecordType::A,
-                rdata: ADDRESS,
-                proof: Proof::Bogus,
-            },
-            Told {
-                section: Section::Answer,
-                owner: "example.",
-                record_type: RecordType::A,
-                rdata: ADDRESS,
-                proof: Proof::Insecure,
-            },
+            Told(Answer, "example.", RecordType::A, ADDRESS, Bogus),
+            Told(Answer, "example.", RecordType::A, ADDRESS, Insecure),
         ],
         class: DNSClass::IN,
         want: NO_DS,
@@ -418,25 +223,18 @@ const ROWS: [Row; 26] = [
     Row {
         shows: "a DS that isn't Secure decides before it",
         told: &[
-            Told {
-                section: Section::Answer,
-                owner: "example.",
-                record_type: RecordType::DS,
-                rdata: DS,
-                proof: Proof::Bogus,
-            },
-            Told {
-                section: Section::Additional,
-                owner: ".",
-                record_type: RecordType::A,
-                rdata: ADDRESS,
-                proof: Proof::Insecure,
-            },
+            Told(Answer, "example.", RecordType::DS, DS, Bogus),
+            Told(Additional, ".", RecordType::A, ADDRESS, Insecure),
         ],
         class: DNSClass::IN,
         want: SHOULD_EXIST,
     },
 ];
+
+/// The one function that names the table, since its proof goes over it.
+fn rows() -> &'static [Row] {
+    ROWS
+}
 
 fn question(alloc: Global) -> Result<Query, Fail> {
     Ok(Query {
@@ -458,24 +256,28 @@ fn empty_response(alloc: Global) -> Result<DnsResponse, Fail> {
     })
 }
 
-/// A record more.
-fn put(response: &mut DnsResponse, section: Section, next: Record) -> Result<(), NoMemory> {
-    let message = &mut response.message;
+fn section_of(message: &mut Message, section: Section) -> &mut Vec<Record> {
     match section {
-        Section::Answer => message.answers.push(next)?,
-        Section::Authority => message.authorities.push(next)?,
-        Section::Additional => message.additionals.push(next)?,
+        Section::Answer => &mut message.answers,
+        Section::Authority => &mut message.authorities,
+        Section::Additional => &mut message.additionals,
     }
+}
+
+/// A record more.
+fn put(alloc: Global, message: &mut Message, told: &Told) -> Result<(), Fail> {
+    let Told(section, owner, record_type, rdata, proof) = told;
+    let next = record(alloc, owner, *record_type, rdata, *proof)?;
+    section_of(message, *section).push(next)?;
     Ok(())
 }
 
-fn response(alloc: Global, told: &[Told]) -> Result<DnsResponse, Fail> {
+fn answer_of(alloc: Global, told: &[Told]) -> Result<DnsAnswer, Fail> {
     let mut response = empty_response(alloc)?;
     for one in told {
-        let next = record(alloc, one.owner, one.record_type, one.rdata, one.proof)?;
-        put(&mut response, one.section, next)?;
+        put(alloc, &mut response.message, one)?;
     }
-    Ok(response)
+    Ok(Ok(response))
 }
 
 /// A verdict is this one.
@@ -488,6 +290,17 @@ fn is_verdict(alloc: Global, verdict: &ZoneVerdict, want: &Want) -> Result<bool,
     }
 }
 
+fn is_wanted(
+    alloc: Global,
+    verdict: &Result<ZoneVerdict, NoMemory>,
+    want: &Want,
+) -> Result<bool, Fail> {
+    match verdict {
+        Ok(verdict) => is_verdict(alloc, verdict, want),
+        Err(_) => Ok(matches!(want, Want::NoMemory)),
+    }
+}
+
 /// The DS verdict on a zone by an answer is this one.
 fn gives(
     alloc: Global,
@@ -497,60 +310,74 @@ fn gives(
     want: &Want,
 ) -> Result<bool, Fail> {
     let verifier = verifier(alloc)?;
-    let verdict = ds_verdict(alloc, &verifier, zone, class, answer)?;
-    is_verdict(alloc, &verdict, want)
+    let verdict = ds_verdict(alloc, &verifier, zone, class, answer);
+    is_wanted(alloc, &verdict, want)
+}
+
+/// The same of a zone by its text.
+fn gives_at(
+    alloc: Global,
+    zone: &str,
+    class: DNSClass,
+    answer: &DnsAnswer,
+    want: &Want,
+) -> Result<bool, Fail> {
+    let zone = Name::from_ascii(alloc, zone)?;
+    gives(alloc, &zone, class, answer, want)
 }
 
 /// The DS verdict of a row is the one that it names.
 fn is_judged(alloc: Global, row: &Row) -> Result<bool, Fail> {
-    let zone = Name::from_ascii(alloc, "EXAMPLE.")?;
-    let answer = Ok(response(alloc, row.told)?);
-    gives(alloc, &zone, row.class, &answer, &row.want)
+    let answer = answer_of(alloc, row.told)?;
+    gives_at(alloc, "EXAMPLE.", row.class, &answer, &row.want)
 }
 
 #[test]
 fn zones_are_judged_by_answers(rt: HostRuntime) -> Result<(), Fail> {
-    for row in &ROWS {
+    for row in rows() {
         assert!(rt; is_judged(rt.alloc(), row)?, "{}", row.shows);
     }
     Ok(())
 }
 
-/// An ask that failed makes the verdict Bogus, with the question.
-fn is_failed(alloc: Global, failed: &DnsAnswer) -> Result<bool, Fail> {
-    let zone = Name::from_ascii(alloc, "example.")?;
-    gives(alloc, &zone, DNSClass::IN, failed, &UNANSWERED)
+/// Why an ask failed.
+enum Failure {
+    TimedOut,
+    /// There are no records: a lookup never answers so.
+    NoRecords,
+    NoMemory,
 }
 
-fn is_timed_out(alloc: Global) -> Result<bool, Fail> {
-    let answer = Err(NetError::Timeout);
-    is_failed(alloc, &answer)
-}
+/// An ask that failed makes the verdict on `example.` Bogus, with the question, but want of memory stays it.
+const FAILURES: [(Failure, Want); 3] = [
+    (Failure::TimedOut, UNANSWERED),
+    (Failure::NoRecords, UNANSWERED),
+    (Failure::NoMemory, Want::NoMemory),
+];
 
-/// There are no records: a lookup never answers so.
 fn no_records(alloc: Global) -> Result<DnsAnswer, Fail> {
     let query = question(alloc)?;
     let none = NoRecords::new(alloc, query, ResponseCode(0));
     Ok(Err(NetError::Dns(DnsError::NoRecordsFound(none))))
 }
 
-fn is_without_records(alloc: Global) -> Result<bool, Fail> {
-    let answer = no_records(alloc)?;
-    is_failed(alloc, &answer)
+fn failed(alloc: Global, failure: &Failure) -> Result<DnsAnswer, Fail> {
+    match failure {
+        Failure::TimedOut => Ok(Err(NetError::Timeout)),
+        Failure::NoRecords => no_records(alloc),
+        Failure::NoMemory => Ok(Err(NetError::NoMemory)),
+    }
 }
 
-/// Want of memory stays it.
-fn is_wanting(alloc: Global) -> Result<bool, Fail> {
-    let verifier = verifier(alloc)?;
-    let zone = Name::from_ascii(alloc, "example.")?;
-    let wanting = Err(NetError::NoMemory);
-    Ok(ds_verdict(alloc, &verifier, &zone, DNSClass::IN, &wanting).is_err())
+fn is_failed(alloc: Global, failure: &Failure, want: &Want) -> Result<bool, Fail> {
+    let answer = failed(alloc, failure)?;
+    gives_at(alloc, "example.", DNSClass::IN, &answer, want)
 }
 
 #[test]
 fn zones_are_bogus_where_the_ask_failed(rt: HostRuntime) -> Result<(), Fail> {
-    assert!(rt; is_timed_out(rt.alloc())?);
-    assert!(rt; is_without_records(rt.alloc())?);
-    assert!(rt; is_wanting(rt.alloc())?);
+    for (place, (failure, want)) in FAILURES.iter().enumerate() {
+        assert!(rt; is_failed(rt.alloc(), failure, want)?, "failure {place}");
+    }
     Ok(())
 }

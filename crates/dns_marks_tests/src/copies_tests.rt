@@ -1,0 +1,83 @@
+use crate::key_mark_tests::*;
+use crate::mark_parts::*;
+use crate::refusing::Refusing;
+use dns_record::{Proof, Record, RecordType};
+use std::alloc::Global;
+use std::cell::Cell;
+use std::test::Fail;
+
+/// How often `KEY` stands in a set.
+const COPIES: usize = 400;
+
+/// Eight signatures by `KEY`.
+const SIGNATURES: &[&[u8]] = &[
+    OVER_KEYS, OVER_KEYS, OVER_KEYS, OVER_KEYS, OVER_KEYS, OVER_KEYS, OVER_KEYS, OVER_KEYS,
+];
+
+/// Sets with another key before the copies of `KEY`, so that they aren't wholly trusted: no key that is shown signed them, and not
+/// every key is shown.
+const ROWS: [Row; 2] = [
+    Row {
+        shows: "a matched key",
+        owner: "example.",
+        keys: &[OTHER_KEY],
+        signatures: SIGNATURES,
+        is_anchored: false,
+        zone: Zone::Signed(&[DS]),
+        want: WITHOUT_KEY,
+    },
+    Row {
+        shows: "a matched key that is an anchor too",
+        owner: "example.",
+        keys: &[OTHER_KEY],
+        signatures: SIGNATURES,
+        is_anchored: true,
+        zone: Zone::Signed(&[DS]),
+        want: WITHOUT_KEY,
+    },
+];
+
+fn add_copies(alloc: Global, keys: &mut Vec<Record>) -> Result<(), Fail> {
+    for _ in 0..COPIES {
+        let copy = record(
+            alloc,
+            "example.",
+            RecordType::DNSKEY,
+            KEY,
+            Proof::Indeterminate,
+        )?;
+        keys.push(copy)?;
+    }
+    Ok(())
+}
+
+fn copied(alloc: Global, row: &Row) -> Result<Parts, Fail> {
+    let mut parts = parts_of(alloc, row)?;
+    add_copies(alloc, &mut parts.set.records)?;
+    Ok(parts)
+}
+
+fn is_refused(alloc: Global, verifier: &Refusing, row: &Row) -> Result<bool, Fail> {
+    let parts = copied(alloc, row)?;
+    is_marked(alloc, verifier, &parts, &row.want)
+}
+
+/// How often the verifier is asked before the set is Bogus.
+fn calls_for(alloc: Global, row: &Row) -> Result<u32, Fail> {
+    let verifier = Refusing {
+        calls: Cell::new(0),
+    };
+    if !is_refused(alloc, &verifier, row)? {
+        return Err("another mark".into());
+    }
+    Ok(verifier.calls.get())
+}
+
+#[test]
+fn copies_of_a_key_are_tried_once(rt: HostRuntime) -> Result<(), Fail> {
+    for row in &ROWS {
+        let calls = calls_for(rt.alloc(), row)?;
+        assert!(rt; matches!(calls, 1..=8), "{}: {calls} calls", row.shows);
+    }
+    Ok(())
+}
