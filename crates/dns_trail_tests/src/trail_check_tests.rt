@@ -1,5 +1,5 @@
 //! Trails of sessions, whole and turned (RFC 4035, 4.3, 5.2 and 5.3).
-use crate::trail_rows::{Given, Row, is_so};
+use crate::trail_rows::{Given, Row, check_row};
 use crate::trail_turns::{EntryTurn, StepTurn, Turn};
 use dns_net::{AskRef, MarkOrigin};
 use dns_record::{Denial, Proof, RecordType};
@@ -324,27 +324,27 @@ const STEPS: [Row; 23] = [
 #[test]
 fn the_trail_of_a_lookup_is_a_derivation(rt: HostRuntime) {
     for row in &WHOLE {
-        assert!(rt; is_so(rt.alloc(), row), "{}", row.0);
+        check_row(&rt, rt.alloc(), row);
     }
 }
 
 #[test]
 fn a_mark_follows_and_is_no_other(rt: HostRuntime) {
     for row in &MARKS {
-        assert!(rt; is_so(rt.alloc(), row), "{}", row.0);
+        check_row(&rt, rt.alloc(), row);
     }
 }
 
 #[test]
 fn a_repeat_is_looked_up(rt: HostRuntime) {
     for row in &REPEATS {
-        assert!(rt; is_so(rt.alloc(), row), "{}", row.0);
+        check_row(&rt, rt.alloc(), row);
     }
 }
 
 #[test]
 fn a_step_that_is_turned_does_not_follow(rt: HostRuntime) {
     for row in &STEPS {
-        assert!(rt; is_so(rt.alloc(), row), "{}", row.0);
+        check_row(&rt, rt.alloc(), row);
     }
 }

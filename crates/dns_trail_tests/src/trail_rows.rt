@@ -3,13 +3,14 @@ use crate::trail_sessions::{
     BY_TURN, EXPANSION, FAULT, INSECURE_WILDCARD, NAME_ERROR, NOTHING_THERE, SEARCH_FAULT,
     TOO_DEEP, UNSIGNED, UNSIGNED_CUT, WALK_BY_DS,
 };
-use crate::trail_turns::{Turn, turned};
+use crate::trail_turns::{Turn, turn_steps};
 use dns_net::Trail;
 use dns_run::{session_anchors, session_answer, session_verifier};
 use dns_session::{Session, read_session};
 use dns_trail::check_trail;
-use dns_trust::Limits;
+use dns_trust::{Limits, Listed, TrustAnchors};
 use std::alloc::Global;
+use std::process::Abort;
 
 /// The session whose lookup leaves a trail.
 #[derive(Clone, Copy)]
@@ -65,8 +66,24 @@ fn trail_of(alloc: Global, text: &[u8]) -> Option<Trail> {
     Some(answer.trail)
 }
 
-// Whether a trail is a derivation by what a session trusts.
-fn is_derivation(alloc: Global, text: &[u8], trail: &Trail) -> Option<bool> {
+// What a session trusts, and by which limits.
+#[derive(Drop)]
+struct Trusted {
+    moment: u64,
+    limits: Limits,
+    anchors: TrustAnchors,
+    verifier: Listed,
+}
+
+fn limits_of(depth: Option<u16>) -> Limits {
+    Limits {
+        depth: depth.unwrap_or(26),
+        soft: 0,
+        hard: 0,
+    }
+}
+
+fn trusted_of(alloc: Global, session: Session) -> Option<Trusted> {
     let Session {
         by_turn: _,
         moment,
@@ -76,24 +93,50 @@ fn is_derivation(alloc: Global, text: &[u8], trail: &Trail) -> Option<bool> {
         accepts,
         query: _,
         replies: _,
-    } = session_of(alloc, text)?;
-    let limits = Limits {
-        depth: depth.unwrap_or(26),
-        soft: 0,
-        hard: 0,
-    };
-    let verifier = session_verifier(alloc, &algorithms, accepts).ok()?;
+    } = session;
+    let limits = limits_of(depth);
     let anchors = session_anchors(alloc, anchors).ok()?;
-    check_trail(alloc, &anchors, &verifier, moment, &limits, trail).ok()
+    let verifier = session_verifier(alloc, &algorithms, accepts).ok()?;
+    Some(Trusted {
+        moment,
+        limits,
+        anchors,
+        verifier,
+    })
 }
 
-fn holds(alloc: Global, given: Given, turn: &Turn) -> Option<bool> {
-    let trail = trail_of(alloc, text_of(given))?;
-    let trail = turned(alloc, trail, turn).ok()?;
-    is_derivation(alloc, text_of(given), &trail)
+// Whether a trail is a derivation by what a session trusts.
+fn is_derivation(alloc: Global, text: &[u8], trail: &Trail) -> Option<bool> {
+    let trusted = trusted_of(alloc, session_of(alloc, text)?)?;
+    check_trail(
+        alloc,
+        &trusted.anchors,
+        &trusted.verifier,
+        trusted.moment,
+        &trusted.limits,
+        trail,
+    )
+    .ok()
 }
 
-/// Whether the trail, with its change, is a derivation as the row says.
-pub(crate) fn is_so(alloc: Global, row: &Row) -> bool {
-    holds(alloc, row.1, &row.2) == Some(row.3)
+fn turned_trail_of(alloc: Global, text: &[u8], turn: &Turn) -> Option<Trail> {
+    let mut trail = trail_of(alloc, text)?;
+    match turn_steps(alloc, &mut trail.steps, turn) {
+        Ok(()) => Some(trail),
+        Err(_) => None,
+    }
+}
+
+fn holds(alloc: Global, text: &[u8], turn: &Turn) -> Option<bool> {
+    let trail = turned_trail_of(alloc, text, turn)?;
+    is_derivation(alloc, text, &trail)
+}
+
+/// The trail, with its change, is a derivation as the row says; the message names the row.
+pub(crate) fn check_row(rt: &impl Abort, alloc: Global, row: &Row) {
+    assert!(rt;
+        holds(alloc, text_of(row.1), &row.2) == Some(row.3),
+        "{}",
+        row.0
+    );
 }

@@ -1,5 +1,5 @@
 //! One change in a trail.
-use dns_net::{AskRef, Asked, Ending, JudgedSet, MarkOrigin, Reply, Told, Trail};
+use dns_net::{AskRef, Asked, Ending, JudgedSet, MarkOrigin, Reply, Told};
 use dns_record::{DNSClass, Denial, Proof, Query, Record, RecordType};
 use std::alloc::{AllocError, Global};
 
@@ -50,28 +50,40 @@ pub(crate) enum Turn {
     Step(usize, StepTurn),
 }
 
-/// The trail after a change.
-pub(crate) fn turned(alloc: Global, trail: Trail, turn: &Turn) -> Result<Trail, AllocError> {
-    let mut steps = trail.steps;
+/// Changes the steps of a trail.
+pub(crate) fn turn_steps(
+    alloc: Global,
+    steps: &mut Vec<Asked>,
+    turn: &Turn,
+) -> Result<(), AllocError> {
     match turn {
-        Turn::Whole => {}
+        Turn::Whole => Ok(()),
         Turn::Drop(number) => {
-            if *number < steps.len() {
-                let _ = steps.remove(*number);
-            }
+            drop_step(steps, *number);
+            Ok(())
         }
         Turn::Ahead(number) => {
-            if *number > 0 && *number < steps.len() {
-                steps.swap(*number - 1, *number);
-            }
+            put_ahead(steps, *number);
+            Ok(())
         }
         Turn::Both(number, one, other) => {
-            turn_step(alloc, &mut steps, *number, one)?;
-            turn_step(alloc, &mut steps, *number, other)?;
+            turn_step(alloc, steps, *number, one)?;
+            turn_step(alloc, steps, *number, other)
         }
-        Turn::Step(number, one) => turn_step(alloc, &mut steps, *number, one)?,
+        Turn::Step(number, one) => turn_step(alloc, steps, *number, one),
     }
-    Ok(Trail { steps })
+}
+
+fn drop_step(steps: &mut Vec<Asked>, number: usize) {
+    if number < steps.len() {
+        let _ = steps.remove(number);
+    }
+}
+
+fn put_ahead(steps: &mut Vec<Asked>, number: usize) {
+    if number > 0 && number < steps.len() {
+        steps.swap(number - 1, number);
+    }
 }
 
 fn turn_step(
