@@ -1,4 +1,5 @@
 //! What a lookup sends, and what a denial holds (RFC 1035, 4.1; RFC 6891, 6.1.2; RFC 4035, 4.1).
+use crate::rows::check_row;
 use dns_chain::DnssecDnsHandle;
 use dns_message::Message;
 use dns_name::Name;
@@ -11,8 +12,8 @@ use std::alloc::Global;
 
 /// The message of a request, and when it was sent.
 #[derive(Drop)]
-struct Sending {
-    message: Octets,
+pub(crate) struct Sending {
+    pub(crate) message: Octets,
     moment: u64,
 }
 
@@ -20,7 +21,7 @@ struct Sending {
 #[derive(Drop)]
 pub(crate) struct Keeping {
     replies: Recorded,
-    kept: Vec<Sending>,
+    pub(crate) kept: Vec<Sending>,
 }
 
 impl DnsHandle for Keeping {
@@ -96,7 +97,7 @@ const EXPANDED: [Given; 2] = [
     },
 ];
 
-pub(crate) fn query_of(alloc: Global, given: &Given) -> Result<Query, NetError> {
+fn query_of(alloc: Global, given: &Given) -> Result<Query, NetError> {
     let name = match Name::from_ascii(alloc, given.name) {
         Ok(name) => name,
         Err(_) => return Err(NetError::Timeout),
@@ -123,22 +124,48 @@ fn response_of(alloc: Global, message: &[u8]) -> Result<DnsResponse, NetError> {
     }
 }
 
+// Puts a reply behind those that were recorded.
+fn put_reply(alloc: Global, recorded: &mut Recorded, given: &Given) -> Result<(), NetError> {
+    let query = query_of(alloc, given)?;
+    let response = response_of(alloc, given.message);
+    Ok(recorded.push(query, response)?)
+}
+
+fn put_replies(alloc: Global, recorded: &mut Recorded, replies: &[Given]) -> Result<(), NetError> {
+    for given in replies {
+        put_reply(alloc, recorded, given)?;
+    }
+    Ok(())
+}
+
+/// An upstream that answers from what was recorded, and has sent nothing.
+pub(crate) fn upstream_over(alloc: Global, recorded: Recorded) -> Keeping {
+    Keeping {
+        replies: recorded,
+        kept: Vec::new(alloc),
+    }
+}
+
 // A handle over these replies, put behind those that were recorded, that trusts no key and accepts no signature.
 pub(crate) fn handle_over(
     alloc: Global,
     recorded: Recorded,
     replies: &[Given],
 ) -> Result<DnssecDnsHandle<Keeping, Listed>, NetError> {
-    let mut upstream = Keeping {
-        replies: recorded,
-        kept: Vec::new(alloc),
-    };
-    for given in replies {
-        let response = response_of(alloc, given.message);
-        upstream.replies.push(query_of(alloc, given)?, response)?;
-    }
+    let mut upstream = upstream_over(alloc, recorded);
+    put_replies(alloc, &mut upstream.replies, replies)?;
     let anchors = TrustAnchors::empty(alloc);
     Ok(DnssecDnsHandle::with_trust_anchor(upstream, anchors, Listed::new(alloc))?)
+}
+
+/// Looks the query up at 1000, with default options.
+pub(crate) fn look_up(
+    alloc: Global,
+    handle: &mut DnssecDnsHandle<Keeping, Listed>,
+    given: &Given,
+) -> Result<DnsResponse, NetError> {
+    let query = query_of(alloc, given)?;
+    handle.lookup(alloc, query, DnsRequestOptions::default(), 1000)
 }
 
 /// An ask of the lookup of `. NS` with default options.
@@ -175,19 +202,14 @@ fn is_kept(kept: &[Sending], row: &Asked, moment: u64) -> bool {
 
 fn is_sent(alloc: Global, row: &Asked) -> Result<bool, NetError> {
     let mut handle = handle_over(alloc, Recorded::new(alloc), &ROOT_SERVERS)?;
-    let query = query_of(alloc, &ROOT_SERVERS[0])?;
-    let _ = handle.lookup(alloc, query, DnsRequestOptions::default(), 1000)?;
-    Ok(is_kept(handle.inner().kept.as_slice(), row, 1000))
+    let answered = look_up(alloc, &mut handle, &ROOT_SERVERS[0]).is_ok();
+    Ok(answered && is_kept(handle.inner().kept.as_slice(), row, 1000))
 }
 
 #[test]
 fn each_ask_has_the_options_of_the_lookup_and_its_moment(rt: HostRuntime) {
     for row in &ASKED {
-        assert!(rt;
-            matches!(is_sent(rt.alloc(), row), Ok(true)),
-            "{}",
-            row.name
-        );
+        check_row(&rt, row.name, is_sent(rt.alloc(), row));
     }
 }
 
@@ -204,24 +226,27 @@ fn is_judged(answers: &[Record]) -> bool {
     }
 }
 
-fn denied(alloc: Global) -> Result<bool, NetError> {
-    let mut handle = handle_over(alloc, Recorded::new(alloc), &EXPANDED)?;
-    let query = query_of(alloc, &EXPANDED[0])?;
-    match handle.lookup(alloc, query, DnsRequestOptions::default(), 1000) {
+fn is_denial(answer: &Result<DnsResponse, NetError>) -> bool {
+    match answer {
         Err(
             NetError::Dns(
                 DnsError::Nsec {
-                    query: _,
                     response,
                     proof,
+                    ..
                 },
             ),
-        ) => Ok(proof == Proof::Bogus && is_judged(&response.message.answers)),
-        _ => Ok(false),
+        ) => *proof == Proof::Bogus && is_judged(&response.message.answers),
+        _ => false,
     }
+}
+
+fn denied(alloc: Global) -> Result<bool, NetError> {
+    let mut handle = handle_over(alloc, Recorded::new(alloc), &EXPANDED)?;
+    Ok(is_denial(&look_up(alloc, &mut handle, &EXPANDED[0])))
 }
 
 #[test]
 fn a_denial_holds_the_judged_response(rt: HostRuntime) {
-    assert!(rt; matches!(denied(rt.alloc()), Ok(true)));
+    check_row(&rt, "an expansion", denied(rt.alloc()));
 }

@@ -1,10 +1,11 @@
 //! `run` over sources and sinks in memory, for a row.
+use crate::rows::check_row;
 use crate::worked_rows::{PARTS, Row, part};
 use dns_io::{Sink, SinkFault, SureSink, SureSource, TextSink, TextSource};
 use dns_name::Octets;
+use dns_net::NetError;
 use dns_run::run;
-use std::alloc::{AllocError, Global};
-use std::test::Fail;
+use std::alloc::Global;
 
 // A sink that takes one byte a write, and fails at its second.
 #[derive(Drop)]
@@ -34,7 +35,7 @@ impl Sink for Slow {
     }
 }
 
-fn words_of(alloc: Global, words: &[&str]) -> Result<Vec<Vec<u8>>, AllocError> {
+fn words_of(alloc: Global, words: &[&str]) -> Result<Vec<Vec<u8>>, NetError> {
     let mut all = Vec::new(alloc);
     for word in words {
         all.push(word.as_bytes().to_vec(alloc)?)?;
@@ -42,120 +43,105 @@ fn words_of(alloc: Global, words: &[&str]) -> Result<Vec<Vec<u8>>, AllocError> {
     Ok(all)
 }
 
-// Words over a source and a sink that may fail, and whose numbered reads do.
-fn told_run(
+// Over a source and a sink that may fail the words end with this status and this text.
+fn told_ends(
     alloc: Global,
-    words: &[&str],
+    words: &[Vec<u8>],
+    source: &mut TextSource,
+    status: u8,
+    text: &[u8],
+) -> bool {
+    let mut sink = TextSink::new(alloc, Vec::new(alloc));
+    run(alloc, words, source, &mut sink) == status && *sink.taken() == *text
+}
+
+// The same, for a source whose numbered reads fail.
+fn failing_ends(
+    alloc: Global,
+    words: &[Vec<u8>],
     session: &[u8],
     failing: &[u64],
-) -> Result<(u8, Vec<u8>), AllocError> {
-    let words = words_of(alloc, words)?;
-    let mut source = TextSource::new(
-        Octets::from_vec(session.to_vec(alloc)?),
-        failing.to_vec(alloc)?,
-    );
-    let mut sink = TextSink::new(alloc, Vec::new(alloc));
-    let status = run(alloc, &words, &mut source, &mut sink);
-    let text = sink.taken().to_vec(alloc)?;
-    Ok((status, text))
+    status: u8,
+    text: &[u8],
+) -> Result<bool, NetError> {
+    let bytes = Octets::from_slice(alloc, session)?;
+    let mut source = TextSource::new(bytes, failing.to_vec(alloc)?);
+    Ok(told_ends(alloc, words, &mut source, status, text))
 }
 
-// Words over a source and a sink that never fail.
-fn sure_run(alloc: Global, words: &[&str], session: &[u8]) -> Result<(u8, Vec<u8>), AllocError> {
-    let words = words_of(alloc, words)?;
-    let mut source = SureSource::new(Octets::from_vec(session.to_vec(alloc)?));
+// Over a source and a sink that never fail the words end as the row says.
+fn sure_ends(alloc: Global, words: &[Vec<u8>], row: &Row) -> Result<bool, NetError> {
+    let mut source = SureSource::new(Octets::from_slice(alloc, row.session)?);
     let mut sink = SureSink::new(alloc);
-    let status = run(alloc, &words, &mut source, &mut sink);
-    let text = sink.taken().to_vec(alloc)?;
-    Ok((status, text))
+    let status = run(alloc, words, &mut source, &mut sink);
+    Ok(status == row.status && *sink.taken() == *row.text)
 }
 
-// Words over a sink whose second write fails.
-fn slow_run(alloc: Global, words: &[&str], session: &[u8]) -> Result<(u8, Vec<u8>), AllocError> {
-    let words = words_of(alloc, words)?;
-    let mut source = SureSource::new(Octets::from_vec(session.to_vec(alloc)?));
+// Over a sink whose second write fails a row ends for that, with what was written before.
+fn slow_ends(alloc: Global, words: &[Vec<u8>], row: &Row) -> Result<bool, NetError> {
+    let mut source = SureSource::new(Octets::from_slice(alloc, row.session)?);
     let mut sink = Slow {
         taken: Vec::new(alloc),
         faults: 0,
     };
-    let status = run(alloc, &words, &mut source, &mut sink);
-    Ok((status, sink.taken))
-}
-
-fn is_end(ended: &(u8, Vec<u8>), status: u8, text: &[u8]) -> bool {
-    ended.0 == status && *ended.1.as_slice() == *text
-}
-
-// A row's words over a source whose numbered reads fail end so.
-fn told_ends(
-    alloc: Global,
-    row: &Row,
-    failing: &[u64],
-    status: u8,
-    text: &[u8],
-) -> Result<bool, AllocError> {
-    let ended = told_run(alloc, row.words, row.session, failing)?;
-    Ok(is_end(&ended, status, text))
-}
-
-fn sure_ends(alloc: Global, row: &Row) -> Result<bool, AllocError> {
-    let ended = sure_run(alloc, row.words, row.session)?;
-    Ok(is_end(&ended, row.status, row.text))
-}
-
-// Over a sink whose second write fails a row ends for that, with what was written before.
-fn slow_ends(alloc: Global, row: &Row) -> Result<bool, AllocError> {
-    let ended = slow_run(alloc, row.words, row.session)?;
-    Ok(is_end(&ended, 5, row.text.get(..1).unwrap_or_default()))
+    let status = run(alloc, words, &mut source, &mut sink);
+    Ok(status == 5 && *sink.taken.as_slice() == *row.text.get(..1).unwrap_or_default())
 }
 
 // Both kinds of source and sink end as the row says.
-fn ends_so(alloc: Global, row: &Row) -> Result<bool, AllocError> {
-    Ok(told_ends(alloc, row, &[], row.status, row.text)? && sure_ends(alloc, row)?)
+fn ends_so(alloc: Global, row: &Row) -> Result<bool, NetError> {
+    let words = words_of(alloc, row.words)?;
+    Ok(
+        failing_ends(alloc, &words, row.session, &[], row.status, row.text)?
+            && sure_ends(alloc, &words, row)?,
+    )
 }
 
 #[test]
-fn rows_end_as_they_say(rt: HostRuntime) -> Result<(), Fail> {
+fn rows_end_as_they_say(rt: HostRuntime) {
     for number in 1..=PARTS {
         for row in part(number) {
-            assert!(rt; ends_so(rt.alloc(), row)?, "{}", row.name);
+            check_row(&rt, row.name, ends_so(rt.alloc(), row));
         }
     }
-    Ok(())
 }
 
 // The words ask for a session to be read.
 fn is_reading(words: &[&str]) -> bool {
-    words == ["validate"].as_slice() || words == ["validate", "trail"].as_slice()
+    match words {
+        [one] => *one == "validate",
+        [one, other] => *one == "validate" && *other == "trail",
+        _ => false,
+    }
 }
 
 // Over a source whose first or second read fails a row ends for that; no bytes are read by one read.
-fn breaks_so(alloc: Global, row: &Row) -> Result<bool, AllocError> {
+fn breaks_so(alloc: Global, words: &[Vec<u8>], session: &[u8]) -> Result<bool, NetError> {
     Ok(
-        told_ends(alloc, row, &[0], 4, b"")?
-            && (row.session.is_empty() || told_ends(alloc, row, &[1], 4, b"")?),
+        failing_ends(alloc, words, session, &[0], 4, b"")?
+            && (session.is_empty() || failing_ends(alloc, words, session, &[1], 4, b"")?),
     )
 }
 
 // Over a source whose reads fail a row ends for that if its words ask for a reading, and else as it says.
-fn fails_so(alloc: Global, row: &Row) -> Result<bool, AllocError> {
+fn fails_so(alloc: Global, words: &[Vec<u8>], row: &Row) -> Result<bool, NetError> {
     if is_reading(row.words) {
-        breaks_so(alloc, row)
+        breaks_so(alloc, words, row.session)
     } else {
-        told_ends(alloc, row, &[0], row.status, row.text)
+        failing_ends(alloc, words, row.session, &[0], row.status, row.text)
     }
 }
 
+fn ends_for_the_outside(alloc: Global, row: &Row) -> Result<bool, NetError> {
+    let words = words_of(alloc, row.words)?;
+    Ok(slow_ends(alloc, &words, row)? && fails_so(alloc, &words, row)?)
+}
+
 #[test]
-fn rows_end_where_the_outside_fails(rt: HostRuntime) -> Result<(), Fail> {
+fn rows_end_where_the_outside_fails(rt: HostRuntime) {
     for number in 1..=PARTS {
         for row in part(number) {
-            assert!(rt;
-                slow_ends(rt.alloc(), row)? && fails_so(rt.alloc(), row)?,
-                "{}",
-                row.name
-            );
+            check_row(&rt, row.name, ends_for_the_outside(rt.alloc(), row));
         }
     }
-    Ok(())
 }

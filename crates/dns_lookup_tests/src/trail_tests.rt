@@ -1,10 +1,8 @@
 //! The trail of a lookup, also where an ask meets a fault, and replies by turn (RFC 4035, 4.2 and 5).
-use crate::lookup_tests::{Given, KEY_SET, Keeping, NS_SET, ROOT_SERVERS, handle_over, query_of};
+use crate::lookup_tests::{Given, KEY_SET, Keeping, NS_SET, ROOT_SERVERS, handle_over, look_up};
+use crate::rows::check_row;
 use dns_chain::DnssecDnsHandle;
-use dns_net::{
-    AskRef, Asked, DnsRequestOptions, DnsResponse, Ending, JudgedSet, MarkOrigin, NetError,
-    Recorded, Reply, Trail,
-};
+use dns_net::{AskRef, Asked, Ending, JudgedSet, MarkOrigin, NetError, Recorded, Reply};
 use dns_record::{Denial, Proof, RecordType};
 use dns_trust::Listed;
 use std::alloc::Global;
@@ -78,15 +76,22 @@ fn is_judged(sets: &[JudgedSet], mark: Proof, asked: &[AskRef]) -> bool {
     }
 }
 
-fn is_step(step: &Asked, row: &Step) -> bool {
-    let asked = step.query.query_type == row.query_type && step.depth == row.depth && step.judged;
-    match (&step.reply, &step.ending, row.mark) {
-        (Reply::Fault, Ending::Failed, None) => asked && step.sets.is_empty(),
-        (Reply::Told(_), Ending::Answered(Denial::None), Some(mark)) => {
-            asked && is_judged(&step.sets, mark, row.asked)
-        }
-        _ => false,
+fn ends_as(step: &Asked, row: &Step) -> bool {
+    match row.mark {
+        Some(mark) => matches!(step.reply, Reply::Told(_))
+            && matches!(step.ending, Ending::Answered(Denial::None))
+            && is_judged(&step.sets, mark, row.asked),
+        None => matches!(step.reply, Reply::Fault)
+            && matches!(step.ending, Ending::Failed)
+            && step.sets.is_empty(),
     }
+}
+
+fn is_step(step: &Asked, row: &Step) -> bool {
+    step.query.query_type == row.query_type
+        && step.depth == row.depth
+        && step.judged
+        && ends_as(step, row)
 }
 
 fn are_steps(steps: &[Asked], rows: &[Step]) -> bool {
@@ -102,17 +107,15 @@ fn are_steps(steps: &[Asked], rows: &[Step]) -> bool {
 
 fn leaves(alloc: Global, row: &Row) -> Result<bool, NetError> {
     let mut handle = handle_over(alloc, Recorded::new(alloc), row.replies)?;
-    let query = query_of(alloc, &ROOT_SERVERS[0])?;
-    let answer = handle.lookup(alloc, query, DnsRequestOptions::default(), 1000)?;
-    let DnsResponse { trail, .. } = answer;
-    let Trail { steps } = trail;
-    Ok(are_steps(&steps, row.steps))
+    let answer = look_up(alloc, &mut handle, &ROOT_SERVERS[0])?;
+    let seen = &answer;
+    Ok(are_steps(&seen.trail.steps, row.steps))
 }
 
 #[test]
 fn an_answer_has_the_steps_that_led_to_it(rt: HostRuntime) {
     for row in &ROWS {
-        assert!(rt; matches!(leaves(rt.alloc(), row), Ok(true)), "{}", row.name);
+        check_row(&rt, row.name, leaves(rt.alloc(), row));
     }
 }
 
@@ -130,35 +133,44 @@ const KEYS: [Given; 2] = [
     },
 ];
 
+fn recorded_of(alloc: Global, by_turn: bool) -> Recorded {
+    if by_turn {
+        Recorded::in_turn(alloc)
+    } else {
+        Recorded::new(alloc)
+    }
+}
+
 // The keys of the root are answered.
-fn has_keys(
-    alloc: Global,
-    handle: &mut DnssecDnsHandle<Keeping, Listed>,
-) -> Result<bool, NetError> {
-    let query = query_of(alloc, &KEYS[0])?;
-    let answer = handle.lookup(alloc, query, DnsRequestOptions::default(), 1000);
-    Ok(answer.is_ok())
+fn has_keys(alloc: Global, handle: &mut DnssecDnsHandle<Keeping, Listed>) -> bool {
+    look_up(alloc, handle, &KEYS[0]).is_ok()
 }
 
-// Whether three lookups of the keys go so, one after another.
-fn go_so(alloc: Global, recorded: Recorded, wanted: [bool; 3]) -> Result<bool, NetError> {
-    let mut handle = handle_over(alloc, recorded, &KEYS)?;
-    let first = has_keys(alloc, &mut handle)?;
-    let second = has_keys(alloc, &mut handle)?;
-    let third = has_keys(alloc, &mut handle)?;
-    Ok([first, second, third] == wanted)
+/// What is shown, whether replies are taken by turn, and which of three lookups of the keys, one after another, are answered.
+const TURNS: [(&str, bool, [bool; 3]); 2] = [
+    (
+        "by turn each send takes the next reply, and then the last",
+        true,
+        [false, true, true],
+    ),
+    (
+        "else each send takes the first reply",
+        false,
+        [false, false, false],
+    ),
+];
+
+fn go_so(alloc: Global, by_turn: bool, wanted: &[bool; 3]) -> Result<bool, NetError> {
+    let mut handle = handle_over(alloc, recorded_of(alloc, by_turn), &KEYS)?;
+    let first = has_keys(alloc, &mut handle);
+    let second = has_keys(alloc, &mut handle);
+    let third = has_keys(alloc, &mut handle);
+    Ok([first, second, third] == *wanted)
 }
 
 #[test]
-fn by_turn_each_send_takes_the_next_reply_and_then_the_last(rt: HostRuntime) {
-    let alloc = rt.alloc();
-    let goes_so = go_so(alloc, Recorded::in_turn(alloc), [false, true, true]);
-    assert!(rt; matches!(goes_so, Ok(true)));
-}
-
-#[test]
-fn else_each_send_takes_the_first_reply(rt: HostRuntime) {
-    let alloc = rt.alloc();
-    let goes_so = go_so(alloc, Recorded::new(alloc), [false, false, false]);
-    assert!(rt; matches!(goes_so, Ok(true)));
+fn replies_are_taken_by_turn_or_the_first_again(rt: HostRuntime) {
+    for (name, by_turn, wanted) in &TURNS {
+        check_row(&rt, name, go_so(rt.alloc(), *by_turn, wanted));
+    }
 }

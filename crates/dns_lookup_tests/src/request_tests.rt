@@ -1,44 +1,11 @@
 //! What a validator sends for a whole request, and what it answers (RFC 1035, 4.1.1; RFC 4035, 3.2 and 4.1).
+use crate::lookup_tests::{Keeping, Sending, upstream_over};
+use crate::rows::check_row;
 use dns_chain::{DnssecDnsHandle, Listed};
 use dns_message::Message;
-use dns_name::Octets;
-use dns_net::{DnsHandle, DnsRequest, DnsRequestOptions, DnsResponse, NetError, Notice};
+use dns_net::{DnsHandle, DnsRequest, DnsRequestOptions, DnsResponse, NetError, Notice, Recorded};
 use dns_trust::TrustAnchors;
 use std::alloc::Global;
-
-/// An upstream that answers nothing in time. It keeps the message that it sent last.
-#[derive(Drop)]
-struct Silent {
-    kept: Octets,
-    sends: u64,
-    faults: u64,
-}
-
-impl DnsHandle for Silent {
-    ghost use Rattle.std.specs.Prelude.{⊤, None};
-
-    ghost sends = { λ u. u.sends };
-
-    ghost faults = { λ u. u.faults };
-
-    ghost sent = { λ from asked to reply. ⊤ };
-
-    ghost told = { λ u. None };
-
-    fn send(
-        &mut self,
-        alloc: Global,
-        request: DnsRequest,
-        _now: u64,
-    ) -> Result<DnsResponse, NetError> {
-        self.sends = self.sends.saturating_add(1);
-        self.faults = self.faults.saturating_add(1);
-        if let Ok(message) = request.message.to_vec(alloc) {
-            self.kept = message;
-        }
-        Err(NetError::Timeout)
-    }
-}
 
 /// The message of a request, and that of what is sent for it, or nothing.
 struct Sent {
@@ -83,43 +50,38 @@ fn request_of(alloc: Global, given: &[u8]) -> Result<DnsRequest, NetError> {
     })
 }
 
-fn validator_over(alloc: Global) -> Result<DnssecDnsHandle<Silent, Listed>, NetError> {
-    let upstream = Silent {
-        kept: Octets::from_vec(Vec::new(alloc)),
-        sends: 0,
-        faults: 0,
-    };
+// A validator over an upstream that answers nothing in time.
+fn validator_over(alloc: Global) -> Result<DnssecDnsHandle<Keeping, Listed>, NetError> {
+    let upstream = upstream_over(alloc, Recorded::new(alloc));
     Ok(DnssecDnsHandle::new(upstream, TrustAnchors::empty(alloc), Listed::new(alloc))?)
 }
 
 /// The upstream's error where something was sent, which then was one request, and else that there is no question.
-fn is_error(error: &NetError, sends: u64) -> bool {
-    match error {
-        NetError::Message(Notice::NoQueryInRequest) => sends == 0,
-        NetError::Timeout => sends == 1,
+fn is_error(error: &NetError, kept: &[Sending], sent: &[u8]) -> bool {
+    match kept {
+        [] => matches!(error, NetError::Message(Notice::NoQueryInRequest)) && sent.is_empty(),
+        [only] => matches!(error, NetError::Timeout) && *only.message.as_slice() == *sent,
         _ => false,
+    }
+}
+
+fn is_refused(answer: &Result<DnsResponse, NetError>, kept: &[Sending], sent: &[u8]) -> bool {
+    match answer {
+        Ok(_) => false,
+        Err(error) => is_error(error, kept, sent),
     }
 }
 
 fn is_sent(alloc: Global, row: &Sent) -> Result<bool, NetError> {
     let mut validator = validator_over(alloc)?;
     let request = request_of(alloc, row.given)?;
-    match validator.send(alloc, request, 1000) {
-        Ok(_) => Ok(false),
-        Err(error) => Ok(
-            is_error(&error, validator.inner().sends)
-                && *validator.inner().kept.as_slice() == *row.sent,
-        ),
-    }
+    let answer = validator.send(alloc, request, 1000);
+    Ok(is_refused(&answer, validator.inner().kept.as_slice(), row.sent))
 }
 
 #[test]
 fn a_request_is_sent_to_be_validated(rt: HostRuntime) {
     for row in &SENT {
-        assert!(rt;
-            matches!(is_sent(rt.alloc(), row), Ok(true)),
-            "{}",
-            row.name
-        );
+        check_row(&rt, row.name, is_sent(rt.alloc(), row));
     }
 }

@@ -1,4 +1,5 @@
 //! A lookup with an upstream and a verifier of one's own. docs/LIBRARY.md shows parts of this file.
+use crate::rows::check_row;
 use dns_chain::DnssecDnsHandle;
 use dns_message::Message;
 use dns_name::{Name, Octets};
@@ -126,16 +127,26 @@ fn is_secure(response: &DnsResponse) -> bool {
         && matches!(response.chains.as_slice(), [chain] if leads_from_anchor(chain.links.as_slice()))
 }
 
+fn secure(alloc: Global) -> Result<bool, NetError> {
+    let response = look_up(alloc, 1000)?;
+    Ok(is_secure(&response))
+}
+
 #[test]
 fn a_record_is_secure_by_its_chain_while_its_signature_holds(rt: HostRuntime) {
-    assert!(rt; matches!(&look_up(rt.alloc(), 1000), Ok(response) if is_secure(response)));
+    check_row(&rt, "at 1000", secure(rt.alloc()));
 }
 
 fn is_bogus(response: &DnsResponse) -> bool {
     has_mark(response, Proof::Bogus) && response.chains.is_empty()
 }
 
+fn bogus(alloc: Global) -> Result<bool, NetError> {
+    let response = look_up(alloc, 3000)?;
+    Ok(is_bogus(&response))
+}
+
 #[test]
 fn a_record_is_bogus_and_has_no_chain_later(rt: HostRuntime) {
-    assert!(rt; matches!(&look_up(rt.alloc(), 3000), Ok(response) if is_bogus(response)));
+    check_row(&rt, "at 3000", bogus(rt.alloc()));
 }
