@@ -1,15 +1,12 @@
 -- What the earlier steps came to, by their numbers.
-use Rattle.std.proofs.Common.{◌≡◌, ℕ, zero, suc, Bool, true, false, List, [], ◌∷◌, map, Option, None, Some, slice_get, ◌||◌, refl, sym, ap, ◌∙◌, subst}
-use Rattle.std.specs.Option.{option_map, option_map_or, option_and_then}
+use Rattle.std.proofs.Common.{◌≡◌, ℕ, zero, suc, Bool, List, [], ◌∷◌, map, Option, None, Some, slice_get, ◌||◌, refl, sym, ap, ◌∙◌}
+use Rattle.std.specs.Option.{option_map}
 use Rattle.std.specs.List.{list_any}
-use Rattle.dns_model.specs.declared.trail.AskRef.{AskRef}
 use Rattle.dns_model.specs.declared.trail.AskRef.TheVariants.{Step}
-use Rattle.dns_model.specs.Records.{question_eq}
-use Rattle.dns_model.specs.SoundAnswers.{Placed}
-use Rattle.dns_model.specs.Trails.{AskedValue, JudgedSetValue}
+use Rattle.dns_model.specs.Trails.{AskedValue}
 use Rattle.dns_judgement.specs.Chained.{Chained, bare}
-use Rattle.dns_judgement.specs.Derivation.{Grounds, finished_answer, is_repeat, judged_sets}
-use Rattle.dns_judgement.specs.DerivationParts.{answer_of, repeats_step}
+use Rattle.dns_judgement.specs.Derivation.{finished_answer, judged_sets}
+use Rattle.dns_judgement.specs.DerivationParts.{answer_of}
 use Rattle.dns_judgement.specs.Judged.{Judged}
 use Rattle.dns_trail.specs.Ended.{EndedValue, ended_of}
 

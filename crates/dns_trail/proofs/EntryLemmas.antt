@@ -1,5 +1,5 @@
 -- The entry of a set, by what judged it.
-use Rattle.std.proofs.Common.{◌≡◌, ◌≢◌, length, ℕ, ◌+◌, Bool, true, false, ◌==◌, ◌&&◌, List, [], ◌∷◌, ◌++◌, reverse, Option, None, Some, if◌then◌else◌, refl, sym, ap, ◌∙◌, subst, append_assoc, append-nil}
+use Rattle.std.proofs.Common.{◌≡◌, ◌≢◌, length, ℕ, ◌+◌, Bool, true, false, ◌==◌, ◌&&◌, List, [], ◌∷◌, ◌++◌, reverse, Option, None, Some, if◌then◌else◌, refl, sym, ap, ◌∙◌, append_assoc, append-nil}
 use Rattle.std.specs.Option.{option_map, option_map_or}
 use Rattle.std.proofs.lemmas.Bool.{and_parts}
 use Rattle.std.proofs.lemmas.List.{reverse-append, reverse-reverse}
@@ -9,10 +9,9 @@ use Rattle.dns_model.specs.declared.trail.MarkOrigin.{MarkOrigin}
 use Rattle.dns_model.specs.Names.{name_eq}
 use Rattle.dns_model.specs.SoundAnswers.{Placed, section_eq}
 use Rattle.dns_model.specs.Trails.{JudgedSetValue}
-use Rattle.dns_model.specs.Types.{type_dnskey}
 use Rattle.dns_judgement.specs.Chained.{Chained, bare, chained_by_ds, chained_keys}
 use Rattle.dns_judgement.specs.Delegations.{ZoneVerdict, Signed, Insecure, Bogus, ds_question, zone_verdict}
-use Rattle.dns_judgement.specs.Derivation.{Grounds, entries_hold, entry_holds, finished_answer, has_mark_of, is_ask, is_by_origin, is_empty, keys_hold, search_from, unsigned_holds, verdicts_by, with_entries, zone_asked}
+use Rattle.dns_judgement.specs.Derivation.{Grounds, entries_hold, entry_holds, finished_answer, has_mark_of, is_ask, is_by_origin, is_empty, keys_hold, search_from, unsigned_holds, with_entries, zone_asked}
 use Rattle.dns_judgement.specs.DerivationParts.{is_by_verdicts, with_entry}
 use Rattle.dns_judgement.specs.Judged.{Judged, placed_of}
 use Rattle.dns_judgement.specs.KeySets.{judged_keys, needs_ds}

@@ -1,13 +1,13 @@
 -- The steps of a trail, one after another, and what each comes to.
-use Rattle.std.proofs.Common.{◌≡◌, ℕ, zero, suc, ◌+◌, ◌<◌, ◌≤◌, Bool, true, false, ◌&&◌, List, [], ◌∷◌, ◌++◌, length, map, take, drop, get_or, Option, None, Some, if◌then◌else◌, refl, sym, ap, ◌∙◌, subst}
-use Rattle.std.specs.Option.{option_map, option_map_or}
+use Rattle.std.proofs.Common.{◌≡◌, ℕ, ◌+◌, ◌<◌, ◌≤◌, Bool, true, false, ◌&&◌, List, [], ◌∷◌, ◌++◌, length, map, take, drop, get_or, Option, None, Some, if◌then◌else◌, refl, sym, ap, ◌∙◌, subst}
+use Rattle.std.specs.Option.{option_map_or}
 use Rattle.std.specs.List.{zip}
 use Rattle.std.proofs.lemmas.Bool.{and_parts}
 use Rattle.std.proofs.lemmas.List.{drop_all, drop_more, map-append, take_more}
 use Rattle.dns_model.specs.Chains.{Judge}
 use Rattle.dns_model.specs.Records.{Rr}
 use Rattle.dns_model.specs.SoundAnswers.{Told, Placed}
-use Rattle.dns_model.specs.Trails.{AskedValue, EndingValue, HeardValue, JudgedSetValue, Records, Fault, Answered, Denied, Foreign, Failed, Seen}
+use Rattle.dns_model.specs.Trails.{AskedValue, EndingValue, JudgedSetValue, Fault, Answered, Denied, Foreign, Failed, Seen}
 use Rattle.dns_judgement.specs.Asking.{judged_part}
 use Rattle.dns_judgement.specs.Derivation.{Grounds, ending_eq, ending_holds, ends_bare, entries_hold, if_answered, is_empty, judged_sets, step_holds, steps_hold, told_in, with_entries}
 use Rattle.dns_judgement.specs.DerivationParts.{grounds_of, is_bare, judged_holds, step_holds_by}

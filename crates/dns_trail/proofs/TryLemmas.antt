@@ -1,6 +1,5 @@
 -- The verdicts of signatures, one after another.
 use Rattle.std.proofs.Common.{◌≡◌, Bool, true, false, List, [], ◌∷◌, ◌++◌, Option, None, Some, if◌then◌else◌, refl, sym, ap, ◌∙◌, append_assoc, append-nil}
-use Rattle.std.specs.Option.{option_map, option_and_then}
 use Rattle.dns_model.specs.declared.trail.AskRef.{AskRef}
 use Rattle.dns_model.specs.Records.{Rr, RrSet}
 use Rattle.dns_judgement.specs.Asking.{ask_of}

@@ -1,11 +1,10 @@
 -- The search for a zone, one name after another.
-use Rattle.std.proofs.Common.{◌≡◌, ◌≢◌, ℕ, Bool, true, false, List, [], ◌∷◌, Option, None, Some, if◌then◌else◌, refl, sym, ap, ◌∙◌, subst}
-use Rattle.std.specs.Option.{option_map, option_map_or}
-use Rattle.dns_model.specs.declared.proof.Proof.{Proof}
+use Rattle.std.proofs.Common.{◌≡◌, ◌≢◌, ℕ, Bool, true, false, List, [], ◌∷◌, None, Some, if◌then◌else◌, refl, sym, ap, ◌∙◌}
+use Rattle.std.specs.Option.{option_map}
 use Rattle.dns_model.specs.declared.proof.Proof.TheVariants as proof
 use Rattle.dns_model.specs.declared.trail.AskRef.{AskRef}
 use Rattle.dns_model.specs.Names.{Labels, parent}
-use Rattle.dns_judgement.specs.Delegations.{ZoneVerdict, Bogus}
+use Rattle.dns_judgement.specs.Delegations.{Bogus}
 use Rattle.dns_judgement.specs.Derivation.{Grounds, Sight, Cut, Onward, Unseen, is_empty, is_plain_ask, search_after, search_by, sight_by, zone_asked}
 use Rattle.dns_judgement.specs.ProofErrors.{ProofErrorKindValue}
 use Rattle.dns_judgement.specs.Unsigned.{ns_question}

@@ -1,4 +1,4 @@
--- For private functions of this crate only: elements of a list that are found by a number, as equal ones have equal numbers.
+-- For private functions of this crate and of those above: elements of a list that are found by a number, as equal ones have equal numbers.
 use Rattle.std.specs.Prelude.{ℕ, ◌≡◌, ◌+◌, ◌*◌, ◌%◌, ◌^◌, ◌<◌, Bool, true, false, ◌==◌, List, [], ◌∷◌, ◌++◌, length, Option, None, Some, Vec, slice_get, slice_index_or, if◌then◌else◌}
 use Rattle.std.specs.List.{list_any}
 use Rattle.std.specs.Ordering.{nat_cmp}

@@ -1,9 +1,6 @@
-use Rattle.std.proofs.Common.{rules, ◌≡◌, ◌≢◌, List, [], ◌∷◌, ◌++◌, length, None, Some, sym, ap, ◌∙◌, subst}
+use Rattle.std.proofs.Common.{rules, ◌≡◌, ◌≢◌, List, [], ◌∷◌, length, sym, ap, ◌∙◌, subst}
 use Rattle.dns_judgement.specs.Chained.{bare}
-use Rattle.dns_judgement.specs.Derivation.{entry_holds}
-use Rattle.dns_judgement.specs.DerivationParts.{with_entry}
 use Rattle.dns_judgement.specs.Judged.{Judged}
-use Rattle.dns_trail.specs.Ended.{some_if}
 use Rattle.dns_trail.specs.Entries.{judged_if}
 use Rattle.dns_trail.specs.Grounds.{grounds_by}
 use Rattle.dns_trail.proofs.EntryLemmas.{AreLeft, left_alone, left_next, left_none, left_over, left_refused}

@@ -1,9 +1,8 @@
-use Rattle.std.proofs.Common.{rules, ◌≡◌, [], ◌∷◌, ◌++◌, length, map, None, Some, sym, ap, ◌∙◌}
+use Rattle.std.proofs.Common.{rules, ◌≡◌, ◌∷◌, length, map, None, Some, sym, ap, ◌∙◌}
 use Rattle.std.specs.Option.{option_map}
 use Rattle.dns_judgement.specs.Chained.{bare_verdicts}
 use Rattle.dns_judgement.specs.Derivation.{is_empty, verdicts_by}
 use Rattle.dns_trust.specs.Verdicts.{verdict_value}
-use Rattle.dns_trust.specs.declared.verdict.Verdict.{Verdict}
 use Rattle.dns_trail.specs.Ended.{some_if}
 use Rattle.dns_trail.specs.Grounds.{grounds_by}
 use Rattle.dns_trail.specs.Trying.{behind, tried_by}
