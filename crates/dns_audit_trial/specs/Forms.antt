@@ -1,5 +1,5 @@
 -- The words that the program takes, and the texts that it writes.
-use Rattle.std.specs.Prelude.{ℕ, Bool, ◌++◌, List, [], ◌∷◌, map, codes, Vec, Option, None, Some, if◌then◌else◌}
+use Rattle.std.specs.Prelude.{ℕ, Bool, ◌++◌, List, [], ◌∷◌, map, codes, Vec, Option, None, Some, true, false, if◌then◌else◌}
 use Rattle.std.specs.Option.{option_map}
 use Rattle.std.specs.Fmt.{decimal}
 use Rattle.dns_model.specs.Keys.{bytes_eq}
@@ -24,6 +24,12 @@ form_in words = None
 -- what the words of a call ask for
 abbrev pub asked_form : {Z : Type 0} → List (Vec ℕ Z) → Option Form
 asked_form words = form_in (map (λ w. w.items) words)
+
+-- only an audit reads its input
+abbrev pub reads_input : Option Form → Bool
+reads_input None = false
+reads_input (Some (Audit more)) = true
+reads_input (Some (Chains signed)) = false
 
 -- a truth value and the end of the line
 abbrev pub truth_line : Bool → List ℕ

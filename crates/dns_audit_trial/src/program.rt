@@ -1,11 +1,11 @@
 //! The program over any source and any sink.
-ghost use Rattle.std.specs.Prelude.{ℕ, ◌≡◌, ◌≢◌, ◌<◌, ◌≤◌, length, codes, None, Some, IfOk, IfSome};
+ghost use Rattle.std.specs.Prelude.{ℕ, ◌≡◌, ◌≢◌, ◌<◌, ◌≤◌, length, codes, false, None, Some, IfOk, IfSome};
 ghost use Rattle.std.specs.Result.{result_ok};
 ghost use Rattle.std.specs.Io.KnownBytes.{Appends};
 ghost use Rattle.dns_model.specs.Counts.{Rose};
 ghost use Rattle.dns_io.specs.Reading.{input_limit, IsEnded};
 ghost use Rattle.dns_session.specs.Grammar.{session_of};
-ghost use Rattle.dns_audit_trial.specs.Forms.{asked_form};
+ghost use Rattle.dns_audit_trial.specs.Forms.{asked_form, reads_input};
 ghost use Rattle.dns_audit_trial.specs.Endings.{Audits, ComesTo, EndsAs, EndsTold, EndsUnread};
 ghost use Rattle.dns_audit_trial.specs.declared.form.Form.TheVariants.{Audit, Chains};
 
@@ -173,6 +173,10 @@ pub(crate) fn run<S: Source, W: Sink>(
     ensures told { asked_form words.now ≡ None → result < 4
         → Appends (W.taken output.old) (W.taken output.new) (codes "bad words\n") }
 
+    // 4 and 7 are answered only where the input is read: with the words `chains`, and for wrong words, it stays as it was.
+    ensures unread { reads_input (asked_form words.now) ≡ false → input.new ≡ input.old }
+    ensures reads { reads_input (asked_form words.now) ≡ false → result ≢ 4 }
+    ensures short { reads_input (asked_form words.now) ≡ false → result ≤ 6 }
     ensures source { result ≡ 4 → Rose (S.faults input.old) (S.faults input.new) }
     ensures sink { result ≡ 5 → Rose (W.faults output.old) (W.faults output.new) }
     ensures long { result ≡ 7 → IfSome (S.left input.old) (λ bytes. input_limit < length bytes) }
