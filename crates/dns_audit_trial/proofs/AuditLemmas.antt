@@ -9,7 +9,7 @@ use Rattle.dns_net.specs.Errors as seen
 use Rattle.dns_net.specs.Replies.{error_of}
 use Rattle.dns_net.specs.declared.error.NetError.{NetError}
 use Rattle.dns_net.specs.declared.error.NetError.TheVariants.{NoMemory}
-use Rattle.dns_trust.specs.Listing.{answers_of}
+use Rattle.dns_anchors.specs.Listing.{answers_of}
 use Rattle.dns_session.specs.SessionValue.{SessionValue}
 use Rattle.dns_session.specs.Grammar.{session_of}
 use Rattle.dns_run.specs.Causes.{AnswersSession}

@@ -10,10 +10,10 @@ use Rattle.dns_net.specs.Replies.{reply_of, error_of}
 use Rattle.dns_net.specs.declared.request.DnsRequestOptions.{DnsRequestOptions}
 use Rattle.dns_net.specs.Requests.{plain_options}
 use Rattle.dns_net.specs.Recording.{RecordedValue, replies_of}
-use Rattle.dns_trust.specs.Listing.{answers_of}
-use Rattle.dns_chain.specs.Causes.{PassesOn, ForeignNamed, JudgesTold}
-use Rattle.dns_chain.specs.LookupAnswers.{UnlessNoMemory, OfAnswer, IsSoundAnswer, IsTrail}
-use Rattle.dns_chain.specs.Calls.{inner_of, anchors_of, verifier_of}
+use Rattle.dns_anchors.specs.Listing.{answers_of}
+use Rattle.dns_lookup.specs.Causes.{PassesOn, ForeignNamed, JudgesTold}
+use Rattle.dns_lookup.specs.LookupAnswers.{UnlessNoMemory, OfAnswer, IsSoundAnswer, IsTrail}
+use Rattle.dns_lookup.specs.Calls.{inner_of, anchors_of, verifier_of}
 use Rattle.dns_session.specs.SessionValue.{SessionValue}
 use Rattle.dns_run.specs.Soundness.{listing, session_judge}
 use Rattle.dns_run.specs.Answering.{recorded_by, session_depth}

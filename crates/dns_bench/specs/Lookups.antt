@@ -7,10 +7,10 @@ use Rattle.dns_net.specs.Requests.{plain_options}
 use Rattle.dns_net.specs.Recording.{RecordedValue, replies_of}
 use Rattle.dns_net.specs.contracts.recorded.RecordedDnsHandle.TheImpl as upstream
 use Rattle.dns_net.specs.declared.request.DnsRequestOptions.{DnsRequestOptions}
-use Rattle.dns_chain.specs.Calls.{Call}
-use Rattle.dns_chain.specs.AskRequests.{asking_request}
-use Rattle.dns_chain.specs.Causes.{PassesOn, ForeignNamed, JudgesTold}
-use Rattle.dns_chain.specs.LookupAnswers.{OfAnswer, IsSoundAnswer, IsTrail}
+use Rattle.dns_lookup.specs.Calls.{Call}
+use Rattle.dns_lookup.specs.AskRequests.{asking_request}
+use Rattle.dns_lookup.specs.Causes.{PassesOn, ForeignNamed, JudgesTold}
+use Rattle.dns_lookup.specs.LookupAnswers.{OfAnswer, IsSoundAnswer, IsTrail}
 use Rattle.dns_session.specs.SessionValue.{SessionValue}
 use Rattle.dns_run.specs.Soundness.{session_judge}
 use Rattle.dns_run.specs.Answering.{recorded_by, session_depth}

@@ -5,9 +5,9 @@ use Rattle.dns_model.specs.Chains.{judge}
 use Rattle.dns_net.specs.Errors.{Reply}
 use Rattle.dns_net.specs.Recording.{RecordedValue}
 use Rattle.dns_net.specs.declared.request.DnsRequestOptions.{DnsRequestOptions}
-use Rattle.dns_trust.specs.Listing.{ListedValue, answers_of}
-use Rattle.dns_chain.specs.declared.handle.DnssecDnsHandle.{DnssecDnsHandle}
-use Rattle.dns_chain.specs.Calls.{inner_of, anchors_of, verifier_of}
+use Rattle.dns_anchors.specs.Listing.{ListedValue, answers_of}
+use Rattle.dns_lookup.specs.declared.handle.DnssecDnsHandle.{DnssecDnsHandle}
+use Rattle.dns_lookup.specs.Calls.{inner_of, anchors_of, verifier_of}
 use Rattle.dns_bench.specs.Frames.{frames}
 use Rattle.dns_bench.specs.Lookups.{RepeatedLookup, GivesAnswer, GiveAnswers, with_answer, counts_of}
 use Rattle.dns_bench.specs.declared.lookups.Lookups.{Lookups}

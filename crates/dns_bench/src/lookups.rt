@@ -1,17 +1,18 @@
 //! Lookups of a session's query, one after another.
 ghost use Rattle.std.specs.Prelude.{◌≡◌, IfOk};
 ghost use Rattle.dns_net.specs.Replies.{reply_of};
-ghost use Rattle.dns_chain.specs.LookupAnswers.{UnlessNoMemory};
-ghost use Rattle.dns_chain.specs.Calls.{inner_of};
+ghost use Rattle.dns_lookup.specs.LookupAnswers.{UnlessNoMemory};
+ghost use Rattle.dns_lookup.specs.Calls.{inner_of};
 ghost use Rattle.dns_bench.specs.Lookups.{with_answer, GivesAnswer, Repeats, RepeatsSession};
 ghost use Rattle.dns_bench.specs.Steps.{OneMore, SameValidator, repeated_by};
 
-use dns_chain::{DnssecDnsHandle, Listed};
+use dns_lookup::DnssecDnsHandle;
 use dns_name::NoMemory;
 use dns_net::{DnsRequestOptions, DnsResponse, NetError, Recorded};
 use dns_record::Query;
 use dns_run::{session_anchors, session_options, session_upstream, session_verifier};
 use dns_session::Session;
+use dns_trust::Listed;
 use std::alloc::Global;
 
 /// How many lookups gave an answer, and how many a fault. A count stops at the greatest `u64`.

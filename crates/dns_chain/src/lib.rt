@@ -1,25 +1,13 @@
-//! The validator: a lookup over any handle that asks for the keys of signers up to a trust anchor, searches the zone of what is
-//! unsigned, marks each set and gives the chain of each Secure one (RFC 4035, 5). The layer above may use
-//! `DnssecDnsHandle::lookup`, and its `send` as that of a `DnsHandle`, by their clauses.
+//! The validator under the names that a caller looks for: the handle that looks up, the checker of chains, and what finds a key's,
+//! a signature's or a set's mark by itself (RFC 4035, 5).
 #![tactic(auto)]
 
-mod context;
-mod finished;
-mod handle;
-mod judging;
-mod lookup;
-mod receiving;
-mod search;
-mod sending;
-mod steps;
-mod walk;
-
 pub use dns_chain_check::check_chain;
+pub use dns_evidence::Verifier;
+pub use dns_lookup::DnssecDnsHandle;
 pub use dns_marks::{
     DnsAnswer, KeyAnswer, KeysMark, ProofError, ProofErrorKind, RrsetProof, ZoneVerdict,
     ds_verdict, mark_keys, mark_rrset, verify_dnskey, verify_rrset_with_dnskey,
     verify_rrsig_with_keys,
 };
-pub use dns_net::Verifier;
 pub use dns_trust::{Limits, Listed, RrsigValidity, TrustAnchors};
-pub use handle::DnssecDnsHandle;

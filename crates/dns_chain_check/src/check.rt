@@ -1,15 +1,15 @@
 ghost use Rattle.std.specs.Prelude.{◌≡◌, [], IfOk, IsTrue, map};
 ghost use Rattle.dns_model.specs.Chains.{accepted_alone, judge, justified, link_holds, links_hold};
-ghost use Rattle.dns_net.specs.Link.{link_value};
-ghost use Rattle.dns_trust.specs.Judge.{judge_of};
+ghost use Rattle.dns_evidence.specs.Link.{link_value};
+ghost use Rattle.dns_anchors.specs.Judge.{judge_of};
 ghost use Rattle.dns_chain_check.specs.MoreTrust.{HoldsForMore};
 ghost use Rattle.dns_chain_check.specs.Prefixes.{PrefixesHold};
 
 use crate::earlier::Earlier;
 use crate::holds::holds;
 use crate::indexed::IndexedLink;
+use dns_evidence::{Chain, Link, Verifier};
 use dns_name::NoMemory;
-use dns_net::{Chain, Link, Verifier};
 use dns_trust::{Judge, TrustAnchors};
 use std::alloc::Global;
 

@@ -1,10 +1,10 @@
 ghost use Rattle.std.specs.Prelude.{◌≡◌, slice_get, map};
 ghost use Rattle.dns_model.specs.Chains.{all_shown as all_shown_in, shows_ds as shows_ds_in, shows_key as shows_key_in, shows_member as shows_member_in};
-ghost use Rattle.dns_net.specs.Link.{link_value};
+ghost use Rattle.dns_evidence.specs.Link.{link_value};
 
 use crate::indexed::IndexedLink;
+use dns_evidence::{Link, all_shown, shows_key};
 use dns_name::NameRef;
-use dns_net::{Link, all_shown, shows_key};
 use dns_record::{DNSClass, Rdata};
 use std::marker::Model;
 
@@ -18,7 +18,7 @@ pub(crate) struct Earlier<'e, 'a> {
 impl<'e, 'a> Model for Earlier<'e, 'a> {
     ghost use Rattle.std.specs.Prelude.{◌≡◌, List, map};
     ghost use Rattle.dns_model.specs.Chains.{LinkValue};
-    ghost use Rattle.dns_net.specs.Link.{link_value};
+    ghost use Rattle.dns_evidence.specs.Link.{link_value};
 
     ghost Value = { List LinkValue };
 

@@ -2,13 +2,13 @@ ghost use Rattle.std.specs.Prelude.{◌≡◌, ◌&&◌, IfOk, slice_get};
 ghost use Rattle.dns_model.specs.Views.{dnskey_in, ds_in};
 ghost use Rattle.dns_model.specs.Keys.{anchored, matches, matches_read};
 ghost use Rattle.dns_model.specs.Chains.{link_holds, shows_ds};
-ghost use Rattle.dns_net.specs.Link.{link_value};
-ghost use Rattle.dns_trust.specs.Judge.{judge_of};
+ghost use Rattle.dns_evidence.specs.Link.{link_value};
+ghost use Rattle.dns_anchors.specs.Judge.{judge_of};
 
 use crate::earlier::Earlier;
 use crate::signed::signed_holds;
+use dns_evidence::{Link, Verifier};
 use dns_name::{Name, NoMemory};
-use dns_net::{Link, Verifier};
 use dns_rdata::{Dnskey, Ds, key_tag};
 use dns_trust::{Judge, TrustAnchors};
 use std::alloc::Global;

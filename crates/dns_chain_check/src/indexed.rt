@@ -1,11 +1,11 @@
 ghost use Rattle.std.specs.Prelude.{◌≡◌, ◌==◌, ◌&&◌, IfOk, Some};
 ghost use Rattle.dns_model.specs.Names.{name_eq};
 ghost use Rattle.dns_model.specs.Chains.{has_bytes, shows_ds as shows_ds_in, shows_member as shows_member_in};
-ghost use Rattle.dns_net.specs.Link.{link_value};
+ghost use Rattle.dns_evidence.specs.Link.{link_value};
 ghost use Rattle.dns_chain_check.specs.Indexed.{Holds, Indexes, members_in};
 
+use dns_evidence::Link;
 use dns_name::{Name, NameRef, NoMemory};
-use dns_net::Link;
 use dns_record::{DNSClass, Rdata, RecordType};
 use std::alloc::Global;
 use std::collections::BTreeSet;
@@ -23,7 +23,7 @@ pub(crate) struct IndexedLink<'a> {
 
 impl<'a> Model for IndexedLink<'a> {
     ghost use Rattle.dns_model.specs.Chains.{LinkValue};
-    ghost use Rattle.dns_net.specs.Link.{link_value};
+    ghost use Rattle.dns_evidence.specs.Link.{link_value};
     ghost use Rattle.dns_chain_check.specs.Indexed.{Indexes};
 
     ghost Value = { LinkValue };

@@ -2,13 +2,13 @@ ghost use Rattle.std.specs.Prelude.{◌≡◌, ◌==◌, ◌&&◌, IfOk, Some};
 ghost use Rattle.dns_model.specs.Views.{dnskey_in, rrsig_in};
 ghost use Rattle.dns_model.specs.Signing.{key_tag_of, signed_bytes};
 ghost use Rattle.dns_model.specs.Chains.{is_good as is_good_in, is_signed as is_signed_in, key_comes as key_comes_in};
-ghost use Rattle.dns_net.specs.Link.{link_value};
-ghost use Rattle.dns_trust.specs.Judge.{judge_of};
+ghost use Rattle.dns_evidence.specs.Link.{link_value};
+ghost use Rattle.dns_anchors.specs.Judge.{judge_of};
 ghost use Rattle.dns_chain_check.specs.Fitting.{fits_set, signed_link_holds};
 
 use crate::earlier::Earlier;
+use dns_evidence::{Link, Verifier, has_rdata};
 use dns_name::{Name, NoMemory};
-use dns_net::{Link, Verifier, has_rdata};
 use dns_rdata::{Dnskey, Rrsig, key_tag, signed_data_of};
 use dns_record::{DNSClass, Rdata, RecordType};
 use dns_trust::{

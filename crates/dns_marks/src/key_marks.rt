@@ -5,7 +5,7 @@ ghost use Rattle.dns_judgement.specs.Delegations.{is_supported_ds};
 ghost use Rattle.dns_model.specs.Gives.{Gives};
 ghost use Rattle.dns_model.specs.Chains.{judge};
 ghost use Rattle.dns_judgement.specs.KeySets.{needs_ds, keys_outcome, outcome_by_verdict, outcome_by_ds};
-ghost use Rattle.dns_trust.specs.Judge.{judge_of};
+ghost use Rattle.dns_anchors.specs.Judge.{judge_of};
 ghost use Rattle.dns_marks.specs.Kinds.{want_of_memory};
 ghost use Rattle.dns_marks.specs.KeyMarks.{keys_mark};
 ghost use Rattle.dns_marks.specs.Proofs.{proved_by as proved_under};

@@ -17,7 +17,7 @@ use Rattle.dns_model.specs.RecordViews.{read_as}
 use Rattle.dns_net.specs.NoRecords.{ForwardNsValue}
 use Rattle.dns_net.specs.Responses.{is_address_of, glue_at, forwarded}
 use Rattle.dns_net.specs.Glue.{is_address, bytes_cmp, vec_items, addresses_at, Joined, glue_by, forwarded_by}
-use Rattle.dns_net.proofs.KeyLemmas.{name_ties}
+use Rattle.dns_evidence.proofs.WireTies.{wire_ties}
 use Rattle.dns_net.proofs.PlaceLemmas.{equal-is_eq, lookup-same}
 
 -- keys that the order doesn't tell apart have the same records
@@ -37,7 +37,7 @@ pub joined : {Z : Type 0} (old new : BTreeMap (List ℕ) (Vec Rr Z)) (r : Rr) (k
     → w.items ≡ vec_items (tree.get bytes_cmp old key) ++ r ∷ [] → tree.Updates bytes_cmp old new key (Some w) → Joined old new r
 joined old new r key w is items updates name =
     let q = wire (folded name) in
-    let tie : is_eq (bytes_cmp key q) ≡ name_eq r.owner name = ap (λ k. is_eq (bytes_cmp k q)) is ∙ sym (name_ties r.owner name) in
+    let tie : is_eq (bytes_cmp key q) ≡ name_eq r.owner name = ap (λ k. is_eq (bytes_cmp k q)) is ∙ sym (wire_ties r.owner name) in
     ap vec_items (updates.0 q) ∙ joined_case old r key q w items (is_eq (bytes_cmp key q)) refl
     ∙ ap (λ b. vec_items (tree.get bytes_cmp old q) ++ cond b (r ∷ []) []) tie
 

@@ -1,6 +1,3 @@
-pub mod Link
-pub mod Trail
-pub mod Verifiers
 pub mod LetterCase
 pub mod Requests
 pub mod NoRecords

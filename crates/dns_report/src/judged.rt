@@ -2,7 +2,7 @@
 ghost use Rattle.std.specs.Prelude.{◌≡◌, ◌++◌, ◌∷◌, map, OnOk, IsTrue};
 ghost use Rattle.std.specs.List.{flat_map, list_all};
 ghost use Rattle.dns_model.specs.Trails.{Foreign};
-ghost use Rattle.dns_net.specs.Trail.{ending_value};
+ghost use Rattle.dns_evidence.specs.Trail.{ending_value};
 ghost use Rattle.dns_report.specs.LineWords.{line_rest, spaced, mark_word};
 ghost use Rattle.dns_report.specs.TrailView.{fitting_ask, fitting_origin, fitting_place, fitting_set, fitting_ending};
 ghost use Rattle.dns_report.specs.TrailLines.{ask_word, origin_word, place_word, set_line, ending_words, ending_line};

@@ -6,7 +6,7 @@ ghost use Rattle.dns_model.specs.Bytes.{is_bytes};
 ghost use Rattle.dns_model.specs.NameText.{printed};
 ghost use Rattle.dns_record.specs.Words.{type_word, class_word};
 ghost use Rattle.dns_words.specs.Words.{octets_word};
-ghost use Rattle.dns_net.specs.Link.{link_value};
+ghost use Rattle.dns_evidence.specs.Link.{link_value};
 ghost use Rattle.dns_report.specs.LineWords.{line, line_rest};
 ghost use Rattle.dns_report.specs.Fields.{is_u16, is_u32};
 ghost use Rattle.dns_report.specs.View.{KeySet, Matched, numbered, shown, chain_view, fitting_key, fitting_link, fitting_chain};

@@ -3,7 +3,7 @@ ghost use Rattle.std.specs.Prelude.{◌≡◌, ◌++◌, ◌∷◌, ◌^◌, [],
 ghost use Rattle.std.specs.List.{flat_map, list_all};
 ghost use Rattle.std.specs.Fmt.{decimal};
 ghost use Rattle.dns_model.specs.Trails.{Records as heard_records};
-ghost use Rattle.dns_net.specs.Trail.{heard_value};
+ghost use Rattle.dns_evidence.specs.Trail.{heard_value};
 ghost use Rattle.dns_model.specs.Bytes.{is_bytes};
 ghost use Rattle.dns_record.specs.Words.{type_word};
 ghost use Rattle.dns_words.specs.Words.{octets_word};

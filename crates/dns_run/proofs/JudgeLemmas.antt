@@ -14,8 +14,8 @@ use Rattle.dns_model.specs.Views.{DnskeyValue, dnskey_in}
 use Rattle.dns_model.specs.Serial.{timely}
 use Rattle.dns_model.specs.Chains.{Judge, judge}
 use Rattle.dns_model.proofs.NameLemmas.{name_eq-Decides}
-use Rattle.dns_trust.specs.Listing.{ListedValue, ListedSignatureValue, is_entry, is_listed, answers_of, with_algorithm, with_accepted}
-use Rattle.dns_trust.specs.Anchoring.{with_anchor}
+use Rattle.dns_anchors.specs.Listing.{ListedValue, ListedSignatureValue, is_entry, is_listed, answers_of, with_algorithm, with_accepted}
+use Rattle.dns_anchors.specs.Anchoring.{with_anchor}
 use Rattle.dns_session.specs.SessionValue.{AcceptedSignatureValue, SessionValue}
 use Rattle.dns_run.specs.Adding.{with_algorithms, with_accepts, listed_by, with_anchors, trusted_by}
 use Rattle.dns_run.specs.Soundness.{listed_signature, listing, session_judge}

@@ -16,16 +16,16 @@ use Rattle.dns_net.specs.Replies.{reply_of}
 use Rattle.dns_net.specs.declared.error.NetError.{NetError}
 use Rattle.dns_net.specs.declared.handle.DnsHandle as handle
 use Rattle.dns_net.specs.declared.notice.Notice.TheVariants.{NotJudgedYet, NoQueryInRequest, ExpiredRrsig, WrongDnskey, WrongRrsig}
-use Rattle.dns_chain.specs.Received.{received_message, received}
+use Rattle.dns_lookup.specs.Received.{received_message, received}
 use Rattle.dns_net.specs.declared.request.DnsRequestOptions.{DnsRequestOptions}
-use Rattle.dns_net.specs.declared.verifier.Verifier as verifier
+use Rattle.dns_evidence.specs.declared.verifier.Verifier as verifier
 use Rattle.dns_net.specs.Recording.{RecordedValue, replies_of}
-use Rattle.dns_trust.specs.Listing.{ListedValue, answers_of}
-use Rattle.dns_chain.specs.declared.handle.DnssecDnsHandle.{DnssecDnsHandle}
-use Rattle.dns_chain.specs.Calls.{Call, inner_of, anchors_of, verifier_of, call_of}
-use Rattle.dns_chain.specs.Sends.{IsFromReplies}
-use Rattle.dns_chain.specs.Causes.{sees_nsec3, tells_nsec3, has_response, PassedOn, PassesOnly, PassesOn, NamesForeign, ForeignOnly, ForeignNamed, IsUnjudged, UnjudgedOnly, JudgesTold, AnswersTold}
-use Rattle.dns_chain.specs.LookupAnswers.{UnlessNoMemory, OfAnswer, IsSoundAnswer, IsTrail, HasMarksOfTrail, ShowsItsDenial, DeniesQuery}
+use Rattle.dns_anchors.specs.Listing.{ListedValue, answers_of}
+use Rattle.dns_lookup.specs.declared.handle.DnssecDnsHandle.{DnssecDnsHandle}
+use Rattle.dns_lookup.specs.Calls.{Call, inner_of, anchors_of, verifier_of, call_of}
+use Rattle.dns_lookup.specs.Sends.{IsFromReplies}
+use Rattle.dns_lookup.specs.Causes.{sees_nsec3, tells_nsec3, has_response, PassedOn, PassesOnly, PassesOn, NamesForeign, ForeignOnly, ForeignNamed, IsUnjudged, UnjudgedOnly, JudgesTold, AnswersTold}
+use Rattle.dns_lookup.specs.LookupAnswers.{UnlessNoMemory, OfAnswer, IsSoundAnswer, IsTrail, HasMarksOfTrail, ShowsItsDenial, DeniesQuery}
 use Rattle.dns_session.specs.SessionValue.{SessionValue}
 use Rattle.dns_run.specs.Replies.{recorded, session_told, session_records}
 use Rattle.dns_run.specs.Soundness.{listing, session_judge, IsSound}

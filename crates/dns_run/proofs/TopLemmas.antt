@@ -12,10 +12,10 @@ use Rattle.dns_judgement.specs.DerivationParts.{grounds_of, is_foreign, is_bare,
 use Rattle.dns_judgement.specs.Outcome.{is_unjudged, foreign_record}
 use Rattle.dns_judgement.proofs.DerivedLemmas.{Derived, derivation_parts, steps_hold_at, TopFirst, derivation_first}
 use Rattle.dns_net.specs.Handles.{reply_to}
-use Rattle.dns_chain.specs.Causes.{sees_nsec3}
-use Rattle.dns_chain.specs.Received.{heard_from, says_none}
-use Rattle.dns_chain.specs.LookupParts.{heard_told}
-use Rattle.dns_chain.specs.Sends.{IsFromReplies}
+use Rattle.dns_lookup.specs.Causes.{sees_nsec3}
+use Rattle.dns_lookup.specs.Received.{heard_from, says_none}
+use Rattle.dns_lookup.specs.LookupParts.{heard_told}
+use Rattle.dns_lookup.specs.Sends.{IsFromReplies}
 use Rattle.dns_session.specs.SessionValue.{SessionValue}
 use Rattle.dns_run.specs.Replies.{recorded, session_told, session_records}
 use Rattle.dns_run.specs.Soundness.{session_judge}

@@ -2,8 +2,8 @@
 -- added one by one. What a session's judge is stands in Soundness.
 use Rattle.std.specs.Prelude.{ℕ, List, [], ◌∷◌}
 use Rattle.dns_model.specs.Keys.{AnchorValue}
-use Rattle.dns_trust.specs.Listing.{ListedValue, with_algorithm, with_accepted}
-use Rattle.dns_trust.specs.Anchoring.{with_anchor}
+use Rattle.dns_anchors.specs.Listing.{ListedValue, with_algorithm, with_accepted}
+use Rattle.dns_anchors.specs.Anchoring.{with_anchor}
 use Rattle.dns_session.specs.SessionValue.{AcceptedSignatureValue}
 use Rattle.dns_run.specs.Soundness.{listed_signature}
 

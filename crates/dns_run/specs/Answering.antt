@@ -8,9 +8,9 @@ use Rattle.dns_laws.specs.Denials.{HasDenials}
 use Rattle.dns_net.specs.Handles.{Replies}
 use Rattle.dns_net.specs.Requests.{plain_options}
 use Rattle.dns_net.specs.Recording.{RecordedValue}
-use Rattle.dns_chain.specs.Sends.{IsFromReplies}
-use Rattle.dns_chain.specs.Causes.{sees_nsec3}
-use Rattle.dns_chain.specs.LookupAnswers.{HasMarksOfTrail}
+use Rattle.dns_lookup.specs.Sends.{IsFromReplies}
+use Rattle.dns_lookup.specs.Causes.{sees_nsec3}
+use Rattle.dns_lookup.specs.LookupAnswers.{HasMarksOfTrail}
 use Rattle.dns_session.specs.SessionValue.{ReplyValue, SessionValue}
 use Rattle.dns_run.specs.Replies.{recorded}
 use Rattle.dns_run.specs.Soundness.{session_judge, IsSound}

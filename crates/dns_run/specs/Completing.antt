@@ -1,7 +1,7 @@
 -- What a run over a valid session ends with (RFC 4035, 4.3 and 5).
 use Rattle.std.specs.Prelude.{ℕ, ◌≡◌, ◌≤◌, List, Option, Ok}
 use Rattle.dns_laws.specs.Valid.{IsValidSession}
-use Rattle.dns_chain.specs.Completing.{first_told, AnswersSecurely}
+use Rattle.dns_lookup.specs.Completing.{first_told, AnswersSecurely}
 use Rattle.dns_report.specs.declared.parts.Parts.{Parts}
 use Rattle.dns_session.specs.SessionValue.{SessionValue}
 use Rattle.dns_run.specs.Answering.{session_replies, session_depth}

@@ -5,7 +5,7 @@ use Rattle.dns_model.specs.SoundAnswers.{ResponseValue}
 use Rattle.dns_net.specs.Errors as seen
 use Rattle.dns_net.specs.Errors.{ErrorValue}
 use Rattle.dns_model.specs.Trails.{Answered}
-use Rattle.dns_chain.specs.LookupAnswers.{ShowsItsDenial}
+use Rattle.dns_lookup.specs.LookupAnswers.{ShowsItsDenial}
 use Rattle.dns_report.specs.declared.parts.Parts.{Parts}
 use Rattle.dns_report.specs.View.{View, view_of, fitting_view}
 use Rattle.dns_report.specs.Report.{report_text, view_text}

@@ -3,7 +3,7 @@ use Rattle.std.specs.Prelude.{ℕ, ◌≡◌, List, map, Some}
 use Rattle.dns_model.specs.Records.{MessageValue}
 use Rattle.dns_model.specs.Chains.{Judge, judge}
 use Rattle.dns_model.specs.SoundAnswers.{told_by, Sound, ResponseValue}
-use Rattle.dns_trust.specs.Listing.{ListedValue, ListedSignatureValue, answers_of}
+use Rattle.dns_anchors.specs.Listing.{ListedValue, ListedSignatureValue, answers_of}
 use Rattle.dns_session.specs.SessionValue.{AcceptedSignatureValue, SessionValue}
 use Rattle.dns_run.specs.Replies.{session_message}
 

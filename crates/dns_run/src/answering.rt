@@ -3,15 +3,15 @@ ghost use Rattle.std.specs.Prelude.{◌≡◌, [], unwrap_or, IfOk, OnOk};
 ghost use Rattle.dns_model.specs.Keys.{anchored};
 ghost use Rattle.dns_net.specs.Replies.{reply_of};
 ghost use Rattle.dns_net.specs.Requests.{plain_options};
-ghost use Rattle.dns_trust.specs.Listing.{answers_of};
-ghost use Rattle.dns_chain.specs.LookupAnswers.{UnlessNoMemory};
+ghost use Rattle.dns_anchors.specs.Listing.{answers_of};
+ghost use Rattle.dns_lookup.specs.LookupAnswers.{UnlessNoMemory};
 ghost use Rattle.dns_run.specs.Adding.{with_algorithms, with_accepts};
 ghost use Rattle.dns_run.specs.Answering.{recorded_by};
 ghost use Rattle.dns_run.specs.Causes.{AnswersSession};
 ghost use Rattle.dns_run.specs.Soundness.{listing};
 
 use crate::replies::reply_from;
-use dns_chain::DnssecDnsHandle;
+use dns_lookup::DnssecDnsHandle;
 use dns_name::NoMemory;
 use dns_net::{DnsRequestOptions, DnsResponse, NetError, Recorded};
 use dns_session::{AcceptedSignature, Anchor, Reply, Session};

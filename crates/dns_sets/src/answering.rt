@@ -8,7 +8,7 @@ ghost use Rattle.dns_judgement.specs.MarkParts.{is_expanded_by};
 ghost use Rattle.dns_judgement.specs.Outcome.{answers_query as answers_asked, is_wildcard_signature, is_expanded_answer as is_expanded_in, is_expanded_for as is_expanded_for_in, decider_labels as labels_of_decider, least, answered_from as answered_from_in, answered as answered_in};
 ghost use Rattle.dns_sets.specs.Expansions.{fewer as fewer_of, expanded_labels as expanded_labels_in};
 
-use crate::judged_sets::decider;
+use crate::decider::decider;
 use crate::{ChainedSet, MarkedSet};
 use dns_denial::Answered;
 use dns_message::Message;

@@ -8,7 +8,7 @@ ghost use Rattle.dns_judgement.specs.Outcome.{is_denying as is_denying_set, deny
 ghost use Rattle.dns_sets.specs.Outcome.{outcome_value};
 
 use crate::answering::answered;
-use crate::judged_sets::decider;
+use crate::decider::decider;
 use crate::{ChainedSet, MarkedSet, Outcome};
 use dns_denial::{Answered, verify_nsec};
 use dns_message::Message;

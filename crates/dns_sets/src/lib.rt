@@ -3,16 +3,16 @@
 #![tactic(auto)]
 
 mod answering;
+mod decider;
 mod denying;
 mod grouping;
 mod insecure_authority;
-mod judged_sets;
 mod marking;
 mod outcome;
 mod set_key;
 mod set_places;
 
+pub use dns_judged::{ChainedSet, MarkedSet, PlacedSet};
 pub use grouping::{clear_marks, placed_sets};
-pub use judged_sets::{ChainedSet, MarkedSet, PlacedSet};
 pub use marking::finished;
 pub use outcome::{Outcome, foreign_record, outcome_by_zone, outcome_of};

@@ -9,15 +9,16 @@ ghost use Rattle.dns_judgement.specs.MarkParts.{marked_by, is_place as is_same_p
 ghost use Rattle.dns_sets.specs.SetPlaces.{ArePlacedIn, place_of};
 ghost use Rattle.dns_sets.specs.Counting.{count_at, counted};
 
+use crate::decider::decider;
 use crate::grouping::clear_one;
-use crate::judged_sets::decider;
 use crate::set_places::{SetPlaces, judged_places, set_rtype};
 use crate::{ChainedSet, MarkedSet};
+use dns_evidence::{Chain, Trail};
 use dns_message::Message;
 use dns_name::NoMemory;
-use dns_net::{Chain, DnsResponse, Trail};
 use dns_rdata::{Rrsig, SerialNumber};
 use dns_record::{Denial, Proof, Record, RecordType, Section};
+use dns_response::DnsResponse;
 use std::alloc::Global;
 
 /// The answer of a judged step: its message with the marks and ttls that its sets leave to each record, the chains of its

@@ -21,7 +21,7 @@ use Rattle.dns_model.proofs.NameLemmas.{name_eq-Decides}
 use Rattle.dns_judgement.specs.Chained.{Chained, bare}
 use Rattle.dns_judgement.specs.Derivation.{is_repeat, same_record}
 use Rattle.dns_judgement.specs.Judged.{Judged}
-use Rattle.dns_trust.specs.Finding.{items_or_none, passes_at}
+use Rattle.dns_anchors.specs.Finding.{items_or_none, passes_at}
 use Rattle.dns_trail.specs.declared.places.SetKey.{SetKey}
 use Rattle.dns_trail.specs.Indexed.{AreIndexed}
 use Rattle.dns_trail.specs.SetKeys.{AddedPlace, key_cmp, key_of, key_of_first, key_of_record, places_at}

@@ -1,35 +1,15 @@
 -- Sets that are found by a key are those of the list, as equal ones have one key.
-use Rattle.std.proofs.Common.{◌≡◌, ℕ, zero, suc, ◌<◌, ◌≤◌, Bool, true, false, List, [], ◌∷◌, ◌++◌, length, refl, sym, ap, ◌∙◌, arith}
+use Rattle.std.proofs.Common.{◌≡◌, ℕ, ◌<◌, ◌≤◌, Bool, true, false, List, [], ◌∷◌, ◌++◌, length, refl, sym, ap, ◌∙◌, arith}
 use Rattle.std.specs.Prelude.{◌==◌, Some}
 use Rattle.std.proofs.Math.Logic.{⊎_elim}
 use Rattle.std.specs.List.{list_any}
-use Rattle.std.proofs.lemmas.Bool.{or_left, or_right, or_cases, eqb-true, eq-eqb, cases_lt}
+use Rattle.std.proofs.lemmas.Bool.{or_left, or_right, eq-eqb, cases_lt}
 use Rattle.std.proofs.lemmas.List.{get_or_push, get_or_append_left, length_push}
 use Rattle.std.proofs.lemmas.List.Folds.{list_any-append, Any-from_list_any}
 use Rattle.std.proofs.lemmas.Option.{slice_get-get_or}
-use Rattle.dns_trust.specs.Finding.{passes, passes_at}
-use Rattle.dns_trust.proofs.Found.{same_test}
+use Rattle.dns_anchors.specs.Finding.{passes, passes_at}
+use Rattle.dns_anchors.proofs.Found.{any_place, places_any, same_test}
 use Rattle.dns_trail.specs.Places.{Covers}
-
--- what passes at a place passes in the list
-passes_any : {X : Type 0} (test : X → Bool) (xs : List X) (i : ℕ) → passes_at test xs i ≡ true → list_any test xs ≡ true
-passes_any test [] i h = h
-passes_any test (x ∷ xs) zero h = or_left (test x) (list_any test xs) h
-passes_any test (x ∷ xs) (suc i) h = or_right (test x) (list_any test xs) (passes_any test xs i h)
-
--- what passes at one of some places passes in the list
-places_any : {X : Type 0} (test : X → Bool) (xs : List X) (places : List ℕ) → list_any (passes_at test xs) places ≡ true → list_any test xs ≡ true
-places_any test xs [] h = cc
-places_any test xs (place ∷ places) h =
-    ⊎_elim (passes_any test xs place) (places_any test xs places) (or_cases (passes_at test xs place) (list_any (passes_at test xs) places) h)
-
--- a place among some, at which a test passes
-any_place : (p : ℕ → Bool) (i : ℕ) (places : List ℕ) → p i ≡ true → list_any (λ place. i == place) places ≡ true → list_any p places ≡ true
-any_place p i [] good h = cc
-any_place p i (place ∷ places) good h =
-    ⊎_elim (λ (e : (i == place) ≡ true). or_left (p place) (list_any p places) (ap p (sym (eqb-true i place e)) ∙ good))
-    (λ (e : list_any (λ place. i == place) places ≡ true). or_right (p place) (list_any p places) (any_place p i places good e))
-    (or_cases (i == place) (list_any (λ place. i == place) places) h)
 
 -- a test passes at one of the places of a key where it passes in the list
 pub found : {X K : Type 0} (key : X → K) (test : X → Bool) (k : K) (places : K → List ℕ) (xs : List X)

@@ -3,8 +3,8 @@ use Rattle.std.specs.Prelude.{◌≡◌, map, None}
 use Rattle.dns_model.specs.Keys.{VerifierAnswers}
 use Rattle.dns_model.specs.Trails.{AskedValue}
 use Rattle.dns_judgement.specs.Derivation as derived
-use Rattle.dns_trust.specs.declared.judge.Judge.{Judge}
-use Rattle.dns_trust.specs.Judge.{judge_of}
+use Rattle.dns_anchors.specs.declared.judge.Judge.{Judge}
+use Rattle.dns_anchors.specs.Judge.{judge_of}
 use Rattle.dns_trust.specs.Verdicts.{listed}
 use Rattle.dns_trail.specs.Ended.{ended_of}
 use Rattle.dns_trail.specs.declared.grounds.Grounds.{Grounds}

@@ -4,8 +4,8 @@ ghost use Rattle.dns_judgement.specs.Asking.{depth_limit};
 ghost use Rattle.dns_judgement.specs.Derivation.{derivation};
 
 use crate::steps::steps_hold;
+use dns_evidence::{Trail, Verifier};
 use dns_name::NoMemory;
-use dns_net::{Trail, Verifier};
 use dns_trail_order::is_in_order;
 use dns_trust::{Judge, Limits, TrustAnchors};
 use std::alloc::Global;

@@ -7,16 +7,16 @@ ghost use Rattle.dns_judgement.specs.Derivation.{ending_eq, ending_by};
 ghost use Rattle.dns_judgement.specs.DerivationParts.{is_failed as is_failure, is_foreign as names_foreign, is_seen as is_sight};
 ghost use Rattle.dns_judgement.specs.Outcome.{outcome_of as told_outcome};
 ghost use Rattle.dns_model.specs.Trails.{Answered, Denied as Refused};
-ghost use Rattle.dns_net.specs.Trail.{ending_value};
+ghost use Rattle.dns_evidence.specs.Trail.{ending_value};
 ghost use Rattle.dns_sets.specs.Outcome.{outcome_value};
 ghost use Rattle.dns_trail.specs.Endings.{ending_fits};
 ghost use Rattle.dns_trail.specs.Grounds.{AreKnown, grounds_by};
 
 use crate::grounds::Grounds;
 use crate::search::search_zone;
+use dns_evidence::{Asked, Ending, Verifier};
 use dns_message::Message;
 use dns_name::NoMemory;
-use dns_net::{Asked, Ending, Verifier};
 use dns_record::{Denial, Proof, Record};
 use dns_sets::{ChainedSet, Outcome, outcome_by_zone, outcome_of};
 use dns_trust::{Judge, question_start};

@@ -9,7 +9,7 @@ ghost use Rattle.dns_judgement.specs.Derivation.{entries_hold, entry_holds, has_
 ghost use Rattle.dns_judgement.specs.DerivationParts.{with_entry};
 ghost use Rattle.dns_judgement.specs.KeySets.{needs_ds};
 ghost use Rattle.dns_judgement.specs.Unsigned.{set_start as start_of_set};
-ghost use Rattle.dns_trust.specs.Judge.{judge_of};
+ghost use Rattle.dns_anchors.specs.Judge.{judge_of};
 ghost use Rattle.dns_trail.specs.Trying.{zone_proof};
 ghost use Rattle.dns_trail.specs.Ended.{some_if};
 ghost use Rattle.dns_trail.specs.Entries.{is_by_signatures, is_entry_of as is_own_entry, judged_if, IsMarkedBy};
@@ -19,8 +19,8 @@ use crate::grounds::{Grounds, answer_of, is_ask};
 use crate::repeats::is_repeated;
 use crate::search::search_zone;
 use crate::verdicts::verdicts_by;
+use dns_evidence::{AskRef, JudgedSet, MarkOrigin, Verifier};
 use dns_name::NoMemory;
-use dns_net::{AskRef, JudgedSet, MarkOrigin, Verifier};
 use dns_record::{Proof, RecordSet, RecordType};
 use dns_sets::{ChainedSet, MarkedSet, PlacedSet};
 use dns_trust::{

@@ -9,7 +9,7 @@ ghost use Rattle.dns_trust.specs.Verdicts.{listed};
 ghost use Rattle.dns_trail.specs.Grounds.{AreKnown};
 
 use crate::places::SetPlaces;
-use dns_net::{AskRef, Asked};
+use dns_evidence::{AskRef, Asked};
 use dns_record::Query;
 use dns_sets::ChainedSet;
 use std::marker::Model;

@@ -7,14 +7,14 @@ ghost use Rattle.dns_judgement.specs.Chained.{bare};
 ghost use Rattle.dns_judgement.specs.Derivation.{is_empty, is_repeat as is_repeat_of, same_record as are_same};
 ghost use Rattle.dns_model.specs.Records.{question_eq};
 ghost use Rattle.dns_model.specs.SoundAnswers.{Placed};
-ghost use Rattle.dns_trust.specs.Finding.{passes_at};
+ghost use Rattle.dns_anchors.specs.Finding.{passes_at};
 ghost use Rattle.dns_trail.specs.Entries.{repeats_from};
 ghost use Rattle.dns_trail.specs.Grounds.{AreKnown};
 
 use crate::grounds::{Ended, Grounds};
 use crate::places::{SetKey, places_of};
+use dns_evidence::{Asked, JudgedSet, MarkOrigin};
 use dns_name::NoMemory;
-use dns_net::{Asked, JudgedSet, MarkOrigin};
 use dns_record::{Query, Record, RecordSet};
 use dns_sets::{ChainedSet, MarkedSet, PlacedSet};
 use std::alloc::Global;

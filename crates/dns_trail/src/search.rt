@@ -12,8 +12,8 @@ ghost use Rattle.dns_trail.specs.Values.{sight_value};
 ghost use Rattle.dns_model.specs.Trails.{Records};
 
 use crate::grounds::{Grounds, answer_of, is_ask, is_plain_ask};
+use dns_evidence::{AskRef, Asked, Reply, Told, Verifier};
 use dns_name::{Name, NoMemory};
-use dns_net::{AskRef, Asked, Reply, Told, Verifier};
 use dns_record::{DNSClass, Proof};
 use dns_trust::{Judge, ds_query, is_ns_of, ns_query, zone_mark};
 

@@ -6,20 +6,20 @@ ghost use Rattle.dns_judgement.specs.Derivation.{if_answered, steps_hold as step
 ghost use Rattle.dns_judgement.specs.DerivationParts.{judged_holds, step_holds_by};
 ghost use Rattle.dns_judgement.specs.Chained.{bare};
 ghost use Rattle.dns_judgement.specs.Outcome.{foreign_record as foreign_in};
-ghost use Rattle.dns_net.specs.Trail.{ending_value};
+ghost use Rattle.dns_evidence.specs.Trail.{ending_value};
 ghost use Rattle.dns_trail.specs.Ended.{ended_if, nothing_if};
 ghost use Rattle.dns_trail.specs.Indexed.{MayBeIndexed};
 ghost use Rattle.dns_trail.specs.Grounds.{AreKnown, Asks, grounds_by};
-ghost use Rattle.dns_trust.specs.Judge.{judge_of};
+ghost use Rattle.dns_anchors.specs.Judge.{judge_of};
 
 use crate::ending::{ending_holds, is_failed, is_foreign, is_seen};
 use crate::entries::judged_sets;
 use crate::grounds::{Ended, Grounds};
 use crate::places::{SetPlaces, places_of_sets};
 use crate::repeats::has_repeats;
+use dns_evidence::{Asked, Ending, Reply, Told, Verifier};
 use dns_message::Message;
 use dns_name::NoMemory;
-use dns_net::{Asked, Ending, Reply, Told, Verifier};
 use dns_record::{OpCode, clone_records};
 use dns_sets::{ChainedSet, foreign_record, placed_sets};
 use dns_trust::Judge;

@@ -13,8 +13,8 @@ ghost use Rattle.dns_judgement.specs.Derivation.{is_empty};
 ghost use Rattle.dns_trail.specs.Ended.{some_if};
 
 use crate::grounds::{Grounds, answer_of, is_ask};
+use dns_evidence::{AskRef, Verifier};
 use dns_name::NoMemory;
-use dns_net::{AskRef, Verifier};
 use dns_rdata::Rrsig;
 use dns_record::{Record, RecordSet};
 use dns_trust::{Judge, Verdict, ask_of, is_skipped, verdict_of};

@@ -2,11 +2,7 @@ pub mod ByAnswer
 pub mod ChainOf
 pub mod Searches
 pub mod Reading
-pub mod ByteSets
 pub mod Counts
-pub mod Found
-pub mod Alike
-pub mod Within
 pub mod Once
 pub mod Signing
 pub mod Delegated

@@ -6,7 +6,7 @@ use Rattle.dns_model.specs.declared.proof.Proof.TheVariants as proof
 use Rattle.dns_model.specs.Records.{Rr, RrSet}
 use Rattle.dns_model.specs.Chains.{Judge, LinkValue}
 use Rattle.dns_model.specs.SoundAnswers.{Placed}
-use Rattle.dns_net.specs.Link.{link_value}
+use Rattle.dns_evidence.specs.Link.{link_value}
 use Rattle.dns_judgement.specs.Delegations.{verdict_by_ds, verdict_without_ds, zone_verdict}
 use Rattle.dns_judgement.specs.KeySets.{KeysOutcome, keys_outcome, outcome_by_verdict, outcome_mark, needs_ds}
 use Rattle.dns_judgement.specs.Chained.{Chained, bare, ds_chain, outcome_chain}

@@ -1,12 +1,7 @@
-pub mod Judge
 pub mod Validities
 pub mod Verdicts
 pub mod Built
 pub mod Counting
-pub mod Finding
-pub mod ByteSets
-pub mod Listing
-pub mod Anchoring
 pub mod Delegating
 pub mod Signers
 pub mod Rows

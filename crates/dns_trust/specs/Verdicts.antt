@@ -3,7 +3,7 @@ use Rattle.std.specs.Prelude.{List, [], map, Option, None, Some, Vec}
 use Rattle.dns_model.specs.Names.{Labels}
 use Rattle.dns_model.specs.Records.{Rr, RrSet}
 use Rattle.dns_model.specs.Chains.{Judge}
-use Rattle.dns_net.specs.Link.{link_value}
+use Rattle.dns_evidence.specs.Link.{link_value}
 use Rattle.dns_judgement.specs.Marks as marks
 use Rattle.dns_judgement.specs.MarkParts.{by_key_set}
 use Rattle.dns_judgement.specs.Chained.{Chained, ChainedVerdict, with_chain, chain_by_set}

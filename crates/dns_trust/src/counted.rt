@@ -4,14 +4,14 @@ ghost use Rattle.std.specs.Option.{option_copied};
 ghost use Rattle.dns_model.specs.RecordViews.{rrsig_of};
 ghost use Rattle.dns_judgement.specs.Validity.{is_good_by as is_good_in};
 ghost use Rattle.dns_judgement.specs.Marks.{counted_keys, is_key_of as is_zone_key};
-ghost use Rattle.dns_trust.specs.Judge.{judge_of};
+ghost use Rattle.dns_anchors.specs.Judge.{judge_of};
 ghost use Rattle.dns_trust.specs.Delegating.{shown};
 ghost use Rattle.dns_trust.specs.Counting.{count_in, tag_count_after, count_after, tag_in, is_tried as is_tried_in};
 
 use crate::Judge;
 use crate::good::is_good_read;
+use dns_evidence::Verifier;
 use dns_name::{NameRef, NoMemory};
-use dns_net::Verifier;
 use dns_rdata::{Dnskey, Rrsig, key_tag};
 use dns_record::{Record, RecordSet};
 use std::alloc::Global;

@@ -7,8 +7,8 @@ ghost use Rattle.dns_model.specs.Keys.{matches};
 ghost use Rattle.dns_judgement.specs.Delegations.{is_supported_ds as is_supported_record, is_digest_type as is_type_of_digest, is_ds_for as is_record_for, matching_ds as matching_record};
 ghost use Rattle.dns_trust.specs.Delegating.{shown, counted_at, counted_after, place_by, AreCounted, is_delegation_at};
 
+use dns_evidence::Verifier;
 use dns_name::{Name, NoMemory};
-use dns_net::Verifier;
 use dns_rdata::{Dnskey, Ds, key_tag};
 use dns_record::{Record, RecordType};
 use std::alloc::Global;

@@ -6,13 +6,13 @@ ghost use Rattle.dns_model.specs.Chains.{rdatas_of};
 ghost use Rattle.dns_model.specs.Serial.{timely};
 ghost use Rattle.dns_judgement.specs.Validity.{is_good_by as is_good_in, is_valid as is_valid_in};
 ghost use Rattle.dns_judgement.specs.MarkParts.{sig_validity};
-ghost use Rattle.dns_trust.specs.Judge.{judge_of};
+ghost use Rattle.dns_anchors.specs.Judge.{judge_of};
 ghost use Rattle.dns_trust.specs.Built.{IsBuilt};
 
 use crate::validity::check_read;
 use crate::{Judge, RrsigValidity};
+use dns_evidence::Verifier;
 use dns_name::{NoMemory, Octets};
-use dns_net::Verifier;
 use dns_rdata::{Dnskey, Rrsig, signed_data};
 use dns_record::{Record, RecordSet};
 use std::alloc::Global;

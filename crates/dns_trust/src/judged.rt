@@ -1,15 +1,15 @@
 ghost use Rattle.std.specs.Prelude.{◌≡◌, IfOk, map};
 ghost use Rattle.std.specs.List.{position};
-ghost use Rattle.dns_net.specs.Link.{link_value};
+ghost use Rattle.dns_evidence.specs.Link.{link_value};
 ghost use Rattle.dns_judgement.specs.Marks.{is_proved, is_excused};
 ghost use Rattle.dns_judgement.specs.Chained.{bare_verdicts, proved_chain, chained_by};
 ghost use Rattle.dns_trust.specs.Verdicts.{verdict_value};
 
 use crate::Verdict;
+use dns_evidence::Link;
+use dns_judged::{ChainedSet, MarkedSet, PlacedSet};
 use dns_name::NoMemory;
-use dns_net::Link;
 use dns_record::Proof;
-use dns_sets::{ChainedSet, MarkedSet, PlacedSet};
 
 /// A set that isn't DNSKEY, judged by the verdicts of its signatures: the first that proves it decides, else the first that
 /// excuses it (RFC 4035, 5.3.3).

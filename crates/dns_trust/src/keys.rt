@@ -2,15 +2,15 @@ ghost use Rattle.std.specs.Prelude.{◌≡◌, true, IfOk, None};
 ghost use Rattle.std.specs.List.{filter, list_all};
 ghost use Rattle.std.specs.Option.{option_map};
 ghost use Rattle.dns_judgement.specs.KeySets.{is_anchored_key, is_matched_key, is_trusted_key, keys_outcome, needs_ds, outcome_by_ds, signed_by};
-ghost use Rattle.dns_trust.specs.Judge.{judge_of};
+ghost use Rattle.dns_anchors.specs.Judge.{judge_of};
 ghost use Rattle.dns_trust.specs.Delegating.{shown};
 ghost use Rattle.dns_trust.specs.Signers.{signed_value, is_matched_only as is_matched_only_by};
 ghost use Rattle.dns_trust.specs.Rows.{anchored_outcome, matched_outcome};
 
 use crate::signers::{each_once, first_signed};
 use crate::{DsIndex, Judge, SignedBy};
+use dns_evidence::Verifier;
 use dns_name::NoMemory;
-use dns_net::Verifier;
 use dns_rdata::Dnskey;
 use dns_record::{Record, RecordSet};
 use std::alloc::Global;

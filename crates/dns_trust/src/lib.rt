@@ -2,36 +2,28 @@
 //! above may use each call as the definition that its clause names.
 #![tactic(auto)]
 
-mod anchors;
 mod chains;
 mod counted;
 mod delegation;
-mod finding;
 mod fitting;
 mod good;
-mod judge;
 mod judged;
 mod key_sets;
 mod keys;
-mod limits;
-mod listed;
 mod searching;
 mod signers;
 mod unsigned;
 mod validity;
 mod verdict;
 
-pub use anchors::TrustAnchors;
 pub use counted::counted_keys;
 pub use delegation::{DsIndex, is_supported_ds, matching_ds};
+pub use dns_anchors::{Judge, Limits, Listed, TrustAnchors};
 pub use fitting::{is_never_expanded, is_right_below_signer, is_timely, signer_fits};
 pub use good::{is_good_by, is_usable, signed_data_once};
-pub use judge::Judge;
 pub use judged::judged_by;
 pub use key_sets::{KeysStep, ds_ask_of, judged_by_ds, judged_keys};
 pub use keys::{AnchoredRow, MatchedRow, anchored_row, matched_row};
-pub use limits::Limits;
-pub use listed::Listed;
 pub use searching::{ds_query, is_ns_of, is_searched, ns_query, question_start, set_start};
 pub use signers::{SignedBy, first_signatures};
 pub use unsigned::{unsigned_by, zone_mark};

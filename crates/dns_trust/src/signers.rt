@@ -4,14 +4,14 @@ ghost use Rattle.std.specs.Option.{option_map, option_copied};
 ghost use Rattle.dns_model.specs.RecordViews.{rrsig_of};
 ghost use Rattle.dns_judgement.specs.Validity.{is_good_by as is_good_in};
 ghost use Rattle.dns_judgement.specs.Marks.{most_signatures};
-ghost use Rattle.dns_trust.specs.Judge.{judge_of};
+ghost use Rattle.dns_anchors.specs.Judge.{judge_of};
 ghost use Rattle.dns_trust.specs.Delegating.{shown};
 ghost use Rattle.dns_trust.specs.Signers.{AreOnce, signed_value, first_signed_by, signer_of};
 
 use crate::Judge;
 use crate::good::is_good_read;
+use dns_evidence::Verifier;
 use dns_name::NoMemory;
-use dns_net::Verifier;
 use dns_rdata::Rrsig;
 use dns_record::{Record, RecordSet};
 use std::alloc::Global;

@@ -10,11 +10,11 @@ ghost use Rattle.dns_judgement.specs.Unsigned.{unsigned_mark};
 ghost use Rattle.dns_trust.specs.Verdicts.{listed};
 
 use crate::is_supported_ds;
+use dns_evidence::Verifier;
+use dns_judged::{ChainedSet, MarkedSet, PlacedSet};
 use dns_name::Name;
-use dns_net::Verifier;
 use dns_rdata::{Ds, Nsec};
 use dns_record::{DNSClass, Proof, Record, RecordType, Section};
-use dns_sets::{ChainedSet, MarkedSet, PlacedSet};
 use std::alloc::Global;
 
 /// An unsigned set with the mark that its zone leaves to it. It has no chain.

@@ -7,18 +7,18 @@ ghost use Rattle.dns_judgement.specs.Validity.{is_good_by};
 ghost use Rattle.dns_judgement.specs.Marks.{by_keys, counted_keys, key_question, is_key_set_of, may_be_signed as may_be_signed_by, is_proved as is_proof, is_excused as is_excuse};
 ghost use Rattle.dns_judgement.specs.Chained.{with_chain, chain_by_key, chained_verdict};
 ghost use Rattle.dns_judgement.specs.MarkParts.{by_insecure_key, is_skipped_read};
-ghost use Rattle.dns_net.specs.Link.{link_value};
-ghost use Rattle.dns_trust.specs.Judge.{judge_of};
+ghost use Rattle.dns_evidence.specs.Link.{link_value};
+ghost use Rattle.dns_anchors.specs.Judge.{judge_of};
 ghost use Rattle.dns_trust.specs.Verdicts.{verdict_value, listed, chained_by_set};
 
 use crate::chains::signed_chain;
 use crate::counted::{first_good, has_key_of};
 use crate::{Judge, is_never_expanded, is_right_below_signer, signer_fits};
+use dns_evidence::{Link, Verifier};
+use dns_judged::{ChainedSet, MarkedSet};
 use dns_name::{NameRef, NoMemory};
-use dns_net::{Link, Verifier};
 use dns_rdata::Rrsig;
 use dns_record::{DNSClass, Proof, Query, Record, RecordSet, RecordType, Section};
-use dns_sets::{ChainedSet, MarkedSet};
 use std::alloc::Global;
 
 /// What one signature does for its set.

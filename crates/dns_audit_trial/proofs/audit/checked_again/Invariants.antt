@@ -1,5 +1,5 @@
 use Rattle.std.proofs.Common.{◌≡◌}
-use Rattle.dns_trust.specs.Judge.{judge_of}
+use Rattle.dns_anchors.specs.Judge.{judge_of}
 use Rattle.dns_audit_trial.specs.Audits.{audited_by}
 use Rattle.dns_audit_trial.proofs.audit.checked_again.Given as goal
 

@@ -1,5 +1,5 @@
 use Rattle.std.proofs.Common.{◌≡◌, length}
-use Rattle.dns_trust.specs.Judge.{judge_of}
+use Rattle.dns_anchors.specs.Judge.{judge_of}
 use Rattle.dns_audit_trial.specs.Audits.{with_chains}
 use Rattle.dns_audit_trial.proofs.audit.count_justified.Given as goal
 

@@ -1,7 +1,7 @@
 use Rattle.std.proofs.Common.{subst}
 use Rattle.dns_net.specs.Replies.{reply_of}
-use Rattle.dns_chain.specs.LookupAnswers.{UnlessNoMemory}
-use Rattle.dns_chain.specs.Calls.{inner_of}
+use Rattle.dns_lookup.specs.LookupAnswers.{UnlessNoMemory}
+use Rattle.dns_lookup.specs.Calls.{inner_of}
 use Rattle.dns_bench.specs.Lookups.{GivesAnswer}
 use Rattle.dns_bench.specs.Steps.{repeated_by}
 use Rattle.dns_bench.proofs.LookupLemmas.{gives_answer}

@@ -1,5 +1,5 @@
 use Rattle.std.proofs.Common.{sym, ◌∙◌}
-use Rattle.dns_trust.specs.Judge.{judge_of}
+use Rattle.dns_anchors.specs.Judge.{judge_of}
 use Rattle.dns_chain_check.proofs.Fitting.{by_key, not_good, unfit}
 use Rattle.dns_chain_check.proofs.signed.is_signed.Goals as goal
 

@@ -1,6 +1,6 @@
 use Rattle.std.proofs.Common.{◌≡◌, ◌++◌, length, map}
 use Rattle.std.specs.List.{flat_map, list_all}
-use Rattle.dns_net.specs.Link.{link_value}
+use Rattle.dns_evidence.specs.Link.{link_value}
 use Rattle.dns_report.specs.View.{shown, fitting_link}
 use Rattle.dns_report.specs.Report.{link_line}
 use Rattle.dns_report.proofs.link.push_links.Given as goal

@@ -1,6 +1,6 @@
 use Rattle.std.proofs.Common.{rules, ◌≡◌, length, sym, ap, ◌∙◌, subst}
 use Rattle.dns_judgement.specs.Derivation.{is_empty}
-use Rattle.dns_trust.specs.Judge.{judge_of}
+use Rattle.dns_anchors.specs.Judge.{judge_of}
 use Rattle.dns_trust.specs.Steps.{IsKeysStep}
 use Rattle.dns_trust.specs.declared.key_sets.KeysStep.TheVariants.{Done}
 use Rattle.dns_trail.specs.Grounds.{grounds_by}

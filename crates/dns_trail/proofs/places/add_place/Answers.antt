@@ -1,5 +1,5 @@
 use Rattle.std.proofs.Common.{◌≡◌, rules, refl, ap, ◌∙◌, ◌∷◌, [], ◌++◌}
-use Rattle.dns_trust.specs.Finding.{items_or_none}
+use Rattle.dns_anchors.specs.Finding.{items_or_none}
 use Rattle.dns_trail.specs.SetKeys.{places_at}
 use Rattle.dns_trail.proofs.IndexLemmas.{added}
 use Rattle.dns_trail.proofs.places.add_place.Goals as goal

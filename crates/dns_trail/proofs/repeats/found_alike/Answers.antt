@@ -4,7 +4,7 @@ use Rattle.dns_judgement.specs.Derivation.{is_repeat}
 use Rattle.dns_trust.specs.Verdicts.{listed}
 use Rattle.dns_trail.specs.Ended.{ended_value}
 use Rattle.dns_trail.specs.Indexed.{AreIndexed, MayBeIndexed}
-use Rattle.dns_trust.specs.Finding.{passes_at}
+use Rattle.dns_anchors.specs.Finding.{passes_at}
 use Rattle.dns_trail.specs.SetKeys.{key_of, places_at}
 use Rattle.dns_trail.proofs.EarlierLemmas.{any_bare}
 use Rattle.dns_trail.proofs.IndexLemmas.{repeat_found}

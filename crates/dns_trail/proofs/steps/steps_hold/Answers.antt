@@ -1,6 +1,6 @@
 use Rattle.std.proofs.Common.{take, refl, sym, ap, ◌∙◌, arith}
 use Rattle.dns_judgement.specs.DerivationParts.{grounds_of as at_step}
-use Rattle.dns_trust.specs.Judge.{judge_of}
+use Rattle.dns_anchors.specs.Judge.{judge_of}
 use Rattle.dns_trail.proofs.StepLemmas.{steps_all, steps_fail, steps_next}
 use Rattle.dns_trail.proofs.steps.steps_hold.Goals as goal
 

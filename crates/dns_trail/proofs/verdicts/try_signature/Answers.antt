@@ -6,7 +6,7 @@ use Rattle.dns_judgement.specs.DerivationParts.{is_ask_for}
 use Rattle.dns_judgement.specs.MarkParts.{is_skipped_read}
 use Rattle.dns_judgement.specs.Marks.{key_question, verdict_of}
 use Rattle.dns_judgement.proofs.ChainedLemmas.{chained_verdict-bare}
-use Rattle.dns_trust.specs.Judge.{judge_of}
+use Rattle.dns_anchors.specs.Judge.{judge_of}
 use Rattle.dns_trust.specs.Verdicts.{listed}
 use Rattle.dns_trail.specs.Grounds.{grounds_by}
 use Rattle.dns_trail.proofs.TryLemmas.{tried_asked}

@@ -1,5 +1,5 @@
 use Rattle.std.proofs.Common.{◌≡◌, take, map}
-use Rattle.dns_net.specs.Link.{link_value}
+use Rattle.dns_evidence.specs.Link.{link_value}
 use Rattle.dns_judgement.specs.Chained.{anchored_link}
 use Rattle.dns_trust.proofs.chains.anchored_links.Given as goal
 

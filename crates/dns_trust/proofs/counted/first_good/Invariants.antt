@@ -1,5 +1,5 @@
 use Rattle.dns_judgement.specs.Validity.{is_good_by}
-use Rattle.dns_trust.specs.Judge.{judge_of}
+use Rattle.dns_anchors.specs.Judge.{judge_of}
 use Rattle.dns_trust.specs.Built.{IsBuilt}
 use Rattle.dns_trust.proofs.Counts.{Tried}
 use Rattle.dns_trust.proofs.counted.first_good.Given as goal

@@ -1,5 +1,5 @@
 use Rattle.std.proofs.Common.{◌∙◌, sym}
-use Rattle.dns_trust.specs.Judge.{judge_of}
+use Rattle.dns_anchors.specs.Judge.{judge_of}
 use Rattle.dns_trust.proofs.Reading.{good_no_key, good_invalid, good_unusable, good_accepted}
 use Rattle.dns_trust.proofs.good.is_good_read.Goals as goal
 

@@ -1,6 +1,6 @@
 use Rattle.std.proofs.Common.{◌≡◌, List, [], ◌∷◌, map, ap, ◌∙◌, sym, refl}
 use Rattle.dns_model.specs.Chains.{LinkValue}
-use Rattle.dns_net.specs.Link.{link_value}
+use Rattle.dns_evidence.specs.Link.{link_value}
 use Rattle.dns_trust.specs.declared.verdict.Verdict.{Verdict}
 use Rattle.dns_trust.specs.declared.verdict.Verdict.TheVariants as variants
 use Rattle.dns_trust.specs.Verdicts.{verdict_value}

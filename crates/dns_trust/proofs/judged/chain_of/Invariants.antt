@@ -1,5 +1,5 @@
 use Rattle.std.proofs.Common.{◌≡◌, map, vec_len}
-use Rattle.dns_net.specs.Link.{link_value}
+use Rattle.dns_evidence.specs.Link.{link_value}
 use Rattle.dns_judgement.specs.Chained.{proved_chain}
 use Rattle.dns_trust.specs.Verdicts.{verdict_value}
 use Rattle.dns_trust.proofs.ChainOf.{chain_else}

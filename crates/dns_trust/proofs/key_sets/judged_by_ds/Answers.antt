@@ -1,6 +1,6 @@
 use Rattle.std.proofs.Common.{◌≡◌, subst, ap, ◌∙◌}
 use Rattle.dns_model.specs.SoundAnswers.{Placed}
-use Rattle.dns_trust.specs.Judge.{judge_of}
+use Rattle.dns_anchors.specs.Judge.{judge_of}
 use Rattle.dns_trust.specs.Verdicts.{listed}
 use Rattle.dns_trust.specs.KeysMarks.{chained_with, marked_by_zone, marked_value}
 use Rattle.dns_trust.proofs.ByDs.{by_zone}

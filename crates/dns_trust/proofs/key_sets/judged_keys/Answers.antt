@@ -1,6 +1,6 @@
 use Rattle.std.proofs.Common.{Some, subst, ap, ◌∙◌}
 use Rattle.dns_model.specs.SoundAnswers.{Placed}
-use Rattle.dns_trust.specs.Judge.{judge_of}
+use Rattle.dns_anchors.specs.Judge.{judge_of}
 use Rattle.dns_trust.specs.KeysMarks.{IsAnchorsMark, chained_with}
 use Rattle.dns_trust.proofs.ByDs.{by_anchors}
 use Rattle.dns_trust.proofs.key_sets.judged_keys.Goals as goal

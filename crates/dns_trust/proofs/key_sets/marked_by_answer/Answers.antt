@@ -4,7 +4,7 @@ use Rattle.dns_model.specs.Records.{RrSet}
 use Rattle.dns_judgement.specs.Delegations.{is_ds_set_of, verdict_without_ds}
 use Rattle.dns_judgement.specs.Unsigned.{unsigned_mark}
 use Rattle.dns_judgement.specs.Chained.{Chained, bare}
-use Rattle.dns_trust.specs.Judge.{judge_of}
+use Rattle.dns_anchors.specs.Judge.{judge_of}
 use Rattle.dns_trust.specs.Verdicts.{listed}
 use Rattle.dns_trust.specs.KeysMarks.{marked_by_zone, marked_value}
 use Rattle.dns_trust.proofs.ByDs.{unproved, no_answer, by_found, by_none}

@@ -1,6 +1,6 @@
 use Rattle.std.proofs.Common.{◌∙◌, sym}
 use Rattle.dns_judgement.specs.Validity.{is_good_by}
-use Rattle.dns_trust.specs.Judge.{judge_of}
+use Rattle.dns_anchors.specs.Judge.{judge_of}
 use Rattle.dns_trust.specs.Delegating.{shown}
 use Rattle.dns_trust.proofs.Searches.{find_here, find_past}
 use Rattle.dns_trust.proofs.Shown.{shown_at, shown_within}

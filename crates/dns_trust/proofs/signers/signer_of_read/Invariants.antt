@@ -1,7 +1,7 @@
 use Rattle.std.proofs.Common.{◌≡◌, drop}
 use Rattle.std.specs.List.{find}
 use Rattle.dns_judgement.specs.Validity.{is_good_by}
-use Rattle.dns_trust.specs.Judge.{judge_of}
+use Rattle.dns_anchors.specs.Judge.{judge_of}
 use Rattle.dns_trust.specs.Built.{IsBuilt}
 use Rattle.dns_trust.specs.Delegating.{shown}
 use Rattle.dns_trust.proofs.signers.signer_of_read.Given as goal

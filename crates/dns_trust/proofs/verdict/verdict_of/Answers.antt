@@ -2,7 +2,7 @@ use Rattle.std.proofs.Common.{rules, ◌≡◌, true, false, None, Some, IfOk, s
 use Rattle.std.specs.List.{find}
 use Rattle.dns_judgement.specs.Marks.{is_key_set_of, may_be_signed}
 use Rattle.dns_judgement.specs.Chained.{Chained, chained_verdict}
-use Rattle.dns_trust.specs.Judge.{judge_of}
+use Rattle.dns_anchors.specs.Judge.{judge_of}
 use Rattle.dns_trust.specs.Verdicts.{verdict_value, listed}
 use Rattle.dns_trust.proofs.ByAnswer.{no_answer, unfit, no_key_set, key_set_decides}
 use Rattle.dns_trust.proofs.verdict.verdict_of.Goals as goal

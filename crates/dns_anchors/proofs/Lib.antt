@@ -1,0 +1,4 @@
+pub mod ByteSets
+pub mod Found
+pub mod Alike
+pub mod Within

@@ -1,0 +1,5 @@
+pub mod Judge
+pub mod Finding
+pub mod ByteSets
+pub mod Listing
+pub mod Anchoring

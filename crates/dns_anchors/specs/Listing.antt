@@ -1,0 +1,62 @@
+-- What a list of accepted signatures supports and accepts.
+use Rattle.std.specs.Prelude.{ℕ, Bool, not, ◌==◌, ◌&&◌, ◌||◌, List, [], ◌∷◌, ◌++◌, if◌then◌else◌}
+use Rattle.std.specs.List.{list_all, list_any}
+use Rattle.dns_model.specs.Keys.{VerifierAnswers, bytes_eq}
+use Rattle.dns_anchors.specs.Finding.{mixed}
+
+-- a signature over bytes that a key's is, under an algorithm
+pub record ListedSignatureValue : Type 0 where
+  pub algorithm : ℕ
+  pub key : List ℕ
+  pub bytes : List ℕ
+  pub signature : List ℕ
+
+pub record ListedValue : Type 0 where
+  pub algorithms : List ℕ
+  pub accepted : List ListedSignatureValue
+
+abbrev pub is_entry : ℕ → List ℕ → List ℕ → List ℕ → ListedSignatureValue → Bool
+is_entry algorithm key bytes signature entry =
+    (algorithm == entry.algorithm)
+    && (bytes_eq key entry.key && (bytes_eq bytes entry.bytes && bytes_eq signature entry.signature))
+
+abbrev pub is_listed : ListedValue → ℕ → Bool
+is_listed listed algorithm = list_any (λ a. algorithm == a) listed.algorithms
+
+-- what is listed is supported and accepted, but never algorithm 1 (RFC 8624, 3.1)
+abbrev pub answers_of : ListedValue → VerifierAnswers
+answers_of listed = record {
+  supports = λ algorithm. not (algorithm == 1) && is_listed listed algorithm;
+  accepts = λ algorithm key bytes signature.
+      not (algorithm == 1) && list_any (is_entry algorithm key bytes signature) listed.accepted;
+}
+
+-- one algorithm more; algorithm 1 changes nothing
+abbrev pub with_algorithm : ListedValue → ℕ → ListedValue
+with_algorithm listed algorithm =
+    if (algorithm == 1) || is_listed listed algorithm then listed
+    else record listed { algorithms = listed.algorithms ++ algorithm ∷ [] }
+
+-- one signature more; algorithm 1 changes nothing
+abbrev pub with_accepted : ListedValue → ListedSignatureValue → ListedValue
+with_accepted listed entry =
+    if entry.algorithm == 1 then listed else record listed { accepted = listed.accepted ++ entry ∷ [] }
+
+-- the number by which a signature is found
+abbrev pub signature_number : ℕ → List ℕ → List ℕ → List ℕ → ℕ
+signature_number algorithm key bytes signature = mixed (mixed (mixed algorithm key) bytes) signature
+
+abbrev pub entry_number : ListedSignatureValue → ℕ
+entry_number entry = signature_number entry.algorithm entry.key entry.bytes entry.signature
+
+-- for private functions of this crate only
+
+-- an entry of another list is listed
+abbrev pub holds_entry : ListedValue → ListedSignatureValue → Bool
+holds_entry listed entry = list_any (is_entry entry.algorithm entry.key entry.bytes entry.signature) listed.accepted
+
+-- all that one list holds, the other holds, algorithm 1 aside
+abbrev pub is_within : ListedValue → ListedValue → Bool
+is_within one other =
+    list_all (λ a. (a == 1) || is_listed other a) one.algorithms
+    && list_all (λ e. (e.algorithm == 1) || holds_entry other e) one.accepted

@@ -1,0 +1,287 @@
+ghost use Rattle.std.specs.Prelude.{◌≡◌, ◌↔◌, ◌==◌, ◌&&◌, ◌||◌, ◌++◌, ◌∷◌, [], false, IsTrue, IfOk, OnOk, OnErr};
+ghost use Rattle.std.specs.List.{list_all, list_any};
+ghost use Rattle.dns_evidence.specs.Verifiers.{AnswerAlike};
+ghost use Rattle.dns_anchors.specs.ByteSets.{IsByteSet};
+ghost use Rattle.dns_anchors.specs.Finding.{passes_at};
+ghost use Rattle.dns_anchors.specs.Listing.{answers_of, holds_entry as holds_entry_in, is_entry as is_entry_of, is_listed, is_within as is_within_of, signature_number as number_in, with_accepted, with_algorithm};
+
+use crate::finding::{PlacesByNumber, add_place, mix, places_of};
+use arrayvec::ArrayVec;
+use dns_evidence::Verifier;
+use dns_name::{NoMemory, Octets};
+use std::alloc::Global;
+use std::collections::BTreeMap;
+use std::marker::Model;
+
+/// A signature that is accepted.
+#[derive(Drop)]
+struct ListedSignature {
+    algorithm: u8,
+    key: Octets,
+    bytes: Octets,
+    signature: Octets,
+}
+
+impl Model for ListedSignature {
+    ghost use Rattle.dns_anchors.specs.Listing.{ListedSignatureValue};
+
+    ghost Value = { ListedSignatureValue };
+
+    ghost view = { λ a. record { algorithm = a.algorithm; key = a.key; bytes = a.bytes; signature = a.signature } };
+}
+
+/// A verifier that supports and accepts what was listed, and nothing else; algorithm 1 never. It computes nothing.
+#[derive(Drop)]
+pub struct Listed {
+    algorithms: ArrayVec<u8, 256>,
+    accepted: Vec<ListedSignature>,
+    places: PlacesByNumber,
+}
+
+impl Model for Listed {
+    ghost use Rattle.dns_anchors.specs.Listing.{ListedValue, entry_number};
+    ghost use Rattle.dns_anchors.specs.ByteSets.{IsByteSet};
+    ghost use Rattle.dns_anchors.specs.Finding.{Covers};
+
+    ghost Value = { ListedValue };
+
+    ghost view = { λ l. record { algorithms = l.algorithms.items; accepted = l.accepted.items } };
+
+    ghost invariant = { λ l. Covers entry_number l.places l.accepted.items × IsByteSet l.algorithms.items };
+}
+
+impl Listed {
+    /// Nothing is supported, and nothing accepted.
+    pub fn new(alloc: Global) -> Listed
+        ensures { result ≡ record { algorithms = []; accepted = [] } }
+    {
+        Listed {
+            algorithms: ArrayVec::new(),
+            accepted: Vec::new(alloc),
+            places: BTreeMap::new(alloc),
+        }
+    }
+
+    /// Supports an algorithm from now on; algorithm 1 changes nothing.
+    pub fn support(&mut self, algorithm: u8)
+        ensures { self.new ≡ with_algorithm self.old algorithm }
+    {
+        if algorithm == 1 || has_algorithm(self.algorithms.as_slice(), algorithm) {
+            return;
+        }
+        add_algorithm(&mut self.algorithms, algorithm);
+    }
+
+    /// Accepts a signature over bytes by a key under an algorithm from now on; algorithm 1 changes nothing. For want of
+    /// memory all stays as it was.
+    pub fn accept(
+        &mut self,
+        algorithm: u8,
+        key: &[u8],
+        bytes: &[u8],
+        signature: &[u8],
+    ) -> Result<(), NoMemory>
+        ensures ok { OnOk result (self.new ≡
+            with_accepted self.old
+            (record { algorithm = algorithm; key = key.now; bytes = bytes.now; signature = signature.now })) }
+        ensures err { OnErr result (self.new ≡ self.old) }
+    {
+        if algorithm == 1 {
+            return Ok(());
+        }
+        let alloc = *self.accepted.allocator();
+        let key = Octets::from_slice(alloc, key)?;
+        let bytes = Octets::from_slice(alloc, bytes)?;
+        let signature = Octets::from_slice(alloc, signature)?;
+        self.accept_octets(algorithm, key, bytes, signature)
+    }
+
+    /// The same as `accept`, of bytes that are handed over, so that none is copied.
+    pub fn accept_octets(
+        &mut self,
+        algorithm: u8,
+        key: Octets,
+        bytes: Octets,
+        signature: Octets,
+    ) -> Result<(), NoMemory>
+        ensures ok { OnOk result (self.new ≡
+            with_accepted self.old (record { algorithm = algorithm; key = key; bytes = bytes; signature = signature })) }
+        ensures err { OnErr result (self.new ≡ self.old) }
+    {
+        if algorithm == 1 {
+            return Ok(());
+        }
+        let alloc = *self.accepted.allocator();
+        let number = signature_number(
+            algorithm,
+            key.as_slice(),
+            bytes.as_slice(),
+            signature.as_slice(),
+        );
+        add_place(alloc, &mut self.places, number, self.accepted.len())?;
+        self.accepted.push(ListedSignature {
+            algorithm,
+            key,
+            bytes,
+            signature,
+        })?;
+        Ok(())
+    }
+}
+
+impl Verifier for Listed {
+    ghost use Rattle.dns_anchors.specs.Listing.{answers_of};
+
+    ghost answers = { answers_of };
+
+    fn supports(&self, algorithm: u8) -> bool {
+        algorithm != 1 && self.lists(algorithm)
+    }
+
+    fn accepts(&self, algorithm: u8, key: &[u8], bytes: &[u8], signature: &[u8]) -> bool {
+        algorithm != 1 && self.holds(algorithm, key, bytes, signature)
+    }
+
+    /// Both hold the same, in whatever order and however often.
+    fn same(&self, other: &Listed) -> bool
+        ensures alike { IsTrue result → AnswerAlike (answers_of self.now) (answers_of other.now) }
+        ensures exact { IsTrue result ↔ AnswerAlike (answers_of self.now) (answers_of other.now) }
+    {
+        holds_same(self, other)
+    }
+}
+
+impl Listed {
+    // A signature is listed.
+    fn holds(&self, algorithm: u8, key: &[u8], bytes: &[u8], signature: &[u8]) -> bool
+        ensures { result ≡ list_any (is_entry_of algorithm key.now bytes.now signature.now) self.now.accepted }
+    {
+        let places = places_of(
+            &self.places,
+            signature_number(algorithm, key, bytes, signature),
+        );
+        is_at(&self.accepted, places, algorithm, key, bytes, signature)
+    }
+
+    // The other supports and accepts what this does.
+    fn is_within(&self, other: &Listed) -> bool
+        ensures { result ≡ is_within_of self.now other.now }
+    {
+        supports_all(other, self.algorithms.as_slice()) && accepts_all(other, &self.accepted)
+    }
+
+    // An algorithm is listed.
+    fn lists(&self, algorithm: u8) -> bool
+        ensures { result ≡ is_listed self.now algorithm }
+    {
+        has_algorithm(self.algorithms.as_slice(), algorithm)
+    }
+
+    // An entry is listed.
+    fn holds_entry(&self, entry: &ListedSignature) -> bool
+        ensures { result ≡ holds_entry_in self.now entry.now }
+    {
+        self.holds(
+            entry.algorithm,
+            entry.key.as_slice(),
+            entry.bytes.as_slice(),
+            entry.signature.as_slice(),
+        )
+    }
+}
+
+// Each holds what the other holds.
+fn holds_same(one: &Listed, other: &Listed) -> bool
+    ensures { result ≡ (is_within_of one.now other.now && is_within_of other.now one.now) }
+{
+    one.is_within(other) && other.is_within(one)
+}
+
+// All these algorithms but 1 are supported.
+fn supports_all(listed: &Listed, algorithms: &[u8]) -> bool
+    ensures { result ≡ list_all (λ a. (a == 1) || is_listed listed.now a) algorithms.now }
+{
+    algorithms
+        .iter()
+        .all(|algorithm| *algorithm == 1 || listed.lists(*algorithm))
+}
+
+// All these signatures are accepted, but those of algorithm 1.
+fn accepts_all(listed: &Listed, entries: &[ListedSignature]) -> bool
+    ensures { result ≡ list_all (λ e. (e.algorithm == 1) || holds_entry_in listed.now e) entries.now }
+{
+    entries
+        .iter()
+        .all(|entry| entry.algorithm == 1 || listed.holds_entry(entry))
+}
+
+// One algorithm more, for which there is room, since each has another number of a byte.
+fn add_algorithm(algorithms: &mut ArrayVec<u8, 256>, algorithm: u8)
+    requires set { IsByteSet algorithms.old.items }
+    requires new { list_any (λ a. algorithm == a) algorithms.old.items ≡ false }
+    ensures items { algorithms.new.items ≡ algorithms.old.items ++ algorithm ∷ [] }
+    ensures set { IsByteSet algorithms.new.items }
+{
+    algorithms.push(algorithm);
+}
+
+// An algorithm is listed.
+fn has_algorithm(algorithms: &[u8], algorithm: u8) -> bool
+    ensures { result ≡ list_any (λ a. algorithm == a) algorithms.now }
+{
+    algorithms.iter().any(|listed| algorithm == *listed)
+}
+
+// The entry at one of some places is this signature.
+fn is_at(
+    accepted: &[ListedSignature],
+    places: &[usize],
+    algorithm: u8,
+    key: &[u8],
+    bytes: &[u8],
+    signature: &[u8],
+) -> bool
+    ensures { result ≡ list_any (passes_at (is_entry_of algorithm key.now bytes.now signature.now) accepted.now) places.now }
+{
+    places.iter().any(|place| is_entry_at(accepted, *place, algorithm, key, bytes, signature))
+}
+
+// The entry at a place is this signature.
+fn is_entry_at(
+    accepted: &[ListedSignature],
+    place: usize,
+    algorithm: u8,
+    key: &[u8],
+    bytes: &[u8],
+    signature: &[u8],
+) -> bool
+    ensures { result ≡ passes_at (is_entry_of algorithm key.now bytes.now signature.now) accepted.now place }
+{
+    match accepted.get(place) {
+        Some(entry) => is_entry(entry, algorithm, key, bytes, signature),
+        None => false,
+    }
+}
+
+// The entry is this signature.
+fn is_entry(
+    entry: &ListedSignature,
+    algorithm: u8,
+    key: &[u8],
+    bytes: &[u8],
+    signature: &[u8],
+) -> bool
+    ensures { result ≡ is_entry_of algorithm key.now bytes.now signature.now entry.now }
+{
+    algorithm == entry.algorithm
+        && key == entry.key.as_slice()
+        && bytes == entry.bytes.as_slice()
+        && signature == entry.signature.as_slice()
+}
+
+// The number by which a signature is found.
+fn signature_number(algorithm: u8, key: &[u8], bytes: &[u8], signature: &[u8]) -> u64
+    ensures { result ≡ number_in algorithm key.now bytes.now signature.now }
+{
+    mix(mix(mix(u64::from(algorithm), key), bytes), signature)
+}

@@ -1,0 +1,112 @@
+-- What a validator answers to a whole request, put together from the lookup that it makes.
+use Rattle.std.proofs.Common.{ℕ, ◌≡◌, ◌≢◌, ◌==◌, ◌∙◌, Bool, true, false, [], None, Some, Result, Err, refl, sym, ap, subst, if◌then◌else◌}
+use Rattle.dns_model.specs.Chains.{Judge}
+use Rattle.dns_model.specs.Records.{Question, EdnsValue}
+use Rattle.dns_model.specs.SoundAnswers.{ResponseValue}
+use Rattle.dns_model.proofs.SetLemmas.{number_refl, number_same}
+use Rattle.dns_net.specs.Errors as seen
+use Rattle.dns_net.specs.Errors.{Message}
+use Rattle.dns_net.specs.Replies.{reply_of}
+use Rattle.dns_net.specs.Requests.{RequestValue, first_question, query_message, request_of}
+use Rattle.dns_net.specs.declared.error.NetError.{NetError}
+use Rattle.dns_net.specs.declared.handle.DnsHandle as handle
+use Rattle.dns_net.specs.declared.notice.Notice.TheVariants.{NoQueryInRequest}
+use Rattle.dns_net.specs.declared.request.DnsRequestOptions.{DnsRequestOptions}
+use Rattle.dns_lookup.specs.Answering.{AnswersLookup}
+use Rattle.dns_lookup.specs.Calls.{Call, Sending, Asking, Requesting, ask_of_call, first_ask_of_call}
+use Rattle.dns_lookup.specs.AskRequests.{asking_options, asking_request}
+use Rattle.dns_lookup.specs.LookupAnswers.{UnlessNoMemory}
+use Rattle.dns_lookup.specs.Sending.{checked_edns, checked_request, call_for, IsLookedUp, AnswersRequest, Goes, Refused, LookedUp, Unsent}
+use Rattle.dns_lookup.specs.Sends.{SendsBy}
+use Rattle.dns_lookup.proofs.CompletingLemmas.{lookup_completes}
+use Rattle.dns_lookup.proofs.CauseLemmas.{no_both, lookup_passed, lookup_passes}
+use Rattle.dns_lookup.proofs.ForeignLemmas.{lookup_foreign, lookup_names_foreign, lookup_judges}
+use Rattle.dns_lookup.proofs.LookupAnswerLemmas.{or_memory, lookup_sound, lookup_trail, lookup_ground, lookup_marks, lookup_denied}
+use Rattle.dns_lookup.proofs.AnsweredLemmas.{lookup_answers}
+use Rattle.dns_lookup.proofs.DenyingLemmas.{lookup_denials, lookup_denies}
+use Rattle.dns_lookup.proofs.UnjudgedLemmas.{lookup_unjudged, lookup_judged}
+
+-- ---- the request
+
+-- an OPT record by options, to be validated
+edns_checked : (uses dnssec_ok : Bool) (payload : ℕ)
+    → checked_edns (if uses then Some (record { max_payload = payload; version = 0; dnssec_ok = dnssec_ok; flags = 0; options = [] }) else None)
+    ≡ record { max_payload = if uses then payload else 1232; version = 0; dnssec_ok = true; flags = 0; options = [] }
+edns_checked true dnssec_ok payload = refl
+edns_checked false dnssec_ok payload = refl
+
+-- the request of a judged ask is that of its query, as a validator sends it
+pub checked_query : (q : Question) (options : DnsRequestOptions) → checked_request (request_of q options) ≡ asking_request q options
+checked_query q options =
+    let Sent : EdnsValue → RequestValue = λ edns. record {
+      message = record (query_message q (asking_options options)) { authentic_data = true; edns = Some edns };
+      options = asking_options options;
+      original = None;
+    } in
+    ap Sent (edns_checked options.use_edns options.edns_set_dnssec_ok options.edns_payload_len)
+
+-- ---- the lookup
+
+-- all that is promised of a lookup, by how it came to its answer
+pub looked_up : {H : Type 0} (meanings : handle.Ghosts H) (call : Call H) (result : Result ResponseValue NetError)
+    → SendsBy (first_ask_of_call meanings call) (ask_of_call meanings call) call.old call.new call.query
+    → UnlessNoMemory result (AnswersLookup meanings call (reply_of result)) → IsLookedUp meanings call (reply_of result)
+looked_up meanings call result sends lookup = record {
+  sends = sends;
+  sound = lookup_sound meanings call result lookup;
+  trail = lookup_trail meanings call result lookup;
+  marks = lookup_marks meanings call result lookup;
+  grounds = lookup_ground meanings call result lookup;
+  denials = lookup_denials meanings call result lookup;
+  denies = lookup_denies meanings call result lookup;
+  denied = lookup_denied meanings call result lookup;
+  passed = lookup_passed meanings call result lookup;
+  passes = or_memory result _ (lookup_passes meanings call result lookup);
+  foreign = lookup_foreign meanings call result lookup;
+  names_foreign = or_memory result _ (lookup_names_foreign meanings call result lookup);
+  judges = or_memory result _ (lookup_judges meanings call result lookup);
+  unjudged = lookup_unjudged meanings call result lookup;
+  judged = lookup_judged meanings call result lookup;
+  answers = or_memory result _ (lookup_answers meanings call result lookup);
+  completes = or_memory result _ (lookup_completes meanings call result lookup);
+}
+
+-- ---- each case of a request
+
+other_code : (code : ℕ) (query : Bool) → query ≡ (code == 0) → query ≡ false → code ≢ 0
+other_code code query by other zero = no_both query (by ∙ ap (λ n. n == 0) zero ∙ number_refl 0) other
+
+-- a request that isn't a query goes on
+pub goes_on : {H : Type 0} (meanings : handle.Ghosts H) (j : Judge) (request : RequestValue) (now : ℕ) (old new : H) (query : Bool)
+    (result : Result ResponseValue NetError) → query ≡ (request.message.op_code == 0) → query ≡ false
+    → Sending meanings request (first_question request) now old new (reply_of result) → AnswersRequest meanings j request now old new (reply_of result)
+goes_on meanings j request now old new query result by other sent =
+    Goes (reply_of result) (other_code request.message.op_code query by other) sent
+
+-- a query without a question is refused
+pub refuses : {H : Type 0} (meanings : handle.Ghosts H) (j : Judge) (request : RequestValue) (now : ℕ) (still : H) (query : Bool)
+    → query ≡ (request.message.op_code == 0) → query ≡ true → first_question request ≡ None
+    → AnswersRequest meanings j request now still still (Err (Message NoQueryInRequest))
+refuses meanings j request now still query by is none = Refused (number_same request.message.op_code 0 (sym by ∙ is)) none refl
+
+-- memory ran out before a query was sent
+pub forgets : {H : Type 0} (meanings : handle.Ghosts H) (j : Judge) (request : RequestValue) (now : ℕ) (still : H) (query : Bool)
+    → query ≡ (request.message.op_code == 0) → query ≡ true → first_question request ≢ None
+    → AnswersRequest meanings j request now still still (Err seen.NoMemory)
+forgets meanings j request now still query by is some = Unsent (number_same request.message.op_code 0 (sym by ∙ is)) some refl
+
+-- a query is looked up by what is sent for it
+pub looks_up : {H : Type 0} (meanings : handle.Ghosts H) (j : Judge) (request sent : RequestValue) (options : DnsRequestOptions) (now : ℕ) (old new : H)
+    (q : Question) (query : Bool) (result : Result ResponseValue NetError)
+    → query ≡ (request.message.op_code == 0) → query ≡ true → first_question request ≡ Some q → sent ≡ checked_request request
+    → options ≡ request.options → SendsBy (Requesting meanings sent now) (Asking meanings options now) old new q
+    → UnlessNoMemory result (AnswersLookup meanings (record (call_for j request q now old new) { request = sent; options = options }) (reply_of result))
+    → AnswersRequest meanings j request now old new (reply_of result)
+looks_up meanings j request sent options now old new q query result by is asks checked same sends lookup =
+    let Sends : RequestValue → DnsRequestOptions → Type 0 = λ r o. SendsBy (Requesting meanings r now) (Asking meanings o now) old new q in
+    let Answered : RequestValue → DnsRequestOptions → Type 0 =
+    λ r o. UnlessNoMemory result (AnswersLookup meanings (record (call_for j request q now old new) { request = r; options = o }) (reply_of result)) in
+    LookedUp (reply_of result) q (number_same request.message.op_code 0 (sym by ∙ is)) asks
+    (looked_up meanings (call_for j request q now old new) result
+    (subst (λ r. Sends r request.options) checked (subst (λ o. Sends sent o) same sends))
+    (subst (λ r. Answered r request.options) checked (subst (λ o. Answered sent o) same lookup)))

@@ -1,0 +1,37 @@
+use Rattle.std.proofs.Common.{length, ap, ◌∙◌, arith}
+use Rattle.dns_model.specs.Records.{Question}
+use Rattle.dns_model.specs.SoundAnswers.{told_by}
+use Rattle.dns_model.specs.Trails.{Records}
+use Rattle.dns_judgement.specs.Derivation.{sight_of}
+use Rattle.dns_lookup.specs.Walking.{sight_value}
+use Rattle.dns_lookup.proofs.AskLemmas.{counted_still, asks_many}
+use Rattle.dns_lookup.proofs.AnswerLemmas.{plain_fault_asks, seen_asks, seen_so, unseen_fault}
+use Rattle.dns_lookup.proofs.ReceivedLemmas.{received_some, received_none}
+use Rattle.dns_lookup.proofs.search.see.Goals as goal
+
+pub returns-then-progress-ge-MOST_SENDS-clause-asks : goal.returns-then-progress-ge-MOST_SENDS-clause-asks
+returns-then-progress-ge-MOST_SENDS-clause-asks g c = asks_many _ _ _ _ _ _ _ c.unseen.ensures.ask (omega arith)
+
+pub returns-in_default : goal.returns-in_default
+returns-in_default g c = record {
+  counted = omega (arith, c.seen.ensures.one, c.seen.ensures.sends, c.receive.ensures.count, ap (λ v. length v.items) c.receive.ensures.steps);
+  sent = counted_still _ g.H.DnsHandle.faults _ _ _ _ _ c.receive.ensures.sent c.seen.ensures.sends;
+  asks =
+      plain_fault_asks _ _ _ _ _ _ _ _ _ _ _ _ _ _ _ (received_none _ _ _ _ _ c.in_ok-received.ensures.received c.in_default.is) (ap (λ v. v.items) c.receive.ensures.steps)
+      c.receive.ensures.count c.seen.ensures.sends (omega arith) c.unseen-in_default.ensures.ask c.in_ok-failed.ensures.added;
+  seen = unseen_fault _ _ _ _ _ _ _ (ap sight_value c.unseen-in_default.ensures.sight) c.unseen-in_default.ensures.ask
+      c.in_ok-failed.ensures.added;
+}
+
+pub returns-clause-asks : goal.returns-clause-asks
+returns-clause-asks g c =
+    seen_asks _ _ _ _ _ _ _ _ _ _ c.in-Some.received _ _ _ _ _
+    (received_some _ _ _ _ _ _ c.in_ok-received.ensures.received c.in-Some.is) c.records_of.ensures (ap (λ v. v.items) c.receive.ensures.steps)
+    c.receive.ensures.count c.seen-2.ensures.sends (omega arith) c.in_ok-ask.ensures.added
+
+pub returns-clause-seen : goal.returns-clause-seen
+returns-clause-seen g c =
+    seen_so _ _ _ _ c.in-Some.received _ _ _ c.records_of.ensures
+    (c.sight_in-sight.ensures
+    ∙ ap (λ (q : Question). sight_of q.owner (Records (told_by c.in-Some.received.message) c.in-Some.received.empty)) c.query.view_is)
+    c.in_ok-ask.ensures.added

@@ -1,0 +1,23 @@
+use Rattle.std.proofs.Common.{refl, sym, ◌∙◌}
+use Rattle.dns_lookup.proofs.ReceivedLemmas.{sending_made, caused}
+use Rattle.dns_lookup.proofs.SendingLemmas.{goes_on, refuses, forgets, looks_up}
+use Rattle.dns_lookup.proofs.sending.answer_request.Goals as goal
+
+pub returns-then-not-is_query-clause-answers : goal.returns-then-not-is_query-clause-answers
+returns-then-not-is_query-clause-answers g c =
+    goes_on g.H.DnsHandle _ _ _ _ _ _ c.send.result c.is_query.ensures c.if-not-is_query.true
+    (sending_made g.H.DnsHandle _ _ _ _ _ _ refl c.send.ensures.sent c.send.ensures.requested c.send.ensures.reply c.send.ensures.told
+    c.send.ensures.later (caused _ _ c.send.result c.send.ensures.cause))
+
+pub returns-in-Err-clause-answers : goal.returns-in-Err-clause-answers
+returns-in-Err-clause-answers g c = forgets g.H.DnsHandle _ _ _ _ _ c.is_query.ensures c.if-not-is_query.false c.in-Err.ensures.err
+
+pub returns-in-None-clause-answers : goal.returns-in-None-clause-answers
+returns-in-None-clause-answers g c =
+    refuses g.H.DnsHandle _ _ _ _ _ c.is_query.ensures c.if-not-is_query.false (sym c.in-Ok.ensures.first ∙ c.in-None.is)
+
+pub returns-clause-answers : goal.returns-clause-answers
+returns-clause-answers g c =
+    looks_up g.H.DnsHandle _ c.args.request c.checked.result c.options_of-options.result c.args.now _ _ c.in-Some.query _ c.look_up_by_request.result
+    c.is_query.ensures c.if-not-is_query.false (sym c.in-Ok.ensures.first ∙ c.in-Some.is) c.checked.ensures c.options_of-options.ensures
+    c.look_up_by_request.ensures.sends c.look_up_by_request.ensures.lookup

@@ -1,0 +1,53 @@
+use Rattle.std.proofs.Common.{◌+◌, ◌-◌, ◌*◌, map, take}
+use Rattle.dns_judgement.specs.DerivationParts.{asks_of_sets}
+use Rattle.dns_trust.specs.Verdicts.{verdict_value}
+use Rattle.dns_lookup.specs.Walking.{IsCounted, grounds_at, HasSent, Walk, IsJudgement}
+use Rattle.dns_lookup.proofs.TriedLemmas.{TriedDone}
+use Rattle.dns_lookup.proofs.walk.+walk.Given as goal
+
+abbrev pub decreases-ask : goal.decreases-ask
+decreases-ask g l = 6 * (256 - l.depth) + 5
+
+abbrev pub decreases-judge_sets : goal.decreases-judge_sets
+decreases-judge_sets g l = 6 * (256 - l.depth) + 4
+
+abbrev pub decreases-judge_set : goal.decreases-judge_set
+decreases-judge_set g l = 6 * (256 - l.depth) + 3
+
+abbrev pub decreases-judge_keys : goal.decreases-judge_keys
+decreases-judge_keys g l = 6 * (256 - l.depth) + 2
+
+abbrev pub decreases-judge_unsigned : goal.decreases-judge_unsigned
+decreases-judge_unsigned g l = 6 * (256 - l.depth) + 2
+
+abbrev pub decreases-conclude : goal.decreases-conclude
+decreases-conclude g l = 6 * (256 - l.depth) + 2
+
+abbrev pub decreases-search_zone : goal.decreases-search_zone
+decreases-search_zone g l = 6 * (256 - l.depth) + 1
+
+abbrev pub decreases-judge_signatures : goal.decreases-judge_signatures
+decreases-judge_signatures g l = 6 * (256 - l.depth) + 2
+
+abbrev pub decreases-judge_signature : goal.decreases-judge_signature
+decreases-judge_signature g l = 6 * (256 - l.depth) + 1
+
+abbrev pub invariant-judge_sets-loop-next : goal.invariant-judge_sets-loop-next
+invariant-judge_sets-loop-next g l =
+    (goal.iterator-judge_sets-loop-next g).can_next l.next-iterator ×
+    (goal.iterator-judge_sets-loop-next g).is_finite l.next-iterator ×
+    IsCounted l.initial.progress l.progress ×
+    HasSent g.H.DnsHandle l.context l.initial.handle l.initial.progress l.handle l.progress ×
+    Walk g.H.DnsHandle g.V.Verifier.answers l.context l.initial.handle l.initial.progress l.handle
+    l.progress (asks_of_sets l.entries.items) ×
+    IsJudgement (grounds_at g.V.Verifier.answers l.context l.progress l.query l.depth)
+    l.yielded l.sets.items l.entries.items
+
+abbrev pub invariant-judge_signatures-loop-sig : goal.invariant-judge_signatures-loop-sig
+invariant-judge_signatures-loop-sig g l =
+    IsCounted l.initial.progress l.progress ×
+    HasSent g.H.DnsHandle l.context l.initial.handle l.initial.progress l.handle l.progress ×
+    Walk g.H.DnsHandle g.V.Verifier.answers l.context l.initial.handle l.initial.progress l.handle
+    l.progress l.asked.items ×
+    TriedDone (grounds_at g.V.Verifier.answers l.context l.progress l.query l.depth)
+    l.set (take l.sig-index l.tried) l.asked.items (map verdict_value l.verdicts.items)

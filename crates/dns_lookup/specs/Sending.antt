@@ -1,0 +1,129 @@
+-- What a validator answers to a whole request (RFC 1035, 4.1.1; RFC 4035, 3.2 and 4.1; RFC 6840, 5.7).
+use Rattle.std.specs.Prelude.{ℕ, ◌≡◌, ◌≢◌, ◌≤◌, ◌⊎◌, true, false, [], Option, None, Some, Err, IfOk}
+use Rattle.dns_model.specs.Counts.{one_more}
+use Rattle.dns_model.specs.Records.{Question, EdnsValue}
+use Rattle.dns_model.specs.Chains.{Judge, judge}
+use Rattle.dns_net.specs.Errors as seen
+use Rattle.dns_net.specs.Errors.{Reply, Message}
+use Rattle.dns_net.specs.Recording.{faults_after}
+use Rattle.dns_net.specs.Requests.{RequestValue, first_question}
+use Rattle.dns_net.specs.declared.handle.DnsHandle as handle
+use Rattle.dns_net.specs.declared.notice.Notice.TheVariants.{NoQueryInRequest}
+use Rattle.dns_evidence.specs.declared.verifier.Verifier as verifier
+use Rattle.dns_laws.specs.Denials.{HasDenials}
+use Rattle.dns_laws.specs.Ground.{HasGrounds}
+use Rattle.dns_lookup.specs.Calls.{Call, Sending, inner_of, anchors_of, verifier_of, ask_of_call, first_ask_of_call}
+use Rattle.dns_lookup.specs.Causes.{PassesOnly, PassesOn, ForeignOnly, ForeignNamed, JudgesTold, UnjudgedOnly}
+use Rattle.dns_lookup.specs.Causes.{sees_nsec3, AnswersTold}
+use Rattle.dns_lookup.specs.Completing.{Completes}
+use Rattle.dns_lookup.specs.AskRequests.{asking_options}
+use Rattle.dns_lookup.specs.LookupAnswers.{OfAnswer, IsSoundAnswer, IsTrail, HasMarksOfTrail, ShowsItsDenial, DeniesQuery}
+use Rattle.dns_lookup.specs.Sends.{SendsBy}
+use Rattle.dns_lookup.specs.declared.handle.DnssecDnsHandle.{DnssecDnsHandle}
+
+-- ---- the request that is sent
+
+-- an OPT record with DO: the request's own, or else one for 1,232 bytes
+abbrev pub checked_edns : Option EdnsValue → EdnsValue
+checked_edns None = record { max_payload = 1232; version = 0; dnssec_ok = true; flags = 0; options = [] }
+checked_edns (Some edns) = record edns { dnssec_ok = true }
+
+-- the request with EDNS and DO, AD set and CD clear, and with the options of a judged ask; all else stays
+abbrev pub checked_request : RequestValue → RequestValue
+checked_request request = record request {
+  message = record request.message {
+    edns = Some (checked_edns request.message.edns);
+    authentic_data = true;
+    checking_disabled = false;
+  };
+  options = asking_options request.options;
+}
+
+-- ---- a query
+
+-- the lookup of a request's first question by the request's options, whose first send is this request
+abbrev pub call_for : {H : Type 0} → Judge → RequestValue → Question → ℕ → H → H → Call H
+call_for j request q now old new = record {
+  judge = j;
+  query = q;
+  request = checked_request request;
+  options = request.options;
+  now = now;
+  old = old;
+  new = new;
+}
+
+-- a fact, unless want of memory is answered
+abbrev pub UnlessForgotten : Reply → Type 0 → Type 0
+UnlessForgotten reply Fact = (reply ≡ Err seen.NoMemory) ⊎ Fact
+
+-- all that a lookup promises of its sends and its answer, whichever request it sends first
+pub record IsLookedUp {H : Type 0} (meanings : handle.Ghosts H) (call : Call H) (reply : Reply) : Type 0 where
+  pub sends : SendsBy (first_ask_of_call meanings call) (ask_of_call meanings call) call.old call.new call.query
+  pub sound : OfAnswer reply (λ a ending. IsSoundAnswer meanings call a)
+  pub trail : OfAnswer reply (λ a ending. IsTrail meanings call a.trail ending)
+  pub marks : OfAnswer reply (λ a ending. HasMarksOfTrail call.now a)
+  pub grounds : OfAnswer reply (λ a ending. HasGrounds call.judge.answers a.trail)
+  pub denials : OfAnswer reply (λ a ending. HasDenials a.trail)
+  pub denies : IfOk reply (λ a. ShowsItsDenial call.now call.query a)
+  pub denied : DeniesQuery call.query reply
+  pub passed : PassesOnly meanings call reply
+  pub passes : UnlessForgotten reply (PassesOn (meanings.told call.old) call.query reply)
+  pub foreign : ForeignOnly meanings call reply
+  pub names_foreign : UnlessForgotten reply (ForeignNamed (meanings.told call.old) call.query reply)
+  pub judges : UnlessForgotten reply (JudgesTold (meanings.told call.old) call.query reply)
+  pub unjudged : UnjudgedOnly meanings call reply
+  pub judged : OfAnswer reply (λ a ending. sees_nsec3 a.trail ≡ false)
+  pub answers : UnlessForgotten reply (AnswersTold (meanings.told call.old) call.query reply)
+  pub completes : UnlessForgotten reply (Completes (meanings.told call.old) call reply)
+
+-- ---- any request
+
+-- the answer to a request, by a handle that was asked for it and by what its replies are judged
+pub data AnswersRequest {H : Type 0} (meanings : handle.Ghosts H) (j : Judge) (request : RequestValue) (now : ℕ) (old new : H)
+    : Reply → Type 0 where
+  -- a request of another opcode than Query goes on as it is, and its reply is the answer
+  Goes : (reply : Reply) → request.message.op_code ≢ 0 → Sending meanings request (first_question request) now old new reply
+      → AnswersRequest meanings j request now old new reply
+  -- a query without a question is refused, and nothing is sent
+  Refused : request.message.op_code ≡ 0 → first_question request ≡ None → new ≡ old
+      → AnswersRequest meanings j request now old new (Err (Message NoQueryInRequest))
+  -- another query is looked up
+  LookedUp : (reply : Reply) (q : Question) → request.message.op_code ≡ 0 → first_question request ≡ Some q
+      → IsLookedUp meanings (call_for j request q now old new) reply → AnswersRequest meanings j request now old new reply
+  -- or memory runs out before anything is sent for it
+  Unsent : request.message.op_code ≡ 0 → first_question request ≢ None → new ≡ old
+      → AnswersRequest meanings j request now old new (Err seen.NoMemory)
+
+-- ---- the validator
+
+-- how often it was asked
+abbrev pub sends_of : {H V : Type 0} → DnssecDnsHandle H V → ℕ
+sends_of validator = validator.sends
+
+-- how many errors it answered, want of memory aside and that there are no records
+abbrev pub faults_of : {H V : Type 0} → DnssecDnsHandle H V → ℕ
+faults_of validator = validator.faults
+
+-- it trusts the same keys and tests by the same verifier, and has counted one send and the fault that the reply may be
+pub record CountsSend {H V : Type 0} (old new : DnssecDnsHandle H V) (reply : Reply) : Type 0 where
+  pub anchors : anchors_of new ≡ anchors_of old
+  pub verifier : verifier_of new ≡ verifier_of old
+  pub sends : sends_of new ≡ one_more (sends_of old)
+  pub faults : faults_of new ≡ faults_after (faults_of old) reply
+
+-- a validator answers a request
+pub record ValidatesRequest {H V : Type 0} (meanings : handle.Ghosts H) (tests : verifier.Ghosts V)
+    (old : DnssecDnsHandle H V) (request : RequestValue) (now : ℕ) (new : DnssecDnsHandle H V) (reply : Reply) : Type 0 where
+  pub counted : CountsSend old new reply
+  pub later : meanings.faults (inner_of old) ≤ meanings.faults (inner_of new)
+  pub answers : AnswersRequest meanings (judge (tests.answers (verifier_of old)) (anchors_of old) now) request now
+      (inner_of old) (inner_of new) reply
+
+-- a validator answers some request with this first question, at some moment
+pub record ValidatesQuestion {H V : Type 0} (meanings : handle.Ghosts H) (tests : verifier.Ghosts V)
+    (old : DnssecDnsHandle H V) (asked : Option Question) (new : DnssecDnsHandle H V) (reply : Reply) : Type 0 where
+  pub request : RequestValue
+  pub now : ℕ
+  pub asks : first_question request ≡ asked
+  pub validates : ValidatesRequest meanings tests old request now new reply

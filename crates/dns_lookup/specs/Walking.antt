@@ -1,0 +1,282 @@
+-- For private functions of this crate only: a part of the walk of asks, with the steps that it adds to the trail.
+use Rattle.std.specs.Prelude.{ℕ, ◌≡◌, ◌≤◌, ◌+◌, ◌⊎◌, ◌==◌, ◌≢◌, true, false, List, [], ◌∷◌, ◌++◌, length, take, Option, None, Some, Result, Ok, Err}
+use Rattle.std.specs.Option.{option_map}
+use Rattle.dns_model.specs.declared.proof.Proof.{Proof}
+use Rattle.dns_model.specs.declared.proof.Proof.TheVariants.{Bogus}
+use Rattle.dns_model.specs.declared.trail.AskRef.{AskRef}
+use Rattle.dns_model.specs.declared.trail.AskRef.TheVariants.{Step}
+use Rattle.dns_model.specs.declared.trail.MarkOrigin.TheVariants.{Table}
+use Rattle.dns_model.specs.Names.{Labels}
+use Rattle.dns_model.specs.Types.{type_dnskey}
+use Rattle.dns_model.specs.Records.{Rr, RrSet, Question, MessageValue}
+use Rattle.dns_model.specs.Keys.{VerifierAnswers}
+use Rattle.dns_model.specs.Chains.{Judge}
+use Rattle.dns_model.specs.SoundAnswers.{Told, Placed}
+use Rattle.dns_model.specs.Trails.{AskedValue, HeardValue, JudgedSetValue, EndingValue}
+use Rattle.dns_model.specs.Trails as trails
+use Rattle.dns_judgement.specs.Asking.{most_sends, ask_of}
+use Rattle.dns_judgement.specs.Chained.{Chained, bare, stands, ChainedVerdict, chained_verdict, bare_verdicts}
+use Rattle.dns_judgement.specs.Delegations.{ZoneVerdict}
+use Rattle.dns_judgement.specs.Derivation as derived
+use Rattle.dns_judgement.specs.Derivation.{Grounds, entry_holds, entries_hold, with_entries, finished_answer, is_ask, verdicts_by, is_plain_ask, sight_by, zone_asked, search_from}
+use Rattle.dns_judgement.specs.DerivationParts.{with_entry, steps_at, is_ask_for}
+use Rattle.dns_judgement.specs.Judged.{Judged}
+use Rattle.dns_judgement.specs.Marking.{cleared_message}
+use Rattle.dns_judgement.specs.Marks.{is_skipped, most_signatures}
+use Rattle.dns_judgement.specs.Marks as marks
+use Rattle.dns_judgement.specs.Outcome.{Outcome, Unjudged, Accepted, Searched, Denied, outcome_of, outcome_by_zone}
+use Rattle.dns_judgement.specs.Parts.{Part}
+use Rattle.dns_judgement.specs.Unsigned.{question_start, unsigned_mark}
+use Rattle.dns_net.specs.Errors.{Reply}
+use Rattle.dns_net.specs.Replies.{error_of}
+use Rattle.dns_net.specs.Walks.{Walked}
+use Rattle.dns_net.specs.declared.error.NetError.{NetError}
+use Rattle.dns_net.specs.declared.error.NetError.TheVariants.{NoMemory}
+use Rattle.dns_net.specs.declared.handle.DnsHandle as handle
+use Rattle.dns_anchors.specs.Judge.{judge_of}
+use Rattle.dns_lookup.specs.Received.{received_message, says_none}
+use Rattle.dns_lookup.specs.AskRequests.{Ask}
+use Rattle.dns_lookup.specs.Calls.{Asking}
+use Rattle.dns_lookup.specs.Sends.{SendsAlong}
+use Rattle.dns_lookup.specs.Standing.{IsPlainSet, ArePlainSets, AllStand, AnswerStands, HaveChains}
+use Rattle.dns_lookup.specs.declared.receiving.ReceivedMessage.{ReceivedMessage}
+use Rattle.dns_lookup.specs.declared.context.LookupContext.{LookupContext}
+use Rattle.dns_lookup.specs.declared.context.Progress.{Progress}
+use Rattle.dns_lookup.specs.declared.search.Sight.{Sight}
+use Rattle.dns_lookup.specs.declared.search.Sight.TheVariants.{Cut, Onward, Unseen}
+
+-- ---- one ask
+
+-- an ask of a lookup
+abbrev pub asking : {H V : Type 0} → handle.Ghosts H → LookupContext V → H → Ask → H → Reply → Type 0
+asking meanings context = Asking meanings context.options context.judge.moment
+
+-- the message of a reply, without its marks, and whether it said that there are no records
+pub record IsReceived (reply : Reply) (received : ReceivedMessage) : Type 0 where
+  pub from : MessageValue
+  pub is : received_message reply ≡ Some from
+  pub cleared : received.message ≡ cleared_message from
+  pub empty : received.empty ≡ says_none reply
+
+-- the reply has no message, and is this error
+pub record IsReceivedError (reply : Reply) (error : NetError) : Type 0 where
+  pub none : received_message reply ≡ None
+  pub is : reply ≡ Err (error_of error)
+
+-- memory may run out where a message is made of that there are no records
+abbrev pub ReceivedAs : Reply → Result ReceivedMessage NetError → Type 0
+ReceivedAs reply (Ok received) = IsReceived reply received
+ReceivedAs reply (Err error) = (error ≡ NoMemory) ⊎ IsReceivedError reply error
+
+-- one ask, its reply, and what was received by it
+pub record Received {H : Type 0} (ask : H → Ask → H → Reply → Type 0) (old new : H) (made_for : Ask)
+    (result : Result ReceivedMessage NetError) : Type 0 where
+  pub reply : Reply
+  pub made : ask old made_for new reply
+  pub received : ReceivedAs reply result
+
+-- one ask that met a fault, which isn't want of memory
+pub record MetFault {H : Type 0} (ask : H → Ask → H → Reply → Type 0) (old new : H) (made_for : Ask) : Type 0 where
+  pub error : NetError
+  pub other : error ≡ NoMemory → ⊥
+  pub received : Received ask old new made_for (Err error)
+
+-- one ask, with its message or a fault
+abbrev pub HasReceived : {H : Type 0} → (H → Ask → H → Reply → Type 0) → H → H → Ask → Option ReceivedMessage → Type 0
+HasReceived ask old new made_for (Some received) = Received ask old new made_for (Ok received)
+HasReceived ask old new made_for None = MetFault ask old new made_for
+
+-- a sight, as the definitions have it
+abbrev pub sight_value : Sight → derived.Sight
+sight_value Cut = derived.Cut
+sight_value Onward = derived.Onward
+sight_value Unseen = derived.Unseen
+
+-- ---- asks one after another
+
+-- no more steps were added than sends were made
+abbrev pub IsCounted : Progress → Progress → Type 0
+IsCounted old new = length new.steps.items + old.sends ≤ length old.steps.items + new.sends
+
+-- whatever the result: a handle went from one state to another by asks that a counter of sends covers
+pub record CountedSends {H : Type 0} (ask : H → Ask → H → Reply → Type 0) (faults : H → ℕ) (old new : H)
+    (n m : ℕ) : Type 0 where
+  pub walk : Walked ask old new n m
+  pub few : m ≤ most_sends
+  pub later : faults old ≤ faults new
+
+-- the same of a lookup, between two states of its progress
+abbrev pub HasSent : {H V : Type 0} → handle.Ghosts H → LookupContext V → H → Progress → H → Progress → Type 0
+HasSent meanings context old before new after =
+    CountedSends (asking meanings context) meanings.faults old new before.sends after.sends
+
+-- asks in order, with the steps that they added to the trail; the handle went along these steps, in the order of the sends
+pub record Asks {H : Type 0} (ask : H → Ask → H → Reply → Type 0) (j : Judge) (limit : ℕ)
+    (old new : H) (before after : List AskedValue) (asks : List AskRef) (n m : ℕ) : Type 0 where
+  pub part : Part j limit before after asks n m
+  pub sends : SendsAlong ask old (steps_at after (Some part.order)) new
+
+-- asks of a lookup, with the steps that they added to its progress
+abbrev pub Walk : {H V : Type 0} → handle.Ghosts H → (V → VerifierAnswers) → LookupContext V → H → Progress → H → Progress
+    → List AskRef → Type 0
+Walk meanings answers context old before new after asks =
+    Asks (asking meanings context) (judge_of answers context.judge) context.limit old new
+    before.steps.items after.steps.items asks before.sends after.sends
+
+-- by what the sets of a step are judged, at a state of the progress
+abbrev pub grounds_at : {V : Type 0} → (V → VerifierAnswers) → LookupContext V → Progress → Question → ℕ → Grounds
+grounds_at answers context progress q depth = record {
+  judge = judge_of answers context.judge;
+  limit = context.limit;
+  earlier = progress.steps.items;
+  query = q;
+  depth = depth;
+}
+
+-- the same grounds, with further steps
+abbrev pub later_grounds : Grounds → List AskedValue → Grounds
+later_grounds g more = record g { earlier = g.earlier ++ more }
+
+-- ---- a step
+
+-- a judged step, with the asks that it names for its ending
+abbrev pub judged_step : ℕ → Question → HeardValue → List JudgedSetValue → EndingValue → List AskRef → AskedValue
+judged_step depth q reply sets ending excuse = record {
+  depth = depth;
+  judged = true;
+  query = q;
+  reply = reply;
+  sets = sets;
+  ending = ending;
+  excuse = excuse;
+}
+
+-- a step that only sees what it hears
+abbrev pub plain_step : ℕ → Question → HeardValue → EndingValue → AskedValue
+plain_step depth q reply ending = record {
+  depth = depth;
+  judged = false;
+  query = q;
+  reply = reply;
+  sets = [];
+  ending = ending;
+  excuse = [];
+}
+
+-- the entry of a set that the rules judged by these asks
+abbrev pub entry_of : Judged → List AskRef → JudgedSetValue
+entry_of judged asked = record {
+  section = judged.section;
+  owner = judged.set.owner;
+  rtype = judged.set.rtype;
+  mark = judged.mark;
+  origin = Table;
+  sig = judged.sig;
+  asked = asked;
+}
+
+-- the ending that names a record of another class
+abbrev pub foreign_ending : Rr → EndingValue
+foreign_ending r = trails.Foreign r.owner r.class r.rtype
+
+-- the sets of a step whose answer is accepted
+abbrev pub accepted_sets : {X : Type 0} → Outcome → List X → Option (List X)
+accepted_sets Unjudged sets = None
+accepted_sets (Accepted d) sets = Some sets
+accepted_sets Searched sets = None
+accepted_sets (Denied proof) sets = None
+
+-- ---- what the functions of the walk come to
+
+-- a step was added to the trail, and is named
+pub record IsAdded (before after : List AskedValue) (step : AskedValue) (ask : AskRef) : Type 0 where
+  pub steps : after ≡ before ++ step ∷ []
+  pub named : ask ≡ Step (length before)
+
+-- the answer to an ask, as the trail has it
+pub record IsAnswer (j : Judge) (limit : ℕ) (steps : List AskedValue) (q : Question) (depth : ℕ) (ask : AskRef)
+    (answer : Option (List Chained)) : Type 0 where
+  pub asks : is_ask limit steps depth q ask ≡ true
+  pub same : option_map bare answer ≡ finished_answer steps ask
+  pub stand : AnswerStands j answer
+
+-- a plain ask, as the trail has it, and what it saw
+pub record IsSeen (steps : List AskedValue) (depth : ℕ) (q : Question) (ask : AskRef) (sight : derived.Sight) : Type 0 where
+  pub asks : is_plain_ask steps depth q ask ≡ true
+  pub sees : sight_by steps q.owner ask ≡ sight
+
+-- the search that began at a name leads to a zone by these plain asks: what its DS verdict comes to is what the search comes to
+pub record LeadsTo (g : Grounds) (class : ℕ) (start : Labels) (asks : List AskRef) (zone : Labels) : Type 0 where
+  pub search : (later : List AskedValue) (rest : List AskRef) (verdict : ZoneVerdict)
+      → zone_asked (later_grounds g later) class zone rest ≡ Some verdict
+      → search_from (later_grounds g later) class start (asks ++ rest) ≡ Some verdict
+
+-- the search comes to a verdict by which what is unsigned has this mark
+pub record IsSearched (g : Grounds) (class : ℕ) (start : Labels) (asks : List AskRef) (mark : Proof) : Type 0 where
+  pub zone : ZoneVerdict
+  pub found : search_from g class start asks ≡ Some zone
+  pub is : mark ≡ (unsigned_mark zone).mark
+
+-- plain asks lead to a zone, or to nothing but Bogus
+abbrev pub IsWay : Grounds → ℕ → Labels → List AskRef → Option Labels → Type 0
+IsWay g class start asks (Some zone) = LeadsTo g class start asks zone
+IsWay g class start asks None = IsSearched g class start asks Bogus
+
+-- the outcome of judged sets decides
+pub record IsSettled (g : Grounds) (told : Told) (sets : List Judged) (o : Outcome) (excuse : List AskRef) : Type 0 where
+  pub is : o ≡ outcome_of g.query told sets
+  pub settled : o ≢ Searched
+  pub none : excuse ≡ []
+
+-- it doesn't, and the zone of the question is searched
+pub record IsLeftToZone (g : Grounds) (told : Told) (sets : List Judged) (o : Outcome) (excuse : List AskRef) : Type 0 where
+  pub left : outcome_of g.query told sets ≡ Searched
+  pub zone : ZoneVerdict
+  pub found : search_from g g.query.class (question_start g.query) excuse ≡ Some zone
+  pub is : o ≡ outcome_by_zone g.query told zone
+
+-- what the judged sets of a step come to, with the asks on which that stands
+abbrev pub IsConcluded : Grounds → Told → List Judged → Outcome → List AskRef → Type 0
+IsConcluded g told sets o excuse = IsSettled g told sets o excuse ⊎ IsLeftToZone g told sets o excuse
+
+-- the ask of a signature, if it made one
+abbrev pub asks_in : Option AskRef → List AskRef
+asks_in None = []
+asks_in (Some ask) = ask ∷ []
+
+-- a signature that isn't asked for
+pub record IsUntried (g : Grounds) (set : RrSet) (r : Rr) (ask : Option AskRef) (v : ChainedVerdict) : Type 0 where
+  pub skipped : is_skipped g.query set r ≡ true
+  pub none : ask ≡ None
+  pub failed : v ≡ record { verdict = marks.Failed; chain = [] }
+
+-- a signature that was asked for
+pub record IsAskedFor (g : Grounds) (set : RrSet) (r : Rr) (ask : Option AskRef) (v : ChainedVerdict) : Type 0 where
+  pub made : AskRef
+  pub answer : Option (List Chained)
+  pub one : ask ≡ Some made
+  pub kept : is_skipped g.query set r ≡ false
+  pub asks : is_ask_for g (ask_of set r) made ≡ true
+  pub same : option_map bare answer ≡ finished_answer g.earlier made
+  pub stand : AnswerStands g.judge answer
+  pub verdict : v ≡ chained_verdict g.judge set r answer
+
+abbrev pub IsTried : Grounds → RrSet → Rr → Option AskRef → ChainedVerdict → Type 0
+IsTried g set r ask v = IsUntried g set r ask v ⊎ IsAskedFor g set r ask v
+
+-- the verdicts of a set's first signatures, and the asks that they made
+pub record AreTried (g : Grounds) (set : RrSet) (asks : List AskRef) (vs : List ChainedVerdict) : Type 0 where
+  pub verdicts : verdicts_by g set (take most_signatures set.signatures) asks ≡ Some (bare_verdicts vs)
+  pub good : IsPlainSet set → (set.rtype == type_dnskey) ≡ false → HaveChains g.judge set (take most_signatures set.signatures) vs
+
+-- a set with its chain, and the entry that a step has for it
+pub record IsJudgedSet (g : Grounds) (placed : Placed) (c : Chained) (entry : JudgedSetValue) : Type 0 where
+  pub holds : entry_holds g placed entry ≡ true
+  pub same : c.judged ≡ with_entry (placed, entry)
+  pub stand : IsPlainSet placed.set → stands g.judge c ≡ true
+
+-- sets with their chains, and the entries that a step has for them
+pub record IsJudgement (g : Grounds) (placed : List Placed) (sets : List Chained) (entries : List JudgedSetValue) : Type 0 where
+  pub hold : entries_hold g placed entries ≡ true
+  pub same : bare sets ≡ with_entries placed entries
+  pub stand : ArePlainSets placed → AllStand g.judge sets

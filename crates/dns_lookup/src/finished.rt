@@ -1,0 +1,145 @@
+ghost use Rattle.std.specs.Prelude.{◌≡◌, ◌≤◌, ◌<◌, ◌+◌, [], None, IfOk, length};
+ghost use Rattle.dns_model.specs.SoundAnswers.{told_by};
+ghost use Rattle.dns_model.specs.Trails.{Records, Fault, Failed};
+ghost use Rattle.dns_judgement.specs.Asking.{most_sends};
+ghost use Rattle.dns_judgement.specs.Derivation.{ending_by};
+ghost use Rattle.dns_evidence.specs.Trail.{heard_value, ending_value};
+ghost use Rattle.dns_sets.specs.Outcome.{outcome_value};
+ghost use Rattle.dns_trust.specs.Verdicts.{listed};
+ghost use Rattle.dns_lookup.specs.Walking.{IsAdded, accepted_sets, judged_step, plain_step};
+
+use crate::context::Progress;
+use crate::judging::{Concluded, Judgement};
+use crate::receiving::ReceivedMessage;
+use crate::steps::{add_step, ended, ending_of, only_seen, records_of};
+use dns_name::NoMemory;
+use dns_net::{AskRef, Ending, Reply};
+use dns_record::Query;
+use dns_sets::{ChainedSet, Outcome};
+use std::alloc::Global;
+
+/// What an ask came to: its place in the trail, and the judged sets of its answer, if it has one.
+#[derive(Drop)]
+pub(crate) struct Finished {
+    pub(crate) ask: AskRef,
+    pub(crate) answer: Option<Vec<ChainedSet>>,
+}
+
+/// An ask that isn't made.
+pub(crate) fn refused(ask: AskRef) -> Finished
+    ensures ask { result.ask ≡ ask }
+    ensures answer { listed result.answer ≡ None }
+{
+    Finished { ask, answer: None }
+}
+
+/// Ends a step that heard a fault.
+pub(crate) fn faulted(
+    alloc: Global,
+    progress: &mut Progress,
+    query: Query,
+    depth: u16,
+) -> Result<Finished, NoMemory>
+    requires few { length progress.old.steps.items < most_sends }
+    ensures sends { progress.new.sends ≡ progress.old.sends }
+    ensures one { length progress.new.steps.items ≤ length progress.old.steps.items + 1 }
+    ensures added { IfOk result (λ f. IsAdded progress.old.steps.items progress.new.steps.items
+        (judged_step depth query Fault [] Failed []) f.ask) }
+    ensures answer { IfOk result (λ f. listed f.answer ≡ None) }
+{
+    unanswered(alloc, progress, query, depth, Reply::Fault, Ending::Failed)
+}
+
+/// Ends a step none of whose sets is judged.
+pub(crate) fn unanswered(
+    alloc: Global,
+    progress: &mut Progress,
+    query: Query,
+    depth: u16,
+    reply: Reply,
+    ending: Ending,
+) -> Result<Finished, NoMemory>
+    requires few { length progress.old.steps.items < most_sends }
+    ensures sends { progress.new.sends ≡ progress.old.sends }
+    ensures one { length progress.new.steps.items ≤ length progress.old.steps.items + 1 }
+    ensures added { IfOk result (λ f. IsAdded progress.old.steps.items progress.new.steps.items
+        (judged_step depth query (heard_value reply) [] (ending_value ending) []) f.ask) }
+    ensures answer { IfOk result (λ f. listed f.answer ≡ None) }
+{
+    let step = ended(
+        query,
+        depth,
+        reply,
+        Vec::new(alloc),
+        ending,
+        Vec::new(alloc),
+    );
+    let ask = add_step(&mut progress.steps, step)?;
+    Ok(Finished { ask, answer: None })
+}
+
+/// Ends a step whose reply is only seen.
+pub(crate) fn seen(
+    alloc: Global,
+    progress: &mut Progress,
+    query: Query,
+    depth: u16,
+    reply: Reply,
+    ending: Ending,
+) -> Result<AskRef, NoMemory>
+    requires few { length progress.old.steps.items < most_sends }
+    ensures sends { progress.new.sends ≡ progress.old.sends }
+    ensures one { length progress.new.steps.items ≤ length progress.old.steps.items + 1 }
+    ensures added { IfOk result (λ ask. IsAdded progress.old.steps.items progress.new.steps.items
+        (plain_step depth query (heard_value reply) (ending_value ending)) ask) }
+{
+    let step = only_seen(alloc, query, depth, reply, ending);
+    let ask = add_step(&mut progress.steps, step)?;
+    Ok(ask)
+}
+
+/// Ends a step whose sets are judged and have come to an outcome. They are its answer where they are accepted.
+pub(crate) fn answered(
+    progress: &mut Progress,
+    query: Query,
+    depth: u16,
+    received: ReceivedMessage,
+    judged: Judgement,
+    concluded: Concluded,
+) -> Result<Finished, NoMemory>
+    requires few { length progress.old.steps.items < most_sends }
+    ensures sends { progress.new.sends ≡ progress.old.sends }
+    ensures one { length progress.new.steps.items ≤ length progress.old.steps.items + 1 }
+    ensures added { IfOk result (λ f. IsAdded progress.old.steps.items progress.new.steps.items
+        (judged_step depth query (Records (told_by received.message) received.empty) judged.entries.items
+        (ending_by (outcome_value concluded.outcome)) concluded.excuse.items) f.ask) }
+    ensures answer { IfOk result (λ f. listed f.answer ≡ accepted_sets (outcome_value concluded.outcome) judged.sets.items) }
+{
+    let Judgement { sets, entries } = judged;
+    let Concluded { outcome, excuse } = concluded;
+    let step = ended(
+        query,
+        depth,
+        records_of(received),
+        entries,
+        ending_of(outcome),
+        excuse,
+    );
+    let ask = add_step(&mut progress.steps, step)?;
+    Ok(Finished {
+        ask,
+        answer: accepted(outcome, sets),
+    })
+}
+
+// The judged sets of a step whose answer is accepted.
+fn accepted(outcome: Outcome, sets: Vec<ChainedSet>) -> Option<Vec<ChainedSet>>
+    ensures { listed result ≡ accepted_sets (outcome_value outcome) sets.items }
+{
+    match outcome {
+        Outcome::Unjudged => None,
+        Outcome::Accepted(_) => Some(sets),
+        Outcome::Searched => None,
+        Outcome::Denied(_) => None,
+    }
+}

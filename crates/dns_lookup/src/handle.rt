@@ -1,0 +1,217 @@
+ghost use Rattle.std.specs.Prelude.{◌≡◌, ◌≤◌, IfOk, true, false};
+ghost use Rattle.dns_net.specs.Replies.{reply_of};
+ghost use Rattle.dns_net.specs.Handles.{OrUnsent};
+ghost use Rattle.dns_lookup.specs.Calls.{Asking};
+ghost use Rattle.dns_lookup.specs.Causes.{PassesOnly, PassesOn, ForeignOnly, ForeignNamed, JudgesTold, UnjudgedOnly};
+ghost use Rattle.dns_lookup.specs.Causes.{sees_nsec3, AnswersTold};
+ghost use Rattle.dns_lookup.specs.Completing.{Completes};
+ghost use Rattle.dns_lookup.specs.LookupAnswers.{UnlessNoMemory, OfAnswer, IsSoundAnswer, IsTrail, HasMarksOfTrail};
+ghost use Rattle.dns_lookup.specs.LookupAnswers.{ShowsItsDenial, DeniesQuery};
+ghost use Rattle.dns_lookup.specs.Sends.{SendsFor};
+ghost use Rattle.dns_laws.specs.Denials.{HasDenials};
+ghost use Rattle.dns_laws.specs.Ground.{HasGrounds};
+
+use crate::context::{LookupContext, depth_limit_of};
+use crate::lookup::look_up;
+use crate::sending::answer_request;
+use dns_name::NoMemory;
+use dns_net::{
+    DnsHandle, DnsRequest, DnsRequestOptions, DnsResponse, NetError, Verifier, faults_after,
+};
+use dns_record::Query;
+use dns_trust::{Judge, TrustAnchors};
+use std::alloc::Global;
+
+/// A validator over a handle (RFC 4035, 5): its answers have marks, and chains for what is Secure.
+#[derive(Drop)]
+pub struct DnssecDnsHandle<H: Drop, V: Drop> {
+    handle: H,
+    anchors: TrustAnchors,
+    verifier: V,
+    sends: u64,
+    faults: u64,
+}
+
+impl<H: DnsHandle + Drop, V: Verifier + Drop> DnssecDnsHandle<H, V> {
+    ghost use Rattle.dns_lookup.specs.Calls.{inner_of, anchors_of, verifier_of, call_of};
+    ghost use Rattle.dns_lookup.specs.Sending.{sends_of, faults_of, CountsSend};
+
+    /// A validator that trusts these anchors and tests signatures by this verifier.
+    pub fn new(handle: H, anchors: TrustAnchors, verifier: V) -> Result<Self, NoMemory>
+        ensures handle { IfOk result (λ h. inner_of h ≡ handle) }
+        ensures anchors { IfOk result (λ h. anchors_of h ≡ anchors) }
+        ensures verifier { IfOk result (λ h. verifier_of h ≡ verifier) }
+        ensures sends { IfOk result (λ h. sends_of h ≡ 0) }
+        ensures faults { IfOk result (λ h. faults_of h ≡ 0) }
+    {
+        Ok(DnssecDnsHandle {
+            handle,
+            anchors,
+            verifier,
+            sends: 0,
+            faults: 0,
+        })
+    }
+
+    /// The same validator, by the name that says what it trusts.
+    pub fn with_trust_anchor(
+        handle: H,
+        anchors: TrustAnchors,
+        verifier: V,
+    ) -> Result<Self, NoMemory>
+        ensures handle { IfOk result (λ h. inner_of h ≡ handle) }
+        ensures anchors { IfOk result (λ h. anchors_of h ≡ anchors) }
+        ensures verifier { IfOk result (λ h. verifier_of h ≡ verifier) }
+        ensures sends { IfOk result (λ h. sends_of h ≡ 0) }
+        ensures faults { IfOk result (λ h. faults_of h ≡ 0) }
+    {
+        DnssecDnsHandle::new(handle, anchors, verifier)
+    }
+
+    /// Its answers are validated.
+    pub fn is_verifying_dnssec(&self) -> bool
+        ensures { result ≡ true }
+    {
+        true
+    }
+
+    /// Looks a query up at a moment, in seconds: one send for the query, at most 1,024 in all, and asks for the keys of signers
+    /// at most as deep as the options say, and never deeper than 255. Each send has this moment and these options. What is
+    /// judged is asked for with EDNS and DO, AD set and CD clear; the NS records by which a zone is searched are asked for as
+    /// `DnsRequest::from_query` has it. The marks of the answer are this validator's own, and its trail says what was asked,
+    /// heard and judged for them. Its anchors and verifier stay as they are. The call is counted as a `send` is.
+    ///
+    /// The denial of an answer says what its records prove beside (RFC 4035, 5.3.4 and 5.4): `Absent(Secure)`, that no zone has
+    /// an answer in which its Secure NSEC records are true; `Expanded(Secure)`, that the answer comes from the right wildcard;
+    /// `Absent(Insecure)`, that nothing is there where no more than Insecure can be expected. A Secure denial promises nothing
+    /// where the query is for ANY, RRSIG, NSEC, NSEC3, OPT or a type from 128 to 255.
+    ///
+    /// Errors: one of the handle's own send for the query; `ForeignClassRecord` for a record of another class than the
+    /// query's; `Dns(Nsec)`, with the answer inside, exactly where its records lack a denial that they need, or have one that
+    /// doesn't hold; `Message("not judged yet")` exactly where a Secure NSEC3 stands in the reply, in any section; `NoMemory`.
+    pub fn lookup(
+        &mut self,
+        alloc: Global,
+        query: Query,
+        options: DnsRequestOptions,
+        now: u64,
+    ) -> Result<DnsResponse, NetError>
+        // The next lookup is by the same anchors and the same verifier.
+        ensures anchors { anchors_of self.new ≡ anchors_of self.old }
+        ensures verifier { verifier_of self.new ≡ verifier_of self.old }
+        ensures later { H.faults (inner_of self.old) ≤ H.faults (inner_of self.new) }
+        ensures counted { CountsSend self.old self.new (reply_of result) }
+
+        // Whatever the result, each send is an ask with these options at this moment, judged or plain; the first one is judged.
+        ensures sends { OrUnsent (inner_of self.old) (inner_of self.new) result
+            (SendsFor (Asking H.DnsHandle options now) (inner_of self.old) (inner_of self.new) query) }
+
+        // An answer, an Ok one or that inside a denial, is sound, its trail says how it came about, and its marks are the
+        // trail's. Each set that the trail marks Insecure has a ground in the steps before.
+        ensures sound { OfAnswer (reply_of result) (λ a ending.
+            IsSoundAnswer H.DnsHandle (call_of V.Verifier self.old self.new query options now) a) }
+        ensures trail { OfAnswer (reply_of result) (λ a ending.
+            IsTrail H.DnsHandle (call_of V.Verifier self.old self.new query options now) a.trail ending) }
+        ensures marks { OfAnswer (reply_of result) (λ a ending. HasMarksOfTrail now a) }
+        ensures grounds { OfAnswer (reply_of result) (λ a ending. HasGrounds (V.answers (verifier_of self.old)) a.trail) }
+        ensures denied { DeniesQuery query (reply_of result) }
+
+        // What an Ok answer denies follows from its Secure NSEC records, in each zone in which they are true; and so do the
+        // denials of the steps before.
+        ensures denies { IfOk result (λ a. ShowsItsDenial now query a) }
+        ensures denials { OfAnswer (reply_of result) (λ a ending. HasDenials a.trail) }
+
+        // An error that only the handle makes is passed on, after one send that met a fault; and whatever error it replies is.
+        ensures passed { PassesOnly H.DnsHandle (call_of V.Verifier self.old self.new query options now) (reply_of result) }
+        ensures passes { UnlessNoMemory result (PassesOn (H.told (inner_of self.old)) query (reply_of result)) }
+
+        // Else the first record of another class than the query's is named, and nothing else is complained of so.
+        ensures foreign { ForeignOnly H.DnsHandle (call_of V.Verifier self.old self.new query options now) (reply_of result) }
+        ensures names_foreign { UnlessNoMemory result (ForeignNamed (H.told (inner_of self.old)) query (reply_of result)) }
+
+        // Else the sets are judged: there is an answer, or there is a trail that fails, exactly where a Secure NSEC3 was seen.
+        ensures judges { UnlessNoMemory result (JudgesTold (H.told (inner_of self.old)) query (reply_of result)) }
+        ensures unjudged { UnjudgedOnly H.DnsHandle (call_of V.Verifier self.old self.new query options now) (reply_of result) }
+        ensures judged { OfAnswer (reply_of result) (λ a ending. sees_nsec3 a.trail ≡ false) }
+        ensures answers { UnlessNoMemory result (AnswersTold (H.told (inner_of self.old)) query (reply_of result)) }
+
+        // Where the upstream's replies make a session that is valid for the query, it is answered, and what was queried is
+        // Secure.
+        ensures completes { UnlessNoMemory result (Completes (H.told (inner_of self.old))
+            (call_of V.Verifier self.old self.new query options now) (reply_of result)) }
+    {
+        let judge = Judge {
+            verifier: &self.verifier,
+            anchors: &self.anchors,
+            moment: now,
+        };
+        let context = LookupContext {
+            alloc,
+            judge,
+            options,
+            limit: depth_limit_of(&options),
+        };
+        let reply = look_up(&context, &mut self.handle, query);
+        self.sends = self.sends.saturating_add(1);
+        self.faults = faults_after(self.faults, &reply);
+        reply
+    }
+
+    /// The handle that is asked.
+    pub fn inner(&self) -> &H
+        ensures { result.now ≡ inner_of self.now }
+    {
+        &self.handle
+    }
+}
+
+/// A validator is itself a handle. `send` looks a query up as `DnssecDnsHandle::lookup` does, for the request's first question
+/// and with its options; but what is sent for the question is this request, with EDNS (of payload 1,232 where it has none) and
+/// DO, AD set and CD clear (RFC 4035, 3.2 and 4.1). A request of another opcode than Query goes on as it is, and its reply is
+/// the answer.
+///
+/// Errors: `Message("no query in request")` exactly for a query without a question, and nothing is sent; else those of a lookup,
+/// or of the handle's own send.
+impl<H: DnsHandle + Drop, V: Verifier + Drop> DnsHandle for DnssecDnsHandle<H, V> {
+    ghost use Rattle.std.specs.Prelude.{None, true};
+    ghost use Rattle.dns_lookup.specs.Sending.{ValidatesRequest, ValidatesQuestion};
+
+    ghost sends = { λ h. h.sends };
+
+    ghost faults = { λ h. h.faults };
+
+    ghost sent = { ValidatesQuestion H.DnsHandle V.Verifier };
+
+    ghost told = { λ h. None };
+
+    ghost requested = { ValidatesRequest H.DnsHandle V.Verifier };
+
+    ghost validates = { λ h. true };
+
+    fn send(
+        &mut self,
+        alloc: Global,
+        request: DnsRequest,
+        now: u64,
+    ) -> Result<DnsResponse, NetError> {
+        let reply = answer_request(
+            alloc,
+            &self.anchors,
+            &self.verifier,
+            now,
+            &mut self.handle,
+            request,
+        );
+        self.sends = self.sends.saturating_add(1);
+        self.faults = faults_after(self.faults, &reply);
+        reply
+    }
+
+    // The trait's clause, and that the answer is always so.
+    fn is_verifying_dnssec(&self) -> bool
+        ensures validates { result ≡ true → true ≡ true }
+        ensures always { result ≡ true }
+    {
+        true
+    }
+}

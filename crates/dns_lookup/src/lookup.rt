@@ -1,0 +1,201 @@
+ghost use Rattle.std.specs.Prelude.{◌⊎◌, ◌≡◌, ◌≤◌, ◌++◌, ◌∷◌, [], Err, IfOk, Some};
+ghost use Rattle.dns_model.specs.SoundAnswers.{told_by};
+ghost use Rattle.dns_judgement.specs.Asking.{depth_limit};
+ghost use Rattle.dns_net.specs.Errors as seen;
+ghost use Rattle.dns_net.specs.Handles.{OrUnsent};
+ghost use Rattle.dns_net.specs.Replies.{reply_of, error_of};
+ghost use Rattle.dns_net.specs.Requests.{first_question};
+ghost use Rattle.dns_evidence.specs.Trail.{ending_value};
+ghost use Rattle.dns_sets.specs.Outcome.{outcome_value};
+ghost use Rattle.dns_lookup.specs.Answering.{call_by, judged_answer, top_of, AnswersLookup};
+ghost use Rattle.dns_lookup.specs.Calls.{Requesting};
+ghost use Rattle.dns_lookup.specs.AskRequests.{asking_request};
+ghost use Rattle.dns_lookup.specs.LookupAnswers.{UnlessNoMemory};
+ghost use Rattle.dns_lookup.specs.Sends.{SendsBy, SendsFor};
+ghost use Rattle.dns_lookup.specs.Walking.{asking};
+
+use crate::context::{LookupContext, Progress, request_for};
+use crate::judging::{Concluded, Judgement};
+use crate::receiving::{ReceivedMessage, send_request};
+use crate::walk::{conclude, judge_sets};
+use dns_message::Message;
+use dns_name::NoMemory;
+use dns_net::{
+    AskRef, Asked, DnsError, DnsHandle, DnsRequest, DnsResponse, Ending, JudgedSet, NetError,
+    Notice, Reply, Told, Trail, Verifier,
+};
+use dns_record::{Denial, Proof, Query, Record, clone_records};
+use dns_sets::{Outcome, finished, foreign_record, placed_sets};
+use std::alloc::Global;
+
+/// One lookup by its query's own request. Where memory runs out before the send, nothing is sent and the handle doesn't change.
+pub(crate) fn look_up<H: DnsHandle, V: Verifier>(
+    context: &LookupContext<'_, V>,
+    handle: &mut H,
+    query: Query,
+) -> Result<DnsResponse, NetError>
+    requires limit { context.now.limit ≡ depth_limit context.now.options.max_request_depth }
+    ensures later { H.faults handle.old ≤ H.faults handle.new }
+    ensures sends { OrUnsent handle.old handle.new result
+        (SendsFor (asking H.DnsHandle context.now) handle.old handle.new query) }
+    ensures lookup { UnlessNoMemory result
+        (AnswersLookup H.DnsHandle (call_by V.answers context.now (asking_request query context.now.options) query
+        handle.old handle.new) (reply_of result)) }
+{
+    let request = request_for(context.alloc, &query, &context.options, true)?;
+    look_up_by_request(context, handle, request, query)
+}
+
+/// One lookup by a request with its query: the send of this request, the asks for what the query's sets and its ending need, and
+/// the answer with its trail.
+pub(crate) fn look_up_by_request<H: DnsHandle, V: Verifier>(
+    context: &LookupContext<'_, V>,
+    handle: &mut H,
+    request: DnsRequest,
+    query: Query,
+) -> Result<DnsResponse, NetError>
+    requires limit { context.now.limit ≡ depth_limit context.now.options.max_request_depth }
+    requires asked { first_question request ≡ Some query }
+    ensures later { H.faults handle.old ≤ H.faults handle.new }
+    ensures sends { SendsBy (Requesting H.DnsHandle request context.now.judge.moment) (asking H.DnsHandle context.now)
+        handle.old handle.new query }
+    ensures lookup { UnlessNoMemory result
+        (AnswersLookup H.DnsHandle (call_by V.answers context.now request query handle.old handle.new) (reply_of result)) }
+{
+    let mut progress = Progress {
+        steps: Vec::new(context.alloc),
+        sends: 1,
+    };
+    let received = match send_request(context.alloc, handle, request, context.judge.moment) {
+        Ok(received) => received,
+        Err(error) => return Err(error),
+    };
+    match foreign_record(&query, &received.message) {
+        Some(record) => return Err(foreign_error(record)),
+        None => {}
+    }
+    let placed = placed_sets(context.alloc, 0, &received.message)?;
+    let judged = judge_sets(context, handle, &mut progress, &query, 0, placed)?;
+    let concluded = conclude(
+        context,
+        handle,
+        &mut progress,
+        &query,
+        0,
+        &received,
+        &judged,
+    )?;
+    answer(context, query, received, progress.steps, judged, concluded)
+}
+
+// The error that names a record of another class.
+fn foreign_error(record: &Record) -> NetError
+    ensures { (result ≡ NetError.NoMemory)
+        ⊎ (error_of result ≡ seen.ForeignClassRecord record.now.owner record.now.class record.now.rtype) }
+{
+    match record.name.try_clone() {
+        Ok(record_name) => NetError::ForeignClassRecord {
+            record_name,
+            record_class: record.dns_class,
+            record_type: record.record_type,
+        },
+        Err(_) => NetError::NoMemory,
+    }
+}
+
+// The answer that the judged sets of a message make, behind the steps of the asks for them.
+fn answer<V>(
+    context: &LookupContext<'_, V>,
+    query: Query,
+    received: ReceivedMessage,
+    steps: Vec<Asked>,
+    judged: Judgement,
+    concluded: Concluded,
+) -> Result<DnsResponse, NetError>
+    ensures { UnlessNoMemory result (reply_of result ≡ judged_answer context.now.judge.moment query (record {
+      message = received.message;
+      empty = received.empty;
+      steps = steps.items;
+      sets = judged.sets.items;
+      entries = judged.entries.items;
+      outcome = outcome_value concluded.outcome;
+      excuse = concluded.excuse.items;
+    })) }
+{
+    let alloc = context.alloc;
+    let now = context.judge.moment;
+    let Judgement { sets, entries } = judged;
+    let Concluded { outcome, excuse } = concluded;
+    match outcome {
+        Outcome::Unjudged => Err(NetError::Message(Notice::NotJudgedYet)),
+        Outcome::Searched => Err(NetError::Message(Notice::NotJudgedYet)),
+        Outcome::Accepted(denial) => {
+            let ending = Ending::Answered(denial);
+            let trail = trail_of(query, &received, steps, entries, ending, excuse)?;
+            Ok(finished(alloc, now, sets, received.message, denial, trail)?)
+        }
+        Outcome::Denied(proof) => {
+            let asked = query.try_clone()?;
+            let ending = Ending::Denied(proof);
+            let trail = trail_of(query, &received, steps, entries, ending, excuse)?;
+            let response = finished(alloc, now, sets, received.message, Denial::None, trail)?;
+            denied(alloc, asked, response, proof)
+        }
+    }
+}
+
+// The error that an answer is denied, with the answer inside.
+fn denied(
+    alloc: Global,
+    query: Query,
+    response: DnsResponse,
+    proof: Proof,
+) -> Result<DnsResponse, NetError>
+    ensures { UnlessNoMemory result (reply_of result ≡ Err (seen.Dns (seen.Nsec query response proof))) }
+{
+    let response = Box::new(alloc, response)?;
+    Err(NetError::Dns(DnsError::Nsec {
+        query,
+        response,
+        proof,
+    }))
+}
+
+// The steps of the asks, and then the step that asked for the query.
+fn trail_of(
+    query: Query,
+    received: &ReceivedMessage,
+    steps: Vec<Asked>,
+    entries: Vec<JudgedSet>,
+    ending: Ending,
+    excuse: Vec<AskRef>,
+) -> Result<Trail, NoMemory>
+    ensures { IfOk result (λ t. t ≡ steps.items
+        ++ top_of query (told_by received.now.message) received.now.empty entries.items (ending_value ending) excuse.items ∷ []) }
+{
+    let mut steps = steps;
+    let told = told_of(&received.message, received.empty)?;
+    steps.push(Asked {
+        depth: 0,
+        judged: true,
+        query,
+        reply: Reply::Told(told),
+        sets: entries,
+        ending,
+        excuse,
+    })?;
+    Ok(Trail { steps })
+}
+
+// What a message tells, in memory of its own, since the answer holds the message.
+fn told_of(message: &Message, empty: bool) -> Result<Told, NoMemory>
+    ensures { IfOk result (λ t. t ≡ (told_by message.now, empty)) }
+{
+    Ok(Told {
+        code: message.response_code,
+        empty,
+        answers: clone_records(&message.answers)?,
+        authorities: clone_records(&message.authorities)?,
+        additionals: clone_records(&message.additionals)?,
+    })
+}

@@ -1,0 +1,156 @@
+//! The plain asks by which the zone of a name is searched: each name from it up to the root is asked for NS records, until one
+//! has them (RFC 4035, 4.3 and 5.2).
+
+ghost use Rattle.std.specs.Prelude.{◌==◌, ◌≡◌, ◌≤◌, ◌∷◌, [], not, IfOk, length};
+ghost use Rattle.std.specs.List.{list_any};
+ghost use Rattle.dns_model.specs.SoundAnswers.{told_by};
+ghost use Rattle.dns_model.specs.Trails.{Records};
+ghost use Rattle.dns_model.specs.Records.{Question};
+ghost use Rattle.dns_judgement.specs.Asking.{most_sends};
+ghost use Rattle.dns_judgement.specs.Derivation.{sight_of};
+ghost use Rattle.dns_judgement.specs.Unsigned.{has_ns as shows_ns};
+ghost use Rattle.dns_lookup.specs.Walking.{grounds_at, sight_value, IsCounted, IsSeen, IsWay, HasSent, Walk};
+
+use crate::context::{LookupContext, MOST_SENDS, Progress};
+use crate::finished::seen;
+use crate::receiving::{ReceivedMessage, receive};
+use crate::steps::records_of;
+use dns_message::Message;
+use dns_name::{Name, NoMemory};
+use dns_net::{AskRef, DnsHandle, Ending, Reply, Verifier};
+use dns_record::{DNSClass, Query};
+use dns_trust::{is_ns_of, ns_query};
+
+/// Where the plain asks of a search lead.
+#[derive(Drop)]
+pub(crate) struct Way {
+    /// The first name that has NS records; none where the search ends without one.
+    pub(crate) zone: Option<Name>,
+    pub(crate) asked: Vec<AskRef>,
+}
+
+/// What a plain ask for the NS records of a name comes to.
+#[derive(Clone, Copy, Debug, PartialEq, Eq)]
+pub(crate) enum Sight {
+    /// They are there.
+    Cut,
+    /// They aren't, so the name above is asked for them.
+    Onward,
+    /// The ask met a fault or was refused.
+    Unseen,
+}
+
+// A plain ask, and what it came to.
+#[derive(Drop)]
+struct Glimpse {
+    ask: AskRef,
+    sight: Sight,
+}
+
+/// Asks from a name on up to the root for NS records, until they are seen or nothing is. Each ask is as deep as its step.
+pub(crate) fn find_zone<H: DnsHandle, V: Verifier>(
+    context: &LookupContext<'_, V>,
+    handle: &mut H,
+    progress: &mut Progress,
+    class: DNSClass,
+    start: &Name,
+    depth: u16,
+) -> Result<Way, NoMemory>
+    requires few { progress.old.sends ≤ most_sends }
+    requires counted { length progress.old.steps.items ≤ progress.old.sends }
+    ensures counted { IsCounted progress.old progress.new }
+    ensures sent { HasSent H.DnsHandle context.now handle.old progress.old handle.new progress.new }
+    ensures asks { IfOk result (λ w. Walk H.DnsHandle V.answers context.now
+        handle.old progress.old handle.new progress.new w.asked.items) }
+    ensures way { IfOk result (λ w. (query : Question) → IsWay
+        (grounds_at V.answers context.now progress.new query depth) class.0 start.now w.asked.items w.zone) }
+{
+    let mut asked = Vec::new(context.alloc);
+    let mut name = start.try_clone()?;
+    'names: while !name.is_root() {
+        let query = ns_query(&name, class)?;
+        let Glimpse { ask, sight } = see(context, handle, progress, query, depth)?;
+        asked.push(ask)?;
+        match sight {
+            Sight::Cut => {
+                return Ok(Way {
+                    zone: Some(name),
+                    asked,
+                });
+            }
+            Sight::Onward => name = name.base_name()?,
+            Sight::Unseen => return Ok(Way { zone: None, asked }),
+        }
+    }
+    Ok(Way { zone: None, asked })
+}
+
+// Asks plainly for the NS records of a name, and adds the step that this makes to the trail.
+fn see<H: DnsHandle, V: Verifier>(
+    context: &LookupContext<'_, V>,
+    handle: &mut H,
+    progress: &mut Progress,
+    query: Query,
+    depth: u16,
+) -> Result<Glimpse, NoMemory>
+    requires few { progress.old.sends ≤ most_sends }
+    requires counted { length progress.old.steps.items ≤ progress.old.sends }
+    ensures counted { IsCounted progress.old progress.new }
+    ensures sent { HasSent H.DnsHandle context.now handle.old progress.old handle.new progress.new }
+    ensures asks { IfOk result (λ g. Walk H.DnsHandle V.answers context.now
+        handle.old progress.old handle.new progress.new (g.ask ∷ [])) }
+    ensures seen { IfOk result (λ g. IsSeen progress.new.steps.items depth query g.ask (sight_value g.sight)) }
+{
+    if progress.sends >= MOST_SENDS {
+        return Ok(unseen(AskRef::TooMany));
+    }
+    let Some(received) = receive(context, handle, progress, &query, false)? else {
+        let fault = Reply::Fault;
+        let failed = seen(context.alloc, progress, query, depth, fault, Ending::Failed)?;
+        return Ok(unseen(failed));
+    };
+    let sight = sight_in(&query.name, &received);
+    let ask = seen(
+        context.alloc,
+        progress,
+        query,
+        depth,
+        records_of(received),
+        Ending::Seen,
+    )?;
+    Ok(Glimpse { ask, sight })
+}
+
+// An ask that saw nothing.
+fn unseen(ask: AskRef) -> Glimpse
+    ensures ask { result.ask ≡ ask }
+    ensures sight { result.sight ≡ Sight.Unseen }
+{
+    Glimpse {
+        ask,
+        sight: Sight::Unseen,
+    }
+}
+
+// A reply that says that there are no records leads on, whatever records come with it.
+fn sight_in(name: &Name, received: &ReceivedMessage) -> Sight
+    ensures { sight_value result ≡ sight_of name.now (Records (told_by received.now.message) received.now.empty) }
+{
+    if !received.empty && has_ns(name, &received.message) {
+        Sight::Cut
+    } else {
+        Sight::Onward
+    }
+}
+
+// Some record of the message is an NS record of the name, whatever its section and its class.
+fn has_ns(name: &Name, message: &Message) -> bool
+    ensures { result ≡ shows_ns name.now (told_by message.now) }
+{
+    message
+        .answers
+        .iter()
+        .chain(message.authorities.iter())
+        .chain(message.additionals.iter())
+        .any(|found| is_ns_of(name, found))
+}

@@ -1,0 +1,137 @@
+ghost use Rattle.std.specs.Prelude.{◌≡◌, ◌≤◌, ◌<◌, ◌+◌, IfOk, length};
+ghost use Rattle.std.specs.Option.{option_map};
+ghost use Rattle.dns_model.specs.SoundAnswers.{told_by};
+ghost use Rattle.dns_model.specs.Trails.{Records};
+ghost use Rattle.dns_judgement.specs.Asking.{most_sends};
+ghost use Rattle.dns_judgement.specs.Derivation.{ending_by};
+ghost use Rattle.dns_judgement.specs.Outcome.{foreign_record as foreign_in};
+ghost use Rattle.dns_evidence.specs.Trail.{heard_value, ending_value};
+ghost use Rattle.dns_sets.specs.Outcome.{outcome_value};
+ghost use Rattle.dns_lookup.specs.Walking.{IsAdded, entry_of, judged_step, plain_step, foreign_ending};
+
+use crate::receiving::ReceivedMessage;
+use dns_message::Message;
+use dns_name::NoMemory;
+use dns_net::{AskRef, Asked, Ending, JudgedSet, MarkOrigin, Reply, Told};
+use dns_record::{Query, Record};
+use dns_sets::{MarkedSet, Outcome, foreign_record};
+use std::alloc::Global;
+
+/// Adds a step that has ended, and names it.
+pub(crate) fn add_step(steps: &mut Vec<Asked>, step: Asked) -> Result<AskRef, NoMemory>
+    requires few { length steps.old.items < most_sends }
+    ensures added { IfOk result (λ ask. IsAdded steps.old.items steps.new.items step ask) }
+    ensures one { length steps.new.items ≤ length steps.old.items + 1 }
+{
+    let number = steps.len() as u32;
+    steps.push(step)?;
+    Ok(AskRef::Step(number))
+}
+
+/// A step of a query whose reply is heard and whose sets are judged, by its ending and the asks on which that stands.
+pub(crate) fn ended(
+    query: Query,
+    depth: u16,
+    reply: Reply,
+    sets: Vec<JudgedSet>,
+    ending: Ending,
+    excuse: Vec<AskRef>,
+) -> Asked
+    ensures { result ≡ judged_step depth query (heard_value reply) sets.items (ending_value ending) excuse.items }
+{
+    Asked {
+        depth,
+        judged: true,
+        query,
+        reply,
+        sets,
+        ending,
+        excuse,
+    }
+}
+
+/// A step of a query whose reply is only seen, by its ending.
+pub(crate) fn only_seen(
+    alloc: Global,
+    query: Query,
+    depth: u16,
+    reply: Reply,
+    ending: Ending,
+) -> Asked
+    ensures { result ≡ plain_step depth query (heard_value reply) (ending_value ending) }
+{
+    Asked {
+        depth,
+        judged: false,
+        query,
+        reply,
+        sets: Vec::new(alloc),
+        ending,
+        excuse: Vec::new(alloc),
+    }
+}
+
+/// The records of a message, and whether the reply said that there are none, as a step keeps them.
+pub(crate) fn records_of(received: ReceivedMessage) -> Reply
+    ensures { heard_value result ≡ Records (told_by received.message) received.empty }
+{
+    let ReceivedMessage { message, empty } = received;
+    Reply::Told(Told {
+        code: message.response_code,
+        empty,
+        answers: message.answers,
+        authorities: message.authorities,
+        additionals: message.additionals,
+    })
+}
+
+/// The entry of a set that the rules judged by these asks.
+pub(crate) fn entry_for(set: &MarkedSet, asked: Vec<AskRef>) -> Result<JudgedSet, NoMemory>
+    ensures { IfOk result (λ entry. entry ≡ entry_of set.now asked.items) }
+{
+    let owner = set.set.name.try_clone()?;
+    Ok(JudgedSet {
+        section: set.section,
+        owner,
+        record_type: set.set.record_type,
+        mark: set.mark,
+        origin: MarkOrigin::Table,
+        sig: set.sig,
+        asked,
+    })
+}
+
+/// The ending of a step by what its judged sets come to. What can't be judged yet fails; no step ends with a search.
+pub(crate) fn ending_of(outcome: Outcome) -> Ending
+    ensures { ending_value result ≡ ending_by (outcome_value outcome) }
+{
+    match outcome {
+        Outcome::Unjudged => Ending::Failed,
+        Outcome::Accepted(denial) => Ending::Answered(denial),
+        Outcome::Searched => Ending::Failed,
+        Outcome::Denied(proof) => Ending::Denied(proof),
+    }
+}
+
+/// The ending of a step with a record of another class than its query.
+pub(crate) fn foreign_of(query: &Query, message: &Message) -> Result<Option<Ending>, NoMemory>
+    ensures { IfOk result (λ e. option_map ending_value e
+        ≡ option_map foreign_ending (foreign_in query.now (told_by message.now))) }
+{
+    match foreign_record(query, message) {
+        Some(record) => Ok(Some(foreign_by(record)?)),
+        None => Ok(None),
+    }
+}
+
+// The ending that names a record of another class.
+fn foreign_by(record: &Record) -> Result<Ending, NoMemory>
+    ensures { IfOk result (λ e. ending_value e ≡ foreign_ending record.now) }
+{
+    let owner = record.name.try_clone()?;
+    Ok(Ending::Foreign {
+        owner,
+        class: record.dns_class,
+        record_type: record.record_type,
+    })
+}

@@ -1,0 +1,366 @@
+ghost use Rattle.std.specs.Prelude.{◌==◌, ◌≡◌, ◌≤◌, ◌∷◌, [], true, false, IfOk, length, map};
+ghost use Rattle.dns_model.specs.Records.{Question};
+ghost use Rattle.dns_model.specs.SoundAnswers.{told_by};
+ghost use Rattle.dns_model.specs.Types.{type_dnskey};
+ghost use Rattle.dns_judgement.specs.Asking.{most_sends};
+ghost use Rattle.dns_judgement.specs.Chained.{bare};
+ghost use Rattle.dns_judgement.specs.DerivationParts.{asks_of_sets};
+ghost use Rattle.dns_judgement.specs.Unsigned.{is_searched as needs_search};
+ghost use Rattle.dns_sets.specs.Outcome.{outcome_value};
+ghost use Rattle.dns_anchors.specs.Judge.{judge_of};
+ghost use Rattle.dns_trust.specs.Verdicts.{verdict_value, listed};
+ghost use Rattle.dns_lookup.specs.Walking.{grounds_at, IsCounted, HasSent, Walk, IsJudgement, IsJudgedSet, AreTried, IsTried, IsAnswer, IsSearched, IsConcluded, asks_in};
+
+use crate::context::{LookupContext, MOST_SENDS, Progress};
+use crate::finished::{Finished, answered, faulted, refused, unanswered};
+use crate::judging::{
+    Concluded, Judgement, OneSet, Searched, Tried, Verdicts, add_ask, class_of, is_key_set, set_of,
+    untried, with_entry,
+};
+use crate::receiving::{ReceivedMessage, receive};
+use crate::search::{Way, find_zone};
+use crate::steps::{foreign_of, records_of};
+use dns_name::{Name, NoMemory};
+use dns_net::{AskRef, DnsHandle, Verifier};
+use dns_rdata::Rrsig;
+use dns_record::{DNSClass, Proof, Query, Record, RecordSet};
+use dns_sets::{Outcome, PlacedSet, outcome_by_zone, outcome_of, placed_sets};
+use dns_trust::{
+    KeysStep, ask_of, ds_ask_of, ds_query, first_signatures, is_searched, is_skipped, judged_by,
+    judged_by_ds, judged_keys, question_start, set_start, unsigned_by, verdict_of, zone_mark,
+};
+
+/// Judges the sets of a step at a depth, in order.
+#[cycle(walk)]
+pub(crate) fn judge_sets<H: DnsHandle, V: Verifier>(
+    context: &LookupContext<'_, V>,
+    handle: &mut H,
+    progress: &mut Progress,
+    query: &Query,
+    depth: u16,
+    placed: Vec<PlacedSet>,
+) -> Result<Judgement, NoMemory>
+    requires few { progress.old.sends ≤ most_sends }
+    requires counted { length progress.old.steps.items ≤ progress.old.sends }
+    requires limit { context.now.limit ≤ 255 }
+    requires shallow { depth ≤ 255 }
+    ensures counted { IsCounted progress.old progress.new }
+    ensures sent { HasSent H.DnsHandle context.now handle.old progress.old handle.new progress.new }
+    ensures asks { IfOk result (λ v. Walk H.DnsHandle V.answers context.now
+        handle.old progress.old handle.new progress.new (asks_of_sets v.entries.items)) }
+    ensures judged { IfOk result (λ v. IsJudgement
+        (grounds_at V.answers context.now progress.new query.now depth) placed.items v.sets.items v.entries.items) }
+{
+    let mut sets = Vec::new(context.alloc);
+    let mut entries = Vec::new(context.alloc);
+    for next in placed {
+        let OneSet { set, entry } = judge_set(context, handle, progress, query, depth, next)?;
+        sets.push(set)?;
+        entries.push(entry)?;
+    }
+    Ok(Judgement { sets, entries })
+}
+
+// Judges one set: a key set by what makes its keys known, an unsigned one by its zone, another by its first signatures.
+#[cycle(walk)]
+fn judge_set<H: DnsHandle, V: Verifier>(
+    context: &LookupContext<'_, V>,
+    handle: &mut H,
+    progress: &mut Progress,
+    query: &Query,
+    depth: u16,
+    placed: PlacedSet,
+) -> Result<OneSet, NoMemory>
+    requires few { progress.old.sends ≤ most_sends }
+    requires counted { length progress.old.steps.items ≤ progress.old.sends }
+    requires limit { context.now.limit ≤ 255 }
+    requires shallow { depth ≤ 255 }
+    ensures counted { IsCounted progress.old progress.new }
+    ensures sent { HasSent H.DnsHandle context.now handle.old progress.old handle.new progress.new }
+    ensures asks { IfOk result (λ o. Walk H.DnsHandle V.answers context.now
+        handle.old progress.old handle.new progress.new o.entry.asked) }
+    ensures judged { IfOk result (λ o. IsJudgedSet
+        (grounds_at V.answers context.now progress.new query.now depth) placed o.set o.entry) }
+{
+    if is_key_set(&placed) {
+        let one = judge_keys(context, handle, progress, depth, placed)?;
+        return Ok(one);
+    }
+    if is_searched(set_of(&placed)) {
+        let one = judge_unsigned(context, handle, progress, depth, placed)?;
+        return Ok(one);
+    }
+    let signed = set_of(&placed);
+    let Verdicts { verdicts, asked } = judge_signatures(
+        context, handle, progress, query, depth, signed,
+    )?;
+    let set = judged_by(placed, verdicts)?;
+    let one = with_entry(set, asked)?;
+    Ok(one)
+}
+
+// Judges a key set: by the anchors, and where these don't decide, by the DS set of its owner, which it asks for.
+#[cycle(walk)]
+fn judge_keys<H: DnsHandle, V: Verifier>(
+    context: &LookupContext<'_, V>,
+    handle: &mut H,
+    progress: &mut Progress,
+    depth: u16,
+    placed: PlacedSet,
+) -> Result<OneSet, NoMemory>
+    requires few { progress.old.sends ≤ most_sends }
+    requires counted { length progress.old.steps.items ≤ progress.old.sends }
+    requires limit { context.now.limit ≤ 255 }
+    requires shallow { depth ≤ 255 }
+    requires keys { (placed.set.rtype == type_dnskey) ≡ true }
+    ensures counted { IsCounted progress.old progress.new }
+    ensures sent { HasSent H.DnsHandle context.now handle.old progress.old handle.new progress.new }
+    ensures asks { IfOk result (λ o. Walk H.DnsHandle V.answers context.now
+        handle.old progress.old handle.new progress.new o.entry.asked) }
+    ensures judged { IfOk result (λ o. (query : Question) → IsJudgedSet
+        (grounds_at V.answers context.now progress.new query depth) placed o.set o.entry) }
+{
+    let placed = match judged_keys(context.alloc, &context.judge, placed)? {
+        KeysStep::Done(set) => {
+            let one = with_entry(set, Vec::new(context.alloc))?;
+            return Ok(one);
+        }
+        KeysStep::NeedsDs(placed) => placed,
+    };
+    let ds_query = ds_ask_of(set_of(&placed))?;
+    let Finished { ask, answer } = ask(context, handle, progress, ds_query, depth + 1)?;
+    let set = judged_by_ds(context.alloc, &context.judge, placed, &answer)?;
+    let asked = vec![in context.alloc; ask]?;
+    let one = with_entry(set, asked)?;
+    Ok(one)
+}
+
+// Judges an unsigned set by its zone, which it searches.
+#[cycle(walk)]
+fn judge_unsigned<H: DnsHandle, V: Verifier>(
+    context: &LookupContext<'_, V>,
+    handle: &mut H,
+    progress: &mut Progress,
+    depth: u16,
+    placed: PlacedSet,
+) -> Result<OneSet, NoMemory>
+    requires few { progress.old.sends ≤ most_sends }
+    requires counted { length progress.old.steps.items ≤ progress.old.sends }
+    requires limit { context.now.limit ≤ 255 }
+    requires shallow { depth ≤ 255 }
+    requires others { (placed.set.rtype == type_dnskey) ≡ false }
+    requires unsigned { needs_search placed.set ≡ true }
+    ensures counted { IsCounted progress.old progress.new }
+    ensures sent { HasSent H.DnsHandle context.now handle.old progress.old handle.new progress.new }
+    ensures asks { IfOk result (λ o. Walk H.DnsHandle V.answers context.now
+        handle.old progress.old handle.new progress.new o.entry.asked) }
+    ensures judged { IfOk result (λ o. (query : Question) → IsJudgedSet
+        (grounds_at V.answers context.now progress.new query depth) placed o.set o.entry) }
+{
+    let class = class_of(&placed);
+    let start = set_start(set_of(&placed))?;
+    let Searched { mark, asked } = search_zone(context, handle, progress, class, &start, depth)?;
+    let one = with_entry(unsigned_by(context.alloc, placed, mark), asked)?;
+    Ok(one)
+}
+
+// Searches the zone of a name, and finds the mark that it leaves to what is unsigned in it (RFC 4035, 4.3 and 5.2).
+#[cycle(walk)]
+fn search_zone<H: DnsHandle, V: Verifier>(
+    context: &LookupContext<'_, V>,
+    handle: &mut H,
+    progress: &mut Progress,
+    class: DNSClass,
+    start: &Name,
+    depth: u16,
+) -> Result<Searched, NoMemory>
+    requires few { progress.old.sends ≤ most_sends }
+    requires counted { length progress.old.steps.items ≤ progress.old.sends }
+    requires limit { context.now.limit ≤ 255 }
+    requires shallow { depth ≤ 255 }
+    ensures counted { IsCounted progress.old progress.new }
+    ensures sent { HasSent H.DnsHandle context.now handle.old progress.old handle.new progress.new }
+    ensures asks { IfOk result (λ s. Walk H.DnsHandle V.answers context.now
+        handle.old progress.old handle.new progress.new s.asked.items) }
+    ensures searched { IfOk result (λ s. (query : Question) → IsSearched
+        (grounds_at V.answers context.now progress.new query depth) class.0 start.now s.asked.items s.mark) }
+{
+    let Way { zone, asked } = find_zone(context, handle, progress, class, start, depth)?;
+    let Some(zone) = zone else {
+        return Ok(Searched {
+            mark: Proof::Bogus,
+            asked,
+        });
+    };
+    let mut asked = asked;
+    let question = ds_query(zone.try_clone()?, class);
+    let Finished { ask, answer } = ask(context, handle, progress, question, depth + 1)?;
+    asked.push(ask)?;
+    let mark = zone_mark(context.judge.verifier, class, &zone, &answer);
+    Ok(Searched { mark, asked })
+}
+
+/// What the judged sets of a step come to; where they leave it open, the zone of its query is searched.
+#[cycle(walk)]
+pub(crate) fn conclude<H: DnsHandle, V: Verifier>(
+    context: &LookupContext<'_, V>,
+    handle: &mut H,
+    progress: &mut Progress,
+    query: &Query,
+    depth: u16,
+    received: &ReceivedMessage,
+    judged: &Judgement,
+) -> Result<Concluded, NoMemory>
+    requires few { progress.old.sends ≤ most_sends }
+    requires counted { length progress.old.steps.items ≤ progress.old.sends }
+    requires limit { context.now.limit ≤ 255 }
+    requires shallow { depth ≤ 255 }
+    ensures counted { IsCounted progress.old progress.new }
+    ensures sent { HasSent H.DnsHandle context.now handle.old progress.old handle.new progress.new }
+    ensures asks { IfOk result (λ c. Walk H.DnsHandle V.answers context.now
+        handle.old progress.old handle.new progress.new c.excuse.items) }
+    ensures concluded { IfOk result (λ c. IsConcluded (grounds_at V.answers context.now progress.new query.now depth)
+        (told_by received.now.message) (bare judged.now.sets.items) (outcome_value c.outcome) c.excuse.items) }
+{
+    let outcome = outcome_of(context.alloc, query, &received.message, &judged.sets)?;
+    match outcome {
+        Outcome::Searched => {
+            let start = question_start(query)?;
+            let class = query.query_class;
+            let Searched { mark, asked } = search_zone(
+                context, handle, progress, class, &start, depth,
+            )?;
+            Ok(Concluded {
+                outcome: outcome_by_zone(query, &received.message, mark),
+                excuse: asked,
+            })
+        }
+        outcome => Ok(Concluded {
+            outcome,
+            excuse: Vec::new(context.alloc),
+        }),
+    }
+}
+
+// The verdicts of a set's first signatures, up to the first that proves the set.
+#[cycle(walk)]
+fn judge_signatures<H: DnsHandle, V: Verifier>(
+    context: &LookupContext<'_, V>,
+    handle: &mut H,
+    progress: &mut Progress,
+    query: &Query,
+    depth: u16,
+    set: &RecordSet,
+) -> Result<Verdicts, NoMemory>
+    requires few { progress.old.sends ≤ most_sends }
+    requires counted { length progress.old.steps.items ≤ progress.old.sends }
+    requires limit { context.now.limit ≤ 255 }
+    requires shallow { depth ≤ 255 }
+    ensures counted { IsCounted progress.old progress.new }
+    ensures sent { HasSent H.DnsHandle context.now handle.old progress.old handle.new progress.new }
+    ensures asks { IfOk result (λ v. Walk H.DnsHandle V.answers context.now
+        handle.old progress.old handle.new progress.new v.asked.items) }
+    ensures tried { IfOk result (λ v. AreTried
+        (grounds_at V.answers context.now progress.new query.now depth) set.now
+        v.asked.items (map verdict_value v.verdicts.items)) }
+{
+    let mut verdicts = Vec::new(context.alloc);
+    let mut asked = Vec::new(context.alloc);
+    let tried = first_signatures(set);
+    for sig in tried {
+        let Tried { verdict, ask } = judge_signature(
+            context, handle, progress, query, depth, set, sig,
+        )?;
+        add_ask(&mut asked, ask)?;
+        let proved = verdict.is_proved();
+        verdicts.push(verdict)?;
+        if proved {
+            return Ok(Verdicts { verdicts, asked });
+        }
+    }
+    Ok(Verdicts { verdicts, asked })
+}
+
+// The verdict of one signature, after the ask for its signer's keys.
+#[cycle(walk)]
+fn judge_signature<H: DnsHandle, V: Verifier>(
+    context: &LookupContext<'_, V>,
+    handle: &mut H,
+    progress: &mut Progress,
+    query: &Query,
+    depth: u16,
+    set: &RecordSet,
+    sig: &Record,
+) -> Result<Tried, NoMemory>
+    requires few { progress.old.sends ≤ most_sends }
+    requires counted { length progress.old.steps.items ≤ progress.old.sends }
+    requires limit { context.now.limit ≤ 255 }
+    requires shallow { depth ≤ 255 }
+    ensures counted { IsCounted progress.old progress.new }
+    ensures sent { HasSent H.DnsHandle context.now handle.old progress.old handle.new progress.new }
+    ensures asks { IfOk result (λ t. Walk H.DnsHandle V.answers context.now
+        handle.old progress.old handle.new progress.new (asks_in t.ask)) }
+    ensures tried { IfOk result (λ t. IsTried
+        (grounds_at V.answers context.now progress.new query.now depth) set.now sig.now t.ask (verdict_value t.verdict)) }
+{
+    let Some(read) = Rrsig::of(sig) else {
+        return Ok(untried());
+    };
+    let skipped = is_skipped(query, set, &read);
+    if skipped {
+        return Ok(untried());
+    }
+    let question = ask_of(context.alloc, set, &read)?;
+    let Finished { ask, answer } = ask(context, handle, progress, question, depth + 1)?;
+    let verdict = verdict_of(context.alloc, &context.judge, set, sig, &read, &answer)?;
+    Ok(Tried {
+        verdict,
+        ask: Some(ask),
+    })
+}
+
+// Asks a question at a depth, and adds the steps that this makes to the trail.
+#[cycle(walk)]
+fn ask<H: DnsHandle, V: Verifier>(
+    context: &LookupContext<'_, V>,
+    handle: &mut H,
+    progress: &mut Progress,
+    query: Query,
+    depth: u16,
+) -> Result<Finished, NoMemory>
+    requires few { progress.old.sends ≤ most_sends }
+    requires counted { length progress.old.steps.items ≤ progress.old.sends }
+    requires limit { context.now.limit ≤ 255 }
+    requires shallow { depth ≤ 256 }
+    ensures counted { IsCounted progress.old progress.new }
+    ensures sent { HasSent H.DnsHandle context.now handle.old progress.old handle.new progress.new }
+    ensures asks { IfOk result (λ f. Walk H.DnsHandle V.answers context.now
+        handle.old progress.old handle.new progress.new (f.ask ∷ [])) }
+    ensures answer { IfOk result (λ f. IsAnswer (judge_of V.answers context.now.judge) context.now.limit
+        progress.new.steps.items query depth f.ask (listed f.answer)) }
+{
+    if depth > context.limit {
+        return Ok(refused(AskRef::TooDeep));
+    }
+    if progress.sends >= MOST_SENDS {
+        return Ok(refused(AskRef::TooMany));
+    }
+    let Some(received) = receive(context, handle, progress, &query, true)? else {
+        let failed = faulted(context.alloc, progress, query, depth)?;
+        return Ok(failed);
+    };
+    let foreign = foreign_of(&query, &received.message)?;
+    match foreign {
+        Some(ending) => {
+            let reply = records_of(received);
+            let seen = unanswered(context.alloc, progress, query, depth, reply, ending)?;
+            return Ok(seen);
+        }
+        None => {}
+    }
+    let placed = placed_sets(context.alloc, depth, &received.message)?;
+    let judged = judge_sets(context, handle, progress, &query, depth, placed)?;
+    let concluded = conclude(context, handle, progress, &query, depth, &received, &judged)?;
+    let finished = answered(progress, query, depth, received, judged, concluded)?;
+    Ok(finished)
+}
