@@ -46,9 +46,6 @@ pub(crate) fn signed_holds<V: Verifier>(
         ≡ signed_link_holds (judge_of V.answers judge.now) earlier.now (link_value link.now)) }
 {
     match link {
-        Link::Anchored { .. } => Ok(false),
-        Link::Matched { .. } => Ok(false),
-        Link::KeySet { .. } => Ok(false),
         Link::Signed {
             owner,
             class,
@@ -74,6 +71,7 @@ pub(crate) fn signed_holds<V: Verifier>(
             }
             is_signed(alloc, judge, earlier, &set, &by)
         }
+        _ => Ok(false),
     }
 }
 
