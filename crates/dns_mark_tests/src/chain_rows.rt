@@ -1,11 +1,12 @@
 use crate::chain_values::*;
 use crate::parts::{Trust, Trusted, rdata, trust_in};
+use crate::rows::check_row;
 use dns_chain_check::check_chain;
-use dns_name::Name;
+use dns_name::{Name, NameError};
 use dns_net::{Chain, Link};
 use dns_record::{DNSClass, Rdata, RecordType, Section};
 use std::alloc::Global;
-use std::test::Fail;
+use std::process::Abort;
 
 #[derive(Clone, Copy)]
 pub(crate) enum Kind {
@@ -158,7 +159,7 @@ fn row_of(case: &Case, letter: u8) -> Option<&Row> {
     }
 }
 
-fn rdatas(alloc: Global, all: &[&[u8]]) -> Result<Vec<Rdata>, Fail> {
+fn rdatas(alloc: Global, all: &[&[u8]]) -> Result<Vec<Rdata>, NameError> {
     let mut rdatas = Vec::new(alloc);
     for bytes in all {
         rdatas.push(rdata(alloc, bytes)?)?;
@@ -166,7 +167,7 @@ fn rdatas(alloc: Global, all: &[&[u8]]) -> Result<Vec<Rdata>, Fail> {
     Ok(rdatas)
 }
 
-fn numbers(alloc: Global, all: &[u32]) -> Result<Vec<u32>, Fail> {
+fn numbers(alloc: Global, all: &[u32]) -> Result<Vec<u32>, NameError> {
     let mut numbers = Vec::new(alloc);
     for number in all {
         numbers.push(*number)?;
@@ -174,11 +175,11 @@ fn numbers(alloc: Global, all: &[u32]) -> Result<Vec<u32>, Fail> {
     Ok(numbers)
 }
 
-fn owner(alloc: Global, row: &Row) -> Result<Name, Fail> {
+fn owner(alloc: Global, row: &Row) -> Result<Name, NameError> {
     Ok(Name::from_ascii(alloc, row.owner)?)
 }
 
-fn anchored(alloc: Global, row: &Row) -> Result<Link, Fail> {
+fn anchored(alloc: Global, row: &Row) -> Result<Link, NameError> {
     Ok(Link::Anchored {
         owner: owner(alloc, row)?,
         class: DNSClass(row.class),
@@ -186,7 +187,7 @@ fn anchored(alloc: Global, row: &Row) -> Result<Link, Fail> {
     })
 }
 
-fn matched(alloc: Global, row: &Row) -> Result<Link, Fail> {
+fn matched(alloc: Global, row: &Row) -> Result<Link, NameError> {
     Ok(Link::Matched {
         owner: owner(alloc, row)?,
         class: DNSClass(row.class),
@@ -196,7 +197,7 @@ fn matched(alloc: Global, row: &Row) -> Result<Link, Fail> {
     })
 }
 
-fn key_set(alloc: Global, row: &Row) -> Result<Link, Fail> {
+fn key_set(alloc: Global, row: &Row) -> Result<Link, NameError> {
     Ok(Link::KeySet {
         owner: owner(alloc, row)?,
         class: DNSClass(row.class),
@@ -205,7 +206,7 @@ fn key_set(alloc: Global, row: &Row) -> Result<Link, Fail> {
     })
 }
 
-fn signed(alloc: Global, row: &Row) -> Result<Link, Fail> {
+fn signed(alloc: Global, row: &Row) -> Result<Link, NameError> {
     Ok(Link::Signed {
         owner: owner(alloc, row)?,
         class: DNSClass(row.class),
@@ -217,7 +218,7 @@ fn signed(alloc: Global, row: &Row) -> Result<Link, Fail> {
     })
 }
 
-fn link(alloc: Global, row: &Row) -> Result<Link, Fail> {
+fn link(alloc: Global, row: &Row) -> Result<Link, NameError> {
     match row.kind {
         Kind::Anchored => anchored(alloc, row),
         Kind::Matched => matched(alloc, row),
@@ -226,15 +227,21 @@ fn link(alloc: Global, row: &Row) -> Result<Link, Fail> {
     }
 }
 
-fn put_link(alloc: Global, links: &mut Vec<Link>, case: &Case, letter: u8) -> Result<(), Fail> {
+/// A letter without a row fails its test by this error.
+fn put_link(
+    alloc: Global,
+    links: &mut Vec<Link>,
+    case: &Case,
+    letter: u8,
+) -> Result<(), NameError> {
     let Some(row) = row_of(case, letter) else {
-        return Err("no row".into());
+        return Err(NameError::EmptyLabel);
     };
     links.push(link(alloc, row)?)?;
     Ok(())
 }
 
-fn links(alloc: Global, case: &Case) -> Result<Vec<Link>, Fail> {
+fn links(alloc: Global, case: &Case) -> Result<Vec<Link>, NameError> {
     let mut links = Vec::new(alloc);
     for letter in case.links.as_bytes() {
         put_link(alloc, &mut links, case, *letter)?;
@@ -243,7 +250,7 @@ fn links(alloc: Global, case: &Case) -> Result<Vec<Link>, Fail> {
 }
 
 /// What the call finds of a chain at a moment.
-fn is_justified_by(alloc: Global, trust: &Trust, case: &Case, now: u64) -> Result<bool, Fail> {
+fn is_justified_by(alloc: Global, trust: &Trust, case: &Case, now: u64) -> Result<bool, NameError> {
     let chain = Chain {
         section: Section::Answer,
         links: links(alloc, case)?,
@@ -252,12 +259,40 @@ fn is_justified_by(alloc: Global, trust: &Trust, case: &Case, now: u64) -> Resul
 }
 
 /// The same where these keys are trusted.
-pub(crate) fn is_justified(
+fn is_justified(
     alloc: Global,
     case: &Case,
     trusted: &[Trusted],
     now: u64,
-) -> Result<bool, Fail> {
+) -> Result<bool, NameError> {
     let trust = trust_in(alloc, trusted, ACCEPTED)?;
     is_justified_by(alloc, &trust, case, now)
+}
+
+/// What the call finds is what is wanted.
+pub(crate) fn is_judged(
+    alloc: Global,
+    case: &Case,
+    trusted: &[Trusted],
+    now: u64,
+    wanted: bool,
+) -> Result<bool, NameError> {
+    Ok(is_justified(alloc, case, trusted, now)? == wanted)
+}
+
+/// The call finds what is wanted of each case at second 1000.
+pub(crate) fn check_cases(
+    rt: &impl Abort,
+    alloc: Global,
+    cases: &[Case],
+    trusted: &[Trusted],
+    wanted: bool,
+) {
+    for case in cases {
+        check_row(
+            rt,
+            case.links,
+            is_judged(alloc, case, trusted, 1000, wanted),
+        );
+    }
 }

@@ -1,7 +1,9 @@
 use crate::chain_rows::*;
 use crate::chain_values::*;
 use crate::parts::ROOT;
-use std::test::Fail;
+use crate::rows::check_number;
+use dns_name::NameError;
+use std::alloc::Global;
 
 /// Chains that are right at second 1000.
 const RIGHT: &[Case] = &[
@@ -85,34 +87,24 @@ const RIGHT_BELOW: &[Case] = &[
     },
 ];
 
-#[test]
-fn right_chains_are_justified(rt: HostRuntime) -> Result<(), Fail> {
-    for case in RIGHT {
-        assert!(rt;
-            is_justified(rt.alloc(), case, ROOT, 1000)?,
-            "{}",
-            case.links
-        );
-    }
-    Ok(())
+fn right() -> &'static [Case] {
+    RIGHT
+}
+
+fn right_below() -> &'static [Case] {
+    RIGHT_BELOW
 }
 
 #[test]
-fn chains_of_key_sets_are_justified(rt: HostRuntime) -> Result<(), Fail> {
-    for case in RIGHT_BELOW {
-        assert!(rt;
-            is_justified(rt.alloc(), case, ROOT_AND_BELOW, 1000)?,
-            "{}",
-            case.links
-        );
-        // Two anchors fewer.
-        assert!(rt;
-            !is_justified(rt.alloc(), case, ROOT, 1000)?,
-            "{}",
-            case.links
-        );
-    }
-    Ok(())
+fn right_chains_are_justified(rt: HostRuntime) {
+    check_cases(&rt, rt.alloc(), right(), ROOT, true);
+}
+
+#[test]
+fn chains_of_key_sets_are_justified(rt: HostRuntime) {
+    check_cases(&rt, rt.alloc(), right_below(), ROOT_AND_BELOW, true);
+    // Two anchors fewer.
+    check_cases(&rt, rt.alloc(), right_below(), ROOT, false);
 }
 
 /// Seconds at which the whole chain is asked for, and whether it is justified then.
@@ -145,11 +137,13 @@ const WHOLE: Case = Case {
     others: &[],
 };
 
+fn is_judged_at(alloc: Global, row: &Moment) -> Result<bool, NameError> {
+    is_judged(alloc, &WHOLE, ROOT, row.now, row.is_justified)
+}
+
 #[test]
-fn each_moment_of_the_signatures_counts(rt: HostRuntime) -> Result<(), Fail> {
+fn each_moment_of_the_signatures_counts(rt: HostRuntime) {
     for row in MOMENTS {
-        let found = is_justified(rt.alloc(), &WHOLE, ROOT, row.now)?;
-        assert!(rt; found == row.is_justified, "at {}", row.now);
+        check_number(&rt, row.now, is_judged_at(rt.alloc(), row));
     }
-    Ok(())
 }

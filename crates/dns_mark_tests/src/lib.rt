@@ -12,6 +12,8 @@ mod chain_values;
 #[cfg(test)]
 mod parts;
 #[cfg(test)]
+mod rows;
+#[cfg(test)]
 mod trust_mark_tests;
 #[cfg(test)]
 mod trust_signature_tests;

@@ -1,8 +1,7 @@
-use dns_name::{Name, Octets};
+use dns_name::{Name, NameError, Octets};
 use dns_record::{DNSClass, Proof, Rdata, Record, RecordSet, RecordType};
 use dns_trust::{Judge, Listed, TrustAnchors};
 use std::alloc::Global;
-use std::test::Fail;
 
 /// The key of the root, of algorithm 13 and tag 44745, and the same with the revoke flag, whose tag is 44873.
 pub(crate) const KEY: &[u8] = b"\x01\x01\x03\x0d\xaa\xbb";
@@ -83,9 +82,10 @@ pub(crate) struct Trust {
     pub(crate) anchors: TrustAnchors,
 }
 
-pub(crate) fn rdata(alloc: Global, bytes: &[u8]) -> Result<Rdata, Fail> {
+/// A row that is too long fails its test by this error.
+pub(crate) fn rdata(alloc: Global, bytes: &[u8]) -> Result<Rdata, NameError> {
     if bytes.len() > 65535 {
-        return Err("too long".into());
+        return Err(NameError::LongName);
     }
     Ok(Rdata::from_slice(alloc, bytes)?)
 }
@@ -95,7 +95,7 @@ pub(crate) fn record(
     owner: &str,
     record_type: RecordType,
     bytes: &[u8],
-) -> Result<Record, Fail> {
+) -> Result<Record, NameError> {
     Ok(Record {
         name: Name::from_ascii(alloc, owner)?,
         record_type,
@@ -106,21 +106,21 @@ pub(crate) fn record(
     })
 }
 
-pub(crate) fn root_signature(alloc: Global, bytes: &[u8]) -> Result<Record, Fail> {
+pub(crate) fn root_signature(alloc: Global, bytes: &[u8]) -> Result<Record, NameError> {
     record(alloc, ".", RecordType::RRSIG, bytes)
 }
 
-pub(crate) fn root_key(alloc: Global, bytes: &[u8]) -> Result<Record, Fail> {
+pub(crate) fn root_key(alloc: Global, bytes: &[u8]) -> Result<Record, NameError> {
     record(alloc, ".", RecordType::DNSKEY, bytes)
 }
 
 /// The root's NS set, `a.` its server.
-pub(crate) fn servers(alloc: Global) -> Result<RecordSet, Fail> {
+pub(crate) fn servers(alloc: Global) -> Result<RecordSet, NameError> {
     let first = record(alloc, ".", RecordType::NS, b"\x01a\0")?;
     Ok(RecordSet::of(alloc, first)?)
 }
 
-pub(crate) fn accept_all(listed: &mut Listed, rows: &[Accepted]) -> Result<(), Fail> {
+pub(crate) fn accept_all(listed: &mut Listed, rows: &[Accepted]) -> Result<(), NameError> {
     for row in rows {
         listed.accept(13, row.key, row.bytes, row.signature)?;
     }
@@ -128,7 +128,7 @@ pub(crate) fn accept_all(listed: &mut Listed, rows: &[Accepted]) -> Result<(), F
 }
 
 /// A verifier that supports algorithm 13 and accepts these signatures.
-fn listing(alloc: Global, rows: &[Accepted]) -> Result<Listed, Fail> {
+fn listing(alloc: Global, rows: &[Accepted]) -> Result<Listed, NameError> {
     let mut listed = Listed::new(alloc);
     listed.support(13);
     accept_all(&mut listed, rows)?;
@@ -136,7 +136,7 @@ fn listing(alloc: Global, rows: &[Accepted]) -> Result<Listed, Fail> {
 }
 
 /// A verifier that accepts the signatures above.
-pub(crate) fn verifier(alloc: Global) -> Result<Listed, Fail> {
+pub(crate) fn verifier(alloc: Global) -> Result<Listed, NameError> {
     listing(alloc, ACCEPTED)
 }
 
@@ -145,13 +145,13 @@ pub(crate) fn insert(
     anchors: &mut TrustAnchors,
     alloc: Global,
     row: &Trusted,
-) -> Result<bool, Fail> {
+) -> Result<bool, NameError> {
     let owner = Name::from_ascii(alloc, row.owner)?;
     let key = Octets::from_slice(alloc, row.key)?;
     Ok(anchors.insert_with_name(owner, 13, key)?)
 }
 
-pub(crate) fn trusting(alloc: Global, rows: &[Trusted]) -> Result<TrustAnchors, Fail> {
+pub(crate) fn trusting(alloc: Global, rows: &[Trusted]) -> Result<TrustAnchors, NameError> {
     let mut anchors = TrustAnchors::empty(alloc);
     for row in rows {
         let _new = insert(&mut anchors, alloc, row)?;
@@ -164,7 +164,7 @@ pub(crate) fn trust_in(
     alloc: Global,
     keys: &[Trusted],
     signatures: &[Accepted],
-) -> Result<Trust, Fail> {
+) -> Result<Trust, NameError> {
     Ok(Trust {
         verifier: listing(alloc, signatures)?,
         anchors: trusting(alloc, keys)?,
@@ -172,7 +172,7 @@ pub(crate) fn trust_in(
 }
 
 /// Trust in these keys, and in what the signatures above show.
-pub(crate) fn trust_in_keys(alloc: Global, keys: &[Trusted]) -> Result<Trust, Fail> {
+pub(crate) fn trust_in_keys(alloc: Global, keys: &[Trusted]) -> Result<Trust, NameError> {
     trust_in(alloc, keys, ACCEPTED)
 }
 

@@ -1,13 +1,14 @@
 use crate::parts::*;
-use dns_record::{Proof, Record, RecordSet, RecordType, Section};
+use crate::rows::check_row;
+use dns_name::{Name, NameError};
+use dns_record::{DNSClass, Proof, Record, RecordSet, RecordType, Section};
 use dns_sets::{ChainedSet, PlacedSet};
 use dns_trust::*;
 use std::alloc::Global;
-use std::test::Fail;
 
 /// A key of the tag 44745 for each letter: K is the one that signed, O and H are others; A is K as another zone's, T is K in a
 /// record of type TXT.
-fn key_by_letter(alloc: Global, letter: u8) -> Result<Record, Fail> {
+fn key_by_letter(alloc: Global, letter: u8) -> Result<Record, NameError> {
     match letter {
         b'K' => root_key(alloc, KEY),
         b'O' => root_key(alloc, OTHER_KEY),
@@ -17,32 +18,29 @@ fn key_by_letter(alloc: Global, letter: u8) -> Result<Record, Fail> {
     }
 }
 
-fn put_keys(alloc: Global, records: &mut Vec<Record>, letters: &[u8]) -> Result<(), Fail> {
-    for letter in letters {
-        records.push(key_by_letter(alloc, *letter)?)?;
+fn keys_by_letters(alloc: Global, letters: &str) -> Result<Vec<Record>, NameError> {
+    let mut keys = Vec::new(alloc);
+    for letter in letters.as_bytes() {
+        keys.push(key_by_letter(alloc, *letter)?)?;
     }
-    Ok(())
-}
-
-/// An owner's key set without a key.
-fn bare_key_set(alloc: Global, owner: &str) -> Result<RecordSet, Fail> {
-    let first = record(alloc, owner, RecordType::DNSKEY, KEY)?;
-    let mut set = RecordSet::of(alloc, first)?;
-    set.records.clear();
-    Ok(set)
+    Ok(keys)
 }
 
 /// An owner's key set of these keys.
-pub(crate) fn key_set(alloc: Global, owner: &str, letters: &[u8]) -> Result<RecordSet, Fail> {
-    let mut set = bare_key_set(alloc, owner)?;
-    put_keys(alloc, &mut set.records, letters)?;
-    Ok(set)
+pub(crate) fn key_set(alloc: Global, owner: &str, letters: &str) -> Result<RecordSet, NameError> {
+    Ok(RecordSet {
+        name: Name::from_ascii(alloc, owner)?,
+        record_type: RecordType::DNSKEY,
+        dns_class: DNSClass::IN,
+        records: keys_by_letters(alloc, letters)?,
+        rrsigs: Vec::new(alloc),
+    })
 }
 
 /// The root's key set, with whether the signature by K stands beside it and which keys are trusted; and its mark, the place of
 /// the signature that decided, and the number of links.
 struct Keys {
-    letters: &'static [u8],
+    letters: &'static str,
     is_signed: bool,
     trusted: &'static [Trusted],
     mark: Proof,
@@ -51,7 +49,7 @@ struct Keys {
 }
 
 const SECURE: Keys = Keys {
-    letters: b"K",
+    letters: "K",
     is_signed: true,
     trusted: ROOT,
     mark: Proof::Secure,
@@ -79,18 +77,18 @@ const KEYS: &[Keys] = &[
         ..SECURE
     },
     Keys {
-        letters: b"KO",
+        letters: "KO",
         is_signed: false,
         ..BOGUS
     },
     // the signature isn't over two keys
     Keys {
-        letters: b"KO",
+        letters: "KO",
         ..BOGUS
     },
 ];
 
-fn root_keys(alloc: Global, row: &Keys) -> Result<RecordSet, Fail> {
+fn root_keys(alloc: Global, row: &Keys) -> Result<RecordSet, NameError> {
     let mut set = key_set(alloc, ".", row.letters)?;
     if row.is_signed {
         set.rrsigs.push(root_signature(alloc, OVER_KEYS)?)?;
@@ -98,7 +96,11 @@ fn root_keys(alloc: Global, row: &Keys) -> Result<RecordSet, Fail> {
     Ok(set)
 }
 
-fn keys_step_by(alloc: Global, judge: &Judge<'_, Listed>, row: &Keys) -> Result<KeysStep, Fail> {
+fn keys_step_by(
+    alloc: Global,
+    judge: &Judge<'_, Listed>,
+    row: &Keys,
+) -> Result<KeysStep, NameError> {
     let placed = PlacedSet {
         section: Section::Answer,
         set: root_keys(alloc, row)?,
@@ -107,7 +109,7 @@ fn keys_step_by(alloc: Global, judge: &Judge<'_, Listed>, row: &Keys) -> Result<
 }
 
 /// How far the key set is judged at second 1500.
-fn keys_step(alloc: Global, row: &Keys) -> Result<KeysStep, Fail> {
+fn keys_step(alloc: Global, row: &Keys) -> Result<KeysStep, NameError> {
     let trust = trust_in_keys(alloc, row.trusted)?;
     keys_step_by(alloc, &judge_at(&trust, 1500), row)
 }
@@ -125,21 +127,15 @@ fn is_marked_as(step: &KeysStep, row: &Keys) -> bool {
     }
 }
 
-fn is_marked(alloc: Global, row: &Keys) -> Result<bool, Fail> {
+fn is_marked(alloc: Global, row: &Keys) -> Result<bool, NameError> {
     Ok(is_marked_as(&keys_step(alloc, row)?, row))
 }
 
 #[test]
-fn key_sets_are_marked_by_anchors(rt: HostRuntime) -> Result<(), Fail> {
+fn key_sets_are_marked_by_anchors(rt: HostRuntime) {
     for row in KEYS {
-        assert!(rt;
-            is_marked(rt.alloc(), row)?,
-            "{} keys, mark {:?}",
-            row.letters.len(),
-            row.mark
-        );
+        check_row(&rt, row.letters, is_marked(rt.alloc(), row));
     }
-    Ok(())
 }
 
 fn mark_of(step: &KeysStep) -> Option<Proof> {
@@ -151,26 +147,25 @@ fn mark_of(step: &KeysStep) -> Option<Proof> {
 
 /// Unsigned sets whose second record is a key, or has its rdata and another type; the public key of K is trusted.
 const KEY_TWICE: &Keys = &Keys {
-    letters: b"KK",
+    letters: "KK",
     is_signed: false,
     ..SECURE
 };
 
 const KEY_BESIDE_TXT: &Keys = &Keys {
-    letters: b"KT",
+    letters: "KT",
     is_signed: false,
     ..SECURE
 };
 
-fn mark(alloc: Global, row: &Keys) -> Result<Option<Proof>, Fail> {
+fn mark(alloc: Global, row: &Keys) -> Result<Option<Proof>, NameError> {
     Ok(mark_of(&keys_step(alloc, row)?))
 }
 
 #[test]
-fn a_record_of_another_type_is_no_anchor(rt: HostRuntime) -> Result<(), Fail> {
-    assert!(rt; mark(rt.alloc(), KEY_TWICE)? == Some(Proof::Secure));
-    assert!(rt; mark(rt.alloc(), KEY_BESIDE_TXT)? == Some(Proof::Bogus));
-    Ok(())
+fn a_record_of_another_type_is_no_anchor(rt: HostRuntime) {
+    assert!(rt; mark(rt.alloc(), KEY_TWICE) == Ok(Some(Proof::Secure)));
+    assert!(rt; mark(rt.alloc(), KEY_BESIDE_TXT) == Ok(Some(Proof::Bogus)));
 }
 
 /// P proves, E excuses, another letter fails.
@@ -182,9 +177,9 @@ fn verdict_by_letter(alloc: Global, letter: u8) -> Verdict {
     }
 }
 
-fn verdicts(alloc: Global, letters: &[u8]) -> Result<Vec<Verdict>, Fail> {
+fn verdicts(alloc: Global, letters: &str) -> Result<Vec<Verdict>, NameError> {
     let mut verdicts = Vec::new(alloc);
-    for letter in letters {
+    for letter in letters.as_bytes() {
         verdicts.push(verdict_by_letter(alloc, *letter))?;
     }
     Ok(verdicts)
@@ -192,40 +187,40 @@ fn verdicts(alloc: Global, letters: &[u8]) -> Result<Vec<Verdict>, Fail> {
 
 /// The verdicts of a set's signatures, its mark and the place of the one that decided.
 struct Decided {
-    verdicts: &'static [u8],
+    verdicts: &'static str,
     mark: Proof,
     sig: Option<u32>,
 }
 
 const DECIDED: &[Decided] = &[
     Decided {
-        verdicts: b"FEPP",
+        verdicts: "FEPP",
         mark: Proof::Secure,
         sig: Some(2),
     },
     Decided {
-        verdicts: b"PE",
+        verdicts: "PE",
         mark: Proof::Secure,
         sig: Some(0),
     },
     Decided {
-        verdicts: b"FEE",
+        verdicts: "FEE",
         mark: Proof::Insecure,
         sig: Some(1),
     },
     Decided {
-        verdicts: b"FF",
+        verdicts: "FF",
         mark: Proof::Bogus,
         sig: None,
     },
     Decided {
-        verdicts: b"",
+        verdicts: "",
         mark: Proof::Bogus,
         sig: None,
     },
 ];
 
-fn judged_by_letters(alloc: Global, letters: &[u8]) -> Result<ChainedSet, Fail> {
+fn judged_by_letters(alloc: Global, letters: &str) -> Result<ChainedSet, NameError> {
     let placed = PlacedSet {
         section: Section::Answer,
         set: servers(alloc)?,
@@ -233,19 +228,13 @@ fn judged_by_letters(alloc: Global, letters: &[u8]) -> Result<ChainedSet, Fail> 
     Ok(judged_by(placed, verdicts(alloc, letters)?)?)
 }
 
-fn is_decided(alloc: Global, row: &Decided) -> Result<bool, Fail> {
+fn is_decided(alloc: Global, row: &Decided) -> Result<bool, NameError> {
     Ok(has_mark(&judged_by_letters(alloc, row.verdicts)?, row.mark, row.sig))
 }
 
 #[test]
-fn sets_are_marked_by_the_first_verdict(rt: HostRuntime) -> Result<(), Fail> {
+fn sets_are_marked_by_the_first_verdict(rt: HostRuntime) {
     for row in DECIDED {
-        assert!(rt;
-            is_decided(rt.alloc(), row)?,
-            "mark {:?}, {} signatures",
-            row.mark,
-            row.verdicts.len()
-        );
+        check_row(&rt, row.verdicts, is_decided(rt.alloc(), row));
     }
-    Ok(())
 }

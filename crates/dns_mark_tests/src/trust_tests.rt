@@ -1,9 +1,9 @@
 use crate::parts::*;
-use dns_name::Name;
+use crate::rows::{check_number, check_row};
+use dns_name::{Name, NameError};
 use dns_net::Verifier;
 use dns_trust::*;
 use std::alloc::Global;
-use std::test::Fail;
 
 /// A signature over the root's NS set under an algorithm, whether the algorithm is supported, and whether the signature is accepted.
 struct Asked {
@@ -40,12 +40,12 @@ fn answers(listed: &Listed, row: &Asked) -> bool {
     listed.supports(row.algorithm) == row.is_supported && accepts == row.is_accepted
 }
 
-fn is_as_listed(alloc: Global, row: &Asked) -> Result<bool, Fail> {
+fn is_as_listed(alloc: Global, row: &Asked) -> Result<bool, NameError> {
     Ok(answers(&verifier(alloc)?, row))
 }
 
 /// Algorithm 1 is neither supported nor accepted, also where it was listed.
-fn lists_algorithm_1(alloc: Global) -> Result<bool, Fail> {
+fn lists_algorithm_1(alloc: Global) -> Result<bool, NameError> {
     let mut listed = Listed::new(alloc);
     listed.support(1);
     listed.accept(1, PUBLIC_KEY, NS_BYTES, b"\xcc")?;
@@ -68,24 +68,27 @@ fn becomes_same(listed: &Listed, other: &mut Listed) -> bool {
     !before && listed.same(other) && other.same(listed)
 }
 
-fn is_same_in_another_order(alloc: Global, listed: &Listed) -> Result<bool, Fail> {
+fn is_same_in_another_order(alloc: Global, listed: &Listed) -> Result<bool, NameError> {
     let mut other = Listed::new(alloc);
     accept_all(&mut other, IN_ANOTHER_ORDER)?;
     Ok(becomes_same(listed, &mut other))
 }
 
+fn lists_no_algorithm_1(alloc: Global) -> Result<bool, NameError> {
+    Ok(!lists_algorithm_1(alloc)?)
+}
+
+fn is_same(alloc: Global) -> Result<bool, NameError> {
+    is_same_in_another_order(alloc, &verifier(alloc)?)
+}
+
 #[test]
-fn a_list_of_signatures_accepts_what_it_holds(rt: HostRuntime) -> Result<(), Fail> {
+fn a_list_of_signatures_accepts_what_it_holds(rt: HostRuntime) {
     for row in ASKED {
-        assert!(rt;
-            is_as_listed(rt.alloc(), row)?,
-            "algorithm {}",
-            row.algorithm
-        );
+        check_number(&rt, u64::from(row.algorithm), is_as_listed(rt.alloc(), row));
     }
-    assert!(rt; !lists_algorithm_1(rt.alloc())?);
-    assert!(rt; is_same_in_another_order(rt.alloc(), &verifier(rt.alloc())?)?);
-    Ok(())
+    check_row(&rt, "algorithm 1", lists_no_algorithm_1(rt.alloc()));
+    check_row(&rt, "another order", is_same(rt.alloc()));
 }
 
 const ORG: Trusted = Trusted {
@@ -150,37 +153,32 @@ const CONTAINED: &[Contained] = &[
     },
 ];
 
-fn is_new(alloc: Global, row: &Inserted) -> Result<bool, Fail> {
+fn is_inserted(alloc: Global, row: &Inserted) -> Result<bool, NameError> {
     let mut anchors = trusting(alloc, row.before)?;
-    insert(&mut anchors, alloc, &row.next)
+    Ok(insert(&mut anchors, alloc, &row.next)? == row.is_new)
 }
 
-fn contains(alloc: Global, anchors: &TrustAnchors, row: &Contained) -> Result<bool, Fail> {
+fn is_held(alloc: Global, anchors: &TrustAnchors, row: &Contained) -> Result<bool, NameError> {
     let owner = Name::from_ascii(alloc, row.owner)?;
-    Ok(anchors.contains_with_name(&owner, row.algorithm, PUBLIC_KEY))
+    Ok(anchors.contains_with_name(&owner, row.algorithm, PUBLIC_KEY) == row.is_contained)
 }
 
-fn are_contained(alloc: Global, row: &Contained) -> Result<bool, Fail> {
-    contains(alloc, &trusting(alloc, ALL)?, row)
+fn is_held_of_all(alloc: Global, row: &Contained) -> Result<bool, NameError> {
+    is_held(alloc, &trusting(alloc, ALL)?, row)
+}
+
+fn are_two(alloc: Global) -> Result<bool, NameError> {
+    Ok(trusting(alloc, ALL)?.len() == 2)
 }
 
 #[test]
-fn anchors_are_a_set(rt: HostRuntime) -> Result<(), Fail> {
+fn anchors_are_a_set(rt: HostRuntime) {
     assert!(rt; TrustAnchors::empty(rt.alloc()).is_empty());
     for row in INSERTED {
-        assert!(rt;
-            is_new(rt.alloc(), row)? == row.is_new,
-            "{}",
-            row.next.owner
-        );
+        check_row(&rt, row.next.owner, is_inserted(rt.alloc(), row));
     }
-    assert!(rt; trusting(rt.alloc(), ALL)?.len() == 2);
+    check_row(&rt, "all", are_two(rt.alloc()));
     for row in CONTAINED {
-        assert!(rt;
-            are_contained(rt.alloc(), row)? == row.is_contained,
-            "{}",
-            row.owner
-        );
+        check_row(&rt, row.owner, is_held_of_all(rt.alloc(), row));
     }
-    Ok(())
 }

@@ -1,28 +1,32 @@
 use crate::parts::*;
+use crate::rows::check_row;
 use crate::trust_mark_tests::key_set;
+use dns_name::{NameError, NoMemory};
 use dns_rdata::Rrsig;
 use dns_record::{Proof, Record, RecordSet, Section};
 use dns_sets::{ChainedSet, MarkedSet};
 use dns_trust::*;
 use std::alloc::Global;
-use std::test::Fail;
+use std::process::Abort;
 
 /// The judged key set that an ask for keys was answered with, a moment, and whether the signature over the root's NS set then
 /// does for its set what the test says.
 struct Answered {
+    shows: &'static str,
     owner: &'static str,
     section: Section,
     mark: Proof,
-    letters: &'static [u8],
+    letters: &'static str,
     now: u64,
     wanted: bool,
 }
 
 const ANSWERED: Answered = Answered {
+    shows: "a Secure key",
     owner: ".",
     section: Section::Answer,
     mark: Proof::Secure,
-    letters: b"K",
+    letters: "K",
     now: 1500,
     wanted: true,
 };
@@ -35,23 +39,28 @@ const UNWANTED: Answered = Answered {
 const PROVING: &[Answered] = &[
     ANSWERED,
     Answered {
+        shows: "the signature has expired",
         now: 2001,
         ..UNWANTED
     },
     Answered {
+        shows: "keys of another owner",
         owner: "a.",
-        letters: b"A",
+        letters: "A",
         ..UNWANTED
     },
     Answered {
+        shows: "keys of another section",
         section: Section::Additional,
         ..UNWANTED
     },
     Answered {
+        shows: "Bogus keys",
         mark: Proof::Bogus,
         ..UNWANTED
     },
     Answered {
+        shows: "Insecure keys",
         mark: Proof::Insecure,
         ..UNWANTED
     },
@@ -59,16 +68,19 @@ const PROVING: &[Answered] = &[
 
 const EXCUSING: &[Answered] = &[
     Answered {
+        shows: "Insecure keys",
         mark: Proof::Insecure,
         ..ANSWERED
     },
     Answered {
+        shows: "Bogus keys",
         mark: Proof::Bogus,
         ..UNWANTED
     },
     Answered {
+        shows: "Insecure keys of another owner",
         owner: "a.",
-        letters: b"A",
+        letters: "A",
         mark: Proof::Insecure,
         ..UNWANTED
     },
@@ -78,37 +90,43 @@ const EXCUSING: &[Answered] = &[
 const COUNTED: &[Answered] = &[
     ANSWERED,
     Answered {
-        letters: b"OK",
+        shows: "the second key",
+        letters: "OK",
         ..ANSWERED
     },
     Answered {
-        letters: b"OHK",
-        ..UNWANTED
-    },
-    // records that are no keys of the zone count for nothing
-    Answered {
-        letters: b"A",
+        shows: "the third key",
+        letters: "OHK",
         ..UNWANTED
     },
     Answered {
-        letters: b"T",
+        shows: "the key of another zone",
+        letters: "A",
         ..UNWANTED
     },
     Answered {
-        letters: b"AAOK",
+        shows: "a record of another type",
+        letters: "T",
+        ..UNWANTED
+    },
+    Answered {
+        shows: "keys of another zone count for nothing",
+        letters: "AAOK",
         ..ANSWERED
     },
     Answered {
-        letters: b"TTOK",
+        shows: "records of another type count for nothing",
+        letters: "TTOK",
         ..ANSWERED
     },
     Answered {
-        letters: b"ATOHK",
+        shows: "the third key behind both",
+        letters: "ATOHK",
         ..UNWANTED
     },
 ];
 
-fn answer_set(alloc: Global, row: &Answered) -> Result<ChainedSet, Fail> {
+fn answer_set(alloc: Global, row: &Answered) -> Result<ChainedSet, NameError> {
     let judged = MarkedSet {
         section: row.section,
         set: key_set(alloc, row.owner, row.letters)?,
@@ -119,7 +137,7 @@ fn answer_set(alloc: Global, row: &Answered) -> Result<ChainedSet, Fail> {
     Ok(ChainedSet { judged, chain })
 }
 
-fn answer(alloc: Global, row: &Answered) -> Result<Option<Vec<ChainedSet>>, Fail> {
+fn answer(alloc: Global, row: &Answered) -> Result<Option<Vec<ChainedSet>>, NameError> {
     let mut sets = Vec::new(alloc);
     sets.push(answer_set(alloc, row)?)?;
     Ok(Some(sets))
@@ -132,11 +150,11 @@ fn verdict_on(
     set: &RecordSet,
     sig: &Record,
     answer: &Option<Vec<ChainedSet>>,
-) -> Result<Verdict, Fail> {
-    let Some(read) = Rrsig::of(sig) else {
-        return Err("no signature".into());
-    };
-    Ok(verdict_of(alloc, judge, set, sig, &read, answer)?)
+) -> Result<Verdict, NoMemory> {
+    match Rrsig::of(sig) {
+        Some(read) => verdict_of(alloc, judge, set, sig, &read, answer),
+        None => Err(NoMemory),
+    }
 }
 
 /// What the signature over the root's NS set does for it.
@@ -144,66 +162,59 @@ fn verdict_by(
     alloc: Global,
     judge: &Judge<'_, Listed>,
     answer: &Option<Vec<ChainedSet>>,
-) -> Result<Verdict, Fail> {
+) -> Result<Verdict, NameError> {
     let set = servers(alloc)?;
     let sig = root_signature(alloc, OVER_NS)?;
-    verdict_on(alloc, judge, &set, &sig, answer)
+    Ok(verdict_on(alloc, judge, &set, &sig, answer)?)
 }
 
-fn verdict(alloc: Global, now: u64, answer: &Option<Vec<ChainedSet>>) -> Result<Verdict, Fail> {
+fn verdict(
+    alloc: Global,
+    now: u64,
+    answer: &Option<Vec<ChainedSet>>,
+) -> Result<Verdict, NameError> {
     let trust = trust_in_keys(alloc, ROOT)?;
     verdict_by(alloc, &judge_at(&trust, now), answer)
 }
 
-fn proves(alloc: Global, row: &Answered) -> Result<bool, Fail> {
+fn proves(alloc: Global, row: &Answered) -> Result<bool, NameError> {
     let answer = answer(alloc, row)?;
-    Ok(verdict(alloc, row.now, &answer)?.is_proved())
+    Ok(verdict(alloc, row.now, &answer)?.is_proved() == row.wanted)
 }
 
-fn excuses(alloc: Global, row: &Answered) -> Result<bool, Fail> {
+fn excuses(alloc: Global, row: &Answered) -> Result<bool, NameError> {
     let answer = answer(alloc, row)?;
-    Ok(verdict(alloc, row.now, &answer)?.is_excused())
+    Ok(verdict(alloc, row.now, &answer)?.is_excused() == row.wanted)
 }
 
-fn does_something(verdict: &Verdict) -> bool {
-    verdict.is_proved() || verdict.is_excused()
+fn does_nothing(verdict: &Verdict) -> bool {
+    !verdict.is_proved() && !verdict.is_excused()
 }
 
-#[test]
-fn signatures_prove_by_the_keys_of_their_signer(rt: HostRuntime) -> Result<(), Fail> {
-    for row in PROVING {
-        assert!(rt;
-            proves(rt.alloc(), row)? == row.wanted,
-            "{:?} at {}",
-            row.mark,
-            row.now
-        );
+fn fails_without_answer(alloc: Global) -> Result<bool, NameError> {
+    Ok(does_nothing(&verdict(alloc, 1500, &None)?))
+}
+
+fn check_proving(rt: &impl Abort, alloc: Global, rows: &[Answered]) {
+    for row in rows {
+        check_row(rt, row.shows, proves(alloc, row));
     }
-    assert!(rt; !does_something(&verdict(rt.alloc(), 1500, &None)?));
-    Ok(())
 }
 
 #[test]
-fn signatures_excuse_by_insecure_keys(rt: HostRuntime) -> Result<(), Fail> {
+fn signatures_prove_by_the_keys_of_their_signer(rt: HostRuntime) {
+    check_proving(&rt, rt.alloc(), PROVING);
+    check_row(&rt, "no answer", fails_without_answer(rt.alloc()));
+}
+
+#[test]
+fn signatures_excuse_by_insecure_keys(rt: HostRuntime) {
     for row in EXCUSING {
-        assert!(rt;
-            excuses(rt.alloc(), row)? == row.wanted,
-            "{:?} of {}",
-            row.mark,
-            row.owner
-        );
+        check_row(&rt, row.shows, excuses(rt.alloc(), row));
     }
-    Ok(())
 }
 
 #[test]
-fn the_first_two_keys_of_a_tag_count(rt: HostRuntime) -> Result<(), Fail> {
-    for row in COUNTED {
-        assert!(rt;
-            proves(rt.alloc(), row)? == row.wanted,
-            "{} keys",
-            row.letters.len()
-        );
-    }
-    Ok(())
+fn the_first_two_keys_of_a_tag_count(rt: HostRuntime) {
+    check_proving(&rt, rt.alloc(), COUNTED);
 }

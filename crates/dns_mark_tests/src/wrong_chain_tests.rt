@@ -1,7 +1,6 @@
 use crate::chain_rows::*;
 use crate::chain_values::*;
 use crate::parts::ROOT;
-use std::test::Fail;
 
 /// Chains with other numbers, or with links in other places.
 const WRONG_NUMBERS: &[Case] = &[
@@ -263,26 +262,20 @@ const WRONG_PARTS: &[Case] = &[
     },
 ];
 
-#[test]
-fn other_numbers_are_not_justified(rt: HostRuntime) -> Result<(), Fail> {
-    for case in WRONG_NUMBERS {
-        assert!(rt;
-            !is_justified(rt.alloc(), case, ROOT, 1000)?,
-            "{}",
-            case.links
-        );
-    }
-    Ok(())
+fn wrong_numbers() -> &'static [Case] {
+    WRONG_NUMBERS
+}
+
+fn wrong_parts() -> &'static [Case] {
+    WRONG_PARTS
 }
 
 #[test]
-fn other_parts_are_not_justified(rt: HostRuntime) -> Result<(), Fail> {
-    for case in WRONG_PARTS {
-        assert!(rt;
-            !is_justified(rt.alloc(), case, ROOT, 1000)?,
-            "{}",
-            case.links
-        );
-    }
-    Ok(())
+fn other_numbers_are_not_justified(rt: HostRuntime) {
+    check_cases(&rt, rt.alloc(), wrong_numbers(), ROOT, false);
+}
+
+#[test]
+fn other_parts_are_not_justified(rt: HostRuntime) {
+    check_cases(&rt, rt.alloc(), wrong_parts(), ROOT, false);
 }
