@@ -1,9 +1,10 @@
 use crate::mark_parts::*;
+use crate::rows::check_row;
 use dns_marks::{ProofError, verify_dnskey};
+use dns_name::NameError;
 use dns_record::{Proof, Record, RecordType};
 use dns_trust::Listed;
 use std::alloc::Global;
-use std::test::Fail;
 
 /// A DS record's owner and rdata.
 struct Delegation(&'static str, &'static [u8]);
@@ -121,7 +122,7 @@ fn rows() -> &'static [Row] {
     ROWS
 }
 
-fn records_of(alloc: Global, ds: &[Delegation]) -> Result<Vec<Record>, Fail> {
+fn records_of(alloc: Global, ds: &[Delegation]) -> Result<Vec<Record>, NameError> {
     let mut records = Vec::new(alloc);
     for one in ds {
         let next = record(alloc, one.0, RecordType::DS, one.1, Proof::Secure)?;
@@ -131,7 +132,7 @@ fn records_of(alloc: Global, ds: &[Delegation]) -> Result<Vec<Record>, Fail> {
 }
 
 /// What is found of a key is Secure, or it fails so.
-fn is_key(alloc: Global, found: &Result<Proof, ProofError>, want: &str) -> Result<bool, Fail> {
+fn is_key(alloc: Global, found: &Result<Proof, ProofError>, want: &str) -> Result<bool, NameError> {
     match found {
         Ok(proof) => Ok(*proof == Proof::Secure && want == "Secure"),
         Err(error) => fails(alloc, error, want),
@@ -144,13 +145,13 @@ fn finds(
     key: &Record,
     ds: &[Record],
     want: &str,
-) -> Result<bool, Fail> {
+) -> Result<bool, NameError> {
     let found = verify_dnskey(verifier, key, ds);
     is_key(alloc, &found, want)
 }
 
 /// What is found of a row's key is what it names.
-fn is_proved(alloc: Global, verifier: &Listed, row: &Row) -> Result<bool, Fail> {
+fn is_proved(alloc: Global, verifier: &Listed, row: &Row) -> Result<bool, NameError> {
     let key = record(
         alloc,
         "example.",
@@ -163,15 +164,14 @@ fn is_proved(alloc: Global, verifier: &Listed, row: &Row) -> Result<bool, Fail> 
 }
 
 /// The same by the verifier of these tests.
-fn is_shown(alloc: Global, row: &Row) -> Result<bool, Fail> {
+fn is_shown(alloc: Global, row: &Row) -> Result<bool, NameError> {
     let verifier = verifier(alloc)?;
     is_proved(alloc, &verifier, row)
 }
 
 #[test]
-fn keys_are_proved_by_ds_records(rt: HostRuntime) -> Result<(), Fail> {
+fn keys_are_proved_by_ds_records(rt: HostRuntime) {
     for row in rows() {
-        assert!(rt; is_shown(rt.alloc(), row)?, "{}", row.shows);
+        check_row(&rt, row.shows, is_shown(rt.alloc(), row));
     }
-    Ok(())
 }

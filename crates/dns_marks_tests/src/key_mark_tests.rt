@@ -1,11 +1,11 @@
 use crate::mark_parts::*;
+use crate::rows::check_row;
 use dns_marks::{KeysMark, ProofError, ProofErrorKind, ZoneVerdict, mark_keys};
-use dns_name::{Name, Octets};
+use dns_name::{Name, NameError, Octets};
 use dns_net::Verifier;
 use dns_record::{Proof, RecordSet, RecordType};
 use dns_trust::TrustAnchors;
 use std::alloc::Global;
-use std::test::Fail;
 
 /// The DS verdict of the owner that is handed in.
 pub(crate) enum Zone {
@@ -172,22 +172,22 @@ fn rows() -> &'static [Row] {
     ROWS
 }
 
-fn insecure(alloc: Global) -> Result<Option<ZoneVerdict>, Fail> {
+fn insecure(alloc: Global) -> Result<Option<ZoneVerdict>, NameError> {
     let name = Name::from_ascii(alloc, "example.")?;
     Ok(Some(ZoneVerdict::Insecure(ProofErrorKind::DsResponseInsecure { name })))
 }
 
-fn bogus(alloc: Global) -> Result<Option<ZoneVerdict>, Fail> {
+fn bogus(alloc: Global) -> Result<Option<ZoneVerdict>, NameError> {
     let name = Name::from_ascii(alloc, "example.")?;
     Ok(Some(ZoneVerdict::Bogus(ProofErrorKind::DsRecordShouldExist { name })))
 }
 
-fn signed(alloc: Global, rdatas: &[&[u8]]) -> Result<Option<ZoneVerdict>, Fail> {
+fn signed(alloc: Global, rdatas: &[&[u8]]) -> Result<Option<ZoneVerdict>, NameError> {
     let ds = records_of(alloc, "example.", RecordType::DS, rdatas, Proof::Secure)?;
     Ok(Some(ZoneVerdict::Signed(ds)))
 }
 
-fn verdict_of(alloc: Global, zone: &Zone) -> Result<Option<ZoneVerdict>, Fail> {
+fn verdict_of(alloc: Global, zone: &Zone) -> Result<Option<ZoneVerdict>, NameError> {
     match zone {
         Zone::Unknown => Ok(None),
         Zone::Signed(rdatas) => signed(alloc, rdatas),
@@ -198,14 +198,14 @@ fn verdict_of(alloc: Global, zone: &Zone) -> Result<Option<ZoneVerdict>, Fail> {
 }
 
 /// Trusts the key of `KEY` at this owner.
-fn trust(alloc: Global, anchors: &mut TrustAnchors, owner: &str) -> Result<(), Fail> {
+fn trust(alloc: Global, anchors: &mut TrustAnchors, owner: &str) -> Result<(), NameError> {
     let owner = Name::from_ascii(alloc, owner)?;
     let key = Octets::from_slice(alloc, b"\xaa\xbb")?;
     anchors.insert_with_name(owner, 13, key)?;
     Ok(())
 }
 
-fn anchors_of(alloc: Global, row: &Row) -> Result<TrustAnchors, Fail> {
+fn anchors_of(alloc: Global, row: &Row) -> Result<TrustAnchors, NameError> {
     let mut anchors = TrustAnchors::empty(alloc);
     if row.is_anchored {
         trust(alloc, &mut anchors, row.owner)?;
@@ -221,7 +221,7 @@ pub(crate) struct Parts {
     zone: Option<ZoneVerdict>,
 }
 
-pub(crate) fn parts_of(alloc: Global, row: &Row) -> Result<Parts, Fail> {
+pub(crate) fn parts_of(alloc: Global, row: &Row) -> Result<Parts, NameError> {
     let set = set_of(
         alloc,
         row.owner,
@@ -244,7 +244,11 @@ fn mark_of<V: Verifier>(
 }
 
 /// A mark, or why there is none, is the one that is wanted.
-fn is_mark(alloc: Global, mark: &Result<KeysMark, ProofError>, want: &Want) -> Result<bool, Fail> {
+fn is_mark(
+    alloc: Global,
+    mark: &Result<KeysMark, ProofError>,
+    want: &Want,
+) -> Result<bool, NameError> {
     match mark {
         Ok(KeysMark::NeedDs) => Ok(matches!(want, Want::Nothing)),
         Ok(KeysMark::Done(found)) => Ok(is_found(found, want)),
@@ -258,22 +262,21 @@ pub(crate) fn is_marked<V: Verifier>(
     verifier: &V,
     parts: &Parts,
     want: &Want,
-) -> Result<bool, Fail> {
+) -> Result<bool, NameError> {
     let mark = mark_of(alloc, verifier, parts);
     is_mark(alloc, &mark, want)
 }
 
 /// The mark of a row's key set is the one that it names.
-fn is_shown(alloc: Global, row: &Row) -> Result<bool, Fail> {
+fn is_shown(alloc: Global, row: &Row) -> Result<bool, NameError> {
     let verifier = verifier(alloc)?;
     let parts = parts_of(alloc, row)?;
     is_marked(alloc, &verifier, &parts, &row.want)
 }
 
 #[test]
-fn key_sets_are_marked(rt: HostRuntime) -> Result<(), Fail> {
+fn key_sets_are_marked(rt: HostRuntime) {
     for row in rows() {
-        assert!(rt; is_shown(rt.alloc(), row)?, "{}", row.shows);
+        check_row(&rt, row.shows, is_shown(rt.alloc(), row));
     }
-    Ok(())
 }

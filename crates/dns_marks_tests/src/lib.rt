@@ -17,6 +17,8 @@ mod mark_parts;
 #[cfg(test)]
 mod refusing;
 #[cfg(test)]
+mod rows;
+#[cfg(test)]
 mod set_mark_count_tests;
 #[cfg(test)]
 mod set_mark_tests;

@@ -1,9 +1,8 @@
 use dns_marks::{ProofError, ProofErrorKind, RrsetProof};
-use dns_name::Name;
+use dns_name::{Name, NameError};
 use dns_record::{DNSClass, Proof, Rdata, Record, RecordSet, RecordType};
 use dns_trust::Listed;
 use std::alloc::Global;
-use std::test::Fail;
 
 /// A key of algorithm 13 and tag 44745.
 pub(crate) const KEY: &[u8] = b"\x01\x01\x03\x0d\xaa\xbb";
@@ -39,7 +38,7 @@ const KEYS_BYTES: &[u8] =
     b"\0\x30\x0d\x01\0\0\x02\x58\0\0\x07\xd0\0\0\x03\xe8\xae\xc9\x07example\0\x07example\0\0\x30\0\x01\0\0\x02\x58\0\x06\x01\x01\x03\x0d\xaa\xbb";
 
 /// A verifier that accepts the two signatures, of algorithm 13 alone.
-pub(crate) fn verifier(alloc: Global) -> Result<Listed, Fail> {
+pub(crate) fn verifier(alloc: Global) -> Result<Listed, NameError> {
     let mut listed = Listed::new(alloc);
     listed.support(13);
     listed.accept(13, b"\xaa\xbb", NS_BYTES, b"\xcc")?;
@@ -47,16 +46,16 @@ pub(crate) fn verifier(alloc: Global) -> Result<Listed, Fail> {
     Ok(listed)
 }
 
-/// A record of ttl 3600 with a mark.
+/// A record of ttl 3600 with a mark. A row that is too long fails its test by the error.
 pub(crate) fn record(
     alloc: Global,
     owner: &str,
     record_type: RecordType,
     rdata: &[u8],
     proof: Proof,
-) -> Result<Record, Fail> {
+) -> Result<Record, NameError> {
     if rdata.len() > 65535 {
-        return Err("too long".into());
+        return Err(NameError::LongName);
     }
     Ok(Record {
         name: Name::from_ascii(alloc, owner)?,
@@ -69,18 +68,30 @@ pub(crate) fn record(
 }
 
 /// Records of one owner and type with one mark.
+fn put_records(
+    alloc: Global,
+    records: &mut Vec<Record>,
+    owner: &str,
+    record_type: RecordType,
+    rdatas: &[&[u8]],
+    proof: Proof,
+) -> Result<(), NameError> {
+    for rdata in rdatas {
+        records.push(record(alloc, owner, record_type, rdata, proof)?)?;
+    }
+    Ok(())
+}
+
+/// The same as a list.
 pub(crate) fn records_of(
     alloc: Global,
     owner: &str,
     record_type: RecordType,
     rdatas: &[&[u8]],
     proof: Proof,
-) -> Result<Vec<Record>, Fail> {
+) -> Result<Vec<Record>, NameError> {
     let mut records = Vec::new(alloc);
-    for rdata in rdatas {
-        let next = record(alloc, owner, record_type, rdata, proof)?;
-        records.push(next)?;
-    }
+    put_records(alloc, &mut records, owner, record_type, rdatas, proof)?;
     Ok(records)
 }
 
@@ -89,17 +100,16 @@ pub(crate) fn keys_of(
     alloc: Global,
     owner: &str,
     keys: &[(&[u8], Proof)],
-) -> Result<Vec<Record>, Fail> {
+) -> Result<Vec<Record>, NameError> {
     let mut records = Vec::new(alloc);
     for key in keys {
-        let next = record(alloc, owner, RecordType::DNSKEY, key.0, key.1)?;
-        records.push(next)?;
+        records.push(record(alloc, owner, RecordType::DNSKEY, key.0, key.1)?)?;
     }
     Ok(records)
 }
 
 /// A signature with no mark.
-pub(crate) fn signature(alloc: Global, rdata: &[u8]) -> Result<Record, Fail> {
+pub(crate) fn signature(alloc: Global, rdata: &[u8]) -> Result<Record, NameError> {
     record(
         alloc,
         "example.",
@@ -109,6 +119,16 @@ pub(crate) fn signature(alloc: Global, rdata: &[u8]) -> Result<Record, Fail> {
     )
 }
 
+fn bare_set(alloc: Global, owner: &str, record_type: RecordType) -> Result<RecordSet, NameError> {
+    Ok(RecordSet {
+        name: Name::from_ascii(alloc, owner)?,
+        record_type,
+        dns_class: DNSClass::IN,
+        records: Vec::new(alloc),
+        rrsigs: Vec::new(alloc),
+    })
+}
+
 /// A set with signatures, none of them with a mark.
 pub(crate) fn set_of(
     alloc: Global,
@@ -116,27 +136,27 @@ pub(crate) fn set_of(
     record_type: RecordType,
     records: &[&[u8]],
     signatures: &[&[u8]],
-) -> Result<RecordSet, Fail> {
-    let name = Name::from_ascii(alloc, owner)?;
-    let records = records_of(alloc, owner, record_type, records, Proof::Indeterminate)?;
-    let rrsigs = records_of(
+) -> Result<RecordSet, NameError> {
+    let mut set = bare_set(alloc, owner, record_type)?;
+    let proof = Proof::Indeterminate;
+    put_records(alloc, &mut set.records, owner, record_type, records, proof)?;
+    put_records(
         alloc,
+        &mut set.rrsigs,
         owner,
         RecordType::RRSIG,
         signatures,
-        Proof::Indeterminate,
+        proof,
     )?;
-    Ok(RecordSet {
-        name,
-        record_type,
-        dns_class: DNSClass::IN,
-        records,
-        rrsigs,
-    })
+    Ok(set)
 }
 
 /// An NS set with signatures.
-pub(crate) fn servers(alloc: Global, owner: &str, signatures: &[&[u8]]) -> Result<RecordSet, Fail> {
+pub(crate) fn servers(
+    alloc: Global,
+    owner: &str,
+    signatures: &[&[u8]],
+) -> Result<RecordSet, NameError> {
     set_of(alloc, owner, RecordType::NS, &[b"\x01a\0"], signatures)
 }
 
@@ -148,13 +168,13 @@ pub(crate) enum Want {
 }
 
 /// The cause and the mark read so.
-pub(crate) fn fails(alloc: Global, error: &ProofError, want: &str) -> Result<bool, Fail> {
+pub(crate) fn fails(alloc: Global, error: &ProofError, want: &str) -> Result<bool, NameError> {
     let text = format!(in alloc; "{error}")?;
     Ok(text.as_str() == want)
 }
 
 /// A cause reads so.
-pub(crate) fn reads(alloc: Global, kind: &ProofErrorKind, want: &str) -> Result<bool, Fail> {
+pub(crate) fn reads(alloc: Global, kind: &ProofErrorKind, want: &str) -> Result<bool, NameError> {
     let text = format!(in alloc; "{kind}")?;
     Ok(text.as_str() == want)
 }
@@ -170,7 +190,7 @@ pub(crate) fn is_found(found: &RrsetProof, want: &Want) -> bool {
 }
 
 /// The error is what is wanted.
-pub(crate) fn is_error(alloc: Global, error: &ProofError, want: &Want) -> Result<bool, Fail> {
+pub(crate) fn is_error(alloc: Global, error: &ProofError, want: &Want) -> Result<bool, NameError> {
     match want {
         Want::Fails(text) => fails(alloc, error, text),
         _ => Ok(false),
@@ -182,7 +202,7 @@ pub(crate) fn is_wanted(
     alloc: Global,
     mark: &Result<RrsetProof, ProofError>,
     want: &Want,
-) -> Result<bool, Fail> {
+) -> Result<bool, NameError> {
     match mark {
         Ok(found) => Ok(is_found(found, want)),
         Err(error) => is_error(alloc, error, want),

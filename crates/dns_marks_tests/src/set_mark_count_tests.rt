@@ -2,13 +2,14 @@ ghost use Rattle.std.specs.Prelude.{◌≡◌, ◌<◌};
 
 use crate::mark_parts::*;
 use crate::refusing::Refusing;
+use crate::rows::check_row;
 use crate::set_mark_tests::*;
+use dns_name::NameError;
 use dns_record::Proof;
 use std::alloc::Global;
 use std::cell::Cell;
 use std::marker::Brand;
 use std::sync::ledger::Blank;
-use std::test::Fail;
 
 /// Another key of the algorithm and the tag of `KEY`.
 const THIRD_KEY: &[u8] = b"\x01\x01\x03\x0d\xa9\xbb\x01";
@@ -20,7 +21,7 @@ const OVER_ROOT: &[u8] = b"\0\x02\x0d\0\0\0\x02\x58\0\0\x07\xd0\0\0\x03\xe8\xae\
 const BOTH: Told = Told::Keys(&[(KEY, Proof::Secure), (THIRD_KEY, Proof::Secure)]);
 
 /// No signature proves the set.
-const ROW: Row = Row {
+const ROW: &Row = &Row {
     shows: "eight signatures by two keys of a tag",
     owner: ".",
     signatures: &[
@@ -30,25 +31,21 @@ const ROW: Row = Row {
     want: Want::Fails("Bogus: rrsigs were not able to be verified: ., type: NS"),
 };
 
-fn is_unverified(alloc: Global, verifier: &Refusing) -> Result<bool, Fail> {
-    let parts = parts_of(alloc, &ROW)?;
+fn is_unverified(alloc: Global, verifier: &Refusing) -> Result<bool, NameError> {
+    let parts = parts_of(alloc, ROW)?;
     let mark = found::<Refusing, Brand>(alloc, verifier, &parts, Blank::new(1));
     is_wanted(alloc, &mark, &ROW.want)
 }
 
-/// How often the verifier is asked before the set is Bogus.
-fn calls(alloc: Global) -> Result<u32, Fail> {
+/// The verifier is asked sixteen times before the set is Bogus.
+fn takes_sixteen_calls(alloc: Global) -> Result<bool, NameError> {
     let verifier = Refusing {
         calls: Cell::new(0),
     };
-    if !is_unverified(alloc, &verifier)? {
-        return Err("another mark".into());
-    }
-    Ok(verifier.calls.get())
+    Ok(is_unverified(alloc, &verifier)? && verifier.calls.get() == 16)
 }
 
 #[test]
-fn eight_signatures_by_two_keys_of_a_tag_are_sixteen_calls(rt: HostRuntime) -> Result<(), Fail> {
-    assert!(rt; calls(rt.alloc())? == 16);
-    Ok(())
+fn eight_signatures_by_two_keys_of_a_tag_are_sixteen_calls(rt: HostRuntime) {
+    check_row(&rt, ROW.shows, takes_sixteen_calls(rt.alloc()));
 }

@@ -1,8 +1,9 @@
 ghost use Rattle.std.specs.Prelude.{◌≡◌, ◌<◌};
 
 use crate::mark_parts::*;
+use crate::rows::check_row;
 use dns_marks::{KeyAnswer, ProofError, ProofErrorKind, RrsetProof, mark_rrset};
-use dns_name::Name;
+use dns_name::{Name, NameError};
 use dns_net::Verifier;
 use dns_record::{DNSClass, Proof, Query, RecordSet, RecordType};
 use dns_steps::Steps;
@@ -10,7 +11,6 @@ use dns_trust::{Listed, first_signatures};
 use std::alloc::Global;
 use std::marker::Brand;
 use std::sync::ledger::{Blank, Ledger};
-use std::test::Fail;
 
 /// What came of the ask of a signature: the signer that was asked for in vain, or keys by rdata and mark.
 pub(crate) enum Told {
@@ -156,7 +156,7 @@ pub(crate) struct Parts {
     answers: Vec<KeyAnswer>,
 }
 
-fn failed(alloc: Global, signer: &str) -> Result<KeyAnswer, Fail> {
+fn failed(alloc: Global, signer: &str) -> Result<KeyAnswer, NameError> {
     let name = Name::from_ascii(alloc, signer)?;
     Ok(KeyAnswer::Failed(Query {
         name,
@@ -165,12 +165,12 @@ fn failed(alloc: Global, signer: &str) -> Result<KeyAnswer, Fail> {
     }))
 }
 
-fn answered(alloc: Global, owner: &str, keys: &[(&[u8], Proof)]) -> Result<KeyAnswer, Fail> {
+fn answered(alloc: Global, owner: &str, keys: &[(&[u8], Proof)]) -> Result<KeyAnswer, NameError> {
     let keys = keys_of(alloc, owner, keys)?;
     Ok(KeyAnswer::Keys(keys))
 }
 
-fn answer_of(alloc: Global, owner: &str, told: &Told) -> Result<KeyAnswer, Fail> {
+fn answer_of(alloc: Global, owner: &str, told: &Told) -> Result<KeyAnswer, NameError> {
     match told {
         Told::Skipped => Ok(KeyAnswer::Skipped),
         Told::Failed(signer) => failed(alloc, signer),
@@ -178,7 +178,7 @@ fn answer_of(alloc: Global, owner: &str, told: &Told) -> Result<KeyAnswer, Fail>
     }
 }
 
-fn answers_of(alloc: Global, row: &Row) -> Result<Vec<KeyAnswer>, Fail> {
+fn answers_of(alloc: Global, row: &Row) -> Result<Vec<KeyAnswer>, NameError> {
     let mut answers = Vec::new(alloc);
     for one in row.told {
         let next = answer_of(alloc, row.owner, one)?;
@@ -187,7 +187,7 @@ fn answers_of(alloc: Global, row: &Row) -> Result<Vec<KeyAnswer>, Fail> {
     Ok(answers)
 }
 
-pub(crate) fn parts_of(alloc: Global, row: &Row) -> Result<Parts, Fail> {
+pub(crate) fn parts_of(alloc: Global, row: &Row) -> Result<Parts, NameError> {
     let set = servers(alloc, row.owner, row.signatures)?;
     let answers = answers_of(alloc, row)?;
     Ok(Parts { set, answers })
@@ -213,22 +213,26 @@ pub(crate) fn found<V: Verifier, L: Ledger>(
 }
 
 /// A set is marked so.
-fn is_marked(alloc: Global, verifier: &Listed, parts: &Parts, want: &Want) -> Result<bool, Fail> {
+fn is_marked(
+    alloc: Global,
+    verifier: &Listed,
+    parts: &Parts,
+    want: &Want,
+) -> Result<bool, NameError> {
     let mark = found::<Listed, Brand>(alloc, verifier, parts, Blank::new(1));
     is_wanted(alloc, &mark, want)
 }
 
 /// The mark of a row's set is the one that it names.
-fn is_shown(alloc: Global, row: &Row) -> Result<bool, Fail> {
+fn is_shown(alloc: Global, row: &Row) -> Result<bool, NameError> {
     let verifier = verifier(alloc)?;
     let parts = parts_of(alloc, row)?;
     is_marked(alloc, &verifier, &parts, &row.want)
 }
 
 #[test]
-fn sets_are_marked_by_their_signatures(rt: HostRuntime) -> Result<(), Fail> {
+fn sets_are_marked_by_their_signatures(rt: HostRuntime) {
     for row in rows() {
-        assert!(rt; is_shown(rt.alloc(), row)?, "{}", row.shows);
+        check_row(&rt, row.shows, is_shown(rt.alloc(), row));
     }
-    Ok(())
 }

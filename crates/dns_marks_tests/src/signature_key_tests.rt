@@ -1,16 +1,16 @@
 ghost use Rattle.std.specs.Prelude.{◌≡◌, ◌<◌};
 
 use crate::mark_parts::*;
+use crate::rows::check_row;
 use crate::signature_tests::{Parts, parts_of};
 use dns_marks::{RrsetProof, verify_rrsig_with_keys};
-use dns_name::NoMemory;
+use dns_name::{NameError, NoMemory};
 use dns_record::{Proof, RecordType};
 use dns_steps::Steps;
 use dns_trust::Listed;
 use std::alloc::Global;
 use std::marker::Brand;
 use std::sync::ledger::{Blank, Ledger};
-use std::test::Fail;
 
 /// Keys of `example.` by their rdatas and marks, a signature by its rdata, the type of the set that is handed in in place of
 /// NS, and what the signature proves at second 1500.
@@ -122,7 +122,12 @@ fn found<L: Ledger>(
 }
 
 /// What a row's signature proves is what it names.
-fn is_proved(alloc: Global, verifier: &Listed, parts: &Parts, want: &Want) -> Result<bool, Fail> {
+fn is_proved(
+    alloc: Global,
+    verifier: &Listed,
+    parts: &Parts,
+    want: &Want,
+) -> Result<bool, NameError> {
     match found::<Brand>(alloc, verifier, parts, Blank::new(1))? {
         Some(found) => Ok(is_found(&found, want)),
         None => Ok(matches!(want, Want::Nothing)),
@@ -130,16 +135,15 @@ fn is_proved(alloc: Global, verifier: &Listed, parts: &Parts, want: &Want) -> Re
 }
 
 /// The same by the verifier of these tests.
-fn is_shown(alloc: Global, row: &Row) -> Result<bool, Fail> {
+fn is_shown(alloc: Global, row: &Row) -> Result<bool, NameError> {
     let verifier = verifier(alloc)?;
     let parts = parts_of(alloc, row.keys, row.sig, row.record_type)?;
     is_proved(alloc, &verifier, &parts, &row.want)
 }
 
 #[test]
-fn signatures_are_judged_by_keys_with_marks(rt: HostRuntime) -> Result<(), Fail> {
+fn signatures_are_judged_by_keys_with_marks(rt: HostRuntime) {
     for row in rows() {
-        assert!(rt; is_shown(rt.alloc(), row)?, "{}", row.shows);
+        check_row(&rt, row.shows, is_shown(rt.alloc(), row));
     }
-    Ok(())
 }

@@ -1,7 +1,9 @@
 ghost use Rattle.std.specs.Prelude.{◌≡◌, ◌<◌};
 
 use crate::mark_parts::*;
+use crate::rows::check_row;
 use dns_marks::{ProofError, ProofErrorKind, RrsetProof, verify_rrset_with_dnskey};
+use dns_name::NameError;
 use dns_rdata::{Dnskey, Rrsig};
 use dns_record::{Proof, Record, RecordSet, RecordType};
 use dns_steps::Steps;
@@ -9,7 +11,6 @@ use dns_trust::Listed;
 use std::alloc::Global;
 use std::marker::Brand;
 use std::sync::ledger::{Blank, Ledger};
-use std::test::Fail;
 
 /// A key of `example.` by its rdata and mark, a signature by its rdata, a moment, and what the signature proves then of the NS set.
 struct Row {
@@ -134,7 +135,7 @@ pub(crate) fn parts_of(
     keys: &[(&[u8], Proof)],
     sig: &[u8],
     record_type: RecordType,
-) -> Result<Parts, Fail> {
+) -> Result<Parts, NameError> {
     let keys = keys_of(alloc, "example.", keys)?;
     let sig = signature(alloc, sig)?;
     let mut set = servers(alloc, "example.", &[])?;
@@ -164,22 +165,26 @@ fn found<L: Ledger>(
 }
 
 /// What a row's signature proves is what it names.
-fn is_proved(alloc: Global, verifier: &Listed, parts: &Parts, row: &Row) -> Result<bool, Fail> {
+fn is_proved(
+    alloc: Global,
+    verifier: &Listed,
+    parts: &Parts,
+    row: &Row,
+) -> Result<bool, NameError> {
     let mark = found::<Brand>(alloc, verifier, parts, row.now, Blank::new(1));
     is_wanted(alloc, &mark, &row.want)
 }
 
 /// The same by the verifier of these tests.
-fn is_shown(alloc: Global, row: &Row) -> Result<bool, Fail> {
+fn is_shown(alloc: Global, row: &Row) -> Result<bool, NameError> {
     let verifier = verifier(alloc)?;
     let parts = parts_of(alloc, &[(row.key, row.proof)], row.sig, RecordType::NS)?;
     is_proved(alloc, &verifier, &parts, row)
 }
 
 #[test]
-fn signatures_are_judged_by_one_key(rt: HostRuntime) -> Result<(), Fail> {
+fn signatures_are_judged_by_one_key(rt: HostRuntime) {
     for row in rows() {
-        assert!(rt; is_shown(rt.alloc(), row)?, "{}", row.shows);
+        check_row(&rt, row.shows, is_shown(rt.alloc(), row));
     }
-    Ok(())
 }

@@ -1,13 +1,13 @@
 use crate::mark_parts::{DS, MISS, OVER_NS, UNSUPPORTED, reads, record, verifier};
+use crate::rows::check_row;
 use dns_marks::{DnsAnswer, ZoneVerdict, ds_verdict};
 use dns_message::Message;
-use dns_name::{Name, NoMemory};
+use dns_name::{Name, NameError, NoMemory};
 use dns_net::{DnsError, DnsRequest, DnsRequestOptions, DnsResponse, NetError, NoRecords, Trail};
 use dns_record::Proof::{Bogus, Insecure, Secure};
 use dns_record::Section::{Additional, Answer, Authority};
 use dns_record::{DNSClass, Denial, Proof, Query, Record, RecordType, ResponseCode, Section};
 use std::alloc::Global;
-use std::test::Fail;
 
 /// A record of a response: its section, owner, type, rdata and mark.
 struct Told(Section, &'static str, RecordType, &'static [u8], Proof);
@@ -236,7 +236,7 @@ fn rows() -> &'static [Row] {
     ROWS
 }
 
-fn question(alloc: Global) -> Result<Query, Fail> {
+fn question(alloc: Global) -> Result<Query, NameError> {
     Ok(Query {
         name: Name::from_ascii(alloc, "example.")?,
         query_type: RecordType::DS,
@@ -245,7 +245,7 @@ fn question(alloc: Global) -> Result<Query, Fail> {
 }
 
 /// A response without records.
-fn empty_response(alloc: Global) -> Result<DnsResponse, Fail> {
+fn empty_response(alloc: Global) -> Result<DnsResponse, NameError> {
     let query = question(alloc)?;
     let request = DnsRequest::from_query(alloc, query, DnsRequestOptions::default())?;
     Ok(DnsResponse {
@@ -265,14 +265,14 @@ fn section_of(message: &mut Message, section: Section) -> &mut Vec<Record> {
 }
 
 /// A record more.
-fn put(alloc: Global, message: &mut Message, told: &Told) -> Result<(), Fail> {
+fn put(alloc: Global, message: &mut Message, told: &Told) -> Result<(), NameError> {
     let Told(section, owner, record_type, rdata, proof) = told;
     let next = record(alloc, owner, *record_type, rdata, *proof)?;
     section_of(message, *section).push(next)?;
     Ok(())
 }
 
-fn answer_of(alloc: Global, told: &[Told]) -> Result<DnsAnswer, Fail> {
+fn answer_of(alloc: Global, told: &[Told]) -> Result<DnsAnswer, NameError> {
     let mut response = empty_response(alloc)?;
     for one in told {
         put(alloc, &mut response.message, one)?;
@@ -281,7 +281,7 @@ fn answer_of(alloc: Global, told: &[Told]) -> Result<DnsAnswer, Fail> {
 }
 
 /// A verdict is this one.
-fn is_verdict(alloc: Global, verdict: &ZoneVerdict, want: &Want) -> Result<bool, Fail> {
+fn is_verdict(alloc: Global, verdict: &ZoneVerdict, want: &Want) -> Result<bool, NameError> {
     match (verdict, want) {
         (ZoneVerdict::Signed(ds), Want::Signed(number)) => Ok(ds.len() == *number),
         (ZoneVerdict::Insecure(kind), Want::Insecure(text)) => reads(alloc, kind, text),
@@ -294,7 +294,7 @@ fn is_wanted(
     alloc: Global,
     verdict: &Result<ZoneVerdict, NoMemory>,
     want: &Want,
-) -> Result<bool, Fail> {
+) -> Result<bool, NameError> {
     match verdict {
         Ok(verdict) => is_verdict(alloc, verdict, want),
         Err(_) => Ok(matches!(want, Want::NoMemory)),
@@ -308,7 +308,7 @@ fn gives(
     class: DNSClass,
     answer: &DnsAnswer,
     want: &Want,
-) -> Result<bool, Fail> {
+) -> Result<bool, NameError> {
     let verifier = verifier(alloc)?;
     let verdict = ds_verdict(alloc, &verifier, zone, class, answer);
     is_wanted(alloc, &verdict, want)
@@ -321,23 +321,22 @@ fn gives_at(
     class: DNSClass,
     answer: &DnsAnswer,
     want: &Want,
-) -> Result<bool, Fail> {
+) -> Result<bool, NameError> {
     let zone = Name::from_ascii(alloc, zone)?;
     gives(alloc, &zone, class, answer, want)
 }
 
 /// The DS verdict of a row is the one that it names.
-fn is_judged(alloc: Global, row: &Row) -> Result<bool, Fail> {
+fn is_judged(alloc: Global, row: &Row) -> Result<bool, NameError> {
     let answer = answer_of(alloc, row.told)?;
     gives_at(alloc, "EXAMPLE.", row.class, &answer, &row.want)
 }
 
 #[test]
-fn zones_are_judged_by_answers(rt: HostRuntime) -> Result<(), Fail> {
+fn zones_are_judged_by_answers(rt: HostRuntime) {
     for row in rows() {
-        assert!(rt; is_judged(rt.alloc(), row)?, "{}", row.shows);
+        check_row(&rt, row.shows, is_judged(rt.alloc(), row));
     }
-    Ok(())
 }
 
 /// Why an ask failed.
@@ -349,19 +348,37 @@ enum Failure {
 }
 
 /// An ask that failed makes the verdict on `example.` Bogus, with the question, but want of memory stays it.
-const FAILURES: [(Failure, Want); 3] = [
-    (Failure::TimedOut, UNANSWERED),
-    (Failure::NoRecords, UNANSWERED),
-    (Failure::NoMemory, Want::NoMemory),
+struct FailedAsk {
+    shows: &'static str,
+    failure: Failure,
+    want: Want,
+}
+
+const FAILURES: &[FailedAsk] = &[
+    FailedAsk {
+        shows: "no answer in time",
+        failure: Failure::TimedOut,
+        want: UNANSWERED,
+    },
+    FailedAsk {
+        shows: "no records",
+        failure: Failure::NoRecords,
+        want: UNANSWERED,
+    },
+    FailedAsk {
+        shows: "want of memory",
+        failure: Failure::NoMemory,
+        want: Want::NoMemory,
+    },
 ];
 
-fn no_records(alloc: Global) -> Result<DnsAnswer, Fail> {
+fn no_records(alloc: Global) -> Result<DnsAnswer, NameError> {
     let query = question(alloc)?;
     let none = NoRecords::new(alloc, query, ResponseCode(0));
     Ok(Err(NetError::Dns(DnsError::NoRecordsFound(none))))
 }
 
-fn failed(alloc: Global, failure: &Failure) -> Result<DnsAnswer, Fail> {
+fn failed(alloc: Global, failure: &Failure) -> Result<DnsAnswer, NameError> {
     match failure {
         Failure::TimedOut => Ok(Err(NetError::Timeout)),
         Failure::NoRecords => no_records(alloc),
@@ -369,15 +386,14 @@ fn failed(alloc: Global, failure: &Failure) -> Result<DnsAnswer, Fail> {
     }
 }
 
-fn is_failed(alloc: Global, failure: &Failure, want: &Want) -> Result<bool, Fail> {
-    let answer = failed(alloc, failure)?;
-    gives_at(alloc, "example.", DNSClass::IN, &answer, want)
+fn is_failed(alloc: Global, row: &FailedAsk) -> Result<bool, NameError> {
+    let answer = failed(alloc, &row.failure)?;
+    gives_at(alloc, "example.", DNSClass::IN, &answer, &row.want)
 }
 
 #[test]
-fn zones_are_bogus_where_the_ask_failed(rt: HostRuntime) -> Result<(), Fail> {
-    for (place, (failure, want)) in FAILURES.iter().enumerate() {
-        assert!(rt; is_failed(rt.alloc(), failure, want)?, "failure {place}");
+fn zones_are_bogus_where_the_ask_failed(rt: HostRuntime) {
+    for row in FAILURES {
+        check_row(&rt, row.shows, is_failed(rt.alloc(), row));
     }
-    Ok(())
 }

@@ -1,0 +1,13 @@
+//! What tests share: the assertion on a row.
+use dns_name::NameError;
+use std::process::Abort;
+
+/// What was tried on a row held; the message names the row.
+pub(crate) fn check_row(rt: &impl Abort, row: &str, held: Result<bool, NameError>) {
+    assert!(rt; matches!(held, Ok(true)), "{row}");
+}
+
+/// The same for a row that its place names.
+pub(crate) fn check_place(rt: &impl Abort, row: usize, held: Result<bool, NameError>) {
+    assert!(rt; matches!(held, Ok(true)), "row {row}");
+}
