@@ -9,3 +9,5 @@ mod message_pointer_tests;
 mod message_tests;
 #[cfg(test)]
 mod message_writing_tests;
+#[cfg(test)]
+mod rows;

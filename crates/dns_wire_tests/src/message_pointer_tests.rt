@@ -1,35 +1,41 @@
 //! Names with compression pointers: long ones, rows of pointers, and each pointer at a place, with what exactly is read (RFC 1035,
 //! 4.1.4).
-use crate::message_tests::{bytes_of, error_of, read};
+use crate::message_tests::{error_of, read};
+use crate::rows::{Row, check_row, check_rows};
 use dns_wire::{DecodeError, DecodeKind, Message};
 use std::alloc::{AllocError, Global};
-use std::test::*;
+
+fn push_label(bytes: &mut Vec<u8>, size: u8) -> Result<(), AllocError> {
+    bytes.push(size)?;
+    for _ in 0..size {
+        bytes.push(97)?;
+    }
+    Ok(())
+}
+
+fn push_labels(bytes: &mut Vec<u8>, last: u8) -> Result<(), AllocError> {
+    push_label(bytes, 63)?;
+    push_label(bytes, 63)?;
+    push_label(bytes, 63)?;
+    push_label(bytes, last)
+}
 
 /// A question whose name has three labels of 63 bytes and one of so many.
 fn long_name(alloc: Global, last: u8) -> Result<Vec<u8>, AllocError> {
-    let mut bytes = bytes_of(alloc, "000000000001000000000000")?;
-    for size in [63, 63, 63, last] {
-        bytes.push(size)?;
-        for _ in 0..size {
-            bytes.push(97)?;
-        }
-    }
+    let mut bytes = Vec::from_slice(alloc, b"\0\0\0\0\0\x01\0\0\0\0\0\0")?;
+    push_labels(&mut bytes, last)?;
     bytes.extend_from_slice(&[0, 0, 1, 0, 1])?;
     Ok(bytes)
 }
 
-/// The fault of that name's message, of which so many bytes at most are given.
-fn long_fault(alloc: Global, last: u8, most: usize) -> Result<Option<DecodeError>, AllocError> {
-    let bytes = long_name(alloc, last)?;
-    Ok(error_of(alloc, &bytes[..bytes.len().min(most)]))
-}
-
 /// The last label's size, how many bytes are given at most, and the fault at the length byte of the fourth label.
-const LONG: [(u8, usize, Option<DecodeKind>); 3] = [
-    (61, 1000, None),
-    (62, 1000, Some(DecodeKind::BadName)),
+struct Long(u8, usize, Option<DecodeKind>);
+
+const LONG: &[(&str, Long)] = &[
+    ("the longest name", Long(61, 1000, None)),
+    ("a byte longer", Long(62, 1000, Some(DecodeKind::BadName))),
     // the label that passes the limit also reaches past the end
-    (62, 250, Some(DecodeKind::Short)),
+    ("too long and cut", Long(62, 250, Some(DecodeKind::Short))),
 ];
 
 fn is_so(fault: Option<DecodeError>, want: Option<DecodeKind>) -> bool {
@@ -40,13 +46,24 @@ fn is_so(fault: Option<DecodeError>, want: Option<DecodeKind>) -> bool {
     }
 }
 
+impl Row for Long {
+    fn holds(&self, alloc: Global) -> Result<bool, AllocError> {
+        let bytes = long_name(alloc, self.0)?;
+        let given = &bytes[..bytes.len().min(self.1)];
+        Ok(is_so(error_of(alloc, given), self.2))
+    }
+}
+
 #[test]
-fn long_names(rt: HostRuntime) -> Result<(), Fail> {
-    for (last, most, want) in &LONG {
-        assert!(rt;
-            is_so(long_fault(rt.alloc(), *last, *most)?, *want),
-            "{last} {most}"
-        );
+fn long_names(rt: HostRuntime) {
+    check_rows(&rt, rt.alloc(), LONG);
+}
+
+/// 1,000 pointers, each to the one before, the first to the name, and one to the last.
+fn push_pointers(bytes: &mut Vec<u8>) -> Result<(), AllocError> {
+    for i in 0..=1000u16 {
+        let target = if i == 0 { 23 } else { 24 + 2 * i };
+        bytes.extend_from_slice(&(49152 + target % 16384).to_be_bytes())?;
     }
     Ok(())
 }
@@ -54,14 +71,11 @@ fn long_names(rt: HostRuntime) -> Result<(), Fail> {
 /// An opaque rdata with the name `a.` and 1,000 pointers, each to the one before, the first to that name; then a record whose
 /// owner is a pointer to the last.
 fn row_of_pointers(alloc: Global) -> Result<Vec<u8>, AllocError> {
-    let mut bytes = bytes_of(
+    let mut bytes = Vec::from_slice(
         alloc,
-        "000080000000000200000000 00 ff00 0003 00000000 07d3 016100",
+        b"\0\0\x80\0\0\0\0\x02\0\0\0\0\0\xff\0\0\x03\0\0\0\0\x07\xd3\x01\x61\0",
     )?;
-    for i in 0..=1000u16 {
-        let target = if i == 0 { 23 } else { 24 + 2 * i };
-        bytes.extend_from_slice(&(49152 + target % 16384).to_be_bytes())?;
-    }
+    push_pointers(&mut bytes)?;
     bytes.extend_from_slice(&[255, 0, 0, 3, 0, 0, 0, 0, 0, 0])?;
     Ok(bytes)
 }
@@ -73,18 +87,21 @@ fn last_owner_is_a(message: &Message) -> bool {
     }
 }
 
-fn row_is_read(alloc: Global) -> Result<bool, AllocError> {
-    let bytes = row_of_pointers(alloc)?;
-    match read(alloc, &bytes) {
-        Some(message) => Ok(last_owner_is_a(&message)),
-        None => Ok(false),
+fn is_row(alloc: Global, bytes: &[u8]) -> bool {
+    match read(alloc, bytes) {
+        Some(message) => last_owner_is_a(&message),
+        None => false,
     }
 }
 
+fn row_is_read(alloc: Global) -> Result<bool, AllocError> {
+    let bytes = row_of_pointers(alloc)?;
+    Ok(is_row(alloc, &bytes))
+}
+
 #[test]
-fn a_row_of_pointers(rt: HostRuntime) -> Result<(), Fail> {
-    assert!(rt; row_is_read(rt.alloc())?);
-    Ok(())
+fn a_row_of_pointers(rt: HostRuntime) {
+    check_row(&rt, "1,000 pointers", row_is_read(rt.alloc()));
 }
 
 /// What a message comes to: the wire form of its record's owner, its rdata, or a fault.
@@ -105,7 +122,7 @@ struct Pointed {
     others: Seen,
 }
 
-const POINTED: [Pointed; 3] = [
+const POINTED: &[Pointed] = &[
     // the question's name; a target before it leaves two bytes for its type and class, and a record that is cut off
     Pointed {
         name: "the question",
@@ -204,9 +221,13 @@ fn is_read(alloc: Global, row: &Pointed, target: u16) -> bool {
     is_seen(&Message::from_vec(alloc, &bytes), seen_at(row, target))
 }
 
+fn all_pointed() -> &'static [Pointed] {
+    POINTED
+}
+
 #[test]
 fn every_pointer_at_a_place_is_read_so(rt: HostRuntime) {
-    for row in &POINTED {
+    for row in all_pointed() {
         for target in 0..16_384u16 {
             assert!(rt;
                 is_read(rt.alloc(), row, target),

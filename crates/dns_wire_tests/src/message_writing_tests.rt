@@ -1,60 +1,72 @@
-use crate::message_tests::{POINTERS, SHAPES, WITH_OPT, bytes_of, message_of, read, with_rdata};
+use crate::message_tests::{POINTERS, Shape, WITH_OPT, read, shapes, with_rdata};
+use crate::rows::{Row, check_row, check_rows};
 use dns_wire::{Edns, EncodeError, Message, Query, Record};
 use std::alloc::{AllocError, Global};
-use std::test::*;
 
-/// Messages, and how each is written: pointers are spelled out, the bit Z is 0, and the OPT stands last.
-const WRITTEN: [(&str, &str); 3] = [
+/// A message, and how it is written: pointers are spelled out, the bit Z is 0, and the OPT stands last.
+struct Written(&'static [u8], &'static [u8]);
+
+const WRITTEN: &[(&str, Written)] = &[
     (
-        POINTERS,
-        "000080000001000200000000 01610000010001 01610000010001 00000e100004c0000201 01610000020001 00000e10000501620161 00",
+        "pointers",
+        Written(
+            POINTERS,
+            b"\0\0\x80\0\0\x01\0\x02\0\0\0\0\x01\x61\0\0\x01\0\x01\x01\x61\0\0\x01\0\x01\0\0\x0e\x10\0\x04\xc0\0\x02\x01\x01\x61\0\0\x02\0\x01\0\0\x0e\x10\0\x05\x01\x62\x01\x61\0",
+        ),
     ),
     (
-        "abcdffff0000000000000002 00002904d0 12058003 0002aabb 00 ff00 0003 00000000 0001 01",
-        "abcdffbf0000000000000002 00 ff00 0003 00000000 0001 01 00002904d0 12058003 0002aabb",
+        "the bit Z",
+        Written(
+            b"\xab\xcd\xff\xff\0\0\0\0\0\0\0\x02\0\0\x29\x04\xd0\x12\x05\x80\x03\0\x02\xaa\xbb\0\xff\0\0\x03\0\0\0\0\0\x01\x01",
+            b"\xab\xcd\xff\xbf\0\0\0\0\0\0\0\x02\0\xff\0\0\x03\0\0\0\0\0\x01\x01\0\0\x29\x04\xd0\x12\x05\x80\x03\0\x02\xaa\xbb",
+        ),
     ),
     (
-        WITH_OPT,
-        "abcda51f0000000000000001 00002904d0 12058003 0002aabb",
+        "an OPT",
+        Written(
+            WITH_OPT,
+            b"\xab\xcd\xa5\x1f\0\0\0\0\0\0\0\x01\0\0\x29\x04\xd0\x12\x05\x80\x03\0\x02\xaa\xbb",
+        ),
     ),
 ];
 
-/// The message as bytes, if it is written.
-fn written(alloc: Global, message: &Message) -> Option<Vec<u8>> {
+fn is_written_as(alloc: Global, message: &Message, want: &[u8]) -> bool {
     match message.to_vec(alloc) {
-        Ok(bytes) => Some(bytes.into_vec()),
-        Err(_) => None,
+        Ok(bytes) => bytes.as_slice() == want,
+        Err(_) => false,
     }
 }
 
-fn is_written(alloc: Global, text: &str, want: &str) -> Result<bool, AllocError> {
-    let want = bytes_of(alloc, want)?;
-    match message_of(alloc, text)? {
-        None => Ok(false),
-        Some(message) => Ok(written(alloc, &message) == Some(want)),
-    }
-}
-
-#[test]
-fn written_forms(rt: HostRuntime) -> Result<(), Fail> {
-    for (text, want) in &WRITTEN {
-        assert!(rt; is_written(rt.alloc(), text, want)?, "{text}");
-    }
-    Ok(())
-}
-
-fn empty_query_has(alloc: Global, size: usize) -> bool {
-    let query = Message::query(alloc);
-    match written(alloc, &query) {
-        Some(bytes) => bytes.len() == size && bytes.iter().all(|byte| *byte == 0),
+fn is_written(alloc: Global, bytes: &[u8], want: &[u8]) -> bool {
+    match read(alloc, bytes) {
+        Some(message) => is_written_as(alloc, &message, want),
         None => false,
     }
 }
 
+impl Row for Written {
+    fn holds(&self, alloc: Global) -> Result<bool, AllocError> {
+        Ok(is_written(alloc, self.0, self.1))
+    }
+}
+
 #[test]
-fn an_empty_query(rt: HostRuntime) -> Result<(), Fail> {
-    assert!(rt; empty_query_has(rt.alloc(), 12));
-    Ok(())
+fn written_forms(rt: HostRuntime) {
+    check_rows(&rt, rt.alloc(), WRITTEN);
+}
+
+fn empty_query_is(alloc: Global, want: &[u8]) -> bool {
+    let query = Message::query(alloc);
+    is_written_as(alloc, &query, want)
+}
+
+#[test]
+fn an_empty_query(rt: HostRuntime) {
+    check_row(
+        &rt,
+        "twelve zeros",
+        Ok(empty_query_is(rt.alloc(), b"\0\0\0\0\0\0\0\0\0\0\0\0")),
+    );
 }
 
 fn is_same_record(one: &Record, two: &Record) -> bool {
@@ -120,14 +132,19 @@ fn is_same(one: &Message, two: &Message) -> bool {
         && is_same_edns(&one.edns, &two.edns)
 }
 
+/// Whether bytes are this message.
+fn is_message(alloc: Global, bytes: &[u8], message: &Message) -> bool {
+    match read(alloc, bytes) {
+        Some(other) => is_same(message, &other),
+        None => false,
+    }
+}
+
 /// Whether a message, written, is read as the same.
 fn is_read_again(alloc: Global, message: &Message) -> bool {
-    match written(alloc, message) {
-        Some(bytes) => match read(alloc, &bytes) {
-            Some(other) => is_same(message, &other),
-            None => false,
-        },
-        None => false,
+    match message.to_vec(alloc) {
+        Ok(bytes) => is_message(alloc, bytes.as_slice(), message),
+        Err(_) => false,
     }
 }
 
@@ -147,74 +164,79 @@ fn comes_back(alloc: Global, bytes: &[u8]) -> bool {
     }
 }
 
-fn text_comes_back(alloc: Global, text: &str) -> Result<bool, AllocError> {
-    let bytes = bytes_of(alloc, text)?;
-    Ok(comes_back(alloc, &bytes))
-}
-
-fn rdata_comes_back(alloc: Global, record_type: u8, text: &str) -> Result<bool, AllocError> {
-    let rdata = bytes_of(alloc, text)?;
-    let bytes = with_rdata(alloc, record_type, 1, &rdata)?;
+fn rdata_comes_back(alloc: Global, row: &Shape) -> Result<bool, AllocError> {
+    let exact = &row.1[..row.1.len().saturating_sub(1)];
+    let bytes = with_rdata(alloc, row.0, 1, exact)?;
     Ok(comes_back(alloc, &bytes))
 }
 
 #[test]
-fn what_is_written_is_read_again(rt: HostRuntime) -> Result<(), Fail> {
-    for (text, want) in &WRITTEN {
-        assert!(rt; text_comes_back(rt.alloc(), text)?, "{text}");
-        assert!(rt; text_comes_back(rt.alloc(), want)?, "{want}");
+fn what_is_written_is_read_again(rt: HostRuntime) {
+    for row in WRITTEN {
+        check_row(&rt, row.0, Ok(comes_back(rt.alloc(), row.1.0)));
+        check_row(&rt, row.0, Ok(comes_back(rt.alloc(), row.1.1)));
     }
-    for (record_type, text, _) in &SHAPES {
-        assert!(rt;
-            rdata_comes_back(rt.alloc(), *record_type, text)?,
-            "{record_type}"
-        );
+    for row in shapes() {
+        check_row(&rt, row.0, rdata_comes_back(rt.alloc(), &row.1));
+    }
+}
+
+/// A size, and so many bytes.
+fn push_sized(bytes: &mut Vec<u8>, size: u16) -> Result<(), AllocError> {
+    bytes.extend_from_slice(&size.to_be_bytes())?;
+    for _ in 0..size {
+        bytes.push(7)?;
     }
     Ok(())
 }
 
 /// The bytes of a message with one root record of an opaque type and so many bytes of rdata.
 fn with_size(alloc: Global, size: u16) -> Result<Vec<u8>, AllocError> {
-    let mut bytes = bytes_of(alloc, "000000000000000100000000 00 ff00 0001 00000000")?;
-    bytes.extend_from_slice(&size.to_be_bytes())?;
-    for _ in 0..size {
-        bytes.push(7)?;
-    }
+    let mut bytes = Vec::from_slice(alloc, b"\0\0\0\0\0\0\0\x01\0\0\0\0\0\xff\0\0\x01\0\0\0\0")?;
+    push_sized(&mut bytes, size)?;
     Ok(bytes)
 }
 
-/// Whether the bytes are a message that is written as these very bytes, or the message isn't written by this error.
-fn is_written_so(alloc: Global, bytes: &[u8], want: Option<EncodeError>) -> bool {
-    let Some(message) = read(alloc, bytes) else {
-        return false;
-    };
+fn is_written_so(
+    alloc: Global,
+    message: &Message,
+    bytes: &[u8],
+    want: Option<EncodeError>,
+) -> bool {
     match message.to_vec(alloc) {
         Ok(written) => want.is_none() && written.as_slice() == bytes,
         Err(error) => want == Some(error),
     }
 }
 
-/// The longest message that can be written, read again (RFC 1035, 4.2.2), and one that is a byte longer: the bytes of the rdata,
-/// those of the message, and why it isn't written.
-const SIZES: [(u16, usize, Option<EncodeError>); 2] = [
-    (65_512, 65_535, None),
-    (65_513, 65_536, Some(EncodeError::TooLong)),
+/// Whether the bytes are a message that is written as these very bytes, or the message isn't written by this error.
+fn are_written_so(alloc: Global, bytes: &[u8], want: Option<EncodeError>) -> bool {
+    match read(alloc, bytes) {
+        Some(message) => is_written_so(alloc, &message, bytes, want),
+        None => false,
+    }
+}
+
+/// The bytes of an rdata, those of the message, and why it isn't written.
+struct Long(u16, usize, Option<EncodeError>);
+
+/// The longest message that can be written, read again (RFC 1035, 4.2.2), and one that is a byte longer.
+const SIZES: &[(&str, Long)] = &[
+    ("the longest", Long(65_512, 65_535, None)),
+    (
+        "a byte longer",
+        Long(65_513, 65_536, Some(EncodeError::TooLong)),
+    ),
 ];
 
-fn is_so_long(
-    alloc: Global,
-    size: u16,
-    all: usize,
-    want: Option<EncodeError>,
-) -> Result<bool, AllocError> {
-    let bytes = with_size(alloc, size)?;
-    Ok(bytes.len() == all && is_written_so(alloc, &bytes, want))
+impl Row for Long {
+    fn holds(&self, alloc: Global) -> Result<bool, AllocError> {
+        let bytes = with_size(alloc, self.0)?;
+        Ok(bytes.len() == self.1 && are_written_so(alloc, &bytes, self.2))
+    }
 }
 
 #[test]
-fn longest_message(rt: HostRuntime) -> Result<(), Fail> {
-    for (size, all, want) in &SIZES {
-        assert!(rt; is_so_long(rt.alloc(), *size, *all, *want)?, "{size}");
-    }
-    Ok(())
+fn longest_message(rt: HostRuntime) {
+    check_rows(&rt, rt.alloc(), SIZES);
 }
