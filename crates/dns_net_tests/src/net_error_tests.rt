@@ -1,5 +1,5 @@
 use crate::net_missing_tests::{denied_by_referral, write_soa};
-use crate::parts::{query, response, shows};
+use crate::parts::{check, check_number, query, response, shows};
 use dns_message::{DecodeError, DecodeKind};
 use dns_name::{Name, NoMemory, Text};
 use dns_net::{DnsError, IoKind, NetError, NoRecords, Notice, ProtoError};
@@ -11,19 +11,30 @@ use std::test::Fail;
 #[derive(Clone, Copy, Drop)]
 enum Sample {
     Busy,
-    Code(u16),
+    Refused,
+    NameErrorCode,
     Bogus,
-    Notice(Notice),
+    NotJudgedYet,
+    ExpiredRrsig,
+    WrongDnskey,
+    WrongRrsig,
+    NoQueryInRequest,
     NoConnections,
-    Decode(DecodeKind),
+    Short,
+    DecodedNoMemory,
     TooLong,
-    Io(IoKind),
+    BrokenPipe,
+    TimedOut,
     Timeout,
     Case,
     Truncated,
     NoMemory,
-    /// No records of this name and type, by this code, with nothing beside.
-    Missing(&'static str, u16, u16),
+    /// No records of a name with odd labels, with nothing beside.
+    MissingOdd,
+    /// No records of `a.b. TXT`, by NXDOMAIN.
+    MissingName,
+    /// No records of `a.b. TXT`, by NOERROR.
+    MissingType,
     /// No records, as a referral says.
     Referred,
     Denied,
@@ -33,15 +44,15 @@ enum Sample {
 
 struct Shown(Sample, &'static str);
 
-const SHOWN: [Shown; 23] = [
+const SHOWN: &[Shown] = &[
     Shown(Sample::Busy, "resource too busy"),
-    Shown(Sample::Code(5), "DNS error: error response: 5"),
+    Shown(Sample::Refused, "DNS error: error response: 5"),
     Shown(
-        Sample::Missing("o\\.g.\\128-.", 48, 3),
+        Sample::MissingOdd,
         "DNS error: no records found for o\\.g.\\128-. IN DNSKEY",
     ),
     Shown(
-        Sample::Missing("a.b.", 16, 3),
+        Sample::MissingName,
         "DNS error: no records found for a.b. IN TXT",
     ),
     Shown(
@@ -49,24 +60,18 @@ const SHOWN: [Shown; 23] = [
         "DNS error: DNSSEC Negative Record Response for o\\.g.\\128-. IN DNSKEY, Bogus",
     ),
     Shown(Sample::Bogus, "DNS error: DNSSEC validation failed"),
-    Shown(Sample::Notice(Notice::NotJudgedYet), "not judged yet"),
-    Shown(Sample::Notice(Notice::ExpiredRrsig), "ExpiredRrsig"),
-    Shown(Sample::Notice(Notice::WrongDnskey), "WrongDnskey"),
-    Shown(Sample::Notice(Notice::WrongRrsig), "WrongRrsig"),
-    Shown(
-        Sample::Notice(Notice::NoQueryInRequest),
-        "no query in request",
-    ),
+    Shown(Sample::NotJudgedYet, "not judged yet"),
+    Shown(Sample::ExpiredRrsig, "ExpiredRrsig"),
+    Shown(Sample::WrongDnskey, "WrongDnskey"),
+    Shown(Sample::WrongRrsig, "WrongRrsig"),
+    Shown(Sample::NoQueryInRequest, "no query in request"),
     Shown(Sample::OwnText, "the pool is closed"),
     Shown(Sample::NoConnections, "no connections available"),
-    Shown(
-        Sample::Decode(DecodeKind::Short),
-        "protocol error: Short 12",
-    ),
-    Shown(Sample::Decode(DecodeKind::NoMemory), "out of memory"),
+    Shown(Sample::Short, "protocol error: Short 12"),
+    Shown(Sample::DecodedNoMemory, "out of memory"),
     Shown(Sample::TooLong, "protocol error: TooLong"),
-    Shown(Sample::Io(IoKind::BrokenPipe), "io error: BrokenPipe"),
-    Shown(Sample::Io(IoKind::TimedOut), "request timed out"),
+    Shown(Sample::BrokenPipe, "io error: BrokenPipe"),
+    Shown(Sample::TimedOut, "request timed out"),
     Shown(Sample::Timeout, "request timed out"),
     Shown(Sample::Case, "case of query name in response did not match"),
     Shown(
@@ -80,17 +85,36 @@ const SHOWN: [Shown; 23] = [
     Shown(Sample::NoMemory, "out of memory"),
 ];
 
+fn shown_rows() -> &'static [Shown] {
+    SHOWN
+}
+
+fn failed(code: u16) -> NetError {
+    NetError::from(DnsError::ResponseCode(ResponseCode(code)))
+}
+
+fn undecoded(kind: DecodeKind) -> NetError {
+    NetError::from(DecodeError { kind, offset: 12 })
+}
+
 /// An error that holds nothing; another sample is taken for `NoMemory`.
 fn plain(sample: Sample) -> NetError {
     match sample {
         Sample::Busy => NetError::Busy,
-        Sample::Code(code) => NetError::from(DnsError::ResponseCode(ResponseCode(code))),
+        Sample::Refused => failed(5),
+        Sample::NameErrorCode => failed(3),
         Sample::Bogus => NetError::from(DnsError::DnssecBogus),
-        Sample::Notice(notice) => NetError::from(notice),
+        Sample::NotJudgedYet => NetError::from(Notice::NotJudgedYet),
+        Sample::ExpiredRrsig => NetError::from(Notice::ExpiredRrsig),
+        Sample::WrongDnskey => NetError::from(Notice::WrongDnskey),
+        Sample::WrongRrsig => NetError::from(Notice::WrongRrsig),
+        Sample::NoQueryInRequest => NetError::from(Notice::NoQueryInRequest),
         Sample::NoConnections => NetError::NoConnections,
-        Sample::Decode(kind) => NetError::from(DecodeError { kind, offset: 12 }),
+        Sample::Short => undecoded(DecodeKind::Short),
+        Sample::DecodedNoMemory => undecoded(DecodeKind::NoMemory),
         Sample::TooLong => NetError::from(ProtoError::TooLong),
-        Sample::Io(kind) => NetError::from(kind),
+        Sample::BrokenPipe => NetError::from(IoKind::BrokenPipe),
+        Sample::TimedOut => NetError::from(IoKind::TimedOut),
         Sample::Timeout => NetError::Timeout,
         Sample::Case => NetError::QueryCaseMismatch,
         Sample::Truncated => NetError::Truncated,
@@ -125,7 +149,9 @@ fn foreign(alloc: Global) -> Result<NetError, Fail> {
 
 fn error_of(alloc: Global, sample: Sample) -> Result<NetError, Fail> {
     match sample {
-        Sample::Missing(name, record_type, code) => missing(alloc, name, record_type, code),
+        Sample::MissingOdd => missing(alloc, "o\\.g.\\128-.", 48, 3),
+        Sample::MissingName => missing(alloc, "a.b.", 16, 3),
+        Sample::MissingType => missing(alloc, "a.b.", 16, 0),
         Sample::Referred => denied_by_referral(alloc),
         Sample::Denied => denied(alloc),
         Sample::OwnText => own_text(alloc),
@@ -152,56 +178,80 @@ fn is_shown(alloc: Global, row: &Shown) -> Result<bool, Fail> {
 #[test]
 fn errors_show_their_texts(rt: HostRuntime) -> Result<(), Fail> {
     let alloc = rt.alloc();
-    for row in &SHOWN {
-        let is_right = is_shown(alloc, row)?;
-        assert!(rt; is_right, "{}", row.1);
+    for row in shown_rows() {
+        check(&rt, row.1, is_shown(alloc, row))?;
     }
     Ok(())
 }
 
-/// An error, and whether it is NXDOMAIN, there are no records, and a connection is gone.
-struct Tested(Sample, bool, bool, bool);
+/// An error, and whether it is NXDOMAIN, and there are no records. No connection is gone.
+struct Tested(Sample, bool, bool);
 
-const TESTED: [Tested; 18] = [
-    Tested(Sample::Missing("a.b.", 16, 3), true, true, false),
-    Tested(Sample::Missing("a.b.", 16, 0), false, true, false),
-    Tested(Sample::Code(3), false, false, false),
-    Tested(Sample::NoMemory, false, false, false),
-    // five kinds say that a connection is gone
-    Tested(Sample::Io(IoKind::PermissionDenied), false, false, false),
-    Tested(Sample::Io(IoKind::ConnectionRefused), false, false, false),
-    Tested(Sample::Io(IoKind::ConnectionReset), false, false, true),
-    Tested(Sample::Io(IoKind::ConnectionAborted), false, false, true),
-    Tested(Sample::Io(IoKind::NotConnected), false, false, true),
-    Tested(Sample::Io(IoKind::AddrInUse), false, false, false),
-    Tested(Sample::Io(IoKind::AddrNotAvailable), false, false, false),
-    Tested(Sample::Io(IoKind::BrokenPipe), false, false, true),
-    Tested(Sample::Io(IoKind::InvalidData), false, false, false),
-    // `Timeout`
-    Tested(Sample::Io(IoKind::TimedOut), false, false, false),
-    Tested(Sample::Io(IoKind::UnexpectedEof), false, false, true),
-    Tested(Sample::Io(IoKind::RequestTooLong), false, false, false),
-    Tested(Sample::Io(IoKind::Other), false, false, false),
-    Tested(Sample::Timeout, false, false, false),
+const TESTED: &[Tested] = &[
+    Tested(Sample::MissingName, true, true),
+    Tested(Sample::MissingType, false, true),
+    Tested(Sample::NameErrorCode, false, false),
+    Tested(Sample::NoMemory, false, false),
+    Tested(Sample::Timeout, false, false),
 ];
 
-fn answers_as(error: &NetError, row: &Tested) -> bool {
-    error.is_nx_domain() == row.1
-        && error.is_no_records_found() == row.2
-        && error.is_connection_closed() == row.3
+fn tested_rows() -> &'static [Tested] {
+    TESTED
+}
+
+/// A kind of fault outside, and whether it says that a connection is gone. None says what is missing.
+struct Outside(IoKind, bool);
+
+const OUTSIDE: &[Outside] = &[
+    // five kinds say that a connection is gone
+    Outside(IoKind::PermissionDenied, false),
+    Outside(IoKind::ConnectionRefused, false),
+    Outside(IoKind::ConnectionReset, true),
+    Outside(IoKind::ConnectionAborted, true),
+    Outside(IoKind::NotConnected, true),
+    Outside(IoKind::AddrInUse, false),
+    Outside(IoKind::AddrNotAvailable, false),
+    Outside(IoKind::BrokenPipe, true),
+    Outside(IoKind::InvalidData, false),
+    // `Timeout`
+    Outside(IoKind::TimedOut, false),
+    Outside(IoKind::UnexpectedEof, true),
+    Outside(IoKind::RequestTooLong, false),
+    Outside(IoKind::Other, false),
+];
+
+fn outside_rows() -> &'static [Outside] {
+    OUTSIDE
+}
+
+fn answers_as(error: &NetError, nx_domain: bool, no_records: bool, closed: bool) -> bool {
+    error.is_nx_domain() == nx_domain
+        && error.is_no_records_found() == no_records
+        && error.is_connection_closed() == closed
 }
 
 fn is_tested(alloc: Global, row: &Tested) -> Result<bool, Fail> {
     let error = error_of(alloc, row.0)?;
-    Ok(answers_as(&error, row))
+    Ok(answers_as(&error, row.1, row.2, false))
+}
+
+fn is_outside(row: &Outside) -> bool {
+    answers_as(&NetError::from(row.0), false, false, row.1)
 }
 
 #[test]
 fn errors_tell_what_is_missing(rt: HostRuntime) -> Result<(), Fail> {
     let alloc = rt.alloc();
-    for (number, row) in TESTED.iter().enumerate() {
-        let is_right = is_tested(alloc, row)?;
-        assert!(rt; is_right, "row {number}");
+    for (number, row) in tested_rows().iter().enumerate() {
+        check_number(&rt, number, is_tested(alloc, row))?;
+    }
+    Ok(())
+}
+
+#[test]
+fn errors_of_the_outside_tell_whether_a_connection_is_gone(rt: HostRuntime) -> Result<(), Fail> {
+    for (number, row) in outside_rows().iter().enumerate() {
+        check_number(&rt, number, Ok(is_outside(row)))?;
     }
     Ok(())
 }
@@ -209,11 +259,15 @@ fn errors_tell_what_is_missing(rt: HostRuntime) -> Result<(), Fail> {
 /// An error, and the owner and the ttl of the SOA that it holds.
 struct Held(Sample, &'static str);
 
-const SOAS: [Held; 3] = [
+const SOAS: &[Held] = &[
     Held(Sample::Referred, "C. 60"),
-    Held(Sample::Missing("a.b.", 16, 3), "none"),
+    Held(Sample::MissingName, "none"),
     Held(Sample::Busy, "none"),
 ];
+
+fn soas() -> &'static [Held] {
+    SOAS
+}
 
 fn soa_has_text(alloc: Global, soa: &Option<Record>, want: &str) -> Result<bool, Fail> {
     let mut text = String::new(alloc);
@@ -229,9 +283,8 @@ fn holds_soa(alloc: Global, row: &Held) -> Result<bool, Fail> {
 #[test]
 fn no_records_give_their_soa(rt: HostRuntime) -> Result<(), Fail> {
     let alloc = rt.alloc();
-    for row in &SOAS {
-        let is_right = holds_soa(alloc, row)?;
-        assert!(rt; is_right, "{}", row.1);
+    for row in soas() {
+        check(&rt, row.1, holds_soa(alloc, row))?;
     }
     Ok(())
 }

@@ -1,4 +1,4 @@
-use crate::parts::{query, record, response};
+use crate::parts::{check, query, record, response};
 use dns_message::Message;
 use dns_net::{DnsError, DnsResponse, ForwardNSData, NetError, NoRecords};
 use dns_record::Record;
@@ -17,7 +17,7 @@ struct Held(&'static str, u16, Option<u32>, &'static [u8]);
 
 /// The authority section of a referral that also denies: NS records, one of whose servers has addresses and one that can't be
 /// read; an SOA that can't be read, and two that can.
-const AUTHORITIES: [Held; 6] = [
+const AUTHORITIES: &[Held] = &[
     Held("b.", 2, Some(60), SERVER),
     Held("c.", 6, Some(5), b""),
     Held("C.", 6, None, SOA_RDATA),
@@ -26,13 +26,21 @@ const AUTHORITIES: [Held; 6] = [
     Held("e.", 6, Some(1), SOA_RDATA),
 ];
 
+fn authorities() -> &'static [Held] {
+    AUTHORITIES
+}
+
 /// Addresses of `ns.` in either case, and records that are none.
-const ADDITIONALS: [Held; 4] = [
+const ADDITIONALS: &[Held] = &[
     Held("ns.", 28, Some(60), b"0123456789abcdef"),
     Held("a.", 1, Some(60), b"addr"),
     Held("ns.", 16, Some(60), b"\0"),
     Held("NS.", 1, Some(60), b"addr"),
 ];
+
+fn additionals() -> &'static [Held] {
+    ADDITIONALS
+}
 
 fn add(alloc: Global, records: &mut Vec<Record>, held: &[Held], ttl: u32) -> Result<(), Fail> {
     for one in held {
@@ -42,75 +50,96 @@ fn add(alloc: Global, records: &mut Vec<Record>, held: &[Held], ttl: u32) -> Res
 }
 
 fn refer(alloc: Global, message: &mut Message, ttl: u32) -> Result<(), Fail> {
-    add(alloc, &mut message.authorities, &AUTHORITIES, ttl)?;
-    add(alloc, &mut message.additionals, &ADDITIONALS, ttl)
+    add(alloc, &mut message.authorities, authorities(), ttl)?;
+    add(alloc, &mut message.additionals, additionals(), ttl)
 }
 
-fn referral(alloc: Global, code: u16, ttl: u32) -> Result<DnsResponse, Fail> {
-    let mut made = response(alloc, "a.b.", 16, code)?;
-    refer(alloc, &mut made.message, ttl)?;
+/// What else a response says that leaves no records.
+#[derive(Clone, Copy, Drop)]
+enum Denying {
+    /// It refers to servers, with that ttl of its SOA.
+    Referral(u32),
+    Empty,
+    WithoutQuestions,
+    /// It has `y. A` for its second question.
+    OfTwoQuestions,
+}
+
+fn deny(alloc: Global, message: &mut Message, kind: Denying) -> Result<(), Fail> {
+    match kind {
+        Denying::Referral(ttl) => refer(alloc, message, ttl)?,
+        Denying::Empty => {}
+        Denying::WithoutQuestions => message.queries.clear(),
+        Denying::OfTwoQuestions => message.queries.push(query(alloc, "y.", 1)?)?,
+    }
+    Ok(())
+}
+
+/// A response by its question, code and kind, and what it becomes: question, code, SOA with its ttl, how long it may be
+/// believed, servers with their addresses, how many records of the authority section.
+struct Row(&'static str, u16, u16, Denying, &'static str);
+
+const ROWS: &[Row] = &[
+    Row(
+        "a.b.",
+        16,
+        3,
+        Denying::Referral(60),
+        "a.b. IN TXT; 3; C. 60; Some(30); b. ns.-28 NS.-1 b. d.; 6",
+    ),
+    Row(
+        "a.b.",
+        16,
+        0,
+        Denying::Referral(10),
+        "a.b. IN TXT; 0; C. 10; Some(10); b. ns.-28 NS.-1 b. d.; 6",
+    ),
+    Row("o.", 43, 0, Denying::Empty, "o. IN DS; 0; none; None;; 0"),
+    // where there is no question, it is the root's addresses
+    Row(
+        "a.",
+        1,
+        0,
+        Denying::WithoutQuestions,
+        ". IN A; 0; none; None;; 0",
+    ),
+    // the first of more questions
+    Row(
+        "x.",
+        1,
+        3,
+        Denying::OfTwoQuestions,
+        "x. IN A; 3; none; None;; 0",
+    ),
+];
+
+fn rows() -> &'static [Row] {
+    ROWS
+}
+
+/// A response with this question and code, of this kind.
+fn denying_response(
+    alloc: Global,
+    name: &str,
+    record_type: u16,
+    code: u16,
+    kind: Denying,
+) -> Result<DnsResponse, Fail> {
+    let mut made = response(alloc, name, record_type, code)?;
+    deny(alloc, &mut made.message, kind)?;
     Ok(made)
 }
 
 /// The error that a referral becomes.
 pub(crate) fn denied_by_referral(alloc: Global) -> Result<NetError, Fail> {
-    match DnsError::from_response(alloc, referral(alloc, 3, 60)?)? {
+    match DnsError::from_response(
+        alloc,
+        denying_response(alloc, "a.b.", 16, 3, Denying::Referral(60))?,
+    )? {
         Ok(_) => Err(Fail::new("not denied")),
         Err(error) => Ok(NetError::from(error)),
     }
 }
-
-/// A response without questions and records.
-fn without_questions(alloc: Global) -> Result<DnsResponse, Fail> {
-    let mut made = response(alloc, "a.", 1, 0)?;
-    made.message.queries.clear();
-    Ok(made)
-}
-
-fn of_two_questions(alloc: Global) -> Result<DnsResponse, Fail> {
-    let mut made = response(alloc, "x.", 1, 3)?;
-    made.message.queries.push(query(alloc, "y.", 1)?)?;
-    Ok(made)
-}
-
-/// A response that leaves no records.
-#[derive(Clone, Copy, Drop)]
-enum Denying {
-    /// A referral with this code and that ttl of its SOA.
-    Referral(u16, u32),
-    Empty,
-    WithoutQuestions,
-    OfTwoQuestions,
-}
-
-fn response_of(alloc: Global, kind: Denying) -> Result<DnsResponse, Fail> {
-    match kind {
-        Denying::Referral(code, ttl) => referral(alloc, code, ttl),
-        Denying::Empty => response(alloc, "o.", 43, 0),
-        Denying::WithoutQuestions => without_questions(alloc),
-        Denying::OfTwoQuestions => of_two_questions(alloc),
-    }
-}
-
-/// A response, and what it becomes: question, code, SOA with its ttl, how long it may be believed, servers with their addresses,
-/// how many records of the authority section.
-struct Row(Denying, &'static str);
-
-const ROWS: [Row; 5] = [
-    Row(
-        Denying::Referral(3, 60),
-        "a.b. IN TXT; 3; C. 60; Some(30); b. ns.-28 NS.-1 b. d.; 6",
-    ),
-    Row(
-        Denying::Referral(0, 10),
-        "a.b. IN TXT; 0; C. 10; Some(10); b. ns.-28 NS.-1 b. d.; 6",
-    ),
-    Row(Denying::Empty, "o. IN DS; 0; none; None;; 0"),
-    // where there is no question, it is the root's addresses
-    Row(Denying::WithoutQuestions, ". IN A; 0; none; None;; 0"),
-    // the first of more questions
-    Row(Denying::OfTwoQuestions, "x. IN A; 3; none; None;; 0"),
-];
 
 pub(crate) fn write_soa(text: &mut String, soa: &Option<Record>) -> Result<(), Fail> {
     match soa {
@@ -168,16 +197,18 @@ fn have_text(
 }
 
 fn becomes(alloc: Global, row: &Row) -> Result<bool, Fail> {
-    let became = DnsError::from_response(alloc, response_of(alloc, row.0)?)?;
-    have_text(alloc, &became, row.1)
+    let became = DnsError::from_response(
+        alloc,
+        denying_response(alloc, row.0, row.1, row.2, row.3)?,
+    )?;
+    have_text(alloc, &became, row.4)
 }
 
 #[test]
 fn no_records_keep_what_the_server_said(rt: HostRuntime) -> Result<(), Fail> {
     let alloc = rt.alloc();
-    for row in &ROWS {
-        let is_right = becomes(alloc, row)?;
-        assert!(rt; is_right, "{}", row.1);
+    for row in rows() {
+        check(&rt, row.4, becomes(alloc, row))?;
     }
     Ok(())
 }

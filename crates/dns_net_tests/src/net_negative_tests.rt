@@ -1,4 +1,4 @@
-use crate::parts::{query, record, response};
+use crate::parts::{check_number, query, record, response};
 use dns_message::Message;
 use dns_net::{DnsError, DnsResponse};
 use dns_record::{Record, Section};
@@ -31,7 +31,7 @@ const SOA: u16 = 6;
 
 const ANY: u16 = 255;
 
-const ROWS: [Row; 22] = [
+const ROWS: &[Row] = &[
     // whatever stands in the answer section answers
     Row(
         Named("a.", A),
@@ -170,6 +170,10 @@ const ROWS: [Row; 22] = [
     ),
 ];
 
+fn rows() -> &'static [Row] {
+    ROWS
+}
+
 fn outcome_of(became: &Result<DnsResponse, DnsError>) -> Outcome {
     match became {
         Ok(_) => Outcome::Response,
@@ -203,22 +207,17 @@ fn add(alloc: Global, message: &mut Message, section: Section, named: Named) -> 
     Ok(())
 }
 
-fn response_of(alloc: Global, row: &Row) -> Result<DnsResponse, Fail> {
+fn is_row(alloc: Global, row: &Row) -> Result<bool, Fail> {
     let mut made = response(alloc, row.0.0, row.0.1, 0)?;
     add(alloc, &mut made.message, row.1, row.2)?;
-    Ok(made)
-}
-
-fn is_row(alloc: Global, row: &Row) -> Result<bool, Fail> {
-    becomes(alloc, response_of(alloc, row)?, row.3)
+    becomes(alloc, made, row.3)
 }
 
 #[test]
 fn a_contained_answer_is_no_denial(rt: HostRuntime) -> Result<(), Fail> {
     let alloc = rt.alloc();
-    for (number, row) in ROWS.iter().enumerate() {
-        let is_right = is_row(alloc, row)?;
-        assert!(rt; is_right, "row {number}");
+    for (number, row) in rows().iter().enumerate() {
+        check_number(&rt, number, is_row(alloc, row))?;
     }
     Ok(())
 }
@@ -245,7 +244,7 @@ enum But {
 /// A response that denies by an SOA, but for one thing, with its code; what becomes of it.
 struct Case(But, u16, Outcome);
 
-const CASES: [Case; 37] = [
+const CASES: &[Case] = &[
     // the codes by which a server says that it failed (RFC 6895, 2.3): FORMERR, SERVFAIL, NOTIMP to NOTZONE, BADVERS to BADCOOKIE
     Case(But::Empty, 1, Outcome::Failure(1)),
     Case(But::Empty, 2, Outcome::Failure(2)),
@@ -291,6 +290,10 @@ const CASES: [Case; 37] = [
     Case(But::NoQuestionAnswered, 0, Outcome::Missing),
 ];
 
+fn cases() -> &'static [Case] {
+    CASES
+}
+
 /// Asks for the SOA of a name too.
 fn ask_also(alloc: Global, message: &mut Message, name: &str) -> Result<(), Fail> {
     message.queries.push(query(alloc, name, SOA)?)?;
@@ -314,37 +317,33 @@ fn change(alloc: Global, message: &mut Message, but: But) -> Result<(), Fail> {
     Ok(())
 }
 
-/// A response with this code, whose denial is an SOA.
-fn denied(alloc: Global, code: u16) -> Result<DnsResponse, Fail> {
-    let mut made = response(alloc, "a.b.", A, code)?;
-    add(
-        alloc,
-        &mut made.message,
-        Section::Authority,
-        Named("b.", SOA),
-    )?;
-    Ok(made)
+/// Adds an SOA that denies, and changes the one thing.
+fn deny(alloc: Global, message: &mut Message, but: But) -> Result<(), Fail> {
+    if matches!(but, But::Empty) {
+        return Ok(());
+    }
+    add(alloc, message, Section::Authority, Named("b.", SOA))?;
+    change(alloc, message, but)
 }
 
-fn denying(alloc: Global, row: &Case) -> Result<DnsResponse, Fail> {
-    if matches!(row.0, But::Empty) {
-        return response(alloc, "a.", A, row.1);
+fn question_of(but: But) -> &'static str {
+    match but {
+        But::Empty => "a.",
+        _ => "a.b.",
     }
-    let mut made = denied(alloc, row.1)?;
-    change(alloc, &mut made.message, row.0)?;
-    Ok(made)
 }
 
 fn is_case(alloc: Global, row: &Case) -> Result<bool, Fail> {
-    becomes(alloc, denying(alloc, row)?, row.2)
+    let mut made = response(alloc, question_of(row.0), A, row.1)?;
+    deny(alloc, &mut made.message, row.0)?;
+    becomes(alloc, made, row.2)
 }
 
 #[test]
 fn a_denial_is_whole_and_answers_no_question(rt: HostRuntime) -> Result<(), Fail> {
     let alloc = rt.alloc();
-    for (number, row) in CASES.iter().enumerate() {
-        let is_right = is_case(alloc, row)?;
-        assert!(rt; is_right, "row {number}");
+    for (number, row) in cases().iter().enumerate() {
+        check_number(&rt, number, is_case(alloc, row))?;
     }
     Ok(())
 }

@@ -1,4 +1,4 @@
-use crate::parts::{nothing, query, request};
+use crate::parts::{check, check_number, nothing, query, request};
 use dns_message::Message;
 use dns_net::{DnsRequest, DnsRequestOptions};
 use dns_record::Query;
@@ -12,7 +12,7 @@ struct Cased {
     changed: &'static str,
 }
 
-const CASED: [Cased; 9] = [
+const CASED: &[Cased] = &[
     Cased {
         name: "aB-c.De.",
         bits: &[0b0_0001],
@@ -63,6 +63,10 @@ const CASED: [Cased; 9] = [
     },
 ];
 
+fn cased_rows() -> &'static [Cased] {
+    CASED
+}
+
 /// The question is this one, also in case.
 fn asks(question: Option<&Query>, name: &str, record_type: u16) -> Result<bool, Fail> {
     let Some(question) = question else {
@@ -88,9 +92,8 @@ fn is_cased(alloc: Global, row: &Cased) -> Result<bool, Fail> {
 #[test]
 fn letters_change_where_their_bit_is_set(rt: HostRuntime) -> Result<(), Fail> {
     let alloc = rt.alloc();
-    for row in &CASED {
-        let is_right = is_cased(alloc, row)?;
-        assert!(rt; is_right, "at {}", row.changed);
+    for row in cased_rows() {
+        check(&rt, row.changed, is_cased(alloc, row))?;
     }
     Ok(())
 }
@@ -99,9 +102,14 @@ fn bits() -> &'static [u8] {
     b"\xff"
 }
 
+fn ask_also(alloc: Global, queries: &mut Vec<Query>) -> Result<(), Fail> {
+    queries.push(query(alloc, "b.", 2)?)?;
+    Ok(())
+}
+
 fn two_questions(alloc: Global) -> Result<DnsRequest, Fail> {
     let mut request = request(alloc, "a.", 1)?;
-    request.message.queries.push(query(alloc, "b.", 2)?)?;
+    ask_also(alloc, &mut request.message.queries)?;
     Ok(request)
 }
 
@@ -136,19 +144,23 @@ fn asks_as_before(request: &DnsRequest) -> Result<bool, Fail> {
     )
 }
 
+fn copy_asks_as_before(request: &DnsRequest) -> Result<bool, Fail> {
+    let copy = request.try_clone()?;
+    asks_as_before(&copy)
+}
+
 /// A second change keeps the question as the first has left it.
 fn keeps_what_was_before(alloc: Global) -> Result<bool, Fail> {
-    let twice = changed_twice(alloc)?.try_clone()?;
-    asks_as_before(&twice)
+    let twice = changed_twice(alloc)?;
+    copy_asks_as_before(&twice)
 }
 
 #[test]
 fn the_first_question_is_changed_and_kept(rt: HostRuntime) -> Result<(), Fail> {
     let alloc = rt.alloc();
-    assert!(rt; changes_the_first(alloc)?);
-    assert!(rt; stays_without_a_question(alloc)?);
-    assert!(rt; keeps_what_was_before(alloc)?);
-    Ok(())
+    check(&rt, "the first", changes_the_first(alloc))?;
+    check(&rt, "without a question", stays_without_a_question(alloc))?;
+    check(&rt, "twice", keeps_what_was_before(alloc))
 }
 
 /// Options, and the bytes of the request for `. NS`.
@@ -161,7 +173,7 @@ struct Written {
 }
 
 /// RD is 01 in the third byte; an OPT has type 41, the payload for its class and DO as the highest bit of its flags.
-const WRITTEN: [Written; 4] = [
+const WRITTEN: &[Written] = &[
     Written {
         use_edns: false,
         payload: 1232,
@@ -192,6 +204,10 @@ const WRITTEN: [Written; 4] = [
     },
 ];
 
+fn written_rows() -> &'static [Written] {
+    WRITTEN
+}
+
 fn options_of(row: &Written) -> DnsRequestOptions {
     DnsRequestOptions {
         use_edns: row.use_edns,
@@ -219,9 +235,8 @@ fn is_written(alloc: Global, row: &Written) -> Result<bool, Fail> {
 #[test]
 fn requests_are_written(rt: HostRuntime) -> Result<(), Fail> {
     let alloc = rt.alloc();
-    for row in &WRITTEN {
-        let is_right = is_written(alloc, row)?;
-        assert!(rt; is_right, "payload {}", row.payload);
+    for (number, row) in written_rows().iter().enumerate() {
+        check_number(&rt, number, is_written(alloc, row))?;
     }
     Ok(())
 }

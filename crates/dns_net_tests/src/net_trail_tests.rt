@@ -1,4 +1,4 @@
-use crate::parts::{bare_set, bare_step, query, record, response};
+use crate::parts::{bare_set, bare_step, check, query, record, response};
 use dns_name::Name;
 use dns_net::*;
 use dns_record::{DNSClass, Proof, Record, RecordType, ResponseCode};
@@ -11,10 +11,12 @@ use std::test::Fail;
 enum End {
     Seen,
     Failed,
-    /// By a record of the class CH at `a.`.
-    Foreign(RecordType),
-    Answered(Denial),
-    Denied(Proof),
+    /// By a TXT record of the class CH at `a.`.
+    Foreign,
+    /// By an answer that was expanded, which is Secure.
+    Expanded,
+    /// By a denial that is Bogus.
+    Denied,
 }
 
 /// A set of `a. SOA`, by what is told of it.
@@ -27,7 +29,7 @@ struct Judged {
 }
 
 /// A set of each origin.
-const JUDGED: [Judged; 3] = [
+const JUDGED: &[Judged] = &[
     Judged {
         section: Section::Answer,
         mark: Proof::Secure,
@@ -51,6 +53,10 @@ const JUDGED: [Judged; 3] = [
     },
 ];
 
+fn judged_rows() -> &'static [Judged] {
+    JUDGED
+}
+
 /// A step that asks for `org.`, and its text: depth, whether it was to be judged, question; reply; sets; ending; excuse.
 struct Shown {
     depth: u16,
@@ -65,7 +71,7 @@ struct Shown {
     text: &'static str,
 }
 
-const SHOWN: [Shown; 5] = [
+const SHOWN: &[Shown] = &[
     Shown {
         depth: 2,
         judged: false,
@@ -92,7 +98,7 @@ const SHOWN: [Shown; 5] = [
         record_type: 1,
         reply: Some((3, false)),
         has_sets: false,
-        ending: End::Foreign(RecordType(16)),
+        ending: End::Foreign,
         excuse: &[],
         text: "65535 true org. IN A; code 3 empty false records 1 2 3; ; foreign a. 3 16; []",
     },
@@ -102,7 +108,7 @@ const SHOWN: [Shown; 5] = [
         record_type: 48,
         reply: Some((0, false)),
         has_sets: true,
-        ending: End::Answered(Denial::Expanded(Proof::Secure)),
+        ending: End::Expanded,
         excuse: &[],
         text: "1 true org. IN DNSKEY; code 0 empty false records 1 2 3; Answer a. 6 Secure Table Some(7) [Step(1), TooMany], Additional a. 6 Bogus Repeat(2) None [], Authority a. 6 Insecure Cache Some(0) []; Expanded(Secure); []",
     },
@@ -112,28 +118,43 @@ const SHOWN: [Shown; 5] = [
         record_type: 1,
         reply: Some((3, false)),
         has_sets: false,
-        ending: End::Denied(Proof::Bogus),
+        ending: End::Denied,
         excuse: &[AskRef::Step(3), AskRef::TooMany],
         text: "0 true org. IN A; code 3 empty false records 1 2 3; ; denied Bogus; [Step(3), TooMany]",
     },
 ];
 
-fn records(alloc: Global, count: usize) -> Result<Vec<Record>, Fail> {
-    let mut records = Vec::new(alloc);
+fn shown_rows() -> &'static [Shown] {
+    SHOWN
+}
+
+fn add_records(alloc: Global, records: &mut Vec<Record>, count: usize) -> Result<(), Fail> {
     for _ in 0..count {
         records.push(record(alloc, "a.", 1, 60, b"addr")?)?;
     }
-    Ok(records)
+    Ok(())
+}
+
+fn tell(alloc: Global, told: &mut Told) -> Result<(), Fail> {
+    add_records(alloc, &mut told.answers, 1)?;
+    add_records(alloc, &mut told.authorities, 2)?;
+    add_records(alloc, &mut told.additionals, 3)
+}
+
+fn bare_told(alloc: Global, code: u16, empty: bool) -> Told {
+    Told {
+        code: ResponseCode(code),
+        empty,
+        answers: Vec::new(alloc),
+        authorities: Vec::new(alloc),
+        additionals: Vec::new(alloc),
+    }
 }
 
 fn told(alloc: Global, code: u16, empty: bool) -> Result<Reply, Fail> {
-    Ok(Reply::Told(Told {
-        code: ResponseCode(code),
-        empty,
-        answers: records(alloc, 1)?,
-        authorities: records(alloc, 2)?,
-        additionals: records(alloc, 3)?,
-    }))
+    let mut told = bare_told(alloc, code, empty);
+    tell(alloc, &mut told)?;
+    Ok(Reply::Told(told))
 }
 
 fn reply(alloc: Global, reply: Option<(u16, bool)>) -> Result<Reply, Fail> {
@@ -155,17 +176,17 @@ fn judged_set(alloc: Global, judged: &Judged) -> Result<JudgedSet, Fail> {
 }
 
 fn add_sets(alloc: Global, sets: &mut Vec<JudgedSet>) -> Result<(), Fail> {
-    for judged in &JUDGED {
+    for judged in judged_rows() {
         sets.push(judged_set(alloc, judged)?)?;
     }
     Ok(())
 }
 
-fn foreign(alloc: Global, record_type: RecordType) -> Result<Ending, Fail> {
+fn foreign(alloc: Global) -> Result<Ending, Fail> {
     Ok(Ending::Foreign {
         owner: Name::from_ascii(alloc, "a.")?,
         class: DNSClass::CH,
-        record_type,
+        record_type: RecordType(16),
     })
 }
 
@@ -173,9 +194,9 @@ fn ending(alloc: Global, end: End) -> Result<Ending, Fail> {
     match end {
         End::Seen => Ok(Ending::Seen),
         End::Failed => Ok(Ending::Failed),
-        End::Foreign(record_type) => foreign(alloc, record_type),
-        End::Answered(denial) => Ok(Ending::Answered(denial)),
-        End::Denied(proof) => Ok(Ending::Denied(proof)),
+        End::Foreign => foreign(alloc),
+        End::Expanded => Ok(Ending::Answered(Denial::Expanded(Proof::Secure))),
+        End::Denied => Ok(Ending::Denied(Proof::Bogus)),
     }
 }
 
@@ -199,22 +220,20 @@ fn step(alloc: Global, row: &Shown) -> Result<Asked, Fail> {
 }
 
 fn add_steps(alloc: Global, steps: &mut Vec<Asked>) -> Result<(), Fail> {
-    for row in &SHOWN {
+    for row in shown_rows() {
         steps.push(step(alloc, row)?)?;
     }
     Ok(())
 }
 
-/// A trail with a step of each kind.
-fn trail(alloc: Global) -> Result<Trail, Fail> {
-    let mut steps = Vec::new(alloc);
-    add_steps(alloc, &mut steps)?;
-    Ok(Trail { steps })
+fn add_trail(alloc: Global, trail: &mut Trail) -> Result<(), Fail> {
+    add_steps(alloc, &mut trail.steps)
 }
 
+/// A response whose trail has a step of each kind.
 fn with_trail(alloc: Global) -> Result<DnsResponse, Fail> {
     let mut response = response(alloc, "org.", 1, 3)?;
-    response.trail = trail(alloc)?;
+    add_trail(alloc, &mut response.trail)?;
     Ok(response)
 }
 
@@ -223,17 +242,16 @@ fn copy_with_trail(alloc: Global) -> Result<DnsResponse, Fail> {
     Ok(response.try_clone()?)
 }
 
+fn write_counts(text: &mut String, told: &Told) -> Result<(), Fail> {
+    let answers = told.answers.len();
+    let authorities = told.authorities.len();
+    let additionals = told.additionals.len();
+    Ok(write!(text, " records {answers} {authorities} {additionals}")?)
+}
+
 fn write_told(text: &mut String, told: &Told) -> Result<(), Fail> {
-    write!(
-        text,
-        "code {} empty {} records {} {} {}",
-        told.code.0,
-        told.empty,
-        told.answers.len(),
-        told.authorities.len(),
-        told.additionals.len()
-    )?;
-    Ok(())
+    write!(text, "code {} empty {}", told.code.0, told.empty)?;
+    write_counts(text, told)
 }
 
 fn write_reply(text: &mut String, reply: &Reply) -> Result<(), Fail> {
@@ -262,13 +280,21 @@ fn write_ending(text: &mut String, ending: &Ending) -> Result<(), Fail> {
     Ok(())
 }
 
+fn write_mark(text: &mut String, set: &JudgedSet) -> Result<(), Fail> {
+    Ok(write!(
+        text,
+        " {:?} {:?} {:?} {:?}",
+        set.mark, set.origin, set.sig, set.asked
+    )?)
+}
+
 fn write_set(text: &mut String, set: &JudgedSet) -> Result<(), Fail> {
     write!(
         text,
-        "{:?} {} {} {:?} {:?} {:?} {:?}",
-        set.section, set.owner, set.record_type.0, set.mark, set.origin, set.sig, set.asked
+        "{:?} {} {}",
+        set.section, set.owner, set.record_type.0
     )?;
-    Ok(())
+    write_mark(text, set)
 }
 
 /// The texts of the sets, with commas between them.
@@ -316,9 +342,8 @@ fn is_copied(alloc: Global, number: usize, want: &str) -> Result<bool, Fail> {
 #[test]
 fn each_step_of_a_trail_is_copied(rt: HostRuntime) -> Result<(), Fail> {
     let alloc = rt.alloc();
-    for (number, row) in SHOWN.iter().enumerate() {
-        let is_right = is_copied(alloc, number, row.text)?;
-        assert!(rt; is_right, "at {}", row.text);
+    for (number, row) in shown_rows().iter().enumerate() {
+        check(&rt, row.text, is_copied(alloc, number, row.text))?;
     }
     Ok(())
 }

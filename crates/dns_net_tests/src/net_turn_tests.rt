@@ -1,6 +1,7 @@
-use crate::parts::{nothing, query, response, shows};
+use crate::parts::{check_number, nothing, query, response, shows};
 use dns_net::*;
 use std::alloc::Global;
+use std::process::Abort;
 use std::test::Fail;
 
 /// What is done with a handle. A name and a type are those of a query; the number is the code of a reply to it, where 16
@@ -15,7 +16,7 @@ enum Step {
     SendNothing,
 }
 
-const BY_TURN: [Step; 18] = [
+const BY_TURN: &[Step] = &[
     Step::Put("a.", 1, 1),
     Step::Put("b.", 1, 4),
     Step::Put("A.", 1, 2),
@@ -39,8 +40,12 @@ const BY_TURN: [Step; 18] = [
     Step::Send("a.", 2, 5),
 ];
 
+fn by_turn() -> &'static [Step] {
+    BY_TURN
+}
+
 /// Replies that are put in between sends come behind those that are left.
-const PUT_LATER: [Step; 11] = [
+const PUT_LATER: &[Step] = &[
     Step::Send("a.", 1, 99),
     Step::Put("a.", 1, 1),
     Step::Send("a.", 1, 1),
@@ -54,8 +59,12 @@ const PUT_LATER: [Step; 11] = [
     Step::Send("a.", 1, 4),
 ];
 
+fn put_later() -> &'static [Step] {
+    PUT_LATER
+}
+
 /// Without turns the first reply serves each send.
-const NOT_BY_TURN: [Step; 8] = [
+const NOT_BY_TURN: &[Step] = &[
     Step::Put("a.", 1, 1),
     Step::Put("a.", 1, 2),
     Step::Put("b.", 1, 16),
@@ -66,8 +75,12 @@ const NOT_BY_TURN: [Step; 8] = [
     Step::Send("b.", 1, 16),
 ];
 
+fn not_by_turn() -> &'static [Step] {
+    NOT_BY_TURN
+}
+
 /// One reply to each query is served alike with turns and without.
-const ONE_EACH: [Step; 6] = [
+const ONE_EACH: &[Step] = &[
     Step::Put("a.", 1, 1),
     Step::Put("b.", 1, 2),
     Step::Send("a.", 1, 1),
@@ -76,8 +89,12 @@ const ONE_EACH: [Step; 6] = [
     Step::Send("b.", 1, 2),
 ];
 
+fn one_each() -> &'static [Step] {
+    ONE_EACH
+}
+
 /// What a handle was told, of which one query each is sent.
-const TOLD: [Step; 5] = [
+const TOLD: &[Step] = &[
     Step::Put("org.", 2, 0),
     Step::Put("ORG.", 2, 5),
     Step::Put("org.", 1, 3),
@@ -85,7 +102,11 @@ const TOLD: [Step; 5] = [
     Step::Put("net.", 2, 16),
 ];
 
-const ASKED: [Step; 8] = [
+fn told() -> &'static [Step] {
+    TOLD
+}
+
+const ASKED: &[Step] = &[
     // the first reply serves
     Step::Send("org.", 2, 0),
     // in whatever case the name is
@@ -99,6 +120,10 @@ const ASKED: [Step; 8] = [
     // none was asked for
     Step::SendNothing,
 ];
+
+fn asked() -> &'static [Step] {
+    ASKED
+}
 
 fn reply(
     alloc: Global,
@@ -120,8 +145,9 @@ fn puts(
     record_type: u16,
     code: u16,
 ) -> Result<bool, Fail> {
+    let query = query(alloc, name, record_type)?;
     let reply = reply(alloc, name, record_type, code)?;
-    handle.push(query(alloc, name, record_type)?, reply)?;
+    handle.push(query, reply)?;
     Ok(true)
 }
 
@@ -192,43 +218,48 @@ fn other_without_turns(alloc: Global, steps: &[Step]) -> Result<Option<usize>, F
     first_other(alloc, &mut handle, steps)
 }
 
+/// Each step went as it says; else the message names the first other.
+fn check_steps(
+    rt: &impl Abort,
+    what: &str,
+    other: Result<Option<usize>, Fail>,
+) -> Result<(), Fail> {
+    let other = other?;
+    assert!(rt; other.is_none(), "{what}, at step {}", other.unwrap_or(0));
+    Ok(())
+}
+
 #[test]
 fn replies_are_served_by_turn(rt: HostRuntime) -> Result<(), Fail> {
     let alloc = rt.alloc();
-    for steps in [
-        BY_TURN.as_slice(),
-        PUT_LATER.as_slice(),
-        ONE_EACH.as_slice(),
-    ] {
-        let other = other_by_turn(alloc, steps)?;
-        assert!(rt; other.is_none(), "at step {}", other.unwrap_or(0));
-    }
-    Ok(())
+    check_steps(&rt, "by turn", other_by_turn(alloc, by_turn()))?;
+    check_steps(&rt, "put later", other_by_turn(alloc, put_later()))?;
+    check_steps(&rt, "one each", other_by_turn(alloc, one_each()))
 }
 
 #[test]
 fn without_turns_the_first_reply_serves(rt: HostRuntime) -> Result<(), Fail> {
     let alloc = rt.alloc();
-    for steps in [NOT_BY_TURN.as_slice(), ONE_EACH.as_slice()] {
-        let other = other_without_turns(alloc, steps)?;
-        assert!(rt; other.is_none(), "at step {}", other.unwrap_or(0));
-    }
-    Ok(())
+    check_steps(
+        &rt,
+        "not by turn",
+        other_without_turns(alloc, not_by_turn()),
+    )?;
+    check_steps(&rt, "one each", other_without_turns(alloc, one_each()))
 }
 
 /// A handle that was told so, and is asked nothing else.
 fn is_answered(alloc: Global, step: Step) -> Result<bool, Fail> {
     let mut handle = Recorded::new(alloc);
-    first_other(alloc, &mut handle, &TOLD)?;
+    first_other(alloc, &mut handle, told())?;
     goes(alloc, &mut handle, step)
 }
 
 #[test]
 fn recorded_answers_the_first_reply_to_a_query(rt: HostRuntime) -> Result<(), Fail> {
     let alloc = rt.alloc();
-    for (number, step) in ASKED.iter().enumerate() {
-        let is_right = is_answered(alloc, *step)?;
-        assert!(rt; is_right, "row {number}");
+    for (number, step) in asked().iter().enumerate() {
+        check_number(&rt, number, is_answered(alloc, *step))?;
     }
     Ok(())
 }

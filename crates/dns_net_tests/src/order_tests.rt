@@ -1,133 +1,129 @@
-use crate::parts::{bare_set, bare_step};
+use crate::parts::{bare_set, bare_step, check, check_number};
 use dns_net::{AskRef, Asked, JudgedSet};
 use dns_trail_order::is_in_order;
 use std::alloc::Global;
 use std::slice;
 use std::test::Fail;
 
-/// A trail, by what each of its steps asks.
+/// A trail, by what each of its steps asks: a point begins a step, and what follows asks for the step with that digit, for one too
+/// deep (`D`) or one too many (`M`), and else (`X`) for the step with the greatest number.
 struct Row {
     what: &'static str,
-    steps: &'static [&'static [AskRef]],
+    steps: &'static [u8],
     is_in_order: bool,
 }
 
-const ROWS: [Row; 21] = [
+const ROWS: &[Row] = &[
     Row {
         what: "one step",
-        steps: &[&[]],
+        steps: b".",
         is_in_order: true,
     },
     Row {
         what: "no step",
-        steps: &[],
+        steps: b"",
         is_in_order: false,
     },
     Row {
         what: "a chain of steps",
-        steps: &[&[], &[AskRef::Step(0)], &[AskRef::Step(1)]],
+        steps: b"..0.1",
         is_in_order: true,
     },
     Row {
         what: "asks in turn, in sets and in the excuse",
-        steps: &[
-            &[],
-            &[],
-            &[AskRef::Step(0), AskRef::Step(1)],
-            &[],
-            &[AskRef::Step(2), AskRef::TooDeep, AskRef::Step(3)],
-        ],
+        steps: b"...01..2D3",
         is_in_order: true,
     },
     Row {
         what: "the first step dropped",
-        steps: &[&[AskRef::Step(0)], &[AskRef::Step(1)]],
+        steps: b".0.1",
         is_in_order: false,
     },
     Row {
         what: "a step in the middle dropped",
-        steps: &[&[], &[AskRef::Step(1)]],
+        steps: b"..1",
         is_in_order: false,
     },
     Row {
         what: "the last step dropped",
-        steps: &[&[], &[]],
+        steps: b"..",
         is_in_order: false,
     },
     Row {
         what: "a step doubled",
-        steps: &[&[], &[], &[AskRef::Step(0)], &[AskRef::Step(2)]],
+        steps: b"...0.2",
         is_in_order: false,
     },
     Row {
         what: "a step doubled at the end",
-        steps: &[&[], &[AskRef::Step(0)], &[AskRef::Step(0)]],
+        steps: b"..0.0",
         is_in_order: false,
     },
     Row {
         what: "a step before what it names",
-        steps: &[&[AskRef::Step(1)], &[], &[AskRef::Step(0)]],
+        steps: b".1..0",
         is_in_order: false,
     },
     Row {
         what: "a step that names itself",
-        steps: &[&[], &[AskRef::Step(1)], &[AskRef::Step(1)]],
+        steps: b"..1.1",
         is_in_order: false,
     },
     Row {
         what: "the last step named",
-        steps: &[&[AskRef::Step(1)], &[AskRef::Step(0)]],
+        steps: b".1.0",
         is_in_order: false,
     },
     Row {
         what: "a number past the end",
-        steps: &[&[], &[AskRef::Step(0), AskRef::Step(2)]],
+        steps: b"..02",
         is_in_order: false,
     },
     Row {
         what: "the greatest number",
-        steps: &[&[AskRef::Step(4294967295)]],
+        steps: b".X",
         is_in_order: false,
     },
     Row {
         what: "a step named twice by one",
-        steps: &[&[], &[AskRef::Step(0), AskRef::Step(0)]],
+        steps: b"..00",
         is_in_order: false,
     },
     Row {
         what: "a step named by two",
-        steps: &[&[], &[AskRef::Step(0)], &[AskRef::Step(0), AskRef::Step(1)]],
+        steps: b"..0.01",
         is_in_order: false,
     },
     Row {
         what: "a step and what it asked named by one",
-        steps: &[&[], &[AskRef::Step(0)], &[AskRef::Step(1), AskRef::Step(0)]],
+        steps: b"..0.10",
         is_in_order: false,
     },
     Row {
         what: "steps that ended in another order",
-        steps: &[&[], &[], &[AskRef::Step(1), AskRef::Step(0)]],
+        steps: b"...10",
         is_in_order: false,
     },
     Row {
         what: "asks that are too deep",
-        steps: &[
-            &[AskRef::TooDeep],
-            &[AskRef::TooDeep, AskRef::Step(0), AskRef::TooDeep],
-        ],
+        steps: b".D.D0D",
         is_in_order: true,
     },
     Row {
         what: "one too many, where few were sent",
-        steps: &[&[AskRef::TooMany]],
+        steps: b".M",
         is_in_order: false,
     },
     Row {
         what: "one too many behind a step",
-        steps: &[&[], &[AskRef::Step(0), AskRef::TooMany]],
+        steps: b"..0M",
         is_in_order: false,
     },
 ];
+
+fn rows() -> &'static [Row] {
+    ROWS
+}
 
 fn set(alloc: Global, ask: AskRef) -> Result<JudgedSet, Fail> {
     let mut set = bare_set(alloc)?;
@@ -135,27 +131,38 @@ fn set(alloc: Global, ask: AskRef) -> Result<JudgedSet, Fail> {
     Ok(set)
 }
 
-/// The step asks so: for its first set, for its second one, and the rest for its excuse.
-fn ask(alloc: Global, step: &mut Asked, asks: &[AskRef]) -> Result<(), Fail> {
-    for ask in asks {
-        if step.sets.len() < 2 {
-            step.sets.push(set(alloc, *ask)?)?;
-        } else {
-            step.excuse.push(*ask)?;
-        }
+fn ask_of(byte: u8) -> AskRef {
+    match byte {
+        b'D' => AskRef::TooDeep,
+        b'M' => AskRef::TooMany,
+        b'0'..=b'9' => AskRef::Step(u32::from(byte - b'0')),
+        _ => AskRef::Step(u32::MAX),
+    }
+}
+
+/// The step asks so too: for its first set, for its second one, and from then on for its excuse.
+fn ask(alloc: Global, step: &mut Asked, ask: AskRef) -> Result<(), Fail> {
+    if step.sets.len() < 2 {
+        step.sets.push(set(alloc, ask)?)?;
+    } else {
+        step.excuse.push(ask)?;
     }
     Ok(())
 }
 
-fn asking(alloc: Global, asks: &[AskRef]) -> Result<Asked, Fail> {
-    let mut step = bare_step(alloc)?;
-    ask(alloc, &mut step, asks)?;
-    Ok(step)
+/// A step begins, or the last one asks.
+fn add(alloc: Global, steps: &mut Vec<Asked>, byte: u8) -> Result<(), Fail> {
+    if byte == b'.' {
+        steps.push(bare_step(alloc)?)?;
+    } else if let Some(step) = steps.last_mut() {
+        ask(alloc, step, ask_of(byte))?;
+    }
+    Ok(())
 }
 
-fn add_all(alloc: Global, steps: &mut Vec<Asked>, asked: &[&'static [AskRef]]) -> Result<(), Fail> {
-    for asks in asked {
-        steps.push(asking(alloc, asks)?)?;
+fn add_all(alloc: Global, steps: &mut Vec<Asked>, text: &[u8]) -> Result<(), Fail> {
+    for byte in text {
+        add(alloc, steps, *byte)?;
     }
     Ok(())
 }
@@ -171,9 +178,8 @@ fn a_trail_is_in_order_where_each_step_is_asked_once_and_ends_in_turn(
     rt: HostRuntime,
 ) -> Result<(), Fail> {
     let alloc = rt.alloc();
-    for row in &ROWS {
-        let is_right = is_right(alloc, row)?;
-        assert!(rt; is_right, "{}", row.what);
+    for row in rows() {
+        check(&rt, row.what, is_right(alloc, row))?;
     }
     Ok(())
 }
@@ -181,12 +187,16 @@ fn a_trail_is_in_order_where_each_step_is_asked_once_and_ends_in_turn(
 /// One step, by its depth and whether it is to be judged or only to be seen; whether it is in order.
 struct Top(u16, bool, bool);
 
-const TOPS: [Top; 4] = [
+const TOPS: &[Top] = &[
     Top(0, true, true),
     Top(0, false, false),
     Top(1, true, false),
     Top(65535, false, false),
 ];
+
+fn tops() -> &'static [Top] {
+    TOPS
+}
 
 fn is_top(alloc: Global, row: &Top) -> Result<bool, Fail> {
     let mut step = bare_step(alloc)?;
@@ -198,9 +208,8 @@ fn is_top(alloc: Global, row: &Top) -> Result<bool, Fail> {
 #[test]
 fn the_last_step_is_judged_at_depth_0(rt: HostRuntime) -> Result<(), Fail> {
     let alloc = rt.alloc();
-    for row in &TOPS {
-        let is_right = is_top(alloc, row)?;
-        assert!(rt; is_right, "depth {}", row.0);
+    for row in tops() {
+        check_number(&rt, usize::from(row.0), is_top(alloc, row))?;
     }
     Ok(())
 }

@@ -2,7 +2,26 @@ use dns_name::Name;
 use dns_net::*;
 use dns_record::{DNSClass, Proof, Query, Rdata, Record, RecordType, ResponseCode};
 use std::alloc::Global;
+use std::process::Abort;
 use std::test::Fail;
+
+/// What was tried on a row held; the message names the row.
+pub(crate) fn check(rt: &impl Abort, row: &str, held: Result<bool, Fail>) -> Result<(), Fail> {
+    let held = held?;
+    assert!(rt; held, "{row}");
+    Ok(())
+}
+
+/// The same for a row that a number names.
+pub(crate) fn check_number(
+    rt: &impl Abort,
+    row: usize,
+    held: Result<bool, Fail>,
+) -> Result<(), Fail> {
+    let held = held?;
+    assert!(rt; held, "row {row}");
+    Ok(())
+}
 
 pub(crate) fn query(alloc: Global, name: &str, record_type: u16) -> Result<Query, Fail> {
     Ok(Query {
