@@ -277,17 +277,25 @@ const EXPANSIONS: &[Row] = &[
     },
 ];
 
+fn denials() -> &'static [Row] {
+    DENIALS
+}
+
 #[test]
 fn secure_denials_decide(rt: HostRuntime) -> Result<(), Fail> {
-    for row in DENIALS {
+    for row in denials() {
         assert!(rt; ends(rt.alloc(), row)?, "{}", row.shows);
     }
     Ok(())
 }
 
+fn expansions() -> &'static [Row] {
+    EXPANSIONS
+}
+
 #[test]
 fn an_expansion_stands_only_beside_its_denial(rt: HostRuntime) -> Result<(), Fail> {
-    for row in EXPANSIONS {
+    for row in expansions() {
         assert!(rt; ends(rt.alloc(), row)?, "{}", row.shows);
     }
     Ok(())

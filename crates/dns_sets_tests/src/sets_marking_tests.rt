@@ -1,8 +1,9 @@
 use crate::sets_tests::{A, Met, OVER_A, OVER_A_TOO, RRSIG, TXT, message, put, rdata, set_of};
+use dns_evidence::{Chain, Link, Trail};
 use dns_message::Message;
 use dns_name::Name;
-use dns_net::{Chain, DnsResponse, Link, Trail};
 use dns_record::{DNSClass, Denial, Proof, Record, RecordSet, Section};
+use dns_response::DnsResponse;
 use dns_sets::*;
 use std::alloc::Global;
 use std::test::Fail;

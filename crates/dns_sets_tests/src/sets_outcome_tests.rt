@@ -256,9 +256,13 @@ const OTHERS: &[Row] = &[
     },
 ];
 
+fn others() -> &'static [Row] {
+    OTHERS
+}
+
 #[test]
 fn a_step_without_denials_ends_by_its_other_sets(rt: HostRuntime) -> Result<(), Fail> {
-    for row in OTHERS {
+    for row in others() {
         assert!(rt; ends(rt.alloc(), row)?, "{}", row.shows);
     }
     Ok(())
@@ -290,16 +294,18 @@ const ENDED_IN_ZONE: &[EndedInZone] = &[
     },
 ];
 
-fn outcome_in_zone(alloc: Global, records: &[Met], mark: Proof) -> Result<Outcome, Fail> {
-    let query = query(alloc, "A.", RecordType::A)?;
-    let message = message(alloc, records)?;
-    Ok(outcome_by_zone(&query, &message, mark))
+fn in_zone(alloc: Global, query: &Query, row: &EndedInZone) -> Result<Outcome, Fail> {
+    Ok(outcome_by_zone(query, &message(alloc, row.records)?, row.mark))
+}
+
+fn outcome_in_zone(alloc: Global, row: &EndedInZone) -> Result<Outcome, Fail> {
+    in_zone(alloc, &query(alloc, "A.", RecordType::A)?, row)
 }
 
 #[test]
 fn a_searched_step_ends_by_its_zone(rt: HostRuntime) -> Result<(), Fail> {
     for row in ENDED_IN_ZONE {
-        let found = outcome_in_zone(rt.alloc(), row.records, row.mark)?;
+        let found = outcome_in_zone(rt.alloc(), row)?;
         assert!(rt; found == row.outcome, "{} records", row.records.len());
     }
     Ok(())
@@ -318,7 +324,7 @@ const BESIDE_FOREIGN: &[Met] = &[
 ];
 
 fn make_foreign(records: &mut Vec<Record>) {
-    for record in records {
+    if let Some(record) = records.first_mut() {
         record.dns_class = DNSClass::CH;
     }
 }

@@ -1,7 +1,8 @@
 use dns_message::Message;
 use dns_name::Name;
-use dns_net::{DnsRequest, DnsRequestOptions};
-use dns_record::{DNSClass, Proof, Query, Rdata, Record, RecordSet, RecordType, Section};
+use dns_record::{
+    DNSClass, OpCode, Proof, Query, Rdata, Record, RecordSet, RecordType, ResponseCode, Section,
+};
 use dns_sets::*;
 use std::alloc::Global;
 use std::test::Fail;
@@ -84,10 +85,35 @@ pub(crate) fn query(alloc: Global, owner: &str, record_type: RecordType) -> Resu
     })
 }
 
+fn queries(alloc: Global) -> Result<Vec<Query>, Fail> {
+    let mut queries = Vec::new(alloc);
+    queries.push(query(alloc, "a.", RecordType::A)?)?;
+    Ok(queries)
+}
+
 /// A message without records.
 pub(crate) fn bare_message(alloc: Global) -> Result<Message, Fail> {
-    let query = query(alloc, "a.", RecordType::A)?;
-    Ok(DnsRequest::from_query(alloc, query, DnsRequestOptions::default())?.message)
+    Ok(message_of(queries(alloc)?, alloc))
+}
+
+fn message_of(queries: Vec<Query>, alloc: Global) -> Message {
+    Message {
+        id: 0,
+        response: false,
+        op_code: OpCode::QUERY,
+        authoritative: false,
+        truncated: false,
+        recursion_desired: true,
+        recursion_available: false,
+        authentic_data: false,
+        checking_disabled: false,
+        response_code: ResponseCode::NO_ERROR,
+        queries,
+        answers: Vec::new(alloc),
+        authorities: Vec::new(alloc),
+        additionals: Vec::new(alloc),
+        edns: None,
+    }
 }
 
 /// A message of these records.
@@ -231,9 +257,12 @@ fn records_are_grouped_into_sets(rt: HostRuntime) -> Result<(), Fail> {
 }
 
 fn is_unmarked(records: &[Record]) -> bool {
-    records
-        .iter()
-        .all(|record| record.proof == Proof::Indeterminate)
+    for record in records {
+        if record.proof != Proof::Indeterminate {
+            return false;
+        }
+    }
+    true
 }
 
 fn are_unmarked(message: &Message) -> bool {
