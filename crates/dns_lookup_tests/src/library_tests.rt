@@ -97,17 +97,32 @@ impl Verifier for KeyItself {
     }
 }
 
-/// Looks the root's name servers up at a moment, and trusts the root's key.
-fn look_up(alloc: Global, now: u64) -> Result<DnsResponse, NetError> {
-    let query = Query {
+/// The query for the root's name servers.
+fn query_of(alloc: Global) -> Result<Query, NetError> {
+    Ok(Query {
         name: Name::root(alloc)?,
         query_type: RecordType::NS,
         query_class: DNSClass::IN,
-    };
-    let mut anchors = TrustAnchors::empty(alloc);
+    })
+}
+
+/// Trusts the root's key.
+fn trust_root(alloc: Global, anchors: &mut TrustAnchors) -> Result<bool, NetError> {
     let key = Octets::from_slice(alloc, b"\xaa\xbb")?;
-    let _ = anchors.insert_with_name(Name::root(alloc)?, 13, key)?;
-    let mut validator = DnssecDnsHandle::new(Upstream::default(), anchors, KeyItself)?;
+    Ok(anchors.insert_with_name(Name::root(alloc)?, 13, key)?)
+}
+
+/// A validator that trusts the root's key.
+fn validator_of(alloc: Global) -> Result<DnssecDnsHandle<Upstream, KeyItself>, NetError> {
+    let mut anchors = TrustAnchors::empty(alloc);
+    let _ = trust_root(alloc, &mut anchors)?;
+    Ok(DnssecDnsHandle::new(Upstream::default(), anchors, KeyItself)?)
+}
+
+/// Looks the root's name servers up at a moment.
+fn look_up(alloc: Global, now: u64) -> Result<DnsResponse, NetError> {
+    let query = query_of(alloc)?;
+    let mut validator = validator_of(alloc)?;
     validator.lookup(alloc, query, DnsRequestOptions::default(), now)
 }
 
@@ -118,8 +133,7 @@ fn has_mark(response: &DnsResponse, proof: Proof) -> bool {
 
 /// The links lead from an anchored key to a signed set.
 fn leads_from_anchor(links: &[Link]) -> bool {
-    matches!(links.first(), Some(Link::Anchored { .. }))
-        && matches!(links.last(), Some(Link::Signed { .. }))
+    matches!(links, [Link::Anchored { .. }, .., Link::Signed { .. }])
 }
 
 fn is_secure(response: &DnsResponse) -> bool {

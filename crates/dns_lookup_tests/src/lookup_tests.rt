@@ -83,6 +83,11 @@ pub(crate) const ROOT_SERVERS: [Given; 2] = [
     },
 ];
 
+/// That, named here alone: a constant costs each proof that names it.
+pub(crate) fn root_servers() -> &'static [Given; 2] {
+    &ROOT_SERVERS
+}
+
 /// An NS set of `b.` that its signature, with no label, would expand, and the root's key set.
 const EXPANDED: [Given; 2] = [
     Given {
@@ -96,6 +101,10 @@ const EXPANDED: [Given; 2] = [
         message: KEY_SET,
     },
 ];
+
+fn expanded() -> &'static [Given; 2] {
+    &EXPANDED
+}
 
 fn query_of(alloc: Global, given: &Given) -> Result<Query, NetError> {
     let name = match Name::from_ascii(alloc, given.name) {
@@ -139,7 +148,7 @@ fn put_replies(alloc: Global, recorded: &mut Recorded, replies: &[Given]) -> Res
 }
 
 /// An upstream that answers from what was recorded, and has sent nothing.
-pub(crate) fn upstream_over(alloc: Global, recorded: Recorded) -> Keeping {
+fn upstream_over(alloc: Global, recorded: Recorded) -> Keeping {
     Keeping {
         replies: recorded,
         kept: Vec::new(alloc),
@@ -168,6 +177,15 @@ pub(crate) fn look_up(
     handle.lookup(alloc, query, DnsRequestOptions::default(), 1000)
 }
 
+/// The query is answered.
+pub(crate) fn is_answered(
+    alloc: Global,
+    handle: &mut DnssecDnsHandle<Keeping, Listed>,
+    given: &Given,
+) -> bool {
+    look_up(alloc, handle, given).is_ok()
+}
+
 /// An ask of the lookup of `. NS` with default options.
 struct Asked {
     name: &'static str,
@@ -190,20 +208,26 @@ const ASKED: [Asked; ASKS] = [
     },
 ];
 
+fn is_sending(sending: &Sending, message: &[u8], moment: u64) -> bool {
+    sending.moment == moment && *sending.message.as_slice() == *message
+}
+
 // What was kept at the row's place is its message, sent at this moment, and nothing else was kept than all rows.
 fn is_kept(kept: &[Sending], row: &Asked, moment: u64) -> bool {
     match kept.get(row.place) {
-        Some(sending) => *sending.message.as_slice() == *row.message
-            && sending.moment == moment
-            && kept.len() == ASKS,
+        Some(sending) => is_sending(sending, row.message, moment) && kept.len() == ASKS,
         None => false,
     }
 }
 
+fn sends_so(alloc: Global, handle: &mut DnssecDnsHandle<Keeping, Listed>, row: &Asked) -> bool {
+    is_answered(alloc, handle, &root_servers()[0])
+        && is_kept(handle.inner().kept.as_slice(), row, 1000)
+}
+
 fn is_sent(alloc: Global, row: &Asked) -> Result<bool, NetError> {
-    let mut handle = handle_over(alloc, Recorded::new(alloc), &ROOT_SERVERS)?;
-    let answered = look_up(alloc, &mut handle, &ROOT_SERVERS[0]).is_ok();
-    Ok(answered && is_kept(handle.inner().kept.as_slice(), row, 1000))
+    let mut handle = handle_over(alloc, Recorded::new(alloc), root_servers())?;
+    Ok(sends_so(alloc, &mut handle, row))
 }
 
 #[test]
@@ -241,9 +265,13 @@ fn is_denial(answer: &Result<DnsResponse, NetError>) -> bool {
     }
 }
 
+fn denies(alloc: Global, handle: &mut DnssecDnsHandle<Keeping, Listed>) -> bool {
+    is_denial(&look_up(alloc, handle, &expanded()[0]))
+}
+
 fn denied(alloc: Global) -> Result<bool, NetError> {
-    let mut handle = handle_over(alloc, Recorded::new(alloc), &EXPANDED)?;
-    Ok(is_denial(&look_up(alloc, &mut handle, &EXPANDED[0])))
+    let mut handle = handle_over(alloc, Recorded::new(alloc), expanded())?;
+    Ok(denies(alloc, &mut handle))
 }
 
 #[test]

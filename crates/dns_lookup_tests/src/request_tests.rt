@@ -1,10 +1,9 @@
 //! What a validator sends for a whole request, and what it answers (RFC 1035, 4.1.1; RFC 4035, 3.2 and 4.1).
-use crate::lookup_tests::{Keeping, Sending, upstream_over};
+use crate::lookup_tests::{Keeping, Sending, handle_over};
 use crate::rows::check_row;
 use dns_chain::{DnssecDnsHandle, Listed};
 use dns_message::Message;
 use dns_net::{DnsHandle, DnsRequest, DnsRequestOptions, DnsResponse, NetError, Notice, Recorded};
-use dns_trust::TrustAnchors;
 use std::alloc::Global;
 
 /// The message of a request, and that of what is sent for it, or nothing.
@@ -50,12 +49,6 @@ fn request_of(alloc: Global, given: &[u8]) -> Result<DnsRequest, NetError> {
     })
 }
 
-// A validator over an upstream that answers nothing in time.
-fn validator_over(alloc: Global) -> Result<DnssecDnsHandle<Keeping, Listed>, NetError> {
-    let upstream = upstream_over(alloc, Recorded::new(alloc));
-    Ok(DnssecDnsHandle::new(upstream, TrustAnchors::empty(alloc), Listed::new(alloc))?)
-}
-
 /// The upstream's error where something was sent, which then was one request, and else that there is no question.
 fn is_error(error: &NetError, kept: &[Sending], sent: &[u8]) -> bool {
     match kept {
@@ -72,11 +65,20 @@ fn is_refused(answer: &Result<DnsResponse, NetError>, kept: &[Sending], sent: &[
     }
 }
 
-fn is_sent(alloc: Global, row: &Sent) -> Result<bool, NetError> {
-    let mut validator = validator_over(alloc)?;
+fn sends_so(
+    alloc: Global,
+    validator: &mut DnssecDnsHandle<Keeping, Listed>,
+    row: &Sent,
+) -> Result<bool, NetError> {
     let request = request_of(alloc, row.given)?;
     let answer = validator.send(alloc, request, 1000);
     Ok(is_refused(&answer, validator.inner().kept.as_slice(), row.sent))
+}
+
+// A validator whose upstream answers nothing in time sends as the row says.
+fn is_sent(alloc: Global, row: &Sent) -> Result<bool, NetError> {
+    let mut validator = handle_over(alloc, Recorded::new(alloc), &[])?;
+    sends_so(alloc, &mut validator, row)
 }
 
 #[test]

@@ -1,5 +1,7 @@
 //! The trail of a lookup, also where an ask meets a fault, and replies by turn (RFC 4035, 4.2 and 5).
-use crate::lookup_tests::{Given, KEY_SET, Keeping, NS_SET, ROOT_SERVERS, handle_over, look_up};
+use crate::lookup_tests::{
+    Given, KEY_SET, Keeping, NS_SET, ROOT_SERVERS, handle_over, is_answered, look_up, root_servers,
+};
 use crate::rows::check_row;
 use dns_chain::DnssecDnsHandle;
 use dns_net::{AskRef, Asked, Ending, JudgedSet, MarkOrigin, NetError, Recorded, Reply};
@@ -105,11 +107,19 @@ fn are_steps(steps: &[Asked], rows: &[Step]) -> bool {
     left.is_empty()
 }
 
+fn leaves_steps(
+    alloc: Global,
+    handle: &mut DnssecDnsHandle<Keeping, Listed>,
+    steps: &[Step],
+) -> Result<bool, NetError> {
+    let answer = look_up(alloc, handle, &root_servers()[0])?;
+    let seen = &answer;
+    Ok(are_steps(&seen.trail.steps, steps))
+}
+
 fn leaves(alloc: Global, row: &Row) -> Result<bool, NetError> {
     let mut handle = handle_over(alloc, Recorded::new(alloc), row.replies)?;
-    let answer = look_up(alloc, &mut handle, &ROOT_SERVERS[0])?;
-    let seen = &answer;
-    Ok(are_steps(&seen.trail.steps, row.steps))
+    leaves_steps(alloc, &mut handle, row.steps)
 }
 
 #[test]
@@ -141,9 +151,13 @@ fn recorded_of(alloc: Global, by_turn: bool) -> Recorded {
     }
 }
 
+fn keys() -> &'static [Given; 2] {
+    &KEYS
+}
+
 // The keys of the root are answered.
 fn has_keys(alloc: Global, handle: &mut DnssecDnsHandle<Keeping, Listed>) -> bool {
-    look_up(alloc, handle, &KEYS[0]).is_ok()
+    is_answered(alloc, handle, &keys()[0])
 }
 
 /// What is shown, whether replies are taken by turn, and which of three lookups of the keys, one after another, are answered.
@@ -161,11 +175,13 @@ const TURNS: [(&str, bool, [bool; 3]); 2] = [
 ];
 
 fn go_so(alloc: Global, by_turn: bool, wanted: &[bool; 3]) -> Result<bool, NetError> {
-    let mut handle = handle_over(alloc, recorded_of(alloc, by_turn), &KEYS)?;
-    let first = has_keys(alloc, &mut handle);
-    let second = has_keys(alloc, &mut handle);
-    let third = has_keys(alloc, &mut handle);
-    Ok([first, second, third] == *wanted)
+    let mut handle = handle_over(alloc, recorded_of(alloc, by_turn), keys())?;
+    let answered = [
+        has_keys(alloc, &mut handle),
+        has_keys(alloc, &mut handle),
+        has_keys(alloc, &mut handle),
+    ];
+    Ok(answered == *wanted)
 }
 
 #[test]

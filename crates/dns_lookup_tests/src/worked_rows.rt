@@ -9,7 +9,7 @@ pub(crate) struct Row {
     pub(crate) text: &'static [u8],
 }
 
-const ROWS_1: [Row; 13] = [
+const ROWS_1: [Row; 10] = [
     Row {
         name: "2-to-the-31-before-the-expiration",
         words: &["validate"],
@@ -80,6 +80,13 @@ const ROWS_1: [Row; 13] = [
         status: 1,
         text: b"fault nsec bogus\n",
     },
+];
+
+fn part_1() -> &'static [Row] {
+    &ROWS_1
+}
+
+const ROWS_2: [Row; 10] = [
     Row {
         name: "denial-that-cannot-be-read",
         words: &["validate"],
@@ -101,13 +108,6 @@ const ROWS_1: [Row; 13] = [
         status: 1,
         text: b"fault nsec bogus\n",
     },
-];
-
-fn part_1() -> &'static [Row] {
-    &ROWS_1
-}
-
-const ROWS_2: [Row; 9] = [
     Row {
         name: "depth-above-the-greatest-u16",
         words: &["validate"],
@@ -157,6 +157,13 @@ const ROWS_2: [Row; 9] = [
         status: 0,
         text: b"dns-report 1\ncode 0\ndenial none\nanswer example. IN DNSKEY 3600 insecure 0101030de1\nanswer example. IN RRSIG 3600 indeterminate 00300d0100000e10000007d000000384e50e076578616d706c6500c0de\nend\n",
     },
+];
+
+fn part_2() -> &'static [Row] {
+    &ROWS_2
+}
+
+const ROWS_3: [Row; 6] = [
     Row {
         name: "ds-of-an-unknown-digest-alone",
         words: &["validate", "trail"],
@@ -171,13 +178,6 @@ const ROWS_2: [Row; 9] = [
         status: 0,
         text: b"dns-report 1\ncode 0\ndenial none\nanswer example. IN DNSKEY 1000 secure 0101030de1\nanswer example. IN RRSIG 1000 secure 00300d0100000e10000007d000000384e50e076578616d706c6500c0de\nchain answer 5\nanchored . IN 0101030daabb\nkeyset . IN 0 0101030daabb\nsigned example. IN DS 1 0101030daabb 002b0d0100000e10000007d000000384aec900c0de e50e0d026691c87f523df73948a4cc0b62ebd65a708505e054a2fbf3143cec487ad142d8 e50e0d036691c87f523df73948a4cc0b62ebd65a708505e054a2fbf3143cec487ad142d8\nmatched example. IN 0101030de1 2 e50e0d026691c87f523df73948a4cc0b62ebd65a708505e054a2fbf3143cec487ad142d8\nsigned example. IN DNSKEY 3 0101030de1 00300d0100000e10000007d000000384e50e076578616d706c6500c0de 0101030de1\nend\n",
     },
-];
-
-fn part_2() -> &'static [Row] {
-    &ROWS_2
-}
-
-const ROWS_3: [Row; 7] = [
     Row {
         name: "ds-of-another-tag-and-algorithm",
         words: &["validate"],
@@ -206,6 +206,13 @@ const ROWS_3: [Row; 7] = [
         status: 0,
         text: b"dns-report 1\ncode 0\ndenial none\nanswer example. IN DNSKEY 3600 bogus 0101030de1\nanswer example. IN RRSIG 3600 indeterminate 00300d0100000e10000007d000000384e50e076578616d706c6500c0de\ntrail 2\nstep 1 judged example. DS\ngot 0\ntold answer example. IN DS 3600 e50e0d026691c87f523df73948a4cc0b62ebd65a708505e054a2fbf3143cec487ad142d8\ntold answer example. IN RRSIG 3600 002b0d0100000e10000007d000000384e50e076578616d706c6500c0de\nset answer example. DS bogus table -\nending none\nstep 0 judged example. DNSKEY\ngot 0\ntold answer example. IN DNSKEY 3600 0101030de1\ntold answer example. IN RRSIG 3600 00300d0100000e10000007d000000384e50e076578616d706c6500c0de\nset answer example. DNSKEY bogus table - 0\nending none\nend\n",
     },
+];
+
+fn part_3() -> &'static [Row] {
+    &ROWS_3
+}
+
+const ROWS_4: [Row; 10] = [
     Row {
         name: "ds-set-that-is-not-accepted",
         words: &["validate", "trail"],
@@ -227,13 +234,6 @@ const ROWS_3: [Row; 7] = [
         status: 0,
         text: b"dns-report 1\ncode 0\ndenial none\nanswer A\\.b\\032\\000c. IN NS 1000 secure 016100\nanswer A\\.b\\032\\000c. IN RRSIG 1000 secure 00020d0100000e10000007d000000384aec900c0de\nchain answer 3\nanchored . IN 0101030daabb\nkeyset . IN 0 0101030daabb\nsigned A\\.b\\032\\000c. IN NS 1 0101030daabb 00020d0100000e10000007d000000384aec900c0de 016100\nend\n",
     },
-];
-
-fn part_3() -> &'static [Row] {
-    &ROWS_3
-}
-
-const ROWS_4: [Row; 20] = [
     Row {
         name: "eighth-of-nine-signatures",
         words: &["validate"],
@@ -283,6 +283,13 @@ const ROWS_4: [Row; 20] = [
         status: 2,
         text: b"bad words\n",
     },
+];
+
+fn part_4() -> &'static [Row] {
+    &ROWS_4
+}
+
+const ROWS_5: [Row; 10] = [
     Row {
         name: "escape-above-255",
         words: &["validate"],
@@ -353,6 +360,13 @@ const ROWS_4: [Row; 20] = [
         status: 3,
         text: b"bad line 8\n",
     },
+];
+
+fn part_5() -> &'static [Row] {
+    &ROWS_5
+}
+
+const ROWS_6: [Row; 10] = [
     Row {
         name: "fault-with-a-message",
         words: &["validate"],
@@ -374,13 +388,6 @@ const ROWS_4: [Row; 20] = [
         status: 3,
         text: b"bad line 8\n",
     },
-];
-
-fn part_4() -> &'static [Row] {
-    &ROWS_4
-}
-
-const ROWS_5: [Row; 8] = [
     Row {
         name: "first-reply-serves",
         words: &["validate"],
@@ -430,6 +437,13 @@ const ROWS_5: [Row; 8] = [
         status: 0,
         text: b"dns-report 1\ncode 0\ndenial none\nanswer www.example. IN A 3600 insecure c0000201\ntrail 6\nstep 0 ns www.example. NS\ngot 0\ntold answer www.example. IN NS 3600 016100\nending seen\nstep 1 ns example. NS\ngot 0\ntold answer example. IN NS 3600 016100\nending seen\nstep 3 judged . DNSKEY\ngot 0\ntold answer . IN DNSKEY 3600 0101030daabb\nset answer . DNSKEY secure table -\nending none\nstep 2 judged example. DS\ngot 0\ntold answer example. IN DS 3600 e50efa026691c87f523df73948a4cc0b62ebd65a708505e054a2fbf3143cec487ad142d8\ntold answer example. IN RRSIG 3600 002b0d0100000e10000007d000000384aec900c0de\nset answer example. DS secure table 0 2\nending none\nstep 1 judged www.example. DS\ngot 0\ntold answer www.example. IN CNAME 3600 056f7468657200\ntold authority example. IN SOA 3600 026e730004686f7374000000000000000000000000000000000000000000\nset authority example. SOA insecure table - 1 3\nending none\nstep 0 judged www.example. A\ngot 0\ntold answer www.example. IN A 3600 c0000201\nset answer www.example. A insecure table - 0 4\nending none\nend\n",
     },
+];
+
+fn part_6() -> &'static [Row] {
+    &ROWS_6
+}
+
+const ROWS_7: [Row; 9] = [
     Row {
         name: "insecure-soa-of-another-zone",
         words: &["validate", "trail"],
@@ -437,13 +451,6 @@ const ROWS_5: [Row; 8] = [
         status: 0,
         text: b"dns-report 1\ncode 0\ndenial none\nanswer www.example. IN A 3600 bogus c0000201\ntrail 7\nstep 0 ns www.example. NS\ngot 0\ntold answer www.example. IN NS 3600 016100\nending seen\nstep 1 ns mail.example. NS\ngot 0\nending seen\nstep 1 ns example. NS\ngot 0\ntold answer example. IN NS 3600 016100\nending seen\nstep 3 judged . DNSKEY\ngot 0\ntold answer . IN DNSKEY 3600 0101030daabb\nset answer . DNSKEY secure table -\nending none\nstep 2 judged example. DS\ngot 0\ntold answer example. IN DS 3600 e50efa026691c87f523df73948a4cc0b62ebd65a708505e054a2fbf3143cec487ad142d8\ntold answer example. IN RRSIG 3600 002b0d0100000e10000007d000000384aec900c0de\nset answer example. DS secure table 0 3\nending none\nstep 1 judged www.example. DS\ngot 0\ntold answer www.example. IN CNAME 3600 056f7468657200\ntold authority mail.example. IN SOA 3600 026e730004686f7374000000000000000000000000000000000000000000\nset authority mail.example. SOA insecure table - 1 2 4\nending none\nstep 0 judged www.example. A\ngot 0\ntold answer www.example. IN A 3600 c0000201\nset answer www.example. A bogus table - 0 5\nending none\nend\n",
     },
-];
-
-fn part_5() -> &'static [Row] {
-    &ROWS_5
-}
-
-const ROWS_6: [Row; 11] = [
     Row {
         name: "io-in-place-of-the-first-reply",
         words: &["validate"],
@@ -500,6 +507,13 @@ const ROWS_6: [Row; 11] = [
         status: 0,
         text: b"dns-report 1\ncode 0\ndenial none\nanswer example. IN DNSKEY 1000 secure 0101030de1\nanswer example. IN DNSKEY 1000 secure 0101030de2\nanswer example. IN RRSIG 1000 secure 00300d0100000e10000007d000000384e50e076578616d706c6500c0de\nchain answer 5\nanchored . IN 0101030daabb\nkeyset . IN 0 0101030daabb\nsigned example. IN DS 1 0101030daabb 002b0d0100000e10000007d000000384aec900c0de e50e0d026691c87f523df73948a4cc0b62ebd65a708505e054a2fbf3143cec487ad142d8\nmatched example. IN 0101030de1 2 e50e0d026691c87f523df73948a4cc0b62ebd65a708505e054a2fbf3143cec487ad142d8\nsigned example. IN DNSKEY 3 0101030de1 00300d0100000e10000007d000000384e50e076578616d706c6500c0de 0101030de1 0101030de2\ntrail 6\nstep 2 judged . DNSKEY\ngot 0\ntold answer . IN DNSKEY 3600 0101030daabb\nset answer . DNSKEY secure table -\nending none\nstep 3 judged . DNSKEY\ngot 0\ntold answer . IN DNSKEY 3600 0101030daabb\nset answer . DNSKEY secure table -\nending none\nstep 3 judged example. DS\ngot 0\ntold answer example. IN DS 3600 e50e0d026691c87f523df73948a4cc0b62ebd65a708505e054a2fbf3143cec487ad142d8\ntold answer example. IN RRSIG 3600 002b0d0100000e10000007d000000384aec900c0de\ntold answer example. IN DNSKEY 3600 0101030de1\ntold answer example. IN DNSKEY 3600 0101030de2\ntold answer example. IN RRSIG 3600 00300d0100000e10000007d000000384e50e076578616d706c6500c0de\nset answer example. DS bogus table - deep\nset answer example. DNSKEY bogus table - deep\nending none\nstep 2 judged example. DS\ngot 0\ntold answer example. IN DS 3600 e50e0d026691c87f523df73948a4cc0b62ebd65a708505e054a2fbf3143cec487ad142d8\ntold answer example. IN RRSIG 3600 002b0d0100000e10000007d000000384aec900c0de\ntold answer example. IN DNSKEY 3600 0101030de1\ntold answer example. IN DNSKEY 3600 0101030de2\ntold answer example. IN RRSIG 3600 00300d0100000e10000007d000000384e50e076578616d706c6500c0de\nset answer example. DS secure table 0 1\nset answer example. DNSKEY bogus table - 2\nending none\nstep 1 judged example. DS\ngot 0\ntold answer example. IN DS 3600 e50e0d026691c87f523df73948a4cc0b62ebd65a708505e054a2fbf3143cec487ad142d8\ntold answer example. IN RRSIG 3600 002b0d0100000e10000007d000000384aec900c0de\ntold answer example. IN DNSKEY 3600 0101030de1\ntold answer example. IN DNSKEY 3600 0101030de2\ntold answer example. IN RRSIG 3600 00300d0100000e10000007d000000384e50e076578616d706c6500c0de\nset answer example. DS secure table 0 0\nset answer example. DNSKEY secure table 0 3\nending none\nstep 0 judged example. DNSKEY\ngot 0\ntold answer example. IN DNSKEY 3600 0101030de1\ntold answer example. IN DNSKEY 3600 0101030de2\ntold answer example. IN RRSIG 3600 00300d0100000e10000007d000000384e50e076578616d706c6500c0de\nset answer example. DNSKEY secure table 0 4\nending none\nend\n",
     },
+];
+
+fn part_7() -> &'static [Row] {
+    &ROWS_7
+}
+
+const ROWS_8: [Row; 10] = [
     Row {
         name: "keys-matched-by-each-digest",
         words: &["validate"],
@@ -521,13 +535,6 @@ const ROWS_6: [Row; 11] = [
         status: 3,
         text: b"bad line 4\n",
     },
-];
-
-fn part_6() -> &'static [Row] {
-    &ROWS_6
-}
-
-const ROWS_7: [Row; 12] = [
     Row {
         name: "last-line-without-lf",
         words: &["validate"],
@@ -577,6 +584,13 @@ const ROWS_7: [Row; 12] = [
         status: 0,
         text: b"dns-report 1\ncode 3\ndenial absent secure\nauthority b.example. IN NSEC 1000 secure 036e7331076578616d706c65000006200000000003\nauthority b.example. IN RRSIG 1000 secure 002f0d0200000e10000007d000000384e50e076578616d706c6500c0de\nauthority example. IN NSEC 1000 secure 0161076578616d706c65000006220000000003\nauthority example. IN RRSIG 1000 secure 002f0d0100000e10000007d000000384e50e076578616d706c6500c0de\nchain authority 3\nanchored example. IN 0101030de1\nkeyset example. IN 0 0101030de1\nsigned b.example. IN NSEC 1 0101030de1 002f0d0200000e10000007d000000384e50e076578616d706c6500c0de 036e7331076578616d706c65000006200000000003\nchain authority 3\nanchored example. IN 0101030de1\nkeyset example. IN 0 0101030de1\nsigned example. IN NSEC 1 0101030de1 002f0d0100000e10000007d000000384e50e076578616d706c6500c0de 0161076578616d706c65000006220000000003\ntrail 3\nstep 1 judged example. DNSKEY\ngot 0\ntold answer example. IN DNSKEY 3600 0101030de1\nset answer example. DNSKEY secure table -\nending none\nstep 1 judged example. DNSKEY\ngot 0\ntold answer example. IN DNSKEY 3600 0101030de1\nset answer example. DNSKEY secure table -\nending none\nstep 0 judged ml.example. A\ngot 3\ntold authority b.example. IN NSEC 3600 036e7331076578616d706c65000006200000000003\ntold authority b.example. IN RRSIG 3600 002f0d0200000e10000007d000000384e50e076578616d706c6500c0de\ntold authority example. IN NSEC 3600 0161076578616d706c65000006220000000003\ntold authority example. IN RRSIG 3600 002f0d0100000e10000007d000000384e50e076578616d706c6500c0de\nset authority b.example. NSEC secure table 0 0\nset authority example. NSEC secure table 0 1\nending absent secure\nend\n",
     },
+];
+
+fn part_8() -> &'static [Row] {
+    &ROWS_8
+}
+
+const ROWS_9: [Row; 10] = [
     Row {
         name: "name-error-of-a-name-with-another-below",
         words: &["validate"],
@@ -612,13 +626,6 @@ const ROWS_7: [Row; 12] = [
         status: 0,
         text: b"dns-report 1\ncode 0\ndenial none\nanswer . IN NS 3600 bogus 016100\nanswer . IN RRSIG 3600 indeterminate 00020d0000000e10000007d000000384aec900c001\nanswer . IN RRSIG 3600 indeterminate 00020d0000000e10000007d000000384aec900c002\nanswer . IN RRSIG 3600 indeterminate 00020d0000000e10000007d000000384aec900c003\nanswer . IN RRSIG 3600 indeterminate 00020d0000000e10000007d000000384aec900c004\nanswer . IN RRSIG 3600 indeterminate 00020d0000000e10000007d000000384aec900c005\nanswer . IN RRSIG 3600 indeterminate 00020d0000000e10000007d000000384aec900c006\nanswer . IN RRSIG 3600 indeterminate 00020d0000000e10000007d000000384aec900c007\nanswer . IN RRSIG 3600 indeterminate 00020d0000000e10000007d000000384aec900c008\nanswer . IN RRSIG 3600 indeterminate 00020d0000000e10000007d000000384aec900c009\nend\n",
     },
-];
-
-fn part_7() -> &'static [Row] {
-    &ROWS_7
-}
-
-const ROWS_8: [Row; 20] = [
     Row {
         name: "ninth-signature-of-a-key-set",
         words: &["validate"],
@@ -654,6 +661,13 @@ const ROWS_8: [Row; 20] = [
         status: 1,
         text: b"fault proto Short 0\n",
     },
+];
+
+fn part_9() -> &'static [Row] {
+    &ROWS_9
+}
+
+const ROWS_10: [Row; 10] = [
     Row {
         name: "no-record-at-all-of-an-unsigned-zone",
         words: &["validate", "trail"],
@@ -724,6 +738,13 @@ const ROWS_8: [Row; 20] = [
         status: 0,
         text: b"dns-report 1\ncode 0\ndenial none\nanswer . IN NS 1000 secure 016100\nanswer . IN RRSIG 1000 secure 00020d0000000e10000007d000000384aec900c0de\nchain answer 3\nanchored . IN 0101030daabb\nkeyset . IN 0 0101030daabb\nsigned . IN NS 1 0101030daabb 00020d0000000e10000007d000000384aec900c0de 016100\nend\n",
     },
+];
+
+fn part_10() -> &'static [Row] {
+    &ROWS_10
+}
+
+const ROWS_11: [Row; 10] = [
     Row {
         name: "owner-that-is-a-pointer",
         words: &["validate"],
@@ -759,13 +780,6 @@ const ROWS_8: [Row; 20] = [
         status: 1,
         text: b"fault class . CH TXT\n",
     },
-];
-
-fn part_8() -> &'static [Row] {
-    &ROWS_8
-}
-
-const ROWS_9: [Row; 9] = [
     Row {
         name: "replies-by-turn",
         words: &["validate", "trail"],
@@ -801,6 +815,13 @@ const ROWS_9: [Row; 9] = [
         status: 0,
         text: b"dns-report 1\ncode 0\ndenial none\nanswer www.example. IN A 1000 secure c0000201\nanswer www.example. IN RRSIG 1000 secure 00010d0200000e10000007d000000384aec900c0de\nauthority h.example. IN NSEC3 3600 insecure 01000000000101\nauthority h. IN NSEC3 3600 bogus 01000000000101\nchain answer 3\nanchored . IN 0101030daabb\nkeyset . IN 0 0101030daabb\nsigned www.example. IN A 1 0101030daabb 00010d0200000e10000007d000000384aec900c0de c0000201\ntrail 5\nstep 1 judged . DNSKEY\ngot 0\ntold answer . IN DNSKEY 3600 0101030daabb\nset answer . DNSKEY secure table -\nending none\nstep 0 ns example. NS\ngot 0\ntold answer example. IN NS 3600 016100\nending seen\nstep 2 judged . DNSKEY\ngot 0\ntold answer . IN DNSKEY 3600 0101030daabb\nset answer . DNSKEY secure table -\nending none\nstep 1 judged example. DS\ngot 0\ntold answer example. IN DS 3600 e50efa026691c87f523df73948a4cc0b62ebd65a708505e054a2fbf3143cec487ad142d8\ntold answer example. IN RRSIG 3600 002b0d0100000e10000007d000000384aec900c0de\nset answer example. DS secure table 0 2\nending none\nstep 0 judged www.example. A\ngot 0\ntold answer www.example. IN A 3600 c0000201\ntold answer www.example. IN RRSIG 3600 00010d0200000e10000007d000000384aec900c0de\ntold authority h.example. IN NSEC3 3600 01000000000101\ntold authority h. IN NSEC3 3600 01000000000101\nset answer www.example. A secure table 0 0\nset authority h.example. NSEC3 insecure table - 1 3\nset authority h. NSEC3 bogus table -\nending none\nend\n",
     },
+];
+
+fn part_11() -> &'static [Row] {
+    &ROWS_11
+}
+
+const ROWS_12: [Row; 9] = [
     Row {
         name: "search-that-meets-a-fault",
         words: &["validate", "trail"],
@@ -829,13 +850,6 @@ const ROWS_9: [Row; 9] = [
         status: 3,
         text: b"bad line 4\n",
     },
-];
-
-fn part_9() -> &'static [Row] {
-    &ROWS_9
-}
-
-const ROWS_10: [Row; 8] = [
     Row {
         name: "second-ds-of-one-tag",
         words: &["validate"],
@@ -871,6 +885,13 @@ const ROWS_10: [Row; 8] = [
         status: 0,
         text: b"dns-report 1\ncode 0\ndenial none\nanswer . IN NS 7 secure 016100\nanswer . IN RRSIG 7 secure 00020d0000000e100000000afffffffaaec900c0de\nchain answer 3\nanchored . IN 0101030daabb\nkeyset . IN 0 0101030daabb\nsigned . IN NS 1 0101030daabb 00020d0000000e100000000afffffffaaec900c0de 016100\nend\n",
     },
+];
+
+fn part_12() -> &'static [Row] {
+    &ROWS_12
+}
+
+const ROWS_13: [Row; 9] = [
     Row {
         name: "servers-of-another-class-beside",
         words: &["validate", "trail"],
@@ -892,13 +913,6 @@ const ROWS_10: [Row; 8] = [
         status: 0,
         text: b"dns-report 1\ncode 0\ndenial none\nanswer www.example. IN A 3600 bogus c0000201\nanswer www.example. IN RRSIG 3600 indeterminate 00010d0200000e10000007d000000384130e056f7468657200c0de\ntrail 1\nstep 0 judged www.example. A\ngot 0\ntold answer www.example. IN A 3600 c0000201\ntold answer www.example. IN RRSIG 3600 00010d0200000e10000007d000000384130e056f7468657200c0de\nset answer www.example. A bogus table -\nending none\nend\n",
     },
-];
-
-fn part_10() -> &'static [Row] {
-    &ROWS_10
-}
-
-const ROWS_11: [Row; 9] = [
     Row {
         name: "set-signed-by-the-second-key",
         words: &["validate"],
@@ -941,6 +955,13 @@ const ROWS_11: [Row; 9] = [
         status: 0,
         text: b"dns-report 1\ncode 0\ndenial none\nanswer example. IN DNSKEY 3600 bogus 0101030de1\nanswer example. IN RRSIG 3600 indeterminate 00300d0100000e10000007d000000384e50e076578616d706c6500c0de\nend\n",
     },
+];
+
+fn part_13() -> &'static [Row] {
+    &ROWS_13
+}
+
+const ROWS_14: [Row; 6] = [
     Row {
         name: "third-key-of-one-tag-signs-its-set",
         words: &["validate"],
@@ -962,13 +983,6 @@ const ROWS_11: [Row; 9] = [
         status: 3,
         text: b"bad line 1\n",
     },
-];
-
-fn part_11() -> &'static [Row] {
-    &ROWS_11
-}
-
-const ROWS_12: [Row; 6] = [
     Row {
         name: "third-zone-with-depth-five",
         words: &["validate", "trail"],
@@ -990,6 +1004,13 @@ const ROWS_12: [Row; 6] = [
         status: 0,
         text: b"dns-report 1\ncode 0\ndenial none\nanswer . IN NS 3600 bogus 016100\nanswer . IN RRSIG 3600 indeterminate 00020d0000000e10000007d000000384aec900c0de\ntrail 2\nstep 1 judged . DNSKEY\ngot fault\nending failed\nstep 0 judged . NS\ngot 0\ntold answer . IN NS 3600 016100\ntold answer . IN RRSIG 3600 00020d0000000e10000007d000000384aec900c0de\nset answer . NS bogus table - 0\nending none\nend\n",
     },
+];
+
+fn part_14() -> &'static [Row] {
+    &ROWS_14
+}
+
+const ROWS_15: [Row; 9] = [
     Row {
         name: "trail-of-a-walk-by-ds",
         words: &["validate", "trail"],
@@ -1011,13 +1032,6 @@ const ROWS_12: [Row; 6] = [
         status: 0,
         text: b"dns-report 1\ncode 0\ndenial none\nanswer . IN NS 1000 secure 016100\nanswer . IN RRSIG 1000 secure 00020d0000000e10000007d000000384aec900c0de\nchain answer 3\nanchored . IN 0101030daabb\nkeyset . IN 0 0101030daabb\nsigned . IN NS 1 0101030daabb 00020d0000000e10000007d000000384aec900c0de 016100\ntrail 2\nstep 1 judged . DNSKEY\ngot 0\ntold answer . IN DNSKEY 3600 0101030daabb\nset answer . DNSKEY secure table -\nending none\nstep 0 judged . NS\ngot 0\ntold answer . IN NS 3600 016100\ntold answer . IN RRSIG 3600 00020d0000000e10000007d000000384aec900c0de\nset answer . NS secure table 0 0\nending none\nend\n",
     },
-];
-
-fn part_12() -> &'static [Row] {
-    &ROWS_12
-}
-
-const ROWS_13: [Row; 9] = [
     Row {
         name: "two-spaces-between-words",
         words: &["validate"],
@@ -1060,6 +1074,13 @@ const ROWS_13: [Row; 9] = [
         status: 0,
         text: b"dns-report 1\ncode 0\ndenial none\nanswer example. IN DNSKEY 3600 bogus 0101030de1\nanswer example. IN RRSIG 3600 indeterminate 00300d0100000e10000007d000000384e50e076578616d706c6500c0de\ntrail 2\nstep 1 judged example. DS\ngot 0\ntold answer example. IN DS 3600 e50efa026691c87f523df73948a4cc0b62ebd65a708505e054a2fbf3143cec487ad142d8\nset answer example. DS bogus table -\nending none\nstep 0 judged example. DNSKEY\ngot 0\ntold answer example. IN DNSKEY 3600 0101030de1\ntold answer example. IN RRSIG 3600 00300d0100000e10000007d000000384e50e076578616d706c6500c0de\nset answer example. DNSKEY bogus table - 0\nending none\nend\n",
     },
+];
+
+fn part_15() -> &'static [Row] {
+    &ROWS_15
+}
+
+const ROWS_16: [Row; 7] = [
     Row {
         name: "unsigned-in-a-signed-zone",
         words: &["validate", "trail"],
@@ -1081,13 +1102,6 @@ const ROWS_13: [Row; 9] = [
         status: 0,
         text: b"dns-report 1\ncode 0\ndenial none\nanswer www.example. IN A 3600 insecure c0000201\ntrail 5\nstep 0 ns www.example. NS\ngot 0\nending seen\nstep 0 ns example. NS\ngot 0\ntold answer example. IN NS 3600 016100\nending seen\nstep 2 judged . DNSKEY\ngot 0\ntold answer . IN DNSKEY 3600 0101030daabb\nset answer . DNSKEY secure table -\nending none\nstep 1 judged example. DS\ngot 0\ntold answer example. IN DS 3600 e50efa026691c87f523df73948a4cc0b62ebd65a708505e054a2fbf3143cec487ad142d8\ntold answer example. IN RRSIG 3600 002b0d0100000e10000007d000000384aec900c0de\nset answer example. DS secure table 0 2\nending none\nstep 0 judged www.example. A\ngot 0\ntold answer www.example. IN A 3600 c0000201\nset answer www.example. A insecure table - 0 1 3\nending none\nend\n",
     },
-];
-
-fn part_13() -> &'static [Row] {
-    &ROWS_13
-}
-
-const ROWS_14: [Row; 8] = [
     Row {
         name: "unsigned-soa-above-the-name",
         words: &["validate", "trail"],
@@ -1116,6 +1130,13 @@ const ROWS_14: [Row; 8] = [
         status: 0,
         text: b"dns-report 1\ncode 0\ndenial none\nanswer wWw.Example. IN A 1000 secure c0000201\nanswer wWw.Example. IN RRSIG 1000 secure 00010d0200000e10000007d000000384e50e076578616d706c6500c0de\nchain answer 6\nanchored . IN 0101030daabb\nsigned . IN DNSKEY 0 0101030daabb 00300d0000000e10000007d000000384aec900c0de 0101030daabb 0100030dccdd\nsigned example. IN DS 1 0100030dccdd 002b0d0100000e10000007d000000384d0ea00c0de e50e0d026691c87f523df73948a4cc0b62ebd65a708505e054a2fbf3143cec487ad142d8\nmatched example. IN 0101030de1 2 e50e0d026691c87f523df73948a4cc0b62ebd65a708505e054a2fbf3143cec487ad142d8\nsigned example. IN DNSKEY 3 0101030de1 00300d0100000e10000007d000000384e50e076578616d706c6500c0de 0101030de1\nsigned wWw.Example. IN A 4 0101030de1 00010d0200000e10000007d000000384e50e076578616d706c6500c0de c0000201\nend\n",
     },
+];
+
+fn part_16() -> &'static [Row] {
+    &ROWS_16
+}
+
+const ROWS_17: [Row; 5] = [
     Row {
         name: "wildcard-of-a-signed-zone",
         words: &["validate"],
@@ -1144,26 +1165,21 @@ const ROWS_14: [Row; 8] = [
         status: 2,
         text: b"bad words\n",
     },
+    Row {
+        name: "zone-below-an-insecure-one",
+        words: &["validate", "trail"],
+        session: b"dns-session 1\nmoment 1000\nalgorithms 13\nanchor . 13 aabb\naccept 13 e2 00300d0200000e10000007d000000384e60e056368696c64076578616d706c6500056368696c64076578616d706c65000030000100000e1000050101030de2 c0de\naccept 13 e1 002b0d0200000e10000007d000000384e50e076578616d706c6500056368696c64076578616d706c6500002b000100000e100024e60e0d023a0a774e224845ed272e7752328493a88561d1cf54f712a93be74d918c3122f4 c0de\naccept 13 e1 00300d0100000e10000007d000000384e50e076578616d706c6500076578616d706c65000030000100000e1000050101030de1 c0de\naccept 13 aabb 002b0d0100000e10000007d000000384aec900076578616d706c6500002b000100000e100024e50efa026691c87f523df73948a4cc0b62ebd65a708505e054a2fbf3143cec487ad142d8 c0de\nquery child.example. DNSKEY\nreply child.example. DNSKEY 000084000001000200000000056368696c64076578616d706c650000300001056368696c64076578616d706c65000030000100000e1000050101030de2056368696c64076578616d706c6500002e000100000e10002300300d0200000e10000007d000000384e60e056368696c64076578616d706c6500c0de\nreply child.example. DS 000084000001000200000000056368696c64076578616d706c6500002b0001056368696c64076578616d706c6500002b000100000e100024e60e0d023a0a774e224845ed272e7752328493a88561d1cf54f712a93be74d918c3122f4056368696c64076578616d706c6500002e000100000e10001d002b0d0200000e10000007d000000384e50e076578616d706c6500c0de\nreply example. DNSKEY 000084000001000200000000076578616d706c650000300001076578616d706c65000030000100000e1000050101030de1076578616d706c6500002e000100000e10001d00300d0100000e10000007d000000384e50e076578616d706c6500c0de\nreply example. DS 000084000001000200000000076578616d706c6500002b0001076578616d706c6500002b000100000e100024e50efa026691c87f523df73948a4cc0b62ebd65a708505e054a2fbf3143cec487ad142d8076578616d706c6500002e000100000e100015002b0d0100000e10000007d000000384aec900c0de\nreply . DNSKEY 0000840000010001000000000000300001000030000100000e1000060101030daabb\nend\n",
+        status: 0,
+        text: b"dns-report 1\ncode 0\ndenial none\nanswer child.example. IN DNSKEY 3600 bogus 0101030de2\nanswer child.example. IN RRSIG 3600 indeterminate 00300d0200000e10000007d000000384e60e056368696c64076578616d706c6500c0de\ntrail 5\nstep 4 judged . DNSKEY\ngot 0\ntold answer . IN DNSKEY 3600 0101030daabb\nset answer . DNSKEY secure table -\nending none\nstep 3 judged example. DS\ngot 0\ntold answer example. IN DS 3600 e50efa026691c87f523df73948a4cc0b62ebd65a708505e054a2fbf3143cec487ad142d8\ntold answer example. IN RRSIG 3600 002b0d0100000e10000007d000000384aec900c0de\nset answer example. DS secure table 0 0\nending none\nstep 2 judged example. DNSKEY\ngot 0\ntold answer example. IN DNSKEY 3600 0101030de1\ntold answer example. IN RRSIG 3600 00300d0100000e10000007d000000384e50e076578616d706c6500c0de\nset answer example. DNSKEY insecure table - 1\nending none\nstep 1 judged child.example. DS\ngot 0\ntold answer child.example. IN DS 3600 e60e0d023a0a774e224845ed272e7752328493a88561d1cf54f712a93be74d918c3122f4\ntold answer child.example. IN RRSIG 3600 002b0d0200000e10000007d000000384e50e076578616d706c6500c0de\nset answer child.example. DS insecure table 0 2\nending none\nstep 0 judged child.example. DNSKEY\ngot 0\ntold answer child.example. IN DNSKEY 3600 0101030de2\ntold answer child.example. IN RRSIG 3600 00300d0200000e10000007d000000384e60e056368696c64076578616d706c6500c0de\nset answer child.example. DNSKEY bogus table - 3\nending none\nend\n",
+    },
 ];
 
-fn part_14() -> &'static [Row] {
-    &ROWS_14
-}
-
-const ROWS_15: [Row; 1] = [Row {
-    name: "zone-below-an-insecure-one",
-    words: &["validate", "trail"],
-    session: b"dns-session 1\nmoment 1000\nalgorithms 13\nanchor . 13 aabb\naccept 13 e2 00300d0200000e10000007d000000384e60e056368696c64076578616d706c6500056368696c64076578616d706c65000030000100000e1000050101030de2 c0de\naccept 13 e1 002b0d0200000e10000007d000000384e50e076578616d706c6500056368696c64076578616d706c6500002b000100000e100024e60e0d023a0a774e224845ed272e7752328493a88561d1cf54f712a93be74d918c3122f4 c0de\naccept 13 e1 00300d0100000e10000007d000000384e50e076578616d706c6500076578616d706c65000030000100000e1000050101030de1 c0de\naccept 13 aabb 002b0d0100000e10000007d000000384aec900076578616d706c6500002b000100000e100024e50efa026691c87f523df73948a4cc0b62ebd65a708505e054a2fbf3143cec487ad142d8 c0de\nquery child.example. DNSKEY\nreply child.example. DNSKEY 000084000001000200000000056368696c64076578616d706c650000300001056368696c64076578616d706c65000030000100000e1000050101030de2056368696c64076578616d706c6500002e000100000e10002300300d0200000e10000007d000000384e60e056368696c64076578616d706c6500c0de\nreply child.example. DS 000084000001000200000000056368696c64076578616d706c6500002b0001056368696c64076578616d706c6500002b000100000e100024e60e0d023a0a774e224845ed272e7752328493a88561d1cf54f712a93be74d918c3122f4056368696c64076578616d706c6500002e000100000e10001d002b0d0200000e10000007d000000384e50e076578616d706c6500c0de\nreply example. DNSKEY 000084000001000200000000076578616d706c650000300001076578616d706c65000030000100000e1000050101030de1076578616d706c6500002e000100000e10001d00300d0100000e10000007d000000384e50e076578616d706c6500c0de\nreply example. DS 000084000001000200000000076578616d706c6500002b0001076578616d706c6500002b000100000e100024e50efa026691c87f523df73948a4cc0b62ebd65a708505e054a2fbf3143cec487ad142d8076578616d706c6500002e000100000e100015002b0d0100000e10000007d000000384aec900c0de\nreply . DNSKEY 0000840000010001000000000000300001000030000100000e1000060101030daabb\nend\n",
-    status: 0,
-    text: b"dns-report 1\ncode 0\ndenial none\nanswer child.example. IN DNSKEY 3600 bogus 0101030de2\nanswer child.example. IN RRSIG 3600 indeterminate 00300d0200000e10000007d000000384e60e056368696c64076578616d706c6500c0de\ntrail 5\nstep 4 judged . DNSKEY\ngot 0\ntold answer . IN DNSKEY 3600 0101030daabb\nset answer . DNSKEY secure table -\nending none\nstep 3 judged example. DS\ngot 0\ntold answer example. IN DS 3600 e50efa026691c87f523df73948a4cc0b62ebd65a708505e054a2fbf3143cec487ad142d8\ntold answer example. IN RRSIG 3600 002b0d0100000e10000007d000000384aec900c0de\nset answer example. DS secure table 0 0\nending none\nstep 2 judged example. DNSKEY\ngot 0\ntold answer example. IN DNSKEY 3600 0101030de1\ntold answer example. IN RRSIG 3600 00300d0100000e10000007d000000384e50e076578616d706c6500c0de\nset answer example. DNSKEY insecure table - 1\nending none\nstep 1 judged child.example. DS\ngot 0\ntold answer child.example. IN DS 3600 e60e0d023a0a774e224845ed272e7752328493a88561d1cf54f712a93be74d918c3122f4\ntold answer child.example. IN RRSIG 3600 002b0d0200000e10000007d000000384e50e076578616d706c6500c0de\nset answer child.example. DS insecure table 0 2\nending none\nstep 0 judged child.example. DNSKEY\ngot 0\ntold answer child.example. IN DNSKEY 3600 0101030de2\ntold answer child.example. IN RRSIG 3600 00300d0200000e10000007d000000384e60e056368696c64076578616d706c6500c0de\nset answer child.example. DNSKEY bogus table - 3\nending none\nend\n",
-}];
-
-fn part_15() -> &'static [Row] {
-    &ROWS_15
+fn part_17() -> &'static [Row] {
+    &ROWS_17
 }
 
 /// How many parts there are.
-pub(crate) const PARTS: usize = 15;
+pub(crate) const PARTS: usize = 17;
 
 /// The rows of a part, by its number from 1.
 pub(crate) fn part(number: usize) -> &'static [Row] {
@@ -1183,6 +1199,8 @@ pub(crate) fn part(number: usize) -> &'static [Row] {
         13 => part_13(),
         14 => part_14(),
         15 => part_15(),
+        16 => part_16(),
+        17 => part_17(),
         _ => &[],
     }
 }
