@@ -1,6 +1,5 @@
 //! Signed texts, views of rdata, and records that own what a view shows (RFC 4034, 3 to 5 and 6.3; RFC 5155, 3).
-use crate::rdata_tests::name_of;
-use crate::rows::check_row;
+use crate::rows::{Row, check_row, check_rows};
 use dns_name::{Name, NameError, NoMemory, Octets};
 use dns_rdata::*;
 use dns_record::{DNSClass, Proof, Rdata, Record, RecordSet, RecordType};
@@ -13,17 +12,25 @@ const ROOT_SIG: &[u8] = b"\0\x02\x0d\0\0\0\x0e\x10\0\0\x07\xd0\0\0\x03\x84\xae\x
 const WILD_SIG: &[u8] =
     b"\0\x01\x0d\x01\0\0\x0e\x10\0\0\x07\xd0\0\0\x03\x84\xae\xc9\x01\x57\0\xc0\xde";
 
+fn name_of(alloc: Global, wire: &[u8]) -> Result<Name, NoMemory> {
+    match Name::from_wire(alloc, wire)? {
+        Some(name) => Ok(name),
+        None => Name::root(alloc),
+    }
+}
+
 fn rdata(alloc: Global, bytes: &[u8]) -> Result<Rdata, NoMemory> {
     Rdata::from_slice(alloc, &bytes[..bytes.len().min(65535)])
 }
 
-fn record(alloc: Global, owner: &Name, record_type: u16, bytes: &[u8]) -> Result<Record, NoMemory> {
+fn record(alloc: Global, name: Name, record_type: u16, bytes: &[u8]) -> Result<Record, NoMemory> {
+    let rdata = rdata(alloc, bytes)?;
     Ok(Record {
-        name: owner.try_clone()?,
+        name,
         record_type: RecordType(record_type),
         dns_class: DNSClass::IN,
         ttl: 3600,
-        rdata: rdata(alloc, bytes)?,
+        rdata,
         proof: Proof::Indeterminate,
     })
 }
@@ -31,12 +38,11 @@ fn record(alloc: Global, owner: &Name, record_type: u16, bytes: &[u8]) -> Result
 /// A record of the root.
 pub(crate) fn at_root(alloc: Global, record_type: u16, bytes: &[u8]) -> Result<Record, NoMemory> {
     let owner = Name::root(alloc)?;
-    record(alloc, &owner, record_type, bytes)
+    record(alloc, owner, record_type, bytes)
 }
 
-/// What is shown, a set's owner in wire form, its type and rdatas, a signature, and the signed text.
+/// A set's owner in wire form, its type and rdatas, a signature, and the signed text.
 struct Signed {
-    name: &'static str,
     owner: &'static [u8],
     record_type: u16,
     rdatas: &'static [&'static [u8]],
@@ -44,60 +50,88 @@ struct Signed {
     want: &'static [u8],
 }
 
-const SIGNED: [Signed; 4] = [
-    Signed {
-        name: "one record",
-        owner: b"\0",
-        record_type: 2,
-        rdatas: &[b"\x01a\0"],
-        sig: ROOT_SIG,
-        want: b"\0\x02\x0d\0\0\0\x0e\x10\0\0\x07\xd0\0\0\x03\x84\xae\xc9\0\0\0\x02\0\x01\0\0\x0e\x10\0\x03\x01\x61\0",
-    },
-    Signed {
-        name: "lower-cased, equal records once, in rising order",
-        owner: b"\0",
-        record_type: 2,
-        rdatas: &[b"\x01b\0", b"\x01A\0", b"\x01a\0", b"\0"],
-        sig: ROOT_SIG,
-        want: b"\0\x02\x0d\0\0\0\x0e\x10\0\0\x07\xd0\0\0\x03\x84\xae\xc9\0\0\0\x02\0\x01\0\0\x0e\x10\0\x01\0\0\0\x02\0\x01\0\0\x0e\x10\0\x03\x01\x61\0\0\0\x02\0\x01\0\0\x0e\x10\0\x03\x01\x62\0",
-    },
-    Signed {
-        name: "an owner that was expanded from a wildcard",
-        owner: b"\x01X\x01W\0",
-        record_type: 1,
-        rdatas: &[b"\xc0\0\x02\x01"],
-        sig: WILD_SIG,
-        want: b"\0\x01\x0d\x01\0\0\x0e\x10\0\0\x07\xd0\0\0\x03\x84\xae\xc9\x01\x77\0\x01\x2a\x01\x77\0\0\x01\0\x01\0\0\x0e\x10\0\x04\xc0\0\x02\x01",
-    },
-    Signed {
-        name: "the wildcard itself",
-        owner: b"\x01*\x01W\0",
-        record_type: 1,
-        rdatas: &[b"\xc0\0\x02\x01"],
-        sig: WILD_SIG,
-        want: b"\0\x01\x0d\x01\0\0\x0e\x10\0\0\x07\xd0\0\0\x03\x84\xae\xc9\x01\x77\0\x01\x2a\x01\x77\0\0\x01\0\x01\0\0\x0e\x10\0\x04\xc0\0\x02\x01",
-    },
+const SIGNED: &[(&str, Signed)] = &[
+    (
+        "one record",
+        Signed {
+            owner: b"\0",
+            record_type: 2,
+            rdatas: &[b"\x01a\0"],
+            sig: ROOT_SIG,
+            want: b"\0\x02\x0d\0\0\0\x0e\x10\0\0\x07\xd0\0\0\x03\x84\xae\xc9\0\0\0\x02\0\x01\0\0\x0e\x10\0\x03\x01\x61\0",
+        },
+    ),
+    (
+        "lower-cased, equal records once, in rising order",
+        Signed {
+            owner: b"\0",
+            record_type: 2,
+            rdatas: &[b"\x01b\0", b"\x01A\0", b"\x01a\0", b"\0"],
+            sig: ROOT_SIG,
+            want: b"\0\x02\x0d\0\0\0\x0e\x10\0\0\x07\xd0\0\0\x03\x84\xae\xc9\0\0\0\x02\0\x01\0\0\x0e\x10\0\x01\0\0\0\x02\0\x01\0\0\x0e\x10\0\x03\x01\x61\0\0\0\x02\0\x01\0\0\x0e\x10\0\x03\x01\x62\0",
+        },
+    ),
+    (
+        "an owner that was expanded from a wildcard",
+        Signed {
+            owner: b"\x01X\x01W\0",
+            record_type: 1,
+            rdatas: &[b"\xc0\0\x02\x01"],
+            sig: WILD_SIG,
+            want: b"\0\x01\x0d\x01\0\0\x0e\x10\0\0\x07\xd0\0\0\x03\x84\xae\xc9\x01\x77\0\x01\x2a\x01\x77\0\0\x01\0\x01\0\0\x0e\x10\0\x04\xc0\0\x02\x01",
+        },
+    ),
+    (
+        "the wildcard itself",
+        Signed {
+            owner: b"\x01*\x01W\0",
+            record_type: 1,
+            rdatas: &[b"\xc0\0\x02\x01"],
+            sig: WILD_SIG,
+            want: b"\0\x01\x0d\x01\0\0\x0e\x10\0\0\x07\xd0\0\0\x03\x84\xae\xc9\x01\x77\0\x01\x2a\x01\x77\0\0\x01\0\x01\0\0\x0e\x10\0\x04\xc0\0\x02\x01",
+        },
+    ),
 ];
+
+fn push_rdata(alloc: Global, rdatas: &mut Vec<Rdata>, bytes: &[u8]) -> Result<(), NoMemory> {
+    rdatas.push(rdata(alloc, bytes)?)?;
+    Ok(())
+}
 
 fn rdatas_of(alloc: Global, row: &Signed) -> Result<Vec<Rdata>, NoMemory> {
     let mut rdatas = Vec::new(alloc);
     for bytes in row.rdatas {
-        rdatas.push(rdata(alloc, bytes)?)?;
+        push_rdata(alloc, &mut rdatas, bytes)?;
     }
     Ok(rdatas)
 }
 
-fn records_of(alloc: Global, owner: &Name, row: &Signed) -> Result<Vec<Record>, NoMemory> {
+fn record_of(alloc: Global, row: &Signed, bytes: &[u8]) -> Result<Record, NoMemory> {
+    let owner = name_of(alloc, row.owner)?;
+    record(alloc, owner, row.record_type, bytes)
+}
+
+fn push_record(
+    alloc: Global,
+    records: &mut Vec<Record>,
+    row: &Signed,
+    bytes: &[u8],
+) -> Result<(), NoMemory> {
+    records.push(record_of(alloc, row, bytes)?)?;
+    Ok(())
+}
+
+fn records_of(alloc: Global, row: &Signed) -> Result<Vec<Record>, NoMemory> {
     let mut records = Vec::new(alloc);
     for bytes in row.rdatas {
-        records.push(record(alloc, owner, row.record_type, bytes)?)?;
+        push_record(alloc, &mut records, row, bytes)?;
     }
     Ok(records)
 }
 
 fn set_of(alloc: Global, row: &Signed) -> Result<RecordSet, NoMemory> {
     let name = name_of(alloc, row.owner)?;
-    let records = records_of(alloc, &name, row)?;
+    let records = records_of(alloc, row)?;
     Ok(RecordSet {
         name,
         record_type: RecordType(row.record_type),
@@ -107,13 +141,21 @@ fn set_of(alloc: Global, row: &Signed) -> Result<RecordSet, NoMemory> {
     })
 }
 
-/// The signed text of rdatas.
-fn text_of_rdatas(alloc: Global, row: &Signed, sig: &Rrsig) -> Result<Octets, NoMemory> {
-    let owner = name_of(alloc, row.owner)?;
+/// The text is the row's.
+fn is_text_of(row: &Signed, text: &Octets) -> bool {
+    *text.as_slice() == *row.want
+}
+
+fn text_of_rdatas(
+    alloc: Global,
+    owner: &Name,
+    row: &Signed,
+    sig: &Rrsig,
+) -> Result<Octets, NoMemory> {
     let rdatas = rdatas_of(alloc, row)?;
     signed_data_of(
         alloc,
-        &owner,
+        owner,
         RecordType(row.record_type),
         DNSClass::IN,
         &rdatas,
@@ -121,57 +163,67 @@ fn text_of_rdatas(alloc: Global, row: &Signed, sig: &Rrsig) -> Result<Octets, No
     )
 }
 
+/// The signed text of rdatas.
+fn text_by_rdatas(alloc: Global, row: &Signed, sig: &Rrsig) -> Result<Octets, NoMemory> {
+    let owner = name_of(alloc, row.owner)?;
+    text_of_rdatas(alloc, &owner, row, sig)
+}
+
 /// The signed text of a set.
-fn text_of_set(alloc: Global, row: &Signed, sig: &Rrsig) -> Result<Octets, NoMemory> {
+fn text_by_set(alloc: Global, row: &Signed, sig: &Rrsig) -> Result<Octets, NoMemory> {
     let set = set_of(alloc, row)?;
     signed_data(alloc, &set, sig)
 }
 
 fn are_rdatas_signed(alloc: Global, row: &Signed, sig: &Rrsig) -> Result<bool, NameError> {
-    let text = text_of_rdatas(alloc, row, sig)?;
-    Ok(*text.as_slice() == *row.want)
+    let text = text_by_rdatas(alloc, row, sig)?;
+    Ok(is_text_of(row, &text))
 }
 
 fn is_set_signed(alloc: Global, row: &Signed, sig: &Rrsig) -> Result<bool, NameError> {
-    let text = text_of_set(alloc, row, sig)?;
-    Ok(*text.as_slice() == *row.want)
+    let text = text_by_set(alloc, row, sig)?;
+    Ok(is_text_of(row, &text))
 }
 
-fn is_signed_as(alloc: Global, row: &Signed) -> Result<bool, NameError> {
-    match Rrsig::read(row.sig) {
-        Some(sig) => Ok(are_rdatas_signed(alloc, row, &sig)? && is_set_signed(alloc, row, &sig)?),
-        None => Ok(false),
+fn is_signed_by(alloc: Global, row: &Signed, sig: &Rrsig) -> Result<bool, NameError> {
+    Ok(are_rdatas_signed(alloc, row, sig)? && is_set_signed(alloc, row, sig)?)
+}
+
+impl Row for Signed {
+    fn holds(&self, alloc: Global, _name: &str) -> Result<bool, NameError> {
+        match Rrsig::read(self.sig) {
+            Some(sig) => is_signed_by(alloc, self, &sig),
+            None => Ok(false),
+        }
     }
 }
 
 #[test]
 fn the_text_that_is_signed_is_the_standards(rt: HostRuntime) {
-    for row in &SIGNED {
-        check_row(&rt, row.name, is_signed_as(rt.alloc(), row));
-    }
+    check_rows(&rt, rt.alloc(), SIGNED);
 }
 
-/// A type and its number, an rdata of its shape, and the place of the view that there is.
-type Viewed = (&'static str, u16, &'static [u8], usize);
+/// A type's number, an rdata of its shape, and the place of the view that there is.
+struct Viewed(u16, &'static [u8], usize);
 
-const VIEWS: [Viewed; 7] = [
-    ("RRSIG", 46, b"\0\x02\x0d\0aaaabbbbcccctt\0", 0),
-    ("DNSKEY", 48, b"\x01\x01\x03\x0d", 1),
-    ("DS", 43, b"\x01\x01\x03\x0d", 2),
-    ("NSEC", 47, b"\x01b\0\0\x01\x40", 3),
+const VIEWS: &[(&str, Viewed)] = &[
+    ("RRSIG", Viewed(46, b"\0\x02\x0d\0aaaabbbbcccctt\0", 0)),
+    ("DNSKEY", Viewed(48, b"\x01\x01\x03\x0d", 1)),
+    ("DS", Viewed(43, b"\x01\x01\x03\x0d", 2)),
+    ("NSEC", Viewed(47, b"\x01b\0\0\x01\x40", 3)),
     (
         "NSEC3",
-        50,
-        b"\x01\x01\0\x0c\x02\xaa\xbb\x01\xcc\0\x01\x20",
-        4,
+        Viewed(50, b"\x01\x01\0\x0c\x02\xaa\xbb\x01\xcc\0\x01\x20", 4),
     ),
     (
         "SOA",
-        6,
-        b"\0\x01r\0\0\0\0\x01\0\0\0\x02\0\0\0\x03\0\0\0\x04\0\0\0\x05",
-        5,
+        Viewed(
+            6,
+            b"\0\x01r\0\0\0\0\x01\0\0\0\x02\0\0\0\x03\0\0\0\x04\0\0\0\x05",
+            5,
+        ),
     ),
-    ("NS", 2, b"\x01b\0", 6),
+    ("NS", Viewed(2, b"\x01b\0", 6)),
 ];
 
 /// The views of signatures and keys there are.
@@ -189,54 +241,77 @@ fn other_views(from: &Record, place: usize) -> bool {
         && Ns::of(from).is_some() == (place == 6)
 }
 
-fn has_its_view(alloc: Global, row: &Viewed) -> Result<bool, NameError> {
-    let from = at_root(alloc, row.1, row.2)?;
-    Ok(key_views(&from, row.3) && other_views(&from, row.3))
+impl Row for Viewed {
+    fn holds(&self, alloc: Global, _name: &str) -> Result<bool, NameError> {
+        let from = at_root(alloc, self.0, self.1)?;
+        Ok(key_views(&from, self.2) && other_views(&from, self.2))
+    }
 }
 
 #[test]
 fn views_read_their_own_type_alone(rt: HostRuntime) {
-    for row in &VIEWS {
-        check_row(&rt, row.0, has_its_view(rt.alloc(), row));
+    check_rows(&rt, rt.alloc(), VIEWS);
+}
+
+fn is_root_sig(sig: &Rrsig) -> bool {
+    sig.type_covered == RecordType::NS
+        && sig.labels == 0
+        && sig.original_ttl == 3600
+        && sig.expiration == SerialNumber(2000)
+        && sig.inception == SerialNumber(900)
+        && sig.key_tag == 44745
+}
+
+fn is_counted_soa(soa: &Soa) -> bool {
+    soa.serial == 1 && soa.refresh == 2 && soa.retry == 3 && soa.expire == 4 && soa.minimum == 5
+}
+
+fn sig_has_its_numbers(from: &Record) -> bool {
+    match Rrsig::of(from) {
+        Some(sig) => is_root_sig(&sig),
+        None => false,
     }
 }
 
-fn sig_has_its_numbers(alloc: Global, bytes: &[u8]) -> Result<bool, NameError> {
-    let from = at_root(alloc, 46, bytes)?;
-    match Rrsig::of(&from) {
-        Some(sig) => Ok(
-            sig.type_covered == RecordType::NS
-                && sig.labels == 0
-                && sig.original_ttl == 3600
-                && sig.expiration == SerialNumber(2000)
-                && sig.inception == SerialNumber(900)
-                && sig.key_tag == 44745,
+fn soa_has_its_numbers(from: &Record) -> bool {
+    match Soa::of(from) {
+        Some(soa) => is_counted_soa(&soa),
+        None => false,
+    }
+}
+
+fn has_its_numbers(from: &Record) -> bool {
+    if from.record_type == RecordType::SOA {
+        soa_has_its_numbers(from)
+    } else {
+        sig_has_its_numbers(from)
+    }
+}
+
+/// A type's number and the rdata: the signature above, or an SOA with the numbers from 1 to 5.
+struct Numbered(u16, &'static [u8]);
+
+const NUMBERED: &[(&str, Numbered)] = &[
+    ("RRSIG", Numbered(46, ROOT_SIG)),
+    (
+        "SOA",
+        Numbered(
+            6,
+            b"\0\x01\x72\0\0\0\0\x01\0\0\0\x02\0\0\0\x03\0\0\0\x04\0\0\0\x05",
         ),
-        None => Ok(false),
+    ),
+];
+
+impl Row for Numbered {
+    fn holds(&self, alloc: Global, _name: &str) -> Result<bool, NameError> {
+        let from = at_root(alloc, self.0, self.1)?;
+        Ok(has_its_numbers(&from))
     }
 }
-
-fn soa_has_its_numbers(alloc: Global, bytes: &[u8]) -> Result<bool, NameError> {
-    let from = at_root(alloc, 6, bytes)?;
-    match Soa::of(&from) {
-        Some(soa) => Ok(
-            soa.serial == 1
-                && soa.refresh == 2
-                && soa.retry == 3
-                && soa.expire == 4
-                && soa.minimum == 5,
-        ),
-        None => Ok(false),
-    }
-}
-
-/// An SOA with the numbers from 1 to 5.
-const SOA: &[u8] = b"\0\x01\x72\0\0\0\0\x01\0\0\0\x02\0\0\0\x03\0\0\0\x04\0\0\0\x05";
 
 #[test]
 fn numbers_stand_in_their_places(rt: HostRuntime) {
-    check_row(&rt, "RRSIG", sig_has_its_numbers(rt.alloc(), ROOT_SIG));
-    check_row(&rt, "SOA", soa_has_its_numbers(rt.alloc(), SOA));
+    check_rows(&rt, rt.alloc(), NUMBERED);
 }
 
 fn nsec_of(alloc: Global, bytes: &[u8]) -> Result<Option<NsecRecord>, NoMemory> {
@@ -244,13 +319,15 @@ fn nsec_of(alloc: Global, bytes: &[u8]) -> Result<Option<NsecRecord>, NoMemory> 
     NsecRecord::of(alloc, &from)
 }
 
+fn is_nsec(copy: &NsecRecord, owner: &Name) -> bool {
+    copy.owner == *owner
+        && copy.next.wire() == b"\x01b\0".as_slice()
+        && copy.type_set().contains(RecordType::A)
+}
+
 fn is_nsec_copied(nsec: &NsecRecord) -> Result<bool, NameError> {
     let copy = nsec.try_clone()?;
-    Ok(
-        copy.owner == nsec.owner
-            && copy.next.wire() == b"\x01b\0".as_slice()
-            && copy.type_set().contains(RecordType::A),
-    )
+    Ok(is_nsec(&copy, &nsec.owner))
 }
 
 fn nsec_is_copied(alloc: Global, bytes: &[u8]) -> Result<bool, NameError> {
@@ -265,15 +342,17 @@ fn nsec3_of(alloc: Global, bytes: &[u8]) -> Result<Option<Nsec3Record>, NoMemory
     Nsec3Record::of(alloc, &from)
 }
 
+fn is_nsec3(copy: &Nsec3Record, owner: &Name) -> bool {
+    copy.owner == *owner
+        && copy.iterations == 12
+        && copy.salt.as_slice() == b"\xaa\xbb".as_slice()
+        && copy.next.as_slice() == b"\xcc".as_slice()
+        && copy.type_set().contains(RecordType::NS)
+}
+
 fn is_nsec3_copied(nsec3: &Nsec3Record) -> Result<bool, NameError> {
     let copy = nsec3.try_clone()?;
-    Ok(
-        copy.owner == nsec3.owner
-            && copy.iterations == 12
-            && copy.salt.as_slice() == b"\xaa\xbb".as_slice()
-            && copy.next.as_slice() == b"\xcc".as_slice()
-            && copy.type_set().contains(RecordType::NS),
-    )
+    Ok(is_nsec3(&copy, &nsec3.owner))
 }
 
 fn nsec3_is_copied(alloc: Global, bytes: &[u8]) -> Result<bool, NameError> {

@@ -1,11 +1,11 @@
 //! Questions and sets of records: how they compare, are shown and are copied.
-use crate::name_tests::hash_of;
 use crate::rdata_signed_tests::at_root;
-use crate::rows::check_row;
+use crate::rows::{Row, check_row, check_rows};
 use dns_name::NameError;
 use dns_record::*;
 use std::alloc::Global;
 use std::cmp::Ordering;
+use std::hash::{DefaultHasher, Hash, Hasher};
 
 pub(crate) fn query_of(alloc: Global, text: &str, record_type: u16) -> Result<Query, NameError> {
     let name = Name::from_ascii(alloc, text)?;
@@ -16,13 +16,21 @@ pub(crate) fn query_of(alloc: Global, text: &str, record_type: u16) -> Result<Qu
     })
 }
 
-/// Two questions by name and type, and whether they are one.
-const QUERIES: [(&str, u16, &str, u16, bool); 4] = [
-    ("a.B.", 1, "A.b.", 1, true),
-    ("a.B.", 1, "a.B.", 2, false),
-    ("a.B.", 1, "b.B.", 1, false),
-    (".", 48, ".", 48, true),
+/// A question's type, another question, and whether that one is the same as the question of the row's name and this type.
+struct Compared(u16, &'static str, u16, bool);
+
+const COMPARED: &[(&str, Compared)] = &[
+    ("a.B.", Compared(1, "A.b.", 1, true)),
+    ("a.B.", Compared(1, "a.B.", 2, false)),
+    ("a.B.", Compared(1, "b.B.", 1, false)),
+    (".", Compared(48, ".", 48, true)),
 ];
+
+fn hash_of(query: &Query) -> u64 {
+    let mut state = DefaultHasher::new();
+    query.hash(&mut state);
+    state.finish()
+}
 
 fn are_one(one: &Query, two: &Query, same: bool) -> bool {
     (one == two) == same
@@ -35,37 +43,51 @@ fn is_copied(query: &Query) -> Result<bool, NameError> {
     Ok(copy == *query)
 }
 
-fn is_compared(alloc: Global, row: &(&str, u16, &str, u16, bool)) -> Result<bool, NameError> {
-    let one = query_of(alloc, row.0, row.1)?;
-    let two = query_of(alloc, row.2, row.3)?;
-    Ok(are_one(&one, &two, row.4) && is_copied(&one)?)
+fn is_compared(alloc: Global, one: &Query, row: &Compared) -> Result<bool, NameError> {
+    let two = query_of(alloc, row.1, row.2)?;
+    Ok(are_one(one, &two, row.3))
+}
+
+fn is_compared_and_copied(alloc: Global, one: &Query, row: &Compared) -> Result<bool, NameError> {
+    Ok(is_compared(alloc, one, row)? && is_copied(one)?)
+}
+
+impl Row for Compared {
+    fn holds(&self, alloc: Global, name: &str) -> Result<bool, NameError> {
+        let one = query_of(alloc, name, self.0)?;
+        is_compared_and_copied(alloc, &one, self)
+    }
 }
 
 #[test]
 fn questions_compare_with_names_folded(rt: HostRuntime) {
-    for row in &QUERIES {
-        check_row(&rt, row.0, is_compared(rt.alloc(), row));
-    }
+    check_rows(&rt, rt.alloc(), COMPARED);
 }
 
-/// A name and a type, and how a question of class IN for them is shown.
-const SHOWN: [(&str, u16, &str); 3] = [
-    ("a.B", 48, "a.B. IN DNSKEY"),
-    ("a.B", 65280, "a.B. IN TYPE65280"),
-    ("a\\032b", 1, "a\\032b. IN A"),
+/// A type, and how a question of class IN for the row's name and it is shown.
+struct Shown(u16, &'static str);
+
+const SHOWN: &[(&str, Shown)] = &[
+    ("a.B", Shown(48, "a.B. IN DNSKEY")),
+    ("a.B", Shown(65280, "a.B. IN TYPE65280")),
+    ("a\\032b", Shown(1, "a\\032b. IN A")),
 ];
 
-fn is_shown(alloc: Global, row: &(&str, u16, &str)) -> Result<bool, NameError> {
-    let query = query_of(alloc, row.0, row.1)?;
+fn is_shown(alloc: Global, query: &Query, text: &str) -> Result<bool, NameError> {
     let shown = format!(in alloc; "{query}")?;
-    Ok(shown.as_str() == row.2)
+    Ok(shown.as_str() == text)
+}
+
+impl Row for Shown {
+    fn holds(&self, alloc: Global, name: &str) -> Result<bool, NameError> {
+        let query = query_of(alloc, name, self.0)?;
+        is_shown(alloc, &query, self.1)
+    }
 }
 
 #[test]
 fn questions_are_shown(rt: HostRuntime) {
-    for row in &SHOWN {
-        check_row(&rt, row.2, is_shown(rt.alloc(), row));
-    }
+    check_rows(&rt, rt.alloc(), SHOWN);
 }
 
 fn set_of(alloc: Global, bytes: &[u8]) -> Result<RecordSet, NoMemory> {
@@ -79,11 +101,15 @@ fn is_of_one(set: &RecordSet, bytes: &[u8]) -> bool {
     }
 }
 
+fn has_copy(set: &RecordSet, bytes: &[u8]) -> Result<bool, NameError> {
+    let copy = set.try_clone()?;
+    Ok(is_of_one(&copy, bytes))
+}
+
 /// Whether a set of one record, copied, has that record's rdata.
 fn is_set_copied(alloc: Global, bytes: &[u8]) -> Result<bool, NameError> {
     let set = set_of(alloc, bytes)?;
-    let copy = set.try_clone()?;
-    Ok(is_of_one(&copy, bytes))
+    has_copy(&set, bytes)
 }
 
 #[test]

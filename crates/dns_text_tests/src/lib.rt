@@ -1,12 +1,10 @@
-//! Tests of words, sessions, reports, sources and sinks, by what their crates give.
+//! Tests of sessions and reports, by what their crates give.
 //!
 //! They stand apart, since a crate with tests of its own is proved twice.
 #![tactic(auto)]
 
 #[cfg(test)]
 mod answer_rows;
-#[cfg(test)]
-mod io_tests;
 #[cfg(test)]
 mod line_tests;
 #[cfg(test)]
@@ -15,5 +13,3 @@ mod report_tests;
 mod session_tests;
 #[cfg(test)]
 mod session_texts;
-#[cfg(test)]
-mod words_tests;
