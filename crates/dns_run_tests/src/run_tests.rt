@@ -2,8 +2,7 @@
 use crate::rows::check_row;
 use crate::worked_rows::{PARTS, Row, part};
 use dns_io::{Sink, SinkFault, SureSink, SureSource, TextSink, TextSource};
-use dns_name::Octets;
-use dns_net::NetError;
+use dns_name::{NoMemory, Octets};
 use dns_run::run;
 use std::alloc::Global;
 
@@ -35,7 +34,7 @@ impl Sink for Slow {
     }
 }
 
-fn words_of(alloc: Global, words: &[&str]) -> Result<Vec<Vec<u8>>, NetError> {
+fn words_of(alloc: Global, words: &[&str]) -> Result<Vec<Vec<u8>>, NoMemory> {
     let mut all = Vec::new(alloc);
     for word in words {
         all.push(word.as_bytes().to_vec(alloc)?)?;
@@ -63,14 +62,14 @@ fn failing_ends(
     failing: &[u64],
     status: u8,
     text: &[u8],
-) -> Result<bool, NetError> {
+) -> Result<bool, NoMemory> {
     let bytes = Octets::from_slice(alloc, session)?;
     let mut source = TextSource::new(bytes, failing.to_vec(alloc)?);
     Ok(told_ends(alloc, words, &mut source, status, text))
 }
 
 // Over a source and a sink that never fail the words end as the row says.
-fn sure_ends(alloc: Global, words: &[Vec<u8>], row: &Row) -> Result<bool, NetError> {
+fn sure_ends(alloc: Global, words: &[Vec<u8>], row: &Row) -> Result<bool, NoMemory> {
     let mut source = SureSource::new(Octets::from_slice(alloc, row.session)?);
     let mut sink = SureSink::new(alloc);
     let status = run(alloc, words, &mut source, &mut sink);
@@ -78,7 +77,7 @@ fn sure_ends(alloc: Global, words: &[Vec<u8>], row: &Row) -> Result<bool, NetErr
 }
 
 // Over a sink whose second write fails a row ends for that, with what was written before.
-fn slow_ends(alloc: Global, words: &[Vec<u8>], row: &Row) -> Result<bool, NetError> {
+fn slow_ends(alloc: Global, words: &[Vec<u8>], row: &Row) -> Result<bool, NoMemory> {
     let mut source = SureSource::new(Octets::from_slice(alloc, row.session)?);
     let mut sink = Slow {
         taken: Vec::new(alloc),
@@ -89,7 +88,7 @@ fn slow_ends(alloc: Global, words: &[Vec<u8>], row: &Row) -> Result<bool, NetErr
 }
 
 // Both kinds of source and sink end as the row says.
-fn ends_so(alloc: Global, row: &Row) -> Result<bool, NetError> {
+fn ends_so(alloc: Global, row: &Row) -> Result<bool, NoMemory> {
     let words = words_of(alloc, row.words)?;
     Ok(
         failing_ends(alloc, &words, row.session, &[], row.status, row.text)?
@@ -116,7 +115,7 @@ fn is_reading(words: &[&str]) -> bool {
 }
 
 // Over a source whose first or second read fails a row ends for that; no bytes are read by one read.
-fn breaks_so(alloc: Global, words: &[Vec<u8>], session: &[u8]) -> Result<bool, NetError> {
+fn breaks_so(alloc: Global, words: &[Vec<u8>], session: &[u8]) -> Result<bool, NoMemory> {
     Ok(
         failing_ends(alloc, words, session, &[0], 4, b"")?
             && (session.is_empty() || failing_ends(alloc, words, session, &[1], 4, b"")?),
@@ -124,7 +123,7 @@ fn breaks_so(alloc: Global, words: &[Vec<u8>], session: &[u8]) -> Result<bool, N
 }
 
 // Over a source whose reads fail a row ends for that if its words ask for a reading, and else as it says.
-fn fails_so(alloc: Global, words: &[Vec<u8>], row: &Row) -> Result<bool, NetError> {
+fn fails_so(alloc: Global, words: &[Vec<u8>], row: &Row) -> Result<bool, NoMemory> {
     if is_reading(row.words) {
         breaks_so(alloc, words, row.session)
     } else {
@@ -132,7 +131,7 @@ fn fails_so(alloc: Global, words: &[Vec<u8>], row: &Row) -> Result<bool, NetErro
     }
 }
 
-fn ends_for_the_outside(alloc: Global, row: &Row) -> Result<bool, NetError> {
+fn ends_for_the_outside(alloc: Global, row: &Row) -> Result<bool, NoMemory> {
     let words = words_of(alloc, row.words)?;
     Ok(slow_ends(alloc, &words, row)? && fails_so(alloc, &words, row)?)
 }
