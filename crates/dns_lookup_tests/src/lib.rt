@@ -1,9 +1,6 @@
-//! Tests of lookups: what a lookup and a whole request send and refuse, the trail that a lookup leaves, and the code of
-//! docs/LIBRARY.md.
+//! Tests of lookups: what a lookup and a whole request send and refuse, and the trail that a lookup leaves.
 #![tactic(auto)]
 
-#[cfg(test)]
-mod library_tests;
 #[cfg(test)]
 mod lookup_tests;
 #[cfg(test)]

@@ -1,6 +1,6 @@
 //! What a lookup sends, and what a denial holds (RFC 1035, 4.1; RFC 6891, 6.1.2; RFC 4035, 4.1).
 use crate::rows::check_row;
-use dns_chain::DnssecDnsHandle;
+use dns_lookup::DnssecDnsHandle;
 use dns_message::Message;
 use dns_name::Name;
 use dns_net::{

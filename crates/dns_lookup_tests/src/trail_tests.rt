@@ -3,7 +3,7 @@ use crate::lookup_tests::{
     Given, KEY_SET, Keeping, NS_SET, ROOT_SERVERS, handle_over, is_answered, look_up, root_servers,
 };
 use crate::rows::check_row;
-use dns_chain::DnssecDnsHandle;
+use dns_lookup::DnssecDnsHandle;
 use dns_net::{AskRef, Asked, Ending, JudgedSet, MarkOrigin, NetError, Recorded, Reply};
 use dns_record::{Denial, Proof, RecordType};
 use dns_trust::Listed;
