@@ -5,6 +5,8 @@
 #![tactic(auto)]
 
 #[cfg(test)]
+mod nsec_rows;
+#[cfg(test)]
 mod nsec_tests;
 #[cfg(test)]
 mod rdata_signed_tests;
