@@ -10,8 +10,8 @@ use Rattle.dns_model.specs.Owned.{OwnedNsec}
 use Rattle.dns_model.proofs.OrderLemmas.{name_total}
 use Rattle.dns_model.proofs.NamesInOrder.{above_is_first, order_if_alike}
 use Rattle.dns_model.proofs.WildcardLemmas.{star_of_common}
-use Rattle.dns_denial.specs.Covering.{leads_back, spans, is_nearest, counts_for, is_silent_on, unless_silent, covering}
-use Rattle.dns_denial.specs.NsecVerdict.{closest_encloser}
+use Rattle.dns_judgement.specs.Covering.{leads_back, spans, is_nearest, counts_for, is_silent_on, unless_silent, covering}
+use Rattle.dns_judgement.specs.NsecVerdict.{closest_encloser}
 
 -- ---- what a record that spans a name says of it
 

@@ -1,11 +1,4 @@
-pub mod ExampleZones
-pub mod Members
-pub mod ZoneLemmas
-pub mod EncloserLemmas
-pub mod ReachLemmas
-pub mod Promises
 pub mod Best
 pub mod NameOrder
 pub mod Ancestors
 pub mod Enclosers
-pub mod ExampleRecords

@@ -4,8 +4,8 @@ ghost use Rattle.std.specs.List.{find};
 ghost use Rattle.std.specs.Option.{option_copied};
 ghost use Rattle.std.specs.Ordering.{is_le};
 ghost use Rattle.dns_model.specs.Names.{name_cmp, before};
-ghost use Rattle.dns_denial.specs.DenialInZones.{IsOwnerless};
-ghost use Rattle.dns_denial.specs.Covering.{spans as spans_in, counts_for, is_silent_on as is_silent_in, covering as covering_in, covering_number};
+ghost use Rattle.dns_judgement.specs.DenialInZones.{IsOwnerless};
+ghost use Rattle.dns_judgement.specs.Covering.{spans as spans_in, counts_for, is_silent_on as is_silent_in, covering as covering_in, covering_number};
 ghost use Rattle.dns_denial.specs.Best.{owned_before, is_better, next_best};
 
 use crate::listed_types::{has_type, is_cut};
@@ -26,7 +26,7 @@ pub fn nsec_covering(name: &Name, nsecs: &[NsecRecord]) -> Option<u32>
 }
 
 /// The number of that record.
-#[tactic(auto, unfolding(crate::specs::Covering::covering, crate::specs::Covering::covering_number))]
+#[tactic(auto, unfolding(dns_judgement::specs::Covering::covering, dns_judgement::specs::Covering::covering_number))]
 fn covering_place(name: &Name, nsecs: &[NsecRecord]) -> Option<u32>
     requires { length nsecs.now < 2 ^ 32 }
     ensures { result ≡ covering_number name.now nsecs.now }
@@ -40,7 +40,7 @@ fn covering_place(name: &Name, nsecs: &[NsecRecord]) -> Option<u32>
 }
 
 /// The record that covers a name.
-#[tactic(auto, unfolding(crate::specs::Covering::covering))]
+#[tactic(auto, unfolding(dns_judgement::specs::Covering::covering))]
 pub(crate) fn covering<'a>(name: &NameRef<'_>, nsecs: &'a [NsecRecord]) -> Option<&'a NsecRecord>
     ensures { option_copied result ≡ covering_in name.now nsecs.now }
 {

@@ -2,12 +2,11 @@
 //! may use each call as the definition that its clause names. No call here takes memory.
 #![tactic(auto)]
 
-mod answered;
 mod covering;
 mod encloser;
 mod listed_types;
 mod verdict;
 
-pub use answered::Answered;
 pub use covering::nsec_covering;
+pub use dns_record::Answered;
 pub use verdict::verify_nsec;

@@ -1,7 +1,7 @@
 //! What the types of an NSEC record say of its owner (RFC 4034, 4.1.2).
 ghost use Rattle.std.specs.Prelude.{◌≡◌};
-ghost use Rattle.dns_denial.specs.Covering.{has_type as has_type_in, is_cut as is_cut_in};
-ghost use Rattle.dns_denial.specs.NsecVerdict.{lacks_data as lacks_data_in};
+ghost use Rattle.dns_judgement.specs.Covering.{has_type as has_type_in, is_cut as is_cut_in};
+ghost use Rattle.dns_judgement.specs.NsecVerdict.{lacks_data as lacks_data_in};
 
 use dns_rdata::NsecRecord;
 use dns_record::RecordType;

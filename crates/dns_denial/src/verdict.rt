@@ -3,11 +3,11 @@ ghost use Rattle.std.specs.Prelude.{◌≡◌, ℕ, ◌==◌, ◌&&◌, true, So
 ghost use Rattle.std.specs.List.{list_any, find};
 ghost use Rattle.std.specs.Option.{option_copied};
 ghost use Rattle.dns_model.specs.Names.{is_name, star};
-ghost use Rattle.dns_denial.specs.declared.answered.Answered.TheVariants.{No, Expanded};
+ghost use Rattle.dns_record.specs.declared.answered.Answered.TheVariants.{No, Expanded};
 ghost use Rattle.dns_model.specs.declared.proof.Proof.TheVariants.{Secure};
-ghost use Rattle.dns_denial.specs.DenialInZones.{IsDeniedIn, IsExpandedIn};
-ghost use Rattle.dns_denial.specs.Covering.{covering as covering_in};
-ghost use Rattle.dns_denial.specs.NsecVerdict.{nsec_verdict, code_nx_domain, can_deny as can_deny_in, holds_query as holds_query_in, is_unanswered as is_unanswered_in, is_owned_by as is_owned_by_in, denies_at_owner as denies_at_owner_in, wildcard_lacks as wildcard_lacks_in, wildcard_denies as wildcard_denies_in, missing_name as missing_name_in, proved_by_covering as proved_by_covering_in, proved_at_name as proved_at_name_in, closest_encloser as closest_encloser_of};
+ghost use Rattle.dns_judgement.specs.DenialInZones.{IsDeniedIn, IsExpandedIn};
+ghost use Rattle.dns_judgement.specs.Covering.{covering as covering_in};
+ghost use Rattle.dns_judgement.specs.NsecVerdict.{nsec_verdict, code_nx_domain, can_deny as can_deny_in, holds_query as holds_query_in, is_unanswered as is_unanswered_in, is_owned_by as is_owned_by_in, denies_at_owner as denies_at_owner_in, wildcard_lacks as wildcard_lacks_in, wildcard_denies as wildcard_denies_in, missing_name as missing_name_in, proved_by_covering as proved_by_covering_in, proved_at_name as proved_at_name_in, closest_encloser as closest_encloser_of};
 
 use crate::Answered;
 use crate::covering::covering;
@@ -38,7 +38,7 @@ pub fn verify_nsec(
 }
 
 /// The verdict, row by row.
-#[tactic(auto, unfolding(crate::specs::NsecVerdict::nsec_verdict))]
+#[tactic(auto, unfolding(dns_judgement::specs::NsecVerdict::nsec_verdict))]
 fn verdict_of(
     query: &Query,
     zone: &Name,

@@ -2,6 +2,8 @@
 //! the plain value that its model names.
 #![tactic(auto)]
 
+mod deciding;
 mod judged_sets;
 
+pub use deciding::decider;
 pub use judged_sets::{ChainedSet, MarkedSet, PlacedSet};

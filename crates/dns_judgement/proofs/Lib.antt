@@ -1,3 +1,10 @@
+pub mod ExampleZones
+pub mod Members
+pub mod ZoneLemmas
+pub mod EncloserLemmas
+pub mod ReachLemmas
+pub mod Promises
+pub mod ExampleRecords
 pub mod WorkedTrailValues
 pub mod WorkedTrails
 pub mod WorkedDelegations

@@ -17,8 +17,8 @@ use Rattle.dns_model.specs.Chains.{Judge, judge}
 use Rattle.dns_model.specs.SoundAnswers.{Told, Placed}
 use Rattle.dns_model.specs.Trails.{AskedValue, Fault, Answered, Denied, Foreign, Failed}
 use Rattle.dns_model.proofs.Worked.{name_a, signature, anchors}
-use Rattle.dns_denial.specs.Covering.{covering}
-use Rattle.dns_denial.specs.NsecVerdict.{closest_encloser, nsec_verdict}
+use Rattle.dns_judgement.specs.Covering.{covering}
+use Rattle.dns_judgement.specs.NsecVerdict.{closest_encloser, nsec_verdict}
 use Rattle.dns_judgement.specs.Judged.{Judged}
 use Rattle.dns_judgement.specs.Validity.{validity, is_good_by}
 use Rattle.dns_judgement.specs.Marks.{first_two, verdict_of, judged_by}

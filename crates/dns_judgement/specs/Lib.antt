@@ -1,3 +1,7 @@
+pub mod Covering
+pub mod NsecVerdict
+pub mod Zones
+pub mod DenialInZones
 pub mod Validity
 pub mod Judged
 pub mod Marks

@@ -14,10 +14,10 @@ use Rattle.dns_model.specs.Owned.{OwnedNsec}
 use Rattle.dns_model.specs.SoundAnswers.{Told, is_secure}
 use Rattle.dns_model.proofs.EachLemmas.{each_passes}
 use Rattle.dns_model.proofs.SetLemmas.{name_refl}
-use Rattle.dns_denial.specs.declared.answered.Answered.{Answered}
-use Rattle.dns_denial.specs.declared.answered.Answered.TheVariants.{No, Plain, Expanded}
-use Rattle.dns_denial.specs.NsecVerdict.{can_deny, holds_query, nsec_verdict}
-use Rattle.dns_denial.proofs.Promises.{denial_of, expansion_of}
+use Rattle.dns_record.specs.declared.answered.Answered.{Answered}
+use Rattle.dns_record.specs.declared.answered.Answered.TheVariants.{No, Plain, Expanded}
+use Rattle.dns_judgement.specs.NsecVerdict.{can_deny, holds_query, nsec_verdict}
+use Rattle.dns_judgement.proofs.Promises.{denial_of, expansion_of}
 use Rattle.dns_judgement.specs.Judged.{Judged, placed_of}
 use Rattle.dns_judgement.specs.Outcome as outcome
 use Rattle.dns_judgement.specs.Outcome.{Outcome, outcome_of, outcome_by_denials, has_answer, is_wildcard_signature, has_wildcard_signature, is_expanded_answer, is_expanded_for, decider_labels, least, answered, answered_from, is_unjudged, is_denying, denying, denials, signer_of, is_made_by, one_signer, secure_denial, is_insecure_authority, insecure_answer}

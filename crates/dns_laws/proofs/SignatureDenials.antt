@@ -16,9 +16,9 @@ use Rattle.dns_model.specs.Sections.{is_signature}
 use Rattle.dns_model.specs.SoundAnswers.{Told, placed_sets, section_of, section_eq, is_secure, set_rtype}
 use Rattle.dns_model.proofs.EachLemmas.{each_more, find_known}
 use Rattle.dns_model.proofs.SetLemmas.{KeepsKey, IsSignedIn, name_back, name_trans}
-use Rattle.dns_denial.specs.declared.answered.Answered.TheVariants.{No, Expanded}
-use Rattle.dns_denial.specs.DenialInZones.{IsShownBy}
-use Rattle.dns_denial.specs.Zones.{Zone, IsTrueNsec}
+use Rattle.dns_record.specs.declared.answered.Answered.TheVariants.{No, Expanded}
+use Rattle.dns_judgement.specs.DenialInZones.{IsShownBy}
+use Rattle.dns_judgement.specs.Zones.{Zone, IsTrueNsec}
 use Rattle.dns_judgement.specs.Judged.{Judged, placed_of, decider}
 use Rattle.dns_judgement.specs.Marking.{is_about, marked, map_after, marked_section, marked_told}
 use Rattle.dns_judgement.specs.Outcome.{answers_query, has_answer, is_wildcard_signature, is_expanded_answer, is_expanded_for, decider_labels, least, answered_from, answered, is_denying, denying, denials, is_made_by}

@@ -8,9 +8,9 @@ use Rattle.dns_model.specs.Names.{Labels}
 use Rattle.dns_model.specs.Records.{Question}
 use Rattle.dns_model.specs.SoundAnswers.{Told}
 use Rattle.dns_model.specs.Trails.{AskedValue, Answered}
-use Rattle.dns_denial.specs.declared.answered.Answered.TheVariants.{Expanded}
-use Rattle.dns_denial.specs.NsecVerdict.{holds_query}
-use Rattle.dns_denial.specs.DenialInZones.{IsDeniedIn, IsExpandedIn}
+use Rattle.dns_record.specs.declared.answered.Answered.TheVariants.{Expanded}
+use Rattle.dns_judgement.specs.NsecVerdict.{holds_query}
+use Rattle.dns_judgement.specs.DenialInZones.{IsDeniedIn, IsExpandedIn}
 use Rattle.dns_judgement.specs.Judged.{Judged}
 use Rattle.dns_judgement.specs.Outcome.{has_answer, answered, is_expanded_for, is_denying, is_made_by, denying, denials}
 use Rattle.dns_judgement.specs.Derivation.{told_in, judged_sets}

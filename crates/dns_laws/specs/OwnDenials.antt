@@ -12,8 +12,8 @@ use Rattle.dns_model.specs.Records.{Rr, Question}
 use Rattle.dns_model.specs.RecordViews.{rrsig_of}
 use Rattle.dns_model.specs.Sections.{is_signature}
 use Rattle.dns_model.specs.SoundAnswers.{Told, is_secure, set_rtype}
-use Rattle.dns_denial.specs.NsecVerdict.{holds_query}
-use Rattle.dns_denial.specs.DenialInZones.{IsDeniedIn, IsExpandedIn}
+use Rattle.dns_judgement.specs.NsecVerdict.{holds_query}
+use Rattle.dns_judgement.specs.DenialInZones.{IsDeniedIn, IsExpandedIn}
 use Rattle.dns_judgement.specs.Outcome.{has_answer, is_wildcard_signature, owned_nsec}
 
 -- ---- the Secure NSEC records of a section

@@ -10,9 +10,9 @@ use Rattle.dns_judgement.specs.Derivation.{Grounds, search_from}
 use Rattle.dns_judgement.specs.Judged.{Judged}
 use Rattle.dns_judgement.specs.Outcome.{Outcome, Unjudged, Searched, outcome_of, outcome_by_zone}
 use Rattle.dns_judgement.specs.Unsigned.{question_start, unsigned_mark}
-use Rattle.dns_sets.specs.Outcome.{outcome_value}
-use Rattle.dns_sets.specs.declared.outcome.Outcome.{Outcome as Declared}
-use Rattle.dns_sets.specs.declared.outcome.Outcome.TheVariants as declared
+use Rattle.dns_outcome.specs.Outcome.{outcome_value}
+use Rattle.dns_outcome.specs.declared.outcome.Outcome.{Outcome as Declared}
+use Rattle.dns_outcome.specs.declared.outcome.Outcome.TheVariants as declared
 use Rattle.dns_lookup.specs.Walking.{IsSearched, IsConcluded}
 
 -- ---- how it is found

@@ -12,8 +12,8 @@ use Rattle.dns_model.specs.Owned.{OwnedNsec}
 use Rattle.dns_model.specs.Records.{Question}
 use Rattle.dns_model.specs.SoundAnswers.{Told, told_by, ResponseValue, is_secure}
 use Rattle.dns_model.specs.Trails.{EndingValue, Failed}
-use Rattle.dns_denial.specs.declared.answered.Answered.{Answered}
-use Rattle.dns_denial.specs.NsecVerdict.{nsec_verdict}
+use Rattle.dns_record.specs.declared.answered.Answered.{Answered}
+use Rattle.dns_judgement.specs.NsecVerdict.{nsec_verdict}
 use Rattle.dns_judgement.specs.Chained.{bare}
 use Rattle.dns_judgement.specs.Derivation.{judged_sets, ending_by}
 use Rattle.dns_judgement.specs.Judged.{Judged}

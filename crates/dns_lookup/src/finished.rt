@@ -4,7 +4,7 @@ ghost use Rattle.dns_model.specs.Trails.{Records, Fault, Failed};
 ghost use Rattle.dns_judgement.specs.Asking.{most_sends};
 ghost use Rattle.dns_judgement.specs.Derivation.{ending_by};
 ghost use Rattle.dns_evidence.specs.Trail.{heard_value, ending_value};
-ghost use Rattle.dns_sets.specs.Outcome.{outcome_value};
+ghost use Rattle.dns_outcome.specs.Outcome.{outcome_value};
 ghost use Rattle.dns_trust.specs.Verdicts.{listed};
 ghost use Rattle.dns_lookup.specs.Walking.{IsAdded, accepted_sets, judged_step, plain_step};
 

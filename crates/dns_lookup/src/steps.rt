@@ -6,7 +6,7 @@ ghost use Rattle.dns_judgement.specs.Asking.{most_sends};
 ghost use Rattle.dns_judgement.specs.Derivation.{ending_by};
 ghost use Rattle.dns_judgement.specs.Outcome.{foreign_record as foreign_in};
 ghost use Rattle.dns_evidence.specs.Trail.{heard_value, ending_value};
-ghost use Rattle.dns_sets.specs.Outcome.{outcome_value};
+ghost use Rattle.dns_outcome.specs.Outcome.{outcome_value};
 ghost use Rattle.dns_lookup.specs.Walking.{IsAdded, entry_of, judged_step, plain_step, foreign_ending};
 
 use crate::receiving::ReceivedMessage;

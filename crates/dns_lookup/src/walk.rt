@@ -6,7 +6,7 @@ ghost use Rattle.dns_judgement.specs.Asking.{most_sends};
 ghost use Rattle.dns_judgement.specs.Chained.{bare};
 ghost use Rattle.dns_judgement.specs.DerivationParts.{asks_of_sets};
 ghost use Rattle.dns_judgement.specs.Unsigned.{is_searched as needs_search};
-ghost use Rattle.dns_sets.specs.Outcome.{outcome_value};
+ghost use Rattle.dns_outcome.specs.Outcome.{outcome_value};
 ghost use Rattle.dns_anchors.specs.Judge.{judge_of};
 ghost use Rattle.dns_trust.specs.Verdicts.{verdict_value, listed};
 ghost use Rattle.dns_lookup.specs.Walking.{grounds_at, IsCounted, HasSent, Walk, IsJudgement, IsJudgedSet, AreTried, IsTried, IsAnswer, IsSearched, IsConcluded, asks_in};

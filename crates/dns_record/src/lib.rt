@@ -1,6 +1,7 @@
 //! Records, sets and queries. The layer above sees each as the plain value of `dns_model` that has its name.
 #![tactic(auto)]
 
+mod answered;
 mod codes;
 mod laws;
 mod query;
@@ -9,6 +10,7 @@ mod record;
 mod record_set;
 mod words;
 
+pub use answered::Answered;
 pub use codes::{DNSClass, OpCode, RecordType, ResponseCode};
 pub use dns_model::{Denial, Proof, Section};
 pub use dns_name::{Name, NoMemory, Octets};

@@ -19,11 +19,11 @@ use Rattle.dns_judgement.specs.Judged.{Judged}
 use Rattle.dns_judgement.specs.Marking.{signature_place}
 use Rattle.dns_judgement.specs.MarkParts.{covered, is_place}
 use Rattle.dns_judgement.proofs.DeciderLemmas.{kind_of, covered_parts, place_same}
-use Rattle.dns_sets.specs.declared.set_places.SetPlaces.{SetPlaces}
-use Rattle.dns_sets.specs.SetPlaces.{place_of, is_placed, ArePlacedIn}
-use Rattle.dns_sets.specs.Counting.{is_readable, counted, is_signature_at, AreCounted}
-use Rattle.dns_sets.proofs.PlaceLemmas.{IsPlace, alike_place}
-use Rattle.dns_sets.proofs.MarkSteps.{set_at}
+use Rattle.dns_grouping.specs.declared.set_places.SetPlaces.{SetPlaces}
+use Rattle.dns_grouping.specs.SetPlaces.{is_readable, place_of, is_placed, ArePlacedIn}
+use Rattle.dns_sets.specs.Counting.{counted, is_signature_at, AreCounted}
+use Rattle.dns_grouping.proofs.PlaceLemmas.{IsPlace, alike_place}
+use Rattle.dns_grouping.proofs.MarkSteps.{set_at}
 
 -- ---- counts with one more record
 

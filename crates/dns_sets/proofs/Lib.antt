@@ -1,15 +1,2 @@
-pub mod Positions
-pub mod KeyLemmas
-pub mod PlaceLemmas
-pub mod Joining
-pub mod Signing
-pub mod JoinSteps
-pub mod DepthLemmas
-pub mod MarkSteps
 pub mod CountSteps
 pub mod MarkLoop
-pub mod BareLemmas
-pub mod ExpansionLemmas
-pub mod DenyingLemmas
-pub mod AuthorityLemmas
-pub mod OutcomeLemmas

@@ -11,10 +11,10 @@ use Rattle.dns_judgement.specs.Judged.{Judged}
 use Rattle.dns_judgement.specs.Marking.{signature_place, is_about, marked, marked_section}
 use Rattle.dns_judgement.specs.MarkParts.{covered, marked_by}
 use Rattle.dns_judgement.proofs.AfterLemmas.{after-push, length-after}
-use Rattle.dns_sets.specs.declared.set_places.SetPlaces.{SetPlaces}
-use Rattle.dns_sets.specs.SetPlaces.{place_of, is_placed, ArePlacedIn}
+use Rattle.dns_grouping.specs.declared.set_places.SetPlaces.{SetPlaces}
+use Rattle.dns_grouping.specs.SetPlaces.{place_of, is_placed, ArePlacedIn}
 use Rattle.dns_sets.specs.Counting.{count_at, counted, AreCounted}
-use Rattle.dns_sets.proofs.PlaceLemmas.{is_absent}
+use Rattle.dns_grouping.proofs.PlaceLemmas.{is_absent}
 use Rattle.dns_sets.proofs.CountSteps.{length-counted, counted_more, count_is}
 
 -- ---- one record

@@ -1,16 +1,11 @@
 -- For private functions of this crate only: the signatures that marking has met of each judged set.
-use Rattle.std.specs.Prelude.{◌≡◌, ℕ, ◌+◌, ◌<◌, Bool, ◌&&◌, List, get_or, set, length, count_by, Option, None, Some, is_some, if◌then◌else◌}
-use Rattle.dns_model.specs.Views.{rrsig_in}
+use Rattle.std.specs.Prelude.{◌≡◌, ℕ, ◌+◌, ◌<◌, Bool, ◌&&◌, List, get_or, set, length, count_by, Option, None, Some, if◌then◌else◌}
 use Rattle.dns_model.specs.Records.{Rr}
-use Rattle.dns_model.specs.Sections.{is_signature}
 use Rattle.dns_model.specs.SoundAnswers.{set_rtype}
 use Rattle.dns_judgement.specs.Judged.{Judged}
 use Rattle.dns_judgement.specs.MarkParts.{is_place}
-use Rattle.dns_sets.specs.declared.set_places.SetPlaces.{SetPlaces}
-use Rattle.dns_sets.specs.SetPlaces.{place_of}
-
-abbrev pub is_readable : Rr → Bool
-is_readable r = is_signature r && is_some (rrsig_in r.rdata)
+use Rattle.dns_grouping.specs.declared.set_places.SetPlaces.{SetPlaces}
+use Rattle.dns_grouping.specs.SetPlaces.{is_readable, place_of}
 
 -- the count of the set at a place
 abbrev pub count_at : List ℕ → Option ℕ → ℕ

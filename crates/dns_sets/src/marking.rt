@@ -6,14 +6,12 @@ ghost use Rattle.dns_judgement.specs.Judged.{decider as decider_of};
 ghost use Rattle.dns_judgement.specs.Marking.{marked_section, is_about, adjusted_ttl as adjusted_ttl_of};
 ghost use Rattle.dns_judgement.specs.Chained.{bare, chains_of, finished as finished_value};
 ghost use Rattle.dns_judgement.specs.MarkParts.{marked_by, is_place as is_same_place, first_record};
-ghost use Rattle.dns_sets.specs.SetPlaces.{ArePlacedIn, place_of};
+ghost use Rattle.dns_grouping.specs.SetPlaces.{ArePlacedIn, place_of};
 ghost use Rattle.dns_sets.specs.Counting.{count_at, counted};
 
-use crate::decider::decider;
-use crate::grouping::clear_one;
-use crate::set_places::{SetPlaces, judged_places, set_rtype};
-use crate::{ChainedSet, MarkedSet};
 use dns_evidence::{Chain, Trail};
+use dns_grouping::{SetPlaces, clear_one, judged_places, set_rtype};
+use dns_judged::{ChainedSet, MarkedSet, decider};
 use dns_message::Message;
 use dns_name::NoMemory;
 use dns_rdata::{Rrsig, SerialNumber};

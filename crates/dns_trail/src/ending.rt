@@ -8,7 +8,7 @@ ghost use Rattle.dns_judgement.specs.DerivationParts.{is_failed as is_failure, i
 ghost use Rattle.dns_judgement.specs.Outcome.{outcome_of as told_outcome};
 ghost use Rattle.dns_model.specs.Trails.{Answered, Denied as Refused};
 ghost use Rattle.dns_evidence.specs.Trail.{ending_value};
-ghost use Rattle.dns_sets.specs.Outcome.{outcome_value};
+ghost use Rattle.dns_outcome.specs.Outcome.{outcome_value};
 ghost use Rattle.dns_trail.specs.Endings.{ending_fits};
 ghost use Rattle.dns_trail.specs.Grounds.{AreKnown, grounds_by};
 

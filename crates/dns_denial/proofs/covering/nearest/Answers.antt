@@ -1,6 +1,6 @@
 use Rattle.std.proofs.Common.{◌≡◌, ℕ, ◌+◌, Option, length, option_map, subst, sym, ◌∙◌, arith}
 use Rattle.dns_model.specs.Owned.{OwnedNsec}
-use Rattle.dns_denial.specs.Covering.{spans}
+use Rattle.dns_judgement.specs.Covering.{spans}
 use Rattle.dns_denial.specs.Best.{owned_before}
 use Rattle.dns_denial.proofs.Best.{IsBestOf, IsFound, best_more, best_found, is_top, lent_number, lent_element}
 use Rattle.dns_denial.proofs.NameOrder.{owners_ranked}

@@ -1,4 +1,4 @@
-use Rattle.dns_denial.proofs.Promises.{ownerless_of}
+use Rattle.dns_judgement.proofs.Promises.{ownerless_of}
 use Rattle.dns_denial.proofs.covering.nsec_covering.Goals as goal
 
 pub returns-clause-ownerless : goal.returns-clause-ownerless

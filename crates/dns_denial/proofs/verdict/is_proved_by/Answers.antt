@@ -1,6 +1,6 @@
 use Rattle.std.proofs.Common.{◌≡◌, true, false, rules, ap, ◌∙◌}
 use Rattle.dns_model.specs.Names.{Labels, is_name, star, strictly_above}
-use Rattle.dns_denial.specs.NsecVerdict.{closest_encloser}
+use Rattle.dns_judgement.specs.NsecVerdict.{closest_encloser}
 use Rattle.dns_denial.proofs.Enclosers.{wildcard_is_name, covering_spans}
 use Rattle.dns_denial.proofs.verdict.is_proved_by.Goals as goal
 

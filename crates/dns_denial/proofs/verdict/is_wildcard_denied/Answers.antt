@@ -4,8 +4,8 @@ use Rattle.dns_model.specs.Names.{Labels, star}
 use Rattle.dns_model.specs.NameForm.{name_in}
 use Rattle.dns_model.proofs.WireLemmas.{first_of_some}
 use Rattle.dns_model.proofs.WildcardLemmas.{star_read}
-use Rattle.dns_denial.specs.Covering.{covering}
-use Rattle.dns_denial.specs.NsecVerdict.{code_nx_domain, wildcard_denies}
+use Rattle.dns_judgement.specs.Covering.{covering}
+use Rattle.dns_judgement.specs.NsecVerdict.{code_nx_domain, wildcard_denies}
 use Rattle.dns_denial.proofs.verdict.is_wildcard_denied.Goals as goal
 
 pub returns-in-Some : goal.returns-in-Some

@@ -1,4 +1,4 @@
-use Rattle.dns_denial.proofs.Promises.{denial_of, expansion_of}
+use Rattle.dns_judgement.proofs.Promises.{denial_of, expansion_of}
 use Rattle.dns_denial.proofs.verdict.verify_nsec.Goals as goal
 
 pub returns-clause-denial : goal.returns-clause-denial

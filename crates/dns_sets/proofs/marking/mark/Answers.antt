@@ -3,9 +3,9 @@ use Rattle.std.specs.List.{find}
 use Rattle.dns_model.specs.SoundAnswers.{set_rtype}
 use Rattle.dns_judgement.specs.Marking.{is_about}
 use Rattle.dns_judgement.specs.MarkParts.{marked_by}
-use Rattle.dns_sets.specs.SetPlaces.{place_of}
+use Rattle.dns_grouping.specs.SetPlaces.{place_of}
 use Rattle.dns_sets.specs.Counting.{count_at}
-use Rattle.dns_sets.proofs.MarkSteps.{set_at, marked_at, marked_none}
+use Rattle.dns_grouping.proofs.MarkSteps.{set_at, marked_at, marked_none}
 use Rattle.dns_sets.proofs.marking.mark.Goals as goal
 
 pub bounds-sets-place : goal.bounds-sets-place

@@ -3,7 +3,7 @@ use Rattle.std.specs.List.{find}
 use Rattle.dns_model.specs.SoundAnswers.{set_rtype}
 use Rattle.dns_judgement.specs.Marking.{map_after, is_about}
 use Rattle.dns_judgement.specs.MarkParts.{marked_by}
-use Rattle.dns_sets.specs.SetPlaces.{place_of}
+use Rattle.dns_grouping.specs.SetPlaces.{place_of}
 use Rattle.dns_sets.specs.Counting.{count_at, counted}
 use Rattle.dns_sets.proofs.MarkLoop.{next_is, section_more, counts_back, counts_more, none_counted, few}
 use Rattle.dns_sets.proofs.marking.mark_section.Goals as goal

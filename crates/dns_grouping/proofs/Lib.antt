@@ -1,0 +1,9 @@
+pub mod Positions
+pub mod KeyLemmas
+pub mod PlaceLemmas
+pub mod Joining
+pub mod Signing
+pub mod JoinSteps
+pub mod DepthLemmas
+pub mod BareLemmas
+pub mod MarkSteps

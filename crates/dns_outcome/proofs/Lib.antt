@@ -1,0 +1,4 @@
+pub mod ExpansionLemmas
+pub mod DenyingLemmas
+pub mod AuthorityLemmas
+pub mod OutcomeLemmas

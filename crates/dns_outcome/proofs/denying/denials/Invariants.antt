@@ -1,0 +1,7 @@
+use Rattle.std.proofs.Common.{◌≡◌, take}
+use Rattle.dns_judgement.specs.Chained.{bare}
+use Rattle.dns_judgement.specs.Outcome.{denials}
+use Rattle.dns_outcome.proofs.denying.denials.Given as goal
+
+abbrev pub invariant-loop-set : goal.invariant-loop-set
+invariant-loop-set l = l.nsecs.items ≡ denials (bare (take l.set-index l.sets))

@@ -1,0 +1,131 @@
+ghost use Rattle.std.specs.Prelude.{◌≡◌, ◌&&◌, not, IfOk};
+ghost use Rattle.std.specs.List.{list_any};
+ghost use Rattle.std.specs.Option.{option_copied};
+ghost use Rattle.dns_model.specs.SoundAnswers.{told_by};
+ghost use Rattle.dns_judgement.specs.Chained.{bare};
+ghost use Rattle.dns_judgement.specs.Delegations.{ZoneVerdict, is_insecure};
+ghost use Rattle.dns_judgement.specs.Unsigned.{unsigned_mark};
+ghost use Rattle.dns_judgement.specs.Outcome.{outcome_of as told_outcome, outcome_by_zone as told_by_zone, insecure_answer as told_insecure, foreign_record as foreign_in, is_unjudged as is_unjudged_set, is_insecure_authority as is_told_insecure, has_wildcard_signature as has_told_wildcard};
+ghost use Rattle.dns_outcome.specs.Outcome.{outcome_value};
+
+use crate::answering::{has_answer, has_expanded_answer, has_wildcard_signature};
+use crate::denying::{has_denying, outcome_by_denials};
+use crate::insecure_authority::is_insecure_authority;
+use dns_judged::ChainedSet;
+use dns_message::Message;
+use dns_name::NoMemory;
+use dns_record::{Denial, Proof, Query, Record, RecordType};
+use std::alloc::Global;
+
+/// How a judged step ends.
+#[derive(Clone, Copy, Debug, PartialEq, Eq)]
+pub enum Outcome {
+    /// It can't be judged yet, since NSEC3 isn't.
+    Unjudged,
+    /// Its response is an answer.
+    Accepted(Denial),
+    /// The zone of its query decides, and has to be searched.
+    Searched,
+    /// Its response is refused, with this proof.
+    Denied(Proof),
+}
+
+/// How a step ends whose sets are judged: the first case that holds decides (RFC 4035, 5.3.4 and 5.4).
+#[tactic(auto, using(dns_grouping::proofs::Joining::any_map), unfolding(dns_judgement::specs::Outcome::outcome_of))]
+pub fn outcome_of(
+    alloc: Global,
+    query: &Query,
+    message: &Message,
+    sets: &[ChainedSet],
+) -> Result<Outcome, NoMemory>
+    ensures { IfOk result (λ o. outcome_value o ≡ told_outcome query.now (told_by message.now) (bare sets.now)) }
+{
+    if has_unjudged(sets) {
+        return Ok(Outcome::Unjudged);
+    }
+    // the zone above the name is Insecure, and nothing is said to come from a wildcard (RFC 4035, 4.3)
+    if is_insecure_step(alloc, query, message, sets)? {
+        return Ok(insecure_answer(query, message));
+    }
+    // what is denied has to follow from the denials of one zone (RFC 4035, 5.4)
+    if has_denying(sets) {
+        return outcome_by_denials(alloc, query, message, sets);
+    }
+    // an expansion without a denial of closer names (RFC 4035, 5.3.4)
+    if has_expanded_answer(sets) {
+        return Ok(Outcome::Denied(Proof::Bogus));
+    }
+    if has_answer(query, &message.answers) && !has_wildcard_signature(&message.answers) {
+        return Ok(Outcome::Accepted(Denial::None));
+    }
+    // a signed zone would have denied (RFC 4035, 3.1.3)
+    Ok(Outcome::Searched)
+}
+
+/// How a step ends whose query's zone was searched, by the mark that the zone leaves to what is unsigned: where it is Insecure,
+/// the response stands as it is (RFC 4035, 4.3 and 5.2).
+#[tactic(auto, using(crate::proofs::OutcomeLemmas::ends_insecure, crate::proofs::OutcomeLemmas::ends_denied))]
+pub fn outcome_by_zone(query: &Query, message: &Message, mark: Proof) -> Outcome
+    ensures { (zone : ZoneVerdict) → is_insecure mark ≡ is_insecure (unsigned_mark zone).mark
+        → outcome_value result ≡ told_by_zone query.now (told_by message.now) zone }
+{
+    if mark == Proof::Insecure {
+        insecure_answer(query, message)
+    } else {
+        Outcome::Denied(Proof::Bogus)
+    }
+}
+
+// An answer of which no more than Insecure can be expected: it stands, or nothing is there.
+fn insecure_answer(query: &Query, message: &Message) -> Outcome
+    ensures { outcome_value result ≡ told_insecure query.now (told_by message.now) }
+{
+    if has_answer(query, &message.answers) {
+        Outcome::Accepted(Denial::None)
+    } else {
+        Outcome::Accepted(Denial::Absent(Proof::Insecure))
+    }
+}
+
+/// The first record, in the order of the sections, whose class isn't the query's (RFC 1035, 3.2.4).
+pub fn foreign_record<'a>(query: &Query, message: &'a Message) -> Option<&'a Record>
+    ensures { option_copied result ≡ foreign_in query.now (told_by message.now) }
+{
+    let class = query.query_class;
+    message
+        .answers
+        .iter()
+        .chain(message.authorities.iter())
+        .chain(message.additionals.iter())
+        .find(|found| found.dns_class != class)
+}
+
+fn has_unjudged(sets: &[ChainedSet]) -> bool
+    ensures { result ≡ list_any (λ c. is_unjudged_set c.judged) sets.now }
+{
+    sets.iter().any(is_unjudged)
+}
+
+// Whether a set is of NSEC3 records and Secure (RFC 5155).
+fn is_unjudged(set: &ChainedSet) -> bool
+    ensures { result ≡ is_unjudged_set set.now.judged }
+{
+    set.judged.mark == Proof::Secure && set.judged.set.record_type == RecordType::NSEC3
+}
+
+// Whether no more than Insecure can be expected of a response, and no signature says that it comes from a wildcard.
+#[tactic(auto, using(crate::proofs::OutcomeLemmas::never_both, crate::proofs::OutcomeLemmas::always_both))]
+fn is_insecure_step(
+    alloc: Global,
+    query: &Query,
+    message: &Message,
+    sets: &[ChainedSet],
+) -> Result<bool, NoMemory>
+    ensures { IfOk result (λ b. b ≡
+        (is_told_insecure query.now (told_by message.now) (bare sets.now) && not (has_told_wildcard (told_by message.now)))) }
+{
+    if has_wildcard_signature(&message.answers) {
+        return Ok(false);
+    }
+    is_insecure_authority(alloc, query, message, sets)
+}

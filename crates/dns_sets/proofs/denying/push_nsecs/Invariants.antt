@@ -1,7 +1,0 @@
-use Rattle.std.proofs.Common.{◌≡◌, ◌++◌, take}
-use Rattle.std.specs.List.{filter_map}
-use Rattle.dns_judgement.specs.Outcome.{owned_nsec}
-use Rattle.dns_sets.proofs.denying.push_nsecs.Given as goal
-
-abbrev pub invariant-loop-found : goal.invariant-loop-found
-invariant-loop-found l = l.nsecs.items ≡ l.initial.nsecs.items ++ filter_map owned_nsec (take l.found-index l.records)
