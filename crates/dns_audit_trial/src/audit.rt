@@ -15,7 +15,7 @@ use dns_trust::{Judge, Limits};
 use std::alloc::Global;
 
 /// What the checks say of a response. A count stops at the greatest `u64`.
-#[derive(Clone, Copy, Debug, PartialEq, Eq)]
+#[derive(Clone, Copy)]
 pub struct Audited {
     /// How many of the chains are justified.
     pub justified: u64,

@@ -5,7 +5,7 @@ ghost use Rattle.dns_audit_trial.specs.Forms.{asked_form, count_in as count_of_w
 use dns_words::decimal_in;
 
 /// What the program is asked for.
-#[derive(Clone, Copy, Debug, PartialEq, Eq)]
+#[derive(Clone, Copy)]
 pub enum Form {
     /// To look a session up, and to check the response once and so many times more.
     Audit(u32),

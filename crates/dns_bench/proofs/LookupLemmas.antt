@@ -1,5 +1,5 @@
 -- Lookups of a session, one more at a time.
-use Rattle.std.proofs.Common.{◌≡◌, ◌⊎◌, ℕ, ◌-◌, ◌<◌, [], ◌∷◌, Some, IfOk, Result, Ok, Err, inl, inr, refl, ap, subst, ◌∙◌, arith}
+use Rattle.std.proofs.Common.{◌≡◌, ◌≢◌, ℕ, ◌-◌, ◌<◌, [], ◌∷◌, Some, IfOk, Result, Ok, Err, inl, inr, refl, ap, subst, ◌∙◌, arith}
 use Rattle.dns_model.specs.Records.{Question}
 use Rattle.dns_model.specs.Keys.{anchored}
 use Rattle.dns_model.specs.SoundAnswers.{ResponseValue}
@@ -90,17 +90,14 @@ gives_answer what old new (Err e) sound trail (inr p) (inr f) (inl memory) = inl
 gives_answer what old new (Err e) sound trail (inr p) (inr f) (inr j) =
     inr (record { sound = sound; trail = trail; passes = p; foreign = f; judges = j })
 
--- it gave an answer
-pub answer_counted : (what : RepeatedLookup) (old new : RecordedValue) (response : ResponseValue) (before after : Lookups)
-    → GivesAnswer what old (Ok response) new → after ≡ with_answer before (Ok response) → OneMore what old new before after
-answer_counted what old new response before after given is = record { answer = Ok response; gives = given; counted = is }
-
--- it gave a fault other than want of memory
-pub fault_counted : (what : RepeatedLookup) (old new : RecordedValue) (error : NetError) (before after : Lookups)
-    → (error ≡ NoMemory → ⊥) → (error ≡ NoMemory) ⊎ GivesAnswer what old (Err (error_of error)) new
-    → after ≡ with_answer before (Err (error_of error)) → OneMore what old new before after
-fault_counted what old new error before after other given is = elim given [
-  | inl memory ↦ absurd (other memory)
+-- a reply was counted, unless memory ran out
+pub reply_counted : {E : Type 0} (what : RepeatedLookup) (old new : RecordedValue) (reply : Result ResponseValue NetError) (before : Lookups)
+    (outcome : Result Lookups E) → UnlessNoMemory reply (GivesAnswer what old (reply_of reply) new) → IfOk outcome (λ after. reply ≢ Err NoMemory)
+    → IfOk outcome (λ after. after ≡ with_answer before (reply_of reply)) → IfOk outcome (λ after. OneMore what old new before after)
+reply_counted what old new reply before (Err e) given other is = tt
+reply_counted what old new (Ok response) before (Ok after) given other is = record { answer = Ok response; gives = given; counted = is }
+reply_counted what old new (Err error) before (Ok after) given other is = elim given [
+  | inl memory ↦ absurd (other (ap (λ e. Err e) memory))
   | inr looked ↦ record { answer = Err (error_of error); gives = looked; counted = is }
 ]
 

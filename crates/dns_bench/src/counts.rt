@@ -10,7 +10,7 @@ use std::alloc::Global;
 
 /// How many messages were decoded, how many were refused, and how many records the decoded ones had. A count stops at the
 /// greatest `u64`.
-#[derive(Clone, Copy, Debug, PartialEq, Eq)]
+#[derive(Clone, Copy)]
 pub struct Counts {
     pub messages: u64,
     pub refused: u64,

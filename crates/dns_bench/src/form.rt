@@ -6,7 +6,7 @@ ghost use Rattle.dns_bench.specs.Forms.{asked_form, passes_in as passes_of_word,
 use dns_words::{decimal_in, u16_in};
 
 /// What is done with an input.
-#[derive(Clone, Copy, Debug, PartialEq, Eq)]
+#[derive(Clone, Copy)]
 pub enum Work {
     /// Its messages are decoded.
     Decode,
@@ -15,7 +15,7 @@ pub enum Work {
 }
 
 /// What the program is asked for.
-#[derive(Clone, Copy, Debug, PartialEq, Eq)]
+#[derive(Clone, Copy)]
 pub enum Form {
     /// To read an input and to work on it so many times.
     Reading(Work, u32),

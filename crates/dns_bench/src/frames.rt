@@ -43,7 +43,7 @@ impl Frame {
 }
 
 /// Why bytes aren't read as frames.
-#[derive(Clone, Copy, Debug, PartialEq, Eq, Drop)]
+#[derive(Clone, Copy, Drop)]
 pub enum FrameStop {
     /// The frame with this number, from 1, is cut off.
     CutOff(u64),

@@ -1,5 +1,5 @@
 //! Lookups of a session's query, one after another.
-ghost use Rattle.std.specs.Prelude.{◌≡◌, IfOk};
+ghost use Rattle.std.specs.Prelude.{◌≡◌, ◌≢◌, Err, IfOk};
 ghost use Rattle.dns_net.specs.Replies.{reply_of};
 ghost use Rattle.dns_lookup.specs.LookupAnswers.{UnlessNoMemory};
 ghost use Rattle.dns_lookup.specs.Calls.{inner_of};
@@ -16,7 +16,7 @@ use dns_trust::Listed;
 use std::alloc::Global;
 
 /// How many lookups gave an answer, and how many a fault. A count stops at the greatest `u64`.
-#[derive(Clone, Copy, Debug, PartialEq, Eq)]
+#[derive(Clone, Copy)]
 pub struct Lookups {
     pub answers: u64,
     pub faults: u64,
@@ -40,7 +40,7 @@ fn look_up(
 }
 
 // Looks a query up, and counts what came of it.
-#[tactic(auto, using(crate::proofs::LookupLemmas::answer_counted, crate::proofs::LookupLemmas::fault_counted))]
+#[tactic(auto, using(crate::proofs::LookupLemmas::reply_counted))]
 fn count_one(
     alloc: Global,
     handle: &mut DnssecDnsHandle<Recorded, Listed>,
@@ -53,7 +53,16 @@ fn count_one(
     ensures more { IfOk result (λ after. OneMore (repeated_by handle.old query.now options now)
         (inner_of handle.old) (inner_of handle.new) counts after) }
 {
-    match look_up(alloc, handle, query, options, now) {
+    let reply = look_up(alloc, handle, query, options, now);
+    with_reply(counts, &reply)
+}
+
+// The counts, with what came of a lookup.
+fn with_reply(counts: Lookups, reply: &Result<DnsResponse, NetError>) -> Result<Lookups, NoMemory>
+    ensures other { IfOk result (λ after. reply.now ≢ Err NetError.NoMemory) }
+    ensures counted { IfOk result (λ after. after ≡ with_answer counts (reply_of reply.now)) }
+{
+    match reply {
         Ok(_) => Ok(Lookups {
             answers: counts.answers.saturating_add(1),
             faults: counts.faults,

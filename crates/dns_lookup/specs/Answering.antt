@@ -19,11 +19,14 @@ use Rattle.dns_net.specs.Requests.{RequestValue}
 use Rattle.dns_net.specs.declared.handle.DnsHandle as handle
 use Rattle.dns_net.specs.declared.notice.Notice.TheVariants.{NotJudgedYet}
 use Rattle.dns_anchors.specs.Judge.{judge_of}
+use Rattle.dns_outcome.specs.Outcome.{outcome_value}
+use Rattle.dns_outcome.specs.declared.outcome.Outcome.{Outcome as Declared}
 use Rattle.dns_lookup.specs.Received.{received_message, says_none}
 use Rattle.dns_lookup.specs.Calls.{Call, ask_of_call, first_ask_of_call}
 use Rattle.dns_lookup.specs.AskRequests.{judged_ask}
 use Rattle.dns_lookup.specs.Walking.{Asks, IsJudgement, IsConcluded, judged_step}
 use Rattle.dns_lookup.specs.declared.context.LookupContext.{LookupContext}
+use Rattle.dns_lookup.specs.declared.lookup.JudgedReply.{JudgedReply}
 
 -- a lookup in a context, by a request
 abbrev pub call_by : {H V : Type 0} → (V → VerifierAnswers) → LookupContext V → RequestValue → Question → H → H → Call H
@@ -51,6 +54,18 @@ pub record Findings : Type 0 where
   pub entries : List JudgedSetValue
   pub outcome : Outcome
   pub excuse : List AskRef
+
+-- what was found by a judged reply, whose sets come to this
+abbrev pub findings_of : JudgedReply → Declared → Findings
+findings_of reply outcome = record {
+  message = reply.received.message;
+  empty = reply.received.empty;
+  steps = reply.steps.items;
+  sets = reply.judged.sets.items;
+  entries = reply.judged.entries.items;
+  outcome = outcome_value outcome;
+  excuse = reply.excuse.items;
+}
 
 abbrev pub trail_of : Question → Findings → EndingValue → List AskedValue
 trail_of q found ending = found.steps ++ top_of q (told_by found.message) found.empty found.entries ending found.excuse ∷ []

@@ -14,12 +14,12 @@ use Rattle.dns_model.specs.Chains.{Judge}
 use Rattle.dns_model.specs.SoundAnswers.{Told, Placed}
 use Rattle.dns_model.specs.Trails.{AskedValue, HeardValue, JudgedSetValue, EndingValue}
 use Rattle.dns_model.specs.Trails as trails
-use Rattle.dns_judgement.specs.Asking.{most_sends, ask_of}
+use Rattle.dns_judgement.specs.Asking.{most_sends, ask_of, judged_part}
 use Rattle.dns_judgement.specs.Chained.{Chained, bare, stands, ChainedVerdict, chained_verdict, bare_verdicts}
 use Rattle.dns_judgement.specs.Delegations.{ZoneVerdict}
 use Rattle.dns_judgement.specs.Derivation as derived
 use Rattle.dns_judgement.specs.Derivation.{Grounds, entry_holds, entries_hold, with_entries, finished_answer, is_ask, verdicts_by, is_plain_ask, sight_by, zone_asked, search_from}
-use Rattle.dns_judgement.specs.DerivationParts.{with_entry, steps_at, is_ask_for}
+use Rattle.dns_judgement.specs.DerivationParts.{with_entry, steps_at, is_ask_for, asks_of_sets}
 use Rattle.dns_judgement.specs.Judged.{Judged}
 use Rattle.dns_judgement.specs.Marking.{cleared_message}
 use Rattle.dns_judgement.specs.Marks.{is_skipped, most_signatures}
@@ -34,6 +34,7 @@ use Rattle.dns_net.specs.declared.error.NetError.{NetError}
 use Rattle.dns_net.specs.declared.error.NetError.TheVariants.{NoMemory}
 use Rattle.dns_net.specs.declared.handle.DnsHandle as handle
 use Rattle.dns_anchors.specs.Judge.{judge_of}
+use Rattle.dns_outcome.specs.Outcome.{outcome_value}
 use Rattle.dns_lookup.specs.Received.{received_message, says_none}
 use Rattle.dns_lookup.specs.AskRequests.{Ask}
 use Rattle.dns_lookup.specs.Calls.{Asking}
@@ -42,6 +43,8 @@ use Rattle.dns_lookup.specs.Standing.{IsPlainSet, ArePlainSets, AllStand, Answer
 use Rattle.dns_lookup.specs.declared.receiving.ReceivedMessage.{ReceivedMessage}
 use Rattle.dns_lookup.specs.declared.context.LookupContext.{LookupContext}
 use Rattle.dns_lookup.specs.declared.context.Progress.{Progress}
+use Rattle.dns_lookup.specs.declared.judging.Judgement.{Judgement}
+use Rattle.dns_lookup.specs.declared.judging.Concluded.{Concluded}
 use Rattle.dns_lookup.specs.declared.search.Sight.{Sight}
 use Rattle.dns_lookup.specs.declared.search.Sight.TheVariants.{Cut, Onward, Unseen}
 
@@ -280,3 +283,13 @@ pub record IsJudgement (g : Grounds) (placed : List Placed) (sets : List Chained
   pub hold : entries_hold g placed entries ≡ true
   pub same : bare sets ≡ with_entries placed entries
   pub stand : ArePlainSets placed → AllStand g.judge sets
+
+-- the asks for the sets of a reply, and how the sets were judged; then the asks for what they come to
+pub record IsReviewed {H V : Type 0} (meanings : handle.Ghosts H) (answers : V → VerifierAnswers) (context : LookupContext V) (old : H)
+    (before : Progress) (new : H) (after : Progress) (q : Question) (depth : ℕ) (told : Told) (judgement : Judgement) (c : Concluded) : Type 0 where
+  pub between : H
+  pub progress : Progress
+  pub asks : Walk meanings answers context old before between progress (asks_of_sets judgement.entries.items)
+  pub judged : IsJudgement (grounds_at answers context progress q depth) (judged_part depth told) judgement.sets.items judgement.entries.items
+  pub further : Walk meanings answers context between progress new after c.excuse.items
+  pub concluded : IsConcluded (grounds_at answers context after q depth) told (bare judgement.sets.items) (outcome_value c.outcome) c.excuse.items

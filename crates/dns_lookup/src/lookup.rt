@@ -1,13 +1,14 @@
 ghost use Rattle.std.specs.Prelude.{◌⊎◌, ◌≡◌, ◌≤◌, ◌++◌, ◌∷◌, [], Err, IfOk, Some};
 ghost use Rattle.dns_model.specs.SoundAnswers.{told_by};
 ghost use Rattle.dns_judgement.specs.Asking.{depth_limit};
+ghost use Rattle.dns_judgement.specs.Chained.{finished as finished_value};
 ghost use Rattle.dns_net.specs.Errors as seen;
 ghost use Rattle.dns_net.specs.Handles.{OrUnsent};
 ghost use Rattle.dns_net.specs.Replies.{reply_of, error_of};
 ghost use Rattle.dns_net.specs.Requests.{first_question};
 ghost use Rattle.dns_evidence.specs.Trail.{ending_value};
 ghost use Rattle.dns_outcome.specs.Outcome.{outcome_value};
-ghost use Rattle.dns_lookup.specs.Answering.{call_by, judged_answer, top_of, AnswersLookup};
+ghost use Rattle.dns_lookup.specs.Answering.{call_by, findings_of, judged_answer, top_of, trail_of as steps_with_top, AnswersLookup};
 ghost use Rattle.dns_lookup.specs.Calls.{Requesting};
 ghost use Rattle.dns_lookup.specs.AskRequests.{asking_request};
 ghost use Rattle.dns_lookup.specs.LookupAnswers.{UnlessNoMemory};
@@ -17,7 +18,7 @@ ghost use Rattle.dns_lookup.specs.Walking.{asking};
 use crate::context::{LookupContext, Progress, request_for};
 use crate::judging::{Concluded, Judgement};
 use crate::receiving::{ReceivedMessage, send_request};
-use crate::walk::{conclude, judge_sets};
+use crate::walk::judge_reply;
 use dns_message::Message;
 use dns_name::NoMemory;
 use dns_net::{
@@ -25,8 +26,18 @@ use dns_net::{
     Notice, Reply, Told, Trail, Verifier,
 };
 use dns_record::{Denial, Proof, Query, Record, clone_records};
-use dns_sets::{Outcome, finished, foreign_record, placed_sets};
+use dns_sets::{Outcome, finished, foreign_record};
 use std::alloc::Global;
+
+// A reply whose sets are judged, with the steps and the asks that this took.
+#[derive(Drop)]
+struct JudgedReply {
+    query: Query,
+    received: ReceivedMessage,
+    steps: Vec<Asked>,
+    judged: Judgement,
+    excuse: Vec<AskRef>,
+}
 
 /// One lookup by its query's own request. Where memory runs out before the send, nothing is sent and the handle doesn't change.
 pub(crate) fn look_up<H: DnsHandle, V: Verifier>(
@@ -74,18 +85,16 @@ pub(crate) fn look_up_by_request<H: DnsHandle, V: Verifier>(
         Some(record) => return Err(foreign_error(record)),
         None => {}
     }
-    let placed = placed_sets(context.alloc, 0, &received.message)?;
-    let judged = judge_sets(context, handle, &mut progress, &query, 0, placed)?;
-    let concluded = conclude(
-        context,
-        handle,
-        &mut progress,
-        &query,
-        0,
-        &received,
-        &judged,
-    )?;
-    answer(context, query, received, progress.steps, judged, concluded)
+    let review = judge_reply(context, handle, &mut progress, &query, 0, &received)?;
+    let (judged, Concluded { outcome, excuse }) = review;
+    let reply = JudgedReply {
+        query,
+        received,
+        steps: progress.steps,
+        judged,
+        excuse,
+    };
+    answer(context, reply, outcome)
 }
 
 // The error that names a record of another class.
@@ -103,45 +112,74 @@ fn foreign_error(record: &Record) -> NetError
     }
 }
 
-// The answer that the judged sets of a message make, behind the steps of the asks for them.
+// The answer that a judged reply makes, by what its sets come to.
 fn answer<V>(
     context: &LookupContext<'_, V>,
-    query: Query,
-    received: ReceivedMessage,
-    steps: Vec<Asked>,
-    judged: Judgement,
-    concluded: Concluded,
+    reply: JudgedReply,
+    outcome: Outcome,
 ) -> Result<DnsResponse, NetError>
-    ensures { UnlessNoMemory result (reply_of result ≡ judged_answer context.now.judge.moment query (record {
-      message = received.message;
-      empty = received.empty;
-      steps = steps.items;
-      sets = judged.sets.items;
-      entries = judged.entries.items;
-      outcome = outcome_value concluded.outcome;
-      excuse = concluded.excuse.items;
-    })) }
+    ensures { UnlessNoMemory result
+        (reply_of result ≡ judged_answer context.now.judge.moment reply.query (findings_of reply outcome)) }
 {
-    let alloc = context.alloc;
     let now = context.judge.moment;
-    let Judgement { sets, entries } = judged;
-    let Concluded { outcome, excuse } = concluded;
     match outcome {
         Outcome::Unjudged => Err(NetError::Message(Notice::NotJudgedYet)),
         Outcome::Searched => Err(NetError::Message(Notice::NotJudgedYet)),
-        Outcome::Accepted(denial) => {
-            let ending = Ending::Answered(denial);
-            let trail = trail_of(query, &received, steps, entries, ending, excuse)?;
-            Ok(finished(alloc, now, sets, received.message, denial, trail)?)
-        }
-        Outcome::Denied(proof) => {
-            let asked = query.try_clone()?;
-            let ending = Ending::Denied(proof);
-            let trail = trail_of(query, &received, steps, entries, ending, excuse)?;
-            let response = finished(alloc, now, sets, received.message, Denial::None, trail)?;
-            denied(alloc, asked, response, proof)
-        }
+        Outcome::Accepted(denial) => accepted_answer(context.alloc, now, reply, denial),
+        Outcome::Denied(proof) => denied_answer(context.alloc, now, reply, proof),
     }
+}
+
+// The answer that is accepted, with what it denies.
+fn accepted_answer(
+    alloc: Global,
+    now: u64,
+    reply: JudgedReply,
+    denial: Denial,
+) -> Result<DnsResponse, NetError>
+    ensures { UnlessNoMemory result
+        (reply_of result ≡ judged_answer now reply.query (findings_of reply (Outcome.Accepted denial))) }
+{
+    let response = response_of(alloc, now, reply, Ending::Answered(denial), denial)?;
+    Ok(response)
+}
+
+// The error that denies the answer, with the answer inside.
+fn denied_answer(
+    alloc: Global,
+    now: u64,
+    reply: JudgedReply,
+    proof: Proof,
+) -> Result<DnsResponse, NetError>
+    ensures { UnlessNoMemory result
+        (reply_of result ≡ judged_answer now reply.query (findings_of reply (Outcome.Denied proof))) }
+{
+    let query = reply.query.try_clone()?;
+    let response = response_of(alloc, now, reply, Ending::Denied(proof), Denial::None)?;
+    denied(alloc, query, response, proof)
+}
+
+// The response of a judged reply, whose step ends so.
+fn response_of(
+    alloc: Global,
+    now: u64,
+    reply: JudgedReply,
+    ending: Ending,
+    denial: Denial,
+) -> Result<DnsResponse, NoMemory>
+    ensures { IfOk result (λ r. r ≡ finished_value now reply.judged.sets.items reply.received.message denial
+        (steps_with_top reply.query (findings_of reply Outcome.Unjudged) (ending_value ending))) }
+{
+    let JudgedReply {
+        query,
+        received,
+        steps,
+        judged,
+        excuse,
+    } = reply;
+    let Judgement { sets, entries } = judged;
+    let trail = trail_of(query, &received, steps, entries, ending, excuse)?;
+    finished(alloc, now, sets, received.message, denial, trail)
 }
 
 // The error that an answer is denied, with the answer inside.

@@ -1,4 +1,4 @@
-ghost use Rattle.std.specs.Prelude.{◌≡◌, ◌≤◌, ◌<◌, ◌+◌, false, IfOk, Some};
+ghost use Rattle.std.specs.Prelude.{◌≡◌, ◌≤◌, ◌<◌, ◌+◌, ◌↔◌, false, IfOk, IsTrue, Some};
 ghost use Rattle.std.specs.List.{list_any};
 ghost use Rattle.dns_judgement.specs.Asking.{most_sends};
 ghost use Rattle.dns_judgement.specs.Derivation.{same_record};
@@ -67,11 +67,18 @@ pub(crate) fn receive<H: DnsHandle, V>(
     ensures received { IfOk result (λ r. HasReceived (asking H.DnsHandle context.now) handle.old handle.new
         (record { query = query.now; judged = judged }) r) }
 {
-    match send_query(context, handle, progress, query, judged) {
-        Ok(received) => Ok(Some(received)),
-        Err(NetError::NoMemory) => Err(NoMemory),
-        Err(_) => Ok(None),
+    let received = send_query(context, handle, progress, query, judged);
+    if wants_memory(&received) {
+        return Err(NoMemory);
     }
+    Ok(received.ok())
+}
+
+// Memory ran out, in this lookup or in the handle.
+fn wants_memory(received: &Result<ReceivedMessage, NetError>) -> bool
+    ensures { IsTrue result ↔ (received.now ≡ Err NetError.NoMemory) }
+{
+    matches!(received, Err(NetError::NoMemory))
 }
 
 /// Sends a request, and receives the message of the reply in the same way.

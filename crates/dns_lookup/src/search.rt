@@ -30,7 +30,7 @@ pub(crate) struct Way {
 }
 
 /// What a plain ask for the NS records of a name comes to.
-#[derive(Clone, Copy, Debug, PartialEq, Eq)]
+#[derive(Clone, Copy)]
 pub(crate) enum Sight {
     /// They are there.
     Cut,

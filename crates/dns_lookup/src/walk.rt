@@ -9,7 +9,7 @@ ghost use Rattle.dns_judgement.specs.Unsigned.{is_searched as needs_search};
 ghost use Rattle.dns_outcome.specs.Outcome.{outcome_value};
 ghost use Rattle.dns_anchors.specs.Judge.{judge_of};
 ghost use Rattle.dns_trust.specs.Verdicts.{verdict_value, listed};
-ghost use Rattle.dns_lookup.specs.Walking.{grounds_at, IsCounted, HasSent, Walk, IsJudgement, IsJudgedSet, AreTried, IsTried, IsAnswer, IsSearched, IsConcluded, asks_in};
+ghost use Rattle.dns_lookup.specs.Walking.{grounds_at, IsCounted, HasSent, Walk, IsJudgement, IsJudgedSet, AreTried, IsTried, IsAnswer, IsSearched, IsConcluded, IsReviewed, asks_in};
 
 use crate::context::{LookupContext, MOST_SENDS, Progress};
 use crate::finished::{Finished, answered, faulted, refused, unanswered};
@@ -30,9 +30,34 @@ use dns_trust::{
     judged_by_ds, judged_keys, question_start, set_start, unsigned_by, verdict_of, zone_mark,
 };
 
-/// Judges the sets of a step at a depth, in order.
+/// Judges the sets of a reply at a depth, and finds what they come to.
 #[cycle(walk)]
-pub(crate) fn judge_sets<H: DnsHandle, V: Verifier>(
+pub(crate) fn judge_reply<H: DnsHandle, V: Verifier>(
+    context: &LookupContext<'_, V>,
+    handle: &mut H,
+    progress: &mut Progress,
+    query: &Query,
+    depth: u16,
+    received: &ReceivedMessage,
+) -> Result<(Judgement, Concluded), NoMemory>
+    requires few { progress.old.sends ≤ most_sends }
+    requires counted { length progress.old.steps.items ≤ progress.old.sends }
+    requires limit { context.now.limit ≤ 255 }
+    requires shallow { depth ≤ 255 }
+    ensures counted { IsCounted progress.old progress.new }
+    ensures sent { HasSent H.DnsHandle context.now handle.old progress.old handle.new progress.new }
+    ensures reviewed { IfOk result (λ r. IsReviewed H.DnsHandle V.answers context.now handle.old progress.old
+        handle.new progress.new query.now depth (told_by received.now.message) r.0 r.1) }
+{
+    let placed = placed_sets(context.alloc, depth, &received.message)?;
+    let judged = judge_sets(context, handle, progress, query, depth, placed)?;
+    let concluded = conclude(context, handle, progress, query, depth, received, &judged)?;
+    Ok((judged, concluded))
+}
+
+// Judges the sets of a step at a depth, in order.
+#[cycle(walk)]
+fn judge_sets<H: DnsHandle, V: Verifier>(
     context: &LookupContext<'_, V>,
     handle: &mut H,
     progress: &mut Progress,
@@ -200,9 +225,9 @@ fn search_zone<H: DnsHandle, V: Verifier>(
     Ok(Searched { mark, asked })
 }
 
-/// What the judged sets of a step come to; where they leave it open, the zone of its query is searched.
+// What the judged sets of a step come to; where they leave it open, the zone of its query is searched.
 #[cycle(walk)]
-pub(crate) fn conclude<H: DnsHandle, V: Verifier>(
+fn conclude<H: DnsHandle, V: Verifier>(
     context: &LookupContext<'_, V>,
     handle: &mut H,
     progress: &mut Progress,
@@ -358,9 +383,8 @@ fn ask<H: DnsHandle, V: Verifier>(
         }
         None => {}
     }
-    let placed = placed_sets(context.alloc, depth, &received.message)?;
-    let judged = judge_sets(context, handle, progress, &query, depth, placed)?;
-    let concluded = conclude(context, handle, progress, &query, depth, &received, &judged)?;
+    let review = judge_reply(context, handle, progress, &query, depth, &received)?;
+    let (judged, concluded) = review;
     let finished = answered(progress, query, depth, received, judged, concluded)?;
     Ok(finished)
 }

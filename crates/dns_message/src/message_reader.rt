@@ -15,7 +15,7 @@ use dns_record::{DNSClass, OpCode, Query, Record, RecordType, ResponseCode};
 use std::alloc::Global;
 
 /// The six numbers that a message begins with (RFC 1035, 4.1.1).
-#[derive(Clone, Copy, Debug, Drop)]
+#[derive(Clone, Copy, Drop)]
 pub(crate) struct Header {
     pub id: u16,
     pub flags: u16,

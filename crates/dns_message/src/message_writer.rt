@@ -139,7 +139,7 @@ fn has_many(message: &Message) -> bool
 }
 
 /// How many items each section has, the OPT among the additional records.
-#[derive(Clone, Copy, Debug, Drop)]
+#[derive(Clone, Copy, Drop)]
 struct Counts {
     queries: u16,
     answers: u16,

@@ -7,7 +7,7 @@ use crate::decode_error::{DecodeError, DecodeKind, fault};
 use dns_rdata::u16_at;
 
 /// What stands at a place of a name.
-#[derive(Clone, Copy, Debug, Drop)]
+#[derive(Clone, Copy, Drop)]
 pub(crate) enum Step {
     /// The closing zero byte.
     Root,

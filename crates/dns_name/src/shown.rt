@@ -1,7 +1,7 @@
 //! The printed form of a name, written without memory (RFC 1035, 5.1).
 ghost use Rattle.std.specs.Prelude.{◌+◌, ◌<◌, ◌∷◌, [], Some};
 ghost use Rattle.std.specs.Fmt.{WritesOnOk};
-ghost use Rattle.dns_model.specs.NameText.{printed, printed_byte, printed_label};
+ghost use Rattle.dns_model.specs.NameText.{backslash, printed, printed_byte, printed_label, three_digits};
 
 use crate::{Name, NameRef};
 use std::fmt;
@@ -14,22 +14,37 @@ fn write_digit<W: fmt::Write>(f: &mut fmt::Formatter<W>, digit: u8) -> fmt::Resu
     f.write_char(char::from(b'0' + digit))
 }
 
+/// Writes a backslash and a character.
+fn write_escaped<W: fmt::Write>(f: &mut fmt::Formatter<W>, byte: u8) -> fmt::Result
+    requires { byte < 128 }
+    ensures { WritesOnOk W.write_str_gives f.old result (backslash ∷ byte ∷ []) f.new }
+{
+    f.write_str("\\")?;
+    f.write_char(char::from(byte))
+}
+
+/// Writes a backslash and three digits.
+fn write_number<W: fmt::Write>(f: &mut fmt::Formatter<W>, byte: u8) -> fmt::Result
+    ensures { WritesOnOk W.write_str_gives f.old result (backslash ∷ three_digits byte) f.new }
+{
+    f.write_str("\\")?;
+    write_digit(f, byte / 100)?;
+    write_digit(f, byte / 10 % 10)?;
+    write_digit(f, byte % 10)
+}
+
 /// Writes a byte of a label.
 #[tactic(auto, unfolding(dns_model::specs::NameText::printed_byte))]
 fn write_byte<W: fmt::Write>(f: &mut fmt::Formatter<W>, byte: u8) -> fmt::Result
     ensures { WritesOnOk W.write_str_gives f.old result (printed_byte byte) f.new }
 {
     if byte == b'.' || byte == b'\\' {
-        f.write_str("\\")?;
-        return f.write_char(char::from(byte));
+        write_escaped(f, byte)
+    } else if byte >= 0x21 && byte <= 0x7e {
+        f.write_char(char::from(byte))
+    } else {
+        write_number(f, byte)
     }
-    if byte >= 0x21 && byte <= 0x7e {
-        return f.write_char(char::from(byte));
-    }
-    f.write_str("\\")?;
-    write_digit(f, byte / 100)?;
-    write_digit(f, byte / 10 % 10)?;
-    write_digit(f, byte % 10)
 }
 
 /// Writes a label and a dot.

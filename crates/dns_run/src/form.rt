@@ -5,7 +5,7 @@ ghost use Rattle.dns_run.specs.Forms.{asked_form, form_named, form_of_two, help_
 use dns_report::Parts;
 
 /// What the program is asked for.
-#[derive(Clone, Copy, Debug, PartialEq, Eq)]
+#[derive(Clone, Copy)]
 pub enum Form {
     /// To answer a session, by a report that shows so much.
     Validate(Parts),

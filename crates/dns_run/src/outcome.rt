@@ -14,7 +14,7 @@ use dns_words::push_decimal;
 use std::alloc::Global;
 
 /// How a run ends where its input was read.
-#[derive(Clone, Copy, Debug, PartialEq, Eq)]
+#[derive(Clone, Copy)]
 pub enum Ending {
     /// The lookup answered: its report is written.
     Report,

@@ -18,7 +18,7 @@ use dns_record::{DNSClass, Proof};
 use dns_trust::{Judge, ds_query, is_ns_of, ns_query, zone_mark};
 
 // What a plain ask for the NS records of a name comes to.
-#[derive(Clone, Copy, Debug, PartialEq, Eq)]
+#[derive(Clone, Copy)]
 enum Sight {
     /// They are there.
     Cut,

@@ -1,13 +1,14 @@
-use Rattle.std.proofs.Common.{◌∷◌, [], map, length, ap, refl, sym, ◌∙◌, arith}
+use Rattle.std.proofs.Common.{List, ◌∷◌, [], map, length, ap, refl, subst, sym, ◌∙◌, arith}
 use Rattle.std.specs.Option.{option_map}
 use Rattle.std.proofs.lemmas.List.{map-append}
 use Rattle.dns_model.specs.Records.{Question}
+use Rattle.dns_model.specs.SoundAnswers.{Placed}
 use Rattle.dns_judgement.specs.DerivationParts.{asks_of_sets}
 use Rattle.dns_judgement.specs.Delegations.{ds_question}
 use Rattle.dns_judgement.specs.Unsigned.{set_start, is_searched}
 use Rattle.dns_evidence.specs.Trail.{ending_value}
 use Rattle.dns_trust.specs.Verdicts.{verdict_value}
-use Rattle.dns_lookup.specs.Walking.{asks_in, grounds_at}
+use Rattle.dns_lookup.specs.Walking.{asks_in, grounds_at, IsJudgement}
 use Rattle.dns_lookup.proofs.AnswerLemmas.{fault_asks, named_by, none_named, foreign_asks, foreign_answer, judged_asks, judged_so}
 use Rattle.dns_lookup.proofs.AskLemmas.{counted_nowhere, counted_then, counted_still, asks_none, asks_deep, asks_many, asks_then}
 use Rattle.dns_lookup.proofs.ConclusionLemmas.{settled_by, searched_by}
@@ -25,14 +26,9 @@ pub ask-returns-then-progress-ge-MOST_SENDS-clause-asks : goal.ask-returns-then-
 ask-returns-then-progress-ge-MOST_SENDS-clause-asks g t c =
     asks_many _ _ _ _ _ _ _ c.refused-then-progress-ge-MOST_SENDS.ensures.ask (omega arith)
 
-pub ask-returns-in_err-judged-clause-sent : goal.ask-returns-in_err-judged-clause-sent
-ask-returns-in_err-judged-clause-sent g t c =
-    counted_then _ g.H.DnsHandle.faults _ _ _ _ _ _ _ c.receive.ensures.sent c.judge_sets.ensures.sent refl
-
-pub ask-returns-in_err-concluded-clause-sent : goal.ask-returns-in_err-concluded-clause-sent
-ask-returns-in_err-concluded-clause-sent g t c =
-    counted_then _ g.H.DnsHandle.faults _ _ _ _ _ _ _
-    (counted_then _ g.H.DnsHandle.faults _ _ _ _ _ _ _ c.receive.ensures.sent c.judge_sets.ensures.sent refl) c.conclude.ensures.sent refl
+pub ask-returns-in_err-review-clause-sent : goal.ask-returns-in_err-review-clause-sent
+ask-returns-in_err-review-clause-sent g t c =
+    counted_then _ g.H.DnsHandle.faults _ _ _ _ _ _ _ c.receive.ensures.sent c.judge_reply.ensures.sent refl
 
 pub ask-returns-in_default : goal.ask-returns-in_default
 ask-returns-in_default g t c = record {
@@ -57,26 +53,46 @@ ask-returns-in-Some-foreign-clause-answer g t c =
 
 pub ask-returns-in_err-finished-clause-sent : goal.ask-returns-in_err-finished-clause-sent
 ask-returns-in_err-finished-clause-sent g t c =
-    counted_then _ g.H.DnsHandle.faults _ _ _ _ _ _ _
-    (counted_then _ g.H.DnsHandle.faults _ _ _ _ _ _ _ c.receive.ensures.sent c.judge_sets.ensures.sent refl) c.conclude.ensures.sent c.answered.ensures.sends
+    counted_then _ g.H.DnsHandle.faults _ _ _ _ _ _ _ c.receive.ensures.sent c.judge_reply.ensures.sent c.answered.ensures.sends
 
 pub ask-returns-clause-sent : goal.ask-returns-clause-sent
 ask-returns-clause-sent g t c =
-    counted_then _ g.H.DnsHandle.faults _ _ _ _ _ _ _
-    (counted_then _ g.H.DnsHandle.faults _ _ _ _ _ _ _ c.receive.ensures.sent c.judge_sets.ensures.sent refl) c.conclude.ensures.sent c.answered.ensures.sends
+    counted_then _ g.H.DnsHandle.faults _ _ _ _ _ _ _ c.receive.ensures.sent c.judge_reply.ensures.sent c.answered.ensures.sends
 
 pub ask-returns-clause-asks : goal.ask-returns-clause-asks
 ask-returns-clause-asks g t c =
+    let review = c.in_ok-review.ensures.reviewed in
     judged_asks _ _ _ _ _ _ _ _ _ _ _ _ _ _ c.in-Some.received _ _ _ _ _ _ _ _ _ _ _ (received_some _ _ _ _ _ _ c.in_ok-received.ensures.received c.in-Some.is)
     (none_named _ _ c.in_ok-foreign.ensures (ap (option_map ending_value) c.in-None.is))
     (ap (λ v. v.items) c.receive.ensures.steps) c.receive.ensures.count c.answered.ensures.sends (omega arith)
-    c.in_ok-placed.ensures c.in_ok-judged.ensures.asks c.in_ok-judged.ensures.judged c.in_ok-concluded.ensures.asks c.in_ok-concluded.ensures.concluded
-    c.in_ok-finished.ensures.added
+    refl review.asks review.judged review.further review.concluded c.in_ok-finished.ensures.added
 
 pub ask-returns-clause-answer : goal.ask-returns-clause-answer
 ask-returns-clause-answer g t c =
-    judged_so _ _ _ _ _ _ _ _ c.in-Some.received _ _ _ _ _ _ _ (omega arith) c.in_ok-placed.ensures c.in_ok-judged.ensures.judged
-    c.in_ok-concluded.ensures.asks.part.grown c.in_ok-finished.ensures.added c.in_ok-finished.ensures.answer
+    let review = c.in_ok-review.ensures.reviewed in
+    judged_so _ _ _ _ _ _ _ _ c.in-Some.received _ _ _ _ _ _ _ (omega arith) refl review.judged review.further.part.grown
+    c.in_ok-finished.ensures.added c.in_ok-finished.ensures.answer
+
+pub judge_reply-returns-in_err-concluded-clause-sent : goal.judge_reply-returns-in_err-concluded-clause-sent
+judge_reply-returns-in_err-concluded-clause-sent g t c =
+    counted_then _ g.H.DnsHandle.faults _ _ _ _ _ _ _ c.judge_sets.ensures.sent c.conclude.ensures.sent refl
+
+pub judge_reply-returns-clause-sent : goal.judge_reply-returns-clause-sent
+judge_reply-returns-clause-sent g t c = counted_then _ g.H.DnsHandle.faults _ _ _ _ _ _ _ c.judge_sets.ensures.sent c.conclude.ensures.sent refl
+
+pub judge_reply-returns-clause-reviewed : goal.judge_reply-returns-clause-reviewed
+judge_reply-returns-clause-reviewed g t c =
+    let Judged : List Placed → Type 0 = λ placed.
+    IsJudgement (grounds_at g.V.Verifier.answers c.args.context.now c.judge_sets.new.progress c.args.query.now c.args.depth) placed
+    c.in_ok-judged.judged.sets.items c.in_ok-judged.judged.entries.items in
+    record {
+      between = c.judge_sets.new.handle;
+      progress = c.judge_sets.new.progress;
+      asks = c.in_ok-judged.ensures.asks;
+      judged = subst Judged c.in_ok-placed.ensures c.in_ok-judged.ensures.judged;
+      further = c.in_ok-concluded.ensures.asks;
+      concluded = c.in_ok-concluded.ensures.concluded;
+    }
 
 pub judge_set-returns-then-is_key_set-clause-judged : goal.judge_set-returns-then-is_key_set-clause-judged
 judge_set-returns-then-is_key_set-clause-judged g t c = c.in_ok-one.ensures.judged c.args.query.now

@@ -6,31 +6,34 @@ use Rattle.dns_lookup.proofs.TriedLemmas.{TriedDone}
 use Rattle.dns_lookup.proofs.walk.+walk.Given as goal
 
 abbrev pub decreases-ask : goal.decreases-ask
-decreases-ask g l = 6 * (256 - l.depth) + 5
+decreases-ask g l = 7 * (256 - l.depth) + 6
+
+abbrev pub decreases-judge_reply : goal.decreases-judge_reply
+decreases-judge_reply g l = 7 * (256 - l.depth) + 5
 
 abbrev pub decreases-judge_sets : goal.decreases-judge_sets
-decreases-judge_sets g l = 6 * (256 - l.depth) + 4
+decreases-judge_sets g l = 7 * (256 - l.depth) + 4
 
 abbrev pub decreases-judge_set : goal.decreases-judge_set
-decreases-judge_set g l = 6 * (256 - l.depth) + 3
+decreases-judge_set g l = 7 * (256 - l.depth) + 3
 
 abbrev pub decreases-judge_keys : goal.decreases-judge_keys
-decreases-judge_keys g l = 6 * (256 - l.depth) + 2
+decreases-judge_keys g l = 7 * (256 - l.depth) + 2
 
 abbrev pub decreases-judge_unsigned : goal.decreases-judge_unsigned
-decreases-judge_unsigned g l = 6 * (256 - l.depth) + 2
+decreases-judge_unsigned g l = 7 * (256 - l.depth) + 2
 
 abbrev pub decreases-conclude : goal.decreases-conclude
-decreases-conclude g l = 6 * (256 - l.depth) + 2
+decreases-conclude g l = 7 * (256 - l.depth) + 2
 
 abbrev pub decreases-search_zone : goal.decreases-search_zone
-decreases-search_zone g l = 6 * (256 - l.depth) + 1
+decreases-search_zone g l = 7 * (256 - l.depth) + 1
 
 abbrev pub decreases-judge_signatures : goal.decreases-judge_signatures
-decreases-judge_signatures g l = 6 * (256 - l.depth) + 2
+decreases-judge_signatures g l = 7 * (256 - l.depth) + 2
 
 abbrev pub decreases-judge_signature : goal.decreases-judge_signature
-decreases-judge_signature g l = 6 * (256 - l.depth) + 1
+decreases-judge_signature g l = 7 * (256 - l.depth) + 1
 
 abbrev pub invariant-judge_sets-loop-next : goal.invariant-judge_sets-loop-next
 invariant-judge_sets-loop-next g l =
