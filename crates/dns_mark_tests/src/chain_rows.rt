@@ -175,13 +175,9 @@ fn numbers(alloc: Global, all: &[u32]) -> Result<Vec<u32>, NameError> {
     Ok(numbers)
 }
 
-fn owner(alloc: Global, row: &Row) -> Result<Name, NameError> {
-    Ok(Name::from_ascii(alloc, row.owner)?)
-}
-
 fn anchored(alloc: Global, row: &Row) -> Result<Link, NameError> {
     Ok(Link::Anchored {
-        owner: owner(alloc, row)?,
+        owner: Name::from_ascii(alloc, row.owner)?,
         class: DNSClass(row.class),
         key: rdata(alloc, row.key)?,
     })
@@ -189,7 +185,7 @@ fn anchored(alloc: Global, row: &Row) -> Result<Link, NameError> {
 
 fn matched(alloc: Global, row: &Row) -> Result<Link, NameError> {
     Ok(Link::Matched {
-        owner: owner(alloc, row)?,
+        owner: Name::from_ascii(alloc, row.owner)?,
         class: DNSClass(row.class),
         key: rdata(alloc, row.key)?,
         ds_link: row.number,
@@ -199,7 +195,7 @@ fn matched(alloc: Global, row: &Row) -> Result<Link, NameError> {
 
 fn key_set(alloc: Global, row: &Row) -> Result<Link, NameError> {
     Ok(Link::KeySet {
-        owner: owner(alloc, row)?,
+        owner: Name::from_ascii(alloc, row.owner)?,
         class: DNSClass(row.class),
         keys: rdatas(alloc, row.rdatas)?,
         links: numbers(alloc, row.numbers)?,
@@ -208,7 +204,7 @@ fn key_set(alloc: Global, row: &Row) -> Result<Link, NameError> {
 
 fn signed(alloc: Global, row: &Row) -> Result<Link, NameError> {
     Ok(Link::Signed {
-        owner: owner(alloc, row)?,
+        owner: Name::from_ascii(alloc, row.owner)?,
         class: DNSClass(row.class),
         record_type: RecordType(row.record_type),
         rdatas: rdatas(alloc, row.rdatas)?,

@@ -221,11 +221,12 @@ const DECIDED: &[Decided] = &[
 ];
 
 fn judged_by_letters(alloc: Global, letters: &str) -> Result<ChainedSet, NameError> {
+    let verdicts = verdicts(alloc, letters)?;
     let placed = PlacedSet {
         section: Section::Answer,
         set: servers(alloc)?,
     };
-    Ok(judged_by(placed, verdicts(alloc, letters)?)?)
+    Ok(judged_by(placed, verdicts)?)
 }
 
 fn is_decided(alloc: Global, row: &Decided) -> Result<bool, NameError> {

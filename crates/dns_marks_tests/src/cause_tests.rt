@@ -1,4 +1,4 @@
-use crate::mark_parts::{fails, reads};
+use crate::mark_parts::{only, reads, tells};
 use crate::rows::{check_place, check_row};
 use dns_marks::{ProofError, ProofErrorKind};
 use dns_name::{Name, NameError};
@@ -81,8 +81,11 @@ fn cause(alloc: Global, number: usize) -> Result<ProofErrorKind, NameError> {
 }
 
 fn copy_reads(alloc: Global, kind: &ProofErrorKind, want: &str) -> Result<bool, NameError> {
-    let copy = kind.try_clone()?;
-    reads(alloc, &copy, want)
+    let copies = only(alloc, kind.try_clone()?)?;
+    match copies.first() {
+        Some(copy) => reads(alloc, copy, want),
+        None => Ok(false),
+    }
 }
 
 fn both_read(alloc: Global, kind: &ProofErrorKind, want: &str) -> Result<bool, NameError> {
@@ -90,7 +93,11 @@ fn both_read(alloc: Global, kind: &ProofErrorKind, want: &str) -> Result<bool, N
 }
 
 fn is_read_so(alloc: Global, number: usize, want: &str) -> Result<bool, NameError> {
-    both_read(alloc, &cause(alloc, number)?, want)
+    let causes = only(alloc, cause(alloc, number)?)?;
+    match causes.first() {
+        Some(kind) => both_read(alloc, kind, want),
+        None => Ok(false),
+    }
 }
 
 /// The cause with this number reads as the table says, and so does a copy of it.
@@ -114,18 +121,26 @@ fn ds_should_exist(alloc: Global) -> Result<ProofError, NameError> {
 }
 
 /// An error reads so with its mark, and its cause alone.
-fn tells(alloc: Global, error: &ProofError, marked: &str, alone: &str) -> Result<bool, NameError> {
-    Ok(fails(alloc, error, marked)? && reads(alloc, error.kind(), alone)?)
+fn tells_both(
+    alloc: Global,
+    error: &ProofError,
+    marked: &str,
+    alone: &str,
+) -> Result<bool, NameError> {
+    Ok(tells(alloc, error, marked)? && reads(alloc, error.kind(), alone)?)
 }
 
 fn is_told(alloc: Global) -> Result<bool, NameError> {
-    let error = ds_should_exist(alloc)?;
-    tells(
-        alloc,
-        &error,
-        "Bogus: ds record should exist: example.",
-        "ds record should exist: example.",
-    )
+    let errors = only(alloc, ds_should_exist(alloc)?)?;
+    match errors.first() {
+        Some(error) => tells_both(
+            alloc,
+            error,
+            "Bogus: ds record should exist: example.",
+            "ds record should exist: example.",
+        ),
+        None => Ok(false),
+    }
 }
 
 #[test]

@@ -40,14 +40,14 @@ const ROWS: &[Row] = &[
 
 fn add_copies(alloc: Global, keys: &mut Vec<Record>) -> Result<(), NameError> {
     for _ in 0..COPIES {
-        let copy = record(
+        put_record(
             alloc,
+            keys,
             "example.",
             RecordType::DNSKEY,
             KEY,
             Proof::Indeterminate,
         )?;
-        keys.push(copy)?;
     }
     Ok(())
 }

@@ -125,16 +125,22 @@ fn rows() -> &'static [Row] {
 fn records_of(alloc: Global, ds: &[Delegation]) -> Result<Vec<Record>, NameError> {
     let mut records = Vec::new(alloc);
     for one in ds {
-        let next = record(alloc, one.0, RecordType::DS, one.1, Proof::Secure)?;
-        records.push(next)?;
+        put_record(
+            alloc,
+            &mut records,
+            one.0,
+            RecordType::DS,
+            one.1,
+            Proof::Secure,
+        )?;
     }
     Ok(records)
 }
 
 /// What is found of a key is Secure, or it fails so.
-fn is_key(alloc: Global, found: &Result<Proof, ProofError>, want: &str) -> Result<bool, NameError> {
+fn is_key(alloc: Global, found: Result<Proof, ProofError>, want: &str) -> Result<bool, NameError> {
     match found {
-        Ok(proof) => Ok(*proof == Proof::Secure && want == "Secure"),
+        Ok(proof) => Ok(proof == Proof::Secure && want == "Secure"),
         Err(error) => fails(alloc, error, want),
     }
 }
@@ -146,12 +152,12 @@ fn finds(
     ds: &[Record],
     want: &str,
 ) -> Result<bool, NameError> {
-    let found = verify_dnskey(verifier, key, ds);
-    is_key(alloc, &found, want)
+    is_key(alloc, verify_dnskey(verifier, key, ds), want)
 }
 
 /// What is found of a row's key is what it names.
 fn is_proved(alloc: Global, verifier: &Listed, row: &Row) -> Result<bool, NameError> {
+    let ds = records_of(alloc, row.ds)?;
     let key = record(
         alloc,
         "example.",
@@ -159,7 +165,6 @@ fn is_proved(alloc: Global, verifier: &Listed, row: &Row) -> Result<bool, NameEr
         row.key,
         Proof::Indeterminate,
     )?;
-    let ds = records_of(alloc, row.ds)?;
     finds(alloc, verifier, &key, &ds, row.want)
 }
 

@@ -172,27 +172,37 @@ fn rows() -> &'static [Row] {
     ROWS
 }
 
-fn insecure(alloc: Global) -> Result<Option<ZoneVerdict>, NameError> {
+fn insecure(alloc: Global) -> Result<Vec<ZoneVerdict>, NameError> {
     let name = Name::from_ascii(alloc, "example.")?;
-    Ok(Some(ZoneVerdict::Insecure(ProofErrorKind::DsResponseInsecure { name })))
+    only(
+        alloc,
+        ZoneVerdict::Insecure(ProofErrorKind::DsResponseInsecure { name }),
+    )
 }
 
-fn bogus(alloc: Global) -> Result<Option<ZoneVerdict>, NameError> {
+fn bogus(alloc: Global) -> Result<Vec<ZoneVerdict>, NameError> {
     let name = Name::from_ascii(alloc, "example.")?;
-    Ok(Some(ZoneVerdict::Bogus(ProofErrorKind::DsRecordShouldExist { name })))
+    only(
+        alloc,
+        ZoneVerdict::Bogus(ProofErrorKind::DsRecordShouldExist { name }),
+    )
 }
 
-fn signed(alloc: Global, rdatas: &[&[u8]]) -> Result<Option<ZoneVerdict>, NameError> {
+fn signed(alloc: Global, rdatas: &[&[u8]]) -> Result<Vec<ZoneVerdict>, NameError> {
     let ds = records_of(alloc, "example.", RecordType::DS, rdatas, Proof::Secure)?;
-    Ok(Some(ZoneVerdict::Signed(ds)))
+    only(alloc, ZoneVerdict::Signed(ds))
 }
 
-fn verdict_of(alloc: Global, zone: &Zone) -> Result<Option<ZoneVerdict>, NameError> {
+/// The verdict, or none.
+fn verdict_of(alloc: Global, zone: &Zone) -> Result<Vec<ZoneVerdict>, NameError> {
     match zone {
-        Zone::Unknown => Ok(None),
+        Zone::Unknown => Ok(Vec::new(alloc)),
         Zone::Signed(rdatas) => signed(alloc, rdatas),
         Zone::Insecure => insecure(alloc),
-        Zone::Unsupported => Ok(Some(ZoneVerdict::Insecure(ProofErrorKind::UnknownKeyAlgorithm))),
+        Zone::Unsupported => only(
+            alloc,
+            ZoneVerdict::Insecure(ProofErrorKind::UnknownKeyAlgorithm),
+        ),
         Zone::Bogus => bogus(alloc),
     }
 }
@@ -213,15 +223,17 @@ fn anchors_of(alloc: Global, row: &Row) -> Result<TrustAnchors, NameError> {
     Ok(anchors)
 }
 
-/// A key set, anchors and a DS verdict.
+/// A key set, anchors and a DS verdict or none.
 #[derive(Drop)]
 pub(crate) struct Parts {
     pub(crate) set: RecordSet,
     anchors: TrustAnchors,
-    zone: Option<ZoneVerdict>,
+    zone: Vec<ZoneVerdict>,
 }
 
 pub(crate) fn parts_of(alloc: Global, row: &Row) -> Result<Parts, NameError> {
+    let zone = verdict_of(alloc, &row.zone)?;
+    let anchors = anchors_of(alloc, row)?;
     let set = set_of(
         alloc,
         row.owner,
@@ -229,8 +241,6 @@ pub(crate) fn parts_of(alloc: Global, row: &Row) -> Result<Parts, NameError> {
         row.keys,
         row.signatures,
     )?;
-    let anchors = anchors_of(alloc, row)?;
-    let zone = verdict_of(alloc, &row.zone)?;
     Ok(Parts { set, anchors, zone })
 }
 
@@ -240,19 +250,19 @@ fn mark_of<V: Verifier>(
     parts: &Parts,
 ) -> Result<KeysMark, ProofError> {
     let Parts { set, anchors, zone } = parts;
-    mark_keys(alloc, verifier, anchors, set, zone.as_ref(), 1500)
+    mark_keys(alloc, verifier, anchors, set, zone.first(), 1500)
 }
 
 /// A mark, or why there is none, is the one that is wanted.
 fn is_mark(
     alloc: Global,
-    mark: &Result<KeysMark, ProofError>,
+    mark: Result<KeysMark, ProofError>,
     want: &Want,
 ) -> Result<bool, NameError> {
     match mark {
         Ok(KeysMark::NeedDs) => Ok(matches!(want, Want::Nothing)),
-        Ok(KeysMark::Done(found)) => Ok(is_found(found, want)),
-        Err(error) => is_error(alloc, error, want),
+        Ok(KeysMark::Done(found)) => Ok(is_found(&found, want)),
+        Err(error) => fails(alloc, error, text_of(want)),
     }
 }
 
@@ -263,8 +273,7 @@ pub(crate) fn is_marked<V: Verifier>(
     parts: &Parts,
     want: &Want,
 ) -> Result<bool, NameError> {
-    let mark = mark_of(alloc, verifier, parts);
-    is_mark(alloc, &mark, want)
+    is_mark(alloc, mark_of(alloc, verifier, parts), want)
 }
 
 /// The mark of a row's key set is the one that it names.

@@ -67,22 +67,20 @@ pub(crate) fn record(
     })
 }
 
-/// Records of one owner and type with one mark.
-fn put_records(
+/// A record more.
+pub(crate) fn put_record(
     alloc: Global,
     records: &mut Vec<Record>,
     owner: &str,
     record_type: RecordType,
-    rdatas: &[&[u8]],
+    rdata: &[u8],
     proof: Proof,
 ) -> Result<(), NameError> {
-    for rdata in rdatas {
-        records.push(record(alloc, owner, record_type, rdata, proof)?)?;
-    }
+    records.push(record(alloc, owner, record_type, rdata, proof)?)?;
     Ok(())
 }
 
-/// The same as a list.
+/// Records of one owner and type with one mark.
 pub(crate) fn records_of(
     alloc: Global,
     owner: &str,
@@ -91,7 +89,9 @@ pub(crate) fn records_of(
     proof: Proof,
 ) -> Result<Vec<Record>, NameError> {
     let mut records = Vec::new(alloc);
-    put_records(alloc, &mut records, owner, record_type, rdatas, proof)?;
+    for rdata in rdatas {
+        put_record(alloc, &mut records, owner, record_type, rdata, proof)?;
+    }
     Ok(records)
 }
 
@@ -103,7 +103,7 @@ pub(crate) fn keys_of(
 ) -> Result<Vec<Record>, NameError> {
     let mut records = Vec::new(alloc);
     for key in keys {
-        records.push(record(alloc, owner, RecordType::DNSKEY, key.0, key.1)?)?;
+        put_record(alloc, &mut records, owner, RecordType::DNSKEY, key.0, key.1)?;
     }
     Ok(records)
 }
@@ -119,13 +119,19 @@ pub(crate) fn signature(alloc: Global, rdata: &[u8]) -> Result<Record, NameError
     )
 }
 
-fn bare_set(alloc: Global, owner: &str, record_type: RecordType) -> Result<RecordSet, NameError> {
+fn set_named(
+    alloc: Global,
+    owner: &str,
+    record_type: RecordType,
+    records: Vec<Record>,
+    rrsigs: Vec<Record>,
+) -> Result<RecordSet, NameError> {
     Ok(RecordSet {
         name: Name::from_ascii(alloc, owner)?,
         record_type,
         dns_class: DNSClass::IN,
-        records: Vec::new(alloc),
-        rrsigs: Vec::new(alloc),
+        records,
+        rrsigs,
     })
 }
 
@@ -137,18 +143,10 @@ pub(crate) fn set_of(
     records: &[&[u8]],
     signatures: &[&[u8]],
 ) -> Result<RecordSet, NameError> {
-    let mut set = bare_set(alloc, owner, record_type)?;
     let proof = Proof::Indeterminate;
-    put_records(alloc, &mut set.records, owner, record_type, records, proof)?;
-    put_records(
-        alloc,
-        &mut set.rrsigs,
-        owner,
-        RecordType::RRSIG,
-        signatures,
-        proof,
-    )?;
-    Ok(set)
+    let records = records_of(alloc, owner, record_type, records, proof)?;
+    let rrsigs = records_of(alloc, owner, RecordType::RRSIG, signatures, proof)?;
+    set_named(alloc, owner, record_type, records, rrsigs)
 }
 
 /// An NS set with signatures.
@@ -167,10 +165,27 @@ pub(crate) enum Want {
     Nothing,
 }
 
-/// The cause and the mark read so.
-pub(crate) fn fails(alloc: Global, error: &ProofError, want: &str) -> Result<bool, NameError> {
+/// A list of one value. To let a list go is one call, while each function that lets go an error or a verdict itself goes over all
+/// its variants, which is dear to prove.
+pub(crate) fn only<T: Drop>(alloc: Global, value: T) -> Result<Vec<T>, NameError> {
+    let mut values = Vec::new(alloc);
+    values.push(value)?;
+    Ok(values)
+}
+
+/// The mark and the cause of an error read so.
+pub(crate) fn tells(alloc: Global, error: &ProofError, want: &str) -> Result<bool, NameError> {
     let text = format!(in alloc; "{error}")?;
     Ok(text.as_str() == want)
+}
+
+/// The same of an error that isn't needed any more.
+pub(crate) fn fails(alloc: Global, error: ProofError, want: &str) -> Result<bool, NameError> {
+    let errors = only(alloc, error)?;
+    match errors.first() {
+        Some(error) => tells(alloc, error, want),
+        None => Ok(false),
+    }
 }
 
 /// A cause reads so.
@@ -189,22 +204,22 @@ pub(crate) fn is_found(found: &RrsetProof, want: &Want) -> bool {
     }
 }
 
-/// The error is what is wanted.
-pub(crate) fn is_error(alloc: Global, error: &ProofError, want: &Want) -> Result<bool, NameError> {
+/// The text of the error that is wanted; none has an empty one.
+pub(crate) fn text_of(want: &Want) -> &'static str {
     match want {
-        Want::Fails(text) => fails(alloc, error, text),
-        _ => Ok(false),
+        Want::Fails(text) => text,
+        _ => "",
     }
 }
 
 /// What is found, or why nothing is, is what is wanted.
 pub(crate) fn is_wanted(
     alloc: Global,
-    mark: &Result<RrsetProof, ProofError>,
+    mark: Result<RrsetProof, ProofError>,
     want: &Want,
 ) -> Result<bool, NameError> {
     match mark {
-        Ok(found) => Ok(is_found(found, want)),
-        Err(error) => is_error(alloc, error, want),
+        Ok(found) => Ok(is_found(&found, want)),
+        Err(error) => fails(alloc, error, text_of(want)),
     }
 }

@@ -34,7 +34,7 @@ const ROW: &Row = &Row {
 fn is_unverified(alloc: Global, verifier: &Refusing) -> Result<bool, NameError> {
     let parts = parts_of(alloc, ROW)?;
     let mark = found::<Refusing, Brand>(alloc, verifier, &parts, Blank::new(1));
-    is_wanted(alloc, &mark, &ROW.want)
+    is_wanted(alloc, mark, &ROW.want)
 }
 
 /// The verifier is asked sixteen times before the set is Bogus.

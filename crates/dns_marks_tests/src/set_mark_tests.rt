@@ -188,8 +188,8 @@ fn answers_of(alloc: Global, row: &Row) -> Result<Vec<KeyAnswer>, NameError> {
 }
 
 pub(crate) fn parts_of(alloc: Global, row: &Row) -> Result<Parts, NameError> {
-    let set = servers(alloc, row.owner, row.signatures)?;
     let answers = answers_of(alloc, row)?;
+    let set = servers(alloc, row.owner, row.signatures)?;
     Ok(Parts { set, answers })
 }
 
@@ -220,7 +220,7 @@ fn is_marked(
     want: &Want,
 ) -> Result<bool, NameError> {
     let mark = found::<Listed, Brand>(alloc, verifier, parts, Blank::new(1));
-    is_wanted(alloc, &mark, want)
+    is_wanted(alloc, mark, want)
 }
 
 /// The mark of a row's set is the one that it names.

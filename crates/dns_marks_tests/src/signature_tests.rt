@@ -172,7 +172,7 @@ fn is_proved(
     row: &Row,
 ) -> Result<bool, NameError> {
     let mark = found::<Brand>(alloc, verifier, parts, row.now, Blank::new(1));
-    is_wanted(alloc, &mark, &row.want)
+    is_wanted(alloc, mark, &row.want)
 }
 
 /// The same by the verifier of these tests.

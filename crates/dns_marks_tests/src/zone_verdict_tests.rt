@@ -1,4 +1,4 @@
-use crate::mark_parts::{DS, MISS, OVER_NS, UNSUPPORTED, reads, record, verifier};
+use crate::mark_parts::{DS, MISS, OVER_NS, UNSUPPORTED, only, reads, record, verifier};
 use crate::rows::check_row;
 use dns_marks::{DnsAnswer, ZoneVerdict, ds_verdict};
 use dns_message::Message;
@@ -272,12 +272,13 @@ fn put(alloc: Global, message: &mut Message, told: &Told) -> Result<(), NameErro
     Ok(())
 }
 
-fn answer_of(alloc: Global, told: &[Told]) -> Result<DnsAnswer, NameError> {
+/// An answer, by itself in a list.
+fn answer_of(alloc: Global, told: &[Told]) -> Result<Vec<DnsAnswer>, NameError> {
     let mut response = empty_response(alloc)?;
     for one in told {
         put(alloc, &mut response.message, one)?;
     }
-    Ok(Ok(response))
+    only(alloc, Ok(response))
 }
 
 /// A verdict is this one.
@@ -292,12 +293,14 @@ fn is_verdict(alloc: Global, verdict: &ZoneVerdict, want: &Want) -> Result<bool,
 
 fn is_wanted(
     alloc: Global,
-    verdict: &Result<ZoneVerdict, NoMemory>,
+    verdict: Result<ZoneVerdict, NoMemory>,
     want: &Want,
 ) -> Result<bool, NameError> {
-    match verdict {
-        Ok(verdict) => is_verdict(alloc, verdict, want),
-        Err(_) => Ok(matches!(want, Want::NoMemory)),
+    let verdicts = only(alloc, verdict)?;
+    match verdicts.first() {
+        Some(Ok(verdict)) => is_verdict(alloc, verdict, want),
+        Some(Err(_)) => Ok(matches!(want, Want::NoMemory)),
+        None => Ok(false),
     }
 }
 
@@ -311,25 +314,28 @@ fn gives(
 ) -> Result<bool, NameError> {
     let verifier = verifier(alloc)?;
     let verdict = ds_verdict(alloc, &verifier, zone, class, answer);
-    is_wanted(alloc, &verdict, want)
+    is_wanted(alloc, verdict, want)
 }
 
-/// The same of a zone by its text.
+/// The same of a zone by its text, and the answer that a list has.
 fn gives_at(
     alloc: Global,
     zone: &str,
     class: DNSClass,
-    answer: &DnsAnswer,
+    answers: &[DnsAnswer],
     want: &Want,
 ) -> Result<bool, NameError> {
     let zone = Name::from_ascii(alloc, zone)?;
-    gives(alloc, &zone, class, answer, want)
+    match answers.first() {
+        Some(answer) => gives(alloc, &zone, class, answer, want),
+        None => Ok(false),
+    }
 }
 
 /// The DS verdict of a row is the one that it names.
 fn is_judged(alloc: Global, row: &Row) -> Result<bool, NameError> {
-    let answer = answer_of(alloc, row.told)?;
-    gives_at(alloc, "EXAMPLE.", row.class, &answer, &row.want)
+    let answers = answer_of(alloc, row.told)?;
+    gives_at(alloc, "EXAMPLE.", row.class, &answers, &row.want)
 }
 
 #[test]
@@ -372,23 +378,23 @@ const FAILURES: &[FailedAsk] = &[
     },
 ];
 
-fn no_records(alloc: Global) -> Result<DnsAnswer, NameError> {
+fn no_records(alloc: Global) -> Result<Vec<DnsAnswer>, NameError> {
     let query = question(alloc)?;
     let none = NoRecords::new(alloc, query, ResponseCode(0));
-    Ok(Err(NetError::Dns(DnsError::NoRecordsFound(none))))
+    only(alloc, Err(NetError::Dns(DnsError::NoRecordsFound(none))))
 }
 
-fn failed(alloc: Global, failure: &Failure) -> Result<DnsAnswer, NameError> {
+fn failed(alloc: Global, failure: &Failure) -> Result<Vec<DnsAnswer>, NameError> {
     match failure {
-        Failure::TimedOut => Ok(Err(NetError::Timeout)),
+        Failure::TimedOut => only(alloc, Err(NetError::Timeout)),
         Failure::NoRecords => no_records(alloc),
-        Failure::NoMemory => Ok(Err(NetError::NoMemory)),
+        Failure::NoMemory => only(alloc, Err(NetError::NoMemory)),
     }
 }
 
 fn is_failed(alloc: Global, row: &FailedAsk) -> Result<bool, NameError> {
-    let answer = failed(alloc, &row.failure)?;
-    gives_at(alloc, "example.", DNSClass::IN, &answer, &row.want)
+    let answers = failed(alloc, &row.failure)?;
+    gives_at(alloc, "example.", DNSClass::IN, &answers, &row.want)
 }
 
 #[test]

@@ -8,6 +8,11 @@ pub(crate) fn check_row(rt: &impl Abort, row: &str, held: Result<bool, NameError
     assert!(rt; matches!(held, Ok(true)), "{row}");
 }
 
+/// What was tried on a row held, where a lack of memory is a row that doesn't hold.
+pub(crate) fn check_held(rt: &impl Abort, row: &str, held: bool) {
+    assert!(rt; held, "{row}");
+}
+
 /// What a table says behind the name of a row.
 pub(crate) trait Row {
     /// Whether it holds for the row of this name.

@@ -1,13 +1,12 @@
-use dns_name::NoMemory;
+use crate::rows::check_held;
 use dns_record::{DNSClass, RecordType};
 use dns_words::*;
 use std::alloc::Global;
-use std::test::Fail;
 
 /// A number, and its word.
 type Named = (u16, &'static str);
 
-const TYPES: [Named; 30] = [
+const TYPES: &[Named] = &[
     (1, "A"),
     (28, "AAAA"),
     (2, "NS"),
@@ -40,23 +39,26 @@ const TYPES: [Named; 30] = [
     (65535, "TYPE65535"),
 ];
 
+fn types() -> &'static [Named] {
+    TYPES
+}
+
 /// A type is printed as this word, and read from it.
-fn is_type(alloc: Global, number: u16, word: &str) -> Result<bool, NoMemory> {
+fn is_type(alloc: Global, row: &Named) -> bool {
     let mut text = Vec::new(alloc);
-    push_type(&mut text, RecordType(number))?;
-    let read = type_word_in(word.as_bytes()) == Some(RecordType(number));
-    Ok(read && text.as_slice() == word.as_bytes())
+    push_type(&mut text, RecordType(row.0)).is_ok()
+        && text.as_slice() == row.1.as_bytes()
+        && type_word_in(row.1.as_bytes()) == Some(RecordType(row.0))
 }
 
 #[test]
-fn words_of_types(rt: HostRuntime) -> Result<(), Fail> {
-    for (number, word) in &TYPES {
-        assert!(rt; is_type(rt.alloc(), *number, word)?, "{word}");
+fn words_of_types(rt: HostRuntime) {
+    for row in types() {
+        check_held(&rt, row.1, is_type(rt.alloc(), row));
     }
-    Ok(())
 }
 
-const CLASSES: [Named; 7] = [
+const CLASSES: &[Named] = &[
     (1, "IN"),
     (3, "CH"),
     (4, "HS"),
@@ -66,22 +68,25 @@ const CLASSES: [Named; 7] = [
     (65535, "CLASS65535"),
 ];
 
-fn is_class(alloc: Global, number: u16, word: &str) -> Result<bool, NoMemory> {
+fn classes() -> &'static [Named] {
+    CLASSES
+}
+
+fn is_class(alloc: Global, row: &Named) -> bool {
     let mut text = Vec::new(alloc);
-    push_class(&mut text, DNSClass(number))?;
-    let read = class_word_in(word.as_bytes()) == Some(DNSClass(number));
-    Ok(read && text.as_slice() == word.as_bytes())
+    push_class(&mut text, DNSClass(row.0)).is_ok()
+        && text.as_slice() == row.1.as_bytes()
+        && class_word_in(row.1.as_bytes()) == Some(DNSClass(row.0))
 }
 
 #[test]
-fn words_of_classes(rt: HostRuntime) -> Result<(), Fail> {
-    for (number, word) in &CLASSES {
-        assert!(rt; is_class(rt.alloc(), *number, word)?, "{word}");
+fn words_of_classes(rt: HostRuntime) {
+    for row in classes() {
+        check_held(&rt, row.1, is_class(rt.alloc(), row));
     }
-    Ok(())
 }
 
-const NO_TYPES: [&str; 10] = [
+const NO_TYPES: &[&str] = &[
     "",
     "a",
     "Ns",
@@ -94,15 +99,15 @@ const NO_TYPES: [&str; 10] = [
     "AA",
 ];
 
-const NO_CLASSES: [&str; 5] = ["", "in", "CLASS1", "CLASS", "CLASS255"];
+const NO_CLASSES: &[&str] = &["", "in", "CLASS1", "CLASS", "CLASS255"];
 
 #[test]
 fn words_of_no_type_and_no_class(rt: HostRuntime) {
-    for word in &NO_TYPES {
-        assert!(rt; type_word_in(word.as_bytes()) == None, "{word}");
+    for word in NO_TYPES {
+        check_held(&rt, word, type_word_in(word.as_bytes()) == None);
     }
-    for word in &NO_CLASSES {
-        assert!(rt; class_word_in(word.as_bytes()) == None, "{word}");
+    for word in NO_CLASSES {
+        check_held(&rt, word, class_word_in(word.as_bytes()) == None);
     }
 }
 
@@ -122,47 +127,52 @@ fn words_of_numbers(rt: HostRuntime) {
 /// A word, the bytes that it stands for, and the word that they are printed as.
 type Written = (&'static str, &'static [u8], &'static str);
 
-const BYTES: [Written; 3] = [
+const BYTES: &[Written] = &[
     ("-", b"", "-"),
     ("00fF", b"\x00\xff", "00ff"),
     ("C0de", b"\xc0\xde", "c0de"),
 ];
 
-/// The word stands for these bytes, or for none.
-fn reads_octets(alloc: Global, word: &str, want: Option<&[u8]>) -> Result<bool, NoMemory> {
-    match octets_in(alloc, word.as_bytes())? {
-        Some(octets) => Ok(want == Some(octets.as_slice())),
-        None => Ok(want.is_none()),
+/// The word stands for these bytes.
+fn reads_octets(alloc: Global, word: &str, want: &[u8]) -> bool {
+    match octets_in(alloc, word.as_bytes()) {
+        Ok(Some(octets)) => octets.as_slice() == want,
+        _ => false,
     }
 }
 
-fn prints_octets(alloc: Global, bytes: &[u8], word: &str) -> Result<bool, NoMemory> {
+fn prints_octets(alloc: Global, bytes: &[u8], word: &str) -> bool {
     let mut text = Vec::new(alloc);
-    push_octets(&mut text, bytes)?;
-    Ok(text.as_slice() == word.as_bytes())
+    push_octets(&mut text, bytes).is_ok() && text.as_slice() == word.as_bytes()
 }
 
 #[test]
-fn words_of_bytes(rt: HostRuntime) -> Result<(), Fail> {
-    for (word, want, printed) in &BYTES {
-        assert!(rt; reads_octets(rt.alloc(), word, Some(want))?, "{word}");
-        assert!(rt; prints_octets(rt.alloc(), want, printed)?, "{word}");
+fn words_of_bytes(rt: HostRuntime) {
+    for row in BYTES {
+        let read = reads_octets(rt.alloc(), row.0, row.1);
+        let printed = prints_octets(rt.alloc(), row.1, row.2);
+        check_held(&rt, row.0, read && printed);
     }
-    Ok(())
 }
 
-const NO_BYTES: [&str; 5] = ["", "0", "abc", "--", "0x"];
+const NO_BYTES: &[&str] = &["", "0", "abc", "--", "0x"];
+
+/// The word stands for no bytes.
+fn reads_none(alloc: Global, word: &str) -> bool {
+    matches!(octets_in(alloc, word.as_bytes()), Ok(None))
+}
 
 #[test]
-fn words_of_no_bytes(rt: HostRuntime) -> Result<(), Fail> {
-    for word in &NO_BYTES {
-        assert!(rt; reads_octets(rt.alloc(), word, None)?, "{word}");
+fn words_of_no_bytes(rt: HostRuntime) {
+    for word in NO_BYTES {
+        check_held(&rt, word, reads_none(rt.alloc(), word));
     }
-    Ok(())
 }
 
 /// A word, and whether it is a name.
-const NAMES: [(&str, bool); 6] = [
+type NameRow = (&'static str, bool);
+
+const NAMES: &[NameRow] = &[
     (".", true),
     ("www.example", true),
     ("a\\.b\\009.C.", true),
@@ -171,14 +181,17 @@ const NAMES: [(&str, bool); 6] = [
     ("a\\256", false),
 ];
 
-fn is_name(alloc: Global, word: &str) -> Result<bool, NoMemory> {
-    Ok(name_in(alloc, word.as_bytes())?.is_some())
+/// The row's word is a name, or it isn't, as the row says.
+fn is_so(alloc: Global, row: &NameRow) -> bool {
+    match name_in(alloc, row.0.as_bytes()) {
+        Ok(name) => name.is_some() == row.1,
+        Err(_) => false,
+    }
 }
 
 #[test]
-fn words_of_names(rt: HostRuntime) -> Result<(), Fail> {
-    for (word, want) in &NAMES {
-        assert!(rt; is_name(rt.alloc(), word)? == *want, "{word}");
+fn words_of_names(rt: HostRuntime) {
+    for row in NAMES {
+        check_held(&rt, row.0, is_so(rt.alloc(), row));
     }
-    Ok(())
 }

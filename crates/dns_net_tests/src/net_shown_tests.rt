@@ -1,21 +1,20 @@
 use crate::parts::{check_number, rdata};
-use dns_name::{Name, NameRef};
+use dns_name::{Name, NameError, NameRef};
 use dns_net::*;
 use dns_record::{DNSClass, Rdata, RecordType};
 use std::alloc::Global;
-use std::test::Fail;
 
-fn key(alloc: Global) -> Result<Rdata, Fail> {
+fn key(alloc: Global) -> Result<Rdata, NameError> {
     rdata(alloc, b"key")
 }
 
-fn one_key(alloc: Global) -> Result<Vec<Rdata>, Fail> {
+fn one_key(alloc: Global) -> Result<Vec<Rdata>, NameError> {
     let mut keys = Vec::new(alloc);
     keys.push(key(alloc)?)?;
     Ok(keys)
 }
 
-fn anchored(alloc: Global) -> Result<Link, Fail> {
+fn anchored(alloc: Global) -> Result<Link, NameError> {
     Ok(Link::Anchored {
         owner: Name::from_ascii(alloc, "ORG.")?,
         class: DNSClass::IN,
@@ -23,13 +22,13 @@ fn anchored(alloc: Global) -> Result<Link, Fail> {
     })
 }
 
-fn first_number(alloc: Global) -> Result<Vec<u32>, Fail> {
+fn first_number(alloc: Global) -> Result<Vec<u32>, NameError> {
     let mut numbers = Vec::new(alloc);
     numbers.push(0)?;
     Ok(numbers)
 }
 
-fn key_set(alloc: Global) -> Result<Link, Fail> {
+fn key_set(alloc: Global) -> Result<Link, NameError> {
     Ok(Link::KeySet {
         owner: Name::from_ascii(alloc, "org.")?,
         class: DNSClass::IN,
@@ -38,7 +37,7 @@ fn key_set(alloc: Global) -> Result<Link, Fail> {
     })
 }
 
-fn delegation(alloc: Global) -> Result<Link, Fail> {
+fn delegation(alloc: Global) -> Result<Link, NameError> {
     Ok(Link::Signed {
         owner: Name::from_ascii(alloc, "org.")?,
         class: DNSClass::IN,
@@ -50,7 +49,7 @@ fn delegation(alloc: Global) -> Result<Link, Fail> {
     })
 }
 
-fn add_links(alloc: Global, links: &mut Vec<Link>) -> Result<(), Fail> {
+fn add_links(alloc: Global, links: &mut Vec<Link>) -> Result<(), NameError> {
     links.push(anchored(alloc)?)?;
     links.push(key_set(alloc)?)?;
     links.push(delegation(alloc)?)?;
@@ -58,7 +57,7 @@ fn add_links(alloc: Global, links: &mut Vec<Link>) -> Result<(), Fail> {
 }
 
 /// An anchored key, its key set and a signed set of DS records, whose rdatas are alike.
-fn first_chain(alloc: Global) -> Result<Chain, Fail> {
+fn first_chain(alloc: Global) -> Result<Chain, NameError> {
     let mut chain = Chain {
         section: Section::Answer,
         links: Vec::new(alloc),
@@ -67,7 +66,7 @@ fn first_chain(alloc: Global) -> Result<Chain, Fail> {
     Ok(chain)
 }
 
-fn chain(alloc: Global) -> Result<Chain, Fail> {
+fn chain(alloc: Global) -> Result<Chain, NameError> {
     let chain = first_chain(alloc)?;
     Ok(chain.try_clone()?)
 }
@@ -131,23 +130,22 @@ fn shown(links: &[Link], owner: &NameRef, row: &Row) -> u8 {
     key + 2 * member + 4 * ds
 }
 
-fn shows_as(alloc: Global, links: &[Link], row: &Row) -> Result<bool, Fail> {
+fn shows_as(alloc: Global, links: &[Link], row: &Row) -> Result<bool, NameError> {
     let owner = Name::from_ascii(alloc, "oRg.")?;
     Ok(shown(links, &owner.borrowed(), row) == row.want)
 }
 
-fn is_shown(alloc: Global, row: &Row) -> Result<bool, Fail> {
+fn is_shown(alloc: Global, row: &Row) -> Result<bool, NameError> {
     let chain = chain(alloc)?;
     shows_as(alloc, &chain.links, row)
 }
 
 #[test]
-fn links_show_keys_members_and_delegations(rt: HostRuntime) -> Result<(), Fail> {
+fn links_show_keys_members_and_delegations(rt: HostRuntime) {
     let alloc = rt.alloc();
     for (number, row) in rows().iter().enumerate() {
-        check_number(&rt, number, is_shown(alloc, row))?;
+        check_number(&rt, number, is_shown(alloc, row));
     }
-    Ok(())
 }
 
 /// The numbers of links, and whether they show the one key.
@@ -163,27 +161,31 @@ fn numbered_rows() -> &'static [Numbered] {
     NUMBERED
 }
 
-fn show_keys(alloc: Global, links: &[Link], keys: &[Rdata], numbers: &[u32]) -> Result<bool, Fail> {
+fn show_keys(
+    alloc: Global,
+    links: &[Link],
+    keys: &[Rdata],
+    numbers: &[u32],
+) -> Result<bool, NameError> {
     let owner = Name::from_ascii(alloc, "org.")?;
     Ok(all_shown(links, &owner.borrowed(), DNSClass::IN, keys, numbers))
 }
 
 /// The one key is shown by the links with these numbers.
-fn show_the_key(alloc: Global, links: &[Link], numbers: &[u32]) -> Result<bool, Fail> {
+fn show_the_key(alloc: Global, links: &[Link], numbers: &[u32]) -> Result<bool, NameError> {
     let keys = one_key(alloc)?;
     show_keys(alloc, links, &keys, numbers)
 }
 
-fn is_all_shown(alloc: Global, row: &Numbered) -> Result<bool, Fail> {
+fn is_all_shown(alloc: Global, row: &Numbered) -> Result<bool, NameError> {
     let chain = chain(alloc)?;
     Ok(show_the_key(alloc, &chain.links, row.0)? == row.1)
 }
 
 #[test]
-fn each_key_has_its_link(rt: HostRuntime) -> Result<(), Fail> {
+fn each_key_has_its_link(rt: HostRuntime) {
     let alloc = rt.alloc();
     for (number, row) in numbered_rows().iter().enumerate() {
-        check_number(&rt, number, is_all_shown(alloc, row))?;
+        check_number(&rt, number, is_all_shown(alloc, row));
     }
-    Ok(())
 }

@@ -1,10 +1,9 @@
-use crate::parts::{bare_set, bare_step, check, query, record, response};
-use dns_name::Name;
+use crate::parts::{bare_set, bare_step, check, record, response};
+use dns_name::{Name, NameError};
 use dns_net::*;
 use dns_record::{DNSClass, Proof, Record, RecordType, ResponseCode};
-use std::alloc::Global;
+use std::alloc::{AllocError, Global};
 use std::fmt::Write;
-use std::test::Fail;
 
 /// How a step ends.
 #[derive(Clone, Copy, Drop)]
@@ -128,14 +127,14 @@ fn shown_rows() -> &'static [Shown] {
     SHOWN
 }
 
-fn add_records(alloc: Global, records: &mut Vec<Record>, count: usize) -> Result<(), Fail> {
+fn add_records(alloc: Global, records: &mut Vec<Record>, count: usize) -> Result<(), NameError> {
     for _ in 0..count {
         records.push(record(alloc, "a.", 1, 60, b"addr")?)?;
     }
     Ok(())
 }
 
-fn tell(alloc: Global, told: &mut Told) -> Result<(), Fail> {
+fn tell(alloc: Global, told: &mut Told) -> Result<(), NameError> {
     add_records(alloc, &mut told.answers, 1)?;
     add_records(alloc, &mut told.authorities, 2)?;
     add_records(alloc, &mut told.additionals, 3)
@@ -151,38 +150,38 @@ fn bare_told(alloc: Global, code: u16, empty: bool) -> Told {
     }
 }
 
-fn told(alloc: Global, code: u16, empty: bool) -> Result<Reply, Fail> {
+fn told(alloc: Global, code: u16, empty: bool) -> Result<Reply, NameError> {
     let mut told = bare_told(alloc, code, empty);
     tell(alloc, &mut told)?;
     Ok(Reply::Told(told))
 }
 
-fn reply(alloc: Global, reply: Option<(u16, bool)>) -> Result<Reply, Fail> {
+fn reply(alloc: Global, reply: Option<(u16, bool)>) -> Result<Reply, NameError> {
     match reply {
         Some((code, empty)) => told(alloc, code, empty),
         None => Ok(Reply::Fault),
     }
 }
 
-fn judged_set(alloc: Global, judged: &Judged) -> Result<JudgedSet, Fail> {
+fn judged_set(alloc: Global, judged: &Judged) -> Result<JudgedSet, NameError> {
     let mut set = bare_set(alloc)?;
     set.section = judged.section;
     set.record_type = RecordType::SOA;
     set.mark = judged.mark;
     set.origin = judged.origin;
     set.sig = judged.sig;
-    set.asked = judged.asked.to_vec(alloc)?;
+    set.asked.extend_from_slice(judged.asked)?;
     Ok(set)
 }
 
-fn add_sets(alloc: Global, sets: &mut Vec<JudgedSet>) -> Result<(), Fail> {
+fn add_sets(alloc: Global, sets: &mut Vec<JudgedSet>) -> Result<(), NameError> {
     for judged in judged_rows() {
         sets.push(judged_set(alloc, judged)?)?;
     }
     Ok(())
 }
 
-fn foreign(alloc: Global) -> Result<Ending, Fail> {
+fn foreign(alloc: Global) -> Result<Ending, NameError> {
     Ok(Ending::Foreign {
         owner: Name::from_ascii(alloc, "a.")?,
         class: DNSClass::CH,
@@ -190,7 +189,7 @@ fn foreign(alloc: Global) -> Result<Ending, Fail> {
     })
 }
 
-fn ending(alloc: Global, end: End) -> Result<Ending, Fail> {
+fn ending(alloc: Global, end: End) -> Result<Ending, NameError> {
     match end {
         End::Seen => Ok(Ending::Seen),
         End::Failed => Ok(Ending::Failed),
@@ -200,95 +199,100 @@ fn ending(alloc: Global, end: End) -> Result<Ending, Fail> {
     }
 }
 
-fn fill(alloc: Global, step: &mut Asked, row: &Shown) -> Result<(), Fail> {
-    step.query = query(alloc, "org.", row.record_type)?;
+fn fill(alloc: Global, step: &mut Asked, row: &Shown) -> Result<(), NameError> {
+    step.depth = row.depth;
+    step.judged = row.judged;
     step.reply = reply(alloc, row.reply)?;
     if row.has_sets {
         add_sets(alloc, &mut step.sets)?;
     }
     step.ending = ending(alloc, row.ending)?;
-    step.excuse = row.excuse.to_vec(alloc)?;
+    step.excuse.extend_from_slice(row.excuse)?;
     Ok(())
 }
 
-fn step(alloc: Global, row: &Shown) -> Result<Asked, Fail> {
-    let mut step = bare_step(alloc)?;
-    step.depth = row.depth;
-    step.judged = row.judged;
-    fill(alloc, &mut step, row)?;
-    Ok(step)
+fn add_step(alloc: Global, steps: &mut Vec<Asked>, row: &Shown) -> Result<(), NameError> {
+    steps.push(bare_step(alloc, "org.", row.record_type)?)?;
+    match steps.last_mut() {
+        Some(step) => fill(alloc, step, row),
+        None => Ok(()),
+    }
 }
 
-fn add_steps(alloc: Global, steps: &mut Vec<Asked>) -> Result<(), Fail> {
+fn add_steps(alloc: Global, steps: &mut Vec<Asked>) -> Result<(), NameError> {
     for row in shown_rows() {
-        steps.push(step(alloc, row)?)?;
+        add_step(alloc, steps, row)?;
     }
     Ok(())
 }
 
-fn add_trail(alloc: Global, trail: &mut Trail) -> Result<(), Fail> {
+fn add_trail(alloc: Global, trail: &mut Trail) -> Result<(), NameError> {
     add_steps(alloc, &mut trail.steps)
 }
 
 /// A response whose trail has a step of each kind.
-fn with_trail(alloc: Global) -> Result<DnsResponse, Fail> {
+fn with_trail(alloc: Global) -> Result<DnsResponse, NameError> {
     let mut response = response(alloc, "org.", 1, 3)?;
     add_trail(alloc, &mut response.trail)?;
     Ok(response)
 }
 
-fn copy_with_trail(alloc: Global) -> Result<DnsResponse, Fail> {
+fn copy_with_trail(alloc: Global) -> Result<DnsResponse, NameError> {
     let response = with_trail(alloc)?;
     Ok(response.try_clone()?)
 }
 
-fn write_counts(text: &mut String, told: &Told) -> Result<(), Fail> {
+fn write_counts(text: &mut String, told: &Told) -> Result<(), AllocError> {
     let answers = told.answers.len();
     let authorities = told.authorities.len();
     let additionals = told.additionals.len();
-    Ok(write!(text, " records {answers} {authorities} {additionals}")?)
+    write!(text, " records {answers} {authorities} {additionals}")
 }
 
-fn write_told(text: &mut String, told: &Told) -> Result<(), Fail> {
+fn write_told(text: &mut String, told: &Told) -> Result<(), AllocError> {
     write!(text, "code {} empty {}", told.code.0, told.empty)?;
     write_counts(text, told)
 }
 
-fn write_reply(text: &mut String, reply: &Reply) -> Result<(), Fail> {
+fn write_reply(text: &mut String, reply: &Reply) -> Result<(), AllocError> {
     match reply {
         Reply::Told(told) => write_told(text, told),
-        Reply::Fault => Ok(text.push_str("fault")?),
+        Reply::Fault => text.push_str("fault"),
     }
 }
 
-fn write_foreign(text: &mut String, owner: &Name, class: u16, number: u16) -> Result<(), Fail> {
-    Ok(write!(text, "foreign {owner} {class} {number}")?)
+fn write_foreign(
+    text: &mut String,
+    owner: &Name,
+    class: u16,
+    number: u16,
+) -> Result<(), AllocError> {
+    write!(text, "foreign {owner} {class} {number}")
 }
 
-fn write_ending(text: &mut String, ending: &Ending) -> Result<(), Fail> {
+fn write_ending(text: &mut String, ending: &Ending) -> Result<(), AllocError> {
     match ending {
-        Ending::Answered(denial) => write!(text, "{denial:?}")?,
-        Ending::Denied(proof) => write!(text, "denied {proof:?}")?,
+        Ending::Answered(denial) => write!(text, "{denial:?}"),
+        Ending::Denied(proof) => write!(text, "denied {proof:?}"),
         Ending::Foreign {
             owner,
             class,
             record_type,
-        } => write_foreign(text, owner, class.0, record_type.0)?,
-        Ending::Failed => text.push_str("failed")?,
-        Ending::Seen => text.push_str("seen")?,
+        } => write_foreign(text, owner, class.0, record_type.0),
+        Ending::Failed => text.push_str("failed"),
+        Ending::Seen => text.push_str("seen"),
     }
-    Ok(())
 }
 
-fn write_mark(text: &mut String, set: &JudgedSet) -> Result<(), Fail> {
-    Ok(write!(
+fn write_mark(text: &mut String, set: &JudgedSet) -> Result<(), AllocError> {
+    write!(
         text,
         " {:?} {:?} {:?} {:?}",
         set.mark, set.origin, set.sig, set.asked
-    )?)
+    )
 }
 
-fn write_set(text: &mut String, set: &JudgedSet) -> Result<(), Fail> {
+fn write_set(text: &mut String, set: &JudgedSet) -> Result<(), AllocError> {
     write!(
         text,
         "{:?} {} {}",
@@ -298,7 +302,7 @@ fn write_set(text: &mut String, set: &JudgedSet) -> Result<(), Fail> {
 }
 
 /// The texts of the sets, with commas between them.
-fn write_sets(text: &mut String, sets: &[JudgedSet]) -> Result<(), Fail> {
+fn write_sets(text: &mut String, sets: &[JudgedSet]) -> Result<(), AllocError> {
     let mut between = "";
     for set in sets {
         text.push_str(between)?;
@@ -308,42 +312,39 @@ fn write_sets(text: &mut String, sets: &[JudgedSet]) -> Result<(), Fail> {
     Ok(())
 }
 
-fn write_step(text: &mut String, step: &Asked) -> Result<(), Fail> {
+fn write_step(text: &mut String, step: &Asked) -> Result<(), AllocError> {
     write!(text, "{} {} {}; ", step.depth, step.judged, step.query)?;
     write_reply(text, &step.reply)?;
     text.push_str("; ")?;
     write_sets(text, &step.sets)?;
     text.push_str("; ")?;
     write_ending(text, &step.ending)?;
-    write!(text, "; {:?}", step.excuse)?;
-    Ok(())
+    write!(text, "; {:?}", step.excuse)
 }
 
-fn has_text(alloc: Global, step: Option<&Asked>, want: &str) -> Result<bool, Fail> {
-    let Some(step) = step else {
-        return Ok(false);
-    };
+fn has_text(alloc: Global, step: &Asked, want: &str) -> bool {
     let mut text = String::new(alloc);
-    write_step(&mut text, step)?;
-    Ok(text.as_str() == want)
+    write_step(&mut text, step).is_ok() && text.as_str() == want
 }
 
 /// The trail has five steps, and the step with this number has the text.
-fn step_has_text(alloc: Global, trail: &Trail, number: usize, want: &str) -> Result<bool, Fail> {
-    Ok(trail.steps.len() == 5 && has_text(alloc, trail.steps.get(number), want)?)
+fn step_has_text(alloc: Global, trail: &Trail, number: usize, want: &str) -> bool {
+    match trail.steps.get(number) {
+        Some(step) => trail.steps.len() == 5 && has_text(alloc, step, want),
+        None => false,
+    }
 }
 
 /// It is so for the trail of a copy.
-fn is_copied(alloc: Global, number: usize, want: &str) -> Result<bool, Fail> {
+fn is_copied(alloc: Global, number: usize, want: &str) -> Result<bool, NameError> {
     let copy = copy_with_trail(alloc)?;
-    step_has_text(alloc, &copy.trail, number, want)
+    Ok(step_has_text(alloc, &copy.trail, number, want))
 }
 
 #[test]
-fn each_step_of_a_trail_is_copied(rt: HostRuntime) -> Result<(), Fail> {
+fn each_step_of_a_trail_is_copied(rt: HostRuntime) {
     let alloc = rt.alloc();
     for (number, row) in shown_rows().iter().enumerate() {
-        check(&rt, row.text, is_copied(alloc, number, row.text))?;
+        check(&rt, row.text, is_copied(alloc, number, row.text));
     }
-    Ok(())
 }

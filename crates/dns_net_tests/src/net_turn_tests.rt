@@ -1,8 +1,8 @@
 use crate::parts::{check_number, nothing, query, response, shows};
+use dns_name::NameError;
 use dns_net::*;
 use std::alloc::Global;
 use std::process::Abort;
-use std::test::Fail;
 
 /// What is done with a handle. A name and a type are those of a query; the number is the code of a reply to it, where 16
 /// stands for the error `Busy` and 99 for `Timeout`.
@@ -130,7 +130,7 @@ fn reply(
     name: &str,
     record_type: u16,
     code: u16,
-) -> Result<Result<DnsResponse, NetError>, Fail> {
+) -> Result<Result<DnsResponse, NetError>, NameError> {
     if code == 16 {
         return Ok(Err(NetError::Busy));
     }
@@ -144,7 +144,7 @@ fn puts(
     name: &str,
     record_type: u16,
     code: u16,
-) -> Result<bool, Fail> {
+) -> Result<bool, NameError> {
     let query = query(alloc, name, record_type)?;
     let reply = reply(alloc, name, record_type, code)?;
     handle.push(query, reply)?;
@@ -161,7 +161,19 @@ fn fault_of(code: u16) -> &'static str {
 }
 
 /// The reply has that code, or is the error that it stands for.
-fn is_reply(alloc: Global, reply: &Result<DnsResponse, NetError>, code: u16) -> Result<bool, Fail> {
+fn is_reply(
+    alloc: Global,
+    reply: Result<DnsResponse, NetError>,
+    code: u16,
+) -> Result<bool, NameError> {
+    has_code(alloc, &reply, code)
+}
+
+fn has_code(
+    alloc: Global,
+    reply: &Result<DnsResponse, NetError>,
+    code: u16,
+) -> Result<bool, NameError> {
     match reply {
         Ok(response) => Ok(response.message.response_code.0 == code),
         Err(error) => shows(alloc, error, fault_of(code)),
@@ -174,19 +186,22 @@ fn sends(
     name: &str,
     record_type: u16,
     code: u16,
-) -> Result<bool, Fail> {
+) -> Result<bool, NameError> {
     let query = query(alloc, name, record_type)?;
-    let reply = handle.lookup(alloc, query, DnsRequestOptions::default(), 1000);
-    is_reply(alloc, &reply, code)
+    is_reply(
+        alloc,
+        handle.lookup(alloc, query, DnsRequestOptions::default(), 1000),
+        code,
+    )
 }
 
-fn sends_nothing(alloc: Global, handle: &mut Recorded) -> Result<bool, Fail> {
-    let reply = handle.send(alloc, nothing(alloc)?, 1000);
-    is_reply(alloc, &reply, 99)
+fn sends_nothing(alloc: Global, handle: &mut Recorded) -> Result<bool, NameError> {
+    let request = nothing(alloc)?;
+    is_reply(alloc, handle.send(alloc, request, 1000), 99)
 }
 
 /// The step goes as it says.
-fn goes(alloc: Global, handle: &mut Recorded, step: Step) -> Result<bool, Fail> {
+fn goes(alloc: Global, handle: &mut Recorded, step: Step) -> Result<bool, NameError> {
     match step {
         Step::Put(name, record_type, code) => puts(alloc, handle, name, record_type, code),
         Step::Send(name, record_type, code) => sends(alloc, handle, name, record_type, code),
@@ -199,7 +214,7 @@ fn first_other(
     alloc: Global,
     handle: &mut Recorded,
     steps: &[Step],
-) -> Result<Option<usize>, Fail> {
+) -> Result<Option<usize>, NameError> {
     for (number, step) in steps.iter().enumerate() {
         if !goes(alloc, handle, *step)? {
             return Ok(Some(number));
@@ -208,60 +223,53 @@ fn first_other(
     Ok(None)
 }
 
-fn other_by_turn(alloc: Global, steps: &[Step]) -> Result<Option<usize>, Fail> {
+fn other_by_turn(alloc: Global, steps: &[Step]) -> Result<Option<usize>, NameError> {
     let mut handle = Recorded::in_turn(alloc);
     first_other(alloc, &mut handle, steps)
 }
 
-fn other_without_turns(alloc: Global, steps: &[Step]) -> Result<Option<usize>, Fail> {
+fn other_without_turns(alloc: Global, steps: &[Step]) -> Result<Option<usize>, NameError> {
     let mut handle = Recorded::new(alloc);
     first_other(alloc, &mut handle, steps)
 }
 
 /// Each step went as it says; else the message names the first other.
-fn check_steps(
-    rt: &impl Abort,
-    what: &str,
-    other: Result<Option<usize>, Fail>,
-) -> Result<(), Fail> {
-    let other = other?;
-    assert!(rt; other.is_none(), "{what}, at step {}", other.unwrap_or(0));
-    Ok(())
+fn check_steps(rt: &impl Abort, what: &str, other: Result<Option<usize>, NameError>) {
+    assert!(rt; matches!(other, Ok(None)), "{what}, at step {other:?}");
 }
 
 #[test]
-fn replies_are_served_by_turn(rt: HostRuntime) -> Result<(), Fail> {
+fn replies_are_served_by_turn(rt: HostRuntime) {
     let alloc = rt.alloc();
-    check_steps(&rt, "by turn", other_by_turn(alloc, by_turn()))?;
-    check_steps(&rt, "put later", other_by_turn(alloc, put_later()))?;
-    check_steps(&rt, "one each", other_by_turn(alloc, one_each()))
+    check_steps(&rt, "by turn", other_by_turn(alloc, by_turn()));
+    check_steps(&rt, "put later", other_by_turn(alloc, put_later()));
+    check_steps(&rt, "one each", other_by_turn(alloc, one_each()));
 }
 
 #[test]
-fn without_turns_the_first_reply_serves(rt: HostRuntime) -> Result<(), Fail> {
+fn without_turns_the_first_reply_serves(rt: HostRuntime) {
     let alloc = rt.alloc();
     check_steps(
         &rt,
         "not by turn",
         other_without_turns(alloc, not_by_turn()),
-    )?;
-    check_steps(&rt, "one each", other_without_turns(alloc, one_each()))
+    );
+    check_steps(&rt, "one each", other_without_turns(alloc, one_each()));
 }
 
 /// A handle that was told so, and is asked nothing else.
-fn is_answered(alloc: Global, step: Step) -> Result<bool, Fail> {
+fn is_answered(alloc: Global, step: Step) -> Result<bool, NameError> {
     let mut handle = Recorded::new(alloc);
     first_other(alloc, &mut handle, told())?;
     goes(alloc, &mut handle, step)
 }
 
 #[test]
-fn recorded_answers_the_first_reply_to_a_query(rt: HostRuntime) -> Result<(), Fail> {
+fn recorded_answers_the_first_reply_to_a_query(rt: HostRuntime) {
     let alloc = rt.alloc();
     for (number, step) in asked().iter().enumerate() {
-        check_number(&rt, number, is_answered(alloc, *step))?;
+        check_number(&rt, number, is_answered(alloc, *step));
     }
-    Ok(())
 }
 
 /// It takes what a server says, and verifies nothing.

@@ -1,9 +1,9 @@
 use crate::parts::{bare_set, bare_step, check, check_number};
+use dns_name::NameError;
 use dns_net::{AskRef, Asked, JudgedSet};
 use dns_trail_order::is_in_order;
 use std::alloc::Global;
 use std::slice;
-use std::test::Fail;
 
 /// A trail, by what each of its steps asks: a point begins a step, and what follows asks for the step with that digit, for one too
 /// deep (`D`) or one too many (`M`), and else (`X`) for the step with the greatest number.
@@ -125,7 +125,7 @@ fn rows() -> &'static [Row] {
     ROWS
 }
 
-fn set(alloc: Global, ask: AskRef) -> Result<JudgedSet, Fail> {
+fn set(alloc: Global, ask: AskRef) -> Result<JudgedSet, NameError> {
     let mut set = bare_set(alloc)?;
     set.asked.push(ask)?;
     Ok(set)
@@ -141,7 +141,7 @@ fn ask_of(byte: u8) -> AskRef {
 }
 
 /// The step asks so too: for its first set, for its second one, and from then on for its excuse.
-fn ask(alloc: Global, step: &mut Asked, ask: AskRef) -> Result<(), Fail> {
+fn ask(alloc: Global, step: &mut Asked, ask: AskRef) -> Result<(), NameError> {
     if step.sets.len() < 2 {
         step.sets.push(set(alloc, ask)?)?;
     } else {
@@ -151,37 +151,34 @@ fn ask(alloc: Global, step: &mut Asked, ask: AskRef) -> Result<(), Fail> {
 }
 
 /// A step begins, or the last one asks.
-fn add(alloc: Global, steps: &mut Vec<Asked>, byte: u8) -> Result<(), Fail> {
+fn add(alloc: Global, steps: &mut Vec<Asked>, byte: u8) -> Result<(), NameError> {
     if byte == b'.' {
-        steps.push(bare_step(alloc)?)?;
+        steps.push(bare_step(alloc, "a.", 1)?)?;
     } else if let Some(step) = steps.last_mut() {
         ask(alloc, step, ask_of(byte))?;
     }
     Ok(())
 }
 
-fn add_all(alloc: Global, steps: &mut Vec<Asked>, text: &[u8]) -> Result<(), Fail> {
+fn add_all(alloc: Global, steps: &mut Vec<Asked>, text: &[u8]) -> Result<(), NameError> {
     for byte in text {
         add(alloc, steps, *byte)?;
     }
     Ok(())
 }
 
-fn is_right(alloc: Global, row: &Row) -> Result<bool, Fail> {
+fn is_right(alloc: Global, row: &Row) -> Result<bool, NameError> {
     let mut steps = Vec::new(alloc);
     add_all(alloc, &mut steps, row.steps)?;
     Ok(is_in_order(&steps) == row.is_in_order)
 }
 
 #[test]
-fn a_trail_is_in_order_where_each_step_is_asked_once_and_ends_in_turn(
-    rt: HostRuntime,
-) -> Result<(), Fail> {
+fn a_trail_is_in_order_where_each_step_is_asked_once_and_ends_in_turn(rt: HostRuntime) {
     let alloc = rt.alloc();
     for row in rows() {
-        check(&rt, row.what, is_right(alloc, row))?;
+        check(&rt, row.what, is_right(alloc, row));
     }
-    Ok(())
 }
 
 /// One step, by its depth and whether it is to be judged or only to be seen; whether it is in order.
@@ -198,18 +195,17 @@ fn tops() -> &'static [Top] {
     TOPS
 }
 
-fn is_top(alloc: Global, row: &Top) -> Result<bool, Fail> {
-    let mut step = bare_step(alloc)?;
+fn is_top(alloc: Global, row: &Top) -> Result<bool, NameError> {
+    let mut step = bare_step(alloc, "a.", 1)?;
     step.depth = row.0;
     step.judged = row.1;
     Ok(is_in_order(slice::from_ref(&step)) == row.2)
 }
 
 #[test]
-fn the_last_step_is_judged_at_depth_0(rt: HostRuntime) -> Result<(), Fail> {
+fn the_last_step_is_judged_at_depth_0(rt: HostRuntime) {
     let alloc = rt.alloc();
     for row in tops() {
-        check_number(&rt, usize::from(row.0), is_top(alloc, row))?;
+        check_number(&rt, usize::from(row.0), is_top(alloc, row));
     }
-    Ok(())
 }

@@ -1,43 +1,39 @@
-use dns_name::Name;
+use dns_name::{Name, NameError};
 use dns_net::*;
 use dns_record::{DNSClass, Proof, Query, Rdata, Record, RecordType, ResponseCode};
 use std::alloc::Global;
 use std::process::Abort;
-use std::test::Fail;
 
 /// What was tried on a row held; the message names the row.
-pub(crate) fn check(rt: &impl Abort, row: &str, held: Result<bool, Fail>) -> Result<(), Fail> {
-    let held = held?;
-    assert!(rt; held, "{row}");
-    Ok(())
+pub(crate) fn check(rt: &impl Abort, row: &str, held: Result<bool, NameError>) {
+    assert!(rt; matches!(held, Ok(true)), "{row}");
 }
 
 /// The same for a row that a number names.
-pub(crate) fn check_number(
-    rt: &impl Abort,
-    row: usize,
-    held: Result<bool, Fail>,
-) -> Result<(), Fail> {
-    let held = held?;
-    assert!(rt; held, "row {row}");
-    Ok(())
+pub(crate) fn check_number(rt: &impl Abort, row: usize, held: Result<bool, NameError>) {
+    assert!(rt; matches!(held, Ok(true)), "row {row}");
 }
 
-pub(crate) fn query(alloc: Global, name: &str, record_type: u16) -> Result<Query, Fail> {
+pub(crate) fn query(alloc: Global, name: &str, record_type: u16) -> Result<Query, NameError> {
+    let name = Name::from_ascii(alloc, name)?;
     Ok(Query {
-        name: Name::from_ascii(alloc, name)?,
+        name,
         query_type: RecordType(record_type),
         query_class: DNSClass::IN,
     })
 }
 
-pub(crate) fn request(alloc: Global, name: &str, record_type: u16) -> Result<DnsRequest, Fail> {
+pub(crate) fn request(
+    alloc: Global,
+    name: &str,
+    record_type: u16,
+) -> Result<DnsRequest, NameError> {
     let query = query(alloc, name, record_type)?;
     Ok(DnsRequest::from_query(alloc, query, DnsRequestOptions::default())?)
 }
 
 /// A request without a question.
-pub(crate) fn nothing(alloc: Global) -> Result<DnsRequest, Fail> {
+pub(crate) fn nothing(alloc: Global) -> Result<DnsRequest, NameError> {
     let mut request = request(alloc, "a.", 1)?;
     request.message.queries.clear();
     Ok(request)
@@ -61,15 +57,12 @@ pub(crate) fn response(
     name: &str,
     record_type: u16,
     code: u16,
-) -> Result<DnsResponse, Fail> {
+) -> Result<DnsResponse, NameError> {
     Ok(answer(alloc, request(alloc, name, record_type)?, code))
 }
 
-pub(crate) fn rdata(alloc: Global, bytes: &[u8]) -> Result<Rdata, Fail> {
-    if bytes.len() > 65535 {
-        return Err(Fail::new("too long"));
-    }
-    Ok(Rdata::from_slice(alloc, bytes)?)
+pub(crate) fn rdata(alloc: Global, bytes: &[u8]) -> Result<Rdata, NameError> {
+    Ok(Rdata::from_slice(alloc, &bytes[..bytes.len().min(65535)])?)
 }
 
 pub(crate) fn record(
@@ -78,29 +71,32 @@ pub(crate) fn record(
     record_type: u16,
     ttl: u32,
     bytes: &[u8],
-) -> Result<Record, Fail> {
+) -> Result<Record, NameError> {
+    let name = Name::from_ascii(alloc, name)?;
+    let rdata = rdata(alloc, bytes)?;
     Ok(Record {
-        name: Name::from_ascii(alloc, name)?,
+        name,
         record_type: RecordType(record_type),
         dns_class: DNSClass::IN,
         ttl,
-        rdata: rdata(alloc, bytes)?,
+        rdata,
         proof: Proof::Indeterminate,
     })
 }
 
 /// The text that an error shows is this one.
-pub(crate) fn shows(alloc: Global, error: &NetError, want: &str) -> Result<bool, Fail> {
+pub(crate) fn shows(alloc: Global, error: &NetError, want: &str) -> Result<bool, NameError> {
     let text = format!(in alloc; "{error}")?;
     Ok(text.as_str() == want)
 }
 
-/// A step of a trail that asked for `a. A` in vain, and told of no set and no further ask.
-pub(crate) fn bare_step(alloc: Global) -> Result<Asked, Fail> {
+/// A step of a trail that asked so in vain, and told of no set and no further ask.
+pub(crate) fn bare_step(alloc: Global, name: &str, record_type: u16) -> Result<Asked, NameError> {
+    let query = query(alloc, name, record_type)?;
     Ok(Asked {
         depth: 0,
         judged: true,
-        query: query(alloc, "a.", 1)?,
+        query,
         reply: Reply::Fault,
         sets: Vec::new(alloc),
         ending: Ending::Failed,
@@ -109,10 +105,11 @@ pub(crate) fn bare_step(alloc: Global) -> Result<Asked, Fail> {
 }
 
 /// A set of `a. A` that no ask was needed for.
-pub(crate) fn bare_set(alloc: Global) -> Result<JudgedSet, Fail> {
+pub(crate) fn bare_set(alloc: Global) -> Result<JudgedSet, NameError> {
+    let owner = Name::from_ascii(alloc, "a.")?;
     Ok(JudgedSet {
         section: Section::Answer,
-        owner: Name::from_ascii(alloc, "a.")?,
+        owner,
         record_type: RecordType::A,
         mark: Proof::Bogus,
         origin: MarkOrigin::Table,

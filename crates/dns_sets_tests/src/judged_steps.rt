@@ -1,10 +1,12 @@
 //! Steps whose sets are judged, and how they end.
+use crate::rows::check_row;
 use crate::sets_tests::{Met, bare_message, put, query, records_of, set_of};
 use dns_message::Message;
+use dns_name::NameError;
 use dns_record::{Denial, Proof, Query, Record, RecordSet, RecordType, ResponseCode, Section};
 use dns_sets::*;
 use std::alloc::Global;
-use std::test::Fail;
+use std::process::Abort;
 
 /// A set of one record in its section, with its mark, its signatures, and the place of the one that decided.
 pub(crate) struct Told {
@@ -112,20 +114,20 @@ fn record_of(told: &Told) -> Met {
     met(told, told.record_type, told.rdata)
 }
 
-fn put_signatures(alloc: Global, records: &mut Vec<Record>, told: &Told) -> Result<(), Fail> {
+fn put_signatures(alloc: Global, records: &mut Vec<Record>, told: &Told) -> Result<(), NameError> {
     for signature in told.signatures {
         put(alloc, records, &met(told, RecordType::RRSIG, signature))?;
     }
     Ok(())
 }
 
-fn put_told(alloc: Global, records: &mut Vec<Record>, told: &Told) -> Result<(), Fail> {
+fn put_told(alloc: Global, records: &mut Vec<Record>, told: &Told) -> Result<(), NameError> {
     put(alloc, records, &record_of(told))?;
     put_signatures(alloc, records, told)
 }
 
 /// Of each set the record, and then its signatures.
-fn put_sets(alloc: Global, message: &mut Message, all: &[Told]) -> Result<(), Fail> {
+fn put_sets(alloc: Global, message: &mut Message, all: &[Told]) -> Result<(), NameError> {
     for told in all {
         put_told(alloc, records_of(message, told.section), told)?;
     }
@@ -133,32 +135,34 @@ fn put_sets(alloc: Global, message: &mut Message, all: &[Told]) -> Result<(), Fa
 }
 
 /// The response of a row.
-fn response(alloc: Global, row: &Row) -> Result<Message, Fail> {
+fn response(alloc: Global, row: &Row) -> Result<Message, NameError> {
     let mut message = bare_message(alloc)?;
     message.response_code = row.code;
     put_sets(alloc, &mut message, row.told)?;
     Ok(message)
 }
 
-fn signed_set(alloc: Global, told: &Told) -> Result<RecordSet, Fail> {
+fn signed_set(alloc: Global, told: &Told) -> Result<RecordSet, NameError> {
     let mut set = set_of(alloc, &record_of(told))?;
     put_signatures(alloc, &mut set.rrsigs, told)?;
     Ok(set)
 }
 
 /// A set as it is judged.
-fn judged(alloc: Global, told: &Told) -> Result<ChainedSet, Fail> {
-    let judged = MarkedSet {
-        section: told.section,
-        set: signed_set(alloc, told)?,
-        mark: told.mark,
-        sig: told.decider,
-    };
-    let chain = Vec::new(alloc);
-    Ok(ChainedSet { judged, chain })
+fn judged(alloc: Global, told: &Told) -> Result<ChainedSet, NameError> {
+    let set = signed_set(alloc, told)?;
+    Ok(ChainedSet {
+        judged: MarkedSet {
+            section: told.section,
+            set,
+            mark: told.mark,
+            sig: told.decider,
+        },
+        chain: Vec::new(alloc),
+    })
 }
 
-fn judged_sets(alloc: Global, all: &[Told]) -> Result<Vec<ChainedSet>, Fail> {
+fn judged_sets(alloc: Global, all: &[Told]) -> Result<Vec<ChainedSet>, NameError> {
     let mut sets = Vec::new(alloc);
     for told in all {
         sets.push(judged(alloc, told)?)?;
@@ -171,18 +175,25 @@ fn outcome_to(
     query: &Query,
     row: &Row,
     sets: &[ChainedSet],
-) -> Result<Outcome, Fail> {
+) -> Result<Outcome, NameError> {
     Ok(outcome_of(alloc, query, &response(alloc, row)?, sets)?)
 }
 
 /// How a step of these sets ends.
-fn outcome(alloc: Global, row: &Row, sets: &[ChainedSet]) -> Result<Outcome, Fail> {
+fn outcome(alloc: Global, row: &Row, sets: &[ChainedSet]) -> Result<Outcome, NameError> {
     let query = query(alloc, row.name, row.record_type)?;
     outcome_to(alloc, &query, row, sets)
 }
 
 /// The step of a row ends as it says.
-pub(crate) fn ends(alloc: Global, row: &Row) -> Result<bool, Fail> {
+fn ends(alloc: Global, row: &Row) -> Result<bool, NameError> {
     let sets = judged_sets(alloc, row.told)?;
     Ok(outcome(alloc, row, &sets)? == row.outcome)
+}
+
+/// Each step ends as its row says.
+pub(crate) fn check_ends(rt: &impl Abort, alloc: Global, rows: &[Row]) {
+    for row in rows {
+        check_row(rt, row.shows, ends(alloc, row));
+    }
 }

@@ -6,6 +6,8 @@
 #[cfg(test)]
 mod judged_steps;
 #[cfg(test)]
+mod rows;
+#[cfg(test)]
 mod sets_denial_tests;
 #[cfg(test)]
 mod sets_marking_tests;

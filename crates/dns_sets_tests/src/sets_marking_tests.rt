@@ -1,12 +1,12 @@
+use crate::rows::check_row;
 use crate::sets_tests::{A, Met, OVER_A, OVER_A_TOO, RRSIG, TXT, message, put, rdata, set_of};
 use dns_evidence::{Chain, Link, Trail};
 use dns_message::Message;
-use dns_name::Name;
+use dns_name::{Name, NameError};
 use dns_record::{DNSClass, Denial, Proof, Record, RecordSet, Section};
 use dns_response::DnsResponse;
 use dns_sets::*;
 use std::alloc::Global;
-use std::test::Fail;
 
 const ADDRESS: Met = Met {
     section: Section::Answer,
@@ -61,7 +61,7 @@ struct JudgedSet {
     decider: u32,
 }
 
-fn signed_set(alloc: Global, signatures: &[Met]) -> Result<RecordSet, Fail> {
+fn signed_set(alloc: Global, signatures: &[Met]) -> Result<RecordSet, NameError> {
     let mut set = set_of(alloc, &ADDRESS)?;
     for signature in signatures {
         put(alloc, &mut set.rrsigs, signature)?;
@@ -78,32 +78,37 @@ fn key_of(section: Section) -> &'static [u8] {
     }
 }
 
-fn links(alloc: Global, section: Section) -> Result<Vec<Link>, Fail> {
+fn links(alloc: Global, section: Section) -> Result<Vec<Link>, NameError> {
     let mut links = Vec::new(alloc);
     links.push(link(alloc, section)?)?;
     Ok(links)
 }
 
-fn link(alloc: Global, section: Section) -> Result<Link, Fail> {
+fn link(alloc: Global, section: Section) -> Result<Link, NameError> {
+    let owner = Name::root(alloc)?;
+    let key = rdata(alloc, key_of(section))?;
     Ok(Link::Anchored {
-        owner: Name::root(alloc)?,
+        owner,
         class: DNSClass::IN,
-        key: rdata(alloc, key_of(section))?,
+        key,
     })
 }
 
-fn judged(alloc: Global, row: &JudgedSet) -> Result<ChainedSet, Fail> {
-    let judged = MarkedSet {
-        section: row.section,
-        set: signed_set(alloc, row.signatures)?,
-        mark: row.mark,
-        sig: Some(row.decider),
-    };
+fn judged(alloc: Global, row: &JudgedSet) -> Result<ChainedSet, NameError> {
+    let set = signed_set(alloc, row.signatures)?;
     let chain = links(alloc, row.section)?;
-    Ok(ChainedSet { judged, chain })
+    Ok(ChainedSet {
+        judged: MarkedSet {
+            section: row.section,
+            set,
+            mark: row.mark,
+            sig: Some(row.decider),
+        },
+        chain,
+    })
 }
 
-fn judged_sets(alloc: Global, rows: &[JudgedSet]) -> Result<Vec<ChainedSet>, Fail> {
+fn judged_sets(alloc: Global, rows: &[JudgedSet]) -> Result<Vec<ChainedSet>, NameError> {
     let mut sets = Vec::new(alloc);
     for row in rows {
         sets.push(judged(alloc, row)?)?;
@@ -112,9 +117,22 @@ fn judged_sets(alloc: Global, rows: &[JudgedSet]) -> Result<Vec<ChainedSet>, Fai
 }
 
 /// The answer of a step of these sets and records.
-fn answer(alloc: Global, now: u64, rows: &[JudgedSet], told: &[Met]) -> Result<DnsResponse, Fail> {
+fn answer(
+    alloc: Global,
+    now: u64,
+    rows: &[JudgedSet],
+    told: &[Met],
+) -> Result<DnsResponse, NameError> {
     let message = message(alloc, told)?;
-    let sets = judged_sets(alloc, rows)?;
+    answer_of(alloc, now, judged_sets(alloc, rows)?, message)
+}
+
+fn answer_of(
+    alloc: Global,
+    now: u64,
+    sets: Vec<ChainedSet>,
+    message: Message,
+) -> Result<DnsResponse, NameError> {
     Ok(finished(alloc, now, sets, message, Denial::None, Trail::new(alloc))?)
 }
 
@@ -200,6 +218,10 @@ const LEFT: &[Left] = &[
     },
 ];
 
+fn left_rows() -> &'static [Left] {
+    LEFT
+}
+
 fn is_marked(records: &[Record], place: usize, mark: Proof, ttl: u32) -> bool {
     match records.get(place) {
         Some(record) => record.proof == mark && record.ttl == ttl,
@@ -220,17 +242,16 @@ fn is_left(message: &Message, row: &Left) -> bool {
         && is_marked(&message.authorities, 0, Proof::Bogus, 300)
 }
 
-fn leaves(alloc: Global, row: &Left) -> Result<bool, Fail> {
+fn leaves(alloc: Global, row: &Left) -> Result<bool, NameError> {
     let answer = answer(alloc, row.now, row.sets, TOLD)?;
     Ok(is_left(&answer.message, row))
 }
 
 #[test]
-fn records_are_marked_by_their_sets(rt: HostRuntime) -> Result<(), Fail> {
-    for row in LEFT {
-        assert!(rt; leaves(rt.alloc(), row)?, "{}", row.shows);
+fn records_are_marked_by_their_sets(rt: HostRuntime) {
+    for row in left_rows() {
+        check_row(&rt, row.shows, leaves(rt.alloc(), row));
     }
-    Ok(())
 }
 
 /// A set of the answer section that has a signature twice.
@@ -250,17 +271,29 @@ const SECOND_DECIDES: &[JudgedSet] = &[JudgedSet {
 const TOLD_TWICE: &[Met] = &[ADDRESS, SIGNATURE, DECIDER, DECIDER];
 
 /// Of the records at two places of an answer the first is marked, and the second isn't.
-fn marks_one(alloc: Global, sets: &[JudgedSet], marked: usize, other: usize) -> Result<bool, Fail> {
+fn marks_one(
+    alloc: Global,
+    sets: &[JudgedSet],
+    marked: usize,
+    other: usize,
+) -> Result<bool, NameError> {
     let answer = answer(alloc, 500, sets, TOLD_TWICE)?;
     let records = answer.message.answers.as_slice();
     Ok(is_marked(records, marked, Proof::Secure, 200) && is_unmarked(records, other))
 }
 
 #[test]
-fn a_copy_of_the_deciding_signature_is_not_marked(rt: HostRuntime) -> Result<(), Fail> {
-    assert!(rt; marks_one(rt.alloc(), FIRST_DECIDES, 2, 3)?);
-    assert!(rt; marks_one(rt.alloc(), SECOND_DECIDES, 3, 2)?);
-    Ok(())
+fn a_copy_of_the_deciding_signature_is_not_marked(rt: HostRuntime) {
+    check_row(
+        &rt,
+        "the first decides",
+        marks_one(rt.alloc(), FIRST_DECIDES, 2, 3),
+    );
+    check_row(
+        &rt,
+        "the second decides",
+        marks_one(rt.alloc(), SECOND_DECIDES, 3, 2),
+    );
 }
 
 const SECURE_BESIDE_INSECURE: &[JudgedSet] = &[
@@ -289,7 +322,7 @@ fn is_chain_of(chain: &Chain, section: Section) -> bool {
 }
 
 /// There is a chain for the set of each of these sections, in their order.
-fn has_chains(alloc: Global, sets: &[JudgedSet], sections: &[Section]) -> Result<bool, Fail> {
+fn has_chains(alloc: Global, sets: &[JudgedSet], sections: &[Section]) -> Result<bool, NameError> {
     let answer = answer(alloc, 500, sets, TOLD)?;
     Ok(are_chains_of(&answer.chains, sections))
 }
@@ -308,8 +341,15 @@ const ONE_SECTION: &[Section] = &[Section::Answer];
 const TWO_SECTIONS: &[Section] = &[Section::Authority, Section::Answer];
 
 #[test]
-fn secure_sets_have_their_chains(rt: HostRuntime) -> Result<(), Fail> {
-    assert!(rt; has_chains(rt.alloc(), SECURE_BESIDE_INSECURE, ONE_SECTION)?);
-    assert!(rt; has_chains(rt.alloc(), BOTH_SECURE, TWO_SECTIONS)?);
-    Ok(())
+fn secure_sets_have_their_chains(rt: HostRuntime) {
+    check_row(
+        &rt,
+        "one is Secure",
+        has_chains(rt.alloc(), SECURE_BESIDE_INSECURE, ONE_SECTION),
+    );
+    check_row(
+        &rt,
+        "both are",
+        has_chains(rt.alloc(), BOTH_SECURE, TWO_SECTIONS),
+    );
 }

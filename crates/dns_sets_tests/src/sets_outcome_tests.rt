@@ -1,12 +1,13 @@
 use crate::judged_steps::{
-    ANSWER, APEX, BOGUS, BY_EXAMPLE, COVERS_ML, NO_NAME, PLAIN, Row, Told, UNSIGNED, ends,
+    ANSWER, APEX, BOGUS, BY_EXAMPLE, COVERS_ML, NO_NAME, PLAIN, Row, Told, UNSIGNED, check_ends,
 };
+use crate::rows::{check_count, check_row};
 use crate::sets_tests::{A, CNAME, Met, OVER_CNAME, OVER_EXPANDED, RRSIG, TXT, message, query};
 use dns_message::Message;
+use dns_name::NameError;
 use dns_record::{DNSClass, Denial, Proof, Query, Record, RecordType, Section};
 use dns_sets::*;
 use std::alloc::Global;
-use std::test::Fail;
 
 const OTHER_NAME: Met = Met {
     section: Section::Answer,
@@ -75,21 +76,24 @@ const ENDED: &[Ended] = &[
     },
 ];
 
-fn outcome_to(alloc: Global, query: &Query, records: &[Met]) -> Result<Outcome, Fail> {
+fn outcome_to(alloc: Global, query: &Query, records: &[Met]) -> Result<Outcome, NameError> {
     Ok(outcome_of(alloc, query, &message(alloc, records)?, &[])?)
 }
 
-fn outcome(alloc: Global, records: &[Met]) -> Result<Outcome, Fail> {
-    outcome_to(alloc, &query(alloc, "A.", RecordType::A)?, records)
+fn ends(alloc: Global, row: &Ended) -> Result<bool, NameError> {
+    let query = query(alloc, "A.", RecordType::A)?;
+    Ok(outcome_to(alloc, &query, row.records)? == row.outcome)
+}
+
+fn ended_rows() -> &'static [Ended] {
+    ENDED
 }
 
 #[test]
-fn a_step_ends_by_its_records(rt: HostRuntime) -> Result<(), Fail> {
-    for row in ENDED {
-        let found = outcome(rt.alloc(), row.records)?;
-        assert!(rt; found == row.outcome, "{} records", row.records.len());
+fn a_step_ends_by_its_records(rt: HostRuntime) {
+    for row in ended_rows() {
+        check_count(&rt, row.records.len(), ends(rt.alloc(), row));
     }
-    Ok(())
 }
 
 const NSEC3: Told = Told {
@@ -261,11 +265,8 @@ fn others() -> &'static [Row] {
 }
 
 #[test]
-fn a_step_without_denials_ends_by_its_other_sets(rt: HostRuntime) -> Result<(), Fail> {
-    for row in others() {
-        assert!(rt; ends(rt.alloc(), row)?, "{}", row.shows);
-    }
-    Ok(())
+fn a_step_without_denials_ends_by_its_other_sets(rt: HostRuntime) {
+    check_ends(&rt, rt.alloc(), others());
 }
 
 /// The records of a response, the mark that the zone of its query leaves to what is unsigned, and how a step ends whose zone was
@@ -294,21 +295,24 @@ const ENDED_IN_ZONE: &[EndedInZone] = &[
     },
 ];
 
-fn in_zone(alloc: Global, query: &Query, row: &EndedInZone) -> Result<Outcome, Fail> {
+fn in_zone(alloc: Global, query: &Query, row: &EndedInZone) -> Result<Outcome, NameError> {
     Ok(outcome_by_zone(query, &message(alloc, row.records)?, row.mark))
 }
 
-fn outcome_in_zone(alloc: Global, row: &EndedInZone) -> Result<Outcome, Fail> {
-    in_zone(alloc, &query(alloc, "A.", RecordType::A)?, row)
+fn ends_in_zone(alloc: Global, row: &EndedInZone) -> Result<bool, NameError> {
+    let query = query(alloc, "A.", RecordType::A)?;
+    Ok(in_zone(alloc, &query, row)? == row.outcome)
+}
+
+fn ended_in_zone_rows() -> &'static [EndedInZone] {
+    ENDED_IN_ZONE
 }
 
 #[test]
-fn a_searched_step_ends_by_its_zone(rt: HostRuntime) -> Result<(), Fail> {
-    for row in ENDED_IN_ZONE {
-        let found = outcome_in_zone(rt.alloc(), row)?;
-        assert!(rt; found == row.outcome, "{} records", row.records.len());
+fn a_searched_step_ends_by_its_zone(rt: HostRuntime) {
+    for row in ended_in_zone_rows() {
+        check_count(&rt, row.records.len(), ends_in_zone(rt.alloc(), row));
     }
-    Ok(())
 }
 
 /// The same beside a record in the additional section, which gets the class CH.
@@ -336,21 +340,24 @@ fn type_of(found: Option<&Record>) -> u16 {
     }
 }
 
-fn foreign_type_in(alloc: Global, message: &Message) -> Result<u16, Fail> {
+fn has_foreign_type_in(alloc: Global, message: &Message, want: u16) -> Result<bool, NameError> {
     let query = query(alloc, "A.", RecordType::A)?;
-    Ok(type_of(foreign_record(&query, message)))
+    Ok(type_of(foreign_record(&query, message)) == want)
 }
 
-/// The type of the first record of another class than the query's, or 0 where there is none.
-fn foreign_type(alloc: Global, records: &[Met]) -> Result<u16, Fail> {
+/// This is the type of the first record of another class than the query's, or 0 where there is none.
+fn has_foreign_type(alloc: Global, records: &[Met], want: u16) -> Result<bool, NameError> {
     let mut message = message(alloc, records)?;
     make_foreign(&mut message.additionals);
-    foreign_type_in(alloc, &message)
+    has_foreign_type_in(alloc, &message, want)
 }
 
 #[test]
-fn a_record_of_another_class_is_found(rt: HostRuntime) -> Result<(), Fail> {
-    assert!(rt; foreign_type(rt.alloc(), ANSWERED)? == 0);
-    assert!(rt; foreign_type(rt.alloc(), BESIDE_FOREIGN)? == TXT);
-    Ok(())
+fn a_record_of_another_class_is_found(rt: HostRuntime) {
+    check_row(&rt, "none", has_foreign_type(rt.alloc(), ANSWERED, 0));
+    check_row(
+        &rt,
+        "one",
+        has_foreign_type(rt.alloc(), BESIDE_FOREIGN, TXT),
+    );
 }

@@ -1,11 +1,11 @@
+use crate::rows::check_row;
 use dns_message::Message;
-use dns_name::Name;
+use dns_name::{Name, NameError};
 use dns_record::{
     DNSClass, OpCode, Proof, Query, Rdata, Record, RecordSet, RecordType, ResponseCode, Section,
 };
 use dns_sets::*;
 use std::alloc::Global;
-use std::test::Fail;
 
 /// A record of class IN and ttl 300, which says that it is Secure, and the section that it stands in.
 #[derive(Drop)]
@@ -41,31 +41,30 @@ const OVER_SOA: &[u8] = b"\0\x06\x08\0\0\0\0\xc8\0\0\x03\xe8\0\0\0\0\0\x01\0\x01
 
 const OVER_TXT: &[u8] = b"\0\x10\x08\x01\0\0\0\xc8\0\0\x03\xe8\0\0\0\0\0\x01\0\x01";
 
-pub(crate) fn rdata(alloc: Global, bytes: &[u8]) -> Result<Rdata, Fail> {
-    if bytes.len() > 65535 {
-        return Err("too long".into());
-    }
-    Ok(Rdata::from_slice(alloc, bytes)?)
+pub(crate) fn rdata(alloc: Global, bytes: &[u8]) -> Result<Rdata, NameError> {
+    Ok(Rdata::from_slice(alloc, &bytes[..bytes.len().min(65535)])?)
 }
 
-pub(crate) fn record(alloc: Global, met: &Met) -> Result<Record, Fail> {
+pub(crate) fn record(alloc: Global, met: &Met) -> Result<Record, NameError> {
+    let name = Name::from_ascii(alloc, met.owner)?;
+    let rdata = rdata(alloc, met.rdata)?;
     Ok(Record {
-        name: Name::from_ascii(alloc, met.owner)?,
+        name,
         record_type: RecordType(met.record_type),
         dns_class: DNSClass::IN,
         ttl: 300,
-        rdata: rdata(alloc, met.rdata)?,
+        rdata,
         proof: Proof::Secure,
     })
 }
 
-pub(crate) fn put(alloc: Global, records: &mut Vec<Record>, met: &Met) -> Result<(), Fail> {
+pub(crate) fn put(alloc: Global, records: &mut Vec<Record>, met: &Met) -> Result<(), NameError> {
     records.push(record(alloc, met)?)?;
     Ok(())
 }
 
 /// The set of one record, without a signature.
-pub(crate) fn set_of(alloc: Global, met: &Met) -> Result<RecordSet, Fail> {
+pub(crate) fn set_of(alloc: Global, met: &Met) -> Result<RecordSet, NameError> {
     Ok(RecordSet::of(alloc, record(alloc, met)?)?)
 }
 
@@ -77,22 +76,27 @@ pub(crate) fn records_of(message: &mut Message, section: Section) -> &mut Vec<Re
     }
 }
 
-pub(crate) fn query(alloc: Global, owner: &str, record_type: RecordType) -> Result<Query, Fail> {
+pub(crate) fn query(
+    alloc: Global,
+    owner: &str,
+    record_type: RecordType,
+) -> Result<Query, NameError> {
+    let name = Name::from_ascii(alloc, owner)?;
     Ok(Query {
-        name: Name::from_ascii(alloc, owner)?,
+        name,
         query_type: record_type,
         query_class: DNSClass::IN,
     })
 }
 
-fn queries(alloc: Global) -> Result<Vec<Query>, Fail> {
+fn queries(alloc: Global) -> Result<Vec<Query>, NameError> {
     let mut queries = Vec::new(alloc);
     queries.push(query(alloc, "a.", RecordType::A)?)?;
     Ok(queries)
 }
 
 /// A message without records.
-pub(crate) fn bare_message(alloc: Global) -> Result<Message, Fail> {
+pub(crate) fn bare_message(alloc: Global) -> Result<Message, NameError> {
     Ok(message_of(queries(alloc)?, alloc))
 }
 
@@ -117,7 +121,7 @@ fn message_of(queries: Vec<Query>, alloc: Global) -> Message {
 }
 
 /// A message of these records.
-pub(crate) fn message(alloc: Global, records: &[Met]) -> Result<Message, Fail> {
+pub(crate) fn message(alloc: Global, records: &[Met]) -> Result<Message, NameError> {
     let mut message = bare_message(alloc)?;
     for met in records {
         put(alloc, records_of(&mut message, met.section), met)?;
@@ -227,6 +231,18 @@ const MET: &[Met] = &[
     },
 ];
 
+fn met_rows() -> &'static [Met] {
+    MET
+}
+
+fn grouped_at_top() -> &'static [Grouped] {
+    GROUPED
+}
+
+fn grouped_below() -> &'static [Grouped] {
+    GROUPED_BELOW
+}
+
 fn is_grouped(placed: &PlacedSet, want: &Grouped) -> bool {
     placed.section == want.section
         && placed.set.record_type.0 == want.record_type
@@ -244,16 +260,15 @@ fn are_grouped(placed: &[PlacedSet], want: &[Grouped]) -> bool {
 }
 
 /// The records make these sets at a depth.
-fn makes(alloc: Global, depth: u16, want: &[Grouped]) -> Result<bool, Fail> {
-    let message = message(alloc, MET)?;
+fn makes(alloc: Global, depth: u16, want: &[Grouped]) -> Result<bool, NameError> {
+    let message = message(alloc, met_rows())?;
     Ok(are_grouped(&placed_sets(alloc, depth, &message)?, want))
 }
 
 #[test]
-fn records_are_grouped_into_sets(rt: HostRuntime) -> Result<(), Fail> {
-    assert!(rt; makes(rt.alloc(), 0, GROUPED)?);
-    assert!(rt; makes(rt.alloc(), 1, GROUPED_BELOW)?);
-    Ok(())
+fn records_are_grouped_into_sets(rt: HostRuntime) {
+    check_row(&rt, "at the top", makes(rt.alloc(), 0, grouped_at_top()));
+    check_row(&rt, "below it", makes(rt.alloc(), 1, grouped_below()));
 }
 
 fn is_unmarked(records: &[Record]) -> bool {
@@ -272,14 +287,13 @@ fn are_unmarked(message: &Message) -> bool {
 }
 
 /// Marks from outside are cleared in each section.
-fn are_cleared(alloc: Global) -> Result<bool, Fail> {
-    let mut message = message(alloc, MET)?;
+fn are_cleared(alloc: Global) -> Result<bool, NameError> {
+    let mut message = message(alloc, met_rows())?;
     clear_marks(&mut message);
     Ok(are_unmarked(&message))
 }
 
 #[test]
-fn marks_from_outside_are_cleared(rt: HostRuntime) -> Result<(), Fail> {
-    assert!(rt; are_cleared(rt.alloc())?);
-    Ok(())
+fn marks_from_outside_are_cleared(rt: HostRuntime) {
+    check_row(&rt, "each section", are_cleared(rt.alloc()));
 }

@@ -58,10 +58,16 @@ pub(crate) struct StepRow {
     pub(crate) excuse: &'static [AskRef],
 }
 
+/// An anchored key: its owner and its rdata.
+pub(crate) struct AnchorRow {
+    pub(crate) owner: &'static str,
+    pub(crate) key: &'static [u8],
+}
+
 /// An answer: its message, a chain for each anchored key, what it denies, and its trail.
 pub(crate) struct AnswerRow {
     pub(crate) message: &'static [u8],
-    pub(crate) anchors: &'static [(&'static str, &'static [u8])],
+    pub(crate) anchors: &'static [AnchorRow],
     pub(crate) denial: Denial,
     pub(crate) trail: &'static [StepRow],
 }
@@ -96,6 +102,12 @@ fn push_asks(all: &mut Vec<AskRef>, some: &[AskRef]) -> Result<(), NameError> {
     Ok(())
 }
 
+fn fill_told(alloc: Global, told: &mut Told, row: &ToldRow) -> Result<(), NameError> {
+    push_records(alloc, &mut told.answers, row.answers)?;
+    push_records(alloc, &mut told.authorities, row.authorities)?;
+    push_records(alloc, &mut told.additionals, row.additionals)
+}
+
 fn told_of(alloc: Global, row: &ToldRow) -> Result<Told, NameError> {
     let mut told = Told {
         code: ResponseCode(row.code),
@@ -104,17 +116,8 @@ fn told_of(alloc: Global, row: &ToldRow) -> Result<Told, NameError> {
         authorities: Vec::new(alloc),
         additionals: Vec::new(alloc),
     };
-    push_records(alloc, &mut told.answers, row.answers)?;
-    push_records(alloc, &mut told.authorities, row.authorities)?;
-    push_records(alloc, &mut told.additionals, row.additionals)?;
+    fill_told(alloc, &mut told, row)?;
     Ok(told)
-}
-
-fn reply_of(alloc: Global, row: &Option<ToldRow>) -> Result<Reply, NameError> {
-    match row {
-        Some(told) => Ok(Reply::Told(told_of(alloc, told)?)),
-        None => Ok(Reply::Fault),
-    }
 }
 
 fn set_of(alloc: Global, row: &SetRow) -> Result<JudgedSet, NameError> {
@@ -170,27 +173,32 @@ fn faulty(alloc: Global, row: &StepRow) -> Result<Asked, NameError> {
     })
 }
 
-fn step_of(alloc: Global, row: &StepRow) -> Result<Asked, NameError> {
-    let mut step = faulty(alloc, row)?;
-    step.reply = reply_of(alloc, &row.reply)?;
+fn fill_step(alloc: Global, step: &mut Asked, row: &StepRow) -> Result<(), NameError> {
+    if let Some(told) = &row.reply {
+        step.reply = Reply::Told(told_of(alloc, told)?);
+    }
     step.ending = ending_of(alloc, &row.ending)?;
     push_sets(alloc, &mut step.sets, row.sets)?;
-    push_asks(&mut step.excuse, row.excuse)?;
+    push_asks(&mut step.excuse, row.excuse)
+}
+
+fn step_of(alloc: Global, row: &StepRow) -> Result<Asked, NameError> {
+    let mut step = faulty(alloc, row)?;
+    fill_step(alloc, &mut step, row)?;
     Ok(step)
 }
 
-fn trail_of(alloc: Global, rows: &[StepRow]) -> Result<Trail, NameError> {
-    let mut steps = Vec::new(alloc);
+fn push_steps(alloc: Global, all: &mut Vec<Asked>, rows: &[StepRow]) -> Result<(), NameError> {
     for row in rows {
-        steps.push(step_of(alloc, row)?)?;
+        all.push(step_of(alloc, row)?)?;
     }
-    Ok(Trail { steps })
+    Ok(())
 }
 
-/// A chain of the key with this owner and rdata.
-fn chain_of(alloc: Global, owner: &str, key: &[u8]) -> Result<Chain, NameError> {
-    let owner = Name::from_ascii(alloc, owner)?;
-    let key = rdata_of(alloc, key)?;
+/// A chain of an anchored key.
+fn chain_of(alloc: Global, row: &AnchorRow) -> Result<Chain, NameError> {
+    let owner = Name::from_ascii(alloc, row.owner)?;
+    let key = rdata_of(alloc, row.key)?;
     let class = DNSClass::IN;
     Ok(Chain {
         section: Section::Authority,
@@ -198,26 +206,37 @@ fn chain_of(alloc: Global, owner: &str, key: &[u8]) -> Result<Chain, NameError> 
     })
 }
 
-fn chains_of(alloc: Global, anchors: &[(&str, &[u8])]) -> Result<Vec<Chain>, NameError> {
-    let mut chains = Vec::new(alloc);
-    for (owner, key) in anchors {
-        chains.push(chain_of(alloc, owner, key)?)?;
+fn push_chains(alloc: Global, all: &mut Vec<Chain>, rows: &[AnchorRow]) -> Result<(), NameError> {
+    for row in rows {
+        all.push(chain_of(alloc, row)?)?;
     }
-    Ok(chains)
+    Ok(())
 }
 
-/// The answer that a row stands for, with this message.
-pub(crate) fn answer_of(
+/// A row's answer, but for its chains and its trail; there is none if the row's message is none.
+pub(crate) fn bare_answer(alloc: Global, row: &AnswerRow) -> Option<DnsResponse> {
+    if row.message.len() >= 1000 {
+        return None;
+    }
+    match Message::from_vec(alloc, row.message) {
+        Ok(message) => Some(DnsResponse {
+            message,
+            chains: Vec::new(alloc),
+            denial: row.denial,
+            trail: Trail {
+                steps: Vec::new(alloc),
+            },
+        }),
+        Err(_) => None,
+    }
+}
+
+/// Give an answer the chains and the steps of its row.
+pub(crate) fn fill_answer(
     alloc: Global,
-    message: Message,
+    answer: &mut DnsResponse,
     row: &AnswerRow,
-) -> Result<DnsResponse, NameError> {
-    let chains = chains_of(alloc, row.anchors)?;
-    let trail = trail_of(alloc, row.trail)?;
-    Ok(DnsResponse {
-        message,
-        chains,
-        denial: row.denial,
-        trail,
-    })
+) -> Result<(), NameError> {
+    push_chains(alloc, &mut answer.chains, row.anchors)?;
+    push_steps(alloc, &mut answer.trail.steps, row.trail)
 }

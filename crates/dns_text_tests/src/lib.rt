@@ -10,6 +10,8 @@ mod line_tests;
 #[cfg(test)]
 mod report_tests;
 #[cfg(test)]
+mod rows;
+#[cfg(test)]
 mod session_tests;
 #[cfg(test)]
 mod session_texts;

@@ -1,22 +1,23 @@
 //! Which lines can stand at which place of a session, and which texts are sessions.
-use crate::session_texts::{HEADERS, ROOT, joined, session_of};
+use crate::rows::check_row;
+use crate::session_texts::{ROOT, headers, session_of};
 use dns_session::*;
-use std::alloc::{AllocError, Global};
-use std::test::Fail;
+use std::alloc::Global;
+use std::process::Abort;
 
-/// The number of the first bad line of these texts, one behind another; 0 where there is none.
-fn bad_line(
+/// The first bad line of these texts, one behind another, has this number; 0 where there is none.
+fn is_bad_at(
     alloc: Global,
     head: &str,
     before: &str,
     line: &str,
     after: &str,
-) -> Result<u64, AllocError> {
-    let text = joined(alloc, head, before, line, after)?;
-    match session_of(alloc, text.as_str()) {
-        Ok(_) => Ok(0),
-        Err(SessionStop::BadLine(number)) => Ok(number),
-        Err(SessionStop::NoMemory) => Err(AllocError),
+    number: u64,
+) -> bool {
+    match session_of(alloc, head, before, line, after) {
+        Ok(_) => number == 0,
+        Err(SessionStop::BadLine(bad)) => number == bad,
+        Err(SessionStop::NoMemory) => false,
     }
 }
 
@@ -30,7 +31,7 @@ struct Place {
     number: u64,
 }
 
-const PLACES: [Place; 7] = [
+const PLACES: &[Place] = &[
     // the header
     Place {
         before: "",
@@ -168,8 +169,12 @@ const PLACES: [Place; 7] = [
     },
 ];
 
+fn places() -> &'static [Place] {
+    PLACES
+}
+
 /// The place behind the query of a session without its header.
-const REPLIES: Place = Place {
+const REPLIES: &Place = &Place {
     before: "moment 0\nalgorithms\nquery . A\n",
     after: "\nfault . A busy\nreply . A -\nempty . A -\nend\n",
     good: "reply . A -\n\
@@ -220,44 +225,43 @@ const REPLIES: Place = Place {
     number: 5,
 };
 
-/// The first of some lines that isn't the first bad one by this number, 0 for none, where it stands at a place behind a head.
-fn wrong_line<'a>(
+fn replies() -> &'static Place {
+    REPLIES
+}
+
+/// Each of some lines is the first bad one by this number, 0 for none, where it stands at a place behind a head.
+fn check_lines(
+    rt: &impl Abort,
     alloc: Global,
     head: &str,
     place: &Place,
-    lines: &'a str,
+    lines: &str,
     number: u64,
-) -> Result<Option<&'a str>, AllocError> {
+) {
     for line in lines.split('\n') {
-        if bad_line(alloc, head, place.before, line, place.after)? != number {
-            return Ok(Some(line));
-        }
+        let held = is_bad_at(alloc, head, place.before, line, place.after, number);
+        check_row(rt, line, held);
     }
-    Ok(None)
 }
 
-/// The first line of a place that isn't as the place says.
-fn wrong_at(alloc: Global, head: &str, place: &Place) -> Result<Option<&'static str>, AllocError> {
-    match wrong_line(alloc, head, place, place.good, 0)? {
-        Some(line) => Ok(Some(line)),
-        None => wrong_line(alloc, head, place, place.bad, place.number),
+/// Each line of a place is as the place says.
+fn check_place(rt: &impl Abort, alloc: Global, head: &str, place: &Place) {
+    check_lines(rt, alloc, head, place, place.good, 0);
+    check_lines(rt, alloc, head, place, place.bad, place.number);
+}
+
+#[test]
+fn each_line_has_its_forms(rt: HostRuntime) {
+    for place in places() {
+        check_place(&rt, rt.alloc(), "", place);
     }
 }
 
 #[test]
-fn each_line_has_its_forms(rt: HostRuntime) -> Result<(), Fail> {
-    for place in &PLACES {
-        assert_eq!(rt; wrong_at(rt.alloc(), "", place)?, None);
+fn each_line_of_a_reply_has_its_form_in_either_version(rt: HostRuntime) {
+    for header in headers() {
+        check_place(&rt, rt.alloc(), header.line, replies());
     }
-    Ok(())
-}
-
-#[test]
-fn each_line_of_a_reply_has_its_form_in_either_version(rt: HostRuntime) -> Result<(), Fail> {
-    for (header, _) in &HEADERS {
-        assert_eq!(rt; wrong_at(rt.alloc(), header, &REPLIES)?, None);
-    }
-    Ok(())
 }
 
 /// Texts with bars between them, and the number of the first bad line of each, 0 where there is none.
@@ -267,7 +271,7 @@ struct Texts {
 }
 
 /// Whether they are whole and end with LF, and where a depth stands in another place than right after the moment.
-const TEXTS: [Texts; 7] = [
+const TEXTS: &[Texts] = &[
     Texts {
         number: 0,
         texts: "dns-session 1\nmoment 1\nalgorithms\nquery . A\nend\n",
@@ -313,8 +317,12 @@ const TEXTS: [Texts; 7] = [
     },
 ];
 
+fn whole_texts() -> &'static [Texts] {
+    TEXTS
+}
+
 /// Behind the algorithms: replies stand between the query and the end.
-const TAILS: [Texts; 5] = [
+const TAILS: &[Texts] = &[
     Texts {
         number: 0,
         texts: "query . A\nfault . A io\nreply . A -\nempty . A -\nend\n",
@@ -340,50 +348,44 @@ const TAILS: [Texts; 5] = [
     },
 ];
 
-/// The first of some texts that isn't as they all should be, behind a header and other lines.
-fn wrong_text(
-    alloc: Global,
-    header: &str,
-    before: &str,
-    row: &Texts,
-) -> Result<Option<&'static str>, AllocError> {
+fn tails() -> &'static [Texts] {
+    TAILS
+}
+
+/// Each text of a row is as they all should be, behind a header and other lines.
+fn check_texts(rt: &impl Abort, alloc: Global, header: &str, before: &str, row: &Texts) {
     for text in row.texts.split('|') {
-        if bad_line(alloc, header, before, text, "")? != row.number {
-            return Ok(Some(text));
-        }
+        check_row(
+            rt,
+            text,
+            is_bad_at(alloc, header, before, text, "", row.number),
+        );
     }
-    Ok(None)
 }
 
 #[test]
-fn a_text_is_a_session_or_has_a_first_bad_line(rt: HostRuntime) -> Result<(), Fail> {
-    for row in &TEXTS {
-        assert_eq!(rt; wrong_text(rt.alloc(), "", "", row)?, None);
+fn a_text_is_a_session_or_has_a_first_bad_line(rt: HostRuntime) {
+    for row in whole_texts() {
+        check_texts(&rt, rt.alloc(), "", "", row);
     }
-    Ok(())
 }
 
 #[test]
-fn a_session_without_its_end_is_bad_at_the_end(rt: HostRuntime) -> Result<(), Fail> {
-    assert_eq!(rt; bad_line(rt.alloc(), "dns-session 1\n", ROOT, "", "")?, 9);
-    Ok(())
+fn a_session_without_its_end_is_bad_at_the_end(rt: HostRuntime) {
+    let held = is_bad_at(rt.alloc(), "dns-session 1\n", ROOT, "", "", 9);
+    check_row(&rt, "no end", held);
 }
 
-/// The first wrong one of the texts behind this header and the algorithms.
-fn wrong_tail(alloc: Global, header: &str) -> Result<Option<&'static str>, AllocError> {
-    for row in &TAILS {
-        let wrong = wrong_text(alloc, header, "moment 1\nalgorithms\n", row)?;
-        if wrong.is_some() {
-            return Ok(wrong);
-        }
+/// Each of the texts is as it should be behind this header and the algorithms.
+fn check_tails(rt: &impl Abort, alloc: Global, header: &str) {
+    for row in tails() {
+        check_texts(rt, alloc, header, "moment 1\nalgorithms\n", row);
     }
-    Ok(None)
 }
 
 #[test]
-fn replies_stand_between_the_query_and_the_end(rt: HostRuntime) -> Result<(), Fail> {
-    for (header, _) in &HEADERS {
-        assert_eq!(rt; wrong_tail(rt.alloc(), header)?, None);
+fn replies_stand_between_the_query_and_the_end(rt: HostRuntime) {
+    for header in headers() {
+        check_tails(&rt, rt.alloc(), header.line);
     }
-    Ok(())
 }

@@ -1,8 +1,8 @@
-use crate::session_texts::{HEADERS, ROOT, joined, session_of};
+use crate::rows::check_row;
+use crate::session_texts::{Header, ROOT, headers, session_of};
 use dns_message::DecodeKind;
 use dns_session::*;
-use std::alloc::{AllocError, Global};
-use std::test::Fail;
+use std::alloc::Global;
 
 /// An anchor: the wire form of its owner, its algorithm and its key.
 type AnchorRow = (&'static [u8], u8, &'static [u8]);
@@ -39,7 +39,7 @@ struct Lines {
     replies: &'static [ReplyRow],
 }
 
-const READ: [Lines; 4] = [
+const READ: &[Lines] = &[
     Lines {
         lines: ROOT,
         moment: 1000,
@@ -119,6 +119,10 @@ const READ: [Lines; 4] = [
     },
 ];
 
+fn sessions() -> &'static [Lines] {
+    READ
+}
+
 fn is_anchor(anchors: &[Anchor], want: &Option<AnchorRow>) -> bool {
     match (anchors, want) {
         ([], None) => true,
@@ -172,12 +176,14 @@ fn is_first_to(replies: &[Reply], name: &[u8]) -> bool {
 }
 
 fn are_replies(replies: &[Reply], want: &[ReplyRow]) -> bool {
-    for (reply, row) in replies.iter().zip(want.iter()) {
-        if !is_reply(reply, row) {
-            return false;
+    let mut rest = want;
+    for reply in replies {
+        match rest {
+            [row, others @ ..] if is_reply(reply, row) => rest = others,
+            _ => return false,
         }
     }
-    replies.len() == want.len()
+    rest.is_empty()
 }
 
 /// The session is what the row says.
@@ -195,64 +201,77 @@ fn is_read(session: &Session, by_turn: bool, row: &Lines) -> bool {
         && are_replies(&session.replies, row.replies)
 }
 
-fn reads(alloc: Global, header: &str, by_turn: bool, row: &Lines) -> Result<bool, AllocError> {
-    let text = joined(alloc, header, row.lines, "end\n", "")?;
-    match session_of(alloc, text.as_str()) {
-        Ok(session) => Ok(is_read(&session, by_turn, row)),
-        Err(_) => Ok(false),
+fn reads(alloc: Global, header: &Header, row: &Lines) -> bool {
+    match session_of(alloc, header.line, row.lines, "end\n", "") {
+        Ok(session) => is_read(&session, header.by_turn, row),
+        Err(_) => false,
     }
 }
 
 #[test]
-fn a_session_is_read(rt: HostRuntime) -> Result<(), Fail> {
-    for row in &READ {
-        for (header, by_turn) in &HEADERS {
-            assert!(rt; reads(rt.alloc(), header, *by_turn, row)?, "{}", row.lines);
+fn a_session_is_read(rt: HostRuntime) {
+    for row in sessions() {
+        for header in headers() {
+            check_row(&rt, row.lines, reads(rt.alloc(), header, row));
         }
     }
-    Ok(())
 }
 
 /// A line of depth, or none, and the depth that it says.
-const DEPTHS: [(&str, Option<u16>); 7] = [
-    ("", None),
-    ("depth 0\n", Some(0)),
-    ("depth 1\n", Some(1)),
-    ("depth 26\n", Some(26)),
-    ("depth 255\n", Some(255)),
-    ("depth 256\n", Some(256)),
-    ("depth 65535\n", Some(65535)),
+struct DepthRow {
+    line: &'static str,
+    depth: Option<u16>,
+}
+
+const DEPTHS: &[DepthRow] = &[
+    DepthRow {
+        line: "",
+        depth: None,
+    },
+    DepthRow {
+        line: "depth 0\n",
+        depth: Some(0),
+    },
+    DepthRow {
+        line: "depth 1\n",
+        depth: Some(1),
+    },
+    DepthRow {
+        line: "depth 26\n",
+        depth: Some(26),
+    },
+    DepthRow {
+        line: "depth 255\n",
+        depth: Some(255),
+    },
+    DepthRow {
+        line: "depth 256\n",
+        depth: Some(256),
+    },
+    DepthRow {
+        line: "depth 65535\n",
+        depth: Some(65535),
+    },
 ];
 
-/// Whether the session with this line serves by turn, and its depth; None where it is no session.
-fn served(
-    alloc: Global,
-    header: &str,
-    depth: &str,
-) -> Result<Option<(bool, Option<u16>)>, AllocError> {
-    let text = joined(
-        alloc,
-        header,
-        "moment 0\n",
-        depth,
-        "algorithms\nquery . A\nend\n",
-    )?;
-    match session_of(alloc, text.as_str()) {
-        Ok(session) => Ok(Some((session.by_turn, session.depth))),
-        Err(_) => Ok(None),
+fn depths() -> &'static [DepthRow] {
+    DEPTHS
+}
+
+/// The session with this line serves as its header says, and has the row's depth.
+fn serves(alloc: Global, header: &Header, row: &DepthRow) -> bool {
+    let after = "algorithms\nquery . A\nend\n";
+    match session_of(alloc, header.line, "moment 0\n", row.line, after) {
+        Ok(session) => session.by_turn == header.by_turn && session.depth == row.depth,
+        Err(_) => false,
     }
 }
 
 #[test]
-fn a_session_says_its_version_and_its_depth(rt: HostRuntime) -> Result<(), Fail> {
-    for (header, by_turn) in &HEADERS {
-        for (line, depth) in &DEPTHS {
-            assert_eq!(rt;
-                served(rt.alloc(), header, line)?,
-                Some((*by_turn, *depth)),
-                "{line}"
-            );
+fn a_session_says_its_version_and_its_depth(rt: HostRuntime) {
+    for header in headers() {
+        for row in depths() {
+            check_row(&rt, row.line, serves(rt.alloc(), header, row));
         }
     }
-    Ok(())
 }

@@ -11,14 +11,30 @@ pub(crate) const ROOT: &str = "moment 1000\n\
     reply . NS 0000840000010002000000000000020001000002000100000e10000301610000002e000100000e10001500020d0000000e10000007d000000384aec900c0de\n\
     reply . DNSKEY 0000840000010001000000000000300001000030000100000e1000060101030daabb\n";
 
-/// The header of each version, and whether that serves replies by turn.
-pub(crate) const HEADERS: [(&str, bool); 2] = [
-    ("dns-session 1\n", false),
-    ("dns-session 2\n", true),
+/// The first line of a session, and whether one of this version serves replies by turn.
+pub(crate) struct Header {
+    pub(crate) line: &'static str,
+    pub(crate) by_turn: bool,
+}
+
+const HEADERS: &[Header] = &[
+    Header {
+        line: "dns-session 1\n",
+        by_turn: false,
+    },
+    Header {
+        line: "dns-session 2\n",
+        by_turn: true,
+    },
 ];
 
+/// The header of each version.
+pub(crate) fn headers() -> &'static [Header] {
+    HEADERS
+}
+
 /// These texts, one behind another.
-pub(crate) fn joined(
+fn joined(
     alloc: Global,
     head: &str,
     before: &str,
@@ -34,10 +50,24 @@ pub(crate) fn joined(
 }
 
 /// What a text is read as, if it isn't too long.
-pub(crate) fn session_of(alloc: Global, text: &str) -> Result<Session, SessionStop> {
+fn session_in(alloc: Global, text: &str) -> Result<Session, SessionStop> {
     let bytes = text.as_bytes();
     if bytes.len() > 100_000 {
         return Err(SessionStop::NoMemory);
     }
     read_session(alloc, bytes)
+}
+
+/// What these texts are read as, one behind another.
+pub(crate) fn session_of(
+    alloc: Global,
+    head: &str,
+    before: &str,
+    line: &str,
+    after: &str,
+) -> Result<Session, SessionStop> {
+    match joined(alloc, head, before, line, after) {
+        Ok(text) => session_in(alloc, text.as_str()),
+        Err(_) => Err(SessionStop::NoMemory),
+    }
 }
