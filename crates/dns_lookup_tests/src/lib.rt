@@ -1,11 +1,22 @@
-//! Tests of lookups: what a lookup and a whole request send and refuse, and the trail that a lookup leaves.
+//! Tests of lookups: what a lookup and a whole request send and refuse, and the trail that a lookup leaves; and of the texts beside
+//! them, sessions and reports.
 #![tactic(auto)]
 
 #[cfg(test)]
+mod answer_rows;
+#[cfg(test)]
+mod line_tests;
+#[cfg(test)]
 mod lookup_tests;
+#[cfg(test)]
+mod report_tests;
 #[cfg(test)]
 mod request_tests;
 #[cfg(test)]
 mod rows;
+#[cfg(test)]
+mod session_tests;
+#[cfg(test)]
+mod session_texts;
 #[cfg(test)]
 mod trail_tests;

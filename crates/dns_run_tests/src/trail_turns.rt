@@ -109,13 +109,21 @@ fn turn_one(alloc: Global, step: &mut Asked, turn: &StepTurn) -> Result<(), Allo
         StepTurn::QueryType(rtype) => step.query.query_type = *rtype,
         StepTurn::Fault => step.reply = Reply::Fault,
         StepTurn::Class | StepTurn::Ttl | StepTurn::RecordType => turn_reply(&mut step.reply, turn),
-        StepTurn::Answered(denial) => step.ending = Ending::Answered(*denial),
-        StepTurn::Denied(proof) => step.ending = Ending::Denied(*proof),
-        StepTurn::Failed => step.ending = Ending::Failed,
-        StepTurn::Seen => step.ending = Ending::Seen,
+        StepTurn::Answered(_) | StepTurn::Denied(_) | StepTurn::Failed | StepTurn::Seen => {
+            turn_ending(&mut step.ending, turn)
+        }
         StepTurn::Excuse(asks) => step.excuse = asks.to_vec(alloc)?,
     }
     Ok(())
+}
+
+fn turn_ending(ending: &mut Ending, turn: &StepTurn) {
+    *ending = match turn {
+        StepTurn::Answered(denial) => Ending::Answered(*denial),
+        StepTurn::Denied(proof) => Ending::Denied(*proof),
+        StepTurn::Failed => Ending::Failed,
+        _ => Ending::Seen,
+    };
 }
 
 fn turn_entries(

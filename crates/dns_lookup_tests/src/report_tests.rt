@@ -1,7 +1,7 @@
 use crate::answer_rows::{
     AnchorRow, AnswerRow, EndingRow, RecordRow, SetRow, StepRow, ToldRow, bare_answer, fill_answer,
 };
-use crate::rows::check_row;
+use crate::rows::check_held;
 use dns_net::{AskRef, DnsResponse, MarkOrigin, NetError};
 use dns_record::{DNSClass, Denial, Proof, RecordType, Section};
 use dns_report::*;
@@ -349,10 +349,10 @@ fn reports(alloc: Global, row: &Reported) -> bool {
 #[test]
 fn an_answer_is_printed_line_by_line(rt: HostRuntime) {
     for row in report_rows() {
-        check_row(&rt, row.text, reports(rt.alloc(), row));
+        check_held(&rt, row.text, reports(rt.alloc(), row));
     }
     let other = other_lines();
-    check_row(&rt, other.text, reports(rt.alloc(), other));
+    check_held(&rt, other.text, reports(rt.alloc(), other));
 }
 
 /// The line of an error is the text.
@@ -366,7 +366,7 @@ fn tells(alloc: Global, error: &NetError, text: &str) -> bool {
 #[test]
 fn a_fault_has_one_line(rt: HostRuntime) {
     let timeout = tells(rt.alloc(), &NetError::Timeout, "fault timeout\n");
-    check_row(&rt, "timeout", timeout);
+    check_held(&rt, "timeout", timeout);
     let no_memory = tells(rt.alloc(), &NetError::NoMemory, "");
-    check_row(&rt, "no memory", no_memory);
+    check_held(&rt, "no memory", no_memory);
 }

@@ -1,5 +1,5 @@
 //! Which lines can stand at which place of a session, and which texts are sessions.
-use crate::rows::check_row;
+use crate::rows::check_held;
 use crate::session_texts::{ROOT, headers, session_of};
 use dns_session::*;
 use std::alloc::Global;
@@ -240,7 +240,7 @@ fn check_lines(
 ) {
     for line in lines.split('\n') {
         let held = is_bad_at(alloc, head, place.before, line, place.after, number);
-        check_row(rt, line, held);
+        check_held(rt, line, held);
     }
 }
 
@@ -355,7 +355,7 @@ fn tails() -> &'static [Texts] {
 /// Each text of a row is as they all should be, behind a header and other lines.
 fn check_texts(rt: &impl Abort, alloc: Global, header: &str, before: &str, row: &Texts) {
     for text in row.texts.split('|') {
-        check_row(
+        check_held(
             rt,
             text,
             is_bad_at(alloc, header, before, text, "", row.number),
@@ -373,7 +373,7 @@ fn a_text_is_a_session_or_has_a_first_bad_line(rt: HostRuntime) {
 #[test]
 fn a_session_without_its_end_is_bad_at_the_end(rt: HostRuntime) {
     let held = is_bad_at(rt.alloc(), "dns-session 1\n", ROOT, "", "", 9);
-    check_row(&rt, "no end", held);
+    check_held(&rt, "no end", held);
 }
 
 /// Each of the texts is as it should be behind this header and the algorithms.

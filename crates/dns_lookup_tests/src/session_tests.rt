@@ -1,4 +1,4 @@
-use crate::rows::check_row;
+use crate::rows::check_held;
 use crate::session_texts::{Header, ROOT, headers, session_of};
 use dns_message::DecodeKind;
 use dns_session::*;
@@ -212,7 +212,7 @@ fn reads(alloc: Global, header: &Header, row: &Lines) -> bool {
 fn a_session_is_read(rt: HostRuntime) {
     for row in sessions() {
         for header in headers() {
-            check_row(&rt, row.lines, reads(rt.alloc(), header, row));
+            check_held(&rt, row.lines, reads(rt.alloc(), header, row));
         }
     }
 }
@@ -271,7 +271,7 @@ fn serves(alloc: Global, header: &Header, row: &DepthRow) -> bool {
 fn a_session_says_its_version_and_its_depth(rt: HostRuntime) {
     for header in headers() {
         for row in depths() {
-            check_row(&rt, row.line, serves(rt.alloc(), header, row));
+            check_held(&rt, row.line, serves(rt.alloc(), header, row));
         }
     }
 }
