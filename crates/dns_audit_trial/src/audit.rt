@@ -156,7 +156,10 @@ fn denied_response(error: NetError) -> Option<DnsResponse>
                 proof: _,
             },
         ) => Some(Box::into_inner(response)),
-        _ => None,
+        other => {
+            drop(other);
+            None
+        }
     }
 }
 
@@ -169,6 +172,7 @@ pub(crate) fn response_to(alloc: Global, session: Session) -> Result<Option<DnsR
         Ok(response) => Ok(Some(response)),
         Err(error) => {
             if is_no_memory(&error) {
+                drop(error);
                 return Err(NoMemory);
             }
             Ok(denied_response(error))

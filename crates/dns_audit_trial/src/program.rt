@@ -43,8 +43,9 @@ fn session_text(
 {
     match response_to(alloc, session)? {
         Some(response) => {
-            let audited = session_audited(alloc, same, &response, more)?;
-            audit_text(alloc, Some(audited))
+            let audited = session_audited(alloc, same, &response, more);
+            drop(response);
+            audit_text(alloc, Some(audited?))
         }
         None => audit_text(alloc, None),
     }

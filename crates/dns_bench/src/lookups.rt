@@ -54,7 +54,9 @@ fn count_one(
         (inner_of handle.old) (inner_of handle.new) counts after) }
 {
     let reply = look_up(alloc, handle, query, options, now);
-    with_reply(counts, &reply)
+    let counts = with_reply(counts, &reply);
+    drop(reply);
+    counts
 }
 
 // The counts, with what came of a lookup.
@@ -121,12 +123,8 @@ pub(crate) fn count_lookups(
     let anchors = session_anchors(alloc, anchors)?;
     let upstream = session_upstream(alloc, by_turn, replies)?;
     let mut handle = DnssecDnsHandle::new(upstream, anchors, verifier)?;
-    count_all(
-        alloc,
-        &mut handle,
-        &query,
-        session_options(depth),
-        moment,
-        times,
-    )
+    let options = session_options(depth);
+    let counts = count_all(alloc, &mut handle, &query, options, moment, times);
+    drop(handle);
+    counts
 }

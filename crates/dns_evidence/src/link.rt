@@ -115,9 +115,9 @@ fn clone_key_set(
 ) -> Result<Link, NoMemory>
     ensures { IfOk result (λ l. link_value l ≡ key_set owner.now class.0 keys.now.items links.now.items) }
 {
-    let owner = owner.try_clone()?;
-    let keys = clone_rdatas(keys)?;
     let links = links.clone()?;
+    let keys = clone_rdatas(keys)?;
+    let owner = owner.try_clone()?;
     Ok(Link::KeySet {
         owner,
         class,
@@ -138,8 +138,8 @@ fn clone_signed(
 ) -> Result<Link, NoMemory>
     ensures { IfOk result (λ l. link_value l ≡ signed owner.now class.0 record_type.0 rdatas.now.items sig.now key_link key.now) }
 {
-    let owner = owner.try_clone()?;
     let rdatas = clone_rdatas(rdatas)?;
+    let owner = owner.try_clone()?;
     let sig = sig.try_clone()?;
     let key = key.try_clone()?;
     Ok(Link::Signed {

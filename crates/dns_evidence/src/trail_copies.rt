@@ -42,11 +42,11 @@ impl Asked {
     pub fn try_clone(&self) -> Result<Asked, NoMemory>
         ensures { IfOk result (λ a. a ≡ self.now) }
     {
-        let query = self.query.try_clone()?;
-        let reply = self.reply.try_clone()?;
-        let sets = clone_sets(&self.sets)?;
-        let ending = self.ending.try_clone()?;
         let excuse = self.excuse.clone()?;
+        let sets = clone_sets(&self.sets)?;
+        let query = self.query.try_clone()?;
+        let ending = self.ending.try_clone()?;
+        let reply = self.reply.try_clone()?;
         Ok(Asked {
             depth: self.depth,
             judged: self.judged,
@@ -97,8 +97,8 @@ impl JudgedSet {
     pub fn try_clone(&self) -> Result<JudgedSet, NoMemory>
         ensures { IfOk result (λ s. s ≡ self.now) }
     {
-        let owner = self.owner.try_clone()?;
         let asked = self.asked.clone()?;
+        let owner = self.owner.try_clone()?;
         Ok(JudgedSet {
             section: self.section,
             owner,

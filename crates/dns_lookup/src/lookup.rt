@@ -7,7 +7,6 @@ ghost use Rattle.dns_net.specs.Handles.{OrUnsent};
 ghost use Rattle.dns_net.specs.Replies.{reply_of, error_of};
 ghost use Rattle.dns_net.specs.Requests.{first_question};
 ghost use Rattle.dns_evidence.specs.Trail.{ending_value};
-ghost use Rattle.dns_outcome.specs.Outcome.{outcome_value};
 ghost use Rattle.dns_lookup.specs.Answering.{call_by, findings_of, judged_answer, top_of, trail_of as steps_with_top, AnswersLookup};
 ghost use Rattle.dns_lookup.specs.Calls.{Requesting};
 ghost use Rattle.dns_lookup.specs.AskRequests.{asking_request};

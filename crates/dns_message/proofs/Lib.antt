@@ -3,6 +3,7 @@ pub mod NameReading
 pub mod PointerReading
 pub mod RdataReading
 pub mod RecordReading
+pub mod HeaderReading
 pub mod Writing
 pub mod Standing
 pub mod NameWriting

@@ -11,6 +11,7 @@ use crate::name_reader::name_of;
 use crate::number_reader::u16_of;
 use crate::pointers::pointer_ends_of;
 use crate::section_reader::section_of;
+use dns_rdata::u16_at;
 use dns_record::{DNSClass, OpCode, Query, Record, RecordType, ResponseCode};
 use std::alloc::Global;
 
@@ -25,25 +26,26 @@ pub(crate) struct Header {
     pub additionals: u16,
 }
 
-#[tactic(auto, unfolding(crate::specs::MessageAt::header_at))]
+/// How many bytes a header has (RFC 1035, 4.1.1).
+const HEADER: usize = 12;
+
+#[tactic(auto, using(crate::proofs::HeaderReading::header_short, crate::proofs::HeaderReading::header_whole))]
 fn header_of(bytes: &[u8]) -> Result<Header, DecodeError>
     requires short { length bytes.now < 2 ^ 32 }
     ensures reads { Reads header_value result (header_at bytes.now) }
     ensures fits { IfOk result (λ h. 12 ≤ length bytes.now) }
 {
-    let (id, next) = u16_of(bytes, 0)?;
-    let (flags, next) = u16_of(bytes, next)?;
-    let (questions, next) = u16_of(bytes, next)?;
-    let (answers, next) = u16_of(bytes, next)?;
-    let (authorities, next) = u16_of(bytes, next)?;
-    let (additionals, _next) = u16_of(bytes, next)?;
+    if bytes.len() < HEADER {
+        // The place of the first number that isn't whole.
+        return Err(fault(DecodeKind::Short, bytes.len() / 2 * 2));
+    }
     Ok(Header {
-        id,
-        flags,
-        questions,
-        answers,
-        authorities,
-        additionals,
+        id: u16_at(bytes, 0),
+        flags: u16_at(bytes, 2),
+        questions: u16_at(bytes, 4),
+        answers: u16_at(bytes, 6),
+        authorities: u16_at(bytes, 8),
+        additionals: u16_at(bytes, 10),
     })
 }
 
@@ -148,8 +150,8 @@ impl Message {
         let header = header_of(bytes)?;
         let pointer_ends = pointer_ends_of(alloc, bytes)?;
         let pointer_ends = pointer_ends.as_slice();
-        let (queries, next) = questions_of(alloc, header.questions, bytes, pointer_ends, 12)?;
-        let (answers, _none, next) = section_of(
+        let (queries, next) = questions_of(alloc, header.questions, bytes, pointer_ends, HEADER)?;
+        let (answers, _, next) = section_of(
             alloc,
             header.answers,
             false,
@@ -157,7 +159,7 @@ impl Message {
             pointer_ends,
             next,
         )?;
-        let (authorities, _none, next) = section_of(
+        let (authorities, _, next) = section_of(
             alloc,
             header.authorities,
             false,

@@ -1,5 +1,6 @@
 ghost use Rattle.std.specs.Prelude.{◌≡◌, ◌+◌, ◌<◌, ◌≤◌, ◌^◌, ◌++◌, length, false, OnOk, IfOk};
 ghost use Rattle.std.specs.List.{flat_map};
+ghost use Rattle.dns_model.specs.Bytes.{u16_bytes, u32_bytes};
 ghost use Rattle.dns_model.specs.Gives.{Gives};
 ghost use Rattle.dns_message.specs.declared.encode_error.EncodeError.TheVariants as errors;
 ghost use Rattle.dns_message.specs.WrittenAs.{flag_bit, question_bytes, record_bytes, opt_ttl, opt_bytes, edns_bytes, flags_of, header_bytes, edns_count, has_long_options, has_many, encoded, empty_query, IsReadAgain};
@@ -29,17 +30,39 @@ fn push_question(out: &mut Vec<u8>, query: &Query) -> Result<(), NoMemory>
     push_u16(out, query.query_class.0)
 }
 
-fn push_record(out: &mut Vec<u8>, record: &Record) -> Result<(), NoMemory>
-    ensures { OnOk result (out.new.items ≡ out.old.items ++ record_bytes record.now) }
+/// Appends a record of these parts (RFC 1035, 4.1.3).
+fn push_parts(
+    out: &mut Vec<u8>,
+    owner: &[u8],
+    record_type: u16,
+    class: u16,
+    ttl: u32,
+    rdata: &[u8],
+) -> Result<(), NoMemory>
+    requires { length rdata.now ≤ 65535 }
+    ensures { OnOk result (out.new.items ≡ out.old.items
+        ++ (owner.now ++ u16_bytes record_type ++ u16_bytes class ++ u32_bytes ttl ++ u16_bytes (length rdata.now) ++ rdata.now)) }
 {
-    out.extend_from_slice(record.name.wire())?;
-    push_u16(out, record.record_type.0)?;
-    push_u16(out, record.dns_class.0)?;
-    push_u32(out, record.ttl)?;
-    let rdata = record.rdata.as_slice();
+    out.extend_from_slice(owner)?;
+    push_u16(out, record_type)?;
+    push_u16(out, class)?;
+    push_u32(out, ttl)?;
     push_u16(out, rdata.len() as u16)?;
     out.extend_from_slice(rdata)?;
     Ok(())
+}
+
+fn push_record(out: &mut Vec<u8>, record: &Record) -> Result<(), NoMemory>
+    ensures { OnOk result (out.new.items ≡ out.old.items ++ record_bytes record.now) }
+{
+    push_parts(
+        out,
+        record.name.wire(),
+        record.record_type.0,
+        record.dns_class.0,
+        record.ttl,
+        record.rdata.as_slice(),
+    )
 }
 
 fn push_questions(out: &mut Vec<u8>, queries: &[Query]) -> Result<(), NoMemory>
@@ -73,14 +96,14 @@ fn push_opt(out: &mut Vec<u8>, code: u16, edns: &Edns) -> Result<(), NoMemory>
     requires { length edns.now.options ≤ 65535 }
     ensures { OnOk result (out.new.items ≡ out.old.items ++ opt_bytes code edns.now) }
 {
-    let options = edns.options.as_slice();
-    out.extend_from_slice(&[0])?;
-    push_u16(out, 41)?;
-    push_u16(out, edns.max_payload)?;
-    push_u32(out, opt_ttl(code, edns))?;
-    push_u16(out, options.len() as u16)?;
-    out.extend_from_slice(options)?;
-    Ok(())
+    push_parts(
+        out,
+        &[0],
+        41,
+        edns.max_payload,
+        opt_ttl(code, edns),
+        edns.options.as_slice(),
+    )
 }
 
 #[tactic(auto, unfolding(crate::specs::WrittenAs::has_many))]

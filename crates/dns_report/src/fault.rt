@@ -1,16 +1,16 @@
 //! The line of an error.
-ghost use Rattle.std.specs.Prelude.{◌≡◌, ◌++◌, ◌∷◌, [], OnOk, IfOk};
+ghost use Rattle.std.specs.Prelude.{◌≡◌, ◌++◌, ◌∷◌, [], codes, OnOk, IfOk};
+ghost use Rattle.dns_model.specs.NameText.{printed};
+ghost use Rattle.dns_record.specs.Words.{type_word, class_word};
 ghost use Rattle.dns_net.specs.Replies.{dns_error_of, error_of};
-ghost use Rattle.dns_report.specs.LineWords.{line_rest};
 ghost use Rattle.dns_report.specs.Faults.{io_word, decode_word, proto_words, dns_words, fault_text, fault_line};
 
-use crate::words::{
-    end_line, push_class_word, push_mark, push_name, push_number, push_text, push_type_word,
-    push_word,
-};
+use crate::marks::mark_word;
+use crate::words::{end_line, push_front, push_number, push_text, push_type_word, push_word};
 use dns_message::DecodeKind;
-use dns_name::NoMemory;
+use dns_name::{Name, NoMemory};
 use dns_net::{DnsError, IoKind, NetError, ProtoError};
+use dns_record::{DNSClass, RecordType};
 use std::alloc::Global;
 
 /// The name of a kind of fault outside.
@@ -48,57 +48,54 @@ fn decode_word(kind: DecodeKind) -> &'static [u8]
     }
 }
 
-/// Appends what is wrong with bytes, and ends the line.
+/// Appends the line on what is wrong with bytes.
 fn push_proto(into: &mut Vec<u8>, error: ProtoError) -> Result<(), NoMemory>
-    ensures { OnOk result (into.new.items ≡ into.old.items ++ line_rest (proto_words error)) }
+    ensures { OnOk result (into.new.items ≡ into.old.items ++ fault_line (codes "proto" ∷ proto_words error)) }
 {
     match error {
         ProtoError::Decode(error) => {
+            push_text(into, b"fault proto")?;
             push_word(into, decode_word(error.kind))?;
             push_number(into, u64::from(error.offset))?;
             end_line(into)
         }
-        ProtoError::TooLong => {
-            push_word(into, b"TooLong")?;
-            end_line(into)
-        }
+        ProtoError::TooLong => push_double(into, b"proto", b"TooLong"),
     }
 }
 
-/// Appends two words, and ends the line.
-fn push_pair(into: &mut Vec<u8>, first: &[u8], second: &[u8]) -> Result<(), NoMemory>
-    ensures { OnOk result (into.new.items ≡ into.old.items ++ line_rest (first.now ∷ second.now ∷ [])) }
-{
-    push_word(into, first)?;
-    push_word(into, second)?;
-    end_line(into)
-}
-
-/// Appends what DNS answered, and ends the line.
+/// Appends the line on what DNS answered.
 fn push_dns(into: &mut Vec<u8>, error: &DnsError) -> Result<(), NoMemory>
-    ensures { OnOk result (into.new.items ≡ into.old.items ++ line_rest (dns_words (dns_error_of error.now))) }
+    ensures { OnOk result (into.new.items ≡ into.old.items ++ fault_line (dns_words (dns_error_of error.now))) }
 {
     match error {
         DnsError::ResponseCode(code) => {
-            push_word(into, b"code")?;
+            push_text(into, b"fault code")?;
             push_number(into, u64::from(code.0))?;
             end_line(into)
         }
-        DnsError::NoRecordsFound(_) => push_pair(into, b"message", b"no records found"),
+        DnsError::NoRecordsFound(_) => push_double(into, b"message", b"no records found"),
         DnsError::Nsec {
             query: _,
             response: _,
             proof,
-        } => {
-            push_word(into, b"nsec")?;
-            push_mark(into, *proof)?;
-            end_line(into)
-        }
-        DnsError::DnssecBogus => {
-            push_word(into, b"bogus")?;
-            end_line(into)
-        }
+        } => push_double(into, b"nsec", mark_word(*proof)),
+        DnsError::DnssecBogus => push_single(into, b"bogus"),
     }
+}
+
+/// Appends the line on a record of another class.
+fn push_foreign(
+    into: &mut Vec<u8>,
+    owner: &Name,
+    class: DNSClass,
+    record_type: RecordType,
+) -> Result<(), NoMemory>
+    ensures { OnOk result (into.new.items ≡ into.old.items
+        ++ fault_line (codes "class" ∷ printed owner.now ∷ class_word class.0 ∷ type_word record_type.0 ∷ [])) }
+{
+    push_front(into, b"fault class", owner, class)?;
+    push_type_word(into, record_type)?;
+    end_line(into)
 }
 
 /// Appends a line of one fixed word.
@@ -115,7 +112,9 @@ fn push_double(into: &mut Vec<u8>, first: &[u8], second: &[u8]) -> Result<(), No
     ensures { OnOk result (into.new.items ≡ into.old.items ++ fault_line (first.now ∷ second.now ∷ [])) }
 {
     push_text(into, b"fault")?;
-    push_pair(into, first, second)
+    push_word(into, first)?;
+    push_word(into, second)?;
+    end_line(into)
 }
 
 /// Appends the line of an error.
@@ -124,17 +123,11 @@ fn push_fault(into: &mut Vec<u8>, error: &NetError) -> Result<(), NoMemory>
 {
     match error {
         NetError::Busy => push_single(into, b"busy"),
-        NetError::Dns(error) => {
-            push_text(into, b"fault")?;
-            push_dns(into, error)
-        }
+        NetError::Dns(error) => push_dns(into, error),
         NetError::Message(notice) => push_double(into, b"message", notice.text().as_bytes()),
         NetError::Msg(text) => push_double(into, b"message", text.as_bytes()),
         NetError::NoConnections => push_single(into, b"no-connections"),
-        NetError::Proto(error) => {
-            push_text(into, b"fault proto")?;
-            push_proto(into, *error)
-        }
+        NetError::Proto(error) => push_proto(into, *error),
         NetError::Io(kind) => push_double(into, b"io", io_word(*kind)),
         NetError::Timeout => push_single(into, b"timeout"),
         NetError::QueryCaseMismatch => push_single(into, b"case"),
@@ -142,13 +135,7 @@ fn push_fault(into: &mut Vec<u8>, error: &NetError) -> Result<(), NoMemory>
             record_name,
             record_class,
             record_type,
-        } => {
-            push_text(into, b"fault class")?;
-            push_name(into, record_name)?;
-            push_class_word(into, *record_class)?;
-            push_type_word(into, *record_type)?;
-            end_line(into)
-        }
+        } => push_foreign(into, record_name, *record_class, *record_type),
         NetError::Truncated => push_single(into, b"truncated"),
         NetError::NoMemory => Ok(()),
     }

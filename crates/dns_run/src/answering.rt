@@ -36,7 +36,9 @@ pub fn session_answer(alloc: Global, session: Session) -> Result<DnsResponse, Ne
     let anchors = session_anchors(alloc, anchors)?;
     let upstream = session_upstream(alloc, by_turn, replies)?;
     let mut handle = DnssecDnsHandle::new(upstream, anchors, verifier)?;
-    handle.lookup(alloc, query, session_options(depth), moment)
+    let answer = handle.lookup(alloc, query, session_options(depth), moment);
+    drop(handle);
+    answer
 }
 
 /// Options that ask for nothing but the depth that a session says, or the default one where it says none.

@@ -1,13 +1,16 @@
 //! What bytes that were read come to, before anything is written.
 ghost use Rattle.std.specs.Prelude.{◌≡◌, ◌++◌, ◌<◌, ◌^◌, ◌↔◌, length, IfOk, IsTrue};
 ghost use Rattle.dns_net.specs.Errors as seen;
-ghost use Rattle.dns_net.specs.Replies.{error_of};
+ghost use Rattle.dns_net.specs.Replies.{error_of, reply_of};
+ghost use Rattle.dns_lookup.specs.LookupAnswers.{UnlessNoMemory};
+ghost use Rattle.dns_session.specs.SessionValue.{SessionValue};
+ghost use Rattle.dns_run.specs.Causes.{AnswersSession};
 ghost use Rattle.dns_run.specs.Forms.{bad_line_text};
 ghost use Rattle.dns_run.specs.Endings.{IsOutcome, IsAnswered};
 
 use crate::answering::session_answer;
 use dns_name::NoMemory;
-use dns_net::NetError;
+use dns_net::{DnsResponse, NetError};
 use dns_report::{Parts, write_fault, write_report};
 use dns_session::{Session, SessionStop, read_session};
 use dns_words::push_decimal;
@@ -38,16 +41,31 @@ fn bad_line(alloc: Global, number: u64) -> Result<Vec<u8>, NoMemory>
 fn answered(alloc: Global, shows: Parts, session: Session) -> Result<(Ending, Vec<u8>), NoMemory>
     ensures { IfOk result (λ x. IsAnswered shows session x.0 x.1.items) }
 {
-    match session_answer(alloc, session) {
+    let reply = session_answer(alloc, session);
+    let ending = reply_ending(alloc, shows, &reply);
+    drop(reply);
+    ending
+}
+
+/// The report of an answer, or the line of a fault.
+fn reply_ending(
+    alloc: Global,
+    shows: Parts,
+    reply: &Result<DnsResponse, NetError>,
+) -> Result<(Ending, Vec<u8>), NoMemory>
+    ensures { (s : SessionValue) → UnlessNoMemory reply.now (AnswersSession s (reply_of reply.now))
+        → IfOk result (λ x. IsAnswered shows s x.0 x.1.items) }
+{
+    match reply {
         Ok(answer) => {
-            let text = write_report(alloc, &answer, shows)?;
+            let text = write_report(alloc, answer, shows)?;
             Ok((Ending::Report, text))
         }
         Err(error) => {
-            if is_no_memory(&error) {
+            if is_no_memory(error) {
                 return Err(NoMemory);
             }
-            let text = write_fault(alloc, &error)?;
+            let text = write_fault(alloc, error)?;
             Ok((Ending::Fault, text))
         }
     }

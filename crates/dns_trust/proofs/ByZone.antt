@@ -44,11 +44,22 @@ insecure_if : (zone : Labels) (b : Bool)
 insecure_if zone true = refl
 insecure_if zone false = refl
 
+or_regrouped : (a b c d : Bool) → ((a || b) || (c || d)) ≡ ((a || c) || (b || d))
+or_regrouped true b c d = refl
+or_regrouped false true true d = refl
+or_regrouped false true false d = refl
+or_regrouped false false c d = refl
+
+any_either : (p q : Chained → Bool) (answer : List Chained) → list_any (λ c. p c || q c) answer ≡ (list_any p answer || list_any q answer)
+any_either p q [] = refl
+any_either p q (c ∷ cs) = ap (λ b. (p c || q c) || b) (any_either p q cs) ∙ or_regrouped (p c) (q c) (list_any p cs) (list_any q cs)
+
 pub mark_without : (zone : Labels) (answer : List Chained) (b : Bool)
-    → b ≡ (list_any (λ c. shows_no_ds zone c.judged) answer || list_any (λ c. is_insecure_above zone c.judged) answer)
+    → b ≡ list_any (λ c. shows_no_ds zone c.judged || is_insecure_above zone c.judged) answer
     → (if b then proof.Insecure else proof.Bogus) ≡ (unsigned_mark (verdict_without_ds zone (bare answer))).mark
 mark_without zone answer b is =
     ap (λ x. if x then proof.Insecure else proof.Bogus)
-    (is ∙ ap (λ x. x || list_any (λ c. is_insecure_above zone c.judged) answer) (any_bare (shows_no_ds zone) answer)
+    (is ∙ any_either (λ c. shows_no_ds zone c.judged) (λ c. is_insecure_above zone c.judged) answer
+    ∙ ap (λ x. x || list_any (λ c. is_insecure_above zone c.judged) answer) (any_bare (shows_no_ds zone) answer)
     ∙ ap (λ x. list_any (shows_no_ds zone) (bare answer) || x) (any_bare (is_insecure_above zone) answer))
     ∙ insecure_if zone (list_any (shows_no_ds zone) (bare answer) || list_any (is_insecure_above zone) (bare answer))

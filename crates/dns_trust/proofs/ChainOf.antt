@@ -1,7 +1,8 @@
 -- The chain of the first verdict that proves a set, and the numbers of keys.
-use Rattle.std.proofs.Common.{◌≡◌, ℕ, ◌+◌, ◌<◌, List, [], ◌∷◌, ◌++◌, length, drop, refl, sym, ap, ◌∙◌, arith, append_assoc}
-use Rattle.std.proofs.lemmas.List.{drop_more, map-append}
-use Rattle.std.specs.Prelude.{map}
+use Rattle.std.proofs.Common.{◌≡◌, ℕ, ◌+◌, ◌<◌, List, [], ◌∷◌, ◌++◌, length, drop, take, refl, sym, ap, ◌∙◌, arith, append_assoc}
+use Rattle.std.proofs.lemmas.List.{drop_more, map-append, map_more}
+use Rattle.std.specs.Prelude.{map, slice_index_or}
+use Rattle.dns_model.specs.Records.{Rr}
 use Rattle.dns_model.specs.Chains.{LinkValue}
 use Rattle.dns_judgement.specs.Chained.{ChainedVerdict, chain_if_proved, proved_chain, numbers_from}
 
@@ -18,6 +19,19 @@ pub chain_else-append : (vs : List ChainedVerdict) (v : ChainedVerdict) (chain :
     → chain_else (vs ++ v ∷ []) chain ≡ chain_else vs (chain_else (v ∷ []) chain)
 chain_else-append [] v chain = refl
 chain_else-append (w ∷ vs) v chain = ap (chain_if_proved w.verdict w.chain) (chain_else-append vs v chain)
+
+-- one link more, behind a front
+pub links_more : {L : Type 0} (value : L → LinkValue) (link_of : Rr → LinkValue) (front : List LinkValue) (links more : List L) (keys all : List Rr) (i : ℕ) (link : L) (key : Rr)
+    → keys ≡ all → i < length keys → key ≡ slice_index_or keys i key → value link ≡ link_of key → more ≡ links ++ link ∷ []
+    → map value links ≡ front ++ map link_of (take i all)
+    → map value more ≡ front ++ map link_of (take (i + 1) all)
+links_more value link_of front links more keys all i link key same h at is pushed before =
+    ap (map value) pushed ∙ map-append value links (link ∷ [])
+    ∙ ap (λ vs. vs ++ value link ∷ []) (before ∙ ap (λ ks. front ++ map link_of (take i ks)) (sym same))
+    ∙ append_assoc front (map link_of (take i keys)) (value link ∷ [])
+    ∙ ap (λ v. front ++ (map link_of (take i keys) ++ v ∷ [])) (is ∙ ap link_of at)
+    ∙ ap (λ vs. front ++ vs) (sym (map_more link_of keys i key h))
+    ∙ ap (λ ks. front ++ map link_of (take (i + 1) ks)) same
 
 -- one number more
 pub numbers_more : (done : List ℕ) (keys : List (List ℕ)) (first i : ℕ) → i < length keys

@@ -1,7 +1,8 @@
 ghost use Rattle.std.specs.Prelude.{◌≡◌, ◌+◌, ◌-◌, ◌++◌, IfOk, [], length, map};
+ghost use Rattle.std.specs.Option.{option_copied, option_map_or};
 ghost use Rattle.dns_model.specs.Chains.{KeySet, Signed, rdatas_of as rdatas_in};
 ghost use Rattle.dns_evidence.specs.Link.{link_value};
-ghost use Rattle.dns_judgement.specs.Chained.{numbers_from, signed_chain as signed_chain_of, self_signed_chain as self_signed_chain_of, whole_chain, anchored_link as anchored_link_of, matched_link as matched_link_of, matched_by, trusted_link as trusted_link_of};
+ghost use Rattle.dns_judgement.specs.Chained.{numbers_from, signed_chain as signed_chain_of, self_signed_chain as self_signed_chain_of, whole_chain, anchored_link as anchored_link_of, matched_link as matched_link_of, trusted_link as trusted_link_of};
 ghost use Rattle.dns_anchors.specs.Judge.{judge_of};
 ghost use Rattle.dns_trust.specs.Signers.{signed_value};
 
@@ -23,9 +24,7 @@ pub(crate) fn signed_chain(
     ensures { IfOk result (λ v. map link_value v.items ≡
         signed_chain_of set.now sig.now (map link_value chain.now.items) key.now) }
 {
-    let Ok(key_link) = u32::try_from(chain.len().saturating_sub(1)) else {
-        return Err(NoMemory);
-    };
+    let key_link = last_number(chain)?;
     let mut links = clone_links(chain)?;
     let link = signed_link(alloc, set, sig, key_link, key)?;
     links.push(link)?;
@@ -43,11 +42,9 @@ pub(crate) fn self_signed_chain(
     ensures { IfOk result (λ v. map link_value v.items ≡
         self_signed_chain_of set.now (map link_value front.items) (link_value link) (signed_value by.now)) }
 {
-    let Ok(key_link) = u32::try_from(front.len()) else {
-        return Err(NoMemory);
-    };
     let mut links = front;
     links.push(link)?;
+    let key_link = last_number(&links)?;
     let signed = signed_link(alloc, set, by.signature, key_link, by.key)?;
     links.push(signed)?;
     Ok(links)
@@ -139,21 +136,21 @@ fn trusted_link<V: Verifier>(
     if is_anchored(judge, set, key) {
         return anchored_link(set, key);
     }
-    matched_link(judge, set, ds_link, ds, key)
+    let found = ds.matching(judge.verifier, key);
+    link_by_found(set, ds_link, key, found)
 }
 
-// The link by which a key of a set is trusted that a DS matches; without one it is the link of an anchored key.
-pub(crate) fn matched_link<V: Verifier>(
-    judge: &Judge<'_, V>,
+// The link of a key of a set by the DS that was found to match it; without one it is the link of an anchored key.
+pub(crate) fn link_by_found(
     set: &RecordSet,
     ds_link: u32,
-    ds: &DsIndex<'_>,
     key: &Record,
+    found: Option<&Record>,
 ) -> Result<Link, NoMemory>
-    requires { ds.now.owner ≡ set.now.owner }
-    ensures { IfOk result (λ l. link_value l ≡ matched_by (judge_of V.answers judge.now) set.now ds_link ds.now.records key.now) }
+    ensures { IfOk result (λ l. link_value l ≡
+        option_map_or (matched_link_of set.now ds_link key.now) (option_copied found.entry) (anchored_link_of set.now key.now)) }
 {
-    match ds.matching(judge.verifier, key) {
+    match found {
         Some(record) => link_by_ds(set, ds_link, key, record),
         None => anchored_link(set, key),
     }

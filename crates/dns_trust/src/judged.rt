@@ -52,13 +52,13 @@ fn place_of_excuse(verdicts: &[Verdict]) -> Result<Option<u32>, NoMemory>
 fn first_proof(verdicts: &[Verdict]) -> Option<usize>
     ensures { result ≡ position (λ v. is_proved (verdict_value v).verdict) verdicts.now }
 {
-    verdicts.iter().position(|verdict| verdict.is_proved())
+    verdicts.iter().position(Verdict::is_proved)
 }
 
 fn first_excuse(verdicts: &[Verdict]) -> Option<usize>
     ensures { result ≡ position (λ v. is_excused (verdict_value v).verdict) verdicts.now }
 {
-    verdicts.iter().position(|verdict| verdict.is_excused())
+    verdicts.iter().position(Verdict::is_excused)
 }
 
 // A place in fewer bits, where it fits.

@@ -3,7 +3,7 @@ ghost use Rattle.std.specs.List.{find};
 ghost use Rattle.std.specs.Option.{option_copied};
 ghost use Rattle.dns_evidence.specs.Link.{link_value};
 ghost use Rattle.dns_judgement.specs.Delegations.{ds_question, is_ds_set_of};
-ghost use Rattle.dns_judgement.specs.KeySets.{needs_ds, outcome_by_ds};
+ghost use Rattle.dns_judgement.specs.KeySets.{SignedByMatched, needs_ds, outcome_by_ds};
 ghost use Rattle.dns_judgement.specs.Chained.{chained_by_ds, self_signed_chain as self_signed_chain_of};
 ghost use Rattle.dns_anchors.specs.Judge.{judge_of};
 ghost use Rattle.dns_trust.specs.Verdicts.{listed};
@@ -12,7 +12,7 @@ ghost use Rattle.dns_trust.specs.Steps.{IsKeysStep};
 ghost use Rattle.dns_trust.specs.KeysMarks.{marked_value, outcome_marked, by_ds_records, marked_by_found, marked_by_zone, chained_with, IsAnchorsMark};
 
 use crate::chains::{
-    anchored_chain, anchored_link, last_number, matched_link, self_signed_chain, trusted_chain,
+    anchored_chain, anchored_link, last_number, link_by_found, self_signed_chain, trusted_chain,
 };
 use crate::unsigned::{ds_set_of, mark_by_unsupported, mark_without_ds};
 use crate::{
@@ -230,15 +230,32 @@ fn marked_by_ds<V: Verifier>(
         (outcome_by_ds (judge_of V.answers judge.now) set.now ds.now.records)) }
 {
     match matched_row(alloc, judge, set, ds)? {
-        MatchedRow::Signed(by) => {
-            let ds_link = last_number(front)?;
-            let link = matched_link(judge, set, ds_link, ds, by.key)?;
-            signed(alloc, set, clone_links(front)?, link, &by)
-        }
+        MatchedRow::Signed(by) => signed_by_ds(alloc, judge, set, front, ds, &by),
         MatchedRow::Whole => {
             let chain = trusted_chain(alloc, judge, set, front, ds)?;
             Ok(wholly_trusted(chain))
         }
         MatchedRow::Neither => Ok(refused(alloc, Proof::Bogus)),
     }
+}
+
+// Signed by a key of it that a DS matches. The link of that key is built last, since it is dear to let go.
+fn signed_by_ds<V: Verifier>(
+    alloc: Global,
+    judge: &Judge<'_, V>,
+    set: &RecordSet,
+    front: &Vec<Link>,
+    ds: &DsIndex<'_>,
+    by: &SignedBy<'_>,
+) -> Result<KeysMarked, NoMemory>
+    requires { ds.now.owner ≡ set.now.owner }
+    ensures { IfOk result (λ m. marked_value m ≡
+        outcome_marked (judge_of V.answers judge.now) set.now (map link_value front.now.items)
+        (SignedByMatched ds.now.records (signed_value by.now))) }
+{
+    let ds_link = last_number(front)?;
+    let found = ds.matching(judge.verifier, by.key);
+    let links = clone_links(front)?;
+    let link = link_by_found(set, ds_link, by.key, found)?;
+    signed(alloc, set, links, link, by)
 }

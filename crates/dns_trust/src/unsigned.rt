@@ -103,10 +103,9 @@ pub(crate) fn mark_without_ds(zone: &Name, sets: &[ChainedSet]) -> Proof
 
 // The answer shows that the delegation has no DS, or an Insecure set of the zone or above it.
 fn is_insecure_without_ds(zone: &Name, sets: &[ChainedSet]) -> bool
-    ensures { result ≡ (list_any (λ c. shows_none zone.now c.judged) sets.now
-        || list_any (λ c. is_above zone.now c.judged) sets.now) }
+    ensures { result ≡ list_any (λ c. shows_none zone.now c.judged || is_above zone.now c.judged) sets.now }
 {
-    has_no_ds(zone, sets) || has_insecure_above(zone, sets)
+    sets.iter().any(|set| leaves_insecure(zone, &set.judged))
 }
 
 fn has_supported<V: Verifier>(verifier: &V, records: &[Record]) -> bool
@@ -127,16 +126,11 @@ fn is_readable_ds(read: &Record) -> bool
     Ds::of(read).is_some()
 }
 
-fn has_no_ds(zone: &Name, sets: &[ChainedSet]) -> bool
-    ensures { result ≡ list_any (λ c. shows_none zone.now c.judged) sets.now }
+// The set shows that the delegation has no DS, or is Insecure, at the zone or above it.
+fn leaves_insecure(zone: &Name, judged: &MarkedSet) -> bool
+    ensures { result ≡ (shows_none zone.now judged.now || is_above zone.now judged.now) }
 {
-    sets.iter().any(|set| shows_no_ds(zone, &set.judged))
-}
-
-fn has_insecure_above(zone: &Name, sets: &[ChainedSet]) -> bool
-    ensures { result ≡ list_any (λ c. is_above zone.now c.judged) sets.now }
-{
-    sets.iter().any(|set| is_insecure_above(zone, &set.judged))
+    shows_no_ds(zone, judged) || is_insecure_above(zone, judged)
 }
 
 // A Secure NSEC of the zone in the authority section shows that its delegation has no DS.

@@ -150,16 +150,11 @@ fn key_set_of<'a>(
 ) -> Option<&'a ChainedSet>
     ensures { option_copied result ≡ find (λ c. is_key_set_of class.0 signer.now c.judged) sets.now }
 {
-    sets.iter().find(|chained| is_keys(class, signer, chained))
+    sets.iter()
+        .find(|chained| is_key_set(class, signer, &chained.judged))
 }
 
 // The set is a key set of the zone in the answer section.
-fn is_keys(class: DNSClass, signer: &NameRef<'_>, chained: &ChainedSet) -> bool
-    ensures { result ≡ is_key_set_of class.0 signer.now chained.now.judged }
-{
-    is_key_set(class, signer, &chained.judged)
-}
-
 fn is_key_set(class: DNSClass, signer: &NameRef<'_>, judged: &MarkedSet) -> bool
     ensures { result ≡ is_key_set_of class.0 signer.now judged.now }
 {

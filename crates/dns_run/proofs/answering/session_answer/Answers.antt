@@ -7,20 +7,20 @@ use Rattle.dns_run.proofs.answering.session_answer.Goals as goal
 pub returns : goal.returns
 returns c =
     rw (← c.session.view_is)
-    (answers_looked upstream.ghosts tests.ghosts _ c.in_ok-handle.handle c.lookup.new.self c.session_options.result c.lookup.result refl refl
+    (answers_looked upstream.ghosts tests.ghosts _ c.in_ok-handle.handle c.lookup-answer.new.self c.session_options.result c.lookup-answer.result refl refl
     (search rules) (search rules) (search rules) (search rules)
     (record {
-      sound = c.lookup.ensures.sound;
-      trail = c.lookup.ensures.trail;
-      marks = c.lookup.ensures.marks;
-      judged = c.lookup.ensures.judged;
-      grounds = c.lookup.ensures.grounds;
-      denials = c.lookup.ensures.denials;
-      denies = reply_ok c.lookup.result _ c.lookup.ensures.denies;
-      denied = c.lookup.ensures.denied;
-      passed = c.lookup.ensures.passed;
-      foreign = c.lookup.ensures.foreign;
-      unjudged = c.lookup.ensures.unjudged;
+      sound = c.lookup-answer.ensures.sound;
+      trail = c.lookup-answer.ensures.trail;
+      marks = c.lookup-answer.ensures.marks;
+      judged = c.lookup-answer.ensures.judged;
+      grounds = c.lookup-answer.ensures.grounds;
+      denials = c.lookup-answer.ensures.denials;
+      denies = reply_ok c.lookup-answer.result _ c.lookup-answer.ensures.denies;
+      denied = c.lookup-answer.ensures.denied;
+      passed = c.lookup-answer.ensures.passed;
+      foreign = c.lookup-answer.ensures.foreign;
+      unjudged = c.lookup-answer.ensures.unjudged;
     })
-    (all_known _ _ c.lookup.result c.lookup.ensures.passes c.lookup.ensures.names_foreign c.lookup.ensures.judges
-    c.lookup.ensures.answers))
+    (all_known _ _ c.lookup-answer.result c.lookup-answer.ensures.passes c.lookup-answer.ensures.names_foreign c.lookup-answer.ensures.judges
+    c.lookup-answer.ensures.answers))

@@ -1,0 +1,19 @@
+use Rattle.std.proofs.Common.{rules, ◌≡◌, ◌∙◌, sym}
+use Rattle.dns_judgement.specs.KeySets.{is_anchored_key}
+use Rattle.dns_anchors.specs.Judge.{judge_of}
+use Rattle.dns_trust.proofs.Shown.{passed_more, failed_more}
+use Rattle.dns_trust.proofs.keys.anchored_keys.Goals as goal
+use Rattle.dns_trust.proofs.keys.anchored_keys.Goals.{then-is_anchored+in_ok-push, else-is_anchored}
+
+pub loop-key-preserved : goal.loop-key-preserved
+loop-key-preserved g c =
+    let test = is_anchored_key (judge_of g.V.Verifier.answers c.args.judge.now) c.args.set.now in
+    let same : c.deref-key-items.result.now ≡ c.args.set.now.records = search rules in
+    elim c.if-is_anchored.branch [
+      | then-is_anchored+in_ok-push w ↦ rw w.keys-is
+          (passed_more test _ _ _ _ c.loop-key.key-index _ same c.loop-key-test.true c.key-item.is
+          (sym c.is_anchored.ensures ∙ w.if-is_anchored.true) w.in_ok-push.ensures.items c.loop-key.invariant)
+      | else-is_anchored w ↦ rw w.keys-is
+          (failed_more test _ _ _ c.loop-key.key-index c.key-item.result same c.loop-key-test.true c.key-item.is
+          (sym c.is_anchored.ensures ∙ w.if-is_anchored.false) c.loop-key.invariant)
+    ]
