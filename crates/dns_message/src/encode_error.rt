@@ -8,6 +8,7 @@ use std::alloc::{AllocError, AllocFailed};
 pub enum EncodeError {
     /// It has more than 65,535 bytes.
     TooLong,
+    /// Memory ran out.
     NoMemory,
 }
 

@@ -10,7 +10,7 @@ use crate::header_flags::*;
 use crate::message::{Edns, Message};
 use dns_name::{NoMemory, Octets};
 use dns_rdata::{push_u16, push_u32};
-use dns_record::{OpCode, Query, Record, ResponseCode};
+use dns_record::{OpCode, Query, Record, RecordType, ResponseCode};
 use std::alloc::Global;
 
 /// The most bytes of a message that is written, and the most items of a section.
@@ -99,7 +99,7 @@ fn push_opt(out: &mut Vec<u8>, code: u16, edns: &Edns) -> Result<(), NoMemory>
     push_parts(
         out,
         &[0],
-        41,
+        RecordType::OPT.0,
         edns.max_payload,
         opt_ttl(code, edns),
         edns.options.as_slice(),

@@ -1,12 +1,9 @@
 ghost use Rattle.std.specs.Prelude.{◌≡◌, ◌<◌, ◌≤◌, ◌^◌, length, IfOk};
 ghost use Rattle.dns_message.specs.Pointers.{IsPointerEnd, ArePointerEnds, pointer_end_in};
 
-use crate::step::{Step, step_at};
+use crate::step::{PLACES, POINTER, Step, step_at};
 use dns_name::NoMemory;
 use std::alloc::Global;
-
-/// A compression pointer (RFC 1035, 4.1.4) has 14 bits.
-const PLACES: usize = 16384;
 
 /// Where the row of bare pointers that begins at a place ends, by the table of the places before it.
 #[tactic(auto, using(crate::proofs::PointerReading::pointer_end_to_itself))]
@@ -18,7 +15,7 @@ fn pointer_end_at(bytes: &[u8], pointer_ends: &[u16], place: usize) -> u16
     requires pointer_ends { ArePointerEnds bytes.now pointer_ends.now }
     ensures { IsPointerEnd bytes.now place result }
 {
-    if bytes[place] < 192 {
+    if bytes[place] < POINTER {
         return place as u16;
     }
     match step_at(bytes, place, place, 0) {
@@ -40,7 +37,7 @@ pub(crate) fn pointer_ends_of(alloc: Global, bytes: &[u8]) -> Result<Vec<u16>, N
     if bytes.len() <= SHORT {
         return Ok(Vec::new(alloc));
     }
-    let count = bytes.len().min(PLACES);
+    let count = bytes.len().min(usize::from(PLACES));
     let mut pointer_ends = Vec::with_capacity(alloc, count)?;
     'places: for place in 0..count {
         let pointer_end = pointer_end_at(bytes, pointer_ends.as_slice(), place);

@@ -10,7 +10,7 @@ use crate::decode_error::{DecodeError, DecodeKind, fault};
 use crate::rdata_reader::push_field;
 use dns_name::{NoMemory, Octets};
 use dns_rdata::{Field, fields_of};
-use dns_record::{Rdata, RecordType};
+use dns_record::{DNSClass, Rdata, RecordType};
 use std::alloc::Global;
 
 /// How many bytes to make room for at first, where the rdata has this size: the reader of names makes room for a name alone.
@@ -90,7 +90,7 @@ fn shaped_of(
 fn has_shapes(class: u16) -> bool
     ensures { result ≡ has_shapes class }
 {
-    class == 1 || class == 254 || class == 255
+    class == DNSClass::IN.0 || class == DNSClass::NONE.0 || class == DNSClass::ANY.0
 }
 
 /// So many bytes as they stand.

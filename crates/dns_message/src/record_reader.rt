@@ -94,7 +94,7 @@ pub(crate) fn item_of(
 {
     let (owner, next) = name_of(alloc, bytes, pointer_ends, at)?;
     let (record_type, next) = u16_of(bytes, next)?;
-    if record_type != 41 {
+    if record_type != RecordType::OPT.0 {
         return record_of(alloc, owner, record_type, bytes, pointer_ends, next);
     }
     if allow_opt && stands_at_root(&owner) {

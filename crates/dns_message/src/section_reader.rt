@@ -14,7 +14,7 @@ use std::alloc::Global;
 const SMALLEST_RECORD: usize = 11;
 
 /// So many records of a section, its OPT with the upper bits of the code, and the place after the section. An OPT is taken
-/// where `may` is set, and once.
+/// where `allow_opt` is set, and once.
 pub(crate) fn section_of(
     alloc: Global,
     count: u16,

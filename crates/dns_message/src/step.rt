@@ -4,7 +4,17 @@ ghost use Rattle.dns_message.specs.NameAt.{step_of};
 ghost use Rattle.dns_message.specs.Fitting.{FitsStep};
 
 use crate::decode_error::{DecodeError, DecodeKind, fault};
+use dns_name::Name;
 use dns_rdata::u16_at;
+
+/// The most bytes of a label (RFC 1035, 2.3.4).
+const MOST_LABEL: u8 = Name::MAX_LABEL_LEN as u8;
+
+/// The two upper bits of a pointer's first byte are set (RFC 1035, 4.1.4).
+pub(crate) const POINTER: u8 = 0xc0;
+
+/// How many places a pointer's other 14 bits can name.
+pub(crate) const PLACES: u16 = 16384;
 
 /// What stands at a place of a name.
 #[derive(Clone, Copy, Drop)]
@@ -38,14 +48,14 @@ pub(crate) fn step_at(
     if byte == 0 {
         return Ok(Step::Root);
     }
-    if 63 < byte && byte < 192 {
+    if MOST_LABEL < byte && byte < POINTER {
         return Err(fault(DecodeKind::BadName, pos));
     }
-    if 192 <= byte {
+    if POINTER <= byte {
         if bytes.len() <= pos + 1 {
             return Err(fault(DecodeKind::Short, pos));
         }
-        let target = u16_at(bytes, pos) % 16384;
+        let target = u16_at(bytes, pos) % PLACES;
         if start <= usize::from(target) {
             return Err(fault(DecodeKind::BadName, pos));
         }
@@ -54,7 +64,7 @@ pub(crate) fn step_at(
     if bytes.len() < pos + 1 + usize::from(byte) {
         return Err(fault(DecodeKind::Short, pos));
     }
-    if 255 < size + 1 + usize::from(byte) + 1 {
+    if Name::MAX_LEN < size + 1 + usize::from(byte) + 1 {
         return Err(fault(DecodeKind::BadName, pos));
     }
     Ok(Step::Label(byte))

@@ -24,6 +24,12 @@ impl Model for Name {
 }
 
 impl Name {
+    /// The most bytes of a wire form, its closing zero byte counted (RFC 1035, 2.3.4).
+    pub const MAX_LEN: usize = 255;
+
+    /// The most bytes of a label (RFC 1035, 2.3.4).
+    pub const MAX_LABEL_LEN: usize = 63;
+
     /// The name whose wire form the bytes are (RFC 1035, 3.1), which takes no memory.
     pub fn from_octets(wire: Octets) -> Name
         requires { IsWire wire }

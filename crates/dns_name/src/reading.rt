@@ -4,7 +4,7 @@ ghost use Rattle.dns_model.specs.Bytes.{is_bytes};
 ghost use Rattle.dns_model.specs.NameForm.{name_in, label_in};
 ghost use Rattle.dns_name.specs.NameEnds.{end_in, IsFront};
 
-use crate::NoMemory;
+use crate::{Name, NoMemory};
 
 /// The label at the front of bytes, empty for the closing zero byte, and the bytes after it.
 pub(crate) fn label_at<'a>(bytes: &'a [u8]) -> Option<(&'a [u8], &'a [u8])>
@@ -23,7 +23,7 @@ fn label_after<'a>(size: usize, rest: &'a [u8]) -> Option<(&'a [u8], &'a [u8])>
     ensures value { option_map (λ p. (p.0.now, p.1.now)) result ≡ label_in (size ∷ rest.now) }
     ensures size { IfSome result (λ p. length p.0.now + length p.1.now ≡ length rest.now) }
 {
-    if size <= 63 && size <= rest.len() {
+    if size <= Name::MAX_LABEL_LEN && size <= rest.len() {
         Some(rest.split_at(size))
     } else {
         None
@@ -53,7 +53,7 @@ pub(crate) fn name_end(bytes: &[u8]) -> Option<usize>
     ensures { MatchOption result (name_in bytes.now ≡ None) (IsFront bytes.now) }
 {
     match labels_end(bytes) {
-        Some(end) if end <= 255 => Some(end),
+        Some(end) if end <= Name::MAX_LEN => Some(end),
         Some(_) => None,
         None => None,
     }

@@ -102,7 +102,7 @@ pub(crate) fn push_label(wire: &mut Vec<u8>, label: &[u8]) -> Result<(), NameErr
     if label.len() == 0 {
         return Err(NameError::EmptyLabel);
     }
-    if label.len() > 63 {
+    if label.len() > Name::MAX_LABEL_LEN {
         return Err(NameError::LongLabel);
     }
     wire.push(label.len() as u8)?;
@@ -149,7 +149,7 @@ pub(crate) fn name_of_run(mut wire: Vec<u8>, above: &NameRef) -> Result<Name, Na
     ensures { (labels : Labels) → IsRun labels wire.items → Gives (λ n. n) no_memory result (within (labels ++ above.now)) }
 {
     let above = above.wire();
-    if wire.len() + above.len() > 255 {
+    if wire.len() + above.len() > Name::MAX_LEN {
         return Err(NameError::LongName);
     }
     wire.extend_from_slice(above)?;

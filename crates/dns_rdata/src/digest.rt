@@ -31,9 +31,9 @@ impl<'a> Ds<'a> {
     {
         let name = FoldedWire::of(owner);
         match self.digest_type {
-            1 => sha1_of(name.as_slice(), key).as_slice() == self.digest,
-            2 => sha256_of(name.as_slice(), key).as_slice() == self.digest,
-            4 => sha384_of(name.as_slice(), key).as_slice() == self.digest,
+            Ds::SHA1 => sha1_of(name.as_slice(), key).as_slice() == self.digest,
+            Ds::SHA256 => sha256_of(name.as_slice(), key).as_slice() == self.digest,
+            Ds::SHA384 => sha384_of(name.as_slice(), key).as_slice() == self.digest,
             _ => false,
         }
     }

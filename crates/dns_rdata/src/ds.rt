@@ -13,7 +13,7 @@ pub struct Ds<'a> {
     /// The tag of the key that is meant.
     pub key_tag: u16,
     pub algorithm: u8,
-    /// 1 for SHA-1, 2 for SHA-256, 4 for SHA-384.
+    /// `SHA1`, `SHA256` or `SHA384` where it is supported.
     pub digest_type: u8,
     pub digest: &'a [u8],
 }
@@ -32,6 +32,15 @@ impl<'a> Model for Ds<'a> {
 }
 
 impl<'a> Ds<'a> {
+    /// The digest type of SHA-1 (RFC 4034, A.2).
+    pub const SHA1: u8 = 1;
+
+    /// The digest type of SHA-256 (RFC 4509, 5).
+    pub const SHA256: u8 = 2;
+
+    /// The digest type of SHA-384 (RFC 6605, 5).
+    pub const SHA384: u8 = 4;
+
     /// What these bytes say as the rdata of a DS; None exactly where they have not its shape.
     #[tactic(auto, unfolding(dns_model::specs::Views::ds_in))]
     pub fn read(rdata: &'a [u8]) -> Option<Ds<'a>>

@@ -126,7 +126,7 @@ pub fn is_supported_ds<V: Verifier>(verifier: &V, ds: &Record) -> bool
 fn is_digest_type(digest_type: u8) -> bool
     ensures { result ≡ is_type_of_digest digest_type }
 {
-    digest_type == 1 || digest_type == 2 || digest_type == 4
+    digest_type == Ds::SHA1 || digest_type == Ds::SHA256 || digest_type == Ds::SHA384
 }
 
 fn all_of<'a>(alloc: Global, records: &'a [Record]) -> Result<Vec<&'a Record>, NoMemory>
