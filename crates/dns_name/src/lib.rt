@@ -10,7 +10,6 @@ mod name_ref;
 mod name_text;
 mod no_memory;
 mod octets;
-mod printing;
 mod reading;
 mod shown;
 mod text;

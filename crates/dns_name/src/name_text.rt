@@ -4,7 +4,6 @@ ghost use Rattle.dns_model.specs.Gives.{Gives};
 ghost use Rattle.dns_model.specs.NameText.{name_from, name_with, printed, read_below, read_name};
 ghost use Rattle.dns_model.specs.declared.name_error.NameError.TheVariants.{NoMemory as no_memory};
 
-use crate::printing::push_printed;
 use crate::text_reading::{name_of_run, push_label, read_text};
 use crate::{Name, NameError, NameRef, NoMemory, Octets, Text};
 use std::alloc::Global;
@@ -87,11 +86,7 @@ impl<'a> NameRef<'a> {
         ensures back { IfOk result (λ t. read_name t ≡ Ok self.now) }
     {
         let name = self.copy();
-        let mut text = Vec::new(alloc);
-        push_printed(&mut text, &name)?;
-        match String::from_utf8(text) {
-            Ok(text) => Ok(Text::from_string(text)),
-            Err(_) => unreachable!(),
-        }
+        let text = name.to_string(alloc)?;
+        Ok(Text::from_string(text))
     }
 }
