@@ -25,31 +25,31 @@ untrue {P} {b} differs holds = absurd (both_ways b differs holds)
 
 owner_is_not_below : (name : Labels) (nsec : OwnedNsec) → spans name nsec ≡ true → at_or_above name nsec.owner ≡ false
 owner_is_not_below name nsec h =
-    let parts = and_parts (before nsec.owner name) (before name nsec.text.next || (leads_back nsec && at_or_above nsec.text.next name)) h in
+    let parts = and_parts (before nsec.owner name) (before name nsec.fields.next || (leads_back nsec && at_or_above nsec.fields.next name)) h in
     false_from_ne_true (at_or_above name nsec.owner) (λ above. both_ways (before nsec.owner name) (above_is_first name nsec.owner above) parts.0)
 
-next_is_not : (name : Labels) (nsec : OwnedNsec) → spans name nsec ≡ true → name_eq name nsec.text.next ≡ false
+next_is_not : (name : Labels) (nsec : OwnedNsec) → spans name nsec ≡ true → name_eq name nsec.fields.next ≡ false
 next_is_not name nsec h =
-    let parts = and_parts (before nsec.owner name) (before name nsec.text.next || (leads_back nsec && at_or_above nsec.text.next name)) h in
-    false_from_ne_true (name_eq name nsec.text.next) (λ same.
-    let tied : name_cmp name nsec.text.next ≡ Equal = order_if_alike name nsec.text.next same in
+    let parts = and_parts (before nsec.owner name) (before name nsec.fields.next || (leads_back nsec && at_or_above nsec.fields.next name)) h in
+    false_from_ne_true (name_eq name nsec.fields.next) (λ same.
+    let tied : name_cmp name nsec.fields.next ≡ Equal = order_if_alike name nsec.fields.next same in
     let later : is_lt (ordering_reverse (name_cmp name nsec.owner)) ≡ true = ap is_lt (sym (name_total.antisymm nsec.owner name)) ∙ parts.0 in
-    let back : leads_back nsec ≡ false = ap is_le (sym (name_total.congr name nsec.text.next nsec.owner tied)) ∙ not_less (name_cmp name nsec.owner) later in
-    ⊎_elim (λ less. both_ways (before name nsec.text.next) (ap is_lt tied) less)
-    (λ both. let halves = and_parts (leads_back nsec) (at_or_above nsec.text.next name) both in both_ways (leads_back nsec) back halves.0)
-    (or_cases (before name nsec.text.next) (leads_back nsec && at_or_above nsec.text.next name) parts.1))
+    let back : leads_back nsec ≡ false = ap is_le (sym (name_total.congr name nsec.fields.next nsec.owner tied)) ∙ not_less (name_cmp name nsec.owner) later in
+    ⊎_elim (λ less. both_ways (before name nsec.fields.next) (ap is_lt tied) less)
+    (λ both. let halves = and_parts (leads_back nsec) (at_or_above nsec.fields.next name) both in both_ways (leads_back nsec) back halves.0)
+    (or_cases (before name nsec.fields.next) (leads_back nsec && at_or_above nsec.fields.next name) parts.1))
 
 -- the wildcard below the closest encloser is a name
-pub wildcard_is_name : (name : Labels) (nsec : OwnedNsec) → is_name name ≡ true → spans name nsec ≡ true → strictly_above name nsec.text.next ≡ false
+pub wildcard_is_name : (name : Labels) (nsec : OwnedNsec) → is_name name ≡ true → spans name nsec ≡ true → strictly_above name nsec.fields.next ≡ false
     → is_name (star (closest_encloser name nsec)) ≡ true
 unfolding closest_encloser
 wildcard_is_name name nsec good h differs =
-    let apart : at_or_above name nsec.text.next ≡ false =
-    ⊎_elim (λ e. e) (λ e. untrue {P = at_or_above name nsec.text.next ≡ false} (next_is_not name nsec h) (not-false (name_eq name nsec.text.next) e))
-    (and_cases (at_or_above name nsec.text.next) (not (name_eq name nsec.text.next)) differs) in
-    cond_both (nat_lt (length (common_ancestor name nsec.owner)) (length (common_ancestor name nsec.text.next)))
-    (common_ancestor name nsec.text.next) (common_ancestor name nsec.owner) (λ n. is_name (star n) ≡ true)
-    (λ _. star_of_common name nsec.text.next good apart) (λ _. star_of_common name nsec.owner good (owner_is_not_below name nsec h))
+    let apart : at_or_above name nsec.fields.next ≡ false =
+    ⊎_elim (λ e. e) (λ e. untrue {P = at_or_above name nsec.fields.next ≡ false} (next_is_not name nsec h) (not-false (name_eq name nsec.fields.next) e))
+    (and_cases (at_or_above name nsec.fields.next) (not (name_eq name nsec.fields.next)) differs) in
+    cond_both (nat_lt (length (common_ancestor name nsec.owner)) (length (common_ancestor name nsec.fields.next)))
+    (common_ancestor name nsec.fields.next) (common_ancestor name nsec.owner) (λ n. is_name (star n) ≡ true)
+    (λ _. star_of_common name nsec.fields.next good apart) (λ _. star_of_common name nsec.owner good (owner_is_not_below name nsec h))
 
 find_passes : {X : Type 0} (test : X → Bool) (xs : List X) (x : X) → find test xs ≡ Some x → test x ≡ true
 find_passes test [] x is = cc

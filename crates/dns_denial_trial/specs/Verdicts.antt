@@ -30,7 +30,7 @@ answered_by name (first ∷ answers) = signed_for name first
 
 -- what a record says as an NSEC, with its owner
 abbrev pub owned_nsec : Rr → Option OwnedNsec
-owned_nsec record_ = option_map (λ t. record { owner = record_.owner; text = t }) (read_as type_nsec nsec_in record_)
+owned_nsec record_ = option_map (λ t. record { owner = record_.owner; fields = t }) (read_as type_nsec nsec_in record_)
 
 abbrev pub with_one : List OwnedNsec → Option OwnedNsec → List OwnedNsec
 with_one nsecs None = nsecs

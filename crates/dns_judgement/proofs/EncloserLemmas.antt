@@ -22,36 +22,36 @@ use Rattle.dns_judgement.proofs.ZoneLemmas.{has_set_alike, is_delegation_alike, 
 
 encloser_ends : (name : Labels) (nsec : OwnedNsec) → Ends (closest_encloser name nsec) name
 unfolding closest_encloser
-encloser_ends name nsec = by (nat_lt (length (common_ancestor name nsec.owner)) (length (common_ancestor name nsec.text.next)))
+encloser_ends name nsec = by (nat_lt (length (common_ancestor name nsec.owner)) (length (common_ancestor name nsec.fields.next)))
   where
-    by : (b : Bool) → Ends (cond b (common_ancestor name nsec.text.next) (common_ancestor name nsec.owner)) name
-    by true = common_ends name nsec.text.next
+    by : (b : Bool) → Ends (cond b (common_ancestor name nsec.fields.next) (common_ancestor name nsec.owner)) name
+    by true = common_ends name nsec.fields.next
     by false = common_ends name nsec.owner
 
 -- it is above the owner or the next name
 encloser_above : (name : Labels) (nsec : OwnedNsec)
-    → (at_or_above (closest_encloser name nsec) nsec.owner ≡ true) ⊎ (at_or_above (closest_encloser name nsec) nsec.text.next ≡ true)
+    → (at_or_above (closest_encloser name nsec) nsec.owner ≡ true) ⊎ (at_or_above (closest_encloser name nsec) nsec.fields.next ≡ true)
 unfolding closest_encloser
-encloser_above name nsec = by (nat_lt (length (common_ancestor name nsec.owner)) (length (common_ancestor name nsec.text.next)))
+encloser_above name nsec = by (nat_lt (length (common_ancestor name nsec.owner)) (length (common_ancestor name nsec.fields.next)))
   where
-    by : (b : Bool) → (at_or_above (cond b (common_ancestor name nsec.text.next) (common_ancestor name nsec.owner)) nsec.owner ≡ true)
-        ⊎ (at_or_above (cond b (common_ancestor name nsec.text.next) (common_ancestor name nsec.owner)) nsec.text.next ≡ true)
-    by true = inr (common_above name nsec.text.next)
+    by : (b : Bool) → (at_or_above (cond b (common_ancestor name nsec.fields.next) (common_ancestor name nsec.owner)) nsec.owner ≡ true)
+        ⊎ (at_or_above (cond b (common_ancestor name nsec.fields.next) (common_ancestor name nsec.owner)) nsec.fields.next ≡ true)
+    by true = inr (common_above name nsec.fields.next)
     by false = inl (common_above name nsec.owner)
 
 -- what is above the name, and above the owner or the next name, is above the closest encloser
 encloser_below : (above name : Labels) (nsec : OwnedNsec) → at_or_above above name ≡ true
-    → (at_or_above above nsec.owner ≡ true) ⊎ (at_or_above above nsec.text.next ≡ true) → at_or_above above (closest_encloser name nsec) ≡ true
+    → (at_or_above above nsec.owner ≡ true) ⊎ (at_or_above above nsec.fields.next ≡ true) → at_or_above above (closest_encloser name nsec) ≡ true
 unfolding closest_encloser
 encloser_below above name nsec h either =
-    longer_below above (common_ancestor name nsec.owner) (common_ancestor name nsec.text.next) name
+    longer_below above (common_ancestor name nsec.owner) (common_ancestor name nsec.fields.next) name
     (ends_above (common_ancestor name nsec.owner) name (common_ends name nsec.owner))
-    (ends_above (common_ancestor name nsec.text.next) name (common_ends name nsec.text.next)) (by either)
+    (ends_above (common_ancestor name nsec.fields.next) name (common_ends name nsec.fields.next)) (by either)
   where
-    by : (at_or_above above nsec.owner ≡ true) ⊎ (at_or_above above nsec.text.next ≡ true)
-        → (at_or_above above (common_ancestor name nsec.owner) ≡ true) ⊎ (at_or_above above (common_ancestor name nsec.text.next) ≡ true)
+    by : (at_or_above above nsec.owner ≡ true) ⊎ (at_or_above above nsec.fields.next ≡ true)
+        → (at_or_above above (common_ancestor name nsec.owner) ≡ true) ⊎ (at_or_above above (common_ancestor name nsec.fields.next) ≡ true)
     by (inl first) = inl (common_below above name nsec.owner h first)
-    by (inr second) = inr (common_below above name nsec.text.next h second)
+    by (inr second) = inr (common_below above name nsec.fields.next h second)
 
 -- ---- what exists
 
@@ -78,7 +78,7 @@ existing zone name h = picked (λ set. at_or_above name set.owner) zone.sets (an
 
 -- a name that is spanned and isn't above the next one doesn't exist
 pub spanned_is_missing : (zone : Zone) (nsec : OwnedNsec) (name : Labels) → IsTrueNsec zone nsec → spans name nsec ≡ true
-    → strictly_above name nsec.text.next ≡ false → exists_in zone name ≡ false
+    → strictly_above name nsec.fields.next ≡ false → exists_in zone name ≡ false
 spanned_is_missing zone nsec name t spanned leaf = false_from_ne_true (exists_in zone name) (λ h.
     let k = existing zone name h in
     by k.it.owner k.passes (sided zone nsec name k.it t spanned k.member))
@@ -87,9 +87,9 @@ spanned_is_missing zone nsec name t spanned leaf = false_from_ne_true (exists_in
     by owner above (AtOrBefore le) =
         not_both nsec.owner name (spans_after name nsec spanned) (le_trans name owner nsec.owner (above_comes_first name owner above) le)
     by owner above (After lt le) =
-        let between = between_is_below name nsec.text.next owner above (le_from_Less (name_cmp name nsec.text.next) lt) le in
-        let same = alike_if_not_strictly name nsec.text.next between leaf in
-        true≢false (ap is_eq (sym (order_if_alike name nsec.text.next same) ∙ lt))
+        let between = between_is_below name nsec.fields.next owner above (le_from_Less (name_cmp name nsec.fields.next) lt) le in
+        let same = alike_if_not_strictly name nsec.fields.next between leaf in
+        true≢false (ap is_eq (sym (order_if_alike name nsec.fields.next same) ∙ lt))
 
 -- no wildcard exists below a missing name at or below the apex
 pub no_wildcard : (zone : Zone) (name : Labels) → at_or_above zone.apex name ≡ true → exists_in zone name ≡ false → exists_in zone (star name) ≡ false
@@ -108,13 +108,13 @@ existing_encloses zone nsec name above t spanned h there =
     encloser_below above name nsec h (by k.it.owner k.passes (sided zone nsec name k.it t spanned k.member))
   where
     by : (owner : Labels) → at_or_above above owner ≡ true → Side nsec name owner
-        → (at_or_above above nsec.owner ≡ true) ⊎ (at_or_above above nsec.text.next ≡ true)
+        → (at_or_above above nsec.owner ≡ true) ⊎ (at_or_above above nsec.fields.next ≡ true)
     by owner higher (AtOrBefore le) =
         inl (between_is_below above nsec.owner name h (le_trans above owner nsec.owner (above_comes_first above owner higher) le)
         (le_from_Less (name_cmp nsec.owner name) (spans_after name nsec spanned)))
     by owner higher (After lt le) =
-        inr (between_is_below above nsec.text.next owner higher
-        (le_trans above name nsec.text.next (above_comes_first above name h) (le_from_Less (name_cmp name nsec.text.next) lt)) le)
+        inr (between_is_below above nsec.fields.next owner higher
+        (le_trans above name nsec.fields.next (above_comes_first above name h) (le_from_Less (name_cmp name nsec.fields.next) lt)) le)
 
 -- the closest encloser is in the zone
 pub encloser_inside : (zone : Zone) (nsec : OwnedNsec) (name : Labels) → is_zone zone ≡ true → IsTrueNsec zone nsec → at_or_above zone.apex name ≡ true
@@ -129,10 +129,10 @@ encloser_exists zone nsec name formed t h = by (encloser_above name nsec)
     inside : at_or_above zone.apex (closest_encloser name nsec) ≡ true
     inside = encloser_inside zone nsec name formed t h
 
-    by : (at_or_above (closest_encloser name nsec) nsec.owner ≡ true) ⊎ (at_or_above (closest_encloser name nsec) nsec.text.next ≡ true)
+    by : (at_or_above (closest_encloser name nsec) nsec.owner ≡ true) ⊎ (at_or_above (closest_encloser name nsec) nsec.fields.next ≡ true)
         → exists_in zone (closest_encloser name nsec) ≡ true
     by (inl first) = exists_above zone (closest_encloser name nsec) nsec.owner inside t.owner first
-    by (inr second) = exists_above zone (closest_encloser name nsec) nsec.text.next inside (next_is_owner zone nsec formed t) second
+    by (inr second) = exists_above zone (closest_encloser name nsec) nsec.fields.next inside (next_is_owner zone nsec formed t) second
 
 -- ---- the zone's own encloser
 
@@ -212,7 +212,7 @@ no_end_above zone nsec name set formed t spanned speaks m ends above = by (sided
 
     by : Side nsec name set.owner → ⊥
     by (After before le) =
-        not_both name nsec.text.next before (le_trans nsec.text.next set.owner name le (above_comes_first set.owner name higher))
+        not_both name nsec.fields.next before (le_trans nsec.fields.next set.owner name le (above_comes_first set.owner name higher))
     by (AtOrBefore le) =
         let over = between_is_below set.owner nsec.owner name higher le (le_from_Less (name_cmp nsec.owner name) lt) in
         let same = end_is_owner zone set nsec.owner formed m ends t.owner over in

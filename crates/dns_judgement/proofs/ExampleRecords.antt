@@ -62,15 +62,15 @@ past_window bits rtype short late = by (nat_eq 0 (rtype / 256)) refl
 
 -- the apex has NS and SOA
 abbrev pub first_record : OwnedNsec
-first_record = record { owner = apex; text = record { next = below 97; types = 0 ∷ 6 ∷ 34 ∷ 0 ∷ 0 ∷ 0 ∷ 0 ∷ 3 ∷ [] } }
+first_record = record { owner = apex; fields = record { next = below 97; types = 0 ∷ 6 ∷ 34 ∷ 0 ∷ 0 ∷ 0 ∷ 0 ∷ 3 ∷ [] } }
 
 -- `u` has NS, and the next owner is the last one
 abbrev pub later_record : OwnedNsec
-later_record = record { owner = below 117; text = record { next = star (below 119); types = 0 ∷ 6 ∷ 32 ∷ 0 ∷ 0 ∷ 0 ∷ 0 ∷ 3 ∷ [] } }
+later_record = record { owner = below 117; fields = record { next = star (below 119); types = 0 ∷ 6 ∷ 32 ∷ 0 ∷ 0 ∷ 0 ∷ 0 ∷ 3 ∷ [] } }
 
 -- the types that a record's bitmap tells
 abbrev told : OwnedNsec → ℕ → Bool
-told nsec rtype = bitmap_has nsec.text.types rtype && not ((rtype == type_nsec) || (rtype == type_rrsig))
+told nsec rtype = bitmap_has nsec.fields.types rtype && not ((rtype == type_nsec) || (rtype == type_rrsig))
 
 few : (nsec : OwnedNsec) → below_all 48 (λ rtype. alike (has_set zone nsec.owner rtype) (told nsec rtype)) ≡ true → (rtype : ℕ) → rtype < 48
     → has_set zone nsec.owner rtype ≡ told nsec rtype
@@ -147,7 +147,7 @@ expanded = refl
 
 -- the last owner is the wildcard below `w`, and it has an address
 abbrev pub last_record : OwnedNsec
-last_record = record { owner = star (below 119); text = record { next = apex; types = 0 ∷ 6 ∷ 64 ∷ 0 ∷ 0 ∷ 0 ∷ 0 ∷ 3 ∷ [] } }
+last_record = record { owner = star (below 119); fields = record { next = apex; types = 0 ∷ 6 ∷ 64 ∷ 0 ∷ 0 ∷ 0 ∷ 0 ∷ 3 ∷ [] } }
 
 -- it covers a name to which that wildcard answers, so it denies nothing of it
 pub covered : covering (letter 98 ∷ below 119) (last_record ∷ []) ≡ Some last_record

@@ -154,10 +154,10 @@ denied_at zone apex query code nsec formed holds t same h =
     }
 
 denied_above : (zone : Zone) (query : Question) (code : ℕ) (nsec : OwnedNsec) → is_zone zone ≡ true → holds_query zone.apex query ≡ true
-    → IsCovering zone query.owner nsec → strictly_above query.owner nsec.text.next ≡ true → (code == code_no_error) ≡ true → HasNone query code zone
+    → IsCovering zone query.owner nsec → strictly_above query.owner nsec.fields.next ≡ true → (code == code_no_error) ≡ true → HasNone query code zone
 denied_above zone query code nsec formed holds c above no_error =
-    let there = exists_above zone query.owner nsec.text.next (inside zone.apex query holds) (next_is_owner zone nsec formed c.is_true)
-    (strictly_parts query.owner nsec.text.next above).0 in
+    let there = exists_above zone query.owner nsec.fields.next (inside zone.apex query holds) (next_is_owner zone nsec formed c.is_true)
+    (strictly_parts query.owner nsec.fields.next above).0 in
     record {
       holds = holds;
       answer = inl (there_without zone query.owner query.rtype (covered_reach zone query.owner query.rtype nsec formed c) there
@@ -167,7 +167,7 @@ denied_above zone query code nsec formed holds c above no_error =
 
 denied_missing : (zone : Zone) (query : Question) (code : ℕ) (nsecs : List OwnedNsec) (nsec : OwnedNsec) → is_zone zone ≡ true
     → holds_query zone.apex query ≡ true → AllByRecursion (IsTrueNsec zone) nsecs → IsCovering zone query.owner nsec
-    → strictly_above query.owner nsec.text.next ≡ false → missing_name No code query.rtype (closest_encloser query.owner nsec) nsecs ≡ true
+    → strictly_above query.owner nsec.fields.next ≡ false → missing_name No code query.rtype (closest_encloser query.owner nsec) nsecs ≡ true
     → HasNone query code zone
 denied_missing zone query code nsecs nsec formed holds each c leaf h =
     let e = closest_encloser query.owner nsec in
@@ -190,9 +190,9 @@ denied_by : (zone : Zone) (query : Question) (code : ℕ) (nsecs : List OwnedNse
     → proved_by_covering query code No nsecs found ≡ true → HasNone query code zone
 denied_by zone query code nsecs None formed holds each e h = absurd (true≢false (sym h))
 denied_by zone query code nsecs (Some nsec) formed holds each e h =
-    by (strictly_above query.owner nsec.text.next) refl (covered zone query.owner nsecs nsec each e) h
+    by (strictly_above query.owner nsec.fields.next) refl (covered zone query.owner nsecs nsec each e) h
   where
-    by : (b : Bool) → strictly_above query.owner nsec.text.next ≡ b → IsCovering zone query.owner nsec
+    by : (b : Bool) → strictly_above query.owner nsec.fields.next ≡ b → IsCovering zone query.owner nsec
         → cond b (code == code_no_error) (missing_name No code query.rtype (closest_encloser query.owner nsec) nsecs) ≡ true → HasNone query code zone
     by true above c h = denied_above zone query code nsec formed holds c above h
     by false leaf c h = denied_missing zone query code nsecs nsec formed holds each c leaf h
@@ -222,7 +222,7 @@ absent : (zone : Zone) (name : Labels) → at_or_above zone.apex name ≡ true �
 absent zone name inside gone = record { missing = gone; wildcard = no_wildcard zone name inside gone }
 
 none_closer : (zone : Zone) (name : Labels) (labels : ℕ) (nsec : OwnedNsec) → is_zone zone ≡ true → at_or_above zone.apex name ≡ true
-    → IsCovering zone name nsec → strictly_above name nsec.text.next ≡ false → (length (closest_encloser name nsec) == labels) ≡ true
+    → IsCovering zone name nsec → strictly_above name nsec.fields.next ≡ false → (length (closest_encloser name nsec) == labels) ≡ true
     → HasNoneCloser name labels zone
 none_closer zone name labels nsec formed within c leaf h =
     let long : length (closest_encloser name nsec) ≡ labels = grind (arith, nat_tests, h) in
@@ -241,9 +241,9 @@ expanded_by : (zone : Zone) (query : Question) (code labels : ℕ) (nsecs : List
     → HasNoneCloser query.owner labels zone
 expanded_by zone query code labels nsecs None formed within each e h = absurd (true≢false (sym h))
 expanded_by zone query code labels nsecs (Some nsec) formed within each e h =
-    by (strictly_above query.owner nsec.text.next) refl (covered zone query.owner nsecs nsec each e) h
+    by (strictly_above query.owner nsec.fields.next) refl (covered zone query.owner nsecs nsec each e) h
   where
-    by : (b : Bool) → strictly_above query.owner nsec.text.next ≡ b → IsCovering zone query.owner nsec
+    by : (b : Bool) → strictly_above query.owner nsec.fields.next ≡ b → IsCovering zone query.owner nsec
         → cond b false (missing_name (Expanded labels) code query.rtype (closest_encloser query.owner nsec) nsecs) ≡ true
         → HasNoneCloser query.owner labels zone
     by true above c h = absurd (true≢false (sym h))

@@ -82,37 +82,37 @@ soa_at_apex zone name h soa =
 
 pub data Side (nsec : OwnedNsec) (name owner : Labels) : Type 0 where
   AtOrBefore : is_le (name_cmp owner nsec.owner) ≡ true → Side nsec name owner
-  After : name_cmp name nsec.text.next ≡ Less → is_le (name_cmp nsec.text.next owner) ≡ true → Side nsec name owner
+  After : name_cmp name nsec.fields.next ≡ Less → is_le (name_cmp nsec.fields.next owner) ≡ true → Side nsec name owner
 
 pub spans_after : (name : Labels) (nsec : OwnedNsec) → spans name nsec ≡ true → name_cmp nsec.owner name ≡ Less
 spans_after name nsec h = lt_from (name_cmp nsec.owner name) ((and_parts (before nsec.owner name) _ h).0)
 
 -- where the next name comes after the owner, the name spanned comes before it
-spans_before : (name : Labels) (nsec : OwnedNsec) → spans name nsec ≡ true → name_cmp nsec.owner nsec.text.next ≡ Less → name_cmp name nsec.text.next ≡ Less
-spans_before name nsec h lt = by (or_cases (before name nsec.text.next) (leads_back nsec && at_or_above nsec.text.next name) ((and_parts (before nsec.owner name) _ h).1))
+spans_before : (name : Labels) (nsec : OwnedNsec) → spans name nsec ≡ true → name_cmp nsec.owner nsec.fields.next ≡ Less → name_cmp name nsec.fields.next ≡ Less
+spans_before name nsec h lt = by (or_cases (before name nsec.fields.next) (leads_back nsec && at_or_above nsec.fields.next name) ((and_parts (before nsec.owner name) _ h).1))
   where
-    by : (before name nsec.text.next ≡ true) ⊎ ((leads_back nsec && at_or_above nsec.text.next name) ≡ true) → name_cmp name nsec.text.next ≡ Less
-    by (inl first) = lt_from (name_cmp name nsec.text.next) first
-    by (inr back) = absurd (not_both nsec.owner nsec.text.next lt (and_parts (leads_back nsec) (at_or_above nsec.text.next name) back).0)
+    by : (before name nsec.fields.next ≡ true) ⊎ ((leads_back nsec && at_or_above nsec.fields.next name) ≡ true) → name_cmp name nsec.fields.next ≡ Less
+    by (inl first) = lt_from (name_cmp name nsec.fields.next) first
+    by (inr back) = absurd (not_both nsec.owner nsec.fields.next lt (and_parts (leads_back nsec) (at_or_above nsec.fields.next name) back).0)
 
 sided_in_row : (zone : Zone) (nsec : OwnedNsec) (name : Labels) (set : SetKey) (b : Bool) → is_lt (name_cmp nsec.owner set.owner) ≡ b
-    → name_cmp name nsec.text.next ≡ Less → none_between zone nsec.owner nsec.text.next ≡ true → IsMember set zone.sets → Side nsec name set.owner
+    → name_cmp name nsec.fields.next ≡ Less → none_between zone nsec.owner nsec.fields.next ≡ true → IsMember set zone.sets → Side nsec name set.owner
 unfolding none_between
 sided_in_row zone nsec name set false e lt none m = AtOrBefore (le_from_not_lt nsec.owner set.owner e)
 sided_in_row zone nsec name set true e lt none m =
-    let apart = m.all (λ s. not (is_lt (name_cmp nsec.owner s.owner) && is_lt (name_cmp s.owner nsec.text.next))) none in
-    After lt (le_from_not_lt set.owner nsec.text.next (not_and (is_lt (name_cmp nsec.owner set.owner)) (is_lt (name_cmp set.owner nsec.text.next)) apart e))
+    let apart = m.all (λ s. not (is_lt (name_cmp nsec.owner s.owner) && is_lt (name_cmp s.owner nsec.fields.next))) none in
+    After lt (le_from_not_lt set.owner nsec.fields.next (not_and (is_lt (name_cmp nsec.owner set.owner)) (is_lt (name_cmp set.owner nsec.fields.next)) apart e))
 
 sided_by : (zone : Zone) (nsec : OwnedNsec) (name : Labels) (set : SetKey) (b : Bool) → is_last zone nsec.owner ≡ b
-    → cond b (name_eq nsec.text.next zone.apex) (is_owner zone nsec.text.next && (is_lt (name_cmp nsec.owner nsec.text.next) && none_between zone nsec.owner nsec.text.next)) ≡ true
+    → cond b (name_eq nsec.fields.next zone.apex) (is_owner zone nsec.fields.next && (is_lt (name_cmp nsec.owner nsec.fields.next) && none_between zone nsec.owner nsec.fields.next)) ≡ true
     → spans name nsec ≡ true → IsMember set zone.sets → Side nsec name set.owner
 unfolding is_last
 sided_by zone nsec name set true e next spanned m =
     AtOrBefore (le_from_not_lt nsec.owner set.owner (not-true (is_lt (name_cmp nsec.owner set.owner)) (m.all (λ s. not (is_lt (name_cmp nsec.owner s.owner))) e)))
 sided_by zone nsec name set false e next spanned m =
-    let one = and_parts (is_owner zone nsec.text.next) _ next in
-    let two = and_parts (is_lt (name_cmp nsec.owner nsec.text.next)) (none_between zone nsec.owner nsec.text.next) one.1 in
-    let lt = spans_before name nsec spanned (lt_from (name_cmp nsec.owner nsec.text.next) two.0) in
+    let one = and_parts (is_owner zone nsec.fields.next) _ next in
+    let two = and_parts (is_lt (name_cmp nsec.owner nsec.fields.next)) (none_between zone nsec.owner nsec.fields.next) one.1 in
+    let lt = spans_before name nsec spanned (lt_from (name_cmp nsec.owner nsec.fields.next) two.0) in
     sided_in_row zone nsec name set (is_lt (name_cmp nsec.owner set.owner)) refl lt two.1 m
 
 -- an owner is at or before the record's owner, or at or after its next name, and that comes after the name spanned
@@ -132,14 +132,14 @@ spans_no_owner zone nsec name t spanned = false_from_ne_true _ (λ h.
     apart owner same (AtOrBefore le) =
         not_both nsec.owner name (spans_after name nsec spanned)
         (le_trans name owner nsec.owner (le_if_alike name owner (name_equiv.symm name owner ∙ same)) le)
-    apart owner same (After lt le) = not_both name nsec.text.next lt (le_trans nsec.text.next owner name le (le_if_alike owner name same))
+    apart owner same (After lt le) = not_both name nsec.fields.next lt (le_trans nsec.fields.next owner name le (le_if_alike owner name same))
 
 -- the next name is an owner
-pub next_is_owner : (zone : Zone) (nsec : OwnedNsec) → is_zone zone ≡ true → IsTrueNsec zone nsec → is_owner zone nsec.text.next ≡ true
+pub next_is_owner : (zone : Zone) (nsec : OwnedNsec) → is_zone zone ≡ true → IsTrueNsec zone nsec → is_owner zone nsec.fields.next ≡ true
 unfolding is_next
 next_is_owner zone nsec h t = by (is_last zone nsec.owner) t.next
   where
-    by : (b : Bool) → cond b (name_eq nsec.text.next zone.apex) (is_owner zone nsec.text.next && (is_lt (name_cmp nsec.owner nsec.text.next) && none_between zone nsec.owner nsec.text.next)) ≡ true
-        → is_owner zone nsec.text.next ≡ true
-    by true same = is_owner_alike zone nsec.text.next zone.apex same ∙ apex_is_owner zone h
-    by false next = (and_parts (is_owner zone nsec.text.next) _ next).0
+    by : (b : Bool) → cond b (name_eq nsec.fields.next zone.apex) (is_owner zone nsec.fields.next && (is_lt (name_cmp nsec.owner nsec.fields.next) && none_between zone nsec.owner nsec.fields.next)) ≡ true
+        → is_owner zone nsec.fields.next ≡ true
+    by true same = is_owner_alike zone nsec.fields.next zone.apex same ∙ apex_is_owner zone h
+    by false next = (and_parts (is_owner zone nsec.fields.next) _ next).0

@@ -15,7 +15,7 @@ is_at_every_owner rtype = (rtype == type_nsec) || (rtype == type_rrsig)
 
 -- the type stands at the owner (RFC 4034, 4.1.2)
 abbrev pub has_type : ℕ → OwnedNsec → Bool
-has_type rtype nsec = bitmap_has nsec.text.types rtype && not (is_at_every_owner rtype)
+has_type rtype nsec = bitmap_has nsec.fields.types rtype && not (is_at_every_owner rtype)
 
 -- the record stands above a zone cut: its owner is a delegation, and no apex (RFC 6840, 4.1)
 abbrev pub is_cut : OwnedNsec → Bool
@@ -25,11 +25,11 @@ is_cut nsec = has_type type_ns nsec && not (has_type type_soa nsec)
 
 -- the last record of a zone leads back to the apex, which sorts at or before its owner (RFC 4034, 4.1.1)
 abbrev pub leads_back : OwnedNsec → Bool
-leads_back nsec = is_le (name_cmp nsec.text.next nsec.owner)
+leads_back nsec = is_le (name_cmp nsec.fields.next nsec.owner)
 
 -- the name comes after the owner and before the next owner; after the last owner, it is at or below the apex (RFC 4035, 5.4)
 abbrev pub spans : Labels → OwnedNsec → Bool
-spans name nsec = before nsec.owner name && (before name nsec.text.next || (leads_back nsec && at_or_above nsec.text.next name))
+spans name nsec = before nsec.owner name && (before name nsec.fields.next || (leads_back nsec && at_or_above nsec.fields.next name))
 
 -- no record of the list that spans the name has an owner nearer to it
 abbrev pub is_nearest : Labels → List OwnedNsec → OwnedNsec → Bool

@@ -65,7 +65,7 @@ denies_at_owner rtype nsec = lacks_data rtype nsec && is_right_side rtype nsec
 -- the longest ancestor of a covered name that exists: owner and next owner exist, and so do their ancestors, and what exists
 -- between the two is neither name nor ancestor of the name (RFC 4592, 3.3.1)
 unfoldable pub closest_encloser : Labels → OwnedNsec → Labels
-closest_encloser name nsec = longer (common_ancestor name nsec.owner) (common_ancestor name nsec.text.next)
+closest_encloser name nsec = longer (common_ancestor name nsec.owner) (common_ancestor name nsec.fields.next)
 
 -- ---- the wildcard
 
@@ -95,7 +95,7 @@ abbrev pub proved_by_covering : Question → ℕ → Answered → List OwnedNsec
 proved_by_covering query code answered nsecs None = false
 proved_by_covering query code answered nsecs (Some nsec) =
     -- an empty non-terminal: the name exists above the next owner, and has no data (RFC 4592, 2.2.2)
-    if strictly_above query.owner nsec.text.next then is_unanswered answered && (code == code_no_error)
+    if strictly_above query.owner nsec.fields.next then is_unanswered answered && (code == code_no_error)
     else missing_name answered code query.rtype (closest_encloser query.owner nsec) nsecs
 
 abbrev pub proved_at_name : Question → ℕ → Answered → List OwnedNsec → Option OwnedNsec → Bool

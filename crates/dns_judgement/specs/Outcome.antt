@@ -89,7 +89,7 @@ denying sets = filter is_denying sets
 
 -- a record as an NSEC, with its owner
 abbrev pub owned_nsec : Rr → Option OwnedNsec
-owned_nsec r = option_map (λ text. record { owner = r.owner; text = text }) (read_as type_nsec nsec_in r)
+owned_nsec r = option_map (λ text. record { owner = r.owner; fields = text }) (read_as type_nsec nsec_in r)
 
 -- what the Secure NSEC records of the authority section say; those that can't be read say nothing
 abbrev pub denials : List Judged → List OwnedNsec

@@ -142,5 +142,5 @@ pub record IsTrueNsec (zone : Zone) (nsec : OwnedNsec) : Type 0 where
   pub owner : is_owner zone nsec.owner ≡ true
   -- the bits are the owner's types; those of NSEC and RRSIG are set at every owner (RFC 4034, 4.1.2; RFC 4035, 2.2 and 2.3)
   pub types : (rtype : ℕ)
-      → has_set zone nsec.owner rtype ≡ (bitmap_has nsec.text.types rtype && not ((rtype == type_nsec) || (rtype == type_rrsig)))
-  pub next : is_next zone nsec.owner nsec.text.next ≡ true
+      → has_set zone nsec.owner rtype ≡ (bitmap_has nsec.fields.types rtype && not ((rtype == type_nsec) || (rtype == type_rrsig)))
+  pub next : is_next zone nsec.owner nsec.fields.next ≡ true

@@ -4,8 +4,8 @@ use Rattle.dns_model.specs.Views.{NsecValue, Nsec3Value}
 
 pub record OwnedNsec : Type 0 where
   pub owner : Labels
-  pub text : NsecValue
+  pub fields : NsecValue
 
 pub record OwnedNsec3 : Type 0 where
   pub owner : Labels
-  pub text : Nsec3Value
+  pub fields : Nsec3Value

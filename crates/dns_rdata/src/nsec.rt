@@ -70,14 +70,14 @@ impl Model for NsecRecord {
 
     ghost Value = { OwnedNsec };
 
-    ghost view = { λ n. record { owner = n.owner; text = record { next = n.next; types = n.types } } };
+    ghost view = { λ n. record { owner = n.owner; fields = record { next = n.next; types = n.types } } };
 }
 
 impl NsecRecord {
     /// What a record says as an NSEC, with its owner; None exactly where its type or its shape is another.
     pub fn of(alloc: Global, from: &Record) -> Result<Option<NsecRecord>, NoMemory>
         ensures { IfOk result (λ n.
-            n ≡ option_map (λ t. record { owner = from.now.owner; text = t }) (read_as type_nsec nsec_in from.now)) }
+            n ≡ option_map (λ t. record { owner = from.now.owner; fields = t }) (read_as type_nsec nsec_in from.now)) }
     {
         let Some(nsec) = Nsec::of(from) else {
             return Ok(None);
@@ -100,7 +100,7 @@ impl NsecRecord {
 
     /// The types that stand at the owner.
     pub fn type_set(&self) -> TypeSet<'_>
-        ensures { result ≡ self.now.text.types }
+        ensures { result ≡ self.now.fields.types }
     {
         TypeSet::over(self.types.as_slice())
     }

@@ -103,7 +103,7 @@ impl Model for Nsec3Record {
 
     ghost view = { λ n. record {
       owner = n.owner;
-      text = record {
+      fields = record {
         hash_algorithm = n.hash_algorithm;
         flags = n.flags;
         iterations = n.iterations;
@@ -118,7 +118,7 @@ impl Nsec3Record {
     /// What a record says as an NSEC3, with its owner; None exactly where its type or its shape is another.
     pub fn of(alloc: Global, from: &Record) -> Result<Option<Nsec3Record>, NoMemory>
         ensures { IfOk result (λ n.
-            n ≡ option_map (λ t. record { owner = from.now.owner; text = t }) (read_as type_nsec3 nsec3_in from.now)) }
+            n ≡ option_map (λ t. record { owner = from.now.owner; fields = t }) (read_as type_nsec3 nsec3_in from.now)) }
     {
         let Some(nsec3) = Nsec3::of(from) else {
             return Ok(None);
@@ -159,7 +159,7 @@ impl Nsec3Record {
 
     /// The types that stand at the name whose hash the owner's first label is.
     pub fn type_set(&self) -> TypeSet<'_>
-        ensures { result ≡ self.now.text.types }
+        ensures { result ≡ self.now.fields.types }
     {
         TypeSet::over(self.types.as_slice())
     }

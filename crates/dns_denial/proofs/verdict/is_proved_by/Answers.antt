@@ -10,6 +10,6 @@ is_wildcard_denied-requires c =
     let nsec = c.args.nsec.now in
     let same : c.copy-name.result ≡ name = search rules in
     let good : is_name name ≡ true = search rules in
-    let apart : strictly_above name nsec.text.next ≡ false = search rules in
+    let apart : strictly_above name nsec.fields.next ≡ false = search rules in
     let fits : is_name (star (closest_encloser name nsec)) ≡ true = wildcard_is_name name nsec good (covering_spans name c.args.nsecs.now nsec c.requires) apart in
     ap (λ n. is_name (star n)) (c.closest_encloser-encloser.ensures ∙ ap (λ n. closest_encloser n nsec) same) ∙ fits
