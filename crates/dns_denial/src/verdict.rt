@@ -3,7 +3,7 @@ ghost use Rattle.std.specs.Prelude.{◌≡◌, ℕ, ◌==◌, ◌&&◌, true, So
 ghost use Rattle.std.specs.List.{list_any, find};
 ghost use Rattle.std.specs.Option.{option_copied};
 ghost use Rattle.dns_model.specs.Names.{is_name, star};
-ghost use Rattle.dns_record.specs.declared.answered.Answered.TheVariants.{No, Expanded};
+ghost use Rattle.dns_model.specs.declared.answered.Answered.TheVariants.{No, Expanded};
 ghost use Rattle.dns_model.specs.declared.proof.Proof.TheVariants.{Secure};
 ghost use Rattle.dns_judgement.specs.DenialInZones.{IsDeniedIn, IsExpandedIn};
 ghost use Rattle.dns_judgement.specs.Covering.{covering as covering_in};

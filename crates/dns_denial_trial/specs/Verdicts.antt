@@ -10,8 +10,8 @@ use Rattle.dns_model.specs.declared.proof.Proof.{Proof}
 use Rattle.dns_model.specs.declared.proof.Proof.TheVariants.{Secure, Insecure, Bogus, Indeterminate}
 use Rattle.dns_message.specs.declared.decode_error.DecodeError.{DecodeError}
 use Rattle.dns_model.specs.RecordViews.{read_as, rrsig_of}
-use Rattle.dns_record.specs.declared.answered.Answered.{Answered}
-use Rattle.dns_record.specs.declared.answered.Answered.TheVariants.{No, Plain, Expanded}
+use Rattle.dns_model.specs.declared.answered.Answered.{Answered}
+use Rattle.dns_model.specs.declared.answered.Answered.TheVariants.{No, Plain, Expanded}
 use Rattle.dns_judgement.specs.NsecVerdict.{nsec_verdict}
 use Rattle.dns_session.specs.SessionValue.{ReplyKindValue, Message, Empty, Fault, ReplyValue}
 

@@ -11,7 +11,7 @@ use Rattle.dns_model.specs.Shapes.{window_in, windows_in, has_bit, window_has, b
 use Rattle.dns_model.specs.Records.{Question}
 use Rattle.dns_model.specs.Owned.{OwnedNsec}
 use Rattle.dns_model.specs.declared.proof.Proof.TheVariants.{Secure, Bogus}
-use Rattle.dns_record.specs.declared.answered.Answered.TheVariants.{No, Expanded}
+use Rattle.dns_model.specs.declared.answered.Answered.TheVariants.{No, Expanded}
 use Rattle.dns_judgement.specs.Covering.{covering}
 use Rattle.dns_judgement.specs.NsecVerdict.{closest_encloser, nsec_verdict}
 use Rattle.dns_judgement.specs.Zones.{has_set, is_owner, is_delegation, exists_in, encloser, from_wildcard, lookup, Data, is_last, none_between, is_next, IsTrueNsec}

@@ -12,8 +12,8 @@ use Rattle.dns_model.specs.declared.proof.Proof.TheVariants.{Secure, Bogus}
 use Rattle.dns_model.proofs.EachLemmas.{find_known}
 use Rattle.dns_model.proofs.NameLemmas.{name_equiv}
 use Rattle.dns_model.proofs.AboveLemmas.{above_alike, above_itself, above_is_shorter, above_nested, strictly_made, strictly_parts}
-use Rattle.dns_record.specs.declared.answered.Answered.{Answered}
-use Rattle.dns_record.specs.declared.answered.Answered.TheVariants.{No, Expanded}
+use Rattle.dns_model.specs.declared.answered.Answered.{Answered}
+use Rattle.dns_model.specs.declared.answered.Answered.TheVariants.{No, Expanded}
 use Rattle.dns_judgement.specs.Covering.{has_type, counts_for, covering, number_of, covering_number}
 use Rattle.dns_judgement.specs.NsecVerdict.{can_deny, holds_query, code_nx_domain, code_no_error, is_plain, is_owned_by, lacks_data, is_right_side, denies_at_owner, closest_encloser, wildcard_lacks, wildcard_denies, missing_name, proved_by_covering, proved_at_name, nsec_verdict}
 use Rattle.dns_judgement.specs.Zones.{Zone, has_set, is_delegation, exists_in, is_zone, encloser, has_data, from_wildcard, lookup, Referral, Data, NoData, NxDomain, IsTrueNsec}

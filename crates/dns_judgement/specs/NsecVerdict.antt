@@ -9,8 +9,8 @@ use Rattle.dns_model.specs.Records.{Question}
 use Rattle.dns_model.specs.Owned.{OwnedNsec}
 use Rattle.dns_model.specs.declared.proof.Proof.{Proof}
 use Rattle.dns_model.specs.declared.proof.Proof.TheVariants.{Secure, Bogus}
-use Rattle.dns_record.specs.declared.answered.Answered.{Answered}
-use Rattle.dns_record.specs.declared.answered.Answered.TheVariants.{No, Plain, Expanded}
+use Rattle.dns_model.specs.declared.answered.Answered.{Answered}
+use Rattle.dns_model.specs.declared.answered.Answered.TheVariants.{No, Plain, Expanded}
 use Rattle.dns_judgement.specs.Covering.{has_type, is_cut, covering}
 
 abbrev pub secure_if : Bool → Proof

@@ -15,8 +15,8 @@ use Rattle.dns_model.specs.Views.{nsec_in}
 use Rattle.dns_model.specs.Owned.{OwnedNsec}
 use Rattle.dns_model.specs.Sections.{is_signature}
 use Rattle.dns_model.specs.SoundAnswers.{Told, section_eq, is_secure}
-use Rattle.dns_record.specs.declared.answered.Answered.{Answered}
-use Rattle.dns_record.specs.declared.answered.Answered.TheVariants.{No, Plain, Expanded}
+use Rattle.dns_model.specs.declared.answered.Answered.{Answered}
+use Rattle.dns_model.specs.declared.answered.Answered.TheVariants.{No, Plain, Expanded}
 use Rattle.dns_judgement.specs.NsecVerdict.{nsec_verdict}
 use Rattle.dns_judgement.specs.Judged.{Judged, decider}
 use Rattle.dns_judgement.specs.Marking.{is_about}

@@ -14,8 +14,8 @@ use Rattle.dns_model.specs.Owned.{OwnedNsec}
 use Rattle.dns_model.specs.SoundAnswers.{Told, is_secure}
 use Rattle.dns_model.proofs.EachLemmas.{each_passes}
 use Rattle.dns_model.proofs.SetLemmas.{name_refl}
-use Rattle.dns_record.specs.declared.answered.Answered.{Answered}
-use Rattle.dns_record.specs.declared.answered.Answered.TheVariants.{No, Plain, Expanded}
+use Rattle.dns_model.specs.declared.answered.Answered.{Answered}
+use Rattle.dns_model.specs.declared.answered.Answered.TheVariants.{No, Plain, Expanded}
 use Rattle.dns_judgement.specs.NsecVerdict.{can_deny, holds_query, nsec_verdict}
 use Rattle.dns_judgement.proofs.Promises.{denial_of, expansion_of}
 use Rattle.dns_judgement.specs.Judged.{Judged, placed_of}

@@ -16,7 +16,7 @@ use Rattle.dns_model.specs.Sections.{is_signature}
 use Rattle.dns_model.specs.SoundAnswers.{Told, placed_sets, section_of, section_eq, is_secure, set_rtype}
 use Rattle.dns_model.proofs.EachLemmas.{each_more, find_known}
 use Rattle.dns_model.proofs.SetLemmas.{KeepsKey, IsSignedIn, name_back, name_trans}
-use Rattle.dns_record.specs.declared.answered.Answered.TheVariants.{No, Expanded}
+use Rattle.dns_model.specs.declared.answered.Answered.TheVariants.{No, Expanded}
 use Rattle.dns_judgement.specs.DenialInZones.{IsShownBy}
 use Rattle.dns_judgement.specs.Zones.{Zone, IsTrueNsec}
 use Rattle.dns_judgement.specs.Judged.{Judged, placed_of, decider}

@@ -8,7 +8,7 @@ use Rattle.dns_model.specs.Names.{Labels}
 use Rattle.dns_model.specs.Records.{Question}
 use Rattle.dns_model.specs.SoundAnswers.{Told}
 use Rattle.dns_model.specs.Trails.{AskedValue, Answered}
-use Rattle.dns_record.specs.declared.answered.Answered.TheVariants.{Expanded}
+use Rattle.dns_model.specs.declared.answered.Answered.TheVariants.{Expanded}
 use Rattle.dns_judgement.specs.NsecVerdict.{holds_query}
 use Rattle.dns_judgement.specs.DenialInZones.{IsDeniedIn, IsExpandedIn}
 use Rattle.dns_judgement.specs.Judged.{Judged}

@@ -12,7 +12,7 @@ use Rattle.dns_model.specs.Owned.{OwnedNsec}
 use Rattle.dns_model.specs.Records.{Question}
 use Rattle.dns_model.specs.SoundAnswers.{Told, told_by, ResponseValue, is_secure}
 use Rattle.dns_model.specs.Trails.{EndingValue, Failed}
-use Rattle.dns_record.specs.declared.answered.Answered.{Answered}
+use Rattle.dns_model.specs.declared.answered.Answered.{Answered}
 use Rattle.dns_judgement.specs.NsecVerdict.{nsec_verdict}
 use Rattle.dns_judgement.specs.Chained.{bare}
 use Rattle.dns_judgement.specs.Derivation.{judged_sets, ending_by}
@@ -20,11 +20,11 @@ use Rattle.dns_judgement.specs.Judged.{Judged}
 use Rattle.dns_judgement.specs.Outcome.{Outcome, Unjudged, Accepted, Searched, is_unjudged, denying, denials, one_signer, answered, outcome_by_denials, outcome_of}
 use Rattle.dns_judgement.specs.Outcome as outcome
 use Rattle.dns_judgement.proofs.DerivationLemmas.{top_step_is}
-use Rattle.dns_net.specs.Errors.{Reply, Message}
-use Rattle.dns_net.specs.Replies.{reply_of}
-use Rattle.dns_net.specs.declared.error.NetError.{NetError}
-use Rattle.dns_net.specs.declared.handle.DnsHandle as handle
-use Rattle.dns_net.specs.declared.notice.Notice.TheVariants.{NotJudgedYet}
+use Rattle.dns_handle.specs.Errors.{Reply, Message}
+use Rattle.dns_handle.specs.Replies.{reply_of}
+use Rattle.dns_handle.specs.declared.error.NetError.{NetError}
+use Rattle.dns_handle.specs.declared.handle.DnsHandle as handle
+use Rattle.dns_handle.specs.declared.notice.Notice.TheVariants.{NotJudgedYet}
 use Rattle.dns_lookup.specs.Calls.{Call}
 use Rattle.dns_lookup.specs.LookupAnswers.{UnlessNoMemory, OfAnswer}
 use Rattle.dns_lookup.specs.Causes.{sees_nsec3, IsUnjudged, UnjudgedOnly}

@@ -1,7 +1,6 @@
 //! Records, sets and queries. The layer above sees each as the plain value of `dns_model` that has its name.
 #![tactic(auto)]
 
-mod answered;
 mod codes;
 mod laws;
 mod query;
@@ -10,9 +9,8 @@ mod record;
 mod record_set;
 mod words;
 
-pub use answered::Answered;
 pub use codes::{DNSClass, OpCode, RecordType, ResponseCode};
-pub use dns_model::{Denial, Proof, Section};
+pub use dns_model::{Answered, Denial, Proof, Section};
 pub use dns_name::{Name, NoMemory, Octets};
 pub use laws::{equal_queries_differ_in_case_alone, equal_queries_hash_alike};
 pub use query::Query;
