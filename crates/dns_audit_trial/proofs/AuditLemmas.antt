@@ -5,10 +5,10 @@ use Rattle.std.specs.Io.KnownBytes.{Appends}
 use Rattle.dns_model.specs.Keys.{VerifierAnswers, AnchorValue, anchored}
 use Rattle.dns_model.specs.Chains.{Judge, judge}
 use Rattle.dns_model.specs.SoundAnswers.{ResponseValue}
-use Rattle.dns_net.specs.Errors as seen
-use Rattle.dns_net.specs.Replies.{error_of}
-use Rattle.dns_net.specs.declared.error.NetError.{NetError}
-use Rattle.dns_net.specs.declared.error.NetError.TheVariants.{NoMemory}
+use Rattle.dns_handle.specs.Errors as seen
+use Rattle.dns_handle.specs.Replies.{error_of}
+use Rattle.dns_handle.specs.declared.error.NetError.{NetError}
+use Rattle.dns_handle.specs.declared.error.NetError.TheVariants.{NoMemory}
 use Rattle.dns_anchors.specs.Listing.{answers_of}
 use Rattle.dns_session.specs.SessionValue.{SessionValue}
 use Rattle.dns_session.specs.Grammar.{session_of}

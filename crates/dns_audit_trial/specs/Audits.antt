@@ -4,8 +4,8 @@ use Rattle.std.specs.Prelude.{ℕ, ◌≡◌, ◌+◌, ◌-◌, ◌^◌, min, Li
 use Rattle.dns_model.specs.Chains.{Judge, justified}
 use Rattle.dns_model.specs.SoundAnswers.{ChainValue, ResponseValue}
 use Rattle.dns_judgement.specs.Derivation.{derivation}
-use Rattle.dns_net.specs.Errors.{Reply, Dns, Nsec}
-use Rattle.dns_net.specs.Requests.{plain_options}
+use Rattle.dns_handle.specs.Errors.{Reply, Dns, Nsec}
+use Rattle.dns_handle.specs.Requests.{plain_options}
 use Rattle.dns_session.specs.SessionValue.{SessionValue}
 use Rattle.dns_run.specs.Causes.{AnswersSession}
 use Rattle.dns_run.specs.Soundness.{session_judge}

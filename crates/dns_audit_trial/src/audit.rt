@@ -1,8 +1,8 @@
 //! What the checks say of a response (RFC 4035, 4.3, 5.2 and 5.3).
 ghost use Rattle.std.specs.Prelude.{◌≡◌, ◌↔◌, Err, IfOk, IsTrue};
 ghost use Rattle.dns_anchors.specs.Judge.{judge_of};
-ghost use Rattle.dns_net.specs.Errors as seen;
-ghost use Rattle.dns_net.specs.Replies.{error_of};
+ghost use Rattle.dns_handle.specs.Errors as seen;
+ghost use Rattle.dns_handle.specs.Replies.{error_of};
 ghost use Rattle.dns_audit_trial.specs.Audits.{audited_by, response_in, session_audited, with_chain, with_chains, Responds};
 
 use dns_chain_check::check_chain;

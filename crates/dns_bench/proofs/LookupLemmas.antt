@@ -3,13 +3,13 @@ use Rattle.std.proofs.Common.{◌≡◌, ◌≢◌, ℕ, ◌-◌, ◌<◌, [], �
 use Rattle.dns_model.specs.Records.{Question}
 use Rattle.dns_model.specs.Keys.{anchored}
 use Rattle.dns_model.specs.SoundAnswers.{ResponseValue}
-use Rattle.dns_net.specs.declared.error.NetError.{NetError}
-use Rattle.dns_net.specs.declared.error.NetError.TheVariants.{NoMemory}
-use Rattle.dns_net.specs.contracts.recorded.RecordedDnsHandle.TheImpl as upstream
-use Rattle.dns_net.specs.Replies.{reply_of, error_of}
-use Rattle.dns_net.specs.declared.request.DnsRequestOptions.{DnsRequestOptions}
-use Rattle.dns_net.specs.Requests.{plain_options}
-use Rattle.dns_net.specs.Recording.{RecordedValue, replies_of}
+use Rattle.dns_handle.specs.declared.error.NetError.{NetError}
+use Rattle.dns_handle.specs.declared.error.NetError.TheVariants.{NoMemory}
+use Rattle.dns_recorded.specs.contracts.recorded.RecordedDnsHandle.TheImpl as upstream
+use Rattle.dns_handle.specs.Replies.{reply_of, error_of}
+use Rattle.dns_handle.specs.declared.request.DnsRequestOptions.{DnsRequestOptions}
+use Rattle.dns_handle.specs.Requests.{plain_options}
+use Rattle.dns_recorded.specs.Recording.{RecordedValue, replies_of}
 use Rattle.dns_anchors.specs.Listing.{answers_of}
 use Rattle.dns_lookup.specs.Causes.{PassesOn, ForeignNamed, JudgesTold}
 use Rattle.dns_lookup.specs.LookupAnswers.{UnlessNoMemory, OfAnswer, IsSoundAnswer, IsTrail}

@@ -2,11 +2,11 @@
 use Rattle.std.specs.Prelude.{ℕ, ◌≡◌, List, [], ◌∷◌, length, Some, Ok, Err}
 use Rattle.dns_model.specs.Records.{Question}
 use Rattle.dns_model.specs.Chains.{Judge}
-use Rattle.dns_net.specs.Errors.{Reply}
-use Rattle.dns_net.specs.Requests.{plain_options}
-use Rattle.dns_net.specs.Recording.{RecordedValue, replies_of}
-use Rattle.dns_net.specs.contracts.recorded.RecordedDnsHandle.TheImpl as upstream
-use Rattle.dns_net.specs.declared.request.DnsRequestOptions.{DnsRequestOptions}
+use Rattle.dns_handle.specs.Errors.{Reply}
+use Rattle.dns_handle.specs.Requests.{plain_options}
+use Rattle.dns_recorded.specs.Recording.{RecordedValue, replies_of}
+use Rattle.dns_recorded.specs.contracts.recorded.RecordedDnsHandle.TheImpl as upstream
+use Rattle.dns_handle.specs.declared.request.DnsRequestOptions.{DnsRequestOptions}
 use Rattle.dns_lookup.specs.Calls.{Call}
 use Rattle.dns_lookup.specs.AskRequests.{asking_request}
 use Rattle.dns_lookup.specs.Causes.{PassesOn, ForeignNamed, JudgesTold}

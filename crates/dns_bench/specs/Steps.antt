@@ -2,9 +2,9 @@
 use Rattle.std.specs.Prelude.{ℕ, ◌≡◌, ◌≤◌, ◌+◌, List, ◌++◌, length}
 use Rattle.dns_model.specs.Records.{Question}
 use Rattle.dns_model.specs.Chains.{judge}
-use Rattle.dns_net.specs.Errors.{Reply}
-use Rattle.dns_net.specs.Recording.{RecordedValue}
-use Rattle.dns_net.specs.declared.request.DnsRequestOptions.{DnsRequestOptions}
+use Rattle.dns_handle.specs.Errors.{Reply}
+use Rattle.dns_recorded.specs.Recording.{RecordedValue}
+use Rattle.dns_handle.specs.declared.request.DnsRequestOptions.{DnsRequestOptions}
 use Rattle.dns_anchors.specs.Listing.{ListedValue, answers_of}
 use Rattle.dns_lookup.specs.declared.handle.DnssecDnsHandle.{DnssecDnsHandle}
 use Rattle.dns_lookup.specs.Calls.{inner_of, anchors_of, verifier_of}

@@ -1,6 +1,6 @@
 //! Lookups of a session's query, one after another.
 ghost use Rattle.std.specs.Prelude.{◌≡◌, ◌≢◌, Err, IfOk};
-ghost use Rattle.dns_net.specs.Replies.{reply_of};
+ghost use Rattle.dns_handle.specs.Replies.{reply_of};
 ghost use Rattle.dns_lookup.specs.LookupAnswers.{UnlessNoMemory};
 ghost use Rattle.dns_lookup.specs.Calls.{inner_of};
 ghost use Rattle.dns_bench.specs.Lookups.{with_answer, GivesAnswer, Repeats, RepeatsSession};

@@ -4,13 +4,13 @@ use Rattle.std.proofs.lemmas.List.Sums.{sum_by-cons}
 use Rattle.dns_model.specs.Counts.{RoseBy}
 use Rattle.dns_model.specs.Records.{Question, MessageValue}
 use Rattle.dns_model.specs.Trails.{AskedValue}
-use Rattle.dns_net.specs.Errors as seen
-use Rattle.dns_net.specs.Errors.{Reply, ErrorValue}
-use Rattle.dns_net.specs.ErrorKinds.{is_no_records_found}
-use Rattle.dns_net.specs.Handles.{Replies, reply_to, left_after, IsLeft, ReplyIsTold}
-use Rattle.dns_net.specs.Requests.{RequestValue}
-use Rattle.dns_net.specs.declared.request.DnsRequestOptions.{DnsRequestOptions}
-use Rattle.dns_net.specs.declared.handle.DnsHandle as handle
+use Rattle.dns_handle.specs.Errors as seen
+use Rattle.dns_handle.specs.Errors.{Reply, ErrorValue}
+use Rattle.dns_handle.specs.ErrorKinds.{is_no_records_found}
+use Rattle.dns_handle.specs.Handles.{Replies, reply_to, left_after, IsLeft, ReplyIsTold}
+use Rattle.dns_handle.specs.Requests.{RequestValue}
+use Rattle.dns_handle.specs.declared.request.DnsRequestOptions.{DnsRequestOptions}
+use Rattle.dns_handle.specs.declared.handle.DnsHandle as handle
 use Rattle.dns_lookup.specs.Received.{received_message, heard_from}
 use Rattle.dns_lookup.specs.Calls.{Call, IsCaused, Sending, Asking, ask_of_call, first_ask_of_call}
 use Rattle.dns_lookup.specs.AskRequests.{Ask, request_for}

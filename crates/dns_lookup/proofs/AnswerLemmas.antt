@@ -13,7 +13,7 @@ use Rattle.dns_judgement.specs.Derivation.{Unseen, sight_of, if_answered, judged
 use Rattle.dns_judgement.specs.Derivation as derived
 use Rattle.dns_judgement.specs.DerivationParts.{asks_of_sets}
 use Rattle.dns_judgement.specs.Outcome.{Outcome, foreign_record}
-use Rattle.dns_net.specs.Errors.{Reply}
+use Rattle.dns_handle.specs.Errors.{Reply}
 use Rattle.dns_lookup.specs.AskRequests.{Ask, judged_ask}
 use Rattle.dns_lookup.specs.Walking.{MetFault, Received, Asks, IsAdded, IsAnswer, IsSeen, IsJudgement, IsConcluded, judged_step, plain_step, foreign_ending, accepted_sets}
 use Rattle.dns_lookup.specs.declared.receiving.ReceivedMessage.{ReceivedMessage}

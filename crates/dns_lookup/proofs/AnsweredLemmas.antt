@@ -19,11 +19,11 @@ use Rattle.dns_judgement.specs.Outcome.{Outcome, Unjudged, Accepted, Searched, i
 use Rattle.dns_judgement.specs.Outcome as outcome
 use Rattle.dns_judgement.proofs.MarkedLemmas.{IsKnown, each_known}
 use Rattle.dns_laws.proofs.GroundParts.{any_front, picked, found_any}
-use Rattle.dns_net.specs.Errors.{Reply, ErrorValue}
-use Rattle.dns_net.specs.Handles.{reply_to}
-use Rattle.dns_net.specs.Replies.{reply_of}
-use Rattle.dns_net.specs.declared.error.NetError.{NetError}
-use Rattle.dns_net.specs.declared.handle.DnsHandle as handle
+use Rattle.dns_handle.specs.Errors.{Reply, ErrorValue}
+use Rattle.dns_handle.specs.Handles.{reply_to}
+use Rattle.dns_handle.specs.Replies.{reply_of}
+use Rattle.dns_handle.specs.declared.error.NetError.{NetError}
+use Rattle.dns_handle.specs.declared.handle.DnsHandle as handle
 use Rattle.dns_lookup.specs.Received.{received_message}
 use Rattle.dns_lookup.specs.Calls.{Call}
 use Rattle.dns_lookup.specs.LookupAnswers.{UnlessNoMemory}

@@ -8,8 +8,8 @@ use Rattle.dns_judgement.specs.Asking.{most_sends}
 use Rattle.dns_judgement.specs.Derivation.{step_holds, asks_of}
 use Rattle.dns_judgement.proofs.PartLemmas.{part_none, part_deep, part_many, part_then, part_step}
 use Rattle.dns_judgement.proofs.SentLemmas.{sent_of_none, sent_of_deep, sent_of_many, sent_of_then, sent_of_step}
-use Rattle.dns_net.specs.Errors.{Reply}
-use Rattle.dns_net.proofs.WalkLemmas.{no_walk, then_walk}
+use Rattle.dns_handle.specs.Errors.{Reply}
+use Rattle.dns_handle.proofs.WalkLemmas.{no_walk, then_walk}
 use Rattle.dns_lookup.specs.AskRequests.{Ask}
 use Rattle.dns_lookup.specs.Sends.{SendOf, SendsAlong}
 use Rattle.dns_lookup.specs.Walking.{CountedSends, Asks}

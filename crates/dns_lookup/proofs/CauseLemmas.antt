@@ -5,14 +5,14 @@ use Rattle.dns_model.specs.Records.{Question, MessageValue}
 use Rattle.dns_model.specs.SoundAnswers.{ResponseValue}
 use Rattle.dns_judgement.specs.Outcome.{Outcome, Unjudged, Accepted, Searched}
 use Rattle.dns_judgement.specs.Outcome as outcome
-use Rattle.dns_net.specs.Errors as seen
-use Rattle.dns_net.specs.Errors.{Reply, ErrorValue, Dns, Message, ForeignClassRecord, Nsec}
-use Rattle.dns_net.specs.ErrorKinds.{is_no_records_found}
-use Rattle.dns_net.specs.Handles.{reply_to, ReplyIsTold}
-use Rattle.dns_net.specs.Replies.{reply_of}
-use Rattle.dns_net.specs.declared.error.NetError.{NetError}
-use Rattle.dns_net.specs.declared.handle.DnsHandle as handle
-use Rattle.dns_net.specs.declared.notice.Notice.TheVariants.{NotJudgedYet}
+use Rattle.dns_handle.specs.Errors as seen
+use Rattle.dns_handle.specs.Errors.{Reply, ErrorValue, Dns, Message, ForeignClassRecord, Nsec}
+use Rattle.dns_handle.specs.ErrorKinds.{is_no_records_found}
+use Rattle.dns_handle.specs.Handles.{reply_to, ReplyIsTold}
+use Rattle.dns_handle.specs.Replies.{reply_of}
+use Rattle.dns_handle.specs.declared.error.NetError.{NetError}
+use Rattle.dns_handle.specs.declared.handle.DnsHandle as handle
+use Rattle.dns_handle.specs.declared.notice.Notice.TheVariants.{NotJudgedYet}
 use Rattle.dns_lookup.specs.Received.{received_message}
 use Rattle.dns_lookup.specs.Calls.{Call, IsCaused, first_ask_of_call}
 use Rattle.dns_lookup.specs.AskRequests.{judged_ask}

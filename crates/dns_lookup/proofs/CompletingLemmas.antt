@@ -18,12 +18,12 @@ use Rattle.dns_laws.specs.Valid.{IsValidSession}
 use Rattle.dns_laws.proofs.CompleteLemmas.{valid_reply, valid_session_is_proved}
 use Rattle.dns_laws.proofs.TestLemmas.{some_same}
 use Rattle.dns_laws.proofs.QuestionLemmas.{question_refl, question_back, question_trans, question_right}
-use Rattle.dns_net.specs.Errors.{Reply, Dns, Message, Nsec}
-use Rattle.dns_net.specs.Handles.{Replies, reply_to, after_turn, left_after, ReplyIsTold}
-use Rattle.dns_net.specs.Replies.{reply_of}
-use Rattle.dns_net.specs.declared.error.NetError.{NetError}
-use Rattle.dns_net.specs.declared.handle.DnsHandle as handle
-use Rattle.dns_net.specs.declared.notice.Notice.TheVariants.{NotJudgedYet}
+use Rattle.dns_handle.specs.Errors.{Reply, Dns, Message, Nsec}
+use Rattle.dns_handle.specs.Handles.{Replies, reply_to, after_turn, left_after, ReplyIsTold}
+use Rattle.dns_handle.specs.Replies.{reply_of}
+use Rattle.dns_handle.specs.declared.error.NetError.{NetError}
+use Rattle.dns_handle.specs.declared.handle.DnsHandle as handle
+use Rattle.dns_handle.specs.declared.notice.Notice.TheVariants.{NotJudgedYet}
 use Rattle.dns_lookup.specs.Received.{received, heard_from, says_none}
 use Rattle.dns_lookup.specs.Calls.{Call}
 use Rattle.dns_lookup.specs.Causes.{ends_trail, JudgesTold, PassedOn, IsUnjudged, UnjudgedOnly}

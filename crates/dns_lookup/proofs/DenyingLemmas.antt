@@ -11,10 +11,10 @@ use Rattle.dns_judgement.proofs.DerivationLemmas.{top_step_is}
 use Rattle.dns_laws.specs.Denials.{ShowsDenial, StepDenies, HasDenials}
 use Rattle.dns_laws.proofs.DenialLemmas.{denials_hold}
 use Rattle.dns_laws.proofs.SignatureDenials.{denies_by_records}
-use Rattle.dns_net.specs.Errors.{Reply}
-use Rattle.dns_net.specs.Replies.{reply_of}
-use Rattle.dns_net.specs.declared.error.NetError.{NetError}
-use Rattle.dns_net.specs.declared.handle.DnsHandle as handle
+use Rattle.dns_handle.specs.Errors.{Reply}
+use Rattle.dns_handle.specs.Replies.{reply_of}
+use Rattle.dns_handle.specs.declared.error.NetError.{NetError}
+use Rattle.dns_handle.specs.declared.handle.DnsHandle as handle
 use Rattle.dns_lookup.specs.Calls.{Call}
 use Rattle.dns_lookup.specs.LookupAnswers.{UnlessNoMemory, OfAnswer, ShowsItsDenial}
 use Rattle.dns_lookup.specs.Answering.{top_of, Findings, trail_of, Found, AnswersLookup}

@@ -10,11 +10,11 @@ use Rattle.dns_judgement.specs.Chained.{finished}
 use Rattle.dns_judgement.specs.Derivation.{ending_by}
 use Rattle.dns_judgement.specs.Outcome.{Outcome, Unjudged, Accepted, Searched}
 use Rattle.dns_judgement.specs.Outcome as outcome
-use Rattle.dns_net.specs.Errors as seen
-use Rattle.dns_net.specs.Errors.{Reply, ErrorValue, Busy, Dns, Message, Msg, NoConnections, Proto, Io, Timeout, QueryCaseMismatch, ForeignClassRecord, Truncated, ResponseCode, NoRecordsFound, Nsec, DnssecBogus}
-use Rattle.dns_net.specs.Replies.{reply_of, error_of}
-use Rattle.dns_net.specs.declared.error.NetError.{NetError}
-use Rattle.dns_net.specs.declared.handle.DnsHandle as handle
+use Rattle.dns_handle.specs.Errors as seen
+use Rattle.dns_handle.specs.Errors.{Reply, ErrorValue, Busy, Dns, Message, Msg, NoConnections, Proto, Io, Timeout, QueryCaseMismatch, ForeignClassRecord, Truncated, ResponseCode, NoRecordsFound, Nsec, DnssecBogus}
+use Rattle.dns_handle.specs.Replies.{reply_of, error_of}
+use Rattle.dns_handle.specs.declared.error.NetError.{NetError}
+use Rattle.dns_handle.specs.declared.handle.DnsHandle as handle
 use Rattle.dns_laws.specs.Ground.{HasGrounds}
 use Rattle.dns_laws.proofs.GroundLemmas.{insecure_is_grounded}
 use Rattle.dns_lookup.specs.Received.{received_message, no_records_message}

@@ -8,17 +8,17 @@ use Rattle.dns_judgement.specs.Asking.{most_sends, depth_limit, judged_part}
 use Rattle.dns_judgement.specs.Chained.{Chained, bare}
 use Rattle.dns_judgement.specs.DerivationParts.{asks_of_sets}
 use Rattle.dns_judgement.specs.Outcome.{Outcome, foreign_record}
-use Rattle.dns_net.specs.Errors as seen
-use Rattle.dns_net.specs.Errors.{Reply, ForeignClassRecord}
-use Rattle.dns_net.specs.Handles.{OrUnsent}
-use Rattle.dns_net.specs.Replies.{error_of}
-use Rattle.dns_net.specs.Requests.{RequestValue}
-use Rattle.dns_net.specs.Walks.{Walked}
-use Rattle.dns_net.specs.declared.error.NetError.{NetError}
-use Rattle.dns_net.specs.declared.error.NetError.TheVariants.{Busy, Dns, Message, Msg, NoConnections, Proto, Io, Timeout, QueryCaseMismatch, ForeignClassRecord as ForeignClass, Truncated, NoMemory}
-use Rattle.dns_net.specs.declared.handle.DnsHandle as handle
-use Rattle.dns_net.specs.declared.request.DnsRequestOptions.{DnsRequestOptions}
-use Rattle.dns_net.proofs.WalkLemmas.{no_walk}
+use Rattle.dns_handle.specs.Errors as seen
+use Rattle.dns_handle.specs.Errors.{Reply, ForeignClassRecord}
+use Rattle.dns_handle.specs.Handles.{OrUnsent}
+use Rattle.dns_handle.specs.Replies.{error_of}
+use Rattle.dns_handle.specs.Requests.{RequestValue}
+use Rattle.dns_handle.specs.Walks.{Walked}
+use Rattle.dns_handle.specs.declared.error.NetError.{NetError}
+use Rattle.dns_handle.specs.declared.error.NetError.TheVariants.{Busy, Dns, Message, Msg, NoConnections, Proto, Io, Timeout, QueryCaseMismatch, ForeignClassRecord as ForeignClass, Truncated, NoMemory}
+use Rattle.dns_handle.specs.declared.handle.DnsHandle as handle
+use Rattle.dns_handle.specs.declared.request.DnsRequestOptions.{DnsRequestOptions}
+use Rattle.dns_handle.proofs.WalkLemmas.{no_walk}
 use Rattle.dns_lookup.specs.Received.{received_message}
 use Rattle.dns_lookup.specs.Calls.{Call, Asking, Requesting, ask_of_call, first_ask_of_call}
 use Rattle.dns_lookup.specs.AskRequests.{Ask, judged_ask, request_for}

@@ -4,16 +4,16 @@ use Rattle.dns_model.specs.Records.{Question, MessageValue}
 use Rattle.dns_model.specs.SoundAnswers.{told_by, ResponseValue}
 use Rattle.dns_model.specs.Trails.{AskedValue, Records, Fault}
 use Rattle.dns_judgement.specs.Marking.{cleared_message}
-use Rattle.dns_net.specs.Errors as seen
-use Rattle.dns_net.specs.Errors.{Reply, ErrorValue}
-use Rattle.dns_net.specs.Causes.{HasCause}
-use Rattle.dns_net.specs.Handles.{ReplyIsTold, IsLeft}
-use Rattle.dns_net.specs.Replies.{error_of, reply_of}
-use Rattle.dns_net.specs.Requests.{RequestValue, first_question}
-use Rattle.dns_net.specs.declared.error.NetError.{NetError}
-use Rattle.dns_net.specs.declared.error.NetError.TheVariants.{Busy, Dns, Message, Msg, NoConnections, Proto, Io, Timeout, QueryCaseMismatch, ForeignClassRecord, Truncated, NoMemory}
-use Rattle.dns_net.specs.declared.handle.DnsHandle as handle
-use Rattle.dns_net.specs.declared.request.DnsRequestOptions.{DnsRequestOptions}
+use Rattle.dns_handle.specs.Errors as seen
+use Rattle.dns_handle.specs.Errors.{Reply, ErrorValue}
+use Rattle.dns_handle.specs.Causes.{HasCause}
+use Rattle.dns_handle.specs.Handles.{ReplyIsTold, IsLeft}
+use Rattle.dns_handle.specs.Replies.{error_of, reply_of}
+use Rattle.dns_handle.specs.Requests.{RequestValue, first_question}
+use Rattle.dns_handle.specs.declared.error.NetError.{NetError}
+use Rattle.dns_handle.specs.declared.error.NetError.TheVariants.{Busy, Dns, Message, Msg, NoConnections, Proto, Io, Timeout, QueryCaseMismatch, ForeignClassRecord, Truncated, NoMemory}
+use Rattle.dns_handle.specs.declared.handle.DnsHandle as handle
+use Rattle.dns_handle.specs.declared.request.DnsRequestOptions.{DnsRequestOptions}
 use Rattle.dns_lookup.specs.Calls.{Sending, Asking, IsCaused}
 use Rattle.dns_lookup.specs.Received.{received_message, says_none}
 use Rattle.dns_lookup.specs.AskRequests.{Ask, request_for}

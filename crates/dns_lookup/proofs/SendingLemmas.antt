@@ -4,14 +4,14 @@ use Rattle.dns_model.specs.Chains.{Judge}
 use Rattle.dns_model.specs.Records.{Question, EdnsValue}
 use Rattle.dns_model.specs.SoundAnswers.{ResponseValue}
 use Rattle.dns_model.proofs.SetLemmas.{number_refl, number_same}
-use Rattle.dns_net.specs.Errors as seen
-use Rattle.dns_net.specs.Errors.{Message}
-use Rattle.dns_net.specs.Replies.{reply_of}
-use Rattle.dns_net.specs.Requests.{RequestValue, first_question, query_message, request_of}
-use Rattle.dns_net.specs.declared.error.NetError.{NetError}
-use Rattle.dns_net.specs.declared.handle.DnsHandle as handle
-use Rattle.dns_net.specs.declared.notice.Notice.TheVariants.{NoQueryInRequest}
-use Rattle.dns_net.specs.declared.request.DnsRequestOptions.{DnsRequestOptions}
+use Rattle.dns_handle.specs.Errors as seen
+use Rattle.dns_handle.specs.Errors.{Message}
+use Rattle.dns_handle.specs.Replies.{reply_of}
+use Rattle.dns_handle.specs.Requests.{RequestValue, first_question, query_message, request_of}
+use Rattle.dns_handle.specs.declared.error.NetError.{NetError}
+use Rattle.dns_handle.specs.declared.handle.DnsHandle as handle
+use Rattle.dns_handle.specs.declared.notice.Notice.TheVariants.{NoQueryInRequest}
+use Rattle.dns_handle.specs.declared.request.DnsRequestOptions.{DnsRequestOptions}
 use Rattle.dns_lookup.specs.Answering.{AnswersLookup}
 use Rattle.dns_lookup.specs.Calls.{Call, Sending, Asking, Requesting, ask_of_call, first_ask_of_call}
 use Rattle.dns_lookup.specs.AskRequests.{asking_options, asking_request}

@@ -24,7 +24,7 @@ use Rattle.dns_judgement.proofs.EndingLemmas.{ending_without, ending_by_search}
 use Rattle.dns_judgement.proofs.ExtendLemmas.{proof_refl}
 use Rattle.dns_judgement.proofs.OrderLemmas.{slice_get_appended}
 use Rattle.dns_judgement.proofs.SearchLemmas.{plain_asked, plain_sees}
-use Rattle.dns_net.specs.Errors.{Reply}
+use Rattle.dns_handle.specs.Errors.{Reply}
 use Rattle.dns_lookup.specs.AskRequests.{Ask}
 use Rattle.dns_lookup.specs.Sends.{SendOf}
 use Rattle.dns_lookup.specs.Standing.{AllStand, AnswerStands}

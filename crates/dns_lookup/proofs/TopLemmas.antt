@@ -15,7 +15,7 @@ use Rattle.dns_judgement.proofs.ChainedLemmas.{judged_part-top}
 use Rattle.dns_judgement.proofs.SoundLemmas.{sound_of_sets}
 use Rattle.dns_judgement.proofs.DerivationLemmas.{top_step_is, top_derivation, top_counts, top_sent}
 use Rattle.dns_judgement.proofs.DerivedLemmas.{derivation_depths, derivation_sent}
-use Rattle.dns_net.specs.declared.handle.DnsHandle as handle
+use Rattle.dns_handle.specs.declared.handle.DnsHandle as handle
 use Rattle.dns_lookup.specs.Received.{received_message, says_none}
 use Rattle.dns_lookup.specs.Calls.{Call, ask_of_call, first_ask_of_call}
 use Rattle.dns_lookup.specs.Sends.{SendOf, SendsAlong, SendsFrom}

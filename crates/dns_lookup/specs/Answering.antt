@@ -13,11 +13,11 @@ use Rattle.dns_judgement.specs.DerivationParts.{asks_of_sets}
 use Rattle.dns_judgement.specs.Marking.{cleared_message}
 use Rattle.dns_judgement.specs.Outcome.{Outcome, Unjudged, Accepted, Searched, foreign_record}
 use Rattle.dns_judgement.specs.Outcome as outcome
-use Rattle.dns_net.specs.Errors as seen
-use Rattle.dns_net.specs.Errors.{Reply, ErrorValue}
-use Rattle.dns_net.specs.Requests.{RequestValue}
-use Rattle.dns_net.specs.declared.handle.DnsHandle as handle
-use Rattle.dns_net.specs.declared.notice.Notice.TheVariants.{NotJudgedYet}
+use Rattle.dns_handle.specs.Errors as seen
+use Rattle.dns_handle.specs.Errors.{Reply, ErrorValue}
+use Rattle.dns_handle.specs.Requests.{RequestValue}
+use Rattle.dns_handle.specs.declared.handle.DnsHandle as handle
+use Rattle.dns_handle.specs.declared.notice.Notice.TheVariants.{NotJudgedYet}
 use Rattle.dns_anchors.specs.Judge.{judge_of}
 use Rattle.dns_outcome.specs.Outcome.{outcome_value}
 use Rattle.dns_outcome.specs.declared.outcome.Outcome.{Outcome as Declared}

@@ -1,8 +1,8 @@
 -- The asks of a lookup and their requests (RFC 4035, 4.1, 4.6 and 4.9.2; RFC 6840, 5.7).
 use Rattle.std.specs.Prelude.{Bool, true, None, if◌then◌else◌}
 use Rattle.dns_model.specs.Records.{Question}
-use Rattle.dns_net.specs.Requests.{RequestValue, query_message, request_of}
-use Rattle.dns_net.specs.declared.request.DnsRequestOptions.{DnsRequestOptions}
+use Rattle.dns_handle.specs.Requests.{RequestValue, query_message, request_of}
+use Rattle.dns_handle.specs.declared.request.DnsRequestOptions.{DnsRequestOptions}
 
 -- an ask: its question, and whether its reply is judged or only seen
 pub record Ask : Type 0 where

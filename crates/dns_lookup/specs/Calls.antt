@@ -4,13 +4,13 @@ use Rattle.dns_model.specs.Counts.{Rose}
 use Rattle.dns_model.specs.Records.{Question}
 use Rattle.dns_model.specs.Keys.{AnchorValue}
 use Rattle.dns_model.specs.Chains.{Judge, judge}
-use Rattle.dns_net.specs.Errors as seen
-use Rattle.dns_net.specs.Errors.{Reply}
-use Rattle.dns_net.specs.ErrorKinds.{is_no_records_found}
-use Rattle.dns_net.specs.Handles.{ReplyIsTold, IsLeft}
-use Rattle.dns_net.specs.Requests.{RequestValue}
-use Rattle.dns_net.specs.declared.request.DnsRequestOptions.{DnsRequestOptions}
-use Rattle.dns_net.specs.declared.handle.DnsHandle as handle
+use Rattle.dns_handle.specs.Errors as seen
+use Rattle.dns_handle.specs.Errors.{Reply}
+use Rattle.dns_handle.specs.ErrorKinds.{is_no_records_found}
+use Rattle.dns_handle.specs.Handles.{ReplyIsTold, IsLeft}
+use Rattle.dns_handle.specs.Requests.{RequestValue}
+use Rattle.dns_handle.specs.declared.request.DnsRequestOptions.{DnsRequestOptions}
+use Rattle.dns_handle.specs.declared.handle.DnsHandle as handle
 use Rattle.dns_evidence.specs.declared.verifier.Verifier as verifier
 use Rattle.dns_lookup.specs.AskRequests.{Ask, asking_request, request_for}
 use Rattle.dns_lookup.specs.declared.handle.DnssecDnsHandle.{DnssecDnsHandle}

@@ -10,10 +10,10 @@ use Rattle.dns_model.specs.Trails.{AskedValue, Failed}
 use Rattle.dns_model.specs.SoundAnswers.{Told}
 use Rattle.dns_judgement.specs.Derivation.{top_step, judged_sets}
 use Rattle.dns_judgement.specs.Outcome.{is_unjudged, foreign_record}
-use Rattle.dns_net.specs.Errors.{Reply, ErrorValue, Dns, Message, ForeignClassRecord, NoMemory, Nsec}
-use Rattle.dns_net.specs.Handles.{Replies, reply_to}
-use Rattle.dns_net.specs.declared.handle.DnsHandle as handle
-use Rattle.dns_net.specs.declared.notice.Notice.TheVariants.{NotJudgedYet}
+use Rattle.dns_handle.specs.Errors.{Reply, ErrorValue, Dns, Message, ForeignClassRecord, NoMemory, Nsec}
+use Rattle.dns_handle.specs.Handles.{Replies, reply_to}
+use Rattle.dns_handle.specs.declared.handle.DnsHandle as handle
+use Rattle.dns_handle.specs.declared.notice.Notice.TheVariants.{NotJudgedYet}
 use Rattle.dns_lookup.specs.Received.{received_message, received}
 use Rattle.dns_lookup.specs.Calls.{Call, first_ask_of_call}
 use Rattle.dns_lookup.specs.AskRequests.{judged_ask}

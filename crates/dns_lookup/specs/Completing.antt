@@ -5,8 +5,8 @@ use Rattle.dns_model.specs.Records.{Question}
 use Rattle.dns_model.specs.SoundAnswers.{Told}
 use Rattle.dns_laws.specs.Complete.{shows_secure}
 use Rattle.dns_laws.specs.Valid.{IsValidSession}
-use Rattle.dns_net.specs.Errors.{Reply}
-use Rattle.dns_net.specs.Handles.{Replies, reply_to}
+use Rattle.dns_handle.specs.Errors.{Reply}
+use Rattle.dns_handle.specs.Handles.{Replies, reply_to}
 use Rattle.dns_lookup.specs.Received.{received}
 use Rattle.dns_lookup.specs.Calls.{Call}
 

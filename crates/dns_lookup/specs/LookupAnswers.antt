@@ -12,10 +12,10 @@ use Rattle.dns_judgement.specs.Derivation.{derivation, top_step, told_in, judged
 use Rattle.dns_judgement.specs.Marking.{marked_told}
 use Rattle.dns_laws.specs.Denials.{ShowsDenial}
 use Rattle.dns_laws.specs.OwnDenials.{DeniesByRecords}
-use Rattle.dns_net.specs.Errors.{Reply, Dns, Nsec}
-use Rattle.dns_net.specs.declared.error.NetError.{NetError}
-use Rattle.dns_net.specs.declared.error.NetError.TheVariants.{NoMemory}
-use Rattle.dns_net.specs.declared.handle.DnsHandle as handle
+use Rattle.dns_handle.specs.Errors.{Reply, Dns, Nsec}
+use Rattle.dns_handle.specs.declared.error.NetError.{NetError}
+use Rattle.dns_handle.specs.declared.error.NetError.TheVariants.{NoMemory}
+use Rattle.dns_handle.specs.declared.handle.DnsHandle as handle
 use Rattle.dns_lookup.specs.Received.{received_message}
 use Rattle.dns_lookup.specs.Calls.{Call, ask_of_call, first_ask_of_call}
 use Rattle.dns_lookup.specs.AskRequests.{judged_ask}

@@ -5,8 +5,8 @@ use Rattle.dns_model.specs.Records.{Question, MessageValue}
 use Rattle.dns_model.specs.Trails.{AskedValue, HeardValue, Records, Fault}
 use Rattle.dns_model.specs.SoundAnswers.{Told, told_by}
 use Rattle.dns_judgement.specs.Marking.{cleared_message}
-use Rattle.dns_net.specs.Errors.{Reply}
-use Rattle.dns_net.specs.Handles.{Replies, reply_to}
+use Rattle.dns_handle.specs.Errors.{Reply}
+use Rattle.dns_handle.specs.Handles.{Replies, reply_to}
 use Rattle.dns_lookup.specs.Sends.{IsFromReplies}
 
 -- the records of a message, without its marks

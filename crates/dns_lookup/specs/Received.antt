@@ -7,9 +7,9 @@ use Rattle.dns_model.specs.Trails.{HeardValue, Records, Fault}
 use Rattle.dns_model.specs.SoundAnswers.{Told, told_by}
 use Rattle.dns_judgement.specs.Derivation.{same_record}
 use Rattle.dns_judgement.specs.Marking.{cleared_message}
-use Rattle.dns_net.specs.NoRecords.{NoRecordsValue}
-use Rattle.dns_net.specs.Errors.{Reply, Dns, NoRecordsFound, Nsec}
-use Rattle.dns_net.specs.ErrorKinds.{is_no_records_found}
+use Rattle.dns_handle.specs.NoRecords.{NoRecordsValue}
+use Rattle.dns_handle.specs.Errors.{Reply, Dns, NoRecordsFound, Nsec}
+use Rattle.dns_handle.specs.ErrorKinds.{is_no_records_found}
 
 -- the SOA that came with no records stands behind the authorities, unless one of them is that record, whatever its ttl
 abbrev pub with_soa : List Rr → Option Rr → List Rr

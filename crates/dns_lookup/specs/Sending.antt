@@ -3,12 +3,12 @@ use Rattle.std.specs.Prelude.{ℕ, ◌≡◌, ◌≢◌, ◌≤◌, ◌⊎◌, t
 use Rattle.dns_model.specs.Counts.{one_more}
 use Rattle.dns_model.specs.Records.{Question, EdnsValue}
 use Rattle.dns_model.specs.Chains.{Judge, judge}
-use Rattle.dns_net.specs.Errors as seen
-use Rattle.dns_net.specs.Errors.{Reply, Message}
-use Rattle.dns_net.specs.Recording.{faults_after}
-use Rattle.dns_net.specs.Requests.{RequestValue, first_question}
-use Rattle.dns_net.specs.declared.handle.DnsHandle as handle
-use Rattle.dns_net.specs.declared.notice.Notice.TheVariants.{NoQueryInRequest}
+use Rattle.dns_handle.specs.Errors as seen
+use Rattle.dns_handle.specs.Errors.{Reply, Message}
+use Rattle.dns_handle.specs.Causes.{faults_after}
+use Rattle.dns_handle.specs.Requests.{RequestValue, first_question}
+use Rattle.dns_handle.specs.declared.handle.DnsHandle as handle
+use Rattle.dns_handle.specs.declared.notice.Notice.TheVariants.{NoQueryInRequest}
 use Rattle.dns_evidence.specs.declared.verifier.Verifier as verifier
 use Rattle.dns_laws.specs.Denials.{HasDenials}
 use Rattle.dns_laws.specs.Ground.{HasGrounds}

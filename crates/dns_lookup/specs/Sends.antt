@@ -3,10 +3,10 @@ use Rattle.std.specs.Prelude.{ℕ, ◌≡◌, ◌≢◌, ◌≤◌, Bool, true, 
 use Rattle.dns_model.specs.Records.{Question}
 use Rattle.dns_model.specs.Trails.{AskedValue, HeardValue, Records, Fault}
 use Rattle.dns_judgement.specs.Asking.{most_sends}
-use Rattle.dns_net.specs.Errors as seen
-use Rattle.dns_net.specs.Errors.{Reply}
-use Rattle.dns_net.specs.Handles.{Replies, reply_to, left_after}
-use Rattle.dns_net.specs.Walks.{Walked}
+use Rattle.dns_handle.specs.Errors as seen
+use Rattle.dns_handle.specs.Errors.{Reply}
+use Rattle.dns_handle.specs.Handles.{Replies, reply_to, left_after}
+use Rattle.dns_handle.specs.Walks.{Walked}
 use Rattle.dns_lookup.specs.Received.{heard_from}
 use Rattle.dns_lookup.specs.AskRequests.{Ask, judged_ask}
 

@@ -27,12 +27,12 @@ use Rattle.dns_judgement.specs.Marks as marks
 use Rattle.dns_judgement.specs.Outcome.{Outcome, Unjudged, Accepted, Searched, Denied, outcome_of, outcome_by_zone}
 use Rattle.dns_judgement.specs.Parts.{Part}
 use Rattle.dns_judgement.specs.Unsigned.{question_start, unsigned_mark}
-use Rattle.dns_net.specs.Errors.{Reply}
-use Rattle.dns_net.specs.Replies.{error_of}
-use Rattle.dns_net.specs.Walks.{Walked}
-use Rattle.dns_net.specs.declared.error.NetError.{NetError}
-use Rattle.dns_net.specs.declared.error.NetError.TheVariants.{NoMemory}
-use Rattle.dns_net.specs.declared.handle.DnsHandle as handle
+use Rattle.dns_handle.specs.Errors.{Reply}
+use Rattle.dns_handle.specs.Replies.{error_of}
+use Rattle.dns_handle.specs.Walks.{Walked}
+use Rattle.dns_handle.specs.declared.error.NetError.{NetError}
+use Rattle.dns_handle.specs.declared.error.NetError.TheVariants.{NoMemory}
+use Rattle.dns_handle.specs.declared.handle.DnsHandle as handle
 use Rattle.dns_anchors.specs.Judge.{judge_of}
 use Rattle.dns_outcome.specs.Outcome.{outcome_value}
 use Rattle.dns_lookup.specs.Received.{received_message, says_none}

@@ -13,7 +13,7 @@ use crate::judging::{Concluded, Judgement};
 use crate::receiving::ReceivedMessage;
 use crate::steps::{add_step, ended, ending_of, only_seen, records_of};
 use dns_name::NoMemory;
-use dns_net::{AskRef, Ending, Reply};
+use dns_handle::{AskRef, Ending, Reply};
 use dns_record::Query;
 use dns_sets::{ChainedSet, Outcome};
 use std::alloc::Global;

@@ -1,6 +1,6 @@
 ghost use Rattle.std.specs.Prelude.{◌≡◌, ◌≤◌, IfOk, true, false};
-ghost use Rattle.dns_net.specs.Replies.{reply_of};
-ghost use Rattle.dns_net.specs.Handles.{OrUnsent};
+ghost use Rattle.dns_handle.specs.Replies.{reply_of};
+ghost use Rattle.dns_handle.specs.Handles.{OrUnsent};
 ghost use Rattle.dns_lookup.specs.Calls.{Asking};
 ghost use Rattle.dns_lookup.specs.Causes.{PassesOnly, PassesOn, ForeignOnly, ForeignNamed, JudgesTold, UnjudgedOnly};
 ghost use Rattle.dns_lookup.specs.Causes.{sees_nsec3, AnswersTold};
@@ -15,7 +15,7 @@ use crate::context::{LookupContext, depth_limit_of};
 use crate::lookup::look_up;
 use crate::sending::answer_request;
 use dns_name::NoMemory;
-use dns_net::{
+use dns_handle::{
     DnsHandle, DnsRequest, DnsRequestOptions, DnsResponse, NetError, Verifier, faults_after,
 };
 use dns_record::Query;

@@ -2,10 +2,10 @@ ghost use Rattle.std.specs.Prelude.{◌⊎◌, ◌≡◌, ◌≤◌, ◌++◌, �
 ghost use Rattle.dns_model.specs.SoundAnswers.{told_by};
 ghost use Rattle.dns_judgement.specs.Asking.{depth_limit};
 ghost use Rattle.dns_judgement.specs.Chained.{finished as finished_value};
-ghost use Rattle.dns_net.specs.Errors as seen;
-ghost use Rattle.dns_net.specs.Handles.{OrUnsent};
-ghost use Rattle.dns_net.specs.Replies.{reply_of, error_of};
-ghost use Rattle.dns_net.specs.Requests.{first_question};
+ghost use Rattle.dns_handle.specs.Errors as seen;
+ghost use Rattle.dns_handle.specs.Handles.{OrUnsent};
+ghost use Rattle.dns_handle.specs.Replies.{reply_of, error_of};
+ghost use Rattle.dns_handle.specs.Requests.{first_question};
 ghost use Rattle.dns_evidence.specs.Trail.{ending_value};
 ghost use Rattle.dns_lookup.specs.Answering.{call_by, findings_of, judged_answer, top_of, trail_of as steps_with_top, AnswersLookup};
 ghost use Rattle.dns_lookup.specs.Calls.{Requesting};
@@ -20,7 +20,7 @@ use crate::receiving::{ReceivedMessage, send_request};
 use crate::walk::judge_reply;
 use dns_message::Message;
 use dns_name::NoMemory;
-use dns_net::{
+use dns_handle::{
     AskRef, Asked, DnsError, DnsHandle, DnsRequest, DnsResponse, Ending, JudgedSet, NetError,
     Notice, Reply, Told, Trail, Verifier,
 };

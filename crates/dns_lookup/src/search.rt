@@ -17,7 +17,7 @@ use crate::receiving::{ReceivedMessage, receive};
 use crate::steps::records_of;
 use dns_message::Message;
 use dns_name::{Name, NoMemory};
-use dns_net::{AskRef, DnsHandle, Ending, Reply, Verifier};
+use dns_handle::{AskRef, DnsHandle, Ending, Reply, Verifier};
 use dns_record::{DNSClass, Query};
 use dns_trust::{is_ns_of, ns_query};
 

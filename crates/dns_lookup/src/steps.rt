@@ -12,7 +12,7 @@ ghost use Rattle.dns_lookup.specs.Walking.{IsAdded, entry_of, judged_step, plain
 use crate::receiving::ReceivedMessage;
 use dns_message::Message;
 use dns_name::NoMemory;
-use dns_net::{AskRef, Asked, Ending, JudgedSet, MarkOrigin, Reply, Told};
+use dns_handle::{AskRef, Asked, Ending, JudgedSet, MarkOrigin, Reply, Told};
 use dns_record::{Query, Record};
 use dns_sets::{MarkedSet, Outcome, foreign_record};
 use std::alloc::Global;

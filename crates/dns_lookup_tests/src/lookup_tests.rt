@@ -26,7 +26,7 @@ pub(crate) struct Keeping {
 
 impl DnsHandle for Keeping {
     ghost use Rattle.std.specs.Prelude.{Some};
-    ghost use Rattle.dns_net.specs.Recording.{replies_of, AnswersFrom};
+    ghost use Rattle.dns_recorded.specs.Recording.{replies_of, AnswersFrom};
 
     ghost sends = { λ h. h.replies.sends };
 

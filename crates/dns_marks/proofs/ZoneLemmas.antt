@@ -12,7 +12,7 @@ use Rattle.dns_model.specs.Records.{Rr, MessageValue}
 use Rattle.dns_model.specs.Sections.{same_set, set_of, sets_of}
 use Rattle.dns_model.specs.Keys.{VerifierAnswers}
 use Rattle.dns_model.specs.SoundAnswers.{is_secure}
-use Rattle.dns_net.specs.Responses.{all_records}
+use Rattle.dns_handle.specs.Responses.{all_records}
 use Rattle.dns_judgement.specs.Judged.{Judged}
 use Rattle.dns_judgement.specs.ProofErrors.{DsRecordShouldExist, DsResponseInsecure, UnknownKeyAlgorithm}
 use Rattle.dns_judgement.specs.Delegations as zone

@@ -2,7 +2,7 @@
 use Rattle.std.specs.Prelude.{ℕ, List, Option, None, Some, codes}
 use Rattle.dns_model.specs.declared.proof.Proof.{Proof}
 use Rattle.dns_model.specs.declared.proof.Proof.TheVariants.{Bogus}
-use Rattle.dns_net.specs.Notices.{notice_text}
+use Rattle.dns_handle.specs.Notices.{notice_text}
 use Rattle.dns_judgement.specs.Validity.{Validity, ValidRrsig, ExpiredRrsig, WrongDnskey, WrongRrsig}
 use Rattle.dns_judgement.specs.ProofErrors as cause
 use Rattle.dns_judgement.specs.ProofErrors.{ProofErrorKindValue, ProofErrorValue}

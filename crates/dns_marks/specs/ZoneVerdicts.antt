@@ -11,9 +11,9 @@ use Rattle.dns_model.specs.Records.{Rr, RrSet, MessageValue}
 use Rattle.dns_model.specs.Sections.{sets_of}
 use Rattle.dns_model.specs.SoundAnswers.{ResponseValue, is_secure}
 use Rattle.dns_model.specs.Keys.{VerifierAnswers}
-use Rattle.dns_net.specs.Responses.{all_records}
-use Rattle.dns_net.specs.declared.error.NetError.{NetError}
-use Rattle.dns_net.specs.declared.error.NetError.TheVariants.{Busy, Dns, Message, Msg, NoConnections, Proto, Io, Timeout, QueryCaseMismatch, ForeignClassRecord, Truncated, NoMemory}
+use Rattle.dns_handle.specs.Responses.{all_records}
+use Rattle.dns_handle.specs.declared.error.NetError.{NetError}
+use Rattle.dns_handle.specs.declared.error.NetError.TheVariants.{Busy, Dns, Message, Msg, NoConnections, Proto, Io, Timeout, QueryCaseMismatch, ForeignClassRecord, Truncated, NoMemory}
 use Rattle.dns_judgement.specs.Judged.{Judged}
 use Rattle.dns_judgement.specs.ProofErrors.{DsRecordShouldExist, DsResponseInsecure, UnknownKeyAlgorithm}
 use Rattle.dns_judgement.specs.Delegations as zone

@@ -14,7 +14,7 @@ ghost use Rattle.dns_marks.specs.declared.key_marks.KeysMark.TheVariants.{Done};
 
 use crate::rrset_proof::{proved_by, proved_whole};
 use crate::{ProofError, ProofErrorKind, RrsetProof, ZoneVerdict};
-use dns_net::Verifier;
+use dns_handle::Verifier;
 use dns_record::{Proof, Record, RecordSet};
 use dns_trust::{
     AnchoredRow, DsIndex, Judge, MatchedRow, SignedBy, TrustAnchors, anchored_row, matched_row,

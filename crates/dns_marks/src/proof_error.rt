@@ -4,7 +4,7 @@ ghost use Rattle.dns_judgement.specs.ProofErrors as cause;
 ghost use Rattle.dns_marks.specs.Kinds.{kind_value, because, want_of_memory};
 
 use dns_name::{Name, NoMemory};
-use dns_net::Notice;
+use dns_handle::Notice;
 use dns_record::{Proof, Query, RecordType};
 use std::alloc::{AllocError, AllocFailed};
 use std::fmt;

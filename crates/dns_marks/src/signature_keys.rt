@@ -15,7 +15,7 @@ use crate::rrset_proof::{excused, proved_by};
 use crate::signature::is_accepted;
 use crate::tested::Tested;
 use dns_name::{NoMemory, Octets};
-use dns_net::Verifier;
+use dns_handle::Verifier;
 use dns_rdata::{Dnskey, Rrsig};
 use dns_record::{Proof, Record, RecordSet};
 use dns_steps::Steps;

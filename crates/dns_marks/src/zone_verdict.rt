@@ -3,7 +3,7 @@ ghost use Rattle.std.specs.List.{find, filter, list_all, list_any};
 ghost use Rattle.std.specs.Option.{option_copied};
 ghost use Rattle.dns_model.specs.Types.{type_ds, type_nsec};
 ghost use Rattle.dns_model.specs.SoundAnswers.{is_secure};
-ghost use Rattle.dns_net.specs.Responses.{all_records};
+ghost use Rattle.dns_handle.specs.Responses.{all_records};
 ghost use Rattle.dns_judgement.specs.ProofErrors as cause;
 ghost use Rattle.dns_judgement.specs.Delegations as delegations;
 ghost use Rattle.dns_judgement.specs.Delegations.{ds_question as ds_question_of};
@@ -12,7 +12,7 @@ ghost use Rattle.dns_marks.specs.ZoneVerdicts.{zone_verdict_value, is_want, answ
 use crate::ProofErrorKind;
 use dns_message::Message;
 use dns_name::{Name, NoMemory};
-use dns_net::{DnsResponse, NetError, Verifier};
+use dns_handle::{DnsResponse, NetError, Verifier};
 use dns_rdata::{Ds, Nsec};
 use dns_record::{DNSClass, Proof, Query, Record, RecordType};
 use dns_trust::is_supported_ds;

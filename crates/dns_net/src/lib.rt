@@ -1,33 +1,11 @@
-//! What a lookup is made of: errors, requests, answers with their chains, verifiers and handles.
-//! The layer above may use `DnsHandle` and `Verifier` as bounds, `Recorded` as a handle that tells its replies,
-//! and each type as the plain value of `dns_model` that has its name.
+//! The names of a handle's crates in one place: errors, requests, responses with their chains and trails, verifiers, handles, and
+//! `Recorded`, a handle that tells its replies.
 #![tactic(auto)]
 
-mod answered;
-mod error;
-mod glue;
-mod handle;
-mod io_kind;
-mod letter_case;
-mod negative;
-mod no_records;
-mod notice;
-mod query_key;
-mod recorded;
-mod reply_list;
-mod reply_places;
-mod request;
-
-pub use dns_evidence::{
-    AskRef, Asked, Chain, Ending, JudgedSet, Link, MarkOrigin, Reply, Told, Trail, Verifier,
-    all_shown, clone_links, clone_rdatas, has_rdata, shows_ds, shows_key, shows_member,
+pub use dns_handle::{
+    AskRef, Asked, Chain, Denial, DnsError, DnsHandle, DnsRequest, DnsRequestOptions, DnsResponse,
+    Ending, ForwardNSData, IoKind, JudgedSet, Link, MarkOrigin, NetError, NoRecords, Notice,
+    ProtoError, Reply, Section, Told, Trail, Verifier, all_shown, clone_links, clone_rdatas,
+    faults_after, has_rdata, shows_ds, shows_key, shows_member,
 };
-pub use dns_record::{Denial, Section};
-pub use dns_response::DnsResponse;
-pub use error::{DnsError, NetError, ProtoError};
-pub use handle::DnsHandle;
-pub use io_kind::IoKind;
-pub use no_records::{ForwardNSData, NoRecords};
-pub use notice::Notice;
-pub use recorded::{Recorded, faults_after};
-pub use request::{DnsRequest, DnsRequestOptions};
+pub use dns_recorded::Recorded;

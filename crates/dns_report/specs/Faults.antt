@@ -4,12 +4,12 @@ use Rattle.std.specs.Fmt.{decimal}
 use Rattle.dns_model.specs.NameText.{printed}
 use Rattle.dns_message.specs.declared.decode_error.DecodeKind.{DecodeKind}
 use Rattle.dns_message.specs.declared.decode_error.DecodeKind.TheVariants as decode
-use Rattle.dns_net.specs.declared.io_kind.IoKind.{IoKind}
-use Rattle.dns_net.specs.declared.io_kind.IoKind.TheVariants.{PermissionDenied, ConnectionRefused, ConnectionReset, ConnectionAborted, NotConnected, AddrInUse, AddrNotAvailable, BrokenPipe, InvalidData, TimedOut, UnexpectedEof, RequestTooLong, Other}
-use Rattle.dns_net.specs.declared.error.ProtoError.{ProtoError}
-use Rattle.dns_net.specs.declared.error.ProtoError.TheVariants.{Decode, TooLong}
-use Rattle.dns_net.specs.Notices.{notice_text}
-use Rattle.dns_net.specs.Errors.{DnsErrorValue, ResponseCode, NoRecordsFound, Nsec, DnssecBogus, ErrorValue, Busy, Dns, Message, Msg, NoConnections, Proto, Io, Timeout, QueryCaseMismatch, ForeignClassRecord, Truncated, NoMemory}
+use Rattle.dns_handle.specs.declared.io_kind.IoKind.{IoKind}
+use Rattle.dns_handle.specs.declared.io_kind.IoKind.TheVariants.{PermissionDenied, ConnectionRefused, ConnectionReset, ConnectionAborted, NotConnected, AddrInUse, AddrNotAvailable, BrokenPipe, InvalidData, TimedOut, UnexpectedEof, RequestTooLong, Other}
+use Rattle.dns_handle.specs.declared.error.ProtoError.{ProtoError}
+use Rattle.dns_handle.specs.declared.error.ProtoError.TheVariants.{Decode, TooLong}
+use Rattle.dns_handle.specs.Notices.{notice_text}
+use Rattle.dns_handle.specs.Errors.{DnsErrorValue, ResponseCode, NoRecordsFound, Nsec, DnssecBogus, ErrorValue, Busy, Dns, Message, Msg, NoConnections, Proto, Io, Timeout, QueryCaseMismatch, ForeignClassRecord, Truncated, NoMemory}
 use Rattle.dns_record.specs.Words.{type_word, class_word}
 use Rattle.dns_report.specs.LineWords.{Words, line, mark_word}
 

@@ -2,14 +2,14 @@
 ghost use Rattle.std.specs.Prelude.{◌≡◌, ◌++◌, ◌∷◌, [], codes, OnOk, IfOk};
 ghost use Rattle.dns_model.specs.NameText.{printed};
 ghost use Rattle.dns_record.specs.Words.{type_word, class_word};
-ghost use Rattle.dns_net.specs.Replies.{dns_error_of, error_of};
+ghost use Rattle.dns_handle.specs.Replies.{dns_error_of, error_of};
 ghost use Rattle.dns_report.specs.Faults.{io_word, decode_word, proto_words, dns_words, fault_text, fault_line};
 
 use crate::marks::mark_word;
 use crate::words::{end_line, push_front, push_number, push_text, push_type_word, push_word};
+use dns_handle::{DnsError, IoKind, NetError, ProtoError};
 use dns_message::DecodeKind;
 use dns_name::{Name, NoMemory};
-use dns_net::{DnsError, IoKind, NetError, ProtoError};
 use dns_record::{DNSClass, RecordType};
 use std::alloc::Global;
 

@@ -12,8 +12,8 @@ use crate::words::{
     end_line, push_denial_words, push_front, push_mark, push_name, push_number, push_text,
     push_type_word, push_word,
 };
+use dns_handle::{AskRef, Ending, JudgedSet, MarkOrigin};
 use dns_name::{Name, NoMemory};
-use dns_net::{AskRef, Ending, JudgedSet, MarkOrigin};
 use dns_record::{DNSClass, RecordType};
 use dns_words::push_decimal;
 

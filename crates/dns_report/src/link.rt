@@ -16,8 +16,8 @@ use crate::marks::section_word;
 use crate::words::{
     end_line, push_front, push_number, push_octets_word, push_text, push_type_word, push_word,
 };
+use dns_handle::{Chain, Link};
 use dns_name::{Name, NoMemory};
-use dns_net::{Chain, Link};
 use dns_record::{DNSClass, Rdata, RecordType};
 
 /// Appends the words of numbered keys, and ends the line.

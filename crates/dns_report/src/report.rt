@@ -14,9 +14,9 @@ use crate::link::push_chains;
 use crate::record::push_section;
 use crate::trail::push_trail;
 use crate::words::{end_line, push_denial_words, push_number, push_text};
+use dns_handle::{DnsResponse, Trail};
 use dns_message::Message;
 use dns_name::NoMemory;
-use dns_net::{DnsResponse, Trail};
 use dns_record::{Denial, ResponseCode, Section};
 use std::alloc::Global;
 

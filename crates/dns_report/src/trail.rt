@@ -18,8 +18,8 @@ use crate::words::{
     end_line, push_front, push_name, push_number, push_octets_word, push_text, push_type_word,
     push_word,
 };
+use dns_handle::{Asked, Reply, Told, Trail};
 use dns_name::NoMemory;
-use dns_net::{Asked, Reply, Told, Trail};
 use dns_record::{Record, ResponseCode, Section};
 
 /// The word of what a reply is asked for.

@@ -4,7 +4,7 @@ use Rattle.dns_model.specs.SoundAnswers.{Told}
 use Rattle.dns_model.specs.Trails.{AskedValue, EndingValue, Answered, Denied}
 use Rattle.dns_model.specs.Trails as trails
 use Rattle.dns_laws.proofs.CompleteLemmas.{HasReply, valid_reply}
-use Rattle.dns_net.specs.Errors.{ErrorValue}
+use Rattle.dns_handle.specs.Errors.{ErrorValue}
 use Rattle.dns_lookup.specs.Completing.{first_told}
 use Rattle.dns_lookup.specs.Received.{received}
 use Rattle.dns_lookup.proofs.CompletingLemmas.{IsProved, replies_prove, denied_never, failed_never, answer_secure}

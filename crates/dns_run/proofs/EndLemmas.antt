@@ -6,7 +6,7 @@ use Rattle.dns_model.specs.Trails as trails
 use Rattle.dns_model.specs.Trails.{Answered, Denied}
 use Rattle.dns_judgement.specs.DerivationParts.{is_foreign}
 use Rattle.dns_judgement.specs.Outcome.{foreign_record}
-use Rattle.dns_net.specs.Errors.{Reply, ErrorValue, ForeignClassRecord}
+use Rattle.dns_handle.specs.Errors.{Reply, ErrorValue, ForeignClassRecord}
 use Rattle.dns_lookup.specs.LookupParts.{told_of}
 use Rattle.dns_lookup.specs.Causes.{ends_trail, has_response, tells_nsec3}
 use Rattle.dns_report.specs.declared.parts.Parts.{Parts}

@@ -9,17 +9,17 @@ use Rattle.dns_judgement.specs.DerivationParts.{is_foreign}
 use Rattle.dns_judgement.specs.Outcome.{foreign_record}
 use Rattle.dns_laws.specs.Denials.{HasDenials}
 use Rattle.dns_laws.specs.Ground.{HasGrounds}
-use Rattle.dns_net.specs.Errors as seen
-use Rattle.dns_net.specs.Errors.{Reply, ErrorValue, DnsErrorValue, Busy, Dns, Message, Msg, NoConnections, Proto, Io, Timeout, QueryCaseMismatch, ForeignClassRecord, Truncated, ResponseCode, NoRecordsFound, Nsec, DnssecBogus}
-use Rattle.dns_net.specs.Handles.{Replies, reply_to, ReplyIsTold}
-use Rattle.dns_net.specs.Replies.{reply_of}
-use Rattle.dns_net.specs.declared.error.NetError.{NetError}
-use Rattle.dns_net.specs.declared.handle.DnsHandle as handle
-use Rattle.dns_net.specs.declared.notice.Notice.TheVariants.{NotJudgedYet, NoQueryInRequest, ExpiredRrsig, WrongDnskey, WrongRrsig}
+use Rattle.dns_handle.specs.Errors as seen
+use Rattle.dns_handle.specs.Errors.{Reply, ErrorValue, DnsErrorValue, Busy, Dns, Message, Msg, NoConnections, Proto, Io, Timeout, QueryCaseMismatch, ForeignClassRecord, Truncated, ResponseCode, NoRecordsFound, Nsec, DnssecBogus}
+use Rattle.dns_handle.specs.Handles.{Replies, reply_to, ReplyIsTold}
+use Rattle.dns_handle.specs.Replies.{reply_of}
+use Rattle.dns_handle.specs.declared.error.NetError.{NetError}
+use Rattle.dns_handle.specs.declared.handle.DnsHandle as handle
+use Rattle.dns_handle.specs.declared.notice.Notice.TheVariants.{NotJudgedYet, NoQueryInRequest, ExpiredRrsig, WrongDnskey, WrongRrsig}
 use Rattle.dns_lookup.specs.Received.{received_message, received}
-use Rattle.dns_net.specs.declared.request.DnsRequestOptions.{DnsRequestOptions}
+use Rattle.dns_handle.specs.declared.request.DnsRequestOptions.{DnsRequestOptions}
 use Rattle.dns_evidence.specs.declared.verifier.Verifier as verifier
-use Rattle.dns_net.specs.Recording.{RecordedValue, replies_of}
+use Rattle.dns_recorded.specs.Recording.{RecordedValue, replies_of}
 use Rattle.dns_anchors.specs.Listing.{ListedValue, answers_of}
 use Rattle.dns_lookup.specs.declared.handle.DnssecDnsHandle.{DnssecDnsHandle}
 use Rattle.dns_lookup.specs.Calls.{Call, inner_of, anchors_of, verifier_of, call_of}

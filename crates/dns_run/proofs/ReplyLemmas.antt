@@ -2,8 +2,8 @@
 use Rattle.std.proofs.Common.{◌≡◌, true, false, cond, List, [], ◌∷◌, map, Some, Err, refl}
 use Rattle.std.specs.List.{find}
 use Rattle.dns_model.specs.Records.{Question, question_eq}
-use Rattle.dns_net.specs.Errors.{Reply, ErrorValue}
-use Rattle.dns_net.specs.Handles.{reply_to}
+use Rattle.dns_handle.specs.Errors.{Reply, ErrorValue}
+use Rattle.dns_handle.specs.Handles.{reply_to}
 use Rattle.dns_session.specs.SessionValue.{SessionValue, ReplyValue}
 use Rattle.dns_run.specs.Replies.{reply_from, recorded, told_by_reply, session_told}
 

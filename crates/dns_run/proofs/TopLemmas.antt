@@ -11,7 +11,7 @@ use Rattle.dns_judgement.specs.Derivation.{Grounds, with_entries, judged_sets, t
 use Rattle.dns_judgement.specs.DerivationParts.{grounds_of, is_foreign, is_bare, judged_holds, step_holds_by}
 use Rattle.dns_judgement.specs.Outcome.{is_unjudged, foreign_record}
 use Rattle.dns_judgement.proofs.DerivedLemmas.{Derived, derivation_parts, steps_hold_at, TopFirst, derivation_first}
-use Rattle.dns_net.specs.Handles.{reply_to}
+use Rattle.dns_handle.specs.Handles.{reply_to}
 use Rattle.dns_lookup.specs.Causes.{sees_nsec3}
 use Rattle.dns_lookup.specs.Received.{heard_from, says_none}
 use Rattle.dns_lookup.specs.LookupParts.{heard_told}

@@ -5,9 +5,9 @@ use Rattle.dns_model.specs.Trails.{AskedValue, EndingValue}
 use Rattle.dns_judgement.specs.Derivation.{derivation, top_step, in_send_order}
 use Rattle.dns_laws.specs.Ground.{HasGrounds}
 use Rattle.dns_laws.specs.Denials.{HasDenials}
-use Rattle.dns_net.specs.Handles.{Replies}
-use Rattle.dns_net.specs.Requests.{plain_options}
-use Rattle.dns_net.specs.Recording.{RecordedValue}
+use Rattle.dns_handle.specs.Handles.{Replies}
+use Rattle.dns_handle.specs.Requests.{plain_options}
+use Rattle.dns_recorded.specs.Recording.{RecordedValue}
 use Rattle.dns_lookup.specs.Sends.{IsFromReplies}
 use Rattle.dns_lookup.specs.Causes.{sees_nsec3}
 use Rattle.dns_lookup.specs.LookupAnswers.{HasMarksOfTrail}

@@ -5,8 +5,8 @@ use Rattle.dns_model.specs.Records.{Rr}
 use Rattle.dns_model.specs.SoundAnswers.{Told, ResponseValue}
 use Rattle.dns_model.specs.Trails.{AskedValue, Denied, Failed}
 use Rattle.dns_judgement.specs.Outcome.{foreign_record}
-use Rattle.dns_net.specs.declared.notice.Notice.TheVariants.{NotJudgedYet}
-use Rattle.dns_net.specs.Errors.{Reply, ErrorValue, Dns, Message, ForeignClassRecord, Nsec, NoMemory}
+use Rattle.dns_handle.specs.declared.notice.Notice.TheVariants.{NotJudgedYet}
+use Rattle.dns_handle.specs.Errors.{Reply, ErrorValue, Dns, Message, ForeignClassRecord, Nsec, NoMemory}
 use Rattle.dns_lookup.specs.LookupAnswers.{OfAnswer, ShowsItsDenial}
 use Rattle.dns_lookup.specs.Causes.{sees_nsec3, tells_nsec3, PassesOn, ForeignNamed, JudgesTold, AnswersTold}
 use Rattle.dns_session.specs.SessionValue.{SessionValue}

@@ -2,8 +2,8 @@
 use Rattle.std.specs.Prelude.{ℕ, ◌≡◌, ◌≢◌, ◌<◌, IsTrue, List, [], length, Option, None, Some, Ok, Err}
 use Rattle.std.specs.Io.KnownBytes.{Appends}
 use Rattle.dns_model.specs.SoundAnswers.{ResponseValue}
-use Rattle.dns_net.specs.Errors as seen
-use Rattle.dns_net.specs.Errors.{ErrorValue}
+use Rattle.dns_handle.specs.Errors as seen
+use Rattle.dns_handle.specs.Errors.{ErrorValue}
 use Rattle.dns_model.specs.Trails.{Answered}
 use Rattle.dns_lookup.specs.LookupAnswers.{ShowsItsDenial}
 use Rattle.dns_report.specs.declared.parts.Parts.{Parts}

@@ -4,10 +4,10 @@ use Rattle.std.specs.List.{find}
 use Rattle.dns_model.specs.declared.denial.Denial.TheVariants as denied
 use Rattle.dns_model.specs.Records.{Question, MessageValue, question_eq}
 use Rattle.dns_model.specs.SoundAnswers.{Told, ResponseValue}
-use Rattle.dns_net.specs.declared.error.ProtoError.TheVariants.{Decode}
-use Rattle.dns_net.specs.declared.io_kind.IoKind.TheVariants.{Other}
-use Rattle.dns_net.specs.Errors.{Reply, ErrorValue, DnsErrorValue, Busy, Dns, Proto, Io, Timeout}
-use Rattle.dns_net.specs.Responses.{from_response}
+use Rattle.dns_handle.specs.declared.error.ProtoError.TheVariants.{Decode}
+use Rattle.dns_handle.specs.declared.io_kind.IoKind.TheVariants.{Other}
+use Rattle.dns_handle.specs.Errors.{Reply, ErrorValue, DnsErrorValue, Busy, Dns, Proto, Io, Timeout}
+use Rattle.dns_handle.specs.Responses.{from_response}
 use Rattle.dns_lookup.specs.Received.{received_message, received}
 use Rattle.dns_session.specs.declared.reply.ReplyFault.{ReplyFault}
 use Rattle.dns_session.specs.declared.reply.ReplyFault.TheVariants as lacking

@@ -3,7 +3,7 @@ use Rattle.std.specs.Prelude.{ℕ, ◌≡◌, ◌≢◌, ◌<◌, ◌≤◌, Boo
 use Rattle.std.specs.Io.KnownBytes.{Appends}
 use Rattle.dns_model.specs.SoundAnswers.{Told}
 use Rattle.dns_judgement.specs.Outcome.{foreign_record}
-use Rattle.dns_net.specs.Errors.{Reply, ErrorValue}
+use Rattle.dns_handle.specs.Errors.{Reply, ErrorValue}
 use Rattle.dns_lookup.specs.Causes.{ends_trail, has_response, tells_nsec3}
 use Rattle.dns_report.specs.Faults.{fault_text}
 use Rattle.dns_session.specs.SessionValue.{SessionValue}

@@ -1,8 +1,8 @@
 //! The lookup that a session asks for, and what it is made of: an upstream, a verifier and trusted keys.
 ghost use Rattle.std.specs.Prelude.{◌≡◌, [], unwrap_or, IfOk, OnOk};
 ghost use Rattle.dns_model.specs.Keys.{anchored};
-ghost use Rattle.dns_net.specs.Replies.{reply_of};
-ghost use Rattle.dns_net.specs.Requests.{plain_options};
+ghost use Rattle.dns_handle.specs.Replies.{reply_of};
+ghost use Rattle.dns_handle.specs.Requests.{plain_options};
 ghost use Rattle.dns_anchors.specs.Listing.{answers_of};
 ghost use Rattle.dns_lookup.specs.LookupAnswers.{UnlessNoMemory};
 ghost use Rattle.dns_run.specs.Adding.{with_algorithms, with_accepts};

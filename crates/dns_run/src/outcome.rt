@@ -1,7 +1,7 @@
 //! What bytes that were read come to, before anything is written.
 ghost use Rattle.std.specs.Prelude.{◌≡◌, ◌++◌, ◌<◌, ◌^◌, ◌↔◌, length, IfOk, IsTrue};
-ghost use Rattle.dns_net.specs.Errors as seen;
-ghost use Rattle.dns_net.specs.Replies.{error_of, reply_of};
+ghost use Rattle.dns_handle.specs.Errors as seen;
+ghost use Rattle.dns_handle.specs.Replies.{error_of, reply_of};
 ghost use Rattle.dns_lookup.specs.LookupAnswers.{UnlessNoMemory};
 ghost use Rattle.dns_session.specs.SessionValue.{SessionValue};
 ghost use Rattle.dns_run.specs.Causes.{AnswersSession};

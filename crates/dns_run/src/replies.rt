@@ -1,8 +1,8 @@
 //! What an upstream answers with what a session says of a reply.
 ghost use Rattle.std.specs.Prelude.{◌≡◌, IfOk};
-ghost use Rattle.dns_net.specs.Errors as seen;
-ghost use Rattle.dns_net.specs.Replies.{error_of, reply_of, response_of};
-ghost use Rattle.dns_net.specs.declared.error.ProtoError.TheVariants.{Decode};
+ghost use Rattle.dns_handle.specs.Errors as seen;
+ghost use Rattle.dns_handle.specs.Replies.{error_of, reply_of, response_of};
+ghost use Rattle.dns_handle.specs.declared.error.ProtoError.TheVariants.{Decode};
 ghost use Rattle.dns_session.specs.Kinds.{kind_of};
 ghost use Rattle.dns_run.specs.Replies.{answer_from, fault_from, reply_from, response_with};
 

@@ -1,6 +1,6 @@
 use Rattle.std.proofs.Common.{subst}
-use Rattle.dns_net.specs.Replies.{reply_of}
-use Rattle.dns_net.specs.Requests.{RequestValue}
+use Rattle.dns_handle.specs.Replies.{reply_of}
+use Rattle.dns_handle.specs.Requests.{RequestValue}
 use Rattle.dns_lookup.specs.Answering.{call_by, AnswersLookup}
 use Rattle.dns_lookup.specs.LookupAnswers.{UnlessNoMemory}
 use Rattle.dns_lookup.proofs.LookupLemmas.{or_sent, sends_alike}

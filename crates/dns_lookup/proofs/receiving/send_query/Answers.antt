@@ -1,6 +1,6 @@
 use Rattle.std.proofs.Common.{arith}
-use Rattle.dns_net.proofs.WalkLemmas.{one_walk}
-use Rattle.dns_net.specs.Replies.{reply_of}
+use Rattle.dns_handle.proofs.WalkLemmas.{one_walk}
+use Rattle.dns_handle.specs.Replies.{reply_of}
 use Rattle.dns_lookup.proofs.LookupLemmas.{or_sent}
 use Rattle.dns_lookup.proofs.ReceivedLemmas.{asking_made, caused}
 use Rattle.dns_lookup.proofs.receiving.send_query.Goals as goal

@@ -1,5 +1,5 @@
 use Rattle.std.proofs.Common.{subst}
-use Rattle.dns_net.specs.Replies.{reply_of}
+use Rattle.dns_handle.specs.Replies.{reply_of}
 use Rattle.dns_lookup.specs.LookupAnswers.{UnlessNoMemory}
 use Rattle.dns_run.specs.Causes.{AnswersSession}
 use Rattle.dns_run.proofs.CauseLemmas.{report_given, fault_tested}

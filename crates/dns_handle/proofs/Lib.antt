@@ -1,0 +1,5 @@
+pub mod WalkLemmas
+pub mod KeyLemmas
+pub mod CaseLemmas
+pub mod GlueLemmas
+pub mod AnswerLemmas

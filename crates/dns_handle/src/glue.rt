@@ -1,0 +1,108 @@
+//! The addresses of name servers that a response gives beside NS records (RFC 1034, 4.2.1).
+ghost use Rattle.std.specs.Prelude.{◌≡◌, IfOk, OnOk, map};
+ghost use Rattle.std.specs.List.{filter};
+ghost use Rattle.dns_model.specs.Names.{Labels, folded, wire};
+ghost use Rattle.dns_model.specs.Types.{type_ns};
+ghost use Rattle.dns_model.specs.Views.{ns_in};
+ghost use Rattle.dns_model.specs.RecordViews.{read_as};
+ghost use Rattle.dns_handle.specs.Responses.{is_address_of, is_ns};
+ghost use Rattle.dns_handle.specs.Glue.{Joined, addresses_at, forwarded_by, glue_by, is_address};
+
+use crate::ForwardNSData;
+use dns_name::{NameRef, NoMemory, Octets};
+use dns_rdata::Ns;
+use dns_record::{Record, RecordType, clone_records};
+use std::alloc::Global;
+use std::collections::BTreeMap;
+
+/// A and AAAA records by their owner, as its wire form with A to Z as a to z. No choice of names makes a search longer, as it
+/// would where a hash can be foreseen.
+pub(crate) type Addresses = BTreeMap<Octets, Vec<Record>>;
+
+/// A name as such a key.
+fn key_of(alloc: Global, name: &NameRef) -> Result<Octets, NoMemory>
+    ensures { IfOk result (λ k. k ≡ wire (folded name.now)) }
+{
+    let mut key = Vec::with_capacity(alloc, name.wire().len())?;
+    name.push_folded(&mut key)?;
+    Ok(Octets::from_vec(key))
+}
+
+fn is_address(of: &Record) -> bool
+    ensures { result ≡ is_address of.now }
+{
+    of.record_type == RecordType::A || of.record_type == RecordType::AAAA
+}
+
+/// Puts a record behind the others of its owner.
+fn join(alloc: Global, addresses: &mut Addresses, next: Record) -> Result<(), NoMemory>
+    ensures { OnOk result (Joined addresses.old addresses.new next) }
+{
+    let key = key_of(alloc, &next.name.borrowed())?;
+    if let Some(known) = addresses.get_mut(&key) {
+        known.push(next)?;
+        return Ok(());
+    }
+    let mut own = Vec::new(alloc);
+    own.push(next)?;
+    addresses.insert(key, own)?;
+    Ok(())
+}
+
+/// The A and AAAA records among these.
+pub(crate) fn addresses_of(alloc: Global, records: Vec<Record>) -> Result<Addresses, NoMemory>
+    ensures { IfOk result (λ a. (name : Labels) → addresses_at a name ≡ filter (is_address_of name) records.items) }
+{
+    let mut addresses = BTreeMap::new(alloc);
+    for next in records {
+        if is_address(&next) {
+            join(alloc, &mut addresses, next)?;
+        }
+    }
+    Ok(addresses)
+}
+
+/// The addresses of the server that an NS record names.
+fn glue_of(alloc: Global, addresses: &Addresses, ns: &Record) -> Result<Vec<Record>, NoMemory>
+    ensures { IfOk result (λ v. v.items ≡ glue_by addresses.now (read_as type_ns ns_in ns.now)) }
+{
+    let Some(server) = Ns::of(ns) else {
+        return Ok(Vec::new(alloc));
+    };
+    let key = key_of(alloc, &server.name)?;
+    match addresses.get(&key) {
+        None => Ok(Vec::new(alloc)),
+        Some(known) => clone_records(known),
+    }
+}
+
+/// An NS record with its addresses.
+fn forwarded_of(
+    alloc: Global,
+    addresses: &Addresses,
+    ns: &Record,
+) -> Result<ForwardNSData, NoMemory>
+    ensures { IfOk result (λ f. f ≡ forwarded_by addresses.now ns.now) }
+{
+    let glue = glue_of(alloc, addresses, ns)?;
+    let ns = ns.try_clone()?;
+    Ok(ForwardNSData { ns, glue })
+}
+
+/// The NS records of a section, each with its addresses.
+pub(crate) fn all_forwarded(
+    alloc: Global,
+    addresses: &Addresses,
+    section: &[Record],
+) -> Result<Vec<ForwardNSData>, NoMemory>
+    ensures { IfOk result (λ v. v.items ≡ map (forwarded_by addresses.now) (filter is_ns section.now)) }
+{
+    let mut all = Vec::new(alloc);
+    for next in section {
+        if next.record_type == RecordType::NS {
+            let forwarded = forwarded_of(alloc, addresses, next)?;
+            all.push(forwarded)?;
+        }
+    }
+    Ok(all)
+}

@@ -1,0 +1,42 @@
+ghost use Rattle.std.specs.Prelude.{◌≡◌, Some};
+ghost use Rattle.dns_handle.specs.Notices.{notice_text};
+
+use std::fmt;
+
+/// A fixed text that an error carries.
+#[derive(Clone, Copy, Debug, PartialEq, Eq, Hash)]
+pub enum Notice {
+    /// What the reply holds is not judged by this version.
+    NotJudgedYet,
+    /// A request has no question where one is needed.
+    NoQueryInRequest,
+    /// The moment isn't in a signature's validity.
+    ExpiredRrsig,
+    /// A key isn't the one that a signature names, or is no zone key.
+    WrongDnskey,
+    /// A signature isn't one of the set.
+    WrongRrsig,
+}
+
+impl Notice {
+    /// The text, as Display writes it.
+    pub fn text(self) -> &'static str
+        ensures { result.now ≡ notice_text self }
+    {
+        match self {
+            Notice::NotJudgedYet => "not judged yet",
+            Notice::NoQueryInRequest => "no query in request",
+            Notice::ExpiredRrsig => "ExpiredRrsig",
+            Notice::WrongDnskey => "WrongDnskey",
+            Notice::WrongRrsig => "WrongRrsig",
+        }
+    }
+}
+
+impl fmt::Display for Notice {
+    ghost output = { λ notice. Some (notice_text notice) };
+
+    fn fmt<W: fmt::Write>(&self, f: &mut fmt::Formatter<W>) -> fmt::Result {
+        f.write_str(self.text())
+    }
+}

@@ -1,0 +1,49 @@
+ghost use Rattle.std.specs.Prelude.{◌≡◌, IfOk};
+ghost use Rattle.dns_handle.specs.QueryKeys.{key_of};
+ghost use Rattle.dns_handle.specs.AnswerIndex.{asked};
+
+use dns_name::{NameRef, NoMemory, Octets};
+use dns_record::{DNSClass, Query, RecordType};
+use std::alloc::Global;
+
+/// A query as a key of an ordered map. The name's bytes are folded once, so that two keys are compared in one pass; and no
+/// choice of names makes a search longer, as it would where a hash can be foreseen.
+#[derive(PartialEq, Eq, PartialOrd, Ord, Drop)]
+pub struct QueryKey {
+    /// The wire form, with A to Z as a to z.
+    name: Octets,
+    record_type: u16,
+    class: u16,
+}
+
+impl QueryKey {
+    /// The key of a query.
+    pub fn of(alloc: Global, query: &Query) -> Result<QueryKey, NoMemory>
+        ensures { IfOk result (λ k. k ≡ key_of query.now) }
+    {
+        let mut name = Vec::with_capacity(alloc, query.name.wire().len())?;
+        query.name.push_folded(&mut name)?;
+        Ok(QueryKey {
+            name: Octets::from_vec(name),
+            record_type: query.query_type.0,
+            class: query.query_class.0,
+        })
+    }
+
+    /// The key of a name and a type in any class.
+    pub fn at(
+        alloc: Global,
+        owner: &NameRef,
+        record_type: RecordType,
+    ) -> Result<QueryKey, NoMemory>
+        ensures { IfOk result (λ k. k ≡ key_of (asked owner.now record_type.0)) }
+    {
+        let mut name = Vec::with_capacity(alloc, owner.wire().len())?;
+        owner.push_folded(&mut name)?;
+        Ok(QueryKey {
+            name: Octets::from_vec(name),
+            record_type: record_type.0,
+            class: DNSClass::ANY.0,
+        })
+    }
+}

@@ -1,7 +1,0 @@
-use Rattle.std.proofs.Common.{take}
-use Rattle.dns_net.specs.AnswerIndex.{AllNoted}
-use Rattle.dns_net.proofs.answered.note_section.Given as goal
-
--- the records so far are noted
-abbrev pub invariant-loop-next : goal.invariant-loop-next
-invariant-loop-next l = AllNoted l.initial.index l.index (take l.next-index l.section)

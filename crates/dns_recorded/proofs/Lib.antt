@@ -1,0 +1,3 @@
+pub mod PlaceLemmas
+pub mod ReplyLemmas
+pub mod ServedLemmas
