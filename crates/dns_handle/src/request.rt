@@ -6,6 +6,7 @@ use dns_message::{Edns, Message};
 use dns_name::{NoMemory, Octets};
 use dns_record::{OpCode, Query, ResponseCode};
 use std::alloc::Global;
+use std::mem;
 use std::marker::Model;
 
 /// How a request is made and sent.
@@ -87,9 +88,12 @@ fn change_first(queries: &mut Vec<Query>, bits: &[u8]) -> Result<Option<Query>, 
     let Some(query) = queries.first_mut() else {
         return Ok(None);
     };
-    let original = query.try_clone()?;
-    query.name = name_cased(alloc, &original.name, bits)?;
-    Ok(Some(original))
+    let changed = name_cased(alloc, &query.name, bits)?;
+    Ok(Some(Query {
+        name: mem::replace(&mut query.name, changed),
+        query_type: query.query_type,
+        query_class: query.query_class,
+    }))
 }
 
 impl DnsRequest {
