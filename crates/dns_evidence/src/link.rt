@@ -47,6 +47,7 @@ pub enum Link {
 pub struct Chain {
     /// Where the set stands.
     pub section: Section,
+    /// The links, each after those that it stands on.
     pub links: Vec<Link>,
 }
 

@@ -29,10 +29,13 @@ pub struct Asked {
     pub depth: u16,
     /// The reply was to be judged; else it was only to be seen.
     pub judged: bool,
+    /// What was asked.
     pub query: Query,
+    /// What was heard.
     pub reply: Reply,
     /// One for each set of the reply, in order.
     pub sets: Vec<JudgedSet>,
+    /// How the step ended.
     pub ending: Ending,
     /// The asks that the ending stands on.
     pub excuse: Vec<AskRef>,
@@ -67,11 +70,15 @@ pub enum Reply {
 /// The records that a reply tells (RFC 1035, 4.1).
 #[derive(Drop)]
 pub struct Told {
+    /// The response code.
     pub code: ResponseCode,
     /// The reply said that there are no records.
     pub empty: bool,
+    /// The answer section, without marks.
     pub answers: Vec<Record>,
+    /// The authority section, without marks.
     pub authorities: Vec<Record>,
+    /// The additional section, without marks.
     pub additionals: Vec<Record>,
 }
 
@@ -97,9 +104,13 @@ impl Model for Told {
 pub struct JudgedSet {
     /// Where the set stands.
     pub section: Section,
+    /// The owner of the set.
     pub owner: Name,
+    /// The type of the set.
     pub record_type: RecordType,
+    /// What was found of the set.
     pub mark: Proof,
+    /// Where the mark comes from.
     pub origin: MarkOrigin,
     /// The place of the signature that decided, among those of the set, from 0.
     pub sig: Option<u32>,

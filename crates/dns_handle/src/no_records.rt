@@ -9,6 +9,7 @@ use std::marker::Model;
 /// That there are no records to a question, and what the server said beside it (RFC 2308, 2).
 #[derive(Drop)]
 pub struct NoRecords {
+    /// The question that has no records.
     pub query: Query,
     /// The SOA of the zone that says so.
     pub soa: Option<Record>,
@@ -16,6 +17,7 @@ pub struct NoRecords {
     pub ns: Vec<ForwardNSData>,
     /// Seconds for which it may be believed (RFC 2308, 5).
     pub negative_ttl: Option<u32>,
+    /// NOERROR, or NXDOMAIN where the name doesn't exist.
     pub response_code: ResponseCode,
     /// The records of the authority section.
     pub authorities: Vec<Record>,
@@ -39,6 +41,7 @@ impl Model for NoRecords {
 /// An NS record, with the addresses of the server that it names (RFC 1034, 4.2.1).
 #[derive(Drop)]
 pub struct ForwardNSData {
+    /// The NS record.
     pub ns: Record,
     /// A and AAAA records.
     pub glue: Vec<Record>,

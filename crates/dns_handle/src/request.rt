@@ -6,8 +6,8 @@ use dns_message::{Edns, Message};
 use dns_name::{NoMemory, Octets};
 use dns_record::{OpCode, Query, ResponseCode};
 use std::alloc::Global;
-use std::mem;
 use std::marker::Model;
+use std::mem;
 
 /// How a request is made and sent.
 #[derive(Clone, Copy, Debug, PartialEq, Eq, Hash)]
@@ -48,7 +48,9 @@ impl Default for DnsRequestOptions {
 /// A message to send, and how.
 #[derive(Drop)]
 pub struct DnsRequest {
+    /// The message that is sent.
     pub message: Message,
+    /// How it is sent.
     pub options: DnsRequestOptions,
     /// The question as it was before its letters' case was changed.
     pub original: Option<Query>,

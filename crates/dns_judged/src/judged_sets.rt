@@ -5,7 +5,9 @@ use std::marker::Model;
 /// A set, and the section that it stands in.
 #[derive(Drop)]
 pub struct PlacedSet {
+    /// The section in which the set stands.
     pub section: Section,
+    /// The set.
     pub set: RecordSet,
 }
 
@@ -20,8 +22,11 @@ impl Model for PlacedSet {
 /// An RRset with its mark and the signature that decided.
 #[derive(Drop)]
 pub struct MarkedSet {
+    /// The section in which the set stands.
     pub section: Section,
+    /// The set.
     pub set: RecordSet,
+    /// What was found of it.
     pub mark: Proof,
     /// The place, among the set's signatures, of the one that decided.
     pub sig: Option<u32>,
@@ -38,6 +43,7 @@ impl Model for MarkedSet {
 /// A marked set and its chain.
 #[derive(Drop)]
 pub struct ChainedSet {
+    /// The set with its mark.
     pub judged: MarkedSet,
     /// The links to the set, where it is Secure.
     pub chain: Vec<Link>,

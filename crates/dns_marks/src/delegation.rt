@@ -4,8 +4,8 @@ ghost use Rattle.dns_marks.specs.Kinds.{want_of_memory};
 ghost use Rattle.dns_marks.specs.Dnskeys.{key_proof, unmatched as cause_of};
 
 use crate::{ProofError, ProofErrorKind};
-use dns_name::NoMemory;
 use dns_handle::Verifier;
+use dns_name::NoMemory;
 use dns_rdata::Dnskey;
 use dns_record::{Proof, Record};
 use dns_trust::matching_ds;

@@ -3,8 +3,8 @@ ghost use Rattle.dns_model.specs.declared.proof.Proof.TheVariants as proof;
 ghost use Rattle.dns_judgement.specs.ProofErrors as cause;
 ghost use Rattle.dns_marks.specs.Kinds.{kind_value, because, want_of_memory};
 
-use dns_name::{Name, NoMemory};
 use dns_handle::Notice;
+use dns_name::{Name, NoMemory};
 use dns_record::{Proof, Query, RecordType};
 use std::alloc::{AllocError, AllocFailed};
 use std::fmt;
@@ -81,7 +81,9 @@ impl fmt::Debug for ProofErrorKind {
 #[derive(Drop, Error)]
 #[error("{proof:?}: {kind}")]
 pub struct ProofError {
+    /// The mark that follows.
     pub proof: Proof,
+    /// The cause.
     pub kind: ProofErrorKind,
 }
 

@@ -10,6 +10,7 @@ use std::marker::Model;
 /// What is found of a set that a signature or its keys decide.
 #[derive(Drop)]
 pub struct RrsetProof {
+    /// The mark of the set.
     pub proof: Proof,
     /// Seconds: the ttl that the signature leaves to the set.
     pub adjusted_ttl: Option<u32>,

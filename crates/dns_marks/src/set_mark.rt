@@ -11,8 +11,8 @@ ghost use Rattle.dns_marks.specs.SetMarks.{set_proof, deciding_proof, answer_pro
 
 use crate::tested::Tested;
 use crate::{ProofError, ProofErrorKind, RrsetProof, verify_rrsig_with_keys};
-use dns_name::NoMemory;
 use dns_handle::Verifier;
+use dns_name::NoMemory;
 use dns_record::{Proof, Query, Record, RecordSet};
 use dns_steps::Steps;
 use dns_trust::first_signatures;

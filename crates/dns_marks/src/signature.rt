@@ -11,8 +11,8 @@ ghost use Rattle.dns_marks.specs.KeySignatures.{Unless, validity_at, signature_p
 use crate::rrset_proof::proved_by;
 use crate::tested::Tested;
 use crate::{ProofError, ProofErrorKind, RrsetProof};
-use dns_name::{NoMemory, Octets};
 use dns_handle::{Notice, Verifier};
+use dns_name::{NoMemory, Octets};
 use dns_rdata::{Dnskey, Rrsig, signed_data};
 use dns_record::{Proof, Record, RecordSet};
 use dns_steps::Steps;

@@ -10,9 +10,9 @@ ghost use Rattle.dns_judgement.specs.Delegations.{ds_question as ds_question_of}
 ghost use Rattle.dns_marks.specs.ZoneVerdicts.{zone_verdict_value, is_want, answer_verdict, by_message, by_ds as by_ds_set, by_supported, without_ds as without_ds_set, has_ds_set as has_set_in, are_secure_in_set, authority_shows_no_ds as shows_none, is_insecure_record_above as is_above, shown_by, is_record_of};
 
 use crate::ProofErrorKind;
+use dns_handle::{DnsResponse, NetError, Verifier};
 use dns_message::Message;
 use dns_name::{Name, NoMemory};
-use dns_handle::{DnsResponse, NetError, Verifier};
 use dns_rdata::{Ds, Nsec};
 use dns_record::{DNSClass, Proof, Query, Record, RecordType};
 use dns_trust::is_supported_ds;

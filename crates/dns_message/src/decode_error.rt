@@ -26,7 +26,9 @@ pub enum DecodeKind {
 /// Why bytes are no message: the first fault from the left, and the place of it in bytes from the start.
 #[derive(Clone, Copy, Debug, PartialEq, Eq, Drop)]
 pub struct DecodeError {
+    /// What is wrong.
     pub kind: DecodeKind,
+    /// The place of the byte at which it is wrong, from 0; 0 for want of memory.
     pub offset: u32,
 }
 

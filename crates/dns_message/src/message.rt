@@ -9,11 +9,13 @@ use std::marker::Model;
 pub struct Edns {
     /// The most bytes that the sender takes in a datagram.
     pub max_payload: u16,
+    /// The version of EDNS, 0 so far.
     pub version: u8,
     /// The sender wants DNSSEC records (RFC 3225).
     pub dnssec_ok: bool,
     /// The lower 15 bits of the flags.
     pub flags: u16,
+    /// The options as they came, each with its code and length (RFC 6891, 6.1.2).
     pub options: Octets,
 }
 
@@ -50,20 +52,35 @@ impl Edns {
 /// A message (RFC 1035, 4.1; RFC 6891 for the OPT record, which is `edns`).
 #[derive(Drop)]
 pub struct Message {
+    /// By which a response is matched to its query.
     pub id: u16,
+    /// QR: a response, and no query.
     pub response: bool,
+    /// What is asked to be done.
     pub op_code: OpCode,
+    /// AA: the server has authority for the name.
     pub authoritative: bool,
+    /// TC: the message was cut off.
     pub truncated: bool,
+    /// RD: the sender wants the server to ask further.
     pub recursion_desired: bool,
+    /// RA: the server asks further.
     pub recursion_available: bool,
+    /// AD: the server takes all of it for authentic (RFC 4035, 3.2.3).
     pub authentic_data: bool,
+    /// CD: the sender checks for itself (RFC 4035, 3.2.2).
     pub checking_disabled: bool,
+    /// How it was answered, with the upper bits of an OPT.
     pub response_code: ResponseCode,
+    /// The question section.
     pub queries: Vec<Query>,
+    /// The answer section.
     pub answers: Vec<Record>,
+    /// The authority section.
     pub authorities: Vec<Record>,
+    /// The additional section, the OPT aside.
     pub additionals: Vec<Record>,
+    /// The OPT record, where there is one.
     pub edns: Option<Edns>,
 }
 

@@ -19,6 +19,7 @@ pub struct Dnskey<'a> {
     pub flags: u16,
     /// 3 in every key that counts.
     pub protocol: u8,
+    /// The algorithm of its signatures (RFC 4034, A.1).
     pub algorithm: u8,
     /// The public key, in its algorithm's form.
     pub key: &'a [u8],

@@ -12,9 +12,11 @@ use std::marker::Model;
 pub struct Ds<'a> {
     /// The tag of the key that is meant.
     pub key_tag: u16,
+    /// The algorithm of the key that is meant.
     pub algorithm: u8,
     /// `SHA1`, `SHA256` or `SHA384` where it is supported.
     pub digest_type: u8,
+    /// The digest of the key's owner and rdata.
     pub digest: &'a [u8],
 }
 

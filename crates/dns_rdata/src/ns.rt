@@ -10,6 +10,7 @@ use std::marker::Model;
 /// The name server that an NS rdata names (RFC 1035, 3.3.11). Contracts see it as its labels.
 #[derive(Drop)]
 pub struct Ns<'a> {
+    /// The server's name.
     pub name: NameRef<'a>,
 }
 

@@ -58,6 +58,7 @@ impl<'a> Nsec<'a> {
 /// An NSEC record that owns what it says.
 #[derive(Drop)]
 pub struct NsecRecord {
+    /// The name at which the record stands.
     pub owner: Name,
     /// The next owner in canonical order.
     pub next: Name,

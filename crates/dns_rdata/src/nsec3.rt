@@ -22,6 +22,7 @@ pub struct Nsec3<'a> {
     pub flags: u8,
     /// How many more rounds there are after the first.
     pub iterations: u16,
+    /// The bytes that are added before each hash.
     pub salt: &'a [u8],
     /// The next hash in order.
     pub next: &'a [u8],
@@ -82,6 +83,7 @@ impl<'a> Nsec3<'a> {
 /// An NSEC3 record that owns what it says.
 #[derive(Drop)]
 pub struct Nsec3Record {
+    /// The name at which the record stands: a hash below the zone.
     pub owner: Name,
     /// 1 for SHA-1, the only one there is.
     pub hash_algorithm: u8,
@@ -89,6 +91,7 @@ pub struct Nsec3Record {
     pub flags: u8,
     /// How many more rounds there are after the first.
     pub iterations: u16,
+    /// The bytes that are added before each hash.
     pub salt: Octets,
     /// The next hash in order.
     pub next: Octets,

@@ -11,7 +11,9 @@ use std::marker::Model;
 /// What an RRSIG rdata says (RFC 4034, 3.1).
 #[derive(Drop)]
 pub struct Rrsig<'a> {
+    /// The type of the set that is signed.
     pub type_covered: RecordType,
+    /// The algorithm of the signature (RFC 4034, A.1).
     pub algorithm: u8,
     /// How many labels the owner had when it was signed, a leading `*` aside.
     pub labels: u8,
@@ -25,6 +27,7 @@ pub struct Rrsig<'a> {
     pub key_tag: u16,
     /// The zone whose key signed.
     pub signer: NameRef<'a>,
+    /// The signature itself.
     pub signature: &'a [u8],
 }
 

@@ -15,11 +15,15 @@ pub struct Soa<'a> {
     pub mname: NameRef<'a>,
     /// The mailbox of who is answerable for the zone.
     pub rname: NameRef<'a>,
+    /// The zone's version, a serial number (RFC 1982).
     pub serial: u32,
     /// Seconds, as the next three.
     pub refresh: u32,
+    /// Seconds until a refresh that failed is tried again.
     pub retry: u32,
+    /// Seconds after which the zone no longer counts without a refresh.
     pub expire: u32,
+    /// Seconds for which it may be believed that there are no records (RFC 2308, 4).
     pub minimum: u32,
 }
 

@@ -7,8 +7,11 @@ use std::marker::Model;
 /// A question (RFC 1035, 4.1.2). Equality, order and hash fold the name.
 #[derive(PartialEq, Eq, PartialOrd, Ord, Hash, Drop)]
 pub struct Query {
+    /// The name that is asked for.
     pub name: Name,
+    /// The type that is asked for.
     pub query_type: RecordType,
+    /// The class that is asked for.
     pub query_class: DNSClass,
 }
 

@@ -10,11 +10,15 @@ use std::marker::Model;
 pub struct Record {
     /// The owner.
     pub name: Name,
+    /// What the rdata is.
     pub record_type: RecordType,
+    /// The class, IN for nearly all.
     pub dns_class: DNSClass,
     /// Seconds for which the record may be kept.
     pub ttl: u32,
+    /// The data, in the shape of its type.
     pub rdata: Rdata,
+    /// The mark: what was found out of the record (RFC 4033, 5).
     pub proof: Proof,
 }
 

@@ -10,10 +10,15 @@ use std::marker::Model;
 /// The records of one name, type and class, with the signatures that cover them (RFC 2181, 5).
 #[derive(Drop)]
 pub struct RecordSet {
+    /// The owner of each record.
     pub name: Name,
+    /// The type of each record.
     pub record_type: RecordType,
+    /// The class of each record.
     pub dns_class: DNSClass,
+    /// The records of the type.
     pub records: Vec<Record>,
+    /// The signatures over them.
     pub rrsigs: Vec<Record>,
 }
 

@@ -9,10 +9,13 @@ use std::marker::Model;
 /// A response, with the chains of its Secure sets, what it denies and how it came about.
 #[derive(Drop)]
 pub struct DnsResponse {
+    /// The message, each record with its mark.
     pub message: Message,
     /// One for each Secure set, in the order of the sets.
     pub chains: Vec<Chain>,
+    /// What the response denies.
     pub denial: Denial,
+    /// How the answer came about.
     pub trail: Trail,
 }
 

@@ -28,7 +28,9 @@ pub enum ReplyKind {
 /// What an upstream says to a question.
 #[derive(Drop)]
 pub struct Reply {
+    /// What it replies to.
     pub query: Query,
+    /// What is replied.
     pub kind: ReplyKind,
 }
 

@@ -6,6 +6,7 @@ use std::marker::Model;
 /// A key that is trusted without a proof, for the keys of its owner.
 #[derive(Drop)]
 pub struct Anchor {
+    /// The key's owner.
     pub owner: Name,
     /// The key's algorithm (RFC 4034, A.1).
     pub algorithm: u8,
@@ -24,11 +25,13 @@ impl Model for Anchor {
 /// A signature that a verifier accepts.
 #[derive(Drop)]
 pub struct AcceptedSignature {
+    /// The algorithm of the signature.
     pub algorithm: u8,
     /// The public key alone.
     pub key: Octets,
     /// The bytes that are signed.
     pub bytes: Octets,
+    /// The signature.
     pub signature: Octets,
 }
 
@@ -51,8 +54,11 @@ pub struct Session {
     pub depth: Option<u16>,
     /// The algorithms that the verifier supports.
     pub algorithms: Vec<u8>,
+    /// The keys that are trusted.
     pub anchors: Vec<Anchor>,
+    /// The signatures that the verifier accepts.
     pub accepts: Vec<AcceptedSignature>,
+    /// What is looked up.
     pub query: Query,
     /// In the order in which they stand.
     pub replies: Vec<Reply>,
