@@ -52,16 +52,16 @@ fn push_parts(
     Ok(())
 }
 
-fn push_record(out: &mut Vec<u8>, record: &Record) -> Result<(), NoMemory>
-    ensures { OnOk result (out.new.items ≡ out.old.items ++ record_bytes record.now) }
+fn push_record(out: &mut Vec<u8>, from: &Record) -> Result<(), NoMemory>
+    ensures { OnOk result (out.new.items ≡ out.old.items ++ record_bytes from.now) }
 {
     push_parts(
         out,
-        record.name.wire(),
-        record.record_type.0,
-        record.dns_class.0,
-        record.ttl,
-        record.rdata.as_slice(),
+        from.name.wire(),
+        from.record_type.0,
+        from.dns_class.0,
+        from.ttl,
+        from.rdata.as_slice(),
     )
 }
 
