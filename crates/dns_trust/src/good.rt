@@ -9,7 +9,6 @@ ghost use Rattle.dns_judgement.specs.MarkParts.{sig_validity};
 ghost use Rattle.dns_anchors.specs.Judge.{judge_of};
 ghost use Rattle.dns_trust.specs.Built.{IsBuilt};
 
-use crate::validity::check_read;
 use crate::{Judge, RrsigValidity};
 use dns_evidence::Verifier;
 use dns_name::{NoMemory, Octets};
@@ -71,7 +70,7 @@ pub(crate) fn is_good_read<V: Verifier>(
 fn is_valid(sig: &Record, read: &Rrsig<'_>, set: &RecordSet, key: &Record, now: u64) -> bool
     ensures { result ≡ is_valid_in (sig_validity (λ s. timely s now) set.now sig.now key.now (Some read.now)) }
 {
-    check_read(sig, read, set, key, now) == RrsigValidity::ValidRrsig
+    RrsigValidity::check_read(sig, read, set, key, now) == RrsigValidity::ValidRrsig
 }
 
 /// The key may sign: a zone's key that isn't revoked, of DNSSEC's protocol, under an algorithm that the verifier supports

@@ -32,27 +32,28 @@ impl RrsigValidity {
         let Some(read) = Rrsig::of(sig) else {
             return RrsigValidity::WrongRrsig;
         };
-        check_read(sig, &read, set, key, now)
+        RrsigValidity::check_read(sig, &read, set, key, now)
     }
-}
 
-// The same of a signature that is read.
-pub(crate) fn check_read(
-    sig: &Record,
-    read: &Rrsig<'_>,
-    set: &RecordSet,
-    key: &Record,
-    now: u64,
-) -> RrsigValidity
-    ensures { validity_of result ≡ sig_validity (λ s. timely s now) set.now sig.now key.now (Some read.now) }
-{
-    if !is_of_set(set, sig, read) {
-        return RrsigValidity::WrongRrsig;
+    /// The same of a signature that is read already: its view is handed in beside its record. Whoever tests several keys for
+    /// one signature reads it once.
+    pub fn check_read(
+        sig: &Record,
+        read: &Rrsig<'_>,
+        set: &RecordSet,
+        key: &Record,
+        now: u64,
+    ) -> RrsigValidity
+        ensures { validity_of result ≡ sig_validity (λ s. timely s now) set.now sig.now key.now (Some read.now) }
+    {
+        if !is_of_set(set, sig, read) {
+            return RrsigValidity::WrongRrsig;
+        }
+        if !is_timely(read, now) {
+            return RrsigValidity::ExpiredRrsig;
+        }
+        key_validity(read, key)
     }
-    if !is_timely(read, now) {
-        return RrsigValidity::ExpiredRrsig;
-    }
-    key_validity(read, key)
 }
 
 // The signature stands at the set's owner and class, under a signer at or above it, over the set's type and no more labels.
