@@ -26,6 +26,6 @@ pub use key_sets::{KeysStep, ds_ask_of, judged_by_ds, judged_keys};
 pub use keys::{AnchoredRow, MatchedRow, anchored_row, matched_row};
 pub use searching::{ds_query, is_ns_of, is_searched, ns_query, question_start, set_start};
 pub use signers::{SignedBy, first_signatures};
-pub use unsigned::{unsigned_by, zone_mark};
+pub use unsigned::{shows_unsigned_cut, unsigned_by, zone_mark};
 pub use validity::RrsigValidity;
 pub use verdict::{Verdict, ask_of, is_skipped, may_be_signed, verdict_of};

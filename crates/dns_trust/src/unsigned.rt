@@ -151,11 +151,12 @@ fn has_unsigned_cut(records: &[Record]) -> bool
     records.iter().any(shows_unsigned_cut)
 }
 
-// NS is among the types of the NSEC, DS and SOA aren't.
-fn shows_unsigned_cut(read: &Record) -> bool
-    ensures { result ≡ shows_cut read.now }
+/// An NSEC shows a delegation to an unsigned zone: NS is among its types, DS and SOA aren't (RFC 4035, 5.2). False where its
+/// rdata can't be read; whether the record is of type NSEC, and of whom, the caller has tested.
+pub fn shows_unsigned_cut(next: &Record) -> bool
+    ensures { result ≡ shows_cut next.now }
 {
-    match Nsec::read(read.rdata.as_slice()) {
+    match Nsec::read(next.rdata.as_slice()) {
         Some(nsec) => is_unsigned_cut(&nsec),
         None => false,
     }
