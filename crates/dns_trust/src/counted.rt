@@ -1,19 +1,19 @@
-ghost use Rattle.std.specs.Prelude.{◌≡◌, ℕ, IfOk, OnOk, Some, nat_lt};
+ghost use Rattle.std.specs.Prelude.{◌≡◌, ℕ, IfOk, OnOk, nat_lt};
 ghost use Rattle.std.specs.List.{find, list_any};
 ghost use Rattle.std.specs.Option.{option_copied};
-ghost use Rattle.dns_model.specs.RecordViews.{rrsig_of};
-ghost use Rattle.dns_judgement.specs.Validity.{is_good_by as is_good_in};
 ghost use Rattle.dns_judgement.specs.Marks.{counted_keys, is_key_of as is_zone_key};
 ghost use Rattle.dns_anchors.specs.Judge.{judge_of};
 ghost use Rattle.dns_trust.specs.Delegating.{shown};
+ghost use Rattle.dns_trust.specs.SetSignatures.{IsRead, is_good_of};
 ghost use Rattle.dns_trust.specs.Counting.{count_in, tag_count_after, count_after, tag_in, is_tried as is_tried_in};
 
 use crate::Judge;
 use crate::good::is_good_read;
+use crate::set_signature::SetSignature;
 use dns_evidence::Verifier;
 use dns_name::{NameRef, NoMemory};
 use dns_rdata::{Dnskey, Rrsig, key_tag};
-use dns_record::{Record, RecordSet};
+use dns_record::Record;
 use std::alloc::Global;
 use std::collections::BTreeMap;
 
@@ -21,22 +21,20 @@ use std::collections::BTreeMap;
 pub(crate) fn first_good<'a, V: Verifier>(
     alloc: Global,
     judge: &Judge<'_, V>,
-    set: &RecordSet,
-    sig: &Record,
-    read: &Rrsig<'_>,
+    signature: &SetSignature<'_>,
     keys: &'a [Record],
 ) -> Result<Option<&'a Record>, NoMemory>
-    requires { rrsig_of sig.now ≡ Some read.now }
-    ensures { IfOk result (λ k. option_copied k ≡
-        find (is_good_in (judge_of V.answers judge.now) set.now sig.now) (counted_keys read.now.signer keys.now)) }
+    requires { IsRead signature.now }
+    ensures { IfOk result (λ k. option_copied k ≡ find (is_good_of (judge_of V.answers judge.now) signature.now)
+        (counted_keys signature.now.read.now.signer keys.now)) }
 {
     let mut counts = BTreeMap::new(alloc);
     let mut built = None;
     for key in keys {
-        if !is_tried(&mut counts, read, key)? {
+        if !is_tried(&mut counts, signature.read, key)? {
             continue;
         }
-        if is_good_read(alloc, judge, set, sig, read, key, &mut built)? {
+        if is_good_read(alloc, judge, signature, key, &mut built)? {
             return Ok(Some(key));
         }
     }

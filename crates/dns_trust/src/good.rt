@@ -1,5 +1,4 @@
 ghost use Rattle.std.specs.Prelude.{◌≡◌, IfOk, OnOk, Some};
-ghost use Rattle.dns_model.specs.RecordViews.{rrsig_of};
 ghost use Rattle.dns_model.specs.Keys.{usable_key};
 ghost use Rattle.dns_model.specs.Signing.{signed_bytes};
 ghost use Rattle.dns_model.specs.Chains.{rdatas_of};
@@ -8,7 +7,9 @@ ghost use Rattle.dns_judgement.specs.Validity.{is_good_by as is_good_in, is_vali
 ghost use Rattle.dns_judgement.specs.MarkParts.{sig_validity};
 ghost use Rattle.dns_anchors.specs.Judge.{judge_of};
 ghost use Rattle.dns_trust.specs.Built.{IsBuilt};
+ghost use Rattle.dns_trust.specs.SetSignatures.{IsRead, IsBuiltOf, is_good_of};
 
+use crate::set_signature::SetSignature;
 use crate::{Judge, RrsigValidity};
 use dns_evidence::Verifier;
 use dns_name::{NoMemory, Octets};
@@ -31,8 +32,13 @@ pub fn is_good_by<V: Verifier>(
     let Some(read) = Rrsig::of(sig) else {
         return Ok(false);
     };
+    let signature = SetSignature {
+        set,
+        sig,
+        read: &read,
+    };
     let mut built = None;
-    is_good_read(alloc, judge, set, sig, &read, key, &mut built)
+    is_good_read(alloc, judge, &signature, key, &mut built)
 }
 
 // The same of a signature that is read. The bytes that it is over are built for the first key that comes so far, and kept.
@@ -40,36 +46,36 @@ pub fn is_good_by<V: Verifier>(
 pub(crate) fn is_good_read<V: Verifier>(
     alloc: Global,
     judge: &Judge<'_, V>,
-    set: &RecordSet,
-    sig: &Record,
-    read: &Rrsig<'_>,
+    signature: &SetSignature<'_>,
     key: &Record,
     built: &mut Option<Octets>,
 ) -> Result<bool, NoMemory>
-    requires read { rrsig_of sig.now ≡ Some read.now }
-    requires built { IsBuilt set.now read.now built.old }
-    ensures good { IfOk result (λ b. b ≡ is_good_in (judge_of V.answers judge.now) set.now sig.now key.now) }
-    ensures built { OnOk result (IsBuilt set.now read.now built.new) }
+    requires read { IsRead signature.now }
+    requires built { IsBuiltOf signature.now built.old }
+    ensures good { IfOk result (λ b. b ≡ is_good_of (judge_of V.answers judge.now) signature.now key.now) }
+    ensures built { OnOk result (IsBuiltOf signature.now built.new) }
 {
     let Some(dnskey) = Dnskey::of(key) else {
         return Ok(false);
     };
-    if !is_valid(sig, read, set, key, judge.moment) {
+    if !is_valid(signature, key, judge.moment) {
         return Ok(false);
     }
     if !is_usable(judge.verifier, &dnskey) {
         return Ok(false);
     }
-    let bytes = signed_data_once(alloc, set, read, built.take())?;
-    let accepted = is_accepted(judge.verifier, read, &dnskey, &bytes);
+    let bytes = signed_data_once(alloc, signature.set, signature.read, built.take())?;
+    let accepted = is_accepted(judge.verifier, signature.read, &dnskey, &bytes);
     *built = Some(bytes);
     Ok(accepted)
 }
 
 // The signature fits the set, the key and the moment.
-fn is_valid(sig: &Record, read: &Rrsig<'_>, set: &RecordSet, key: &Record, now: u64) -> bool
-    ensures { result ≡ is_valid_in (sig_validity (λ s. timely s now) set.now sig.now key.now (Some read.now)) }
+fn is_valid(signature: &SetSignature<'_>, key: &Record, now: u64) -> bool
+    ensures { result ≡ is_valid_in (sig_validity (λ s. timely s now)
+        signature.now.set.now signature.now.sig.now key.now (Some signature.now.read.now)) }
 {
+    let SetSignature { set, sig, read } = *signature;
     RrsigValidity::check_read(sig, read, set, key, now) == RrsigValidity::ValidRrsig
 }
 

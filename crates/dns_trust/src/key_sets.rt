@@ -41,6 +41,13 @@ struct KeysMarked {
     chain: Vec<Link>,
 }
 
+// DS records of a key set's owner that are Secure, and the chain of their set.
+#[derive(Drop)]
+struct ShownDs<'a, 'r> {
+    index: &'a DsIndex<'r>,
+    chain: &'a Vec<Link>,
+}
+
 /// A DNSKEY set, judged by its anchored keys, as far as these decide (RFC 4035, 5.2).
 pub fn judged_keys<V: Verifier>(
     alloc: Global,
@@ -212,7 +219,11 @@ fn marked_by_records<V: Verifier>(
     if ds.is_empty() {
         return Ok(refused(alloc, mark_by_unsupported(records)));
     }
-    marked_by_ds(alloc, judge, set, front, &ds)
+    let shown = ShownDs {
+        index: &ds,
+        chain: front,
+    };
+    marked_by_ds(alloc, judge, set, &shown)
 }
 
 // The mark of a key set by the supported ones of these.
@@ -220,19 +231,18 @@ fn marked_by_ds<V: Verifier>(
     alloc: Global,
     judge: &Judge<'_, V>,
     set: &RecordSet,
-    front: &Vec<Link>,
-    ds: &DsIndex<'_>,
+    shown: &ShownDs<'_, '_>,
 ) -> Result<KeysMarked, NoMemory>
-    requires owner { ds.now.owner ≡ set.now.owner }
+    requires owner { shown.now.index.now.owner ≡ set.now.owner }
     requires needed { needs_ds (judge_of V.answers judge.now) set.now ≡ true }
     ensures { IfOk result (λ m. marked_value m ≡
-        outcome_marked (judge_of V.answers judge.now) set.now (map link_value front.now.items)
-        (outcome_by_ds (judge_of V.answers judge.now) set.now ds.now.records)) }
+        outcome_marked (judge_of V.answers judge.now) set.now (map link_value shown.now.chain.now.items)
+        (outcome_by_ds (judge_of V.answers judge.now) set.now shown.now.index.now.records)) }
 {
-    match matched_row(alloc, judge, set, ds)? {
-        MatchedRow::Signed(by) => signed_by_ds(alloc, judge, set, front, ds, &by),
+    match matched_row(alloc, judge, set, shown.index)? {
+        MatchedRow::Signed(by) => signed_by_ds(alloc, judge, set, shown, &by),
         MatchedRow::Whole => {
-            let chain = trusted_chain(alloc, judge, set, front, ds)?;
+            let chain = trusted_chain(alloc, judge, set, shown.chain, shown.index)?;
             Ok(wholly_trusted(chain))
         }
         MatchedRow::Neither => Ok(refused(alloc, Proof::Bogus)),
@@ -244,18 +254,17 @@ fn signed_by_ds<V: Verifier>(
     alloc: Global,
     judge: &Judge<'_, V>,
     set: &RecordSet,
-    front: &Vec<Link>,
-    ds: &DsIndex<'_>,
+    shown: &ShownDs<'_, '_>,
     by: &SignedBy<'_>,
 ) -> Result<KeysMarked, NoMemory>
-    requires { ds.now.owner ≡ set.now.owner }
+    requires { shown.now.index.now.owner ≡ set.now.owner }
     ensures { IfOk result (λ m. marked_value m ≡
-        outcome_marked (judge_of V.answers judge.now) set.now (map link_value front.now.items)
-        (SignedByMatched ds.now.records (signed_value by.now))) }
+        outcome_marked (judge_of V.answers judge.now) set.now (map link_value shown.now.chain.now.items)
+        (SignedByMatched shown.now.index.now.records (signed_value by.now))) }
 {
-    let ds_link = last_number(front)?;
-    let found = ds.matching(judge.verifier, by.key);
-    let links = clone_links(front)?;
+    let ds_link = last_number(shown.chain)?;
+    let found = shown.index.matching(judge.verifier, by.key);
+    let links = clone_links(shown.chain)?;
     let link = link_by_found(set, ds_link, by.key, found)?;
     signed(alloc, set, links, link, by)
 }

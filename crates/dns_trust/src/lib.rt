@@ -11,6 +11,7 @@ mod judged;
 mod key_sets;
 mod keys;
 mod searching;
+mod set_signature;
 mod signers;
 mod unsigned;
 mod validity;

@@ -1,15 +1,15 @@
-ghost use Rattle.std.specs.Prelude.{◌≡◌, ◌≤◌, IfOk, Some, length, take};
+ghost use Rattle.std.specs.Prelude.{◌≡◌, ◌≤◌, IfOk, length, take};
 ghost use Rattle.std.specs.List.{find};
 ghost use Rattle.std.specs.Option.{option_map, option_copied};
-ghost use Rattle.dns_model.specs.RecordViews.{rrsig_of};
-ghost use Rattle.dns_judgement.specs.Validity.{is_good_by as is_good_in};
 ghost use Rattle.dns_judgement.specs.Marks.{most_signatures};
 ghost use Rattle.dns_anchors.specs.Judge.{judge_of};
 ghost use Rattle.dns_trust.specs.Delegating.{shown};
+ghost use Rattle.dns_trust.specs.SetSignatures.{IsRead, is_good_of};
 ghost use Rattle.dns_trust.specs.Signers.{AreOnce, signed_value, first_signed_by, signer_of};
 
 use crate::Judge;
 use crate::good::is_good_read;
+use crate::set_signature::SetSignature;
 use dns_evidence::Verifier;
 use dns_name::NoMemory;
 use dns_rdata::Rrsig;
@@ -92,26 +92,29 @@ fn signer<'a, V: Verifier>(
     let Some(read) = Rrsig::of(sig) else {
         return Ok(None);
     };
-    signer_of_read(alloc, judge, set, sig, &read, keys)
+    let signature = SetSignature {
+        set,
+        sig,
+        read: &read,
+    };
+    signer_of_read(alloc, judge, &signature, keys)
 }
 
 // The same of a signature that is read. The bytes that it is over are built once.
 fn signer_of_read<'a, V: Verifier>(
     alloc: Global,
     judge: &Judge<'_, V>,
-    set: &RecordSet,
-    sig: &Record,
-    read: &Rrsig<'_>,
+    signature: &SetSignature<'_>,
     keys: &[&'a Record],
 ) -> Result<Option<&'a Record>, NoMemory>
-    requires { rrsig_of sig.now ≡ Some read.now }
+    requires { IsRead signature.now }
     ensures { IfOk result (λ k. option_copied k ≡
-        find (is_good_in (judge_of V.answers judge.now) set.now sig.now) (shown keys.now)) }
+        find (is_good_of (judge_of V.answers judge.now) signature.now) (shown keys.now)) }
 {
     let mut built = None;
     for key in keys {
         let key = *key;
-        if is_good_read(alloc, judge, set, sig, read, key, &mut built)? {
+        if is_good_read(alloc, judge, signature, key, &mut built)? {
             return Ok(Some(key));
         }
     }

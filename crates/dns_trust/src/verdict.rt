@@ -3,16 +3,17 @@ ghost use Rattle.std.specs.List.{find};
 ghost use Rattle.std.specs.Option.{option_copied};
 ghost use Rattle.dns_model.specs.RecordViews.{rrsig_of};
 ghost use Rattle.dns_model.specs.Chains.{LinkValue};
-ghost use Rattle.dns_judgement.specs.Validity.{is_good_by};
-ghost use Rattle.dns_judgement.specs.Marks.{by_keys, counted_keys, key_question, is_key_set_of, may_be_signed as may_be_signed_by, is_proved as is_proof, is_excused as is_excuse};
-ghost use Rattle.dns_judgement.specs.Chained.{with_chain, chain_by_key, chained_verdict};
+ghost use Rattle.dns_judgement.specs.Marks.{counted_keys, key_question, is_key_set_of, may_be_signed as may_be_signed_by, is_proved as is_proof, is_excused as is_excuse};
+ghost use Rattle.dns_judgement.specs.Chained.{with_chain, chained_verdict};
 ghost use Rattle.dns_judgement.specs.MarkParts.{by_insecure_key, is_skipped_read};
 ghost use Rattle.dns_evidence.specs.Link.{link_value};
 ghost use Rattle.dns_anchors.specs.Judge.{judge_of};
-ghost use Rattle.dns_trust.specs.Verdicts.{verdict_value, listed, chained_by_set};
+ghost use Rattle.dns_trust.specs.SetSignatures.{IsRead};
+ghost use Rattle.dns_trust.specs.Verdicts.{verdict_value, listed, chained_by_set, chained_by_secure};
 
 use crate::chains::signed_chain;
 use crate::counted::{first_good, has_key_of};
+use crate::set_signature::SetSignature;
 use crate::{Judge, is_never_expanded, is_right_below_signer, signer_fits};
 use dns_evidence::{Link, Verifier};
 use dns_judged::{ChainedSet, MarkedSet};
@@ -77,28 +78,30 @@ pub fn verdict_of<V: Verifier>(
     let Some(keys) = key_set_of(set.dns_class, &read.signer, sets) else {
         return Ok(Verdict::Failed);
     };
-    by_key_set(alloc, judge, set, sig, read, keys)
+    let signature = SetSignature { set, sig, read };
+    by_key_set(alloc, judge, &signature, keys)
 }
 
 // The verdict by the key set that was asked for.
 fn by_key_set<V: Verifier>(
     alloc: Global,
     judge: &Judge<'_, V>,
-    set: &RecordSet,
-    sig: &Record,
-    read: &Rrsig<'_>,
+    signature: &SetSignature<'_>,
     keys: &ChainedSet,
 ) -> Result<Verdict, NoMemory>
-    requires { rrsig_of sig.now ≡ Some read.now }
-    ensures { IfOk result (λ v. verdict_value v ≡
-        chained_by_set (judge_of V.answers judge.now) set.now sig.now read.now.signer keys.now) }
+    requires { IsRead signature.now }
+    ensures { IfOk result (λ v. verdict_value v ≡ chained_by_set (judge_of V.answers judge.now)
+        signature.now.set.now signature.now.sig.now signature.now.read.now.signer keys.now) }
 {
     match keys.judged.mark {
         Proof::Secure => {
             let records = keys.judged.set.records.as_slice();
-            by_secure_keys(alloc, judge, set, sig, read, &keys.chain, records)
+            by_secure_keys(alloc, judge, signature, &keys.chain, records)
         }
-        Proof::Insecure => Ok(by_insecure_keys(&read.signer, &keys.judged.set.records)),
+        Proof::Insecure => {
+            let read = signature.read;
+            Ok(by_insecure_keys(&read.signer, &keys.judged.set.records))
+        }
         Proof::Bogus => Ok(Verdict::Failed),
         Proof::Indeterminate => Ok(Verdict::Failed),
     }
@@ -108,21 +111,17 @@ fn by_key_set<V: Verifier>(
 fn by_secure_keys<V: Verifier>(
     alloc: Global,
     judge: &Judge<'_, V>,
-    set: &RecordSet,
-    sig: &Record,
-    read: &Rrsig<'_>,
+    signature: &SetSignature<'_>,
     chain: &Vec<Link>,
     keys: &[Record],
 ) -> Result<Verdict, NoMemory>
-    requires { rrsig_of sig.now ≡ Some read.now }
-    ensures { IfOk result (λ v. verdict_value v ≡
-        with_chain (by_keys (judge_of V.answers judge.now) set.now sig.now Proof.Secure (counted_keys read.now.signer keys.now))
-        (chain_by_key set.now sig.now (map link_value chain.now.items)
-        (find (is_good_by (judge_of V.answers judge.now) set.now sig.now) (counted_keys read.now.signer keys.now)))) }
+    requires { IsRead signature.now }
+    ensures { IfOk result (λ v. verdict_value v ≡ chained_by_secure (judge_of V.answers judge.now)
+        signature.now (map link_value chain.now.items) (counted_keys signature.now.read.now.signer keys.now)) }
 {
-    match first_good(alloc, judge, set, sig, read, keys)? {
+    match first_good(alloc, judge, signature, keys)? {
         Some(key) => {
-            let links = signed_chain(alloc, set, sig, chain, key)?;
+            let links = signed_chain(alloc, signature.set, signature.sig, chain, key)?;
             Ok(Verdict::Proved(links))
         }
         None => Ok(Verdict::Failed),

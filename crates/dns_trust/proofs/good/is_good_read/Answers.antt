@@ -5,21 +5,21 @@ use Rattle.dns_trust.proofs.good.is_good_read.Goals as goal
 
 pub returns-in_default-clause-good : goal.returns-in_default-clause-good
 returns-in_default-clause-good g c =
-    good_no_key (judge_of g.V.Verifier.answers c.args.judge.now) c.args.set.now c.args.sig.now c.args.key.now c.args.read.now c.requires.read
+    good_no_key (judge_of g.V.Verifier.answers c.args.judge.now) c.args.signature.now.set.now c.args.signature.now.sig.now c.args.key.now c.args.signature.now.read.now c.requires.read
     (sym c.of.ensures ∙ c.in_default.is)
 
 pub returns-then-not-is_valid-clause-good : goal.returns-then-not-is_valid-clause-good
 returns-then-not-is_valid-clause-good g c =
-    good_invalid (judge_of g.V.Verifier.answers c.args.judge.now) c.args.set.now c.args.sig.now c.args.key.now c.args.read.now c.requires.read
+    good_invalid (judge_of g.V.Verifier.answers c.args.judge.now) c.args.signature.now.set.now c.args.signature.now.sig.now c.args.key.now c.args.signature.now.read.now c.requires.read
     (sym c.is_valid.ensures ∙ c.if-not-is_valid.true)
 
 pub returns-then-not-is_usable-clause-good : goal.returns-then-not-is_usable-clause-good
 returns-then-not-is_usable-clause-good g c =
-    good_unusable (judge_of g.V.Verifier.answers c.args.judge.now) c.args.set.now c.args.sig.now c.args.key.now c.args.read.now c.in-Some.dnskey c.requires.read
+    good_unusable (judge_of g.V.Verifier.answers c.args.judge.now) c.args.signature.now.set.now c.args.signature.now.sig.now c.args.key.now c.args.signature.now.read.now c.in-Some.dnskey c.requires.read
     (sym c.of.ensures ∙ c.in-Some.is) (sym c.is_usable.ensures ∙ c.if-not-is_usable.true)
 
 pub returns-clause-good : goal.returns-clause-good
 returns-clause-good g c =
     c.is_accepted-accepted.ensures
-    ∙ good_accepted (judge_of g.V.Verifier.answers c.args.judge.now) c.args.set.now c.args.sig.now c.args.key.now c.args.read.now c.in-Some.dnskey _ c.requires.read
+    ∙ good_accepted (judge_of g.V.Verifier.answers c.args.judge.now) c.args.signature.now.set.now c.args.signature.now.sig.now c.args.key.now c.args.signature.now.read.now c.in-Some.dnskey _ c.requires.read
     (sym c.is_valid.ensures ∙ c.if-not-is_valid.false) (sym c.of.ensures ∙ c.in-Some.is) (sym c.is_usable.ensures ∙ c.if-not-is_usable.false) c.in_ok-bytes.ensures
