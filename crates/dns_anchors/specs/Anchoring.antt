@@ -1,8 +1,8 @@
 -- Trust anchors as a set, and the number by which one is found.
-use Rattle.std.specs.Prelude.{ℕ, ◌≡◌, ◌||◌, List, [], ◌∷◌, ◌++◌, map, if◌then◌else◌}
+use Rattle.std.specs.Prelude.{ℕ, List, [], ◌∷◌, ◌++◌, map, if◌then◌else◌}
 use Rattle.std.specs.Char.{to_ascii_lowercase}
 use Rattle.dns_model.specs.Names.{Labels, wire}
-use Rattle.dns_model.specs.Keys.{AnchorValue, is_anchor, holds_anchor}
+use Rattle.dns_model.specs.Keys.{AnchorValue, holds_anchor}
 use Rattle.dns_anchors.specs.Finding.{mixed}
 
 -- one anchor more, unless it is there
@@ -10,11 +10,9 @@ abbrev pub with_anchor : List AnchorValue → AnchorValue → List AnchorValue
 with_anchor anchors anchor =
     if holds_anchor anchors anchor.owner anchor.algorithm anchor.key then anchors else anchors ++ anchor ∷ []
 
--- the one list holds what the other holds, and one anchor more
-abbrev pub Holds : List AnchorValue → List AnchorValue → AnchorValue → Type 0
-Holds next anchors anchor = (owner : Labels) (algorithm : ℕ) (key : List ℕ)
-    → holds_anchor next owner algorithm key ≡ (holds_anchor anchors owner algorithm key || is_anchor owner algorithm key anchor)
+-- ---- for private functions of this crate only
 
+-- the number by which an anchor is found
 abbrev pub anchor_number : Labels → ℕ → List ℕ → ℕ
 anchor_number owner algorithm key = mixed (mixed algorithm key) (map to_ascii_lowercase (wire owner))
 

@@ -42,14 +42,14 @@ abbrev pub with_accepted : ListedValue → ListedSignatureValue → ListedValue
 with_accepted listed entry =
     if entry.algorithm == 1 then listed else record listed { accepted = listed.accepted ++ entry ∷ [] }
 
+-- ---- for private functions of this crate only
+
 -- the number by which a signature is found
 abbrev pub signature_number : ℕ → List ℕ → List ℕ → List ℕ → ℕ
 signature_number algorithm key bytes signature = mixed (mixed (mixed algorithm key) bytes) signature
 
 abbrev pub entry_number : ListedSignatureValue → ℕ
 entry_number entry = signature_number entry.algorithm entry.key entry.bytes entry.signature
-
--- for private functions of this crate only
 
 -- an entry of another list is listed
 abbrev pub holds_entry : ListedValue → ListedSignatureValue → Bool

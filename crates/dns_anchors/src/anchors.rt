@@ -2,7 +2,7 @@ ghost use Rattle.std.specs.Prelude.{◌≡◌, ◌↔◌, [], not, length, IsTru
 ghost use Rattle.std.specs.List.{list_any};
 ghost use Rattle.dns_model.specs.Keys.{holds_anchor, is_anchor as is_anchor_of};
 ghost use Rattle.dns_anchors.specs.Finding.{passes_at};
-ghost use Rattle.dns_anchors.specs.Anchoring.{Holds, anchor_number, with_anchor};
+ghost use Rattle.dns_anchors.specs.Anchoring.{anchor_number, with_anchor};
 
 use crate::finding::{PlacesByNumber, add_place, mix, mix_lowered, places_of};
 use dns_name::{Name, NoMemory, Octets};

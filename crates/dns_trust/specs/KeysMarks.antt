@@ -7,7 +7,7 @@ use Rattle.dns_model.specs.Records.{Rr, RrSet}
 use Rattle.dns_model.specs.Chains.{Judge, LinkValue}
 use Rattle.dns_model.specs.SoundAnswers.{Placed}
 use Rattle.dns_evidence.specs.Link.{link_value}
-use Rattle.dns_judgement.specs.Delegations.{verdict_by_ds, verdict_without_ds, zone_verdict}
+use Rattle.dns_judgement.specs.Delegations.{verdict_by_ds, zone_verdict}
 use Rattle.dns_judgement.specs.KeySets.{KeysOutcome, keys_outcome, outcome_by_verdict, outcome_mark, needs_ds}
 use Rattle.dns_judgement.specs.Chained.{Chained, bare, ds_chain, outcome_chain}
 use Rattle.dns_trust.specs.declared.key_sets.KeysMarked.{KeysMarked}
@@ -45,10 +45,6 @@ abbrev pub marked_by_found : Judge → RrSet → Chained → MarkedValue
 marked_by_found j set found =
     outcome_marked j set found.chain
     (outcome_by_verdict j set (Some (verdict_by_ds j.answers set.owner found.judged.mark found.judged.set.records)))
-
--- those that an answer without such a set gives
-abbrev pub marked_without : Judge → RrSet → List Chained → MarkedValue
-marked_without j set answer = outcome_marked j set [] (outcome_by_verdict j set (Some (verdict_without_ds set.owner (bare answer))))
 
 -- a placed set with them
 abbrev pub chained_with : Placed → MarkedValue → Chained
