@@ -1,5 +1,4 @@
 ghost use Rattle.std.specs.Prelude.{◌≡◌, IfOk, OnOk, Some};
-ghost use Rattle.dns_model.specs.Keys.{usable_key};
 ghost use Rattle.dns_model.specs.Signing.{signed_bytes};
 ghost use Rattle.dns_model.specs.Chains.{rdatas_of};
 ghost use Rattle.dns_model.specs.Serial.{timely};
@@ -10,7 +9,7 @@ ghost use Rattle.dns_trust.specs.Built.{IsBuilt};
 ghost use Rattle.dns_trust.specs.SetSignatures.{IsRead, IsBuiltOf, is_good_of};
 
 use crate::set_signature::SetSignature;
-use crate::{Judge, RrsigValidity};
+use crate::{Judge, RrsigValidity, is_usable};
 use dns_evidence::Verifier;
 use dns_name::{NoMemory, Octets};
 use dns_rdata::{Dnskey, Rrsig, signed_data};
@@ -77,14 +76,6 @@ fn is_valid(signature: &SetSignature<'_>, key: &Record, now: u64) -> bool
 {
     let SetSignature { set, sig, read } = *signature;
     RrsigValidity::check_read(sig, read, set, key, now) == RrsigValidity::ValidRrsig
-}
-
-/// The key may sign: a zone's key that isn't revoked, of DNSSEC's protocol, under an algorithm that the verifier supports
-/// (RFC 4034, 2.1; RFC 5011, 2.1).
-pub fn is_usable<V: Verifier>(verifier: &V, key: &Dnskey<'_>) -> bool
-    ensures { result ≡ usable_key (V.answers verifier.now) key.now }
-{
-    key.is_zone_key() && !key.is_revoked() && key.protocol == 3 && verifier.supports(key.algorithm)
 }
 
 // The verifier accepts the signature over these bytes as the key's.
