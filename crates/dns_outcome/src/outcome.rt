@@ -1,11 +1,11 @@
-ghost use Rattle.std.specs.Prelude.{◌≡◌, ◌&&◌, not, IfOk};
+ghost use Rattle.std.specs.Prelude.{◌≡◌, IfOk};
 ghost use Rattle.std.specs.List.{list_any};
 ghost use Rattle.std.specs.Option.{option_copied};
 ghost use Rattle.dns_model.specs.SoundAnswers.{told_by};
 ghost use Rattle.dns_judgement.specs.Chained.{bare};
 ghost use Rattle.dns_judgement.specs.Delegations.{ZoneVerdict, is_insecure};
 ghost use Rattle.dns_judgement.specs.Unsigned.{unsigned_mark};
-ghost use Rattle.dns_judgement.specs.Outcome.{outcome_of as told_outcome, outcome_by_zone as told_by_zone, insecure_answer as told_insecure, foreign_record as foreign_in, is_unjudged as is_unjudged_set, is_insecure_authority as is_told_insecure, has_wildcard_signature as has_told_wildcard};
+ghost use Rattle.dns_judgement.specs.Outcome.{outcome_of as told_outcome, outcome_by_zone as told_by_zone, insecure_answer as told_insecure, foreign_record as foreign_in, is_unjudged as is_unjudged_set};
 ghost use Rattle.dns_outcome.specs.Outcome.{outcome_value};
 
 use crate::answering::{has_answer, has_expanded_answer, has_wildcard_signature};
@@ -43,8 +43,9 @@ pub fn outcome_of(
     if has_unjudged(sets) {
         return Ok(Outcome::Unjudged);
     }
+    let from_wildcard = has_wildcard_signature(&message.answers);
     // the zone above the name is Insecure, and nothing is said to come from a wildcard (RFC 4035, 4.3)
-    if is_insecure_step(alloc, query, message, sets)? {
+    if !from_wildcard && is_insecure_authority(alloc, query, message, sets)? {
         return Ok(insecure_answer(query, message));
     }
     // what is denied has to follow from the denials of one zone (RFC 4035, 5.4)
@@ -55,7 +56,7 @@ pub fn outcome_of(
     if has_expanded_answer(sets) {
         return Ok(Outcome::Denied(Proof::Bogus));
     }
-    if has_answer(query, &message.answers) && !has_wildcard_signature(&message.answers) {
+    if has_answer(query, &message.answers) && !from_wildcard {
         return Ok(Outcome::Accepted(Denial::None));
     }
     // a signed zone would have denied (RFC 4035, 3.1.3)
@@ -111,21 +112,4 @@ fn is_unjudged(set: &ChainedSet) -> bool
     ensures { result ≡ is_unjudged_set set.now.judged }
 {
     set.judged.mark == Proof::Secure && set.judged.set.record_type == RecordType::NSEC3
-}
-
-// Whether no more than Insecure can be expected of a response, and no signature says that it comes from a wildcard.
-#[tactic(auto, using(crate::proofs::OutcomeLemmas::never_both, crate::proofs::OutcomeLemmas::always_both))]
-fn is_insecure_step(
-    alloc: Global,
-    query: &Query,
-    message: &Message,
-    sets: &[ChainedSet],
-) -> Result<bool, NoMemory>
-    ensures { IfOk result (λ b. b ≡
-        (is_told_insecure query.now (told_by message.now) (bare sets.now) && not (has_told_wildcard (told_by message.now)))) }
-{
-    if has_wildcard_signature(&message.answers) {
-        return Ok(false);
-    }
-    is_insecure_authority(alloc, query, message, sets)
 }
