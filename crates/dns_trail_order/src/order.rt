@@ -5,10 +5,8 @@ ghost use Rattle.dns_judgement.specs.Derivation.{top_step};
 ghost use Rattle.dns_trail_order.specs.Counting.{count_ask as ask_counted, count_asks as asks_counted, count_step as step_counted, asking_step, none_yet, ends_with};
 ghost use Rattle.dns_trail_order.specs.Order.{has_order};
 
+use crate::limits::MOST_SENDS;
 use dns_evidence::{AskRef, Asked, JudgedSet};
-
-/// How many sends one lookup makes at the most.
-const MOST_SENDS: usize = 1024;
 
 /// How far a walk over the steps has come.
 #[derive(Clone, Copy)]
