@@ -1,5 +1,5 @@
 -- How a judged step ends.
-use Rattle.std.proofs.Common.{◌≡◌, Bool, true, false, ◌&&◌, refl}
+use Rattle.std.proofs.Common.{◌≡◌, true, false, refl}
 use Rattle.dns_model.specs.declared.proof.Proof.{Proof}
 use Rattle.dns_model.specs.declared.proof.Proof.TheVariants.{Bogus}
 use Rattle.dns_model.specs.Records.{Question}
@@ -8,14 +8,6 @@ use Rattle.dns_judgement.specs.Delegations as zone
 use Rattle.dns_judgement.specs.Delegations.{ZoneVerdict, Signed, is_insecure}
 use Rattle.dns_judgement.specs.Unsigned.{unsigned_mark}
 use Rattle.dns_judgement.specs.Outcome.{Denied, insecure_answer, outcome_by_zone}
-
-pub never_both : (insecure : Bool) → (insecure && false) ≡ false
-never_both true = refl
-never_both false = refl
-
-pub always_both : (insecure : Bool) → (insecure && true) ≡ insecure
-always_both true = refl
-always_both false = refl
 
 -- by the zone of its query: the mark that it leaves to what is unsigned tells whether it excuses
 
