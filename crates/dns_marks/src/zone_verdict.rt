@@ -13,9 +13,9 @@ use crate::ProofErrorKind;
 use dns_handle::{DnsResponse, NetError, Verifier};
 use dns_message::Message;
 use dns_name::{Name, NoMemory};
-use dns_rdata::{Ds, Nsec};
+use dns_rdata::Ds;
 use dns_record::{DNSClass, Proof, Query, Record, RecordType};
-use dns_trust::is_supported_ds;
+use dns_trust::{is_supported_ds, shows_unsigned_cut};
 use std::alloc::Global;
 
 /// What a lookup answers.
@@ -166,25 +166,6 @@ fn has_unsigned_cut(zone: &Name, authorities: &[Record]) -> bool
         ≡ list_any (λ r. is_record_of zone.now type_nsec r && delegations.shows_unsigned_cut r) authorities.now }
 {
     authorities.iter().any(|next| is_of(zone, RecordType::NSEC, next) && shows_unsigned_cut(next))
-}
-
-// NS is among the types of the NSEC, DS and SOA aren't.
-fn shows_unsigned_cut(next: &Record) -> bool
-    ensures { result ≡ delegations.shows_unsigned_cut next.now }
-{
-    match Nsec::read(next.rdata.as_slice()) {
-        Some(nsec) => is_unsigned_cut(&nsec),
-        None => false,
-    }
-}
-
-fn is_unsigned_cut(nsec: &Nsec<'_>) -> bool
-    ensures { result ≡ delegations.is_unsigned_cut nsec.now }
-{
-    let types = &nsec.types;
-    types.contains(RecordType::NS)
-        && !types.contains(RecordType::DS)
-        && !types.contains(RecordType::SOA)
 }
 
 // A record of some section is Insecure, at the zone or above it.
