@@ -1,8 +1,9 @@
 -- When the verifier is asked whether it accepts a signature.
 use Rattle.std.proofs.Common.{◌≡◌, ℕ, Bool, true, false, not, ◌==◌, ◌&&◌, List, Option, None, Some, refl, sym, ap, ◌∙◌}
-use Rattle.std.specs.Prelude.{if◌then◌else◌}
+use Rattle.std.specs.Prelude.{if◌then◌else◌, min, slice_get}
 use Rattle.std.specs.Option.{option_map, option_map_or, option_and_then}
-use Rattle.dns_model.specs.Views.{RrsigValue, DnskeyValue, is_zone_key, is_revoked}
+use Rattle.dns_model.specs.Types.{type_rrsig}
+use Rattle.dns_model.specs.Views.{RrsigValue, DnskeyValue, is_zone_key, is_revoked, rrsig_in}
 use Rattle.dns_model.specs.Serial.{timely}
 use Rattle.dns_model.specs.Names.{name_eq}
 use Rattle.dns_model.specs.Signing.{signed_bytes, key_tag_of}
@@ -10,13 +11,14 @@ use Rattle.dns_model.specs.Keys.{VerifierAnswers, usable_key}
 use Rattle.dns_model.specs.Chains.{rdatas_of}
 use Rattle.dns_model.specs.Records.{Rr, RrSet}
 use Rattle.dns_model.specs.RecordViews.{rrsig_of, dnskey_of}
-use Rattle.dns_model.specs.SoundAnswers.{is_secure}
+use Rattle.dns_model.specs.SoundAnswers.{is_secure, signed_ttl, ttl_of}
 use Rattle.dns_judgement.specs.Validity.{Validity, ValidRrsig, ExpiredRrsig, WrongDnskey, WrongRrsig, validity, is_valid, is_of_set, is_by_key, is_good_by}
 use Rattle.dns_judgement.specs.MarkParts.{sig_validity}
 use Rattle.dns_judgement.specs.ProofErrors.{ProofErrorValue}
 use Rattle.dns_marks.specs.Kinds.{misfit}
 use Rattle.dns_marks.specs.KeySignatures.{validity_at, proof_read, signature_proof, is_put, calls_by_key, calls_unless, calls_read}
 use Rattle.dns_marks.specs.SignatureKeys.{is_proving}
+use Rattle.dns_marks.specs.Proofs.{proved_by, proved_with}
 
 and_false : (b : Bool) → (b && false) ≡ false
 and_false true = refl
@@ -27,6 +29,24 @@ and_false false = refl
 validity_unread : (now : ℕ) (set : RrSet) (r key : Rr) → rrsig_of r ≡ None → is_valid (validity_at now set r key) ≡ false
 unfolding validity
 validity_unread now set r key h = ap (λ o. is_valid (sig_validity (λ sig. timely sig now) set r key o)) h
+
+-- of a signature that is read the view is enough
+pub validity_read : (now : ℕ) (set : RrSet) (r key : Rr) (sig : RrsigValue) → rrsig_of r ≡ Some sig
+    → validity_at now set r key ≡ sig_validity (λ s. timely s now) set r key (Some sig)
+unfolding validity
+validity_read now set r key sig h = ap (λ o. sig_validity (λ s. timely s now) set r key o) h
+
+-- and what its rdata says is the view
+rdata_read : (right : Bool) (o : Option RrsigValue) (sig : RrsigValue) → (if right then o else None) ≡ Some sig → o ≡ Some sig
+rdata_read true o sig h = h
+rdata_read false o sig h = cc
+
+-- so what it proves is known without its record
+pub proved_as_read : (now : ℕ) (set : RrSet) (r : Rr) (sig : RrsigValue) (place : Option ℕ) → rrsig_of r ≡ Some sig
+    → proved_with (min (ttl_of (slice_get set.records 0)) (signed_ttl (Some sig) now)) place ≡ proved_by now set r place
+proved_as_read now set r sig place h =
+    ap (λ o. proved_with (min (ttl_of (slice_get set.records 0)) (signed_ttl o now)) place)
+    (sym (rdata_read (r.rtype == type_rrsig) (rrsig_in r.rdata) sig h))
 
 -- without a signature the verifier isn't asked
 pub put_no_signature : (verifier : VerifierAnswers) (now : ℕ) (set : RrSet) (r key : Rr) → rrsig_of r ≡ None → is_put verifier now set r key ≡ false

@@ -22,3 +22,9 @@ proved_whole = record { proof = Secure; adjusted_ttl = None; rrsig_index = None 
 -- Insecure; its ttl stays
 abbrev pub excused : RrsetProofValue
 excused = record { proof = Insecure; adjusted_ttl = None; rrsig_index = None }
+
+-- ---- for private functions of this crate only
+
+-- Secure with a ttl
+abbrev pub proved_with : ℕ → Option ℕ → RrsetProofValue
+proved_with ttl place = record { proof = Secure; adjusted_ttl = Some ttl; rrsig_index = place }

@@ -1,8 +1,10 @@
-ghost use Rattle.std.specs.Prelude.{◌≡◌, slice_get};
+ghost use Rattle.std.specs.Prelude.{◌≡◌, None, Some, min, slice_get};
 ghost use Rattle.dns_model.specs.Views.{rrsig_in};
 ghost use Rattle.dns_model.specs.SoundAnswers.{ttl_of, signed_ttl as signed_ttl_of};
-ghost use Rattle.dns_marks.specs.Proofs.{ttl_by as ttl_under, proved_by as proved_under, proved_whole as proved_by_keys, excused as excused_by_keys};
+ghost use Rattle.dns_marks.specs.Proofs.{proved_by as proved_under, proved_with as proved_with_ttl, proved_whole as proved_by_keys, excused as excused_by_keys};
+ghost use Rattle.dns_marks.specs.Tested.{IsRead};
 
+use crate::tested::Tested;
 use dns_rdata::{Rrsig, SerialNumber};
 use dns_record::{Proof, Record, RecordSet};
 use std::marker::Model;
@@ -30,9 +32,27 @@ impl Model for RrsetProof {
 pub(crate) fn proved_by(now: u64, set: &RecordSet, sig: &Record, place: Option<u32>) -> RrsetProof
     ensures { result ≡ proved_under now set.now sig.now place }
 {
+    proved_with(ttl_by(set, signed_ttl(sig, now)), place)
+}
+
+// The same by a signature that is tested, and so is read; it is the only one.
+pub(crate) fn proved_by_tested<V>(tested: &Tested<'_, V>) -> RrsetProof
+    requires { IsRead tested.now }
+    ensures { result ≡ proved_under tested.now.moment tested.now.set.now tested.now.sig.now None }
+{
+    proved_with(
+        ttl_by(tested.set, ttl_left(tested.read, tested.moment)),
+        None,
+    )
+}
+
+// Secure, with this ttl.
+fn proved_with(ttl: u32, place: Option<u32>) -> RrsetProof
+    ensures { result ≡ proved_with_ttl ttl place }
+{
     RrsetProof {
         proof: Proof::Secure,
-        adjusted_ttl: Some(ttl_by(now, set, sig)),
+        adjusted_ttl: Some(ttl),
         rrsig_index: place,
     }
 }
@@ -59,11 +79,11 @@ pub(crate) fn excused() -> RrsetProof
     }
 }
 
-// The ttl that a signature leaves to a set at a moment.
-fn ttl_by(now: u64, set: &RecordSet, sig: &Record) -> u32
-    ensures { result ≡ ttl_under now set.now sig.now }
+// The ttl of a set's first record, or what a signature leaves where that is less.
+fn ttl_by(set: &RecordSet, left: u32) -> u32
+    ensures { result ≡ min (ttl_of (slice_get set.now.records 0)) left }
 {
-    first_ttl(&set.records).min(signed_ttl(sig, now))
+    first_ttl(&set.records).min(left)
 }
 
 // The ttl of the first record.
@@ -81,10 +101,15 @@ fn signed_ttl(sig: &Record, now: u64) -> u32
     ensures { result ≡ signed_ttl_of (rrsig_in sig.now.rdata) now }
 {
     match Rrsig::read(sig.rdata.as_slice()) {
-        Some(read) => {
-            let left = SerialNumber::of_moment(now).distance_to(read.expiration);
-            read.original_ttl.min(left)
-        }
+        Some(read) => ttl_left(&read, now),
         None => 0,
     }
+}
+
+// The same of a signature that is read.
+fn ttl_left(read: &Rrsig<'_>, now: u64) -> u32
+    ensures { result ≡ signed_ttl_of (Some read.now) now }
+{
+    let left = SerialNumber::of_moment(now).distance_to(read.expiration);
+    read.original_ttl.min(left)
 }

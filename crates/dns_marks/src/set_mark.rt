@@ -5,11 +5,11 @@ ghost use Rattle.dns_model.specs.Gives.{Gives};
 ghost use Rattle.dns_judgement.specs.Marks.{most_signatures};
 ghost use Rattle.dns_marks.specs.Kinds.{kind_value, want_of_memory};
 ghost use Rattle.dns_marks.specs.KeySignatures.{Unless};
-ghost use Rattle.dns_marks.specs.Tested.{of_tested};
+ghost use Rattle.dns_marks.specs.Tested.{of_answered};
 ghost use Rattle.dns_marks.specs.SetMarks.{set_calls, answer_calls};
 ghost use Rattle.dns_marks.specs.SetMarks.{set_proof, deciding_proof, answer_proofs, answer_proof, proof_at as proof_of_mark, no_proof as cause_of, is_skipped_answer, failed_ask as failed_question};
 
-use crate::tested::Tested;
+use crate::tested::Answered;
 use crate::{ProofError, ProofErrorKind, RrsetProof, verify_rrsig_with_keys};
 use dns_handle::Verifier;
 use dns_name::NoMemory;
@@ -49,7 +49,13 @@ pub fn mark_rrset<V: Verifier, L: Ledger>(
         + set_calls (V.answers verifier.now) now set.now (zip (take most_signatures set.now.signatures) answers.now)) }
     ensures most { steps.new ≤ steps.old + 16 }
 {
-    if let Some(found) = deciding(alloc, verifier, set, answers, now, steps)? {
+    let answered = Answered {
+        verifier,
+        set,
+        answers,
+        moment: now,
+    };
+    if let Some(found) = deciding(alloc, &answered, steps)? {
         return Ok(found);
     }
     let kind = no_proof(set, answers)?;
@@ -59,30 +65,22 @@ pub fn mark_rrset<V: Verifier, L: Ledger>(
 // What the signature that decides proves.
 fn deciding<V: Verifier, L: Ledger>(
     alloc: Global,
-    verifier: &V,
-    set: &RecordSet,
-    answers: &[KeyAnswer],
-    now: u64,
+    answered: &Answered<'_, V>,
     steps: &mut Steps<L>,
 ) -> Result<Option<RrsetProof>, NoMemory>
-    requires { length answers.now ≡ length (take most_signatures set.now.signatures) }
-    ensures proof { IfOk result (λ p. p ≡ deciding_proof
-        (answer_proofs (V.answers verifier.now) now set.now (take most_signatures set.now.signatures) answers.now)) }
-    ensures calls { OnOk result (steps.new ≡ steps.old
-        + set_calls (V.answers verifier.now) now set.now (zip (take most_signatures set.now.signatures) answers.now)) }
+    requires { length answered.now.answers.now ≡ length (take most_signatures answered.now.set.now.signatures) }
+    ensures proof { IfOk result (λ p. p ≡ deciding_proof (of_answered V.answers answered.now answer_proofs
+        (take most_signatures answered.now.set.now.signatures) answered.now.answers.now)) }
+    ensures calls { OnOk result (steps.new ≡ steps.old + of_answered V.answers answered.now set_calls
+        (zip (take most_signatures answered.now.set.now.signatures) answered.now.answers.now)) }
     ensures most { steps.new ≤ steps.old + 16 }
 {
-    let signatures = first_signatures(set);
+    let signatures = first_signatures(answered.set);
+    let answers = answered.answers;
     let mut excuse = None;
     for (place, answer) in answers.iter().enumerate() {
         let sig = &signatures[place];
-        let tested = Tested {
-            verifier,
-            set,
-            sig,
-            moment: now,
-        };
-        let found = proof_by_answer(alloc, &tested, answer, steps)?;
+        let found = proof_by_answer(alloc, answered, sig, answer, steps)?;
         if let Some(found) = proof_at(Proof::Secure, place as u32, &found) {
             return Ok(Some(found));
         }
@@ -94,12 +92,14 @@ fn deciding<V: Verifier, L: Ledger>(
 // What a signature proves by the answer to its ask.
 fn proof_by_answer<V: Verifier, L: Ledger>(
     alloc: Global,
-    tested: &Tested<'_, V>,
+    answered: &Answered<'_, V>,
+    sig: &Record,
     answer: &KeyAnswer,
     steps: &mut Steps<L>,
 ) -> Result<Option<RrsetProof>, NoMemory>
-    ensures proof { IfOk result (λ p. p ≡ of_tested V.answers tested.now answer_proof answer.now) }
-    ensures calls { OnOk result (steps.new ≡ steps.old + of_tested V.answers tested.now answer_calls answer.now) }
+    ensures proof { IfOk result (λ p. p ≡ of_answered V.answers answered.now answer_proof sig.now answer.now) }
+    ensures calls { OnOk result
+        (steps.new ≡ steps.old + of_answered V.answers answered.now answer_calls sig.now answer.now) }
     ensures most { steps.new ≤ steps.old + 2 }
 {
     match answer {
@@ -107,11 +107,11 @@ fn proof_by_answer<V: Verifier, L: Ledger>(
         KeyAnswer::Failed(_) => Ok(None),
         KeyAnswer::Keys(keys) => verify_rrsig_with_keys(
             alloc,
-            tested.verifier,
+            answered.verifier,
             keys,
-            tested.sig,
-            tested.set,
-            tested.moment,
+            sig,
+            answered.set,
+            answered.moment,
             steps,
         ),
     }

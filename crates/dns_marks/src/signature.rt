@@ -5,10 +5,10 @@ ghost use Rattle.dns_model.specs.Views.{is_zone_key};
 ghost use Rattle.dns_model.specs.RecordViews.{rrsig_of, dnskey_of};
 ghost use Rattle.dns_handle.specs.Notices.{notice_text};
 ghost use Rattle.dns_marks.specs.Kinds.{want_of_memory, misfit as misfit_of};
-ghost use Rattle.dns_marks.specs.Tested.{of_tested};
+ghost use Rattle.dns_marks.specs.Tested.{of_tested, IsRead};
 ghost use Rattle.dns_marks.specs.KeySignatures.{Unless, validity_at, signature_proof, proof_read, calls_by_key, calls_read, calls_if_supported, key_failure as failure_of, is_verified as is_verified_by};
 
-use crate::rrset_proof::proved_by;
+use crate::rrset_proof::proved_by_tested;
 use crate::tested::Tested;
 use crate::{ProofError, ProofErrorKind, RrsetProof};
 use dns_handle::{Notice, Verifier};
@@ -46,9 +46,10 @@ pub fn verify_rrset_with_dnskey<V: Verifier, L: Ledger>(
         verifier,
         set,
         sig,
+        read: &read,
         moment: now,
     };
-    verify_read(alloc, &tested, key, &dnskey, &read, steps)
+    verify_read(alloc, &tested, key, &dnskey, steps)
 }
 
 // The same of a key and a signature that are read.
@@ -57,25 +58,27 @@ fn verify_read<V: Verifier, L: Ledger>(
     tested: &Tested<'_, V>,
     key: &Record,
     dnskey: &Dnskey<'_>,
-    read: &Rrsig<'_>,
     steps: &mut Steps<L>,
 ) -> Result<RrsetProof, ProofError>
+    requires { IsRead tested.now }
     ensures proof { Gives (λ p. p) want_of_memory result
-        (of_tested V.answers tested.now proof_read key.now read.now dnskey.now) }
+        (of_tested V.answers tested.now proof_read key.now tested.now.read.now dnskey.now) }
     ensures calls { Unless want_of_memory result
-        (steps.new ≡ steps.old + of_tested V.answers tested.now calls_read key.now read.now dnskey.now) }
-    ensures most { steps.new ≤ steps.old + of_tested V.answers tested.now calls_read key.now read.now dnskey.now }
+        (steps.new ≡ steps.old + of_tested V.answers tested.now calls_read key.now tested.now.read.now dnskey.now) }
+    ensures most { steps.new ≤ steps.old
+        + of_tested V.answers tested.now calls_read key.now tested.now.read.now dnskey.now }
 {
-    if let Some(failure) = key_failure(key, read, dnskey)? {
+    if let Some(failure) = key_failure(key, tested.read, dnskey)? {
         return Err(failure);
     }
-    if let Some(notice) = misfit(tested.sig, tested.set, key, tested.moment) {
+    if let Some(notice) = misfit(tested, key) {
         return Err(ProofError::new(Proof::Bogus, ProofErrorKind::Msg(notice)));
     }
-    if is_verified(alloc, tested.verifier, tested.set, read, dnskey, steps)? {
-        return Ok(proved_by(tested.moment, tested.set, tested.sig, None));
+    if is_verified(alloc, tested, dnskey, steps)? {
+        return Ok(proved_by_tested(tested));
     }
     let name = key.name.try_clone()?;
+    let read = tested.read;
     let key_tag = read.key_tag;
     let kind = ProofErrorKind::DnsKeyVerifyRrsig { name, key_tag };
     Err(ProofError::new(Proof::Bogus, kind))
@@ -123,10 +126,13 @@ fn is_dnssec_zone_key(dnskey: &Dnskey<'_>) -> bool
 }
 
 // The name of the validity, where a signature doesn't fit a set and a key at a moment.
-fn misfit(sig: &Record, set: &RecordSet, key: &Record, now: u64) -> Option<Notice>
-    ensures { option_map notice_text result ≡ misfit_of (validity_at now set.now sig.now key.now) }
+#[tactic(auto, using(crate::proofs::CallLemmas::validity_read))]
+fn misfit<V>(tested: &Tested<'_, V>, key: &Record) -> Option<Notice>
+    requires { IsRead tested.now }
+    ensures { option_map notice_text result
+        ≡ misfit_of (validity_at tested.now.moment tested.now.set.now tested.now.sig.now key.now) }
 {
-    match RrsigValidity::check(sig, set, key, now) {
+    match RrsigValidity::check_read(tested.sig, tested.read, tested.set, key, tested.moment) {
         RrsigValidity::ValidRrsig => None,
         RrsigValidity::ExpiredRrsig => Some(Notice::ExpiredRrsig),
         RrsigValidity::WrongDnskey => Some(Notice::WrongDnskey),
@@ -137,21 +143,21 @@ fn misfit(sig: &Record, set: &RecordSet, key: &Record, now: u64) -> Option<Notic
 // The algorithm is supported, and the verifier accepts the signature of the set as the key's.
 fn is_verified<V: Verifier, L: Ledger>(
     alloc: Global,
-    verifier: &V,
-    set: &RecordSet,
-    read: &Rrsig<'_>,
+    tested: &Tested<'_, V>,
     dnskey: &Dnskey<'_>,
     steps: &mut Steps<L>,
 ) -> Result<bool, NoMemory>
-    ensures verified { IfOk result (λ b. b ≡ is_verified_by (V.answers verifier.now) set.now read.now dnskey.now) }
-    ensures calls { OnOk result (steps.new ≡ steps.old + calls_if_supported (V.answers verifier.now) dnskey.now) }
-    ensures most { steps.new ≤ steps.old + calls_if_supported (V.answers verifier.now) dnskey.now }
+    ensures verified { IfOk result (λ b. b ≡ is_verified_by (V.answers tested.now.verifier.now)
+        tested.now.set.now tested.now.read.now dnskey.now) }
+    ensures calls { OnOk result
+        (steps.new ≡ steps.old + calls_if_supported (V.answers tested.now.verifier.now) dnskey.now) }
+    ensures most { steps.new ≤ steps.old + calls_if_supported (V.answers tested.now.verifier.now) dnskey.now }
 {
-    if !verifier.supports(dnskey.algorithm) {
+    if !tested.verifier.supports(dnskey.algorithm) {
         return Ok(false);
     }
-    let bytes = signed_data(alloc, set, read)?;
-    Ok(is_accepted(verifier, read, dnskey, &bytes, steps))
+    let bytes = signed_data(alloc, tested.set, tested.read)?;
+    Ok(is_accepted(tested.verifier, tested.read, dnskey, &bytes, steps))
 }
 
 // The verifier accepts the signature over these bytes as the key's; a step is counted for the call.

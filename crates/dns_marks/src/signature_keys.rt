@@ -1,17 +1,17 @@
 ghost use Rattle.std.specs.Prelude.{◌≡◌, ◌+◌, ◌≤◌, Some, IfOk, OnOk};
 ghost use Rattle.std.specs.List.{list_any};
-ghost use Rattle.dns_model.specs.RecordViews.{rrsig_of, dnskey_of};
+ghost use Rattle.dns_model.specs.RecordViews.{dnskey_of};
 ghost use Rattle.dns_model.specs.declared.proof.Proof.TheVariants.{Insecure};
 ghost use Rattle.dns_judgement.specs.Derivation.{proof_eq};
 ghost use Rattle.dns_trust.specs.Built.{IsBuilt};
 ghost use Rattle.dns_trust.specs.Delegating.{shown};
-ghost use Rattle.dns_marks.specs.Tested.{of_tested};
+ghost use Rattle.dns_marks.specs.Tested.{of_tested, IsRead};
 ghost use Rattle.dns_marks.specs.SignatureKeys.{keys_proof, calls_by_keys, calls_in_turn, is_proving as is_proving_key, are_insecure as are_insecure_keys};
 ghost use Rattle.dns_marks.specs.KeySignatures.{calls_by_key, validity_at, is_put as is_put_to};
 ghost use Rattle.dns_judgement.specs.Validity.{is_valid as is_valid_at};
 
 use crate::RrsetProof;
-use crate::rrset_proof::{excused, proved_by};
+use crate::rrset_proof::{excused, proved_by_tested};
 use crate::signature::is_accepted;
 use crate::tested::Tested;
 use dns_handle::Verifier;
@@ -42,22 +42,27 @@ pub fn verify_rrsig_with_keys<V: Verifier, L: Ledger>(
     ensures most { steps.new ≤ steps.old + calls_by_keys (V.answers verifier.now) now keys.now set.now sig.now }
     ensures two { steps.new ≤ steps.old + 2 }
 {
+    let Some(read) = Rrsig::of(sig) else {
+        return Ok(None);
+    };
     let tested = Tested {
         verifier,
         set,
         sig,
+        read: &read,
         moment: now,
     };
     proof_by_keys(alloc, &tested, keys, steps)
 }
 
-// The same; what bounds the steps is that of a tag two keys count.
+// The same of a signature that is read; what bounds the steps is that of a tag two keys count.
 fn proof_by_keys<V: Verifier, L: Ledger>(
     alloc: Global,
     tested: &Tested<'_, V>,
     keys: &[Record],
     steps: &mut Steps<L>,
 ) -> Result<Option<RrsetProof>, NoMemory>
+    requires { IsRead tested.now }
     ensures proof { IfOk result (λ p. p ≡
         of_tested V.answers tested.now (λ answers now. keys_proof answers now keys.now)) }
     ensures calls { OnOk result (steps.new ≡ steps.old
@@ -65,15 +70,12 @@ fn proof_by_keys<V: Verifier, L: Ledger>(
     ensures most { steps.new ≤ steps.old
         + of_tested V.answers tested.now (λ answers now. calls_by_keys answers now keys.now) }
 {
-    let Some(read) = Rrsig::of(tested.sig) else {
-        return Ok(None);
-    };
-    if !may_be_signed(tested.set, &read) {
+    if !may_be_signed(tested.set, tested.read) {
         return Ok(None);
     }
-    let counted = counted_keys(alloc, &read, keys)?;
-    if is_proved(alloc, tested, &counted, &read, steps)? {
-        return Ok(Some(proved_by(tested.moment, tested.set, tested.sig, None)));
+    let counted = counted_keys(alloc, tested.read, keys)?;
+    if is_proved(alloc, tested, &counted, steps)? {
+        return Ok(Some(proved_by_tested(tested)));
     }
     if are_insecure(&counted) {
         return Ok(Some(excused()));
@@ -81,16 +83,14 @@ fn proof_by_keys<V: Verifier, L: Ledger>(
     Ok(None)
 }
 
-// One of some keys is Secure, and the signature, which is read, is good by it. The bytes that it is over are built
-// once.
+// One of some keys is Secure, and the signature is good by it. The bytes that it is over are built once.
 fn is_proved<V: Verifier, L: Ledger>(
     alloc: Global,
     tested: &Tested<'_, V>,
     keys: &[&Record],
-    read: &Rrsig<'_>,
     steps: &mut Steps<L>,
 ) -> Result<bool, NoMemory>
-    requires { rrsig_of tested.now.sig.now ≡ Some read.now }
+    requires { IsRead tested.now }
     ensures proved { IfOk result (λ b. b ≡
         list_any (of_tested V.answers tested.now is_proving_key) (shown keys.now)) }
     ensures calls { OnOk result
@@ -100,7 +100,7 @@ fn is_proved<V: Verifier, L: Ledger>(
     let mut built = None;
     for key in keys {
         let key = *key;
-        if is_proving(alloc, tested, key, read, &mut built, steps)? {
+        if is_proving(alloc, tested, key, &mut built, steps)? {
             return Ok(true);
         }
     }
@@ -113,13 +113,12 @@ fn is_proving<V: Verifier, L: Ledger>(
     alloc: Global,
     tested: &Tested<'_, V>,
     key: &Record,
-    read: &Rrsig<'_>,
     built: &mut Option<Octets>,
     steps: &mut Steps<L>,
 ) -> Result<bool, NoMemory>
-    requires read { rrsig_of tested.now.sig.now ≡ Some read.now }
-    requires built { IsBuilt tested.now.set.now read.now built.old }
-    ensures built { OnOk result (IsBuilt tested.now.set.now read.now built.new) }
+    requires read { IsRead tested.now }
+    requires built { IsBuilt tested.now.set.now tested.now.read.now built.old }
+    ensures built { OnOk result (IsBuilt tested.now.set.now tested.now.read.now built.new) }
     ensures proving { IfOk result (λ b. b ≡ of_tested V.answers tested.now is_proving_key key.now) }
     ensures calls { OnOk result (steps.new ≡ steps.old + of_tested V.answers tested.now calls_by_key key.now) }
     ensures most { steps.new ≤ steps.old + of_tested V.answers tested.now calls_by_key key.now }
@@ -130,25 +129,34 @@ fn is_proving<V: Verifier, L: Ledger>(
     if !is_put(tested, key, &dnskey) {
         return Ok(false);
     }
-    let bytes = signed_data_once(alloc, tested.set, read, built.take())?;
-    let accepted = is_accepted(tested.verifier, read, &dnskey, &bytes, steps);
+    let bytes = signed_data_once(alloc, tested.set, tested.read, built.take())?;
+    let accepted = is_accepted(tested.verifier, tested.read, &dnskey, &bytes, steps);
     *built = Some(bytes);
     Ok(accepted)
 }
 
 // The verifier is to be asked: the key is Secure and may sign, and signature, set, key and moment fit.
 fn is_put<V: Verifier>(tested: &Tested<'_, V>, key: &Record, dnskey: &Dnskey<'_>) -> bool
-    requires { dnskey_of key.now ≡ Some dnskey.now }
+    requires read { IsRead tested.now }
+    requires key { dnskey_of key.now ≡ Some dnskey.now }
     ensures { result ≡ of_tested V.answers tested.now is_put_to key.now }
 {
     key.proof == Proof::Secure && is_valid(tested, key) && is_usable(tested.verifier, dnskey)
 }
 
 // The signature fits the set, the key and the moment.
+#[tactic(auto, using(crate::proofs::CallLemmas::validity_read))]
 fn is_valid<V>(tested: &Tested<'_, V>, key: &Record) -> bool
+    requires { IsRead tested.now }
     ensures { result ≡ is_valid_at (validity_at tested.now.moment tested.now.set.now tested.now.sig.now key.now) }
 {
-    let validity = RrsigValidity::check(tested.sig, tested.set, key, tested.moment);
+    let validity = RrsigValidity::check_read(
+        tested.sig,
+        tested.read,
+        tested.set,
+        key,
+        tested.moment,
+    );
     validity == RrsigValidity::ValidRrsig
 }
 

@@ -1,13 +1,28 @@
+use crate::KeyAnswer;
+use dns_rdata::Rrsig;
 use dns_record::{Record, RecordSet};
 
-/// A signature of a set, and by what and when it is tested.
+/// A signature of a set, which is read, and by what and when it is tested.
 #[derive(Drop)]
 pub(crate) struct Tested<'a, V> {
     /// What tests signatures.
     pub(crate) verifier: &'a V,
     pub(crate) set: &'a RecordSet,
-    /// The signature.
+    /// The signature's record.
     pub(crate) sig: &'a Record,
+    /// What that record says.
+    pub(crate) read: &'a Rrsig<'a>,
+    /// Seconds since 1970.
+    pub(crate) moment: u64,
+}
+
+/// A set and the answers to the asks of its signatures, and by what and when these are tested.
+#[derive(Drop)]
+pub(crate) struct Answered<'a, V> {
+    /// What tests signatures.
+    pub(crate) verifier: &'a V,
+    pub(crate) set: &'a RecordSet,
+    pub(crate) answers: &'a [KeyAnswer],
     /// Seconds since 1970.
     pub(crate) moment: u64,
 }

@@ -9,3 +9,6 @@ returns-clause-calls g c =
     subst (λ n. Unless want_of_memory c.verify_read.result (c.verify_read.new.steps ≡ c.args.steps.now + n))
     (sym (calls_as_read (g.V.Verifier.answers c.args.verifier.now) _ _ _ _ _ _ (sym c.of.ensures ∙ c.in-Some-Some.is-0) (sym c.of-2.ensures ∙ c.in-Some-Some.is-1)))
     c.verify_read.ensures.calls
+
+pub verify_read-requires : goal.verify_read-requires
+verify_read-requires g c = sym c.of.ensures ∙ c.in-Some-Some.is-0

@@ -6,4 +6,4 @@ use Rattle.dns_marks.proofs.signature_keys.is_proved.Given as goal
 abbrev pub invariant-loop-key : goal.invariant-loop-key
 invariant-loop-key g l =
     InTurn (g.V.Verifier.answers l.tested.verifier.now) l.tested.moment l.tested.set.now l.tested.sig.now l.keys l.key-index l.initial.steps l.steps
-    × IsBuilt l.tested.set.now l.read l.built
+    × IsBuilt l.tested.set.now l.tested.read.now l.built
