@@ -5,3 +5,4 @@ pub mod KeyLemmas
 pub mod VerdictLemmas
 pub mod CountLemmas
 pub mod SetLemmas
+pub mod FaultLemmas

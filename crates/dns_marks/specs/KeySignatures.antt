@@ -3,6 +3,7 @@ use Rattle.std.specs.Prelude.{ℕ, ◌≡◌, ◌⊎◌, Bool, false, not, ◌==
 use Rattle.std.specs.Option.{option_map_or, option_and_then, option_map}
 use Rattle.dns_model.specs.declared.proof.Proof.TheVariants.{Bogus}
 use Rattle.dns_model.specs.Views.{RrsigValue, DnskeyValue, is_zone_key, is_revoked}
+use Rattle.dns_model.specs.Names.{Labels}
 use Rattle.dns_model.specs.Serial.{timely}
 use Rattle.dns_model.specs.Signing.{signed_bytes}
 use Rattle.dns_model.specs.Keys.{VerifierAnswers, usable_key}
@@ -11,7 +12,9 @@ use Rattle.dns_model.specs.Records.{Rr, RrSet}
 use Rattle.dns_model.specs.RecordViews.{rrsig_of, dnskey_of}
 use Rattle.dns_model.specs.SoundAnswers.{is_secure}
 use Rattle.dns_judgement.specs.Validity.{Validity, validity, is_valid}
-use Rattle.dns_judgement.specs.ProofErrors.{ProofErrorValue, RrsetProofValue, InsecureDnsKey, DnsKeyRevoked, NotZoneDnsKey, AlgorithmMismatch, Msg, DnsKeyVerifyRrsig}
+use Rattle.dns_judgement.specs.ProofErrors.{ProofErrorKindValue, ProofErrorValue, RrsetProofValue, InsecureDnsKey, DnsKeyRevoked, NotZoneDnsKey, AlgorithmMismatch, Msg, DnsKeyVerifyRrsig}
+use Rattle.dns_trust.specs.declared.usable.KeyFault.{KeyFault}
+use Rattle.dns_trust.specs.declared.usable.KeyFault.TheVariants.{Revoked, NotZoneKey}
 use Rattle.dns_marks.specs.Kinds.{because, misfit}
 use Rattle.dns_marks.specs.Proofs.{proved_by}
 
@@ -72,6 +75,11 @@ Unless want (Ok x) Fact = Fact
 Unless want (Err e) Fact = (e ≡ want) ⊎ Fact
 
 -- ---- for private functions of this crate only
+
+-- the cause that names a key's fault
+abbrev pub fault_cause : Labels → ℕ → KeyFault → ProofErrorKindValue
+fault_cause owner key_tag Revoked = DnsKeyRevoked owner key_tag
+fault_cause owner key_tag NotZoneKey = NotZoneDnsKey owner key_tag
 
 -- by a key that may sign if its algorithm is supported, where the signature fits
 abbrev pub calls_if_supported : VerifierAnswers → DnskeyValue → ℕ

@@ -1,22 +1,21 @@
-ghost use Rattle.std.specs.Prelude.{◌≡◌, ◌+◌, ◌≤◌, ◌==◌, ◌&&◌, true, is_some, IfOk, OnOk, IfSome};
+ghost use Rattle.std.specs.Prelude.{◌≡◌, ◌+◌, ◌≤◌, true, is_some, IfOk, OnOk, IfSome};
 ghost use Rattle.std.specs.Option.{option_map};
 ghost use Rattle.dns_model.specs.Gives.{Gives};
-ghost use Rattle.dns_model.specs.Views.{is_zone_key};
 ghost use Rattle.dns_model.specs.RecordViews.{rrsig_of, dnskey_of};
 ghost use Rattle.dns_handle.specs.Notices.{notice_text};
-ghost use Rattle.dns_marks.specs.Kinds.{want_of_memory, misfit as misfit_of};
+ghost use Rattle.dns_marks.specs.Kinds.{kind_value, want_of_memory, misfit as misfit_of};
 ghost use Rattle.dns_marks.specs.Tested.{of_tested, IsRead};
-ghost use Rattle.dns_marks.specs.KeySignatures.{Unless, validity_at, signature_proof, proof_read, calls_by_key, calls_read, calls_if_supported, key_failure as failure_of, is_verified as is_verified_by};
+ghost use Rattle.dns_marks.specs.KeySignatures.{Unless, validity_at, signature_proof, proof_read, calls_by_key, calls_read, calls_if_supported, fault_cause, key_failure as failure_of, is_verified as is_verified_by};
 
 use crate::rrset_proof::proved_by_tested;
 use crate::tested::Tested;
 use crate::{ProofError, ProofErrorKind, RrsetProof};
 use dns_handle::{Notice, Verifier};
-use dns_name::{NoMemory, Octets};
+use dns_name::{Name, NoMemory, Octets};
 use dns_rdata::{Dnskey, Rrsig, signed_data};
 use dns_record::{Proof, Record, RecordSet};
 use dns_steps::Steps;
-use dns_trust::RrsigValidity;
+use dns_trust::{KeyFault, RrsigValidity, key_fault};
 use std::alloc::Global;
 use std::sync::ledger::Ledger;
 
@@ -85,6 +84,7 @@ fn verify_read<V: Verifier, L: Ledger>(
 }
 
 // The first test that a key fails by itself.
+#[tactic(auto, using(crate::proofs::FaultLemmas::failure_by_fault, crate::proofs::FaultLemmas::failure_past_fault))]
 fn key_failure(
     key: &Record,
     read: &Rrsig<'_>,
@@ -98,14 +98,9 @@ fn key_failure(
         let kind = ProofErrorKind::InsecureDnsKey { name, key_tag };
         return Ok(Some(ProofError::new(key.proof, kind)));
     }
-    if dnskey.is_revoked() {
+    if let Some(fault) = key_fault(dnskey) {
         let name = key.name.try_clone()?;
-        let kind = ProofErrorKind::DnsKeyRevoked { name, key_tag };
-        return Ok(Some(ProofError::new(Proof::Bogus, kind)));
-    }
-    if !is_dnssec_zone_key(dnskey) {
-        let name = key.name.try_clone()?;
-        let kind = ProofErrorKind::NotZoneDnsKey { name, key_tag };
+        let kind = fault_kind(fault, name, key_tag);
         return Ok(Some(ProofError::new(Proof::Bogus, kind)));
     }
     if dnskey.algorithm != read.algorithm {
@@ -118,11 +113,14 @@ fn key_failure(
     Ok(None)
 }
 
-// The flag ZONE is set, and the protocol is DNSSEC's.
-fn is_dnssec_zone_key(dnskey: &Dnskey<'_>) -> bool
-    ensures { result ≡ (is_zone_key dnskey.now && (dnskey.now.protocol == 3)) }
+// The cause that names a key's fault.
+fn fault_kind(fault: KeyFault, name: Name, key_tag: u16) -> ProofErrorKind
+    ensures { kind_value result ≡ fault_cause name key_tag fault }
 {
-    dnskey.is_zone_key() && dnskey.protocol == 3
+    match fault {
+        KeyFault::Revoked => ProofErrorKind::DnsKeyRevoked { name, key_tag },
+        KeyFault::NotZoneKey => ProofErrorKind::NotZoneDnsKey { name, key_tag },
+    }
 }
 
 // The name of the validity, where a signature doesn't fit a set and a key at a moment.
