@@ -1,8 +1,8 @@
 use crate::mark_parts::*;
 use crate::rows::check_row;
+use dns_handle::Verifier;
 use dns_marks::{KeysMark, ProofError, ProofErrorKind, ZoneVerdict, mark_keys};
 use dns_name::{Name, NameError, Octets};
-use dns_net::Verifier;
 use dns_record::{Proof, RecordSet, RecordType};
 use dns_trust::TrustAnchors;
 use std::alloc::Global;

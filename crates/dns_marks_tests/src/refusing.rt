@@ -1,4 +1,4 @@
-use dns_net::Verifier;
+use dns_handle::Verifier;
 use std::cell::Cell;
 
 /// A verifier that supports each algorithm, accepts nothing and counts how often it is asked.

@@ -2,9 +2,9 @@ ghost use Rattle.std.specs.Prelude.{◌≡◌, ◌<◌};
 
 use crate::mark_parts::*;
 use crate::rows::check_row;
+use dns_handle::Verifier;
 use dns_marks::{KeyAnswer, ProofError, ProofErrorKind, RrsetProof, mark_rrset};
 use dns_name::{Name, NameError};
-use dns_net::Verifier;
 use dns_record::{DNSClass, Proof, Query, RecordSet, RecordType};
 use dns_steps::Steps;
 use dns_trust::{Listed, first_signatures};

@@ -1,9 +1,11 @@
 use crate::mark_parts::{DS, MISS, OVER_NS, UNSUPPORTED, only, reads, record, verifier};
 use crate::rows::check_row;
+use dns_handle::{
+    DnsError, DnsRequest, DnsRequestOptions, DnsResponse, NetError, NoRecords, Trail,
+};
 use dns_marks::{DnsAnswer, ZoneVerdict, ds_verdict};
 use dns_message::Message;
 use dns_name::{Name, NameError, NoMemory};
-use dns_net::{DnsError, DnsRequest, DnsRequestOptions, DnsResponse, NetError, NoRecords, Trail};
 use dns_record::Proof::{Bogus, Insecure, Secure};
 use dns_record::Section::{Additional, Answer, Authority};
 use dns_record::{DNSClass, Denial, Proof, Query, Record, RecordType, ResponseCode, Section};

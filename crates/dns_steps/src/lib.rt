@@ -3,7 +3,5 @@
 #![tactic(auto)]
 
 mod steps;
-#[cfg(test)]
-mod steps_tests;
 
 pub use steps::Steps;
