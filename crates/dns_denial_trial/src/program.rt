@@ -7,7 +7,8 @@ ghost use Rattle.dns_session.specs.Grammar.{session_of};
 ghost use Rattle.dns_denial_trial.specs.Endings.{bad_line_text as bad_line, ending_of, EndsAs};
 
 use crate::verdicts::session_lines;
-use dns_io::{ReadStop, Sink, SinkFault, Source, read_all, write_all};
+use dns_io::status::{self, read_status, write_text};
+use dns_io::{Sink, Source, read_all};
 use dns_name::NoMemory;
 use dns_session::{SessionStop, read_session};
 use dns_words::push_decimal;
@@ -32,11 +33,11 @@ fn ending(alloc: Global, bytes: &[u8]) -> Result<(u8, Vec<u8>), NoMemory>
     match read_session(alloc, bytes) {
         Ok(session) => {
             let text = session_lines(alloc, &session)?;
-            Ok((0, text))
+            Ok((status::DONE, text))
         }
         Err(SessionStop::BadLine(number)) => {
             let text = bad_line_text(alloc, number)?;
-            Ok((3, text))
+            Ok((status::BAD_INPUT, text))
         }
         Err(SessionStop::NoMemory) => Err(NoMemory),
     }
@@ -51,12 +52,8 @@ fn answer<W: Sink>(alloc: Global, bytes: &[u8], output: &mut W) -> u8
     ensures most { result ≤ 6 }
 {
     match ending(alloc, bytes) {
-        Ok((status, text)) => match write_all(output, &text) {
-            Ok(()) => status,
-            Err(SinkFault::Failed) => 5,
-            Err(SinkFault::NoMemory) => 6,
-        },
-        Err(NoMemory) => 6,
+        Ok((status, text)) => write_text(status, &text, output),
+        Err(NoMemory) => status::NO_MEMORY,
     }
 }
 
@@ -75,8 +72,6 @@ pub(crate) fn run<S: Source, W: Sink>(alloc: Global, input: &mut S, output: &mut
 {
     match read_all(alloc, input) {
         Ok(bytes) => answer(alloc, &bytes, output),
-        Err(ReadStop::Failed) => 4,
-        Err(ReadStop::TooLong) => 7,
-        Err(ReadStop::NoMemory) => 6,
+        Err(stop) => read_status(stop),
     }
 }

@@ -1,10 +1,14 @@
 -- What a reading to the end leaves of a source, where the source tells its bytes.
-use Rattle.std.specs.Prelude.{◌≡◌, ℕ, ◌^◌, ◌≤◌, List, [], length, ⊤, Option, None, Some}
+use Rattle.std.specs.Prelude.{◌≡◌, ℕ, ◌^◌, ◌≤◌, List, [], length, codes, ⊤, Option, None, Some}
 use Rattle.std.specs.Io.KnownBytes.{Consumes}
 
 -- the most bytes that an input may have
 abbrev pub input_limit : ℕ
 input_limit = 2 ^ 24
+
+-- what is written of an input that has more
+abbrev pub too_long_text : List ℕ
+too_long_text = codes "input too long\n"
 
 -- nothing is left of bytes that were told
 abbrev pub IsEnded : Option (List ℕ) → Option (List ℕ) → Type 0

@@ -5,17 +5,22 @@
 //! writes by [`write_all`], and rests on the clauses of those four alone. [`TextSource`] and
 //! [`TextSink`] hold their bytes in memory and fail where they are told to, [`SureSource`] and
 //! [`SureSink`] never do, and [`InputSource`] and [`OutputSink`] stand over std's readers and writers.
+//!
+//! A program takes its words by [`words_of`], and ends with one of the statuses of [`status`].
 #![tactic(auto)]
 
 mod calls;
 mod sink;
 mod source;
 mod standard;
+pub mod status;
 mod text_sink;
 mod text_source;
+mod words;
 
 pub use sink::{Sink, SinkFault, write_all};
 pub use source::{Failed, INPUT_LIMIT, ReadStop, Source, read_all};
 pub use standard::{InputSource, OutputSink};
 pub use text_sink::{SureSink, TextSink};
 pub use text_source::{SureSource, TextSource};
+pub use words::words_of;

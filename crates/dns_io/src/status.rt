@@ -1,0 +1,91 @@
+//! The statuses with which a program ends, and what it answers where a text or an input isn't whole.
+ghost use Rattle.std.specs.Prelude.{◌≡◌, ◌≢◌, ◌<◌, ◌≤◌};
+ghost use Rattle.std.specs.Io.KnownBytes.{Appends};
+ghost use Rattle.dns_model.specs.Counts.{Rose};
+ghost use Rattle.dns_io.specs.Reading.{too_long_text};
+ghost use Rattle.dns_io.specs.Writing.{TakesPrefix, WritesText};
+
+use crate::sink::{Sink, SinkFault, write_all};
+use crate::source::ReadStop;
+
+/// What was asked for is written.
+pub const DONE: u8 = 0;
+
+/// The lookup answered a fault, whose line is written.
+pub const FAULT: u8 = 1;
+
+/// The words of the command line aren't a form; nothing was read.
+pub const BAD_WORDS: u8 = 2;
+
+/// The input isn't what the words ask for, as a session.
+pub const BAD_INPUT: u8 = 3;
+
+/// A read failed.
+pub const READ_FAILED: u8 = 4;
+
+/// A write failed after a prefix of the text.
+pub const WRITE_FAILED: u8 = 5;
+
+/// Memory ran out.
+pub const NO_MEMORY: u8 = 6;
+
+/// The input has more than [`INPUT_LIMIT`](crate::INPUT_LIMIT) bytes.
+pub const TOO_LONG: u8 = 7;
+
+/// The status where an input wasn't read to its end, of which nothing is written.
+pub fn read_status(stop: ReadStop) -> u8
+    ensures failed { result ≡ 4 → stop ≡ ReadStop.Failed }
+    ensures long { result ≡ 7 → stop ≡ ReadStop.TooLong }
+    ensures least { 4 ≤ result }
+    ensures other { result ≢ 5 }
+    ensures most { result ≤ 7 }
+{
+    match stop {
+        ReadStop::Failed => READ_FAILED,
+        ReadStop::TooLong => TOO_LONG,
+        ReadStop::NoMemory => NO_MEMORY,
+    }
+}
+
+// The status where a text wasn't written whole.
+fn sink_status(fault: SinkFault) -> u8
+    ensures failed { result ≡ 5 → fault ≡ SinkFault.Failed }
+    ensures least { 5 ≤ result }
+    ensures most { result ≤ 6 }
+{
+    match fault {
+        SinkFault::Failed => WRITE_FAILED,
+        SinkFault::NoMemory => NO_MEMORY,
+    }
+}
+
+/// Writes a text, and answers the status that is given, or why it wasn't written.
+pub fn write_text<W: Sink>(status: u8, text: &[u8], output: &mut W) -> u8
+    ensures written { result < 5 → Appends (W.taken output.old) (W.taken output.new) text.now }
+    ensures kept { result < 5 → result ≡ status }
+    ensures text { status < 5 → WritesText result status (W.taken output.old) (W.taken output.new) text.now }
+    ensures sink { result ≡ 5 → status < 5 → Rose (W.faults output.old) (W.faults output.new) }
+    ensures prefix { TakesPrefix (W.taken output.old) (W.taken output.new) text.now }
+    ensures most { status < 5 → result ≤ 6 }
+    ensures later { W.faults output.old ≤ W.faults output.new }
+{
+    match write_all(output, text) {
+        Ok(()) => status,
+        Err(fault) => sink_status(fault),
+    }
+}
+
+/// Says that the input is too long.
+pub fn refuse_long<W: Sink>(output: &mut W) -> u8
+    ensures written { result ≡ 7 → Appends (W.taken output.old) (W.taken output.new) too_long_text }
+    ensures sink { result ≡ 5 → Rose (W.faults output.old) (W.faults output.new) }
+    ensures prefix { TakesPrefix (W.taken output.old) (W.taken output.new) too_long_text }
+    ensures least { 5 ≤ result }
+    ensures most { result ≤ 7 }
+    ensures later { W.faults output.old ≤ W.faults output.new }
+{
+    match write_all(output, b"input too long\n") {
+        Ok(()) => TOO_LONG,
+        Err(fault) => sink_status(fault),
+    }
+}
