@@ -1,6 +1,6 @@
 use crate::parts::{bare_step, check_number};
+use dns_handle::{AskRef, Asked};
 use dns_name::NameError;
-use dns_net::{AskRef, Asked};
 use dns_trail_order::is_in_order;
 use std::alloc::Global;
 

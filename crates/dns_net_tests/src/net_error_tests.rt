@@ -1,8 +1,8 @@
 use crate::net_missing_tests::{denied_by_referral, write_soa};
 use crate::parts::{check, check_number, query, response, shows};
+use dns_handle::{DnsError, IoKind, NetError, NoRecords, Notice, ProtoError};
 use dns_message::{DecodeError, DecodeKind};
 use dns_name::{Name, NameError, NoMemory, Text};
-use dns_net::{DnsError, IoKind, NetError, NoRecords, Notice, ProtoError};
 use dns_record::{DNSClass, Proof, Record, RecordType, ResponseCode};
 use std::alloc::Global;
 
@@ -161,7 +161,9 @@ fn error_of(alloc: Global, sample: Sample) -> Result<NetError, NameError> {
 
 fn copy_shows(alloc: Global, error: &NetError, text: &str) -> Result<bool, NameError> {
     let copy = error.try_clone()?;
-    shows(alloc, &copy, text)
+    let held = shows(alloc, &copy, text);
+    drop(copy);
+    held
 }
 
 /// The error and its copy show the text.
@@ -171,7 +173,9 @@ fn both_show(alloc: Global, error: &NetError, text: &str) -> Result<bool, NameEr
 
 fn is_shown(alloc: Global, row: &Shown) -> Result<bool, NameError> {
     let error = error_of(alloc, row.0)?;
-    both_show(alloc, &error, row.1)
+    let held = both_show(alloc, &error, row.1);
+    drop(error);
+    held
 }
 
 #[test]
@@ -223,7 +227,9 @@ fn outside_rows() -> &'static [Outside] {
 }
 
 fn answers_as(error: NetError, nx_domain: bool, no_records: bool, closed: bool) -> bool {
-    tells(&error, nx_domain, no_records, closed)
+    let held = tells(&error, nx_domain, no_records, closed);
+    drop(error);
+    held
 }
 
 fn tells(error: &NetError, nx_domain: bool, no_records: bool, closed: bool) -> bool {
@@ -275,7 +281,9 @@ fn soa_has_text(alloc: Global, soa: &Option<Record>, want: &str) -> bool {
 
 fn holds_soa(alloc: Global, row: &Held) -> Result<bool, NameError> {
     let soa = error_of(alloc, row.0)?.into_soa();
-    Ok(soa_has_text(alloc, &soa, row.1))
+    let held = soa_has_text(alloc, &soa, row.1);
+    drop(soa);
+    Ok(held)
 }
 
 #[test]

@@ -1,7 +1,7 @@
 use crate::parts::{check, query, record, response};
+use dns_handle::{DnsError, DnsResponse, ForwardNSData, NetError, NoRecords};
 use dns_message::Message;
 use dns_name::NameError;
-use dns_net::{DnsError, DnsResponse, ForwardNSData, NetError, NoRecords};
 use dns_record::Record;
 use std::alloc::{AllocError, Global};
 use std::fmt::Write;
@@ -145,7 +145,10 @@ fn denied(
 /// The error, and where it is none, one that holds nothing.
 fn error_of(became: Result<DnsResponse, DnsError>) -> NetError {
     match became {
-        Ok(_) => NetError::Busy,
+        Ok(response) => {
+            drop(response);
+            NetError::Busy
+        }
         Err(error) => NetError::from(error),
     }
 }
@@ -192,7 +195,9 @@ fn has_text(alloc: Global, missing: &NoRecords, want: &str) -> bool {
 
 fn copy_has_text(alloc: Global, missing: &NoRecords, want: &str) -> Result<bool, NameError> {
     let copy = missing.try_clone()?;
-    Ok(has_text(alloc, &copy, want))
+    let held = has_text(alloc, &copy, want);
+    drop(copy);
+    Ok(held)
 }
 
 /// What became of a response is such an error, and so is its copy.
@@ -209,7 +214,9 @@ fn have_text(
 
 fn becomes(alloc: Global, row: &Row) -> Result<bool, NameError> {
     let became = denied(alloc, row.0, row.1, row.2, row.3)?;
-    have_text(alloc, &became, row.4)
+    let held = have_text(alloc, &became, row.4);
+    drop(became);
+    held
 }
 
 #[test]

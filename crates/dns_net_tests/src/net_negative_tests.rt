@@ -1,7 +1,7 @@
 use crate::parts::{check_number, query, record, response};
+use dns_handle::{DnsError, DnsResponse};
 use dns_message::Message;
 use dns_name::NameError;
-use dns_net::{DnsError, DnsResponse};
 use dns_record::{Record, Section};
 use std::alloc::Global;
 
@@ -185,7 +185,9 @@ fn outcome_of(became: &Result<DnsResponse, DnsError>) -> Outcome {
 
 fn becomes(alloc: Global, response: DnsResponse, want: Outcome) -> Result<bool, NameError> {
     let became = DnsError::from_response(alloc, response)?;
-    Ok(outcome_of(&became) == want)
+    let held = outcome_of(&became) == want;
+    drop(became);
+    Ok(held)
 }
 
 fn bare(alloc: Global, named: Named) -> Result<Record, NameError> {

@@ -1,7 +1,7 @@
 use crate::parts::{check, check_number, nothing, query, request};
+use dns_handle::{DnsRequest, DnsRequestOptions};
 use dns_message::Message;
 use dns_name::NameError;
-use dns_net::{DnsRequest, DnsRequestOptions};
 use dns_record::Query;
 use std::alloc::Global;
 
@@ -95,7 +95,9 @@ fn has_changed(
     changed: &str,
     original: &str,
 ) -> Result<bool, NameError> {
-    is_changed(&request, record_type, changed, original)
+    let held = is_changed(&request, record_type, changed, original);
+    drop(request);
+    held
 }
 
 fn is_cased(alloc: Global, row: &Cased) -> Result<bool, NameError> {
@@ -133,13 +135,17 @@ fn asks_these(queries: &[Query]) -> Result<bool, NameError> {
 /// Of two questions the first alone is changed.
 fn changes_the_first(alloc: Global) -> Result<bool, NameError> {
     let request = two_questions(alloc)?.with_case(bits())?;
-    asks_these(&request.message.queries)
+    let held = asks_these(&request.message.queries);
+    drop(request);
+    held
 }
 
 /// A request without a question stays without one, and has no original.
 fn stays_without_a_question(alloc: Global) -> Result<bool, NameError> {
     let request = nothing(alloc)?.with_case(bits())?;
-    Ok(request.message.queries.is_empty() && request.original.is_none())
+    let held = request.message.queries.is_empty() && request.original.is_none();
+    drop(request);
+    Ok(held)
 }
 
 fn changed_once(alloc: Global) -> Result<DnsRequest, NameError> {
@@ -151,7 +157,9 @@ fn changed_twice(alloc: Global) -> Result<DnsRequest, NameError> {
 }
 
 fn copy_of(request: DnsRequest) -> Result<DnsRequest, NameError> {
-    Ok(request.try_clone()?)
+    let copy = request.try_clone();
+    drop(request);
+    Ok(copy?)
 }
 
 /// A second change keeps the question as the first has left it.
@@ -235,7 +243,9 @@ fn has_bytes(alloc: Global, message: &Message, bytes: &[u8]) -> bool {
 
 fn is_written(alloc: Global, row: &Written) -> Result<bool, NameError> {
     let request = request_of(alloc, row)?;
-    Ok(request.original.is_none() && has_bytes(alloc, &request.message, row.bytes))
+    let held = request.original.is_none() && has_bytes(alloc, &request.message, row.bytes);
+    drop(request);
+    Ok(held)
 }
 
 #[test]

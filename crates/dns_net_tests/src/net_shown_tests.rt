@@ -1,6 +1,6 @@
 use crate::parts::{check_number, rdata};
+use dns_handle::*;
 use dns_name::{Name, NameError, NameRef};
-use dns_net::*;
 use dns_record::{DNSClass, Rdata, RecordType};
 use std::alloc::Global;
 
@@ -68,7 +68,9 @@ fn first_chain(alloc: Global) -> Result<Chain, NameError> {
 
 fn chain(alloc: Global) -> Result<Chain, NameError> {
     let chain = first_chain(alloc)?;
-    Ok(chain.try_clone()?)
+    let copy = chain.try_clone();
+    drop(chain);
+    Ok(copy?)
 }
 
 /// The number of a link, a class and an rdata, and what that link shows of them for `org.`.
@@ -137,7 +139,9 @@ fn shows_as(alloc: Global, links: &[Link], row: &Row) -> Result<bool, NameError>
 
 fn is_shown(alloc: Global, row: &Row) -> Result<bool, NameError> {
     let chain = chain(alloc)?;
-    shows_as(alloc, &chain.links, row)
+    let held = shows_as(alloc, &chain.links, row);
+    drop(chain);
+    held
 }
 
 #[test]
@@ -179,7 +183,9 @@ fn show_the_key(alloc: Global, links: &[Link], numbers: &[u32]) -> Result<bool, 
 
 fn is_all_shown(alloc: Global, row: &Numbered) -> Result<bool, NameError> {
     let chain = chain(alloc)?;
-    Ok(show_the_key(alloc, &chain.links, row.0)? == row.1)
+    let shown = show_the_key(alloc, &chain.links, row.0);
+    drop(chain);
+    Ok(shown? == row.1)
 }
 
 #[test]

@@ -1,9 +1,8 @@
-use crate::parts::{bare_set, bare_step, check, record, response};
+use crate::parts::{bare_set, bare_step, check_number, record, response};
+use dns_handle::*;
 use dns_name::{Name, NameError};
-use dns_net::*;
-use dns_record::{DNSClass, Proof, Record, RecordType, ResponseCode};
-use std::alloc::{AllocError, Global};
-use std::fmt::Write;
+use dns_record::{DNSClass, Proof, Query, Record, RecordType, ResponseCode};
+use std::alloc::Global;
 
 /// How a step ends.
 #[derive(Clone, Copy, Drop)]
@@ -56,7 +55,7 @@ fn judged_rows() -> &'static [Judged] {
     JUDGED
 }
 
-/// A step that asks for `org.`, and its text: depth, whether it was to be judged, question; reply; sets; ending; excuse.
+/// A step that asks for `org.`.
 struct Shown {
     depth: u16,
     judged: bool,
@@ -67,7 +66,6 @@ struct Shown {
     has_sets: bool,
     ending: End,
     excuse: &'static [AskRef],
-    text: &'static str,
 }
 
 const SHOWN: &[Shown] = &[
@@ -79,7 +77,6 @@ const SHOWN: &[Shown] = &[
         has_sets: false,
         ending: End::Seen,
         excuse: &[],
-        text: "2 false org. IN NS; code 0 empty true records 1 2 3; ; seen; []",
     },
     Shown {
         depth: 1,
@@ -89,7 +86,6 @@ const SHOWN: &[Shown] = &[
         has_sets: false,
         ending: End::Failed,
         excuse: &[AskRef::TooDeep],
-        text: "1 true org. IN DS; fault; ; failed; [TooDeep]",
     },
     Shown {
         depth: 65535,
@@ -99,7 +95,6 @@ const SHOWN: &[Shown] = &[
         has_sets: false,
         ending: End::Foreign,
         excuse: &[],
-        text: "65535 true org. IN A; code 3 empty false records 1 2 3; ; foreign a. 3 16; []",
     },
     Shown {
         depth: 1,
@@ -109,7 +104,6 @@ const SHOWN: &[Shown] = &[
         has_sets: true,
         ending: End::Expanded,
         excuse: &[],
-        text: "1 true org. IN DNSKEY; code 0 empty false records 1 2 3; Answer a. 6 Secure Table Some(7) [Step(1), TooMany], Additional a. 6 Bogus Repeat(2) None [], Authority a. 6 Insecure Cache Some(0) []; Expanded(Secure); []",
     },
     Shown {
         depth: 0,
@@ -119,7 +113,6 @@ const SHOWN: &[Shown] = &[
         has_sets: false,
         ending: End::Denied,
         excuse: &[AskRef::Step(3), AskRef::TooMany],
-        text: "0 true org. IN A; code 3 empty false records 1 2 3; ; denied Bogus; [Step(3), TooMany]",
     },
 ];
 
@@ -239,112 +232,114 @@ fn with_trail(alloc: Global) -> Result<DnsResponse, NameError> {
 
 fn copy_with_trail(alloc: Global) -> Result<DnsResponse, NameError> {
     let response = with_trail(alloc)?;
-    Ok(response.try_clone()?)
+    let copy = response.try_clone();
+    drop(response);
+    Ok(copy?)
 }
 
-fn write_counts(text: &mut String, told: &Told) -> Result<(), AllocError> {
-    let answers = told.answers.len();
-    let authorities = told.authorities.len();
-    let additionals = told.additionals.len();
-    write!(text, " records {answers} {authorities} {additionals}")
+/// It tells one answer, two authorities and three additional records.
+fn is_told(told: &Told, code: u16, empty: bool) -> bool {
+    told.code.0 == code
+        && told.empty == empty
+        && told.answers.len() == 1
+        && told.authorities.len() == 2
+        && told.additionals.len() == 3
 }
 
-fn write_told(text: &mut String, told: &Told) -> Result<(), AllocError> {
-    write!(text, "code {} empty {}", told.code.0, told.empty)?;
-    write_counts(text, told)
-}
-
-fn write_reply(text: &mut String, reply: &Reply) -> Result<(), AllocError> {
-    match reply {
-        Reply::Told(told) => write_told(text, told),
-        Reply::Fault => text.push_str("fault"),
+fn is_reply(reply: &Reply, want: Option<(u16, bool)>) -> bool {
+    match (reply, want) {
+        (Reply::Told(told), Some((code, empty))) => is_told(told, code, empty),
+        (Reply::Fault, None) => true,
+        _ => false,
     }
 }
 
-fn write_foreign(
-    text: &mut String,
-    owner: &Name,
-    class: u16,
-    number: u16,
-) -> Result<(), AllocError> {
-    write!(text, "foreign {owner} {class} {number}")
+fn is_judged(set: &JudgedSet, judged: &Judged) -> bool {
+    set.section == judged.section
+        && set.owner.wire() == b"\x01a\0".as_slice()
+        && set.record_type == RecordType::SOA
+        && set.mark == judged.mark
+        && set.origin == judged.origin
+        && set.sig == judged.sig
+        && set.asked.as_slice() == judged.asked
 }
 
-fn write_ending(text: &mut String, ending: &Ending) -> Result<(), AllocError> {
-    match ending {
-        Ending::Answered(denial) => write!(text, "{denial:?}"),
-        Ending::Denied(proof) => write!(text, "denied {proof:?}"),
-        Ending::Foreign {
-            owner,
-            class,
-            record_type,
-        } => write_foreign(text, owner, class.0, record_type.0),
-        Ending::Failed => text.push_str("failed"),
-        Ending::Seen => text.push_str("seen"),
+fn are_judged(sets: &[JudgedSet], all: &[Judged]) -> bool {
+    match (sets, all) {
+        ([one, two, three], [first, second, third]) => {
+            is_judged(one, first) && is_judged(two, second) && is_judged(three, third)
+        }
+        _ => false,
     }
 }
 
-fn write_mark(text: &mut String, set: &JudgedSet) -> Result<(), AllocError> {
-    write!(
-        text,
-        " {:?} {:?} {:?} {:?}",
-        set.mark, set.origin, set.sig, set.asked
-    )
-}
-
-fn write_set(text: &mut String, set: &JudgedSet) -> Result<(), AllocError> {
-    write!(
-        text,
-        "{:?} {} {}",
-        set.section, set.owner, set.record_type.0
-    )?;
-    write_mark(text, set)
-}
-
-/// The texts of the sets, with commas between them.
-fn write_sets(text: &mut String, sets: &[JudgedSet]) -> Result<(), AllocError> {
-    let mut between = "";
-    for set in sets {
-        text.push_str(between)?;
-        write_set(text, set)?;
-        between = ", ";
+/// They are the three sets, or there is none.
+fn are_sets(sets: &[JudgedSet], has_sets: bool) -> bool {
+    if has_sets {
+        are_judged(sets, judged_rows())
+    } else {
+        sets.is_empty()
     }
-    Ok(())
 }
 
-fn write_step(text: &mut String, step: &Asked) -> Result<(), AllocError> {
-    write!(text, "{} {} {}; ", step.depth, step.judged, step.query)?;
-    write_reply(text, &step.reply)?;
-    text.push_str("; ")?;
-    write_sets(text, &step.sets)?;
-    text.push_str("; ")?;
-    write_ending(text, &step.ending)?;
-    write!(text, "; {:?}", step.excuse)
+fn is_foreign(owner: &Name, class: DNSClass, record_type: RecordType) -> bool {
+    owner.wire() == b"\x01a\0".as_slice() && class == DNSClass::CH && record_type == RecordType::TXT
 }
 
-fn has_text(alloc: Global, step: &Asked, want: &str) -> bool {
-    let mut text = String::new(alloc);
-    write_step(&mut text, step).is_ok() && text.as_str() == want
+fn is_ending(ending: &Ending, end: End) -> bool {
+    match (ending, end) {
+        (Ending::Seen, End::Seen) | (Ending::Failed, End::Failed) => true,
+        (Ending::Answered(denial), End::Expanded) => *denial == Denial::Expanded(Proof::Secure),
+        (Ending::Denied(proof), End::Denied) => *proof == Proof::Bogus,
+        (
+            Ending::Foreign {
+                owner,
+                class,
+                record_type,
+            },
+            End::Foreign,
+        ) => { is_foreign(owner, *class, *record_type) }
+        _ => false,
+    }
 }
 
-/// The trail has five steps, and the step with this number has the text.
-fn step_has_text(alloc: Global, trail: &Trail, number: usize, want: &str) -> bool {
+/// It asks for `org.`.
+fn asks(query: &Query, record_type: u16) -> bool {
+    query.name.wire() == b"\x03org\0".as_slice()
+        && query.query_type.0 == record_type
+        && query.query_class == DNSClass::IN
+}
+
+fn is_step(step: &Asked, row: &Shown) -> bool {
+    step.depth == row.depth
+        && step.judged == row.judged
+        && asks(&step.query, row.record_type)
+        && is_reply(&step.reply, row.reply)
+        && are_sets(&step.sets, row.has_sets)
+        && is_ending(&step.ending, row.ending)
+        && step.excuse.as_slice() == row.excuse
+}
+
+/// The trail has five steps, and the one with this number is the row's.
+fn has_step(trail: &Trail, number: usize, row: &Shown) -> bool {
     match trail.steps.get(number) {
-        Some(step) => trail.steps.len() == 5 && has_text(alloc, step, want),
+        Some(step) => trail.steps.len() == 5 && is_step(step, row),
         None => false,
     }
 }
 
 /// It is so for the trail of a copy.
-fn is_copied(alloc: Global, number: usize, want: &str) -> Result<bool, NameError> {
+fn is_copied(alloc: Global, number: usize, row: &Shown) -> Result<bool, NameError> {
     let copy = copy_with_trail(alloc)?;
-    Ok(step_has_text(alloc, &copy.trail, number, want))
+    let held = has_step(&copy.trail, number, row);
+    drop(copy);
+    Ok(held)
 }
 
 #[test]
 fn each_step_of_a_trail_is_copied(rt: HostRuntime) {
     let alloc = rt.alloc();
     for (number, row) in shown_rows().iter().enumerate() {
-        check(&rt, row.text, is_copied(alloc, number, row.text));
+        check_number(&rt, number, is_copied(alloc, number, row));
     }
 }

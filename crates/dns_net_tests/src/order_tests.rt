@@ -1,6 +1,6 @@
 use crate::parts::{bare_set, bare_step, check, check_number};
+use dns_handle::{AskRef, Asked, JudgedSet};
 use dns_name::NameError;
-use dns_net::{AskRef, Asked, JudgedSet};
 use dns_trail_order::is_in_order;
 use std::alloc::Global;
 use std::slice;
@@ -199,7 +199,9 @@ fn is_top(alloc: Global, row: &Top) -> Result<bool, NameError> {
     let mut step = bare_step(alloc, "a.", 1)?;
     step.depth = row.0;
     step.judged = row.1;
-    Ok(is_in_order(slice::from_ref(&step)) == row.2)
+    let held = is_in_order(slice::from_ref(&step)) == row.2;
+    drop(step);
+    Ok(held)
 }
 
 #[test]

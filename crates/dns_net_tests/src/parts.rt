@@ -1,5 +1,5 @@
+use dns_handle::*;
 use dns_name::{Name, NameError};
-use dns_net::*;
 use dns_record::{DNSClass, Proof, Query, Rdata, Record, RecordType, ResponseCode};
 use std::alloc::Global;
 use std::process::Abort;
