@@ -3,8 +3,8 @@ ghost use Rattle.dns_judgement.specs.Asking.{depth_limit};
 ghost use Rattle.dns_handle.specs.Requests.{request_of};
 ghost use Rattle.dns_lookup.specs.AskRequests.{asking_options, asking_request, request_for as request_by};
 
-use dns_name::NoMemory;
 use dns_handle::{Asked, DnsRequest, DnsRequestOptions};
+use dns_name::NoMemory;
 use dns_record::Query;
 use dns_trust::Judge;
 use std::alloc::Global;

@@ -14,10 +14,10 @@ ghost use Rattle.dns_laws.specs.Ground.{HasGrounds};
 use crate::context::{LookupContext, depth_limit_of};
 use crate::lookup::look_up;
 use crate::sending::answer_request;
-use dns_name::NoMemory;
 use dns_handle::{
     DnsHandle, DnsRequest, DnsRequestOptions, DnsResponse, NetError, Verifier, faults_after,
 };
+use dns_name::NoMemory;
 use dns_record::Query;
 use dns_trust::{Judge, TrustAnchors};
 use std::alloc::Global;

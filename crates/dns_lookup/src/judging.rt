@@ -5,8 +5,8 @@ ghost use Rattle.dns_trust.specs.Verdicts.{verdict_value};
 ghost use Rattle.dns_lookup.specs.Walking.{asks_in, entry_of};
 
 use crate::steps::entry_for;
-use dns_name::NoMemory;
 use dns_handle::{AskRef, JudgedSet};
+use dns_name::NoMemory;
 use dns_record::{DNSClass, Proof, RecordSet, RecordType};
 use dns_sets::{ChainedSet, MarkedSet, Outcome, PlacedSet};
 use dns_trust::Verdict;

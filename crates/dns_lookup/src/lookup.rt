@@ -18,12 +18,12 @@ use crate::context::{LookupContext, Progress, request_for};
 use crate::judging::{Concluded, Judgement};
 use crate::receiving::{ReceivedMessage, send_request};
 use crate::walk::judge_reply;
-use dns_message::Message;
-use dns_name::NoMemory;
 use dns_handle::{
     AskRef, Asked, DnsError, DnsHandle, DnsRequest, DnsResponse, Ending, JudgedSet, NetError,
     Notice, Reply, Told, Trail, Verifier,
 };
+use dns_message::Message;
+use dns_name::NoMemory;
 use dns_record::{Denial, Proof, Query, Record, clone_records};
 use dns_sets::{Outcome, finished, foreign_record};
 use std::alloc::Global;
@@ -72,19 +72,29 @@ pub(crate) fn look_up_by_request<H: DnsHandle, V: Verifier>(
     ensures lookup { UnlessNoMemory result
         (AnswersLookup H.DnsHandle (call_by V.answers context.now request query handle.old handle.new) (reply_of result)) }
 {
-    let mut progress = Progress {
-        steps: Vec::new(context.alloc),
-        sends: 1,
-    };
     let received = match send_request(context.alloc, handle, request, context.judge.moment) {
         Ok(received) => received,
         Err(error) => return Err(error),
     };
     match foreign_record(&query, &received.message) {
-        Some(record) => return Err(foreign_error(record)),
+        Some(record) => {
+            let error = foreign_error(record);
+            drop(received);
+            return Err(error);
+        }
         None => {}
     }
-    let review = judge_reply(context, handle, &mut progress, &query, 0, &received)?;
+    let mut progress = Progress {
+        steps: Vec::new(context.alloc),
+        sends: 1,
+    };
+    let review = match judge_reply(context, handle, &mut progress, &query, 0, &received) {
+        Ok(review) => review,
+        Err(error) => {
+            drop(received);
+            return Err(NetError::from(error));
+        }
+    };
     let (judged, Concluded { outcome, excuse }) = review;
     let reply = JudgedReply {
         query,
@@ -122,11 +132,19 @@ fn answer<V>(
 {
     let now = context.judge.moment;
     match outcome {
-        Outcome::Unjudged => Err(NetError::Message(Notice::NotJudgedYet)),
-        Outcome::Searched => Err(NetError::Message(Notice::NotJudgedYet)),
+        Outcome::Unjudged => unjudged_answer(reply),
+        Outcome::Searched => unjudged_answer(reply),
         Outcome::Accepted(denial) => accepted_answer(context.alloc, now, reply, denial),
         Outcome::Denied(proof) => denied_answer(context.alloc, now, reply, proof),
     }
+}
+
+// The error that there is no answer yet.
+fn unjudged_answer(reply: JudgedReply) -> Result<DnsResponse, NetError>
+    ensures { reply_of result ≡ Err (seen.Message Notice.NotJudgedYet) }
+{
+    drop(reply);
+    Err(NetError::Message(Notice::NotJudgedYet))
 }
 
 // The answer that is accepted, with what it denies.
@@ -153,7 +171,13 @@ fn denied_answer(
     ensures { UnlessNoMemory result
         (reply_of result ≡ judged_answer now reply.query (findings_of reply (Outcome.Denied proof))) }
 {
-    let query = reply.query.try_clone()?;
+    let query = match reply.query.try_clone() {
+        Ok(query) => query,
+        Err(error) => {
+            drop(reply);
+            return Err(NetError::from(error));
+        }
+    };
     let response = response_of(alloc, now, reply, Ending::Denied(proof), Denial::None)?;
     denied(alloc, query, response, proof)
 }

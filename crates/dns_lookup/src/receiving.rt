@@ -13,9 +13,9 @@ ghost use Rattle.dns_lookup.specs.Received.{no_records_message, with_soa as with
 ghost use Rattle.dns_lookup.specs.Walking.{asking, HasReceived, HasSent, ReceivedAs, Received};
 
 use crate::context::{LookupContext, Progress, request_for};
+use dns_handle::{DnsError, DnsHandle, DnsRequest, DnsResponse, NetError, NoRecords};
 use dns_message::Message;
 use dns_name::NoMemory;
-use dns_handle::{DnsError, DnsHandle, DnsRequest, DnsResponse, NetError, NoRecords};
 use dns_record::{OpCode, Query, Record};
 use dns_sets::clear_marks;
 use std::alloc::Global;
@@ -69,6 +69,7 @@ pub(crate) fn receive<H: DnsHandle, V>(
 {
     let received = send_query(context, handle, progress, query, judged);
     if wants_memory(&received) {
+        drop(received);
         return Err(NoMemory);
     }
     Ok(received.ok())

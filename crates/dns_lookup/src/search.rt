@@ -15,9 +15,9 @@ use crate::context::{LookupContext, MOST_SENDS, Progress};
 use crate::finished::seen;
 use crate::receiving::{ReceivedMessage, receive};
 use crate::steps::records_of;
+use dns_handle::{AskRef, DnsHandle, Ending, Reply, Verifier};
 use dns_message::Message;
 use dns_name::{Name, NoMemory};
-use dns_handle::{AskRef, DnsHandle, Ending, Reply, Verifier};
 use dns_record::{DNSClass, Query};
 use dns_trust::{is_ns_of, ns_query};
 

@@ -8,9 +8,11 @@ ghost use Rattle.dns_lookup.specs.Sending.{checked_edns, checked_request, Answer
 
 use crate::context::{LookupContext, asking_options_of, depth_limit_of};
 use crate::lookup::look_up_by_request;
+use dns_handle::{
+    DnsHandle, DnsRequest, DnsRequestOptions, DnsResponse, NetError, Notice, Verifier,
+};
 use dns_message::Edns;
 use dns_name::{NoMemory, Octets};
-use dns_handle::{DnsHandle, DnsRequest, DnsRequestOptions, DnsResponse, NetError, Notice, Verifier};
 use dns_record::{OpCode, Query};
 use dns_trust::{Judge, TrustAnchors};
 use std::alloc::Global;
@@ -33,10 +35,16 @@ pub(crate) fn answer_request<H: DnsHandle, V: Verifier>(
     }
     let asked = match question_of(&request) {
         Ok(asked) => asked,
-        Err(_) => return Err(NetError::NoMemory),
+        Err(_) => {
+            drop(request);
+            return Err(NetError::NoMemory);
+        }
     };
     let query = match asked {
-        None => return Err(NetError::Message(Notice::NoQueryInRequest)),
+        None => {
+            drop(request);
+            return Err(NetError::Message(Notice::NoQueryInRequest));
+        }
         Some(query) => query,
     };
     let options = options_of(&request);

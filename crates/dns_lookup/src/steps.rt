@@ -10,9 +10,9 @@ ghost use Rattle.dns_outcome.specs.Outcome.{outcome_value};
 ghost use Rattle.dns_lookup.specs.Walking.{IsAdded, entry_of, judged_step, plain_step, foreign_ending};
 
 use crate::receiving::ReceivedMessage;
+use dns_handle::{AskRef, Asked, Ending, JudgedSet, MarkOrigin, Reply, Told};
 use dns_message::Message;
 use dns_name::NoMemory;
-use dns_handle::{AskRef, Asked, Ending, JudgedSet, MarkOrigin, Reply, Told};
 use dns_record::{Query, Record};
 use dns_sets::{MarkedSet, Outcome, foreign_record};
 use std::alloc::Global;

@@ -20,8 +20,8 @@ use crate::judging::{
 use crate::receiving::{ReceivedMessage, receive};
 use crate::search::{Way, find_zone};
 use crate::steps::{foreign_of, records_of};
-use dns_name::{Name, NoMemory};
 use dns_handle::{AskRef, DnsHandle, Verifier};
+use dns_name::{Name, NoMemory};
 use dns_rdata::Rrsig;
 use dns_record::{DNSClass, Proof, Query, Record, RecordSet};
 use dns_sets::{Outcome, PlacedSet, outcome_by_zone, outcome_of, placed_sets};

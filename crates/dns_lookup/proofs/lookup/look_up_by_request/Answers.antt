@@ -14,13 +14,13 @@ returns-in-Some-clause-sends g c = sends_once _ _ _ _ _ _ (c.in-Ok.ensures.recei
 
 pub returns-in-Some-clause-lookup : goal.returns-in-Some-clause-lookup
 returns-in-Some-clause-lookup g c =
-    elim c.foreign_error.ensures [
+    elim c.foreign_error-error.ensures [
       | inl memory ↦ inl memory
       | inr is ↦ inr (names_lookup g.H.DnsHandle _ _ _ _ (c.in-Ok.ensures.received _ c.requires.asked) (sym c.in-Some.ensures) (ap (λ e. Err e) is))
     ]
 
-pub returns-in_err-review-clause-sends : goal.returns-in_err-review-clause-sends
-returns-in_err-review-clause-sends g c =
+pub returns-in-Err-judge_reply-clause-sends : goal.returns-in-Err-judge_reply-clause-sends
+returns-in-Err-judge_reply-clause-sends g c =
     sends_more _ _ g.H.DnsHandle.faults _ _ _ _ _ _ _ (c.in-Ok.ensures.received _ c.requires.asked).made refl c.judge_reply.ensures.sent
 
 pub returns-clause-sends : goal.returns-clause-sends
@@ -29,7 +29,7 @@ returns-clause-sends g c =
 
 pub returns-clause-lookup : goal.returns-clause-lookup
 returns-clause-lookup g c =
-    let review = c.in_ok-review.ensures.reviewed in
+    let review = c.in-Ok-judge_reply.ensures.reviewed in
     unless_map c.answer.result
     (λ is. judges_lookup g.H.DnsHandle _ _ _ _ _ _ _ _ _ _ _ _ _ _ _ _ _ (c.in-Ok.ensures.received _ c.requires.asked) (sym c.in-None.ensures)
     (record { part = refl; none = c.new.ensures.items; deep = c.requires.limit; one = refl })
