@@ -1,2 +1,3 @@
 pub mod CountSteps
 pub mod MarkLoop
+pub mod TimeLemmas

@@ -1,13 +1,11 @@
-ghost use Rattle.std.specs.Prelude.{◌≡◌, ◌<◌, ◌^◌, IfOk, OnOk, Some, length};
-ghost use Rattle.std.specs.List.{find};
+ghost use Rattle.std.specs.Prelude.{◌≡◌, ℕ, ◌<◌, ◌^◌, IfOk, OnOk, Some, length};
 ghost use Rattle.dns_model.specs.Views.{rrsig_in};
-ghost use Rattle.dns_model.specs.SoundAnswers.{ttl_of, set_rtype as set_rtype_of, signed_ttl as signed_ttl_of};
-ghost use Rattle.dns_judgement.specs.Judged.{decider as decider_of};
-ghost use Rattle.dns_judgement.specs.Marking.{marked_section, is_about, adjusted_ttl as adjusted_ttl_of};
+ghost use Rattle.dns_model.specs.SoundAnswers.{ttl_of, signed_ttl as signed_ttl_of};
+ghost use Rattle.dns_judgement.specs.Marking.{marked_section};
 ghost use Rattle.dns_judgement.specs.Chained.{bare, chains_of, finished as finished_value};
 ghost use Rattle.dns_judgement.specs.MarkParts.{marked_by, is_place as is_same_place, first_record};
-ghost use Rattle.dns_grouping.specs.SetPlaces.{ArePlacedIn, place_of};
-ghost use Rattle.dns_sets.specs.Counting.{count_at, counted};
+ghost use Rattle.dns_sets.specs.Counting.{count_at, counted, place_for, set_at};
+ghost use Rattle.dns_sets.specs.Timing.{AreTimed, marked_with, set_ttl as set_ttl_of, set_ttls as set_ttls_of};
 
 use dns_evidence::{Chain, Trail};
 use dns_grouping::{SetPlaces, clear_one, judged_places, set_rtype};
@@ -32,34 +30,16 @@ pub fn finished(
     ensures { IfOk result (λ r. r ≡ finished_value now sets.items message denial trail) }
 {
     let mut message = message;
-    let answers = judged_places(alloc, &sets, Section::Answer)?;
-    let authorities = judged_places(alloc, &sets, Section::Authority)?;
-    let additionals = judged_places(alloc, &sets, Section::Additional)?;
-    let (marked, chains) = parted(alloc, sets)?;
-    mark_section(
-        alloc,
-        now,
-        &marked,
-        &answers,
-        Section::Answer,
-        &mut message.answers,
-    )?;
-    mark_section(
-        alloc,
-        now,
-        &marked,
-        &authorities,
-        Section::Authority,
-        &mut message.authorities,
-    )?;
-    mark_section(
-        alloc,
-        now,
-        &marked,
-        &additionals,
-        Section::Additional,
-        &mut message.additionals,
-    )?;
+    let ttls = set_ttls(alloc, now, &sets)?;
+    let timed = TimedSets {
+        moment: now,
+        sets: &sets,
+        ttls: &ttls,
+    };
+    mark_section(alloc, &timed, Section::Answer, &mut message.answers)?;
+    mark_section(alloc, &timed, Section::Authority, &mut message.authorities)?;
+    mark_section(alloc, &timed, Section::Additional, &mut message.additionals)?;
+    let chains = secure_chains(alloc, sets)?;
     Ok(DnsResponse {
         message,
         chains,
@@ -68,106 +48,38 @@ pub fn finished(
     })
 }
 
-// Parts sets from their chains, of which those of the Secure sets are kept, in order.
-fn parted(alloc: Global, sets: Vec<ChainedSet>) -> Result<(Vec<MarkedSet>, Vec<Chain>), NoMemory>
-    ensures sets { IfOk result (λ r. r.0.items ≡ bare sets.items) }
-    ensures chains { IfOk result (λ r. r.1.items ≡ chains_of sets.items) }
-{
-    let mut marked = Vec::new(alloc);
-    let mut chains = Vec::new(alloc);
-    for ChainedSet { judged, chain } in sets {
-        if judged.mark == Proof::Secure {
-            chains.push(Chain {
-                section: judged.section,
-                links: chain,
-            })?;
-        }
-        marked.push(judged)?;
-    }
-    Ok((marked, chains))
+// Judged sets, and the ttl that each leaves to its records at a moment, in seconds.
+#[derive(Clone, Copy)]
+struct TimedSets<'a> {
+    moment: u64,
+    sets: &'a [ChainedSet],
+    // by the numbers of the sets; None where each record keeps its own
+    ttls: &'a [Option<u32>],
 }
 
-// Marks the records of a section by the sets.
-fn mark_section(
-    alloc: Global,
-    now: u64,
-    sets: &[MarkedSet],
-    places: &SetPlaces,
-    section: Section,
-    records: &mut [Record],
-) -> Result<(), NoMemory>
-    requires { ArePlacedIn places.now section sets.now }
-    ensures { OnOk result (records.new ≡ marked_section now sets.now section records.old) }
+// The ttl that each of these sets leaves to its records.
+fn set_ttls(alloc: Global, now: u64, sets: &[ChainedSet]) -> Result<Vec<Option<u32>>, NoMemory>
+    ensures { IfOk result (λ v. v.items ≡ set_ttls_of now (bare sets.now)) }
 {
-    // how many signatures of each set were met
-    let mut counts = vec![in alloc; 0usize; sets.len()]?;
-    for next in records.iter_mut() {
-        mark(now, sets, places, section, &mut counts, next);
+    let mut ttls = Vec::new(alloc);
+    for set in sets {
+        let ttl = set_ttl(now, &set.judged);
+        ttls.push(ttl)?;
     }
-    Ok(())
+    Ok(ttls)
 }
 
-// Gives a record the mark of its set. Of a set's signatures only the one that decided has it, so they are counted.
-fn mark(
-    now: u64,
-    sets: &[MarkedSet],
-    places: &SetPlaces,
-    section: Section,
-    counts: &mut [usize],
-    next: &mut Record,
-)
-    requires placed { ArePlacedIn places.now section sets.now }
-    requires each { length counts.old ≡ length sets.now }
-    requires few { count_at counts.old (place_of places.now next.old.owner (set_rtype_of next.old)) < 2 ^ 63 }
-    ensures mark { next.new ≡ marked_by now
-        (count_at counts.old (place_of places.now next.old.owner (set_rtype_of next.old)))
-        next.old (find (is_about section next.old) sets.now) }
-    ensures counts { counts.new ≡ counted counts.old (place_of places.now next.old.owner (set_rtype_of next.old)) next.old }
-{
-    let (record_type, readable) = set_rtype(next);
-    match places.get(&next.name, record_type) {
-        Some(place) => {
-            mark_by(now, &sets[place], counts[place], next);
-            if readable {
-                counts[place] += 1;
-            }
-        }
-        None => clear_one(next),
-    }
-}
-
-// Gives a record the mark of this set; a signature, behind so many of the set, only where it is the one that decided.
-fn mark_by(now: u64, judged: &MarkedSet, before: usize, next: &mut Record)
-    ensures { next.new ≡ marked_by now before next.old (Some judged.now) }
-{
-    if next.record_type == RecordType::RRSIG && !is_place(judged.sig, before) {
-        clear_one(next);
-    } else {
-        next.ttl = adjusted_ttl(now, judged, next);
-        next.proof = judged.mark;
-    }
-}
-
-// Whether the signature that decided stands at a place.
-fn is_place(decided: Option<u32>, place: usize) -> bool
-    ensures { result ≡ is_same_place decided place }
-{
-    match decided {
-        Some(decider) => decider as usize == place,
-        None => false,
-    }
-}
-
-// The ttl of a record of this set: under the signature that decided a Secure set no more than it leaves.
-fn adjusted_ttl(now: u64, judged: &MarkedSet, next: &Record) -> u32
-    ensures { result ≡ adjusted_ttl_of now judged.now next.now }
+// The ttl that a set leaves to its records: under the signature that decided a Secure set no more than it leaves. Of another
+// set each record keeps its own.
+fn set_ttl(now: u64, judged: &MarkedSet) -> Option<u32>
+    ensures { result ≡ set_ttl_of now judged.now }
 {
     if judged.mark != Proof::Secure {
-        return next.ttl;
+        return None;
     }
     match decider(judged) {
-        Some(signature) => first_ttl(&judged.set.records).min(signed_ttl(signature, now)),
-        None => next.ttl,
+        Some(signature) => { Some(first_ttl(&judged.set.records).min(signed_ttl(signature, now))) }
+        None => None,
     }
 }
 
@@ -191,5 +103,87 @@ fn signed_ttl(signature: &Record, now: u64) -> u32
             sig.original_ttl.min(left)
         }
         None => 0,
+    }
+}
+
+// The chains of the Secure sets, in their order.
+fn secure_chains(alloc: Global, sets: Vec<ChainedSet>) -> Result<Vec<Chain>, NoMemory>
+    ensures { IfOk result (λ v. v.items ≡ chains_of sets.items) }
+{
+    let mut chains = Vec::new(alloc);
+    for ChainedSet { judged, chain } in sets {
+        if judged.mark == Proof::Secure {
+            chains.push(Chain {
+                section: judged.section,
+                links: chain,
+            })?;
+        }
+    }
+    Ok(chains)
+}
+
+// Marks the records of a section by the sets that stand in it.
+fn mark_section(
+    alloc: Global,
+    timed: &TimedSets<'_>,
+    section: Section,
+    records: &mut [Record],
+) -> Result<(), NoMemory>
+    requires { AreTimed timed.now }
+    ensures { OnOk result
+        (records.new ≡ marked_section timed.now.moment (bare timed.now.sets.now) section records.old) }
+{
+    let places = judged_places(alloc, timed.sets, section)?;
+    // how many signatures of each set were met
+    let mut counts = vec![in alloc; 0usize; timed.sets.len()]?;
+    for next in records.iter_mut() {
+        mark(timed, &places, &mut counts, next);
+    }
+    Ok(())
+}
+
+// Gives a record the mark of its set. Of a set's signatures only the one that decided has it, so they are counted.
+fn mark(timed: &TimedSets<'_>, places: &SetPlaces, counts: &mut [usize], next: &mut Record)
+    requires timed { AreTimed timed.now }
+    requires placed { (n : ℕ) → place_for places.now next.old ≡ Some n → n < length timed.now.sets.now }
+    requires each { length counts.old ≡ length timed.now.sets.now }
+    requires few { count_at counts.old (place_for places.now next.old) < 2 ^ 63 }
+    ensures mark { let place = place_for places.now next.old in
+        next.new ≡ marked_by timed.now.moment (count_at counts.old place) next.old (set_at (bare timed.now.sets.now) place) }
+    ensures counts { counts.new ≡ counted counts.old (place_for places.now next.old) next.old }
+{
+    let (record_type, readable) = set_rtype(next);
+    match places.get(&next.name, record_type) {
+        Some(place) => {
+            let set = &timed.sets[place];
+            mark_by(&set.judged, timed.ttls[place], counts[place], next);
+            if readable {
+                counts[place] += 1;
+            }
+        }
+        None => clear_one(next),
+    }
+}
+
+// Gives a record the mark of this set, and the ttl that the set leaves to it; a signature, behind so many of the set, only where
+// it is the one that decided.
+fn mark_by(judged: &MarkedSet, ttl: Option<u32>, before: usize, next: &mut Record)
+    ensures { next.new ≡ marked_with ttl before next.old judged.now }
+{
+    if next.record_type == RecordType::RRSIG && !is_place(judged.sig, before) {
+        clear_one(next);
+    } else {
+        next.ttl = ttl.unwrap_or(next.ttl);
+        next.proof = judged.mark;
+    }
+}
+
+// Whether the signature that decided stands at a place.
+fn is_place(decided: Option<u32>, place: usize) -> bool
+    ensures { result ≡ is_same_place decided place }
+{
+    match decided {
+        Some(decider) => decider as usize == place,
+        None => false,
     }
 }

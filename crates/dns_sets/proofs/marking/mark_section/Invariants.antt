@@ -1,10 +1,11 @@
 use Rattle.std.proofs.Common.{◌≡◌, ◌++◌, take, drop}
+use Rattle.dns_judgement.specs.Chained.{bare}
 use Rattle.dns_judgement.specs.Marking.{marked_section}
 use Rattle.dns_sets.specs.Counting.{AreCounted}
 use Rattle.dns_sets.proofs.marking.mark_section.Given as goal
 
 abbrev pub invariant-loop-next : goal.invariant-loop-next
 invariant-loop-next l = record {
-  records : l.records ≡ marked_section l.now l.sets l.section (take l.next-index l.initial.records) ++ drop l.next-index l.initial.records;
-  counts : AreCounted l.places l.sets l.counts.items (take l.next-index l.initial.records);
+  records : l.records ≡ marked_section l.timed.moment (bare l.timed.sets.now) l.fn.section (take l.next-index l.initial.records) ++ drop l.next-index l.initial.records;
+  counts : AreCounted l.places (bare l.timed.sets.now) l.counts.items (take l.next-index l.initial.records);
 }
