@@ -9,33 +9,17 @@ mod program;
 mod signing;
 mod texts;
 
-use dns_io::{InputSource, OutputSink};
+use dns_io::{InputSource, OutputSink, status, words_of};
 use program::run;
 use std::process::ExitCode;
-use std::{env, io};
 
-/// The words after the program's name.
-fn words_of(rt: &HostRuntime) -> io::Result<Vec<Vec<u8>>> {
-    let mut words = Vec::new(rt.alloc());
-    let mut args = env::args(rt)?;
-    args.next();
-    for word in args {
-        words.push(word.into_bytes())?;
-    }
-    Ok(words)
-}
-
-/// Words that can't be read are no form; for want of memory the status is 6.
+/// Words that can't be read are no form.
 fn main(rt: HostRuntime) -> ExitCode {
     let alloc = rt.alloc();
     let words = match words_of(&rt) {
-        Ok(words) => words,
-        Err(error) => {
-            if error.kind() == io::ErrorKind::OutOfMemory {
-                return ExitCode::from(6);
-            }
-            Vec::new(alloc)
-        }
+        Ok(Some(words)) => words,
+        Ok(None) => Vec::new(alloc),
+        Err(_) => return ExitCode::from(status::NO_MEMORY),
     };
     let mut input = InputSource::new(rt.stdin());
     let mut output = OutputSink::new(rt.stdout());

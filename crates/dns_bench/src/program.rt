@@ -3,9 +3,10 @@ ghost use Rattle.std.specs.Prelude.{◌≡◌, ◌≢◌, ◌≤◌, ◌<◌, �
 ghost use Rattle.std.specs.Io.KnownBytes.{Appends};
 ghost use Rattle.dns_model.specs.Counts.{Rose};
 ghost use Rattle.dns_io.specs.Reading.{input_limit, IsEnded};
-ghost use Rattle.dns_run.specs.Forms.{bad_words_text, too_long_text};
+ghost use Rattle.dns_io.specs.Writing.{WritesText};
+ghost use Rattle.dns_run.specs.Forms.{bad_words_text};
 ghost use Rattle.dns_run.specs.Outcomes.{Leaves, Refuses, Wrote};
-ghost use Rattle.dns_run.specs.Runs.{EndsByLength, WritesText};
+ghost use Rattle.dns_run.specs.Runs.{EndsByLength};
 ghost use Rattle.dns_bench.specs.SignedSet as set;
 ghost use Rattle.dns_bench.specs.Forms.{asked_form, signed_text};
 ghost use Rattle.dns_bench.specs.Outcomes.{HasCounted, HasLookedUp, NamesFrame, IsMeasured, IsRefused, LeavesCounts, LeavesPlace, reads_input};
@@ -16,51 +17,11 @@ use crate::frames::{FrameStop, messages_of};
 use crate::lookups::count_lookups;
 use crate::signing::signed_count;
 use crate::texts::{bad_frame_text, bad_line_text, counts_text, lookups_text, signed_text};
-use dns_io::{ReadStop, Sink, SinkFault, Source, read_all, write_all};
+use dns_io::status::{self, refuse_long, write_text};
+use dns_io::{ReadStop, Sink, Source, read_all};
 use dns_name::NoMemory;
 use dns_session::{SessionStop, read_session};
 use std::alloc::Global;
-
-// The status where a text wasn't written whole.
-fn sink_status(fault: SinkFault) -> u8
-    ensures failed { result ≡ 5 → fault ≡ SinkFault.Failed }
-    ensures least { 5 ≤ result }
-    ensures most { result ≤ 6 }
-{
-    match fault {
-        SinkFault::Failed => 5,
-        SinkFault::NoMemory => 6,
-    }
-}
-
-// Writes a text, and answers the status that is given, or why it wasn't written.
-fn write_text<W: Sink>(status: u8, text: &[u8], output: &mut W) -> u8
-    ensures written { result < 5 → Appends (W.taken output.old) (W.taken output.new) text.now }
-    ensures kept { result < 5 → result ≡ status }
-    ensures text { status < 5 → WritesText result status (W.taken output.old) (W.taken output.new) text.now }
-    ensures sink { result ≡ 5 → status < 5 → Rose (W.faults output.old) (W.faults output.new) }
-    ensures most { status < 5 → result ≤ 6 }
-    ensures later { W.faults output.old ≤ W.faults output.new }
-{
-    match write_all(output, text) {
-        Ok(()) => status,
-        Err(fault) => sink_status(fault),
-    }
-}
-
-// Says that the input is too long.
-fn refuse_long<W: Sink>(output: &mut W) -> u8
-    ensures written { result ≡ 7 → Appends (W.taken output.old) (W.taken output.new) too_long_text }
-    ensures sink { result ≡ 5 → Rose (W.faults output.old) (W.faults output.new) }
-    ensures least { 5 ≤ result }
-    ensures most { result ≤ 7 }
-    ensures later { W.faults output.old ≤ W.faults output.new }
-{
-    match write_all(output, b"input too long\n") {
-        Ok(()) => 7,
-        Err(fault) => sink_status(fault),
-    }
-}
 
 // Decodes the frames of the bytes so many times: what was counted, or which frame is cut off.
 fn decode(alloc: Global, passes: u32, bytes: &[u8]) -> Result<(u8, Vec<u8>), NoMemory>
@@ -73,11 +34,11 @@ fn decode(alloc: Global, passes: u32, bytes: &[u8]) -> Result<(u8, Vec<u8>), NoM
         Ok(messages) => {
             let counts = count_passes(alloc, passes, &messages)?;
             let text = counts_text(alloc, counts)?;
-            Ok((0, text))
+            Ok((status::DONE, text))
         }
         Err(FrameStop::CutOff(number)) => {
             let text = bad_frame_text(alloc, number)?;
-            Ok((3, text))
+            Ok((status::BAD_INPUT, text))
         }
         Err(FrameStop::NoMemory) => Err(NoMemory),
     }
@@ -94,11 +55,11 @@ fn look_up(alloc: Global, passes: u32, bytes: &[u8]) -> Result<(u8, Vec<u8>), No
         Ok(session) => {
             let counts = count_lookups(alloc, session, passes)?;
             let text = lookups_text(alloc, counts)?;
-            Ok((0, text))
+            Ok((status::DONE, text))
         }
         Err(SessionStop::BadLine(number)) => {
             let text = bad_line_text(alloc, number)?;
-            Ok((3, text))
+            Ok((status::BAD_INPUT, text))
         }
         Err(SessionStop::NoMemory) => Err(NoMemory),
     }
@@ -137,7 +98,7 @@ fn write_measured<W: Sink>(
 {
     match measure(alloc, work, passes, bytes) {
         Ok((status, text)) => write_text(status, &text, output),
-        Err(NoMemory) => 6,
+        Err(NoMemory) => status::NO_MEMORY,
     }
 }
 
@@ -165,9 +126,9 @@ fn read_and_measure<S: Source, W: Sink>(
 {
     match read_all(alloc, input) {
         Ok(bytes) => write_measured(alloc, work, passes, &bytes, output),
-        Err(ReadStop::Failed) => 4,
+        Err(ReadStop::Failed) => status::READ_FAILED,
         Err(ReadStop::TooLong) => refuse_long(output),
-        Err(ReadStop::NoMemory) => 6,
+        Err(ReadStop::NoMemory) => status::NO_MEMORY,
     }
 }
 
@@ -181,8 +142,8 @@ fn write_signed<W: Sink>(alloc: Global, records: u16, passes: u32, output: &mut 
     ensures later { W.faults output.old ≤ W.faults output.new }
 {
     match signed_words(alloc, records, passes) {
-        Ok(text) => write_text(0, &text, output),
-        Err(NoMemory) => 6,
+        Ok(text) => write_text(status::DONE, &text, output),
+        Err(NoMemory) => status::NO_MEMORY,
     }
 }
 
@@ -233,6 +194,6 @@ pub(crate) fn run<S: Source, W: Sink>(
     match form_of(words) {
         Some(Form::Reading(work, passes)) => read_and_measure(alloc, work, passes, input, output),
         Some(Form::Signed(records, passes)) => write_signed(alloc, records, passes, output),
-        None => write_text(2, b"bad words\n", output),
+        None => write_text(status::BAD_WORDS, b"bad words\n", output),
     }
 }

@@ -2,10 +2,9 @@
 use Rattle.std.proofs.Common.{◌≡◌, ◌+◌, ◌++◌, ◌<◌, replicate, ℕ, List, [], Option, None, Some, IfSome, length, sym, refl, append-nil, arith}
 use Rattle.std.proofs.lemmas.List.{length-replicate}
 use Rattle.std.specs.Io.KnownBytes.{Appends, Consumes}
-use Rattle.dns_io.specs.Reading.{input_limit, ReadsFront}
+use Rattle.dns_io.specs.Reading.{input_limit, too_long_text, ReadsFront}
 use Rattle.dns_io.specs.Writing.{TakesPrefix}
 use Rattle.dns_report.specs.declared.parts.Parts.{Parts}
-use Rattle.dns_run.specs.Forms.{too_long_text}
 use Rattle.dns_run.specs.Outcomes.{Wrote, Leaves, WrotePrefix, LeavesPrefix, ComesTo, Reports, Derives, Fails, Refuses, Reported, Failed, Refused, TooLong, Nothing}
 
 -- the bytes that were read are those that the source told

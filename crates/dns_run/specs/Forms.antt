@@ -43,9 +43,6 @@ version_text = codes "dns_check 0.1.0\n"
 abbrev pub bad_words_text : List ℕ
 bad_words_text = codes "bad words\n"
 
-abbrev pub too_long_text : List ℕ
-too_long_text = codes "input too long\n"
-
 -- `bad line N`
 abbrev pub bad_line_text : ℕ → List ℕ
 bad_line_text number = codes "bad line " ++ decimal number ++ 10 ∷ []

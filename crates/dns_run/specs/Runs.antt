@@ -8,23 +8,16 @@ use Rattle.dns_lookup.specs.Causes.{ends_trail, has_response, tells_nsec3}
 use Rattle.dns_report.specs.Faults.{fault_text}
 use Rattle.dns_session.specs.SessionValue.{SessionValue}
 use Rattle.dns_session.specs.Grammar.{session_of}
-use Rattle.dns_io.specs.Reading.{input_limit}
-use Rattle.dns_io.specs.Writing.{TakesPrefix}
+use Rattle.dns_io.specs.Reading.{input_limit, too_long_text}
+use Rattle.dns_io.specs.Writing.{WritesText}
 use Rattle.dns_run.specs.declared.form.Form.{Form}
 use Rattle.dns_run.specs.declared.form.Form.TheVariants.{Validate, Help, Version}
-use Rattle.dns_run.specs.Forms.{help_text, version_text, bad_words_text, bad_line_text, too_long_text}
+use Rattle.dns_run.specs.Forms.{help_text, version_text, bad_words_text, bad_line_text}
 use Rattle.dns_run.specs.Replies.{session_records}
 use Rattle.dns_run.specs.Causes.{HasNoMessage, HasForeign}
 use Rattle.dns_run.specs.Outcomes.{Leaves, Refuses}
 
 -- ---- by its words
-
--- a run that only writes a text: it ends with this status, which says that all was written, or at the sink or for want of memory,
--- after a prefix of the text
-pub record WritesText (status expected : ℕ) (before now : Option (List ℕ)) (text : List ℕ) : Type 0 where
-  pub ends : status ≢ 5 → status ≢ 6 → status ≡ expected
-  pub whole : status ≡ expected → Appends before now text
-  pub prefix : TakesPrefix before now text
 
 -- how words end that ask for a text, or for nothing; status 2 is for the latter alone
 abbrev pub EndsByWords : Option Form → ℕ → Option (List ℕ) → Option (List ℕ) → Type 0

@@ -2,49 +2,21 @@
 ghost use Rattle.std.specs.Prelude.{◌≡◌, ◌≢◌, ◌<◌, ◌≤◌, ◌+◌, length, Some, IfSome};
 ghost use Rattle.std.specs.Io.KnownBytes.{Appends};
 ghost use Rattle.dns_model.specs.Counts.{Rose};
-ghost use Rattle.dns_io.specs.Reading.{input_limit, IsEnded, ReadsFront};
-ghost use Rattle.dns_io.specs.Writing.{TakesPrefix};
+ghost use Rattle.dns_io.specs.Reading.{input_limit, too_long_text, IsEnded, ReadsFront};
 ghost use Rattle.dns_run.specs.Completing.{IsValid, EndsSecurely};
-ghost use Rattle.dns_run.specs.Forms.{AsksFor, asked_form, too_long_text};
+ghost use Rattle.dns_run.specs.Forms.{AsksFor, asked_form};
 ghost use Rattle.dns_run.specs.Outcomes.{Leaves, LeavesPrefix, Wrote, WrotePrefix, ComesTo, Reports, Derives, Fails, Refuses};
-ghost use Rattle.dns_run.specs.Runs.{EndsAsSession, EndsByGrammar, EndsByLength, EndsByWords, IfSession, WritesText};
+ghost use Rattle.dns_run.specs.Runs.{EndsAsSession, EndsByGrammar, EndsByLength, EndsByWords, IfSession};
 ghost use Rattle.dns_report.specs.declared.parts.Parts.{Parts};
 ghost use Rattle.dns_run.specs.declared.form.Form.TheVariants.{Validate};
 
 use crate::form::{Form, form_of, help_text, version_text};
 use crate::outcome::{Ending, session_ending};
-use dns_io::{ReadStop, Sink, SinkFault, Source, read_all, write_all};
+use dns_io::status::{self, refuse_long, write_text};
+use dns_io::{ReadStop, Sink, Source, read_all};
 use dns_name::NoMemory;
 use dns_report::Parts;
 use std::alloc::Global;
-
-/// The status where a text wasn't written whole.
-fn sink_status(fault: SinkFault) -> u8
-    ensures failed { result ≡ 5 → fault ≡ SinkFault.Failed }
-    ensures least { 5 ≤ result }
-    ensures most { result ≤ 6 }
-{
-    match fault {
-        SinkFault::Failed => 5,
-        SinkFault::NoMemory => 6,
-    }
-}
-
-/// Writes a text, and answers the status that is given, or why it wasn't written.
-fn write_text<W: Sink>(status: u8, text: &[u8], output: &mut W) -> u8
-    ensures written { result < 5 → Appends (W.taken output.old) (W.taken output.new) text.now }
-    ensures kept { result < 5 → result ≡ status }
-    ensures text { status < 5 → WritesText result status (W.taken output.old) (W.taken output.new) text.now }
-    ensures sink { result ≡ 5 → status < 5 → Rose (W.faults output.old) (W.faults output.new) }
-    ensures prefix { TakesPrefix (W.taken output.old) (W.taken output.new) text.now }
-    ensures most { status < 5 → result ≤ 6 }
-    ensures later { W.faults output.old ≤ W.faults output.new }
-{
-    match write_all(output, text) {
-        Ok(()) => status,
-        Err(fault) => sink_status(fault),
-    }
-}
 
 /// Answers the session that bytes are.
 #[tactic(auto, using(crate::proofs::OutcomeLemmas::report_prefix, crate::proofs::OutcomeLemmas::fault_prefix, crate::proofs::OutcomeLemmas::refused_prefix, crate::proofs::OutcomeLemmas::nothing_written))]
@@ -61,25 +33,10 @@ fn answer<W: Sink>(alloc: Global, shows: Parts, bytes: &[u8], output: &mut W) ->
     ensures later { W.faults output.old ≤ W.faults output.new }
 {
     match session_ending(alloc, shows, bytes) {
-        Ok((Ending::Report, text)) => write_text(0, &text, output),
-        Ok((Ending::Fault, text)) => write_text(1, &text, output),
-        Ok((Ending::BadLine, text)) => write_text(3, &text, output),
-        Err(NoMemory) => 6,
-    }
-}
-
-/// Says that the input is too long.
-fn refuse_long<W: Sink>(output: &mut W) -> u8
-    ensures written { result ≡ 7 → Appends (W.taken output.old) (W.taken output.new) too_long_text }
-    ensures sink { result ≡ 5 → Rose (W.faults output.old) (W.faults output.new) }
-    ensures prefix { TakesPrefix (W.taken output.old) (W.taken output.new) too_long_text }
-    ensures least { 5 ≤ result }
-    ensures most { result ≤ 7 }
-    ensures later { W.faults output.old ≤ W.faults output.new }
-{
-    match write_all(output, b"input too long\n") {
-        Ok(()) => 7,
-        Err(fault) => sink_status(fault),
+        Ok((Ending::Report, text)) => write_text(status::DONE, &text, output),
+        Ok((Ending::Fault, text)) => write_text(status::FAULT, &text, output),
+        Ok((Ending::BadLine, text)) => write_text(status::BAD_INPUT, &text, output),
+        Err(NoMemory) => status::NO_MEMORY,
     }
 }
 
@@ -105,9 +62,9 @@ fn validate<S: Source, W: Sink>(alloc: Global, shows: Parts, input: &mut S, outp
 {
     match read_all(alloc, input) {
         Ok(bytes) => answer(alloc, shows, &bytes, output),
-        Err(ReadStop::Failed) => 4,
+        Err(ReadStop::Failed) => status::READ_FAILED,
         Err(ReadStop::TooLong) => refuse_long(output),
-        Err(ReadStop::NoMemory) => 6,
+        Err(ReadStop::NoMemory) => status::NO_MEMORY,
     }
 }
 
@@ -180,8 +137,8 @@ pub fn run<S: Source, W: Sink>(
 {
     match form_of(words) {
         Some(Form::Validate(shows)) => validate(alloc, shows, input, output),
-        Some(Form::Help) => write_text(0, help_text(), output),
-        Some(Form::Version) => write_text(0, version_text(), output),
-        None => write_text(2, b"bad words\n", output),
+        Some(Form::Help) => write_text(status::DONE, help_text(), output),
+        Some(Form::Version) => write_text(status::DONE, version_text(), output),
+        None => write_text(status::BAD_WORDS, b"bad words\n", output),
     }
 }
