@@ -18,6 +18,7 @@ use Rattle.dns_run.proofs.JudgeLemmas.{judge_plain}
 use Rattle.dns_audit_trial.specs.declared.audit.Audited.{Audited}
 use Rattle.dns_audit_trial.specs.Audits.{audited_by, depth_of, response_in, session_audited, Responds}
 use Rattle.dns_audit_trial.specs.Forms.{audit_text, truth_line}
+use Rattle.dns_audit_trial.specs.LongChains.{is_long_chain_justified}
 use Rattle.dns_audit_trial.specs.Endings.{Audits, ComesTo, EndsAs, EndsTold, EndsUnread}
 
 -- ---- the response
@@ -102,8 +103,11 @@ pub ends_told : (left : Option (List ℕ)) (bytes : List ℕ) (status : ℕ) (be
 ends_told None bytes status before now same ends = tt
 ends_told (Some xs) bytes status before now same ends = rw (sym same) ends
 
--- the line of a truth value
-pub told_line : (status : ℕ) (told : Bool) (text : List ℕ) (before now : Option (List ℕ))
-    → status ≡ 0 → text ≡ truth_line told → Appends before now text → EndsTold status before now
-told_line status told text before now is spelled written =
-    record { told = told; status_is = is; written = subst (λ line. Appends before now line) spelled written }
+-- the line of what the check of a long chain told
+pub told_line : (signed status : ℕ) (told : Bool) (text : List ℕ) (before now : Option (List ℕ))
+    → status ≡ 0 → told ≡ is_long_chain_justified signed → text ≡ truth_line told → Appends before now text
+    → EndsTold signed status before now
+told_line signed status told text before now is tells spelled written = record {
+  status_is = is;
+  written = subst (λ line. Appends before now line) (spelled ∙ ap truth_line tells) written;
+}

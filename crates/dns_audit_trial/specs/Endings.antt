@@ -1,11 +1,12 @@
 -- How a run ends over a session, and over bytes that are none.
-use Rattle.std.specs.Prelude.{ℕ, ◌≡◌, Bool, List, codes, Option, Result, Ok, Err}
+use Rattle.std.specs.Prelude.{ℕ, ◌≡◌, List, codes, Option, Result, Ok, Err}
 use Rattle.std.specs.Option.{option_map}
 use Rattle.std.specs.Io.KnownBytes.{Appends}
 use Rattle.dns_model.specs.SoundAnswers.{ResponseValue}
 use Rattle.dns_session.specs.SessionValue.{SessionValue}
 use Rattle.dns_audit_trial.specs.Audits.{Responds, session_audited}
 use Rattle.dns_audit_trial.specs.Forms.{audit_text, truth_line}
+use Rattle.dns_audit_trial.specs.LongChains.{is_long_chain_justified}
 
 -- a session is answered, and the text says what the checks say of the response
 pub record Audits (s : SessionValue) (text : List ℕ) : Type 0 where
@@ -34,8 +35,7 @@ pub record EndsAs (told : Result SessionValue ℕ) (status : ℕ) (before now : 
   pub comes : ComesTo told status text
   pub written : Appends before now text
 
--- the status is 0, and a truth value was written
-pub record EndsTold (status : ℕ) (before now : Option (List ℕ)) : Type 0 where
-  pub told : Bool
+-- the status is 0, and it was written whether the chain with so many signed links is justified
+pub record EndsTold (signed status : ℕ) (before now : Option (List ℕ)) : Type 0 where
   pub status_is : status ≡ 0
-  pub written : Appends before now (truth_line told)
+  pub written : Appends before now (truth_line (is_long_chain_justified signed))

@@ -1,3 +1,4 @@
 pub mod Audits
 pub mod Forms
+pub mod LongChains
 pub mod Endings

@@ -1,5 +1,7 @@
 //! A chain that costs the most of the honest kinds: a key set of many anchored keys, and sets that its members signed.
-//! Nothing is said of how it is made; the check's own contract says what its answer is worth.
+ghost use Rattle.std.specs.Prelude.{◌≡◌, ◌++◌, IfOk, OnOk, map};
+ghost use Rattle.dns_evidence.specs.Link.{link_value};
+ghost use Rattle.dns_audit_trial.specs.LongChains.{anchored_link as anchored_link_of, each_below, is_long_chain_justified, key_set_link, long_links, member_anchors as member_anchors_of, member_key, member_rdata, member_signature, members, signed_link as signed_link_of};
 
 use dns_chain_check::check_chain;
 use dns_name::{Name, NoMemory, Octets};
@@ -16,9 +18,9 @@ const MEMBERS: u16 = 1000;
 struct Accepting;
 
 impl Verifier for Accepting {
-    ghost use Rattle.std.specs.Prelude.{true};
+    ghost use Rattle.dns_audit_trial.specs.LongChains.{accepting};
 
-    ghost answers = { λ v. record { supports = λ algorithm. true; accepts = λ algorithm key bytes signature. true } };
+    ghost answers = { λ v. accepting };
 
     fn supports(&self, _algorithm: u8) -> bool {
         true
@@ -34,19 +36,25 @@ impl Verifier for Accepting {
 }
 
 // The public key with this number.
-fn public_key(number: u16) -> [u8; 4] {
+fn public_key(number: u16) -> [u8; 4]
+    ensures { result ≡ member_key number }
+{
     let [high, low] = number.to_be_bytes();
     [0xaa, 0xbb, high, low]
 }
 
 // The rdata of this zone key of algorithm 13 (RFC 4034, 2.1).
-fn key_rdata(alloc: Global, number: u16) -> Result<Rdata, NoMemory> {
+fn key_rdata(alloc: Global, number: u16) -> Result<Rdata, NoMemory>
+    ensures { IfOk result (λ r. r ≡ member_rdata number) }
+{
     let [first, second, high, low] = public_key(number);
     Rdata::from_slice(alloc, &[1, 0, 3, 13, first, second, high, low])
 }
 
 // The rdata of a signature by this key over an address, from second 900 to second 2000 (RFC 4034, 3.1).
-fn signature_rdata(alloc: Global, number: u16) -> Result<Rdata, NoMemory> {
+fn signature_rdata(alloc: Global, number: u16) -> Result<Rdata, NoMemory>
+    ensures { IfOk result (λ r. r ≡ member_signature number) }
+{
     // the key's tag: the sum of its rdata in words of 16 bits (RFC 4034, B)
     let [high, low] = number.wrapping_add(0xaec8).to_be_bytes();
     Rdata::from_slice(
@@ -58,7 +66,10 @@ fn signature_rdata(alloc: Global, number: u16) -> Result<Rdata, NoMemory> {
 }
 
 // Trust in all members.
-fn member_anchors(alloc: Global) -> Result<TrustAnchors, NoMemory> {
+#[tactic(auto, using(crate::proofs::LongLemmas::anchors_none, crate::proofs::LongLemmas::anchors_more))]
+fn member_anchors(alloc: Global) -> Result<TrustAnchors, NoMemory>
+    ensures { IfOk result (λ a. a ≡ member_anchors_of members) }
+{
     let mut anchors = TrustAnchors::empty(alloc);
     for number in 0..MEMBERS {
         let key = Octets::from_slice(alloc, &public_key(number))?;
@@ -68,7 +79,10 @@ fn member_anchors(alloc: Global) -> Result<TrustAnchors, NoMemory> {
 }
 
 // A link for each member, by its anchor.
-fn anchored_links(alloc: Global) -> Result<Vec<Link>, NoMemory> {
+#[tactic(auto, using(crate::proofs::LongLemmas::each_none, crate::proofs::LongLemmas::link_more))]
+fn anchored_links(alloc: Global) -> Result<Vec<Link>, NoMemory>
+    ensures { IfOk result (λ v. map link_value v.items ≡ each_below anchored_link_of members) }
+{
     let mut links = Vec::new(alloc);
     for number in 0..MEMBERS {
         links.push(Link::Anchored {
@@ -81,7 +95,10 @@ fn anchored_links(alloc: Global) -> Result<Vec<Link>, NoMemory> {
 }
 
 // The key set of all members, which the first links show.
-fn key_set(alloc: Global) -> Result<Link, NoMemory> {
+#[tactic(auto, using(crate::proofs::LongLemmas::each_none, crate::proofs::LongLemmas::values_more))]
+fn key_set(alloc: Global) -> Result<Link, NoMemory>
+    ensures { IfOk result (λ l. link_value l ≡ key_set_link) }
+{
     let mut keys = Vec::new(alloc);
     let mut numbers = Vec::new(alloc);
     for number in 0..MEMBERS {
@@ -96,8 +113,11 @@ fn key_set(alloc: Global) -> Result<Link, NoMemory> {
     })
 }
 
-// An address of the root, which the member with this number signed.
-fn signed_link(alloc: Global, number: u16) -> Result<Link, NoMemory> {
+// An address of the root that the members signed in turn: the one with this number.
+fn signed_link(alloc: Global, number: u32) -> Result<Link, NoMemory>
+    ensures { IfOk result (λ l. link_value l ≡ signed_link_of number) }
+{
+    let member = (number % u32::from(MEMBERS)) as u16;
     let mut rdatas = Vec::new(alloc);
     rdatas.push(Rdata::from_slice(alloc, &[192, 0, 2, 1])?)?;
     Ok(Link::Signed {
@@ -105,19 +125,31 @@ fn signed_link(alloc: Global, number: u16) -> Result<Link, NoMemory> {
         class: DNSClass::IN,
         record_type: RecordType::A,
         rdatas,
-        sig: signature_rdata(alloc, number)?,
+        sig: signature_rdata(alloc, member)?,
         key_link: u32::from(MEMBERS),
-        key: key_rdata(alloc, number)?,
+        key: key_rdata(alloc, member)?,
     })
 }
 
+// Links to so many sets that the members signed, behind others.
+#[tactic(auto, using(crate::proofs::LongLemmas::front_none, crate::proofs::LongLemmas::links_more))]
+fn push_signed(alloc: Global, links: &mut Vec<Link>, signed: u32) -> Result<(), NoMemory>
+    ensures { OnOk result (map link_value links.new.items ≡ map link_value links.old.items ++ each_below signed_link_of signed) }
+{
+    for number in 0..signed {
+        links.push(signed_link(alloc, number)?)?;
+    }
+    Ok(())
+}
+
 // The members, their set, and so many sets that they signed, each by the next member.
-fn long_chain(alloc: Global, signed: u32) -> Result<Chain, NoMemory> {
+#[tactic(auto, using(crate::proofs::LongLemmas::links_joined))]
+fn long_chain(alloc: Global, signed: u32) -> Result<Chain, NoMemory>
+    ensures { IfOk result (λ c. c.links ≡ long_links signed) }
+{
     let mut links = anchored_links(alloc)?;
     links.push(key_set(alloc)?)?;
-    for number in 0..signed {
-        links.push(signed_link(alloc, (number % 1000) as u16)?)?;
-    }
+    push_signed(alloc, &mut links, signed)?;
     Ok(Chain {
         section: Section::Answer,
         links,
@@ -125,7 +157,10 @@ fn long_chain(alloc: Global, signed: u32) -> Result<Chain, NoMemory> {
 }
 
 /// Whether a chain of so many signed links, with those to the keys before them, is justified.
-pub(crate) fn is_long_chain_justified(alloc: Global, signed: u32) -> Result<bool, NoMemory> {
+#[tactic(auto, using(crate::proofs::LongLemmas::long_told))]
+pub(crate) fn is_long_chain_justified(alloc: Global, signed: u32) -> Result<bool, NoMemory>
+    ensures { IfOk result (λ b. b ≡ is_long_chain_justified signed) }
+{
     let anchors = member_anchors(alloc)?;
     let chain = long_chain(alloc, signed)?;
     check_chain(alloc, &anchors, &Accepting, 1000, &chain)

@@ -13,7 +13,8 @@ use crate::audit::{response_to, session_audited};
 use crate::form::{Form, form_of};
 use crate::growth::is_long_chain_justified;
 use crate::texts::{audit_text, truth_line};
-use dns_io::{ReadStop, Sink, SinkFault, Source, read_all, write_all};
+use dns_io::status::{self, read_status, write_text};
+use dns_io::{Sink, Source, read_all};
 use dns_name::NoMemory;
 use dns_session::{Session, SessionStop, read_session};
 use std::alloc::Global;
@@ -56,7 +57,7 @@ fn unread(alloc: Global) -> Result<(u8, Vec<u8>), NoMemory>
     ensures { IfOk result (λ x. EndsUnread x.0 x.1.items) }
 {
     let text = Vec::from_slice(alloc, b"no session\n")?;
-    Ok((3, text))
+    Ok((status::BAD_INPUT, text))
 }
 
 // The status and the text that bytes come to.
@@ -74,7 +75,7 @@ fn ending(alloc: Global, more: u32, bytes: &[u8]) -> Result<(u8, Vec<u8>), NoMem
         return unread(alloc);
     };
     let text = session_text(alloc, session, same, more)?;
-    Ok((0, text))
+    Ok((status::DONE, text))
 }
 
 // Writes what bytes come to.
@@ -88,12 +89,8 @@ fn answer<W: Sink>(alloc: Global, more: u32, bytes: &[u8], output: &mut W) -> u8
     ensures most { result ≤ 6 }
 {
     match ending(alloc, more, bytes) {
-        Ok((status, text)) => match write_all(output, &text) {
-            Ok(()) => status,
-            Err(SinkFault::Failed) => 5,
-            Err(SinkFault::NoMemory) => 6,
-        },
-        Err(NoMemory) => 6,
+        Ok((status, text)) => write_text(status, &text, output),
+        Err(NoMemory) => status::NO_MEMORY,
     }
 }
 
@@ -111,38 +108,21 @@ fn audit<S: Source, W: Sink>(alloc: Global, more: u32, input: &mut S, output: &m
 {
     match read_all(alloc, input) {
         Ok(bytes) => answer(alloc, more, &bytes, output),
-        Err(ReadStop::Failed) => 4,
-        Err(ReadStop::TooLong) => 7,
-        Err(ReadStop::NoMemory) => 6,
-    }
-}
-
-// Writes a text, and answers the status that is given, or why it wasn't written.
-fn write_text<W: Sink>(status: u8, text: &[u8], output: &mut W) -> u8
-    ensures written { result < 4 → Appends (W.taken output.old) (W.taken output.new) text.now }
-    ensures kept { status < 4 → result < 4 → result ≡ status }
-    ensures read { status < 4 → result ≢ 4 }
-    ensures sink { status < 4 → result ≡ 5 → Rose (W.faults output.old) (W.faults output.new) }
-    ensures most { status < 4 → result ≤ 6 }
-{
-    match write_all(output, text) {
-        Ok(()) => status,
-        Err(SinkFault::Failed) => 5,
-        Err(SinkFault::NoMemory) => 6,
+        Err(stop) => read_status(stop),
     }
 }
 
 // Checks a chain of so many signed links, and writes whether it is justified.
 #[tactic(auto, using(crate::proofs::AuditLemmas::told_line))]
 fn check_long_chain<W: Sink>(alloc: Global, signed: u32, output: &mut W) -> u8
-    ensures told { result < 4 → EndsTold result (W.taken output.old) (W.taken output.new) }
+    ensures told { result < 4 → EndsTold signed result (W.taken output.old) (W.taken output.new) }
     ensures read { result ≢ 4 }
     ensures sink { result ≡ 5 → Rose (W.faults output.old) (W.faults output.new) }
     ensures most { result ≤ 6 }
 {
     match is_long_chain_justified(alloc, signed) {
-        Ok(justified) => write_text(0, truth_line(justified), output),
-        Err(NoMemory) => 6,
+        Ok(justified) => write_text(status::DONE, truth_line(justified), output),
+        Err(NoMemory) => status::NO_MEMORY,
     }
 }
 
@@ -166,7 +146,7 @@ pub(crate) fn run<S: Source, W: Sink>(
     ensures ended { (more : ℕ) → asked_form words.now ≡ Some (Audit more) → result < 4
         → IsEnded (S.left input.old) (S.left input.new) }
     ensures chains { (signed : ℕ) → asked_form words.now ≡ Some (Chains signed) → result < 4
-        → EndsTold result (W.taken output.old) (W.taken output.new) }
+        → EndsTold signed result (W.taken output.old) (W.taken output.new) }
 
     // 2 is answered only for words that are no form, and where such words end below 4, that is told.
     ensures words { result ≡ 2 → asked_form words.now ≡ None }
@@ -186,6 +166,6 @@ pub(crate) fn run<S: Source, W: Sink>(
     match form_of(words) {
         Some(Form::Audit(more)) => audit(alloc, more, input, output),
         Some(Form::Chains(signed)) => check_long_chain(alloc, signed, output),
-        None => write_text(2, b"bad words\n", output),
+        None => write_text(status::BAD_WORDS, b"bad words\n", output),
     }
 }
