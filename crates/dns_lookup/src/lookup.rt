@@ -107,15 +107,15 @@ pub(crate) fn look_up_by_request<H: DnsHandle, V: Verifier>(
 }
 
 // The error that names a record of another class.
-fn foreign_error(record: &Record) -> NetError
+fn foreign_error(foreign: &Record) -> NetError
     ensures { (result ≡ NetError.NoMemory)
-        ⊎ (error_of result ≡ seen.ForeignClassRecord record.now.owner record.now.class record.now.rtype) }
+        ⊎ (error_of result ≡ seen.ForeignClassRecord foreign.now.owner foreign.now.class foreign.now.rtype) }
 {
-    match record.name.try_clone() {
+    match foreign.name.try_clone() {
         Ok(record_name) => NetError::ForeignClassRecord {
             record_name,
-            record_class: record.dns_class,
-            record_type: record.record_type,
+            record_class: foreign.dns_class,
+            record_type: foreign.record_type,
         },
         Err(_) => NetError::NoMemory,
     }

@@ -125,13 +125,13 @@ pub(crate) fn foreign_of(query: &Query, message: &Message) -> Result<Option<Endi
 }
 
 // The ending that names a record of another class.
-fn foreign_by(record: &Record) -> Result<Ending, NoMemory>
-    ensures { IfOk result (λ e. ending_value e ≡ foreign_ending record.now) }
+fn foreign_by(foreign: &Record) -> Result<Ending, NoMemory>
+    ensures { IfOk result (λ e. ending_value e ≡ foreign_ending foreign.now) }
 {
-    let owner = record.name.try_clone()?;
+    let owner = foreign.name.try_clone()?;
     Ok(Ending::Foreign {
         owner,
-        class: record.dns_class,
-        record_type: record.record_type,
+        class: foreign.dns_class,
+        record_type: foreign.record_type,
     })
 }
