@@ -10,7 +10,7 @@ use dns_trust::Judge;
 use std::alloc::Global;
 
 /// How many sends one lookup makes at the most.
-pub(crate) const MOST_SENDS: u32 = 1024;
+pub(crate) const MOST_SENDS: u32 = dns_trail_order::MOST_SENDS as u32;
 
 /// The context of a lookup: what stays the same over all of its asks.
 #[derive(Drop)]
@@ -36,7 +36,7 @@ pub(crate) struct Progress {
 pub(crate) fn depth_limit_of(options: &DnsRequestOptions) -> u16
     ensures { result ≡ depth_limit options.now.max_request_depth }
 {
-    options.max_request_depth.min(255)
+    dns_trail_order::depth_limit(options.max_request_depth)
 }
 
 /// The request of an ask whose reply is judged (RFC 4035, 4.1; RFC 6840, 5.7) or only seen.

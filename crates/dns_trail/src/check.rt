@@ -39,5 +39,5 @@ pub fn check_trail<V: Verifier>(
 fn limit_of(limits: &Limits) -> u16
     ensures { result ≡ depth_limit limits.now.depth }
 {
-    limits.depth.min(255)
+    dns_trail_order::depth_limit(limits.depth)
 }
