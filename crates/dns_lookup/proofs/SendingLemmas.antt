@@ -7,7 +7,7 @@ use Rattle.dns_model.proofs.SetLemmas.{number_refl, number_same}
 use Rattle.dns_handle.specs.Errors as seen
 use Rattle.dns_handle.specs.Errors.{Message}
 use Rattle.dns_handle.specs.Replies.{reply_of}
-use Rattle.dns_handle.specs.Requests.{RequestValue, first_question, query_message, request_of}
+use Rattle.dns_handle.specs.Requests.{RequestValue, first_question, plain_options, query_message, request_of}
 use Rattle.dns_handle.specs.declared.error.NetError.{NetError}
 use Rattle.dns_handle.specs.declared.handle.DnsHandle as handle
 use Rattle.dns_handle.specs.declared.notice.Notice.TheVariants.{NoQueryInRequest}
@@ -31,7 +31,7 @@ use Rattle.dns_lookup.proofs.UnjudgedLemmas.{lookup_unjudged, lookup_judged}
 -- an OPT record by options, to be validated
 edns_checked : (uses dnssec_ok : Bool) (payload : ℕ)
     → checked_edns (if uses then Some (record { max_payload = payload; version = 0; dnssec_ok = dnssec_ok; flags = 0; options = [] }) else None)
-    ≡ record { max_payload = if uses then payload else 1232; version = 0; dnssec_ok = true; flags = 0; options = [] }
+    ≡ record { max_payload = if uses then payload else plain_options.edns_payload_len; version = 0; dnssec_ok = true; flags = 0; options = [] }
 edns_checked true dnssec_ok payload = refl
 edns_checked false dnssec_ok payload = refl
 

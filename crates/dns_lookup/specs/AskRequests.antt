@@ -1,7 +1,7 @@
 -- The asks of a lookup and their requests (RFC 4035, 4.1, 4.6 and 4.9.2; RFC 6840, 5.7).
 use Rattle.std.specs.Prelude.{Bool, true, None, if◌then◌else◌}
 use Rattle.dns_model.specs.Records.{Question}
-use Rattle.dns_handle.specs.Requests.{RequestValue, query_message, request_of}
+use Rattle.dns_handle.specs.Requests.{RequestValue, plain_options, query_message, request_of}
 use Rattle.dns_handle.specs.declared.request.DnsRequestOptions.{DnsRequestOptions}
 
 -- an ask: its question, and whether its reply is judged or only seen
@@ -12,11 +12,11 @@ pub record Ask : Type 0 where
 abbrev pub judged_ask : Question → Ask
 judged_ask q = record { query = q; judged = true }
 
--- the options of a judged ask: those of the call, with EDNS and DO
+-- the options of a judged ask: those of the call, with EDNS and DO, and with the default payload where they had no EDNS
 abbrev pub asking_options : DnsRequestOptions → DnsRequestOptions
 asking_options options = record options {
   use_edns = true;
-  edns_payload_len = if options.use_edns then options.edns_payload_len else 1232;
+  edns_payload_len = if options.use_edns then options.edns_payload_len else plain_options.edns_payload_len;
   edns_set_dnssec_ok = true;
 }
 

@@ -6,7 +6,7 @@ use Rattle.dns_model.specs.Chains.{Judge, judge}
 use Rattle.dns_handle.specs.Errors as seen
 use Rattle.dns_handle.specs.Errors.{Reply, Message}
 use Rattle.dns_handle.specs.Causes.{faults_after}
-use Rattle.dns_handle.specs.Requests.{RequestValue, first_question}
+use Rattle.dns_handle.specs.Requests.{RequestValue, plain_options, first_question}
 use Rattle.dns_handle.specs.declared.handle.DnsHandle as handle
 use Rattle.dns_handle.specs.declared.notice.Notice.TheVariants.{NoQueryInRequest}
 use Rattle.dns_evidence.specs.declared.verifier.Verifier as verifier
@@ -23,9 +23,9 @@ use Rattle.dns_lookup.specs.declared.handle.DnssecDnsHandle.{DnssecDnsHandle}
 
 -- ---- the request that is sent
 
--- an OPT record with DO: the request's own, or else one for 1,232 bytes
+-- an OPT record with DO: the request's own, or else one with the default payload, 1,232 bytes
 abbrev pub checked_edns : Option EdnsValue → EdnsValue
-checked_edns None = record { max_payload = 1232; version = 0; dnssec_ok = true; flags = 0; options = [] }
+checked_edns None = record { max_payload = plain_options.edns_payload_len; version = 0; dnssec_ok = true; flags = 0; options = [] }
 checked_edns (Some edns) = record edns { dnssec_ok = true }
 
 -- the request with EDNS and DO, AD set and CD clear, and with the options of a judged ask; all else stays

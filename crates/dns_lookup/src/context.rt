@@ -1,6 +1,6 @@
 ghost use Rattle.std.specs.Prelude.{◌≡◌, IfOk};
 ghost use Rattle.dns_judgement.specs.Asking.{depth_limit};
-ghost use Rattle.dns_handle.specs.Requests.{request_of};
+ghost use Rattle.dns_handle.specs.Requests.{plain_options, request_of};
 ghost use Rattle.dns_lookup.specs.AskRequests.{asking_options, asking_request, request_for as request_by};
 
 use dns_handle::{Asked, DnsRequest, DnsRequestOptions};
@@ -8,9 +8,6 @@ use dns_name::NoMemory;
 use dns_record::Query;
 use dns_trust::Judge;
 use std::alloc::Global;
-
-/// How many sends one lookup makes at the most.
-pub(crate) const MOST_SENDS: u32 = dns_trail_order::MOST_SENDS as u32;
 
 /// The context of a lookup: what stays the same over all of its asks.
 #[derive(Drop)]
@@ -29,7 +26,7 @@ pub(crate) struct Progress {
     /// The steps that have ended, nested ones before their asker.
     pub(crate) steps: Vec<Asked>,
     /// How many sends were made.
-    pub(crate) sends: u32,
+    pub(crate) sends: usize,
 }
 
 /// How deep the asks of a call go: at most as deep as its options say, and never deeper than 255.
@@ -88,9 +85,16 @@ pub(crate) fn asking_options_of(options: &DnsRequestOptions) -> DnsRequestOption
 {
     let mut asking = *options;
     if !options.use_edns {
-        asking.edns_payload_len = 1232;
+        asking.edns_payload_len = default_payload();
     }
     asking.use_edns = true;
     asking.edns_set_dnssec_ok = true;
     asking
+}
+
+/// The payload of an OPT record that a request didn't have, in bytes: that of the default options.
+pub(crate) fn default_payload() -> u16
+    ensures { result ≡ plain_options.edns_payload_len }
+{
+    DnsRequestOptions::default().edns_payload_len
 }

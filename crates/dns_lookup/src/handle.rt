@@ -1,4 +1,4 @@
-ghost use Rattle.std.specs.Prelude.{◌≡◌, ◌≤◌, IfOk, true, false};
+ghost use Rattle.std.specs.Prelude.{◌≡◌, ◌≤◌, IsOk, IfOk, true, false};
 ghost use Rattle.dns_handle.specs.Replies.{reply_of};
 ghost use Rattle.dns_handle.specs.Handles.{OrUnsent};
 ghost use Rattle.dns_lookup.specs.Calls.{Asking};
@@ -38,6 +38,7 @@ impl<H: DnsHandle + Drop, V: Verifier + Drop> DnssecDnsHandle<H, V> {
 
     /// A validator that trusts these anchors and tests signatures by this verifier.
     pub fn new(handle: H, anchors: TrustAnchors, verifier: V) -> Result<Self, NoMemory>
+        ensures made { IsOk result }
         ensures handle { IfOk result (λ h. inner_of h ≡ handle) }
         ensures anchors { IfOk result (λ h. anchors_of h ≡ anchors) }
         ensures verifier { IfOk result (λ h. verifier_of h ≡ verifier) }
@@ -59,6 +60,7 @@ impl<H: DnsHandle + Drop, V: Verifier + Drop> DnssecDnsHandle<H, V> {
         anchors: TrustAnchors,
         verifier: V,
     ) -> Result<Self, NoMemory>
+        ensures made { IsOk result }
         ensures handle { IfOk result (λ h. inner_of h ≡ handle) }
         ensures anchors { IfOk result (λ h. anchors_of h ≡ anchors) }
         ensures verifier { IfOk result (λ h. verifier_of h ≡ verifier) }

@@ -11,7 +11,7 @@ ghost use Rattle.dns_judgement.specs.Derivation.{sight_of};
 ghost use Rattle.dns_judgement.specs.Unsigned.{has_ns as shows_ns};
 ghost use Rattle.dns_lookup.specs.Walking.{grounds_at, sight_value, IsCounted, IsSeen, IsWay, HasSent, Walk};
 
-use crate::context::{LookupContext, MOST_SENDS, Progress};
+use crate::context::{LookupContext, Progress};
 use crate::finished::seen;
 use crate::receiving::{ReceivedMessage, receive};
 use crate::steps::records_of;
@@ -19,6 +19,7 @@ use dns_handle::{AskRef, DnsHandle, Ending, Reply, Verifier};
 use dns_message::Message;
 use dns_name::{Name, NoMemory};
 use dns_record::{DNSClass, Query};
+use dns_trail_order::MOST_SENDS;
 use dns_trust::{is_ns_of, ns_query};
 
 /// Where the plain asks of a search lead.

@@ -6,7 +6,7 @@ ghost use Rattle.dns_handle.specs.Replies.{reply_of};
 ghost use Rattle.dns_handle.specs.Requests.{first_question};
 ghost use Rattle.dns_lookup.specs.Sending.{checked_edns, checked_request, AnswersRequest};
 
-use crate::context::{LookupContext, asking_options_of, depth_limit_of};
+use crate::context::{LookupContext, asking_options_of, default_payload, depth_limit_of};
 use crate::lookup::look_up_by_request;
 use dns_handle::{
     DnsHandle, DnsRequest, DnsRequestOptions, DnsResponse, NetError, Notice, Verifier,
@@ -105,7 +105,7 @@ fn with_do(alloc: Global, edns: Option<Edns>) -> Edns
 {
     match edns {
         None => Edns {
-            max_payload: 1232,
+            max_payload: default_payload(),
             version: 0,
             dnssec_ok: true,
             flags: 0,

@@ -11,7 +11,7 @@ ghost use Rattle.dns_anchors.specs.Judge.{judge_of};
 ghost use Rattle.dns_trust.specs.Verdicts.{verdict_value, listed};
 ghost use Rattle.dns_lookup.specs.Walking.{grounds_at, IsCounted, HasSent, Walk, IsJudgement, IsJudgedSet, AreTried, IsTried, IsAnswer, IsSearched, IsConcluded, IsReviewed, asks_in};
 
-use crate::context::{LookupContext, MOST_SENDS, Progress};
+use crate::context::{LookupContext, Progress};
 use crate::finished::{Finished, answered, faulted, refused, unanswered};
 use crate::judging::{
     Concluded, Judgement, OneSet, Searched, Tried, Verdicts, add_ask, class_of, is_key_set, set_of,
@@ -25,6 +25,7 @@ use dns_name::{Name, NoMemory};
 use dns_rdata::Rrsig;
 use dns_record::{DNSClass, Proof, Query, Record, RecordSet};
 use dns_sets::{Outcome, PlacedSet, outcome_by_zone, outcome_of, placed_sets};
+use dns_trail_order::MOST_SENDS;
 use dns_trust::{
     KeysStep, ask_of, ds_ask_of, ds_query, first_signatures, is_searched, is_skipped, judged_by,
     judged_by_ds, judged_keys, question_start, set_start, unsigned_by, verdict_of, zone_mark,
