@@ -1,4 +1,4 @@
--- What a lookup's answer denies, and the steps of its trail: by the law on derivations.
+-- How its trail explains a lookup's answer, and what the answer denies: by the laws on derivations.
 use Rattle.std.proofs.Common.{◌≡◌, [], ◌∷◌, Result, Ok, Err, IfOk, refl, sym, ap, subst}
 use Rattle.dns_model.specs.declared.denial.Denial.{Denial}
 use Rattle.dns_model.specs.SoundAnswers.{told_by, ResponseValue}
@@ -10,16 +10,17 @@ use Rattle.dns_judgement.specs.Marking.{marked_told}
 use Rattle.dns_judgement.proofs.DerivationLemmas.{top_step_is}
 use Rattle.dns_laws.specs.Denials.{ShowsDenial, StepDenies, HasDenials}
 use Rattle.dns_laws.proofs.DenialLemmas.{denials_hold}
+use Rattle.dns_laws.proofs.GroundLemmas.{insecure_is_grounded}
 use Rattle.dns_laws.proofs.SignatureDenials.{denies_by_records}
 use Rattle.dns_handle.specs.Errors.{Reply}
 use Rattle.dns_handle.specs.Replies.{reply_of}
 use Rattle.dns_handle.specs.declared.error.NetError.{NetError}
 use Rattle.dns_handle.specs.declared.handle.DnsHandle as handle
 use Rattle.dns_lookup.specs.Calls.{Call}
-use Rattle.dns_lookup.specs.LookupAnswers.{UnlessNoMemory, OfAnswer, ShowsItsDenial}
+use Rattle.dns_lookup.specs.LookupAnswers.{UnlessNoMemory, OfAnswer, IsExplained, ShowsItsDenial}
 use Rattle.dns_lookup.specs.Answering.{top_of, Findings, trail_of, Found, AnswersLookup}
 use Rattle.dns_lookup.proofs.LookupAnswerLemmas.{of_result}
-use Rattle.dns_lookup.proofs.TopLemmas.{found_trail, found_grouped}
+use Rattle.dns_lookup.proofs.TopLemmas.{found_trail, found_marks, found_grouped}
 
 -- the steps of what was found show what they deny
 found_denials : {H : Type 0} (meanings : handle.Ghosts H) (call : Call H) (found : Findings) (ending : EndingValue) → Found meanings call found
@@ -28,13 +29,26 @@ found_denials meanings call found ending f ends =
     let trail = (found_trail meanings call found ending f ends).is in
     denials_hold call.judge call.options.max_request_depth (trail_of call.query found ending) trail.derived
 
-pub lookup_denials : {H : Type 0} (meanings : handle.Ghosts H) (call : Call H) (result : Result ResponseValue NetError)
-    → UnlessNoMemory result (AnswersLookup meanings call (reply_of result)) → OfAnswer (reply_of result) (λ a ending. HasDenials a.trail)
-lookup_denials meanings call result lookup =
-    of_result meanings call (λ a ending. HasDenials a.trail) result
-    (record { each = λ found d ending f ends other. found_denials meanings call found ending f ends }) lookup
+-- its trail explains the answer
+found_explained : {H : Type 0} (meanings : handle.Ghosts H) (call : Call H) (found : Findings) (d : Denial) (ending : EndingValue) → Found meanings call found
+    → ending ≡ ending_by found.outcome
+    → IsExplained call.judge.answers call.now (finished call.now found.sets found.message d (trail_of call.query found ending))
+found_explained meanings call found d ending f ends =
+    let trail = (found_trail meanings call found ending f ends).is in
+    record {
+      marks = found_marks meanings call found d ending f;
+      grounds = insecure_is_grounded call.judge call.options.max_request_depth (trail_of call.query found ending) trail.derived;
+      denials = found_denials meanings call found ending f ends;
+    }
 
--- and so does the last one, whose denial is the answer's
+pub lookup_explained : {H : Type 0} (meanings : handle.Ghosts H) (call : Call H) (result : Result ResponseValue NetError)
+    → UnlessNoMemory result (AnswersLookup meanings call (reply_of result))
+    → OfAnswer (reply_of result) (λ a ending. IsExplained call.judge.answers call.now a)
+lookup_explained meanings call result lookup =
+    of_result meanings call (λ a ending. IsExplained call.judge.answers call.now a) result
+    (record { each = λ found d ending f ends other. found_explained meanings call found d ending f ends }) lookup
+
+-- the last step shows what it denies, and its denial is the answer's
 found_denies : {H : Type 0} (meanings : handle.Ghosts H) (call : Call H) (found : Findings) (d : Denial) (ending : EndingValue) → Found meanings call found
     → ending ≡ ending_by found.outcome → ending ≡ Answered d
     → ShowsItsDenial call.now call.query (finished call.now found.sets found.message d (trail_of call.query found ending))

@@ -15,8 +15,6 @@ use Rattle.dns_handle.specs.Errors.{Reply, ErrorValue, Busy, Dns, Message, Msg, 
 use Rattle.dns_handle.specs.Replies.{reply_of, error_of}
 use Rattle.dns_handle.specs.declared.error.NetError.{NetError}
 use Rattle.dns_handle.specs.declared.handle.DnsHandle as handle
-use Rattle.dns_laws.specs.Ground.{HasGrounds}
-use Rattle.dns_laws.proofs.GroundLemmas.{insecure_is_grounded}
 use Rattle.dns_lookup.specs.Received.{received_message, no_records_message}
 use Rattle.dns_lookup.specs.Calls.{Call}
 use Rattle.dns_lookup.specs.LookupAnswers.{UnlessNoMemory, OfAnswer, IsSoundAnswer, IsTrail, HasMarksOfTrail, DeniesQuery}
@@ -104,18 +102,6 @@ pub lookup_trail : {H : Type 0} (meanings : handle.Ghosts H) (call : Call H) (re
 lookup_trail meanings call result lookup =
     of_result meanings call (λ a ending. IsTrail meanings call a.trail ending) result
     (record { each = λ found d ending f ends other. (found_trail meanings call found ending f ends).is }) lookup
-
--- what holds of each derivation holds of the trail
-pub lookup_ground : {H : Type 0} (meanings : handle.Ghosts H) (call : Call H) (result : Result ResponseValue NetError)
-    → UnlessNoMemory result (AnswersLookup meanings call (reply_of result))
-    → OfAnswer (reply_of result) (λ a ending. HasGrounds call.judge.answers a.trail)
-lookup_ground meanings call result lookup =
-    of_result meanings call (λ a ending. HasGrounds call.judge.answers a.trail) result
-    (record {
-      each = λ found d ending f ends other.
-          let trail = (found_trail meanings call found ending f ends).is in
-          insecure_is_grounded call.judge call.options.max_request_depth (trail_of call.query found ending) trail.derived;
-    }) lookup
 
 pub lookup_marks : {H : Type 0} (meanings : handle.Ghosts H) (call : Call H) (result : Result ResponseValue NetError)
     → UnlessNoMemory result (AnswersLookup meanings call (reply_of result)) → OfAnswer (reply_of result) (λ a ending. HasMarksOfTrail call.now a)

@@ -19,12 +19,12 @@ use Rattle.dns_lookup.specs.LookupAnswers.{UnlessNoMemory}
 use Rattle.dns_lookup.specs.Sending.{checked_edns, checked_request, call_for, IsLookedUp, AnswersRequest, Goes, Refused, LookedUp, Unsent}
 use Rattle.dns_lookup.specs.Sends.{SendsBy}
 use Rattle.dns_lookup.proofs.CompletingLemmas.{lookup_completes}
-use Rattle.dns_lookup.proofs.CauseLemmas.{no_both, lookup_passed, lookup_passes}
-use Rattle.dns_lookup.proofs.ForeignLemmas.{lookup_foreign, lookup_names_foreign, lookup_judges}
-use Rattle.dns_lookup.proofs.LookupAnswerLemmas.{or_memory, lookup_sound, lookup_trail, lookup_ground, lookup_marks, lookup_denied}
+use Rattle.dns_lookup.proofs.CauseLemmas.{no_both, lookup_passes}
+use Rattle.dns_lookup.proofs.ForeignLemmas.{lookup_names_foreign, lookup_judges}
+use Rattle.dns_lookup.proofs.LookupAnswerLemmas.{or_memory, lookup_sound, lookup_trail, lookup_denied}
 use Rattle.dns_lookup.proofs.AnsweredLemmas.{lookup_answers}
-use Rattle.dns_lookup.proofs.DenyingLemmas.{lookup_denials, lookup_denies}
-use Rattle.dns_lookup.proofs.UnjudgedLemmas.{lookup_unjudged, lookup_judged}
+use Rattle.dns_lookup.proofs.DenyingLemmas.{lookup_explained, lookup_denies}
+use Rattle.dns_lookup.proofs.UnjudgedLemmas.{lookup_caused}
 
 -- ---- the request
 
@@ -55,18 +55,13 @@ looked_up meanings call result sends lookup = record {
   sends = sends;
   sound = lookup_sound meanings call result lookup;
   trail = lookup_trail meanings call result lookup;
-  marks = lookup_marks meanings call result lookup;
-  grounds = lookup_ground meanings call result lookup;
-  denials = lookup_denials meanings call result lookup;
+  explained = lookup_explained meanings call result lookup;
   denies = lookup_denies meanings call result lookup;
   denied = lookup_denied meanings call result lookup;
-  passed = lookup_passed meanings call result lookup;
+  caused = lookup_caused meanings call result lookup;
   passes = or_memory result _ (lookup_passes meanings call result lookup);
-  foreign = lookup_foreign meanings call result lookup;
   names_foreign = or_memory result _ (lookup_names_foreign meanings call result lookup);
   judges = or_memory result _ (lookup_judges meanings call result lookup);
-  unjudged = lookup_unjudged meanings call result lookup;
-  judged = lookup_judged meanings call result lookup;
   answers = or_memory result _ (lookup_answers meanings call result lookup);
   completes = or_memory result _ (lookup_completes meanings call result lookup);
 }

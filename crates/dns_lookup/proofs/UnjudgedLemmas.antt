@@ -1,4 +1,4 @@
--- Where a Secure NSEC3 was seen, and what a lookup answers then.
+-- Where a Secure NSEC3 was seen, and what a lookup answers then; so each answer has its cause.
 use Rattle.std.proofs.Common.{ℕ, ◌≡◌, ◌≢◌, ◌∙◌, Bool, true, false, if◌then◌else◌, List, Option, None, Some, Result, Err, refl, sym, ap, inl, inr}
 use Rattle.std.specs.List.{list_any}
 use Rattle.std.specs.Option.{option_map_or}
@@ -27,12 +27,13 @@ use Rattle.dns_handle.specs.declared.handle.DnsHandle as handle
 use Rattle.dns_handle.specs.declared.notice.Notice.TheVariants.{NotJudgedYet}
 use Rattle.dns_lookup.specs.Calls.{Call}
 use Rattle.dns_lookup.specs.LookupAnswers.{UnlessNoMemory, OfAnswer}
-use Rattle.dns_lookup.specs.Causes.{sees_nsec3, IsUnjudged, UnjudgedOnly}
+use Rattle.dns_lookup.specs.Causes.{sees_nsec3, IsUnjudged, UnjudgedOnly, HasItsCause}
 use Rattle.dns_lookup.specs.Answering.{top_of, Findings, trail_of, answer_by, top_grounds, Found, AnswersLookup, Passes, Names, Judges}
 use Rattle.dns_lookup.proofs.ConclusionLemmas.{still_unjudged, unjudged_still, never_searched}
 use Rattle.dns_lookup.proofs.TopLemmas.{sets_of_top, found_trail}
 use Rattle.dns_lookup.proofs.LookupAnswerLemmas.{or_memory, of_result}
-use Rattle.dns_lookup.proofs.CauseLemmas.{passed_on, passed_as}
+use Rattle.dns_lookup.proofs.CauseLemmas.{passed_on, passed_as, lookup_passed}
+use Rattle.dns_lookup.proofs.ForeignLemmas.{lookup_foreign}
 
 -- ---- the rows of an outcome
 
@@ -132,8 +133,19 @@ judged_by meanings call found ending f ends other =
     (sees_unjudged call.query (told_by found.message) (bare found.sets) sees))))
 
 -- an answer saw no Secure NSEC3
-pub lookup_judged : {H : Type 0} (meanings : handle.Ghosts H) (call : Call H) (result : Result ResponseValue NetError)
+lookup_judged : {H : Type 0} (meanings : handle.Ghosts H) (call : Call H) (result : Result ResponseValue NetError)
     → UnlessNoMemory result (AnswersLookup meanings call (reply_of result)) → OfAnswer (reply_of result) (λ a ending. sees_nsec3 a.trail ≡ false)
 lookup_judged meanings call result lookup =
     of_result meanings call (λ a ending. sees_nsec3 a.trail ≡ false) result
     (record { each = λ found d ending f ends other. judged_by meanings call found ending f ends other }) lookup
+
+-- ---- all causes
+
+pub lookup_caused : {H : Type 0} (meanings : handle.Ghosts H) (call : Call H) (result : Result ResponseValue NetError)
+    → UnlessNoMemory result (AnswersLookup meanings call (reply_of result)) → HasItsCause meanings call (reply_of result)
+lookup_caused meanings call result lookup = record {
+  passed = lookup_passed meanings call result lookup;
+  foreign = lookup_foreign meanings call result lookup;
+  unjudged = lookup_unjudged meanings call result lookup;
+  judged = lookup_judged meanings call result lookup;
+}

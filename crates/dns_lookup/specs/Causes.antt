@@ -17,7 +17,7 @@ use Rattle.dns_handle.specs.declared.notice.Notice.TheVariants.{NotJudgedYet}
 use Rattle.dns_lookup.specs.Received.{received_message, received}
 use Rattle.dns_lookup.specs.Calls.{Call, first_ask_of_call}
 use Rattle.dns_lookup.specs.AskRequests.{judged_ask}
-use Rattle.dns_lookup.specs.LookupAnswers.{IsTrail}
+use Rattle.dns_lookup.specs.LookupAnswers.{OfAnswer, IsTrail}
 
 -- ---- an error that the upstream answered
 
@@ -88,6 +88,19 @@ pub record IsUnjudged {H : Type 0} (meanings : handle.Ghosts H) (call : Call H) 
 abbrev pub UnjudgedOnly : {H : Type 0} → handle.Ghosts H → Call H → Reply → Type 0
 UnjudgedOnly meanings call answer =
     answer ≡ Err (Message NotJudgedYet) → PassedOn meanings call (Message NotJudgedYet) ⊎ IsUnjudged meanings call
+
+-- ---- all of these
+
+-- an answer has its cause
+pub record HasItsCause {H : Type 0} (meanings : handle.Ghosts H) (call : Call H) (answer : Reply) : Type 0 where
+  -- an error that only the handle makes is passed on, after one send that met a fault
+  pub passed : PassesOnly meanings call answer
+  -- a class is complained of where the handle did so, or for the first record of another class than the query's
+  pub foreign : ForeignOnly meanings call answer
+  -- `not judged yet` is answered where the handle did so, or with a trail that fails since it saw a Secure NSEC3
+  pub unjudged : UnjudgedOnly meanings call answer
+  -- the trail of an answer, an Ok one or that inside a denial, saw none
+  pub judged : OfAnswer answer (λ a ending. sees_nsec3 a.trail ≡ false)
 
 -- ---- all else has a trail
 

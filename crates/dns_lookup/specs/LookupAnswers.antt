@@ -1,30 +1,40 @@
 -- What a lookup answers: a sound answer with the trail that led to it (RFC 4035, 4.3 and 5).
-use Rattle.std.specs.Prelude.{ℕ, ◌≡◌, ◌⊎◌, ◌≤◌, Bool, true, List, length, Some, Result, Ok, Err, IfSome, drop}
+use Rattle.std.specs.Prelude.{ℕ, ◌≡◌, ◌⊎◌, ◌≤◌, Bool, true, List, length, Option, Some, Result, Ok, Err, IfSome, drop}
 use Rattle.std.specs.List.{All, count_by}
 use Rattle.dns_model.specs.declared.denial.Denial.TheVariants as denial
 use Rattle.dns_model.specs.Counts.{RoseBy}
 use Rattle.dns_model.specs.declared.proof.Proof.{Proof}
+use Rattle.dns_model.specs.Keys.{VerifierAnswers}
 use Rattle.dns_model.specs.Records.{Question, MessageValue}
 use Rattle.dns_model.specs.Trails.{AskedValue, Records, EndingValue, Answered, Denied}
 use Rattle.dns_model.specs.SoundAnswers.{Told, told_by, ResponseValue, Sound}
 use Rattle.dns_judgement.specs.Asking.{most_sends, depth_limit}
 use Rattle.dns_judgement.specs.Derivation.{derivation, top_step, told_in, judged_sets, in_send_order}
 use Rattle.dns_judgement.specs.Marking.{marked_told}
-use Rattle.dns_laws.specs.Denials.{ShowsDenial}
+use Rattle.dns_laws.specs.Denials.{ShowsDenial, HasDenials}
+use Rattle.dns_laws.specs.Ground.{HasGrounds}
 use Rattle.dns_laws.specs.OwnDenials.{DeniesByRecords}
 use Rattle.dns_handle.specs.Errors.{Reply, Dns, Nsec}
+use Rattle.dns_handle.specs.Handles.{Replies}
+use Rattle.dns_handle.specs.Replies.{reply_of}
 use Rattle.dns_handle.specs.declared.error.NetError.{NetError}
 use Rattle.dns_handle.specs.declared.error.NetError.TheVariants.{NoMemory}
 use Rattle.dns_handle.specs.declared.handle.DnsHandle as handle
 use Rattle.dns_lookup.specs.Received.{received_message}
-use Rattle.dns_lookup.specs.Calls.{Call, ask_of_call, first_ask_of_call}
+use Rattle.dns_lookup.specs.Calls.{Call, inner_of, ask_of_call, first_ask_of_call}
 use Rattle.dns_lookup.specs.AskRequests.{judged_ask}
 use Rattle.dns_lookup.specs.Sends.{SendsAlong, SendsFrom, IsFromReplies, heard_fault}
+use Rattle.dns_lookup.specs.declared.handle.DnssecDnsHandle.{DnssecDnsHandle}
 
 -- a fact, unless memory ran out
 abbrev pub UnlessNoMemory : {X : Type 0} → Result X NetError → Type 0 → Type 0
 UnlessNoMemory (Ok x) Fact = Fact
 UnlessNoMemory (Err e) Fact = (e ≡ NoMemory) ⊎ Fact
+
+-- a fact of what the handle of a validator tells before a call, of its query and of its answer, unless memory ran out
+abbrev pub WhereTold : {H V : Type 0} → handle.Ghosts H → DnssecDnsHandle H V → Question → Result ResponseValue NetError
+    → (Option Replies → Question → Reply → Type 0) → Type 0
+WhereTold meanings old q result Fact = UnlessNoMemory result (Fact (meanings.told (inner_of old)) q (reply_of result))
 
 -- a fact of the response that an answer has, an Ok one or that inside a denial, and of the ending that this answer stands for
 abbrev pub OfAnswer : Reply → (ResponseValue → EndingValue → Type 0) → Type 0
@@ -71,6 +81,15 @@ pub record HasMarksOfTrail (now : ℕ) (a : ResponseValue) : Type 0 where
   pub last : top_step a.trail ≡ Some top
   pub heard : top.reply ≡ Records told empty
   pub marked : told_by a.message ≡ marked_told now (judged_sets top) told
+
+-- an answer is explained by its trail
+pub record IsExplained (verifier : VerifierAnswers) (now : ℕ) (a : ResponseValue) : Type 0 where
+  -- its marks are those that the last step gives
+  pub marks : HasMarksOfTrail now a
+  -- each set that a step marks Insecure has a ground in the steps before
+  pub grounds : HasGrounds verifier a.trail
+  -- each step that ends with an answer shows what it denies
+  pub denials : HasDenials a.trail
 
 -- an answer shows what it denies, by the records that the last step of its trail heard: they are its own, with the marks that the
 -- step gives its sets; and so it does by its own records alone

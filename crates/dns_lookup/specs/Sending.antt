@@ -10,14 +10,11 @@ use Rattle.dns_handle.specs.Requests.{RequestValue, plain_options, first_questio
 use Rattle.dns_handle.specs.declared.handle.DnsHandle as handle
 use Rattle.dns_handle.specs.declared.notice.Notice.TheVariants.{NoQueryInRequest}
 use Rattle.dns_evidence.specs.declared.verifier.Verifier as verifier
-use Rattle.dns_laws.specs.Denials.{HasDenials}
-use Rattle.dns_laws.specs.Ground.{HasGrounds}
 use Rattle.dns_lookup.specs.Calls.{Call, Sending, inner_of, anchors_of, verifier_of, ask_of_call, first_ask_of_call}
-use Rattle.dns_lookup.specs.Causes.{PassesOnly, PassesOn, ForeignOnly, ForeignNamed, JudgesTold, UnjudgedOnly}
-use Rattle.dns_lookup.specs.Causes.{sees_nsec3, AnswersTold}
+use Rattle.dns_lookup.specs.Causes.{HasItsCause, PassesOn, ForeignNamed, JudgesTold, AnswersTold}
 use Rattle.dns_lookup.specs.Completing.{Completes}
 use Rattle.dns_lookup.specs.AskRequests.{asking_options}
-use Rattle.dns_lookup.specs.LookupAnswers.{OfAnswer, IsSoundAnswer, IsTrail, HasMarksOfTrail, ShowsItsDenial, DeniesQuery}
+use Rattle.dns_lookup.specs.LookupAnswers.{OfAnswer, IsSoundAnswer, IsTrail, IsExplained, ShowsItsDenial, DeniesQuery}
 use Rattle.dns_lookup.specs.Sends.{SendsBy}
 use Rattle.dns_lookup.specs.declared.handle.DnssecDnsHandle.{DnssecDnsHandle}
 
@@ -62,18 +59,13 @@ pub record IsLookedUp {H : Type 0} (meanings : handle.Ghosts H) (call : Call H) 
   pub sends : SendsBy (first_ask_of_call meanings call) (ask_of_call meanings call) call.old call.new call.query
   pub sound : OfAnswer reply (λ a ending. IsSoundAnswer meanings call a)
   pub trail : OfAnswer reply (λ a ending. IsTrail meanings call a.trail ending)
-  pub marks : OfAnswer reply (λ a ending. HasMarksOfTrail call.now a)
-  pub grounds : OfAnswer reply (λ a ending. HasGrounds call.judge.answers a.trail)
-  pub denials : OfAnswer reply (λ a ending. HasDenials a.trail)
+  pub explained : OfAnswer reply (λ a ending. IsExplained call.judge.answers call.now a)
   pub denies : IfOk reply (λ a. ShowsItsDenial call.now call.query a)
   pub denied : DeniesQuery call.query reply
-  pub passed : PassesOnly meanings call reply
+  pub caused : HasItsCause meanings call reply
   pub passes : UnlessForgotten reply (PassesOn (meanings.told call.old) call.query reply)
-  pub foreign : ForeignOnly meanings call reply
   pub names_foreign : UnlessForgotten reply (ForeignNamed (meanings.told call.old) call.query reply)
   pub judges : UnlessForgotten reply (JudgesTold (meanings.told call.old) call.query reply)
-  pub unjudged : UnjudgedOnly meanings call reply
-  pub judged : OfAnswer reply (λ a ending. sees_nsec3 a.trail ≡ false)
   pub answers : UnlessForgotten reply (AnswersTold (meanings.told call.old) call.query reply)
   pub completes : UnlessForgotten reply (Completes (meanings.told call.old) call reply)
 

@@ -1,15 +1,12 @@
-ghost use Rattle.std.specs.Prelude.{◌≡◌, ◌≤◌, IsOk, IfOk, true, false};
+ghost use Rattle.std.specs.Prelude.{◌≡◌, ◌≤◌, IsOk, IfOk, true};
 ghost use Rattle.dns_handle.specs.Replies.{reply_of};
 ghost use Rattle.dns_handle.specs.Handles.{OrUnsent};
 ghost use Rattle.dns_lookup.specs.Calls.{Asking};
-ghost use Rattle.dns_lookup.specs.Causes.{PassesOnly, PassesOn, ForeignOnly, ForeignNamed, JudgesTold, UnjudgedOnly};
-ghost use Rattle.dns_lookup.specs.Causes.{sees_nsec3, AnswersTold};
+ghost use Rattle.dns_lookup.specs.Causes.{HasItsCause, PassesOn, ForeignNamed, JudgesTold, AnswersTold};
 ghost use Rattle.dns_lookup.specs.Completing.{Completes};
-ghost use Rattle.dns_lookup.specs.LookupAnswers.{UnlessNoMemory, OfAnswer, IsSoundAnswer, IsTrail, HasMarksOfTrail};
-ghost use Rattle.dns_lookup.specs.LookupAnswers.{ShowsItsDenial, DeniesQuery};
+ghost use Rattle.dns_lookup.specs.LookupAnswers.{UnlessNoMemory, WhereTold, OfAnswer, IsSoundAnswer, IsTrail};
+ghost use Rattle.dns_lookup.specs.LookupAnswers.{IsExplained, ShowsItsDenial, DeniesQuery};
 ghost use Rattle.dns_lookup.specs.Sends.{SendsFor};
-ghost use Rattle.dns_laws.specs.Denials.{HasDenials};
-ghost use Rattle.dns_laws.specs.Ground.{HasGrounds};
 
 use crate::context::{LookupContext, depth_limit_of};
 use crate::lookup::look_up;
@@ -98,44 +95,39 @@ impl<H: DnsHandle + Drop, V: Verifier + Drop> DnssecDnsHandle<H, V> {
         options: DnsRequestOptions,
         now: u64,
     ) -> Result<DnsResponse, NetError>
-        // The next lookup is by the same anchors and the same verifier.
-        ensures anchors { anchors_of self.new ≡ anchors_of self.old }
-        ensures verifier { verifier_of self.new ≡ verifier_of self.old }
-        ensures later { H.faults (inner_of self.old) ≤ H.faults (inner_of self.new) }
+        // The next lookup is by the same anchors and the same verifier, and this one is counted as a send is.
         ensures counted { CountsSend self.old self.new (reply_of result) }
+        ensures later { H.faults (inner_of self.old) ≤ H.faults (inner_of self.new) }
 
         // Whatever the result, each send is an ask with these options at this moment, judged or plain; the first one is judged.
         ensures sends { OrUnsent (inner_of self.old) (inner_of self.new) result
             (SendsFor (Asking H.DnsHandle options now) (inner_of self.old) (inner_of self.new) query) }
 
-        // An answer, an Ok one or that inside a denial, is sound, its trail says how it came about, and its marks are the
-        // trail's. Each set that the trail marks Insecure has a ground in the steps before.
+        // An answer, an Ok one or that inside a denial, is sound. Its trail says how it came about, and explains its marks,
+        // each set that is Insecure, and what each step denies.
         ensures sound { OfAnswer (reply_of result) (λ a ending.
             IsSoundAnswer H.DnsHandle (call_of V.Verifier self.old self.new query options now) a) }
         ensures trail { OfAnswer (reply_of result) (λ a ending.
             IsTrail H.DnsHandle (call_of V.Verifier self.old self.new query options now) a.trail ending) }
-        ensures marks { OfAnswer (reply_of result) (λ a ending. HasMarksOfTrail now a) }
-        ensures grounds { OfAnswer (reply_of result) (λ a ending. HasGrounds (V.answers (verifier_of self.old)) a.trail) }
+        ensures explained { OfAnswer (reply_of result) (λ a ending.
+            IsExplained (V.answers (verifier_of self.old)) now a) }
+
+        // What an Ok answer denies follows from its Secure NSEC records, in each zone in which they are true. A denial
+        // names the query.
+        ensures denies { IfOk result (λ a. ShowsItsDenial now query a) }
         ensures denied { DeniesQuery query (reply_of result) }
 
-        // What an Ok answer denies follows from its Secure NSEC records, in each zone in which they are true; and so do the
-        // denials of the steps before.
-        ensures denies { IfOk result (λ a. ShowsItsDenial now query a) }
-        ensures denials { OfAnswer (reply_of result) (λ a ending. HasDenials a.trail) }
+        // An error without an answer inside is the handle's own, or names a record of another class than the query's, or
+        // says that a Secure NSEC3 was seen, which is never so where there is an answer.
+        ensures caused { HasItsCause H.DnsHandle
+            (call_of V.Verifier self.old self.new query options now) (reply_of result) }
 
-        // An error that only the handle makes is passed on, after one send that met a fault; and whatever error it replies is.
-        ensures passed { PassesOnly H.DnsHandle (call_of V.Verifier self.old self.new query options now) (reply_of result) }
-        ensures passes { UnlessNoMemory result (PassesOn (H.told (inner_of self.old)) query (reply_of result)) }
-
-        // Else the first record of another class than the query's is named, and nothing else is complained of so.
-        ensures foreign { ForeignOnly H.DnsHandle (call_of V.Verifier self.old self.new query options now) (reply_of result) }
-        ensures names_foreign { UnlessNoMemory result (ForeignNamed (H.told (inner_of self.old)) query (reply_of result)) }
-
-        // Else the sets are judged: there is an answer, or there is a trail that fails, exactly where a Secure NSEC3 was seen.
-        ensures judges { UnlessNoMemory result (JudgesTold (H.told (inner_of self.old)) query (reply_of result)) }
-        ensures unjudged { UnjudgedOnly H.DnsHandle (call_of V.Verifier self.old self.new query options now) (reply_of result) }
-        ensures judged { OfAnswer (reply_of result) (λ a ending. sees_nsec3 a.trail ≡ false) }
-        ensures answers { UnlessNoMemory result (AnswersTold (H.told (inner_of self.old)) query (reply_of result)) }
+        // Where the upstream tells its replies, its error is passed on; else the first record of another class is named;
+        // else the sets are judged; and where no NSEC3 is told, there is an answer or a denial.
+        ensures passes { WhereTold H.DnsHandle self.old query result PassesOn }
+        ensures names_foreign { WhereTold H.DnsHandle self.old query result ForeignNamed }
+        ensures judges { WhereTold H.DnsHandle self.old query result JudgesTold }
+        ensures answers { WhereTold H.DnsHandle self.old query result AnswersTold }
 
         // Where the upstream's replies make a session that is valid for the query, it is answered, and what was queried is
         // Secure.

@@ -7,7 +7,6 @@ use Rattle.dns_model.specs.Trails.{AskedValue, EndingValue, Answered, Failed, De
 use Rattle.dns_judgement.specs.Derivation.{derivation, in_send_order}
 use Rattle.dns_judgement.specs.DerivationParts.{is_foreign}
 use Rattle.dns_judgement.specs.Outcome.{foreign_record}
-use Rattle.dns_laws.specs.Denials.{HasDenials}
 use Rattle.dns_laws.specs.Ground.{HasGrounds}
 use Rattle.dns_handle.specs.Errors as seen
 use Rattle.dns_handle.specs.Errors.{Reply, ErrorValue, DnsErrorValue, Busy, Dns, Message, Msg, NoConnections, Proto, Io, Timeout, QueryCaseMismatch, ForeignClassRecord, Truncated, ResponseCode, NoRecordsFound, Nsec, DnssecBogus}
@@ -24,8 +23,8 @@ use Rattle.dns_anchors.specs.Listing.{ListedValue, answers_of}
 use Rattle.dns_lookup.specs.declared.handle.DnssecDnsHandle.{DnssecDnsHandle}
 use Rattle.dns_lookup.specs.Calls.{Call, inner_of, anchors_of, verifier_of, call_of}
 use Rattle.dns_lookup.specs.Sends.{IsFromReplies}
-use Rattle.dns_lookup.specs.Causes.{sees_nsec3, tells_nsec3, has_response, PassedOn, PassesOnly, PassesOn, NamesForeign, ForeignOnly, ForeignNamed, IsUnjudged, UnjudgedOnly, JudgesTold, AnswersTold}
-use Rattle.dns_lookup.specs.LookupAnswers.{UnlessNoMemory, OfAnswer, IsSoundAnswer, IsTrail, HasMarksOfTrail, ShowsItsDenial, DeniesQuery}
+use Rattle.dns_lookup.specs.Causes.{sees_nsec3, tells_nsec3, has_response, PassedOn, PassesOn, NamesForeign, ForeignNamed, IsUnjudged, HasItsCause, JudgesTold, AnswersTold}
+use Rattle.dns_lookup.specs.LookupAnswers.{UnlessNoMemory, OfAnswer, IsSoundAnswer, IsTrail, HasMarksOfTrail, IsExplained, ShowsItsDenial, DeniesQuery}
 use Rattle.dns_session.specs.SessionValue.{SessionValue}
 use Rattle.dns_run.specs.Replies.{recorded, session_told, session_records}
 use Rattle.dns_run.specs.Soundness.{listing, session_judge, IsSound}
@@ -91,38 +90,33 @@ session_sound meanings s call a c is =
 pub record SaysOf {H : Type 0} (meanings : handle.Ghosts H) (call : Call H) (answer : Reply) : Type 0 where
   pub sound : OfAnswer answer (λ a ending. IsSoundAnswer meanings call a)
   pub trail : OfAnswer answer (λ a ending. IsTrail meanings call a.trail ending)
-  pub marks : OfAnswer answer (λ a ending. HasMarksOfTrail call.now a)
-  pub judged : OfAnswer answer (λ a ending. sees_nsec3 a.trail ≡ false)
-  pub grounds : OfAnswer answer (λ a ending. HasGrounds call.judge.answers a.trail)
-  pub denials : OfAnswer answer (λ a ending. HasDenials a.trail)
+  pub explained : OfAnswer answer (λ a ending. IsExplained call.judge.answers call.now a)
   pub denies : IfOk answer (λ a. ShowsItsDenial call.now call.query a)
   pub denied : DeniesQuery call.query answer
-  pub passed : PassesOnly meanings call answer
-  pub foreign : ForeignOnly meanings call answer
-  pub unjudged : UnjudgedOnly meanings call answer
+  pub caused : HasItsCause meanings call answer
 
 -- a response of the call is one of the session
 session_response : {H : Type 0} (meanings : handle.Ghosts H) (s : SessionValue) (call : Call H) (a : ResponseValue) (ending : EndingValue)
-    → IsSessionCall meanings s call → IsSoundAnswer meanings call a → IsTrail meanings call a.trail ending → HasMarksOfTrail call.now a
-    → sees_nsec3 a.trail ≡ false → HasGrounds call.judge.answers a.trail → HasDenials a.trail → IsSessionAnswer s a ending
-session_response meanings s call a ending c sound trail marks judged grounds denials = record {
+    → IsSessionCall meanings s call → IsSoundAnswer meanings call a → IsTrail meanings call a.trail ending
+    → IsExplained call.judge.answers call.now a → sees_nsec3 a.trail ≡ false → IsSessionAnswer s a ending
+session_response meanings s call a ending c sound trail explained judged = record {
   sound = session_sound meanings s call a c sound;
   trail = session_trail meanings s call a.trail ending c trail;
-  marks = subst (λ now. HasMarksOfTrail now a) c.moment marks;
+  marks = subst (λ now. HasMarksOfTrail now a) c.moment explained.marks;
   judged = judged;
-  grounds = subst (λ j. HasGrounds j.answers a.trail) c.judge grounds;
-  denials = denials;
+  grounds = subst (λ j. HasGrounds j.answers a.trail) c.judge explained.grounds;
+  denials = explained.denials;
 }
 
 session_answered : {H : Type 0} (meanings : handle.Ghosts H) (s : SessionValue) (call : Call H) (answer : Reply)
     → IsSessionCall meanings s call → SaysOf meanings call answer → OfAnswer answer (IsSessionAnswer s)
 session_answered meanings s call (Ok a) c says =
-    session_response meanings s call a (Answered a.denial) c says.sound says.trail says.marks says.judged says.grounds says.denials
+    session_response meanings s call a (Answered a.denial) c says.sound says.trail says.explained says.caused.judged
 session_answered meanings s call (Err Busy) c says = tt
 session_answered meanings s call (Err (Dns (ResponseCode code))) c says = tt
 session_answered meanings s call (Err (Dns (NoRecordsFound missing))) c says = tt
 session_answered meanings s call (Err (Dns (Nsec asked response proof))) c says =
-    session_response meanings s call response (Denied proof) c says.sound says.trail says.marks says.judged says.grounds says.denials
+    session_response meanings s call response (Denied proof) c says.sound says.trail says.explained says.caused.judged
 session_answered meanings s call (Err (Dns DnssecBogus)) c says = tt
 session_answered meanings s call (Err (Message notice)) c says = tt
 session_answered meanings s call (Err (Msg text)) c says = tt
@@ -205,37 +199,37 @@ unjudged_cause meanings s call c answers u =
 
 dns_cause : {H : Type 0} (meanings : handle.Ghosts H) (s : SessionValue) (call : Call H) (e : DnsErrorValue)
     → IsSessionCall meanings s call → SaysOf meanings call (Err (Dns e)) → Dns e ≢ seen.NoMemory → FaultCause s (Dns e)
-dns_cause meanings s call (ResponseCode code) c says own = passed_cause meanings s call _ c own (says.passed _ refl refl)
-dns_cause meanings s call (NoRecordsFound missing) c says own = passed_cause meanings s call _ c own (says.passed _ refl refl)
+dns_cause meanings s call (ResponseCode code) c says own = passed_cause meanings s call _ c own (says.caused.passed _ refl refl)
+dns_cause meanings s call (NoRecordsFound missing) c says own = passed_cause meanings s call _ c own (says.caused.passed _ refl refl)
 dns_cause meanings s call (Nsec asked response proof) c says own =
     NotDenied response proof (session_answered meanings s call (Err (Dns (Nsec asked response proof))) c says)
     (ap (λ q. Dns (Nsec q response proof)) ((says.denied asked response proof refl).0 ∙ c.query))
-dns_cause meanings s call DnssecBogus c says own = passed_cause meanings s call _ c own (says.passed _ refl refl)
+dns_cause meanings s call DnssecBogus c says own = passed_cause meanings s call _ c own (says.caused.passed _ refl refl)
 
 error_cause : {H : Type 0} (meanings : handle.Ghosts H) (s : SessionValue) (call : Call H) (e : ErrorValue)
     → IsSessionCall meanings s call → SaysOf meanings call (Err e) → AnswersTold (Some (session_replies s)) s.query (Err e)
     → e ≢ seen.NoMemory → FaultCause s e
-error_cause meanings s call Busy c says answers own = passed_cause meanings s call _ c own (says.passed _ refl refl)
+error_cause meanings s call Busy c says answers own = passed_cause meanings s call _ c own (says.caused.passed _ refl refl)
 error_cause meanings s call (Dns error) c says answers own = dns_cause meanings s call error c says own
-error_cause meanings s call (Message NotJudgedYet) c says answers own = elim (says.unjudged refl) [
+error_cause meanings s call (Message NotJudgedYet) c says answers own = elim (says.caused.unjudged refl) [
   | inl p ↦ passed_cause meanings s call _ c own p
   | inr u ↦ NotJudged (unjudged_cause meanings s call c answers u) refl
 ]
-error_cause meanings s call (Message NoQueryInRequest) c says answers own = passed_cause meanings s call _ c own (says.passed _ refl refl)
-error_cause meanings s call (Message ExpiredRrsig) c says answers own = passed_cause meanings s call _ c own (says.passed _ refl refl)
-error_cause meanings s call (Message WrongDnskey) c says answers own = passed_cause meanings s call _ c own (says.passed _ refl refl)
-error_cause meanings s call (Message WrongRrsig) c says answers own = passed_cause meanings s call _ c own (says.passed _ refl refl)
-error_cause meanings s call (Msg text) c says answers own = passed_cause meanings s call _ c own (says.passed _ refl refl)
-error_cause meanings s call NoConnections c says answers own = passed_cause meanings s call _ c own (says.passed _ refl refl)
-error_cause meanings s call (Proto error) c says answers own = passed_cause meanings s call _ c own (says.passed _ refl refl)
-error_cause meanings s call (Io kind) c says answers own = passed_cause meanings s call _ c own (says.passed _ refl refl)
-error_cause meanings s call Timeout c says answers own = passed_cause meanings s call _ c own (says.passed _ refl refl)
-error_cause meanings s call QueryCaseMismatch c says answers own = passed_cause meanings s call _ c own (says.passed _ refl refl)
-error_cause meanings s call (ForeignClassRecord owner class rtype) c says answers own = elim (says.foreign owner class rtype refl) [
+error_cause meanings s call (Message NoQueryInRequest) c says answers own = passed_cause meanings s call _ c own (says.caused.passed _ refl refl)
+error_cause meanings s call (Message ExpiredRrsig) c says answers own = passed_cause meanings s call _ c own (says.caused.passed _ refl refl)
+error_cause meanings s call (Message WrongDnskey) c says answers own = passed_cause meanings s call _ c own (says.caused.passed _ refl refl)
+error_cause meanings s call (Message WrongRrsig) c says answers own = passed_cause meanings s call _ c own (says.caused.passed _ refl refl)
+error_cause meanings s call (Msg text) c says answers own = passed_cause meanings s call _ c own (says.caused.passed _ refl refl)
+error_cause meanings s call NoConnections c says answers own = passed_cause meanings s call _ c own (says.caused.passed _ refl refl)
+error_cause meanings s call (Proto error) c says answers own = passed_cause meanings s call _ c own (says.caused.passed _ refl refl)
+error_cause meanings s call (Io kind) c says answers own = passed_cause meanings s call _ c own (says.caused.passed _ refl refl)
+error_cause meanings s call Timeout c says answers own = passed_cause meanings s call _ c own (says.caused.passed _ refl refl)
+error_cause meanings s call QueryCaseMismatch c says answers own = passed_cause meanings s call _ c own (says.caused.passed _ refl refl)
+error_cause meanings s call (ForeignClassRecord owner class rtype) c says answers own = elim (says.caused.foreign owner class rtype refl) [
   | inl p ↦ passed_cause meanings s call _ c own p
   | inr names ↦ foreign_cause meanings s call _ c names
 ]
-error_cause meanings s call Truncated c says answers own = passed_cause meanings s call _ c own (says.passed _ refl refl)
+error_cause meanings s call Truncated c says answers own = passed_cause meanings s call _ c own (says.caused.passed _ refl refl)
 error_cause meanings s call seen.NoMemory c says answers own = absurd (own refl)
 
 session_caused : {H : Type 0} (meanings : handle.Ghosts H) (s : SessionValue) (call : Call H) (answer : Reply)

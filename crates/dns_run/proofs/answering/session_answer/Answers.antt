@@ -12,15 +12,10 @@ returns c =
     (record {
       sound = c.lookup-answer.ensures.sound;
       trail = c.lookup-answer.ensures.trail;
-      marks = c.lookup-answer.ensures.marks;
-      judged = c.lookup-answer.ensures.judged;
-      grounds = c.lookup-answer.ensures.grounds;
-      denials = c.lookup-answer.ensures.denials;
+      explained = c.lookup-answer.ensures.explained;
       denies = reply_ok c.lookup-answer.result _ c.lookup-answer.ensures.denies;
       denied = c.lookup-answer.ensures.denied;
-      passed = c.lookup-answer.ensures.passed;
-      foreign = c.lookup-answer.ensures.foreign;
-      unjudged = c.lookup-answer.ensures.unjudged;
+      caused = c.lookup-answer.ensures.caused;
     })
     (all_known _ _ c.lookup-answer.result c.lookup-answer.ensures.passes c.lookup-answer.ensures.names_foreign c.lookup-answer.ensures.judges
     c.lookup-answer.ensures.answers))
