@@ -1,5 +1,5 @@
 use crate::rows::check_held;
-use dns_record::{DNSClass, RecordType};
+use dns_record::{DNSClass, OpCode, RecordType, ResponseCode};
 use dns_words::*;
 use std::alloc::Global;
 
@@ -83,6 +83,48 @@ fn is_class(alloc: Global, row: &Named) -> bool {
 fn words_of_classes(rt: HostRuntime) {
     for row in classes() {
         check_held(&rt, row.1, is_class(rt.alloc(), row));
+    }
+}
+
+/// A code's number here, its number in the registry, and its word there.
+type Code = (u16, u16, &'static str);
+
+/// The opcodes (RFC 6895, 2.2; RFC 1996 for Notify, RFC 2136 for Update), and the response codes (RFC 6895, 2.3; RFC 2136, 2.2, for 6 to
+/// 10; RFC 7873, 8, for the last).
+const CODES: &[Code] = &[
+    (OpCode::QUERY.0 as u16, 0, "Query"),
+    (OpCode::NOTIFY.0 as u16, 4, "Notify"),
+    (OpCode::UPDATE.0 as u16, 5, "Update"),
+    (ResponseCode::NO_ERROR.0, 0, "NoError"),
+    (ResponseCode::FORM_ERR.0, 1, "FormErr"),
+    (ResponseCode::SERV_FAIL.0, 2, "ServFail"),
+    (ResponseCode::NX_DOMAIN.0, 3, "NXDomain"),
+    (ResponseCode::NOT_IMP.0, 4, "NotImp"),
+    (ResponseCode::REFUSED.0, 5, "Refused"),
+    (ResponseCode::YX_DOMAIN.0, 6, "YXDomain"),
+    (ResponseCode::YX_RR_SET.0, 7, "YXRRSet"),
+    (ResponseCode::NX_RR_SET.0, 8, "NXRRSet"),
+    (ResponseCode::NOT_AUTH.0, 9, "NotAuth"),
+    (ResponseCode::NOT_ZONE.0, 10, "NotZone"),
+    (ResponseCode::BAD_VERS.0, 16, "BADVERS"),
+    (ResponseCode::BAD_SIG.0, 16, "BADSIG"),
+    (ResponseCode::BAD_KEY.0, 17, "BADKEY"),
+    (ResponseCode::BAD_TIME.0, 18, "BADTIME"),
+    (ResponseCode::BAD_MODE.0, 19, "BADMODE"),
+    (ResponseCode::BAD_NAME.0, 20, "BADNAME"),
+    (ResponseCode::BAD_ALG.0, 21, "BADALG"),
+    (ResponseCode::BAD_TRUNC.0, 22, "BADTRUNC"),
+    (ResponseCode::BAD_COOKIE.0, 23, "BADCOOKIE"),
+];
+
+fn codes() -> &'static [Code] {
+    CODES
+}
+
+#[test]
+fn numbers_of_codes(rt: HostRuntime) {
+    for row in codes() {
+        check_held(&rt, row.2, row.0 == row.1);
     }
 }
 
