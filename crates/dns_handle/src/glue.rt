@@ -1,15 +1,16 @@
 //! The addresses of name servers that a response gives beside NS records (RFC 1034, 4.2.1).
-ghost use Rattle.std.specs.Prelude.{◌≡◌, IfOk, OnOk, map};
+ghost use Rattle.std.specs.Prelude.{◌≡◌, ◌∷◌, [], IfOk, OnOk, map};
 ghost use Rattle.std.specs.List.{filter};
 ghost use Rattle.dns_model.specs.Names.{Labels, folded, wire};
 ghost use Rattle.dns_model.specs.Types.{type_ns};
 ghost use Rattle.dns_model.specs.Views.{ns_in};
 ghost use Rattle.dns_model.specs.RecordViews.{read_as};
-ghost use Rattle.dns_handle.specs.Responses.{is_address_of, is_ns};
+ghost use Rattle.dns_handle.specs.Responses.{forwarded, is_address_of, is_ns};
 ghost use Rattle.dns_handle.specs.Glue.{Joined, addresses_at, forwarded_by, glue_by, is_address};
 
 use crate::ForwardNSData;
-use dns_name::{NameRef, NoMemory, Octets};
+use crate::query_key::folded_of;
+use dns_name::{NoMemory, Octets};
 use dns_rdata::Ns;
 use dns_record::{Record, RecordType, clone_records};
 use std::alloc::Global;
@@ -17,16 +18,7 @@ use std::collections::BTreeMap;
 
 /// A and AAAA records by their owner, as its wire form with A to Z as a to z. No choice of names makes a search longer, as it
 /// would where a hash can be foreseen.
-pub(crate) type Addresses = BTreeMap<Octets, Vec<Record>>;
-
-/// A name as such a key.
-fn key_of(alloc: Global, name: &NameRef) -> Result<Octets, NoMemory>
-    ensures { IfOk result (λ k. k ≡ wire (folded name.now)) }
-{
-    let mut key = Vec::with_capacity(alloc, name.wire().len())?;
-    name.push_folded(&mut key)?;
-    Ok(Octets::from_vec(key))
-}
+type Addresses = BTreeMap<Octets, Vec<Record>>;
 
 fn is_address(of: &Record) -> bool
     ensures { result ≡ is_address of.now }
@@ -34,23 +26,45 @@ fn is_address(of: &Record) -> bool
     of.record_type == RecordType::A || of.record_type == RecordType::AAAA
 }
 
-/// Puts a record behind the others of its owner.
-fn join(alloc: Global, addresses: &mut Addresses, next: Record) -> Result<(), NoMemory>
+/// A list of one record.
+fn single(alloc: Global, next: Record) -> Result<Vec<Record>, NoMemory>
+    ensures { IfOk result (λ v. v.items ≡ next ∷ []) }
+{
+    let mut own = Vec::new(alloc);
+    own.push(next)?;
+    Ok(own)
+}
+
+/// Puts a record behind the others of its owner, whose key is given.
+fn join_at(
+    alloc: Global,
+    addresses: &mut Addresses,
+    key: Octets,
+    next: Record,
+) -> Result<(), NoMemory>
+    requires { key ≡ wire (folded next.owner) }
     ensures { OnOk result (Joined addresses.old addresses.new next) }
 {
-    let key = key_of(alloc, &next.name.borrowed())?;
     if let Some(known) = addresses.get_mut(&key) {
+        drop(key);
         known.push(next)?;
         return Ok(());
     }
-    let mut own = Vec::new(alloc);
-    own.push(next)?;
+    let own = single(alloc, next)?;
     addresses.insert(key, own)?;
     Ok(())
 }
 
+/// Puts a record behind the others of its owner.
+fn join(alloc: Global, addresses: &mut Addresses, next: Record) -> Result<(), NoMemory>
+    ensures { OnOk result (Joined addresses.old addresses.new next) }
+{
+    let key = folded_of(alloc, &next.name.borrowed())?;
+    join_at(alloc, addresses, key, next)
+}
+
 /// The A and AAAA records among these.
-pub(crate) fn addresses_of(alloc: Global, records: Vec<Record>) -> Result<Addresses, NoMemory>
+fn addresses_of(alloc: Global, records: Vec<Record>) -> Result<Addresses, NoMemory>
     ensures { IfOk result (λ a. (name : Labels) → addresses_at a name ≡ filter (is_address_of name) records.items) }
 {
     let mut addresses = BTreeMap::new(alloc);
@@ -69,7 +83,7 @@ fn glue_of(alloc: Global, addresses: &Addresses, ns: &Record) -> Result<Vec<Reco
     let Some(server) = Ns::of(ns) else {
         return Ok(Vec::new(alloc));
     };
-    let key = key_of(alloc, &server.name)?;
+    let key = folded_of(alloc, &server.name)?;
     match addresses.get(&key) {
         None => Ok(Vec::new(alloc)),
         Some(known) => clone_records(known),
@@ -90,7 +104,7 @@ fn forwarded_of(
 }
 
 /// The NS records of a section, each with its addresses.
-pub(crate) fn all_forwarded(
+fn all_forwarded(
     alloc: Global,
     addresses: &Addresses,
     section: &[Record],
@@ -105,4 +119,18 @@ pub(crate) fn all_forwarded(
         }
     }
     Ok(all)
+}
+
+/// The NS records of a section, each with the addresses of its server among the records given.
+pub(crate) fn forwarded_among(
+    alloc: Global,
+    records: Vec<Record>,
+    section: &[Record],
+) -> Result<Vec<ForwardNSData>, NoMemory>
+    ensures { IfOk result (λ v. v.items ≡ map (forwarded records.items) (filter is_ns section.now)) }
+{
+    let addresses = addresses_of(alloc, records)?;
+    let all = all_forwarded(alloc, &addresses, section);
+    drop(addresses);
+    all
 }

@@ -7,13 +7,14 @@ ghost use Rattle.dns_handle.specs.Replies.{response_of};
 ghost use Rattle.dns_handle.specs.Responses.{from_response, is_failure, is_negative, is_soa, may_deny, negative_ttl_of, no_records_of, root_question};
 
 use crate::answered::contains_answer;
-use crate::glue::{addresses_of, all_forwarded};
+use crate::glue::forwarded_among;
 use crate::{DnsError, DnsResponse, NoRecords};
 use dns_message::Message;
 use dns_name::{Name, NoMemory};
 use dns_rdata::Soa;
 use dns_record::{DNSClass, Query, Record, RecordType, ResponseCode};
 use std::alloc::Global;
+use std::mem;
 
 /// Whether a server says by the code that it failed or refused.
 fn is_failure(code: ResponseCode) -> bool
@@ -40,20 +41,25 @@ fn is_negative(alloc: Global, message: &Message) -> Result<bool, NoMemory>
     Ok(!answered)
 }
 
+/// The question for the root's addresses.
+fn ask_root(alloc: Global) -> Result<Query, NoMemory>
+    ensures { IfOk result (λ q. q ≡ root_question) }
+{
+    let name = Name::root(alloc)?;
+    Ok(Query {
+        name,
+        query_type: RecordType::A,
+        query_class: DNSClass::IN,
+    })
+}
+
 /// The first question, or the root's addresses.
 fn question_of(alloc: Global, queries: &[Query]) -> Result<Query, NoMemory>
     ensures { IfOk result (λ q. q ≡ unwrap_or (first_query queries.now) root_question) }
 {
     match queries.first() {
         Some(query) => query.try_clone(),
-        None => {
-            let name = Name::root(alloc)?;
-            Ok(Query {
-                name,
-                query_type: RecordType::A,
-                query_class: DNSClass::IN,
-            })
-        }
+        None => ask_root(alloc),
     }
 }
 
@@ -94,22 +100,22 @@ fn negative_ttl_of(soa: &Option<Record>) -> Option<u32>
     Some(ttl.min(read.minimum))
 }
 
-/// What a message says that has no records.
-fn no_records_of(alloc: Global, message: Message) -> Result<NoRecords, NoMemory>
-    ensures { IfOk result (λ n. n ≡ no_records_of message) }
+/// What a message says that has no records. Its last two sections are taken from it.
+fn no_records_of(alloc: Global, message: &mut Message) -> Result<NoRecords, NoMemory>
+    ensures { IfOk result (λ n. n ≡ no_records_of message.old) }
 {
+    let additionals = mem::replace(&mut message.additionals, Vec::new(alloc));
+    let ns = forwarded_among(alloc, additionals, &message.authorities)?;
     let query = question_of(alloc, &message.queries)?;
     let soa = soa_of(&message.authorities)?;
     let negative_ttl = negative_ttl_of(&soa);
-    let addresses = addresses_of(alloc, message.additionals)?;
-    let ns = all_forwarded(alloc, &addresses, &message.authorities)?;
     Ok(NoRecords {
         query,
         soa,
         ns,
         negative_ttl,
         response_code: message.response_code,
-        authorities: message.authorities,
+        authorities: mem::replace(&mut message.authorities, Vec::new(alloc)),
     })
 }
 
@@ -119,18 +125,25 @@ impl DnsError {
     /// (RFC 2308, 2); else the response itself. The outer error is want of memory.
     pub fn from_response(
         alloc: Global,
-        response: DnsResponse,
+        mut response: DnsResponse,
     ) -> Result<Result<DnsResponse, DnsError>, NoMemory>
         ensures { IfOk result (λ r. response_of r ≡ from_response response) }
     {
         let code = response.message.response_code;
         if is_failure(code) {
+            drop(response);
             return Ok(Err(DnsError::ResponseCode(code)));
         }
-        if !is_negative(alloc, &response.message)? {
-            return Ok(Ok(response));
+        match is_negative(alloc, &response.message) {
+            Ok(true) => (),
+            Ok(false) => return Ok(Ok(response)),
+            Err(error) => {
+                drop(response);
+                return Err(error);
+            }
         }
-        let missing = no_records_of(alloc, response.message)?;
-        Ok(Err(DnsError::NoRecordsFound(missing)))
+        let missing = no_records_of(alloc, &mut response.message);
+        drop(response);
+        Ok(Err(DnsError::NoRecordsFound(missing?)))
     }
 }

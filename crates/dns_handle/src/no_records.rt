@@ -98,10 +98,10 @@ impl NoRecords {
     pub fn try_clone(&self) -> Result<NoRecords, NoMemory>
         ensures { IfOk result (λ n. n ≡ self.now) }
     {
-        let query = self.query.try_clone()?;
-        let soa = clone_soa(&self.soa)?;
         let ns = clone_forwarded(&self.ns)?;
         let authorities = clone_records(&self.authorities)?;
+        let query = self.query.try_clone()?;
+        let soa = clone_soa(&self.soa)?;
         Ok(NoRecords {
             query,
             soa,

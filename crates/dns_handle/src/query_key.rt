@@ -1,4 +1,5 @@
 ghost use Rattle.std.specs.Prelude.{◌≡◌, IfOk};
+ghost use Rattle.dns_model.specs.Names.{folded, wire};
 ghost use Rattle.dns_handle.specs.QueryKeys.{key_of};
 ghost use Rattle.dns_handle.specs.AnswerIndex.{asked};
 
@@ -16,15 +17,23 @@ pub struct QueryKey {
     class: u16,
 }
 
+/// A name's wire form with A to Z as a to z, by which equal names are equal bytes.
+pub(crate) fn folded_of(alloc: Global, name: &NameRef) -> Result<Octets, NoMemory>
+    ensures { IfOk result (λ k. k ≡ wire (folded name.now)) }
+{
+    let mut bytes = Vec::with_capacity(alloc, name.wire().len())?;
+    name.push_folded(&mut bytes)?;
+    Ok(Octets::from_vec(bytes))
+}
+
 impl QueryKey {
     /// The key of a query.
     pub fn of(alloc: Global, query: &Query) -> Result<QueryKey, NoMemory>
         ensures { IfOk result (λ k. k ≡ key_of query.now) }
     {
-        let mut name = Vec::with_capacity(alloc, query.name.wire().len())?;
-        query.name.push_folded(&mut name)?;
+        let name = folded_of(alloc, &query.name.borrowed())?;
         Ok(QueryKey {
-            name: Octets::from_vec(name),
+            name,
             record_type: query.query_type.0,
             class: query.query_class.0,
         })
@@ -34,10 +43,9 @@ impl QueryKey {
     pub fn at(alloc: Global, owner: &NameRef, record_type: RecordType) -> Result<QueryKey, NoMemory>
         ensures { IfOk result (λ k. k ≡ key_of (asked owner.now record_type.0)) }
     {
-        let mut name = Vec::with_capacity(alloc, owner.wire().len())?;
-        owner.push_folded(&mut name)?;
+        let name = folded_of(alloc, owner)?;
         Ok(QueryKey {
-            name: Octets::from_vec(name),
+            name,
             record_type: record_type.0,
             class: DNSClass::ANY.0,
         })
