@@ -1,4 +1,4 @@
--- For private functions of this crate only: owners and types of sets as keys of an ordered map.
+-- Sets as keys: owner and type (RFC 2181, 5), and the owner with its letters folded (RFC 1034, 3.1).
 use Rattle.std.specs.Prelude.{ℕ}
 use Rattle.std.specs.declared.cmp.Ordering.{Ordering}
 use Rattle.std.specs.Ordering.{nat_cmp, ordering_then}

@@ -1,4 +1,4 @@
--- For the crates that group, weigh and mark sets, and for no promise of theirs: places of sets by owner and type.
+-- Where an owner's set of a type stands among sets (RFC 2181, 5), or the set that a signature covers (RFC 4034, 3.1.1).
 use Rattle.std.specs.Prelude.{◌≡◌, ℕ, suc, Bool, ◌==◌, ◌&&◌, List, [], ◌∷◌, Option, None, Some, is_some, if◌then◌else◌}
 use Rattle.std.specs.BTreeMap as tree
 use Rattle.dns_model.specs.declared.section.Section.{Section}

@@ -1,4 +1,4 @@
--- For private functions and the handles of crates above only: questions as keys of an ordered map.
+-- Questions as keys: name, type and class (RFC 1035, 4.1.2), and the name with its letters folded (RFC 1034, 3.1).
 use Rattle.std.specs.declared.cmp.Ordering.{Ordering}
 use Rattle.std.specs.Ordering.{nat_cmp, ordering_then}
 use Rattle.std.specs.Cmp.Lexicographic.{slice_cmp}

@@ -40,7 +40,11 @@ impl QueryKey {
     }
 
     /// The key of a name and a type in any class.
-    pub fn at(alloc: Global, owner: &NameRef, record_type: RecordType) -> Result<QueryKey, NoMemory>
+    pub(crate) fn at(
+        alloc: Global,
+        owner: &NameRef,
+        record_type: RecordType,
+    ) -> Result<QueryKey, NoMemory>
         ensures { IfOk result (λ k. k ≡ key_of (asked owner.now record_type.0)) }
     {
         let name = folded_of(alloc, owner)?;
