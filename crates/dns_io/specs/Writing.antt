@@ -1,12 +1,22 @@
 -- What a writing leaves in a sink, where the sink tells its bytes, and how a run ends by it.
-use Rattle.std.specs.Prelude.{ℕ, ◌≡◌, ◌≢◌, ◌≤◌, List, length, take, Option}
+use Rattle.std.specs.Prelude.{ℕ, ◌≡◌, ◌≢◌, ◌≤◌, Bool, true, List, length, take, Option}
 use Rattle.std.specs.Io.KnownBytes.{Appends}
+use Rattle.dns_model.specs.Counts.{Rose}
 
 -- a prefix of the bytes was taken
 pub record TakesPrefix (before now : Option (List ℕ)) (bytes : List ℕ) : Type 0 where
   pub count : ℕ
   pub bound : count ≤ length bytes
   pub taken : Appends before now (take count bytes)
+
+-- how the writing of a text ends that is to end with the expected status: with that one, and all was taken; with 5 after a prefix of the
+-- text, and the count of faults rose; or with 6 after a prefix, at a sink whose writes may want memory
+pub data EndsWriting (status expected : ℕ) (takes_memory : Bool) (faults risen : ℕ) (before now : Option (List ℕ)) (text : List ℕ) : Type 0 where
+  Written : status ≡ expected → Appends before now text → EndsWriting status expected takes_memory faults risen before now text
+  WriteFailed : status ≡ 5 → Rose faults risen → TakesPrefix before now text
+      → EndsWriting status expected takes_memory faults risen before now text
+  MemoryRanOut : status ≡ 6 → takes_memory ≡ true → TakesPrefix before now text
+      → EndsWriting status expected takes_memory faults risen before now text
 
 -- a run that only writes a text: it ends with this status, which says that all was written, or at the sink or for want of memory,
 -- after a prefix of the text

@@ -1,5 +1,5 @@
 // What takes bytes, and the loop that writes them all.
-ghost use Rattle.std.specs.Prelude.{◌≡◌, ℕ, ◌<◌, ◌≤◌, List, length, Option, OnOk};
+ghost use Rattle.std.specs.Prelude.{◌≡◌, ℕ, ◌<◌, ◌≤◌, Bool, true, List, length, Option, OnOk};
 ghost use Rattle.std.specs.Io.{WritesAtMost};
 ghost use Rattle.std.specs.Io.KnownBytes.{Appends, WriteAppends};
 ghost use Rattle.dns_model.specs.Counts.{Rose};
@@ -41,6 +41,9 @@ pub trait Sink {
     /// How many writes have failed. It stops at the greatest `u64`.
     ghost faults: { Self → ℕ };
 
+    /// Whether a write may want memory. Where it may not, none answers [`SinkFault::NoMemory`].
+    ghost takes_memory: { Bool };
+
     /// Takes bytes from the front of `bytes`, and answers how many. To take none of a piece that
     /// isn't empty is a fault too.
     fn write(&mut self, bytes: &[u8]) -> Result<usize, SinkFault>
@@ -48,6 +51,7 @@ pub trait Sink {
         ensures bytes { WriteAppends (taken self.old) (taken self.new) result bytes.now }
         ensures later { faults self.old ≤ faults self.new }
         ensures failed { result ≡ Err SinkFault.Failed → Rose (faults self.old) (faults self.new) }
+        ensures memory { result ≡ Err SinkFault.NoMemory → takes_memory ≡ true }
         ensures none { result ≡ Ok 0 → 0 < length bytes.now → Rose (faults self.old) (faults self.new) };
 }
 
@@ -55,6 +59,7 @@ pub trait Sink {
 pub fn write_all<K: Sink>(sink: &mut K, bytes: &[u8]) -> Result<(), SinkFault>
     ensures all { OnOk result (Appends (K.taken sink.old) (K.taken sink.new) bytes.now) }
     ensures failed { result ≡ Err SinkFault.Failed → Rose (K.faults sink.old) (K.faults sink.new) }
+    ensures memory { result ≡ Err SinkFault.NoMemory → K.takes_memory ≡ true }
     ensures later { K.faults sink.old ≤ K.faults sink.new }
     ensures prefix { TakesPrefix (K.taken sink.old) (K.taken sink.new) bytes.now }
 {

@@ -1,5 +1,5 @@
 // A source over any reader of std, and a sink over any writer: the edge to the system.
-ghost use Rattle.std.specs.Prelude.{◌≡◌};
+ghost use Rattle.std.specs.Prelude.{◌≡◌, false};
 
 use crate::sink::{Sink, SinkFault};
 use crate::source::{Failed, Source};
@@ -67,6 +67,8 @@ impl<W: Write + Drop> Sink for OutputSink<W> {
     ghost taken = { λ s. W.contents (writer_of s) };
 
     ghost faults = { failed_writes };
+
+    ghost takes_memory = { false };
 
     fn write(&mut self, bytes: &[u8]) -> Result<usize, SinkFault> {
         match self.output.write(bytes) {

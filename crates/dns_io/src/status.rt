@@ -1,9 +1,9 @@
 //! The statuses with which a program ends, and what it answers where a text or an input isn't whole.
-ghost use Rattle.std.specs.Prelude.{◌≡◌, ◌≢◌, ◌<◌, ◌≤◌};
+ghost use Rattle.std.specs.Prelude.{◌≡◌, ◌≢◌, ◌<◌, ◌≤◌, true};
 ghost use Rattle.std.specs.Io.KnownBytes.{Appends};
 ghost use Rattle.dns_model.specs.Counts.{Rose};
 ghost use Rattle.dns_io.specs.Reading.{too_long_text};
-ghost use Rattle.dns_io.specs.Writing.{TakesPrefix, WritesText};
+ghost use Rattle.dns_io.specs.Writing.{EndsWriting, TakesPrefix, WritesText};
 
 use crate::sink::{Sink, SinkFault, write_all};
 use crate::source::ReadStop;
@@ -35,6 +35,7 @@ pub const TOO_LONG: u8 = 7;
 /// The status where an input wasn't read to its end, of which nothing is written.
 pub fn read_status(stop: ReadStop) -> u8
     ensures failed { result ≡ 4 → stop ≡ ReadStop.Failed }
+    ensures memory { result ≡ 6 → stop ≡ ReadStop.NoMemory }
     ensures long { result ≡ 7 → stop ≡ ReadStop.TooLong }
     ensures least { 4 ≤ result }
     ensures other { result ≢ 5 }
@@ -47,45 +48,40 @@ pub fn read_status(stop: ReadStop) -> u8
     }
 }
 
-// The status where a text wasn't written whole.
-fn sink_status(fault: SinkFault) -> u8
-    ensures failed { result ≡ 5 → fault ≡ SinkFault.Failed }
-    ensures least { 5 ≤ result }
-    ensures most { result ≤ 6 }
-{
-    match fault {
-        SinkFault::Failed => WRITE_FAILED,
-        SinkFault::NoMemory => NO_MEMORY,
-    }
-}
-
 /// Writes a text, and answers the status that is given, or why it wasn't written.
 pub fn write_text<W: Sink>(status: u8, text: &[u8], output: &mut W) -> u8
+    ensures ends { EndsWriting result status W.takes_memory (W.faults output.old) (W.faults output.new)
+        (W.taken output.old) (W.taken output.new) text.now }
+
+    // What follows of that for a status below 5.
     ensures written { result < 5 → Appends (W.taken output.old) (W.taken output.new) text.now }
     ensures kept { result < 5 → result ≡ status }
     ensures text { status < 5 → WritesText result status (W.taken output.old) (W.taken output.new) text.now }
     ensures sink { result ≡ 5 → status < 5 → Rose (W.faults output.old) (W.faults output.new) }
-    ensures prefix { TakesPrefix (W.taken output.old) (W.taken output.new) text.now }
+    ensures memory { result ≡ 6 → status < 5 → W.takes_memory ≡ true }
     ensures most { status < 5 → result ≤ 6 }
+
+    ensures prefix { TakesPrefix (W.taken output.old) (W.taken output.new) text.now }
     ensures later { W.faults output.old ≤ W.faults output.new }
 {
     match write_all(output, text) {
         Ok(()) => status,
-        Err(fault) => sink_status(fault),
+        Err(SinkFault::Failed) => WRITE_FAILED,
+        Err(SinkFault::NoMemory) => NO_MEMORY,
     }
 }
 
 /// Says that the input is too long.
 pub fn refuse_long<W: Sink>(output: &mut W) -> u8
+    ensures ends { EndsWriting result 7 W.takes_memory (W.faults output.old) (W.faults output.new)
+        (W.taken output.old) (W.taken output.new) too_long_text }
     ensures written { result ≡ 7 → Appends (W.taken output.old) (W.taken output.new) too_long_text }
     ensures sink { result ≡ 5 → Rose (W.faults output.old) (W.faults output.new) }
+    ensures memory { result ≡ 6 → W.takes_memory ≡ true }
     ensures prefix { TakesPrefix (W.taken output.old) (W.taken output.new) too_long_text }
     ensures least { 5 ≤ result }
     ensures most { result ≤ 7 }
     ensures later { W.faults output.old ≤ W.faults output.new }
 {
-    match write_all(output, b"input too long\n") {
-        Ok(()) => TOO_LONG,
-        Err(fault) => sink_status(fault),
-    }
+    write_text(TOO_LONG, b"input too long\n", output)
 }

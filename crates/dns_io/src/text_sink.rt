@@ -1,5 +1,5 @@
 // Sinks whose bytes are in memory.
-ghost use Rattle.std.specs.Prelude.{◌≡◌, ℕ, ◌<◌, ◌≤◌, ◌↔◌, List, [], length, Some, IfOk, IfErr, IsTrue};
+ghost use Rattle.std.specs.Prelude.{◌≡◌, ℕ, ◌<◌, ◌≤◌, ◌↔◌, List, [], length, Some, IfOk, IfErr, IsTrue, true};
 ghost use Rattle.std.specs.Io.{WritesAtMost};
 ghost use Rattle.std.specs.Io.KnownBytes.{WriteAppends};
 ghost use Rattle.dns_io.specs.Calls.{no_calls, next_fails, with_call};
@@ -46,6 +46,8 @@ impl Sink for SureSink {
     ghost taken = { λ s. Some s };
 
     ghost faults = { λ _. 0 };
+
+    ghost takes_memory = { true };
 
     fn write(&mut self, bytes: &[u8]) -> Result<usize, SinkFault>
         ensures bound { WritesAtMost result bytes.now }
@@ -96,6 +98,8 @@ impl Sink for TextSink {
     ghost taken = { λ s. Some s.taken };
 
     ghost faults = { λ s. s.calls.faults };
+
+    ghost takes_memory = { true };
 
     fn write(&mut self, bytes: &[u8]) -> Result<usize, SinkFault>
         ensures bound { WritesAtMost result bytes.now }

@@ -1,3 +1,4 @@
+use dns_io::status::read_status;
 use dns_io::*;
 use dns_name::Octets;
 use std::alloc::{AllocError, Global};
@@ -33,11 +34,13 @@ struct Slow {
 }
 
 impl Sink for Slow {
-    ghost use Rattle.std.specs.Prelude.{Some};
+    ghost use Rattle.std.specs.Prelude.{Some, true};
 
     ghost taken = { λ s. Some s.taken.items };
 
     ghost faults = { λ s. s.faults };
+
+    ghost takes_memory = { true };
 
     fn write(&mut self, bytes: &[u8]) -> Result<usize, SinkFault> {
         match bytes {
@@ -61,11 +64,13 @@ struct Full {
 }
 
 impl Sink for Full {
-    ghost use Rattle.std.specs.Prelude.{None};
+    ghost use Rattle.std.specs.Prelude.{None, false};
 
     ghost taken = { λ _. None };
 
     ghost faults = { λ s. s.faults };
+
+    ghost takes_memory = { false };
 
     fn write(&mut self, bytes: &[u8]) -> Result<usize, SinkFault> {
         let count = bytes.len().min(self.room).min(3);
@@ -237,6 +242,20 @@ fn an_input_of_the_limit_is_read_and_a_longer_one_is_not(rt: HostRuntime) {
     assert!(rt; longest_is_read(rt.alloc()));
     for over in [1, 2, 70_000] {
         assert!(rt; is_too_long(rt.alloc(), over), "{over} bytes");
+    }
+}
+
+/// Why an input wasn't read to its end, and the status for it.
+const STOPS: [(ReadStop, u8); 3] = [
+    (ReadStop::Failed, 4),
+    (ReadStop::TooLong, 7),
+    (ReadStop::NoMemory, 6),
+];
+
+#[test]
+fn each_stop_of_a_reading_has_its_status(rt: HostRuntime) {
+    for (stop, status) in &STOPS {
+        assert_eq!(rt; read_status(*stop), *status);
     }
 }
 

@@ -14,11 +14,13 @@ struct Slow {
 }
 
 impl Sink for Slow {
-    ghost use Rattle.std.specs.Prelude.{Some};
+    ghost use Rattle.std.specs.Prelude.{Some, true};
 
     ghost taken = { λ s. Some s.taken.items };
 
     ghost faults = { λ s. s.faults };
+
+    ghost takes_memory = { true };
 
     fn write(&mut self, bytes: &[u8]) -> Result<usize, SinkFault> {
         match bytes {
