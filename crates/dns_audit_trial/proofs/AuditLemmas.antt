@@ -1,5 +1,5 @@
 -- What the checks say of the response to a session, and how a run ends: out of what the parts ensure.
-use Rattle.std.proofs.Common.{ℕ, ◌≡◌, ◌⊎◌, ◌↔◌, ◌∙◌, Bool, true, false, List, Option, None, Some, Result, Ok, Err, IfOk, IfSome, IsTrue, refl, ap, ap₂, subst, sym, inl, inr}
+use Rattle.std.proofs.Common.{ℕ, ◌≡◌, ◌⊎◌, ◌↔◌, ◌∙◌, Bool, true, false, List, [], Option, None, Some, Result, Ok, Err, IfOk, IsTrue, refl, ap, ap₂, subst, inl, inr}
 use Rattle.std.specs.Result.{result_ok}
 use Rattle.std.specs.Io.KnownBytes.{Appends}
 use Rattle.dns_model.specs.Keys.{VerifierAnswers, AnchorValue, anchored}
@@ -12,14 +12,18 @@ use Rattle.dns_handle.specs.declared.error.NetError.TheVariants.{NoMemory}
 use Rattle.dns_anchors.specs.Listing.{answers_of}
 use Rattle.dns_session.specs.SessionValue.{SessionValue}
 use Rattle.dns_session.specs.Grammar.{session_of}
+use Rattle.dns_io.specs.Reading.{OfInput}
+use Rattle.dns_io.specs.Writing.{TakesPrefix}
+use Rattle.dns_io.proofs.Leaving.{of_any, nothing_taken}
 use Rattle.dns_run.specs.Causes.{AnswersSession}
+use Rattle.dns_run.specs.Outcomes.{WrotePrefix}
 use Rattle.dns_run.specs.Soundness.{listing}
 use Rattle.dns_run.proofs.JudgeLemmas.{judge_plain}
 use Rattle.dns_audit_trial.specs.declared.audit.Audited.{Audited}
 use Rattle.dns_audit_trial.specs.Audits.{audited_by, depth_of, response_in, session_audited, Responds}
 use Rattle.dns_audit_trial.specs.Forms.{audit_text, truth_line}
 use Rattle.dns_audit_trial.specs.LongChains.{is_long_chain_justified}
-use Rattle.dns_audit_trial.specs.Endings.{Audits, ComesTo, EndsAs, EndsTold, EndsUnread}
+use Rattle.dns_audit_trial.specs.Endings.{Audits, ComesTo, EndsAs, EndsTold, EndsUnread, MayWrite, Told, Nothing}
 
 -- ---- the response
 
@@ -96,12 +100,18 @@ pub ends_written : (told : Result SessionValue ℕ) (status : ℕ) (text : List 
     → ComesTo told status text → Appends before now text → EndsAs told status before now
 ends_written told status text before now comes written = record { text = text; comes = comes; written = written }
 
--- the bytes that were read are those that the source told
-pub ends_told : (left : Option (List ℕ)) (bytes : List ℕ) (status : ℕ) (before now : Option (List ℕ))
-    → IfSome left (λ xs. bytes ≡ xs) → EndsAs (session_of bytes) status before now
-    → IfSome left (λ xs. EndsAs (session_of xs) status before now)
-ends_told None bytes status before now same ends = tt
-ends_told (Some xs) bytes status before now same ends = rw (sym same) ends
+-- a prefix of what was to be written
+pub ends_prefix : (told : Result SessionValue ℕ) (status : ℕ) (text : List ℕ) (before now : Option (List ℕ))
+    → ComesTo told status text → TakesPrefix before now text → WrotePrefix before now (MayWrite told)
+ends_prefix told status text before now comes taken = record { text = text; fact = Told status comes; written = taken }
+
+-- nothing was written
+pub nothing_written : (told : Result SessionValue ℕ) (before : Option (List ℕ)) → WrotePrefix before before (MayWrite told)
+nothing_written told before = record { text = []; fact = Nothing refl; written = nothing_taken before [] }
+
+pub nothing_told : (told before : Option (List ℕ)) → OfInput told (λ bytes. WrotePrefix before before (MayWrite (session_of bytes)))
+nothing_told told before =
+    of_any (λ bytes. WrotePrefix before before (MayWrite (session_of bytes))) told (λ bytes. nothing_written (session_of bytes) before)
 
 -- the line of what the check of a long chain told
 pub told_line : (signed status : ℕ) (told : Bool) (text : List ℕ) (before now : Option (List ℕ))

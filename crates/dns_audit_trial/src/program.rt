@@ -1,12 +1,15 @@
 //! The program over any source and any sink.
-ghost use Rattle.std.specs.Prelude.{ℕ, ◌≡◌, ◌≢◌, ◌<◌, ◌≤◌, length, codes, false, None, Some, IfOk, IfSome};
+ghost use Rattle.std.specs.Prelude.{ℕ, ◌≡◌, ◌≢◌, ◌+◌, ◌<◌, ◌≤◌, length, codes, true, false, None, Some, IfOk, IfSome};
 ghost use Rattle.std.specs.Result.{result_ok};
 ghost use Rattle.std.specs.Io.KnownBytes.{Appends};
 ghost use Rattle.dns_model.specs.Counts.{Rose};
-ghost use Rattle.dns_io.specs.Reading.{input_limit, IsEnded};
+ghost use Rattle.dns_io.specs.Reading.{input_limit, IsEnded, OfInput, ReadsFront};
+ghost use Rattle.dns_io.specs.Writing.{TakesPrefix};
+ghost use Rattle.dns_run.specs.Outcomes.{WrotePrefix};
 ghost use Rattle.dns_session.specs.Grammar.{session_of};
-ghost use Rattle.dns_audit_trial.specs.Forms.{asked_form, reads_input};
-ghost use Rattle.dns_audit_trial.specs.Endings.{Audits, ComesTo, EndsAs, EndsTold, EndsUnread};
+ghost use Rattle.dns_audit_trial.specs.Forms.{asked_form, reads_input, truth_line as truth_text};
+ghost use Rattle.dns_audit_trial.specs.Endings.{Audits, ComesTo, EndsAs, EndsTold, EndsUnread, LeavesPrefix, MayWrite};
+ghost use Rattle.dns_audit_trial.specs.LongChains.{is_long_chain_justified as is_long_justified};
 ghost use Rattle.dns_audit_trial.specs.declared.form.Form.TheVariants.{Audit, Chains};
 
 use crate::audit::{response_to, session_audited};
@@ -79,14 +82,16 @@ fn ending(alloc: Global, more: u32, bytes: &[u8]) -> Result<(u8, Vec<u8>), NoMem
 }
 
 // Writes what bytes come to.
-#[tactic(auto, using(crate::proofs::AuditLemmas::ends_written))]
+#[tactic(auto, using(crate::proofs::AuditLemmas::ends_written, crate::proofs::AuditLemmas::ends_prefix, crate::proofs::AuditLemmas::nothing_written))]
 fn answer<W: Sink>(alloc: Global, more: u32, bytes: &[u8], output: &mut W) -> u8
     requires { length bytes.now ≤ input_limit }
     ensures ends { result < 4 → EndsAs (session_of bytes.now) result (W.taken output.old) (W.taken output.new) }
     ensures form { result ≢ 2 }
     ensures read { result ≢ 4 }
     ensures sink { result ≡ 5 → Rose (W.faults output.old) (W.faults output.new) }
+    ensures prefix { WrotePrefix (W.taken output.old) (W.taken output.new) (MayWrite (session_of bytes.now)) }
     ensures most { result ≤ 6 }
+    ensures later { W.faults output.old ≤ W.faults output.new }
 {
     match ending(alloc, more, bytes) {
         Ok((status, text)) => write_text(status, &text, output),
@@ -95,16 +100,23 @@ fn answer<W: Sink>(alloc: Global, more: u32, bytes: &[u8], output: &mut W) -> u8
 }
 
 // Reads a session, and audits the response to it.
-#[tactic(auto, using(crate::proofs::AuditLemmas::ends_told))]
+#[tactic(auto, using(dns_io::proofs::Leaving::of_read, crate::proofs::AuditLemmas::nothing_told))]
 fn audit<S: Source, W: Sink>(alloc: Global, more: u32, input: &mut S, output: &mut W) -> u8
-    ensures ends { result < 4
-        → IfSome (S.left input.old) (λ bytes. EndsAs (session_of bytes) result (W.taken output.old) (W.taken output.new)) }
+    ensures ends { result < 4 → OfInput (S.left input.old)
+        (λ bytes. EndsAs (session_of bytes) result (W.taken output.old) (W.taken output.new)) }
+    ensures prefix { OfInput (S.left input.old)
+        (λ bytes. WrotePrefix (W.taken output.old) (W.taken output.new) (MayWrite (session_of bytes))) }
     ensures ended { result < 4 → IsEnded (S.left input.old) (S.left input.new) }
+    ensures reads { ReadsFront (input_limit + 1) (S.left input.old) (S.left input.new) }
     ensures form { result ≢ 2 }
     ensures source { result ≡ 4 → Rose (S.faults input.old) (S.faults input.new) }
+    ensures untouched { result ≡ 4 → output.new ≡ output.old }
+    ensures silent { result ≡ 7 → output.new ≡ output.old }
     ensures sink { result ≡ 5 → Rose (W.faults output.old) (W.faults output.new) }
     ensures long { result ≡ 7 → IfSome (S.left input.old) (λ bytes. input_limit < length bytes) }
     ensures most { result ≤ 7 }
+    ensures read_later { S.faults input.old ≤ S.faults input.new }
+    ensures later { W.faults output.old ≤ W.faults output.new }
 {
     match read_all(alloc, input) {
         Ok(bytes) => answer(alloc, more, &bytes, output),
@@ -113,12 +125,14 @@ fn audit<S: Source, W: Sink>(alloc: Global, more: u32, input: &mut S, output: &m
 }
 
 // Checks a chain of so many signed links, and writes whether it is justified.
-#[tactic(auto, using(crate::proofs::AuditLemmas::told_line))]
+#[tactic(auto, using(crate::proofs::AuditLemmas::told_line, dns_io::proofs::Leaving::nothing_taken))]
 fn check_long_chain<W: Sink>(alloc: Global, signed: u32, output: &mut W) -> u8
     ensures told { result < 4 → EndsTold signed result (W.taken output.old) (W.taken output.new) }
     ensures read { result ≢ 4 }
     ensures sink { result ≡ 5 → Rose (W.faults output.old) (W.faults output.new) }
+    ensures prefix { TakesPrefix (W.taken output.old) (W.taken output.new) (truth_text (is_long_justified signed)) }
     ensures most { result ≤ 6 }
+    ensures later { W.faults output.old ≤ W.faults output.new }
 {
     match is_long_chain_justified(alloc, signed) {
         Ok(justified) => write_text(status::DONE, truth_line(justified), output),
@@ -133,16 +147,19 @@ fn check_long_chain<W: Sink>(alloc: Global, signed: u32, output: &mut W) -> u8
 /// has no response. `again TIMES` checks the response so many times more. `chains LINKS` reads nothing, and writes
 /// whether a chain with so many signed links is justified.
 ///
-/// 0: the line is written. 2: the words are no form. 3: the input is no session. 4: a read failed. 5: a write failed.
-/// 6: memory ran out. 7: the input has more than 16,777,216 bytes.
+/// 0: the line is written. 2: the words are no form. 3: the input is no session. 4: a read failed, and nothing is written.
+/// 5: a write failed after a prefix of the text. 6: memory ran out. 7: the input has more than 16,777,216 bytes, and
+/// nothing is written.
+#[tactic(auto, using(dns_io::proofs::Leaving::nothing_read))]
 pub(crate) fn run<S: Source, W: Sink>(
     alloc: Global,
     words: &[Vec<u8>],
     input: &mut S,
     output: &mut W,
 ) -> u8
-    ensures ends { (more : ℕ) → asked_form words.now ≡ Some (Audit more) → result < 4
-        → IfSome (S.left input.old) (λ bytes. EndsAs (session_of bytes) result (W.taken output.old) (W.taken output.new)) }
+    // Where the source tells no bytes, an audit ends as some bytes say.
+    ensures ends { (more : ℕ) → asked_form words.now ≡ Some (Audit more) → result < 4 → OfInput (S.left input.old)
+        (λ bytes. EndsAs (session_of bytes) result (W.taken output.old) (W.taken output.new)) }
     ensures ended { (more : ℕ) → asked_form words.now ≡ Some (Audit more) → result < 4
         → IsEnded (S.left input.old) (S.left input.new) }
     ensures chains { (signed : ℕ) → asked_form words.now ≡ Some (Chains signed) → result < 4
@@ -154,6 +171,14 @@ pub(crate) fn run<S: Source, W: Sink>(
     ensures told { asked_form words.now ≡ None → result < 4
         → Appends (W.taken output.old) (W.taken output.new) (codes "bad words\n") }
 
+    // Where no work is done, 6 is answered only over a sink whose writes may want memory.
+    ensures memory { asked_form words.now ≡ None → result ≡ 6 → W.takes_memory ≡ true }
+
+    // Whatever the status, a prefix of a text that words and input come to was written; with 4 and 7 nothing.
+    ensures prefix { LeavesPrefix (asked_form words.now) (S.left input.old) (W.taken output.old) (W.taken output.new) }
+    ensures untouched { result ≡ 4 → output.new ≡ output.old }
+    ensures silent { result ≡ 7 → output.new ≡ output.old }
+
     // 4 and 7 are answered only where the input is read: with the words `chains`, and for wrong words, it stays as it was.
     ensures unread { reads_input (asked_form words.now) ≡ false → input.new ≡ input.old }
     ensures reads { reads_input (asked_form words.now) ≡ false → result ≢ 4 }
@@ -161,7 +186,10 @@ pub(crate) fn run<S: Source, W: Sink>(
     ensures source { result ≡ 4 → Rose (S.faults input.old) (S.faults input.new) }
     ensures sink { result ≡ 5 → Rose (W.faults output.old) (W.faults output.new) }
     ensures long { result ≡ 7 → IfSome (S.left input.old) (λ bytes. input_limit < length bytes) }
+    ensures front { ReadsFront (input_limit + 1) (S.left input.old) (S.left input.new) }
     ensures most { result ≤ 7 }
+    ensures read_later { S.faults input.old ≤ S.faults input.new }
+    ensures later { W.faults output.old ≤ W.faults output.new }
 {
     match form_of(words) {
         Some(Form::Audit(more)) => audit(alloc, more, input, output),

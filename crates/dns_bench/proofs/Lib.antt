@@ -2,3 +2,4 @@ mod FrameLemmas
 mod CountingLemmas
 mod SignedLemmas
 mod LookupLemmas
+mod PrefixLemmas

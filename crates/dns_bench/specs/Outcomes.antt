@@ -1,9 +1,12 @@
 -- What a run writes: counts, or the place where its input is bad.
-use Rattle.std.specs.Prelude.{ℕ, ◌≡◌, Bool, true, false, List, Option, None, Some, Ok}
+use Rattle.std.specs.Prelude.{ℕ, ◌≡◌, ◌<◌, Bool, true, false, List, [], length, Option, None, Some, Ok}
 use Rattle.std.specs.Io.KnownBytes.{Appends}
 use Rattle.dns_session.specs.SessionValue.{SessionValue}
 use Rattle.dns_session.specs.Grammar.{session_of}
-use Rattle.dns_run.specs.Outcomes.{Leaves, Refuses}
+use Rattle.dns_io.specs.Reading.{input_limit, too_long_text, OfInput}
+use Rattle.dns_io.specs.Writing.{TakesPrefix}
+use Rattle.dns_run.specs.Forms.{bad_words_text}
+use Rattle.dns_run.specs.Outcomes.{Leaves, Refuses, WrotePrefix}
 use Rattle.dns_bench.specs.Frames.{frames, IsCutOff}
 use Rattle.dns_bench.specs.Counting.{nothing, with_passes}
 use Rattle.dns_bench.specs.SignedSet.{signed_count}
@@ -56,6 +59,19 @@ abbrev pub LeavesPlace : Option Form → Option (List ℕ) → Option (List ℕ)
 LeavesPlace None told before now = ⊥
 LeavesPlace (Some (Reading work passes)) told before now = Leaves (IsRefused work) told before now
 LeavesPlace (Some (Signed records passes)) told before now = ⊥
+
+-- what so many times of this work on the bytes may write: nothing, where memory runs out before a text is there
+pub data MayWrite (work : Work) (passes : ℕ) (bytes text : List ℕ) : Type 0 where
+  Measured : IsMeasured work passes bytes text → MayWrite work passes bytes text
+  Refused : IsRefused work bytes text → MayWrite work passes bytes text
+  TooLong : input_limit < length bytes → text ≡ too_long_text → MayWrite work passes bytes text
+  Nothing : text ≡ [] → MayWrite work passes bytes text
+
+-- a prefix of a text that the words and the input come to was written
+abbrev pub LeavesPrefix : Option Form → Option (List ℕ) → Option (List ℕ) → Option (List ℕ) → Type 0
+LeavesPrefix None told before now = TakesPrefix before now bad_words_text
+LeavesPrefix (Some (Reading work passes)) told before now = OfInput told (λ bytes. WrotePrefix before now (MayWrite work passes bytes))
+LeavesPrefix (Some (Signed records passes)) told before now = TakesPrefix before now (signed_text (signed_count records passes))
 
 -- the words ask for what reads an input
 abbrev pub reads_input : Option Form → Bool

@@ -2,14 +2,14 @@
 ghost use Rattle.std.specs.Prelude.{◌≡◌, ◌≢◌, ◌≤◌, ◌<◌, ◌⊎◌, true, false, length, None, IfOk};
 ghost use Rattle.std.specs.Io.KnownBytes.{Appends};
 ghost use Rattle.dns_model.specs.Counts.{Rose};
-ghost use Rattle.dns_io.specs.Reading.{input_limit, IsEnded};
-ghost use Rattle.dns_io.specs.Writing.{WritesText};
+ghost use Rattle.dns_io.specs.Reading.{input_limit, IsEnded, OfInput};
+ghost use Rattle.dns_io.specs.Writing.{TakesPrefix, WritesText};
 ghost use Rattle.dns_run.specs.Forms.{bad_words_text};
-ghost use Rattle.dns_run.specs.Outcomes.{Leaves, Refuses, Wrote};
+ghost use Rattle.dns_run.specs.Outcomes.{Leaves, Refuses, Wrote, WrotePrefix};
 ghost use Rattle.dns_run.specs.Runs.{EndsByLength};
 ghost use Rattle.dns_bench.specs.SignedSet as set;
 ghost use Rattle.dns_bench.specs.Forms.{asked_form, signed_text};
-ghost use Rattle.dns_bench.specs.Outcomes.{HasCounted, HasLookedUp, NamesFrame, IsMeasured, IsRefused, LeavesCounts, LeavesPlace, reads_input};
+ghost use Rattle.dns_bench.specs.Outcomes.{HasCounted, HasLookedUp, NamesFrame, IsMeasured, IsRefused, MayWrite, LeavesCounts, LeavesPlace, LeavesPrefix, reads_input};
 
 use crate::counts::count_passes;
 use crate::form::{Form, Work, form_of};
@@ -17,7 +17,7 @@ use crate::frames::{FrameStop, messages_of};
 use crate::lookups::count_lookups;
 use crate::signing::signed_count;
 use crate::texts::{bad_frame_text, bad_line_text, counts_text, lookups_text, signed_text};
-use dns_io::status::{self, refuse_long, write_text};
+use dns_io::status::{self, read_status, refuse_long, write_text};
 use dns_io::{ReadStop, Sink, Source, read_all};
 use dns_name::NoMemory;
 use dns_session::{SessionStop, read_session};
@@ -79,6 +79,7 @@ fn measure(alloc: Global, work: Work, passes: u32, bytes: &[u8]) -> Result<(u8, 
 }
 
 // Works on the bytes so many times, and writes what came of it.
+#[tactic(auto, using(crate::proofs::PrefixLemmas::measured_prefix, crate::proofs::PrefixLemmas::nothing_written))]
 fn write_measured<W: Sink>(
     alloc: Global,
     work: Work,
@@ -93,6 +94,7 @@ fn write_measured<W: Sink>(
     ensures form { result ≢ 2 }
     ensures read { result ≢ 4 }
     ensures sink { result ≡ 5 → Rose (W.faults output.old) (W.faults output.new) }
+    ensures prefix { WrotePrefix (W.taken output.old) (W.taken output.new) (MayWrite work passes bytes.now) }
     ensures most { result ≤ 6 }
     ensures later { W.faults output.old ≤ W.faults output.new }
 {
@@ -103,7 +105,7 @@ fn write_measured<W: Sink>(
 }
 
 // Reads an input and works on it.
-#[tactic(auto, using(dns_run::proofs::OutcomeLemmas::leaves_told))]
+#[tactic(auto, using(dns_io::proofs::Leaving::of_read, crate::proofs::PrefixLemmas::nothing_told, crate::proofs::PrefixLemmas::long_prefix))]
 fn read_and_measure<S: Source, W: Sink>(
     alloc: Global,
     work: Work,
@@ -119,6 +121,8 @@ fn read_and_measure<S: Source, W: Sink>(
     ensures untouched { result ≡ 4 → output.new ≡ output.old }
     ensures sink { result ≡ 5 → Rose (W.faults output.old) (W.faults output.new) }
     ensures length { EndsByLength result (S.left input.old) (W.taken output.old) (W.taken output.new) }
+    ensures prefix { OfInput (S.left input.old)
+        (λ bytes. WrotePrefix (W.taken output.old) (W.taken output.new) (MayWrite work passes bytes)) }
     ensures ended { result < 4 → IsEnded (S.left input.old) (S.left input.new) }
     ensures most { result ≤ 7 }
     ensures read_later { S.faults input.old ≤ S.faults input.new }
@@ -126,17 +130,18 @@ fn read_and_measure<S: Source, W: Sink>(
 {
     match read_all(alloc, input) {
         Ok(bytes) => write_measured(alloc, work, passes, &bytes, output),
-        Err(ReadStop::Failed) => status::READ_FAILED,
         Err(ReadStop::TooLong) => refuse_long(output),
-        Err(ReadStop::NoMemory) => status::NO_MEMORY,
+        Err(stop) => read_status(stop),
     }
 }
 
 // Makes signed bytes so many times, and writes how many that were.
+#[tactic(auto, using(dns_io::proofs::Leaving::nothing_taken))]
 fn write_signed<W: Sink>(alloc: Global, records: u16, passes: u32, output: &mut W) -> u8
     ensures counted { result ≡ 0
         → Appends (W.taken output.old) (W.taken output.new) (signed_text (set.signed_count records passes)) }
     ensures sink { result ≡ 5 → Rose (W.faults output.old) (W.faults output.new) }
+    ensures prefix { TakesPrefix (W.taken output.old) (W.taken output.new) (signed_text (set.signed_count records passes)) }
     ensures status { (result ≡ 0) ⊎ (5 ≤ result) }
     ensures most { result ≤ 6 }
     ensures later { W.faults output.old ≤ W.faults output.new }
@@ -180,6 +185,12 @@ pub(crate) fn run<S: Source, W: Sink>(
     ensures source { result ≡ 4 → Rose (S.faults input.old) (S.faults input.new) }
     ensures untouched { result ≡ 4 → output.new ≡ output.old }
     ensures sink { result ≡ 5 → Rose (W.faults output.old) (W.faults output.new) }
+
+    // Where no work is done, 6 is answered only over a sink whose writes may want memory.
+    ensures memory { asked_form words.now ≡ None → result ≡ 6 → W.takes_memory ≡ true }
+
+    // Whatever the status, a prefix of a text that words and input come to was written.
+    ensures prefix { LeavesPrefix (asked_form words.now) (S.left input.old) (W.taken output.old) (W.taken output.new) }
 
     // 7, and an input that is too long. An input that is worked on, or refused, was read to its end.
     ensures length { reads_input (asked_form words.now) ≡ true

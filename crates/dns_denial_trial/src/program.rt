@@ -1,8 +1,8 @@
 //! The program over any source and any sink.
-ghost use Rattle.std.specs.Prelude.{◌≡◌, ◌≢◌, ◌<◌, ◌≤◌, length, IfOk, IfSome};
-ghost use Rattle.std.specs.Io.KnownBytes.{Appends};
+ghost use Rattle.std.specs.Prelude.{◌≡◌, ◌≢◌, ◌+◌, ◌<◌, ◌≤◌, length, IfOk, IfSome};
 ghost use Rattle.dns_model.specs.Counts.{Rose};
-ghost use Rattle.dns_io.specs.Reading.{input_limit, IsEnded};
+ghost use Rattle.dns_io.specs.Reading.{input_limit, IsEnded, OfInput, ReadsFront};
+ghost use Rattle.dns_io.specs.Writing.{TakesPrefix};
 ghost use Rattle.dns_session.specs.Grammar.{session_of};
 ghost use Rattle.dns_denial_trial.specs.Endings.{bad_line_text as bad_line, ending_of, EndsAs};
 
@@ -44,12 +44,15 @@ fn ending(alloc: Global, bytes: &[u8]) -> Result<(u8, Vec<u8>), NoMemory>
 }
 
 /// Writes what bytes come to.
+#[tactic(auto, using(dns_io::proofs::Leaving::nothing_taken))]
 fn answer<W: Sink>(alloc: Global, bytes: &[u8], output: &mut W) -> u8
     requires { length bytes.now ≤ input_limit }
     ensures ends { result < 4 → EndsAs (session_of bytes.now) result (W.taken output.old) (W.taken output.new) }
     ensures read { result ≢ 4 }
     ensures sink { result ≡ 5 → Rose (W.faults output.old) (W.faults output.new) }
+    ensures prefix { TakesPrefix (W.taken output.old) (W.taken output.new) (ending_of (session_of bytes.now)).1 }
     ensures most { result ≤ 6 }
+    ensures later { W.faults output.old ≤ W.faults output.new }
 {
     match ending(alloc, bytes) {
         Ok((status, text)) => write_text(status, &text, output),
@@ -59,16 +62,29 @@ fn answer<W: Sink>(alloc: Global, bytes: &[u8], output: &mut W) -> u8
 
 /// Runs the program, and answers its status.
 ///
-/// 0: there is a line for each reply. 3: the input is no session; its first bad line is named. 4: a read failed. 5: a write
-/// failed. 6: memory ran out. 7: the input has more than 16,777,216 bytes.
+/// 0: there is a line for each reply. 3: the input is no session; its first bad line is named. 4: a read failed, and
+/// nothing is written. 5: a write failed after a prefix of the text. 6: memory ran out. 7: the input has more than
+/// 16,777,216 bytes, and nothing is written.
+#[tactic(auto, using(dns_io::proofs::Leaving::of_read, crate::proofs::EndingLemmas::nothing_told))]
 pub(crate) fn run<S: Source, W: Sink>(alloc: Global, input: &mut S, output: &mut W) -> u8
-    ensures ends { result < 4
-        → IfSome (S.left input.old) (λ bytes. EndsAs (session_of bytes) result (W.taken output.old) (W.taken output.new)) }
+    // Where the source tells no bytes, it ends as some bytes say.
+    ensures ends { result < 4 → OfInput (S.left input.old)
+        (λ bytes. EndsAs (session_of bytes) result (W.taken output.old) (W.taken output.new)) }
     ensures ended { result < 4 → IsEnded (S.left input.old) (S.left input.new) }
+    ensures reads { ReadsFront (input_limit + 1) (S.left input.old) (S.left input.new) }
+
+    // Whatever the status, a prefix of the text that the input comes to was written; with 4 and 7 nothing.
+    ensures prefix { OfInput (S.left input.old)
+        (λ bytes. TakesPrefix (W.taken output.old) (W.taken output.new) (ending_of (session_of bytes)).1) }
+    ensures untouched { result ≡ 4 → output.new ≡ output.old }
+    ensures silent { result ≡ 7 → output.new ≡ output.old }
+
     ensures source { result ≡ 4 → Rose (S.faults input.old) (S.faults input.new) }
     ensures sink { result ≡ 5 → Rose (W.faults output.old) (W.faults output.new) }
     ensures long { result ≡ 7 → IfSome (S.left input.old) (λ bytes. input_limit < length bytes) }
     ensures most { result ≤ 7 }
+    ensures read_later { S.faults input.old ≤ S.faults input.new }
+    ensures later { W.faults output.old ≤ W.faults output.new }
 {
     match read_all(alloc, input) {
         Ok(bytes) => answer(alloc, &bytes, output),

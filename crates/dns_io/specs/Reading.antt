@@ -1,4 +1,4 @@
--- What a reading to the end leaves of a source, where the source tells its bytes.
+-- What a reading to the end leaves of a source, where the source tells its bytes; and facts of what it told.
 use Rattle.std.specs.Prelude.{◌≡◌, ℕ, ◌^◌, ◌≤◌, List, [], length, codes, ⊤, Option, None, Some}
 use Rattle.std.specs.Io.KnownBytes.{Consumes}
 
@@ -20,3 +20,13 @@ pub record ReadsFront (most : ℕ) (before now : Option (List ℕ)) : Type 0 whe
   pub bytes : List ℕ
   pub bound : length bytes ≤ most
   pub read : Consumes before now bytes
+
+-- a fact of some bytes
+pub record OfSome (Fact : List ℕ → Type 0) : Type 0 where
+  pub bytes : List ℕ
+  pub fact : Fact bytes
+
+-- a fact of the bytes that a source tells; where it tells none, of some bytes
+abbrev pub OfInput : Option (List ℕ) → (List ℕ → Type 0) → Type 0
+OfInput None Fact = OfSome Fact
+OfInput (Some bytes) Fact = Fact bytes

@@ -1,22 +1,10 @@
--- What was written for bytes that were read is what the source told.
-use Rattle.std.proofs.Common.{◌≡◌, ◌+◌, ◌++◌, ◌<◌, replicate, ℕ, List, [], Option, None, Some, IfSome, length, sym, refl, append-nil, arith}
-use Rattle.std.proofs.lemmas.List.{length-replicate}
-use Rattle.std.specs.Io.KnownBytes.{Appends, Consumes}
-use Rattle.dns_io.specs.Reading.{input_limit, too_long_text, ReadsFront}
+-- What a run over bytes leaves is what it leaves over the input that the source told.
+use Rattle.std.proofs.Common.{◌<◌, ℕ, List, [], Option, None, Some, IfSome, length, refl}
+use Rattle.dns_io.specs.Reading.{input_limit, too_long_text}
 use Rattle.dns_io.specs.Writing.{TakesPrefix}
+use Rattle.dns_io.proofs.Leaving.{of_any, of_long, nothing_taken}
 use Rattle.dns_report.specs.declared.parts.Parts.{Parts}
 use Rattle.dns_run.specs.Outcomes.{Wrote, Leaves, WrotePrefix, LeavesPrefix, ComesTo, Reports, Derives, Fails, Refuses, Reported, Failed, Refused, TooLong, Nothing}
-
--- the bytes that were read are those that the source told
-pub leaves_told : (Fact : List ℕ → List ℕ → Type 0) (told before now : Option (List ℕ)) (bytes : List ℕ)
-    → IfSome told (λ left. bytes ≡ left) → Wrote before now (Fact bytes) → Leaves Fact told before now
-leaves_told Fact None before now bytes same wrote = record { bytes = bytes; fact = wrote }
-leaves_told Fact (Some left) before now bytes same wrote = rw (sym same) wrote
-
-pub prefix_told : (shows : Parts) (told before now : Option (List ℕ)) (bytes : List ℕ)
-    → IfSome told (λ left. bytes ≡ left) → WrotePrefix before now (ComesTo shows bytes) → LeavesPrefix shows told before now
-prefix_told shows None before now bytes same wrote = record { bytes = bytes; fact = wrote }
-prefix_told shows (Some left) before now bytes same wrote = rw (sym same) wrote
 
 -- a report of an answer that has a trail is a report
 report_derived : (shows : Parts) (before now : Option (List ℕ)) (bytes : List ℕ)
@@ -29,32 +17,12 @@ pub leaves_reports : (shows : Parts) (told before now : Option (List ℕ)) → L
 leaves_reports shows None before now some = record { bytes = some.bytes; fact = report_derived shows before now some.bytes some.fact }
 leaves_reports shows (Some bytes) before now wrote = report_derived shows before now bytes wrote
 
-no_more : (xs : List ℕ) → xs ≡ xs ++ []
-no_more xs = sym (append-nil xs)
-
-appends_none : (o : Option (List ℕ)) → Appends o o []
-appends_none None = tt
-appends_none (Some xs) = no_more xs
-
--- nothing was read
-pub nothing_read : (most : ℕ) (before : Option (List ℕ)) → ReadsFront most before before
-nothing_read most before = record { bytes = []; bound = omega arith; read = consumes_none before }
-  where
-    consumes_none : (o : Option (List ℕ)) → Consumes o o []
-    consumes_none None = tt
-    consumes_none (Some xs) = refl
-
 -- nothing was written
 pub nothing_written : (shows : Parts) (before : Option (List ℕ)) (bytes : List ℕ) → WrotePrefix before before (ComesTo shows bytes)
-nothing_written shows before bytes = record {
-  text = [];
-  fact = Nothing refl;
-  written = record { count = 0; bound = omega arith; taken = appends_none before };
-}
+nothing_written shows before bytes = record { text = []; fact = Nothing refl; written = nothing_taken before [] }
 
 pub nothing_told : (shows : Parts) (told before : Option (List ℕ)) → LeavesPrefix shows told before before
-nothing_told shows None before = record { bytes = []; fact = nothing_written shows before [] }
-nothing_told shows (Some bytes) before = nothing_written shows before bytes
+nothing_told shows told before = of_any (λ bytes. WrotePrefix before before (ComesTo shows bytes)) told (nothing_written shows before)
 
 pub report_prefix : (shows : Parts) (before now : Option (List ℕ)) (bytes text : List ℕ)
     → Derives shows bytes text → TakesPrefix before now text → WrotePrefix before now (ComesTo shows bytes)
@@ -68,20 +36,8 @@ pub refused_prefix : (shows : Parts) (before now : Option (List ℕ)) (bytes tex
     → Refuses bytes text → TakesPrefix before now text → WrotePrefix before now (ComesTo shows bytes)
 refused_prefix shows before now bytes text is taken = record { text = text; fact = Refused is; written = taken }
 
--- bytes that are more than so many
-record Longer (most : ℕ) : Type 0 where
-  pub bytes : List ℕ
-  pub long : most < length bytes
-
-longer : (most : ℕ) → Longer most
-longer most =
-    let zeros : List ℕ = replicate (most + 1) 0 in
-    let e : length zeros ≡ most + 1 = length-replicate (most + 1) 0 in
-    record { bytes = zeros; long = omega (arith, e) }
-
 pub long_prefix : (shows : Parts) (told before now : Option (List ℕ)) → IfSome told (λ left. input_limit < length left)
     → TakesPrefix before now too_long_text → LeavesPrefix shows told before now
-long_prefix shows None before now long taken =
-    let some = longer input_limit in
-    record { bytes = some.bytes; fact = record { text = too_long_text; fact = TooLong some.long refl; written = taken } }
-long_prefix shows (Some left) before now long taken = record { text = too_long_text; fact = TooLong long refl; written = taken }
+long_prefix shows told before now long taken =
+    of_long (λ bytes. WrotePrefix before now (ComesTo shows bytes)) told long
+    (λ bytes more. record { text = too_long_text; fact = TooLong more refl; written = taken })

@@ -1,5 +1,5 @@
 -- What an input comes to, and what a run leaves.
-use Rattle.std.specs.Prelude.{ℕ, ◌≡◌, ◌≢◌, ◌<◌, IsTrue, List, [], length, Option, None, Some, Ok, Err}
+use Rattle.std.specs.Prelude.{ℕ, ◌≡◌, ◌≢◌, ◌<◌, IsTrue, List, [], length, Option, Ok, Err}
 use Rattle.std.specs.Io.KnownBytes.{Appends}
 use Rattle.dns_model.specs.SoundAnswers.{ResponseValue}
 use Rattle.dns_handle.specs.Errors as seen
@@ -12,7 +12,7 @@ use Rattle.dns_report.specs.Report.{report_text, view_text}
 use Rattle.dns_report.specs.Faults.{fault_text}
 use Rattle.dns_session.specs.SessionValue.{SessionValue}
 use Rattle.dns_session.specs.Grammar.{session_of}
-use Rattle.dns_io.specs.Reading.{input_limit, too_long_text}
+use Rattle.dns_io.specs.Reading.{input_limit, too_long_text, OfInput}
 use Rattle.dns_io.specs.Writing.{TakesPrefix}
 use Rattle.dns_run.specs.Forms.{bad_line_text}
 use Rattle.dns_run.specs.Answering.{IsSessionAnswer}
@@ -71,15 +71,9 @@ pub record Wrote (before now : Option (List ℕ)) (Fact : List ℕ → Type 0) :
   pub fact : Fact text
   pub written : Appends before now text
 
--- a fact of some bytes
-pub record OfSome (Fact : List ℕ → Type 0) : Type 0 where
-  pub bytes : List ℕ
-  pub fact : Fact bytes
-
 -- a text was written that stands so to the told bytes; where none are told, to some bytes
 abbrev pub Leaves : (List ℕ → List ℕ → Type 0) → Option (List ℕ) → Option (List ℕ) → Option (List ℕ) → Type 0
-Leaves Fact None before now = OfSome (λ bytes. Wrote before now (Fact bytes))
-Leaves Fact (Some bytes) before now = Wrote before now (Fact bytes)
+Leaves Fact told before now = OfInput told (λ bytes. Wrote before now (Fact bytes))
 
 -- what a run over bytes may write: nothing, where memory runs out before a text is there
 pub data ComesTo (shows : Parts) (bytes text : List ℕ) : Type 0 where
@@ -97,5 +91,4 @@ pub record WrotePrefix (before now : Option (List ℕ)) (Fact : List ℕ → Typ
 
 -- a prefix of a text that the told bytes come to was written; where none are told, of one that some bytes come to
 abbrev pub LeavesPrefix : Parts → Option (List ℕ) → Option (List ℕ) → Option (List ℕ) → Type 0
-LeavesPrefix shows None before now = OfSome (λ bytes. WrotePrefix before now (ComesTo shows bytes))
-LeavesPrefix shows (Some bytes) before now = WrotePrefix before now (ComesTo shows bytes)
+LeavesPrefix shows told before now = OfInput told (λ bytes. WrotePrefix before now (ComesTo shows bytes))

@@ -1,5 +1,5 @@
 //! The program over any source and any sink.
-ghost use Rattle.std.specs.Prelude.{◌≡◌, ◌≢◌, ◌<◌, ◌≤◌, ◌+◌, length, Some, IfSome};
+ghost use Rattle.std.specs.Prelude.{◌≡◌, ◌≢◌, ◌<◌, ◌≤◌, ◌+◌, length, true, Some, IfSome};
 ghost use Rattle.std.specs.Io.KnownBytes.{Appends};
 ghost use Rattle.dns_model.specs.Counts.{Rose};
 ghost use Rattle.dns_io.specs.Reading.{input_limit, too_long_text, IsEnded, ReadsFront};
@@ -12,7 +12,7 @@ ghost use Rattle.dns_run.specs.declared.form.Form.TheVariants.{Validate};
 
 use crate::form::{Form, form_of, help_text, version_text};
 use crate::outcome::{Ending, session_ending};
-use dns_io::status::{self, refuse_long, write_text};
+use dns_io::status::{self, read_status, refuse_long, write_text};
 use dns_io::{ReadStop, Sink, Source, read_all};
 use dns_name::NoMemory;
 use dns_report::Parts;
@@ -41,7 +41,7 @@ fn answer<W: Sink>(alloc: Global, shows: Parts, bytes: &[u8], output: &mut W) ->
 }
 
 /// Reads a session and answers it.
-#[tactic(auto, using(crate::proofs::OutcomeLemmas::leaves_told, crate::proofs::OutcomeLemmas::prefix_told, crate::proofs::OutcomeLemmas::nothing_told, crate::proofs::OutcomeLemmas::long_prefix))]
+#[tactic(auto, using(dns_io::proofs::Leaving::of_read, crate::proofs::OutcomeLemmas::nothing_told, crate::proofs::OutcomeLemmas::long_prefix))]
 fn validate<S: Source, W: Sink>(alloc: Global, shows: Parts, input: &mut S, output: &mut W) -> u8
     ensures derived { result ≡ 0 → Leaves (Derives shows) (S.left input.old) (W.taken output.old) (W.taken output.new) }
     ensures fault { result ≡ 1 → Leaves Fails (S.left input.old) (W.taken output.old) (W.taken output.new) }
@@ -62,9 +62,8 @@ fn validate<S: Source, W: Sink>(alloc: Global, shows: Parts, input: &mut S, outp
 {
     match read_all(alloc, input) {
         Ok(bytes) => answer(alloc, shows, &bytes, output),
-        Err(ReadStop::Failed) => status::READ_FAILED,
         Err(ReadStop::TooLong) => refuse_long(output),
-        Err(ReadStop::NoMemory) => status::NO_MEMORY,
+        Err(stop) => read_status(stop),
     }
 }
 
@@ -74,7 +73,7 @@ fn validate<S: Source, W: Sink>(alloc: Global, shows: Parts, input: &mut S, outp
 /// form, and nothing was read. 3: the input isn't in the grammar; the first bad line is named. 4: a read failed, and nothing
 /// is written. 5: a write failed after a prefix of the text. 6: memory ran out. 7: the input has more than 16,777,216 bytes.
 /// Words are judged first, then reading, then the grammar, then the lookup.
-#[tactic(auto, using(crate::proofs::OutcomeLemmas::nothing_read, crate::proofs::OutcomeLemmas::leaves_reports))]
+#[tactic(auto, using(dns_io::proofs::Leaving::nothing_read, crate::proofs::OutcomeLemmas::leaves_reports))]
 pub fn run<S: Source, W: Sink>(
     alloc: Global,
     words: &[Vec<u8>],
@@ -120,6 +119,10 @@ pub fn run<S: Source, W: Sink>(
     ensures source { result ≡ 4 → Rose (S.faults input.old) (S.faults input.new) }
     ensures untouched { result ≡ 4 → output.new ≡ output.old }
     ensures sink { result ≡ 5 → Rose (W.faults output.old) (W.faults output.new) }
+
+    // Where nothing is looked up, 6 is answered only over a sink whose writes may want memory.
+    ensures memory { ((shows : Parts) → asked_form words.now ≢ Some (Validate shows)) → result ≡ 6
+        → W.takes_memory ≡ true }
 
     // Whatever the status, a prefix of a text that the input comes to was written.
     ensures prefix { (shows : Parts) → AsksFor words.now (Validate shows)
