@@ -265,9 +265,9 @@ fn errors_of_the_outside_tell_whether_a_connection_is_gone(rt: HostRuntime) {
 struct Held(Sample, &'static str);
 
 const SOAS: &[Held] = &[
-    Held(Sample::Referred, "C. 60"),
-    Held(Sample::MissingName, "none"),
-    Held(Sample::Busy, "none"),
+    Held(Sample::Referred, " C.-60"),
+    Held(Sample::MissingName, " none"),
+    Held(Sample::Busy, " none"),
 ];
 
 fn soas() -> &'static [Held] {

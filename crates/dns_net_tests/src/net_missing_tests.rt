@@ -1,4 +1,4 @@
-use crate::parts::{check, query, record, response};
+use crate::parts::{ask_also, check, record, response};
 use dns_handle::{DnsError, DnsResponse, ForwardNSData, NetError, NoRecords};
 use dns_message::Message;
 use dns_name::NameError;
@@ -70,7 +70,7 @@ fn deny(alloc: Global, message: &mut Message, kind: Denying) -> Result<(), NameE
         Denying::Referral(ttl) => refer(alloc, message, ttl)?,
         Denying::Empty => {}
         Denying::WithoutQuestions => message.queries.clear(),
-        Denying::OfTwoQuestions => message.queries.push(query(alloc, "y.", 1)?)?,
+        Denying::OfTwoQuestions => ask_also(alloc, &mut message.queries, "y.", 1)?,
     }
     Ok(())
 }
@@ -85,14 +85,14 @@ const ROWS: &[Row] = &[
         16,
         3,
         Denying::Referral(60),
-        "a.b. IN TXT; 3; C. 60; Some(30); b. ns.-28 NS.-1 b. d.; 6",
+        "a.b. IN TXT; 3; C.-60; Some(30); b. ns.-28 NS.-1 b. d.; 6",
     ),
     Row(
         "a.b.",
         16,
         0,
         Denying::Referral(10),
-        "a.b. IN TXT; 0; C. 10; Some(10); b. ns.-28 NS.-1 b. d.; 6",
+        "a.b. IN TXT; 0; C.-10; Some(10); b. ns.-28 NS.-1 b. d.; 6",
     ),
     Row("o.", 43, 0, Denying::Empty, "o. IN DS; 0; none; None;; 0"),
     // where there is no question, it is the root's addresses
@@ -158,16 +158,21 @@ pub(crate) fn denied_by_referral(alloc: Global) -> Result<NetError, NameError> {
     Ok(error_of(denied(alloc, "a.b.", 16, 3, Denying::Referral(60))?))
 }
 
+/// A record's name, and a number that is told of it.
+fn write_named(text: &mut String, record: &Record, number: u32) -> Result<(), AllocError> {
+    write!(text, " {}-{number}", record.name)
+}
+
 pub(crate) fn write_soa(text: &mut String, soa: &Option<Record>) -> Result<(), AllocError> {
     match soa {
-        None => text.push_str("none"),
-        Some(soa) => write!(text, "{} {}", soa.name, soa.ttl),
+        None => text.push_str(" none"),
+        Some(soa) => write_named(text, soa, soa.ttl),
     }
 }
 
 fn write_glue(text: &mut String, glue: &[Record]) -> Result<(), AllocError> {
     for address in glue {
-        write!(text, " {}-{}", address.name, address.record_type.0)?;
+        write_named(text, address, u32::from(address.record_type.0))?;
     }
     Ok(())
 }
@@ -181,7 +186,7 @@ fn write_servers(text: &mut String, servers: &[ForwardNSData]) -> Result<(), All
 }
 
 fn write_missing(text: &mut String, missing: &NoRecords) -> Result<(), AllocError> {
-    write!(text, "{}; {}; ", missing.query, missing.response_code.0)?;
+    write!(text, "{}; {};", missing.query, missing.response_code.0)?;
     write_soa(text, &missing.soa)?;
     write!(text, "; {:?};", missing.negative_ttl)?;
     write_servers(text, &missing.ns)?;

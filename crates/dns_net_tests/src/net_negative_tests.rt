@@ -1,4 +1,4 @@
-use crate::parts::{check_number, query, record, response};
+use crate::parts::{ask_also, check_number, record, response};
 use dns_handle::{DnsError, DnsResponse};
 use dns_message::Message;
 use dns_name::NameError;
@@ -190,10 +190,6 @@ fn becomes(alloc: Global, response: DnsResponse, want: Outcome) -> Result<bool, 
     Ok(held)
 }
 
-fn bare(alloc: Global, named: Named) -> Result<Record, NameError> {
-    record(alloc, named.0, named.1, 60, b"")
-}
-
 fn section_of(message: &mut Message, section: Section) -> &mut Vec<Record> {
     match section {
         Section::Answer => &mut message.answers,
@@ -209,7 +205,7 @@ fn add(
     section: Section,
     named: Named,
 ) -> Result<(), NameError> {
-    let next = bare(alloc, named)?;
+    let next = record(alloc, named.0, named.1, 60, b"")?;
     section_of(message, section).push(next)?;
     Ok(())
 }
@@ -300,12 +296,6 @@ fn cases() -> &'static [Case] {
     CASES
 }
 
-/// Asks for the SOA of a name too.
-fn ask_also(alloc: Global, message: &mut Message, name: &str) -> Result<(), NameError> {
-    message.queries.push(query(alloc, name, SOA)?)?;
-    Ok(())
-}
-
 fn answer_nothing(alloc: Global, message: &mut Message) -> Result<(), NameError> {
     message.queries.clear();
     add(alloc, message, Section::Answer, Named("a.b.", A))
@@ -315,8 +305,8 @@ fn change(alloc: Global, message: &mut Message, but: But) -> Result<(), NameErro
     match but {
         But::AsItIs | But::Empty => {}
         But::Truncated => message.truncated = true,
-        But::SecondAnswered => ask_also(alloc, message, "b.")?,
-        But::SecondUnanswered => ask_also(alloc, message, "c.")?,
+        But::SecondAnswered => ask_also(alloc, &mut message.queries, "b.", SOA)?,
+        But::SecondUnanswered => ask_also(alloc, &mut message.queries, "c.", SOA)?,
         But::NoQuestion => message.queries.clear(),
         But::NoQuestionAnswered => answer_nothing(alloc, message)?,
     }

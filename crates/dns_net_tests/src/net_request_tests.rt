@@ -1,4 +1,4 @@
-use crate::parts::{check, check_number, nothing, query, request};
+use crate::parts::{ask_also, check, check_number, nothing, query, request};
 use dns_handle::{DnsRequest, DnsRequestOptions};
 use dns_message::Message;
 use dns_name::NameError;
@@ -117,14 +117,13 @@ fn bits() -> &'static [u8] {
     b"\xff"
 }
 
-fn ask_also(alloc: Global, queries: &mut Vec<Query>) -> Result<(), NameError> {
-    queries.push(query(alloc, "b.", 2)?)?;
-    Ok(())
+fn ask_second(alloc: Global, message: &mut Message) -> Result<(), NameError> {
+    ask_also(alloc, &mut message.queries, "b.", 2)
 }
 
 fn two_questions(alloc: Global) -> Result<DnsRequest, NameError> {
     let mut request = request(alloc, "a.", 1)?;
-    ask_also(alloc, &mut request.message.queries)?;
+    ask_second(alloc, &mut request.message)?;
     Ok(request)
 }
 

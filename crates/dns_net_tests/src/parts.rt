@@ -23,6 +23,17 @@ pub(crate) fn query(alloc: Global, name: &str, record_type: u16) -> Result<Query
     })
 }
 
+/// Asks for this too.
+pub(crate) fn ask_also(
+    alloc: Global,
+    queries: &mut Vec<Query>,
+    name: &str,
+    record_type: u16,
+) -> Result<(), NameError> {
+    queries.push(query(alloc, name, record_type)?)?;
+    Ok(())
+}
+
 pub(crate) fn request(
     alloc: Global,
     name: &str,
@@ -61,8 +72,10 @@ pub(crate) fn response(
     Ok(answer(alloc, request(alloc, name, record_type)?, code))
 }
 
+/// An rdata of these bytes, which are fewer than 65,536.
 pub(crate) fn rdata(alloc: Global, bytes: &[u8]) -> Result<Rdata, NameError> {
-    Ok(Rdata::from_slice(alloc, &bytes[..bytes.len().min(65535)])?)
+    let few = if bytes.len() < 65_536 { bytes } else { b"" };
+    Ok(Rdata::from_slice(alloc, few)?)
 }
 
 pub(crate) fn record(
