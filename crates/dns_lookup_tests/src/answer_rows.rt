@@ -1,8 +1,7 @@
 //! Answers as constants, and the answers that they stand for.
-use dns_message::Message;
-use dns_name::{Name, NameError, NoMemory};
+use dns_name::{Name, NameError};
 use dns_net::{
-    AskRef, Asked, Chain, DnsResponse, Ending, JudgedSet, Link, MarkOrigin, Reply, Told, Trail,
+    AskRef, Asked, Chain, DnsResponse, Ending, JudgedSet, Link, MarkOrigin, Reply, Told,
 };
 use dns_record::{
     DNSClass, Denial, Proof, Query, Rdata, Record, RecordType, ResponseCode, Section,
@@ -72,18 +71,20 @@ pub(crate) struct AnswerRow {
     pub(crate) trail: &'static [StepRow],
 }
 
-fn rdata_of(alloc: Global, bytes: &[u8]) -> Result<Rdata, NoMemory> {
+fn rdata_of(alloc: Global, bytes: &[u8]) -> Result<Rdata, NameError> {
     let few = if bytes.len() < 100 { bytes } else { b"" };
-    Rdata::from_slice(alloc, few)
+    Ok(Rdata::from_slice(alloc, few)?)
 }
 
 fn record_of(alloc: Global, row: &RecordRow) -> Result<Record, NameError> {
+    let name = Name::from_ascii(alloc, row.name)?;
+    let rdata = rdata_of(alloc, row.rdata)?;
     Ok(Record {
-        name: Name::from_ascii(alloc, row.name)?,
+        name,
         record_type: row.record_type,
         dns_class: row.class,
         ttl: 3600,
-        rdata: rdata_of(alloc, row.rdata)?,
+        rdata,
         proof: Proof::Indeterminate,
     })
 }
@@ -91,13 +92,6 @@ fn record_of(alloc: Global, row: &RecordRow) -> Result<Record, NameError> {
 fn push_records(alloc: Global, all: &mut Vec<Record>, rows: &[RecordRow]) -> Result<(), NameError> {
     for row in rows {
         all.push(record_of(alloc, row)?)?;
-    }
-    Ok(())
-}
-
-fn push_asks(all: &mut Vec<AskRef>, some: &[AskRef]) -> Result<(), NameError> {
-    for ask in some {
-        all.push(*ask)?;
     }
     Ok(())
 }
@@ -130,7 +124,7 @@ fn set_of(alloc: Global, row: &SetRow) -> Result<JudgedSet, NameError> {
         sig: row.sig,
         asked: Vec::new(alloc),
     };
-    push_asks(&mut set.asked, row.asked)?;
+    set.asked.extend_from_slice(row.asked)?;
     Ok(set)
 }
 
@@ -179,7 +173,8 @@ fn fill_step(alloc: Global, step: &mut Asked, row: &StepRow) -> Result<(), NameE
     }
     step.ending = ending_of(alloc, &row.ending)?;
     push_sets(alloc, &mut step.sets, row.sets)?;
-    push_asks(&mut step.excuse, row.excuse)
+    step.excuse.extend_from_slice(row.excuse)?;
+    Ok(())
 }
 
 fn step_of(alloc: Global, row: &StepRow) -> Result<Asked, NameError> {
@@ -213,30 +208,13 @@ fn push_chains(alloc: Global, all: &mut Vec<Chain>, rows: &[AnchorRow]) -> Resul
     Ok(())
 }
 
-/// A row's answer, but for its chains and its trail; there is none if the row's message is none.
-pub(crate) fn bare_answer(alloc: Global, row: &AnswerRow) -> Option<DnsResponse> {
-    if row.message.len() >= 1000 {
-        return None;
-    }
-    match Message::from_vec(alloc, row.message) {
-        Ok(message) => Some(DnsResponse {
-            message,
-            chains: Vec::new(alloc),
-            denial: row.denial,
-            trail: Trail {
-                steps: Vec::new(alloc),
-            },
-        }),
-        Err(_) => None,
-    }
-}
-
-/// Give an answer the chains and the steps of its row.
+/// Give an answer the denial, the chains and the steps of its row.
 pub(crate) fn fill_answer(
     alloc: Global,
     answer: &mut DnsResponse,
     row: &AnswerRow,
 ) -> Result<(), NameError> {
+    answer.denial = row.denial;
     push_chains(alloc, &mut answer.chains, row.anchors)?;
     push_steps(alloc, &mut answer.trail.steps, row.trail)
 }

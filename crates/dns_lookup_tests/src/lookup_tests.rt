@@ -118,19 +118,23 @@ fn query_of(alloc: Global, given: &Given) -> Result<Query, NetError> {
     })
 }
 
-fn response_of(alloc: Global, message: &[u8]) -> Result<DnsResponse, NetError> {
-    if message.len() > 65_535 {
-        return Err(NetError::Timeout);
+/// The message that these bytes are, if they aren't too many.
+pub(crate) fn message_of(alloc: Global, bytes: &[u8]) -> Result<Message, NetError> {
+    if bytes.len() > 65_535 {
+        return Err(NetError::Truncated);
     }
-    match Message::from_vec(alloc, message) {
-        Ok(message) => Ok(DnsResponse {
-            message,
-            chains: Vec::new(alloc),
-            denial: Denial::None,
-            trail: Trail::new(alloc),
-        }),
-        Err(_) => Err(NetError::Timeout),
-    }
+    Ok(Message::from_vec(alloc, bytes)?)
+}
+
+/// An answer of this message alone.
+pub(crate) fn response_of(alloc: Global, bytes: &[u8]) -> Result<DnsResponse, NetError> {
+    let message = message_of(alloc, bytes)?;
+    Ok(DnsResponse {
+        message,
+        chains: Vec::new(alloc),
+        denial: Denial::None,
+        trail: Trail::new(alloc),
+    })
 }
 
 // Puts a reply behind those that were recorded.
@@ -173,8 +177,12 @@ pub(crate) fn look_up(
     handle: &mut DnssecDnsHandle<Keeping, Listed>,
     given: &Given,
 ) -> Result<DnsResponse, NetError> {
-    let query = query_of(alloc, given)?;
-    handle.lookup(alloc, query, DnsRequestOptions::default(), 1000)
+    handle.lookup(
+        alloc,
+        query_of(alloc, given)?,
+        DnsRequestOptions::default(),
+        1000,
+    )
 }
 
 /// The query is answered.
@@ -183,7 +191,10 @@ pub(crate) fn is_answered(
     handle: &mut DnssecDnsHandle<Keeping, Listed>,
     given: &Given,
 ) -> bool {
-    look_up(alloc, handle, given).is_ok()
+    let answer = look_up(alloc, handle, given);
+    let answered = answer.is_ok();
+    drop(answer);
+    answered
 }
 
 /// An ask of the lookup of `. NS` with default options.

@@ -1,6 +1,7 @@
 use crate::answer_rows::{
-    AnchorRow, AnswerRow, EndingRow, RecordRow, SetRow, StepRow, ToldRow, bare_answer, fill_answer,
+    AnchorRow, AnswerRow, EndingRow, RecordRow, SetRow, StepRow, ToldRow, fill_answer,
 };
+use crate::lookup_tests::response_of;
 use crate::rows::check_held;
 use dns_net::{AskRef, DnsResponse, MarkOrigin, NetError};
 use dns_record::{DNSClass, Denial, Proof, RecordType, Section};
@@ -338,11 +339,11 @@ fn is_report(alloc: Global, answer: &DnsResponse, row: &Reported) -> bool {
 
 /// The row's report is its text.
 fn reports(alloc: Global, row: &Reported) -> bool {
-    match bare_answer(alloc, &row.answer) {
-        Some(mut answer) => {
+    match response_of(alloc, row.answer.message) {
+        Ok(mut answer) => {
             fill_answer(alloc, &mut answer, &row.answer).is_ok() && is_report(alloc, &answer, row)
         }
-        None => false,
+        Err(_) => false,
     }
 }
 

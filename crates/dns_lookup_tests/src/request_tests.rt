@@ -1,8 +1,7 @@
 //! What a validator sends for a whole request, and what it answers (RFC 1035, 4.1.1; RFC 4035, 3.2 and 4.1).
-use crate::lookup_tests::{Keeping, Sending, handle_over};
+use crate::lookup_tests::{Keeping, Sending, handle_over, message_of};
 use crate::rows::check_row;
 use dns_lookup::DnssecDnsHandle;
-use dns_message::Message;
 use dns_net::{DnsHandle, DnsRequest, DnsRequestOptions, DnsResponse, NetError, Notice, Recorded};
 use dns_trust::Listed;
 use std::alloc::Global;
@@ -40,11 +39,9 @@ const SENT: [Sent; 4] = [
 ];
 
 fn request_of(alloc: Global, given: &[u8]) -> Result<DnsRequest, NetError> {
-    if given.len() > 65_535 {
-        return Err(NetError::Truncated);
-    }
+    let message = message_of(alloc, given)?;
     Ok(DnsRequest {
-        message: Message::from_vec(alloc, given)?,
+        message,
         options: DnsRequestOptions::default(),
         original: None,
     })

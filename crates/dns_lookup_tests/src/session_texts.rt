@@ -33,20 +33,18 @@ pub(crate) fn headers() -> &'static [Header] {
     HEADERS
 }
 
-/// These texts, one behind another.
-fn joined(
-    alloc: Global,
+/// Adds these texts, one behind another.
+fn join(
+    text: &mut String,
     head: &str,
     before: &str,
     line: &str,
     after: &str,
-) -> Result<String, AllocError> {
-    let mut text = String::new(alloc);
+) -> Result<(), AllocError> {
     text.push_str(head)?;
     text.push_str(before)?;
     text.push_str(line)?;
-    text.push_str(after)?;
-    Ok(text)
+    text.push_str(after)
 }
 
 /// What a text is read as, if it isn't too long.
@@ -66,8 +64,9 @@ pub(crate) fn session_of(
     line: &str,
     after: &str,
 ) -> Result<Session, SessionStop> {
-    match joined(alloc, head, before, line, after) {
-        Ok(text) => session_in(alloc, text.as_str()),
+    let mut text = String::new(alloc);
+    match join(&mut text, head, before, line, after) {
+        Ok(()) => session_in(alloc, text.as_str()),
         Err(_) => Err(SessionStop::NoMemory),
     }
 }

@@ -68,21 +68,18 @@ const ROWS: [Row; 2] = [
     },
 ];
 
-fn is_judged(sets: &[JudgedSet], mark: Proof, asked: &[AskRef]) -> bool {
-    match sets {
-        [set] => set.mark == mark
-            && set.origin == MarkOrigin::Table
-            && set.sig.is_none()
-            && *set.asked.as_slice() == *asked,
-        _ => false,
-    }
+fn is_judged(set: &JudgedSet, mark: Proof, asked: &[AskRef]) -> bool {
+    set.mark == mark
+        && matches!(set.origin, MarkOrigin::Table)
+        && set.sig.is_none()
+        && set.asked.as_slice() == asked
 }
 
 fn ends_as(step: &Asked, row: &Step) -> bool {
     match row.mark {
         Some(mark) => matches!(step.reply, Reply::Told(_))
             && matches!(step.ending, Ending::Answered(Denial::None))
-            && is_judged(&step.sets, mark, row.asked),
+            && matches!(step.sets.as_slice(), [set] if is_judged(set, mark, row.asked)),
         None => matches!(step.reply, Reply::Fault)
             && matches!(step.ending, Ending::Failed)
             && step.sets.is_empty(),
@@ -143,14 +140,6 @@ const KEYS: [Given; 2] = [
     },
 ];
 
-fn recorded_of(alloc: Global, by_turn: bool) -> Recorded {
-    if by_turn {
-        Recorded::in_turn(alloc)
-    } else {
-        Recorded::new(alloc)
-    }
-}
-
 fn keys() -> &'static [Given; 2] {
     &KEYS
 }
@@ -160,33 +149,27 @@ fn has_keys(alloc: Global, handle: &mut DnssecDnsHandle<Keeping, Listed>) -> boo
     is_answered(alloc, handle, &keys()[0])
 }
 
-/// What is shown, whether replies are taken by turn, and which of three lookups of the keys, one after another, are answered.
-const TURNS: [(&str, bool, [bool; 3]); 2] = [
-    (
-        "by turn each send takes the next reply, and then the last",
-        true,
-        [false, true, true],
-    ),
-    (
-        "else each send takes the first reply",
-        false,
-        [false, false, false],
-    ),
-];
-
-fn go_so(alloc: Global, by_turn: bool, wanted: &[bool; 3]) -> Result<bool, NetError> {
-    let mut handle = handle_over(alloc, recorded_of(alloc, by_turn), keys())?;
-    let answered = [
-        has_keys(alloc, &mut handle),
-        has_keys(alloc, &mut handle),
-        has_keys(alloc, &mut handle),
-    ];
-    Ok(answered == *wanted)
+/// Of three lookups of the keys, one after another, the first isn't answered, and the others are or aren't.
+fn are_later(alloc: Global, upstream: Recorded, later: bool) -> Result<bool, NetError> {
+    let mut handle = handle_over(alloc, upstream, keys())?;
+    Ok(
+        !has_keys(alloc, &mut handle)
+            && has_keys(alloc, &mut handle) == later
+            && has_keys(alloc, &mut handle) == later,
+    )
 }
 
 #[test]
 fn replies_are_taken_by_turn_or_the_first_again(rt: HostRuntime) {
-    for (name, by_turn, wanted) in &TURNS {
-        check_row(&rt, name, go_so(rt.alloc(), *by_turn, wanted));
-    }
+    let alloc = rt.alloc();
+    check_row(
+        &rt,
+        "by turn each send takes the next reply, and then the last",
+        are_later(alloc, Recorded::in_turn(alloc), true),
+    );
+    check_row(
+        &rt,
+        "else each send takes the first reply",
+        are_later(alloc, Recorded::new(alloc), false),
+    );
 }
