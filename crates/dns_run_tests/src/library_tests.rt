@@ -133,7 +133,8 @@ fn has_mark(response: &DnsResponse, proof: Proof) -> bool {
 
 /// The links lead from an anchored key to a signed set.
 fn leads_from_anchor(links: &[Link]) -> bool {
-    matches!(links, [Link::Anchored { .. }, .., Link::Signed { .. }])
+    matches!(links.first(), Some(Link::Anchored { .. }))
+        && matches!(links.last(), Some(Link::Signed { .. }))
 }
 
 fn is_secure(response: &DnsResponse) -> bool {

@@ -1,10 +1,11 @@
 //! Trails of sessions, whole and turned (RFC 4035, 4.3, 5.2 and 5.3).
-use crate::trail_rows::{Given, Row, check_row};
+use crate::trail_rows::{Row, check_row};
+use crate::trail_sessions::Given;
 use crate::trail_turns::{EntryTurn, StepTurn, Turn};
 use dns_net::{AskRef, MarkOrigin};
 use dns_record::{Denial, Proof, RecordType};
 
-const WHOLE: [Row; 7] = [
+const WHOLE: &[Row] = &[
     Row("a walk by DS", Given::WalkByDs, Turn::Whole, true),
     Row(
         "a wildcard of an Insecure zone",
@@ -29,7 +30,11 @@ const WHOLE: [Row; 7] = [
     ),
 ];
 
-const MARKS: [Row; 12] = [
+fn whole() -> &'static [Row] {
+    WHOLE
+}
+
+const MARKS: &[Row] = &[
     Row(
         "Secure as Insecure",
         Given::WalkByDs,
@@ -104,7 +109,11 @@ const MARKS: [Row; 12] = [
     ),
 ];
 
-const REPEATS: [Row; 8] = [
+fn marks() -> &'static [Row] {
+    MARKS
+}
+
+const REPEATS: &[Row] = &[
     Row(
         "a set that an earlier step found",
         Given::InsecureWildcard,
@@ -179,7 +188,11 @@ const REPEATS: [Row; 8] = [
     ),
 ];
 
-const STEPS: [Row; 23] = [
+fn repeats() -> &'static [Row] {
+    REPEATS
+}
+
+const STEPS: &[Row] = &[
     Row("a step dropped", Given::WalkByDs, Turn::Drop(0), false),
     Row(
         "the last step dropped",
@@ -321,30 +334,34 @@ const STEPS: [Row; 23] = [
     ),
 ];
 
+fn steps() -> &'static [Row] {
+    STEPS
+}
+
 #[test]
 fn the_trail_of_a_lookup_is_a_derivation(rt: HostRuntime) {
-    for row in &WHOLE {
+    for row in whole() {
         check_row(&rt, rt.alloc(), row);
     }
 }
 
 #[test]
 fn a_mark_follows_and_is_no_other(rt: HostRuntime) {
-    for row in &MARKS {
+    for row in marks() {
         check_row(&rt, rt.alloc(), row);
     }
 }
 
 #[test]
 fn a_repeat_is_looked_up(rt: HostRuntime) {
-    for row in &REPEATS {
+    for row in repeats() {
         check_row(&rt, rt.alloc(), row);
     }
 }
 
 #[test]
 fn a_step_that_is_turned_does_not_follow(rt: HostRuntime) {
-    for row in &STEPS {
+    for row in steps() {
         check_row(&rt, rt.alloc(), row);
     }
 }

@@ -1,10 +1,11 @@
 //! Trails with steps that NSEC records end, whole and turned (RFC 4035, 5.4).
-use crate::trail_rows::{Given, Row, check_row};
+use crate::trail_rows::{Row, check_row};
+use crate::trail_sessions::Given;
 use crate::trail_turns::{EntryTurn, StepTurn, Turn};
 use dns_net::AskRef;
 use dns_record::{Denial, Proof};
 
-const WHOLE: [Row; 4] = [
+const WHOLE: &[Row] = &[
     Row(
         "a delegation without DS",
         Given::UnsignedCut,
@@ -21,7 +22,11 @@ const WHOLE: [Row; 4] = [
     ),
 ];
 
-const DENIALS: [Row; 13] = [
+fn whole() -> &'static [Row] {
+    WHOLE
+}
+
+const DENIALS: &[Row] = &[
     Row(
         "no DS as Insecure",
         Given::UnsignedCut,
@@ -102,16 +107,20 @@ const DENIALS: [Row; 13] = [
     ),
 ];
 
+fn denials() -> &'static [Row] {
+    DENIALS
+}
+
 #[test]
 fn a_trail_with_denials_is_a_derivation(rt: HostRuntime) {
-    for row in &WHOLE {
+    for row in whole() {
         check_row(&rt, rt.alloc(), row);
     }
 }
 
 #[test]
 fn a_denial_follows_and_is_no_other(rt: HostRuntime) {
-    for row in &DENIALS {
+    for row in denials() {
         check_row(&rt, rt.alloc(), row);
     }
 }

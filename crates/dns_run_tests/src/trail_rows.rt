@@ -1,8 +1,5 @@
 //! Trails of sessions, and whether they are derivations.
-use crate::trail_sessions::{
-    BY_TURN, EXPANSION, FAULT, INSECURE_WILDCARD, NAME_ERROR, NOTHING_THERE, SEARCH_FAULT,
-    TOO_DEEP, UNSIGNED, UNSIGNED_CUT, WALK_BY_DS,
-};
+use crate::trail_sessions::{Given, text_of};
 use crate::trail_turns::{Turn, turn_steps};
 use dns_net::Trail;
 use dns_run::{session_anchors, session_answer, session_verifier};
@@ -12,22 +9,6 @@ use dns_trust::{Limits, Listed, TrustAnchors};
 use std::alloc::Global;
 use std::process::Abort;
 
-/// The session whose lookup leaves a trail.
-#[derive(Clone, Copy)]
-pub(crate) enum Given {
-    WalkByDs,
-    InsecureWildcard,
-    Unsigned,
-    TooDeep,
-    Fault,
-    SearchFault,
-    ByTurn,
-    UnsignedCut,
-    NameError,
-    Expansion,
-    NothingThere,
-}
-
 /// What is shown, by which session, by what change of its trail, and whether that is a derivation then.
 pub(crate) struct Row(
     pub(crate) &'static str,
@@ -35,22 +16,6 @@ pub(crate) struct Row(
     pub(crate) Turn,
     pub(crate) bool,
 );
-
-fn text_of(given: Given) -> &'static [u8] {
-    match given {
-        Given::WalkByDs => WALK_BY_DS,
-        Given::InsecureWildcard => INSECURE_WILDCARD,
-        Given::Unsigned => UNSIGNED,
-        Given::TooDeep => TOO_DEEP,
-        Given::Fault => FAULT,
-        Given::SearchFault => SEARCH_FAULT,
-        Given::ByTurn => BY_TURN,
-        Given::UnsignedCut => UNSIGNED_CUT,
-        Given::NameError => NAME_ERROR,
-        Given::Expansion => EXPANSION,
-        Given::NothingThere => NOTHING_THERE,
-    }
-}
 
 fn session_of(alloc: Global, text: &[u8]) -> Option<Session> {
     if text.len() > 65_535 {
@@ -121,7 +86,7 @@ fn is_derivation(alloc: Global, text: &[u8], trail: &Trail) -> Option<bool> {
 
 fn turned_trail_of(alloc: Global, text: &[u8], turn: &Turn) -> Option<Trail> {
     let mut trail = trail_of(alloc, text)?;
-    match turn_steps(alloc, &mut trail.steps, turn) {
+    match turn_steps(&mut trail.steps, turn) {
         Ok(()) => Some(trail),
         Err(_) => None,
     }

@@ -1,7 +1,7 @@
 //! One change in a trail.
 use dns_net::{AskRef, Asked, Ending, JudgedSet, MarkOrigin, Reply, Told};
 use dns_record::{DNSClass, Denial, Proof, Query, Record, RecordType};
-use std::alloc::{AllocError, Global};
+use std::alloc::AllocError;
 
 /// A change of an entry.
 pub(crate) enum EntryTurn {
@@ -51,11 +51,7 @@ pub(crate) enum Turn {
 }
 
 /// Changes the steps of a trail.
-pub(crate) fn turn_steps(
-    alloc: Global,
-    steps: &mut Vec<Asked>,
-    turn: &Turn,
-) -> Result<(), AllocError> {
+pub(crate) fn turn_steps(steps: &mut Vec<Asked>, turn: &Turn) -> Result<(), AllocError> {
     match turn {
         Turn::Whole => Ok(()),
         Turn::Drop(number) => {
@@ -67,10 +63,10 @@ pub(crate) fn turn_steps(
             Ok(())
         }
         Turn::Both(number, one, other) => {
-            turn_step(alloc, steps, *number, one)?;
-            turn_step(alloc, steps, *number, other)
+            turn_step(steps, *number, one)?;
+            turn_step(steps, *number, other)
         }
-        Turn::Step(number, one) => turn_step(alloc, steps, *number, one),
+        Turn::Step(number, one) => turn_step(steps, *number, one),
     }
 }
 
@@ -86,21 +82,16 @@ fn put_ahead(steps: &mut Vec<Asked>, number: usize) {
     }
 }
 
-fn turn_step(
-    alloc: Global,
-    steps: &mut Vec<Asked>,
-    number: usize,
-    turn: &StepTurn,
-) -> Result<(), AllocError> {
+fn turn_step(steps: &mut Vec<Asked>, number: usize, turn: &StepTurn) -> Result<(), AllocError> {
     match steps.get_mut(number) {
-        Some(step) => turn_one(alloc, step, turn),
+        Some(step) => turn_one(step, turn),
         None => Ok(()),
     }
 }
 
-fn turn_one(alloc: Global, step: &mut Asked, turn: &StepTurn) -> Result<(), AllocError> {
+fn turn_one(step: &mut Asked, turn: &StepTurn) -> Result<(), AllocError> {
     match turn {
-        StepTurn::Entry(place, change) => turn_entries(alloc, &mut step.sets, *place, change)?,
+        StepTurn::Entry(place, change) => turn_entries(&mut step.sets, *place, change)?,
         StepTurn::NoEntry => {
             let _ = step.sets.pop();
         }
@@ -112,7 +103,7 @@ fn turn_one(alloc: Global, step: &mut Asked, turn: &StepTurn) -> Result<(), Allo
         StepTurn::Answered(_) | StepTurn::Denied(_) | StepTurn::Failed | StepTurn::Seen => {
             turn_ending(&mut step.ending, turn)
         }
-        StepTurn::Excuse(asks) => step.excuse = asks.to_vec(alloc)?,
+        StepTurn::Excuse(asks) => put_asks(&mut step.excuse, asks)?,
     }
     Ok(())
 }
@@ -126,20 +117,29 @@ fn turn_ending(ending: &mut Ending, turn: &StepTurn) {
     };
 }
 
+// These asks in place of others.
+fn put_asks(asked: &mut Vec<AskRef>, asks: &[AskRef]) -> Result<(), AllocError> {
+    asked.clear();
+    asked.extend_from_slice(asks)
+}
+
 fn turn_entries(
-    alloc: Global,
     entries: &mut Vec<JudgedSet>,
     place: usize,
     turn: &EntryTurn,
 ) -> Result<(), AllocError> {
-    let Some(entry) = entries.get_mut(place) else {
-        return Ok(());
-    };
+    match entries.get_mut(place) {
+        Some(entry) => turn_entry(entry, turn),
+        None => Ok(()),
+    }
+}
+
+fn turn_entry(entry: &mut JudgedSet, turn: &EntryTurn) -> Result<(), AllocError> {
     match turn {
         EntryTurn::Mark(mark) => entry.mark = *mark,
         EntryTurn::Sig(sig) => entry.sig = *sig,
         EntryTurn::Origin(origin) => entry.origin = *origin,
-        EntryTurn::Asks(asks) => entry.asked = asks.to_vec(alloc)?,
+        EntryTurn::Asks(asks) => put_asks(&mut entry.asked, asks)?,
         EntryTurn::RecordType(rtype) => entry.record_type = *rtype,
     }
     Ok(())
