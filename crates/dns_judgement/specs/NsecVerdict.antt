@@ -5,6 +5,7 @@ use Rattle.std.specs.Option.{is_some}
 use Rattle.std.specs.List.{list_any, find}
 use Rattle.dns_model.specs.Names.{Labels, name_eq, at_or_above, strictly_above, common_ancestor, longer, star}
 use Rattle.dns_model.specs.Types.{type_ns, type_soa, type_cname, type_ds, type_dname}
+pub use Rattle.dns_model.specs.Types.{code_no_error, code_nx_domain, can_deny}
 use Rattle.dns_model.specs.Records.{Question}
 use Rattle.dns_model.specs.Owned.{OwnedNsec}
 use Rattle.dns_model.specs.declared.proof.Proof.{Proof}
@@ -17,17 +18,6 @@ abbrev pub secure_if : Bool → Proof
 secure_if proved = if proved then Secure else Bogus
 
 -- ---- the response
-
--- response codes (RFC 1035, 4.1.1)
-abbrev pub code_no_error : ℕ
-code_no_error = 0
-
-abbrev pub code_nx_domain : ℕ
-code_nx_domain = 3
-
--- the codes of responses that deny (RFC 2308, 2)
-abbrev pub can_deny : ℕ → Bool
-can_deny code = (code == code_no_error) || (code == code_nx_domain)
 
 -- the zone holds the query; DS records stand above the zone cut, in the parent's zone (RFC 4035, 2.4 and 3.1.4.1)
 abbrev pub holds_query : Labels → Question → Bool

@@ -35,6 +35,17 @@ type_dnskey = 48
 abbrev pub type_nsec3 : ℕ
 type_nsec3 = 50
 
+-- response codes (RFC 1035, 4.1.1)
+abbrev pub code_no_error : ℕ
+code_no_error = 0
+
+abbrev pub code_nx_domain : ℕ
+code_nx_domain = 3
+
+-- the codes of responses that deny (RFC 2308, 2)
+abbrev pub can_deny : ℕ → Bool
+can_deny code = (code == code_no_error) || (code == code_nx_domain)
+
 abbrev pub class_in : ℕ
 class_in = 1
 
