@@ -7,7 +7,7 @@ ghost use Rattle.dns_model.specs.declared.answered.Answered.TheVariants.{No, Exp
 ghost use Rattle.dns_model.specs.declared.proof.Proof.TheVariants.{Secure};
 ghost use Rattle.dns_judgement.specs.DenialInZones.{IsDeniedIn, IsExpandedIn};
 ghost use Rattle.dns_judgement.specs.Covering.{covering as covering_in};
-ghost use Rattle.dns_judgement.specs.NsecVerdict.{nsec_verdict, code_nx_domain, can_deny as can_deny_in, holds_query as holds_query_in, is_unanswered as is_unanswered_in, is_owned_by as is_owned_by_in, denies_at_owner as denies_at_owner_in, wildcard_lacks as wildcard_lacks_in, wildcard_denies as wildcard_denies_in, missing_name as missing_name_in, proved_by_covering as proved_by_covering_in, proved_at_name as proved_at_name_in, closest_encloser as closest_encloser_of};
+ghost use Rattle.dns_judgement.specs.NsecVerdict.{nsec_verdict, code_nx_domain, holds_query as holds_query_in, is_unanswered as is_unanswered_in, is_owned_by as is_owned_by_in, denies_at_owner as denies_at_owner_in, wildcard_lacks as wildcard_lacks_in, wildcard_denies as wildcard_denies_in, missing_name as missing_name_in, proved_by_covering as proved_by_covering_in, proved_at_name as proved_at_name_in, closest_encloser as closest_encloser_of};
 
 use crate::Answered;
 use crate::covering::covering;
@@ -48,7 +48,7 @@ fn verdict_of(
 ) -> Proof
     ensures { result ≡ nsec_verdict query.now zone.now code.0 answered nsecs.now }
 {
-    if !can_deny(code) {
+    if !code.can_deny() {
         return Proof::Bogus;
     }
     if !holds_query(zone, query) {
@@ -62,13 +62,6 @@ fn verdict_of(
     } else {
         Proof::Bogus
     }
-}
-
-/// Whether a response with this code can deny (RFC 2308, 2).
-fn can_deny(code: ResponseCode) -> bool
-    ensures { result ≡ can_deny_in code.0 }
-{
-    code == ResponseCode::NO_ERROR || code == ResponseCode::NX_DOMAIN
 }
 
 /// Whether the zone holds the query's name; DS records stand in the zone above the cut (RFC 4035, 2.4).

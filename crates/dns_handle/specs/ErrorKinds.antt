@@ -1,5 +1,6 @@
 -- Which errors say that there are no records, that a connection is gone, or that something failed.
 use Rattle.std.specs.Prelude.{Bool, true, false, ◌==◌, Option, None}
+use Rattle.dns_model.specs.Types.{code_nx_domain}
 use Rattle.dns_model.specs.Records.{Rr}
 use Rattle.dns_handle.specs.Errors.{ErrorValue, Dns, Io, NoMemory, NoRecordsFound}
 use Rattle.dns_handle.specs.declared.io_kind.IoKind.{IoKind}
@@ -7,7 +8,7 @@ use Rattle.dns_handle.specs.declared.io_kind.IoKind.TheVariants.{ConnectionReset
 
 -- the name doesn't exist: no records, by code NXDOMAIN (RFC 2308, 2.1)
 abbrev pub is_nx_domain : ErrorValue → Bool
-is_nx_domain (Dns (NoRecordsFound missing)) = missing.response_code == 3
+is_nx_domain (Dns (NoRecordsFound missing)) = missing.response_code == code_nx_domain
 is_nx_domain _ = false
 
 -- there are no records

@@ -3,7 +3,7 @@ use Rattle.std.specs.Prelude.{ℕ, Bool, true, false, not, ◌==◌, ◌&&◌, �
 use Rattle.std.specs.List.{list_any, filter, find}
 use Rattle.std.specs.Option.{option_and_then}
 use Rattle.dns_model.specs.Names.{Labels, name_eq, at_or_above}
-use Rattle.dns_model.specs.Types.{type_a, type_ns, type_soa, class_in}
+use Rattle.dns_model.specs.Types.{type_a, type_ns, type_soa, can_deny, class_in}
 use Rattle.dns_model.specs.Views.{SoaValue, ns_in, soa_in}
 use Rattle.dns_model.specs.Records.{Rr, Question, MessageValue}
 use Rattle.dns_model.specs.SoundAnswers.{ResponseValue}
@@ -28,10 +28,6 @@ is_empty (r ∷ rs) = false
 -- a code by which a server says that it failed or refused: FORMERR, SERVFAIL, NOTIMP to NOTZONE, BADVERS to BADCOOKIE
 abbrev pub is_failure : ℕ → Bool
 is_failure code = (code == 1) || (code == 2) || (nat_le 4 code && nat_le code 10) || (nat_le 16 code && nat_le code 23)
-
--- a code of an answer that may say that there are no records: NOERROR and NXDOMAIN
-abbrev pub may_deny : ℕ → Bool
-may_deny code = (code == 0) || (code == 3)
 
 -- a record answers a question: one of type ANY by its name alone, one of type SOA as the SOA of a zone that the name is in,
 -- another by its name and type
@@ -59,7 +55,7 @@ contains_answer message = list_any (is_answered message) message.queries
 
 -- the message says that there are no records: by its code, with nothing cut off, and with no answer
 abbrev pub is_negative : MessageValue → Bool
-is_negative message = may_deny message.response_code && (not message.truncated && not (contains_answer message))
+is_negative message = can_deny message.response_code && (not message.truncated && not (contains_answer message))
 
 -- an SOA that can be read
 abbrev pub is_soa : Rr → Bool

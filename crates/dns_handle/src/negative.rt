@@ -4,7 +4,7 @@ ghost use Rattle.std.specs.List.{find};
 ghost use Rattle.std.specs.Option.{option_and_then, option_copied};
 ghost use Rattle.dns_handle.specs.Requests.{first_query};
 ghost use Rattle.dns_handle.specs.Replies.{response_of};
-ghost use Rattle.dns_handle.specs.Responses.{from_response, is_failure, is_negative, is_soa, may_deny, negative_ttl_of, no_records_of, root_question};
+ghost use Rattle.dns_handle.specs.Responses.{from_response, is_failure, is_negative, is_soa, negative_ttl_of, no_records_of, root_question};
 
 use crate::answered::contains_answer;
 use crate::glue::forwarded_among;
@@ -23,18 +23,11 @@ fn is_failure(code: ResponseCode) -> bool
     matches!(code.0, 1 | 2 | 4..=10 | 16..=23)
 }
 
-/// Whether an answer with the code may say that there are no records.
-fn may_deny(code: ResponseCode) -> bool
-    ensures { result ≡ may_deny code.0 }
-{
-    code == ResponseCode::NO_ERROR || code == ResponseCode::NX_DOMAIN
-}
-
 /// Whether the message says that there are no records.
 fn is_negative(alloc: Global, message: &Message) -> Result<bool, NoMemory>
     ensures { IfOk result (λ b. b ≡ is_negative message.now) }
 {
-    if !may_deny(message.response_code) || message.truncated {
+    if !message.response_code.can_deny() || message.truncated {
         return Ok(false);
     }
     let answered = contains_answer(alloc, message)?;

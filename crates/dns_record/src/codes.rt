@@ -1,3 +1,6 @@
+ghost use Rattle.std.specs.Prelude.{◌≡◌};
+ghost use Rattle.dns_model.specs.Types.{can_deny};
+
 /// The type of a record (RFC 1035, 3.2.2; the IANA registry of DNS parameters).
 #[derive(Clone, Copy, Debug, PartialEq, Eq, PartialOrd, Ord, Hash)]
 pub struct RecordType(pub u16);
@@ -129,4 +132,13 @@ impl ResponseCode {
     pub const BAD_TRUNC: ResponseCode = ResponseCode(22);
 
     pub const BAD_COOKIE: ResponseCode = ResponseCode(23);
+}
+
+impl ResponseCode {
+    /// Whether a response with this code can deny: NOERROR and NXDOMAIN (RFC 2308, 2).
+    pub fn can_deny(self) -> bool
+        ensures { result ≡ can_deny self.0 }
+    {
+        self == ResponseCode::NO_ERROR || self == ResponseCode::NX_DOMAIN
+    }
 }
