@@ -1,7 +1,8 @@
 -- The signature that decided stands at its place among the signatures of its set.
-use Rattle.std.proofs.Common.{◌≡◌, ℕ, Bool, true, false, not, ◌==◌, ◌&&◌, cond, List, [], ◌∷◌, ◌++◌, length, Option, None, Some, refl, sym, ap, ◌∙◌}
+use Rattle.std.proofs.Common.{◌≡◌, ℕ, Bool, true, false, not, ◌==◌, ◌&&◌, cond, List, [], ◌∷◌, ◌++◌, length, Option, None, Some, refl, sym, ap, ◌∙◌, subst, zero, suc}
 use Rattle.std.specs.Prelude.{slice_get}
-use Rattle.std.specs.List.{filter}
+use Rattle.std.specs.List.{filter, AllByRecursion}
+use Rattle.std.specs.Option.{option_and_then}
 use Rattle.std.proofs.lemmas.Bool.{and_parts, and_from}
 use Rattle.std.proofs.lemmas.List.Sums.{length-filter}
 use Rattle.std.proofs.lemmas.List.Elements.{filter_agree}
@@ -12,6 +13,7 @@ use Rattle.dns_model.specs.Views.{RrsigValue, rrsig_in}
 use Rattle.dns_model.specs.Records.{Rr}
 use Rattle.dns_model.specs.Sections.{is_signature, covers_rtype, covers}
 use Rattle.dns_model.specs.SoundAnswers.{set_rtype, covered_rtype}
+use Rattle.dns_model.proofs.EachLemmas.{each_passes}
 use Rattle.dns_model.proofs.SetLemmas.{name_left, number_refl, number_same, IsProper, covers_set, IsSignedIn}
 use Rattle.dns_judgement.specs.Judged.{Judged, decider}
 use Rattle.dns_judgement.specs.Marking.{signature_place}
@@ -85,6 +87,27 @@ pub marked_place : (before : List Rr) (r : Rr) (sig : Option ℕ) → (is_signat
     → is_signature r ≡ true → sig ≡ Some (signature_place before r)
 marked_place before r sig decides is =
     place_same sig (signature_place before r) (decides_from (is_signature r) (is_place sig (signature_place before r)) decides is)
+
+some_is : {X : Type 0} (y x : X) → Some y ≡ Some x → y ≡ x
+some_is y x h = cc
+
+-- what stands in a list of which each element passes, passes
+passes_at : {X : Type 0} (p : X → Bool) (xs : List X) (n : ℕ) (x : X) → AllByRecursion (λ y. p y ≡ true) xs → slice_get xs n ≡ Some x → p x ≡ true
+passes_at p [] n x all is = cc
+passes_at p (y ∷ ys) zero x all is = ap p (sym (some_is y x is)) ∙ all.0
+passes_at p (y ∷ ys) (suc n) x all is = passes_at p ys n x all.1 is
+
+signs_step : (records : List Rr) (s : Judged) (o : Option ℕ) (d : Rr) → IsSignedIn records s.set → option_and_then (slice_get s.set.signatures) o ≡ Some d
+    → covers_set s.set d ≡ true
+signs_step records s None d signed is = cc
+signs_step records s (Some n) d signed is =
+    passes_at (covers_set s.set) s.set.signatures n d
+    (subst (λ xs. AllByRecursion (λ y. covers_set s.set y ≡ true) xs) (sym signed.signed) (each_passes (covers_set s.set) records)) is
+
+-- the one that decided is a signature
+pub decider_signs : (records : List Rr) (s : Judged) → IsSignedIn records s.set → (d : Rr) → decider s ≡ Some d → is_signature d ≡ true
+decider_signs records s signed d is =
+    (and_parts (is_signature d) (name_eq s.set.owner d.owner && covers_rtype s.set.rtype (rrsig_in d.rdata)) (signs_step records s s.sig d signed is)).0
 
 -- it is the one that decided
 pub decider_is : (section : Section) (records before rest : List Rr) (r : Rr) (s : Judged) → IsProper s.set → IsSignedIn records s.set → IsAbout section r s

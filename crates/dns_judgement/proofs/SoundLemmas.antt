@@ -10,6 +10,7 @@ use Rattle.dns_model.specs.declared.denial.Denial.{Denial}
 use Rattle.dns_model.specs.Names.{Labels, name_eq}
 use Rattle.dns_model.specs.Views.{rrsig_in}
 use Rattle.dns_model.specs.Records.{Rr, RrSet, MessageValue}
+use Rattle.dns_model.specs.RecordViews.{rrsig_of}
 use Rattle.dns_model.specs.Sections.{is_signature, sets_of}
 use Rattle.dns_model.specs.Chains.{LinkValue, Anchored, Matched, KeySet, Signed, Judge, last_link, is_nonempty, rdatas_of, link_is_for}
 use Rattle.dns_model.specs.Trails.{AskedValue}
@@ -24,7 +25,7 @@ use Rattle.dns_judgement.specs.MarkParts.{is_place, first_record, adjusted_by}
 use Rattle.dns_judgement.proofs.StandLemmas.{stands_parts}
 use Rattle.dns_judgement.proofs.ChainedLemmas.{AllStand, AreJudged}
 use Rattle.dns_judgement.proofs.MarkedLemmas.{marked-keeps, marked-plain, about_parts, IsKnown, each_known, IsKnownChain, each_chain_known, own_from, own_marked, made_secure, plain_ttl, decided_link}
-use Rattle.dns_judgement.proofs.DeciderLemmas.{decider_is}
+use Rattle.dns_judgement.proofs.DeciderLemmas.{decider_is, decider_signs}
 use Rattle.dns_judgement.proofs.OneDeciderLemmas.{one_decider}
 use Rattle.dns_judgement.proofs.AfterLemmas.{IsPlainChange, unsigned, unsigned_sets, kept_after}
 
@@ -66,6 +67,10 @@ none_decides : (r : Rr) (b : Bool) → (b ≡ true → None ≡ Some r) → b �
 none_decides r true h = cc (h refl)
 none_decides r false h = refl
 
+-- what a signature says as an RRSIG is what its rdata says
+rrsig_read : (d : Rr) → is_signature d ≡ true → rrsig_of d ≡ rrsig_in d.rdata
+rrsig_read d is = ap (λ b. cond b (rrsig_in d.rdata) None) is
+
 -- a Secure signature is the one that the link names
 signature_is : (r d : Rr) (sig : List ℕ) → names_decider (Some (Signed r.owner 0 0 [] sig 0 [])) (Some d) ≡ true
     → Some d ≡ Some r → r.rdata ≡ sig
@@ -74,17 +79,19 @@ signature_is r d sig named decides =
     ap (λ x. x.rdata) (sym same) ∙ sym (bytes_same sig d.rdata named)
 
 secure_by_link : (now : ℕ) (section : List Rr) (t r : Rr) (mark : Proof) (s : Judged) (link : Option LinkValue) (d : Option Rr) → names_decider link d ≡ true
-    → (is_signature r ≡ true → d ≡ Some r) → r.ttl ≡ t.ttl → ttl_of (first_record s.set.records) ≡ first_ttl section r.owner (set_rtype r)
+    → ((x : Rr) → d ≡ Some x → is_signature x ≡ true) → (is_signature r ≡ true → d ≡ Some r) → r.ttl ≡ t.ttl
+    → ttl_of (first_record s.set.records) ≡ first_ttl section r.owner (set_rtype r)
     → IsSecureTtl now section t (record r { proof = mark; ttl = adjusted_by now s r d }) link
-secure_by_link now section t r mark s None d named decides kept first = cc
-secure_by_link now section t r mark s (Some (Anchored owner class key)) d named decides kept first = cc
-secure_by_link now section t r mark s (Some (Matched owner class key ds_link ds)) d named decides kept first = cc
-secure_by_link now section t r mark s (Some (KeySet owner class keys links)) None named decides kept first = (none_decides r (is_signature r) decides, kept)
-secure_by_link now section t r mark s (Some (KeySet owner class keys links)) (Some d) named decides kept first = cc
-secure_by_link now section t r mark s (Some (Signed owner class rtype rdatas sig key_link key)) None named decides kept first = cc
-secure_by_link now section t r mark s (Some (Signed owner class rtype rdatas sig key_link key)) (Some d) named decides kept first = (
+secure_by_link now section t r mark s None d named signs decides kept first = cc
+secure_by_link now section t r mark s (Some (Anchored owner class key)) d named signs decides kept first = cc
+secure_by_link now section t r mark s (Some (Matched owner class key ds_link ds)) d named signs decides kept first = cc
+secure_by_link now section t r mark s (Some (KeySet owner class keys links)) None named signs decides kept first = (none_decides r (is_signature r) decides, kept)
+secure_by_link now section t r mark s (Some (KeySet owner class keys links)) (Some d) named signs decides kept first = cc
+secure_by_link now section t r mark s (Some (Signed owner class rtype rdatas sig key_link key)) None named signs decides kept first = cc
+secure_by_link now section t r mark s (Some (Signed owner class rtype rdatas sig key_link key)) (Some d) named signs decides kept first = (
   λ is. signature_is r d sig named (decides is),
-  ap (λ n. min n (signed_ttl (rrsig_in d.rdata) now)) first
+  ap (λ n. min n (signed_ttl (rrsig_of d) now)) first
+      ∙ ap (λ o. min (first_ttl section r.owner (set_rtype r)) (signed_ttl o now)) (rrsig_read d (signs d refl))
       ∙ ap (λ bytes. min (first_ttl section r.owner (set_rtype r)) (signed_ttl (rrsig_in bytes) now)) (sym (bytes_same sig d.rdata named)),
 )
 
@@ -155,7 +162,7 @@ kept_one j now m cs section judged before rest t split =
           let first : ttl_of (first_record s.set.records) ≡ first_ttl section_told r.owner (set_rtype r) =
           first_is s.set (map cleared section_told) r.owner (set_rtype r) begins about.owner about.rtype ∙ first_ttl-cleared section_told r.owner (set_rtype r) in
           let decides = decider_is section (map cleared section_told) before rest r s known.proper signed about split made.decides in
-          let by_link = secure_by_link now section_told t r s.mark s (last_link made.set.chain) (decider s) chain.named decides refl first in
+          let by_link = secure_by_link now section_told t r s.mark s (last_link made.set.chain) (decider s) chain.named (decider_signs (map cleared section_told) s signed) decides refl first in
           let decided = decided_link j cs section r made.set judged.stand made.found made.secure in
           let made_record : Rr = record r { proof = s.mark; ttl = adjusted_by now s r (decider s) } in
           subst (λ x. IsSecureTtl now section_told t x (deciding_link (chains_of cs) section x)) (sym made.form)

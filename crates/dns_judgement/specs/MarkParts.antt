@@ -3,9 +3,9 @@ use Rattle.std.specs.Prelude.{ℕ, Bool, true, false, not, ◌==◌, ◌&&◌, �
 use Rattle.std.specs.Option.{option_map, option_map_or, option_and_then}
 use Rattle.std.specs.List.{find}
 use Rattle.dns_model.specs.Names.{Labels}
-use Rattle.dns_model.specs.Views.{RrsigValue, DnskeyValue, rrsig_in}
+use Rattle.dns_model.specs.Views.{RrsigValue, DnskeyValue}
 use Rattle.dns_model.specs.Records.{Rr, RrSet, Question, question_eq}
-use Rattle.dns_model.specs.RecordViews.{dnskey_of}
+use Rattle.dns_model.specs.RecordViews.{rrsig_of, dnskey_of}
 use Rattle.dns_model.specs.Sections.{is_signature}
 use Rattle.dns_model.specs.Signing.{signed_bytes}
 use Rattle.dns_model.specs.Keys.{usable_key}
@@ -97,7 +97,7 @@ first_record records = slice_get records 0
 
 abbrev pub adjusted_by : ℕ → Judged → Rr → Option Rr → ℕ
 adjusted_by now judged r signature =
-    option_map_or (λ s. min (ttl_of (first_record judged.set.records)) (signed_ttl (rrsig_in s.rdata) now)) signature r.ttl
+    option_map_or (λ s. min (ttl_of (first_record judged.set.records)) (signed_ttl (rrsig_of s) now)) signature r.ttl
 
 -- of the signatures of a set the one at the place of that which decided is marked
 abbrev pub marked_by : ℕ → ℕ → Rr → Option Judged → Rr

@@ -6,8 +6,8 @@ use Rattle.dns_model.specs.declared.proof.Proof.TheVariants.{Indeterminate}
 use Rattle.dns_model.specs.declared.section.Section.{Section}
 use Rattle.dns_model.specs.declared.section.Section.TheVariants.{Answer, Authority, Additional}
 use Rattle.dns_model.specs.Names.{name_eq}
-use Rattle.dns_model.specs.Views.{rrsig_in}
 use Rattle.dns_model.specs.Records.{Rr, MessageValue}
+use Rattle.dns_model.specs.RecordViews.{rrsig_of}
 use Rattle.dns_model.specs.Sections.{is_signature, covers}
 use Rattle.dns_model.specs.SoundAnswers.{Told, section_eq, is_secure, set_rtype, signed_ttl, ttl_of}
 use Rattle.dns_judgement.specs.Judged.{Judged, decider}
@@ -36,7 +36,7 @@ signature_place before signature = count_by (covers (record signature { rtype = 
 abbrev pub adjusted_ttl : ℕ → Judged → Rr → ℕ
 adjusted_ttl now judged r =
     if is_secure judged.mark
-    then option_map_or (λ signature. min (ttl_of (slice_get judged.set.records 0)) (signed_ttl (rrsig_in signature.rdata) now)) (decider judged) r.ttl
+    then option_map_or (λ signature. min (ttl_of (slice_get judged.set.records 0)) (signed_ttl (rrsig_of signature) now)) (decider judged) r.ttl
     else r.ttl
 
 -- a record with the mark of its set, behind those that stand before it in its section; of the signatures of a set the one that
