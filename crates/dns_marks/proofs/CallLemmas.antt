@@ -2,8 +2,7 @@
 use Rattle.std.proofs.Common.{◌≡◌, ℕ, Bool, true, false, not, ◌==◌, ◌&&◌, List, Option, None, Some, refl, sym, ap, ◌∙◌}
 use Rattle.std.specs.Prelude.{if◌then◌else◌, min, slice_get}
 use Rattle.std.specs.Option.{option_map, option_map_or, option_and_then}
-use Rattle.dns_model.specs.Types.{type_rrsig}
-use Rattle.dns_model.specs.Views.{RrsigValue, DnskeyValue, is_zone_key, is_revoked, rrsig_in}
+use Rattle.dns_model.specs.Views.{RrsigValue, DnskeyValue, is_zone_key, is_revoked}
 use Rattle.dns_model.specs.Serial.{timely}
 use Rattle.dns_model.specs.Names.{name_eq}
 use Rattle.dns_model.specs.Signing.{signed_bytes, key_tag_of}
@@ -36,17 +35,11 @@ pub validity_read : (now : ℕ) (set : RrSet) (r key : Rr) (sig : RrsigValue) �
 unfolding validity
 validity_read now set r key sig h = ap (λ o. sig_validity (λ s. timely s now) set r key o) h
 
--- and what its rdata says is the view
-rdata_read : (right : Bool) (o : Option RrsigValue) (sig : RrsigValue) → (if right then o else None) ≡ Some sig → o ≡ Some sig
-rdata_read true o sig h = h
-rdata_read false o sig h = cc
-
 -- so what it proves is known without its record
 pub proved_as_read : (now : ℕ) (set : RrSet) (r : Rr) (sig : RrsigValue) (place : Option ℕ) → rrsig_of r ≡ Some sig
     → proved_with (min (ttl_of (slice_get set.records 0)) (signed_ttl (Some sig) now)) place ≡ proved_by now set r place
 proved_as_read now set r sig place h =
-    ap (λ o. proved_with (min (ttl_of (slice_get set.records 0)) (signed_ttl o now)) place)
-    (sym (rdata_read (r.rtype == type_rrsig) (rrsig_in r.rdata) sig h))
+    ap (λ o. proved_with (min (ttl_of (slice_get set.records 0)) (signed_ttl o now)) place) (sym h)
 
 -- without a signature the verifier isn't asked
 pub put_no_signature : (verifier : VerifierAnswers) (now : ℕ) (set : RrSet) (r key : Rr) → rrsig_of r ≡ None → is_put verifier now set r key ≡ false

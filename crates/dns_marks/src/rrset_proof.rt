@@ -1,11 +1,10 @@
-ghost use Rattle.std.specs.Prelude.{◌≡◌, None, Some, min, slice_get};
-ghost use Rattle.dns_model.specs.Views.{rrsig_in};
-ghost use Rattle.dns_model.specs.SoundAnswers.{ttl_of, signed_ttl as signed_ttl_of};
+ghost use Rattle.std.specs.Prelude.{◌≡◌, None, min, slice_get};
+ghost use Rattle.dns_model.specs.SoundAnswers.{ttl_of};
 ghost use Rattle.dns_marks.specs.Proofs.{proved_by as proved_under, proved_with as proved_with_ttl, proved_whole as proved_by_keys, excused as excused_by_keys};
 ghost use Rattle.dns_marks.specs.Tested.{IsRead};
 
 use crate::tested::Tested;
-use dns_rdata::{Rrsig, SerialNumber};
+use dns_rdata::Rrsig;
 use dns_record::{Proof, Record, RecordSet};
 use std::marker::Model;
 
@@ -32,7 +31,7 @@ impl Model for RrsetProof {
 pub(crate) fn proved_by(now: u64, set: &RecordSet, sig: &Record, place: Option<u32>) -> RrsetProof
     ensures { result ≡ proved_under now set.now sig.now place }
 {
-    proved_with(ttl_by(set, signed_ttl(sig, now)), place)
+    proved_with(ttl_by(set, Rrsig::ttl_left_by(sig, now)), place)
 }
 
 // The same by a signature that is tested, and so is read; it is the only one.
@@ -41,7 +40,7 @@ pub(crate) fn proved_by_tested<V>(tested: &Tested<'_, V>) -> RrsetProof
     ensures { result ≡ proved_under tested.now.moment tested.now.set.now tested.now.sig.now None }
 {
     proved_with(
-        ttl_by(tested.set, ttl_left(tested.read, tested.moment)),
+        ttl_by(tested.set, tested.read.ttl_left(tested.moment)),
         None,
     )
 }
@@ -83,33 +82,5 @@ pub(crate) fn excused() -> RrsetProof
 fn ttl_by(set: &RecordSet, left: u32) -> u32
     ensures { result ≡ min (ttl_of (slice_get set.now.records 0)) left }
 {
-    first_ttl(&set.records).min(left)
-}
-
-// The ttl of the first record.
-fn first_ttl(records: &[Record]) -> u32
-    ensures { result ≡ ttl_of (slice_get records.now 0) }
-{
-    match records {
-        [first, ..] => first.ttl,
-        [] => 0,
-    }
-}
-
-// The ttl that a signature leaves to records, in seconds.
-fn signed_ttl(sig: &Record, now: u64) -> u32
-    ensures { result ≡ signed_ttl_of (rrsig_in sig.now.rdata) now }
-{
-    match Rrsig::read(sig.rdata.as_slice()) {
-        Some(read) => ttl_left(&read, now),
-        None => 0,
-    }
-}
-
-// The same of a signature that is read.
-fn ttl_left(read: &Rrsig<'_>, now: u64) -> u32
-    ensures { result ≡ signed_ttl_of (Some read.now) now }
-{
-    let left = SerialNumber::of_moment(now).distance_to(read.expiration);
-    read.original_ttl.min(left)
+    set.first_ttl().min(left)
 }

@@ -1,6 +1,7 @@
-ghost use Rattle.std.specs.Prelude.{◌≡◌};
+ghost use Rattle.std.specs.Prelude.{◌≡◌, Some};
 ghost use Rattle.dns_model.specs.Views.{rrsig_in};
 ghost use Rattle.dns_model.specs.RecordViews.{rrsig_of};
+ghost use Rattle.dns_model.specs.SoundAnswers.{signed_ttl};
 
 use crate::SerialNumber;
 use crate::bytes::{u16_at, u32_at};
@@ -80,5 +81,24 @@ impl<'a> Rrsig<'a> {
             return None;
         }
         Rrsig::read(from.rdata.as_slice())
+    }
+
+    /// The ttl that the signature leaves to records at a moment, both in seconds: no more than the original ttl, nor than the
+    /// time for which it is still valid (RFC 4035, 5.3.3).
+    pub fn ttl_left(&self, now: u64) -> u32
+        ensures { result ≡ signed_ttl (Some self.now) now }
+    {
+        let left = SerialNumber::of_moment(now).distance_to(self.expiration);
+        self.original_ttl.min(left)
+    }
+
+    /// The ttl that a record leaves to others as their signature: that of what it says as an RRSIG, and 0 where it is none.
+    pub fn ttl_left_by(from: &Record, now: u64) -> u32
+        ensures { result ≡ signed_ttl (rrsig_of from.now) now }
+    {
+        match Rrsig::of(from) {
+            Some(read) => read.ttl_left(now),
+            None => 0,
+        }
     }
 }

@@ -1,5 +1,6 @@
-ghost use Rattle.std.specs.Prelude.{◌≡◌, ◌∷◌, ◌++◌, [], IsTrue, IfOk, IfErr, OnOk, OnErr};
+ghost use Rattle.std.specs.Prelude.{◌≡◌, ◌∷◌, ◌++◌, [], IsTrue, IfOk, IfErr, OnOk, OnErr, slice_get};
 ghost use Rattle.dns_model.specs.Names.{name_eq};
+ghost use Rattle.dns_model.specs.SoundAnswers.{ttl_of};
 
 use crate::record::clone_records;
 use crate::{DNSClass, Record, RecordType};
@@ -73,6 +74,16 @@ impl RecordSet {
         match self.records.push(next) {
             Ok(()) => Ok(()),
             Err(refused) => Err(refused.value),
+        }
+    }
+
+    /// Seconds: the ttl of the first record, and 0 where there is none.
+    pub fn first_ttl(&self) -> u32
+        ensures { result ≡ ttl_of (slice_get self.now.records 0) }
+    {
+        match self.records.first() {
+            Some(first) => first.ttl,
+            None => 0,
         }
     }
 

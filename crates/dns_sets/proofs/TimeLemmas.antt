@@ -6,8 +6,8 @@ use Rattle.std.specs.List.{find}
 use Rattle.std.proofs.lemmas.List.{length-map, get_or-map, map-append}
 use Rattle.std.proofs.lemmas.Option.{slice_get_cases, slice_get_read}
 use Rattle.dns_model.specs.declared.section.Section.{Section}
-use Rattle.dns_model.specs.Views.{rrsig_in}
 use Rattle.dns_model.specs.Records.{Rr}
+use Rattle.dns_model.specs.RecordViews.{rrsig_of}
 use Rattle.dns_model.specs.Sections.{is_signature}
 use Rattle.dns_model.specs.SoundAnswers.{is_secure, set_rtype, signed_ttl, ttl_of}
 use Rattle.dns_judgement.specs.Chained.{Chained, bare}
@@ -31,7 +31,7 @@ ttl_step false f o t = refl
 
 marked_in_time : (now place : ℕ) (r : Rr) (s : Judged) → marked_with (set_ttl now s) place r s ≡ marked_by now place r (Some s)
 marked_in_time now place r s =
-    let left = λ (g : Rr). min (ttl_of (first_record s.set.records)) (signed_ttl (rrsig_in g.rdata) now) in
+    let left = λ (g : Rr). min (ttl_of (first_record s.set.records)) (signed_ttl (rrsig_of g) now) in
     ap (λ (t : ℕ). cond (is_signature r && not (is_place s.sig place)) (cleared r) (record r { proof = s.mark; ttl = t }))
     (ttl_step (is_secure s.mark) left (decider s) r.ttl)
 

@@ -2,8 +2,8 @@
 -- (RFC 4035, 5.3.3).
 use Rattle.std.specs.Prelude.{◌≡◌, ℕ, not, ◌&&◌, min, List, map, Option, None, if◌then◌else◌}
 use Rattle.std.specs.Option.{option_map, unwrap_or}
-use Rattle.dns_model.specs.Views.{rrsig_in}
 use Rattle.dns_model.specs.Records.{Rr}
+use Rattle.dns_model.specs.RecordViews.{rrsig_of}
 use Rattle.dns_model.specs.Sections.{is_signature}
 use Rattle.dns_model.specs.SoundAnswers.{is_secure, signed_ttl, ttl_of}
 use Rattle.dns_judgement.specs.Chained.{bare}
@@ -16,7 +16,7 @@ use Rattle.dns_sets.specs.declared.marking.TimedSets.{TimedSets}
 abbrev pub set_ttl : ℕ → Judged → Option ℕ
 set_ttl now judged =
     if is_secure judged.mark
-    then option_map (λ s. min (ttl_of (first_record judged.set.records)) (signed_ttl (rrsig_in s.rdata) now)) (decider judged)
+    then option_map (λ s. min (ttl_of (first_record judged.set.records)) (signed_ttl (rrsig_of s) now)) (decider judged)
     else None
 
 -- those of sets, in their order

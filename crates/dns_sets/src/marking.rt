@@ -1,9 +1,7 @@
 ghost use Rattle.std.specs.Prelude.{◌≡◌, ℕ, ◌<◌, ◌^◌, IfOk, OnOk, Some, length};
-ghost use Rattle.dns_model.specs.Views.{rrsig_in};
-ghost use Rattle.dns_model.specs.SoundAnswers.{ttl_of, signed_ttl as signed_ttl_of};
 ghost use Rattle.dns_judgement.specs.Marking.{marked_section};
 ghost use Rattle.dns_judgement.specs.Chained.{bare, chains_of, finished as finished_value};
-ghost use Rattle.dns_judgement.specs.MarkParts.{marked_by, is_place as is_same_place, first_record};
+ghost use Rattle.dns_judgement.specs.MarkParts.{marked_by, is_place as is_same_place};
 ghost use Rattle.dns_sets.specs.Counting.{count_at, counted, place_for, set_at};
 ghost use Rattle.dns_sets.specs.Timing.{AreTimed, marked_with, set_ttl as set_ttl_of, set_ttls as set_ttls_of};
 
@@ -12,7 +10,7 @@ use dns_grouping::{SetPlaces, clear_one, judged_places, set_rtype};
 use dns_judged::{ChainedSet, MarkedSet, decider};
 use dns_message::Message;
 use dns_name::NoMemory;
-use dns_rdata::{Rrsig, SerialNumber};
+use dns_rdata::Rrsig;
 use dns_record::{Denial, Proof, Record, RecordType, Section};
 use dns_response::DnsResponse;
 use std::alloc::Global;
@@ -77,33 +75,9 @@ fn set_ttl(now: u64, judged: &MarkedSet) -> Option<u32>
     if judged.mark != Proof::Secure {
         return None;
     }
-    match decider(judged) {
-        Some(signature) => { Some(first_ttl(&judged.set.records).min(signed_ttl(signature, now))) }
-        None => None,
-    }
-}
-
-// The ttl of the first record.
-fn first_ttl(records: &[Record]) -> u32
-    ensures { result ≡ ttl_of (first_record records.now) }
-{
-    match records {
-        [first, ..] => first.ttl,
-        [] => 0,
-    }
-}
-
-// The ttl that a signature leaves to records, in seconds.
-fn signed_ttl(signature: &Record, now: u64) -> u32
-    ensures { result ≡ signed_ttl_of (rrsig_in signature.now.rdata) now }
-{
-    match Rrsig::read(signature.rdata.as_slice()) {
-        Some(sig) => {
-            let left = SerialNumber::of_moment(now).distance_to(sig.expiration);
-            sig.original_ttl.min(left)
-        }
-        None => 0,
-    }
+    let signature = decider(judged)?;
+    let left = Rrsig::ttl_left_by(signature, now);
+    Some(judged.set.first_ttl().min(left))
 }
 
 // The chains of the Secure sets, in their order.
