@@ -21,10 +21,14 @@ count_at counts (Some n) = get_or counts n 0
 abbrev pub set_at : List Judged → Option ℕ → Option Judged
 set_at sets place = option_and_then (slice_get sets) place
 
+-- the counts with one more at a place, where it can be read
+abbrev pub counted_if : List ℕ → ℕ → Bool → List ℕ
+counted_if counts n readable = if readable then set counts n (get_or counts n 0 + 1) else counts
+
 -- the counts with one more record, of the set at this place
 abbrev pub counted : List ℕ → Option ℕ → Rr → List ℕ
 counted counts None r = counts
-counted counts (Some n) r = if is_readable r then set counts n (get_or counts n 0 + 1) else counts
+counted counts (Some n) r = counted_if counts n (is_readable r)
 
 -- a signature of the set at a place
 abbrev pub is_signature_at : SetPlaces → ℕ → Rr → Bool

@@ -2,7 +2,7 @@ ghost use Rattle.std.specs.Prelude.{◌≡◌, ℕ, ◌<◌, ◌^◌, IfOk, OnOk
 ghost use Rattle.dns_judgement.specs.Marking.{marked_section};
 ghost use Rattle.dns_judgement.specs.Chained.{bare, chains_of, finished as finished_value};
 ghost use Rattle.dns_judgement.specs.MarkParts.{marked_by, is_place as is_same_place};
-ghost use Rattle.dns_sets.specs.Counting.{count_at, counted, place_for, set_at};
+ghost use Rattle.dns_sets.specs.Counting.{count_at, counted, counted_if, place_for, set_at};
 ghost use Rattle.dns_sets.specs.Timing.{AreTimed, marked_with, set_ttl as set_ttl_of, set_ttls as set_ttls_of};
 
 use dns_evidence::{Chain, Trail};
@@ -131,11 +131,20 @@ fn mark(timed: &TimedSets<'_>, places: &SetPlaces, counts: &mut [usize], next: &
         Some(place) => {
             let set = &timed.sets[place];
             mark_by(&set.judged, timed.ttls[place], counts[place], next);
-            if readable {
-                counts[place] += 1;
-            }
+            count(readable, place, counts);
         }
         None => clear_one(next),
+    }
+}
+
+// Counts one more of the set at a place, where it can be read.
+fn count(readable: bool, place: usize, counts: &mut [usize])
+    requires within { place < length counts.old }
+    requires few { count_at counts.old (Some place) < 2 ^ 63 }
+    ensures { counts.new ≡ counted_if counts.old place readable }
+{
+    if readable {
+        counts[place] += 1;
     }
 }
 
