@@ -5,8 +5,7 @@ use Rattle.std.proofs.lemmas.List.Elements.{filter-append}
 use Rattle.dns_model.specs.declared.section.Section.TheVariants.{Answer, Authority, Additional}
 use Rattle.dns_model.specs.Sections.{sets_of}
 use Rattle.dns_model.specs.SoundAnswers.{Told, Placed, in_section}
-use Rattle.dns_judgement.specs.Asking.{is_judged_at, judged_part}
-use Rattle.dns_grouping.specs.Joining.{judged_at}
+use Rattle.dns_judgement.specs.Asking.{is_judged_at, judged_at, judged_part}
 
 pub judged_sections : (depth : ℕ) (told : Told) → (one two three : List Placed) → one ≡ [] ++ judged_at depth (map (in_section Answer) (sets_of told.answers))
     → two ≡ one ++ judged_at depth (map (in_section Authority) (sets_of told.authorities))

@@ -5,8 +5,6 @@ use Rattle.dns_model.specs.Names.{Labels, name_eq}
 use Rattle.dns_model.specs.Views.{RrsigValue}
 use Rattle.dns_model.specs.Records.{Rr, RrSet}
 use Rattle.dns_model.specs.Sections.{is_signature, same_set, covers, leaders, unsigned_part}
-use Rattle.dns_model.specs.SoundAnswers.{Placed}
-use Rattle.dns_judgement.specs.Asking.{is_judged_at}
 use Rattle.dns_model.specs.RecordViews.{rrsig_of}
 
 -- a set of this owner and type
@@ -66,7 +64,3 @@ part_set section front r = record {
 -- the sets of a section, with those signatures that stand in a front part
 abbrev pub part_sets : List Rr → List Rr → List RrSet
 part_sets section front = map (part_set section front) (leaders (unsigned_part section))
-
--- sets in their section that are judged at a depth
-abbrev pub judged_at : ℕ → List Placed → List Placed
-judged_at depth placed = filter (λ p. is_judged_at depth p.set.rtype) placed

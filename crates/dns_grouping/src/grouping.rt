@@ -2,8 +2,8 @@ ghost use Rattle.std.specs.Prelude.{◌≡◌, ◌++◌, IfOk, OnOk, map};
 ghost use Rattle.dns_model.specs.Sections.{sets_of};
 ghost use Rattle.dns_model.specs.SoundAnswers.{told_by, in_section};
 ghost use Rattle.dns_judgement.specs.Marking.{cleared, cleared_message};
-ghost use Rattle.dns_judgement.specs.Asking.{judged_part, is_judged_at as is_judged_at_depth};
-ghost use Rattle.dns_grouping.specs.Joining.{judged_at, joined_by, met_by, given, with_record as record_added, with_signature as signature_added};
+ghost use Rattle.dns_judgement.specs.Asking.{judged_at, judged_part, is_judged_at as is_judged_at_depth};
+ghost use Rattle.dns_grouping.specs.Joining.{joined_by, met_by, given, with_record as record_added, with_signature as signature_added};
 ghost use Rattle.dns_model.specs.RecordViews.{rrsig_of};
 ghost use Rattle.dns_grouping.specs.SetPlaces.{ArePlaces, place_of, place_covered};
 

@@ -8,7 +8,7 @@ use Rattle.std.proofs.lemmas.List.{length_push}
 use Rattle.dns_model.specs.Chains.{Judge}
 use Rattle.dns_model.specs.Trails.{AskedValue}
 use Rattle.dns_judgement.specs.Asking.{most_sends, depth_limit}
-use Rattle.dns_judgement.specs.Derivation.{step_holds, steps_hold, asks_of, order_step, send_order, end_step, top_step, in_send_order, derivation}
+use Rattle.dns_judgement.specs.Derivation.{step_holds, steps_hold, asks_of, order_step, send_order, end_step, top_step, in_send_order, has_order, derivation}
 use Rattle.dns_judgement.specs.DerivationParts.{is_each_met_once, is_top, steps_at}
 use Rattle.dns_judgement.specs.Parts.{once_between, Part}
 use Rattle.dns_judgement.proofs.EndLemmas.{end_step_at}
@@ -94,7 +94,7 @@ pub record IsTopOf (j : Judge) (d : ℕ) (b : List AskedValue) (step : AskedValu
   pub few : m ≤ most_sends
 
 pub top_derivation : (j : Judge) (d : ℕ) (b : List AskedValue) (step : AskedValue) (m : ℕ) → IsTopOf j d b step m → derivation j d (b ++ step ∷ []) ≡ true
-unfolding derivation
+unfolding derivation has_order
 top_derivation j d b step m top =
     let trail = b ++ step ∷ [] in
     let p = top.part in
@@ -109,9 +109,10 @@ top_derivation j d b step m top =
     let ended = option_eq nat_eq (end_step (length trail) trail (length trail - 1) 0) (Some (length trail)) in
     let ends : ended ≡ true = top_ends j (depth_limit d) b step m p in
     let sent = is_each_met_once (length trail) (send_order trail) in
-    and_from (nat_le (length trail) most_sends) (is_top (top_step trail) && (sent && (ended && steps_hold j (depth_limit d) [] trail))) is_short
-    (and_from (is_top (top_step trail)) (sent && (ended && steps_hold j (depth_limit d) [] trail)) is_top_step
-    (and_from sent (ended && steps_hold j (depth_limit d) [] trail) once (and_from ended (steps_hold j (depth_limit d) [] trail) ends hold)))
+    and_from (has_order trail) (steps_hold j (depth_limit d) [] trail)
+    (and_from (nat_le (length trail) most_sends) (is_top (top_step trail) && (sent && ended)) is_short
+    (and_from (is_top (top_step trail)) (sent && ended) is_top_step (and_from sent ended once ends)))
+    hold
 
 -- its steps in the order of the sends: the top step, and what its asks sent
 pub top_sent : (j : Judge) (limit : ℕ) (b : List AskedValue) (step : AskedValue) (m : ℕ) (p : Part j limit [] b (asks_of step) 1 m)

@@ -12,7 +12,7 @@ use Rattle.dns_model.specs.Trails.{AskedValue}
 use Rattle.dns_model.proofs.EachLemmas.{each_more}
 use Rattle.dns_model.proofs.SetLemmas.{number_same}
 use Rattle.dns_judgement.specs.Asking.{most_sends, depth_limit}
-use Rattle.dns_judgement.specs.Derivation.{step_holds, steps_hold, asks_of, send_order, end_step, top_step, in_send_order, derivation}
+use Rattle.dns_judgement.specs.Derivation.{step_holds, steps_hold, asks_of, send_order, end_step, top_step, in_send_order, has_order, derivation}
 use Rattle.dns_judgement.specs.DerivationParts.{is_each_met_once, grounds_of, is_top, steps_at}
 use Rattle.dns_judgement.proofs.ExtendLemmas.{place_same}
 use Rattle.dns_judgement.proofs.StayLemmas.{slice_get-stays}
@@ -55,21 +55,21 @@ each_once n (Some order) h = record {
 }
 
 pub derivation_parts : (j : Judge) (d : ℕ) (trail : List AskedValue) → derivation j d trail ≡ true → Derived j d trail
-unfolding derivation
+unfolding derivation has_order
 derivation_parts j d trail h =
     let once = is_each_met_once (length trail) (send_order trail) in
     let ended = option_eq nat_eq (end_step (length trail) trail (length trail - 1) 0) (Some (length trail)) in
     let hold = steps_hold j (depth_limit d) [] trail in
-    let one = and_parts (nat_le (length trail) most_sends) (is_top (top_step trail) && (once && (ended && hold))) h in
-    let two = and_parts (is_top (top_step trail)) (once && (ended && hold)) one.1 in
-    let three = and_parts once (ended && hold) two.1 in
-    let four = and_parts ended hold three.1 in
+    let whole = and_parts (has_order trail) hold h in
+    let one = and_parts (nat_le (length trail) most_sends) (is_top (top_step trail) && (once && ended)) whole.0 in
+    let two = and_parts (is_top (top_step trail)) (once && ended) one.1 in
+    let three = and_parts once ended two.1 in
     record {
       few = leb-true (length trail) most_sends one.0;
       top = top_is (top_step trail) two.0;
       sent = each_once (length trail) (send_order trail) three.0;
-      ends = place_same (end_step (length trail) trail (length trail - 1) 0) (Some (length trail)) four.0;
-      hold = four.1;
+      ends = place_same (end_step (length trail) trail (length trail - 1) 0) (Some (length trail)) three.1;
+      hold = whole.1;
     }
 
 -- ---- each step by those before it

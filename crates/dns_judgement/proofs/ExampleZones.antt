@@ -1,8 +1,15 @@
 -- A zone with each kind of answer, worked out, and what isn't a zone.
-use Rattle.std.specs.Prelude.{◌≡◌, ℕ, true, false, [], ◌∷◌, ◌++◌, refl}
+use Rattle.std.specs.Prelude.{◌≡◌, ℕ, Bool, true, false, not, ◌&&◌, [], ◌∷◌, ◌++◌, refl}
 use Rattle.dns_model.specs.Names.{Label, Labels, star}
 use Rattle.dns_model.specs.Types.{type_a, type_ns, type_soa, type_cname, type_ds, type_nsec, type_dname}
-use Rattle.dns_judgement.specs.Zones.{Zone, has_set, is_owner, is_delegation, is_signed_delegation, is_unsigned_delegation, exists_in, is_zone, encloser, from_wildcard, lookup, is_last, none_between, is_next, Referral, Data, NoData, NxDomain}
+use Rattle.dns_judgement.specs.Zones.{Zone, has_set, is_owner, is_delegation, exists_in, is_zone, encloser, from_wildcard, lookup, is_last, none_between, is_next, Referral, Data, NoData, NxDomain}
+
+-- DS beside the NS of a zone cut, and the zone below is signed (RFC 4035, 2.4)
+abbrev is_signed_delegation : Zone → Labels → Bool
+is_signed_delegation zone name = is_delegation zone name && has_set zone name type_ds
+
+abbrev is_unsigned_delegation : Zone → Labels → Bool
+is_unsigned_delegation zone name = is_delegation zone name && not (has_set zone name type_ds)
 
 -- ---- the zone `example.`
 

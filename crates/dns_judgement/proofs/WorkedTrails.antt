@@ -26,7 +26,7 @@ use Rattle.dns_judgement.specs.Delegations.{ZoneVerdict, zone_verdict}
 use Rattle.dns_judgement.specs.Unsigned.{unsigned_by}
 use Rattle.dns_judgement.specs.KeySets.{first_signed, keys_outcome, judged_keys}
 use Rattle.dns_judgement.specs.Outcome.{Outcome, least, answered, outcome_of}
-use Rattle.dns_judgement.specs.Derivation.{derivation, search_by, verdicts_by, entry_holds, entries_hold, step_holds, steps_hold, order_asks, order_step, end_asks, end_step}
+use Rattle.dns_judgement.specs.Derivation.{derivation, search_by, verdicts_by, entry_holds, entries_hold, step_holds, steps_hold, order_asks, order_step, end_asks, end_step, has_order}
 use Rattle.dns_judgement.proofs.WorkedTrailValues.{verifier, root_judge, ns_records, record_of, reply_of, answer_entry, address_entry, keys_step, ns_step, keys_judged, keys_found, keys_fault, keys_missed, ns_found, ns_secure, ns_beside, both_secure}
 
 -- ---- what the examples compute with
@@ -52,7 +52,7 @@ unfolding keys_computed ds_in zone_verdict step_holds entries_hold entry_holds s
 step_computed = step_holds
 
 unfoldable pub computed : Judge → ℕ → List AskedValue → Bool
-unfolding step_computed derivation order_asks order_step end_asks end_step steps_hold
+unfolding step_computed derivation has_order order_asks order_step end_asks end_step steps_hold
 computed = derivation
 
 -- ---- the root's keys, and the NS set that they prove

@@ -21,9 +21,13 @@ abbrev pub is_judged_at : ℕ → ℕ → Bool
 is_judged_at depth rtype =
     (depth == 0) || (rtype == type_dnskey) || (rtype == type_ds) || (rtype == type_nsec) || (rtype == type_nsec3) || (rtype == type_soa)
 
--- the sets of a step at a depth that are judged, in order
+-- those of some sets that are judged at a depth, in order
+abbrev pub judged_at : ℕ → List Placed → List Placed
+judged_at depth placed = filter (λ p. is_judged_at depth p.set.rtype) placed
+
+-- and those of a step
 abbrev pub judged_part : ℕ → Told → List Placed
-judged_part depth told = filter (λ p. is_judged_at depth p.set.rtype) (placed_sets told)
+judged_part depth told = judged_at depth (placed_sets told)
 
 -- the ask of a signature for its signer's keys
 abbrev pub ask_of : RrSet → Rr → Option Question

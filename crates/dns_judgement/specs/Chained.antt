@@ -1,4 +1,5 @@
--- Judged sets with their chains (RFC 4035, 5.2 and 5.3). The rules of marks don't look at chains; which key decided, and so the
+-- For clauses of calls between crates and for proofs, and for no promise of a lookup or of a check of a trail: judged sets with
+-- their chains (RFC 4035, 5.2 and 5.3). The rules of marks don't look at chains; which key decided, and so the
 -- link that is added, is found beside them.
 use Rattle.std.specs.Prelude.{ℕ, ◌+◌, ◌-◌, Bool, true, false, ◌&&◌, List, [], ◌∷◌, ◌++◌, map, length, Option, None, Some, if◌then◌else◌}
 use Rattle.std.specs.Option.{option_map, option_map_or}

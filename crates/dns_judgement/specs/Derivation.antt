@@ -16,6 +16,7 @@ use Rattle.dns_model.specs.Keys.{bytes_eq}
 use Rattle.dns_model.specs.Names.{Labels, name_eq}
 use Rattle.dns_model.specs.Types.{type_dnskey}
 use Rattle.dns_model.specs.Records.{Rr, RrSet, Question, question_eq}
+pub use Rattle.dns_model.specs.Sections.{is_empty}
 use Rattle.dns_model.specs.Chains.{Judge}
 use Rattle.dns_model.specs.Trails.{AskedValue, JudgedSetValue, HeardValue, Records, Fault, EndingValue, Answered, Denied, Foreign, Failed, Seen}
 use Rattle.dns_model.specs.SoundAnswers.{Told, Placed, section_eq}
@@ -24,7 +25,6 @@ use Rattle.dns_judgement.specs.Marks.{Verdict, is_proved, is_skipped, verdict_of
 use Rattle.dns_judgement.specs.Marks as marks
 use Rattle.dns_judgement.specs.ProofErrors.{Net, DsRecordShouldExist}
 use Rattle.dns_judgement.specs.Delegations.{ZoneVerdict, Bogus as Unshown, ds_question, zone_verdict}
-pub use Rattle.dns_judgement.specs.Unsigned.{is_empty}
 use Rattle.dns_judgement.specs.Unsigned.{ns_question, has_ns, set_start, question_start, is_searched, unsigned_by}
 use Rattle.dns_judgement.specs.KeySets.{needs_ds, judged_keys}
 use Rattle.dns_judgement.specs.Outcome.{Outcome, outcome_of, outcome_by_zone, foreign_record}
@@ -212,12 +212,15 @@ is_repeat placed entry judged =
     pointwise same_record placed.set.records judged.set.records
     && (pointwise same_record placed.set.signatures judged.set.signatures && has_mark_of judged entry)
 
+-- a step with this question found this of an equal set
+abbrev pub is_repeat_of : Question → Placed → JudgedSetValue → AskedValue → Bool
+is_repeat_of q placed entry step = question_eq q step.query && list_any (is_repeat placed entry) (judged_sets step)
+
 -- by the rules, or as an earlier step with the same question found; nothing is kept from earlier lookups
 abbrev pub is_by_origin : Grounds → Placed → JudgedSetValue → MarkOrigin → Bool
 is_by_origin g placed entry Table = is_by_rules g placed entry
 is_by_origin g placed entry (Repeat n) =
-    is_empty entry.asked
-    && option_map_or (λ step. question_eq g.query step.query && list_any (is_repeat placed entry) (judged_sets step)) (slice_get g.earlier n) false
+    is_empty entry.asked && option_map_or (is_repeat_of g.query placed entry) (slice_get g.earlier n) false
 is_by_origin g placed entry Cache = false
 
 -- the entry is that of a set, and its mark follows
@@ -369,12 +372,15 @@ end_step (suc above) trail n ended =
 abbrev pub top_step : List AskedValue → Option AskedValue
 top_step trail = slice_get trail (length trail - 1)
 
--- a trail whose steps are sent in one order from the last one on, which is judged at depth 0, and end in the order of their numbers,
--- and whose every step follows. In the order of sends each step has one place: one ask names it, and none the last step
-unfoldable pub derivation : Judge → ℕ → List AskedValue → Bool
-derivation j depth trail =
+-- a trail in order, whatever its steps heard: they are sent in one order from the last one on, which is judged at depth 0, and end in
+-- the order of their numbers. In the order of sends each step has one place: one ask names it, and none the last step
+unfoldable pub has_order : List AskedValue → Bool
+has_order trail =
     nat_le (length trail) most_sends
     && (option_map_or (λ top. top.judged && (top.depth == 0)) (top_step trail) false
     && (option_map_or (λ order. list_all (λ k. count_by (λ m. k == m) order == 1) (range_with_len 0 (length trail))) (send_order trail) false
-    && (option_eq nat_eq (end_step (length trail) trail (length trail - 1) 0) (Some (length trail))
-    && steps_hold j (depth_limit depth) [] trail)))
+    && option_eq nat_eq (end_step (length trail) trail (length trail - 1) 0) (Some (length trail))))
+
+-- a trail in order whose every step follows
+unfoldable pub derivation : Judge → ℕ → List AskedValue → Bool
+derivation j depth trail = has_order trail && steps_hold j (depth_limit depth) [] trail

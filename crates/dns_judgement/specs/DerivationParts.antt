@@ -1,7 +1,7 @@
 -- For private functions and for proofs only: parts of the definition of a derivation, by names of their own.
 use Rattle.std.specs.Prelude.{ℕ, ◌+◌, Bool, false, not, ◌==◌, ◌&&◌, nat_eq, List, [], ◌∷◌, Option, None, Some, unwrap_or, slice_get, if◌then◌else◌}
 use Rattle.std.specs.Option.{option_map, option_map_or, option_and_then, option_eq}
-use Rattle.std.specs.List.{filter_map, flat_map, list_any, list_all, count_by, range_with_len}
+use Rattle.std.specs.List.{filter_map, flat_map, list_all, count_by, range_with_len}
 use Rattle.dns_model.specs.declared.trail.AskRef.{AskRef}
 use Rattle.dns_model.specs.Names.{Labels}
 use Rattle.dns_model.specs.Records.{Rr, Question, question_eq}
@@ -14,7 +14,7 @@ use Rattle.dns_judgement.specs.Marks.{Verdict, judged_by}
 use Rattle.dns_judgement.specs.Delegations.{ZoneVerdict}
 use Rattle.dns_judgement.specs.Unsigned.{unsigned_by}
 use Rattle.dns_judgement.specs.Outcome.{Outcome, outcome_of, outcome_by_zone}
-use Rattle.dns_judgement.specs.Derivation.{Grounds, Sight, Unseen, sight_of, entries_hold, with_entries, is_empty, is_ask, told_in, heard_holds, ends_bare, has_mark_of, is_repeat, judged_sets, if_answered, ending_eq, ending_by, ending_holds}
+use Rattle.dns_judgement.specs.Derivation.{Grounds, Sight, Unseen, sight_of, entries_hold, with_entries, is_empty, is_ask, told_in, heard_holds, ends_bare, has_mark_of, is_repeat_of, judged_sets, if_answered, ending_eq, ending_by, ending_holds}
 
 abbrev pub with_entry : Placed × JudgedSetValue → Judged
 with_entry p = record { section = p.0.section; set = p.0.set; mark = p.1.mark; sig = p.1.sig }
@@ -44,8 +44,7 @@ abbrev pub is_by_verdicts : Placed → JudgedSetValue → Option (List Verdict) 
 is_by_verdicts placed entry verdicts = option_map_or (λ vs. has_mark_of (judged_by placed vs) entry) verdicts false
 
 abbrev pub repeats_step : Grounds → Placed → JudgedSetValue → Option AskedValue → Bool
-repeats_step g placed entry step =
-    option_map_or (λ s. question_eq g.query s.query && list_any (is_repeat placed entry) (judged_sets s)) step false
+repeats_step g placed entry step = option_map_or (is_repeat_of g.query placed entry) step false
 
 abbrev pub is_foreign : Rr → EndingValue → Bool
 is_foreign r ending = ending_eq (Foreign r.owner r.class r.rtype) ending

@@ -1,10 +1,11 @@
 -- The marks of DNSKEY sets (RFC 4035, 5.2).
-use Rattle.std.specs.Prelude.{ℕ, Bool, true, false, ◌==◌, ◌&&◌, ◌||◌, List, [], ◌∷◌, take, Option, None, Some, is_some, slice_get, if◌then◌else◌}
+use Rattle.std.specs.Prelude.{ℕ, Bool, true, false, ◌==◌, ◌&&◌, ◌||◌, List, take, Option, None, Some, is_some, slice_get, if◌then◌else◌}
 use Rattle.std.specs.Option.{option_map, option_map_or}
 use Rattle.std.specs.List.{filter, filter_map, find, list_all, enumerate_from}
 use Rattle.dns_model.specs.declared.proof.Proof.{Proof}
 use Rattle.dns_model.specs.declared.proof.Proof.TheVariants as proof
-use Rattle.dns_model.specs.Names.{Labels, name_eq}
+use Rattle.dns_model.specs.Names.{name_eq}
+pub use Rattle.dns_model.specs.Names.{is_root}
 use Rattle.dns_model.specs.Types.{type_dnskey}
 use Rattle.dns_model.specs.Records.{Rr, RrSet}
 use Rattle.dns_model.specs.Chains.{Judge}
@@ -52,10 +53,6 @@ abbrev pub signed_by : (Rr → Bool) → Judge → RrSet → Option SignedKeys
 signed_by may_sign j set = first_signed may_sign j set (take most_signatures set.signatures)
 
 -- ---- the rows
-
-abbrev pub is_root : Labels → Bool
-is_root [] = true
-is_root (label ∷ labels) = false
 
 -- how a key set is judged
 pub data KeysOutcome : Type 0 where

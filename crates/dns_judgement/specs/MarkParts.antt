@@ -1,4 +1,5 @@
--- Parts of the rules of marks, by names of their own (RFC 4035, 4.3 and 5.3).
+-- For clauses of calls between crates, for private functions and for proofs, and for no promise of a lookup or of a check of a trail:
+-- parts of the rules of marks, by names of their own (RFC 4035, 4.3 and 5.3).
 use Rattle.std.specs.Prelude.{ℕ, Bool, true, false, not, ◌==◌, ◌&&◌, ◌||◌, min, nat_lt, count_by, List, take, Option, slice_get, if◌then◌else◌}
 use Rattle.std.specs.Option.{option_map, option_map_or, option_and_then}
 use Rattle.std.specs.List.{find}

@@ -1,10 +1,11 @@
 -- Sets and answers without a signature that counts: whether their zone is signed at all (RFC 4035, 4.3 and 5.2).
-use Rattle.std.specs.Prelude.{ℕ, Bool, true, false, not, ◌==◌, ◌&&◌, List, [], ◌∷◌, ◌++◌, None, if◌then◌else◌}
+use Rattle.std.specs.Prelude.{ℕ, Bool, not, ◌==◌, ◌&&◌, ◌++◌, None, if◌then◌else◌}
 use Rattle.std.specs.List.{list_any}
 use Rattle.dns_model.specs.declared.proof.Proof.TheVariants as proof
 use Rattle.dns_model.specs.Names.{Labels, name_eq, parent}
 use Rattle.dns_model.specs.Types.{type_ns, type_ds, type_nsec3}
 use Rattle.dns_model.specs.Records.{Rr, RrSet, Question}
+pub use Rattle.dns_model.specs.Sections.{is_empty}
 use Rattle.dns_model.specs.SoundAnswers.{Told, Placed}
 use Rattle.dns_judgement.specs.Judged.{Judged}
 use Rattle.dns_judgement.specs.Marks.{Mark}
@@ -28,10 +29,6 @@ set_start set = if set.rtype == type_nsec3 then parent set.owner else set.owner
 -- where that for a question's zone begins: a DS stands in the zone above (RFC 4035, 2.4)
 abbrev pub question_start : Question → Labels
 question_start q = if q.rtype == type_ds then parent q.owner else q.owner
-
-abbrev pub is_empty : {X : Type 0} → List X → Bool
-is_empty [] = true
-is_empty (x ∷ xs) = false
 
 -- no signature covers the set, and it isn't DS: its zone decides. A DS set without a signature never is excused
 abbrev pub is_searched : RrSet → Bool

@@ -31,13 +31,6 @@ is_owner zone name = list_any (λ set. name_eq set.owner name) zone.sets
 unfoldable pub is_delegation : Zone → Labels → Bool
 is_delegation zone name = has_set zone name type_ns && not (name_eq name zone.apex)
 
--- DS beside them, and the zone below is signed (RFC 4035, 2.4)
-abbrev pub is_signed_delegation : Zone → Labels → Bool
-is_signed_delegation zone name = is_delegation zone name && has_set zone name type_ds
-
-abbrev pub is_unsigned_delegation : Zone → Labels → Bool
-is_unsigned_delegation zone name = is_delegation zone name && not (has_set zone name type_ds)
-
 -- a name of the zone exists where it or a name below it is an owner (RFC 4592, 2.2.2 and 2.2.3)
 unfoldable pub exists_in : Zone → Labels → Bool
 exists_in zone name = at_or_above zone.apex name && list_any (λ set. at_or_above name set.owner) zone.sets

@@ -1,7 +1,6 @@
 -- Insecure has a ground: in a derivation each set that a step marks Insecure has one in the steps before.
-use Rattle.std.proofs.Common.{◌≡◌, ℕ, zero, suc, ◌+◌, ◌-◌, nat_le, arith, Bool, true, false, not, ◌==◌, ◌&&◌, ◌||◌, List, [], ◌∷◌, ◌++◌, length, Option, None, Some, slice_get, if◌then◌else◌, refl, sym, ap, ◌∙◌, subst, append_assoc}
-use Rattle.std.specs.Prelude.{nat_eq}
-use Rattle.std.specs.Option.{option_map_or, option_eq}
+use Rattle.std.proofs.Common.{◌≡◌, ℕ, zero, suc, ◌+◌, arith, Bool, true, false, not, ◌==◌, ◌&&◌, ◌||◌, List, [], ◌∷◌, ◌++◌, length, Option, None, Some, slice_get, if◌then◌else◌, refl, sym, ap, ◌∙◌, subst, append_assoc}
+use Rattle.std.specs.Option.{option_map_or}
 use Rattle.std.specs.List.{list_any, list_all, enumerate_from, AllByRecursion}
 use lib.Pointwise.{pointwise}
 use Rattle.std.proofs.lemmas.Bool.{and_parts, and_from}
@@ -19,10 +18,10 @@ use Rattle.dns_model.proofs.EachLemmas.{each_more, each_append, each_filter}
 use Rattle.dns_model.proofs.SetLemmas.{IsProper, is_of, name_back, name_trans, proper_placed}
 use Rattle.dns_judgement.specs.Judged.{Judged}
 use Rattle.dns_judgement.specs.Delegations.{is_insecure}
-use Rattle.dns_judgement.specs.Asking.{most_sends, depth_limit, judged_part}
+use Rattle.dns_judgement.specs.Asking.{depth_limit, judged_part}
 use Rattle.dns_judgement.specs.Outcome.{outcome_of, foreign_record}
-use Rattle.dns_judgement.specs.Derivation.{Grounds, told_in, with_entries, judged_sets, same_record, has_mark_of, is_by_origin, is_repeat, is_empty, entry_holds, entries_hold, ending_holds, step_holds, steps_hold, send_order, end_step, top_step, derivation}
-use Rattle.dns_judgement.specs.DerivationParts.{grounds_of, repeats_step, is_foreign, is_failed, is_seen, is_bare, judged_holds, step_holds_by, is_top, is_each_met_once}
+use Rattle.dns_judgement.specs.Derivation.{Grounds, told_in, with_entries, judged_sets, same_record, has_mark_of, is_by_origin, is_repeat, is_empty, entry_holds, entries_hold, ending_holds, step_holds, steps_hold, has_order, derivation}
+use Rattle.dns_judgement.specs.DerivationParts.{grounds_of, repeats_step, is_foreign, is_failed, is_seen, is_bare, judged_holds, step_holds_by}
 use Rattle.dns_judgement.proofs.FindLemmas.{each_all}
 use Rattle.dns_laws.specs.Ground.{is_ground, has_ground, is_grounded, HasGrounds}
 use Rattle.dns_laws.proofs.GroundParts.{any_front, each_at, picked}
@@ -222,14 +221,7 @@ steps_grounded j limit earlier (step ∷ steps) settled h =
 pub insecure_is_grounded : (j : Judge) (depth : ℕ) (trail : List AskedValue) → derivation j depth trail ≡ true → HasGrounds j.answers trail
 unfolding derivation
 insecure_is_grounded j depth trail h =
-    let hold = steps_hold j (depth_limit depth) [] trail in
-    let ended = option_eq nat_eq (end_step (length trail) trail (length trail - 1) 0) (Some (length trail)) in
-    let once = is_each_met_once (length trail) (send_order trail) in
-    let top = is_top (top_step trail) in
-    let one = and_parts (nat_le (length trail) most_sends) (top && (once && (ended && hold))) h in
-    let two = and_parts top (once && (ended && hold)) one.1 in
-    let three = and_parts once (ended && hold) two.1 in
-    steps_grounded j (depth_limit depth) [] trail tt ((and_parts ended hold three.1).1)
+    steps_grounded j (depth_limit depth) [] trail tt ((and_parts (has_order trail) (steps_hold j (depth_limit depth) [] trail) h).1)
 
 -- ---- the law, set by set
 

@@ -3,7 +3,7 @@ use Rattle.std.specs.Prelude.{Bool, true, false, not, ◌==◌, ◌&&◌, ◌||�
 use Rattle.std.specs.Option.{option_map_or}
 use Rattle.std.specs.List.{filter, list_any, list_all}
 use Rattle.dns_model.specs.Names.{name_eq, num_labels}
-use Rattle.dns_model.specs.Types.{type_dnskey}
+use Rattle.dns_model.specs.Types.{type_dnskey, code_no_error}
 use Rattle.dns_model.specs.Records.{Rr, RrSet, Question}
 use Rattle.dns_model.specs.RecordViews.{rrsig_of}
 use Rattle.dns_model.specs.Sections.{is_signature, sets_of}
@@ -42,6 +42,6 @@ is_signed_once j answers =
 -- same rdata, and their signature, and its other sections are empty
 abbrev pub is_straight : Judge → Question → Told → Bool
 is_straight j q told =
-    (told.code == 0) && (is_empty told.authorities && (is_empty told.additionals
+    (told.code == code_no_error) && (is_empty told.authorities && (is_empty told.additionals
     && (list_any (is_queried q) told.answers && (list_all (λ r. is_queried q r || is_plain_signature q r) told.answers
     && (are_distinct (rdatas_of (filter (is_queried q) told.answers)) && is_signed_once j told.answers)))))

@@ -1,6 +1,7 @@
 -- The definitions at their edges: the root, wildcards, cut bytes, letters in either case.
 use Rattle.std.specs.Prelude.{◌≡◌, ℕ, true, false, List, [], ◌∷◌, ◌++◌, map, replicate, None, Some, is_some, refl}
-use Rattle.std.specs.Prelude.{nat_le}
+use Rattle.std.specs.Prelude.{Bool, nat_le}
+use Rattle.std.specs.Option.{option_map_or}
 use Rattle.dns_model.specs.Names.{Labels, at_or_above, strictly_above, parent, num_labels, last_labels, star, wire}
 use Rattle.dns_model.specs.NameForm.{label_in, labels_in, name_in}
 use Rattle.dns_model.specs.Shapes.{counted_in, window_in, windows_in, is_bitmap, bitmap_has, parts_in, shape_of, is_lowered_type, canonical_form}
@@ -8,7 +9,7 @@ use Rattle.dns_model.specs.Signing.{signed_owner, key_tag}
 use Rattle.dns_model.specs.Views.{rrsig_in, dnskey_in, ns_in}
 use Rattle.dns_model.specs.Records.{Rr}
 use Rattle.dns_model.specs.Sections.{leaders, sets_of}
-use Rattle.dns_model.specs.Keys.{usable}
+use Rattle.dns_model.specs.Keys.{VerifierAnswers, usable_key}
 use Rattle.dns_model.specs.Chains.{signer_fits, never_expanded, right_below_signer}
 use Rattle.dns_model.specs.declared.proof.Proof.TheVariants.{Indeterminate}
 use Rattle.dns_model.proofs.Worked.{example, upper_example, letter_a, key, revoked_key, signature, name_a, verifier}
@@ -186,6 +187,10 @@ pub nsec3_far_below : right_below_signer 50 [] (letter_a ∷ example ∷ []) ≡
 nsec3_far_below = refl
 
 -- ---- usable keys
+
+-- an rdata that can be read as a key that may sign
+abbrev usable : VerifierAnswers → List ℕ → Bool
+usable answers key = option_map_or (usable_key answers) (dnskey_in key) false
 
 pub usable_key_signs : usable verifier key ≡ true
 unfolding dnskey_in

@@ -1,5 +1,5 @@
 -- Verifiers, trust anchors, and which keys may sign (RFC 4034, 2.1; RFC 4035, 5.2 and 5.3.1; RFC 5011, 2.1).
-use Rattle.std.specs.Prelude.{ℕ, Bool, true, false, not, ◌==◌, ◌&&◌, List, Option, None, Some}
+use Rattle.std.specs.Prelude.{ℕ, Bool, false, not, ◌==◌, ◌&&◌, List, Option, None, Some}
 use Rattle.std.specs.List.{list_any}
 use Rattle.std.specs.Cmp.Lexicographic.{pointwise}
 use Rattle.std.specs.Prelude.{nat_eq}
@@ -55,13 +55,6 @@ matches_read answers owner rdata (Some key) (Some ds) =
 abbrev pub matches : VerifierAnswers → Labels → List ℕ → List ℕ → Bool
 matches answers owner key ds = matches_read answers owner key (dnskey_in key) (ds_in ds)
 
+-- a key that may sign records
 abbrev pub usable_key : VerifierAnswers → DnskeyValue → Bool
 usable_key answers key = is_zone_key key && (not (is_revoked key) && ((key.protocol == 3) && answers.supports key.algorithm))
-
-abbrev pub usable_read : VerifierAnswers → Option DnskeyValue → Bool
-usable_read answers None = false
-usable_read answers (Some key) = usable_key answers key
-
--- a key that may sign records
-abbrev pub usable : VerifierAnswers → List ℕ → Bool
-usable answers key = usable_read answers (dnskey_in key)

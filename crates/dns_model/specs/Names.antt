@@ -1,5 +1,5 @@
 -- Domain names as lists of labels, the leaf first, and their order (RFC 1035, 3.1; RFC 4034, 6.1).
-use Rattle.std.specs.Prelude.{ℕ, ◌-◌, ◌+◌, Bool, false, not, ◌&&◌, List, [], ◌∷◌, ◌++◌, map, reverse, length, drop, nat_eq, nat_le, nat_lt, if◌then◌else◌}
+use Rattle.std.specs.Prelude.{ℕ, ◌-◌, ◌+◌, Bool, true, false, not, ◌&&◌, List, [], ◌∷◌, ◌++◌, map, reverse, length, drop, nat_eq, nat_le, nat_lt, if◌then◌else◌}
 use Rattle.std.specs.Char.{to_ascii_lowercase}
 use Rattle.std.specs.Ordering.{nat_cmp, on, is_lt}
 use Rattle.std.specs.declared.cmp.Ordering.{Ordering}
@@ -47,6 +47,11 @@ common_ancestor (label ∷ name) other = if at_or_above (label ∷ name) other t
 
 abbrev pub longer : Labels → Labels → Labels
 longer one two = if nat_lt (length one) (length two) then two else one
+
+-- the name has no label
+abbrev pub is_root : Labels → Bool
+is_root [] = true
+is_root (label ∷ name) = false
 
 -- the name without its first label; the root stays
 abbrev pub parent : Labels → Labels

@@ -6,6 +6,11 @@ use Rattle.dns_model.specs.Types.{type_rrsig}
 use Rattle.dns_model.specs.Views.{RrsigValue, rrsig_in}
 use Rattle.dns_model.specs.Records.{Rr, RrSet}
 
+-- nothing stands in a section, or in another list
+abbrev pub is_empty : {X : Type 0} → List X → Bool
+is_empty [] = true
+is_empty (x ∷ xs) = false
+
 -- two records of one owner and type
 abbrev pub same_set : Rr → Rr → Bool
 same_set a b = name_eq a.owner b.owner && (a.rtype == b.rtype)

@@ -1,4 +1,4 @@
--- Numbers of types and classes (RFC 1035, 3.2; RFC 4034; RFC 5155; the IANA registry of DNS parameters).
+-- Numbers of types, response codes and classes (RFC 1035, 3.2; RFC 4034; RFC 5155; the IANA registry of DNS parameters).
 use Rattle.std.specs.Prelude.{ℕ, Bool, ◌==◌, ◌||◌}
 
 abbrev pub type_a : ℕ
@@ -12,6 +12,10 @@ type_cname = 5
 
 abbrev pub type_soa : ℕ
 type_soa = 6
+
+-- RFC 3596, 2.1
+abbrev pub type_aaaa : ℕ
+type_aaaa = 28
 
 -- RFC 6672, 2.1
 abbrev pub type_dname : ℕ
@@ -34,6 +38,10 @@ type_dnskey = 48
 
 abbrev pub type_nsec3 : ℕ
 type_nsec3 = 50
+
+-- all types, in a question alone (RFC 1035, 3.2.3)
+abbrev pub type_any : ℕ
+type_any = 255
 
 -- response codes (RFC 1035, 4.1.1)
 abbrev pub code_no_error : ℕ

@@ -7,12 +7,11 @@ use Rattle.std.proofs.lemmas.Bool.Decides.{nat_tests}
 use Rattle.dns_model.specs.Chains.{Judge}
 use Rattle.dns_model.specs.Trails.{AskedValue}
 use Rattle.dns_judgement.specs.Asking.{most_sends, depth_limit}
-use Rattle.dns_judgement.specs.Derivation.{steps_hold, send_order, end_step, top_step, derivation}
+use Rattle.dns_judgement.specs.Derivation.{steps_hold, send_order, end_step, top_step, has_order, derivation}
 use Rattle.dns_judgement.specs.DerivationParts.{is_top, is_each_once, is_each_met_once}
 use Rattle.dns_judgement.specs.Parts.{once_between}
 use Rattle.dns_judgement.proofs.SentLemmas.{times}
 use Rattle.dns_trail_order.specs.Counting.{count_step, none_yet, ends_with}
-use Rattle.dns_trail_order.specs.Order.{has_order}
 use Rattle.dns_trail_order.proofs.CountLemmas.{both, step_counted}
 use Rattle.dns_trail_order.proofs.OnceLemmas.{Once, step_once}
 
@@ -91,16 +90,8 @@ no_step_ends trail none = sym (ap (λ n. ends_with n (count_step n trail (n - 1)
 
 -- ---- a derivation
 
-and_last : (a b c d e : Bool) → (a && (b && (c && (d && e)))) ≡ ((a && (b && (c && d))) && e)
-and_last true true true d e = refl
-and_last true true false d e = refl
-and_last true false c d e = refl
-and_last false b c d e = refl
-
 -- a trail is a derivation exactly where it is in order and each step follows
 pub derivation_by_order : (j : Judge) (depth : ℕ) (trail : List AskedValue)
     → derivation j depth trail ≡ (has_order trail && steps_hold j (depth_limit depth) [] trail)
-unfolding derivation has_order
-derivation_by_order j depth trail =
-    and_last (nat_le (length trail) most_sends) (is_top (top_step trail)) (is_each_met_once (length trail) (send_order trail))
-    (option_eq nat_eq (end_step (length trail) trail (length trail - 1) 0) (Some (length trail))) (steps_hold j (depth_limit depth) [] trail)
+unfolding derivation
+derivation_by_order j depth trail = refl

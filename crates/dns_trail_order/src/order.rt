@@ -1,9 +1,8 @@
 ghost use Rattle.std.specs.Prelude.{◌≡◌, ◌<◌, ◌-◌, suc, length};
 ghost use Rattle.dns_judgement.specs.Asking.{most_sends};
 ghost use Rattle.dns_judgement.specs.DerivationParts.{asks_of_sets, is_top};
-ghost use Rattle.dns_judgement.specs.Derivation.{top_step};
+ghost use Rattle.dns_judgement.specs.Derivation.{has_order, top_step};
 ghost use Rattle.dns_trail_order.specs.Counting.{count_ask as ask_counted, count_asks as asks_counted, count_step as step_counted, asking_step, none_yet, ends_with};
-ghost use Rattle.dns_trail_order.specs.Order.{has_order};
 
 use crate::limits::MOST_SENDS;
 use dns_evidence::{AskRef, Asked, JudgedSet};

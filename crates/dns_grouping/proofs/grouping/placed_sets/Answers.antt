@@ -2,7 +2,7 @@ use Rattle.std.proofs.Common.{rules, ◌≡◌, [], ◌++◌, map}
 use Rattle.dns_model.specs.declared.section.Section.TheVariants.{Answer, Authority, Additional}
 use Rattle.dns_model.specs.Sections.{sets_of}
 use Rattle.dns_model.specs.SoundAnswers.{told_by, in_section}
-use Rattle.dns_grouping.specs.Joining.{judged_at}
+use Rattle.dns_judgement.specs.Asking.{judged_at}
 use Rattle.dns_grouping.proofs.DepthLemmas.{judged_sections}
 use Rattle.dns_grouping.proofs.grouping.placed_sets.Goals as goal
 
