@@ -25,9 +25,12 @@ abbrev pub key_question : ℕ → Labels → Question
 key_question class signer = record { owner = signer; rtype = type_dnskey; class = class }
 
 -- a signature isn't asked for: it can't be read, its signer doesn't fit, or it asks what is being asked
+abbrev pub is_skipped_read : Question → RrSet → Option RrsigValue → Bool
+is_skipped_read asked set read =
+    option_map_or (λ sig. not (signer_fits set.rtype sig.signer set.owner) || question_eq (key_question set.class sig.signer) asked) read true
+
 abbrev pub is_skipped : Question → RrSet → Rr → Bool
-is_skipped asked set r =
-    option_map_or (λ sig. not (signer_fits set.rtype sig.signer set.owner) || question_eq (key_question set.class sig.signer) asked) (rrsig_of r) true
+is_skipped asked set r = is_skipped_read asked set (rrsig_of r)
 
 -- the record is a key of a zone: owned by it, of type DNSKEY, and readable
 abbrev pub is_key_of : Labels → Rr → Bool
@@ -78,17 +81,24 @@ by_keys j set r Indeterminate keys = Failed
 abbrev pub may_be_signed : RrSet → RrsigValue → Bool
 may_be_signed set sig = never_expanded set.rtype sig.labels set.owner && right_below_signer set.rtype sig.signer set.owner
 
--- the verdict of one signature, with the sets of the answer to its ask; none where the ask failed or was refused
-unfoldable pub verdict_of : Judge → RrSet → Rr → Option (List Judged) → Verdict
-verdict_of j set r None = Failed
-verdict_of j set r (Some answer) =
+-- by the signer's key set, if the answer has it
+abbrev pub by_key_set : Judge → RrSet → Rr → Labels → Option Judged → Verdict
+by_key_set j set r signer keys = option_map_or (λ keys. by_keys j set r keys.mark (counted_keys signer keys.set.records)) keys Failed
+
+-- by the sets of an answer, of a signature as it is read
+abbrev pub verdict_by : Judge → RrSet → Rr → List Judged → Option RrsigValue → Verdict
+verdict_by j set r answer read =
     option_map_or
     (λ sig.
     if may_be_signed set sig
-    then option_map_or (λ keys. by_keys j set r keys.mark (counted_keys sig.signer keys.set.records))
-    (find (is_key_set_of set.class sig.signer) answer) Failed
+    then by_key_set j set r sig.signer (find (is_key_set_of set.class sig.signer) answer)
     else Failed)
-    (rrsig_of r) Failed
+    read Failed
+
+-- the verdict of one signature, with the sets of the answer to its ask; none where the ask failed or was refused
+unfoldable pub verdict_of : Judge → RrSet → Rr → Option (List Judged) → Verdict
+verdict_of j set r None = Failed
+verdict_of j set r (Some answer) = verdict_by j set r answer (rrsig_of r)
 
 -- a mark, and the place of the signature that decided
 pub record Mark : Type 0 where
