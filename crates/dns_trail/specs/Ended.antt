@@ -1,5 +1,5 @@
 -- For private functions of this crate only: the judged sets of a step that has ended.
-use Rattle.std.specs.Prelude.{Bool, ◌&&◌, List, [], Option, None, Some, if◌then◌else◌}
+use Rattle.std.specs.Prelude.{Bool, ◌≡◌, ◌&&◌, List, [], Option, None, Some, map, if◌then◌else◌}
 use Rattle.dns_model.specs.Trails.{AskedValue}
 use Rattle.dns_judgement.specs.Chained.{Chained, bare}
 use Rattle.dns_judgement.specs.Derivation.{if_answered, judged_sets}
@@ -19,6 +19,11 @@ ended_value (Some sets) others = record { answer = Some (bare sets); sets = bare
 -- what a step came to
 abbrev pub ended_of : AskedValue → EndedValue
 ended_of step = record { answer = if_answered step.ending (judged_sets step); sets = judged_sets step }
+
+-- what is known of steps is what they came to; an ask without an answer has none
+pub record AreKnown (steps : List AskedValue) (known : List EndedValue) (unanswered : Option (List Chained)) : Type 0 where
+  pub ended : known ≡ map ended_of steps
+  pub missing : unanswered ≡ None
 
 -- something, where a test passes
 abbrev pub some_if : {X : Type 0} → Bool → X → Option X

@@ -10,7 +10,7 @@ ghost use Rattle.dns_model.specs.Trails.{Answered, Denied as Refused};
 ghost use Rattle.dns_evidence.specs.Trail.{ending_value};
 ghost use Rattle.dns_outcome.specs.Outcome.{outcome_value};
 ghost use Rattle.dns_trail.specs.Endings.{ending_fits};
-ghost use Rattle.dns_trail.specs.Grounds.{AreKnown, grounds_by};
+ghost use Rattle.dns_trail.specs.Grounds.{grounds_by};
 
 use crate::grounds::Grounds;
 use crate::search::search_zone;
@@ -19,32 +19,28 @@ use dns_message::Message;
 use dns_name::NoMemory;
 use dns_record::{Denial, Proof, Record};
 use dns_sets::{ChainedSet, Outcome, outcome_by_zone, outcome_of};
-use dns_trust::{Judge, question_start};
-use std::alloc::Global;
+use dns_trust::question_start;
 
 /// The ending of a step and the asks on which it stands follow from its judged sets.
 pub(crate) fn ending_holds<V: Verifier>(
-    alloc: Global,
-    judge: &Judge<'_, V>,
-    grounds: &Grounds<'_>,
+    grounds: &Grounds<'_, '_, V>,
     message: &Message,
     sets: &[ChainedSet],
     step: &Asked,
 ) -> Result<bool, NoMemory>
-    requires known { AreKnown grounds.now }
-    ensures { IfOk result (λ b. b ≡ ending_fits (grounds_by V.answers judge.now grounds.now) (told_by message.now)
+    ensures { IfOk result (λ b. b ≡ ending_fits (grounds_by V.answers grounds.now) (told_by message.now)
         (told_outcome grounds.now.query.now (told_by message.now) (bare sets.now)) step.now.ending step.now.excuse) }
 {
     let query = grounds.query;
     let ending = &step.ending;
     let excuse = &step.excuse;
-    match outcome_of(alloc, query, message, sets)? {
+    match outcome_of(grounds.alloc, query, message, sets)? {
         Outcome::Unjudged => Ok(is_failed(ending) && excuse.is_empty()),
         Outcome::Accepted(denial) => Ok(is_answered(ending, denial) && excuse.is_empty()),
         Outcome::Denied(proof) => Ok(is_denied(ending, proof) && excuse.is_empty()),
         Outcome::Searched => {
             let start = question_start(query)?;
-            match search_zone(judge, grounds, query.query_class, &start, excuse)? {
+            match search_zone(grounds, query.query_class, &start, excuse)? {
                 Some(mark) => Ok(is_ending(outcome_by_zone(query, message, mark), ending)),
                 None => Ok(false),
             }

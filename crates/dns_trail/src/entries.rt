@@ -13,7 +13,7 @@ ghost use Rattle.dns_anchors.specs.Judge.{judge_of};
 ghost use Rattle.dns_trail.specs.Trying.{zone_proof};
 ghost use Rattle.dns_trail.specs.Ended.{some_if};
 ghost use Rattle.dns_trail.specs.Entries.{is_by_signatures, is_entry_of as is_own_entry, judged_if, IsMarkedBy};
-ghost use Rattle.dns_trail.specs.Grounds.{AreKnown, grounds_by};
+ghost use Rattle.dns_trail.specs.Grounds.{grounds_by};
 
 use crate::grounds::{Grounds, answer_of, is_ask};
 use crate::repeats::is_repeated;
@@ -24,32 +24,29 @@ use dns_name::NoMemory;
 use dns_record::{Proof, RecordSet, RecordType};
 use dns_sets::{ChainedSet, MarkedSet, PlacedSet};
 use dns_trust::{
-    Judge, KeysStep, ds_ask_of, first_signatures, is_searched, judged_by, judged_by_ds,
-    judged_keys, set_start, unsigned_by,
+    KeysStep, ds_ask_of, first_signatures, is_searched, judged_by, judged_by_ds, judged_keys,
+    set_start, unsigned_by,
 };
 use std::alloc::Global;
 
 /// The sets of a step with the marks of its entries; None where some entry isn't that of its set or its mark doesn't
 /// follow.
 pub(crate) fn judged_sets<V: Verifier>(
-    alloc: Global,
-    judge: &Judge<'_, V>,
-    grounds: &Grounds<'_>,
+    grounds: &Grounds<'_, '_, V>,
     mut placed: Vec<PlacedSet>,
     mut entries: &[JudgedSet],
 ) -> Result<Option<Vec<ChainedSet>>, NoMemory>
-    requires known { AreKnown grounds.now }
     ensures { IfOk result (λ o. option_map (λ v. bare v.items) o ≡ some_if
-        (entries_hold (grounds_by V.answers judge.now grounds.now) placed.items entries.entry.now)
+        (entries_hold (grounds_by V.answers grounds.now) placed.items entries.entry.now)
         (with_entries placed.items entries.entry.now)) }
 {
-    let mut sets = Vec::new(alloc);
+    let mut sets = Vec::new(grounds.alloc);
     placed.reverse();
     'sets: while let Some(next) = placed.pop() {
         let Some((entry, others)) = entries.split_first() else {
             return Ok(None);
         };
-        let Some(set) = judged_set(alloc, judge, grounds, next, entry)? else {
+        let Some(set) = judged_set(grounds, next, entry)? else {
             return Ok(None);
         };
         sets.push(set)?;
@@ -64,23 +61,20 @@ pub(crate) fn judged_sets<V: Verifier>(
 
 // A set with the mark of an entry; None where the entry isn't that of the set or its mark doesn't follow.
 fn judged_set<V: Verifier>(
-    alloc: Global,
-    judge: &Judge<'_, V>,
-    grounds: &Grounds<'_>,
+    grounds: &Grounds<'_, '_, V>,
     placed: PlacedSet,
     entry: &JudgedSet,
 ) -> Result<Option<ChainedSet>, NoMemory>
-    requires known { AreKnown grounds.now }
-    ensures { IfOk result (IsMarkedBy entry_holds (grounds_by V.answers judge.now grounds.now) placed entry.now) }
+    ensures { IfOk result (IsMarkedBy entry_holds (grounds_by V.answers grounds.now) placed entry.now) }
 {
     if !is_entry_of(&placed, entry) {
         return Ok(None);
     }
     match entry.origin {
-        MarkOrigin::Table => judged_by_rules(alloc, judge, grounds, placed, entry),
+        MarkOrigin::Table => judged_by_rules(grounds, placed, entry),
         MarkOrigin::Repeat(number) => {
-            let repeated = is_repeated(alloc, grounds, &placed, entry, number)?;
-            Ok(marked_if(alloc, repeated, placed, entry))
+            let repeated = is_repeated(grounds, &placed, entry, number)?;
+            Ok(marked_if(grounds.alloc, repeated, placed, entry))
         }
         MarkOrigin::Cache => Ok(None),
     }
@@ -170,21 +164,18 @@ fn set_of(placed: &PlacedSet) -> &RecordSet
 // A set, judged by the rules: a key set by what makes its keys known, an unsigned one by its zone, another by its first
 // signatures.
 fn judged_by_rules<V: Verifier>(
-    alloc: Global,
-    judge: &Judge<'_, V>,
-    grounds: &Grounds<'_>,
+    grounds: &Grounds<'_, '_, V>,
     placed: PlacedSet,
     entry: &JudgedSet,
 ) -> Result<Option<ChainedSet>, NoMemory>
-    requires known { AreKnown grounds.now }
-    ensures { IfOk result (IsMarkedBy is_by_rules (grounds_by V.answers judge.now grounds.now) placed entry.now) }
+    ensures { IfOk result (IsMarkedBy is_by_rules (grounds_by V.answers grounds.now) placed entry.now) }
 {
     if is_key_set(set_of(&placed)) {
-        judged_key_set(alloc, judge, grounds, placed, entry)
+        judged_key_set(grounds, placed, entry)
     } else if is_searched(set_of(&placed)) {
-        judged_unsigned(alloc, judge, grounds, placed, entry)
+        judged_unsigned(grounds, placed, entry)
     } else {
-        judged_signed(alloc, judge, grounds, placed, entry)
+        judged_signed(grounds, placed, entry)
     }
 }
 
@@ -197,39 +188,33 @@ fn is_key_set(set: &RecordSet) -> bool
 
 // A key set, judged by the anchors, and where these don't decide, by the one ask for the DS set of its owner.
 fn judged_key_set<V: Verifier>(
-    alloc: Global,
-    judge: &Judge<'_, V>,
-    grounds: &Grounds<'_>,
+    grounds: &Grounds<'_, '_, V>,
     placed: PlacedSet,
     entry: &JudgedSet,
 ) -> Result<Option<ChainedSet>, NoMemory>
-    requires known { AreKnown grounds.now }
-    ensures { IfOk result (IsMarkedBy keys_hold (grounds_by V.answers judge.now grounds.now) placed entry.now) }
+    ensures { IfOk result (IsMarkedBy keys_hold (grounds_by V.answers grounds.now) placed entry.now) }
 {
     let asks = asks_of(entry);
-    match judged_keys(alloc, judge, placed)? {
+    match judged_keys(grounds.alloc, grounds.judge, placed)? {
         KeysStep::Done(set) => {
             if asks.is_empty() {
-                Ok(as_in_entry(alloc, set, entry))
+                Ok(as_in_entry(grounds.alloc, set, entry))
             } else {
                 Ok(None)
             }
         }
-        KeysStep::NeedsDs(placed) => judged_by_one_ask(alloc, judge, grounds, placed, entry),
+        KeysStep::NeedsDs(placed) => judged_by_one_ask(grounds, placed, entry),
     }
 }
 
 // A key set that no anchor decides, judged by the one ask for the DS set of its owner.
 fn judged_by_one_ask<V: Verifier>(
-    alloc: Global,
-    judge: &Judge<'_, V>,
-    grounds: &Grounds<'_>,
+    grounds: &Grounds<'_, '_, V>,
     placed: PlacedSet,
     entry: &JudgedSet,
 ) -> Result<Option<ChainedSet>, NoMemory>
-    requires known { AreKnown grounds.now }
-    requires needed { needs_ds (judge_of V.answers judge.now) placed.set ≡ true }
-    ensures { IfOk result (IsMarkedBy keys_hold (grounds_by V.answers judge.now grounds.now) placed entry.now) }
+    requires needed { needs_ds (judge_of V.answers grounds.now.judge.now) placed.set ≡ true }
+    ensures { IfOk result (IsMarkedBy keys_hold (grounds_by V.answers grounds.now) placed entry.now) }
 {
     let Some((ask, left)) = asks_of(entry).split_first() else {
         return Ok(None);
@@ -238,59 +223,55 @@ fn judged_by_one_ask<V: Verifier>(
     if !left.is_empty() || !is_ask(grounds, &question, *ask) {
         return Ok(None);
     }
-    let answer = answer_of(grounds, *ask);
-    let set = judged_by_ds(alloc, judge, placed, answer)?;
-    Ok(as_in_entry(alloc, set, entry))
+    let answer = answer_of(&grounds.earlier, *ask);
+    let set = judged_by_ds(grounds.alloc, grounds.judge, placed, answer)?;
+    Ok(as_in_entry(grounds.alloc, set, entry))
 }
 
 // An unsigned set, judged by its zone, which is searched.
 fn judged_unsigned<V: Verifier>(
-    alloc: Global,
-    judge: &Judge<'_, V>,
-    grounds: &Grounds<'_>,
+    grounds: &Grounds<'_, '_, V>,
     placed: PlacedSet,
     entry: &JudgedSet,
 ) -> Result<Option<ChainedSet>, NoMemory>
-    requires known { AreKnown grounds.now }
-    ensures { IfOk result (IsMarkedBy unsigned_holds (grounds_by V.answers judge.now grounds.now) placed entry.now) }
+    ensures { IfOk result (IsMarkedBy unsigned_holds (grounds_by V.answers grounds.now) placed entry.now) }
 {
-    match mark_of_zone(judge, grounds, set_of(&placed), asks_of(entry))? {
-        Some(mark) => Ok(as_in_entry(alloc, unsigned_by(alloc, placed, mark), entry)),
+    match mark_of_zone(grounds, set_of(&placed), asks_of(entry))? {
+        Some(mark) => Ok(as_in_entry(
+            grounds.alloc,
+            unsigned_by(grounds.alloc, placed, mark),
+            entry,
+        )),
         None => Ok(None),
     }
 }
 
 // What the zone of a set leaves to it, by the asks of the search for that zone.
 fn mark_of_zone<V: Verifier>(
-    judge: &Judge<'_, V>,
-    grounds: &Grounds<'_>,
+    grounds: &Grounds<'_, '_, V>,
     set: &RecordSet,
     asks: &[AskRef],
 ) -> Result<Option<Proof>, NoMemory>
-    requires known { AreKnown grounds.now }
     ensures { IfOk result (λ m. m ≡ option_map zone_proof
-        (search_from (grounds_by V.answers judge.now grounds.now) set.now.class (start_of_set set.now) asks.now)) }
+        (search_from (grounds_by V.answers grounds.now) set.now.class (start_of_set set.now) asks.now)) }
 {
     let start = set_start(set)?;
-    search_zone(judge, grounds, set.dns_class, &start, asks)
+    search_zone(grounds, set.dns_class, &start, asks)
 }
 
 // Another set, judged by its first signatures.
 fn judged_signed<V: Verifier>(
-    alloc: Global,
-    judge: &Judge<'_, V>,
-    grounds: &Grounds<'_>,
+    grounds: &Grounds<'_, '_, V>,
     placed: PlacedSet,
     entry: &JudgedSet,
 ) -> Result<Option<ChainedSet>, NoMemory>
-    requires known { AreKnown grounds.now }
-    ensures { IfOk result (IsMarkedBy is_by_signatures (grounds_by V.answers judge.now grounds.now) placed entry.now) }
+    ensures { IfOk result (IsMarkedBy is_by_signatures (grounds_by V.answers grounds.now) placed entry.now) }
 {
     let set = set_of(&placed);
     let signatures = first_signatures(set);
-    let Some(verdicts) = verdicts_by(alloc, judge, grounds, set, signatures, asks_of(entry))? else {
+    let Some(verdicts) = verdicts_by(grounds, set, signatures, asks_of(entry))? else {
         return Ok(None);
     };
     let set = judged_by(placed, verdicts)?;
-    Ok(as_in_entry(alloc, set, entry))
+    Ok(as_in_entry(grounds.alloc, set, entry))
 }

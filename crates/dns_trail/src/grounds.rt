@@ -6,29 +6,51 @@ ghost use Rattle.dns_judgement.specs.Chained.{bare};
 ghost use Rattle.dns_judgement.specs.Derivation.{finished_answer as finished_for, is_ask as is_ask_in, is_plain_ask as is_plain_ask_in};
 ghost use Rattle.dns_judgement.specs.DerivationParts.{is_judged_ask, is_plain_step as is_plain_in};
 ghost use Rattle.dns_trust.specs.Verdicts.{listed};
-ghost use Rattle.dns_trail.specs.Grounds.{AreKnown};
 
 use crate::places::SetPlaces;
 use dns_evidence::{AskRef, Asked};
 use dns_record::Query;
 use dns_sets::ChainedSet;
+use dns_trust::Judge;
+use std::alloc::Global;
 use std::marker::Model;
 
 /// By what the sets of a step are judged.
 #[derive(Drop)]
-pub(crate) struct Grounds<'a> {
+pub(crate) struct Grounds<'a, 'j, V> {
+    pub(crate) alloc: Global,
+    pub(crate) judge: &'a Judge<'j, V>,
     /// How deep asks go.
     pub(crate) limit: u16,
     /// The steps before it.
+    pub(crate) earlier: Earlier<'a>,
+    pub(crate) query: &'a Query,
+    pub(crate) depth: u16,
+    /// Some entry of the trail repeats a set, so that sets have to be found.
+    pub(crate) repeats: bool,
+}
+
+/// The steps before one, of which is known what they came to.
+#[derive(Drop)]
+pub(crate) struct Earlier<'a> {
     pub(crate) steps: &'a [Asked],
     /// What these came to, by their numbers.
     pub(crate) ended: &'a [Ended],
     /// The answer of an ask that has none.
     pub(crate) missing: &'a Option<Vec<ChainedSet>>,
-    pub(crate) query: &'a Query,
-    pub(crate) depth: u16,
-    /// Some entry of the trail repeats a set, so that sets have to be found.
-    pub(crate) repeats: bool,
+}
+
+impl<'a> Model for Earlier<'a> {
+    ghost use Rattle.std.specs.Prelude.{List};
+    ghost use Rattle.dns_model.specs.Trails.{AskedValue};
+    ghost use Rattle.dns_trust.specs.Verdicts.{listed};
+    ghost use Rattle.dns_trail.specs.Ended.{AreKnown};
+
+    ghost Value = { List AskedValue };
+
+    ghost view = { λ e. e.steps.now };
+
+    ghost invariant = { λ e. AreKnown e.steps.now e.ended.now (listed e.missing.now) };
 }
 
 /// The judged sets of a step that has ended. They have no chains: no table looks at these.
@@ -74,8 +96,8 @@ impl Ended {
 }
 
 /// The ask stands for a judged ask for this question, one deeper than the step.
-pub(crate) fn is_ask(grounds: &Grounds<'_>, query: &Query, ask: AskRef) -> bool
-    ensures { result ≡ is_ask_in grounds.now.limit grounds.now.steps.now (grounds.now.depth + 1) query.now ask }
+pub(crate) fn is_ask<V>(grounds: &Grounds<'_, '_, V>, query: &Query, ask: AskRef) -> bool
+    ensures { result ≡ is_ask_in grounds.now.limit grounds.now.earlier (grounds.now.depth + 1) query.now ask }
 {
     let may_ask = grounds.depth < grounds.limit;
     match ask {
@@ -86,10 +108,10 @@ pub(crate) fn is_ask(grounds: &Grounds<'_>, query: &Query, ask: AskRef) -> bool
 }
 
 // The step is there, judges what it hears, and asks this question one deeper than the step that is judged.
-fn is_judged_step(grounds: &Grounds<'_>, query: &Query, number: u32) -> bool
-    ensures { result ≡ is_judged_ask (grounds.now.depth + 1) query.now (slice_get grounds.now.steps.now number) }
+fn is_judged_step<V>(grounds: &Grounds<'_, '_, V>, query: &Query, number: u32) -> bool
+    ensures { result ≡ is_judged_ask (grounds.now.depth + 1) query.now (slice_get grounds.now.earlier number) }
 {
-    match grounds.steps.get(number as usize) {
+    match grounds.earlier.steps.get(number as usize) {
         Some(step) => is_judged_at(u32::from(grounds.depth) + 1, query, step),
         None => false,
     }
@@ -102,8 +124,8 @@ fn is_judged_at(depth: u32, query: &Query, step: &Asked) -> bool
 }
 
 /// The ask stands for a plain ask for this question, as deep as the step.
-pub(crate) fn is_plain_ask(grounds: &Grounds<'_>, query: &Query, ask: AskRef) -> bool
-    ensures { result ≡ is_plain_ask_in grounds.now.steps.now grounds.now.depth query.now ask }
+pub(crate) fn is_plain_ask<V>(grounds: &Grounds<'_, '_, V>, query: &Query, ask: AskRef) -> bool
+    ensures { result ≡ is_plain_ask_in grounds.now.earlier grounds.now.depth query.now ask }
 {
     match ask {
         AskRef::Step(number) => { is_plain_step(grounds, query, number) }
@@ -113,10 +135,10 @@ pub(crate) fn is_plain_ask(grounds: &Grounds<'_>, query: &Query, ask: AskRef) ->
 }
 
 // The step is there, only sees what it hears, and asks this question at this depth.
-fn is_plain_step(grounds: &Grounds<'_>, query: &Query, number: u32) -> bool
-    ensures { result ≡ is_plain_in grounds.now.depth query.now (slice_get grounds.now.steps.now number) }
+fn is_plain_step<V>(grounds: &Grounds<'_, '_, V>, query: &Query, number: u32) -> bool
+    ensures { result ≡ is_plain_in grounds.now.depth query.now (slice_get grounds.now.earlier number) }
 {
-    match grounds.steps.get(number as usize) {
+    match grounds.earlier.steps.get(number as usize) {
         Some(step) => is_plain_at(grounds.depth, query, step),
         None => false,
     }
@@ -129,16 +151,15 @@ fn is_plain_at(depth: u16, query: &Query, step: &Asked) -> bool
 }
 
 /// The judged sets of the answer that an ask got: none where it was refused, or where its step ends otherwise.
-pub(crate) fn answer_of<'a>(grounds: &Grounds<'a>, ask: AskRef) -> &'a Option<Vec<ChainedSet>>
-    requires known { AreKnown grounds.now }
-    ensures { option_map bare (listed result.now) ≡ finished_for grounds.now.steps.now ask }
+pub(crate) fn answer_of<'a>(earlier: &Earlier<'a>, ask: AskRef) -> &'a Option<Vec<ChainedSet>>
+    ensures { option_map bare (listed result.now) ≡ finished_for earlier.now ask }
 {
     match ask {
-        AskRef::Step(number) => match grounds.ended.get(number as usize) {
+        AskRef::Step(number) => match earlier.ended.get(number as usize) {
             Some(ended) => ended.answer(),
-            None => grounds.missing,
+            None => earlier.missing,
         },
-        AskRef::TooDeep => grounds.missing,
-        AskRef::TooMany => grounds.missing,
+        AskRef::TooDeep => earlier.missing,
+        AskRef::TooMany => earlier.missing,
     }
 }

@@ -9,7 +9,6 @@ ghost use Rattle.dns_model.specs.Records.{question_eq};
 ghost use Rattle.dns_model.specs.SoundAnswers.{Placed};
 ghost use Rattle.dns_anchors.specs.Finding.{passes_at};
 ghost use Rattle.dns_trail.specs.Entries.{repeats_from};
-ghost use Rattle.dns_trail.specs.Grounds.{AreKnown};
 
 use crate::grounds::{Ended, Grounds};
 use crate::places::{SetKey, places_of};
@@ -20,27 +19,25 @@ use dns_sets::{ChainedSet, MarkedSet, PlacedSet};
 use std::alloc::Global;
 
 /// The entry asks nothing, and says what the step with a number found of an equal set for the same question.
-pub(crate) fn is_repeated(
-    alloc: Global,
-    grounds: &Grounds<'_>,
+pub(crate) fn is_repeated<V>(
+    grounds: &Grounds<'_, '_, V>,
     placed: &PlacedSet,
     entry: &JudgedSet,
     number: u32,
 ) -> Result<bool, NoMemory>
-    requires known { AreKnown grounds.now }
     ensures { IfOk result (λ b. b ≡ (is_empty entry.now.asked
-        && repeats_from grounds.now.query.now placed.now entry.now (slice_get grounds.now.steps.now number))) }
+        && repeats_from grounds.now.query.now placed.now entry.now (slice_get grounds.now.earlier number))) }
 {
-    let Some(step) = grounds.steps.get(number as usize) else {
+    let Some(step) = grounds.earlier.steps.get(number as usize) else {
         return Ok(false);
     };
-    let Some(ended) = grounds.ended.get(number as usize) else {
+    let Some(ended) = grounds.earlier.ended.get(number as usize) else {
         return Ok(false);
     };
     if !entry.asked.is_empty() || !asks_same(grounds.query, step) {
         return Ok(false);
     }
-    found_alike(alloc, ended, placed, entry)
+    found_alike(grounds.alloc, ended, placed, entry)
 }
 
 fn asks_same(query: &Query, step: &Asked) -> bool

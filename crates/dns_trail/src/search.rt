@@ -5,17 +5,17 @@ ghost use Rattle.std.specs.Option.{option_map};
 ghost use Rattle.dns_model.specs.Names.{Labels};
 ghost use Rattle.dns_judgement.specs.Derivation.{is_empty, search_by, sight_by as sight_in, sight_of, zone_asked};
 ghost use Rattle.dns_judgement.specs.Unsigned.{has_ns as shows_ns};
-ghost use Rattle.dns_trail.specs.Grounds.{AreKnown, grounds_by};
+ghost use Rattle.dns_trail.specs.Grounds.{grounds_by};
 ghost use Rattle.dns_trail.specs.Ended.{some_if};
 ghost use Rattle.dns_trail.specs.Trying.{zone_proof};
 ghost use Rattle.dns_trail.specs.Values.{sight_value};
 ghost use Rattle.dns_model.specs.Trails.{Records};
 
-use crate::grounds::{Grounds, answer_of, is_ask, is_plain_ask};
+use crate::grounds::{Earlier, Grounds, answer_of, is_ask, is_plain_ask};
 use dns_evidence::{AskRef, Asked, Reply, Told, Verifier};
 use dns_name::{Name, NoMemory};
 use dns_record::{DNSClass, Proof};
-use dns_trust::{Judge, ds_query, is_ns_of, ns_query, zone_mark};
+use dns_trust::{ds_query, is_ns_of, ns_query, zone_mark};
 
 // What a plain ask for the NS records of a name comes to.
 #[derive(Clone, Copy)]
@@ -31,15 +31,13 @@ enum Sight {
 /// What the zone of a name leaves to what is unsigned in it, by the asks of the search for it; None where these aren't
 /// the asks that it makes.
 pub(crate) fn search_zone<V: Verifier>(
-    judge: &Judge<'_, V>,
-    grounds: &Grounds<'_>,
+    grounds: &Grounds<'_, '_, V>,
     class: DNSClass,
     name: &Name,
     asks: &[AskRef],
 ) -> Result<Option<Proof>, NoMemory>
-    requires known { AreKnown grounds.now }
     ensures { IfOk result (λ m. (start : Labels) → m ≡ option_map zone_proof
-        (search_by (grounds_by V.answers judge.now grounds.now) class.0 start name.now asks.now)) }
+        (search_by (grounds_by V.answers grounds.now) class.0 start name.now asks.now)) }
 {
     if name.is_root() {
         return Ok(bogus_if_last(asks));
@@ -51,11 +49,11 @@ pub(crate) fn search_zone<V: Verifier>(
     if !is_plain_ask(grounds, &question, *ask) {
         return Ok(None);
     }
-    match sight_by(grounds, name, *ask) {
-        Sight::Cut => ask_zone(judge, grounds, class, name, left),
+    match sight_by(&grounds.earlier, name, *ask) {
+        Sight::Cut => ask_zone(grounds, class, name, left),
         Sight::Onward => {
             let above = name.base_name()?;
-            search_zone(judge, grounds, class, &above, left)
+            search_zone(grounds, class, &above, left)
         }
         Sight::Unseen => Ok(bogus_if_last(left)),
     }
@@ -74,15 +72,13 @@ fn bogus_if_last(left: &[AskRef]) -> Option<Proof>
 
 // What a zone leaves to what is unsigned in it, by the one ask for its DS set that is left.
 fn ask_zone<V: Verifier>(
-    judge: &Judge<'_, V>,
-    grounds: &Grounds<'_>,
+    grounds: &Grounds<'_, '_, V>,
     class: DNSClass,
     zone: &Name,
     asks: &[AskRef],
 ) -> Result<Option<Proof>, NoMemory>
-    requires known { AreKnown grounds.now }
     ensures { IfOk result (λ m. m ≡ option_map zone_proof
-        (zone_asked (grounds_by V.answers judge.now grounds.now) class.0 zone.now asks.now)) }
+        (zone_asked (grounds_by V.answers grounds.now) class.0 zone.now asks.now)) }
 {
     let Some((ask, left)) = asks.split_first() else {
         return Ok(None);
@@ -91,16 +87,16 @@ fn ask_zone<V: Verifier>(
     if !left.is_empty() || !is_ask(grounds, &question, *ask) {
         return Ok(None);
     }
-    let answer = answer_of(grounds, *ask);
-    Ok(Some(zone_mark(judge.verifier, class, zone, answer)))
+    let answer = answer_of(&grounds.earlier, *ask);
+    Ok(Some(zone_mark(grounds.judge.verifier, class, zone, answer)))
 }
 
 // What a plain ask for the NS records of a name came to.
-fn sight_by(grounds: &Grounds<'_>, name: &Name, ask: AskRef) -> Sight
-    ensures { sight_value result ≡ sight_in grounds.now.steps.now name.now ask }
+fn sight_by(earlier: &Earlier<'_>, name: &Name, ask: AskRef) -> Sight
+    ensures { sight_value result ≡ sight_in earlier.now name.now ask }
 {
     match ask {
-        AskRef::Step(number) => match grounds.steps.get(number as usize) {
+        AskRef::Step(number) => match earlier.steps.get(number as usize) {
             Some(step) => sight_at(name, step),
             None => Sight::Unseen,
         },

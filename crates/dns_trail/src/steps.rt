@@ -9,12 +9,12 @@ ghost use Rattle.dns_judgement.specs.Outcome.{foreign_record as foreign_in};
 ghost use Rattle.dns_evidence.specs.Trail.{ending_value};
 ghost use Rattle.dns_trail.specs.Ended.{ended_if, nothing_if};
 ghost use Rattle.dns_trail.specs.Indexed.{MayBeIndexed};
-ghost use Rattle.dns_trail.specs.Grounds.{AreKnown, Asks, grounds_by};
+ghost use Rattle.dns_trail.specs.Grounds.{Asks, grounds_by};
 ghost use Rattle.dns_anchors.specs.Judge.{judge_of};
 
 use crate::ending::{ending_holds, is_failed, is_foreign, is_seen};
 use crate::entries::judged_sets;
-use crate::grounds::{Ended, Grounds};
+use crate::grounds::{Earlier, Ended, Grounds};
 use crate::places::{SetPlaces, places_of_sets};
 use crate::repeats::has_repeats;
 use dns_evidence::{Asked, Ending, Reply, Told, Verifier};
@@ -26,11 +26,11 @@ use dns_trust::Judge;
 use std::alloc::Global;
 
 /// The lines of each step follow.
-pub(crate) fn steps_hold<V: Verifier>(
+pub(crate) fn steps_hold<'a, V: Verifier>(
     alloc: Global,
-    judge: &Judge<'_, V>,
+    judge: &'a Judge<'_, V>,
     limit: u16,
-    steps: &[Asked],
+    steps: &'a [Asked],
 ) -> Result<bool, NoMemory>
     ensures { IfOk result (λ b. b ≡ steps_follow (judge_of V.answers judge.now) limit [] steps.now) }
 {
@@ -40,16 +40,21 @@ pub(crate) fn steps_hold<V: Verifier>(
     'steps: while number < steps.len() {
         let step = &steps[number];
         let missing = None;
-        let grounds = Grounds {
-            limit,
+        let earlier = Earlier {
             steps: &steps[..number],
             ended: ended.as_slice(),
             missing: &missing,
+        };
+        let grounds = Grounds {
+            alloc,
+            judge: &*judge,
+            limit,
+            earlier,
             query: &step.query,
             depth: step.depth,
             repeats,
         };
-        let Some(next) = end_step(alloc, judge, &grounds, step)? else {
+        let Some(next) = end_step(&grounds, step)? else {
             return Ok(false);
         };
         ended.push(next)?;
@@ -60,41 +65,35 @@ pub(crate) fn steps_hold<V: Verifier>(
 
 // What a step comes to; None where its lines don't follow.
 fn end_step<V: Verifier>(
-    alloc: Global,
-    judge: &Judge<'_, V>,
-    grounds: &Grounds<'_>,
+    grounds: &Grounds<'_, '_, V>,
     step: &Asked,
 ) -> Result<Option<Ended>, NoMemory>
-    requires known { AreKnown grounds.now }
     requires own { Asks grounds.now step.now }
     ensures { IfOk result (λ o. o ≡ ended_if
-        (step_holds_by (grounds_by V.answers judge.now grounds.now) step.now step.now.reply) step.now) }
+        (step_holds_by (grounds_by V.answers grounds.now) step.now step.now.reply) step.now) }
 {
     match &step.reply {
-        Reply::Told(told) => end_told(alloc, judge, grounds, step, told),
-        Reply::Fault => Ok(end_bare(alloc, step, is_failed(&step.ending))),
+        Reply::Told(told) => end_told(grounds, step, told),
+        Reply::Fault => Ok(end_bare(grounds.alloc, step, is_failed(&step.ending))),
     }
 }
 
 // A step that heard records.
 fn end_told<V: Verifier>(
-    alloc: Global,
-    judge: &Judge<'_, V>,
-    grounds: &Grounds<'_>,
+    grounds: &Grounds<'_, '_, V>,
     step: &Asked,
     told: &Told,
 ) -> Result<Option<Ended>, NoMemory>
-    requires known { AreKnown grounds.now }
     requires own { Asks grounds.now step.now }
     requires told { told_in step.now.reply ≡ Some told.now.0 }
     ensures { IfOk result (λ o. o ≡ ended_if
-        (step_holds_by (grounds_by V.answers judge.now grounds.now) step.now step.now.reply) step.now) }
+        (step_holds_by (grounds_by V.answers grounds.now) step.now step.now.reply) step.now) }
 {
     if !step.judged {
-        return Ok(end_bare(alloc, step, is_seen(&step.ending)));
+        return Ok(end_bare(grounds.alloc, step, is_seen(&step.ending)));
     }
-    let message = message_of(alloc, told)?;
-    end_judged(alloc, judge, grounds, step, &message)
+    let message = message_of(grounds.alloc, told)?;
+    end_judged(grounds, step, &message)
 }
 
 // A message with the records that a reply told.
@@ -140,31 +139,28 @@ fn end_bare(alloc: Global, step: &Asked, is_so: bool) -> Option<Ended>
 
 // A judged step that heard records.
 fn end_judged<V: Verifier>(
-    alloc: Global,
-    judge: &Judge<'_, V>,
-    grounds: &Grounds<'_>,
+    grounds: &Grounds<'_, '_, V>,
     step: &Asked,
     message: &Message,
 ) -> Result<Option<Ended>, NoMemory>
-    requires known { AreKnown grounds.now }
     requires own { Asks grounds.now step.now }
     requires told { told_in step.now.reply ≡ Some (told_by message.now) }
     ensures { IfOk result (λ o. o ≡ ended_if
-        (judged_holds (grounds_by V.answers judge.now grounds.now) step.now (told_by message.now)
+        (judged_holds (grounds_by V.answers grounds.now) step.now (told_by message.now)
         (foreign_in step.now.query (told_by message.now))) step.now) }
 {
     if let Some(found) = foreign_record(grounds.query, message) {
-        return Ok(end_bare(alloc, step, is_foreign(found, &step.ending)));
+        return Ok(end_bare(grounds.alloc, step, is_foreign(found, &step.ending)));
     }
-    let placed = placed_sets(alloc, grounds.depth, message)?;
-    let Some(sets) = judged_sets(alloc, judge, grounds, placed, &step.sets)? else {
+    let placed = placed_sets(grounds.alloc, grounds.depth, message)?;
+    let Some(sets) = judged_sets(grounds, placed, &step.sets)? else {
         return Ok(None);
     };
-    if !ending_holds(alloc, judge, grounds, message, &sets, step)? {
+    if !ending_holds(grounds, message, &sets, step)? {
         return Ok(None);
     }
-    let places = places_if(alloc, grounds.repeats, &sets)?;
-    Ok(Some(ended_with(alloc, sets, places, &step.ending)))
+    let places = places_if(grounds.alloc, grounds.repeats, &sets)?;
+    Ok(Some(ended_with(grounds.alloc, sets, places, &step.ending)))
 }
 
 // Where judged sets stand, if they have to be found.

@@ -6,7 +6,7 @@ ghost use Rattle.dns_judgement.specs.Chained.{bare_verdicts};
 ghost use Rattle.dns_judgement.specs.Derivation.{verdicts_by as verdicts_for};
 ghost use Rattle.dns_judgement.specs.Marks as marks;
 ghost use Rattle.dns_trust.specs.Verdicts.{verdict_value};
-ghost use Rattle.dns_trail.specs.Grounds.{AreKnown, grounds_by};
+ghost use Rattle.dns_trail.specs.Grounds.{grounds_by};
 ghost use Rattle.dns_trail.specs.Trying.{tried_by};
 ghost use Rattle.dns_trail.specs.Values.{tried_value};
 ghost use Rattle.dns_judgement.specs.Derivation.{is_empty};
@@ -17,8 +17,7 @@ use dns_evidence::{AskRef, Verifier};
 use dns_name::NoMemory;
 use dns_rdata::Rrsig;
 use dns_record::{Record, RecordSet};
-use dns_trust::{Judge, Verdict, ask_of, is_skipped, verdict_of};
-use std::alloc::Global;
+use dns_trust::{Verdict, ask_of, is_skipped, verdict_of};
 
 // The verdict of a signature, and the asks that are left after its own.
 #[derive(Drop)]
@@ -30,20 +29,17 @@ struct Tried<'a> {
 /// The verdicts of signatures of a set, up to the first that proves it; None where these aren't the asks that they
 /// make.
 pub(crate) fn verdicts_by<V: Verifier>(
-    alloc: Global,
-    judge: &Judge<'_, V>,
-    grounds: &Grounds<'_>,
+    grounds: &Grounds<'_, '_, V>,
     set: &RecordSet,
     mut signatures: &[Record],
     mut asks: &[AskRef],
 ) -> Result<Option<Vec<Verdict>>, NoMemory>
-    requires known { AreKnown grounds.now }
     ensures { IfOk result (λ o. option_map (λ v. bare_verdicts (map verdict_value v.items)) o
-        ≡ verdicts_for (grounds_by V.answers judge.now grounds.now) set.now signatures.entry.now asks.entry.now) }
+        ≡ verdicts_for (grounds_by V.answers grounds.now) set.now signatures.entry.now asks.entry.now) }
 {
-    let mut verdicts = Vec::new(alloc);
+    let mut verdicts = Vec::new(grounds.alloc);
     'signatures: while let Some((signature, others)) = signatures.split_first() {
-        let Some(tried) = try_signature(alloc, judge, grounds, set, signature, asks)? else {
+        let Some(tried) = try_signature(grounds, set, signature, asks)? else {
             return Ok(None);
         };
         let Tried { verdict, left } = tried;
@@ -71,16 +67,13 @@ fn if_last(left: &[AskRef], verdicts: Vec<Verdict>) -> Option<Vec<Verdict>>
 
 // The verdict of one signature by the first of the asks that are left; None where that isn't its own.
 fn try_signature<'a, V: Verifier>(
-    alloc: Global,
-    judge: &Judge<'_, V>,
-    grounds: &Grounds<'_>,
+    grounds: &Grounds<'_, '_, V>,
     set: &RecordSet,
     signature: &Record,
     asks: &'a [AskRef],
 ) -> Result<Option<Tried<'a>>, NoMemory>
-    requires known { AreKnown grounds.now }
     ensures { IfOk result (λ o. option_map tried_value o
-        ≡ tried_by (grounds_by V.answers judge.now grounds.now) set.now signature.now asks.now) }
+        ≡ tried_by (grounds_by V.answers grounds.now) set.now signature.now asks.now) }
 {
     let Some(read) = Rrsig::of(signature) else {
         return Ok(Some(untried(asks)));
@@ -91,12 +84,12 @@ fn try_signature<'a, V: Verifier>(
     let Some((ask, left)) = asks.split_first() else {
         return Ok(None);
     };
-    let question = ask_of(alloc, set, &read)?;
+    let question = ask_of(grounds.alloc, set, &read)?;
     if !is_ask(grounds, &question, *ask) {
         return Ok(None);
     }
-    let answer = answer_of(grounds, *ask);
-    let verdict = verdict_of(alloc, judge, set, signature, &read, answer)?;
+    let answer = answer_of(&grounds.earlier, *ask);
+    let verdict = verdict_of(grounds.alloc, grounds.judge, set, signature, &read, answer)?;
     Ok(Some(Tried { verdict, left }))
 }
 

@@ -10,7 +10,7 @@ use Rattle.dns_trail.proofs.entries.judged_by_one_ask.Goals as goal
 
 pub returns : goal.returns
 returns g c =
-    let gr = grounds_by g.V.Verifier.answers c.args.judge.now c.args.grounds.now in
+    let gr = grounds_by g.V.Verifier.answers c.args.grounds.now in
     let asked : c.args.entry.now.asked ≡ c.in-Some.ask.now ∷ c.in-Some.left.now = search rules in
     let long : length c.in-Some.left.now ≡ 0 = search rules in
     let none = no_more c.in-Some.left.now long in

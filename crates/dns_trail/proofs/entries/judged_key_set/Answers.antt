@@ -10,8 +10,8 @@ use Rattle.dns_trail.proofs.entries.judged_key_set.Goals as goal
 
 pub returns-then-is_empty : goal.returns-then-is_empty
 returns-then-is_empty g c =
-    let j = judge_of g.V.Verifier.answers c.args.judge.now in
-    let gr = grounds_by g.V.Verifier.answers c.args.judge.now c.args.grounds.now in
+    let j = judge_of g.V.Verifier.answers c.args.grounds.now.judge.now in
+    let gr = grounds_by g.V.Verifier.answers c.args.grounds.now in
     let by : IsKeysStep j c.args.placed (Done c.in-Done.set) = subst (λ s. IsKeysStep j c.args.placed s) c.in-Done.is c.in_ok-set.ensures in
     let long : length c.asks_of-asks.result.now ≡ 0 = search rules in
     let none = sym c.asks_of-asks.ensures ∙ no_more c.asks_of-asks.result.now long in

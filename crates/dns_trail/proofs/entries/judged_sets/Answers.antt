@@ -9,7 +9,7 @@ use Rattle.dns_trail.proofs.entries.judged_sets.Goals as goal
 
 pub returns-in_default-split_first : goal.returns-in_default-split_first
 returns-in_default-split_first g c =
-    let gr = grounds_by g.V.Verifier.answers c.args.judge.now c.args.grounds.now in
+    let gr = grounds_by g.V.Verifier.answers c.args.grounds.now in
     let p0 = c.args.placed.items in
     let e0 = c.args.entries.now in
     let sets = bare c.sets.sets.items in
@@ -19,7 +19,7 @@ returns-in_default-split_first g c =
 
 pub returns-in_default-2 : goal.returns-in_default-2
 returns-in_default-2 g c =
-    let gr = grounds_by g.V.Verifier.answers c.args.judge.now c.args.grounds.now in
+    let gr = grounds_by g.V.Verifier.answers c.args.grounds.now in
     let p0 = c.args.placed.items in
     let e0 = c.args.entries.now in
     let sets = bare c.sets.sets.items in
@@ -30,7 +30,7 @@ returns-in_default-2 g c =
 
 pub sets-preserved : goal.sets-preserved
 sets-preserved g c =
-    let gr = grounds_by g.V.Verifier.answers c.args.judge.now c.args.grounds.now in
+    let gr = grounds_by g.V.Verifier.answers c.args.grounds.now in
     let p0 = c.args.placed.items in
     let e0 = c.args.entries.now in
     let sets = bare c.sets.sets.items in
@@ -43,14 +43,14 @@ sets-preserved g c =
 
 pub returns-then-is_empty : goal.returns-then-is_empty
 returns-then-is_empty g c =
-    let gr = grounds_by g.V.Verifier.answers c.args.judge.now c.args.grounds.now in
+    let gr = grounds_by g.V.Verifier.answers c.args.grounds.now in
     let none : c.sets.placed.items ≡ [] = search rules in
     let long : length c.sets.entries.now ≡ 0 = search rules in
     left_none gr c.args.placed.items c.sets.placed.items c.args.entries.now c.sets.entries.now (bare c.sets.sets.items) c.sets.invariant none (no_more c.sets.entries.now long)
 
 pub returns : goal.returns
 returns g c =
-    let gr = grounds_by g.V.Verifier.answers c.args.judge.now c.args.grounds.now in
+    let gr = grounds_by g.V.Verifier.answers c.args.grounds.now in
     let none : c.sets.placed.items ≡ [] = search rules in
     let more : length c.sets.entries.now ≢ 0 = search rules in
     left_over gr c.args.placed.items c.sets.placed.items c.args.entries.now c.sets.entries.now (bare c.sets.sets.items) c.sets.invariant none more

@@ -7,7 +7,7 @@ use Rattle.dns_trail.proofs.entries.judged_sets.Given as goal
 -- the sets that are left, last first, decide
 abbrev pub invariant-sets : goal.invariant-sets
 invariant-sets g l =
-    AreLeft (grounds_by g.V.Verifier.answers l.judge l.grounds) l.fn.placed.items l.placed.items l.fn.entries l.entries (bare l.sets.items)
+    AreLeft (grounds_by g.V.Verifier.answers l.grounds) l.fn.placed.items l.placed.items l.fn.entries l.entries (bare l.sets.items)
 
 abbrev pub decreases-sets : goal.decreases-sets
 decreases-sets g l = vec_len l.placed

@@ -9,7 +9,7 @@ use Rattle.dns_trail.proofs.entries.judged_signed.Goals as goal
 
 pub returns : goal.returns
 returns g c =
-    let gr = grounds_by g.V.Verifier.answers c.args.judge.now c.args.grounds.now in
+    let gr = grounds_by g.V.Verifier.answers c.args.grounds.now in
     let vs = map verdict_value c.in-Some.verdicts.items in
     let found : Some (bare_verdicts vs) ≡ verdicts_of_set gr c.args.placed.set c.args.entry.now.asked = search rules in
     c.as_in_entry.ensures

@@ -11,13 +11,13 @@ use Rattle.dns_trail.proofs.search.+search_zone.Goals as goal
 
 pub returns-then-is_root : goal.returns-then-is_root
 returns-then-is_root g t c =
-    let gr = grounds_by g.V.Verifier.answers c.args.judge.now c.args.grounds.now in
+    let gr = grounds_by g.V.Verifier.answers c.args.grounds.now in
     let root : c.args.name.now ≡ [] = search rules in
     λ start. c.bogus_if_last.ensures ∙ root_proof gr c.args.class.0 start c.args.name.now c.args.asks.now root
 
 pub returns-in_default : goal.returns-in_default
 returns-in_default g t c =
-    let gr = grounds_by g.V.Verifier.answers c.args.judge.now c.args.grounds.now in
+    let gr = grounds_by g.V.Verifier.answers c.args.grounds.now in
     let named = named_if c.is_root.result _ c.is_root.ensures c.if-is_root.false in
     let long : length c.args.asks.now ≡ 0 = search rules in
     let none = no_more c.args.asks.now long in
@@ -25,7 +25,7 @@ returns-in_default g t c =
 
 pub returns-then-not-is_plain_ask : goal.returns-then-not-is_plain_ask
 returns-then-not-is_plain_ask g t c =
-    let gr = grounds_by g.V.Verifier.answers c.args.judge.now c.args.grounds.now in
+    let gr = grounds_by g.V.Verifier.answers c.args.grounds.now in
     let named = named_if c.is_root.result _ c.is_root.ensures c.if-is_root.false in
     let first : c.args.asks.now ≡ c.in-Some.ask.now ∷ c.in-Some.left.now = search rules in
     let plain : is_plain_ask gr.earlier gr.depth (ns_question c.args.class.0 c.args.name.now) c.in-Some.ask.now ≡ false = search rules in
@@ -33,7 +33,7 @@ returns-then-not-is_plain_ask g t c =
 
 pub returns-in-Cut : goal.returns-in-Cut
 returns-in-Cut g t c =
-    let gr = grounds_by g.V.Verifier.answers c.args.judge.now c.args.grounds.now in
+    let gr = grounds_by g.V.Verifier.answers c.args.grounds.now in
     let named = named_if c.is_root.result _ c.is_root.ensures c.if-is_root.false in
     let first : c.args.asks.now ≡ c.in-Some.ask.now ∷ c.in-Some.left.now = search rules in
     let plain : is_plain_ask gr.earlier gr.depth (ns_question c.args.class.0 c.args.name.now) c.in-Some.ask.now ≡ true = search rules in
@@ -44,7 +44,7 @@ returns-in-Cut g t c =
 
 pub returns-in-Onward : goal.returns-in-Onward
 returns-in-Onward g t c =
-    let gr = grounds_by g.V.Verifier.answers c.args.judge.now c.args.grounds.now in
+    let gr = grounds_by g.V.Verifier.answers c.args.grounds.now in
     let named = named_if c.is_root.result _ c.is_root.ensures c.if-is_root.false in
     let first : c.args.asks.now ≡ c.in-Some.ask.now ∷ c.in-Some.left.now = search rules in
     let plain : is_plain_ask gr.earlier gr.depth (ns_question c.args.class.0 c.args.name.now) c.in-Some.ask.now ≡ true = search rules in
@@ -57,7 +57,7 @@ returns-in-Onward g t c =
 
 pub returns : goal.returns
 returns g t c =
-    let gr = grounds_by g.V.Verifier.answers c.args.judge.now c.args.grounds.now in
+    let gr = grounds_by g.V.Verifier.answers c.args.grounds.now in
     let named = named_if c.is_root.result _ c.is_root.ensures c.if-is_root.false in
     let first : c.args.asks.now ≡ c.in-Some.ask.now ∷ c.in-Some.left.now = search rules in
     let plain : is_plain_ask gr.earlier gr.depth (ns_question c.args.class.0 c.args.name.now) c.in-Some.ask.now ≡ true = search rules in

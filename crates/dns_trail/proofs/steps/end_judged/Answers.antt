@@ -8,7 +8,7 @@ use Rattle.dns_trail.proofs.steps.end_judged.Goals as goal
 
 pub returns-in-Some : goal.returns-in-Some
 returns-in-Some g c =
-    let gr = grounds_by g.V.Verifier.answers c.args.judge.now c.args.grounds.now in
+    let gr = grounds_by g.V.Verifier.answers c.args.grounds.now in
     let found : Some c.in-Some.found.now ≡ foreign_record c.args.step.now.query (told_by c.args.message.now) = search rules in
     c.end_bare.ensures
     ∙ foreign_ends gr c.args.step.now (told_by c.args.message.now) c.is_foreign.result c.in-Some.found.now _

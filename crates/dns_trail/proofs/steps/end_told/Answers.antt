@@ -6,7 +6,7 @@ use Rattle.dns_trail.proofs.steps.end_told.Goals as goal
 
 pub returns-then-not-step : goal.returns-then-not-step
 returns-then-not-step g c =
-    let gr = grounds_by g.V.Verifier.answers c.args.judge.now c.args.grounds.now in
+    let gr = grounds_by g.V.Verifier.answers c.args.grounds.now in
     let unjudged : c.step.inside.judged ≡ false = search rules in
     c.end_bare.ensures
     ∙ seen_ends gr c.args.step.now c.is_seen.result c.args.told.now.0 (c.is_seen.ensures ∙ ap (λ s. is_seen s.ending) c.step.view_is) c.requires.told

@@ -4,8 +4,8 @@ use Rattle.dns_anchors.specs.Judge.{judge_of}
 use Rattle.dns_trail.proofs.StepLemmas.{steps_all, steps_fail, steps_next}
 use Rattle.dns_trail.proofs.steps.steps_hold.Goals as goal
 
-pub end_step-requires-clause-known : goal.end_step-requires-clause-known
-end_step-requires-clause-known g c = record { ended = c.as_slice.ensures.value ∙ c.steps.invariant.known; missing = refl }
+pub invariant_of-earlier : goal.invariant_of-earlier
+invariant_of-earlier g c = record { ended = c.as_slice.ensures.value ∙ c.steps.invariant.known; missing = refl }
 
 pub returns-in_default : goal.returns-in_default
 returns-in_default g c =

@@ -14,8 +14,8 @@ use Rattle.dns_trail.proofs.verdicts.try_signature.Goals as goal
 
 pub returns : goal.returns
 returns g c =
-    let j = judge_of g.V.Verifier.answers c.args.judge.now in
-    let gr = grounds_by g.V.Verifier.answers c.args.judge.now c.args.grounds.now in
+    let j = judge_of g.V.Verifier.answers c.args.grounds.now.judge.now in
+    let gr = grounds_by g.V.Verifier.answers c.args.grounds.now in
     let set = c.args.set.now in
     let r = c.args.signature.now in
     let read : rrsig_of r ≡ Some c.in-Some.read = search rules in

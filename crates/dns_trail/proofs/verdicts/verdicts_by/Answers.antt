@@ -13,7 +13,7 @@ use Rattle.dns_trail.proofs.verdicts.verdicts_by.Goals as goal
 
 pub returns-in_default-2 : goal.returns-in_default-2
 returns-in_default-2 g c =
-    let gr = grounds_by g.V.Verifier.answers c.args.judge.now c.args.grounds.now in
+    let gr = grounds_by g.V.Verifier.answers c.args.grounds.now in
     let done = bare_verdicts (map verdict_value c.signatures.verdicts.items) in
     let whole = verdicts_by gr c.args.set.now c.args.signatures.now c.args.asks.now in
     let first : c.signatures.signatures.now ≡ c.in-Some.signature.now ∷ c.in-Some.others.now = search rules in
@@ -22,7 +22,7 @@ returns-in_default-2 g c =
 
 pub returns-then-proved : goal.returns-then-proved
 returns-then-proved g c =
-    let gr = grounds_by g.V.Verifier.answers c.args.judge.now c.args.grounds.now in
+    let gr = grounds_by g.V.Verifier.answers c.args.grounds.now in
     let done = bare_verdicts (map verdict_value c.signatures.verdicts.items) in
     let whole = verdicts_by gr c.args.set.now c.args.signatures.now c.args.asks.now in
     let first : c.signatures.signatures.now ≡ c.in-Some.signature.now ∷ c.in-Some.others.now = search rules in
@@ -37,7 +37,7 @@ returns-then-proved g c =
 
 pub signatures-preserved : goal.signatures-preserved
 signatures-preserved g c =
-    let gr = grounds_by g.V.Verifier.answers c.args.judge.now c.args.grounds.now in
+    let gr = grounds_by g.V.Verifier.answers c.args.grounds.now in
     let done = bare_verdicts (map verdict_value c.signatures.verdicts.items) in
     let whole = verdicts_by gr c.args.set.now c.args.signatures.now c.args.asks.now in
     let first : c.signatures.signatures.now ≡ c.in-Some.signature.now ∷ c.in-Some.others.now = search rules in
@@ -52,7 +52,7 @@ signatures-preserved g c =
 
 pub returns : goal.returns
 returns g c =
-    let gr = grounds_by g.V.Verifier.answers c.args.judge.now c.args.grounds.now in
+    let gr = grounds_by g.V.Verifier.answers c.args.grounds.now in
     let done = bare_verdicts (map verdict_value c.signatures.verdicts.items) in
     let whole = verdicts_by gr c.args.set.now c.args.signatures.now c.args.asks.now in
     let long : length c.signatures.signatures.now ≡ 0 = search rules in

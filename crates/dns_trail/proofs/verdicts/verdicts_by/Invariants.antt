@@ -10,8 +10,8 @@ use Rattle.dns_trail.proofs.verdicts.verdicts_by.Given as goal
 abbrev pub invariant-signatures : goal.invariant-signatures
 invariant-signatures g l =
     behind (bare_verdicts (map verdict_value l.verdicts.items))
-    (verdicts_by (grounds_by g.V.Verifier.answers l.judge l.grounds) l.set l.signatures l.asks)
-    ≡ verdicts_by (grounds_by g.V.Verifier.answers l.judge l.grounds) l.set l.fn.signatures l.fn.asks
+    (verdicts_by (grounds_by g.V.Verifier.answers l.grounds) l.set l.signatures l.asks)
+    ≡ verdicts_by (grounds_by g.V.Verifier.answers l.grounds) l.set l.fn.signatures l.fn.asks
 
 abbrev pub decreases-signatures : goal.decreases-signatures
 decreases-signatures g l = length l.signatures
