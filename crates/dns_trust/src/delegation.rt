@@ -248,21 +248,27 @@ fn first_match<'a, V: Verifier>(
     None
 }
 
-// The rdata of a record, as that of a DS, matches that of a key of an owner (RFC 4034, 5.1.4).
+// The rdata of a record, as that of a DS, matches that of a key of an owner.
 fn is_match<V: Verifier>(verifier: &V, owner: &Name, key: &Record, ds: &Record) -> bool
     ensures { result ≡ matches (V.answers verifier.now) owner.now key.now.rdata ds.now.rdata }
 {
-    let rdata = key.rdata.as_slice();
-    let Some((algorithm, tag)) = place_in(rdata) else {
+    ds_matches(verifier, owner, key.rdata.as_slice(), ds.rdata.as_slice())
+}
+
+/// The rdata of a DS matches that of a key of an owner (RFC 4034, 5.1.4).
+pub fn ds_matches<V: Verifier>(verifier: &V, owner: &Name, key: &[u8], ds: &[u8]) -> bool
+    ensures { result ≡ matches (V.answers verifier.now) owner.now key.now ds.now }
+{
+    let Some((algorithm, tag)) = place_in(key) else {
         return false;
     };
-    let Some(read) = Ds::read(ds.rdata.as_slice()) else {
+    let Some(read) = Ds::read(ds) else {
         return false;
     };
     algorithm == read.algorithm
         && tag == read.key_tag
         && verifier.supports(read.algorithm)
-        && read.covers(owner, rdata)
+        && read.covers(owner, key)
 }
 
 // The record is a DS of the owner with the algorithm and the tag of a key.

@@ -1,6 +1,7 @@
 ghost use Rattle.std.specs.Prelude.{◌≡◌, true, IfOk, None};
 ghost use Rattle.std.specs.List.{filter, list_all};
 ghost use Rattle.std.specs.Option.{option_map};
+ghost use Rattle.dns_model.specs.Keys.{anchored};
 ghost use Rattle.dns_judgement.specs.KeySets.{is_anchored_key, is_matched_key, is_trusted_key, keys_outcome, needs_ds, outcome_by_ds, signed_by};
 ghost use Rattle.dns_anchors.specs.Judge.{judge_of};
 ghost use Rattle.dns_trust.specs.Delegating.{shown};
@@ -8,11 +9,11 @@ ghost use Rattle.dns_trust.specs.Signers.{signed_value, is_matched_only as is_ma
 ghost use Rattle.dns_trust.specs.Rows.{anchored_outcome, matched_outcome};
 
 use crate::signers::{each_once, first_signed};
-use crate::{DsIndex, Judge, SignedBy};
+use crate::{DsIndex, Judge, SignedBy, TrustAnchors};
 use dns_evidence::Verifier;
-use dns_name::NoMemory;
+use dns_name::{Name, NoMemory};
 use dns_rdata::Dnskey;
-use dns_record::{Record, RecordSet};
+use dns_record::{Record, RecordSet, RecordType};
 use std::alloc::Global;
 
 /// What trust anchors say of a DNSKEY set (RFC 4035, 5.2).
@@ -199,15 +200,19 @@ fn is_trusted<V: Verifier>(
 pub(crate) fn is_anchored<V: Verifier>(judge: &Judge<'_, V>, set: &RecordSet, key: &Record) -> bool
     ensures { result ≡ is_anchored_key (judge_of V.answers judge.now) set.now key.now }
 {
-    if set.name != key.name {
-        return false;
+    key.record_type == RecordType::DNSKEY
+        && set.name == key.name
+        && is_anchor(judge.anchors, &set.name, key.rdata.as_slice())
+}
+
+/// The rdata is that of a key that can be read, and is an anchor of that owner.
+pub fn is_anchor(anchors: &TrustAnchors, owner: &Name, key: &[u8]) -> bool
+    ensures { result ≡ anchored anchors.now owner.now key.now }
+{
+    match Dnskey::read(key) {
+        Some(read) => anchors.contains_with_name(owner, read.algorithm, read.key),
+        None => false,
     }
-    let Some(dnskey) = Dnskey::of(key) else {
-        return false;
-    };
-    judge
-        .anchors
-        .contains_with_name(&set.name, dnskey.algorithm, dnskey.key)
 }
 
 // The record is a key of the set's owner, and matched by a DS of it.

@@ -19,13 +19,13 @@ mod validity;
 mod verdict;
 
 pub use counted::counted_keys;
-pub use delegation::{DsIndex, is_supported_ds, matching_ds};
+pub use delegation::{DsIndex, ds_matches, is_supported_ds, matching_ds};
 pub use dns_anchors::{Judge, Limits, Listed, TrustAnchors};
 pub use fitting::{is_never_expanded, is_right_below_signer, is_timely, signer_fits};
 pub use good::{is_good_by, signed_data_once};
 pub use judged::judged_by;
 pub use key_sets::{KeysStep, ds_ask_of, judged_by_ds, judged_keys};
-pub use keys::{AnchoredRow, MatchedRow, anchored_row, matched_row};
+pub use keys::{AnchoredRow, MatchedRow, anchored_row, is_anchor, matched_row};
 pub use searching::{ds_query, is_ns_of, is_searched, ns_query, question_start, set_start};
 pub use signers::{SignedBy, first_signatures};
 pub use unsigned::{shows_unsigned_cut, unsigned_by, zone_mark};
