@@ -1,4 +1,5 @@
--- The bytes that a signature is over, once they are built (RFC 4034, 3.1.8.1).
+-- For the calls of this crate, and for no promise of a check or a lookup: the bytes that a signature is over, once
+-- they are built (RFC 4034, 3.1.8.1).
 use Rattle.std.specs.Prelude.{◌≡◌, List, ℕ, Option, IfSome}
 use Rattle.dns_model.specs.Records.{RrSet}
 use Rattle.dns_model.specs.Views.{RrsigValue}

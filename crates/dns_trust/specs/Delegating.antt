@@ -1,4 +1,5 @@
--- DS records as they are found by the keys that they match (RFC 4034, 5; RFC 4035, 5.2).
+-- For the calls of this crate, and for no promise of a check or a lookup: DS records as they are found by the keys
+-- that they match (RFC 4034, 5; RFC 4035, 5.2).
 use Rattle.std.specs.Prelude.{ℕ, ◌≡◌, Bool, false, ◌==◌, ◌&&◌, nat_lt, List, [], ◌∷◌, ◌++◌, map, take, length, Option, None, Some, Vec, if◌then◌else◌}
 use Rattle.std.specs.Borrow.{Bor}
 use Rattle.std.specs.Option.{option_map, option_map_or}

@@ -1,4 +1,5 @@
--- Why a key may sign nothing, whatever its algorithm: its flags and its protocol (RFC 4034, 2.1; RFC 5011, 2.1).
+-- For the calls of this crate, and for no promise of a check or a lookup: why a key may sign nothing, whatever its
+-- algorithm: its flags and its protocol (RFC 4034, 2.1; RFC 5011, 2.1).
 use Rattle.std.specs.Prelude.{not, ◌==◌, ◌&&◌, Option, None, Some, if◌then◌else◌}
 use Rattle.dns_model.specs.Views.{DnskeyValue, is_zone_key, is_revoked}
 use Rattle.dns_trust.specs.declared.usable.KeyFault.{KeyFault}

@@ -1,4 +1,5 @@
--- The rows of the marks of DNSKEY sets, as outcomes (RFC 4035, 5.2).
+-- For the calls of this crate, and for no promise of a check or a lookup: the rows of the marks of DNSKEY sets, as
+-- outcomes (RFC 4035, 5.2).
 use Rattle.std.specs.Prelude.{List}
 use Rattle.dns_model.specs.declared.proof.Proof.TheVariants as proof
 use Rattle.dns_model.specs.Records.{Rr, RrSet}

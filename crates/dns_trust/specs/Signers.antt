@@ -1,4 +1,5 @@
--- Which signature of a key set is good by one of some keys of it, as the plain definitions (RFC 4035, 5.2 and 5.3).
+-- For the calls of this crate, and for no promise of a check or a lookup: which signature of a key set is good by one
+-- of some keys of it, as the plain definitions (RFC 4035, 5.2 and 5.3).
 use Rattle.std.specs.Prelude.{◌≡◌, Bool, true, not, ◌&&◌, List, Option, slice_get}
 use Rattle.std.specs.List.{filter_map, find, list_all, enumerate_from}
 use Rattle.std.specs.Option.{option_map}

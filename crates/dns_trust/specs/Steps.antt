@@ -1,4 +1,5 @@
--- How far a DNSKEY set is judged by anchors alone (RFC 4035, 5.2).
+-- For the calls of this crate, and for no promise of a check or a lookup: how far a DNSKEY set is judged by anchors
+-- alone (RFC 4035, 5.2).
 use Rattle.std.specs.Prelude.{◌≡◌, true, false}
 use Rattle.dns_model.specs.Chains.{Judge}
 use Rattle.dns_model.specs.SoundAnswers.{Placed}

@@ -1,4 +1,5 @@
--- Verdicts of signatures with their chains, as the plain ones.
+-- For the calls of this crate, and for no promise of a check or a lookup: verdicts of signatures with their chains, as
+-- the plain ones.
 use Rattle.std.specs.Prelude.{List, [], map, Option, None, Some, Vec}
 use Rattle.std.specs.List.{find}
 use Rattle.dns_model.specs.declared.proof.Proof.TheVariants.{Secure}
