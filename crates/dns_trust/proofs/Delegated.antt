@@ -20,7 +20,7 @@ use Rattle.dns_model.specs.Views.{DnskeyValue}
 use Rattle.dns_model.specs.Signing.{key_tag_of}
 use Rattle.dns_model.specs.Keys.{VerifierAnswers, matches}
 use Rattle.dns_judgement.specs.Delegations.{ds_of, counted_ds, matching_ds}
-use Rattle.dns_trust.specs.Delegating.{AreCounted, counted_after, counted_at, is_delegation_at, kept_two, place_by, place_cmp, shown, shown_or_none}
+use Rattle.dns_trust.specs.Delegating.{AreCounted, counted_after, counted_at, is_delegation_at, kept_two, algorithm_and_tag, algorithm_tag_cmp, shown, shown_or_none}
 
 -- of a list that is longer by one the first two
 two_more : (ys : List Rr) (r : Rr) → kept_two (take 2 ys) r ≡ take 2 (ys ++ r ∷ [])
@@ -42,9 +42,9 @@ then_eq Greater p = refl
 eq_back : (n a : ℕ) → is_eq (nat_cmp n a) ≡ (a == n)
 eq_back n a = grind (arith, nat_tests)
 
--- another algorithm or tag is another place
-pub place_at : (n m a t : ℕ) → is_at (place_cmp (n, m)) (a, t) ≡ ((a == n) && (t == m))
-place_at n m a t = then_eq (nat_cmp n a) (nat_cmp m t) ∙ ap (λ b. b && is_eq (nat_cmp m t)) (eq_back n a) ∙ ap (λ b. (a == n) && b) (eq_back m t)
+-- another algorithm or tag is another key of the map
+pub tag_at : (n m a t : ℕ) → is_at (algorithm_tag_cmp (n, m)) (a, t) ≡ ((a == n) && (t == m))
+tag_at n m a t = then_eq (nat_cmp n a) (nat_cmp m t) ∙ ap (λ b. b && is_eq (nat_cmp m t)) (eq_back n a) ∙ ap (λ b. (a == n) && b) (eq_back m t)
 
 few_true : (n : ℕ) → n < 2 → nat_lt n 2 ≡ true
 few_true n h = grind (arith, nat_tests)
@@ -62,46 +62,46 @@ both_equal : (n m a t : ℕ) → ((a == n) && (t == m)) ≡ true → (a ≡ n) �
 both_equal n m a t h = let parts = and_parts (a == n) (t == m) h in (eqb-true a n parts.0, eqb-true t m parts.1)
 
 module _ {Z : Type 0} where
-  place_step : (m : BTreeMap (ℕ × ℕ) (Vec (Bor Rr) Z)) (v : Vec (Bor Rr) Z) (r : Rr) (algorithm tag a t : ℕ) (b : Bool)
+  tag_step : (m : BTreeMap (ℕ × ℕ) (Vec (Bor Rr) Z)) (v : Vec (Bor Rr) Z) (r : Rr) (algorithm tag a t : ℕ) (b : Bool)
       → (b ≡ true → (a ≡ algorithm) × (t ≡ tag)) → shown v.items ≡ kept_two (counted_at m algorithm tag) r
-      → shown_or_none (cond b (Some v) (get place_cmp m (a, t))) ≡ cond b (kept_two (counted_at m a t) r) (counted_at m a t)
+      → shown_or_none (cond b (Some v) (get algorithm_tag_cmp m (a, t))) ≡ cond b (kept_two (counted_at m a t) r) (counted_at m a t)
   unfolding counted_at
-  place_step m v r algorithm tag a t true same is =
+  tag_step m v r algorithm tag a t true same is =
       is ∙ ap (λ x. kept_two (counted_at m x tag) r) (sym (same refl).0) ∙ ap (λ x. kept_two (counted_at m a x) r) (sym (same refl).1)
-  place_step m v r algorithm tag a t false same is = refl
+  tag_step m v r algorithm tag a t false same is = refl
 
-  -- one record more at its place
-  pub place_updated : (m n : BTreeMap (ℕ × ℕ) (Vec (Bor Rr) Z)) (v : Vec (Bor Rr) Z) (r : Rr) (algorithm tag : ℕ)
-      → Updates place_cmp m n (algorithm, tag) (Some v) → shown v.items ≡ kept_two (counted_at m algorithm tag) r
+  -- one record more of its algorithm and tag
+  pub tag_updated : (m n : BTreeMap (ℕ × ℕ) (Vec (Bor Rr) Z)) (v : Vec (Bor Rr) Z) (r : Rr) (algorithm tag : ℕ)
+      → Updates algorithm_tag_cmp m n (algorithm, tag) (Some v) → shown v.items ≡ kept_two (counted_at m algorithm tag) r
       → (a t : ℕ) → counted_at n a t ≡ counted_after m ((a == algorithm) && (t == tag)) r a t
   unfolding counted_at
-  place_updated m n v r algorithm tag updates is a t =
-      ap shown_or_none (updates.0 (a, t) ∙ ap (λ b. cond b (Some v) (get place_cmp m (a, t))) (place_at algorithm tag a t))
-      ∙ place_step m v r algorithm tag a t ((a == algorithm) && (t == tag)) (both_equal algorithm tag a t) is
+  tag_updated m n v r algorithm tag updates is a t =
+      ap shown_or_none (updates.0 (a, t) ∙ ap (λ b. cond b (Some v) (get algorithm_tag_cmp m (a, t))) (tag_at algorithm tag a t))
+      ∙ tag_step m v r algorithm tag a t ((a == algorithm) && (t == tag)) (both_equal algorithm tag a t) is
 
   -- there were fewer than two
-  pub place_pushed : (m : BTreeMap (ℕ × ℕ) (Vec (Bor Rr) Z)) (there v : Vec (Bor Rr) Z) (r : Bor Rr) (algorithm tag : ℕ)
-      → Some there ≡ get place_cmp m (algorithm, tag) → length there.items < 2 → v.items ≡ there.items ++ r ∷ []
+  pub tag_pushed : (m : BTreeMap (ℕ × ℕ) (Vec (Bor Rr) Z)) (there v : Vec (Bor Rr) Z) (r : Bor Rr) (algorithm tag : ℕ)
+      → Some there ≡ get algorithm_tag_cmp m (algorithm, tag) → length there.items < 2 → v.items ≡ there.items ++ r ∷ []
       → shown v.items ≡ kept_two (counted_at m algorithm tag) r.now
   unfolding counted_at
-  place_pushed m there v r algorithm tag is few more =
+  tag_pushed m there v r algorithm tag is few more =
       ap shown more ∙ map-append (λ x. x.now) there.items (r ∷ [])
       ∙ sym (ap (λ o. kept_two (shown_or_none o) r.now) (sym is)
       ∙ kept_few (shown there.items) r.now (omega (arith, few, length-map there.items (λ (x : Bor Rr). x.now))))
 
   -- there were two
-  pub place_full : (m : BTreeMap (ℕ × ℕ) (Vec (Bor Rr) Z)) (there : Vec (Bor Rr) Z) (r : Rr) (algorithm tag : ℕ)
-      → Some there ≡ get place_cmp m (algorithm, tag) → 2 ≤ length there.items → shown there.items ≡ kept_two (counted_at m algorithm tag) r
+  pub tag_full : (m : BTreeMap (ℕ × ℕ) (Vec (Bor Rr) Z)) (there : Vec (Bor Rr) Z) (r : Rr) (algorithm tag : ℕ)
+      → Some there ≡ get algorithm_tag_cmp m (algorithm, tag) → 2 ≤ length there.items → shown there.items ≡ kept_two (counted_at m algorithm tag) r
   unfolding counted_at
-  place_full m there r algorithm tag is full =
+  tag_full m there r algorithm tag is full =
       sym (ap (λ o. kept_two (shown_or_none o) r) (sym is)
       ∙ kept_full (shown there.items) r (omega (arith, full, length-map there.items (λ (x : Bor Rr). x.now))))
 
   -- there was none
-  pub place_new : (m : BTreeMap (ℕ × ℕ) (Vec (Bor Rr) Z)) (v : Vec (Bor Rr) Z) (r : Bor Rr) (algorithm tag : ℕ)
-      → None ≡ get place_cmp m (algorithm, tag) → v.items ≡ r ∷ [] → shown v.items ≡ kept_two (counted_at m algorithm tag) r.now
+  pub tag_new : (m : BTreeMap (ℕ × ℕ) (Vec (Bor Rr) Z)) (v : Vec (Bor Rr) Z) (r : Bor Rr) (algorithm tag : ℕ)
+      → None ≡ get algorithm_tag_cmp m (algorithm, tag) → v.items ≡ r ∷ [] → shown v.items ≡ kept_two (counted_at m algorithm tag) r.now
   unfolding counted_at
-  place_new m v r algorithm tag is one = ap shown one ∙ ap (λ o. kept_two (shown_or_none o) r.now) is
+  tag_new m v r algorithm tag is one = ap shown one ∙ ap (λ o. kept_two (shown_or_none o) r.now) is
 
   pub none_counted : (owner : Labels) (records : List Rr) (m : BTreeMap (ℕ × ℕ) (Vec (Bor Rr) Z)) → m.entries ≡ [] → AreCounted owner (take 0 records) m
   unfolding counted_at
@@ -158,7 +158,7 @@ take_next zero r rest h = refl
 take_next (suc zero) r rest h = refl
 take_next (suc (suc k)) r rest h = absurd (omega arith)
 
--- the record at the place counts and is the one
+-- the record at this number counts and is the one
 pub met_here : (test q : Rr → Bool) (rs : List Rr) (i k : ℕ) (r : Rr) → k < 2 → i < length rs → r ≡ slice_index_or rs i r → q r ≡ true → test r ≡ true
     → find test (take (2 - k) (filter q (drop i rs))) ≡ Some r
 met_here test q rs i k r few h is met passed =
@@ -185,35 +185,35 @@ unmet_past test q rs i k r h is unmet =
 
 -- ---- the DS that matches a key, by the map
 
-unplaced : (rdata : List ℕ) (o : Option DnskeyValue) → place_by rdata o ≡ None → o ≡ None
-unplaced rdata None h = refl
-unplaced rdata (Some text) h = cc
+unread_key : (rdata : List ℕ) (o : Option DnskeyValue) → algorithm_and_tag rdata o ≡ None → o ≡ None
+unread_key rdata None h = refl
+unread_key rdata (Some text) h = cc
 
-pub match_unread : (answers : VerifierAnswers) (owner : Labels) (key : Rr) (records : List Rr) → place_by key.rdata (dnskey_of key) ≡ None
+pub match_unread : (answers : VerifierAnswers) (owner : Labels) (key : Rr) (records : List Rr) → algorithm_and_tag key.rdata (dnskey_of key) ≡ None
     → matching_ds answers owner key records ≡ None
-match_unread answers owner key records none = no_key_matched answers owner key records (unplaced key.rdata (dnskey_of key) none)
+match_unread answers owner key records none = no_key_matched answers owner key records (unread_key key.rdata (dnskey_of key) none)
 
 module _ {Z : Type 0} (answers : VerifierAnswers) (owner : Labels) (key : Rr) (records : List Rr) (m : BTreeMap (ℕ × ℕ) (Vec (Bor Rr) Z)) where
-  match_step : (place : ℕ × ℕ) (o : Option DnskeyValue) → dnskey_of key ≡ o → place_by key.rdata o ≡ Some place → AreCounted owner records m
-      → matching_ds answers owner key records ≡ find (λ r. matches answers owner key.rdata r.rdata) (counted_at m place.0 place.1)
-  match_step place None is at counted = cc
-  match_step place (Some text) is at counted =
+  match_step : (pair : ℕ × ℕ) (o : Option DnskeyValue) → dnskey_of key ≡ o → algorithm_and_tag key.rdata o ≡ Some pair → AreCounted owner records m
+      → matching_ds answers owner key records ≡ find (λ r. matches answers owner key.rdata r.rdata) (counted_at m pair.0 pair.1)
+  match_step pair None is at counted = cc
+  match_step pair (Some text) is at counted =
       let test = λ (r : Rr). matches answers owner key.rdata r.rdata in
-      let same : (text.algorithm, key_tag_of key.rdata) ≡ place = cc in
+      let same : (text.algorithm, key_tag_of key.rdata) ≡ pair = cc in
       ap (find test) (counted_for owner key records text is ∙ sym (counted text.algorithm (key_tag_of key.rdata)))
       ∙ ap (λ (p : ℕ × ℕ). find test (counted_at m p.0 p.1)) same
 
   -- some records are kept for its algorithm and tag
-  pub match_there : (place : ℕ × ℕ) (there : Vec (Bor Rr) Z) → place_by key.rdata (dnskey_of key) ≡ Some place → AreCounted owner records m
-      → Some there ≡ get place_cmp m place
+  pub match_there : (pair : ℕ × ℕ) (there : Vec (Bor Rr) Z) → algorithm_and_tag key.rdata (dnskey_of key) ≡ Some pair → AreCounted owner records m
+      → Some there ≡ get algorithm_tag_cmp m pair
       → find (λ r. matches answers owner key.rdata r.rdata) (shown there.items) ≡ matching_ds answers owner key records
   unfolding counted_at
-  match_there place there at counted is =
-      ap (λ o. find (λ r. matches answers owner key.rdata r.rdata) (shown_or_none o)) is ∙ sym (match_step place (dnskey_of key) refl at counted)
+  match_there pair there at counted is =
+      ap (λ o. find (λ r. matches answers owner key.rdata r.rdata) (shown_or_none o)) is ∙ sym (match_step pair (dnskey_of key) refl at counted)
 
   -- none are
-  pub match_none : (place : ℕ × ℕ) → place_by key.rdata (dnskey_of key) ≡ Some place → AreCounted owner records m
-      → None ≡ get place_cmp m place → matching_ds answers owner key records ≡ None
+  pub match_none : (pair : ℕ × ℕ) → algorithm_and_tag key.rdata (dnskey_of key) ≡ Some pair → AreCounted owner records m
+      → None ≡ get algorithm_tag_cmp m pair → matching_ds answers owner key records ≡ None
   unfolding counted_at
-  match_none place at counted is =
-      match_step place (dnskey_of key) refl at counted ∙ sym (ap (λ o. find (λ r. matches answers owner key.rdata r.rdata) (shown_or_none o)) is)
+  match_none pair at counted is =
+      match_step pair (dnskey_of key) refl at counted ∙ sym (ap (λ o. find (λ r. matches answers owner key.rdata r.rdata) (shown_or_none o)) is)

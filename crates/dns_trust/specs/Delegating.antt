@@ -25,12 +25,12 @@ shown references = map (λ r. r.now) references
 -- ---- for private functions of this crate only
 
 -- an algorithm and a tag, as the key of a map
-abbrev pub place_cmp : ℕ × ℕ → ℕ × ℕ → Ordering
-place_cmp a b = ordering_then (nat_cmp a.0 b.0) (nat_cmp a.1 b.1)
+abbrev pub algorithm_tag_cmp : ℕ × ℕ → ℕ × ℕ → Ordering
+algorithm_tag_cmp a b = ordering_then (nat_cmp a.0 b.0) (nat_cmp a.1 b.1)
 
 -- that of a key's rdata, where it is read
-abbrev pub place_by : List ℕ → Option DnskeyValue → Option (ℕ × ℕ)
-place_by rdata key = option_map (λ text. (text.algorithm, key_tag_of rdata)) key
+abbrev pub algorithm_and_tag : List ℕ → Option DnskeyValue → Option (ℕ × ℕ)
+algorithm_and_tag rdata key = option_map (λ text. (text.algorithm, key_tag_of rdata)) key
 
 abbrev pub shown_or_none : {Z : Type 0} → Option (Vec (Bor Rr) Z) → List Rr
 shown_or_none None = []
@@ -38,7 +38,7 @@ shown_or_none (Some there) = shown there.items
 
 -- the records that a map keeps for an algorithm and a tag
 unfoldable pub counted_at : {Z : Type 0} → BTreeMap (ℕ × ℕ) (Vec (Bor Rr) Z) → ℕ → ℕ → List Rr
-counted_at counted algorithm tag = shown_or_none (get place_cmp counted (algorithm, tag))
+counted_at counted algorithm tag = shown_or_none (get algorithm_tag_cmp counted (algorithm, tag))
 
 -- one record more, where fewer than two are kept
 abbrev pub kept_two : List Rr → Rr → List Rr

@@ -5,7 +5,7 @@ ghost use Rattle.dns_model.specs.Views.{dnskey_in};
 ghost use Rattle.dns_model.specs.RecordViews.{dnskey_of};
 ghost use Rattle.dns_model.specs.Keys.{matches};
 ghost use Rattle.dns_judgement.specs.Delegations.{is_supported_ds as is_supported_record, is_digest_type as is_type_of_digest, is_ds_for as is_record_for, matching_ds as matching_record};
-ghost use Rattle.dns_trust.specs.Delegating.{shown, counted_at, counted_after, place_by, AreCounted, is_delegation_at};
+ghost use Rattle.dns_trust.specs.Delegating.{shown, counted_at, counted_after, algorithm_and_tag, AreCounted, is_delegation_at};
 
 use dns_evidence::Verifier;
 use dns_name::{Name, NoMemory};
@@ -78,10 +78,10 @@ impl<'a> DsIndex<'a> {
     pub fn matching<V: Verifier>(&self, verifier: &V, key: &Record) -> Option<&'a Record>
         ensures { option_copied result ≡ matching_record (V.answers verifier.now) self.now.owner key.now self.now.records }
     {
-        let Some(place) = place_of(key) else {
+        let Some(pair) = algorithm_and_tag_of(key) else {
             return None;
         };
-        let Some(counted) = self.counted.get(&place) else {
+        let Some(counted) = self.counted.get(&pair) else {
             return None;
         };
         first_match(verifier, self.owner, key, counted.as_slice())
@@ -259,7 +259,7 @@ fn is_match<V: Verifier>(verifier: &V, owner: &Name, key: &Record, ds: &Record) 
 pub fn ds_matches<V: Verifier>(verifier: &V, owner: &Name, key: &[u8], ds: &[u8]) -> bool
     ensures { result ≡ matches (V.answers verifier.now) owner.now key.now ds.now }
 {
-    let Some((algorithm, tag)) = place_in(key) else {
+    let Some((algorithm, tag)) = algorithm_and_tag_in(key) else {
         return false;
     };
     let Some(read) = Ds::read(ds) else {
@@ -275,7 +275,7 @@ pub fn ds_matches<V: Verifier>(verifier: &V, owner: &Name, key: &[u8], ds: &[u8]
 fn is_ds_for(owner: &Name, key: &Record, ds: &Record) -> bool
     ensures { result ≡ is_record_for owner.now key.now ds.now }
 {
-    let Some((algorithm, tag)) = place_of(key) else {
+    let Some((algorithm, tag)) = algorithm_and_tag_of(key) else {
         return false;
     };
     let Some(read) = Ds::of(ds) else {
@@ -285,19 +285,19 @@ fn is_ds_for(owner: &Name, key: &Record, ds: &Record) -> bool
 }
 
 // The algorithm and the tag of a key, where it can be read.
-fn place_of(key: &Record) -> Option<(u8, u16)>
-    ensures { result ≡ place_by key.now.rdata (dnskey_of key.now) }
+fn algorithm_and_tag_of(key: &Record) -> Option<(u8, u16)>
+    ensures { result ≡ algorithm_and_tag key.now.rdata (dnskey_of key.now) }
 {
     if key.record_type != RecordType::DNSKEY {
         return None;
     }
-    place_in(key.rdata.as_slice())
+    algorithm_and_tag_in(key.rdata.as_slice())
 }
 
 // The algorithm and the tag that a key's rdata gives.
 #[tactic(auto, unfolding(dns_model::specs::Views::dnskey_in))]
-fn place_in(rdata: &[u8]) -> Option<(u8, u16)>
-    ensures { result ≡ place_by rdata.now (dnskey_in rdata.now) }
+fn algorithm_and_tag_in(rdata: &[u8]) -> Option<(u8, u16)>
+    ensures { result ≡ algorithm_and_tag rdata.now (dnskey_in rdata.now) }
 {
     let dnskey = Dnskey::read(rdata)?;
     let tag = key_tag(rdata)?;
