@@ -3,7 +3,6 @@
 ghost use Rattle.std.specs.Prelude.{◌≡◌, ◌&&◌, ◌==◌, true, IfOk};
 ghost use Rattle.std.specs.Option.{option_map};
 ghost use Rattle.dns_model.specs.Names.{name_eq};
-ghost use Rattle.dns_model.specs.Types.{type_dnskey};
 ghost use Rattle.dns_judgement.specs.Chained.{bare};
 ghost use Rattle.dns_judgement.specs.Derivation.{entries_hold, entry_holds, has_mark_of, is_by_rules, keys_hold, search_from, unsigned_holds, with_entries};
 ghost use Rattle.dns_judgement.specs.DerivationParts.{with_entry};
@@ -21,11 +20,11 @@ use crate::search::search_zone;
 use crate::verdicts::verdicts_by;
 use dns_evidence::{AskRef, JudgedSet, MarkOrigin, Verifier};
 use dns_name::NoMemory;
-use dns_record::{Proof, RecordSet, RecordType};
+use dns_record::{Proof, RecordSet};
 use dns_sets::{ChainedSet, MarkedSet, PlacedSet};
 use dns_trust::{
-    KeysStep, ds_ask_of, first_signatures, is_searched, judged_by, judged_by_ds, judged_keys,
-    set_start, unsigned_by,
+    KeysStep, ds_ask_of, first_signatures, is_key_set, is_searched, judged_by, judged_by_ds,
+    judged_keys, set_start, unsigned_by,
 };
 use std::alloc::Global;
 
@@ -177,13 +176,6 @@ fn judged_by_rules<V: Verifier>(
     } else {
         judged_signed(grounds, placed, entry)
     }
-}
-
-// The set holds a zone's keys.
-fn is_key_set(set: &RecordSet) -> bool
-    ensures { result ≡ (set.now.rtype == type_dnskey) }
-{
-    set.record_type == RecordType::DNSKEY
 }
 
 // A key set, judged by the anchors, and where these don't decide, by the one ask for the DS set of its owner.

@@ -4,29 +4,17 @@ ghost use Rattle.std.specs.Prelude.{◌≡◌, not, IfOk};
 ghost use Rattle.std.specs.Option.{option_map};
 ghost use Rattle.dns_model.specs.Names.{Labels};
 ghost use Rattle.dns_judgement.specs.Derivation.{is_empty, search_by, sight_by as sight_in, sight_of, zone_asked};
-ghost use Rattle.dns_judgement.specs.Unsigned.{has_ns as shows_ns};
+ghost use Rattle.dns_trust.specs.Searching.{sight_value};
 ghost use Rattle.dns_trail.specs.Grounds.{grounds_by};
 ghost use Rattle.dns_trail.specs.Ended.{some_if};
 ghost use Rattle.dns_trail.specs.Trying.{zone_proof};
-ghost use Rattle.dns_trail.specs.Values.{sight_value};
 ghost use Rattle.dns_model.specs.Trails.{Records};
 
 use crate::grounds::{Earlier, Grounds, answer_of, is_ask, is_plain_ask};
 use dns_evidence::{AskRef, Asked, Reply, Told, Verifier};
 use dns_name::{Name, NoMemory};
 use dns_record::{DNSClass, Proof};
-use dns_trust::{ds_query, is_ns_of, ns_query, zone_mark};
-
-// What a plain ask for the NS records of a name comes to.
-#[derive(Clone, Copy)]
-enum Sight {
-    /// They are there.
-    Cut,
-    /// They aren't, so the name above is asked for them.
-    Onward,
-    /// The ask met a fault or was refused.
-    Unseen,
-}
+use dns_trust::{Sight, ds_query, has_ns, ns_query, zone_mark};
 
 /// What the zone of a name leaves to what is unsigned in it, by the asks of the search for it; None where these aren't
 /// the asks that it makes.
@@ -118,20 +106,9 @@ fn sight_at(name: &Name, step: &Asked) -> Sight
 fn sight_told(name: &Name, told: &Told) -> Sight
     ensures { sight_value result ≡ sight_of name.now (Records told.now.0 told.now.1) }
 {
-    if !told.empty && has_ns(name, told) {
+    if !told.empty && has_ns(name, &told.answers, &told.authorities, &told.additionals) {
         Sight::Cut
     } else {
         Sight::Onward
     }
-}
-
-// Some record is an NS record of the name, whatever its section and its class.
-fn has_ns(name: &Name, told: &Told) -> bool
-    ensures { result ≡ shows_ns name.now told.now.0 }
-{
-    told.answers
-        .iter()
-        .chain(told.authorities.iter())
-        .chain(told.additionals.iter())
-        .any(|found| is_ns_of(name, found))
 }

@@ -10,3 +10,4 @@ pub mod Rows
 pub mod Steps
 pub mod KeysMarks
 pub mod Unsigned
+pub mod Searching

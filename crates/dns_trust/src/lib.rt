@@ -26,7 +26,9 @@ pub use good::{is_good_by, signed_data_once};
 pub use judged::judged_by;
 pub use key_sets::{KeysStep, ds_ask_of, judged_by_ds, judged_keys};
 pub use keys::{AnchoredRow, MatchedRow, anchored_row, is_anchor, matched_row};
-pub use searching::{ds_query, is_ns_of, is_searched, ns_query, question_start, set_start};
+pub use searching::{
+    Sight, ds_query, has_ns, is_key_set, is_ns_of, is_searched, ns_query, question_start, set_start,
+};
 pub use signers::{SignedBy, first_signatures};
 pub use unsigned::{shows_unsigned_cut, unsigned_by, zone_mark};
 pub use usable::{KeyFault, is_usable, key_fault};

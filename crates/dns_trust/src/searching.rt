@@ -1,11 +1,31 @@
 //! What the search for the zone of a name asks, where it begins, and what it looks for (RFC 4035, 4.3 and 5.2).
 
-ghost use Rattle.std.specs.Prelude.{◌≡◌, IfOk};
+ghost use Rattle.std.specs.Prelude.{◌≡◌, ◌==◌, ◌++◌, IfOk};
+ghost use Rattle.std.specs.List.{list_any};
+ghost use Rattle.dns_model.specs.Types.{type_dnskey};
 ghost use Rattle.dns_judgement.specs.Delegations.{ds_question};
 ghost use Rattle.dns_judgement.specs.Unsigned.{is_ns_of as is_ns_record, is_searched as needs_search, ns_question, question_start as start_of_question, set_start as start_of_set};
 
 use dns_name::{Name, NoMemory};
 use dns_record::{DNSClass, Query, Record, RecordSet, RecordType};
+
+/// What a plain ask for the NS records of a name comes to.
+#[derive(Clone, Copy)]
+pub enum Sight {
+    /// They are there.
+    Cut,
+    /// They aren't, so the name above is asked for them.
+    Onward,
+    /// The ask met a fault or was refused.
+    Unseen,
+}
+
+/// The set holds a zone's keys.
+pub fn is_key_set(set: &RecordSet) -> bool
+    ensures { result ≡ (set.now.rtype == type_dnskey) }
+{
+    set.record_type == RecordType::DNSKEY
+}
 
 /// No signature covers the set, and it isn't DS, so that its zone decides.
 pub fn is_searched(set: &RecordSet) -> bool
@@ -53,6 +73,22 @@ pub fn is_ns_of(name: &Name, found: &Record) -> bool
     ensures { result ≡ is_ns_record name.now found.now }
 {
     *name == found.name && found.record_type == RecordType::NS
+}
+
+/// Some record of the sections of a reply is an NS record of the name, whatever its section and its class.
+pub fn has_ns(
+    name: &Name,
+    answers: &[Record],
+    authorities: &[Record],
+    additionals: &[Record],
+) -> bool
+    ensures { result ≡ list_any (is_ns_record name.now) (answers.now ++ authorities.now ++ additionals.now) }
+{
+    answers
+        .iter()
+        .chain(authorities.iter())
+        .chain(additionals.iter())
+        .any(|found| is_ns_of(name, found))
 }
 
 /// The question for the DS set of a zone.

@@ -2,9 +2,9 @@ use Rattle.std.proofs.Common.{rules, ◌≡◌, true, false, [], ◌∷◌, leng
 use Rattle.std.specs.Option.{option_map}
 use Rattle.dns_judgement.specs.Derivation.{is_plain_ask, search_by}
 use Rattle.dns_judgement.specs.Unsigned.{ns_question}
+use Rattle.dns_trust.specs.Searching.{sight_value}
 use Rattle.dns_trail.specs.Grounds.{grounds_by}
 use Rattle.dns_trail.specs.Trying.{zone_proof}
-use Rattle.dns_trail.specs.Values.{sight_value}
 use Rattle.dns_trail.proofs.OkLemmas.{named_if, no_more, ok_map}
 use Rattle.dns_trail.proofs.ZoneLemmas.{cut_proof, onward_proof, other_proof, root_proof, unasked_proof, unseen_proof}
 use Rattle.dns_trail.proofs.search.+search_zone.Goals as goal
