@@ -4,6 +4,8 @@ use Rattle.std.specs.List.{list_any, filter, find}
 use Rattle.std.specs.Option.{option_and_then}
 use Rattle.dns_model.specs.Names.{Labels, name_eq, at_or_above}
 use Rattle.dns_model.specs.Types.{type_a, type_ns, type_soa, can_deny, class_in}
+pub use Rattle.dns_model.specs.Types.{type_aaaa, type_any}
+pub use Rattle.dns_model.specs.Sections.{is_empty}
 use Rattle.dns_model.specs.Views.{SoaValue, ns_in, soa_in}
 use Rattle.dns_model.specs.Records.{Rr, Question, MessageValue}
 use Rattle.dns_model.specs.SoundAnswers.{ResponseValue}
@@ -11,19 +13,6 @@ use Rattle.dns_model.specs.RecordViews.{read_as}
 use Rattle.dns_handle.specs.Requests.{first_query}
 use Rattle.dns_handle.specs.NoRecords.{ForwardNsValue, NoRecordsValue}
 use Rattle.dns_handle.specs.Errors.{DnsErrorValue, ResponseCode, NoRecordsFound}
-
--- RFC 3596, 2.1
-abbrev pub type_aaaa : ℕ
-type_aaaa = 28
-
--- RFC 1035, 3.2.3
-abbrev pub type_any : ℕ
-type_any = 255
-
--- there is no record
-abbrev pub is_empty : List Rr → Bool
-is_empty [] = true
-is_empty (r ∷ rs) = false
 
 -- a code by which a server says that it failed or refused: FORMERR, SERVFAIL, NOTIMP to NOTZONE, BADVERS to BADCOOKIE
 abbrev pub is_failure : ℕ → Bool

@@ -1,8 +1,9 @@
 -- What a lookup answers: a sound answer with the trail that led to it (RFC 4035, 4.3 and 5).
-use Rattle.std.specs.Prelude.{ℕ, ◌≡◌, ◌⊎◌, ◌≤◌, Bool, true, List, length, Option, Some, Result, Ok, Err, IfSome, drop}
+use Rattle.std.specs.Prelude.{ℕ, ◌≡◌, ◌≤◌, Bool, true, List, length, Option, Some, Result, Ok, Err, IfSome, drop}
 use Rattle.std.specs.List.{All, count_by}
 use Rattle.dns_model.specs.declared.denial.Denial.TheVariants as denial
 use Rattle.dns_model.specs.Counts.{RoseBy}
+use Rattle.dns_model.specs.Gives.{Unless}
 use Rattle.dns_model.specs.declared.proof.Proof.{Proof}
 use Rattle.dns_model.specs.Keys.{VerifierAnswers}
 use Rattle.dns_model.specs.Records.{Question, MessageValue}
@@ -28,8 +29,7 @@ use Rattle.dns_lookup.specs.declared.handle.DnssecDnsHandle.{DnssecDnsHandle}
 
 -- a fact, unless memory ran out
 abbrev pub UnlessNoMemory : {X : Type 0} → Result X NetError → Type 0 → Type 0
-UnlessNoMemory (Ok x) Fact = Fact
-UnlessNoMemory (Err e) Fact = (e ≡ NoMemory) ⊎ Fact
+UnlessNoMemory result Fact = Unless NoMemory result Fact
 
 -- a fact of what the handle of a validator tells before a call, of its query and of its answer, unless memory ran out
 abbrev pub WhereTold : {H V : Type 0} → handle.Ghosts H → DnssecDnsHandle H V → Question → Result ResponseValue NetError

@@ -1,5 +1,5 @@
 -- What a signature proves of a set by one key (RFC 4035, 5.3).
-use Rattle.std.specs.Prelude.{ℕ, ◌≡◌, ◌⊎◌, Bool, false, not, ◌==◌, ◌&&◌, Option, None, Some, Result, Ok, Err, if◌then◌else◌}
+use Rattle.std.specs.Prelude.{ℕ, Bool, false, not, ◌==◌, ◌&&◌, Option, None, Some, Result, Ok, Err, if◌then◌else◌}
 use Rattle.std.specs.Option.{option_map_or, option_and_then, option_map}
 use Rattle.dns_model.specs.declared.proof.Proof.TheVariants.{Bogus}
 use Rattle.dns_model.specs.Views.{RrsigValue, DnskeyValue, is_zone_key, is_revoked}
@@ -7,6 +7,7 @@ use Rattle.dns_model.specs.Names.{Labels}
 use Rattle.dns_model.specs.Serial.{timely}
 use Rattle.dns_model.specs.Signing.{signed_bytes}
 use Rattle.dns_model.specs.Keys.{VerifierAnswers, usable_key}
+pub use Rattle.dns_model.specs.Gives.{Unless}
 use Rattle.dns_model.specs.Chains.{rdatas_of}
 use Rattle.dns_model.specs.Records.{Rr, RrSet}
 use Rattle.dns_model.specs.RecordViews.{rrsig_of, dnskey_of}
@@ -68,11 +69,6 @@ is_put verifier now set r key =
 -- how often
 abbrev pub calls_by_key : VerifierAnswers → ℕ → RrSet → Rr → Rr → ℕ
 calls_by_key verifier now set r key = if is_put verifier now set r key then 1 else 0
-
--- a fact, unless the result is the error of want of memory
-abbrev pub Unless : {X E : Type 0} → E → Result X E → Type 0 → Type 0
-Unless want (Ok x) Fact = Fact
-Unless want (Err e) Fact = (e ≡ want) ⊎ Fact
 
 -- ---- for private functions of this crate only
 

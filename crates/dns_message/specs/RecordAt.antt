@@ -1,5 +1,6 @@
 -- Records in a message, and the sections that they make up (RFC 1035, 4.1.3; RFC 6891, 6.1).
 use Rattle.std.specs.Prelude.{ℕ, zero, suc, ◌+◌, ◌/◌, ◌%◌, ◌==◌, Bool, true, false, ◌&&◌, List, [], ◌∷◌, Option, None, Some, Result, Ok, Err, if◌then◌else◌}
+pub use Rattle.dns_model.specs.Names.{is_root}
 use Rattle.dns_model.specs.Names.{Labels}
 use Rattle.dns_model.specs.Types.{type_opt}
 use Rattle.dns_model.specs.Records.{Rr, EdnsValue}
@@ -39,10 +40,6 @@ opt_at bytes pos = do
   size ← u16_field bytes ttl.1
   options ← opaque_at bytes size.0 size.1
   Ok (item.Opt (edns_of payload.0 ttl.0 options) (ttl.0 / 16777216), size.1 + size.0)
-
-abbrev pub is_root : Labels → Bool
-is_root [] = true
-is_root (label ∷ name) = false
 
 -- an OPT where one may stand and at the root, or another record
 unfoldable pub item_at : Bool → List ℕ → ℕ → Result (Item × ℕ) DecodeError
