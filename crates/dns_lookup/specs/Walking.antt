@@ -45,8 +45,6 @@ use Rattle.dns_lookup.specs.declared.context.LookupContext.{LookupContext}
 use Rattle.dns_lookup.specs.declared.context.Progress.{Progress}
 use Rattle.dns_lookup.specs.declared.judging.Judgement.{Judgement}
 use Rattle.dns_lookup.specs.declared.judging.Concluded.{Concluded}
-use Rattle.dns_lookup.specs.declared.search.Sight.{Sight}
-use Rattle.dns_lookup.specs.declared.search.Sight.TheVariants.{Cut, Onward, Unseen}
 
 -- ---- one ask
 
@@ -88,12 +86,6 @@ pub record MetFault {H : Type 0} (ask : H → Ask → H → Reply → Type 0) (o
 abbrev pub HasReceived : {H : Type 0} → (H → Ask → H → Reply → Type 0) → H → H → Ask → Option ReceivedMessage → Type 0
 HasReceived ask old new made_for (Some received) = Received ask old new made_for (Ok received)
 HasReceived ask old new made_for None = MetFault ask old new made_for
-
--- a sight, as the definitions have it
-abbrev pub sight_value : Sight → derived.Sight
-sight_value Cut = derived.Cut
-sight_value Onward = derived.Onward
-sight_value Unseen = derived.Unseen
 
 -- ---- asks one after another
 

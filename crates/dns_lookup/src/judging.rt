@@ -7,7 +7,7 @@ ghost use Rattle.dns_lookup.specs.Walking.{asks_in, entry_of};
 use crate::steps::entry_for;
 use dns_handle::{AskRef, JudgedSet};
 use dns_name::NoMemory;
-use dns_record::{DNSClass, Proof, RecordSet, RecordType};
+use dns_record::{DNSClass, Proof, RecordSet};
 use dns_sets::{ChainedSet, MarkedSet, Outcome, PlacedSet};
 use dns_trust::Verdict;
 
@@ -87,7 +87,7 @@ pub(crate) fn class_of(placed: &PlacedSet) -> DNSClass
 pub(crate) fn is_key_set(placed: &PlacedSet) -> bool
     ensures { result ≡ (placed.now.set.rtype == type_dnskey) }
 {
-    placed.set.record_type == RecordType::DNSKEY
+    dns_trust::is_key_set(&placed.set)
 }
 
 /// Adds the ask of a signature, if it made one.

@@ -1,26 +1,24 @@
 //! The plain asks by which the zone of a name is searched: each name from it up to the root is asked for NS records, until one
 //! has them (RFC 4035, 4.3 and 5.2).
 
-ghost use Rattle.std.specs.Prelude.{◌==◌, ◌≡◌, ◌≤◌, ◌∷◌, [], not, IfOk, length};
-ghost use Rattle.std.specs.List.{list_any};
+ghost use Rattle.std.specs.Prelude.{◌≡◌, ◌≤◌, ◌∷◌, [], IfOk, length};
 ghost use Rattle.dns_model.specs.SoundAnswers.{told_by};
 ghost use Rattle.dns_model.specs.Trails.{Records};
 ghost use Rattle.dns_model.specs.Records.{Question};
 ghost use Rattle.dns_judgement.specs.Asking.{most_sends};
 ghost use Rattle.dns_judgement.specs.Derivation.{sight_of};
-ghost use Rattle.dns_judgement.specs.Unsigned.{has_ns as shows_ns};
-ghost use Rattle.dns_lookup.specs.Walking.{grounds_at, sight_value, IsCounted, IsSeen, IsWay, HasSent, Walk};
+ghost use Rattle.dns_trust.specs.Searching.{sight_value};
+ghost use Rattle.dns_lookup.specs.Walking.{grounds_at, IsCounted, IsSeen, IsWay, HasSent, Walk};
 
 use crate::context::{LookupContext, Progress};
 use crate::finished::seen;
 use crate::receiving::{ReceivedMessage, receive};
 use crate::steps::records_of;
 use dns_handle::{AskRef, DnsHandle, Ending, Reply, Verifier};
-use dns_message::Message;
 use dns_name::{Name, NoMemory};
 use dns_record::{DNSClass, Query};
 use dns_trail_order::MOST_SENDS;
-use dns_trust::{is_ns_of, ns_query};
+use dns_trust::{Sight, has_ns, ns_query};
 
 /// Where the plain asks of a search lead.
 #[derive(Drop)]
@@ -28,17 +26,6 @@ pub(crate) struct Way {
     /// The first name that has NS records; none where the search ends without one.
     pub(crate) zone: Option<Name>,
     pub(crate) asked: Vec<AskRef>,
-}
-
-/// What a plain ask for the NS records of a name comes to.
-#[derive(Clone, Copy)]
-pub(crate) enum Sight {
-    /// They are there.
-    Cut,
-    /// They aren't, so the name above is asked for them.
-    Onward,
-    /// The ask met a fault or was refused.
-    Unseen,
 }
 
 // A plain ask, and what it came to.
@@ -137,21 +124,16 @@ fn unseen(ask: AskRef) -> Glimpse
 fn sight_in(name: &Name, received: &ReceivedMessage) -> Sight
     ensures { sight_value result ≡ sight_of name.now (Records (told_by received.now.message) received.now.empty) }
 {
-    if !received.empty && has_ns(name, &received.message) {
+    let message = &received.message;
+    let found = has_ns(
+        name,
+        &message.answers,
+        &message.authorities,
+        &message.additionals,
+    );
+    if !received.empty && found {
         Sight::Cut
     } else {
         Sight::Onward
     }
-}
-
-// Some record of the message is an NS record of the name, whatever its section and its class.
-fn has_ns(name: &Name, message: &Message) -> bool
-    ensures { result ≡ shows_ns name.now (told_by message.now) }
-{
-    message
-        .answers
-        .iter()
-        .chain(message.authorities.iter())
-        .chain(message.additionals.iter())
-        .any(|found| is_ns_of(name, found))
 }

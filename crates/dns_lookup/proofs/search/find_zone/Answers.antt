@@ -1,5 +1,6 @@
 use Rattle.std.proofs.Common.{ap, refl, arith}
-use Rattle.dns_lookup.specs.Walking.{grounds_at, sight_value}
+use Rattle.dns_trust.specs.Searching.{sight_value}
+use Rattle.dns_lookup.specs.Walking.{grounds_at}
 use Rattle.dns_lookup.proofs.AskLemmas.{counted_nowhere, counted_then, asks_none, asks_then}
 use Rattle.dns_lookup.proofs.ZoneLemmas.{climb_begun, climb_on, climb_cut, climb_unseen, climb_root, named_if, root_if}
 use Rattle.dns_lookup.proofs.search.find_zone.Goals as goal

@@ -3,7 +3,7 @@ use Rattle.dns_model.specs.Records.{Question}
 use Rattle.dns_model.specs.SoundAnswers.{told_by}
 use Rattle.dns_model.specs.Trails.{Records}
 use Rattle.dns_judgement.specs.Derivation.{sight_of}
-use Rattle.dns_lookup.specs.Walking.{sight_value}
+use Rattle.dns_trust.specs.Searching.{sight_value}
 use Rattle.dns_lookup.proofs.AskLemmas.{counted_still, asks_many}
 use Rattle.dns_lookup.proofs.AnswerLemmas.{plain_fault_asks, seen_asks, seen_so, unseen_fault}
 use Rattle.dns_lookup.proofs.ReceivedLemmas.{received_some, received_none}
