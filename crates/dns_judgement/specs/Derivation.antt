@@ -12,11 +12,10 @@ use Rattle.dns_model.specs.declared.trail.AskRef.{AskRef}
 use Rattle.dns_model.specs.declared.trail.AskRef.TheVariants.{Step, TooDeep, TooMany}
 use Rattle.dns_model.specs.declared.trail.MarkOrigin.{MarkOrigin}
 use Rattle.dns_model.specs.declared.trail.MarkOrigin.TheVariants.{Table, Repeat, Cache}
-use Rattle.dns_model.specs.Keys.{bytes_eq}
 use Rattle.dns_model.specs.Names.{Labels, name_eq}
 use Rattle.dns_model.specs.Types.{type_dnskey}
 use Rattle.dns_model.specs.Records.{Rr, RrSet, Question, question_eq}
-pub use Rattle.dns_model.specs.Sections.{is_empty}
+pub use Rattle.dns_model.specs.Sections.{is_empty, same_record}
 use Rattle.dns_model.specs.Chains.{Judge}
 use Rattle.dns_model.specs.Trails.{AskedValue, JudgedSetValue, HeardValue, Records, Fault, EndingValue, Answered, Denied, Foreign, Failed, Seen}
 use Rattle.dns_model.specs.SoundAnswers.{Told, Placed, section_eq}
@@ -201,10 +200,6 @@ is_by_rules g placed entry =
     else if is_searched placed.set then unsigned_holds g placed entry
     else option_map_or (λ verdicts. has_mark_of (judged_by placed verdicts) entry)
     (verdicts_by g placed.set (take most_signatures placed.set.signatures) entry.asked) false
-
--- one record but for ttl and mark
-abbrev pub same_record : Rr → Rr → Bool
-same_record a b = name_eq a.owner b.owner && ((a.rtype == b.rtype) && ((a.class == b.class) && bytes_eq a.rdata b.rdata))
 
 -- the entry says of its set what was found of an equal one
 abbrev pub is_repeat : Placed → JudgedSetValue → Judged → Bool

@@ -197,15 +197,5 @@ fn with_soa(authorities: Vec<Record>, soa: Option<Record>) -> Result<Vec<Record>
 fn has_record(records: &[Record], one: &Record) -> bool
     ensures { result ≡ list_any (same_record one.now) records.now }
 {
-    records.iter().any(|other| is_same(one, other))
-}
-
-// One record, whatever the ttls and marks.
-fn is_same(one: &Record, other: &Record) -> bool
-    ensures { result ≡ same_record one.now other.now }
-{
-    one.name == other.name
-        && one.record_type == other.record_type
-        && one.dns_class == other.dns_class
-        && one.rdata.as_slice() == other.rdata.as_slice()
+    records.iter().any(|other| one.is_same(other))
 }

@@ -5,6 +5,7 @@ use Rattle.dns_model.specs.Names.{Labels, name_eq}
 use Rattle.dns_model.specs.Types.{type_rrsig}
 use Rattle.dns_model.specs.Views.{RrsigValue, rrsig_in}
 use Rattle.dns_model.specs.Records.{Rr, RrSet}
+use Rattle.dns_model.specs.Keys.{bytes_eq}
 
 -- nothing stands in a section, or in another list
 abbrev pub is_empty : {X : Type 0} → List X → Bool
@@ -14,6 +15,10 @@ is_empty (x ∷ xs) = false
 -- two records of one owner and type
 abbrev pub same_set : Rr → Rr → Bool
 same_set a b = name_eq a.owner b.owner && (a.rtype == b.rtype)
+
+-- one record but for ttl and mark
+abbrev pub same_record : Rr → Rr → Bool
+same_record a b = name_eq a.owner b.owner && ((a.rtype == b.rtype) && ((a.class == b.class) && bytes_eq a.rdata b.rdata))
 
 abbrev pub is_signature : Rr → Bool
 is_signature r = r.rtype == type_rrsig

@@ -1,4 +1,5 @@
 ghost use Rattle.std.specs.Prelude.{◌≡◌, IfOk};
+ghost use Rattle.dns_model.specs.Sections.{same_record};
 
 use crate::{DNSClass, Rdata, RecordType};
 use dns_model::Proof;
@@ -52,6 +53,16 @@ impl Record {
             rdata,
             proof: self.proof,
         })
+    }
+
+    /// One record with another, whatever their ttls and marks: of one name, type, class and rdata (RFC 2181, 5).
+    pub fn is_same(&self, other: &Record) -> bool
+        ensures { result ≡ same_record self.now other.now }
+    {
+        self.name == other.name
+            && self.record_type == other.record_type
+            && self.dns_class == other.dns_class
+            && self.rdata == other.rdata
     }
 }
 

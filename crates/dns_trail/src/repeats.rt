@@ -112,23 +112,13 @@ fn same_records(mut some: &[Record], mut others: &[Record]) -> bool
         let Some((other, more_others)) = others.split_first() else {
             return false;
         };
-        if !same_record(one, other) {
+        if !one.is_same(other) {
             return false;
         }
         some = more;
         others = more_others;
     }
     others.is_empty()
-}
-
-// One record but for ttl and mark.
-fn same_record(one: &Record, other: &Record) -> bool
-    ensures { result ≡ are_same one.now other.now }
-{
-    one.name == other.name
-        && one.record_type == other.record_type
-        && one.dns_class == other.dns_class
-        && one.rdata == other.rdata
 }
 
 /// Some entry of a trail repeats a set of an earlier step.
