@@ -1,5 +1,6 @@
 -- For private functions of this crate only: where a row of bare pointers, each to the next, ends: a name that stands at its front is the one that stands at its end (RFC 1035, 4.1.4).
-use Rattle.std.specs.Prelude.{◌≡◌, ℕ, ◌<◌, ◌≤◌, List, length, slice_index, nat_lt, if◌then◌else◌}
+use Rattle.std.specs.Prelude.{◌≡◌, ℕ, ◌<◌, ◌≤◌, ◌^◌, List, length, slice_index, nat_lt, if◌then◌else◌}
+use Rattle.dns_message.specs.declared.message_bytes.MessageBytes.{MessageBytes}
 use Rattle.dns_message.specs.NameAt.{ending_at, labels_at}
 
 -- a row of labels that begins at `from` reads as the one that begins at `to`
@@ -10,6 +11,11 @@ pub record IsPointerEnd (bytes : List ℕ) (from to : ℕ) : Type 0 where
 -- a table of them, by the place
 pub record ArePointerEnds (bytes pointer_ends : List ℕ) : Type 0 where
   pub each : (place : ℕ) → place < length pointer_ends → IsPointerEnd bytes place (slice_index pointer_ends place)
+
+-- bytes that are read: a place in them has 32 bits, and beside them stands their table
+pub record IsReadable (message : MessageBytes) : Type 0 where
+  pub short : length message.bytes.now < 2 ^ 32
+  pub pointer_ends : ArePointerEnds message.bytes.now message.pointer_ends.now
 
 -- where a pointer leads by the table, or its target where the table ends before it
 abbrev pub pointer_end_in : List ℕ → ℕ → ℕ

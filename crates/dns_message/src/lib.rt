@@ -6,6 +6,7 @@ mod encode_error;
 mod header_flags;
 mod item;
 mod message;
+mod message_bytes;
 mod message_reader;
 mod message_writer;
 mod name_reader;

@@ -1,12 +1,13 @@
 ghost use Rattle.std.specs.Prelude.{◌≡◌, ◌+◌, ◌<◌, ◌≤◌, ◌^◌, length, IfOk};
 ghost use Rattle.dns_message.specs.Reading.{Reads};
 ghost use Rattle.dns_message.specs.MessageAt.{header_at, question_at, questions_at, message_of, message_at};
-ghost use Rattle.dns_message.specs.Pointers.{ArePointerEnds};
+ghost use Rattle.dns_message.specs.Pointers.{IsReadable};
 ghost use Rattle.dns_message.specs.Fitting.{header_value};
 
 use crate::decode_error::{DecodeError, DecodeKind, fault};
 use crate::header_flags::*;
 use crate::message::{Edns, Message};
+use crate::message_bytes::MessageBytes;
 use crate::name_reader::name_of;
 use crate::number_reader::u16_of;
 use crate::pointers::pointer_ends_of;
@@ -51,21 +52,15 @@ fn header_of(bytes: &[u8]) -> Result<Header, DecodeError>
 
 /// A question and the place after it (RFC 1035, 4.1.2).
 #[tactic(auto, unfolding(crate::specs::MessageAt::question_at))]
-fn question_of(
-    alloc: Global,
-    bytes: &[u8],
-    pointer_ends: &[u16],
-    at: usize,
-) -> Result<(Query, usize), DecodeError>
-    requires pointer_ends { ArePointerEnds bytes.now pointer_ends.now }
-    requires short { length bytes.now < 2 ^ 32 }
-    requires at { at ≤ length bytes.now }
-    ensures reads { Reads (λ x. (x.0, x.1)) result (question_at bytes.now at) }
-    ensures fits { IfOk result (λ x. x.1 ≤ length bytes.now) }
+fn question_of(message: &MessageBytes<'_>, at: usize) -> Result<(Query, usize), DecodeError>
+    requires readable { IsReadable message.now }
+    requires at { at ≤ length message.now.bytes.now }
+    ensures reads { Reads (λ x. (x.0, x.1)) result (question_at message.now.bytes.now at) }
+    ensures fits { IfOk result (λ x. x.1 ≤ length message.now.bytes.now) }
 {
-    let (name, next) = name_of(alloc, bytes, pointer_ends, at)?;
-    let (record_type, next) = u16_of(bytes, next)?;
-    let (class, next) = u16_of(bytes, next)?;
+    let (name, next) = name_of(message, at)?;
+    let (record_type, next) = u16_of(message.bytes, next)?;
+    let (class, next) = u16_of(message.bytes, next)?;
     let query = Query {
         name,
         query_type: RecordType(record_type),
@@ -79,23 +74,20 @@ const SMALLEST_QUESTION: usize = 5;
 
 /// So many questions, and the place after them.
 fn questions_of(
-    alloc: Global,
+    message: &MessageBytes<'_>,
     count: u16,
-    bytes: &[u8],
-    pointer_ends: &[u16],
     at: usize,
 ) -> Result<(Vec<Query>, usize), DecodeError>
-    requires pointer_ends { ArePointerEnds bytes.now pointer_ends.now }
-    requires short { length bytes.now < 2 ^ 32 }
-    requires at { at ≤ length bytes.now }
-    ensures reads { Reads (λ x. (x.0.items, x.1)) result (questions_at count bytes.now at) }
-    ensures fits { IfOk result (λ x. x.1 ≤ length bytes.now) }
+    requires readable { IsReadable message.now }
+    requires at { at ≤ length message.now.bytes.now }
+    ensures reads { Reads (λ x. (x.0.items, x.1)) result (questions_at count message.now.bytes.now at) }
+    ensures fits { IfOk result (λ x. x.1 ≤ length message.now.bytes.now) }
 {
-    let room = usize::from(count).min((bytes.len() - at) / SMALLEST_QUESTION);
-    let mut queries = Vec::with_capacity(alloc, room)?;
+    let room = usize::from(count).min((message.bytes.len() - at) / SMALLEST_QUESTION);
+    let mut queries = Vec::with_capacity(message.alloc, room)?;
     let mut pos = at;
     'questions: for _ in 0..count {
-        let (query, next) = question_of(alloc, bytes, pointer_ends, pos)?;
+        let (query, next) = question_of(message, pos)?;
         queries.push(query)?;
         pos = next;
     }
@@ -149,32 +141,15 @@ impl Message {
     {
         let header = header_of(bytes)?;
         let pointer_ends = pointer_ends_of(alloc, bytes)?;
-        let pointer_ends = pointer_ends.as_slice();
-        let (queries, next) = questions_of(alloc, header.questions, bytes, pointer_ends, HEADER)?;
-        let (answers, _, next) = section_of(
+        let message = MessageBytes {
             alloc,
-            header.answers,
-            false,
             bytes,
-            pointer_ends,
-            next,
-        )?;
-        let (authorities, _, next) = section_of(
-            alloc,
-            header.authorities,
-            false,
-            bytes,
-            pointer_ends,
-            next,
-        )?;
-        let (additionals, opt, next) = section_of(
-            alloc,
-            header.additionals,
-            true,
-            bytes,
-            pointer_ends,
-            next,
-        )?;
+            pointer_ends: pointer_ends.as_slice(),
+        };
+        let (queries, next) = questions_of(&message, header.questions, HEADER)?;
+        let (answers, _, next) = section_of(&message, header.answers, false, next)?;
+        let (authorities, _, next) = section_of(&message, header.authorities, false, next)?;
+        let (additionals, opt, next) = section_of(&message, header.additionals, true, next)?;
         if next < bytes.len() {
             return Err(fault(DecodeKind::Trailing, next));
         }

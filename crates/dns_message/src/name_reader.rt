@@ -2,14 +2,14 @@ ghost use Rattle.std.specs.Prelude.{◌≡◌, ◌+◌, ◌<◌, ◌≤◌, ◌^
 ghost use Rattle.dns_message.specs.Reading.{Reads, FailsWith};
 ghost use Rattle.dns_message.specs.RdataAt.{without_fault};
 ghost use Rattle.dns_message.specs.NameAt.{name_at, spelled_at};
-ghost use Rattle.dns_message.specs.Pointers.{ArePointerEnds};
+ghost use Rattle.dns_message.specs.Pointers.{IsReadable};
 ghost use Rattle.dns_message.specs.Fitting.{IsSpelled, IsAppended, ending_or};
 
 use crate::decode_error::DecodeError;
+use crate::message_bytes::MessageBytes;
 use crate::pointers::pointer_end_in;
 use crate::step::{Step, step_at};
 use dns_name::{Name, NoMemory, Octets};
-use std::alloc::Global;
 
 /// Where a name's bytes end: after its first pointer, or at this place.
 fn ending_or(ending: Option<usize>, place: usize) -> usize
@@ -43,20 +43,20 @@ fn push_row(bytes: &[u8], start: usize, end: usize, into: &mut Vec<u8>) -> Resul
 /// Appends the wire form of the name at a place, spelled out, and answers the place after its bytes. The labels between two
 /// pointers are copied at once. After an `Err`, what was appended means nothing.
 pub(crate) fn push_spelled(
-    bytes: &[u8],
-    pointer_ends: &[u16],
+    message: &MessageBytes<'_>,
     at: usize,
     into: &mut Vec<u8>,
 ) -> Result<usize, DecodeError>
-    requires pointer_ends { ArePointerEnds bytes.now pointer_ends.now }
-    requires short { length bytes.now < 2 ^ 32 }
-    requires at { at ≤ length bytes.now }
-    ensures name { IfOk result (λ next. IsSpelled (name_at bytes.now at) into.old.items into.new.items next) }
+    requires readable { IsReadable message.now }
+    requires at { at ≤ length message.now.bytes.now }
+    ensures name { IfOk result (λ next.
+        IsSpelled (name_at message.now.bytes.now at) into.old.items into.new.items next) }
     ensures field { IfOk result (λ next.
-        IsAppended (without_fault (spelled_at bytes.now at)) into.old.items into.new.items next) }
-    ensures fault { IfErr result (λ e. FailsWith e.kind e.offset (spelled_at bytes.now at)) }
-    ensures fits { IfOk result (λ next. next ≤ length bytes.now) }
+        IsAppended (without_fault (spelled_at message.now.bytes.now at)) into.old.items into.new.items next) }
+    ensures fault { IfErr result (λ e. FailsWith e.kind e.offset (spelled_at message.now.bytes.now at)) }
+    ensures fits { IfOk result (λ next. next ≤ length message.now.bytes.now) }
 {
+    let bytes = message.bytes;
     let mut start = at;
     let mut pos = at;
     let mut size = 0;
@@ -75,7 +75,7 @@ pub(crate) fn push_spelled(
             Step::Pointer(target) => {
                 push_row(bytes, start, pos, into)?;
                 ending = Some(ending_or(ending, pos + 2));
-                start = pointer_end_in(pointer_ends, target);
+                start = pointer_end_in(message.pointer_ends, target);
                 pos = start;
             }
         }
@@ -83,20 +83,14 @@ pub(crate) fn push_spelled(
 }
 
 /// The name at a place, and the place after its bytes.
-pub(crate) fn name_of(
-    alloc: Global,
-    bytes: &[u8],
-    pointer_ends: &[u16],
-    at: usize,
-) -> Result<(Name, usize), DecodeError>
-    requires pointer_ends { ArePointerEnds bytes.now pointer_ends.now }
-    requires short { length bytes.now < 2 ^ 32 }
-    requires at { at ≤ length bytes.now }
-    ensures reads { Reads (λ x. (x.0, x.1)) result (name_at bytes.now at) }
-    ensures fits { IfOk result (λ x. x.1 ≤ length bytes.now) }
+pub(crate) fn name_of(message: &MessageBytes<'_>, at: usize) -> Result<(Name, usize), DecodeError>
+    requires readable { IsReadable message.now }
+    requires at { at ≤ length message.now.bytes.now }
+    ensures reads { Reads (λ x. (x.0, x.1)) result (name_at message.now.bytes.now at) }
+    ensures fits { IfOk result (λ x. x.1 ≤ length message.now.bytes.now) }
 {
-    let mut wire = Vec::new(alloc);
-    let next = push_spelled(bytes, pointer_ends, at, &mut wire)?;
+    let mut wire = Vec::new(message.alloc);
+    let next = push_spelled(message, at, &mut wire)?;
     let name = Name::from_octets(Octets::from_vec(wire));
     Ok((name, next))
 }

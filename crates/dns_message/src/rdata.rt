@@ -2,16 +2,16 @@ ghost use Rattle.std.specs.Prelude.{◌≡◌, ◌+◌, ◌<◌, ◌≤◌, ◌^
 ghost use Rattle.dns_model.specs.Types.{has_shapes};
 ghost use Rattle.dns_message.specs.Reading.{Reads};
 ghost use Rattle.dns_message.specs.RdataAt.{fields_at, shaped_at, opaque_at, rdata_at};
-ghost use Rattle.dns_message.specs.Pointers.{ArePointerEnds};
+ghost use Rattle.dns_message.specs.Pointers.{IsReadable};
 ghost use Rattle.dns_message.specs.Fitting.{items_in};
 ghost use Rattle.dns_rdata.specs.Fields.{field_value};
 
 use crate::decode_error::{DecodeError, DecodeKind, fault};
+use crate::message_bytes::MessageBytes;
 use crate::rdata_reader::push_field;
 use dns_name::{NoMemory, Octets};
 use dns_rdata::{Field, fields_of};
 use dns_record::{DNSClass, Rdata, RecordType};
-use std::alloc::Global;
 
 /// How many bytes to make room for at first, where the rdata has this size: the reader of names makes room for a name alone.
 fn room_of(shape: &[Field], size: usize) -> usize {
@@ -23,23 +23,20 @@ fn room_of(shape: &[Field], size: usize) -> usize {
 
 /// The bytes of the rdata from `at` up to `stop`, names spelled out, or `None` where they aren't exactly these fields.
 fn spelled_fields(
-    alloc: Global,
+    message: &MessageBytes<'_>,
     shape: &[Field],
-    bytes: &[u8],
-    pointer_ends: &[u16],
     at: usize,
     stop: usize,
 ) -> Result<Option<Vec<u8>>, NoMemory>
-    requires pointer_ends { ArePointerEnds bytes.now pointer_ends.now }
-    requires short { length bytes.now < 2 ^ 32 }
-    requires at { at ≤ length bytes.now }
-    requires stop { stop ≤ length bytes.now }
-    ensures { IfOk result (λ o. items_in o ≡ fields_at (map field_value shape.now) bytes.now at stop) }
+    requires readable { IsReadable message.now }
+    requires at { at ≤ length message.now.bytes.now }
+    requires stop { stop ≤ length message.now.bytes.now }
+    ensures { IfOk result (λ o. items_in o ≡ fields_at (map field_value shape.now) message.now.bytes.now at stop) }
 {
-    let mut into = Vec::with_capacity(alloc, room_of(shape, stop.saturating_sub(at)))?;
+    let mut into = Vec::with_capacity(message.alloc, room_of(shape, stop.saturating_sub(at)))?;
     let mut pos = at;
     for field in shape {
-        match push_field(*field, bytes, pointer_ends, pos, stop, &mut into)? {
+        match push_field(message, *field, pos, stop, &mut into)? {
             None => return Ok(None),
             Some(next) => pos = next,
         }
@@ -54,27 +51,17 @@ fn spelled_fields(
 /// The rdata from `at` up to `stop` in the shape of its type, names spelled out, or `None` where it hasn't that shape.
 #[tactic(auto, unfolding(crate::specs::RdataAt::shaped_at))]
 fn shaped_of(
-    alloc: Global,
+    message: &MessageBytes<'_>,
     record_type: u16,
-    bytes: &[u8],
-    pointer_ends: &[u16],
     at: usize,
     stop: usize,
 ) -> Result<Option<Rdata>, NoMemory>
-    requires pointer_ends { ArePointerEnds bytes.now pointer_ends.now }
-    requires short { length bytes.now < 2 ^ 32 }
-    requires at { at ≤ length bytes.now }
-    requires stop { stop ≤ length bytes.now }
-    ensures { IfOk result (λ o. o ≡ shaped_at record_type bytes.now at stop) }
+    requires readable { IsReadable message.now }
+    requires at { at ≤ length message.now.bytes.now }
+    requires stop { stop ≤ length message.now.bytes.now }
+    ensures { IfOk result (λ o. o ≡ shaped_at record_type message.now.bytes.now at stop) }
 {
-    match spelled_fields(
-        alloc,
-        fields_of(RecordType(record_type)),
-        bytes,
-        pointer_ends,
-        at,
-        stop,
-    )? {
+    match spelled_fields(message, fields_of(RecordType(record_type)), at, stop)? {
         None => Ok(None),
         Some(spelled) => {
             if spelled.len() <= Rdata::MAX_LEN {
@@ -96,51 +83,47 @@ fn has_shapes(class: u16) -> bool
 /// So many bytes as they stand.
 #[tactic(auto, unfolding(crate::specs::RdataAt::opaque_at))]
 pub(crate) fn opaque_of(
-    alloc: Global,
-    bytes: &[u8],
+    message: &MessageBytes<'_>,
     size: u16,
     at: usize,
 ) -> Result<Octets, DecodeError>
-    requires short { length bytes.now < 2 ^ 32 }
-    requires at { at ≤ length bytes.now }
-    ensures reads { Reads (λ o. o) result (opaque_at bytes.now size at) }
-    ensures fits { IfOk result (λ o. at + size ≤ length bytes.now) }
+    requires short { length message.now.bytes.now < 2 ^ 32 }
+    requires at { at ≤ length message.now.bytes.now }
+    ensures reads { Reads (λ o. o) result (opaque_at message.now.bytes.now size at) }
+    ensures fits { IfOk result (λ o. at + size ≤ length message.now.bytes.now) }
 {
     let stop = at + usize::from(size);
-    if bytes.len() < stop {
+    if message.bytes.len() < stop {
         return Err(fault(DecodeKind::Short, at));
     }
-    Ok(Octets::from_slice(alloc, &bytes[at..stop])?)
+    Ok(Octets::from_slice(message.alloc, &message.bytes[at..stop])?)
 }
 
 /// The rdata of so many bytes at a place, by its type and class.
 #[tactic(auto, unfolding(crate::specs::RdataAt::rdata_at))]
 pub(crate) fn rdata_of(
-    alloc: Global,
+    message: &MessageBytes<'_>,
     record_type: u16,
     class: u16,
-    bytes: &[u8],
-    pointer_ends: &[u16],
     size: u16,
     at: usize,
 ) -> Result<Rdata, DecodeError>
-    requires pointer_ends { ArePointerEnds bytes.now pointer_ends.now }
-    requires short { length bytes.now < 2 ^ 32 }
-    requires at { at ≤ length bytes.now }
-    ensures reads { Reads (λ r. r) result (rdata_at record_type class bytes.now size at) }
-    ensures fits { IfOk result (λ r. at + size ≤ length bytes.now) }
+    requires readable { IsReadable message.now }
+    requires at { at ≤ length message.now.bytes.now }
+    ensures reads { Reads (λ r. r) result (rdata_at record_type class message.now.bytes.now size at) }
+    ensures fits { IfOk result (λ r. at + size ≤ length message.now.bytes.now) }
 {
     let stop = at + usize::from(size);
-    if bytes.len() < stop {
+    if message.bytes.len() < stop {
         return Err(fault(DecodeKind::Short, at));
     }
     if size == 0 {
-        return Ok(Rdata::from_octets(Octets::from_vec(Vec::new(alloc))));
+        return Ok(Rdata::from_octets(Octets::from_vec(Vec::new(message.alloc))));
     }
     if !has_shapes(class) {
-        return Ok(Rdata::from_slice(alloc, &bytes[at..stop])?);
+        return Ok(Rdata::from_slice(message.alloc, &message.bytes[at..stop])?);
     }
-    match shaped_of(alloc, record_type, bytes, pointer_ends, at, stop)? {
+    match shaped_of(message, record_type, at, stop)? {
         Some(rdata) => Ok(rdata),
         None => Err(fault(DecodeKind::BadRdata, at)),
     }

@@ -1,11 +1,12 @@
 ghost use Rattle.std.specs.Prelude.{◌≡◌, ◌+◌, ◌<◌, ◌≤◌, ◌^◌, length, IfOk, IfSome};
 ghost use Rattle.dns_message.specs.NameAt.{spelled_at};
 ghost use Rattle.dns_message.specs.RdataAt.{octets_at, counted_at, rest_at, bitmap_at, without_fault, field_at};
-ghost use Rattle.dns_message.specs.Pointers.{ArePointerEnds};
+ghost use Rattle.dns_message.specs.Pointers.{IsReadable};
 ghost use Rattle.dns_message.specs.Fitting.{FieldRead};
 ghost use Rattle.dns_rdata.specs.Fields.{field_value};
 
 use crate::decode_error::DecodeKind;
+use crate::message_bytes::MessageBytes;
 use crate::name_reader::push_spelled;
 use dns_name::NoMemory;
 use dns_rdata::{Field, is_bitmap};
@@ -38,24 +39,23 @@ fn push_octets(
 /// or `None` where the field doesn't stand there.
 #[tactic(auto, unfolding(crate::specs::RdataAt::field_at))]
 pub(crate) fn push_field(
+    message: &MessageBytes<'_>,
     field: Field,
-    bytes: &[u8],
-    pointer_ends: &[u16],
     pos: usize,
     stop: usize,
     into: &mut Vec<u8>,
 ) -> Result<Option<usize>, NoMemory>
-    requires pointer_ends { ArePointerEnds bytes.now pointer_ends.now }
-    requires short { length bytes.now < 2 ^ 32 }
-    requires stop { stop ≤ length bytes.now }
-    requires pos { pos ≤ length bytes.now }
+    requires readable { IsReadable message.now }
+    requires stop { stop ≤ length message.now.bytes.now }
+    requires pos { pos ≤ length message.now.bytes.now }
     ensures reads { IfOk result (λ next.
-        FieldRead (field_at (field_value field) bytes.now pos stop) into.old.items into.new.items next) }
-    ensures fits { IfOk result (λ next. IfSome next (λ n. n ≤ length bytes.now)) }
+        FieldRead (field_at (field_value field) message.now.bytes.now pos stop) into.old.items into.new.items next) }
+    ensures fits { IfOk result (λ next. IfSome next (λ n. n ≤ length message.now.bytes.now)) }
 {
+    let bytes = message.bytes;
     match field {
         Field::Octets(size) => push_octets(bytes, usize::from(size), pos, stop, into),
-        Field::DomainName => push_name(bytes, pointer_ends, pos, into),
+        Field::DomainName => push_name(message, pos, into),
         Field::CharacterString => push_counted(bytes, pos, stop, into),
         Field::TypeBitmap => push_bitmap(bytes, pos, stop, into),
         Field::Remainder => push_rest(bytes, pos, stop, into),
@@ -63,19 +63,17 @@ pub(crate) fn push_field(
 }
 
 fn push_name(
-    bytes: &[u8],
-    pointer_ends: &[u16],
+    message: &MessageBytes<'_>,
     pos: usize,
     into: &mut Vec<u8>,
 ) -> Result<Option<usize>, NoMemory>
-    requires pointer_ends { ArePointerEnds bytes.now pointer_ends.now }
-    requires short { length bytes.now < 2 ^ 32 }
-    requires pos { pos ≤ length bytes.now }
+    requires readable { IsReadable message.now }
+    requires pos { pos ≤ length message.now.bytes.now }
     ensures reads { IfOk result (λ next.
-        FieldRead (without_fault (spelled_at bytes.now pos)) into.old.items into.new.items next) }
-    ensures fits { IfOk result (λ next. IfSome next (λ n. n ≤ length bytes.now)) }
+        FieldRead (without_fault (spelled_at message.now.bytes.now pos)) into.old.items into.new.items next) }
+    ensures fits { IfOk result (λ next. IfSome next (λ n. n ≤ length message.now.bytes.now)) }
 {
-    match push_spelled(bytes, pointer_ends, pos, into) {
+    match push_spelled(message, pos, into) {
         Ok(next) => Ok(Some(next)),
         Err(error) => {
             if error.kind == DecodeKind::NoMemory {

@@ -1,39 +1,36 @@
 ghost use Rattle.std.specs.Prelude.{◌≡◌, ◌+◌, ◌<◌, ◌≤◌, ◌^◌, length, IfOk};
 ghost use Rattle.dns_message.specs.Reading.{Reads};
-ghost use Rattle.dns_message.specs.Pointers.{ArePointerEnds};
+ghost use Rattle.dns_message.specs.Pointers.{IsReadable};
 ghost use Rattle.dns_message.specs.RecordAt.{record_at, opt_at, item_at, edns_of, is_root};
 
 use crate::decode_error::{DecodeError, DecodeKind, fault};
 use crate::header_flags::{DNSSEC_OK, EDNS_VERSION, EXTENDED_CODE};
 use crate::item::Item;
 use crate::message::Edns;
+use crate::message_bytes::MessageBytes;
 use crate::name_reader::name_of;
 use crate::number_reader::{u16_of, u32_of};
 use crate::rdata::{opaque_of, rdata_of};
 use dns_name::{Name, Octets};
 use dns_record::{DNSClass, Proof, Record, RecordType};
-use std::alloc::Global;
 
 /// A record from its class on, and the place after it.
 #[tactic(auto, unfolding(crate::specs::RecordAt::record_at))]
 fn record_of(
-    alloc: Global,
+    message: &MessageBytes<'_>,
     owner: Name,
     record_type: u16,
-    bytes: &[u8],
-    pointer_ends: &[u16],
     at: usize,
 ) -> Result<(Item, usize), DecodeError>
-    requires pointer_ends { ArePointerEnds bytes.now pointer_ends.now }
-    requires short { length bytes.now < 2 ^ 32 }
-    requires at { at ≤ length bytes.now }
-    ensures reads { Reads (λ x. (x.0, x.1)) result (record_at owner record_type bytes.now at) }
-    ensures fits { IfOk result (λ x. x.1 ≤ length bytes.now) }
+    requires readable { IsReadable message.now }
+    requires at { at ≤ length message.now.bytes.now }
+    ensures reads { Reads (λ x. (x.0, x.1)) result (record_at owner record_type message.now.bytes.now at) }
+    ensures fits { IfOk result (λ x. x.1 ≤ length message.now.bytes.now) }
 {
-    let (class, next) = u16_of(bytes, at)?;
-    let (ttl, next) = u32_of(bytes, next)?;
-    let (size, next) = u16_of(bytes, next)?;
-    let rdata = rdata_of(alloc, record_type, class, bytes, pointer_ends, size, next)?;
+    let (class, next) = u16_of(message.bytes, at)?;
+    let (ttl, next) = u32_of(message.bytes, next)?;
+    let (size, next) = u16_of(message.bytes, next)?;
+    let rdata = rdata_of(message, record_type, class, size, next)?;
     let record = Record {
         name: owner,
         record_type: RecordType(record_type),
@@ -60,16 +57,16 @@ fn edns_of(payload: u16, ttl: u32, options: Octets) -> Edns
 
 /// An OPT from its class on, and the place after it.
 #[tactic(auto, unfolding(crate::specs::RecordAt::opt_at))]
-fn opt_of(alloc: Global, bytes: &[u8], at: usize) -> Result<(Item, usize), DecodeError>
-    requires short { length bytes.now < 2 ^ 32 }
-    requires at { at ≤ length bytes.now }
-    ensures reads { Reads (λ x. (x.0, x.1)) result (opt_at bytes.now at) }
-    ensures fits { IfOk result (λ x. x.1 ≤ length bytes.now) }
+fn opt_of(message: &MessageBytes<'_>, at: usize) -> Result<(Item, usize), DecodeError>
+    requires short { length message.now.bytes.now < 2 ^ 32 }
+    requires at { at ≤ length message.now.bytes.now }
+    ensures reads { Reads (λ x. (x.0, x.1)) result (opt_at message.now.bytes.now at) }
+    ensures fits { IfOk result (λ x. x.1 ≤ length message.now.bytes.now) }
 {
-    let (payload, next) = u16_of(bytes, at)?;
-    let (ttl, next) = u32_of(bytes, next)?;
-    let (size, next) = u16_of(bytes, next)?;
-    let options = opaque_of(alloc, bytes, size, next)?;
+    let (payload, next) = u16_of(message.bytes, at)?;
+    let (ttl, next) = u32_of(message.bytes, next)?;
+    let (size, next) = u16_of(message.bytes, next)?;
+    let options = opaque_of(message, size, next)?;
     let edns = edns_of(payload, ttl, options);
     Ok((
         Item::Opt(edns, (ttl / EXTENDED_CODE) as u8),
@@ -80,25 +77,22 @@ fn opt_of(alloc: Global, bytes: &[u8], at: usize) -> Result<(Item, usize), Decod
 /// A record of a section and the place after it. An OPT is taken where one may stand, and at the root.
 #[tactic(auto, unfolding(crate::specs::RecordAt::item_at))]
 pub(crate) fn item_of(
-    alloc: Global,
+    message: &MessageBytes<'_>,
     allow_opt: bool,
-    bytes: &[u8],
-    pointer_ends: &[u16],
     at: usize,
 ) -> Result<(Item, usize), DecodeError>
-    requires pointer_ends { ArePointerEnds bytes.now pointer_ends.now }
-    requires short { length bytes.now < 2 ^ 32 }
-    requires at { at ≤ length bytes.now }
-    ensures reads { Reads (λ x. (x.0, x.1)) result (item_at allow_opt bytes.now at) }
-    ensures fits { IfOk result (λ x. x.1 ≤ length bytes.now) }
+    requires readable { IsReadable message.now }
+    requires at { at ≤ length message.now.bytes.now }
+    ensures reads { Reads (λ x. (x.0, x.1)) result (item_at allow_opt message.now.bytes.now at) }
+    ensures fits { IfOk result (λ x. x.1 ≤ length message.now.bytes.now) }
 {
-    let (owner, next) = name_of(alloc, bytes, pointer_ends, at)?;
-    let (record_type, next) = u16_of(bytes, next)?;
+    let (owner, next) = name_of(message, at)?;
+    let (record_type, next) = u16_of(message.bytes, next)?;
     if record_type != RecordType::OPT.0 {
-        return record_of(alloc, owner, record_type, bytes, pointer_ends, next);
+        return record_of(message, owner, record_type, next);
     }
     if allow_opt && stands_at_root(&owner) {
-        return opt_of(alloc, bytes, next);
+        return opt_of(message, next);
     }
     Err(fault(DecodeKind::BadOpt, at))
 }

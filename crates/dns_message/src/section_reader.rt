@@ -1,14 +1,14 @@
 ghost use Rattle.std.specs.Prelude.{◌≡◌, ◌+◌, ◌<◌, ◌≤◌, ◌^◌, length, IfOk};
 ghost use Rattle.dns_message.specs.Reading.{Reads};
-ghost use Rattle.dns_message.specs.Pointers.{ArePointerEnds};
+ghost use Rattle.dns_message.specs.Pointers.{IsReadable};
 ghost use Rattle.dns_message.specs.RecordAt.{section_at};
 
 use crate::decode_error::DecodeError;
 use crate::item::Item;
 use crate::message::Edns;
+use crate::message_bytes::MessageBytes;
 use crate::record_reader::item_of;
 use dns_record::Record;
-use std::alloc::Global;
 
 /// A record at the root without rdata (RFC 1035, 4.1.3), so that a count alone takes no memory.
 const SMALLEST_RECORD: usize = 11;
@@ -16,26 +16,23 @@ const SMALLEST_RECORD: usize = 11;
 /// So many records of a section, its OPT with the upper bits of the code, and the place after the section. An OPT is taken
 /// where `allow_opt` is set, and once.
 pub(crate) fn section_of(
-    alloc: Global,
+    message: &MessageBytes<'_>,
     count: u16,
     allow_opt: bool,
-    bytes: &[u8],
-    pointer_ends: &[u16],
     at: usize,
 ) -> Result<(Vec<Record>, Option<(Edns, u8)>, usize), DecodeError>
-    requires pointer_ends { ArePointerEnds bytes.now pointer_ends.now }
-    requires short { length bytes.now < 2 ^ 32 }
-    requires at { at ≤ length bytes.now }
-    ensures reads { Reads (λ x. (x.0.items, x.1, x.2)) result (section_at count allow_opt bytes.now at) }
-    ensures fits { IfOk result (λ x. x.2 ≤ length bytes.now) }
+    requires readable { IsReadable message.now }
+    requires at { at ≤ length message.now.bytes.now }
+    ensures reads { Reads (λ x. (x.0.items, x.1, x.2)) result (section_at count allow_opt message.now.bytes.now at) }
+    ensures fits { IfOk result (λ x. x.2 ≤ length message.now.bytes.now) }
 {
-    let room = usize::from(count).min((bytes.len() - at) / SMALLEST_RECORD);
-    let mut records = Vec::with_capacity(alloc, room)?;
+    let room = usize::from(count).min((message.bytes.len() - at) / SMALLEST_RECORD);
+    let mut records = Vec::with_capacity(message.alloc, room)?;
     let mut opt = None;
     let mut allowed = allow_opt;
     let mut pos = at;
     'records: for _ in 0..count {
-        let (item, next) = item_of(alloc, allowed, bytes, pointer_ends, pos)?;
+        let (item, next) = item_of(message, allowed, pos)?;
         pos = next;
         match item {
             Item::Kept(record) => records.push(record)?,

@@ -5,6 +5,6 @@ use Rattle.dns_message.proofs.rdata.spelled_fields.Given as goal
 
 abbrev pub invariant-loop-field : goal.invariant-loop-field
 invariant-loop-field l = record {
-  so_far : with_bytes l.into.items (fields_at (map field_value (drop l.field-index l.shape)) l.bytes l.pos l.stop) ≡ fields_at (map field_value l.shape) l.bytes l.at l.stop;
-  fits : l.pos ≤ length l.bytes;
+  so_far : with_bytes l.into.items (fields_at (map field_value (drop l.field-index l.shape)) l.message.bytes.now l.pos l.stop) ≡ fields_at (map field_value l.shape) l.message.bytes.now l.at l.stop;
+  fits : l.pos ≤ length l.message.bytes.now;
 }

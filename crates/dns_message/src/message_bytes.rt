@@ -1,0 +1,11 @@
+use std::alloc::Global;
+
+/// The bytes of a message that is read, with what each reader of a part of it is given beside the place.
+#[derive(Drop)]
+pub(crate) struct MessageBytes<'a> {
+    /// Where the memory of what is read comes from.
+    pub(crate) alloc: Global,
+    pub(crate) bytes: &'a [u8],
+    /// For each place that a pointer can name, where the row of bare pointers there ends.
+    pub(crate) pointer_ends: &'a [u16],
+}
