@@ -2,8 +2,12 @@
 use Rattle.std.specs.Prelude.{◌≡◌, ℕ, ◌+◌, ◌<◌, ◌≤◌, true, ◌++◌, List, Option, None, Some, Result, Ok}
 use Rattle.std.specs.Global.{Vec}
 use Rattle.dns_model.specs.Names.{Labels, wire, is_name}
+use Rattle.dns_model.specs.declared.proof.Proof.TheVariants.{Indeterminate}
 use Rattle.dns_message.specs.declared.decode_error.DecodeError.{DecodeError}
+use Rattle.dns_message.specs.declared.item.Item.{Item}
+use Rattle.dns_message.specs.declared.item.Item.TheVariants.{Kept}
 use Rattle.dns_message.specs.declared.message_reader.Header.{Header}
+use Rattle.dns_message.specs.declared.record_reader.RecordFields.{RecordFields}
 use Rattle.dns_message.specs.MessageAt.{HeaderValue}
 use Rattle.dns_message.specs.declared.step.Step.{Step}
 use Rattle.dns_message.specs.declared.step.Step.TheVariants as step
@@ -45,3 +49,7 @@ items_in (Some v) = Some v.items
 -- the header of the code as one of the definitions
 abbrev pub header_value : Header → HeaderValue
 header_value h = record { id = h.id; flags = h.flags; questions = h.questions; answers = h.answers; authorities = h.authorities; additionals = h.additionals }
+
+-- the record of an owner and a type with these fields
+abbrev pub kept_of : Labels → ℕ → RecordFields → Item
+kept_of owner rtype fields = Kept (record { owner = owner; rtype = rtype; class = fields.class; ttl = fields.ttl; rdata = fields.rdata; proof = Indeterminate })

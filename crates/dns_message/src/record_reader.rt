@@ -1,6 +1,8 @@
 ghost use Rattle.std.specs.Prelude.{◌≡◌, ◌+◌, ◌<◌, ◌≤◌, ◌^◌, length, IfOk};
 ghost use Rattle.dns_message.specs.Reading.{Reads};
 ghost use Rattle.dns_message.specs.Pointers.{IsReadable};
+ghost use Rattle.dns_model.specs.Names.{Labels};
+ghost use Rattle.dns_message.specs.Fitting.{kept_of};
 ghost use Rattle.dns_message.specs.RecordAt.{record_at, opt_at, item_at, edns_of, is_root};
 
 use crate::decode_error::{DecodeError, DecodeKind, fault};
@@ -12,34 +14,48 @@ use crate::name_reader::name_of;
 use crate::number_reader::{u16_of, u32_of};
 use crate::rdata::{opaque_of, rdata_of};
 use dns_name::{Name, Octets};
-use dns_record::{DNSClass, Proof, Record, RecordType};
+use dns_record::{DNSClass, Proof, Rdata, Record, RecordType};
 
-/// A record from its class on, and the place after it.
+/// What stands in a record after its owner and type.
+#[derive(Drop)]
+pub(crate) struct RecordFields {
+    class: u16,
+    ttl: u32,
+    rdata: Rdata,
+}
+
+/// A record from its class on, and the place after it. Its owner is added last, since it is dear to let go on each way out.
 #[tactic(auto, unfolding(crate::specs::RecordAt::record_at))]
-fn record_of(
+fn record_fields_of(
     message: &MessageBytes<'_>,
-    owner: Name,
     record_type: u16,
     at: usize,
-) -> Result<(Item, usize), DecodeError>
+) -> Result<(RecordFields, usize), DecodeError>
     requires readable { IsReadable message.now }
     requires at { at ≤ length message.now.bytes.now }
-    ensures reads { Reads (λ x. (x.0, x.1)) result (record_at owner record_type message.now.bytes.now at) }
+    ensures reads { (owner : Labels) → Reads (λ x. (kept_of owner record_type x.0, x.1)) result
+        (record_at owner record_type message.now.bytes.now at) }
     ensures fits { IfOk result (λ x. x.1 ≤ length message.now.bytes.now) }
 {
     let (class, next) = u16_of(message.bytes, at)?;
     let (ttl, next) = u32_of(message.bytes, next)?;
     let (size, next) = u16_of(message.bytes, next)?;
     let rdata = rdata_of(message, record_type, class, size, next)?;
-    let record = Record {
+    Ok((RecordFields { class, ttl, rdata }, next + usize::from(size)))
+}
+
+/// The record of an owner and a type with these fields.
+fn kept_of(owner: Name, record_type: u16, fields: RecordFields) -> Item
+    ensures { result ≡ kept_of owner record_type fields }
+{
+    Item::Kept(Record {
         name: owner,
         record_type: RecordType(record_type),
-        dns_class: DNSClass(class),
-        ttl,
-        rdata,
+        dns_class: DNSClass(fields.class),
+        ttl: fields.ttl,
+        rdata: fields.rdata,
         proof: Proof::Indeterminate,
-    };
-    Ok((Item::Kept(record), next + usize::from(size)))
+    })
 }
 
 /// What an OPT's class, ttl and rdata say (RFC 6891, 6.1.2 and 6.1.3).
@@ -88,13 +104,16 @@ pub(crate) fn item_of(
 {
     let (owner, next) = name_of(message, at)?;
     let (record_type, next) = u16_of(message.bytes, next)?;
-    if record_type != RecordType::OPT.0 {
-        return record_of(message, owner, record_type, next);
+    if record_type == RecordType::OPT.0 {
+        let at_root = stands_at_root(&owner);
+        drop(owner);
+        if allow_opt && at_root {
+            return opt_of(message, next);
+        }
+        return Err(fault(DecodeKind::BadOpt, at));
     }
-    if allow_opt && stands_at_root(&owner) {
-        return opt_of(message, next);
-    }
-    Err(fault(DecodeKind::BadOpt, at))
+    let (fields, next) = record_fields_of(message, record_type, next)?;
+    Ok((kept_of(owner, record_type, fields), next))
 }
 
 fn stands_at_root(owner: &Name) -> bool
