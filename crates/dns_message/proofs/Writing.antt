@@ -1,8 +1,10 @@
--- How long a message is that is written.
-use Rattle.std.proofs.Common.{◌≡◌, ℕ, ◌+◌, ◌≤◌, ◌<◌, Bool, true, false, ◌||◌, List, [], ◌∷◌, ◌++◌, length, Option, None, Some, Err, refl, ap, arith, length-append}
+-- How long a message is that is written, and its sections piece by piece.
+use Rattle.std.proofs.Common.{◌≡◌, ℕ, ◌+◌, ◌≤◌, ◌<◌, Bool, true, false, ◌||◌, List, [], ◌∷◌, ◌++◌, length, Option, None, Some, Err, refl, sym, ap, ◌∙◌, take, get_or, append_assoc, arith, length-append}
 use Rattle.std.specs.Prelude.{nat_le, nat_lt}
 use Rattle.std.specs.List.{flat_map}
 use Rattle.std.proofs.lemmas.Bool.Decides.{nat_tests}
+use Rattle.std.proofs.lemmas.Grind.{flat_map-append}
+use Rattle.std.proofs.lemmas.List.{append-nil, take_all, take_more}
 use Rattle.std.proofs.lemmas.List.Concat.{flat_map-cons}
 use Rattle.dns_model.specs.Names.{wire}
 use Rattle.dns_model.specs.Bytes.{u16_bytes, u32_bytes}
@@ -10,6 +12,19 @@ use Rattle.dns_model.specs.Records.{Rr, Question, EdnsValue, MessageValue}
 use Rattle.dns_model.proofs.WireLemmas.{length-wire}
 use Rattle.dns_message.specs.declared.encode_error.EncodeError.TheVariants.{TooLong}
 use Rattle.dns_message.specs.WrittenAs.{question_bytes, record_bytes, edns_bytes, edns_count, has_long_options, has_many, written, encoded, opt_ttl}
+
+-- a piece more
+pub pieces_more : {X : Type 0} (f : X → List ℕ) (xs : List X) (i : ℕ) (x : X) (front all more : List ℕ) → i < length xs → x ≡ get_or xs i x
+    → all ≡ front ++ flat_map f (take i xs) → more ≡ all ++ f x → more ≡ front ++ flat_map f (take (i + 1) xs)
+pieces_more f xs i x front all more lt item before grown =
+    let one : flat_map f (get_or xs i x ∷ []) ≡ f x = flat_map-cons f (get_or xs i x) [] ∙ append-nil (f (get_or xs i x)) ∙ ap f (sym item) in
+    let last : flat_map f (take (i + 1) xs) ≡ flat_map f (take i xs) ++ f x =
+    ap (flat_map f) (take_more xs i x lt) ∙ flat_map-append f (take i xs) (get_or xs i x ∷ []) ∙ ap (λ (l : List ℕ). flat_map f (take i xs) ++ l) one in
+    grown ∙ ap (λ (l : List ℕ). l ++ f x) before ∙ append_assoc front (flat_map f (take i xs)) (f x) ∙ ap (λ (l : List ℕ). front ++ l) (sym last)
+
+-- no piece is left
+pub pieces_all : {X : Type 0} (f : X → List ℕ) (xs : List X) (i : ℕ) (front all : List ℕ) → length xs ≤ i → all ≡ front ++ flat_map f (take i xs) → all ≡ front ++ flat_map f xs
+pieces_all {X} f xs i front all past so_far = so_far ∙ ap (λ (l : List X). front ++ flat_map f l) (take_all i xs past)
 
 -- no piece is empty
 pub long_enough : {X : Type 0} (f : X → List ℕ) → ((x : X) → 0 < length (f x)) → (xs : List X) → length xs ≤ length (flat_map f xs)

@@ -1,6 +1,6 @@
-use Rattle.std.proofs.Common.{◌≡◌, Bool, true, false, cond, None, Some, ap, sym, ◌∙◌, arith}
+use Rattle.std.proofs.Common.{◌≡◌, Bool, true, false, cond, None, Some, ap, sym, ◌∙◌}
 use Rattle.std.specs.Prelude.{◌==◌}
-use Rattle.std.proofs.lemmas.Bool.Decides.{nat_tests}
+use Rattle.std.proofs.lemmas.Bool.{eq-eqb, ne_eqb}
 use Rattle.dns_message.proofs.RdataReading.{next_field, fields_more, fields_none, fields_done}
 use Rattle.dns_message.proofs.rdata.spelled_fields.Goals as goal
 
@@ -20,11 +20,11 @@ loop-field-preserved c =
 pub returns-then-pos-stop : goal.returns-then-pos-stop
 returns-then-pos-stop c =
     let done = fields_done c.args.shape.now c.loop-field.field-index c.args.message.now.bytes.now c.loop-field.into.items c.loop-field.pos c.args.stop _ c.loop-field-test.false c.loop-field.invariant.so_far in
-    let same : (c.loop-field.pos == c.args.stop) ≡ true = grind (arith, nat_tests, c.if-pos-stop.true) in
+    let same : (c.loop-field.pos == c.args.stop) ≡ true = eq-eqb c.loop-field.pos c.args.stop c.if-pos-stop.true in
     ap (λ (b : Bool). cond b (Some c.loop-field.into.items) None) (sym same) ∙ done
 
 pub returns-else-pos-stop : goal.returns-else-pos-stop
 returns-else-pos-stop c =
     let done = fields_done c.args.shape.now c.loop-field.field-index c.args.message.now.bytes.now c.loop-field.into.items c.loop-field.pos c.args.stop _ c.loop-field-test.false c.loop-field.invariant.so_far in
-    let other : (c.loop-field.pos == c.args.stop) ≡ false = grind (arith, nat_tests, c.if-pos-stop.false) in
+    let other : (c.loop-field.pos == c.args.stop) ≡ false = ne_eqb c.loop-field.pos c.args.stop c.if-pos-stop.false in
     ap (λ (b : Bool). cond b (Some c.loop-field.into.items) None) (sym other) ∙ done
