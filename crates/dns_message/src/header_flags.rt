@@ -25,7 +25,7 @@ pub(crate) const AUTHENTIC_DATA: u16 = 0x0020;
 /// CD: the sender wants data that isn't checked.
 pub(crate) const CHECKING_DISABLED: u16 = 0x0010;
 
-/// The lowest of the upper eight bits of the response code, in an OPT's ttl.
+/// The lowest of the upper eight bits of the extended response code, in an OPT's ttl.
 pub(crate) const EXTENDED_CODE: u32 = 0x0100_0000;
 
 /// The lowest of the eight bits of an OPT's version.

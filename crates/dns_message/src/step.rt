@@ -10,7 +10,7 @@ use dns_rdata::u16_at;
 /// The most bytes of a label (RFC 1035, 2.3.4).
 const MOST_LABEL: u8 = Name::MAX_LABEL_LEN as u8;
 
-/// The two upper bits of a pointer's first byte are set (RFC 1035, 4.1.4).
+/// The two upper bits of a compression pointer's first byte are set (RFC 1035, 4.1.4).
 pub(crate) const POINTER: u8 = 0xc0;
 
 /// How many places a pointer's other 14 bits can name.
