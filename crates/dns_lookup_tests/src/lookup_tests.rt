@@ -42,14 +42,14 @@ impl DnsHandle for Keeping {
         request: DnsRequest,
         now: u64,
     ) -> Result<DnsResponse, NetError> {
-        keep(alloc, &mut self.kept, &request, now);
+        keep(&mut self.kept, &request, now);
         self.replies.send(alloc, request, now)
     }
 }
 
 // Keeps a request where memory is enough.
-fn keep(alloc: Global, kept: &mut Vec<Sending>, request: &DnsRequest, moment: u64) {
-    if let Ok(message) = request.message.to_vec(alloc) {
+fn keep(kept: &mut Vec<Sending>, request: &DnsRequest, moment: u64) {
+    if let Ok(message) = request.message.to_vec() {
         let _ = kept.push(Sending { message, moment });
     }
 }

@@ -229,22 +229,22 @@ impl Message {
     /// twelve, eight of which stand in the OPT, so that a message without one keeps four.
     ///
     /// `TooLong` comes exactly above 65,535 bytes.
-    pub fn to_vec(&self, alloc: Global) -> Result<Octets, EncodeError>
+    pub fn to_vec(&self) -> Result<Octets, EncodeError>
         ensures exact { Gives (λ o. o) errors.NoMemory result (encoded self.now) }
         // Where some bytes are this message, what is written is it too.
         ensures again { IfOk result (λ o. IsReadAgain self.now o) }
     {
-        self.encode(alloc)
+        self.encode()
     }
 
     #[tactic(auto, unfolding(crate::specs::WrittenAs::encoded, crate::specs::WrittenAs::written))]
-    fn encode(&self, alloc: Global) -> Result<Octets, EncodeError>
+    fn encode(&self) -> Result<Octets, EncodeError>
         ensures { Gives (λ o. o) errors.NoMemory result (encoded self.now) }
     {
         if has_many(self) {
             return Err(EncodeError::TooLong);
         }
-        let mut out = Vec::new(alloc);
+        let mut out = Vec::new(*self.queries.allocator());
         push_header(&mut out, self)?;
         push_questions(&mut out, self.queries.as_slice())?;
         push_records(&mut out, self.answers.as_slice())?;

@@ -233,8 +233,8 @@ fn request_of(alloc: Global, row: &Written) -> Result<DnsRequest, NameError> {
     Ok(DnsRequest::from_query(alloc, query(alloc, ".", 2)?, options_of(row))?)
 }
 
-fn has_bytes(alloc: Global, message: &Message, bytes: &[u8]) -> bool {
-    match message.to_vec(alloc) {
+fn has_bytes(message: &Message, bytes: &[u8]) -> bool {
+    match message.to_vec() {
         Ok(written) => written.as_slice() == bytes,
         Err(_) => false,
     }
@@ -242,7 +242,7 @@ fn has_bytes(alloc: Global, message: &Message, bytes: &[u8]) -> bool {
 
 fn is_written(alloc: Global, row: &Written) -> Result<bool, NameError> {
     let request = request_of(alloc, row)?;
-    let held = request.original.is_none() && has_bytes(alloc, &request.message, row.bytes);
+    let held = request.original.is_none() && has_bytes(&request.message, row.bytes);
     drop(request);
     Ok(held)
 }

@@ -30,8 +30,8 @@ const WRITTEN: &[(&str, Written)] = &[
     ),
 ];
 
-fn is_written_as(alloc: Global, message: &Message, want: &[u8]) -> bool {
-    match message.to_vec(alloc) {
+fn is_written_as(message: &Message, want: &[u8]) -> bool {
+    match message.to_vec() {
         Ok(bytes) => bytes.as_slice() == want,
         Err(_) => false,
     }
@@ -39,7 +39,7 @@ fn is_written_as(alloc: Global, message: &Message, want: &[u8]) -> bool {
 
 fn is_written(alloc: Global, bytes: &[u8], want: &[u8]) -> bool {
     match read(alloc, bytes) {
-        Some(message) => is_written_as(alloc, &message, want),
+        Some(message) => is_written_as(&message, want),
         None => false,
     }
 }
@@ -57,7 +57,7 @@ fn written_forms(rt: HostRuntime) {
 
 fn empty_query_is(alloc: Global, want: &[u8]) -> bool {
     let query = Message::query(alloc);
-    is_written_as(alloc, &query, want)
+    is_written_as(&query, want)
 }
 
 #[test]
@@ -142,7 +142,7 @@ fn is_message(alloc: Global, bytes: &[u8], message: &Message) -> bool {
 
 /// Whether a message, written, is read as the same.
 fn is_read_again(alloc: Global, message: &Message) -> bool {
-    match message.to_vec(alloc) {
+    match message.to_vec() {
         Ok(bytes) => is_message(alloc, bytes.as_slice(), message),
         Err(_) => false,
     }
@@ -197,13 +197,8 @@ fn with_size(alloc: Global, size: u16) -> Result<Vec<u8>, AllocError> {
     Ok(bytes)
 }
 
-fn is_written_so(
-    alloc: Global,
-    message: &Message,
-    bytes: &[u8],
-    want: Option<EncodeError>,
-) -> bool {
-    match message.to_vec(alloc) {
+fn is_written_so(message: &Message, bytes: &[u8], want: Option<EncodeError>) -> bool {
+    match message.to_vec() {
         Ok(written) => want.is_none() && written.as_slice() == bytes,
         Err(error) => want == Some(error),
     }
@@ -212,7 +207,7 @@ fn is_written_so(
 /// Whether the bytes are a message that is written as these very bytes, or the message isn't written by this error.
 fn are_written_so(alloc: Global, bytes: &[u8], want: Option<EncodeError>) -> bool {
     match read(alloc, bytes) {
-        Some(message) => is_written_so(alloc, &message, bytes, want),
+        Some(message) => is_written_so(&message, bytes, want),
         None => false,
     }
 }
