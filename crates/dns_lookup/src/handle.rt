@@ -168,11 +168,11 @@ impl<H: DnsHandle + Drop, V: Verifier + Drop> DnssecDnsHandle<H, V> {
 /// or of the handle's own send.
 impl<H: DnsHandle + Drop, V: Verifier + Drop> DnsHandle for DnssecDnsHandle<H, V> {
     ghost use Rattle.std.specs.Prelude.{None, true};
-    ghost use Rattle.dns_lookup.specs.Sending.{ValidatesRequest, ValidatesQuestion};
+    ghost use Rattle.dns_lookup.specs.Sending.{sends_of, faults_of, ValidatesRequest, ValidatesQuestion};
 
-    ghost sends = { λ h. h.sends };
+    ghost sends = { sends_of };
 
-    ghost faults = { λ h. h.faults };
+    ghost faults = { faults_of };
 
     ghost sent = { ValidatesQuestion H.DnsHandle V.Verifier };
 
