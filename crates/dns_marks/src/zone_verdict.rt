@@ -14,8 +14,8 @@ use dns_handle::{DnsResponse, NetError, Verifier};
 use dns_message::Message;
 use dns_name::{Name, NoMemory};
 use dns_rdata::Ds;
-use dns_record::{DNSClass, Proof, Query, Record, RecordType};
-use dns_trust::{is_supported_ds, shows_unsigned_cut};
+use dns_record::{DNSClass, Proof, Record, RecordType};
+use dns_trust::{ds_query, is_supported_ds, shows_unsigned_cut};
 use std::alloc::Global;
 
 /// What a lookup answers.
@@ -61,12 +61,7 @@ fn unanswered(zone: &Name, class: DNSClass, error: &NetError) -> Result<ZoneVerd
     if is_no_memory(error) {
         return Err(NoMemory);
     }
-    let name = zone.try_clone()?;
-    let query = Query {
-        name,
-        query_type: RecordType::DS,
-        query_class: class,
-    };
+    let query = ds_query(zone.try_clone()?, class);
     Ok(ZoneVerdict::Bogus(ProofErrorKind::Net { query }))
 }
 
