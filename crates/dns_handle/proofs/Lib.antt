@@ -1,4 +1,5 @@
 pub mod WalkLemmas
+pub mod ErrorLemmas
 pub mod KeyLemmas
 pub mod CaseLemmas
 pub mod GlueLemmas

@@ -1,4 +1,4 @@
--- Which errors say that there are no records, that a connection is gone, or that something failed.
+-- Which errors say that there are no records, that a connection is gone, that memory ran out, or that something failed.
 use Rattle.std.specs.Prelude.{Bool, true, false, ◌==◌, Option, None}
 use Rattle.dns_model.specs.Types.{code_nx_domain}
 use Rattle.dns_model.specs.Records.{Rr}
@@ -28,6 +28,11 @@ is_closed_by _ = false
 abbrev pub is_connection_closed : ErrorValue → Bool
 is_connection_closed (Io kind) = is_closed_by kind
 is_connection_closed _ = false
+
+-- memory ran out
+abbrev pub is_no_memory : ErrorValue → Bool
+is_no_memory NoMemory = true
+is_no_memory _ = false
 
 -- the SOA that came with no records
 abbrev pub soa_of : ErrorValue → Option Rr

@@ -3,7 +3,7 @@ ghost use Rattle.dns_handle.specs.Replies.{dns_error_of, error_of};
 ghost use Rattle.dns_handle.specs.Conversions.{decode_failed, outside_failed, proto_failed};
 ghost use Rattle.dns_handle.specs.declared.error.NetError.TheVariants.{NoMemory, Dns, Message, Msg};
 ghost use Rattle.dns_handle.specs.declared.error.DnsError.TheVariants.{NoRecordsFound};
-ghost use Rattle.dns_handle.specs.ErrorKinds.{is_nx_domain, is_no_records_found, is_connection_closed, soa_of};
+ghost use Rattle.dns_handle.specs.ErrorKinds.{is_nx_domain, is_no_records_found, is_connection_closed, is_no_memory, soa_of};
 
 use crate::{DnsResponse, IoKind, NoRecords, Notice};
 use dns_message::{DecodeError, DecodeKind};
@@ -261,6 +261,13 @@ impl NetError {
             ),
             _ => false,
         }
+    }
+
+    /// Whether memory ran out.
+    pub fn is_no_memory(&self) -> bool
+        ensures { result ≡ is_no_memory (error_of self.now) }
+    {
+        matches!(self, NetError::NoMemory)
     }
 
     /// The SOA that came with no records.

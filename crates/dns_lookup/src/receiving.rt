@@ -79,7 +79,10 @@ pub(crate) fn receive<H: DnsHandle, V>(
 fn wants_memory(received: &Result<ReceivedMessage, NetError>) -> bool
     ensures { IsTrue result ↔ (received.now ≡ Err NetError.NoMemory) }
 {
-    matches!(received, Err(NetError::NoMemory))
+    match received {
+        Ok(_) => false,
+        Err(error) => error.is_no_memory(),
+    }
 }
 
 /// Sends a request, and receives the message of the reply in the same way.

@@ -1,5 +1,5 @@
 -- DS verdicts of zones, from the answers to the asks for their DS sets (RFC 4035, 5.2).
-use Rattle.std.specs.Prelude.{ℕ, Bool, true, false, not, ◌==◌, ◌&&◌, ◌||◌, List, [], ◌∷◌, ◌++◌, map, Option, None, Some, Result, Ok, Err, if◌then◌else◌}
+use Rattle.std.specs.Prelude.{ℕ, Bool, false, not, ◌==◌, ◌&&◌, ◌||◌, List, [], ◌∷◌, ◌++◌, map, Option, None, Some, Result, Ok, Err, if◌then◌else◌}
 use Rattle.std.specs.Option.{option_map_or}
 use Rattle.std.specs.List.{list_all, list_any, find, filter}
 use Rattle.dns_model.specs.declared.proof.Proof.TheVariants as proof
@@ -11,9 +11,10 @@ use Rattle.dns_model.specs.Records.{Rr, RrSet, MessageValue}
 use Rattle.dns_model.specs.Sections.{sets_of}
 use Rattle.dns_model.specs.SoundAnswers.{ResponseValue, is_secure}
 use Rattle.dns_model.specs.Keys.{VerifierAnswers}
+use Rattle.dns_handle.specs.ErrorKinds.{is_no_memory}
+use Rattle.dns_handle.specs.Replies.{error_of}
 use Rattle.dns_handle.specs.Responses.{all_records}
 use Rattle.dns_handle.specs.declared.error.NetError.{NetError}
-use Rattle.dns_handle.specs.declared.error.NetError.TheVariants.{Busy, Dns, Message, Msg, NoConnections, Proto, Io, Timeout, QueryCaseMismatch, ForeignClassRecord, Truncated, NoMemory}
 use Rattle.dns_judgement.specs.Judged.{Judged}
 use Rattle.dns_judgement.specs.ProofErrors.{DsRecordShouldExist, DsResponseInsecure, UnknownKeyAlgorithm}
 use Rattle.dns_judgement.specs.Delegations as zone
@@ -61,27 +62,12 @@ shown_by message =
     marked_sets Answer message.answers
     ++ (marked_sets Authority message.authorities ++ map lone_record (all_records message))
 
--- the error is want of memory
-abbrev pub is_want : NetError → Bool
-is_want Busy = false
-is_want (Dns error) = false
-is_want (Message notice) = false
-is_want (Msg text) = false
-is_want NoConnections = false
-is_want (Proto error) = false
-is_want (Io kind) = false
-is_want Timeout = false
-is_want QueryCaseMismatch = false
-is_want (ForeignClassRecord owner class rtype) = false
-is_want Truncated = false
-is_want NoMemory = true
-
 -- the DS verdict of a zone by the answer to the ask for its DS set; none where memory ran out in that ask
 abbrev pub answer_verdict : VerifierAnswers → ℕ → Labels → Result ResponseValue NetError → Option zone.ZoneVerdict
 answer_verdict verifier class name (Ok response) =
     Some (zone.zone_verdict verifier class name (Some (shown_by response.message)))
 answer_verdict verifier class name (Err error) =
-    if is_want error then None else Some (zone.zone_verdict verifier class name None)
+    if is_no_memory (error_of error) then None else Some (zone.zone_verdict verifier class name None)
 
 -- ---- for private functions of this crate only
 

@@ -3,11 +3,13 @@ ghost use Rattle.std.specs.List.{find, filter, list_all, list_any};
 ghost use Rattle.std.specs.Option.{option_copied};
 ghost use Rattle.dns_model.specs.Types.{type_ds, type_nsec};
 ghost use Rattle.dns_model.specs.SoundAnswers.{is_secure};
+ghost use Rattle.dns_handle.specs.ErrorKinds.{is_no_memory};
+ghost use Rattle.dns_handle.specs.Replies.{error_of};
 ghost use Rattle.dns_handle.specs.Responses.{all_records};
 ghost use Rattle.dns_judgement.specs.ProofErrors as cause;
 ghost use Rattle.dns_judgement.specs.Delegations as delegations;
 ghost use Rattle.dns_judgement.specs.Delegations.{ds_question as ds_question_of};
-ghost use Rattle.dns_marks.specs.ZoneVerdicts.{zone_verdict_value, is_want, answer_verdict, by_message, by_ds as by_ds_set, by_supported, without_ds as without_ds_set, has_ds_set as has_set_in, are_secure_in_set, authority_shows_no_ds as shows_none, is_insecure_record_above as is_above, shown_by, is_record_of};
+ghost use Rattle.dns_marks.specs.ZoneVerdicts.{zone_verdict_value, answer_verdict, by_message, by_ds as by_ds_set, by_supported, without_ds as without_ds_set, has_ds_set as has_set_in, are_secure_in_set, authority_shows_no_ds as shows_none, is_insecure_record_above as is_above, shown_by, is_record_of};
 
 use crate::ProofErrorKind;
 use dns_handle::{DnsResponse, NetError, Verifier};
@@ -54,24 +56,15 @@ pub fn ds_verdict<V: Verifier>(
 
 // The ask failed.
 fn unanswered(zone: &Name, class: DNSClass, error: &NetError) -> Result<ZoneVerdict, NoMemory>
-    ensures wanting { IfOk result (λ v. is_want error.now ≡ false) }
+    ensures wanting { IfOk result (λ v. is_no_memory (error_of error.now) ≡ false) }
     ensures verdict { IfOk result
         (λ v. zone_verdict_value v ≡ delegations.Bogus (cause.Net (ds_question_of class.0 zone.now))) }
 {
-    if is_no_memory(error) {
+    if error.is_no_memory() {
         return Err(NoMemory);
     }
     let query = ds_query(zone.try_clone()?, class);
     Ok(ZoneVerdict::Bogus(ProofErrorKind::Net { query }))
-}
-
-fn is_no_memory(error: &NetError) -> bool
-    ensures { result ≡ is_want error.now }
-{
-    match error {
-        NetError::NoMemory => true,
-        _ => false,
-    }
 }
 
 // The verdict by the records of a message.

@@ -186,15 +186,15 @@ fn errors_show_their_texts(rt: HostRuntime) {
     }
 }
 
-/// An error, and whether it is NXDOMAIN, and there are no records. No connection is gone.
-struct Tested(Sample, bool, bool);
+/// An error, and whether it is NXDOMAIN, there are no records, and memory ran out. No connection is gone.
+struct Tested(Sample, bool, bool, bool);
 
 const TESTED: &[Tested] = &[
-    Tested(Sample::MissingName, true, true),
-    Tested(Sample::MissingType, false, true),
-    Tested(Sample::NameErrorCode, false, false),
-    Tested(Sample::NoMemory, false, false),
-    Tested(Sample::Timeout, false, false),
+    Tested(Sample::MissingName, true, true, false),
+    Tested(Sample::MissingType, false, true, false),
+    Tested(Sample::NameErrorCode, false, false, false),
+    Tested(Sample::NoMemory, false, false, true),
+    Tested(Sample::Timeout, false, false, false),
 ];
 
 fn tested_rows() -> &'static [Tested] {
@@ -226,24 +226,37 @@ fn outside_rows() -> &'static [Outside] {
     OUTSIDE
 }
 
-fn answers_as(error: NetError, nx_domain: bool, no_records: bool, closed: bool) -> bool {
-    let held = tells(&error, nx_domain, no_records, closed);
+fn answers_as(
+    error: NetError,
+    nx_domain: bool,
+    no_records: bool,
+    no_memory: bool,
+    closed: bool,
+) -> bool {
+    let held = tells(&error, nx_domain, no_records, no_memory, closed);
     drop(error);
     held
 }
 
-fn tells(error: &NetError, nx_domain: bool, no_records: bool, closed: bool) -> bool {
+fn tells(
+    error: &NetError,
+    nx_domain: bool,
+    no_records: bool,
+    no_memory: bool,
+    closed: bool,
+) -> bool {
     error.is_nx_domain() == nx_domain
         && error.is_no_records_found() == no_records
+        && error.is_no_memory() == no_memory
         && error.is_connection_closed() == closed
 }
 
 fn is_tested(alloc: Global, row: &Tested) -> Result<bool, NameError> {
-    Ok(answers_as(error_of(alloc, row.0)?, row.1, row.2, false))
+    Ok(answers_as(error_of(alloc, row.0)?, row.1, row.2, row.3, false))
 }
 
 fn is_outside(row: &Outside) -> bool {
-    answers_as(NetError::from(row.0), false, false, row.1)
+    answers_as(NetError::from(row.0), false, false, false, row.1)
 }
 
 #[test]
