@@ -16,11 +16,11 @@ use crate::form::{Form, Work, form_of};
 use crate::frames::{FrameStop, messages_of};
 use crate::lookups::count_lookups;
 use crate::signing::signed_count;
-use crate::texts::{bad_frame_text, bad_line_text, counts_text, lookups_text, signed_text};
+use crate::texts::{bad_frame_text, counts_text, lookups_text, signed_text};
 use dns_io::status::{self, read_status, refuse_long, write_text};
 use dns_io::{ReadStop, Sink, Source, read_all};
 use dns_name::NoMemory;
-use dns_session::{SessionStop, read_session};
+use dns_session::{SessionStop, bad_line_text, read_session};
 use std::alloc::Global;
 
 // Decodes the frames of the bytes so many times: what was counted, or which frame is cut off.

@@ -1,7 +1,6 @@
 //! The texts that the program writes.
 ghost use Rattle.std.specs.Prelude.{◌≡◌, ◌++◌, IfOk, OnOk};
 ghost use Rattle.dns_bench.specs.Forms.{counts_text, counted_line, bad_frame_text, signed_text, lookups_text};
-ghost use Rattle.dns_run.specs.Forms.{bad_line_text};
 
 use crate::counts::Counts;
 use crate::lookups::Lookups;
@@ -55,14 +54,5 @@ pub(crate) fn lookups_text(alloc: Global, counts: Lookups) -> Result<Vec<u8>, No
     let mut text = Vec::new(alloc);
     push_line(&mut text, b"answers ", counts.answers)?;
     push_line(&mut text, b"faults ", counts.faults)?;
-    Ok(text)
-}
-
-/// The line that names the first bad line of a session.
-pub(crate) fn bad_line_text(alloc: Global, number: u64) -> Result<Vec<u8>, NoMemory>
-    ensures { IfOk result (λ text. text.items ≡ bad_line_text number) }
-{
-    let mut text = Vec::new(alloc);
-    push_line(&mut text, b"bad line ", number)?;
     Ok(text)
 }

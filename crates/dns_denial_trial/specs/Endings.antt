@@ -1,13 +1,9 @@
 -- How a run ends over a session, and over bytes that are none.
-use Rattle.std.specs.Prelude.{◌≡◌, ℕ, ◌++◌, List, [], ◌∷◌, codes, Option, Result, Ok, Err}
-use Rattle.std.specs.Fmt.{decimal}
+use Rattle.std.specs.Prelude.{◌≡◌, ℕ, List, [], Option, Result, Ok, Err}
 use Rattle.std.specs.Io.KnownBytes.{Appends}
 use Rattle.dns_session.specs.SessionValue.{SessionValue}
+use Rattle.dns_session.specs.Stops.{bad_line_text}
 use Rattle.dns_denial_trial.specs.Verdicts.{with_lines}
-
--- `bad line N`
-abbrev pub bad_line_text : ℕ → List ℕ
-bad_line_text number = codes "bad line " ++ decimal number ++ 10 ∷ []
 
 -- the status and the text: a line for each reply in the zone that the query names, or the first bad line
 abbrev pub ending_of : Result SessionValue ℕ → ℕ × List ℕ

@@ -4,25 +4,14 @@ ghost use Rattle.dns_model.specs.Counts.{Rose};
 ghost use Rattle.dns_io.specs.Reading.{input_limit, IsEnded, OfInput, ReadsFront};
 ghost use Rattle.dns_io.specs.Writing.{TakesPrefix};
 ghost use Rattle.dns_session.specs.Grammar.{session_of};
-ghost use Rattle.dns_denial_trial.specs.Endings.{bad_line_text as bad_line, ending_of, EndsAs};
+ghost use Rattle.dns_denial_trial.specs.Endings.{ending_of, EndsAs};
 
 use crate::verdicts::session_lines;
 use dns_io::status::{self, read_status, write_text};
 use dns_io::{Sink, Source, read_all};
 use dns_name::NoMemory;
-use dns_session::{SessionStop, read_session};
-use dns_words::push_decimal;
+use dns_session::{SessionStop, bad_line_text, read_session};
 use std::alloc::Global;
-
-/// The line that names the first bad line of a session.
-fn bad_line_text(alloc: Global, number: u64) -> Result<Vec<u8>, NoMemory>
-    ensures { IfOk result (λ text. text.items ≡ bad_line number) }
-{
-    let mut text = Vec::from_slice(alloc, b"bad line ")?;
-    push_decimal(&mut text, number)?;
-    text.push(b'\n')?;
-    Ok(text)
-}
 
 /// The status and the text that bytes come to.
 fn ending(alloc: Global, bytes: &[u8]) -> Result<(u8, Vec<u8>), NoMemory>

@@ -13,8 +13,8 @@ use Rattle.dns_report.specs.declared.parts.Parts.{Parts}
 use Rattle.dns_report.specs.Faults.{fault_text}
 use Rattle.dns_session.specs.SessionValue.{SessionValue}
 use Rattle.dns_session.specs.Grammar.{session_of}
+use Rattle.dns_session.specs.Stops.{bad_line_text}
 use Rattle.dns_run.specs.declared.form.Form.{Form}
-use Rattle.dns_run.specs.Forms.{bad_line_text}
 use Rattle.dns_run.specs.Soundness.{IsSound}
 use Rattle.dns_run.specs.Replies.{session_told, session_message, session_records}
 use Rattle.dns_run.specs.Answering.{IsSessionAnswer}

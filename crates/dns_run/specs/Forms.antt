@@ -1,6 +1,5 @@
 -- The words that the program takes, and its fixed texts.
-use Rattle.std.specs.Prelude.{ℕ, ◌≡◌, List, [], ◌∷◌, ◌++◌, ◌&&◌, map, codes, Vec, Option, None, Some, if◌then◌else◌}
-use Rattle.std.specs.Fmt.{decimal}
+use Rattle.std.specs.Prelude.{ℕ, ◌≡◌, List, [], ◌∷◌, ◌&&◌, map, codes, Vec, Option, None, Some, if◌then◌else◌}
 use Rattle.dns_model.specs.Keys.{bytes_eq}
 use Rattle.dns_report.specs.declared.parts.Parts.TheVariants.{Answer, WithTrail}
 use Rattle.dns_run.specs.declared.form.Form.{Form}
@@ -42,7 +41,3 @@ version_text = codes "dns_check 0.1.0\n"
 
 abbrev pub bad_words_text : List ℕ
 bad_words_text = codes "bad words\n"
-
--- `bad line N`
-abbrev pub bad_line_text : ℕ → List ℕ
-bad_line_text number = codes "bad line " ++ decimal number ++ 10 ∷ []

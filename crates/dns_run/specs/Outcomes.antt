@@ -12,9 +12,9 @@ use Rattle.dns_report.specs.Report.{report_text, view_text}
 use Rattle.dns_report.specs.Faults.{fault_text}
 use Rattle.dns_session.specs.SessionValue.{SessionValue}
 use Rattle.dns_session.specs.Grammar.{session_of}
+use Rattle.dns_session.specs.Stops.{bad_line_text}
 use Rattle.dns_io.specs.Reading.{input_limit, too_long_text, OfInput}
 use Rattle.dns_io.specs.Writing.{TakesPrefix}
-use Rattle.dns_run.specs.Forms.{bad_line_text}
 use Rattle.dns_run.specs.Answering.{IsSessionAnswer}
 use Rattle.dns_run.specs.Soundness.{IsSound}
 use Rattle.dns_run.specs.Causes.{FaultCause}

@@ -1,19 +1,17 @@
 //! What bytes that were read come to, before anything is written.
-ghost use Rattle.std.specs.Prelude.{◌≡◌, ◌++◌, ◌<◌, ◌^◌, ◌↔◌, length, IfOk, IsTrue};
+ghost use Rattle.std.specs.Prelude.{◌≡◌, ◌<◌, ◌^◌, ◌↔◌, length, IfOk, IsTrue};
 ghost use Rattle.dns_handle.specs.Errors as seen;
 ghost use Rattle.dns_handle.specs.Replies.{error_of, reply_of};
 ghost use Rattle.dns_lookup.specs.LookupAnswers.{UnlessNoMemory};
 ghost use Rattle.dns_session.specs.SessionValue.{SessionValue};
 ghost use Rattle.dns_run.specs.Causes.{AnswersSession};
-ghost use Rattle.dns_run.specs.Forms.{bad_line_text};
 ghost use Rattle.dns_run.specs.Endings.{IsOutcome, IsAnswered};
 
 use crate::answering::session_answer;
 use dns_name::NoMemory;
 use dns_net::{DnsResponse, NetError};
 use dns_report::{Parts, write_fault, write_report};
-use dns_session::{Session, SessionStop, read_session};
-use dns_words::push_decimal;
+use dns_session::{Session, SessionStop, bad_line_text, read_session};
 use std::alloc::Global;
 
 /// How a run ends where its input was read.
@@ -25,16 +23,6 @@ pub enum Ending {
     Fault,
     /// The input is no session: its first bad line is named.
     BadLine,
-}
-
-/// The line that names a bad line.
-fn bad_line(alloc: Global, number: u64) -> Result<Vec<u8>, NoMemory>
-    ensures { IfOk result (λ v. v.items ≡ bad_line_text number) }
-{
-    let mut text = Vec::from_slice(alloc, b"bad line ")?;
-    push_decimal(&mut text, number)?;
-    text.push(b'\n')?;
-    Ok(text)
 }
 
 /// The report of a session's lookup, or the line of its fault.
@@ -90,7 +78,7 @@ pub(crate) fn session_ending(
     match read_session(alloc, bytes) {
         Ok(session) => answered(alloc, shows, session),
         Err(SessionStop::BadLine(number)) => {
-            let text = bad_line(alloc, number)?;
+            let text = bad_line_text(alloc, number)?;
             Ok((Ending::BadLine, text))
         }
         Err(SessionStop::NoMemory) => Err(NoMemory),

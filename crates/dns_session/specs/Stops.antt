@@ -1,5 +1,6 @@
--- Reading that stops at a bad line, or where memory runs out.
-use Rattle.std.specs.Prelude.{ℕ, ◌≡◌, Result, Ok, Err}
+-- Reading that stops at a bad line, or where memory runs out; and the line that names a bad one.
+use Rattle.std.specs.Prelude.{ℕ, ◌≡◌, List, [], ◌∷◌, ◌++◌, codes, Result, Ok, Err}
+use Rattle.std.specs.Fmt.{decimal}
 use Rattle.dns_session.specs.declared.stop.SessionStop.{SessionStop}
 use Rattle.dns_session.specs.declared.stop.SessionStop.TheVariants.{BadLine, NoMemory}
 
@@ -11,3 +12,7 @@ StopsAs NoMemory told = Unit {0}
 abbrev pub ReadsAs : {X Y : Type 0} → (X → Y) → Result X SessionStop → Result Y ℕ → Type 0
 ReadsAs view (Ok x) told = told ≡ Ok (view x)
 ReadsAs view (Err stop) told = StopsAs stop told
+
+-- `bad line N`
+abbrev pub bad_line_text : ℕ → List ℕ
+bad_line_text number = codes "bad line " ++ decimal number ++ 10 ∷ []

@@ -15,4 +15,4 @@ mod words;
 pub use reading::read_session;
 pub use reply::{Reply, ReplyFault, ReplyKind};
 pub use session::{AcceptedSignature, Anchor, Session};
-pub use stop::SessionStop;
+pub use stop::{SessionStop, bad_line_text};

@@ -1,7 +1,10 @@
-ghost use Rattle.std.specs.Prelude.{◌≡◌};
+ghost use Rattle.std.specs.Prelude.{◌≡◌, IfOk};
+ghost use Rattle.dns_session.specs.Stops.{bad_line_text};
 ghost use Rattle.dns_session.specs.declared.stop.SessionStop.TheVariants.{NoMemory as no_memory};
 
 use dns_name::NoMemory;
+use dns_words::push_decimal;
+use std::alloc::Global;
 
 /// Why a session wasn't read.
 #[derive(Clone, Copy, Debug, PartialEq, Eq, Drop)]
@@ -18,4 +21,14 @@ impl From<NoMemory> for SessionStop {
     fn from(_error: NoMemory) -> SessionStop {
         SessionStop::NoMemory
     }
+}
+
+/// The line that names the first bad line, by its number: `bad line N`.
+pub fn bad_line_text(alloc: Global, number: u64) -> Result<Vec<u8>, NoMemory>
+    ensures { IfOk result (λ text. text.items ≡ bad_line_text number) }
+{
+    let mut text = Vec::from_slice(alloc, b"bad line ")?;
+    push_decimal(&mut text, number)?;
+    text.push(b'\n')?;
+    Ok(text)
 }
