@@ -4,10 +4,9 @@ use Rattle.std.specs.Option.{option_map}
 use Rattle.std.specs.Io.KnownBytes.{Appends}
 use Rattle.dns_model.specs.SoundAnswers.{ResponseValue}
 use Rattle.dns_io.specs.Reading.{OfInput}
-use Rattle.dns_io.specs.Writing.{TakesPrefix}
+use Rattle.dns_io.specs.Writing.{bad_words_text, TakesPrefix}
 use Rattle.dns_session.specs.SessionValue.{SessionValue}
 use Rattle.dns_session.specs.Grammar.{session_of}
-use Rattle.dns_run.specs.Forms.{bad_words_text}
 use Rattle.dns_run.specs.Outcomes.{WrotePrefix}
 use Rattle.dns_audit_trial.specs.Audits.{Responds, session_audited}
 use Rattle.dns_audit_trial.specs.Forms.{audit_text, truth_line}

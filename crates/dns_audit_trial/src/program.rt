@@ -1,10 +1,10 @@
 //! The program over any source and any sink.
-ghost use Rattle.std.specs.Prelude.{ℕ, ◌≡◌, ◌≢◌, ◌+◌, ◌<◌, ◌≤◌, length, codes, true, false, None, Some, IfOk, IfSome};
+ghost use Rattle.std.specs.Prelude.{ℕ, ◌≡◌, ◌≢◌, ◌+◌, ◌<◌, ◌≤◌, length, true, false, None, Some, IfOk, IfSome};
 ghost use Rattle.std.specs.Result.{result_ok};
 ghost use Rattle.std.specs.Io.KnownBytes.{Appends};
 ghost use Rattle.dns_model.specs.Counts.{Rose};
 ghost use Rattle.dns_io.specs.Reading.{input_limit, IsEnded, OfInput, ReadsFront};
-ghost use Rattle.dns_io.specs.Writing.{TakesPrefix};
+ghost use Rattle.dns_io.specs.Writing.{bad_words_text, TakesPrefix};
 ghost use Rattle.dns_run.specs.Outcomes.{WrotePrefix};
 ghost use Rattle.dns_session.specs.Grammar.{session_of};
 ghost use Rattle.dns_audit_trial.specs.Forms.{asked_form, reads_input, truth_line as truth_text};
@@ -16,7 +16,7 @@ use crate::audit::{response_to, session_audited};
 use crate::form::{Form, form_of};
 use crate::growth::is_long_chain_justified;
 use crate::texts::{audit_text, truth_line};
-use dns_io::status::{self, read_status, write_text};
+use dns_io::status::{self, read_status, refuse_words, write_text};
 use dns_io::{Sink, Source, read_all};
 use dns_name::NoMemory;
 use dns_session::{Session, SessionStop, read_session};
@@ -169,7 +169,7 @@ pub(crate) fn run<S: Source, W: Sink>(
     ensures words { result ≡ 2 → asked_form words.now ≡ None }
     ensures refused { asked_form words.now ≡ None → result < 4 → result ≡ 2 }
     ensures told { asked_form words.now ≡ None → result < 4
-        → Appends (W.taken output.old) (W.taken output.new) (codes "bad words\n") }
+        → Appends (W.taken output.old) (W.taken output.new) bad_words_text }
 
     // Where no work is done, 6 is answered only over a sink whose writes may want memory.
     ensures memory { asked_form words.now ≡ None → result ≡ 6 → W.takes_memory ≡ true }
@@ -194,6 +194,6 @@ pub(crate) fn run<S: Source, W: Sink>(
     match form_of(words) {
         Some(Form::Audit(more)) => audit(alloc, more, input, output),
         Some(Form::Chains(signed)) => check_long_chain(alloc, signed, output),
-        None => write_text(status::BAD_WORDS, b"bad words\n", output),
+        None => refuse_words(output),
     }
 }

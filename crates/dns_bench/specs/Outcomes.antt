@@ -4,8 +4,7 @@ use Rattle.std.specs.Io.KnownBytes.{Appends}
 use Rattle.dns_session.specs.SessionValue.{SessionValue}
 use Rattle.dns_session.specs.Grammar.{session_of}
 use Rattle.dns_io.specs.Reading.{input_limit, too_long_text, OfInput}
-use Rattle.dns_io.specs.Writing.{TakesPrefix}
-use Rattle.dns_run.specs.Forms.{bad_words_text}
+use Rattle.dns_io.specs.Writing.{bad_words_text, TakesPrefix}
 use Rattle.dns_run.specs.Outcomes.{Leaves, Refuses, WrotePrefix}
 use Rattle.dns_bench.specs.Frames.{frames, IsCutOff}
 use Rattle.dns_bench.specs.Counting.{nothing, with_passes}

@@ -3,8 +3,7 @@ ghost use Rattle.std.specs.Prelude.{◌≡◌, ◌≢◌, ◌≤◌, ◌<◌, �
 ghost use Rattle.std.specs.Io.KnownBytes.{Appends};
 ghost use Rattle.dns_model.specs.Counts.{Rose};
 ghost use Rattle.dns_io.specs.Reading.{input_limit, IsEnded, OfInput};
-ghost use Rattle.dns_io.specs.Writing.{TakesPrefix, WritesText};
-ghost use Rattle.dns_run.specs.Forms.{bad_words_text};
+ghost use Rattle.dns_io.specs.Writing.{bad_words_text, TakesPrefix, WritesText};
 ghost use Rattle.dns_run.specs.Outcomes.{Leaves, Refuses, Wrote, WrotePrefix};
 ghost use Rattle.dns_run.specs.Runs.{EndsByLength};
 ghost use Rattle.dns_bench.specs.SignedSet as set;
@@ -17,7 +16,7 @@ use crate::frames::{FrameStop, messages_of};
 use crate::lookups::count_lookups;
 use crate::signing::signed_count;
 use crate::texts::{bad_frame_text, counts_text, lookups_text, signed_text};
-use dns_io::status::{self, read_status, refuse_long, write_text};
+use dns_io::status::{self, read_status, refuse_long, refuse_words, write_text};
 use dns_io::{ReadStop, Sink, Source, read_all};
 use dns_name::NoMemory;
 use dns_session::{SessionStop, bad_line_text, read_session};
@@ -205,6 +204,6 @@ pub(crate) fn run<S: Source, W: Sink>(
     match form_of(words) {
         Some(Form::Reading(work, passes)) => read_and_measure(alloc, work, passes, input, output),
         Some(Form::Signed(records, passes)) => write_signed(alloc, records, passes, output),
-        None => write_text(status::BAD_WORDS, b"bad words\n", output),
+        None => refuse_words(output),
     }
 }

@@ -1,7 +1,11 @@
 -- What a writing leaves in a sink, where the sink tells its bytes, and how a run ends by it.
-use Rattle.std.specs.Prelude.{ℕ, ◌≡◌, ◌≢◌, ◌≤◌, Bool, true, List, length, take, Option}
+use Rattle.std.specs.Prelude.{ℕ, ◌≡◌, ◌≢◌, ◌≤◌, Bool, true, List, length, take, codes, Option}
 use Rattle.std.specs.Io.KnownBytes.{Appends}
 use Rattle.dns_model.specs.Counts.{Rose}
+
+-- what is written of words that are no form
+abbrev pub bad_words_text : List ℕ
+bad_words_text = codes "bad words\n"
 
 -- a prefix of the bytes was taken
 pub record TakesPrefix (before now : Option (List ℕ)) (bytes : List ℕ) : Type 0 where

@@ -3,7 +3,7 @@ ghost use Rattle.std.specs.Prelude.{◌≡◌, ◌≢◌, ◌<◌, ◌≤◌, tr
 ghost use Rattle.std.specs.Io.KnownBytes.{Appends};
 ghost use Rattle.dns_model.specs.Counts.{Rose};
 ghost use Rattle.dns_io.specs.Reading.{too_long_text};
-ghost use Rattle.dns_io.specs.Writing.{EndsWriting, TakesPrefix, WritesText};
+ghost use Rattle.dns_io.specs.Writing.{bad_words_text, EndsWriting, TakesPrefix, WritesText};
 
 use crate::sink::{Sink, SinkFault, write_all};
 use crate::source::ReadStop;
@@ -69,6 +69,22 @@ pub fn write_text<W: Sink>(status: u8, text: &[u8], output: &mut W) -> u8
         Err(SinkFault::Failed) => WRITE_FAILED,
         Err(SinkFault::NoMemory) => NO_MEMORY,
     }
+}
+
+/// Says that the words of the command line aren't a form.
+pub fn refuse_words<W: Sink>(output: &mut W) -> u8
+    ensures ends { EndsWriting result 2 W.takes_memory (W.faults output.old) (W.faults output.new)
+        (W.taken output.old) (W.taken output.new) bad_words_text }
+    ensures written { result < 5 → Appends (W.taken output.old) (W.taken output.new) bad_words_text }
+    ensures kept { result < 5 → result ≡ 2 }
+    ensures text { WritesText result 2 (W.taken output.old) (W.taken output.new) bad_words_text }
+    ensures sink { result ≡ 5 → Rose (W.faults output.old) (W.faults output.new) }
+    ensures memory { result ≡ 6 → W.takes_memory ≡ true }
+    ensures prefix { TakesPrefix (W.taken output.old) (W.taken output.new) bad_words_text }
+    ensures most { result ≤ 6 }
+    ensures later { W.faults output.old ≤ W.faults output.new }
+{
+    write_text(BAD_WORDS, b"bad words\n", output)
 }
 
 /// Says that the input is too long.

@@ -38,6 +38,3 @@ help_text =
 
 abbrev pub version_text : List ℕ
 version_text = codes "dns_check 0.1.0\n"
-
-abbrev pub bad_words_text : List ℕ
-bad_words_text = codes "bad words\n"

@@ -10,10 +10,10 @@ use Rattle.dns_session.specs.SessionValue.{SessionValue}
 use Rattle.dns_session.specs.Grammar.{session_of}
 use Rattle.dns_session.specs.Stops.{bad_line_text}
 use Rattle.dns_io.specs.Reading.{input_limit, too_long_text}
-use Rattle.dns_io.specs.Writing.{WritesText}
+use Rattle.dns_io.specs.Writing.{bad_words_text, WritesText}
 use Rattle.dns_run.specs.declared.form.Form.{Form}
 use Rattle.dns_run.specs.declared.form.Form.TheVariants.{Validate, Help, Version}
-use Rattle.dns_run.specs.Forms.{help_text, version_text, bad_words_text}
+use Rattle.dns_run.specs.Forms.{help_text, version_text}
 use Rattle.dns_run.specs.Replies.{session_records}
 use Rattle.dns_run.specs.Causes.{HasNoMessage, HasForeign}
 use Rattle.dns_run.specs.Outcomes.{Leaves, Refuses}

@@ -12,7 +12,7 @@ ghost use Rattle.dns_run.specs.declared.form.Form.TheVariants.{Validate};
 
 use crate::form::{Form, form_of, help_text, version_text};
 use crate::outcome::{Ending, session_ending};
-use dns_io::status::{self, read_status, refuse_long, write_text};
+use dns_io::status::{self, read_status, refuse_long, refuse_words, write_text};
 use dns_io::{ReadStop, Sink, Source, read_all};
 use dns_name::NoMemory;
 use dns_report::Parts;
@@ -142,6 +142,6 @@ pub fn run<S: Source, W: Sink>(
         Some(Form::Validate(shows)) => validate(alloc, shows, input, output),
         Some(Form::Help) => write_text(status::DONE, help_text(), output),
         Some(Form::Version) => write_text(status::DONE, version_text(), output),
-        None => write_text(status::BAD_WORDS, b"bad words\n", output),
+        None => refuse_words(output),
     }
 }
