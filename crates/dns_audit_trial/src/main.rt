@@ -15,16 +15,16 @@ use dns_io::{InputSource, OutputSink, status, words_of};
 use program::run;
 use std::process::ExitCode;
 
-/// Words that can't be read are no form, and nothing is written of them.
+/// Words that can't be read are no form. No words are one, so that these are refused here.
 fn main(rt: HostRuntime) -> ExitCode {
     let alloc = rt.alloc();
+    let mut output = OutputSink::new(rt.stdout());
     let words = match words_of(&rt) {
         Ok(Some(words)) => words,
-        Ok(None) => return ExitCode::from(status::BAD_WORDS),
+        Ok(None) => return ExitCode::from(status::refuse_words(&mut output)),
         Err(_) => return ExitCode::from(status::NO_MEMORY),
     };
     let mut input = InputSource::new(rt.stdin());
-    let mut output = OutputSink::new(rt.stdout());
     let status = run(alloc, &words, &mut input, &mut output);
     ExitCode::from(status)
 }
