@@ -104,7 +104,7 @@ reply_counted what old new (Err error) before (Ok after) given other is = elim g
 -- ---- a session's
 
 -- what repeated lookups count by the validator that was made of a session
-pub repeats_session : (s : SessionValue) (times : ℕ) (counts : Lookups) (v : Validator) (options : DnsRequestOptions)
+repeats_session : (s : SessionValue) (times : ℕ) (counts : Lookups) (v : Validator) (options : DnsRequestOptions)
     → inner_of v ≡ recorded_by s.by_turn s.replies → answers_of (verifier_of v) ≡ answers_of (listing s.algorithms s.accepts)
     → anchored (anchors_of v) ≡ anchored s.anchors → options ≡ record plain_options { max_request_depth = session_depth s }
     → Repeats (repeated_by v s.query options s.moment) (inner_of v) times counts → RepeatsSession s times counts
@@ -115,13 +115,15 @@ repeats_session s times counts v options over listed by deep r =
     (subst (λ j. Repeats (record { judge = j; query = s.query; options = options; now = s.moment }) (inner_of v) times counts)
     (judge_plain s (answers_of (verifier_of v)) (anchors_of v) listed by) r))
 
--- the same of a result, which is a fault only for want of memory, for the session that was taken apart
-pub repeats_ok : {E : Type 0} (parts s : SessionValue) (result : Result Lookups E) (times : ℕ) (v : Validator) (options : DnsRequestOptions)
-    → parts ≡ s → inner_of v ≡ recorded_by parts.by_turn parts.replies
-    → answers_of (verifier_of v) ≡ answers_of (listing parts.algorithms parts.accepts)
-    → anchored (anchors_of v) ≡ anchored parts.anchors → options ≡ record plain_options { max_request_depth = session_depth parts }
-    → IfOk result (λ counts. Repeats (repeated_by v parts.query options parts.moment) (inner_of v) times counts)
+-- the same of a result, which is a fault only for want of memory, for what was made of the session
+pub repeats_ok : {E : Type 0} (s : SessionValue) (result : Result Lookups E) (times : ℕ) (v : Validator) (q : Question)
+    (options : DnsRequestOptions) (now : ℕ) → inner_of v ≡ recorded_by s.by_turn s.replies
+    → answers_of (verifier_of v) ≡ answers_of (listing s.algorithms s.accepts) → anchored (anchors_of v) ≡ anchored s.anchors
+    → q ≡ s.query → options ≡ record plain_options { max_request_depth = session_depth s } → now ≡ s.moment
+    → IfOk result (λ counts. Repeats (repeated_by v q options now) (inner_of v) times counts)
     → IfOk result (λ counts. RepeatsSession s times counts)
-repeats_ok parts s (Ok counts) times v options same over listed by deep r =
-    subst (λ x. RepeatsSession x times counts) same (repeats_session parts times counts v options over listed by deep r)
-repeats_ok parts s (Err error) times v options same over listed by deep r = tt
+repeats_ok s (Ok counts) times v q options now over listed by asked deep timed r =
+    repeats_session s times counts v options over listed by deep
+    (subst (λ n. Repeats (repeated_by v s.query options n) (inner_of v) times counts) timed
+    (subst (λ q. Repeats (repeated_by v q options now) (inner_of v) times counts) asked r))
+repeats_ok s (Err error) times v q options now over listed by asked deep timed r = tt

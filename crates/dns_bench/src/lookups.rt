@@ -10,7 +10,7 @@ use dns_lookup::DnssecDnsHandle;
 use dns_name::NoMemory;
 use dns_net::{DnsRequestOptions, DnsResponse, NetError, Recorded};
 use dns_record::Query;
-use dns_run::{session_anchors, session_options, session_upstream, session_verifier};
+use dns_run::{SessionLookup, session_lookup};
 use dns_session::Session;
 use dns_trust::Listed;
 use std::alloc::Global;
@@ -109,22 +109,14 @@ pub(crate) fn count_lookups(
 ) -> Result<Lookups, NoMemory>
     ensures { IfOk result (λ n. RepeatsSession session times n) }
 {
-    let Session {
-        by_turn,
-        moment,
-        depth,
-        algorithms,
-        anchors,
-        accepts,
+    let made = session_lookup(alloc, session)?;
+    let SessionLookup {
+        mut validator,
         query,
-        replies,
-    } = session;
-    let verifier = session_verifier(alloc, &algorithms, accepts)?;
-    let anchors = session_anchors(alloc, anchors)?;
-    let upstream = session_upstream(alloc, by_turn, replies)?;
-    let mut handle = DnssecDnsHandle::new(upstream, anchors, verifier)?;
-    let options = session_options(depth);
-    let counts = count_all(alloc, &mut handle, &query, options, moment, times);
-    drop(handle);
+        options,
+        moment,
+    } = made;
+    let counts = count_all(alloc, &mut validator, &query, options, moment, times);
+    drop(validator);
     counts
 }

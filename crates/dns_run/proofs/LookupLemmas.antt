@@ -1,8 +1,9 @@
 -- What a lookup of a session's query answers: out of the clauses of a lookup.
-use Rattle.std.proofs.Common.{◌≡◌, ◌≢◌, ◌⊎◌, ◌∙◌, Bool, true, false, List, map, Option, None, Some, IfSome, IfOk, Result, Ok, Err, refl, sym, ap, subst, inl, inr}
+use Rattle.std.proofs.Common.{ℕ, ◌≡◌, ◌≢◌, ◌⊎◌, ◌∙◌, Bool, true, false, List, map, Option, None, Some, IfSome, IfOk, Result, Ok, Err, refl, sym, ap, subst, inl, inr}
 use Rattle.dns_model.specs.Keys.{anchored}
 use Rattle.dns_model.specs.Records.{Rr, Question}
 use Rattle.dns_model.specs.SoundAnswers.{Told, told_by, Sound, ResponseValue}
+use Rattle.dns_model.specs.Chains.{judge}
 use Rattle.dns_model.specs.Trails.{AskedValue, EndingValue, Answered, Failed, Denied}
 use Rattle.dns_judgement.specs.Derivation.{derivation, in_send_order}
 use Rattle.dns_judgement.specs.DerivationParts.{is_foreign}
@@ -12,6 +13,7 @@ use Rattle.dns_handle.specs.Errors as seen
 use Rattle.dns_handle.specs.Errors.{Reply, ErrorValue, DnsErrorValue, Busy, Dns, Message, Msg, NoConnections, Proto, Io, Timeout, QueryCaseMismatch, ForeignClassRecord, Truncated, ResponseCode, NoRecordsFound, Nsec, DnssecBogus}
 use Rattle.dns_handle.specs.Handles.{Replies, reply_to, ReplyIsTold}
 use Rattle.dns_handle.specs.Replies.{reply_of}
+use Rattle.dns_handle.specs.Requests.{plain_options}
 use Rattle.dns_handle.specs.declared.error.NetError.{NetError}
 use Rattle.dns_handle.specs.declared.handle.DnsHandle as handle
 use Rattle.dns_handle.specs.declared.notice.Notice.TheVariants.{NotJudgedYet, NoQueryInRequest, ExpiredRrsig, WrongDnskey, WrongRrsig}
@@ -289,20 +291,23 @@ answers_session meanings s call (Err e) c says (inr known) = inr (session_known 
 
 -- what a lookup answered, over the handle, the keys and the verifier that were made of a session
 pub answers_looked : (meanings : handle.Ghosts RecordedValue) (tests : verifier.Ghosts ListedValue) (s : SessionValue)
-    (old new : DnssecDnsHandle RecordedValue ListedValue) (options : DnsRequestOptions) (result : Result ResponseValue NetError)
+    (old new : DnssecDnsHandle RecordedValue ListedValue) (q : Question) (options : DnsRequestOptions) (now : ℕ)
+    (result : Result ResponseValue NetError)
     → meanings.told (inner_of old) ≡ Some (replies_of (inner_of old)) → tests.answers (verifier_of old) ≡ answers_of (verifier_of old)
     → inner_of old ≡ recorded_by s.by_turn s.replies → anchored (anchors_of old) ≡ anchored s.anchors
-    → answers_of (verifier_of old) ≡ answers_of (listing s.algorithms s.accepts) → options.max_request_depth ≡ session_depth s
-    → SaysOf meanings (call_of tests old new s.query options s.moment) (reply_of result)
-    → UnlessNoMemory result (Known (meanings.told (inner_of old)) s.query (reply_of result))
+    → answers_of (verifier_of old) ≡ answers_of (listing s.algorithms s.accepts) → q ≡ s.query
+    → options ≡ record plain_options { max_request_depth = session_depth s } → now ≡ s.moment
+    → SaysOf meanings (call_of tests old new q options now) (reply_of result)
+    → UnlessNoMemory result (Known (meanings.told (inner_of old)) q (reply_of result))
     → UnlessNoMemory result (AnswersSession s (reply_of result))
-answers_looked meanings tests s old new options result told tested over by listed depth says known =
-    answers_session meanings s (call_of tests old new s.query options s.moment) result
+answers_looked meanings tests s old new q options now result told tested over by listed asked deep timed says known =
+    answers_session meanings s (call_of tests old new q options now) result
     (record {
-      judge = judge_plain s (tests.answers (verifier_of old)) (anchors_of old) (tested ∙ listed) by;
-      query = refl;
-      depth = depth;
-      moment = refl;
+      judge = ap (λ n. judge (tests.answers (verifier_of old)) (anchors_of old) n) timed
+          ∙ judge_plain s (tests.answers (verifier_of old)) (anchors_of old) (tested ∙ listed) by;
+      query = asked;
+      depth = ap (λ o. o.max_request_depth) deep;
+      moment = timed;
       told = told ∙ ap (λ u. Some (replies_of u)) over;
     })
     says known

@@ -4,9 +4,10 @@ ghost use Rattle.dns_model.specs.Keys.{anchored};
 ghost use Rattle.dns_handle.specs.Replies.{reply_of};
 ghost use Rattle.dns_handle.specs.Requests.{plain_options};
 ghost use Rattle.dns_anchors.specs.Listing.{answers_of};
+ghost use Rattle.dns_lookup.specs.Calls.{inner_of, anchors_of, verifier_of};
 ghost use Rattle.dns_lookup.specs.LookupAnswers.{UnlessNoMemory};
 ghost use Rattle.dns_run.specs.Adding.{with_algorithms, with_accepts};
-ghost use Rattle.dns_run.specs.Answering.{recorded_by};
+ghost use Rattle.dns_run.specs.Answering.{recorded_by, session_depth};
 ghost use Rattle.dns_run.specs.Causes.{AnswersSession};
 ghost use Rattle.dns_run.specs.Soundness.{listing};
 
@@ -14,13 +15,50 @@ use crate::replies::reply_from;
 use dns_lookup::DnssecDnsHandle;
 use dns_name::NoMemory;
 use dns_net::{DnsRequestOptions, DnsResponse, NetError, Recorded};
+use dns_record::Query;
 use dns_session::{AcceptedSignature, Anchor, Reply, Session};
 use dns_trust::{Listed, TrustAnchors};
 use std::alloc::Global;
 
+/// The lookup that a session asks for: a validator, and what it is asked.
+#[derive(Drop)]
+pub struct SessionLookup {
+    /// Over the session's upstream, with its verifier and the keys that it trusts.
+    pub validator: DnssecDnsHandle<Recorded, Listed>,
+    /// What is looked up.
+    pub query: Query,
+    /// They ask for nothing but the session's depth.
+    pub options: DnsRequestOptions,
+    /// Seconds.
+    pub moment: u64,
+}
+
 /// What a session's query is answered, with options that ask for nothing but the session's depth, and at its moment.
 pub fn session_answer(alloc: Global, session: Session) -> Result<DnsResponse, NetError>
     ensures { UnlessNoMemory result (AnswersSession session (reply_of result)) }
+{
+    let made = session_lookup(alloc, session)?;
+    let SessionLookup {
+        mut validator,
+        query,
+        options,
+        moment,
+    } = made;
+    let answer = validator.lookup(alloc, query, options, moment);
+    drop(validator);
+    answer
+}
+
+/// The lookup that a session asks for, before it is made.
+pub fn session_lookup(alloc: Global, session: Session) -> Result<SessionLookup, NoMemory>
+    ensures upstream { IfOk result (λ l. inner_of l.validator ≡ recorded_by session.by_turn session.replies) }
+    ensures anchors { IfOk result (λ l. anchored (anchors_of l.validator) ≡ anchored session.anchors) }
+    ensures verifier { IfOk result (λ l. answers_of (verifier_of l.validator)
+        ≡ answers_of (listing session.algorithms session.accepts)) }
+    ensures query { IfOk result (λ l. l.query ≡ session.query) }
+    ensures options { IfOk result (λ l. l.options
+        ≡ record plain_options { max_request_depth = session_depth session }) }
+    ensures moment { IfOk result (λ l. l.moment ≡ session.moment) }
 {
     let Session {
         by_turn,
@@ -35,10 +73,14 @@ pub fn session_answer(alloc: Global, session: Session) -> Result<DnsResponse, Ne
     let verifier = session_verifier(alloc, &algorithms, accepts)?;
     let anchors = session_anchors(alloc, anchors)?;
     let upstream = session_upstream(alloc, by_turn, replies)?;
-    let mut handle = DnssecDnsHandle::new(upstream, anchors, verifier)?;
-    let answer = handle.lookup(alloc, query, session_options(depth), moment);
-    drop(handle);
-    answer
+    let validator = DnssecDnsHandle::new(upstream, anchors, verifier)?;
+    let options = session_options(depth);
+    Ok(SessionLookup {
+        validator,
+        query,
+        options,
+        moment,
+    })
 }
 
 /// Options that ask for nothing but the depth that a session says, or the default one where it says none.

@@ -2,7 +2,8 @@
 //! sink.
 //!
 //! A program gives the words after its name, a source and a sink, and ends with the status that [`run`] answers. Other
-//! crates may make of a session its upstream, its verifier, its trusted keys and its options, or the whole answer to it.
+//! crates may make of a session its upstream, its verifier, its trusted keys and its options, the lookup of these, or the
+//! whole answer to it.
 #![tactic(auto)]
 
 mod answering;
@@ -12,6 +13,7 @@ mod program;
 mod replies;
 
 pub use answering::{
-    session_anchors, session_answer, session_options, session_upstream, session_verifier,
+    SessionLookup, session_anchors, session_answer, session_lookup, session_options,
+    session_upstream, session_verifier,
 };
 pub use program::run;

@@ -1,8 +1,9 @@
-use Rattle.std.proofs.Common.{rules}
 use Rattle.dns_bench.proofs.LookupLemmas.{repeats_ok}
 use Rattle.dns_bench.proofs.lookups.count_lookups.Goals as goal
 
 pub returns : goal.returns
 returns c =
-    repeats_ok _ _ c.count_all-counts.result c.args.times c.in_ok-handle.handle c.session_options-options.result c.session.view_is
-    (search rules) (search rules) (search rules) (search rules) c.count_all-counts.ensures
+    let made = c.in_ok-made.made in
+    let is = c.in_ok-made.ensures in
+    repeats_ok c.args.session c.count_all-counts.result c.args.times made.validator made.query made.options made.moment
+    is.upstream is.verifier is.anchors is.query is.options is.moment c.count_all-counts.ensures

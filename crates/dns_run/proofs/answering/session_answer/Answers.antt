@@ -1,4 +1,4 @@
-use Rattle.std.proofs.Common.{refl, rules}
+use Rattle.std.proofs.Common.{refl}
 use Rattle.dns_recorded.specs.contracts.recorded.RecordedDnsHandle.TheImpl as upstream
 use Rattle.dns_anchors.specs.contracts.listed.ListedVerifier.TheImpl as tests
 use Rattle.dns_run.proofs.LookupLemmas.{reply_ok, all_known, answers_looked}
@@ -6,9 +6,10 @@ use Rattle.dns_run.proofs.answering.session_answer.Goals as goal
 
 pub returns : goal.returns
 returns c =
-    rw (← c.session.view_is)
-    (answers_looked upstream.ghosts tests.ghosts _ c.in_ok-handle.handle c.lookup-answer.new.self c.session_options.result c.lookup-answer.result refl refl
-    (search rules) (search rules) (search rules) (search rules)
+    let made = c.in_ok-made.made in
+    let is = c.in_ok-made.ensures in
+    answers_looked upstream.ghosts tests.ghosts c.args.session made.validator c.lookup-answer.new.self made.query made.options made.moment
+    c.lookup-answer.result refl refl is.upstream is.anchors is.verifier is.query is.options is.moment
     (record {
       sound = c.lookup-answer.ensures.sound;
       trail = c.lookup-answer.ensures.trail;
@@ -18,4 +19,4 @@ returns c =
       caused = c.lookup-answer.ensures.caused;
     })
     (all_known _ _ c.lookup-answer.result c.lookup-answer.ensures.passes c.lookup-answer.ensures.names_foreign c.lookup-answer.ensures.judges
-    c.lookup-answer.ensures.answers))
+    c.lookup-answer.ensures.answers)

@@ -1,0 +1,17 @@
+use Rattle.std.proofs.Common.{ap, ◌∙◌, rules}
+use Rattle.dns_anchors.specs.Listing.{answers_of}
+use Rattle.dns_run.specs.Soundness.{listing}
+use Rattle.dns_run.proofs.answering.session_lookup.Goals as goal
+
+pub returns : goal.returns
+returns c =
+    rw (← c.session.view_is) (record {
+      upstream = search rules;
+      anchors = search rules;
+      verifier =
+          ap answers_of c.in_ok-validator.ensures.verifier ∙ c.in_ok-verifier.ensures
+          ∙ ap (λ algorithms. answers_of (listing algorithms c.session.inside.accepts.items)) c.deref.ensures.value;
+      query = search rules;
+      options = search rules;
+      moment = search rules;
+    })
