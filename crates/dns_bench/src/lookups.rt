@@ -22,38 +22,44 @@ pub struct Lookups {
     pub faults: u64,
 }
 
-// Looks a query up.
-#[tactic(auto, using(crate::proofs::LookupLemmas::same_none))]
-fn look_up(
+/// What is looked up again and again.
+#[derive(Drop)]
+struct Repeated {
     alloc: Global,
-    handle: &mut DnssecDnsHandle<Recorded, Listed>,
-    query: &Query,
+    query: Query,
     options: DnsRequestOptions,
-    now: u64,
-) -> Result<DnsResponse, NetError>
-    ensures same { SameValidator handle.old handle.new }
-    ensures gives { UnlessNoMemory result (GivesAnswer (repeated_by handle.old query.now options now)
-        (inner_of handle.old) (reply_of result) (inner_of handle.new)) }
-{
-    let query = query.try_clone()?;
-    handle.lookup(alloc, query, options, now)
+    /// Seconds.
+    moment: u64,
 }
 
-// Looks a query up, and counts what came of it.
+// Looks it up.
+#[tactic(auto, using(crate::proofs::LookupLemmas::same_none))]
+fn look_up(
+    what: &Repeated,
+    handle: &mut DnssecDnsHandle<Recorded, Listed>,
+) -> Result<DnsResponse, NetError>
+    ensures same { SameValidator handle.old handle.new }
+    ensures gives { UnlessNoMemory result (GivesAnswer
+        (repeated_by handle.old what.now.query what.now.options what.now.moment)
+        (inner_of handle.old) (reply_of result) (inner_of handle.new)) }
+{
+    let query = what.query.try_clone()?;
+    handle.lookup(what.alloc, query, what.options, what.moment)
+}
+
+// Looks it up, and counts what came of it.
 #[tactic(auto, using(crate::proofs::LookupLemmas::reply_counted))]
 fn count_one(
-    alloc: Global,
+    what: &Repeated,
     handle: &mut DnssecDnsHandle<Recorded, Listed>,
-    query: &Query,
-    options: DnsRequestOptions,
-    now: u64,
     counts: Lookups,
 ) -> Result<Lookups, NoMemory>
     ensures same { SameValidator handle.old handle.new }
-    ensures more { IfOk result (λ after. OneMore (repeated_by handle.old query.now options now)
+    ensures more { IfOk result (λ after. OneMore
+        (repeated_by handle.old what.now.query what.now.options what.now.moment)
         (inner_of handle.old) (inner_of handle.new) counts after) }
 {
-    let reply = look_up(alloc, handle, query, options, now);
+    let reply = look_up(what, handle);
     let counts = with_reply(counts, &reply);
     drop(reply);
     counts
@@ -77,17 +83,16 @@ fn with_reply(counts: Lookups, reply: &Result<DnsResponse, NetError>) -> Result<
     }
 }
 
-// Looks a query up so many times.
+// Looks it up so many times.
 #[tactic(auto, using(crate::proofs::LookupLemmas::none_made, crate::proofs::LookupLemmas::one_made, crate::proofs::LookupLemmas::all_made))]
 fn count_all(
-    alloc: Global,
+    what: &Repeated,
     handle: &mut DnssecDnsHandle<Recorded, Listed>,
-    query: &Query,
-    options: DnsRequestOptions,
-    now: u64,
     times: u32,
 ) -> Result<Lookups, NoMemory>
-    ensures { IfOk result (λ n. Repeats (repeated_by handle.old query.now options now) (inner_of handle.old) times n) }
+    ensures { IfOk result (λ n. Repeats
+        (repeated_by handle.old what.now.query what.now.options what.now.moment)
+        (inner_of handle.old) times n) }
 {
     let mut counts = Lookups {
         answers: 0,
@@ -95,7 +100,7 @@ fn count_all(
     };
     let mut left = times;
     'times: while left > 0 {
-        counts = count_one(alloc, handle, query, options, now, counts)?;
+        counts = count_one(what, handle, counts)?;
         left -= 1;
     }
     Ok(counts)
@@ -116,7 +121,13 @@ pub(crate) fn count_lookups(
         options,
         moment,
     } = made;
-    let counts = count_all(alloc, &mut validator, &query, options, moment, times);
+    let what = Repeated {
+        alloc,
+        query,
+        options,
+        moment,
+    };
+    let counts = count_all(&what, &mut validator, times);
     drop(validator);
     counts
 }
