@@ -1,6 +1,7 @@
 -- The words that the program takes, and its fixed texts.
-use Rattle.std.specs.Prelude.{ℕ, ◌≡◌, List, [], ◌∷◌, ◌&&◌, map, codes, Vec, Option, None, Some, if◌then◌else◌}
+use Rattle.std.specs.Prelude.{ℕ, ◌≡◌, ◌≢◌, List, [], ◌∷◌, ◌&&◌, map, codes, Vec, Option, None, Some, if◌then◌else◌}
 use Rattle.dns_model.specs.Keys.{bytes_eq}
+use Rattle.dns_report.specs.declared.parts.Parts.{Parts}
 use Rattle.dns_report.specs.declared.parts.Parts.TheVariants.{Answer, WithTrail}
 use Rattle.dns_run.specs.declared.form.Form.{Form}
 use Rattle.dns_run.specs.declared.form.Form.TheVariants.{Validate, Help, Version}
@@ -29,8 +30,13 @@ form_in (word ∷ next ∷ third ∷ more) = None
 abbrev pub asked_form : {Z : Type 0} → List (Vec ℕ Z) → Option Form
 asked_form words = form_in (map (λ w. w.items) words)
 
-abbrev pub AsksFor : {Z : Type 0} → List (Vec ℕ Z) → Form → Type 0
-AsksFor words form = asked_form words ≡ Some form
+-- a fact of how much the report shows, where the words ask to answer a session
+abbrev pub IfValidates : {Z : Type 0} → List (Vec ℕ Z) → (Parts → Type 0) → Type 0
+IfValidates words Fact = (shows : Parts) → asked_form words ≡ Some (Validate shows) → Fact shows
+
+-- the words don't ask to answer a session
+abbrev pub AsksNoSession : {Z : Type 0} → List (Vec ℕ Z) → Type 0
+AsksNoSession words = (shows : Parts) → asked_form words ≢ Some (Validate shows)
 
 abbrev pub help_text : List ℕ
 help_text =

@@ -1,14 +1,12 @@
 //! The program over any source and any sink.
-ghost use Rattle.std.specs.Prelude.{◌≡◌, ◌≢◌, ◌<◌, ◌≤◌, ◌+◌, length, true, Some, IfSome};
+ghost use Rattle.std.specs.Prelude.{◌≡◌, ◌≢◌, ◌<◌, ◌≤◌, ◌+◌, length, true, IfSome};
 ghost use Rattle.std.specs.Io.KnownBytes.{Appends};
 ghost use Rattle.dns_model.specs.Counts.{Rose};
 ghost use Rattle.dns_io.specs.Reading.{input_limit, too_long_text, IsEnded, ReadsFront};
 ghost use Rattle.dns_run.specs.Completing.{IsValid, EndsSecurely};
-ghost use Rattle.dns_run.specs.Forms.{AsksFor, asked_form};
+ghost use Rattle.dns_run.specs.Forms.{asked_form, IfValidates, AsksNoSession};
 ghost use Rattle.dns_run.specs.Outcomes.{Leaves, LeavesPrefix, Wrote, WrotePrefix, ComesTo, Reports, Derives, Fails, Refuses};
 ghost use Rattle.dns_run.specs.Runs.{EndsAsSession, EndsByGrammar, EndsByLength, EndsByWords, IfSession};
-ghost use Rattle.dns_report.specs.declared.parts.Parts.{Parts};
-ghost use Rattle.dns_run.specs.declared.form.Form.TheVariants.{Validate};
 
 use crate::form::{Form, form_of, help_text, version_text};
 use crate::outcome::{Ending, session_ending};
@@ -83,37 +81,37 @@ pub fn run<S: Source, W: Sink>(
     // A report is that of a sound answer to the session, and its text fixes what it shows of the answer: the `View`, which is
     // code, denial, sections and chains, and the trail where the words ask for it. Where the source tells no bytes, it is the
     // report for some session.
-    ensures report { (shows : Parts) → AsksFor words.now (Validate shows) → result ≡ 0
-        → Leaves (Reports shows) (S.left input.old) (W.taken output.old) (W.taken output.new) }
+    ensures report { IfValidates words.now (λ shows. result ≡ 0
+        → Leaves (Reports shows) (S.left input.old) (W.taken output.old) (W.taken output.new)) }
 
     // That answer has a trail for the session, a derivation from the session's replies, in which what is Insecure has its ground.
     // And what it denies holds in each zone in which the Secure NSEC records of the reply are true.
-    ensures derived { (shows : Parts) → AsksFor words.now (Validate shows) → result ≡ 0
-        → Leaves (Derives shows) (S.left input.old) (W.taken output.old) (W.taken output.new) }
+    ensures derived { IfValidates words.now (λ shows. result ≡ 0
+        → Leaves (Derives shows) (S.left input.old) (W.taken output.old) (W.taken output.new)) }
 
     // 1 is answered only with the line of an error that has its cause in the session.
     ensures fault { result ≡ 1 → Leaves Fails (S.left input.old) (W.taken output.old) (W.taken output.new) }
 
     // What each session must end with, unless the status is 4 or more.
-    ensures session { (shows : Parts) → AsksFor words.now (Validate shows)
-        → IfSession (S.left input.old) (λ s. EndsAsSession s result (W.taken output.old) (W.taken output.new)) }
+    ensures session { IfValidates words.now (λ shows.
+        IfSession (S.left input.old) (λ s. EndsAsSession s result (W.taken output.old) (W.taken output.new))) }
 
     // A session that is valid for its query is reported with the records that were queried, each of them Secure, unless the
     // status is 4 or more.
-    ensures completes { (shows : Parts) → AsksFor words.now (Validate shows)
-        → IfSession (S.left input.old) (λ s. IsValid s → EndsSecurely shows s result (W.taken output.old) (W.taken output.new)) }
+    ensures completes { IfValidates words.now (λ shows. IfSession (S.left input.old)
+        (λ s. IsValid s → EndsSecurely shows s result (W.taken output.old) (W.taken output.new))) }
 
     // 3, and an input that is no session.
-    ensures grammar { (shows : Parts) → AsksFor words.now (Validate shows)
-        → EndsByGrammar result (S.left input.old) (W.taken output.old) (W.taken output.new) }
+    ensures grammar { IfValidates words.now (λ shows.
+        EndsByGrammar result (S.left input.old) (W.taken output.old) (W.taken output.new)) }
 
     // 7, and an input that is too long.
-    ensures length { (shows : Parts) → AsksFor words.now (Validate shows)
-        → EndsByLength result (S.left input.old) (W.taken output.old) (W.taken output.new) }
+    ensures length { IfValidates words.now (λ shows.
+        EndsByLength result (S.left input.old) (W.taken output.old) (W.taken output.new)) }
 
     // Words that ask for a text, or for nothing: 2 is for the latter alone, and neither reads anything.
     ensures words { EndsByWords (asked_form words.now) result (W.taken output.old) (W.taken output.new) }
-    ensures unread { ((shows : Parts) → asked_form words.now ≢ Some (Validate shows)) → input.new ≡ input.old }
+    ensures unread { AsksNoSession words.now → input.new ≡ input.old }
 
     // 4 and 5 are answered only where the count of faults rose.
     ensures source { result ≡ 4 → Rose (S.faults input.old) (S.faults input.new) }
@@ -121,17 +119,15 @@ pub fn run<S: Source, W: Sink>(
     ensures sink { result ≡ 5 → Rose (W.faults output.old) (W.faults output.new) }
 
     // Where nothing is looked up, 6 is answered only over a sink whose writes may want memory.
-    ensures memory { ((shows : Parts) → asked_form words.now ≢ Some (Validate shows)) → result ≡ 6
-        → W.takes_memory ≡ true }
+    ensures memory { AsksNoSession words.now → result ≡ 6 → W.takes_memory ≡ true }
 
     // Whatever the status, a prefix of a text that the input comes to was written.
-    ensures prefix { (shows : Parts) → AsksFor words.now (Validate shows)
-        → LeavesPrefix shows (S.left input.old) (W.taken output.old) (W.taken output.new) }
+    ensures prefix { IfValidates words.now (λ shows.
+        LeavesPrefix shows (S.left input.old) (W.taken output.old) (W.taken output.new)) }
 
     // An input that is answered, or refused by the grammar, was read to its end; and one byte past the limit is the most that
     // is read.
-    ensures ended { (shows : Parts) → AsksFor words.now (Validate shows)
-        → result < 4 → IsEnded (S.left input.old) (S.left input.new) }
+    ensures ended { IfValidates words.now (λ shows. result < 4 → IsEnded (S.left input.old) (S.left input.new)) }
     ensures reads { ReadsFront (input_limit + 1) (S.left input.old) (S.left input.new) }
 
     ensures most { result ≤ 7 }
