@@ -1,14 +1,15 @@
 -- What the checks say of the response to a session, and how a run ends: out of what the parts ensure.
-use Rattle.std.proofs.Common.{ℕ, ◌≡◌, ◌⊎◌, ◌↔◌, ◌∙◌, Bool, true, false, List, [], Option, None, Some, Result, Ok, Err, IfOk, IsTrue, refl, ap, ap₂, subst, inl, inr}
+use Rattle.std.proofs.Common.{ℕ, ◌≡◌, ◌⊎◌, ◌∙◌, Bool, false, List, [], Option, None, Some, Result, Ok, Err, IfOk, refl, ap, ap₂, subst, inl, inr}
 use Rattle.std.specs.Result.{result_ok}
 use Rattle.std.specs.Io.KnownBytes.{Appends}
 use Rattle.dns_model.specs.Keys.{VerifierAnswers, AnchorValue, anchored}
 use Rattle.dns_model.specs.Chains.{Judge, judge}
 use Rattle.dns_model.specs.SoundAnswers.{ResponseValue}
-use Rattle.dns_handle.specs.Errors as seen
+use Rattle.dns_handle.specs.ErrorKinds.{is_no_memory}
 use Rattle.dns_handle.specs.Replies.{error_of}
 use Rattle.dns_handle.specs.declared.error.NetError.{NetError}
 use Rattle.dns_handle.specs.declared.error.NetError.TheVariants.{NoMemory}
+use Rattle.dns_handle.proofs.ErrorLemmas.{untold_no_memory}
 use Rattle.dns_anchors.specs.Listing.{answers_of}
 use Rattle.dns_session.specs.SessionValue.{SessionValue}
 use Rattle.dns_session.specs.Grammar.{session_of}
@@ -27,16 +28,13 @@ use Rattle.dns_audit_trial.specs.Endings.{Audits, ComesTo, EndsAs, EndsTold, End
 
 -- ---- the response
 
-no_both : (b : Bool) → b ≡ true → b ≡ false → ⊥
-no_both b true_is false_is = cc
-
 -- an error that was tested for want of memory
-pub responds_tested : (s : SessionValue) (e : NetError) (is_memory : Bool) (response : Option ResponseValue)
-    → (IsTrue is_memory ↔ (error_of e ≡ seen.NoMemory)) → is_memory ≡ false → (e ≡ NoMemory) ⊎ AnswersSession s (Err (error_of e))
+pub responds_tested : (s : SessionValue) (e : NetError) (told : Bool) (response : Option ResponseValue)
+    → told ≡ is_no_memory (error_of e) → told ≡ false → (e ≡ NoMemory) ⊎ AnswersSession s (Err (error_of e))
     → response ≡ response_in (Err (error_of e)) → Responds s response
-responds_tested s e is_memory response tells not_memory (inl memory) has =
-    absurd (no_both is_memory (tells.1 (ap error_of memory)) not_memory)
-responds_tested s e is_memory response tells not_memory (inr given) has =
+responds_tested s e told response tests untold (inl memory) has =
+    absurd (untold_no_memory e told tests untold (ap error_of memory))
+responds_tested s e told response tests untold (inr given) has =
     record { answer = Err (error_of e); answered = given; has = has }
 
 -- an Ok answer has its response

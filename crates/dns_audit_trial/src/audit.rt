@@ -1,7 +1,6 @@
 //! What the checks say of a response (RFC 4035, 4.3, 5.2 and 5.3).
-ghost use Rattle.std.specs.Prelude.{◌≡◌, ◌↔◌, Err, IfOk, IsTrue};
+ghost use Rattle.std.specs.Prelude.{◌≡◌, Err, IfOk};
 ghost use Rattle.dns_anchors.specs.Judge.{judge_of};
-ghost use Rattle.dns_handle.specs.Errors as seen;
 ghost use Rattle.dns_handle.specs.Replies.{error_of};
 ghost use Rattle.dns_audit_trial.specs.Audits.{audited_by, response_in, session_audited, with_chain, with_chains, Responds};
 
@@ -19,6 +18,7 @@ use std::alloc::Global;
 pub struct Audited {
     /// How many of the chains are justified.
     pub justified: u64,
+    /// How many chains there are.
     pub chains: u64,
     /// The trail is a derivation.
     pub is_derived: bool,
@@ -137,13 +137,6 @@ pub(crate) fn session_audited(
     checked_again(alloc, &judge, depth, response, more)
 }
 
-// The error is want of memory.
-fn is_no_memory(error: &NetError) -> bool
-    ensures { IsTrue result ↔ (error_of error.now ≡ seen.NoMemory) }
-{
-    matches!(error, NetError::NoMemory)
-}
-
 // The response inside an error; none but a denial has one.
 fn denied_response(error: NetError) -> Option<DnsResponse>
     ensures { result ≡ response_in (Err (error_of error)) }
@@ -171,7 +164,7 @@ pub(crate) fn response_to(alloc: Global, session: Session) -> Result<Option<DnsR
     match session_answer(alloc, session) {
         Ok(response) => Ok(Some(response)),
         Err(error) => {
-            if is_no_memory(&error) {
+            if error.is_no_memory() {
                 drop(error);
                 return Err(NoMemory);
             }

@@ -1,7 +1,8 @@
 -- The test of an error for want of memory.
-use Rattle.std.proofs.Common.{◌≡◌, ◌∙◌, Bool, true, Result, Err, refl, sym, ap}
+use Rattle.std.proofs.Common.{◌≡◌, ◌≢◌, ◌∙◌, Bool, true, false, Result, Err, refl, sym, ap}
 use Rattle.std.specs.Prelude.{IsTrue, ◌↔◌}
 use Rattle.dns_handle.specs.ErrorKinds.{is_no_memory}
+use Rattle.dns_handle.specs.Errors as seen
 use Rattle.dns_handle.specs.Replies.{error_of}
 use Rattle.dns_handle.specs.declared.error.NetError.{NetError}
 use Rattle.dns_handle.specs.declared.error.NetError.TheVariants.{Busy, Dns, Message, Msg, NoConnections, Proto, Io, Timeout, QueryCaseMismatch, ForeignClassRecord, Truncated, NoMemory}
@@ -31,3 +32,7 @@ reply_no_memory reply e told is tests = (
   λ passes. is ∙ ap Err (told_no_memory e (sym tests ∙ passes)),
   λ memory. tests ∙ ap (λ x. is_no_memory (error_of x)) (error_same reply e NoMemory is memory),
 )
+
+-- an error that doesn't pass the test isn't seen as want of memory
+pub untold_no_memory : (e : NetError) (told : Bool) → told ≡ is_no_memory (error_of e) → told ≡ false → error_of e ≢ seen.NoMemory
+untold_no_memory e told tests untold = λ memory. let both : false ≡ true = sym untold ∙ tests ∙ ap is_no_memory memory in cc

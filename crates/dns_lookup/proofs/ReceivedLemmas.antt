@@ -7,13 +7,15 @@ use Rattle.dns_judgement.specs.Marking.{cleared_message}
 use Rattle.dns_handle.specs.Errors as seen
 use Rattle.dns_handle.specs.Errors.{Reply, ErrorValue}
 use Rattle.dns_handle.specs.Causes.{HasCause}
+use Rattle.dns_handle.specs.ErrorKinds.{is_no_memory}
 use Rattle.dns_handle.specs.Handles.{ReplyIsTold, IsLeft}
 use Rattle.dns_handle.specs.Replies.{error_of, reply_of}
 use Rattle.dns_handle.specs.Requests.{RequestValue, first_question}
 use Rattle.dns_handle.specs.declared.error.NetError.{NetError}
-use Rattle.dns_handle.specs.declared.error.NetError.TheVariants.{Busy, Dns, Message, Msg, NoConnections, Proto, Io, Timeout, QueryCaseMismatch, ForeignClassRecord, Truncated, NoMemory}
+use Rattle.dns_handle.specs.declared.error.NetError.TheVariants.{NoMemory}
 use Rattle.dns_handle.specs.declared.handle.DnsHandle as handle
 use Rattle.dns_handle.specs.declared.request.DnsRequestOptions.{DnsRequestOptions}
+use Rattle.dns_handle.proofs.ErrorLemmas.{told_no_memory}
 use Rattle.dns_lookup.specs.Calls.{Sending, Asking, IsCaused}
 use Rattle.dns_lookup.specs.Received.{received_message, says_none}
 use Rattle.dns_lookup.specs.AskRequests.{Ask, request_for}
@@ -23,21 +25,6 @@ use Rattle.dns_lookup.specs.LookupParts.{heard_told, told_of}
 use Rattle.dns_lookup.specs.declared.receiving.ReceivedMessage.{ReceivedMessage}
 
 -- ---- a reply
-
--- only want of memory is seen as want of memory
-pub seen_no_memory : (e : NetError) → error_of e ≡ seen.NoMemory → e ≡ NoMemory
-seen_no_memory Busy h = cc
-seen_no_memory (Dns error) h = cc
-seen_no_memory (Message notice) h = cc
-seen_no_memory (Msg text) h = cc
-seen_no_memory NoConnections h = cc
-seen_no_memory (Proto error) h = cc
-seen_no_memory (Io kind) h = cc
-seen_no_memory Timeout h = cc
-seen_no_memory QueryCaseMismatch h = cc
-seen_no_memory (ForeignClassRecord owner class rtype) h = cc
-seen_no_memory Truncated h = cc
-seen_no_memory NoMemory h = refl
 
 error_same : (a b : ErrorValue) → (let x : Reply = Err a in x) ≡ Err b → a ≡ b
 error_same a b h = cc
@@ -52,7 +39,7 @@ received_remembered reply received h = λ is. none_some h.from (sym (ap received
 -- nor is another error
 pub error_remembered : (reply : Reply) (error : NetError) → (error ≡ NoMemory → ⊥) → IsReceivedError reply error → reply ≢ Err seen.NoMemory
 error_remembered reply error other faulted =
-    λ is. other (seen_no_memory error (error_same (error_of error) seen.NoMemory (sym faulted.is ∙ is)))
+    λ is. other (told_no_memory error (ap is_no_memory (error_same (error_of error) seen.NoMemory (sym faulted.is ∙ is))))
 
 -- an error other than want of memory is that of the reply
 pub received_error : (reply : Reply) (error : NetError) → (error ≡ NoMemory → ⊥) → ReceivedAs reply (Err error) → IsReceivedError reply error

@@ -1,12 +1,14 @@
 -- What is written of the answer to a session: the report on a response, or the line of an error.
-use Rattle.std.proofs.Common.{◌≡◌, ◌≢◌, ◌⊎◌, Bool, true, false, ℕ, List, Ok, Err, refl, ap, inl, inr}
-use Rattle.std.specs.Prelude.{IsTrue, ◌↔◌}
+use Rattle.std.proofs.Common.{◌≡◌, ◌≢◌, ◌⊎◌, Bool, false, ℕ, List, Ok, Err, refl, ap, inl, inr}
+use Rattle.std.specs.Prelude.{IsTrue}
 use Rattle.dns_model.specs.SoundAnswers.{ResponseValue}
+use Rattle.dns_handle.specs.ErrorKinds.{is_no_memory}
 use Rattle.dns_handle.specs.Errors as seen
 use Rattle.dns_handle.specs.Errors.{ErrorValue}
 use Rattle.dns_handle.specs.Replies.{error_of}
 use Rattle.dns_handle.specs.declared.error.NetError.{NetError}
 use Rattle.dns_handle.specs.declared.error.NetError.TheVariants.{NoMemory}
+use Rattle.dns_handle.proofs.ErrorLemmas.{untold_no_memory}
 use Rattle.dns_report.specs.declared.parts.Parts.{Parts}
 use Rattle.dns_report.specs.View.{View, view_of, fitting_view}
 use Rattle.dns_report.specs.Report.{report_text, view_text}
@@ -25,19 +27,14 @@ report_given shows s answer text given is fits tells = record {
   denies = given.denies;
 }
 
-no_both : (b : Bool) → b ≡ true → b ≡ false → ⊥
-no_both b true_is false_is = cc
-
 -- the line of an error in answer to a session
 fault_given : (s : SessionValue) (e : ErrorValue) (text : List ℕ)
     → e ≢ seen.NoMemory → AnswersSession s (Err e) → text ≡ fault_text e → IsFault s text
 fault_given s e text own given is = record { error = e; own = own; cause = given.caused e refl own; spelled = is }
 
 -- the line of a lookup's error that was tested for want of memory
-pub fault_tested : (s : SessionValue) (e : NetError) (is_memory : Bool) (text : List ℕ)
-    → (IsTrue is_memory ↔ (error_of e ≡ seen.NoMemory)) → is_memory ≡ false → (e ≡ NoMemory) ⊎ AnswersSession s (Err (error_of e))
+pub fault_tested : (s : SessionValue) (e : NetError) (told : Bool) (text : List ℕ)
+    → told ≡ is_no_memory (error_of e) → told ≡ false → (e ≡ NoMemory) ⊎ AnswersSession s (Err (error_of e))
     → text ≡ fault_text (error_of e) → IsFault s text
-fault_tested s e is_memory text tells not_memory (inl memory) is =
-    absurd (no_both is_memory (tells.1 (ap error_of memory)) not_memory)
-fault_tested s e is_memory text tells not_memory (inr given) is =
-    fault_given s (error_of e) text (λ memory. no_both is_memory (tells.1 memory) not_memory) given is
+fault_tested s e told text tests untold (inl memory) is = absurd (untold_no_memory e told tests untold (ap error_of memory))
+fault_tested s e told text tests untold (inr given) is = fault_given s (error_of e) text (untold_no_memory e told tests untold) given is

@@ -1,7 +1,6 @@
 //! What bytes that were read come to, before anything is written.
-ghost use Rattle.std.specs.Prelude.{◌≡◌, ◌<◌, ◌^◌, ◌↔◌, length, IfOk, IsTrue};
-ghost use Rattle.dns_handle.specs.Errors as seen;
-ghost use Rattle.dns_handle.specs.Replies.{error_of, reply_of};
+ghost use Rattle.std.specs.Prelude.{◌<◌, ◌^◌, length, IfOk};
+ghost use Rattle.dns_handle.specs.Replies.{reply_of};
 ghost use Rattle.dns_lookup.specs.LookupAnswers.{UnlessNoMemory};
 ghost use Rattle.dns_session.specs.SessionValue.{SessionValue};
 ghost use Rattle.dns_run.specs.Causes.{AnswersSession};
@@ -50,20 +49,13 @@ fn reply_ending(
             Ok((Ending::Report, text))
         }
         Err(error) => {
-            if is_no_memory(error) {
+            if error.is_no_memory() {
                 return Err(NoMemory);
             }
             let text = write_fault(alloc, error)?;
             Ok((Ending::Fault, text))
         }
     }
-}
-
-/// The error is want of memory.
-fn is_no_memory(error: &NetError) -> bool
-    ensures { IsTrue result ↔ (error_of error.now ≡ seen.NoMemory) }
-{
-    matches!(error, NetError::NoMemory)
 }
 
 /// What an input comes to, and the text of it.
