@@ -9,7 +9,7 @@ use Rattle.dns_model.specs.Names.{Labels, folded, name_eq, wire}
 use Rattle.dns_model.specs.Keys.{AnchorValue, bytes_eq, is_anchor}
 use Rattle.dns_model.proofs.NameLemmas.{name_eq-Decides}
 use Rattle.dns_anchors.specs.Finding.{mixed}
-use Rattle.dns_anchors.specs.Listing.{ListedSignatureValue, is_entry, signature_number, entry_number}
+use Rattle.dns_anchors.specs.Listing.{ListedSignatureValue, is_entry, signature_number}
 use Rattle.dns_anchors.specs.Anchoring.{anchor_number, number_of_anchor}
 
 -- the wire form in lower case, from the folded labels
@@ -37,14 +37,20 @@ anchor_alike owner algorithm key anchor h =
     ∙ ap (λ k. mixed (mixed algorithm k) (map to_ascii_lowercase (wire anchor.owner))) ((bytes_eq-Decides key anchor.key).0 two.1)
     ∙ ap (λ a. mixed (mixed a anchor.key) (map to_ascii_lowercase (wire anchor.owner))) (eqb-true algorithm anchor.algorithm two.0))
 
+abbrev with_parts : ℕ → List ℕ → List ℕ → List ℕ → ListedSignatureValue
+with_parts algorithm key bytes signature = record { algorithm = algorithm; key = key; bytes = bytes; signature = signature }
+
+-- a signature that is an entry is the same
+pub entry_same : (sought entry : ListedSignatureValue) → is_entry sought entry ≡ true → sought ≡ entry
+entry_same sought entry h =
+    let one = and_parts (sought.algorithm == entry.algorithm) (bytes_eq sought.key entry.key && (bytes_eq sought.bytes entry.bytes && bytes_eq sought.signature entry.signature)) h in
+    let two = and_parts (bytes_eq sought.key entry.key) (bytes_eq sought.bytes entry.bytes && bytes_eq sought.signature entry.signature) one.1 in
+    let three = and_parts (bytes_eq sought.bytes entry.bytes) (bytes_eq sought.signature entry.signature) two.1 in
+    ap (λ a. with_parts a sought.key sought.bytes sought.signature) (eqb-true sought.algorithm entry.algorithm one.0)
+    ∙ ap (λ k. with_parts entry.algorithm k sought.bytes sought.signature) ((bytes_eq-Decides sought.key entry.key).0 two.0)
+    ∙ ap (λ b. with_parts entry.algorithm entry.key b sought.signature) ((bytes_eq-Decides sought.bytes entry.bytes).0 three.0)
+    ∙ ap (with_parts entry.algorithm entry.key entry.bytes) ((bytes_eq-Decides sought.signature entry.signature).0 three.1)
+
 -- the number of a signature that is equal
-pub entry_alike : (algorithm : ℕ) (key bytes signature : List ℕ) (entry : ListedSignatureValue) → is_entry algorithm key bytes signature entry ≡ true
-    → entry_number entry ≡ signature_number algorithm key bytes signature
-entry_alike algorithm key bytes signature entry h =
-    let one = and_parts (algorithm == entry.algorithm) (bytes_eq key entry.key && (bytes_eq bytes entry.bytes && bytes_eq signature entry.signature)) h in
-    let two = and_parts (bytes_eq key entry.key) (bytes_eq bytes entry.bytes && bytes_eq signature entry.signature) one.1 in
-    let three = and_parts (bytes_eq bytes entry.bytes) (bytes_eq signature entry.signature) two.1 in
-    sym (ap (λ a. mixed (mixed (mixed a key) bytes) signature) (eqb-true algorithm entry.algorithm one.0)
-    ∙ ap (λ k. mixed (mixed (mixed entry.algorithm k) bytes) signature) ((bytes_eq-Decides key entry.key).0 two.0)
-    ∙ ap (λ b. mixed (mixed (mixed entry.algorithm entry.key) b) signature) ((bytes_eq-Decides bytes entry.bytes).0 three.0)
-    ∙ ap (mixed (mixed (mixed entry.algorithm entry.key) entry.bytes)) ((bytes_eq-Decides signature entry.signature).0 three.1))
+pub entry_alike : (sought entry : ListedSignatureValue) → is_entry sought entry ≡ true → signature_number entry ≡ signature_number sought
+entry_alike sought entry h = ap signature_number (sym (entry_same sought entry h))

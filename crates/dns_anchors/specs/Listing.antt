@@ -15,10 +15,11 @@ pub record ListedValue : Type 0 where
   pub algorithms : List ℕ
   pub accepted : List ListedSignatureValue
 
-abbrev pub is_entry : ℕ → List ℕ → List ℕ → List ℕ → ListedSignatureValue → Bool
-is_entry algorithm key bytes signature entry =
-    (algorithm == entry.algorithm)
-    && (bytes_eq key entry.key && (bytes_eq bytes entry.bytes && bytes_eq signature entry.signature))
+-- the signature that is looked for is that of an entry
+abbrev pub is_entry : ListedSignatureValue → ListedSignatureValue → Bool
+is_entry sought entry =
+    (sought.algorithm == entry.algorithm)
+    && (bytes_eq sought.key entry.key && (bytes_eq sought.bytes entry.bytes && bytes_eq sought.signature entry.signature))
 
 abbrev pub is_listed : ListedValue → ℕ → Bool
 is_listed listed algorithm = list_any (λ a. algorithm == a) listed.algorithms
@@ -28,7 +29,8 @@ abbrev pub answers_of : ListedValue → VerifierAnswers
 answers_of listed = record {
   supports = λ algorithm. not (algorithm == 1) && is_listed listed algorithm;
   accepts = λ algorithm key bytes signature.
-      not (algorithm == 1) && list_any (is_entry algorithm key bytes signature) listed.accepted;
+      not (algorithm == 1)
+      && list_any (is_entry (record { algorithm = algorithm; key = key; bytes = bytes; signature = signature })) listed.accepted;
 }
 
 -- one algorithm more; algorithm 1 changes nothing
@@ -45,18 +47,14 @@ with_accepted listed entry =
 -- ---- for private functions of this crate only
 
 -- the number by which a signature is found
-abbrev pub signature_number : ℕ → List ℕ → List ℕ → List ℕ → ℕ
-signature_number algorithm key bytes signature = mixed (mixed (mixed algorithm key) bytes) signature
+abbrev pub signature_number : ListedSignatureValue → ℕ
+signature_number sought = mixed (mixed (mixed sought.algorithm sought.key) sought.bytes) sought.signature
 
-abbrev pub entry_number : ListedSignatureValue → ℕ
-entry_number entry = signature_number entry.algorithm entry.key entry.bytes entry.signature
-
--- an entry of another list is listed
-abbrev pub holds_entry : ListedValue → ListedSignatureValue → Bool
-holds_entry listed entry = list_any (is_entry entry.algorithm entry.key entry.bytes entry.signature) listed.accepted
+abbrev pub holds : ListedValue → ListedSignatureValue → Bool
+holds listed sought = list_any (is_entry sought) listed.accepted
 
 -- all that one list holds, the other holds, algorithm 1 aside
 abbrev pub is_within : ListedValue → ListedValue → Bool
 is_within one other =
     list_all (λ a. (a == 1) || is_listed other a) one.algorithms
-    && list_all (λ e. (e.algorithm == 1) || holds_entry other e) one.accepted
+    && list_all (λ e. (e.algorithm == 1) || holds other e) one.accepted

@@ -1,9 +1,9 @@
-ghost use Rattle.std.specs.Prelude.{◌≡◌, ◌↔◌, ◌==◌, ◌&&◌, ◌||◌, ◌++◌, ◌∷◌, [], false, IsTrue, IfOk, OnOk, OnErr};
+ghost use Rattle.std.specs.Prelude.{◌≡◌, ◌↔◌, ◌==◌, ◌&&◌, ◌||◌, ◌++◌, ◌∷◌, [], false, IsTrue, OnOk, OnErr};
 ghost use Rattle.std.specs.List.{list_all, list_any};
 ghost use Rattle.dns_evidence.specs.Verifiers.{AnswerAlike};
 ghost use Rattle.dns_anchors.specs.ByteSets.{IsByteSet};
 ghost use Rattle.dns_anchors.specs.Finding.{passes_at};
-ghost use Rattle.dns_anchors.specs.Listing.{answers_of, holds_entry as holds_entry_in, is_entry as is_entry_of, is_listed, is_within as is_within_of, signature_number as number_in, with_accepted, with_algorithm};
+ghost use Rattle.dns_anchors.specs.Listing.{ListedSignatureValue, answers_of, holds as holds_in, is_entry as is_entry_of, is_listed, is_within as is_within_of, signature_number as number_in, with_accepted, with_algorithm};
 
 use crate::finding::{PlacesByNumber, add_place, mix, places_of};
 use arrayvec::ArrayVec;
@@ -30,6 +30,37 @@ impl Model for ListedSignature {
     ghost view = { λ a. record { algorithm = a.algorithm; key = a.key; bytes = a.bytes; signature = a.signature } };
 }
 
+/// A signature that is looked for among those that are accepted.
+#[derive(Drop)]
+struct SoughtSignature<'a> {
+    algorithm: u8,
+    key: &'a [u8],
+    bytes: &'a [u8],
+    signature: &'a [u8],
+}
+
+impl<'a> Model for SoughtSignature<'a> {
+    ghost use Rattle.dns_anchors.specs.Listing.{ListedSignatureValue};
+
+    ghost Value = { ListedSignatureValue };
+
+    ghost view = { λ s. record { algorithm = s.algorithm; key = s.key.now; bytes = s.bytes.now; signature = s.signature.now } };
+}
+
+impl ListedSignature {
+    // The same as a signature that is looked for.
+    fn sought(&self) -> SoughtSignature<'_>
+        ensures { result ≡ self.now }
+    {
+        SoughtSignature {
+            algorithm: self.algorithm,
+            key: self.key.as_slice(),
+            bytes: self.bytes.as_slice(),
+            signature: self.signature.as_slice(),
+        }
+    }
+}
+
 /// A verifier that supports and accepts what was listed, and nothing else; algorithm 1 never. It computes nothing.
 #[derive(Drop)]
 pub struct Listed {
@@ -39,7 +70,7 @@ pub struct Listed {
 }
 
 impl Model for Listed {
-    ghost use Rattle.dns_anchors.specs.Listing.{ListedValue, entry_number};
+    ghost use Rattle.dns_anchors.specs.Listing.{ListedValue, signature_number};
     ghost use Rattle.dns_anchors.specs.ByteSets.{IsByteSet};
     ghost use Rattle.dns_anchors.specs.Finding.{Covers};
 
@@ -47,7 +78,7 @@ impl Model for Listed {
 
     ghost view = { λ l. record { algorithms = l.algorithms.items; accepted = l.accepted.items } };
 
-    ghost invariant = { λ l. Covers entry_number l.places l.accepted.items × IsByteSet l.algorithms.items };
+    ghost invariant = { λ l. Covers signature_number l.places l.accepted.items × IsByteSet l.algorithms.items };
 }
 
 impl Listed {
@@ -112,19 +143,15 @@ impl Listed {
             return Ok(());
         }
         let alloc = *self.accepted.allocator();
-        let number = signature_number(
-            algorithm,
-            key.as_slice(),
-            bytes.as_slice(),
-            signature.as_slice(),
-        );
-        add_place(alloc, &mut self.places, number, self.accepted.len())?;
-        self.accepted.push(ListedSignature {
+        let entry = ListedSignature {
             algorithm,
             key,
             bytes,
             signature,
-        })?;
+        };
+        let number = signature_number(&entry.sought());
+        add_place(alloc, &mut self.places, number, self.accepted.len())?;
+        self.accepted.push(entry)?;
         Ok(())
     }
 }
@@ -139,7 +166,13 @@ impl Verifier for Listed {
     }
 
     fn accepts(&self, algorithm: u8, key: &[u8], bytes: &[u8], signature: &[u8]) -> bool {
-        algorithm != 1 && self.holds(algorithm, key, bytes, signature)
+        let sought = SoughtSignature {
+            algorithm,
+            key,
+            bytes,
+            signature,
+        };
+        algorithm != 1 && self.holds(&sought)
     }
 
     /// Both hold the same, in whatever order and however often.
@@ -153,14 +186,11 @@ impl Verifier for Listed {
 
 impl Listed {
     // A signature is listed.
-    fn holds(&self, algorithm: u8, key: &[u8], bytes: &[u8], signature: &[u8]) -> bool
-        ensures { result ≡ list_any (is_entry_of algorithm key.now bytes.now signature.now) self.now.accepted }
+    fn holds(&self, sought: &SoughtSignature<'_>) -> bool
+        ensures { result ≡ holds_in self.now sought.now }
     {
-        let places = places_of(
-            &self.places,
-            signature_number(algorithm, key, bytes, signature),
-        );
-        is_at(&self.accepted, places, algorithm, key, bytes, signature)
+        let places = places_of(&self.places, signature_number(sought));
+        is_at(&self.accepted, places, sought)
     }
 
     // The other supports and accepts what this does.
@@ -175,18 +205,6 @@ impl Listed {
         ensures { result ≡ is_listed self.now algorithm }
     {
         has_algorithm(self.algorithms.as_slice(), algorithm)
-    }
-
-    // An entry is listed.
-    fn holds_entry(&self, entry: &ListedSignature) -> bool
-        ensures { result ≡ holds_entry_in self.now entry.now }
-    {
-        self.holds(
-            entry.algorithm,
-            entry.key.as_slice(),
-            entry.bytes.as_slice(),
-            entry.signature.as_slice(),
-        )
     }
 }
 
@@ -208,11 +226,11 @@ fn supports_all(listed: &Listed, algorithms: &[u8]) -> bool
 
 // All these signatures are accepted, but those of algorithm 1.
 fn accepts_all(listed: &Listed, entries: &[ListedSignature]) -> bool
-    ensures { result ≡ list_all (λ e. (e.algorithm == 1) || holds_entry_in listed.now e) entries.now }
+    ensures { result ≡ list_all (λ e. (e.algorithm == 1) || holds_in listed.now e) entries.now }
 {
     entries
         .iter()
-        .all(|entry| entry.algorithm == 1 || listed.holds_entry(entry))
+        .all(|entry| entry.algorithm == 1 || listed.holds(&entry.sought()))
 }
 
 // One algorithm more, for which there is room, since each has another number of a byte.
@@ -233,55 +251,41 @@ fn has_algorithm(algorithms: &[u8], algorithm: u8) -> bool
 }
 
 // The entry at one of some places is this signature.
-fn is_at(
-    accepted: &[ListedSignature],
-    places: &[usize],
-    algorithm: u8,
-    key: &[u8],
-    bytes: &[u8],
-    signature: &[u8],
-) -> bool
-    ensures { result ≡ list_any (passes_at (is_entry_of algorithm key.now bytes.now signature.now) accepted.now) places.now }
+fn is_at(accepted: &[ListedSignature], places: &[usize], sought: &SoughtSignature<'_>) -> bool
+    ensures { result ≡ list_any (passes_at (is_entry_of sought.now) accepted.now) places.now }
 {
-    places.iter().any(|place| is_entry_at(accepted, *place, algorithm, key, bytes, signature))
+    places.iter().any(|place| is_entry_at(accepted, *place, sought))
 }
 
 // The entry at a place is this signature.
-fn is_entry_at(
-    accepted: &[ListedSignature],
-    place: usize,
-    algorithm: u8,
-    key: &[u8],
-    bytes: &[u8],
-    signature: &[u8],
-) -> bool
-    ensures { result ≡ passes_at (is_entry_of algorithm key.now bytes.now signature.now) accepted.now place }
+fn is_entry_at(accepted: &[ListedSignature], place: usize, sought: &SoughtSignature<'_>) -> bool
+    ensures { result ≡ passes_at (is_entry_of sought.now) accepted.now place }
 {
     match accepted.get(place) {
-        Some(entry) => is_entry(entry, algorithm, key, bytes, signature),
+        Some(entry) => is_entry(entry, sought),
         None => false,
     }
 }
 
 // The entry is this signature.
-fn is_entry(
-    entry: &ListedSignature,
-    algorithm: u8,
-    key: &[u8],
-    bytes: &[u8],
-    signature: &[u8],
-) -> bool
-    ensures { result ≡ is_entry_of algorithm key.now bytes.now signature.now entry.now }
+fn is_entry(entry: &ListedSignature, sought: &SoughtSignature<'_>) -> bool
+    ensures { result ≡ is_entry_of sought.now entry.now }
 {
-    algorithm == entry.algorithm
-        && key == entry.key.as_slice()
-        && bytes == entry.bytes.as_slice()
-        && signature == entry.signature.as_slice()
+    sought.algorithm == entry.algorithm
+        && sought.key == entry.key.as_slice()
+        && sought.bytes == entry.bytes.as_slice()
+        && sought.signature == entry.signature.as_slice()
 }
 
 // The number by which a signature is found.
-fn signature_number(algorithm: u8, key: &[u8], bytes: &[u8], signature: &[u8]) -> u64
-    ensures { result ≡ number_in algorithm key.now bytes.now signature.now }
+fn signature_number(sought: &SoughtSignature<'_>) -> u64
+    ensures { result ≡ number_in sought.now }
 {
-    mix(mix(mix(u64::from(algorithm), key), bytes), signature)
+    mix(
+        mix(
+            mix(u64::from(sought.algorithm), sought.key),
+            sought.bytes,
+        ),
+        sought.signature,
+    )
 }

@@ -16,6 +16,7 @@ use Rattle.dns_model.specs.Chains.{Judge, judge}
 use Rattle.dns_model.proofs.NameLemmas.{name_eq-Decides}
 use Rattle.dns_anchors.specs.Listing.{ListedValue, ListedSignatureValue, is_entry, is_listed, answers_of, with_algorithm, with_accepted}
 use Rattle.dns_anchors.specs.Anchoring.{with_anchor}
+use Rattle.dns_anchors.proofs.Alike.{entry_same}
 use Rattle.dns_session.specs.SessionValue.{AcceptedSignatureValue, SessionValue}
 use Rattle.dns_run.specs.Adding.{with_algorithms, with_accepts, listed_by, with_anchors, trusted_by}
 use Rattle.dns_run.specs.Soundness.{listed_signature, listing, session_judge}
@@ -84,36 +85,29 @@ accepted_kept listed (a ∷ more) = accepted_kept (with_algorithm listed a) more
 
 -- ---- signatures
 
-accepts_in : List ListedSignatureValue → ℕ → List ℕ → List ℕ → List ℕ → Bool
-accepts_in entries n key bytes signature = not (n == 1) && list_any (is_entry n key bytes signature) entries
+accepts_in : List ListedSignatureValue → ListedSignatureValue → Bool
+accepts_in entries sought = not (sought.algorithm == 1) && list_any (is_entry sought) entries
 
 -- a signature that is left out
-entry_out : (entry : ListedSignatureValue) (n : ℕ) (key bytes signature : List ℕ) → (entry.algorithm == 1) ≡ true
-    → is_entry n key bytes signature entry ≡ true → not (n == 1) ≡ false
-entry_out entry n key bytes signature one is =
-    let parts = and_parts (n == entry.algorithm) (bytes_eq key entry.key && (bytes_eq bytes entry.bytes && bytes_eq signature entry.signature)) is in
-    ap (λ k. not (k == 1)) (eqb-true n entry.algorithm parts.0) ∙ ap not one
+entry_out : (entry sought : ListedSignatureValue) → (entry.algorithm == 1) ≡ true → is_entry sought entry ≡ true → not (sought.algorithm == 1) ≡ false
+entry_out entry sought one is = ap (λ e. not (e.algorithm == 1)) (entry_same sought entry is) ∙ ap not one
 
-accepts_after : (listed : ListedValue) (entry : ListedSignatureValue) (more : List ListedSignatureValue) (n : ℕ) (key bytes signature : List ℕ) (out : Bool)
+accepts_after : (listed : ListedValue) (entry : ListedSignatureValue) (more : List ListedSignatureValue) (sought : ListedSignatureValue) (out : Bool)
     → (entry.algorithm == 1) ≡ out
-    → accepts_in ((cond out listed (record listed { accepted = listed.accepted ++ entry ∷ [] })).accepted ++ more) n key bytes signature
-    ≡ accepts_in (listed.accepted ++ entry ∷ more) n key bytes signature
+    → accepts_in ((cond out listed (record listed { accepted = listed.accepted ++ entry ∷ [] })).accepted ++ more) sought
+    ≡ accepts_in (listed.accepted ++ entry ∷ more) sought
 unfolding accepts_in
-accepts_after listed entry more n key bytes signature true is =
-    skipped (not (n == 1)) (is_entry n key bytes signature) listed.accepted entry more
-    (λ same. inl (entry_out entry n key bytes signature is same))
-accepts_after listed entry more n key bytes signature false is =
-    ap (λ xs. accepts_in xs n key bytes signature) (put listed.accepted entry more)
+accepts_after listed entry more sought true is =
+    skipped (not (sought.algorithm == 1)) (is_entry sought) listed.accepted entry more (λ same. inl (entry_out entry sought is same))
+accepts_after listed entry more sought false is = ap (λ xs. accepts_in xs sought) (put listed.accepted entry more)
 
-accepts_added : (listed : ListedValue) (accepts : List AcceptedSignatureValue) (n : ℕ) (key bytes signature : List ℕ)
-    → accepts_in (with_accepts listed accepts).accepted n key bytes signature
-    ≡ accepts_in (listed.accepted ++ map listed_signature accepts) n key bytes signature
+accepts_added : (listed : ListedValue) (accepts : List AcceptedSignatureValue) (sought : ListedSignatureValue)
+    → accepts_in (with_accepts listed accepts).accepted sought ≡ accepts_in (listed.accepted ++ map listed_signature accepts) sought
 unfolding with_accepts
-accepts_added listed [] n key bytes signature =
-    ap (λ xs. accepts_in xs n key bytes signature) (sym (append-nil listed.accepted))
-accepts_added listed (a ∷ more) n key bytes signature =
-    accepts_added (with_accepted listed (listed_signature a)) more n key bytes signature
-    ∙ accepts_after listed (listed_signature a) (map listed_signature more) n key bytes signature (a.algorithm == 1) refl
+accepts_added listed [] sought = ap (λ xs. accepts_in xs sought) (sym (append-nil listed.accepted))
+accepts_added listed (a ∷ more) sought =
+    accepts_added (with_accepted listed (listed_signature a)) more sought
+    ∙ accepts_after listed (listed_signature a) (map listed_signature more) sought (a.algorithm == 1) refl
 
 -- signatures leave the algorithms as they are
 algorithms_after : (listed : ListedValue) (entry : ListedSignatureValue) (out : Bool)
@@ -137,12 +131,12 @@ unfolding none_listed
 supports_same algorithms accepts n =
     ap (λ xs. supports_in xs n) (algorithms_kept (with_algorithms none_listed algorithms) accepts) ∙ supports_added none_listed algorithms n
 
-accepts_same : (algorithms : List ℕ) (accepts : List AcceptedSignatureValue) (n : ℕ) (key bytes signature : List ℕ)
-    → accepts_in (listed_by algorithms accepts).accepted n key bytes signature ≡ accepts_in (map listed_signature accepts) n key bytes signature
+accepts_same : (algorithms : List ℕ) (accepts : List AcceptedSignatureValue) (sought : ListedSignatureValue)
+    → accepts_in (listed_by algorithms accepts).accepted sought ≡ accepts_in (map listed_signature accepts) sought
 unfolding none_listed
-accepts_same algorithms accepts n key bytes signature =
-    accepts_added (with_algorithms none_listed algorithms) accepts n key bytes signature
-    ∙ ap (λ xs. accepts_in (xs ++ map listed_signature accepts) n key bytes signature) (accepted_kept none_listed algorithms)
+accepts_same algorithms accepts sought =
+    accepts_added (with_algorithms none_listed algorithms) accepts sought
+    ∙ ap (λ xs. accepts_in (xs ++ map listed_signature accepts) sought) (accepted_kept none_listed algorithms)
 
 supports_all : (algorithms : List ℕ) (accepts : List AcceptedSignatureValue)
     → (answers_of (listed_by algorithms accepts)).supports ≡ (answers_of (listing algorithms accepts)).supports
@@ -153,7 +147,8 @@ accepts_all : (algorithms : List ℕ) (accepts : List AcceptedSignatureValue)
     → (answers_of (listed_by algorithms accepts)).accepts ≡ (answers_of (listing algorithms accepts)).accepts
 unfolding accepts_in
 accepts_all algorithms accepts =
-    fun_ext λ n. fun_ext λ key. fun_ext λ bytes. fun_ext λ signature. accepts_same algorithms accepts n key bytes signature
+    fun_ext λ n. fun_ext λ key. fun_ext λ bytes. fun_ext λ signature.
+    accepts_same algorithms accepts (record { algorithm = n; key = key; bytes = bytes; signature = signature })
 
 answering : (ℕ → Bool) → (ℕ → List ℕ → List ℕ → List ℕ → Bool) → keys.VerifierAnswers
 answering supports accepts = record { supports = supports; accepts = accepts }

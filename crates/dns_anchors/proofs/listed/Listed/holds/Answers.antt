@@ -1,4 +1,4 @@
-use Rattle.dns_anchors.specs.Listing.{entry_number, is_entry, signature_number}
+use Rattle.dns_anchors.specs.Listing.{is_entry, signature_number}
 use Rattle.dns_anchors.proofs.Found.{found}
 use Rattle.dns_anchors.proofs.Alike.{entry_alike}
 use Rattle.dns_anchors.proofs.listed.Listed.holds.Goals as goal
@@ -6,5 +6,5 @@ use Rattle.dns_anchors.proofs.listed.Listed.holds.Goals as goal
 pub returns : goal.returns
 returns c =
     rw (c.is_at.ensures, c.deref.ensures.value, c.places_of-places.ensures, c.signature_number.ensures, ← c.self.view_is)
-    (found entry_number (is_entry c.args.algorithm c.args.key.now c.args.bytes.now c.args.signature.now) (signature_number c.args.algorithm c.args.key.now c.args.bytes.now c.args.signature.now) c.self.inside.places c.self.inside.accepted.items
-    (entry_alike c.args.algorithm c.args.key.now c.args.bytes.now c.args.signature.now) c.self.invariant.0)
+    (found signature_number (is_entry c.args.sought.now) (signature_number c.args.sought.now) c.self.inside.places c.self.inside.accepted.items
+    (entry_alike c.args.sought.now) c.self.invariant.0)
