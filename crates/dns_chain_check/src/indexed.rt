@@ -1,11 +1,10 @@
-ghost use Rattle.std.specs.Prelude.{◌≡◌, ◌==◌, ◌&&◌, IfOk, Some};
-ghost use Rattle.dns_model.specs.Names.{name_eq};
+ghost use Rattle.std.specs.Prelude.{◌≡◌, IfOk, Some};
 ghost use Rattle.dns_model.specs.Chains.{has_bytes, shows_ds as shows_ds_in, shows_member as shows_member_in};
 ghost use Rattle.dns_evidence.specs.Link.{link_value};
 ghost use Rattle.dns_chain_check.specs.Indexed.{Holds, Indexes, members_in};
 
-use dns_evidence::Link;
-use dns_name::{Name, NameRef, NoMemory};
+use dns_evidence::{Link, same_owner};
+use dns_name::{NameRef, NoMemory};
 use dns_record::{DNSClass, Rdata, RecordType};
 use std::alloc::Global;
 use std::collections::BTreeSet;
@@ -57,7 +56,7 @@ impl<'a> IndexedLink<'a> {
                 ..
             } => {
                 *record_type == RecordType::DS
-                    && is_at(owner, class, name, *of)
+                    && same_owner(owner, class, name, *of)
                     && self.has_member(ds)
             }
         }
@@ -74,7 +73,7 @@ impl<'a> IndexedLink<'a> {
                 owner: name,
                 class: of,
                 ..
-            } => is_at(owner, class, name, *of) && self.has_member(key),
+            } => same_owner(owner, class, name, *of) && self.has_member(key),
             Link::Signed {
                 owner: name,
                 class: of,
@@ -82,7 +81,7 @@ impl<'a> IndexedLink<'a> {
                 ..
             } => {
                 *record_type == RecordType::DNSKEY
-                    && is_at(owner, class, name, *of)
+                    && same_owner(owner, class, name, *of)
                     && self.has_member(key)
             }
         }
@@ -94,13 +93,6 @@ impl<'a> IndexedLink<'a> {
     {
         self.members.contains(rdata)
     }
-}
-
-// The two names are equal, letters folded, and so are the two classes.
-fn is_at(owner: &NameRef, class: DNSClass, name: &Name, of: DNSClass) -> bool
-    ensures { result ≡ (name_eq owner.now name.now && (class.0 == of.0)) }
-{
-    owner.eq_name(&name.borrowed()) && class == of
 }
 
 // The rdatas of a link's set.

@@ -7,32 +7,14 @@ ghost use Rattle.dns_anchors.specs.Judge.{judge_of};
 ghost use Rattle.dns_chain_check.specs.Fitting.{fits_set, signed_link_holds};
 
 use crate::earlier::Earlier;
-use dns_evidence::{Link, Verifier, has_rdata};
-use dns_name::{Name, NoMemory};
-use dns_rdata::{Dnskey, Rrsig, key_tag, signed_data_of};
-use dns_record::{DNSClass, Rdata, RecordType};
+use dns_evidence::{Link, LinkSignature, Verifier, has_rdata};
+use dns_name::NoMemory;
+use dns_rdata::{Dnskey, RdataSet, Rrsig, key_tag, signed_data_of};
+use dns_record::RecordType;
 use dns_trust::{
     Judge, is_never_expanded, is_right_below_signer, is_timely, is_usable, signer_fits,
 };
 use std::alloc::Global;
-
-// The set of a signed link.
-#[derive(Drop)]
-struct SignedSet<'a> {
-    owner: &'a Name,
-    class: DNSClass,
-    record_type: RecordType,
-    rdatas: &'a [Rdata],
-}
-
-// The signature of a signed link, and the key that made it.
-#[derive(Drop)]
-struct LinkSignature<'a> {
-    sig: &'a [u8],
-    // The number of the link that shows the key.
-    key_link: u32,
-    key: &'a [u8],
-}
 
 /// The link is a signed one, and holds by links before it (RFC 4035, 5.3).
 #[tactic(auto, unfolding(dns_model::specs::Chains::link_holds))]
@@ -55,16 +37,16 @@ pub(crate) fn signed_holds<V: Verifier>(
             key_link,
             key,
         } => {
-            let set = SignedSet {
-                owner,
-                class: *class,
+            let set = RdataSet {
+                name: owner,
                 record_type: *record_type,
+                dns_class: *class,
                 rdatas,
             };
             let by = LinkSignature {
-                sig: sig.as_slice(),
+                sig,
                 key_link: *key_link,
-                key: key.as_slice(),
+                key,
             };
             if set.record_type == RecordType::RRSIG || rdatas.is_empty() {
                 return Ok(false);
@@ -80,46 +62,47 @@ fn is_signed<V: Verifier>(
     alloc: Global,
     judge: &Judge<'_, V>,
     earlier: &Earlier<'_, '_>,
-    set: &SignedSet<'_>,
+    set: &RdataSet<'_>,
     by: &LinkSignature<'_>,
 ) -> Result<bool, NoMemory>
     ensures { IfOk result (λ b. b ≡ is_signed_in (judge_of V.answers judge.now) earlier.now
-        set.now.owner.now set.now.class.0 set.now.record_type.0 set.now.rdatas.now
+        set.now.name.now set.now.dns_class.0 set.now.record_type.0 set.now.rdatas.now
         by.now.key_link by.now.key.now (rrsig_in by.now.sig.now)) }
 {
-    let Some(read) = Rrsig::read(by.sig) else {
+    let Some(read) = Rrsig::read(by.sig.as_slice()) else {
         return Ok(false);
     };
     if !fits(set, &read) {
         return Ok(false);
     }
-    if !is_good(alloc, judge, set, &read, by.key)? {
+    let key = by.key.as_slice();
+    if !is_good(alloc, judge, set, &read, key)? {
         return Ok(false);
     }
-    Ok(key_comes(earlier, set, &read, by.key_link, by.key))
+    Ok(key_comes(earlier, set, &read, by.key_link, key))
 }
 
 // The signature is over the set's type, and its signer and its Labels fit the set's owner (RFC 4035, 5.3.1).
-fn fits(set: &SignedSet<'_>, sig: &Rrsig<'_>) -> bool
-    ensures { result ≡ fits_set set.now.owner.now set.now.record_type.0 sig.now }
+fn fits(set: &RdataSet<'_>, sig: &Rrsig<'_>) -> bool
+    ensures { result ≡ fits_set set.now.name.now set.now.record_type.0 sig.now }
 {
     sig.type_covered == set.record_type
-        && signer_fits(set.owner, set.record_type, &sig.signer)
-        && sig.labels <= set.owner.borrowed().num_labels()
-        && is_never_expanded(set.owner, set.record_type, sig.labels)
-        && is_right_below_signer(set.owner, set.record_type, &sig.signer)
+        && signer_fits(set.name, set.record_type, &sig.signer)
+        && sig.labels <= set.name.borrowed().num_labels()
+        && is_never_expanded(set.name, set.record_type, sig.labels)
+        && is_right_below_signer(set.name, set.record_type, &sig.signer)
 }
 
 // The signature is timely and the key's, which may sign, and the verifier accepts it (RFC 4035, 5.3.3).
 fn is_good<V: Verifier>(
     alloc: Global,
     judge: &Judge<'_, V>,
-    set: &SignedSet<'_>,
+    set: &RdataSet<'_>,
     sig: &Rrsig<'_>,
     key: &[u8],
 ) -> Result<bool, NoMemory>
     ensures { IfOk result (λ b. b ≡ is_good_in (judge_of V.answers judge.now)
-        set.now.owner.now set.now.class.0 set.now.record_type.0 set.now.rdatas.now
+        set.now.name.now set.now.dns_class.0 set.now.record_type.0 set.now.rdatas.now
         sig.now key.now (dnskey_in key.now)) }
 {
     let Some(read) = Dnskey::read(key) else {
@@ -153,22 +136,15 @@ fn is_named(sig: &Rrsig<'_>, key: &Dnskey<'_>, rdata: &[u8]) -> bool
 fn is_accepted<V: Verifier>(
     alloc: Global,
     verifier: &V,
-    set: &SignedSet<'_>,
+    set: &RdataSet<'_>,
     sig: &Rrsig<'_>,
     key: &Dnskey<'_>,
 ) -> Result<bool, NoMemory>
     ensures { IfOk result (λ b. b ≡ (V.answers verifier.now).accepts sig.now.algorithm key.now.key
-        (signed_bytes set.now.owner.now set.now.record_type.0 set.now.class.0 set.now.rdatas.now sig.now)
+        (signed_bytes set.now.name.now set.now.record_type.0 set.now.dns_class.0 set.now.rdatas.now sig.now)
         sig.now.signature) }
 {
-    let bytes = signed_data_of(
-        alloc,
-        set.owner,
-        set.record_type,
-        set.class,
-        set.rdatas,
-        sig,
-    )?;
+    let bytes = signed_data_of(alloc, set, sig)?;
     Ok(verifier.accepts(sig.algorithm, key.key, bytes.as_slice(), sig.signature))
 }
 
@@ -176,20 +152,20 @@ fn is_accepted<V: Verifier>(
 // key set.
 fn key_comes(
     earlier: &Earlier<'_, '_>,
-    set: &SignedSet<'_>,
+    set: &RdataSet<'_>,
     sig: &Rrsig<'_>,
     key_link: u32,
     key: &[u8],
 ) -> bool
     ensures { result ≡ key_comes_in earlier.now
-        set.now.owner.now set.now.class.0 set.now.record_type.0 set.now.rdatas.now
+        set.now.name.now set.now.dns_class.0 set.now.record_type.0 set.now.rdatas.now
         sig.now.signer key_link key.now }
 {
     if set.record_type != RecordType::DNSKEY {
-        return earlier.shows_member(key_link, &sig.signer, set.class, key);
+        return earlier.shows_member(key_link, &sig.signer, set.dns_class, key);
     }
-    let owner = set.owner.borrowed();
+    let owner = set.name.borrowed();
     owner.eq_name(&sig.signer)
         && has_rdata(set.rdatas, key)
-        && earlier.shows_key(key_link, &owner, set.class, key)
+        && earlier.shows_key(key_link, &owner, set.dns_class, key)
 }

@@ -42,6 +42,17 @@ pub enum Link {
     },
 }
 
+/// The signature of a signed set, and the key that made it (RFC 4035, 5.3).
+#[derive(Clone, Copy)]
+pub struct LinkSignature<'a> {
+    /// The rdata of the signature.
+    pub sig: &'a Rdata,
+    /// The number of the link that shows the key.
+    pub key_link: u32,
+    /// The rdata of the key.
+    pub key: &'a Rdata,
+}
+
 /// The chain of a Secure set, whose last link is that set.
 #[derive(Drop)]
 pub struct Chain {
@@ -133,23 +144,22 @@ fn clone_signed(
     class: DNSClass,
     record_type: RecordType,
     rdatas: &Vec<Rdata>,
-    sig: &Rdata,
-    key_link: u32,
-    key: &Rdata,
+    by: &LinkSignature<'_>,
 ) -> Result<Link, NoMemory>
-    ensures { IfOk result (λ l. link_value l ≡ signed owner.now class.0 record_type.0 rdatas.now.items sig.now key_link key.now) }
+    ensures { IfOk result (λ l. link_value l ≡ signed owner.now class.0 record_type.0 rdatas.now.items
+        by.now.sig.now by.now.key_link by.now.key.now) }
 {
     let rdatas = clone_rdatas(rdatas)?;
     let owner = owner.try_clone()?;
-    let sig = sig.try_clone()?;
-    let key = key.try_clone()?;
+    let sig = by.sig.try_clone()?;
+    let key = by.key.try_clone()?;
     Ok(Link::Signed {
         owner,
         class,
         record_type,
         rdatas,
         sig,
-        key_link,
+        key_link: by.key_link,
         key,
     })
 }
@@ -187,7 +197,14 @@ impl Link {
                 sig,
                 key_link,
                 key,
-            } => clone_signed(owner, *class, *record_type, rdatas, sig, *key_link, key),
+            } => {
+                let by = LinkSignature {
+                    sig,
+                    key_link: *key_link,
+                    key,
+                };
+                clone_signed(owner, *class, *record_type, rdatas, &by)
+            }
         }
     }
 }

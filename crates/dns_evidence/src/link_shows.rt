@@ -17,7 +17,7 @@ pub fn has_rdata(rdatas: &[Rdata], rdata: &[u8]) -> bool
 }
 
 /// The two names are equal, letters folded, and so are the two classes.
-fn same_owner(owner: &NameRef, class: DNSClass, name: &Name, of: DNSClass) -> bool
+pub fn same_owner(owner: &NameRef, class: DNSClass, name: &Name, of: DNSClass) -> bool
     ensures { result ≡ (name_eq owner.now name.now && (class.0 == of.0)) }
 {
     owner.eq_name(&name.borrowed()) && class == of

@@ -39,7 +39,7 @@ pub use nsec3::{Nsec3, Nsec3Record};
 pub use rrsig::Rrsig;
 pub use serial::SerialNumber;
 pub use shape::{Field, fields_of};
-pub use signed::{signed_data, signed_data_of};
+pub use signed::{RdataSet, signed_data, signed_data_of};
 pub use soa::Soa;
 pub use type_set::{TypeSet, is_bitmap};
 pub use write::{push_u16, push_u32};

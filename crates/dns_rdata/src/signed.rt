@@ -3,7 +3,7 @@ ghost use Rattle.std.specs.List.{concat};
 ghost use Rattle.dns_model.specs.Bytes.{u16_bytes, u32_bytes};
 ghost use Rattle.dns_model.specs.Names.{wire};
 ghost use Rattle.dns_model.specs.Shapes.{canonical_form};
-ghost use Rattle.dns_model.specs.Signing.{signed_bytes, signed_head as head_of, signed_owner, signed_record, rising_once};
+ghost use Rattle.dns_model.specs.Signing.{signed_bytes, signed_head as head_of, signed_owner, rising_once};
 ghost use Rattle.dns_model.specs.Chains.{rdatas_of};
 
 use crate::write::{push_u16, push_u32};
@@ -13,37 +13,40 @@ use dns_record::{DNSClass, Rdata, Record, RecordSet, RecordType};
 use std::alloc::Global;
 use std::collections::BTreeSet;
 
+/// The rdatas of one name, type and class, in any order (RFC 2181, 5).
+#[derive(Clone, Copy)]
+pub struct RdataSet<'a> {
+    /// The owner of the records.
+    pub name: &'a Name,
+    /// The type of the records.
+    pub record_type: RecordType,
+    /// The class of the records.
+    pub dns_class: DNSClass,
+    /// What each record holds.
+    pub rdatas: &'a [Rdata],
+}
+
 /// The bytes that a signature of a set is over (RFC 4034, 3.1.8.1 and 6; RFC 4035, 5.3.2): the signature's rdata without
 /// the signature, and then each record in canonical form, in rising order of the rdata, equal ones once.
 #[tactic(auto, unfolding(dns_model::specs::Signing::signed_bytes))]
 pub fn signed_data(alloc: Global, set: &RecordSet, sig: &Rrsig) -> Result<Octets, NoMemory>
-    ensures { IfOk result (λ o. o ≡ signed_bytes set.now.owner set.now.rtype set.now.class (rdatas_of set.now.records) sig.now) }
+    ensures { IfOk result (λ o. o
+        ≡ signed_bytes set.now.owner set.now.rtype set.now.class (rdatas_of set.now.records) sig.now) }
 {
-    let rising = rising_records(alloc, set.record_type, &set.records)?;
-    signed_octets(
-        alloc,
-        &set.name,
-        set.record_type,
-        set.dns_class,
-        &rising,
-        sig,
-    )
+    let rising = rising_set(alloc, set)?;
+    let front = set_front(alloc, set, sig)?;
+    signed_octets(alloc, sig, &front, &rising)
 }
 
-/// The same for the rdatas of a set, in any order.
+/// The same for the rdatas of a set.
 #[tactic(auto, unfolding(dns_model::specs::Signing::signed_bytes))]
-pub fn signed_data_of(
-    alloc: Global,
-    owner: &Name,
-    record_type: RecordType,
-    dns_class: DNSClass,
-    rdatas: &[Rdata],
-    sig: &Rrsig,
-) -> Result<Octets, NoMemory>
-    ensures { IfOk result (λ o. o ≡ signed_bytes owner.now record_type.0 dns_class.0 rdatas.now sig.now) }
+pub fn signed_data_of(alloc: Global, set: &RdataSet<'_>, sig: &Rrsig) -> Result<Octets, NoMemory>
+    ensures { IfOk result (λ o. o
+        ≡ signed_bytes set.now.name.now set.now.record_type.0 set.now.dns_class.0 set.now.rdatas.now sig.now) }
 {
-    let rising = rising_rdatas(alloc, record_type, rdatas)?;
-    signed_octets(alloc, owner, record_type, dns_class, &rising, sig)
+    let rising = rising_rdatas(alloc, set.record_type, set.rdatas)?;
+    let front = record_front(alloc, set.name, set.record_type, set.dns_class, sig)?;
+    signed_octets(alloc, sig, &front, &rising)
 }
 
 // The rdatas in canonical form, in rising order, each once.
@@ -60,6 +63,13 @@ fn rising_rdatas(
         rising.insert(rdata)?;
     }
     Ok(rising)
+}
+
+// The same of a set.
+fn rising_set(alloc: Global, set: &RecordSet) -> Result<BTreeSet<Rdata>, NoMemory>
+    ensures { IfOk result (λ s. s.keys ≡ rising_once (map (canonical_form set.now.rtype) (rdatas_of set.now.records))) }
+{
+    rising_records(alloc, set.record_type, &set.records)
 }
 
 // The same of records.
@@ -87,21 +97,18 @@ fn canonical(alloc: Global, record_type: RecordType, rdata: &Rdata) -> Result<Rd
     Ok(Rdata::from_octets(bytes))
 }
 
-// The signature's own bytes, and those of each record.
+// The signature's own bytes, and those of each record, which all have this front.
 fn signed_octets(
     alloc: Global,
-    owner: &Name,
-    record_type: RecordType,
-    dns_class: DNSClass,
-    rising: &BTreeSet<Rdata>,
     sig: &Rrsig,
+    front: &[u8],
+    rising: &BTreeSet<Rdata>,
 ) -> Result<Octets, NoMemory>
     ensures { IfOk result (λ o. o ≡ head_of sig.now
-        ++ concat (map (signed_record owner.now record_type.0 dns_class.0 sig.now) rising.now.keys)) }
+        ++ concat (map (λ rdata. front.now ++ u16_bytes (length rdata) ++ rdata) rising.now.keys)) }
 {
     let mut text = signed_head(alloc, sig)?;
-    let front = record_front(alloc, owner, record_type, dns_class, sig)?;
-    push_records(&mut text, &front, rising)?;
+    push_records(&mut text, front, rising)?;
     Ok(Octets::from_vec(text))
 }
 
@@ -123,7 +130,15 @@ fn signed_head(alloc: Global, sig: &Rrsig) -> Result<Vec<u8>, NoMemory>
     Ok(head)
 }
 
-// What each record of the set begins with: owner, type, class and original ttl.
+// What each record of a set begins with.
+fn set_front(alloc: Global, set: &RecordSet, sig: &Rrsig) -> Result<Vec<u8>, NoMemory>
+    ensures { IfOk result (λ v. v.items ≡ wire (signed_owner set.now.owner sig.now.labels)
+        ++ u16_bytes set.now.rtype ++ u16_bytes set.now.class ++ u32_bytes sig.now.original_ttl) }
+{
+    record_front(alloc, &set.name, set.record_type, set.dns_class, sig)
+}
+
+// The same by parts: owner, type, class and original ttl.
 fn record_front(
     alloc: Global,
     owner: &Name,

@@ -153,14 +153,13 @@ fn text_of_rdatas(
     sig: &Rrsig,
 ) -> Result<Octets, NoMemory> {
     let rdatas = rdatas_of(alloc, row)?;
-    signed_data_of(
-        alloc,
-        owner,
-        RecordType(row.record_type),
-        DNSClass::IN,
-        &rdatas,
-        sig,
-    )
+    let set = RdataSet {
+        name: owner,
+        record_type: RecordType(row.record_type),
+        dns_class: DNSClass::IN,
+        rdatas: &rdatas,
+    };
+    signed_data_of(alloc, &set, sig)
 }
 
 /// The signed text of rdatas.

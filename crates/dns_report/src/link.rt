@@ -1,21 +1,21 @@
 //! The lines of chains.
-ghost use Rattle.std.specs.Prelude.{◌≡◌, ◌++◌, ◌∷◌, ◌&&◌, ◌^◌, [], map, codes, length, nat_lt, OnOk, IsTrue};
+ghost use Rattle.std.specs.Prelude.{◌≡◌, ◌++◌, ◌∷◌, ◌&&◌, ◌^◌, [], map, length, nat_lt, OnOk, IsTrue};
 ghost use Rattle.std.specs.List.{flat_map, list_all};
 ghost use Rattle.std.specs.Fmt.{decimal};
 ghost use Rattle.dns_model.specs.Bytes.{is_bytes};
-ghost use Rattle.dns_model.specs.NameText.{printed};
-ghost use Rattle.dns_record.specs.Words.{type_word, class_word};
+ghost use Rattle.dns_record.specs.Words.{type_word};
 ghost use Rattle.dns_words.specs.Words.{octets_word};
 ghost use Rattle.dns_evidence.specs.Link.{link_value};
 ghost use Rattle.dns_report.specs.LineWords.{line, line_rest};
 ghost use Rattle.dns_report.specs.Fields.{is_u16, is_u32};
-ghost use Rattle.dns_report.specs.View.{KeySet, Matched, numbered, shown, chain_view, fitting_key, fitting_link, fitting_chain};
+ghost use Rattle.dns_report.specs.View.{KeySet, numbered, shown, chain_view, fitting_key, fitting_link, fitting_chain};
 ghost use Rattle.dns_report.specs.Report.{key_words, link_line, chain_line, chain_text};
 
 use crate::marks::section_word;
 use crate::words::{
     end_line, push_front, push_number, push_octets_word, push_text, push_type_word, push_word,
 };
+use dns_evidence::LinkSignature;
 use dns_handle::{Chain, Link};
 use dns_name::{Name, NoMemory};
 use dns_record::{DNSClass, Rdata, RecordType};
@@ -53,40 +53,34 @@ fn push_rdatas(into: &mut Vec<u8>, rdatas: &[Rdata]) -> Result<(), NoMemory>
     end_line(into)
 }
 
-/// Appends the line of a signed set.
+/// Appends the words of a signed set behind its owner and class, and ends the line.
 fn push_signed(
     into: &mut Vec<u8>,
     record_type: RecordType,
     rdatas: &[Rdata],
-    sig: &Rdata,
-    key_link: u32,
-    key: &Rdata,
+    by: &LinkSignature<'_>,
 ) -> Result<(), NoMemory>
-    ensures ok { OnOk result (into.new.items ≡ into.old.items ++ line_rest
-        (type_word record_type.0 ∷ decimal key_link ∷ octets_word key.now ∷ octets_word sig.now ∷ map octets_word rdatas.now)) }
-    ensures numbers { IsTrue (is_u16 record_type.0 && is_u32 key_link) }
-    ensures bytes { OnOk result (IsTrue (is_bytes key.now && (is_bytes sig.now && list_all is_bytes rdatas.now))) }
+    ensures ok { OnOk result (into.new.items ≡ into.old.items ++ line_rest (type_word record_type.0
+        ∷ decimal by.now.key_link ∷ octets_word by.now.key.now ∷ octets_word by.now.sig.now ∷ map octets_word rdatas.now)) }
+    ensures numbers { IsTrue (is_u16 record_type.0 && is_u32 by.now.key_link) }
+    ensures bytes { OnOk result (IsTrue
+        (is_bytes by.now.key.now && (is_bytes by.now.sig.now && list_all is_bytes rdatas.now))) }
 {
+    let key_link = u64::from(by.key_link);
     push_type_word(into, record_type)?;
-    push_number(into, u64::from(key_link))?;
-    push_octets_word(into, key.as_slice())?;
-    push_octets_word(into, sig.as_slice())?;
+    push_number(into, key_link)?;
+    push_octets_word(into, by.key.as_slice())?;
+    push_octets_word(into, by.sig.as_slice())?;
     push_rdatas(into, rdatas)
 }
 
-/// Appends the line of a key that matches a DS record.
-fn push_matched(
-    into: &mut Vec<u8>,
-    owner: &Name,
-    class: DNSClass,
-    key: &Rdata,
-    ds_link: u32,
-    ds: &Rdata,
-) -> Result<(), NoMemory>
-    ensures ok { OnOk result (into.new.items ≡ into.old.items ++ link_line (Matched owner.now class.0 key.now ds_link ds.now)) }
-    ensures fits { OnOk result (IsTrue (fitting_link (Matched owner.now class.0 key.now ds_link ds.now))) }
+/// Appends the words of a key that matches a DS record behind its owner and class, and ends the line.
+fn push_matched(into: &mut Vec<u8>, key: &Rdata, ds_link: u32, ds: &Rdata) -> Result<(), NoMemory>
+    ensures ok { OnOk result (into.new.items ≡ into.old.items
+        ++ line_rest (octets_word key.now ∷ decimal ds_link ∷ octets_word ds.now ∷ [])) }
+    ensures number { IsTrue (is_u32 ds_link) }
+    ensures bytes { OnOk result (IsTrue (is_bytes key.now && is_bytes ds.now)) }
 {
-    push_front(into, b"matched", owner, class)?;
     push_octets_word(into, key.as_slice())?;
     push_number(into, u64::from(ds_link))?;
     push_octets_word(into, ds.as_slice())?;
@@ -126,7 +120,10 @@ fn push_link(into: &mut Vec<u8>, link: &Link) -> Result<(), NoMemory>
             key,
             ds_link,
             ds,
-        } => push_matched(into, owner, *class, key, *ds_link, ds),
+        } => {
+            push_front(into, b"matched", owner, *class)?;
+            push_matched(into, key, *ds_link, ds)
+        }
         Link::KeySet {
             owner,
             class,
@@ -142,8 +139,13 @@ fn push_link(into: &mut Vec<u8>, link: &Link) -> Result<(), NoMemory>
             key_link,
             key,
         } => {
+            let by = LinkSignature {
+                sig,
+                key_link: *key_link,
+                key,
+            };
             push_front(into, b"signed", owner, *class)?;
-            push_signed(into, *record_type, rdatas, sig, *key_link, key)
+            push_signed(into, *record_type, rdatas, &by)
         }
     }
 }
