@@ -1,12 +1,12 @@
 -- A message that was read is read again where it is written.
 use Rattle.std.proofs.Common.{◌≡◌, ℕ, zero, suc, ◌+◌, ◌*◌, ◌/◌, ◌%◌, ◌≤◌, ◌<◌, Bool, true, false, cond, List, [], ◌∷◌, ◌++◌, length, Option, None, Some, Result, Ok, Err, refl, sym, ap, ◌∙◌, subst, arith, length-append}
-use Rattle.std.specs.Prelude.{nat_le, nat_lt, ◌==◌, IfSome, IfOk}
+use Rattle.std.specs.Prelude.{nat_le, nat_lt, IfSome, IfOk}
 use Rattle.std.specs.List.{flat_map, AllByRecursion}
 use Rattle.std.proofs.lemmas.Bool.Decides.{nat_tests}
 use Rattle.std.proofs.lemmas.List.Concat.{flat_map-cons}
 use Rattle.dns_model.specs.Names.{wire, is_name}
 use Rattle.dns_model.specs.Gives.{Gives}
-use Rattle.dns_model.specs.Bytes.{u16_bytes}
+use Rattle.dns_model.specs.Bytes.{u16_bytes, has_flag}
 use Rattle.dns_model.specs.Records.{Rr, EdnsValue, Question, MessageValue}
 use Rattle.dns_message.specs.declared.decode_error.DecodeError.{DecodeError}
 use Rattle.dns_message.specs.declared.decode_error.DecodeKind.TheVariants.{Trailing}
@@ -19,7 +19,7 @@ use Rattle.dns_message.specs.declared.encode_error.EncodeError.{EncodeError}
 use Rattle.dns_message.specs.declared.encode_error.EncodeError.TheVariants.{TooLong, NoMemory}
 use Rattle.dns_message.proofs.RecordReading.{bind_ok}
 use Rattle.dns_message.proofs.NameWriting.{name_good, name_again}
-use Rattle.dns_message.proofs.RecordWriting.{IsRecordAgain, IsOptAgain, IsSectionAgain, section_good, section_again, additional_again, opt_with, stands_at, do_bit, number_small}
+use Rattle.dns_message.proofs.RecordWriting.{IsRecordAgain, IsOptAgain, IsSectionAgain, section_good, section_again, additional_again, opt_with, stands_at, do_flag, number_small}
 use Rattle.dns_message.proofs.Standing.{Stands, stands_whole, stands_front, stands_back, stands_u16}
 
 -- ---- questions
@@ -153,14 +153,14 @@ message_same m g =
     (flag_bit m.authentic_data) (flag_bit m.checking_disabled) (m.response_code % 16) (number_small m.response) (omega arith) (number_small m.authoritative) (number_small m.truncated)
     (number_small m.recursion_desired) (number_small m.recursion_available) (number_small m.authentic_data) (number_small m.checking_disabled) (omega arith) in
     let f : ℕ = flags_of m in
-    let a : (flags_of m / 32768 % 2 == 1) ≡ m.response = do_bit m.response (flags_of m / 32768 % 2) p.qr_is in
+    let a : has_flag (flags_of m) 0x8000 ≡ m.response = do_flag m.response (flags_of m) 15 p.qr_is in
     let b : flags_of m / 2048 % 16 ≡ m.op_code = p.op_is ∙ op in
-    let c : (flags_of m / 1024 % 2 == 1) ≡ m.authoritative = do_bit m.authoritative (flags_of m / 1024 % 2) p.aa_is in
-    let d : (flags_of m / 512 % 2 == 1) ≡ m.truncated = do_bit m.truncated (flags_of m / 512 % 2) p.tc_is in
-    let e : (flags_of m / 256 % 2 == 1) ≡ m.recursion_desired = do_bit m.recursion_desired (flags_of m / 256 % 2) p.rd_is in
-    let h : (flags_of m / 128 % 2 == 1) ≡ m.recursion_available = do_bit m.recursion_available (flags_of m / 128 % 2) p.ra_is in
-    let j : (flags_of m / 32 % 2 == 1) ≡ m.authentic_data = do_bit m.authentic_data (flags_of m / 32 % 2) p.ad_is in
-    let k : (flags_of m / 16 % 2 == 1) ≡ m.checking_disabled = do_bit m.checking_disabled (flags_of m / 16 % 2) p.cd_is in
+    let c : has_flag (flags_of m) 0x0400 ≡ m.authoritative = do_flag m.authoritative (flags_of m) 10 p.aa_is in
+    let d : has_flag (flags_of m) 0x0200 ≡ m.truncated = do_flag m.truncated (flags_of m) 9 p.tc_is in
+    let e : has_flag (flags_of m) 0x0100 ≡ m.recursion_desired = do_flag m.recursion_desired (flags_of m) 8 p.rd_is in
+    let h : has_flag (flags_of m) 0x0080 ≡ m.recursion_available = do_flag m.recursion_available (flags_of m) 7 p.ra_is in
+    let j : has_flag (flags_of m) 0x0020 ≡ m.authentic_data = do_flag m.authentic_data (flags_of m) 5 p.ad_is in
+    let k : has_flag (flags_of m) 0x0010 ≡ m.checking_disabled = do_flag m.checking_disabled (flags_of m) 4 p.cd_is in
     let l : upper_code_in (opt_with (m.response_code / 16 % 256) m.edns) * 16 + flags_of m % 16 ≡ m.response_code =
     ap (λ (n : ℕ). upper_code_in (opt_with (m.response_code / 16 % 256) m.edns) * 16 + n) p.code_is ∙ code_back m.edns m.response_code g.code in
     let n : edns_in (opt_with (m.response_code / 16 % 256) m.edns) ≡ m.edns = edns_back (m.response_code / 16 % 256) m.edns in

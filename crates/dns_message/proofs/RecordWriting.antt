@@ -1,12 +1,14 @@
 -- Records and questions that were read are read again where they are written.
-use Rattle.std.proofs.Common.{◌≡◌, ℕ, zero, suc, ◌+◌, ◌*◌, ◌/◌, ◌%◌, ◌≤◌, ◌<◌, Bool, true, false, ◌&&◌, cond, List, [], ◌∷◌, ◌++◌, length, Option, None, Some, Result, Ok, Err, refl, sym, ap, ◌∙◌, subst, arith, length-append}
-use Rattle.std.specs.Prelude.{nat_lt, ◌==◌, IfSome}
+use Rattle.std.proofs.Common.{◌≡◌, ℕ, zero, suc, ◌+◌, ◌*◌, ◌/◌, ◌%◌, ◌^◌, ◌≤◌, ◌<◌, Bool, true, false, ◌&&◌, cond, List, [], ◌∷◌, ◌++◌, length, Option, None, Some, Result, Ok, Err, refl, sym, ap, ◌∙◌, subst, arith, length-append}
+use Rattle.std.specs.Prelude.{nat_lt, ◌==◌, not, IfSome}
 use Rattle.std.specs.List.{flat_map, AllByRecursion}
 use Rattle.std.proofs.lemmas.Bool.Decides.{nat_tests}
+use Rattle.std.proofs.lemmas.Nat.{pow_pos}
+use Rattle.std.proofs.lemmas.Nat.Bits.{and_pow}
 use Rattle.std.proofs.lemmas.List.{append-nil}
 use Rattle.std.proofs.lemmas.List.Concat.{flat_map-cons}
 use Rattle.dns_model.specs.Names.{Labels, wire, is_name}
-use Rattle.dns_model.specs.Bytes.{u32_at, u16_bytes, u32_bytes}
+use Rattle.dns_model.specs.Bytes.{u32_at, u16_bytes, u32_bytes, has_flag}
 use Rattle.dns_model.specs.Types.{type_opt}
 use Rattle.dns_model.specs.Records.{Rr, EdnsValue}
 use Rattle.dns_model.specs.declared.proof.Proof.{Proof}
@@ -228,9 +230,13 @@ opaque_again bytes pos part s =
     let test : nat_lt (length bytes) (pos + length part) ≡ false = grind (arith, nat_tests, inside) in
     rw (test, stands_range bytes pos part s) refl
 
-pub do_bit : (flag : Bool) (n : ℕ) → n ≡ flag_bit flag → (n == 1) ≡ flag
-do_bit true n is = grind (arith, nat_tests)
-do_bit false n is = grind (arith, nat_tests)
+flag_where : (bit : ℕ) (flag : Bool) (p : ℕ) → bit ≡ flag_bit flag → 0 < p → not (bit * p == 0) ≡ flag
+flag_where bit true p is some = grind (arith, nat_tests)
+flag_where bit false p is some = grind (arith, nat_tests)
+
+-- the flag at a place is set exactly where its bit is 1
+pub do_flag : (flag : Bool) (n k : ℕ) → n / 2 ^ k % 2 ≡ flag_bit flag → has_flag n (2 ^ k) ≡ flag
+do_flag flag n k is = ap (λ x. not (x == 0)) (and_pow n k) ∙ flag_where (n / 2 ^ k % 2) flag (2 ^ k) is (pow_pos k)
 
 pub number_small : (flag : Bool) → flag_bit flag ≤ 1
 number_small true = omega arith
@@ -249,8 +255,8 @@ ttl_parts upper version bit flags a b c d = record { upper_is = omega arith; ver
 edns_same : (code : ℕ) (e : EdnsValue) → IsOptAgain e (code / 16 % 256) → edns_of e.max_payload (opt_ttl code e) e.options ≡ e
 edns_same code e g =
     let p = ttl_parts (code / 16 % 256) e.version (flag_bit e.dnssec_ok) e.flags g.upper g.version (number_small e.dnssec_ok) g.flags in
-    let bit = do_bit e.dnssec_ok (opt_ttl code e / 32768 % 2) p.bit_is in
-    ap (λ (v : ℕ). record { max_payload = e.max_payload; version = v; dnssec_ok = opt_ttl code e / 32768 % 2 == 1; flags = opt_ttl code e % 32768; options = e.options }) p.version_is
+    let bit = do_flag e.dnssec_ok (opt_ttl code e) 15 p.bit_is in
+    ap (λ (v : ℕ). record { max_payload = e.max_payload; version = v; dnssec_ok = has_flag (opt_ttl code e) 0x8000; flags = opt_ttl code e % 32768; options = e.options }) p.version_is
     ∙ ap (λ (b : Bool). record { max_payload = e.max_payload; version = e.version; dnssec_ok = b; flags = opt_ttl code e % 32768; options = e.options }) bit
     ∙ ap (λ (f : ℕ). record { max_payload = e.max_payload; version = e.version; dnssec_ok = e.dnssec_ok; flags = f; options = e.options }) p.flags_is
 

@@ -1,5 +1,6 @@
 -- A whole message: header, questions, answers, authorities and additional records (RFC 1035, 4.1; RFC 6891, 6.1).
-use Rattle.std.specs.Prelude.{ℕ, zero, suc, ◌+◌, ◌*◌, ◌/◌, ◌%◌, ◌==◌, true, false, List, [], ◌∷◌, length, Option, None, Some, Result, Ok, Err, nat_lt, if◌then◌else◌}
+use Rattle.std.specs.Prelude.{ℕ, zero, suc, ◌+◌, ◌*◌, ◌/◌, ◌%◌, true, false, List, [], ◌∷◌, length, Option, None, Some, Result, Ok, Err, nat_lt, if◌then◌else◌}
+use Rattle.dns_model.specs.Bytes.{has_flag}
 use Rattle.dns_model.specs.Records.{Rr, Question, EdnsValue, MessageValue}
 use Rattle.dns_message.specs.declared.decode_error.DecodeKind.TheVariants.{Trailing}
 use Rattle.dns_message.specs.declared.decode_error.DecodeError.{DecodeError}
@@ -50,18 +51,19 @@ abbrev pub upper_code_in : Option (EdnsValue × ℕ) → ℕ
 upper_code_in None = 0
 upper_code_in (Some opt) = opt.1
 
--- the bits of the second number from the top: QR, four of the opcode, AA, TC, RD, RA, one that is ignored, AD, CD, four of the code
+-- the flags of the second number are QR, AA, TC, RD, RA, AD and CD, beside four bits each of the opcode and of the code; the bit between
+-- RA and AD is ignored
 abbrev pub message_of : HeaderValue → List Question → List Rr → List Rr → List Rr → Option (EdnsValue × ℕ) → MessageValue
 message_of header queries answers authorities additionals opt = record {
   id = header.id;
-  response = header.flags / 32768 % 2 == 1;
-  op_code = header.flags / 2048 % 16;
-  authoritative = header.flags / 1024 % 2 == 1;
-  truncated = header.flags / 512 % 2 == 1;
-  recursion_desired = header.flags / 256 % 2 == 1;
-  recursion_available = header.flags / 128 % 2 == 1;
-  authentic_data = header.flags / 32 % 2 == 1;
-  checking_disabled = header.flags / 16 % 2 == 1;
+  response = has_flag header.flags 0x8000;
+  op_code = header.flags / 0x0800 % 16;
+  authoritative = has_flag header.flags 0x0400;
+  truncated = has_flag header.flags 0x0200;
+  recursion_desired = has_flag header.flags 0x0100;
+  recursion_available = has_flag header.flags 0x0080;
+  authentic_data = has_flag header.flags 0x0020;
+  checking_disabled = has_flag header.flags 0x0010;
   response_code = upper_code_in opt * 16 + header.flags % 16;
   queries = queries;
   answers = answers;

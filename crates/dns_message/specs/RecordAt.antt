@@ -1,8 +1,9 @@
 -- Records in a message, and the sections that they make up (RFC 1035, 4.1.3; RFC 6891, 6.1).
-use Rattle.std.specs.Prelude.{ℕ, zero, suc, ◌+◌, ◌/◌, ◌%◌, ◌==◌, Bool, true, false, ◌&&◌, List, [], ◌∷◌, Option, None, Some, Result, Ok, Err, if◌then◌else◌}
+use Rattle.std.specs.Prelude.{ℕ, zero, suc, ◌+◌, ◌/◌, ◌%◌, ◌==◌, Bool, false, ◌&&◌, List, [], ◌∷◌, Option, None, Some, Result, Ok, Err, if◌then◌else◌}
 pub use Rattle.dns_model.specs.Names.{is_root}
 use Rattle.dns_model.specs.Names.{Labels}
 use Rattle.dns_model.specs.Types.{type_opt}
+use Rattle.dns_model.specs.Bytes.{has_flag}
 use Rattle.dns_model.specs.Records.{Rr, EdnsValue}
 use Rattle.dns_model.specs.declared.proof.Proof.TheVariants.{Indeterminate}
 use Rattle.dns_message.specs.declared.decode_error.DecodeKind.TheVariants.{BadOpt}
@@ -26,9 +27,9 @@ record_at owner rtype bytes pos = do
 abbrev pub edns_of : ℕ → ℕ → List ℕ → EdnsValue
 edns_of payload ttl options = record {
   max_payload = payload;
-  version = ttl / 65536 % 256;
-  dnssec_ok = ttl / 32768 % 2 == 1;
-  flags = ttl % 32768;
+  version = ttl / 0x0001_0000 % 256;
+  dnssec_ok = has_flag ttl 0x8000;
+  flags = ttl % 0x8000;
   options = options;
 }
 
@@ -39,7 +40,7 @@ opt_at bytes pos = do
   ttl ← u32_field bytes payload.1
   size ← u16_field bytes ttl.1
   options ← opaque_at bytes size.0 size.1
-  Ok (item.Opt (edns_of payload.0 ttl.0 options) (ttl.0 / 16777216), size.1 + size.0)
+  Ok (item.Opt (edns_of payload.0 ttl.0 options) (ttl.0 / 0x0100_0000), size.1 + size.0)
 
 -- an OPT where one may stand and at the root, or another record
 unfoldable pub item_at : Bool → List ℕ → ℕ → Result (Item × ℕ) DecodeError

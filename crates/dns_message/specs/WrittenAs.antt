@@ -21,7 +21,9 @@ record_bytes r = wire r.owner ++ u16_bytes r.rtype ++ u16_bytes r.class ++ u32_b
 
 -- the upper eight bits of the code, the version, DO and the lower 15 bits of the flags
 abbrev pub opt_ttl : ℕ → EdnsValue → ℕ
-opt_ttl code e = code / 16 % 256 * 16777216 + e.version * 65536 + flag_bit e.dnssec_ok * 32768 + e.flags % 32768
+opt_ttl code e =
+    code / 16 % 256 * 0x0100_0000 + e.version * 0x0001_0000 + flag_bit e.dnssec_ok * 0x8000
+    + e.flags % 0x8000
 
 abbrev pub opt_bytes : ℕ → EdnsValue → List ℕ
 opt_bytes code e = wire [] ++ u16_bytes type_opt ++ u16_bytes e.max_payload ++ u32_bytes (opt_ttl code e) ++ u16_bytes (length e.options) ++ e.options
@@ -37,9 +39,10 @@ edns_count (Some e) = 1
 -- the second number of the header; its Z bit is 0
 abbrev pub flags_of : MessageValue → ℕ
 flags_of m =
-    flag_bit m.response * 32768 + m.op_code % 16 * 2048 + flag_bit m.authoritative * 1024 + flag_bit m.truncated * 512
-    + flag_bit m.recursion_desired * 256 + flag_bit m.recursion_available * 128 + flag_bit m.authentic_data * 32
-    + flag_bit m.checking_disabled * 16 + m.response_code % 16
+    flag_bit m.response * 0x8000 + m.op_code % 16 * 0x0800 + flag_bit m.authoritative * 0x0400
+    + flag_bit m.truncated * 0x0200 + flag_bit m.recursion_desired * 0x0100
+    + flag_bit m.recursion_available * 0x0080 + flag_bit m.authentic_data * 0x0020
+    + flag_bit m.checking_disabled * 0x0010 + m.response_code % 16
 
 abbrev pub header_bytes : MessageValue → List ℕ
 header_bytes m =

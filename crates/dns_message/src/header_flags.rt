@@ -25,6 +25,9 @@ pub(crate) const AUTHENTIC_DATA: u16 = 0x0020;
 /// CD: the sender wants data that isn't checked.
 pub(crate) const CHECKING_DISABLED: u16 = 0x0010;
 
+/// How many opcodes, and how many response codes, a header can tell.
+pub(crate) const HEADER_CODES: u16 = 16;
+
 /// The lowest of the upper eight bits of the extended response code, in an OPT's ttl.
 pub(crate) const EXTENDED_CODE: u32 = 0x0100_0000;
 

@@ -94,17 +94,26 @@ fn questions_of(
     Ok((queries, pos))
 }
 
-/// The message of these parts (RFC 1035, 4.1.1; RFC 6891, 6.1.3).
-fn message_of(
-    header: Header,
+/// The four sections of a message (RFC 1035, 4.1), without an OPT.
+#[derive(Drop)]
+struct Sections {
     queries: Vec<Query>,
     answers: Vec<Record>,
     authorities: Vec<Record>,
     additionals: Vec<Record>,
-    opt: Option<(Edns, u8)>,
-) -> Message
-    ensures { result ≡ message_of (header_value header) queries.items answers.items authorities.items additionals.items opt }
+}
+
+/// The message of these parts (RFC 1035, 4.1.1; RFC 6891, 6.1.3).
+fn message_of(header: Header, sections: Sections, opt: Option<(Edns, u8)>) -> Message
+    ensures { result ≡ message_of (header_value header)
+        sections.queries.items sections.answers.items sections.authorities.items sections.additionals.items opt }
 {
+    let Sections {
+        queries,
+        answers,
+        authorities,
+        additionals,
+    } = sections;
     let flags = header.flags;
     let (edns, upper) = match opt {
         None => (None, 0),
@@ -112,15 +121,15 @@ fn message_of(
     };
     Message {
         id: header.id,
-        response: flags / RESPONSE % 2 == 1,
-        op_code: OpCode((flags / OP_CODE % 16) as u8),
-        authoritative: flags / AUTHORITATIVE % 2 == 1,
-        truncated: flags / TRUNCATED % 2 == 1,
-        recursion_desired: flags / RECURSION_DESIRED % 2 == 1,
-        recursion_available: flags / RECURSION_AVAILABLE % 2 == 1,
-        authentic_data: flags / AUTHENTIC_DATA % 2 == 1,
-        checking_disabled: flags / CHECKING_DISABLED % 2 == 1,
-        response_code: ResponseCode(upper * 16 + flags % 16),
+        response: flags & RESPONSE != 0,
+        op_code: OpCode((flags / OP_CODE % HEADER_CODES) as u8),
+        authoritative: flags & AUTHORITATIVE != 0,
+        truncated: flags & TRUNCATED != 0,
+        recursion_desired: flags & RECURSION_DESIRED != 0,
+        recursion_available: flags & RECURSION_AVAILABLE != 0,
+        authentic_data: flags & AUTHENTIC_DATA != 0,
+        checking_disabled: flags & CHECKING_DISABLED != 0,
+        response_code: ResponseCode(upper * HEADER_CODES + flags % HEADER_CODES),
         queries,
         answers,
         authorities,
@@ -153,6 +162,12 @@ impl Message {
         if next < bytes.len() {
             return Err(fault(DecodeKind::Trailing, next));
         }
-        Ok(message_of(header, queries, answers, authorities, additionals, opt))
+        let sections = Sections {
+            queries,
+            answers,
+            authorities,
+            additionals,
+        };
+        Ok(message_of(header, sections, opt))
     }
 }

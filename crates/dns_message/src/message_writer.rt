@@ -1,4 +1,4 @@
-ghost use Rattle.std.specs.Prelude.{◌≡◌, ◌+◌, ◌<◌, ◌≤◌, ◌^◌, ◌++◌, length, false, OnOk, IfOk};
+ghost use Rattle.std.specs.Prelude.{◌≡◌, ◌+◌, ◌<◌, ◌≤◌, ◌++◌, length, false, OnOk, IfOk};
 ghost use Rattle.std.specs.List.{flat_map};
 ghost use Rattle.dns_model.specs.Bytes.{u16_bytes, u32_bytes};
 ghost use Rattle.dns_model.specs.Gives.{Gives};
@@ -30,39 +30,42 @@ fn push_question(out: &mut Vec<u8>, query: &Query) -> Result<(), NoMemory>
     push_u16(out, query.query_class.0)
 }
 
-/// Appends a record of these parts (RFC 1035, 4.1.3).
-fn push_parts(
-    out: &mut Vec<u8>,
-    owner: &[u8],
+/// What a record is written of (RFC 1035, 4.1.3). In an OPT class and ttl say something else (RFC 6891, 6.1.2).
+#[derive(Drop)]
+struct RecordParts<'a> {
+    owner: &'a [u8],
     record_type: u16,
     class: u16,
     ttl: u32,
-    rdata: &[u8],
-) -> Result<(), NoMemory>
-    requires { length rdata.now ≤ 65535 }
+    rdata: &'a [u8],
+}
+
+fn push_parts(out: &mut Vec<u8>, parts: &RecordParts<'_>) -> Result<(), NoMemory>
+    requires { length parts.now.rdata.now ≤ 65535 }
     ensures { OnOk result (out.new.items ≡ out.old.items
-        ++ (owner.now ++ u16_bytes record_type ++ u16_bytes class ++ u32_bytes ttl ++ u16_bytes (length rdata.now) ++ rdata.now)) }
+        ++ (parts.now.owner.now ++ u16_bytes parts.now.record_type ++ u16_bytes parts.now.class ++ u32_bytes parts.now.ttl
+        ++ u16_bytes (length parts.now.rdata.now) ++ parts.now.rdata.now)) }
 {
-    out.extend_from_slice(owner)?;
-    push_u16(out, record_type)?;
-    push_u16(out, class)?;
-    push_u32(out, ttl)?;
-    push_u16(out, rdata.len() as u16)?;
-    out.extend_from_slice(rdata)?;
+    out.extend_from_slice(parts.owner)?;
+    push_u16(out, parts.record_type)?;
+    push_u16(out, parts.class)?;
+    push_u32(out, parts.ttl)?;
+    push_u16(out, parts.rdata.len() as u16)?;
+    out.extend_from_slice(parts.rdata)?;
     Ok(())
 }
 
 fn push_record(out: &mut Vec<u8>, from: &Record) -> Result<(), NoMemory>
     ensures { OnOk result (out.new.items ≡ out.old.items ++ record_bytes from.now) }
 {
-    push_parts(
-        out,
-        from.name.wire(),
-        from.record_type.0,
-        from.dns_class.0,
-        from.ttl,
-        from.rdata.as_slice(),
-    )
+    let parts = RecordParts {
+        owner: from.name.wire(),
+        record_type: from.record_type.0,
+        class: from.dns_class.0,
+        ttl: from.ttl,
+        rdata: from.rdata.as_slice(),
+    };
+    push_parts(out, &parts)
 }
 
 fn push_questions(out: &mut Vec<u8>, queries: &[Query]) -> Result<(), NoMemory>
@@ -86,24 +89,24 @@ fn push_records(out: &mut Vec<u8>, records: &[Record]) -> Result<(), NoMemory>
 fn opt_ttl(code: u16, edns: &Edns) -> u32
     ensures { result ≡ opt_ttl code edns.now }
 {
-    u32::from(code / 16 % 256) * EXTENDED_CODE
+    u32::from(code / HEADER_CODES % 256) * EXTENDED_CODE
         + u32::from(edns.version) * EDNS_VERSION
         + u32::from(flag_bit(edns.dnssec_ok)) * DNSSEC_OK
-        + u32::from(edns.flags % 32768)
+        + u32::from(edns.flags) % DNSSEC_OK
 }
 
 fn push_opt(out: &mut Vec<u8>, code: u16, edns: &Edns) -> Result<(), NoMemory>
     requires { length edns.now.options ≤ 65535 }
     ensures { OnOk result (out.new.items ≡ out.old.items ++ opt_bytes code edns.now) }
 {
-    push_parts(
-        out,
-        &[0],
-        RecordType::OPT.0,
-        edns.max_payload,
-        opt_ttl(code, edns),
-        edns.options.as_slice(),
-    )
+    let parts = RecordParts {
+        owner: &[0],
+        record_type: RecordType::OPT.0,
+        class: edns.max_payload,
+        ttl: opt_ttl(code, edns),
+        rdata: edns.options.as_slice(),
+    };
+    push_parts(out, &parts)
 }
 
 #[tactic(auto, unfolding(crate::specs::WrittenAs::has_many))]
@@ -121,14 +124,14 @@ fn flags_of(message: &Message) -> u16
     ensures { result ≡ flags_of message.now }
 {
     flag_bit(message.response) * RESPONSE
-        + u16::from(message.op_code.0 % 16) * OP_CODE
+        + u16::from(message.op_code.0) % HEADER_CODES * OP_CODE
         + flag_bit(message.authoritative) * AUTHORITATIVE
         + flag_bit(message.truncated) * TRUNCATED
         + flag_bit(message.recursion_desired) * RECURSION_DESIRED
         + flag_bit(message.recursion_available) * RECURSION_AVAILABLE
         + flag_bit(message.authentic_data) * AUTHENTIC_DATA
         + flag_bit(message.checking_disabled) * CHECKING_DISABLED
-        + message.response_code.0 % 16
+        + message.response_code.0 % HEADER_CODES
 }
 
 fn edns_count(edns: &Option<Edns>) -> usize

@@ -65,7 +65,7 @@ fn edns_of(payload: u16, ttl: u32, options: Octets) -> Edns
     Edns {
         max_payload: payload,
         version: (ttl / EDNS_VERSION % 256) as u8,
-        dnssec_ok: ttl / DNSSEC_OK % 2 == 1,
+        dnssec_ok: ttl & DNSSEC_OK != 0,
         flags: (ttl % DNSSEC_OK) as u16,
         options,
     }

@@ -1,6 +1,10 @@
--- Numbers as bytes, the highest first (RFC 1035, 2.3.2).
-use Rattle.std.specs.Prelude.{ℕ, Bool, nat_lt, ◌+◌, ◌*◌, ◌/◌, ◌%◌, List, [], ◌∷◌, slice_index}
+-- Numbers as bytes, the highest first (RFC 1035, 2.3.2), and as flags.
+use Rattle.std.specs.Prelude.{ℕ, Bool, not, ◌==◌, bit_and, nat_lt, ◌+◌, ◌*◌, ◌/◌, ◌%◌, List, [], ◌∷◌, slice_index}
 use Rattle.std.specs.List.{list_all}
+
+-- a flag of a number is set; the flag is the number in which it alone is set
+abbrev pub has_flag : ℕ → ℕ → Bool
+has_flag flags flag = not (bit_and flags flag == 0)
 
 -- numbers below 256
 abbrev pub is_bytes : List ℕ → Bool

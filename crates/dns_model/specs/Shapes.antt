@@ -1,10 +1,10 @@
 -- What an rdata of each type is made of, names spelled out (RFC 1035, 3.3; RFC 4034; RFC 5155, 3).
-use Rattle.std.specs.Prelude.{ℕ, ◌+◌, ◌*◌, ◌/◌, ◌%◌, ◌-◌, ◌^◌, Bool, true, false, ◌==◌, ◌&&◌, ◌||◌, nat_le, nat_lt, List, [], ◌∷◌, ◌++◌, length, take, drop, map, if◌then◌else◌, Option, None, Some, slice_index}
+use Rattle.std.specs.Prelude.{ℕ, ◌/◌, ◌%◌, ◌-◌, ◌^◌, Bool, true, false, ◌==◌, ◌&&◌, ◌||◌, nat_le, nat_lt, List, [], ◌∷◌, length, take, drop, map, if◌then◌else◌, Option, None, Some, slice_index}
 use Rattle.std.specs.Option.{is_some}
 use Rattle.std.specs.List.{list_any, concat}
 use Rattle.dns_model.specs.Names.{Labels, folded, wire}
 use Rattle.dns_model.specs.NameForm.{name_in}
-use Rattle.dns_model.specs.Types.{type_ds, type_rrsig, type_nsec, type_dnskey, type_nsec3, type_soa}
+use Rattle.dns_model.specs.Types.{type_a, type_ns, type_cname, type_soa, type_aaaa, type_dname, type_ds, type_rrsig, type_nsec, type_dnskey, type_nsec3}
 
 -- one field of an rdata
 pub data Field : Type 0 where
@@ -114,16 +114,17 @@ parts_in [] [] = Some []
 parts_in [] (byte ∷ bytes) = None
 parts_in (field ∷ fields) bytes = after_part (part_in field bytes) (parts_in fields)
 
--- the fields of each type's rdata; a type that isn't here is opaque
+-- the fields of each type's rdata; a type that isn't here is opaque. Types that nothing else names stand by their numbers: PTR 12, MX 15,
+-- RP 17, AFSDB 18, RT 21, PX 26, SRV 33, NAPTR 35, KX 36
 unfoldable pub shape_of : ℕ → List Field
 shape_of rtype =
-    if rtype == 1 then Octets 4 ∷ []
-    else if (rtype == 2) || (rtype == 5) || (rtype == 12) || (rtype == 39) then DomainName ∷ []
+    if rtype == type_a then Octets 4 ∷ []
+    else if (rtype == type_ns) || (rtype == type_cname) || (rtype == 12) || (rtype == type_dname) then DomainName ∷ []
     else if rtype == type_soa then DomainName ∷ DomainName ∷ Octets 20 ∷ []
     else if (rtype == 15) || (rtype == 18) || (rtype == 21) || (rtype == 36) then Octets 2 ∷ DomainName ∷ []
     else if rtype == 17 then DomainName ∷ DomainName ∷ []
     else if rtype == 26 then Octets 2 ∷ DomainName ∷ DomainName ∷ []
-    else if rtype == 28 then Octets 16 ∷ []
+    else if rtype == type_aaaa then Octets 16 ∷ []
     else if rtype == 33 then Octets 6 ∷ DomainName ∷ []
     else if rtype == 35 then Octets 4 ∷ CharacterString ∷ CharacterString ∷ CharacterString ∷ DomainName ∷ []
     else if rtype == type_ds then Octets 4 ∷ Remainder ∷ []
@@ -140,7 +141,8 @@ has_shape rtype rdata = is_some (parts_in (shape_of rtype) rdata)
 -- the types whose names are lower-cased in canonical form (RFC 4034, 6.2; RFC 6840, 5.1 takes NSEC out)
 unfoldable pub is_lowered_type : ℕ → Bool
 is_lowered_type rtype =
-    list_any (λ lowered. rtype == lowered) (2 ∷ 5 ∷ 6 ∷ 12 ∷ 15 ∷ 17 ∷ 18 ∷ 21 ∷ 26 ∷ 33 ∷ 35 ∷ 36 ∷ 39 ∷ 46 ∷ [])
+    list_any (λ lowered. rtype == lowered)
+    (type_ns ∷ type_cname ∷ type_soa ∷ 12 ∷ 15 ∷ 17 ∷ 18 ∷ 21 ∷ 26 ∷ 33 ∷ 35 ∷ 36 ∷ type_dname ∷ type_rrsig ∷ [])
 
 abbrev pub canonical_part : Part → List ℕ
 canonical_part (Plain bytes) = bytes

@@ -62,7 +62,7 @@ key_tag_of rdata = (tag_sum rdata + tag_sum rdata / 65536) % 65536
 abbrev pub key_tag : List ℕ → Option ℕ
 key_tag rdata = if nat_lt (length rdata) 4 then None else Some (key_tag_of rdata)
 
--- the digest of an owner and a key, for the digest types that are supported
+-- the digest of an owner and a key, for the digest types that are supported: 1 is SHA-1, 2 SHA-256 and 4 SHA-384
 unfoldable pub ds_digest : ℕ → Labels → List ℕ → Option (List ℕ)
 ds_digest digest_type owner key =
     if digest_type == 1 then Some (sha1 (wire (folded owner) ++ key))

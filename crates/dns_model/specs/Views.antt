@@ -1,6 +1,6 @@
 -- What an rdata says where it has its type's shape (RFC 1035, 3.3; RFC 4034, 2 to 5; RFC 5155, 3).
-use Rattle.std.specs.Prelude.{ℕ, ◌+◌, Bool, ◌==◌, nat_lt, nat_le, ◌/◌, ◌%◌, List, [], ◌∷◌, length, take, drop, if◌then◌else◌, Option, None, Some, slice_index}
-use Rattle.dns_model.specs.Bytes.{u16_at, u32_at}
+use Rattle.std.specs.Prelude.{ℕ, Bool, ◌==◌, nat_lt, List, length, drop, if◌then◌else◌, Option, None, Some, slice_index}
+use Rattle.dns_model.specs.Bytes.{u16_at, u32_at, has_flag}
 use Rattle.dns_model.specs.Names.{Labels}
 use Rattle.dns_model.specs.NameForm.{name_in, whole_name}
 use Rattle.dns_model.specs.Shapes.{counted_in, is_bitmap}
@@ -126,8 +126,8 @@ ns_in rdata = whole_name (name_in rdata)
 
 -- a DNSKEY's flag for a zone's keys (RFC 4034, 2.1.1)
 abbrev pub is_zone_key : DnskeyValue → Bool
-is_zone_key key = key.flags / 256 % 2 == 1
+is_zone_key key = has_flag key.flags 0x0100
 
 -- a DNSKEY's flag for a revoked key (RFC 5011, 2.1)
 abbrev pub is_revoked : DnskeyValue → Bool
-is_revoked key = key.flags / 128 % 2 == 1
+is_revoked key = has_flag key.flags 0x0080

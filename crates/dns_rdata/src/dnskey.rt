@@ -64,13 +64,13 @@ impl<'a> Dnskey<'a> {
     pub fn is_zone_key(&self) -> bool
         ensures { result ≡ is_zone_key self.now }
     {
-        self.flags / ZONE_KEY % 2 == 1
+        self.flags & ZONE_KEY != 0
     }
 
     /// Whether it is revoked (RFC 5011, 2.1).
     pub fn is_revoked(&self) -> bool
         ensures { result ≡ is_revoked self.now }
     {
-        self.flags / REVOKED % 2 == 1
+        self.flags & REVOKED != 0
     }
 }
