@@ -14,7 +14,7 @@ use Rattle.dns_model.proofs.NameLemmas.{name_equiv}
 use Rattle.dns_model.proofs.AboveLemmas.{above_alike, above_itself, above_is_shorter, above_nested, strictly_made, strictly_parts}
 use Rattle.dns_model.specs.declared.answered.Answered.{Answered}
 use Rattle.dns_model.specs.declared.answered.Answered.TheVariants.{No, Expanded}
-use Rattle.dns_judgement.specs.Covering.{has_type, counts_for, covering, number_of, covering_number}
+use Rattle.dns_judgement.specs.Covering.{has_type, counts_for, covering, number_if_covered, covering_number}
 use Rattle.dns_judgement.specs.NsecVerdict.{can_deny, holds_query, code_nx_domain, code_no_error, is_plain, is_owned_by, lacks_data, is_right_side, denies_at_owner, closest_encloser, wildcard_lacks, wildcard_denies, missing_name, proved_by_covering, proved_at_name, nsec_verdict}
 use Rattle.dns_judgement.specs.Zones.{Zone, has_set, is_delegation, exists_in, is_zone, encloser, has_data, from_wildcard, lookup, Referral, Data, NoData, NxDomain, IsTrueNsec}
 use Rattle.dns_judgement.specs.DenialInZones.{HasNone, IsAbsent, HasNoneCloser, IsDeniedIn, IsExpandedIn, IsOwnerless}
@@ -286,7 +286,7 @@ covered_is_ownerless name nsecs nsec h =
     λ zone each. let c = covered zone name nsecs nsec each h in spans_no_owner zone nsec name c.is_true c.spanned
 
 numbered_by : (name : Labels) (nsecs : List OwnedNsec) (number : ℕ) (found : Option OwnedNsec) (place : Option ℕ) → covering name nsecs ≡ found
-    → number_of place found ≡ Some number → IsOwnerless name nsecs
+    → number_if_covered place found ≡ Some number → IsOwnerless name nsecs
 numbered_by name nsecs number None place e h = let none : None ≡ Some number = h in cc
 numbered_by name nsecs number (Some nsec) place e h = covered_is_ownerless name nsecs nsec e
 

@@ -54,10 +54,10 @@ unless_silent name (Some nsec) = if is_silent_on name nsec then None else Some n
 unfoldable pub covering : Labels → List OwnedNsec → Option OwnedNsec
 covering name nsecs = unless_silent name (find (counts_for name nsecs) nsecs)
 
-abbrev pub number_of : Option ℕ → Option OwnedNsec → Option ℕ
-number_of number None = None
-number_of number (Some nsec) = number
+abbrev pub number_if_covered : Option ℕ → Option OwnedNsec → Option ℕ
+number_if_covered number None = None
+number_if_covered number (Some nsec) = number
 
 -- the number of the record that covers the name, from 0
 unfoldable pub covering_number : Labels → List OwnedNsec → Option ℕ
-covering_number name nsecs = number_of (position (counts_for name nsecs) nsecs) (covering name nsecs)
+covering_number name nsecs = number_if_covered (position (counts_for name nsecs) nsecs) (covering name nsecs)

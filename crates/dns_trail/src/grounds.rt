@@ -7,7 +7,7 @@ ghost use Rattle.dns_judgement.specs.Derivation.{finished_answer as finished_for
 ghost use Rattle.dns_judgement.specs.DerivationParts.{is_judged_ask, is_plain_step as is_plain_in};
 ghost use Rattle.dns_trust.specs.Verdicts.{listed};
 
-use crate::places::SetPlaces;
+use crate::places::PlacesByKey;
 use dns_evidence::{AskRef, Asked};
 use dns_record::Query;
 use dns_sets::ChainedSet;
@@ -61,7 +61,7 @@ pub(crate) struct Ended {
     /// The sets, where it didn't.
     pub(crate) others: Vec<ChainedSet>,
     /// Where they stand, if some entry of the trail repeats a set.
-    pub(crate) places: Option<SetPlaces>,
+    pub(crate) places: Option<PlacesByKey>,
 }
 
 impl Model for Ended {

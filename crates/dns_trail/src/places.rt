@@ -23,7 +23,7 @@ pub(crate) struct SetKey {
 }
 
 /// The places of sets in a list.
-pub(crate) type SetPlaces = BTreeMap<SetKey, Vec<usize>>;
+pub(crate) type PlacesByKey = BTreeMap<SetKey, Vec<usize>>;
 
 impl SetKey {
     /// The key of a set.
@@ -53,7 +53,7 @@ impl SetKey {
 }
 
 /// The places of the sets with a key.
-pub(crate) fn places_of<'a>(places: &'a SetPlaces, key: &SetKey) -> &'a [usize]
+pub(crate) fn places_of<'a>(places: &'a PlacesByKey, key: &SetKey) -> &'a [usize]
     ensures { result.now ≡ places_at places.now key.now }
 {
     match places.get(key) {
@@ -65,7 +65,7 @@ pub(crate) fn places_of<'a>(places: &'a SetPlaces, key: &SetKey) -> &'a [usize]
 /// Puts a place behind the others of its key.
 pub(crate) fn add_place(
     alloc: Global,
-    places: &mut SetPlaces,
+    places: &mut PlacesByKey,
     key: SetKey,
     place: usize,
 ) -> Result<(), NoMemory>
@@ -82,7 +82,7 @@ pub(crate) fn add_place(
 }
 
 /// The places of judged sets.
-pub(crate) fn places_of_sets(alloc: Global, sets: &[ChainedSet]) -> Result<SetPlaces, NoMemory>
+pub(crate) fn places_of_sets(alloc: Global, sets: &[ChainedSet]) -> Result<PlacesByKey, NoMemory>
     ensures { IfOk result (λ p. AreIndexed p (bare sets.now)) }
 {
     let mut places = BTreeMap::new(alloc);

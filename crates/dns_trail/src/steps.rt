@@ -15,7 +15,7 @@ ghost use Rattle.dns_anchors.specs.Judge.{judge_of};
 use crate::ending::{ending_holds, is_failed, is_foreign, is_seen};
 use crate::entries::judged_sets;
 use crate::grounds::{Earlier, Ended, Grounds};
-use crate::places::{SetPlaces, places_of_sets};
+use crate::places::{PlacesByKey, places_of_sets};
 use crate::repeats::has_repeats;
 use dns_evidence::{Asked, Ending, Reply, Told, Verifier};
 use dns_message::Message;
@@ -168,7 +168,7 @@ fn places_if(
     alloc: Global,
     repeats: bool,
     sets: &[ChainedSet],
-) -> Result<Option<SetPlaces>, NoMemory>
+) -> Result<Option<PlacesByKey>, NoMemory>
     ensures { IfOk result (λ p. MayBeIndexed p (bare sets.now)) }
 {
     if repeats {
@@ -182,7 +182,7 @@ fn places_if(
 fn ended_with(
     alloc: Global,
     sets: Vec<ChainedSet>,
-    places: Option<SetPlaces>,
+    places: Option<PlacesByKey>,
     ending: &Ending,
 ) -> Ended
     requires { MayBeIndexed places (bare sets.items) }
@@ -203,7 +203,7 @@ fn ended_with(
 }
 
 // The judged sets of a step that has no answer.
-fn unanswered(sets: Vec<ChainedSet>, places: Option<SetPlaces>) -> Ended
+fn unanswered(sets: Vec<ChainedSet>, places: Option<PlacesByKey>) -> Ended
     requires { MayBeIndexed places (bare sets.items) }
     ensures { result ≡ record { answer = None; sets = bare sets.items } }
 {
