@@ -1,12 +1,12 @@
 -- What becomes of a response: records, that there are none, or a failure (RFC 1035, 4.1.1; RFC 2308, 2 and 5; RFC 6895, 2.3).
 use Rattle.std.specs.Prelude.{ℕ, Bool, true, false, not, ◌==◌, ◌&&◌, ◌||◌, nat_le, min, List, [], ◌∷◌, ◌++◌, map, Option, None, Some, is_some, unwrap_or, Result, Ok, Err, if◌then◌else◌}
 use Rattle.std.specs.List.{list_any, filter, find}
-use Rattle.std.specs.Option.{option_and_then}
+use Rattle.std.specs.Option.{option_map, option_and_then}
 use Rattle.dns_model.specs.Names.{Labels, name_eq, at_or_above}
 use Rattle.dns_model.specs.Types.{type_a, type_ns, type_soa, can_deny, class_in}
 pub use Rattle.dns_model.specs.Types.{type_aaaa, type_any}
 pub use Rattle.dns_model.specs.Sections.{is_empty}
-use Rattle.dns_model.specs.Views.{SoaValue, ns_in, soa_in}
+use Rattle.dns_model.specs.Views.{ns_in, soa_in}
 use Rattle.dns_model.specs.Records.{Rr, Question, MessageValue}
 use Rattle.dns_model.specs.SoundAnswers.{ResponseValue}
 use Rattle.dns_model.specs.RecordViews.{read_as}
@@ -65,13 +65,9 @@ glue_at additionals (Some target) = filter (is_address_of target) additionals
 abbrev pub forwarded : List Rr → Rr → ForwardNsValue
 forwarded additionals ns = record { ns = ns; glue = glue_at additionals (read_as type_ns ns_in ns) }
 
-abbrev pub least_ttl : ℕ → Option SoaValue → Option ℕ
-least_ttl ttl None = None
-least_ttl ttl (Some soa) = Some (min ttl soa.minimum)
-
 -- for how long an SOA lets it be believed that there are no records (RFC 2308, 5)
 abbrev pub negative_ttl_of : Rr → Option ℕ
-negative_ttl_of soa = least_ttl soa.ttl (read_as type_soa soa_in soa)
+negative_ttl_of soa = option_map (λ said. min soa.ttl said.minimum) (read_as type_soa soa_in soa)
 
 -- the question where a message has none: the root's addresses
 abbrev pub root_question : Question
