@@ -197,6 +197,21 @@ pub(crate) fn is_answered(
     answered
 }
 
+/// The query is denied, as Bogus.
+pub(crate) fn is_denied(
+    alloc: Global,
+    handle: &mut DnssecDnsHandle<Keeping, Listed>,
+    given: &Given,
+) -> bool {
+    let answer = look_up(alloc, handle, given);
+    let denied = matches!(
+        &answer,
+        Err(NetError::Dns(DnsError::Nsec { proof: Proof::Bogus, .. }))
+    );
+    drop(answer);
+    denied
+}
+
 /// An ask of the lookup of `. NS` with default options.
 struct Asked {
     name: &'static str,

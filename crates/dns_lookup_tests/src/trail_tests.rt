@@ -1,6 +1,7 @@
 //! The trail of a lookup, also where an ask meets a fault, and replies by turn (RFC 4035, 4.2 and 5).
 use crate::lookup_tests::{
-    Given, KEY_SET, Keeping, NS_SET, ROOT_SERVERS, handle_over, is_answered, look_up, root_servers,
+    Given, KEY_SET, Keeping, NS_SET, ROOT_SERVERS, handle_over, is_answered, is_denied, look_up,
+    root_servers,
 };
 use crate::rows::check_row;
 use dns_lookup::DnssecDnsHandle;
@@ -149,13 +150,28 @@ fn has_keys(alloc: Global, handle: &mut DnssecDnsHandle<Keeping, Listed>) -> boo
     is_answered(alloc, handle, &keys()[0])
 }
 
-/// Of three lookups of the keys, one after another, the first isn't answered, and the others are or aren't.
-fn are_later(alloc: Global, upstream: Recorded, later: bool) -> Result<bool, NetError> {
-    let mut handle = handle_over(alloc, upstream, keys())?;
+// Nothing is answered, and nothing shows that there are no keys.
+fn has_none(alloc: Global, handle: &mut DnssecDnsHandle<Keeping, Listed>) -> bool {
+    is_denied(alloc, handle, &keys()[0])
+}
+
+/// Three lookups of the keys, one after another, by turn: the first is denied, and the others have the keys.
+fn are_later(alloc: Global) -> Result<bool, NetError> {
+    let mut handle = handle_over(alloc, Recorded::in_turn(alloc), keys())?;
     Ok(
-        !has_keys(alloc, &mut handle)
-            && has_keys(alloc, &mut handle) == later
-            && has_keys(alloc, &mut handle) == later,
+        has_none(alloc, &mut handle)
+            && has_keys(alloc, &mut handle)
+            && has_keys(alloc, &mut handle),
+    )
+}
+
+/// The same by the first reply: each is denied.
+fn are_denied(alloc: Global) -> Result<bool, NetError> {
+    let mut handle = handle_over(alloc, Recorded::new(alloc), keys())?;
+    Ok(
+        has_none(alloc, &mut handle)
+            && has_none(alloc, &mut handle)
+            && has_none(alloc, &mut handle),
     )
 }
 
@@ -165,11 +181,11 @@ fn replies_are_taken_by_turn_or_the_first_again(rt: HostRuntime) {
     check_row(
         &rt,
         "by turn each send takes the next reply, and then the last",
-        are_later(alloc, Recorded::in_turn(alloc), true),
+        are_later(alloc),
     );
     check_row(
         &rt,
         "else each send takes the first reply",
-        are_later(alloc, Recorded::new(alloc), false),
+        are_denied(alloc),
     );
 }

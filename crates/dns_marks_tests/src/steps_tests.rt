@@ -25,6 +25,7 @@ fn are_same_counted_anew<L: Ledger>(one: u8, other: u8, blank: Blank) -> bool
     are_same(one, other, &mut steps)
 }
 
+// Run alone it shows little: that each step counts is the clause of `are_same`, which the test's proof rests on.
 #[test]
 fn steps_are_counted_beside_the_code() -> Result<(), Fail> {
     if are_same_counted_anew::<Brand>(7, 7, Blank::new(1)) {
