@@ -12,8 +12,11 @@ use std::alloc::Global;
 /// greatest `u64`.
 #[derive(Clone, Copy)]
 pub struct Counts {
+    /// The messages that were decoded.
     pub messages: u64,
+    /// The messages that were refused.
     pub refused: u64,
+    /// The records of the decoded messages.
     pub records: u64,
 }
 

@@ -18,7 +18,9 @@ use std::alloc::Global;
 /// How many lookups gave an answer, and how many a fault. A count stops at the greatest `u64`.
 #[derive(Clone, Copy)]
 pub struct Lookups {
+    /// The lookups that gave an answer.
     pub answers: u64,
+    /// The lookups that gave a fault.
     pub faults: u64,
 }
 

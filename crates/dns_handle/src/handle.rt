@@ -51,7 +51,8 @@ pub trait DnsHandle {
         ensures told { IsLeft (told self.old) (first_question request) (reply_of result) (told self.new) }
         ensures reply { ReplyIsTold (told self.old) (first_question request) (reply_of result) };
 
-    /// Sends the request for one question at the same moment. Where memory runs out before the send, nothing is sent and nothing changes.
+    /// Sends the request for one question at a moment, in seconds. Where memory runs out before the send, nothing is sent and
+    /// nothing changes.
     fn lookup(
         &mut self,
         alloc: Global,

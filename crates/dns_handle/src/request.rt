@@ -22,13 +22,13 @@ pub struct DnsRequestOptions {
     pub recursion_desired: bool,
     /// The name's letters are sent in a random case.
     pub case_randomization: bool,
-    /// How many nested asks a validator makes below a lookup; above 255 it counts as 255.
+    /// How deep the asks of a validator's lookup go; above 255 it counts as 255.
     pub max_request_depth: u16,
     /// Milliseconds before a request is sent again.
     pub retry_interval_ms: u64,
 }
 
-/// No EDNS, recursion desired, letters as they are, at most 26 nested asks, sent again at once.
+/// No EDNS, recursion desired, letters as they are, asks at most 26 deep, sent again at once.
 impl Default for DnsRequestOptions {
     ghost is_default = { λ options. options ≡ plain_options };
 

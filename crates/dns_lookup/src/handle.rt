@@ -74,14 +74,14 @@ impl<H: DnsHandle + Drop, V: Verifier + Drop> DnssecDnsHandle<H, V> {
         true
     }
 
-    /// Looks a query up at a moment, in seconds: one send for the query, at most 1,024 in all, and asks for the keys of signers
-    /// at most as deep as the options say, and never deeper than 255. Each send has this moment and these options. What is
+    /// Looks a query up at a moment, in seconds: one send for the query, at most 1,024 in all, and no ask deeper than the
+    /// options say, nor deeper than 255. Each send has this moment and these options. What is
     /// judged is asked for with EDNS and DO, AD set and CD clear; the NS records by which a zone is searched are asked for as
     /// `DnsRequest::from_query` has it. The marks of the answer are this validator's own, and its trail says what was asked,
     /// heard and judged for them. Its anchors and verifier stay as they are. The call is counted as a `send` is.
     ///
-    /// The denial of an answer says what its records prove beside (RFC 4035, 5.3.4 and 5.4): `Absent(Secure)`, that no zone has
-    /// an answer in which its Secure NSEC records are true; `Expanded(Secure)`, that the answer comes from the right wildcard;
+    /// The denial of an answer says what its records prove beside (RFC 4035, 5.3.4 and 5.4): `Absent(Secure)`, that no zone in
+    /// which its Secure NSEC records are true has an answer; `Expanded(Secure)`, that the answer comes from the right wildcard;
     /// `Absent(Insecure)`, that nothing is there where no more than Insecure can be expected. A Secure denial promises nothing
     /// where the query is for ANY, RRSIG, NSEC, NSEC3, OPT or a type from 128 to 255.
     ///

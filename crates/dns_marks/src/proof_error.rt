@@ -32,7 +32,7 @@ pub enum ProofErrorKind {
     /// Neither a DS set nor its absence is shown.
     #[error("ds record should exist: {name}")]
     DsRecordShouldExist { name: Name },
-    /// It is shown that there is no DS.
+    /// No DS set is in the answer, and it is shown that there is none, or a set at the zone or above it is Insecure.
     #[error("ds record does not exist: {name}")]
     DsResponseInsecure { name: Name },
     /// No DS is of a supported algorithm and digest type.

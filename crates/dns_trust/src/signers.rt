@@ -25,7 +25,9 @@ const MOST_SIGNATURES: usize = 8;
 pub struct SignedBy<'a> {
     /// The place of the signature among the set's signatures.
     pub place: u32,
+    /// The signature.
     pub signature: &'a Record,
+    /// The key that made it.
     pub key: &'a Record,
 }
 
