@@ -1,18 +1,17 @@
 -- What responses prove of their questions by the NSEC records in their authority sections (RFC 4035, 5.3.4 and 5.4).
 use Rattle.std.specs.Prelude.{ℕ, nat_lt, List, [], ◌∷◌, ◌++◌, codes, Option, None, Some, Result, Ok, Err, if◌then◌else◌}
-use Rattle.std.specs.Option.{option_map}
 use Rattle.dns_model.specs.Names.{Labels, num_labels}
-use Rattle.dns_model.specs.Types.{type_nsec}
 use Rattle.dns_model.specs.Records.{Rr, Question, MessageValue}
-use Rattle.dns_model.specs.Views.{RrsigValue, nsec_in}
+use Rattle.dns_model.specs.Views.{RrsigValue}
 use Rattle.dns_model.specs.Owned.{OwnedNsec}
 use Rattle.dns_model.specs.declared.proof.Proof.{Proof}
 use Rattle.dns_model.specs.declared.proof.Proof.TheVariants.{Secure, Insecure, Bogus, Indeterminate}
 use Rattle.dns_message.specs.declared.decode_error.DecodeError.{DecodeError}
-use Rattle.dns_model.specs.RecordViews.{read_as, rrsig_of}
+use Rattle.dns_model.specs.RecordViews.{rrsig_of}
 use Rattle.dns_model.specs.declared.answered.Answered.{Answered}
 use Rattle.dns_model.specs.declared.answered.Answered.TheVariants.{No, Plain, Expanded}
 use Rattle.dns_judgement.specs.NsecVerdict.{nsec_verdict}
+use Rattle.dns_judgement.specs.Outcome.{owned_nsec}
 use Rattle.dns_session.specs.SessionValue.{ReplyKindValue, Message, Empty, Fault, ReplyValue}
 
 -- a signature with fewer labels than the name shows that the answer comes of a wildcard
@@ -27,10 +26,6 @@ signed_for name record_ = answered_by_signature name (rrsig_of record_)
 abbrev pub answered_by : Labels → List Rr → Answered
 answered_by name [] = No
 answered_by name (first ∷ answers) = signed_for name first
-
--- what a record says as an NSEC, with its owner
-abbrev pub owned_nsec : Rr → Option OwnedNsec
-owned_nsec record_ = option_map (λ t. record { owner = record_.owner; fields = t }) (read_as type_nsec nsec_in record_)
 
 abbrev pub with_one : List OwnedNsec → Option OwnedNsec → List OwnedNsec
 with_one nsecs None = nsecs
