@@ -16,12 +16,13 @@ use Rattle.dns_session.specs.Grammar.{session_of}
 use Rattle.dns_io.specs.Reading.{OfInput}
 use Rattle.dns_io.specs.Writing.{TakesPrefix}
 use Rattle.dns_io.proofs.Leaving.{of_any, nothing_taken}
+use Rattle.dns_run.specs.Answering.{session_depth}
 use Rattle.dns_run.specs.Causes.{AnswersSession}
 use Rattle.dns_run.specs.Outcomes.{WrotePrefix}
 use Rattle.dns_run.specs.Soundness.{listing}
 use Rattle.dns_run.proofs.JudgeLemmas.{judge_plain}
 use Rattle.dns_audit_trial.specs.declared.audit.Audited.{Audited}
-use Rattle.dns_audit_trial.specs.Audits.{audited_by, depth_of, response_in, session_audited, Responds}
+use Rattle.dns_audit_trial.specs.Audits.{audited_by, response_in, session_audited, Responds}
 use Rattle.dns_audit_trial.specs.Forms.{audit_text, truth_line}
 use Rattle.dns_audit_trial.specs.LongChains.{is_long_chain_justified}
 use Rattle.dns_audit_trial.specs.Endings.{Audits, ComesTo, EndsAs, EndsTold, EndsUnread, MayWrite, Told, Nothing}
@@ -46,7 +47,7 @@ responds_ok s response given = record { answer = Ok response; answered = given; 
 -- by the judge and the depth that were made of a session, the checks say what they say by its own
 audited_same : {E : Type 0} (s : SessionValue) (response : ResponseValue) (answers : VerifierAnswers) (anchors : List AnchorValue)
     (depth : ℕ) (given : Result Audited E)
-    → answers ≡ answers_of (listing s.algorithms s.accepts) → anchored anchors ≡ anchored s.anchors → depth ≡ depth_of s
+    → answers ≡ answers_of (listing s.algorithms s.accepts) → anchored anchors ≡ anchored s.anchors → depth ≡ session_depth s
     → IfOk given (λ a. a ≡ audited_by (judge answers anchors s.moment) depth response)
     → IfOk given (λ a. a ≡ session_audited s response)
 audited_same s response answers anchors depth given listed trusted deep is =
@@ -55,7 +56,7 @@ audited_same s response answers anchors depth given listed trusted deep is =
 
 pub audited_made : {E : Type 0} (made s : SessionValue) (response : ResponseValue) (answers : VerifierAnswers)
     (anchors : List AnchorValue) (depth : ℕ) (given : Result Audited E) → made ≡ s
-    → answers ≡ answers_of (listing made.algorithms made.accepts) → anchored anchors ≡ anchored made.anchors → depth ≡ depth_of made
+    → answers ≡ answers_of (listing made.algorithms made.accepts) → anchored anchors ≡ anchored made.anchors → depth ≡ session_depth made
     → IfOk given (λ a. a ≡ audited_by (judge answers anchors made.moment) depth response)
     → IfOk given (λ a. a ≡ session_audited s response)
 audited_made made s response answers anchors depth given same listed trusted deep is =

@@ -1,12 +1,12 @@
 -- What the checks say of a response: how many of its chains are justified, and whether its trail is a derivation
 -- (RFC 4035, 4.3, 5.2 and 5.3).
-use Rattle.std.specs.Prelude.{ℕ, ◌≡◌, ◌+◌, ◌-◌, ◌^◌, min, List, [], ◌∷◌, length, Option, None, Some, Ok, Err, unwrap_or, if◌then◌else◌}
+use Rattle.std.specs.Prelude.{ℕ, ◌≡◌, ◌+◌, ◌-◌, ◌^◌, min, List, [], ◌∷◌, length, Option, None, Some, Ok, Err, if◌then◌else◌}
 use Rattle.dns_model.specs.Chains.{Judge, justified}
 use Rattle.dns_model.specs.SoundAnswers.{ChainValue, ResponseValue}
 use Rattle.dns_judgement.specs.Derivation.{derivation}
 use Rattle.dns_handle.specs.Errors.{Reply, Dns, Nsec}
-use Rattle.dns_handle.specs.Requests.{plain_options}
 use Rattle.dns_session.specs.SessionValue.{SessionValue}
+use Rattle.dns_run.specs.Answering.{session_depth}
 use Rattle.dns_run.specs.Causes.{AnswersSession}
 use Rattle.dns_run.specs.Soundness.{session_judge}
 use Rattle.dns_audit_trial.specs.declared.audit.Audited.{Audited}
@@ -34,13 +34,9 @@ response_in (Ok response) = Some response
 response_in (Err (Dns (Nsec asked response proof))) = Some response
 response_in (Err error) = None
 
--- how deep a session's asks go
-abbrev pub depth_of : SessionValue → ℕ
-depth_of s = unwrap_or s.depth plain_options.max_request_depth
-
 -- what the checks say of a response to a session, by what the session trusts
 abbrev pub session_audited : SessionValue → ResponseValue → Audited
-session_audited s response = audited_by (session_judge s) (depth_of s) response
+session_audited s response = audited_by (session_judge s) (session_depth s) response
 
 -- a session is answered so, and the response of that answer is this one; none where the answer has none
 pub record Responds (s : SessionValue) (response : Option ResponseValue) : Type 0 where
