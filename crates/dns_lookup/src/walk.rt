@@ -27,8 +27,9 @@ use dns_record::{DNSClass, Proof, Query, Record, RecordSet};
 use dns_sets::{Outcome, PlacedSet, outcome_by_zone, outcome_of, placed_sets};
 use dns_trail_order::MOST_SENDS;
 use dns_trust::{
-    KeysStep, ask_of, ds_ask_of, ds_query, first_signatures, is_searched, is_skipped, judged_by,
-    judged_by_ds, judged_keys, question_start, set_start, unsigned_by, verdict_of, zone_mark,
+    KeysStep, SetSignature, ask_of, ds_ask_of, ds_query, first_signatures, is_searched, is_skipped,
+    judged_by, judged_by_ds, judged_keys, question_start, set_start, unsigned_by, verdict_of,
+    zone_mark,
 };
 
 /// Judges the sets of a reply at a depth, and finds what they come to.
@@ -338,7 +339,12 @@ fn judge_signature<H: DnsHandle, V: Verifier>(
     }
     let question = ask_of(context.alloc, set, &read)?;
     let Finished { ask, answer } = ask(context, handle, progress, question, depth + 1)?;
-    let verdict = verdict_of(context.alloc, &context.judge, set, sig, &read, &answer)?;
+    let signature = SetSignature {
+        set,
+        sig,
+        read: &read,
+    };
+    let verdict = verdict_of(context.alloc, &context.judge, &signature, &answer)?;
     Ok(Tried {
         verdict,
         ask: Some(ask),

@@ -152,7 +152,14 @@ fn verdict_on(
     answer: &Option<Vec<ChainedSet>>,
 ) -> Result<Verdict, NoMemory> {
     match Rrsig::of(sig) {
-        Some(read) => verdict_of(alloc, judge, set, sig, &read, answer),
+        Some(read) => {
+            let signature = SetSignature {
+                set,
+                sig,
+                read: &read,
+            };
+            verdict_of(alloc, judge, &signature, answer)
+        }
         None => Err(NoMemory),
     }
 }

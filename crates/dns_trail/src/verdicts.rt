@@ -17,7 +17,7 @@ use dns_evidence::{AskRef, Verifier};
 use dns_name::NoMemory;
 use dns_rdata::Rrsig;
 use dns_record::{Record, RecordSet};
-use dns_trust::{Verdict, ask_of, is_skipped, verdict_of};
+use dns_trust::{SetSignature, Verdict, ask_of, is_skipped, verdict_of};
 
 // The verdict of a signature, and the asks that are left after its own.
 #[derive(Drop)]
@@ -89,7 +89,12 @@ fn try_signature<'a, V: Verifier>(
         return Ok(None);
     }
     let answer = answer_of(&grounds.earlier, *ask);
-    let verdict = verdict_of(grounds.alloc, grounds.judge, set, signature, &read, answer)?;
+    let signature = SetSignature {
+        set,
+        sig: signature,
+        read: &read,
+    };
+    let verdict = verdict_of(grounds.alloc, grounds.judge, &signature, answer)?;
     Ok(Some(Tried { verdict, left }))
 }
 

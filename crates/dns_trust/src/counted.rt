@@ -7,9 +7,8 @@ ghost use Rattle.dns_trust.specs.Delegating.{shown};
 ghost use Rattle.dns_trust.specs.SetSignatures.{IsRead, is_good_of};
 ghost use Rattle.dns_trust.specs.Counting.{count_in, tag_count_after, count_after, tag_in, is_tried as is_tried_in};
 
-use crate::Judge;
 use crate::good::is_good_read;
-use crate::set_signature::SetSignature;
+use crate::{Judge, SetSignature};
 use dns_evidence::Verifier;
 use dns_name::{NameRef, NoMemory};
 use dns_rdata::{Dnskey, Rrsig, key_tag};

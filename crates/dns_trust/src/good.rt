@@ -8,8 +8,7 @@ ghost use Rattle.dns_anchors.specs.Judge.{judge_of};
 ghost use Rattle.dns_trust.specs.Built.{IsBuilt};
 ghost use Rattle.dns_trust.specs.SetSignatures.{IsRead, IsBuiltOf, is_good_of};
 
-use crate::set_signature::SetSignature;
-use crate::{Judge, RrsigValidity, is_usable};
+use crate::{Judge, RrsigValidity, SetSignature, is_usable};
 use dns_evidence::Verifier;
 use dns_name::{NoMemory, Octets};
 use dns_rdata::{Dnskey, Rrsig, signed_data};

@@ -29,6 +29,7 @@ pub use keys::{AnchoredRow, MatchedRow, anchored_row, is_anchor, matched_row};
 pub use searching::{
     Sight, ds_query, has_ns, is_key_set, is_ns_of, is_searched, ns_query, question_start, set_start,
 };
+pub use set_signature::SetSignature;
 pub use signers::{SignedBy, first_signatures};
 pub use unsigned::{shows_unsigned_cut, unsigned_by, zone_mark};
 pub use usable::{KeyFault, is_usable, key_fault};

@@ -7,9 +7,8 @@ ghost use Rattle.dns_trust.specs.Delegating.{shown};
 ghost use Rattle.dns_trust.specs.SetSignatures.{IsRead, is_good_of};
 ghost use Rattle.dns_trust.specs.Signers.{AreOnce, signed_value, first_signed_by, signer_of};
 
-use crate::Judge;
 use crate::good::is_good_read;
-use crate::set_signature::SetSignature;
+use crate::{Judge, SetSignature};
 use dns_evidence::Verifier;
 use dns_name::NoMemory;
 use dns_rdata::Rrsig;

@@ -1,7 +1,6 @@
 ghost use Rattle.std.specs.Prelude.{◌≡◌, IfOk, List, Some, map};
 ghost use Rattle.std.specs.List.{find};
 ghost use Rattle.std.specs.Option.{option_copied};
-ghost use Rattle.dns_model.specs.RecordViews.{rrsig_of};
 ghost use Rattle.dns_model.specs.Chains.{LinkValue};
 ghost use Rattle.dns_judgement.specs.Marks.{counted_keys, key_question, is_key_set_of, may_be_signed as may_be_signed_by, is_proved as is_proof, is_excused as is_excuse};
 ghost use Rattle.dns_judgement.specs.Chained.{with_chain, chained_verdict};
@@ -13,8 +12,7 @@ ghost use Rattle.dns_trust.specs.Verdicts.{verdict_value, listed, chained_by_set
 
 use crate::chains::signed_chain;
 use crate::counted::{first_good, has_key_of};
-use crate::set_signature::SetSignature;
-use crate::{Judge, is_never_expanded, is_right_below_signer, signer_fits};
+use crate::{Judge, SetSignature, is_never_expanded, is_right_below_signer, signer_fits};
 use dns_evidence::{Link, Verifier};
 use dns_judged::{ChainedSet, MarkedSet};
 use dns_name::{NameRef, NoMemory};
@@ -56,30 +54,28 @@ impl Verdict {
 }
 
 /// The verdict of a signature of a set that isn't DNSKEY, with the judged sets of the answer to its ask; None where the ask
-/// failed or was refused (RFC 4035, 5.3). The signature's view is handed in.
+/// failed or was refused (RFC 4035, 5.3).
 pub fn verdict_of<V: Verifier>(
     alloc: Global,
     judge: &Judge<'_, V>,
-    set: &RecordSet,
-    sig: &Record,
-    read: &Rrsig<'_>,
+    signature: &SetSignature<'_>,
     answer: &Option<Vec<ChainedSet>>,
 ) -> Result<Verdict, NoMemory>
-    requires { rrsig_of sig.now ≡ Some read.now }
-    ensures { IfOk result (λ v. verdict_value v ≡
-        chained_verdict (judge_of V.answers judge.now) set.now sig.now (listed answer.now)) }
+    requires { IsRead signature.now }
+    ensures { IfOk result (λ v. verdict_value v ≡ chained_verdict (judge_of V.answers judge.now)
+        signature.now.set.now signature.now.sig.now (listed answer.now)) }
 {
     let Some(sets) = answer else {
         return Ok(Verdict::Failed);
     };
-    if !may_be_signed(set, read) {
+    if !may_be_signed(signature.set, signature.read) {
         return Ok(Verdict::Failed);
     }
-    let Some(keys) = key_set_of(set.dns_class, &read.signer, sets) else {
+    let class = signature.set.dns_class;
+    let Some(keys) = key_set_of(class, &signature.read.signer, sets) else {
         return Ok(Verdict::Failed);
     };
-    let signature = SetSignature { set, sig, read };
-    by_key_set(alloc, judge, &signature, keys)
+    by_key_set(alloc, judge, signature, keys)
 }
 
 // The verdict by the key set that was asked for.
