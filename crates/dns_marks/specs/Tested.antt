@@ -1,18 +1,13 @@
 -- For private functions of this crate only: signatures of a set, and by what and when they are tested (RFC 4035, 5.3).
-use Rattle.std.specs.Prelude.{ℕ, ◌≡◌, Some}
+use Rattle.std.specs.Prelude.{ℕ}
 use Rattle.dns_model.specs.Keys.{VerifierAnswers}
 use Rattle.dns_model.specs.Records.{Rr, RrSet}
-use Rattle.dns_model.specs.RecordViews.{rrsig_of}
 use Rattle.dns_marks.specs.declared.tested.Tested.{Tested}
 use Rattle.dns_marks.specs.declared.tested.Answered.{Answered}
 
 -- what a definition says of the verifier's answers, the moment, the set and the signature
 abbrev pub of_tested : {V X : Type 0} → (V → VerifierAnswers) → Tested V → (VerifierAnswers → ℕ → RrSet → Rr → X) → X
-of_tested answers tested says = says (answers tested.verifier.now) tested.moment tested.set.now tested.sig.now
-
--- the signature's record says what was read of it
-abbrev pub IsRead : {V : Type 0} → Tested V → Type 0
-IsRead tested = rrsig_of tested.sig.now ≡ Some tested.read.now
+of_tested answers tested says = says (answers tested.verifier.now) tested.moment tested.signature.set.now tested.signature.sig.now
 
 -- what a definition says of the verifier's answers, the moment and the set
 abbrev pub of_answered : {V X : Type 0} → (V → VerifierAnswers) → Answered V → (VerifierAnswers → ℕ → RrSet → X) → X

@@ -1,7 +1,7 @@
 ghost use Rattle.std.specs.Prelude.{◌≡◌, None, min, slice_get};
 ghost use Rattle.dns_model.specs.SoundAnswers.{ttl_of};
+ghost use Rattle.dns_trust.specs.SetSignatures.{IsRead};
 ghost use Rattle.dns_marks.specs.Proofs.{proved_by as proved_under, proved_with as proved_with_ttl, proved_whole as proved_by_keys, excused as excused_by_keys};
-ghost use Rattle.dns_marks.specs.Tested.{IsRead};
 
 use crate::tested::Tested;
 use dns_rdata::Rrsig;
@@ -36,13 +36,11 @@ pub(crate) fn proved_by(now: u64, set: &RecordSet, sig: &Record, place: Option<u
 
 // The same by a signature that is tested, and so is read; it is the only one.
 pub(crate) fn proved_by_tested<V>(tested: &Tested<'_, V>) -> RrsetProof
-    requires { IsRead tested.now }
-    ensures { result ≡ proved_under tested.now.moment tested.now.set.now tested.now.sig.now None }
+    requires { IsRead tested.now.signature }
+    ensures { result ≡ proved_under tested.now.moment tested.now.signature.set.now tested.now.signature.sig.now None }
 {
-    proved_with(
-        ttl_by(tested.set, tested.read.ttl_left(tested.moment)),
-        None,
-    )
+    let left = tested.signature.read.ttl_left(tested.moment);
+    proved_with(ttl_by(tested.signature.set, left), None)
 }
 
 // Secure, with this ttl.

@@ -3,8 +3,9 @@ ghost use Rattle.std.specs.Option.{option_map};
 ghost use Rattle.dns_model.specs.Gives.{Gives};
 ghost use Rattle.dns_model.specs.RecordViews.{rrsig_of, dnskey_of};
 ghost use Rattle.dns_handle.specs.Notices.{notice_text};
+ghost use Rattle.dns_trust.specs.SetSignatures.{IsRead};
 ghost use Rattle.dns_marks.specs.Kinds.{kind_value, want_of_memory, misfit as misfit_of};
-ghost use Rattle.dns_marks.specs.Tested.{of_tested, IsRead};
+ghost use Rattle.dns_marks.specs.Tested.{of_tested};
 ghost use Rattle.dns_marks.specs.KeySignatures.{Unless, validity_at, signature_proof, proof_read, calls_by_key, calls_read, calls_if_supported, fault_cause, key_failure as failure_of, is_verified as is_verified_by};
 
 use crate::rrset_proof::proved_by_tested;
@@ -15,7 +16,7 @@ use dns_name::{Name, NoMemory, Octets};
 use dns_rdata::{Dnskey, Rrsig, signed_data};
 use dns_record::{Proof, Record, RecordSet};
 use dns_steps::Steps;
-use dns_trust::{KeyFault, RrsigValidity, key_fault};
+use dns_trust::{KeyFault, RrsigValidity, SetSignature, is_accepted, key_fault};
 use std::alloc::Global;
 use std::sync::ledger::Ledger;
 
@@ -43,9 +44,11 @@ pub fn verify_rrset_with_dnskey<V: Verifier, L: Ledger>(
     };
     let tested = Tested {
         verifier,
-        set,
-        sig,
-        read: &read,
+        signature: SetSignature {
+            set,
+            sig,
+            read: &read,
+        },
         moment: now,
     };
     verify_read(alloc, &tested, key, &dnskey, steps)
@@ -59,15 +62,16 @@ fn verify_read<V: Verifier, L: Ledger>(
     dnskey: &Dnskey<'_>,
     steps: &mut Steps<L>,
 ) -> Result<RrsetProof, ProofError>
-    requires { IsRead tested.now }
+    requires { IsRead tested.now.signature }
     ensures proof { Gives (λ p. p) want_of_memory result
-        (of_tested V.answers tested.now proof_read key.now tested.now.read.now dnskey.now) }
+        (of_tested V.answers tested.now proof_read key.now tested.now.signature.read.now dnskey.now) }
     ensures calls { Unless want_of_memory result
-        (steps.new ≡ steps.old + of_tested V.answers tested.now calls_read key.now tested.now.read.now dnskey.now) }
+        (steps.new ≡ steps.old
+        + of_tested V.answers tested.now calls_read key.now tested.now.signature.read.now dnskey.now) }
     ensures most { steps.new ≤ steps.old
-        + of_tested V.answers tested.now calls_read key.now tested.now.read.now dnskey.now }
+        + of_tested V.answers tested.now calls_read key.now tested.now.signature.read.now dnskey.now }
 {
-    if let Some(failure) = key_failure(key, tested.read, dnskey)? {
+    if let Some(failure) = key_failure(key, tested.signature.read, dnskey)? {
         return Err(failure);
     }
     if let Some(notice) = misfit(tested, key) {
@@ -77,7 +81,7 @@ fn verify_read<V: Verifier, L: Ledger>(
         return Ok(proved_by_tested(tested));
     }
     let name = key.name.try_clone()?;
-    let read = tested.read;
+    let read = tested.signature.read;
     let key_tag = read.key_tag;
     let kind = ProofErrorKind::DnsKeyVerifyRrsig { name, key_tag };
     Err(ProofError::new(Proof::Bogus, kind))
@@ -126,11 +130,11 @@ fn fault_kind(fault: KeyFault, name: Name, key_tag: u16) -> ProofErrorKind
 // The name of the validity, where a signature doesn't fit a set and a key at a moment.
 #[tactic(auto, using(crate::proofs::CallLemmas::validity_read))]
 fn misfit<V>(tested: &Tested<'_, V>, key: &Record) -> Option<Notice>
-    requires { IsRead tested.now }
+    requires { IsRead tested.now.signature }
     ensures { option_map notice_text result
-        ≡ misfit_of (validity_at tested.now.moment tested.now.set.now tested.now.sig.now key.now) }
+        ≡ misfit_of (validity_at tested.now.moment tested.now.signature.set.now tested.now.signature.sig.now key.now) }
 {
-    match RrsigValidity::check_read(tested.sig, tested.read, tested.set, key, tested.moment) {
+    match RrsigValidity::check_read(&tested.signature, key, tested.moment) {
         RrsigValidity::ValidRrsig => None,
         RrsigValidity::ExpiredRrsig => Some(Notice::ExpiredRrsig),
         RrsigValidity::WrongDnskey => Some(Notice::WrongDnskey),
@@ -146,7 +150,7 @@ fn is_verified<V: Verifier, L: Ledger>(
     steps: &mut Steps<L>,
 ) -> Result<bool, NoMemory>
     ensures verified { IfOk result (λ b. b ≡ is_verified_by (V.answers tested.now.verifier.now)
-        tested.now.set.now tested.now.read.now dnskey.now) }
+        tested.now.signature.set.now tested.now.signature.read.now dnskey.now) }
     ensures calls { OnOk result
         (steps.new ≡ steps.old + calls_if_supported (V.answers tested.now.verifier.now) dnskey.now) }
     ensures most { steps.new ≤ steps.old + calls_if_supported (V.answers tested.now.verifier.now) dnskey.now }
@@ -154,22 +158,21 @@ fn is_verified<V: Verifier, L: Ledger>(
     if !tested.verifier.supports(dnskey.algorithm) {
         return Ok(false);
     }
-    let bytes = signed_data(alloc, tested.set, tested.read)?;
-    Ok(is_accepted(tested.verifier, tested.read, dnskey, &bytes, steps))
+    let bytes = signed_data(alloc, tested.signature.set, tested.signature.read)?;
+    Ok(ask_verifier(tested, dnskey, &bytes, steps))
 }
 
 // The verifier accepts the signature over these bytes as the key's; a step is counted for the call.
-pub(crate) fn is_accepted<V: Verifier, L: Ledger>(
-    verifier: &V,
-    read: &Rrsig<'_>,
+pub(crate) fn ask_verifier<V: Verifier, L: Ledger>(
+    tested: &Tested<'_, V>,
     dnskey: &Dnskey<'_>,
     bytes: &Octets,
     steps: &mut Steps<L>,
 ) -> bool
-    ensures accepted { result
-        ≡ (V.answers verifier.now).accepts read.now.algorithm dnskey.now.key bytes.now read.now.signature }
+    ensures accepted { result ≡ (V.answers tested.now.verifier.now).accepts
+        tested.now.signature.read.now.algorithm dnskey.now.key bytes.now tested.now.signature.read.now.signature }
     ensures calls { steps.new ≡ steps.old + 1 }
 {
     steps.tick();
-    verifier.accepts(read.algorithm, dnskey.key, bytes.as_slice(), read.signature)
+    is_accepted(tested.verifier, tested.signature.read, dnskey, bytes)
 }

@@ -3,23 +3,22 @@ ghost use Rattle.std.specs.List.{list_any};
 ghost use Rattle.dns_model.specs.RecordViews.{dnskey_of};
 ghost use Rattle.dns_model.specs.declared.proof.Proof.TheVariants.{Insecure};
 ghost use Rattle.dns_judgement.specs.Derivation.{proof_eq};
-ghost use Rattle.dns_trust.specs.Built.{IsBuilt};
 ghost use Rattle.dns_trust.specs.Delegating.{shown};
-ghost use Rattle.dns_marks.specs.Tested.{of_tested, IsRead};
+ghost use Rattle.dns_trust.specs.SetSignatures.{IsRead, IsBuilt};
+ghost use Rattle.dns_marks.specs.Tested.{of_tested};
 ghost use Rattle.dns_marks.specs.SignatureKeys.{keys_proof, calls_by_keys, calls_in_turn, is_proving as is_proving_key, are_insecure as are_insecure_keys};
-ghost use Rattle.dns_marks.specs.KeySignatures.{calls_by_key, validity_at, is_put as is_put_to};
-ghost use Rattle.dns_judgement.specs.Validity.{is_valid as is_valid_at};
+ghost use Rattle.dns_marks.specs.KeySignatures.{calls_by_key, is_put as is_put_to};
 
 use crate::RrsetProof;
 use crate::rrset_proof::{excused, proved_by_tested};
-use crate::signature::is_accepted;
+use crate::signature::ask_verifier;
 use crate::tested::Tested;
 use dns_handle::Verifier;
 use dns_name::{NoMemory, Octets};
 use dns_rdata::{Dnskey, Rrsig};
 use dns_record::{Proof, Record, RecordSet};
 use dns_steps::Steps;
-use dns_trust::{RrsigValidity, counted_keys, is_usable, may_be_signed, signed_data_once};
+use dns_trust::{SetSignature, counted_keys, is_usable, is_valid, may_be_signed, signed_data_once};
 use std::alloc::Global;
 use std::sync::ledger::Ledger;
 
@@ -47,9 +46,11 @@ pub fn verify_rrsig_with_keys<V: Verifier, L: Ledger>(
     };
     let tested = Tested {
         verifier,
-        set,
-        sig,
-        read: &read,
+        signature: SetSignature {
+            set,
+            sig,
+            read: &read,
+        },
         moment: now,
     };
     proof_by_keys(alloc, &tested, keys, steps)
@@ -62,7 +63,7 @@ fn proof_by_keys<V: Verifier, L: Ledger>(
     keys: &[Record],
     steps: &mut Steps<L>,
 ) -> Result<Option<RrsetProof>, NoMemory>
-    requires { IsRead tested.now }
+    requires { IsRead tested.now.signature }
     ensures proof { IfOk result (λ p. p ≡
         of_tested V.answers tested.now (λ answers now. keys_proof answers now keys.now)) }
     ensures calls { OnOk result (steps.new ≡ steps.old
@@ -70,10 +71,10 @@ fn proof_by_keys<V: Verifier, L: Ledger>(
     ensures most { steps.new ≤ steps.old
         + of_tested V.answers tested.now (λ answers now. calls_by_keys answers now keys.now) }
 {
-    if !may_be_signed(tested.set, tested.read) {
+    if !may_be_signed(tested.signature.set, tested.signature.read) {
         return Ok(None);
     }
-    let counted = counted_keys(alloc, tested.read, keys)?;
+    let counted = counted_keys(alloc, tested.signature.read, keys)?;
     if is_proved(alloc, tested, &counted, steps)? {
         return Ok(Some(proved_by_tested(tested)));
     }
@@ -90,7 +91,7 @@ fn is_proved<V: Verifier, L: Ledger>(
     keys: &[&Record],
     steps: &mut Steps<L>,
 ) -> Result<bool, NoMemory>
-    requires { IsRead tested.now }
+    requires { IsRead tested.now.signature }
     ensures proved { IfOk result (λ b. b ≡
         list_any (of_tested V.answers tested.now is_proving_key) (shown keys.now)) }
     ensures calls { OnOk result
@@ -116,9 +117,9 @@ fn is_proving<V: Verifier, L: Ledger>(
     built: &mut Option<Octets>,
     steps: &mut Steps<L>,
 ) -> Result<bool, NoMemory>
-    requires read { IsRead tested.now }
-    requires built { IsBuilt tested.now.set.now tested.now.read.now built.old }
-    ensures built { OnOk result (IsBuilt tested.now.set.now tested.now.read.now built.new) }
+    requires read { IsRead tested.now.signature }
+    requires built { IsBuilt tested.now.signature built.old }
+    ensures built { OnOk result (IsBuilt tested.now.signature built.new) }
     ensures proving { IfOk result (λ b. b ≡ of_tested V.answers tested.now is_proving_key key.now) }
     ensures calls { OnOk result (steps.new ≡ steps.old + of_tested V.answers tested.now calls_by_key key.now) }
     ensures most { steps.new ≤ steps.old + of_tested V.answers tested.now calls_by_key key.now }
@@ -129,35 +130,22 @@ fn is_proving<V: Verifier, L: Ledger>(
     if !is_put(tested, key, &dnskey) {
         return Ok(false);
     }
-    let bytes = signed_data_once(alloc, tested.set, tested.read, built.take())?;
-    let accepted = is_accepted(tested.verifier, tested.read, &dnskey, &bytes, steps);
+    let bytes = signed_data_once(alloc, &tested.signature, built.take())?;
+    let accepted = ask_verifier(tested, &dnskey, &bytes, steps);
     *built = Some(bytes);
     Ok(accepted)
 }
 
 // The verifier is to be asked: the key is Secure and may sign, and signature, set, key and moment fit.
+#[tactic(auto, using(crate::proofs::CallLemmas::validity_read))]
 fn is_put<V: Verifier>(tested: &Tested<'_, V>, key: &Record, dnskey: &Dnskey<'_>) -> bool
-    requires read { IsRead tested.now }
+    requires read { IsRead tested.now.signature }
     requires key { dnskey_of key.now ≡ Some dnskey.now }
     ensures { result ≡ of_tested V.answers tested.now is_put_to key.now }
 {
-    key.proof == Proof::Secure && is_valid(tested, key) && is_usable(tested.verifier, dnskey)
-}
-
-// The signature fits the set, the key and the moment.
-#[tactic(auto, using(crate::proofs::CallLemmas::validity_read))]
-fn is_valid<V>(tested: &Tested<'_, V>, key: &Record) -> bool
-    requires { IsRead tested.now }
-    ensures { result ≡ is_valid_at (validity_at tested.now.moment tested.now.set.now tested.now.sig.now key.now) }
-{
-    let validity = RrsigValidity::check_read(
-        tested.sig,
-        tested.read,
-        tested.set,
-        key,
-        tested.moment,
-    );
-    validity == RrsigValidity::ValidRrsig
+    key.proof == Proof::Secure
+        && is_valid(&tested.signature, key, tested.moment)
+        && is_usable(tested.verifier, dnskey)
 }
 
 // There is a key, and all are Insecure.

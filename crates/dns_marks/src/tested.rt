@@ -1,17 +1,13 @@
 use crate::KeyAnswer;
-use dns_rdata::Rrsig;
-use dns_record::{Record, RecordSet};
+use dns_record::RecordSet;
+use dns_trust::SetSignature;
 
 /// A signature of a set, which is read, and by what and when it is tested.
 #[derive(Drop)]
 pub(crate) struct Tested<'a, V> {
     /// What tests signatures.
     pub(crate) verifier: &'a V,
-    pub(crate) set: &'a RecordSet,
-    /// The signature's record.
-    pub(crate) sig: &'a Record,
-    /// What that record says.
-    pub(crate) read: &'a Rrsig<'a>,
+    pub(crate) signature: SetSignature<'a>,
     /// Seconds since 1970.
     pub(crate) moment: u64,
 }

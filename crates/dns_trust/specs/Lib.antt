@@ -1,6 +1,5 @@
 pub mod Validities
 pub mod Verdicts
-pub mod Built
 pub mod KeyFaults
 pub mod SetSignatures
 pub mod Counting

@@ -1,12 +1,9 @@
 ghost use Rattle.std.specs.Prelude.{◌≡◌, IfOk, OnOk, Some};
-ghost use Rattle.dns_model.specs.Signing.{signed_bytes};
-ghost use Rattle.dns_model.specs.Chains.{rdatas_of};
 ghost use Rattle.dns_model.specs.Serial.{timely};
 ghost use Rattle.dns_judgement.specs.Validity.{is_good_by as is_good_in, is_valid as is_valid_in};
 ghost use Rattle.dns_judgement.specs.MarkParts.{sig_validity};
 ghost use Rattle.dns_anchors.specs.Judge.{judge_of};
-ghost use Rattle.dns_trust.specs.Built.{IsBuilt};
-ghost use Rattle.dns_trust.specs.SetSignatures.{IsRead, IsBuiltOf, is_good_of};
+ghost use Rattle.dns_trust.specs.SetSignatures.{IsRead, bytes_of, IsBuilt, is_good_of};
 
 use crate::{Judge, RrsigValidity, SetSignature, is_usable};
 use dns_evidence::Verifier;
@@ -49,9 +46,9 @@ pub(crate) fn is_good_read<V: Verifier>(
     built: &mut Option<Octets>,
 ) -> Result<bool, NoMemory>
     requires read { IsRead signature.now }
-    requires built { IsBuiltOf signature.now built.old }
+    requires built { IsBuilt signature.now built.old }
     ensures good { IfOk result (λ b. b ≡ is_good_of (judge_of V.answers judge.now) signature.now key.now) }
-    ensures built { OnOk result (IsBuiltOf signature.now built.new) }
+    ensures built { OnOk result (IsBuilt signature.now built.new) }
 {
     let Some(dnskey) = Dnskey::of(key) else {
         return Ok(false);
@@ -62,23 +59,22 @@ pub(crate) fn is_good_read<V: Verifier>(
     if !is_usable(judge.verifier, &dnskey) {
         return Ok(false);
     }
-    let bytes = signed_data_once(alloc, signature.set, signature.read, built.take())?;
+    let bytes = signed_data_once(alloc, signature, built.take())?;
     let accepted = is_accepted(judge.verifier, signature.read, &dnskey, &bytes);
     *built = Some(bytes);
     Ok(accepted)
 }
 
-// The signature fits the set, the key and the moment.
-fn is_valid(signature: &SetSignature<'_>, key: &Record, now: u64) -> bool
+/// Whether a signature that is read fits its set, a key and a moment in seconds since 1970 (RFC 4035, 5.3.1).
+pub fn is_valid(signature: &SetSignature<'_>, key: &Record, now: u64) -> bool
     ensures { result ≡ is_valid_in (sig_validity (λ s. timely s now)
         signature.now.set.now signature.now.sig.now key.now (Some signature.now.read.now)) }
 {
-    let SetSignature { set, sig, read } = *signature;
-    RrsigValidity::check_read(sig, read, set, key, now) == RrsigValidity::ValidRrsig
+    RrsigValidity::check_read(signature, key, now) == RrsigValidity::ValidRrsig
 }
 
-// The verifier accepts the signature over these bytes as the key's.
-fn is_accepted<V: Verifier>(
+/// Whether the verifier accepts a signature over these bytes as a key's (RFC 4035, 5.3.3). It is asked once.
+pub fn is_accepted<V: Verifier>(
     verifier: &V,
     read: &Rrsig<'_>,
     key: &Dnskey<'_>,
@@ -93,16 +89,14 @@ fn is_accepted<V: Verifier>(
 /// keys for one signature keeps them, and builds them once.
 pub fn signed_data_once(
     alloc: Global,
-    set: &RecordSet,
-    read: &Rrsig<'_>,
+    signature: &SetSignature<'_>,
     built: Option<Octets>,
 ) -> Result<Octets, NoMemory>
-    requires { IsBuilt set.now read.now built }
-    ensures { IfOk result (λ bytes. bytes ≡
-        signed_bytes set.now.owner set.now.rtype set.now.class (rdatas_of set.now.records) read.now) }
+    requires { IsBuilt signature.now built }
+    ensures { IfOk result (λ bytes. bytes ≡ bytes_of signature.now) }
 {
     match built {
         Some(bytes) => Ok(bytes),
-        None => signed_data(alloc, set, read),
+        None => signed_data(alloc, signature.set, signature.read),
     }
 }

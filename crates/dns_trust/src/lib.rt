@@ -22,7 +22,7 @@ pub use counted::counted_keys;
 pub use delegation::{DsIndex, ds_matches, is_supported_ds, matching_ds};
 pub use dns_anchors::{Judge, Limits, Listed, TrustAnchors};
 pub use fitting::{is_never_expanded, is_right_below_signer, is_timely, signer_fits};
-pub use good::{is_good_by, signed_data_once};
+pub use good::{is_accepted, is_good_by, is_valid, signed_data_once};
 pub use judged::judged_by;
 pub use key_sets::{KeysStep, ds_ask_of, judged_by_ds, judged_keys};
 pub use keys::{AnchoredRow, MatchedRow, anchored_row, is_anchor, matched_row};

@@ -5,7 +5,7 @@ ghost use Rattle.dns_judgement.specs.Validity.{validity, is_of_set as is_set_sig
 ghost use Rattle.dns_judgement.specs.MarkParts.{sig_validity, key_validity as key_fits};
 ghost use Rattle.dns_trust.specs.Validities.{validity_of};
 
-use crate::is_timely;
+use crate::{SetSignature, is_timely};
 use dns_rdata::{Dnskey, Rrsig, key_tag};
 use dns_record::{Record, RecordSet};
 
@@ -32,20 +32,20 @@ impl RrsigValidity {
         let Some(read) = Rrsig::of(sig) else {
             return RrsigValidity::WrongRrsig;
         };
-        RrsigValidity::check_read(sig, &read, set, key, now)
+        let signature = SetSignature {
+            set,
+            sig,
+            read: &read,
+        };
+        RrsigValidity::check_read(&signature, key, now)
     }
 
-    /// The same of a signature that is read already: its view is handed in beside its record. Whoever tests several keys for
-    /// one signature reads it once.
-    pub fn check_read(
-        sig: &Record,
-        read: &Rrsig<'_>,
-        set: &RecordSet,
-        key: &Record,
-        now: u64,
-    ) -> RrsigValidity
-        ensures { validity_of result ≡ sig_validity (λ s. timely s now) set.now sig.now key.now (Some read.now) }
+    /// The same of a signature that is read already. Whoever tests several keys for one signature reads it once.
+    pub fn check_read(signature: &SetSignature<'_>, key: &Record, now: u64) -> RrsigValidity
+        ensures { validity_of result ≡ sig_validity (λ s. timely s now)
+            signature.now.set.now signature.now.sig.now key.now (Some signature.now.read.now) }
     {
+        let SetSignature { set, sig, read } = *signature;
         if !is_of_set(set, sig, read) {
             return RrsigValidity::WrongRrsig;
         }

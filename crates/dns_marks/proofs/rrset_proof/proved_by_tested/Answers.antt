@@ -9,5 +9,5 @@ pub returns : goal.returns
 returns g c =
     c.proved_with.ensures
     ∙ ap (λ ttl. proved_with ttl None)
-    (c.ttl_by.ensures ∙ ap (λ left. min (ttl_of (slice_get c.args.tested.now.set.now.records 0)) left) c.ttl_left.ensures)
-    ∙ proved_as_read c.args.tested.now.moment c.args.tested.now.set.now c.args.tested.now.sig.now c.args.tested.now.read.now None c.requires
+    (c.ttl_by.ensures ∙ ap (λ left. min (ttl_of (slice_get c.args.tested.now.signature.set.now.records 0)) left) c.ttl_left-left.ensures)
+    ∙ proved_as_read c.args.tested.now.moment c.args.tested.now.signature.set.now c.args.tested.now.signature.sig.now c.args.tested.now.signature.read.now None c.requires

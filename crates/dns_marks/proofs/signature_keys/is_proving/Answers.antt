@@ -10,6 +10,6 @@ returns-then-not-is_put-clause-proving g c = sym (unput _ _ _ _ _ (sym c.is_put.
 
 pub returns-clause-proving : goal.returns-clause-proving
 returns-clause-proving g c =
-    c.is_accepted-accepted.ensures.accepted
+    c.ask_verifier-accepted.ensures.accepted
     ∙ put_accepted _ _ _ _ _ _ _ _ c.requires.read (sym c.of.ensures ∙ c.in-Some.is) (sym c.is_put.ensures ∙ c.if-not-is_put.false)
     c.in_ok-bytes.ensures
