@@ -188,14 +188,12 @@ impl<H: DnsHandle + Drop, V: Verifier + Drop> DnsHandle for DnssecDnsHandle<H, V
         request: DnsRequest,
         now: u64,
     ) -> Result<DnsResponse, NetError> {
-        let reply = answer_request(
-            alloc,
-            &self.anchors,
-            &self.verifier,
-            now,
-            &mut self.handle,
-            request,
-        );
+        let judge = Judge {
+            verifier: &self.verifier,
+            anchors: &self.anchors,
+            moment: now,
+        };
+        let reply = answer_request(alloc, judge, &mut self.handle, request);
         self.sends = self.sends.saturating_add(1);
         self.faults = faults_after(self.faults, &reply);
         reply

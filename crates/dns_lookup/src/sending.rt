@@ -1,9 +1,9 @@
 //! What a validator does with a whole request: it looks a query up by the request itself, and hands any other one on.
 
 ghost use Rattle.std.specs.Prelude.{◌≡◌, ◌≢◌, ◌≤◌, ◌==◌, None, IfOk, IfErr};
-ghost use Rattle.dns_model.specs.Chains.{judge};
 ghost use Rattle.dns_handle.specs.Replies.{reply_of};
 ghost use Rattle.dns_handle.specs.Requests.{first_question};
+ghost use Rattle.dns_anchors.specs.Judge.{judge_of};
 ghost use Rattle.dns_lookup.specs.Sending.{checked_edns, checked_request, AnswersRequest};
 
 use crate::context::{LookupContext, asking_options_of, default_payload, depth_limit_of};
@@ -14,24 +14,22 @@ use dns_handle::{
 use dns_message::Edns;
 use dns_name::{NoMemory, Octets};
 use dns_record::{OpCode, Query};
-use dns_trust::{Judge, TrustAnchors};
+use dns_trust::Judge;
 use std::alloc::Global;
 
-/// The answer to a request at a moment, where its replies are judged by these anchors and this verifier.
+/// The answer to a request at the moment of the judge by which its replies are judged.
 pub(crate) fn answer_request<H: DnsHandle, V: Verifier>(
     alloc: Global,
-    anchors: &TrustAnchors,
-    verifier: &V,
-    now: u64,
+    judge: Judge<'_, V>,
     handle: &mut H,
     request: DnsRequest,
 ) -> Result<DnsResponse, NetError>
     ensures later { H.faults handle.old ≤ H.faults handle.new }
-    ensures answers { AnswersRequest H.DnsHandle (judge (V.answers verifier.now) anchors.now now) request now
+    ensures answers { AnswersRequest H.DnsHandle (judge_of V.answers judge.entry) request judge.entry.moment
         handle.old handle.new (reply_of result) }
 {
     if !is_query(&request) {
-        return handle.send(alloc, request, now);
+        return handle.send(alloc, request, judge.moment);
     }
     let asked = match question_of(&request) {
         Ok(asked) => asked,
@@ -48,11 +46,6 @@ pub(crate) fn answer_request<H: DnsHandle, V: Verifier>(
         Some(query) => query,
     };
     let options = options_of(&request);
-    let judge = Judge {
-        verifier,
-        anchors,
-        moment: now,
-    };
     let context = LookupContext {
         alloc,
         judge,

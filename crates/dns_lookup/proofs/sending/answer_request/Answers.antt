@@ -18,6 +18,6 @@ returns-in-None-clause-answers g c =
 
 pub returns-clause-answers : goal.returns-clause-answers
 returns-clause-answers g c =
-    looks_up g.H.DnsHandle _ c.args.request c.checked.result c.options_of-options.result c.args.now _ _ c.in-Some.query _ c.look_up_by_request.result
+    looks_up g.H.DnsHandle _ c.args.request c.checked.result c.options_of-options.result _ _ _ c.in-Some.query _ c.look_up_by_request.result
     c.is_query.ensures c.if-not-is_query.false (sym c.in-Ok.ensures.first ∙ c.in-Some.is) c.checked.ensures c.options_of-options.ensures
     c.look_up_by_request.ensures.sends c.look_up_by_request.ensures.lookup
