@@ -1,5 +1,5 @@
 -- Asks of a walk put together: the steps that they add to the trail, and the way of the handle along these steps.
-use Rattle.std.proofs.Common.{ℕ, ◌+◌, ◌≡◌, ◌≤◌, ◌<◌, true, List, [], ◌∷◌, ◌++◌, length, refl, sym, subst, arith}
+use Rattle.std.proofs.Common.{ℕ, ◌+◌, ◌≡◌, ◌≤◌, ◌<◌, true, List, [], ◌∷◌, ◌++◌, length, refl, sym, ap, subst, arith}
 use Rattle.dns_model.specs.declared.trail.AskRef.{AskRef}
 use Rattle.dns_model.specs.declared.trail.AskRef.TheVariants.{Step, TooDeep, TooMany}
 use Rattle.dns_model.specs.Chains.{Judge}
@@ -9,33 +9,50 @@ use Rattle.dns_judgement.specs.Derivation.{step_holds, asks_of}
 use Rattle.dns_judgement.proofs.PartLemmas.{part_none, part_deep, part_many, part_then, part_step}
 use Rattle.dns_judgement.proofs.SentLemmas.{sent_of_none, sent_of_deep, sent_of_many, sent_of_then, sent_of_step}
 use Rattle.dns_handle.specs.Errors.{Reply}
+use Rattle.dns_handle.specs.Walks.{Walked}
+use Rattle.dns_handle.specs.declared.handle.DnsHandle as handle
 use Rattle.dns_handle.proofs.WalkLemmas.{no_walk, then_walk}
 use Rattle.dns_lookup.specs.AskRequests.{Ask}
 use Rattle.dns_lookup.specs.Sends.{SendOf, SendsAlong}
-use Rattle.dns_lookup.specs.Walking.{CountedSends, Asks}
+use Rattle.dns_lookup.specs.Walking.{asking, HasWalked, Asks}
+use Rattle.dns_lookup.specs.declared.context.LookupContext.{LookupContext}
+use Rattle.dns_lookup.specs.declared.context.Progress.{Progress}
 
 -- ---- whatever the result
 
--- a handle that wasn't asked
-pub counted_nowhere : {H : Type 0} (ask : H → Ask → H → Reply → Type 0) (faults : H → ℕ) (a : H) (n m : ℕ) → n ≤ m → m ≤ most_sends
-    → CountedSends ask faults a a n m
-counted_nowhere ask faults a n m more few = record { walk = no_walk ask a n m more; few = few; later = omega arith }
+-- a lookup that asked nothing
+pub walked_nowhere : {H V : Type 0} (meanings : handle.Ghosts H) (context : LookupContext V) (a : H) (p : Progress) → p.sends ≤ most_sends
+    → HasWalked meanings context a p a p
+walked_nowhere meanings context a p few = record {
+  walk = no_walk (asking meanings context) a p.sends p.sends (omega arith);
+  few = few;
+  counted = omega arith;
+  later = omega arith;
+}
 
 -- asks, and then others
-pub counted_then : {H : Type 0} (ask : H → Ask → H → Reply → Type 0) (faults : H → ℕ) (a b c : H) (n k m l : ℕ)
-    → CountedSends ask faults a b n k → CountedSends ask faults b c k m → l ≡ m → CountedSends ask faults a c n l
-counted_then {H} ask faults a b c n k m l first rest is =
-    let P : ℕ → Type 0 = λ x. CountedSends ask faults a c n x in
-    subst P (sym is) (record {
-      walk = then_walk ask a b c n k m first.walk rest.walk;
-      few = rest.few;
-      later = omega (arith, first.later, rest.later);
-    })
+pub walked_then : {H V : Type 0} (meanings : handle.Ghosts H) (context : LookupContext V) (a b c : H) (p q r : Progress)
+    → HasWalked meanings context a p b q → HasWalked meanings context b q c r → HasWalked meanings context a p c r
+walked_then meanings context a b c p q r first rest = record {
+  walk = then_walk (asking meanings context) a b c p.sends q.sends r.sends first.walk rest.walk;
+  few = rest.few;
+  counted = omega (arith, first.counted, rest.counted);
+  later = omega (arith, first.later, rest.later);
+}
 
--- asks, and nothing after them
-pub counted_still : {H : Type 0} (ask : H → Ask → H → Reply → Type 0) (faults : H → ℕ) (a b : H) (n m l : ℕ)
-    → CountedSends ask faults a b n m → l ≡ m → CountedSends ask faults a b n l
-counted_still ask faults a b n m l sent is = let P : ℕ → Type 0 = λ x. CountedSends ask faults a b n x in subst P (sym is) sent
+-- an ask and those that its step needs, and then the end of the step
+pub walked_ended : {H V : Type 0} (meanings : handle.Ghosts H) (context : LookupContext V) (a b c : H) (p q r s : Progress)
+    → HasWalked meanings context a p b q → q.sends ≡ p.sends + 1 → q.steps ≡ p.steps → HasWalked meanings context b q c r
+    → s.sends ≡ r.sends → length s.steps.items ≤ length r.steps.items + 1 → HasWalked meanings context a p c s
+walked_ended meanings context a b c p q r s first next still rest sent one =
+    let Way : ℕ → Type 0 = λ n. Walked (asking meanings context) a c p.sends n in
+    let same : length q.steps.items ≡ length p.steps.items = ap (λ v. length v.items) still in
+    record {
+      walk = subst Way (sym sent) (then_walk (asking meanings context) a b c p.sends q.sends r.sends first.walk rest.walk);
+      few = omega (arith, sent, rest.few);
+      counted = omega (arith, rest.counted, one, sent, next, same);
+      later = omega (arith, first.later, rest.later);
+    }
 
 -- ---- the way along steps
 

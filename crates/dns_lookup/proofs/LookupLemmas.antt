@@ -23,8 +23,10 @@ use Rattle.dns_lookup.specs.Received.{received_message}
 use Rattle.dns_lookup.specs.Calls.{Call, Asking, Requesting, ask_of_call, first_ask_of_call}
 use Rattle.dns_lookup.specs.AskRequests.{Ask, judged_ask, request_for}
 use Rattle.dns_lookup.specs.Sends.{SendsBy, SendsFor}
-use Rattle.dns_lookup.specs.Walking.{Received, CountedSends, Asks, IsJudgement, IsConcluded}
+use Rattle.dns_lookup.specs.Walking.{asking, Received, HasWalked, Asks, IsJudgement, IsConcluded}
 use Rattle.dns_lookup.specs.Answering.{Findings, judged_answer, Found, AnswersLookup, Passes, Names, Judges}
+use Rattle.dns_lookup.specs.declared.context.LookupContext.{LookupContext}
+use Rattle.dns_lookup.specs.declared.context.Progress.{Progress}
 use Rattle.dns_lookup.specs.declared.receiving.ReceivedMessage.{ReceivedMessage}
 use Rattle.dns_lookup.proofs.AnswerLemmas.{judged_after}
 use Rattle.dns_lookup.proofs.AskLemmas.{asks_then}
@@ -39,11 +41,13 @@ sends_once first ask old new q reply made =
     record { middle = new; reply = reply; sends = 1; first = made; others = no_walk ask new 1 1 (omega arith); few = omega arith }
 
 -- one ask for a query, and a walk of further asks
-pub sends_more : {H : Type 0} (first ask : H → Ask → H → Reply → Type 0) (faults : H → ℕ) (old middle new : H) (q : Question) (reply : Reply) (n m : ℕ)
-    → first old (judged_ask q) middle reply → n ≡ 1 → CountedSends ask faults middle new n m → SendsBy first ask old new q
-sends_more first ask faults old middle new q reply n m made one sent =
-    let Way : ℕ → Type 0 = λ k. Walked ask middle new k m in
-    record { middle = middle; reply = reply; sends = m; first = made; others = subst Way one sent.walk; few = sent.few }
+pub sends_more : {H V : Type 0} (meanings : handle.Ghosts H) (context : LookupContext V) (first : H → Ask → H → Reply → Type 0) (old middle new : H)
+    (q : Question) (reply : Reply) (before after : Progress)
+    → first old (judged_ask q) middle reply → before.sends ≡ 1 → HasWalked meanings context middle before new after
+    → SendsBy first (asking meanings context) old new q
+sends_more meanings context first old middle new q reply before after made one walked =
+    let Way : ℕ → Type 0 = λ k. Walked (asking meanings context) middle new k after.sends in
+    record { middle = middle; reply = reply; sends = after.sends; first = made; others = subst Way one walked.walk; few = walked.few }
 
 -- the first ask is one like the others
 pub sends_alike : {H : Type 0} (meanings : handle.Ghosts H) (options : DnsRequestOptions) (now : ℕ) (request : RequestValue) (old new : H) (q : Question)

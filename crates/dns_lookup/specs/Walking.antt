@@ -89,21 +89,22 @@ HasReceived ask old new made_for None = MetFault ask old new made_for
 
 -- ---- asks one after another
 
--- no more steps were added than sends were made
-abbrev pub IsCounted : Progress → Progress → Type 0
-IsCounted old new = length new.steps.items + old.sends ≤ length old.steps.items + new.sends
+-- a lookup may go on for a step at this depth: it made no more sends than it may, its trail has no more steps than that, and asks go
+-- no deeper than 255
+pub record CanWalk {V : Type 0} (context : LookupContext V) (progress : Progress) (depth : ℕ) : Type 0 where
+  pub few : progress.sends ≤ most_sends
+  pub counted : length progress.steps.items ≤ progress.sends
+  pub limit : context.limit ≤ 255
+  pub shallow : depth ≤ 255
 
--- whatever the result: a handle went from one state to another by asks that a counter of sends covers
-pub record CountedSends {H : Type 0} (ask : H → Ask → H → Reply → Type 0) (faults : H → ℕ) (old new : H)
-    (n m : ℕ) : Type 0 where
-  pub walk : Walked ask old new n m
-  pub few : m ≤ most_sends
-  pub later : faults old ≤ faults new
-
--- the same of a lookup, between two states of its progress
-abbrev pub HasSent : {H V : Type 0} → handle.Ghosts H → LookupContext V → H → Progress → H → Progress → Type 0
-HasSent meanings context old before new after =
-    CountedSends (asking meanings context) meanings.faults old new before.sends after.sends
+-- whatever the result: a lookup went from one state to another by asks that its counter of sends covers, and added no more steps
+-- than it made sends
+pub record HasWalked {H V : Type 0} (meanings : handle.Ghosts H) (context : LookupContext V) (old : H) (before : Progress)
+    (new : H) (after : Progress) : Type 0 where
+  pub walk : Walked (asking meanings context) old new before.sends after.sends
+  pub few : after.sends ≤ most_sends
+  pub counted : length after.steps.items + before.sends ≤ length before.steps.items + after.sends
+  pub later : meanings.faults old ≤ meanings.faults new
 
 -- asks in order, with the steps that they added to the trail; the handle went along these steps, in the order of the sends
 pub record Asks {H : Type 0} (ask : H → Ask → H → Reply → Type 0) (j : Judge) (limit : ℕ)

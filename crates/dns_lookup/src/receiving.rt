@@ -10,7 +10,7 @@ ghost use Rattle.dns_handle.specs.Requests.{first_question};
 ghost use Rattle.dns_lookup.specs.Calls.{Requesting};
 ghost use Rattle.dns_lookup.specs.AskRequests.{judged_ask};
 ghost use Rattle.dns_lookup.specs.Received.{no_records_message, with_soa as with_soa_of};
-ghost use Rattle.dns_lookup.specs.Walking.{asking, HasReceived, HasSent, ReceivedAs, Received};
+ghost use Rattle.dns_lookup.specs.Walking.{asking, HasReceived, HasWalked, ReceivedAs, Received};
 
 use crate::context::{LookupContext, Progress, request_for};
 use dns_handle::{DnsError, DnsHandle, DnsRequest, DnsResponse, NetError, NoRecords};
@@ -40,7 +40,7 @@ pub(crate) fn send_query<H: DnsHandle, V>(
     requires few { progress.old.sends < most_sends }
     ensures count { progress.new.sends ≡ progress.old.sends + 1 }
     ensures steps { progress.new.steps ≡ progress.old.steps }
-    ensures sent { HasSent H.DnsHandle context.now handle.old progress.old handle.new progress.new }
+    ensures walked { HasWalked H.DnsHandle context.now handle.old progress.old handle.new progress.new }
     ensures received { OrUnsent handle.old handle.new result
         (Received (asking H.DnsHandle context.now) handle.old handle.new (record { query = query.now; judged = judged }) result) }
 {
@@ -63,7 +63,7 @@ pub(crate) fn receive<H: DnsHandle, V>(
     requires few { progress.old.sends < most_sends }
     ensures count { progress.new.sends ≡ progress.old.sends + 1 }
     ensures steps { progress.new.steps ≡ progress.old.steps }
-    ensures sent { HasSent H.DnsHandle context.now handle.old progress.old handle.new progress.new }
+    ensures walked { HasWalked H.DnsHandle context.now handle.old progress.old handle.new progress.new }
     ensures received { IfOk result (λ r. HasReceived (asking H.DnsHandle context.now) handle.old handle.new
         (record { query = query.now; judged = judged }) r) }
 {

@@ -1,14 +1,13 @@
 //! The plain asks by which the zone of a name is searched: each name from it up to the root is asked for NS records, until one
 //! has them (RFC 4035, 4.3 and 5.2).
 
-ghost use Rattle.std.specs.Prelude.{◌≡◌, ◌≤◌, ◌∷◌, [], IfOk, length};
+ghost use Rattle.std.specs.Prelude.{◌≡◌, ◌∷◌, [], IfOk};
 ghost use Rattle.dns_model.specs.SoundAnswers.{told_by};
 ghost use Rattle.dns_model.specs.Trails.{Records};
 ghost use Rattle.dns_model.specs.Records.{Question};
-ghost use Rattle.dns_judgement.specs.Asking.{most_sends};
 ghost use Rattle.dns_judgement.specs.Derivation.{sight_of};
 ghost use Rattle.dns_trust.specs.Searching.{sight_value};
-ghost use Rattle.dns_lookup.specs.Walking.{grounds_at, IsCounted, IsSeen, IsWay, HasSent, Walk};
+ghost use Rattle.dns_lookup.specs.Walking.{grounds_at, CanWalk, HasWalked, IsSeen, IsWay, Walk};
 
 use crate::context::{LookupContext, Progress};
 use crate::finished::seen;
@@ -44,10 +43,8 @@ pub(crate) fn find_zone<H: DnsHandle, V: Verifier>(
     start: &Name,
     depth: u16,
 ) -> Result<Way, NoMemory>
-    requires few { progress.old.sends ≤ most_sends }
-    requires counted { length progress.old.steps.items ≤ progress.old.sends }
-    ensures counted { IsCounted progress.old progress.new }
-    ensures sent { HasSent H.DnsHandle context.now handle.old progress.old handle.new progress.new }
+    requires ready { CanWalk context.now progress.old depth }
+    ensures walked { HasWalked H.DnsHandle context.now handle.old progress.old handle.new progress.new }
     ensures asks { IfOk result (λ w. Walk H.DnsHandle V.answers context.now
         handle.old progress.old handle.new progress.new w.asked.items) }
     ensures way { IfOk result (λ w. (query : Question) → IsWay
@@ -81,10 +78,8 @@ fn see<H: DnsHandle, V: Verifier>(
     query: Query,
     depth: u16,
 ) -> Result<Glimpse, NoMemory>
-    requires few { progress.old.sends ≤ most_sends }
-    requires counted { length progress.old.steps.items ≤ progress.old.sends }
-    ensures counted { IsCounted progress.old progress.new }
-    ensures sent { HasSent H.DnsHandle context.now handle.old progress.old handle.new progress.new }
+    requires ready { CanWalk context.now progress.old depth }
+    ensures walked { HasWalked H.DnsHandle context.now handle.old progress.old handle.new progress.new }
     ensures asks { IfOk result (λ g. Walk H.DnsHandle V.answers context.now
         handle.old progress.old handle.new progress.new (g.ask ∷ [])) }
     ensures seen { IfOk result (λ g. IsSeen progress.new.steps.items depth query g.ask (sight_value g.sight)) }

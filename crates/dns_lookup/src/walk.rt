@@ -1,15 +1,14 @@
-ghost use Rattle.std.specs.Prelude.{◌==◌, ◌≡◌, ◌≤◌, ◌∷◌, [], true, false, IfOk, length, map};
+ghost use Rattle.std.specs.Prelude.{◌==◌, ◌≡◌, ◌+◌, ◌∷◌, [], true, false, IfOk, map};
 ghost use Rattle.dns_model.specs.Records.{Question};
 ghost use Rattle.dns_model.specs.SoundAnswers.{told_by};
 ghost use Rattle.dns_model.specs.Types.{type_dnskey};
-ghost use Rattle.dns_judgement.specs.Asking.{most_sends};
 ghost use Rattle.dns_judgement.specs.Chained.{bare};
 ghost use Rattle.dns_judgement.specs.DerivationParts.{asks_of_sets};
 ghost use Rattle.dns_judgement.specs.Unsigned.{is_searched as needs_search};
 ghost use Rattle.dns_outcome.specs.Outcome.{outcome_value};
 ghost use Rattle.dns_anchors.specs.Judge.{judge_of};
 ghost use Rattle.dns_trust.specs.Verdicts.{verdict_value, listed};
-ghost use Rattle.dns_lookup.specs.Walking.{grounds_at, IsCounted, HasSent, Walk, IsJudgement, IsJudgedSet, AreTried, IsTried, IsAnswer, IsSearched, IsConcluded, IsReviewed, asks_in};
+ghost use Rattle.dns_lookup.specs.Walking.{grounds_at, CanWalk, HasWalked, Walk, IsJudgement, IsJudgedSet, AreTried, IsTried, IsAnswer, IsSearched, IsConcluded, IsReviewed, asks_in};
 
 use crate::context::{LookupContext, Progress};
 use crate::finished::{Finished, answered, faulted, refused, unanswered};
@@ -42,12 +41,8 @@ pub(crate) fn judge_reply<H: DnsHandle, V: Verifier>(
     depth: u16,
     received: &ReceivedMessage,
 ) -> Result<(Judgement, Concluded), NoMemory>
-    requires few { progress.old.sends ≤ most_sends }
-    requires counted { length progress.old.steps.items ≤ progress.old.sends }
-    requires limit { context.now.limit ≤ 255 }
-    requires shallow { depth ≤ 255 }
-    ensures counted { IsCounted progress.old progress.new }
-    ensures sent { HasSent H.DnsHandle context.now handle.old progress.old handle.new progress.new }
+    requires ready { CanWalk context.now progress.old depth }
+    ensures walked { HasWalked H.DnsHandle context.now handle.old progress.old handle.new progress.new }
     ensures reviewed { IfOk result (λ r. IsReviewed H.DnsHandle V.answers context.now handle.old progress.old
         handle.new progress.new query.now depth (told_by received.now.message) r.0 r.1) }
 {
@@ -67,12 +62,8 @@ fn judge_sets<H: DnsHandle, V: Verifier>(
     depth: u16,
     placed: Vec<PlacedSet>,
 ) -> Result<Judgement, NoMemory>
-    requires few { progress.old.sends ≤ most_sends }
-    requires counted { length progress.old.steps.items ≤ progress.old.sends }
-    requires limit { context.now.limit ≤ 255 }
-    requires shallow { depth ≤ 255 }
-    ensures counted { IsCounted progress.old progress.new }
-    ensures sent { HasSent H.DnsHandle context.now handle.old progress.old handle.new progress.new }
+    requires ready { CanWalk context.now progress.old depth }
+    ensures walked { HasWalked H.DnsHandle context.now handle.old progress.old handle.new progress.new }
     ensures asks { IfOk result (λ v. Walk H.DnsHandle V.answers context.now
         handle.old progress.old handle.new progress.new (asks_of_sets v.entries.items)) }
     ensures judged { IfOk result (λ v. IsJudgement
@@ -98,12 +89,8 @@ fn judge_set<H: DnsHandle, V: Verifier>(
     depth: u16,
     placed: PlacedSet,
 ) -> Result<OneSet, NoMemory>
-    requires few { progress.old.sends ≤ most_sends }
-    requires counted { length progress.old.steps.items ≤ progress.old.sends }
-    requires limit { context.now.limit ≤ 255 }
-    requires shallow { depth ≤ 255 }
-    ensures counted { IsCounted progress.old progress.new }
-    ensures sent { HasSent H.DnsHandle context.now handle.old progress.old handle.new progress.new }
+    requires ready { CanWalk context.now progress.old depth }
+    ensures walked { HasWalked H.DnsHandle context.now handle.old progress.old handle.new progress.new }
     ensures asks { IfOk result (λ o. Walk H.DnsHandle V.answers context.now
         handle.old progress.old handle.new progress.new o.entry.asked) }
     ensures judged { IfOk result (λ o. IsJudgedSet
@@ -135,13 +122,9 @@ fn judge_keys<H: DnsHandle, V: Verifier>(
     depth: u16,
     placed: PlacedSet,
 ) -> Result<OneSet, NoMemory>
-    requires few { progress.old.sends ≤ most_sends }
-    requires counted { length progress.old.steps.items ≤ progress.old.sends }
-    requires limit { context.now.limit ≤ 255 }
-    requires shallow { depth ≤ 255 }
+    requires ready { CanWalk context.now progress.old depth }
     requires keys { (placed.set.rtype == type_dnskey) ≡ true }
-    ensures counted { IsCounted progress.old progress.new }
-    ensures sent { HasSent H.DnsHandle context.now handle.old progress.old handle.new progress.new }
+    ensures walked { HasWalked H.DnsHandle context.now handle.old progress.old handle.new progress.new }
     ensures asks { IfOk result (λ o. Walk H.DnsHandle V.answers context.now
         handle.old progress.old handle.new progress.new o.entry.asked) }
     ensures judged { IfOk result (λ o. (query : Question) → IsJudgedSet
@@ -155,7 +138,7 @@ fn judge_keys<H: DnsHandle, V: Verifier>(
         KeysStep::NeedsDs(placed) => placed,
     };
     let ds_query = ds_ask_of(set_of(&placed))?;
-    let Finished { ask, answer } = ask(context, handle, progress, ds_query, depth + 1)?;
+    let Finished { ask, answer } = ask(context, handle, progress, depth, ds_query)?;
     let set = judged_by_ds(context.alloc, &context.judge, placed, &answer)?;
     let asked = vec![in context.alloc; ask]?;
     let one = with_entry(set, asked)?;
@@ -171,14 +154,10 @@ fn judge_unsigned<H: DnsHandle, V: Verifier>(
     depth: u16,
     placed: PlacedSet,
 ) -> Result<OneSet, NoMemory>
-    requires few { progress.old.sends ≤ most_sends }
-    requires counted { length progress.old.steps.items ≤ progress.old.sends }
-    requires limit { context.now.limit ≤ 255 }
-    requires shallow { depth ≤ 255 }
+    requires ready { CanWalk context.now progress.old depth }
     requires others { (placed.set.rtype == type_dnskey) ≡ false }
     requires unsigned { needs_search placed.set ≡ true }
-    ensures counted { IsCounted progress.old progress.new }
-    ensures sent { HasSent H.DnsHandle context.now handle.old progress.old handle.new progress.new }
+    ensures walked { HasWalked H.DnsHandle context.now handle.old progress.old handle.new progress.new }
     ensures asks { IfOk result (λ o. Walk H.DnsHandle V.answers context.now
         handle.old progress.old handle.new progress.new o.entry.asked) }
     ensures judged { IfOk result (λ o. (query : Question) → IsJudgedSet
@@ -201,12 +180,8 @@ fn search_zone<H: DnsHandle, V: Verifier>(
     start: &Name,
     depth: u16,
 ) -> Result<Searched, NoMemory>
-    requires few { progress.old.sends ≤ most_sends }
-    requires counted { length progress.old.steps.items ≤ progress.old.sends }
-    requires limit { context.now.limit ≤ 255 }
-    requires shallow { depth ≤ 255 }
-    ensures counted { IsCounted progress.old progress.new }
-    ensures sent { HasSent H.DnsHandle context.now handle.old progress.old handle.new progress.new }
+    requires ready { CanWalk context.now progress.old depth }
+    ensures walked { HasWalked H.DnsHandle context.now handle.old progress.old handle.new progress.new }
     ensures asks { IfOk result (λ s. Walk H.DnsHandle V.answers context.now
         handle.old progress.old handle.new progress.new s.asked.items) }
     ensures searched { IfOk result (λ s. (query : Question) → IsSearched
@@ -221,7 +196,7 @@ fn search_zone<H: DnsHandle, V: Verifier>(
     };
     let mut asked = asked;
     let question = ds_query(zone.try_clone()?, class);
-    let Finished { ask, answer } = ask(context, handle, progress, question, depth + 1)?;
+    let Finished { ask, answer } = ask(context, handle, progress, depth, question)?;
     asked.push(ask)?;
     let mark = zone_mark(context.judge.verifier, class, &zone, &answer);
     Ok(Searched { mark, asked })
@@ -238,12 +213,8 @@ fn conclude<H: DnsHandle, V: Verifier>(
     received: &ReceivedMessage,
     judged: &Judgement,
 ) -> Result<Concluded, NoMemory>
-    requires few { progress.old.sends ≤ most_sends }
-    requires counted { length progress.old.steps.items ≤ progress.old.sends }
-    requires limit { context.now.limit ≤ 255 }
-    requires shallow { depth ≤ 255 }
-    ensures counted { IsCounted progress.old progress.new }
-    ensures sent { HasSent H.DnsHandle context.now handle.old progress.old handle.new progress.new }
+    requires ready { CanWalk context.now progress.old depth }
+    ensures walked { HasWalked H.DnsHandle context.now handle.old progress.old handle.new progress.new }
     ensures asks { IfOk result (λ c. Walk H.DnsHandle V.answers context.now
         handle.old progress.old handle.new progress.new c.excuse.items) }
     ensures concluded { IfOk result (λ c. IsConcluded (grounds_at V.answers context.now progress.new query.now depth)
@@ -279,12 +250,8 @@ fn judge_signatures<H: DnsHandle, V: Verifier>(
     depth: u16,
     set: &RecordSet,
 ) -> Result<Verdicts, NoMemory>
-    requires few { progress.old.sends ≤ most_sends }
-    requires counted { length progress.old.steps.items ≤ progress.old.sends }
-    requires limit { context.now.limit ≤ 255 }
-    requires shallow { depth ≤ 255 }
-    ensures counted { IsCounted progress.old progress.new }
-    ensures sent { HasSent H.DnsHandle context.now handle.old progress.old handle.new progress.new }
+    requires ready { CanWalk context.now progress.old depth }
+    ensures walked { HasWalked H.DnsHandle context.now handle.old progress.old handle.new progress.new }
     ensures asks { IfOk result (λ v. Walk H.DnsHandle V.answers context.now
         handle.old progress.old handle.new progress.new v.asked.items) }
     ensures tried { IfOk result (λ v. AreTried
@@ -319,12 +286,8 @@ fn judge_signature<H: DnsHandle, V: Verifier>(
     set: &RecordSet,
     sig: &Record,
 ) -> Result<Tried, NoMemory>
-    requires few { progress.old.sends ≤ most_sends }
-    requires counted { length progress.old.steps.items ≤ progress.old.sends }
-    requires limit { context.now.limit ≤ 255 }
-    requires shallow { depth ≤ 255 }
-    ensures counted { IsCounted progress.old progress.new }
-    ensures sent { HasSent H.DnsHandle context.now handle.old progress.old handle.new progress.new }
+    requires ready { CanWalk context.now progress.old depth }
+    ensures walked { HasWalked H.DnsHandle context.now handle.old progress.old handle.new progress.new }
     ensures asks { IfOk result (λ t. Walk H.DnsHandle V.answers context.now
         handle.old progress.old handle.new progress.new (asks_in t.ask)) }
     ensures tried { IfOk result (λ t. IsTried
@@ -338,7 +301,7 @@ fn judge_signature<H: DnsHandle, V: Verifier>(
         return Ok(untried());
     }
     let question = ask_of(context.alloc, set, &read)?;
-    let Finished { ask, answer } = ask(context, handle, progress, question, depth + 1)?;
+    let Finished { ask, answer } = ask(context, handle, progress, depth, question)?;
     let signature = SetSignature {
         set,
         sig,
@@ -351,26 +314,23 @@ fn judge_signature<H: DnsHandle, V: Verifier>(
     })
 }
 
-// Asks a question at a depth, and adds the steps that this makes to the trail.
+// Asks a question for a step, one deeper than this step is, and adds the steps that this makes to the trail.
 #[cycle(walk)]
 fn ask<H: DnsHandle, V: Verifier>(
     context: &LookupContext<'_, V>,
     handle: &mut H,
     progress: &mut Progress,
+    asker: u16,
     query: Query,
-    depth: u16,
 ) -> Result<Finished, NoMemory>
-    requires few { progress.old.sends ≤ most_sends }
-    requires counted { length progress.old.steps.items ≤ progress.old.sends }
-    requires limit { context.now.limit ≤ 255 }
-    requires shallow { depth ≤ 256 }
-    ensures counted { IsCounted progress.old progress.new }
-    ensures sent { HasSent H.DnsHandle context.now handle.old progress.old handle.new progress.new }
+    requires ready { CanWalk context.now progress.old asker }
+    ensures walked { HasWalked H.DnsHandle context.now handle.old progress.old handle.new progress.new }
     ensures asks { IfOk result (λ f. Walk H.DnsHandle V.answers context.now
         handle.old progress.old handle.new progress.new (f.ask ∷ [])) }
     ensures answer { IfOk result (λ f. IsAnswer (judge_of V.answers context.now.judge) context.now.limit
-        progress.new.steps.items query depth f.ask (listed f.answer)) }
+        progress.new.steps.items query (asker + 1) f.ask (listed f.answer)) }
 {
+    let depth = asker + 1;
     if depth > context.limit {
         return Ok(refused(AskRef::TooDeep));
     }

@@ -21,11 +21,11 @@ returns-in-Some-clause-lookup g c =
 
 pub returns-in-Err-judge_reply-clause-sends : goal.returns-in-Err-judge_reply-clause-sends
 returns-in-Err-judge_reply-clause-sends g c =
-    sends_more _ _ g.H.DnsHandle.faults _ _ _ _ _ _ _ (c.in-Ok.ensures.received _ c.requires.asked).made refl c.judge_reply.ensures.sent
+    sends_more _ _ _ _ _ _ _ _ _ _ (c.in-Ok.ensures.received _ c.requires.asked).made refl c.judge_reply.ensures.walked
 
 pub returns-clause-sends : goal.returns-clause-sends
 returns-clause-sends g c =
-    sends_more _ _ g.H.DnsHandle.faults _ _ _ _ _ _ _ (c.in-Ok.ensures.received _ c.requires.asked).made refl c.judge_reply.ensures.sent
+    sends_more _ _ _ _ _ _ _ _ _ _ (c.in-Ok.ensures.received _ c.requires.asked).made refl c.judge_reply.ensures.walked
 
 pub returns-clause-lookup : goal.returns-clause-lookup
 returns-clause-lookup g c =
@@ -38,6 +38,6 @@ returns-clause-lookup g c =
       judged = review.judged;
       further = review.further;
       concluded = review.concluded;
-      few = c.judge_reply.ensures.sent.few;
+      few = c.judge_reply.ensures.walked.few;
     }) is)
     c.answer.ensures

@@ -5,13 +5,14 @@ use Rattle.dns_lookup.proofs.LookupLemmas.{or_sent}
 use Rattle.dns_lookup.proofs.ReceivedLemmas.{asking_made, caused}
 use Rattle.dns_lookup.proofs.receiving.send_query.Goals as goal
 
-pub returns-clause-sent : goal.returns-clause-sent
-returns-clause-sent g c = record {
+pub returns-clause-walked : goal.returns-clause-walked
+returns-clause-walked g c = record {
   walk = one_walk _ _ _ _ _ _ _
       (asking_made g.H.DnsHandle c.args.context.now.options _ _ _ _ _ _ _ c.in_ok-request.ensures c.send.ensures.sent c.send.ensures.requested c.send.ensures.reply
       c.send.ensures.told c.send.ensures.later (caused _ _ _ c.send.ensures.cause))
       (omega arith);
   few = omega arith;
+  counted = omega arith;
   later = c.send.ensures.later;
 }
 

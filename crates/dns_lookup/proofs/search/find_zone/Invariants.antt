@@ -1,7 +1,7 @@
 use Rattle.std.proofs.Common.{length}
 use Rattle.dns_model.specs.Records.{Question}
 use Rattle.dns_judgement.proofs.SearchLemmas.{SearchDone}
-use Rattle.dns_lookup.specs.Walking.{IsCounted, grounds_at, HasSent, Walk}
+use Rattle.dns_lookup.specs.Walking.{grounds_at, HasWalked, Walk}
 use Rattle.dns_lookup.proofs.search.find_zone.Given as goal
 
 abbrev pub decreases-names : goal.decreases-names
@@ -9,8 +9,7 @@ decreases-names g l = length l.name
 
 abbrev pub invariant-names : goal.invariant-names
 invariant-names g l =
-    IsCounted l.initial.progress l.progress ×
-    HasSent g.H.DnsHandle l.context l.initial.handle l.initial.progress l.handle l.progress ×
+    HasWalked g.H.DnsHandle l.context l.initial.handle l.initial.progress l.handle l.progress ×
     Walk g.H.DnsHandle g.V.Verifier.answers l.context l.initial.handle l.initial.progress l.handle
     l.progress l.asked.items ×
     ((query : Question) → SearchDone (grounds_at g.V.Verifier.answers l.context l.progress query l.depth)

@@ -1,10 +1,10 @@
-use Rattle.std.proofs.Common.{length, ap, ◌∙◌, arith}
+use Rattle.std.proofs.Common.{ap, ◌∙◌, arith}
 use Rattle.dns_model.specs.Records.{Question}
 use Rattle.dns_model.specs.SoundAnswers.{told_by}
 use Rattle.dns_model.specs.Trails.{Records}
 use Rattle.dns_judgement.specs.Derivation.{sight_of}
 use Rattle.dns_trust.specs.Searching.{sight_value}
-use Rattle.dns_lookup.proofs.AskLemmas.{counted_still, asks_many}
+use Rattle.dns_lookup.proofs.AskLemmas.{walked_nowhere, walked_ended, asks_many}
 use Rattle.dns_lookup.proofs.AnswerLemmas.{plain_fault_asks, seen_asks, seen_so, unseen_fault}
 use Rattle.dns_lookup.proofs.ReceivedLemmas.{received_some, received_none}
 use Rattle.dns_lookup.proofs.search.see.Goals as goal
@@ -12,16 +12,32 @@ use Rattle.dns_lookup.proofs.search.see.Goals as goal
 pub returns-then-progress-ge-MOST_SENDS-clause-asks : goal.returns-then-progress-ge-MOST_SENDS-clause-asks
 returns-then-progress-ge-MOST_SENDS-clause-asks g c = asks_many _ _ _ _ _ _ _ c.unseen.ensures.ask (omega arith)
 
+pub returns-in_err-failed-clause-walked : goal.returns-in_err-failed-clause-walked
+returns-in_err-failed-clause-walked g c =
+    walked_ended _ _ _ _ _ _ _ _ _ c.receive.ensures.walked c.receive.ensures.count c.receive.ensures.steps
+    (walked_nowhere _ _ _ _ c.receive.ensures.walked.few) c.seen.ensures.sends c.seen.ensures.one
+
 pub returns-in_default : goal.returns-in_default
 returns-in_default g c = record {
-  counted = omega (arith, c.seen.ensures.one, c.seen.ensures.sends, c.receive.ensures.count, ap (λ v. length v.items) c.receive.ensures.steps);
-  sent = counted_still _ g.H.DnsHandle.faults _ _ _ _ _ c.receive.ensures.sent c.seen.ensures.sends;
+  walked =
+      walked_ended _ _ _ _ _ _ _ _ _ c.receive.ensures.walked c.receive.ensures.count c.receive.ensures.steps
+      (walked_nowhere _ _ _ _ c.receive.ensures.walked.few) c.seen.ensures.sends c.seen.ensures.one;
   asks =
       plain_fault_asks _ _ _ _ _ _ _ _ _ _ _ _ _ _ _ (received_none _ _ _ _ _ c.in_ok-received.ensures.received c.in_default.is) (ap (λ v. v.items) c.receive.ensures.steps)
       c.receive.ensures.count c.seen.ensures.sends (omega arith) c.unseen-in_default.ensures.ask c.in_ok-failed.ensures.added;
   seen = unseen_fault _ _ _ _ _ _ _ (ap sight_value c.unseen-in_default.ensures.sight) c.unseen-in_default.ensures.ask
       c.in_ok-failed.ensures.added;
 }
+
+pub returns-in_err-ask-clause-walked : goal.returns-in_err-ask-clause-walked
+returns-in_err-ask-clause-walked g c =
+    walked_ended _ _ _ _ _ _ _ _ _ c.receive.ensures.walked c.receive.ensures.count c.receive.ensures.steps
+    (walked_nowhere _ _ _ _ c.receive.ensures.walked.few) c.seen-2.ensures.sends c.seen-2.ensures.one
+
+pub returns-clause-walked : goal.returns-clause-walked
+returns-clause-walked g c =
+    walked_ended _ _ _ _ _ _ _ _ _ c.receive.ensures.walked c.receive.ensures.count c.receive.ensures.steps
+    (walked_nowhere _ _ _ _ c.receive.ensures.walked.few) c.seen-2.ensures.sends c.seen-2.ensures.one
 
 pub returns-clause-asks : goal.returns-clause-asks
 returns-clause-asks g c =

@@ -1,4 +1,4 @@
-use Rattle.std.proofs.Common.{List, ◌∷◌, [], map, length, ap, refl, subst, sym, ◌∙◌, arith}
+use Rattle.std.proofs.Common.{List, ◌∷◌, [], map, ap, refl, subst, sym, ◌∙◌, arith}
 use Rattle.std.specs.Option.{option_map}
 use Rattle.std.proofs.lemmas.List.{map-append}
 use Rattle.dns_model.specs.Records.{Question}
@@ -10,7 +10,7 @@ use Rattle.dns_evidence.specs.Trail.{ending_value}
 use Rattle.dns_trust.specs.Verdicts.{verdict_value}
 use Rattle.dns_lookup.specs.Walking.{asks_in, grounds_at, IsJudgement}
 use Rattle.dns_lookup.proofs.AnswerLemmas.{fault_asks, named_by, none_named, foreign_asks, foreign_answer, judged_asks, judged_so}
-use Rattle.dns_lookup.proofs.AskLemmas.{counted_nowhere, counted_then, counted_still, asks_none, asks_deep, asks_many, asks_then}
+use Rattle.dns_lookup.proofs.AskLemmas.{walked_nowhere, walked_then, walked_ended, asks_none, asks_deep, asks_many, asks_then}
 use Rattle.dns_lookup.proofs.ConclusionLemmas.{settled_by, searched_by}
 use Rattle.dns_lookup.proofs.ZoneLemmas.{none_searched, zone_searched}
 use Rattle.dns_lookup.proofs.JudgementLemmas.{keys_step, ds_step, unsigned_step, others_step, judgement_none, judgement_step, asks_of_more}
@@ -26,19 +26,35 @@ pub ask-returns-then-progress-ge-MOST_SENDS-clause-asks : goal.ask-returns-then-
 ask-returns-then-progress-ge-MOST_SENDS-clause-asks g t c =
     asks_many _ _ _ _ _ _ _ c.refused-then-progress-ge-MOST_SENDS.ensures.ask (omega arith)
 
-pub ask-returns-in_err-review-clause-sent : goal.ask-returns-in_err-review-clause-sent
-ask-returns-in_err-review-clause-sent g t c =
-    counted_then _ g.H.DnsHandle.faults _ _ _ _ _ _ _ c.receive.ensures.sent c.judge_reply.ensures.sent refl
+pub ask-returns-in_err-review-clause-walked : goal.ask-returns-in_err-review-clause-walked
+ask-returns-in_err-review-clause-walked g t c =
+    walked_then _ _ _ _ _ _ _ _ c.receive.ensures.walked c.judge_reply.ensures.walked
+
+pub ask-returns-in_err-failed-clause-walked : goal.ask-returns-in_err-failed-clause-walked
+ask-returns-in_err-failed-clause-walked g t c =
+    walked_ended _ _ _ _ _ _ _ _ _ c.receive.ensures.walked c.receive.ensures.count c.receive.ensures.steps
+    (walked_nowhere _ _ _ _ c.receive.ensures.walked.few) c.faulted.ensures.sends c.faulted.ensures.one
 
 pub ask-returns-in_default : goal.ask-returns-in_default
 ask-returns-in_default g t c = record {
-  counted = omega (arith, c.faulted.ensures.one, c.faulted.ensures.sends, c.receive.ensures.count, ap (λ v. length v.items) c.receive.ensures.steps);
-  sent = counted_still _ g.H.DnsHandle.faults _ _ _ _ _ c.receive.ensures.sent c.faulted.ensures.sends;
+  walked =
+      walked_ended _ _ _ _ _ _ _ _ _ c.receive.ensures.walked c.receive.ensures.count c.receive.ensures.steps
+      (walked_nowhere _ _ _ _ c.receive.ensures.walked.few) c.faulted.ensures.sends c.faulted.ensures.one;
   asks =
       fault_asks _ _ _ _ _ _ _ _ _ _ _ _ _ _ (received_none _ _ _ _ _ c.in_ok-received.ensures.received c.in_default.is) (ap (λ v. v.items) c.receive.ensures.steps)
       c.receive.ensures.count c.faulted.ensures.sends (omega arith) c.in_ok-failed.ensures.added;
   answer = no_answer _ _ _ _ _ _ _ _ _ _ (omega arith) c.in_ok-failed.ensures.added c.in_ok-failed.ensures.answer refl;
 }
+
+pub ask-returns-in_err-seen-in-Some-foreign-clause-walked : goal.ask-returns-in_err-seen-in-Some-foreign-clause-walked
+ask-returns-in_err-seen-in-Some-foreign-clause-walked g t c =
+    walked_ended _ _ _ _ _ _ _ _ _ c.receive.ensures.walked c.receive.ensures.count c.receive.ensures.steps
+    (walked_nowhere _ _ _ _ c.receive.ensures.walked.few) c.unanswered.ensures.sends c.unanswered.ensures.one
+
+pub ask-returns-in-Some-foreign-clause-walked : goal.ask-returns-in-Some-foreign-clause-walked
+ask-returns-in-Some-foreign-clause-walked g t c =
+    walked_ended _ _ _ _ _ _ _ _ _ c.receive.ensures.walked c.receive.ensures.count c.receive.ensures.steps
+    (walked_nowhere _ _ _ _ c.receive.ensures.walked.few) c.unanswered.ensures.sends c.unanswered.ensures.one
 
 pub ask-returns-in-Some-foreign-clause-asks : goal.ask-returns-in-Some-foreign-clause-asks
 ask-returns-in-Some-foreign-clause-asks g t c =
@@ -51,13 +67,15 @@ ask-returns-in-Some-foreign-clause-answer g t c =
     foreign_answer _ _ _ _ _ _ _ _ _ _ _ (omega arith) c.in_ok-seen-in-Some-foreign.ensures.added c.in_ok-seen-in-Some-foreign.ensures.answer
     (named_by _ _ _ c.in_ok-foreign.ensures (ap (option_map ending_value) c.in-Some-foreign.is))
 
-pub ask-returns-in_err-finished-clause-sent : goal.ask-returns-in_err-finished-clause-sent
-ask-returns-in_err-finished-clause-sent g t c =
-    counted_then _ g.H.DnsHandle.faults _ _ _ _ _ _ _ c.receive.ensures.sent c.judge_reply.ensures.sent c.answered.ensures.sends
+pub ask-returns-in_err-finished-clause-walked : goal.ask-returns-in_err-finished-clause-walked
+ask-returns-in_err-finished-clause-walked g t c =
+    walked_ended _ _ _ _ _ _ _ _ _ c.receive.ensures.walked c.receive.ensures.count c.receive.ensures.steps c.judge_reply.ensures.walked
+    c.answered.ensures.sends c.answered.ensures.one
 
-pub ask-returns-clause-sent : goal.ask-returns-clause-sent
-ask-returns-clause-sent g t c =
-    counted_then _ g.H.DnsHandle.faults _ _ _ _ _ _ _ c.receive.ensures.sent c.judge_reply.ensures.sent c.answered.ensures.sends
+pub ask-returns-clause-walked : goal.ask-returns-clause-walked
+ask-returns-clause-walked g t c =
+    walked_ended _ _ _ _ _ _ _ _ _ c.receive.ensures.walked c.receive.ensures.count c.receive.ensures.steps c.judge_reply.ensures.walked
+    c.answered.ensures.sends c.answered.ensures.one
 
 pub ask-returns-clause-asks : goal.ask-returns-clause-asks
 ask-returns-clause-asks g t c =
@@ -73,12 +91,12 @@ ask-returns-clause-answer g t c =
     judged_so _ _ _ _ _ _ _ _ c.in-Some.received _ _ _ _ _ _ _ (omega arith) refl review.judged review.further.part.grown
     c.in_ok-finished.ensures.added c.in_ok-finished.ensures.answer
 
-pub judge_reply-returns-in_err-concluded-clause-sent : goal.judge_reply-returns-in_err-concluded-clause-sent
-judge_reply-returns-in_err-concluded-clause-sent g t c =
-    counted_then _ g.H.DnsHandle.faults _ _ _ _ _ _ _ c.judge_sets.ensures.sent c.conclude.ensures.sent refl
+pub judge_reply-returns-in_err-concluded-clause-walked : goal.judge_reply-returns-in_err-concluded-clause-walked
+judge_reply-returns-in_err-concluded-clause-walked g t c =
+    walked_then _ _ _ _ _ _ _ _ c.judge_sets.ensures.walked c.conclude.ensures.walked
 
-pub judge_reply-returns-clause-sent : goal.judge_reply-returns-clause-sent
-judge_reply-returns-clause-sent g t c = counted_then _ g.H.DnsHandle.faults _ _ _ _ _ _ _ c.judge_sets.ensures.sent c.conclude.ensures.sent refl
+pub judge_reply-returns-clause-walked : goal.judge_reply-returns-clause-walked
+judge_reply-returns-clause-walked g t c = walked_then _ _ _ _ _ _ _ _ c.judge_sets.ensures.walked c.conclude.ensures.walked
 
 pub judge_reply-returns-clause-reviewed : goal.judge_reply-returns-clause-reviewed
 judge_reply-returns-clause-reviewed g t c =
@@ -117,16 +135,16 @@ pub search_zone-returns-in_default-clause-searched : goal.search_zone-returns-in
 search_zone-returns-in_default-clause-searched g t c = λ query.
     none_searched _ _ _ _ _ (c.in_ok-zone.ensures.way query) c.in_default.is
 
-pub search_zone-returns-in_err-ask-clause-sent : goal.search_zone-returns-in_err-ask-clause-sent
-search_zone-returns-in_err-ask-clause-sent g t c =
-    counted_then _ g.H.DnsHandle.faults _ _ _ _ _ _ _ c.find_zone.ensures.sent c.ask.ensures.sent refl
+pub search_zone-returns-in_err-ask-clause-walked : goal.search_zone-returns-in_err-ask-clause-walked
+search_zone-returns-in_err-ask-clause-walked g t c =
+    walked_then _ _ _ _ _ _ _ _ c.find_zone.ensures.walked c.ask.ensures.walked
 
-pub search_zone-returns-in_err-push-clause-sent : goal.search_zone-returns-in_err-push-clause-sent
-search_zone-returns-in_err-push-clause-sent g t c =
-    counted_then _ g.H.DnsHandle.faults _ _ _ _ _ _ _ c.find_zone.ensures.sent c.ask.ensures.sent refl
+pub search_zone-returns-in_err-push-clause-walked : goal.search_zone-returns-in_err-push-clause-walked
+search_zone-returns-in_err-push-clause-walked g t c =
+    walked_then _ _ _ _ _ _ _ _ c.find_zone.ensures.walked c.ask.ensures.walked
 
-pub search_zone-returns-clause-sent : goal.search_zone-returns-clause-sent
-search_zone-returns-clause-sent g t c = counted_then _ g.H.DnsHandle.faults _ _ _ _ _ _ _ c.find_zone.ensures.sent c.ask.ensures.sent refl
+pub search_zone-returns-clause-walked : goal.search_zone-returns-clause-walked
+search_zone-returns-clause-walked g t c = walked_then _ _ _ _ _ _ _ _ c.find_zone.ensures.walked c.ask.ensures.walked
 
 pub search_zone-returns-clause-asks : goal.search_zone-returns-clause-asks
 search_zone-returns-clause-asks g t c =
@@ -145,8 +163,7 @@ conclude-returns-in_ok-mark-in-Searched-clause-concluded g t c =
 
 pub conclude-returns-in_default : goal.conclude-returns-in_default
 conclude-returns-in_default g t c = record {
-  counted = omega arith;
-  sent = counted_nowhere _ g.H.DnsHandle.faults _ _ _ (omega arith) (omega arith);
+  walked = walked_nowhere _ _ _ _ (omega arith);
   asks = asks_none _ _ _ _ _ _ _ c.new.ensures.items;
   concluded = settled_by _ _ _ _ _ _ _ c.in_ok-outcome.ensures c.deref.ensures.value refl c.in_default.not-Searched c.new.ensures.items;
 }
@@ -169,37 +186,35 @@ pub judge_sets-loop-next-init : goal.judge_sets-loop-next-init
 judge_sets-loop-next-init g t c = (
   tt,
   tt,
-  omega arith,
-  counted_nowhere _ g.H.DnsHandle.faults _ _ _ (omega arith) (omega arith),
+  walked_nowhere _ _ _ _ (omega arith),
   asks_none _ _ _ _ _ _ _ (ap asks_of_sets c.new-entries.ensures.items),
   judgement_none _ _ _ c.new-sets.ensures.items c.new-entries.ensures.items,
 )
 
-pub judge_sets-returns-in_err-set-clause-sent : goal.judge_sets-returns-in_err-set-clause-sent
-judge_sets-returns-in_err-set-clause-sent g t c =
-    counted_then _ g.H.DnsHandle.faults _ _ _ _ _ _ _ c.loop-next.invariant.3 c.judge_set.ensures.sent refl
+pub judge_sets-returns-in_err-set-clause-walked : goal.judge_sets-returns-in_err-set-clause-walked
+judge_sets-returns-in_err-set-clause-walked g t c =
+    walked_then _ _ _ _ _ _ _ _ c.loop-next.invariant.2 c.judge_set.ensures.walked
 
-pub judge_sets-returns-in_err-push-clause-sent : goal.judge_sets-returns-in_err-push-clause-sent
-judge_sets-returns-in_err-push-clause-sent g t c =
-    counted_then _ g.H.DnsHandle.faults _ _ _ _ _ _ _ c.loop-next.invariant.3 c.judge_set.ensures.sent refl
+pub judge_sets-returns-in_err-push-clause-walked : goal.judge_sets-returns-in_err-push-clause-walked
+judge_sets-returns-in_err-push-clause-walked g t c =
+    walked_then _ _ _ _ _ _ _ _ c.loop-next.invariant.2 c.judge_set.ensures.walked
 
 pub judge_sets-loop-next-preserved : goal.judge_sets-loop-next-preserved
 judge_sets-loop-next-preserved g t c = (
   tt,
   tt,
-  omega (arith, c.loop-next.invariant.2, c.judge_set.ensures.counted),
-  counted_then _ g.H.DnsHandle.faults _ _ _ _ _ _ _ c.loop-next.invariant.3 c.judge_set.ensures.sent refl,
-  asks_then _ _ _ _ _ _ _ _ _ _ _ _ _ _ _ c.loop-next.invariant.4 c.in_ok-set.ensures.asks
+  walked_then _ _ _ _ _ _ _ _ c.loop-next.invariant.2 c.judge_set.ensures.walked,
+  asks_then _ _ _ _ _ _ _ _ _ _ _ _ _ _ _ c.loop-next.invariant.3 c.in_ok-set.ensures.asks
       (asks_of_more _ _ _ _ refl c.in_ok-push-2.ensures.items),
   judgement_step (grounds_at g.V.Verifier.answers c.args.context.now c.loop-next.progress c.args.query.now c.args.depth)
       c.judge_set.new.progress.steps.items _ _ _ _ _ _ _ _ _ _ _
-      c.in_ok-set.ensures.asks.part.grown c.loop-next.invariant.5 c.in_ok-set.ensures.judged refl refl
+      c.in_ok-set.ensures.asks.part.grown c.loop-next.invariant.4 c.in_ok-set.ensures.judged refl refl
       c.in_ok-push.ensures.items c.in_ok-push-2.ensures.items,
 )
 
-pub judge_sets-returns-in_err-push-2-clause-sent : goal.judge_sets-returns-in_err-push-2-clause-sent
-judge_sets-returns-in_err-push-2-clause-sent g t c =
-    counted_then _ g.H.DnsHandle.faults _ _ _ _ _ _ _ c.loop-next.invariant.3 c.judge_set.ensures.sent refl
+pub judge_sets-returns-in_err-push-2-clause-walked : goal.judge_sets-returns-in_err-push-2-clause-walked
+judge_sets-returns-in_err-push-2-clause-walked g t c =
+    walked_then _ _ _ _ _ _ _ _ c.loop-next.invariant.2 c.judge_set.ensures.walked
 
 pub judge_signature-returns-in_default-clause-asks : goal.judge_signature-returns-in_default-clause-asks
 judge_signature-returns-in_default-clause-asks g t c = asks_none _ _ _ _ _ _ _ (ap asks_in c.untried.ensures.ask)
@@ -209,54 +224,52 @@ judge_signature-returns-then-skipped-clause-asks g t c = asks_none _ _ _ _ _ _ _
 
 pub judge_signatures-loop-sig-init : goal.judge_signatures-loop-sig-init
 judge_signatures-loop-sig-init g t c = (
-  omega arith,
-  counted_nowhere _ g.H.DnsHandle.faults _ _ _ (omega arith) (omega arith),
+  walked_nowhere _ _ _ _ (omega arith),
   asks_none _ _ _ _ _ _ _ c.new-asked.ensures.items,
   tried_none _ _ _ _ c.new-asked.ensures.items (ap (map verdict_value) c.new-verdicts.ensures.items),
 )
 
-pub judge_signatures-returns-in_err-verdict-clause-sent : goal.judge_signatures-returns-in_err-verdict-clause-sent
-judge_signatures-returns-in_err-verdict-clause-sent g t c =
-    counted_then _ g.H.DnsHandle.faults _ _ _ _ _ _ _ c.loop-sig.invariant.1 c.judge_signature.ensures.sent refl
+pub judge_signatures-returns-in_err-verdict-clause-walked : goal.judge_signatures-returns-in_err-verdict-clause-walked
+judge_signatures-returns-in_err-verdict-clause-walked g t c =
+    walked_then _ _ _ _ _ _ _ _ c.loop-sig.invariant.0 c.judge_signature.ensures.walked
 
-pub judge_signatures-returns-in_err-add_ask-clause-sent : goal.judge_signatures-returns-in_err-add_ask-clause-sent
-judge_signatures-returns-in_err-add_ask-clause-sent g t c =
-    counted_then _ g.H.DnsHandle.faults _ _ _ _ _ _ _ c.loop-sig.invariant.1 c.judge_signature.ensures.sent refl
+pub judge_signatures-returns-in_err-add_ask-clause-walked : goal.judge_signatures-returns-in_err-add_ask-clause-walked
+judge_signatures-returns-in_err-add_ask-clause-walked g t c =
+    walked_then _ _ _ _ _ _ _ _ c.loop-sig.invariant.0 c.judge_signature.ensures.walked
 
-pub judge_signatures-returns-in_err-push-clause-sent : goal.judge_signatures-returns-in_err-push-clause-sent
-judge_signatures-returns-in_err-push-clause-sent g t c =
-    counted_then _ g.H.DnsHandle.faults _ _ _ _ _ _ _ c.loop-sig.invariant.1 c.judge_signature.ensures.sent refl
+pub judge_signatures-returns-in_err-push-clause-walked : goal.judge_signatures-returns-in_err-push-clause-walked
+judge_signatures-returns-in_err-push-clause-walked g t c =
+    walked_then _ _ _ _ _ _ _ _ c.loop-sig.invariant.0 c.judge_signature.ensures.walked
 
-pub judge_signatures-returns-then-proved-clause-sent : goal.judge_signatures-returns-then-proved-clause-sent
-judge_signatures-returns-then-proved-clause-sent g t c =
-    counted_then _ g.H.DnsHandle.faults _ _ _ _ _ _ _ c.loop-sig.invariant.1 c.judge_signature.ensures.sent refl
+pub judge_signatures-returns-then-proved-clause-walked : goal.judge_signatures-returns-then-proved-clause-walked
+judge_signatures-returns-then-proved-clause-walked g t c =
+    walked_then _ _ _ _ _ _ _ _ c.loop-sig.invariant.0 c.judge_signature.ensures.walked
 
 pub judge_signatures-returns-then-proved-clause-asks : goal.judge_signatures-returns-then-proved-clause-asks
 judge_signatures-returns-then-proved-clause-asks g t c =
-    asks_then _ _ _ _ _ _ _ _ _ _ _ _ _ _ _ c.loop-sig.invariant.2 c.in_ok-verdict.ensures.asks
+    asks_then _ _ _ _ _ _ _ _ _ _ _ _ _ _ _ c.loop-sig.invariant.1 c.in_ok-verdict.ensures.asks
     c.in_ok-add_ask.ensures
 
 pub judge_signatures-returns-then-proved-clause-tried : goal.judge_signatures-returns-then-proved-clause-tried
 judge_signatures-returns-then-proved-clause-tried g t c =
     proved_step (grounds_at g.V.Verifier.answers c.args.context.now c.loop-sig.progress c.args.query.now c.args.depth)
     c.judge_signature.new.progress.steps.items _ _ _ _ _ _ _ _ _ _ _ _ _
-    c.first_signatures-tried.ensures.first c.in_ok-verdict.ensures.asks.part.grown c.loop-sig-test.true c.sig-item.is c.loop-sig.invariant.3 c.in_ok-verdict.ensures.tried
+    c.first_signatures-tried.ensures.first c.in_ok-verdict.ensures.asks.part.grown c.loop-sig-test.true c.sig-item.is c.loop-sig.invariant.2 c.in_ok-verdict.ensures.tried
     refl refl (sym c.is_proved-proved.ensures ∙ c.if-proved.true)
     c.in_ok-add_ask.ensures (ap (map verdict_value) c.in_ok-push.ensures.items ∙ map-append verdict_value c.loop-sig.verdicts.items (c.in_ok-verdict.field-0.verdict ∷ []))
 
 pub judge_signatures-loop-sig-preserved : goal.judge_signatures-loop-sig-preserved
 judge_signatures-loop-sig-preserved g t c = (
-  omega (arith, c.loop-sig.invariant.0, c.judge_signature.ensures.counted),
-  counted_then _ g.H.DnsHandle.faults _ _ _ _ _ _ _ c.loop-sig.invariant.1 c.judge_signature.ensures.sent refl,
-  asks_then _ _ _ _ _ _ _ _ _ _ _ _ _ _ _ c.loop-sig.invariant.2 c.in_ok-verdict.ensures.asks
+  walked_then _ _ _ _ _ _ _ _ c.loop-sig.invariant.0 c.judge_signature.ensures.walked,
+  asks_then _ _ _ _ _ _ _ _ _ _ _ _ _ _ _ c.loop-sig.invariant.1 c.in_ok-verdict.ensures.asks
       c.in_ok-add_ask.ensures,
   tried_step (grounds_at g.V.Verifier.answers c.args.context.now c.loop-sig.progress c.args.query.now c.args.depth)
       c.judge_signature.new.progress.steps.items _ _ _ _ _ _ _ _ _ _ _ _ _
-      c.in_ok-verdict.ensures.asks.part.grown c.loop-sig-test.true c.sig-item.is c.loop-sig.invariant.3 c.in_ok-verdict.ensures.tried
+      c.in_ok-verdict.ensures.asks.part.grown c.loop-sig-test.true c.sig-item.is c.loop-sig.invariant.2 c.in_ok-verdict.ensures.tried
       refl refl (sym c.is_proved-proved.ensures ∙ c.if-proved.false)
       c.in_ok-add_ask.ensures (ap (map verdict_value) c.in_ok-push.ensures.items ∙ map-append verdict_value c.loop-sig.verdicts.items (c.in_ok-verdict.field-0.verdict ∷ [])),
 )
 
 pub judge_signatures-returns-clause-tried : goal.judge_signatures-returns-clause-tried
 judge_signatures-returns-clause-tried g t c =
-    tried_all _ _ _ _ _ _ c.first_signatures-tried.ensures.first c.loop-sig-test.false c.loop-sig.invariant.3
+    tried_all _ _ _ _ _ _ c.first_signatures-tried.ensures.first c.loop-sig-test.false c.loop-sig.invariant.2

@@ -1,12 +1,12 @@
 use Rattle.std.proofs.Common.{◌+◌, ◌-◌, ◌*◌, map, take}
 use Rattle.dns_judgement.specs.DerivationParts.{asks_of_sets}
 use Rattle.dns_trust.specs.Verdicts.{verdict_value}
-use Rattle.dns_lookup.specs.Walking.{IsCounted, grounds_at, HasSent, Walk, IsJudgement}
+use Rattle.dns_lookup.specs.Walking.{grounds_at, HasWalked, Walk, IsJudgement}
 use Rattle.dns_lookup.proofs.TriedLemmas.{TriedDone}
 use Rattle.dns_lookup.proofs.walk.+walk.Given as goal
 
 abbrev pub decreases-ask : goal.decreases-ask
-decreases-ask g l = 7 * (256 - l.depth) + 6
+decreases-ask g l = 7 * (255 - l.asker) + 6
 
 abbrev pub decreases-judge_reply : goal.decreases-judge_reply
 decreases-judge_reply g l = 7 * (256 - l.depth) + 5
@@ -39,8 +39,7 @@ abbrev pub invariant-judge_sets-loop-next : goal.invariant-judge_sets-loop-next
 invariant-judge_sets-loop-next g l =
     (goal.iterator-judge_sets-loop-next g).can_next l.next-iterator ×
     (goal.iterator-judge_sets-loop-next g).is_finite l.next-iterator ×
-    IsCounted l.initial.progress l.progress ×
-    HasSent g.H.DnsHandle l.context l.initial.handle l.initial.progress l.handle l.progress ×
+    HasWalked g.H.DnsHandle l.context l.initial.handle l.initial.progress l.handle l.progress ×
     Walk g.H.DnsHandle g.V.Verifier.answers l.context l.initial.handle l.initial.progress l.handle
     l.progress (asks_of_sets l.entries.items) ×
     IsJudgement (grounds_at g.V.Verifier.answers l.context l.progress l.query l.depth)
@@ -48,8 +47,7 @@ invariant-judge_sets-loop-next g l =
 
 abbrev pub invariant-judge_signatures-loop-sig : goal.invariant-judge_signatures-loop-sig
 invariant-judge_signatures-loop-sig g l =
-    IsCounted l.initial.progress l.progress ×
-    HasSent g.H.DnsHandle l.context l.initial.handle l.initial.progress l.handle l.progress ×
+    HasWalked g.H.DnsHandle l.context l.initial.handle l.initial.progress l.handle l.progress ×
     Walk g.H.DnsHandle g.V.Verifier.answers l.context l.initial.handle l.initial.progress l.handle
     l.progress l.asked.items ×
     TriedDone (grounds_at g.V.Verifier.answers l.context l.progress l.query l.depth)
