@@ -43,6 +43,7 @@ use Rattle.dns_lookup.specs.Standing.{IsPlainSet, ArePlainSets, AllStand, Answer
 use Rattle.dns_lookup.specs.declared.receiving.ReceivedMessage.{ReceivedMessage}
 use Rattle.dns_lookup.specs.declared.context.LookupContext.{LookupContext}
 use Rattle.dns_lookup.specs.declared.context.Progress.{Progress}
+use Rattle.dns_lookup.specs.declared.context.OpenStep.{OpenStep}
 use Rattle.dns_lookup.specs.declared.judging.Judgement.{Judgement}
 use Rattle.dns_lookup.specs.declared.judging.Concluded.{Concluded}
 
@@ -120,13 +121,13 @@ Walk meanings answers context old before new after asks =
     before.steps.items after.steps.items asks before.sends after.sends
 
 -- by what the sets of a step are judged, at a state of the progress
-abbrev pub grounds_at : {V : Type 0} → (V → VerifierAnswers) → LookupContext V → Progress → Question → ℕ → Grounds
-grounds_at answers context progress q depth = record {
+abbrev pub grounds_at : {V : Type 0} → (V → VerifierAnswers) → LookupContext V → Progress → OpenStep → Grounds
+grounds_at answers context progress step = record {
   judge = judge_of answers context.judge;
   limit = context.limit;
   earlier = progress.steps.items;
-  query = q;
-  depth = depth;
+  query = step.query.now;
+  depth = step.depth;
 }
 
 -- the same grounds, with further steps
@@ -279,10 +280,10 @@ pub record IsJudgement (g : Grounds) (placed : List Placed) (sets : List Chained
 
 -- the asks for the sets of a reply, and how the sets were judged; then the asks for what they come to
 pub record IsReviewed {H V : Type 0} (meanings : handle.Ghosts H) (answers : V → VerifierAnswers) (context : LookupContext V) (old : H)
-    (before : Progress) (new : H) (after : Progress) (q : Question) (depth : ℕ) (told : Told) (judgement : Judgement) (c : Concluded) : Type 0 where
+    (before : Progress) (new : H) (after : Progress) (step : OpenStep) (told : Told) (judgement : Judgement) (c : Concluded) : Type 0 where
   pub between : H
   pub progress : Progress
   pub asks : Walk meanings answers context old before between progress (asks_of_sets judgement.entries.items)
-  pub judged : IsJudgement (grounds_at answers context progress q depth) (judged_part depth told) judgement.sets.items judgement.entries.items
+  pub judged : IsJudgement (grounds_at answers context progress step) (judged_part step.depth told) judgement.sets.items judgement.entries.items
   pub further : Walk meanings answers context between progress new after c.excuse.items
-  pub concluded : IsConcluded (grounds_at answers context after q depth) told (bare judgement.sets.items) (outcome_value c.outcome) c.excuse.items
+  pub concluded : IsConcluded (grounds_at answers context after step) told (bare judgement.sets.items) (outcome_value c.outcome) c.excuse.items

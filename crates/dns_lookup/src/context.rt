@@ -29,6 +29,13 @@ pub(crate) struct Progress {
     pub(crate) sends: usize,
 }
 
+/// A step that hasn't ended: its query, and how deep it is.
+#[derive(Drop)]
+pub(crate) struct OpenStep<'a> {
+    pub(crate) query: &'a Query,
+    pub(crate) depth: u16,
+}
+
 /// How deep the asks of a call go: at most as deep as its options say, and never deeper than 255.
 pub(crate) fn depth_limit_of(options: &DnsRequestOptions) -> u16
     ensures { result ≡ depth_limit options.now.max_request_depth }

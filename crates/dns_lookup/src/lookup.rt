@@ -14,7 +14,7 @@ ghost use Rattle.dns_lookup.specs.LookupAnswers.{UnlessNoMemory};
 ghost use Rattle.dns_lookup.specs.Sends.{SendsBy, SendsFor};
 ghost use Rattle.dns_lookup.specs.Walking.{asking};
 
-use crate::context::{LookupContext, Progress, request_for};
+use crate::context::{LookupContext, OpenStep, Progress, request_for};
 use crate::judging::{Concluded, Judgement};
 use crate::receiving::{ReceivedMessage, send_request};
 use crate::walk::judge_reply;
@@ -88,7 +88,11 @@ pub(crate) fn look_up_by_request<H: DnsHandle, V: Verifier>(
         steps: Vec::new(context.alloc),
         sends: 1,
     };
-    let review = match judge_reply(context, handle, &mut progress, &query, 0, &received) {
+    let step = OpenStep {
+        query: &query,
+        depth: 0,
+    };
+    let review = match judge_reply(context, handle, &mut progress, &step, &received) {
         Ok(review) => review,
         Err(error) => {
             drop(received);

@@ -4,12 +4,11 @@
 ghost use Rattle.std.specs.Prelude.{◌≡◌, ◌∷◌, [], IfOk};
 ghost use Rattle.dns_model.specs.SoundAnswers.{told_by};
 ghost use Rattle.dns_model.specs.Trails.{Records};
-ghost use Rattle.dns_model.specs.Records.{Question};
 ghost use Rattle.dns_judgement.specs.Derivation.{sight_of};
 ghost use Rattle.dns_trust.specs.Searching.{sight_value};
 ghost use Rattle.dns_lookup.specs.Walking.{grounds_at, CanWalk, HasWalked, IsSeen, IsWay, Walk};
 
-use crate::context::{LookupContext, Progress};
+use crate::context::{LookupContext, OpenStep, Progress};
 use crate::finished::seen;
 use crate::receiving::{ReceivedMessage, receive};
 use crate::steps::records_of;
@@ -34,27 +33,28 @@ struct Glimpse {
     sight: Sight,
 }
 
-/// Asks from a name on up to the root for NS records, until they are seen or nothing is. Each ask is as deep as its step.
+/// Asks from a name on up to the root for NS records, until they are seen or nothing is. Each ask is as deep as the step that
+/// needs it.
 pub(crate) fn find_zone<H: DnsHandle, V: Verifier>(
     context: &LookupContext<'_, V>,
     handle: &mut H,
     progress: &mut Progress,
+    step: &OpenStep<'_>,
     class: DNSClass,
     start: &Name,
-    depth: u16,
 ) -> Result<Way, NoMemory>
-    requires ready { CanWalk context.now progress.old depth }
+    requires ready { CanWalk context.now progress.old step.now.depth }
     ensures walked { HasWalked H.DnsHandle context.now handle.old progress.old handle.new progress.new }
     ensures asks { IfOk result (λ w. Walk H.DnsHandle V.answers context.now
         handle.old progress.old handle.new progress.new w.asked.items) }
-    ensures way { IfOk result (λ w. (query : Question) → IsWay
-        (grounds_at V.answers context.now progress.new query depth) class.0 start.now w.asked.items w.zone) }
+    ensures way { IfOk result (λ w. IsWay
+        (grounds_at V.answers context.now progress.new step.now) class.0 start.now w.asked.items w.zone) }
 {
     let mut asked = Vec::new(context.alloc);
     let mut name = start.try_clone()?;
     'names: while !name.is_root() {
         let query = ns_query(&name, class)?;
-        let Glimpse { ask, sight } = see(context, handle, progress, query, depth)?;
+        let Glimpse { ask, sight } = see(context, handle, progress, step.depth, query)?;
         asked.push(ask)?;
         match sight {
             Sight::Cut => {
@@ -75,8 +75,8 @@ fn see<H: DnsHandle, V: Verifier>(
     context: &LookupContext<'_, V>,
     handle: &mut H,
     progress: &mut Progress,
-    query: Query,
     depth: u16,
+    query: Query,
 ) -> Result<Glimpse, NoMemory>
     requires ready { CanWalk context.now progress.old depth }
     ensures walked { HasWalked H.DnsHandle context.now handle.old progress.old handle.new progress.new }

@@ -1,5 +1,4 @@
 ghost use Rattle.std.specs.Prelude.{◌==◌, ◌≡◌, ◌+◌, ◌∷◌, [], true, false, IfOk, map};
-ghost use Rattle.dns_model.specs.Records.{Question};
 ghost use Rattle.dns_model.specs.SoundAnswers.{told_by};
 ghost use Rattle.dns_model.specs.Types.{type_dnskey};
 ghost use Rattle.dns_judgement.specs.Chained.{bare};
@@ -10,7 +9,7 @@ ghost use Rattle.dns_anchors.specs.Judge.{judge_of};
 ghost use Rattle.dns_trust.specs.Verdicts.{verdict_value, listed};
 ghost use Rattle.dns_lookup.specs.Walking.{grounds_at, CanWalk, HasWalked, Walk, IsJudgement, IsJudgedSet, AreTried, IsTried, IsAnswer, IsSearched, IsConcluded, IsReviewed, asks_in};
 
-use crate::context::{LookupContext, Progress};
+use crate::context::{LookupContext, OpenStep, Progress};
 use crate::finished::{Finished, answered, faulted, refused, unanswered};
 use crate::judging::{
     Concluded, Judgement, OneSet, Searched, Tried, Verdicts, add_ask, class_of, is_key_set, set_of,
@@ -31,48 +30,46 @@ use dns_trust::{
     zone_mark,
 };
 
-/// Judges the sets of a reply at a depth, and finds what they come to.
+/// Judges the sets of the reply to a step, and finds what they come to.
 #[cycle(walk)]
 pub(crate) fn judge_reply<H: DnsHandle, V: Verifier>(
     context: &LookupContext<'_, V>,
     handle: &mut H,
     progress: &mut Progress,
-    query: &Query,
-    depth: u16,
+    step: &OpenStep<'_>,
     received: &ReceivedMessage,
 ) -> Result<(Judgement, Concluded), NoMemory>
-    requires ready { CanWalk context.now progress.old depth }
+    requires ready { CanWalk context.now progress.old step.now.depth }
     ensures walked { HasWalked H.DnsHandle context.now handle.old progress.old handle.new progress.new }
     ensures reviewed { IfOk result (λ r. IsReviewed H.DnsHandle V.answers context.now handle.old progress.old
-        handle.new progress.new query.now depth (told_by received.now.message) r.0 r.1) }
+        handle.new progress.new step.now (told_by received.now.message) r.0 r.1) }
 {
-    let placed = placed_sets(context.alloc, depth, &received.message)?;
-    let judged = judge_sets(context, handle, progress, query, depth, placed)?;
-    let concluded = conclude(context, handle, progress, query, depth, received, &judged)?;
+    let placed = placed_sets(context.alloc, step.depth, &received.message)?;
+    let judged = judge_sets(context, handle, progress, step, placed)?;
+    let concluded = conclude(context, handle, progress, step, received, &judged)?;
     Ok((judged, concluded))
 }
 
-// Judges the sets of a step at a depth, in order.
+// Judges the sets of a step, in order.
 #[cycle(walk)]
 fn judge_sets<H: DnsHandle, V: Verifier>(
     context: &LookupContext<'_, V>,
     handle: &mut H,
     progress: &mut Progress,
-    query: &Query,
-    depth: u16,
+    step: &OpenStep<'_>,
     placed: Vec<PlacedSet>,
 ) -> Result<Judgement, NoMemory>
-    requires ready { CanWalk context.now progress.old depth }
+    requires ready { CanWalk context.now progress.old step.now.depth }
     ensures walked { HasWalked H.DnsHandle context.now handle.old progress.old handle.new progress.new }
     ensures asks { IfOk result (λ v. Walk H.DnsHandle V.answers context.now
         handle.old progress.old handle.new progress.new (asks_of_sets v.entries.items)) }
     ensures judged { IfOk result (λ v. IsJudgement
-        (grounds_at V.answers context.now progress.new query.now depth) placed.items v.sets.items v.entries.items) }
+        (grounds_at V.answers context.now progress.new step.now) placed.items v.sets.items v.entries.items) }
 {
     let mut sets = Vec::new(context.alloc);
     let mut entries = Vec::new(context.alloc);
     for next in placed {
-        let OneSet { set, entry } = judge_set(context, handle, progress, query, depth, next)?;
+        let OneSet { set, entry } = judge_set(context, handle, progress, step, next)?;
         sets.push(set)?;
         entries.push(entry)?;
     }
@@ -85,29 +82,26 @@ fn judge_set<H: DnsHandle, V: Verifier>(
     context: &LookupContext<'_, V>,
     handle: &mut H,
     progress: &mut Progress,
-    query: &Query,
-    depth: u16,
+    step: &OpenStep<'_>,
     placed: PlacedSet,
 ) -> Result<OneSet, NoMemory>
-    requires ready { CanWalk context.now progress.old depth }
+    requires ready { CanWalk context.now progress.old step.now.depth }
     ensures walked { HasWalked H.DnsHandle context.now handle.old progress.old handle.new progress.new }
     ensures asks { IfOk result (λ o. Walk H.DnsHandle V.answers context.now
         handle.old progress.old handle.new progress.new o.entry.asked) }
     ensures judged { IfOk result (λ o. IsJudgedSet
-        (grounds_at V.answers context.now progress.new query.now depth) placed o.set o.entry) }
+        (grounds_at V.answers context.now progress.new step.now) placed o.set o.entry) }
 {
     if is_key_set(&placed) {
-        let one = judge_keys(context, handle, progress, depth, placed)?;
+        let one = judge_keys(context, handle, progress, step, placed)?;
         return Ok(one);
     }
     if is_searched(set_of(&placed)) {
-        let one = judge_unsigned(context, handle, progress, depth, placed)?;
+        let one = judge_unsigned(context, handle, progress, step, placed)?;
         return Ok(one);
     }
     let signed = set_of(&placed);
-    let Verdicts { verdicts, asked } = judge_signatures(
-        context, handle, progress, query, depth, signed,
-    )?;
+    let Verdicts { verdicts, asked } = judge_signatures(context, handle, progress, step, signed)?;
     let set = judged_by(placed, verdicts)?;
     let one = with_entry(set, asked)?;
     Ok(one)
@@ -119,16 +113,16 @@ fn judge_keys<H: DnsHandle, V: Verifier>(
     context: &LookupContext<'_, V>,
     handle: &mut H,
     progress: &mut Progress,
-    depth: u16,
+    step: &OpenStep<'_>,
     placed: PlacedSet,
 ) -> Result<OneSet, NoMemory>
-    requires ready { CanWalk context.now progress.old depth }
+    requires ready { CanWalk context.now progress.old step.now.depth }
     requires keys { (placed.set.rtype == type_dnskey) ≡ true }
     ensures walked { HasWalked H.DnsHandle context.now handle.old progress.old handle.new progress.new }
     ensures asks { IfOk result (λ o. Walk H.DnsHandle V.answers context.now
         handle.old progress.old handle.new progress.new o.entry.asked) }
-    ensures judged { IfOk result (λ o. (query : Question) → IsJudgedSet
-        (grounds_at V.answers context.now progress.new query depth) placed o.set o.entry) }
+    ensures judged { IfOk result (λ o. IsJudgedSet
+        (grounds_at V.answers context.now progress.new step.now) placed o.set o.entry) }
 {
     let placed = match judged_keys(context.alloc, &context.judge, placed)? {
         KeysStep::Done(set) => {
@@ -138,7 +132,7 @@ fn judge_keys<H: DnsHandle, V: Verifier>(
         KeysStep::NeedsDs(placed) => placed,
     };
     let ds_query = ds_ask_of(set_of(&placed))?;
-    let Finished { ask, answer } = ask(context, handle, progress, depth, ds_query)?;
+    let Finished { ask, answer } = ask(context, handle, progress, step.depth, ds_query)?;
     let set = judged_by_ds(context.alloc, &context.judge, placed, &answer)?;
     let asked = vec![in context.alloc; ask]?;
     let one = with_entry(set, asked)?;
@@ -151,21 +145,21 @@ fn judge_unsigned<H: DnsHandle, V: Verifier>(
     context: &LookupContext<'_, V>,
     handle: &mut H,
     progress: &mut Progress,
-    depth: u16,
+    step: &OpenStep<'_>,
     placed: PlacedSet,
 ) -> Result<OneSet, NoMemory>
-    requires ready { CanWalk context.now progress.old depth }
+    requires ready { CanWalk context.now progress.old step.now.depth }
     requires others { (placed.set.rtype == type_dnskey) ≡ false }
     requires unsigned { needs_search placed.set ≡ true }
     ensures walked { HasWalked H.DnsHandle context.now handle.old progress.old handle.new progress.new }
     ensures asks { IfOk result (λ o. Walk H.DnsHandle V.answers context.now
         handle.old progress.old handle.new progress.new o.entry.asked) }
-    ensures judged { IfOk result (λ o. (query : Question) → IsJudgedSet
-        (grounds_at V.answers context.now progress.new query depth) placed o.set o.entry) }
+    ensures judged { IfOk result (λ o. IsJudgedSet
+        (grounds_at V.answers context.now progress.new step.now) placed o.set o.entry) }
 {
     let class = class_of(&placed);
     let start = set_start(set_of(&placed))?;
-    let Searched { mark, asked } = search_zone(context, handle, progress, class, &start, depth)?;
+    let Searched { mark, asked } = search_zone(context, handle, progress, step, class, &start)?;
     let one = with_entry(unsigned_by(context.alloc, placed, mark), asked)?;
     Ok(one)
 }
@@ -176,18 +170,18 @@ fn search_zone<H: DnsHandle, V: Verifier>(
     context: &LookupContext<'_, V>,
     handle: &mut H,
     progress: &mut Progress,
+    step: &OpenStep<'_>,
     class: DNSClass,
     start: &Name,
-    depth: u16,
 ) -> Result<Searched, NoMemory>
-    requires ready { CanWalk context.now progress.old depth }
+    requires ready { CanWalk context.now progress.old step.now.depth }
     ensures walked { HasWalked H.DnsHandle context.now handle.old progress.old handle.new progress.new }
     ensures asks { IfOk result (λ s. Walk H.DnsHandle V.answers context.now
         handle.old progress.old handle.new progress.new s.asked.items) }
-    ensures searched { IfOk result (λ s. (query : Question) → IsSearched
-        (grounds_at V.answers context.now progress.new query depth) class.0 start.now s.asked.items s.mark) }
+    ensures searched { IfOk result (λ s. IsSearched
+        (grounds_at V.answers context.now progress.new step.now) class.0 start.now s.asked.items s.mark) }
 {
-    let Way { zone, asked } = find_zone(context, handle, progress, class, start, depth)?;
+    let Way { zone, asked } = find_zone(context, handle, progress, step, class, start)?;
     let Some(zone) = zone else {
         return Ok(Searched {
             mark: Proof::Bogus,
@@ -196,7 +190,7 @@ fn search_zone<H: DnsHandle, V: Verifier>(
     };
     let mut asked = asked;
     let question = ds_query(zone.try_clone()?, class);
-    let Finished { ask, answer } = ask(context, handle, progress, depth, question)?;
+    let Finished { ask, answer } = ask(context, handle, progress, step.depth, question)?;
     asked.push(ask)?;
     let mark = zone_mark(context.judge.verifier, class, &zone, &answer);
     Ok(Searched { mark, asked })
@@ -208,25 +202,25 @@ fn conclude<H: DnsHandle, V: Verifier>(
     context: &LookupContext<'_, V>,
     handle: &mut H,
     progress: &mut Progress,
-    query: &Query,
-    depth: u16,
+    step: &OpenStep<'_>,
     received: &ReceivedMessage,
     judged: &Judgement,
 ) -> Result<Concluded, NoMemory>
-    requires ready { CanWalk context.now progress.old depth }
+    requires ready { CanWalk context.now progress.old step.now.depth }
     ensures walked { HasWalked H.DnsHandle context.now handle.old progress.old handle.new progress.new }
     ensures asks { IfOk result (λ c. Walk H.DnsHandle V.answers context.now
         handle.old progress.old handle.new progress.new c.excuse.items) }
-    ensures concluded { IfOk result (λ c. IsConcluded (grounds_at V.answers context.now progress.new query.now depth)
+    ensures concluded { IfOk result (λ c. IsConcluded (grounds_at V.answers context.now progress.new step.now)
         (told_by received.now.message) (bare judged.now.sets.items) (outcome_value c.outcome) c.excuse.items) }
 {
+    let query = step.query;
     let outcome = outcome_of(context.alloc, query, &received.message, &judged.sets)?;
     match outcome {
         Outcome::Searched => {
             let start = question_start(query)?;
             let class = query.query_class;
             let Searched { mark, asked } = search_zone(
-                context, handle, progress, class, &start, depth,
+                context, handle, progress, step, class, &start,
             )?;
             Ok(Concluded {
                 outcome: outcome_by_zone(query, &received.message, mark),
@@ -246,25 +240,22 @@ fn judge_signatures<H: DnsHandle, V: Verifier>(
     context: &LookupContext<'_, V>,
     handle: &mut H,
     progress: &mut Progress,
-    query: &Query,
-    depth: u16,
+    step: &OpenStep<'_>,
     set: &RecordSet,
 ) -> Result<Verdicts, NoMemory>
-    requires ready { CanWalk context.now progress.old depth }
+    requires ready { CanWalk context.now progress.old step.now.depth }
     ensures walked { HasWalked H.DnsHandle context.now handle.old progress.old handle.new progress.new }
     ensures asks { IfOk result (λ v. Walk H.DnsHandle V.answers context.now
         handle.old progress.old handle.new progress.new v.asked.items) }
     ensures tried { IfOk result (λ v. AreTried
-        (grounds_at V.answers context.now progress.new query.now depth) set.now
+        (grounds_at V.answers context.now progress.new step.now) set.now
         v.asked.items (map verdict_value v.verdicts.items)) }
 {
     let mut verdicts = Vec::new(context.alloc);
     let mut asked = Vec::new(context.alloc);
     let tried = first_signatures(set);
     for sig in tried {
-        let Tried { verdict, ask } = judge_signature(
-            context, handle, progress, query, depth, set, sig,
-        )?;
+        let Tried { verdict, ask } = judge_signature(context, handle, progress, step, set, sig)?;
         add_ask(&mut asked, ask)?;
         let proved = verdict.is_proved();
         verdicts.push(verdict)?;
@@ -281,27 +272,26 @@ fn judge_signature<H: DnsHandle, V: Verifier>(
     context: &LookupContext<'_, V>,
     handle: &mut H,
     progress: &mut Progress,
-    query: &Query,
-    depth: u16,
+    step: &OpenStep<'_>,
     set: &RecordSet,
     sig: &Record,
 ) -> Result<Tried, NoMemory>
-    requires ready { CanWalk context.now progress.old depth }
+    requires ready { CanWalk context.now progress.old step.now.depth }
     ensures walked { HasWalked H.DnsHandle context.now handle.old progress.old handle.new progress.new }
     ensures asks { IfOk result (λ t. Walk H.DnsHandle V.answers context.now
         handle.old progress.old handle.new progress.new (asks_in t.ask)) }
     ensures tried { IfOk result (λ t. IsTried
-        (grounds_at V.answers context.now progress.new query.now depth) set.now sig.now t.ask (verdict_value t.verdict)) }
+        (grounds_at V.answers context.now progress.new step.now) set.now sig.now t.ask (verdict_value t.verdict)) }
 {
     let Some(read) = Rrsig::of(sig) else {
         return Ok(untried());
     };
-    let skipped = is_skipped(query, set, &read);
+    let skipped = is_skipped(step.query, set, &read);
     if skipped {
         return Ok(untried());
     }
     let question = ask_of(context.alloc, set, &read)?;
-    let Finished { ask, answer } = ask(context, handle, progress, depth, question)?;
+    let Finished { ask, answer } = ask(context, handle, progress, step.depth, question)?;
     let signature = SetSignature {
         set,
         sig,
@@ -350,7 +340,11 @@ fn ask<H: DnsHandle, V: Verifier>(
         }
         None => {}
     }
-    let review = judge_reply(context, handle, progress, &query, depth, &received)?;
+    let step = OpenStep {
+        query: &query,
+        depth,
+    };
+    let review = judge_reply(context, handle, progress, &step, &received)?;
     let (judged, concluded) = review;
     let finished = answered(progress, query, depth, received, judged, concluded)?;
     Ok(finished)

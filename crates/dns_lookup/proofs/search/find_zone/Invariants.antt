@@ -1,5 +1,4 @@
 use Rattle.std.proofs.Common.{length}
-use Rattle.dns_model.specs.Records.{Question}
 use Rattle.dns_judgement.proofs.SearchLemmas.{SearchDone}
 use Rattle.dns_lookup.specs.Walking.{grounds_at, HasWalked, Walk}
 use Rattle.dns_lookup.proofs.search.find_zone.Given as goal
@@ -12,5 +11,5 @@ invariant-names g l =
     HasWalked g.H.DnsHandle l.context l.initial.handle l.initial.progress l.handle l.progress ×
     Walk g.H.DnsHandle g.V.Verifier.answers l.context l.initial.handle l.initial.progress l.handle
     l.progress l.asked.items ×
-    ((query : Question) → SearchDone (grounds_at g.V.Verifier.answers l.context l.progress query l.depth)
-    l.class.0 l.start l.start l.asked.items l.name)
+    SearchDone (grounds_at g.V.Verifier.answers l.context l.progress l.step)
+    l.class.0 l.start l.start l.asked.items l.name

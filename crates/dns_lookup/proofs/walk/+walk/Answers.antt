@@ -101,7 +101,7 @@ judge_reply-returns-clause-walked g t c = walked_then _ _ _ _ _ _ _ _ c.judge_se
 pub judge_reply-returns-clause-reviewed : goal.judge_reply-returns-clause-reviewed
 judge_reply-returns-clause-reviewed g t c =
     let Judged : List Placed → Type 0 = λ placed.
-    IsJudgement (grounds_at g.V.Verifier.answers c.args.context.now c.judge_sets.new.progress c.args.query.now c.args.depth) placed
+    IsJudgement (grounds_at g.V.Verifier.answers c.args.context.now c.judge_sets.new.progress c.args.step.now) placed
     c.in_ok-judged.judged.sets.items c.in_ok-judged.judged.entries.items in
     record {
       between = c.judge_sets.new.handle;
@@ -112,12 +112,6 @@ judge_reply-returns-clause-reviewed g t c =
       concluded = c.in_ok-concluded.ensures.concluded;
     }
 
-pub judge_set-returns-then-is_key_set-clause-judged : goal.judge_set-returns-then-is_key_set-clause-judged
-judge_set-returns-then-is_key_set-clause-judged g t c = c.in_ok-one.ensures.judged c.args.query.now
-
-pub judge_set-returns-then-is_searched-clause-judged : goal.judge_set-returns-then-is_searched-clause-judged
-judge_set-returns-then-is_searched-clause-judged g t c = c.in_ok-one-2.ensures.judged c.args.query.now
-
 pub judge_set-returns-clause-judged : goal.judge_set-returns-clause-judged
 judge_set-returns-clause-judged g t c =
     others_step _ _ _ _ _ _ _ _ _ _ c.set_of-signed.ensures (sym c.is_key_set.ensures ∙ c.if-is_key_set.false)
@@ -126,14 +120,14 @@ judge_set-returns-clause-judged g t c =
     c.in_ok-set.ensures c.in_ok-one-3.ensures.set c.in_ok-one-3.ensures.entry
 
 pub judge_unsigned-returns-clause-judged : goal.judge_unsigned-returns-clause-judged
-judge_unsigned-returns-clause-judged g t c = λ query.
+judge_unsigned-returns-clause-judged g t c =
     unsigned_step _ _ _ _ _ _ _ _ _ _ c.requires.others c.requires.unsigned c.class_of-class.ensures
-    (c.in_ok-start.ensures ∙ ap set_start c.set_of.ensures) (c.in_ok-mark.ensures.searched query) refl c.unsigned_by.ensures.judged
+    (c.in_ok-start.ensures ∙ ap set_start c.set_of.ensures) c.in_ok-mark.ensures.searched refl c.unsigned_by.ensures.judged
     c.unsigned_by.ensures.chain c.in_ok-one.ensures.set c.in_ok-one.ensures.entry
 
 pub search_zone-returns-in_default-clause-searched : goal.search_zone-returns-in_default-clause-searched
-search_zone-returns-in_default-clause-searched g t c = λ query.
-    none_searched _ _ _ _ _ (c.in_ok-zone.ensures.way query) c.in_default.is
+search_zone-returns-in_default-clause-searched g t c =
+    none_searched _ _ _ _ _ c.in_ok-zone.ensures.way c.in_default.is
 
 pub search_zone-returns-in_err-ask-clause-walked : goal.search_zone-returns-in_err-ask-clause-walked
 search_zone-returns-in_err-ask-clause-walked g t c =
@@ -151,15 +145,15 @@ search_zone-returns-clause-asks g t c =
     asks_then _ _ _ _ _ _ _ _ _ _ _ _ _ _ _ c.in_ok-zone.ensures.asks c.in_ok-ask.ensures.asks c.in_ok-push.ensures.items
 
 pub search_zone-returns-clause-searched : goal.search_zone-returns-clause-searched
-search_zone-returns-clause-searched g t c = λ query.
-    zone_searched _ _ _ _ _ _ _ _ _ _ _ _ _ c.in_ok-ask.ensures.asks.part.grown (c.in_ok-zone.ensures.way query) c.in-Some.is
+search_zone-returns-clause-searched g t c =
+    zone_searched _ _ _ _ _ _ _ _ _ _ _ _ _ c.in_ok-ask.ensures.asks.part.grown c.in_ok-zone.ensures.way c.in-Some.is
     (c.ds_query-question.ensures ∙ ap (ds_question c.args.class.0) c.in_ok-try_clone.ensures) c.in_ok-ask.ensures.answer
     c.in_ok-push.ensures.items c.zone_mark-mark.ensures
 
 pub conclude-returns-in_ok-mark-in-Searched-clause-concluded : goal.conclude-returns-in_ok-mark-in-Searched-clause-concluded
 conclude-returns-in_ok-mark-in-Searched-clause-concluded g t c =
     searched_by _ _ _ _ _ _ _ _ _ _ _ c.in_ok-outcome.ensures c.deref.ensures.value c.in-Searched.is (ap (λ (q : Question). q.class) c.query.view_is)
-    c.in_ok-start-in-Searched.ensures (c.in_ok-mark-in-Searched.ensures.searched c.args.query.now) refl c.outcome_by_zone.ensures
+    c.in_ok-start-in-Searched.ensures c.in_ok-mark-in-Searched.ensures.searched refl c.outcome_by_zone.ensures
 
 pub conclude-returns-in_default : goal.conclude-returns-in_default
 conclude-returns-in_default g t c = record {
@@ -173,12 +167,12 @@ judge_keys-returns-in-Done-clause-asks g t c =
     asks_none _ _ _ _ _ _ _ (ap (λ e. e.asked) c.in_ok-one-in-Done.ensures.entry ∙ c.new.ensures.items)
 
 pub judge_keys-returns-in-Done-clause-judged : goal.judge_keys-returns-in-Done-clause-judged
-judge_keys-returns-in-Done-clause-judged g t c = λ query.
+judge_keys-returns-in-Done-clause-judged g t c =
     keys_step _ _ c.in_ok-set.field-0 _ _ _ _ c.requires.keys c.in_ok-set.ensures c.in-Done.is c.new.ensures.items c.in_ok-one-in-Done.ensures.set
     c.in_ok-one-in-Done.ensures.entry
 
 pub judge_keys-returns-clause-judged : goal.judge_keys-returns-clause-judged
-judge_keys-returns-clause-judged g t c = λ query.
+judge_keys-returns-clause-judged g t c =
     ds_step _ _ c.in_ok-set.field-0 _ _ _ _ _ _ _ _ _ c.requires.keys c.in_ok-set.ensures c.in-NeedsDs.is c.set_of.ensures c.in_ok-ds_query.ensures
     c.in_ok-ask.ensures.answer c.in_ok-set-2.ensures c.in_ok-asked.ensures.items c.in_ok-one.ensures.set c.in_ok-one.ensures.entry
 
@@ -206,7 +200,7 @@ judge_sets-loop-next-preserved g t c = (
   walked_then _ _ _ _ _ _ _ _ c.loop-next.invariant.2 c.judge_set.ensures.walked,
   asks_then _ _ _ _ _ _ _ _ _ _ _ _ _ _ _ c.loop-next.invariant.3 c.in_ok-set.ensures.asks
       (asks_of_more _ _ _ _ refl c.in_ok-push-2.ensures.items),
-  judgement_step (grounds_at g.V.Verifier.answers c.args.context.now c.loop-next.progress c.args.query.now c.args.depth)
+  judgement_step (grounds_at g.V.Verifier.answers c.args.context.now c.loop-next.progress c.args.step.now)
       c.judge_set.new.progress.steps.items _ _ _ _ _ _ _ _ _ _ _
       c.in_ok-set.ensures.asks.part.grown c.loop-next.invariant.4 c.in_ok-set.ensures.judged refl refl
       c.in_ok-push.ensures.items c.in_ok-push-2.ensures.items,
@@ -252,7 +246,7 @@ judge_signatures-returns-then-proved-clause-asks g t c =
 
 pub judge_signatures-returns-then-proved-clause-tried : goal.judge_signatures-returns-then-proved-clause-tried
 judge_signatures-returns-then-proved-clause-tried g t c =
-    proved_step (grounds_at g.V.Verifier.answers c.args.context.now c.loop-sig.progress c.args.query.now c.args.depth)
+    proved_step (grounds_at g.V.Verifier.answers c.args.context.now c.loop-sig.progress c.args.step.now)
     c.judge_signature.new.progress.steps.items _ _ _ _ _ _ _ _ _ _ _ _ _
     c.first_signatures-tried.ensures.first c.in_ok-verdict.ensures.asks.part.grown c.loop-sig-test.true c.sig-item.is c.loop-sig.invariant.2 c.in_ok-verdict.ensures.tried
     refl refl (sym c.is_proved-proved.ensures ∙ c.if-proved.true)
@@ -263,7 +257,7 @@ judge_signatures-loop-sig-preserved g t c = (
   walked_then _ _ _ _ _ _ _ _ c.loop-sig.invariant.0 c.judge_signature.ensures.walked,
   asks_then _ _ _ _ _ _ _ _ _ _ _ _ _ _ _ c.loop-sig.invariant.1 c.in_ok-verdict.ensures.asks
       c.in_ok-add_ask.ensures,
-  tried_step (grounds_at g.V.Verifier.answers c.args.context.now c.loop-sig.progress c.args.query.now c.args.depth)
+  tried_step (grounds_at g.V.Verifier.answers c.args.context.now c.loop-sig.progress c.args.step.now)
       c.judge_signature.new.progress.steps.items _ _ _ _ _ _ _ _ _ _ _ _ _
       c.in_ok-verdict.ensures.asks.part.grown c.loop-sig-test.true c.sig-item.is c.loop-sig.invariant.2 c.in_ok-verdict.ensures.tried
       refl refl (sym c.is_proved-proved.ensures ∙ c.if-proved.false)
