@@ -14,7 +14,7 @@ use Rattle.dns_handle.specs.declared.handle.DnsHandle as handle
 use Rattle.dns_handle.proofs.WalkLemmas.{no_walk, then_walk}
 use Rattle.dns_lookup.specs.AskRequests.{Ask}
 use Rattle.dns_lookup.specs.Sends.{SendOf, SendsAlong}
-use Rattle.dns_lookup.specs.Walking.{asking, HasWalked, Asks}
+use Rattle.dns_lookup.specs.Walking.{asking, HasWalked, HasEnded, Asks}
 use Rattle.dns_lookup.specs.declared.context.LookupContext.{LookupContext}
 use Rattle.dns_lookup.specs.declared.context.Progress.{Progress}
 
@@ -43,14 +43,14 @@ walked_then meanings context a b c p q r first rest = record {
 -- an ask and those that its step needs, and then the end of the step
 pub walked_ended : {H V : Type 0} (meanings : handle.Ghosts H) (context : LookupContext V) (a b c : H) (p q r s : Progress)
     → HasWalked meanings context a p b q → q.sends ≡ p.sends + 1 → q.steps ≡ p.steps → HasWalked meanings context b q c r
-    → s.sends ≡ r.sends → length s.steps.items ≤ length r.steps.items + 1 → HasWalked meanings context a p c s
-walked_ended meanings context a b c p q r s first next still rest sent one =
+    → HasEnded r s → HasWalked meanings context a p c s
+walked_ended meanings context a b c p q r s first next still rest ended =
     let Way : ℕ → Type 0 = λ n. Walked (asking meanings context) a c p.sends n in
     let same : length q.steps.items ≡ length p.steps.items = ap (λ v. length v.items) still in
     record {
-      walk = subst Way (sym sent) (then_walk (asking meanings context) a b c p.sends q.sends r.sends first.walk rest.walk);
-      few = omega (arith, sent, rest.few);
-      counted = omega (arith, rest.counted, one, sent, next, same);
+      walk = subst Way (sym ended.sends) (then_walk (asking meanings context) a b c p.sends q.sends r.sends first.walk rest.walk);
+      few = omega (arith, ended.sends, rest.few);
+      counted = omega (arith, rest.counted, ended.one, ended.sends, next, same);
       later = omega (arith, first.later, rest.later);
     }
 

@@ -44,8 +44,7 @@ use Rattle.dns_lookup.specs.declared.receiving.ReceivedMessage.{ReceivedMessage}
 use Rattle.dns_lookup.specs.declared.context.LookupContext.{LookupContext}
 use Rattle.dns_lookup.specs.declared.context.Progress.{Progress}
 use Rattle.dns_lookup.specs.declared.context.OpenStep.{OpenStep}
-use Rattle.dns_lookup.specs.declared.judging.Judgement.{Judgement}
-use Rattle.dns_lookup.specs.declared.judging.Concluded.{Concluded}
+use Rattle.dns_lookup.specs.declared.judging.Review.{Review}
 
 -- ---- one ask
 
@@ -185,6 +184,11 @@ accepted_sets (Denied proof) sets = None
 
 -- ---- what the functions of the walk come to
 
+-- whatever the result: where a step was to be ended, nothing was sent, and at most this step was added
+pub record HasEnded (before after : Progress) : Type 0 where
+  pub sends : after.sends ≡ before.sends
+  pub one : length after.steps.items ≤ length before.steps.items + 1
+
 -- a step was added to the trail, and is named
 pub record IsAdded (before after : List AskedValue) (step : AskedValue) (ask : AskRef) : Type 0 where
   pub steps : after ≡ before ++ step ∷ []
@@ -280,10 +284,12 @@ pub record IsJudgement (g : Grounds) (placed : List Placed) (sets : List Chained
 
 -- the asks for the sets of a reply, and how the sets were judged; then the asks for what they come to
 pub record IsReviewed {H V : Type 0} (meanings : handle.Ghosts H) (answers : V → VerifierAnswers) (context : LookupContext V) (old : H)
-    (before : Progress) (new : H) (after : Progress) (step : OpenStep) (told : Told) (judgement : Judgement) (c : Concluded) : Type 0 where
+    (before : Progress) (new : H) (after : Progress) (step : OpenStep) (told : Told) (review : Review) : Type 0 where
   pub between : H
   pub progress : Progress
-  pub asks : Walk meanings answers context old before between progress (asks_of_sets judgement.entries.items)
-  pub judged : IsJudgement (grounds_at answers context progress step) (judged_part step.depth told) judgement.sets.items judgement.entries.items
-  pub further : Walk meanings answers context between progress new after c.excuse.items
-  pub concluded : IsConcluded (grounds_at answers context after step) told (bare judgement.sets.items) (outcome_value c.outcome) c.excuse.items
+  pub asks : Walk meanings answers context old before between progress (asks_of_sets review.judged.entries.items)
+  pub judged : IsJudgement (grounds_at answers context progress step) (judged_part step.depth told)
+      review.judged.sets.items review.judged.entries.items
+  pub further : Walk meanings answers context between progress new after review.concluded.excuse.items
+  pub concluded : IsConcluded (grounds_at answers context after step) told (bare review.judged.sets.items)
+      (outcome_value review.concluded.outcome) review.concluded.excuse.items

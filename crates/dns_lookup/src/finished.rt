@@ -1,4 +1,4 @@
-ghost use Rattle.std.specs.Prelude.{◌≡◌, ◌≤◌, ◌<◌, ◌+◌, [], None, IfOk, length};
+ghost use Rattle.std.specs.Prelude.{◌≡◌, ◌<◌, [], None, IfOk, length};
 ghost use Rattle.dns_model.specs.SoundAnswers.{told_by};
 ghost use Rattle.dns_model.specs.Trails.{Records, Fault, Failed};
 ghost use Rattle.dns_judgement.specs.Asking.{most_sends};
@@ -6,12 +6,12 @@ ghost use Rattle.dns_judgement.specs.Derivation.{ending_by};
 ghost use Rattle.dns_evidence.specs.Trail.{heard_value, ending_value};
 ghost use Rattle.dns_outcome.specs.Outcome.{outcome_value};
 ghost use Rattle.dns_trust.specs.Verdicts.{listed};
-ghost use Rattle.dns_lookup.specs.Walking.{IsAdded, accepted_sets, judged_step, plain_step};
+ghost use Rattle.dns_lookup.specs.Walking.{HasEnded, IsAdded, accepted_sets, judged_step, plain_step};
 
 use crate::context::Progress;
-use crate::judging::{Concluded, Judgement};
+use crate::judging::{Concluded, Judgement, Review};
 use crate::receiving::ReceivedMessage;
-use crate::steps::{add_step, ended, ending_of, only_seen, records_of};
+use crate::steps::{StepEnd, add_step, ended, ending_of, only_seen, records_of};
 use dns_handle::{AskRef, Ending, Reply};
 use dns_name::NoMemory;
 use dns_record::Query;
@@ -41,13 +41,16 @@ pub(crate) fn faulted(
     depth: u16,
 ) -> Result<Finished, NoMemory>
     requires few { length progress.old.steps.items < most_sends }
-    ensures sends { progress.new.sends ≡ progress.old.sends }
-    ensures one { length progress.new.steps.items ≤ length progress.old.steps.items + 1 }
+    ensures ended { HasEnded progress.old progress.new }
     ensures added { IfOk result (λ f. IsAdded progress.old.steps.items progress.new.steps.items
         (judged_step depth query Fault [] Failed []) f.ask) }
     ensures answer { IfOk result (λ f. listed f.answer ≡ None) }
 {
-    unanswered(alloc, progress, query, depth, Reply::Fault, Ending::Failed)
+    let end = StepEnd {
+        reply: Reply::Fault,
+        ending: Ending::Failed,
+    };
+    unanswered(alloc, progress, query, depth, end)
 }
 
 /// Ends a step none of whose sets is judged.
@@ -56,24 +59,15 @@ pub(crate) fn unanswered(
     progress: &mut Progress,
     query: Query,
     depth: u16,
-    reply: Reply,
-    ending: Ending,
+    end: StepEnd,
 ) -> Result<Finished, NoMemory>
     requires few { length progress.old.steps.items < most_sends }
-    ensures sends { progress.new.sends ≡ progress.old.sends }
-    ensures one { length progress.new.steps.items ≤ length progress.old.steps.items + 1 }
+    ensures ended { HasEnded progress.old progress.new }
     ensures added { IfOk result (λ f. IsAdded progress.old.steps.items progress.new.steps.items
-        (judged_step depth query (heard_value reply) [] (ending_value ending) []) f.ask) }
+        (judged_step depth query (heard_value end.reply) [] (ending_value end.ending) []) f.ask) }
     ensures answer { IfOk result (λ f. listed f.answer ≡ None) }
 {
-    let step = ended(
-        query,
-        depth,
-        reply,
-        Vec::new(alloc),
-        ending,
-        Vec::new(alloc),
-    );
+    let step = ended(query, depth, end, Vec::new(alloc), Vec::new(alloc));
     let ask = add_step(&mut progress.steps, step)?;
     Ok(Finished { ask, answer: None })
 }
@@ -84,16 +78,14 @@ pub(crate) fn seen(
     progress: &mut Progress,
     query: Query,
     depth: u16,
-    reply: Reply,
-    ending: Ending,
+    end: StepEnd,
 ) -> Result<AskRef, NoMemory>
     requires few { length progress.old.steps.items < most_sends }
-    ensures sends { progress.new.sends ≡ progress.old.sends }
-    ensures one { length progress.new.steps.items ≤ length progress.old.steps.items + 1 }
+    ensures ended { HasEnded progress.old progress.new }
     ensures added { IfOk result (λ ask. IsAdded progress.old.steps.items progress.new.steps.items
-        (plain_step depth query (heard_value reply) (ending_value ending)) ask) }
+        (plain_step depth query (heard_value end.reply) (ending_value end.ending)) ask) }
 {
-    let step = only_seen(alloc, query, depth, reply, ending);
+    let step = only_seen(alloc, query, depth, end);
     let ask = add_step(&mut progress.steps, step)?;
     Ok(ask)
 }
@@ -104,27 +96,24 @@ pub(crate) fn answered(
     query: Query,
     depth: u16,
     received: ReceivedMessage,
-    judged: Judgement,
-    concluded: Concluded,
+    review: Review,
 ) -> Result<Finished, NoMemory>
     requires few { length progress.old.steps.items < most_sends }
-    ensures sends { progress.new.sends ≡ progress.old.sends }
-    ensures one { length progress.new.steps.items ≤ length progress.old.steps.items + 1 }
+    ensures ended { HasEnded progress.old progress.new }
     ensures added { IfOk result (λ f. IsAdded progress.old.steps.items progress.new.steps.items
-        (judged_step depth query (Records (told_by received.message) received.empty) judged.entries.items
-        (ending_by (outcome_value concluded.outcome)) concluded.excuse.items) f.ask) }
-    ensures answer { IfOk result (λ f. listed f.answer ≡ accepted_sets (outcome_value concluded.outcome) judged.sets.items) }
+        (judged_step depth query (Records (told_by received.message) received.empty) review.judged.entries.items
+        (ending_by (outcome_value review.concluded.outcome)) review.concluded.excuse.items) f.ask) }
+    ensures answer { IfOk result (λ f. listed f.answer
+        ≡ accepted_sets (outcome_value review.concluded.outcome) review.judged.sets.items) }
 {
+    let Review { judged, concluded } = review;
     let Judgement { sets, entries } = judged;
     let Concluded { outcome, excuse } = concluded;
-    let step = ended(
-        query,
-        depth,
-        records_of(received),
-        entries,
-        ending_of(outcome),
-        excuse,
-    );
+    let end = StepEnd {
+        reply: records_of(received),
+        ending: ending_of(outcome),
+    };
+    let step = ended(query, depth, end, entries, excuse);
     let ask = add_step(&mut progress.steps, step)?;
     Ok(Finished {
         ask,

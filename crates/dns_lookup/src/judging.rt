@@ -25,6 +25,13 @@ pub(crate) struct Concluded {
     pub(crate) excuse: Vec<AskRef>,
 }
 
+/// The judged sets of a step, and what they come to.
+#[derive(Drop)]
+pub(crate) struct Review {
+    pub(crate) judged: Judgement,
+    pub(crate) concluded: Concluded,
+}
+
 /// One judged set, and its entry.
 #[derive(Drop)]
 pub(crate) struct OneSet {

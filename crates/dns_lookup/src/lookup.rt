@@ -7,7 +7,7 @@ ghost use Rattle.dns_handle.specs.Handles.{OrUnsent};
 ghost use Rattle.dns_handle.specs.Replies.{reply_of, error_of};
 ghost use Rattle.dns_handle.specs.Requests.{first_question};
 ghost use Rattle.dns_evidence.specs.Trail.{ending_value};
-ghost use Rattle.dns_lookup.specs.Answering.{call_by, findings_of, judged_answer, top_of, trail_of as steps_with_top, AnswersLookup};
+ghost use Rattle.dns_lookup.specs.Answering.{call_by, findings_of, judged_answer, trail_of as steps_with_top, AnswersLookup};
 ghost use Rattle.dns_lookup.specs.Calls.{Requesting};
 ghost use Rattle.dns_lookup.specs.AskRequests.{asking_request};
 ghost use Rattle.dns_lookup.specs.LookupAnswers.{UnlessNoMemory};
@@ -15,12 +15,13 @@ ghost use Rattle.dns_lookup.specs.Sends.{SendsBy, SendsFor};
 ghost use Rattle.dns_lookup.specs.Walking.{asking};
 
 use crate::context::{LookupContext, OpenStep, Progress, request_for};
-use crate::judging::{Concluded, Judgement};
+use crate::judging::{Concluded, Judgement, Review};
 use crate::receiving::{ReceivedMessage, send_request};
+use crate::steps::{StepEnd, ended};
 use crate::walk::judge_reply;
 use dns_handle::{
-    AskRef, Asked, DnsError, DnsHandle, DnsRequest, DnsResponse, Ending, JudgedSet, NetError,
-    Notice, Reply, Told, Trail, Verifier,
+    AskRef, Asked, DnsError, DnsHandle, DnsRequest, DnsResponse, Ending, NetError, Notice, Reply,
+    Told, Trail, Verifier,
 };
 use dns_message::Message;
 use dns_name::NoMemory;
@@ -99,7 +100,8 @@ pub(crate) fn look_up_by_request<H: DnsHandle, V: Verifier>(
             return Err(NetError::from(error));
         }
     };
-    let (judged, Concluded { outcome, excuse }) = review;
+    let Review { judged, concluded } = review;
+    let Concluded { outcome, excuse } = concluded;
     let reply = JudgedReply {
         query,
         received,
@@ -205,7 +207,13 @@ fn response_of(
         excuse,
     } = reply;
     let Judgement { sets, entries } = judged;
-    let trail = trail_of(query, &received, steps, entries, ending, excuse)?;
+    let told = told_of(&received.message, received.empty)?;
+    let end = StepEnd {
+        reply: Reply::Told(told),
+        ending,
+    };
+    let top = ended(query, 0, end, entries, excuse);
+    let trail = trail_of(steps, top)?;
     finished(alloc, now, sets, received.message, denial, trail)
 }
 
@@ -227,28 +235,11 @@ fn denied(
 }
 
 // The steps of the asks, and then the step that asked for the query.
-fn trail_of(
-    query: Query,
-    received: &ReceivedMessage,
-    steps: Vec<Asked>,
-    entries: Vec<JudgedSet>,
-    ending: Ending,
-    excuse: Vec<AskRef>,
-) -> Result<Trail, NoMemory>
-    ensures { IfOk result (λ t. t ≡ steps.items
-        ++ top_of query (told_by received.now.message) received.now.empty entries.items (ending_value ending) excuse.items ∷ []) }
+fn trail_of(steps: Vec<Asked>, top: Asked) -> Result<Trail, NoMemory>
+    ensures { IfOk result (λ t. t ≡ steps.items ++ top ∷ []) }
 {
     let mut steps = steps;
-    let told = told_of(&received.message, received.empty)?;
-    steps.push(Asked {
-        depth: 0,
-        judged: true,
-        query,
-        reply: Reply::Told(told),
-        sets: entries,
-        ending,
-        excuse,
-    })?;
+    steps.push(top)?;
     Ok(Trail { steps })
 }
 

@@ -11,7 +11,7 @@ ghost use Rattle.dns_lookup.specs.Walking.{grounds_at, CanWalk, HasWalked, IsSee
 use crate::context::{LookupContext, OpenStep, Progress};
 use crate::finished::seen;
 use crate::receiving::{ReceivedMessage, receive};
-use crate::steps::records_of;
+use crate::steps::{StepEnd, records_of};
 use dns_handle::{AskRef, DnsHandle, Ending, Reply, Verifier};
 use dns_name::{Name, NoMemory};
 use dns_record::{DNSClass, Query};
@@ -89,18 +89,20 @@ fn see<H: DnsHandle, V: Verifier>(
     }
     let Some(received) = receive(context, handle, progress, &query, false)? else {
         let fault = Reply::Fault;
-        let failed = seen(context.alloc, progress, query, depth, fault, Ending::Failed)?;
+        let end = StepEnd {
+            reply: fault,
+            ending: Ending::Failed,
+        };
+        let failed = seen(context.alloc, progress, query, depth, end)?;
         return Ok(unseen(failed));
     };
     let sight = sight_in(&query.name, &received);
-    let ask = seen(
-        context.alloc,
-        progress,
-        query,
-        depth,
-        records_of(received),
-        Ending::Seen,
-    )?;
+    let reply = records_of(received);
+    let end = StepEnd {
+        reply,
+        ending: Ending::Seen,
+    };
+    let ask = seen(context.alloc, progress, query, depth, end)?;
     Ok(Glimpse { ask, sight })
 }
 

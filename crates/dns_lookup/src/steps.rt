@@ -17,6 +17,13 @@ use dns_record::{Query, Record};
 use dns_sets::{MarkedSet, Outcome, foreign_record};
 use std::alloc::Global;
 
+/// How a step ends: what it heard, and its ending.
+#[derive(Drop)]
+pub(crate) struct StepEnd {
+    pub(crate) reply: Reply,
+    pub(crate) ending: Ending,
+}
+
 /// Adds a step that has ended, and names it.
 pub(crate) fn add_step(steps: &mut Vec<Asked>, step: Asked) -> Result<AskRef, NoMemory>
     requires few { length steps.old.items < most_sends }
@@ -28,17 +35,17 @@ pub(crate) fn add_step(steps: &mut Vec<Asked>, step: Asked) -> Result<AskRef, No
     Ok(AskRef::Step(number))
 }
 
-/// A step of a query whose reply is heard and whose sets are judged, by its ending and the asks on which that stands.
+/// A step of a query whose sets are judged, by how it ends and by the asks on which that stands.
 pub(crate) fn ended(
     query: Query,
     depth: u16,
-    reply: Reply,
+    end: StepEnd,
     sets: Vec<JudgedSet>,
-    ending: Ending,
     excuse: Vec<AskRef>,
 ) -> Asked
-    ensures { result ≡ judged_step depth query (heard_value reply) sets.items (ending_value ending) excuse.items }
+    ensures { result ≡ judged_step depth query (heard_value end.reply) sets.items (ending_value end.ending) excuse.items }
 {
+    let StepEnd { reply, ending } = end;
     Asked {
         depth,
         judged: true,
@@ -50,16 +57,11 @@ pub(crate) fn ended(
     }
 }
 
-/// A step of a query whose reply is only seen, by its ending.
-pub(crate) fn only_seen(
-    alloc: Global,
-    query: Query,
-    depth: u16,
-    reply: Reply,
-    ending: Ending,
-) -> Asked
-    ensures { result ≡ plain_step depth query (heard_value reply) (ending_value ending) }
+/// A step of a query whose reply is only seen, by how it ends.
+pub(crate) fn only_seen(alloc: Global, query: Query, depth: u16, end: StepEnd) -> Asked
+    ensures { result ≡ plain_step depth query (heard_value end.reply) (ending_value end.ending) }
 {
+    let StepEnd { reply, ending } = end;
     Asked {
         depth,
         judged: false,

@@ -12,12 +12,12 @@ ghost use Rattle.dns_lookup.specs.Walking.{grounds_at, CanWalk, HasWalked, Walk,
 use crate::context::{LookupContext, OpenStep, Progress};
 use crate::finished::{Finished, answered, faulted, refused, unanswered};
 use crate::judging::{
-    Concluded, Judgement, OneSet, Searched, Tried, Verdicts, add_ask, class_of, is_key_set, set_of,
-    untried, with_entry,
+    Concluded, Judgement, OneSet, Review, Searched, Tried, Verdicts, add_ask, class_of, is_key_set,
+    set_of, untried, with_entry,
 };
 use crate::receiving::{ReceivedMessage, receive};
 use crate::search::{Way, find_zone};
-use crate::steps::{foreign_of, records_of};
+use crate::steps::{StepEnd, foreign_of, records_of};
 use dns_handle::{AskRef, DnsHandle, Verifier};
 use dns_name::{Name, NoMemory};
 use dns_rdata::Rrsig;
@@ -38,16 +38,16 @@ pub(crate) fn judge_reply<H: DnsHandle, V: Verifier>(
     progress: &mut Progress,
     step: &OpenStep<'_>,
     received: &ReceivedMessage,
-) -> Result<(Judgement, Concluded), NoMemory>
+) -> Result<Review, NoMemory>
     requires ready { CanWalk context.now progress.old step.now.depth }
     ensures walked { HasWalked H.DnsHandle context.now handle.old progress.old handle.new progress.new }
-    ensures reviewed { IfOk result (λ r. IsReviewed H.DnsHandle V.answers context.now handle.old progress.old
-        handle.new progress.new step.now (told_by received.now.message) r.0 r.1) }
+    ensures reviewed { IfOk result (λ review. IsReviewed H.DnsHandle V.answers context.now handle.old progress.old
+        handle.new progress.new step.now (told_by received.now.message) review) }
 {
     let placed = placed_sets(context.alloc, step.depth, &received.message)?;
     let judged = judge_sets(context, handle, progress, step, placed)?;
     let concluded = conclude(context, handle, progress, step, received, &judged)?;
-    Ok((judged, concluded))
+    Ok(Review { judged, concluded })
 }
 
 // Judges the sets of a step, in order.
@@ -335,7 +335,8 @@ fn ask<H: DnsHandle, V: Verifier>(
     match foreign {
         Some(ending) => {
             let reply = records_of(received);
-            let seen = unanswered(context.alloc, progress, query, depth, reply, ending)?;
+            let end = StepEnd { reply, ending };
+            let seen = unanswered(context.alloc, progress, query, depth, end)?;
             return Ok(seen);
         }
         None => {}
@@ -345,7 +346,6 @@ fn ask<H: DnsHandle, V: Verifier>(
         depth,
     };
     let review = judge_reply(context, handle, progress, &step, &received)?;
-    let (judged, concluded) = review;
-    let finished = answered(progress, query, depth, received, judged, concluded)?;
+    let finished = answered(progress, query, depth, received, review)?;
     Ok(finished)
 }

@@ -15,16 +15,16 @@ returns-then-progress-ge-MOST_SENDS-clause-asks g c = asks_many _ _ _ _ _ _ _ c.
 pub returns-in_err-failed-clause-walked : goal.returns-in_err-failed-clause-walked
 returns-in_err-failed-clause-walked g c =
     walked_ended _ _ _ _ _ _ _ _ _ c.receive.ensures.walked c.receive.ensures.count c.receive.ensures.steps
-    (walked_nowhere _ _ _ _ c.receive.ensures.walked.few) c.seen.ensures.sends c.seen.ensures.one
+    (walked_nowhere _ _ _ _ c.receive.ensures.walked.few) c.seen.ensures.ended
 
 pub returns-in_default : goal.returns-in_default
 returns-in_default g c = record {
   walked =
       walked_ended _ _ _ _ _ _ _ _ _ c.receive.ensures.walked c.receive.ensures.count c.receive.ensures.steps
-      (walked_nowhere _ _ _ _ c.receive.ensures.walked.few) c.seen.ensures.sends c.seen.ensures.one;
+      (walked_nowhere _ _ _ _ c.receive.ensures.walked.few) c.seen.ensures.ended;
   asks =
       plain_fault_asks _ _ _ _ _ _ _ _ _ _ _ _ _ _ _ (received_none _ _ _ _ _ c.in_ok-received.ensures.received c.in_default.is) (ap (λ v. v.items) c.receive.ensures.steps)
-      c.receive.ensures.count c.seen.ensures.sends (omega arith) c.unseen-in_default.ensures.ask c.in_ok-failed.ensures.added;
+      c.receive.ensures.count c.seen.ensures.ended.sends (omega arith) c.unseen-in_default.ensures.ask c.in_ok-failed.ensures.added;
   seen = unseen_fault _ _ _ _ _ _ _ (ap sight_value c.unseen-in_default.ensures.sight) c.unseen-in_default.ensures.ask
       c.in_ok-failed.ensures.added;
 }
@@ -32,22 +32,22 @@ returns-in_default g c = record {
 pub returns-in_err-ask-clause-walked : goal.returns-in_err-ask-clause-walked
 returns-in_err-ask-clause-walked g c =
     walked_ended _ _ _ _ _ _ _ _ _ c.receive.ensures.walked c.receive.ensures.count c.receive.ensures.steps
-    (walked_nowhere _ _ _ _ c.receive.ensures.walked.few) c.seen-2.ensures.sends c.seen-2.ensures.one
+    (walked_nowhere _ _ _ _ c.receive.ensures.walked.few) c.seen-2.ensures.ended
 
 pub returns-clause-walked : goal.returns-clause-walked
 returns-clause-walked g c =
     walked_ended _ _ _ _ _ _ _ _ _ c.receive.ensures.walked c.receive.ensures.count c.receive.ensures.steps
-    (walked_nowhere _ _ _ _ c.receive.ensures.walked.few) c.seen-2.ensures.sends c.seen-2.ensures.one
+    (walked_nowhere _ _ _ _ c.receive.ensures.walked.few) c.seen-2.ensures.ended
 
 pub returns-clause-asks : goal.returns-clause-asks
 returns-clause-asks g c =
     seen_asks _ _ _ _ _ _ _ _ _ _ c.in-Some.received _ _ _ _ _
-    (received_some _ _ _ _ _ _ c.in_ok-received.ensures.received c.in-Some.is) c.records_of.ensures (ap (λ v. v.items) c.receive.ensures.steps)
-    c.receive.ensures.count c.seen-2.ensures.sends (omega arith) c.in_ok-ask.ensures.added
+    (received_some _ _ _ _ _ _ c.in_ok-received.ensures.received c.in-Some.is) c.records_of-reply.ensures (ap (λ v. v.items) c.receive.ensures.steps)
+    c.receive.ensures.count c.seen-2.ensures.ended.sends (omega arith) c.in_ok-ask.ensures.added
 
 pub returns-clause-seen : goal.returns-clause-seen
 returns-clause-seen g c =
-    seen_so _ _ _ _ c.in-Some.received _ _ _ c.records_of.ensures
+    seen_so _ _ _ _ c.in-Some.received _ _ _ c.records_of-reply.ensures
     (c.sight_in-sight.ensures
     ∙ ap (λ (q : Question). sight_of q.owner (Records (told_by c.in-Some.received.message) c.in-Some.received.empty)) c.query.view_is)
     c.in_ok-ask.ensures.added

@@ -33,34 +33,34 @@ ask-returns-in_err-review-clause-walked g t c =
 pub ask-returns-in_err-failed-clause-walked : goal.ask-returns-in_err-failed-clause-walked
 ask-returns-in_err-failed-clause-walked g t c =
     walked_ended _ _ _ _ _ _ _ _ _ c.receive.ensures.walked c.receive.ensures.count c.receive.ensures.steps
-    (walked_nowhere _ _ _ _ c.receive.ensures.walked.few) c.faulted.ensures.sends c.faulted.ensures.one
+    (walked_nowhere _ _ _ _ c.receive.ensures.walked.few) c.faulted.ensures.ended
 
 pub ask-returns-in_default : goal.ask-returns-in_default
 ask-returns-in_default g t c = record {
   walked =
       walked_ended _ _ _ _ _ _ _ _ _ c.receive.ensures.walked c.receive.ensures.count c.receive.ensures.steps
-      (walked_nowhere _ _ _ _ c.receive.ensures.walked.few) c.faulted.ensures.sends c.faulted.ensures.one;
+      (walked_nowhere _ _ _ _ c.receive.ensures.walked.few) c.faulted.ensures.ended;
   asks =
       fault_asks _ _ _ _ _ _ _ _ _ _ _ _ _ _ (received_none _ _ _ _ _ c.in_ok-received.ensures.received c.in_default.is) (ap (λ v. v.items) c.receive.ensures.steps)
-      c.receive.ensures.count c.faulted.ensures.sends (omega arith) c.in_ok-failed.ensures.added;
+      c.receive.ensures.count c.faulted.ensures.ended.sends (omega arith) c.in_ok-failed.ensures.added;
   answer = no_answer _ _ _ _ _ _ _ _ _ _ (omega arith) c.in_ok-failed.ensures.added c.in_ok-failed.ensures.answer refl;
 }
 
 pub ask-returns-in_err-seen-in-Some-foreign-clause-walked : goal.ask-returns-in_err-seen-in-Some-foreign-clause-walked
 ask-returns-in_err-seen-in-Some-foreign-clause-walked g t c =
     walked_ended _ _ _ _ _ _ _ _ _ c.receive.ensures.walked c.receive.ensures.count c.receive.ensures.steps
-    (walked_nowhere _ _ _ _ c.receive.ensures.walked.few) c.unanswered.ensures.sends c.unanswered.ensures.one
+    (walked_nowhere _ _ _ _ c.receive.ensures.walked.few) c.unanswered.ensures.ended
 
 pub ask-returns-in-Some-foreign-clause-walked : goal.ask-returns-in-Some-foreign-clause-walked
 ask-returns-in-Some-foreign-clause-walked g t c =
     walked_ended _ _ _ _ _ _ _ _ _ c.receive.ensures.walked c.receive.ensures.count c.receive.ensures.steps
-    (walked_nowhere _ _ _ _ c.receive.ensures.walked.few) c.unanswered.ensures.sends c.unanswered.ensures.one
+    (walked_nowhere _ _ _ _ c.receive.ensures.walked.few) c.unanswered.ensures.ended
 
 pub ask-returns-in-Some-foreign-clause-asks : goal.ask-returns-in-Some-foreign-clause-asks
 ask-returns-in-Some-foreign-clause-asks g t c =
     foreign_asks _ _ _ _ _ _ _ _ _ _ c.in-Some.received _ _ _ _ _ _ (received_some _ _ _ _ _ _ c.in_ok-received.ensures.received c.in-Some.is) c.records_of-reply.ensures
     (named_by _ _ _ c.in_ok-foreign.ensures (ap (option_map ending_value) c.in-Some-foreign.is))
-    (ap (λ v. v.items) c.receive.ensures.steps) c.receive.ensures.count c.unanswered.ensures.sends (omega arith) c.in_ok-seen-in-Some-foreign.ensures.added
+    (ap (λ v. v.items) c.receive.ensures.steps) c.receive.ensures.count c.unanswered.ensures.ended.sends (omega arith) c.in_ok-seen-in-Some-foreign.ensures.added
 
 pub ask-returns-in-Some-foreign-clause-answer : goal.ask-returns-in-Some-foreign-clause-answer
 ask-returns-in-Some-foreign-clause-answer g t c =
@@ -70,19 +70,19 @@ ask-returns-in-Some-foreign-clause-answer g t c =
 pub ask-returns-in_err-finished-clause-walked : goal.ask-returns-in_err-finished-clause-walked
 ask-returns-in_err-finished-clause-walked g t c =
     walked_ended _ _ _ _ _ _ _ _ _ c.receive.ensures.walked c.receive.ensures.count c.receive.ensures.steps c.judge_reply.ensures.walked
-    c.answered.ensures.sends c.answered.ensures.one
+    c.answered.ensures.ended
 
 pub ask-returns-clause-walked : goal.ask-returns-clause-walked
 ask-returns-clause-walked g t c =
     walked_ended _ _ _ _ _ _ _ _ _ c.receive.ensures.walked c.receive.ensures.count c.receive.ensures.steps c.judge_reply.ensures.walked
-    c.answered.ensures.sends c.answered.ensures.one
+    c.answered.ensures.ended
 
 pub ask-returns-clause-asks : goal.ask-returns-clause-asks
 ask-returns-clause-asks g t c =
     let review = c.in_ok-review.ensures.reviewed in
     judged_asks _ _ _ _ _ _ _ _ _ _ _ _ _ _ c.in-Some.received _ _ _ _ _ _ _ _ _ _ _ (received_some _ _ _ _ _ _ c.in_ok-received.ensures.received c.in-Some.is)
     (none_named _ _ c.in_ok-foreign.ensures (ap (option_map ending_value) c.in-None.is))
-    (ap (λ v. v.items) c.receive.ensures.steps) c.receive.ensures.count c.answered.ensures.sends (omega arith)
+    (ap (λ v. v.items) c.receive.ensures.steps) c.receive.ensures.count c.answered.ensures.ended.sends (omega arith)
     refl review.asks review.judged review.further review.concluded c.in_ok-finished.ensures.added
 
 pub ask-returns-clause-answer : goal.ask-returns-clause-answer
