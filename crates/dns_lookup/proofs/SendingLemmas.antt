@@ -1,12 +1,13 @@
 -- What a validator answers to a whole request, put together from the lookup that it makes.
-use Rattle.std.proofs.Common.{ℕ, ◌≡◌, ◌≢◌, ◌==◌, ◌∙◌, Bool, true, false, [], None, Some, Result, Err, refl, sym, ap, subst, if◌then◌else◌}
+use Rattle.std.proofs.Common.{ℕ, ◌≡◌, ◌≢◌, ◌==◌, ◌∙◌, Bool, true, false, [], None, Some, Result, Ok, Err, refl, sym, ap, subst, inl, inr, if◌then◌else◌}
 use Rattle.dns_model.specs.Chains.{Judge}
+use Rattle.dns_model.specs.Gives.{Unless}
 use Rattle.dns_model.specs.Records.{Question, EdnsValue}
 use Rattle.dns_model.specs.SoundAnswers.{ResponseValue}
 use Rattle.dns_model.proofs.SetLemmas.{number_refl, number_same}
 use Rattle.dns_handle.specs.Errors as seen
 use Rattle.dns_handle.specs.Errors.{Message}
-use Rattle.dns_handle.specs.Replies.{reply_of}
+use Rattle.dns_handle.specs.Replies.{reply_of, error_of}
 use Rattle.dns_handle.specs.Requests.{RequestValue, first_question, plain_options, query_message, request_of}
 use Rattle.dns_handle.specs.declared.error.NetError.{NetError}
 use Rattle.dns_handle.specs.declared.handle.DnsHandle as handle
@@ -21,7 +22,7 @@ use Rattle.dns_lookup.specs.Sends.{SendsBy}
 use Rattle.dns_lookup.proofs.CompletingLemmas.{lookup_completes}
 use Rattle.dns_lookup.proofs.CauseLemmas.{no_both, lookup_passes}
 use Rattle.dns_lookup.proofs.ForeignLemmas.{lookup_names_foreign, lookup_judges}
-use Rattle.dns_lookup.proofs.LookupAnswerLemmas.{or_memory, lookup_sound, lookup_trail, lookup_denied}
+use Rattle.dns_lookup.proofs.LookupAnswerLemmas.{lookup_sound, lookup_trail, lookup_denied}
 use Rattle.dns_lookup.proofs.AnsweredLemmas.{lookup_answers}
 use Rattle.dns_lookup.proofs.DenyingLemmas.{lookup_explained, lookup_denies}
 use Rattle.dns_lookup.proofs.UnjudgedLemmas.{lookup_caused}
@@ -47,6 +48,12 @@ checked_query q options =
 
 -- ---- the lookup
 
+-- a fact unless memory ran out, by the reply that a result is
+unless_seen : (result : Result ResponseValue NetError) (Fact : Type 0) → UnlessNoMemory result Fact → Unless seen.NoMemory (reply_of result) Fact
+unless_seen (Ok a) Fact fact = fact
+unless_seen (Err e) Fact (inl memory) = inl (ap error_of memory)
+unless_seen (Err e) Fact (inr fact) = inr fact
+
 -- all that is promised of a lookup, by how it came to its answer
 pub looked_up : {H : Type 0} (meanings : handle.Ghosts H) (call : Call H) (result : Result ResponseValue NetError)
     → SendsBy (first_ask_of_call meanings call) (ask_of_call meanings call) call.old call.new call.query
@@ -59,11 +66,11 @@ looked_up meanings call result sends lookup = record {
   denies = lookup_denies meanings call result lookup;
   denied = lookup_denied meanings call result lookup;
   caused = lookup_caused meanings call result lookup;
-  passes = or_memory result _ (lookup_passes meanings call result lookup);
-  names_foreign = or_memory result _ (lookup_names_foreign meanings call result lookup);
-  judges = or_memory result _ (lookup_judges meanings call result lookup);
-  answers = or_memory result _ (lookup_answers meanings call result lookup);
-  completes = or_memory result _ (lookup_completes meanings call result lookup);
+  passes = unless_seen result _ (lookup_passes meanings call result lookup);
+  names_foreign = unless_seen result _ (lookup_names_foreign meanings call result lookup);
+  judges = unless_seen result _ (lookup_judges meanings call result lookup);
+  answers = unless_seen result _ (lookup_answers meanings call result lookup);
+  completes = unless_seen result _ (lookup_completes meanings call result lookup);
 }
 
 -- ---- each case of a request

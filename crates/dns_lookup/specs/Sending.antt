@@ -1,6 +1,7 @@
 -- What a validator answers to a whole request (RFC 1035, 4.1.1; RFC 4035, 3.2 and 4.1; RFC 6840, 5.7).
-use Rattle.std.specs.Prelude.{ℕ, ◌≡◌, ◌≢◌, ◌≤◌, ◌⊎◌, true, false, [], Option, None, Some, Err, IfOk}
+use Rattle.std.specs.Prelude.{ℕ, ◌≡◌, ◌≢◌, ◌≤◌, true, false, [], Option, None, Some, Err, IfOk}
 use Rattle.dns_model.specs.Counts.{one_more}
+use Rattle.dns_model.specs.Gives.{Unless}
 use Rattle.dns_model.specs.Records.{Question, EdnsValue}
 use Rattle.dns_model.specs.Chains.{Judge, judge}
 use Rattle.dns_handle.specs.Errors as seen
@@ -50,11 +51,8 @@ call_for j request q now old new = record {
   new = new;
 }
 
--- a fact, unless want of memory is answered
-abbrev pub UnlessForgotten : Reply → Type 0 → Type 0
-UnlessForgotten reply Fact = (reply ≡ Err seen.NoMemory) ⊎ Fact
-
--- all that a lookup promises of its sends and its answer, whichever request it sends first
+-- all that a lookup promises of its sends and its answer, whichever request it sends first; the last five unless it answers that
+-- memory ran out
 pub record IsLookedUp {H : Type 0} (meanings : handle.Ghosts H) (call : Call H) (reply : Reply) : Type 0 where
   pub sends : SendsBy (first_ask_of_call meanings call) (ask_of_call meanings call) call.old call.new call.query
   pub sound : OfAnswer reply (λ a ending. IsSoundAnswer meanings call a)
@@ -63,11 +61,11 @@ pub record IsLookedUp {H : Type 0} (meanings : handle.Ghosts H) (call : Call H) 
   pub denies : IfOk reply (λ a. ShowsItsDenial call.now call.query a)
   pub denied : DeniesQuery call.query reply
   pub caused : HasItsCause meanings call reply
-  pub passes : UnlessForgotten reply (PassesOn (meanings.told call.old) call.query reply)
-  pub names_foreign : UnlessForgotten reply (ForeignNamed (meanings.told call.old) call.query reply)
-  pub judges : UnlessForgotten reply (JudgesTold (meanings.told call.old) call.query reply)
-  pub answers : UnlessForgotten reply (AnswersTold (meanings.told call.old) call.query reply)
-  pub completes : UnlessForgotten reply (Completes (meanings.told call.old) call reply)
+  pub passes : Unless seen.NoMemory reply (PassesOn (meanings.told call.old) call.query reply)
+  pub names_foreign : Unless seen.NoMemory reply (ForeignNamed (meanings.told call.old) call.query reply)
+  pub judges : Unless seen.NoMemory reply (JudgesTold (meanings.told call.old) call.query reply)
+  pub answers : Unless seen.NoMemory reply (AnswersTold (meanings.told call.old) call.query reply)
+  pub completes : Unless seen.NoMemory reply (Completes (meanings.told call.old) call reply)
 
 -- ---- any request
 
