@@ -117,8 +117,8 @@ impl<H: DnsHandle + Drop, V: Verifier + Drop> DnssecDnsHandle<H, V> {
         ensures denies { IfOk result (λ a. ShowsItsDenial now query a) }
         ensures denied { DeniesQuery query (reply_of result) }
 
-        // An error without an answer inside is the handle's own, or names a record of another class than the query's, or
-        // says that a Secure NSEC3 was seen, which is never so where there is an answer.
+        // An error without an answer inside, want of memory aside, is the handle's own, or names a record of another class than
+        // the query's, or says that a Secure NSEC3 was seen, which is never so where there is an answer.
         ensures caused { HasItsCause H.DnsHandle
             (call_of V.Verifier self.old self.new query options now) (reply_of result) }
 
