@@ -1,5 +1,5 @@
 -- The rdatas of a link's set, one more at a time.
-use Rattle.std.proofs.Common.{◌≡◌, ℕ, ◌+◌, ◌<◌, Bool, true, false, ◌||◌, cond, List, [], ◌∷◌, ◌++◌, length, take, refl, sym, ap, ◌∙◌}
+use Rattle.std.proofs.Common.{◌≡◌, ℕ, ◌+◌, ◌<◌, true, cond, List, [], ◌∷◌, ◌++◌, length, take, sym, ap, ◌∙◌}
 use Rattle.std.specs.Prelude.{slice_index_or}
 use Rattle.std.specs.Borrow.{Bor}
 use Rattle.std.specs.List.{list_any}
@@ -9,25 +9,14 @@ use Rattle.std.proofs.lemmas.List.Folds.{list_any-append}
 use Rattle.std.proofs.lemmas.Map.Text.{is_eq-slice_cmp}
 use Rattle.std.proofs.lemmas.Slice.Eq.{bytes_eq-Decides}
 use Rattle.dns_model.specs.Keys.{bytes_eq}
+use Rattle.dns_model.proofs.TestLemmas.{same_test, last_step}
 use Rattle.dns_chain_check.specs.Indexed.{Holds, by_bytes}
-
--- two tests that pass in the same cases
-same_test : (a b : Bool) → (a ≡ true → b ≡ true) → (b ≡ true → a ≡ true) → a ≡ b
-same_test true b there back = sym (there refl)
-same_test false true there back = back refl
-same_test false false there back = refl
 
 turned : (a b : List ℕ) → bytes_eq a b ≡ true → bytes_eq b a ≡ true
 turned a b h = (bytes_eq-Decides b a).1 (sym ((bytes_eq-Decides a b).0 h))
 
 either_way : (a b : List ℕ) → bytes_eq a b ≡ bytes_eq b a
 either_way a b = same_test (bytes_eq a b) (bytes_eq b a) (turned a b) (turned b a)
-
-last_step : (a b : Bool) → (a || (b || false)) ≡ cond b true a
-last_step true true = refl
-last_step true false = refl
-last_step false true = refl
-last_step false false = refl
 
 -- one rdata more
 pub one_held : (rdatas : List (List ℕ)) (n : ℕ) (rdata : List ℕ) (reference : Bor (List ℕ)) (members more : BTreeSet (Bor (List ℕ)))

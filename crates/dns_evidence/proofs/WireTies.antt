@@ -1,19 +1,14 @@
 -- Folded wire forms, as keys of ordered maps, tell names apart as equality does.
-use Rattle.std.proofs.Common.{◌≡◌, ℕ, ◌<◌, List, [], ◌∷◌, ◌++◌, length, get_or, take, drop, refl, sym, ap, ◌∙◌, arith, length-append}
-use Rattle.std.specs.Prelude.{nat_eq, ◌==◌}
+use Rattle.std.proofs.Common.{◌≡◌, ℕ, List, [], ◌∷◌, ◌++◌, length, get_or, take, drop, refl, sym, ap, ◌∙◌, arith, length-append}
+use Rattle.std.specs.Prelude.{nat_eq}
 use Rattle.std.specs.Bool.{one_answer}
 use Rattle.std.specs.Cmp.Lexicographic.{pointwise, bytes_decides, slice_cmp}
 use Rattle.std.specs.Ordering.{is_eq, nat_cmp}
-use Rattle.std.proofs.lemmas.Bool.Decides.{nat_tests}
 use Rattle.dns_model.specs.Names.{Label, Labels, folded, name_eq, wire}
 use Rattle.dns_model.proofs.Lists.{take-front, drop-front}
 use Rattle.dns_model.proofs.NameLemmas.{name_eq-Decides}
 use Rattle.dns_model.proofs.OrderLemmas.{bytes_ties}
-
--- a wire form has bytes
-wire_long : (name : Labels) → 0 < length (wire name)
-wire_long [] = omega arith
-wire_long (label ∷ name) = omega arith
+use Rattle.dns_model.proofs.WireLemmas.{length-wire}
 
 -- two labels of one length and what follows them
 parts_same : (a b : Label) (xs ys : List ℕ) → length a ≡ length b → a ++ xs ≡ b ++ ys → (a ≡ b) × (xs ≡ ys)
@@ -27,10 +22,10 @@ wire_one : (a b : Labels) → wire a ≡ wire b → a ≡ b
 wire_one [] [] same = refl
 wire_one [] (label ∷ name) same =
     let long : 1 ≡ length (wire (label ∷ name)) = ap length same in
-    absurd (omega (arith, wire_long name, length-append label (wire name), long))
+    absurd (omega (arith, length-wire name, length-append label (wire name), long))
 wire_one (label ∷ name) [] same =
     let long : length (wire (label ∷ name)) ≡ 1 = ap length same in
-    absurd (omega (arith, wire_long name, length-append label (wire name), long))
+    absurd (omega (arith, length-wire name, length-append label (wire name), long))
 wire_one (x ∷ a) (y ∷ b) same =
     let sizes : length x ≡ length y = ap (λ w. get_or w 0 0) same in
     let parts = parts_same x y (wire a) (wire b) sizes (ap (drop 1) same) in
@@ -45,7 +40,3 @@ name_eq-wires a b =
 -- names are equal exactly where the order of their wire forms doesn't tell them apart
 pub wire_ties : (a b : Labels) → name_eq a b ≡ is_eq (slice_cmp nat_cmp (wire (folded a)) (wire (folded b)))
 wire_ties a b = name_eq-wires a b ∙ bytes_ties (wire (folded a)) (wire (folded b))
-
--- numbers are equal exactly where their order doesn't tell them apart
-pub nat_ties : (x y : ℕ) → (x == y) ≡ is_eq (nat_cmp x y)
-nat_ties x y = grind (arith, nat_tests)

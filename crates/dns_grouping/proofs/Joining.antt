@@ -7,8 +7,8 @@ use Rattle.std.proofs.lemmas.List.Elements.{filter-append, filter_more}
 use Rattle.dns_model.specs.Names.{Labels, name_eq}
 use Rattle.dns_model.specs.Records.{Rr, RrSet}
 use Rattle.dns_model.specs.Sections.{same_set, is_signature, leaders, unsigned_part}
-use Rattle.dns_model.proofs.EachLemmas.{Apart, each_more, each_of, map_agree, map-map, apart_map}
-use Rattle.dns_model.proofs.SetLemmas.{same_set_left, same_set_refl, leaders_apart, same_key, name_back, name_trans, number_same, number_refl}
+use Rattle.dns_model.proofs.EachLemmas.{Apart, each_more, each_of, map_agree, map-map, apart_map, each_fails}
+use Rattle.dns_model.proofs.SetLemmas.{same_set_left, same_set_refl, leaders_apart, same_key, name_back, name_trans, number_same, number_refl, same_set_back}
 use Rattle.dns_grouping.specs.Joining.{is_at, touched, with_record, set_of_one, joined_by, met_by, bare_set, bare_sets}
 
 -- ---- changes of the first that passes
@@ -93,15 +93,6 @@ led-leaders (x ∷ u) r = led_more x r (same_set x r) u refl (led-leaders u r)
 
 -- ---- sets of records with one more
 
-same_step : (a b : Rr) (c d : Bool) → same_set a b ≡ c → same_set b a ≡ d → c ≡ d
-same_step a b true true e h = refl
-same_step a b true false e h = cc (same_set_left a b a e, same_set_refl a)
-same_step a b false true e h = cc (same_set_left b a b h, same_set_refl b)
-same_step a b false false e h = refl
-
-same_back : (a b : Rr) → same_set a b ≡ same_set b a
-same_back a b = same_step a b (same_set a b) (same_set b a) refl refl
-
 grown_step : (l r : Rr) (u rs : List Rr) (b : Bool) → rs ≡ filter (same_set l) u ++ cond b (r ∷ []) []
     → record (bare_set u l) { records = rs } ≡ cond b (with_record r (bare_set u l)) (bare_set u l)
 grown_step l r u rs true e = ap (λ xs. record (bare_set u l) { records = xs }) e
@@ -125,21 +116,11 @@ none_step r x u false c e later = later e
 -- a record that none stands beside has none of its set
 none_same : (r : Rr) (u : List Rr) → is_led r u ≡ false → filter (same_set r) u ≡ []
 none_same r [] e = refl
-none_same r (x ∷ u) e = none_step r x u (same_set r x) (is_led r u) (ap (λ b. b || is_led r u) (same_back r x) ∙ e) (none_same r u)
+none_same r (x ∷ u) e = none_step r x u (same_set r x) (is_led r u) (ap (λ b. b || is_led r u) (same_set_back r x) ∙ e) (none_same r u)
 
 pub any_map : {X Y : Type 0} (p : Y → Bool) (f : X → Y) (xs : List X) → list_any p (map f xs) ≡ list_any (λ x. p (f x)) xs
 any_map p f [] = refl
 any_map p f (x ∷ xs) = ap (λ b. p (f x) || b) (any_map p f xs)
-
-fails_step : (b c : Bool) → (b || c) ≡ false → (b ≡ false) × (c ≡ false)
-fails_step true c e = cc
-fails_step false c e = (refl, e)
-
-each_fails : {X : Type 0} (p : X → Bool) (xs : List X) → list_any p xs ≡ false → AllByRecursion (λ x. p x ≡ false) xs
-each_fails p [] e = tt
-each_fails p (x ∷ xs) e =
-    let parts = fails_step (p x) (list_any p xs) e in
-    (parts.0, each_fails p xs parts.1)
 
 any_bare : (r : Rr) (u : List Rr) → list_any (is_at r.owner r.rtype) (bare_sets u) ≡ is_led r u
 any_bare r u = any_map (is_at r.owner r.rtype) (bare_set u) (leaders u) ∙ led-leaders u r

@@ -1,25 +1,22 @@
 -- The places of sets in a list, as one more set is met.
 use Rattle.std.proofs.Common.{◌≡◌, ℕ, suc, ◌<◌, Bool, true, false, ◌&&◌, ◌||◌, ◌==◌, cond, List, [], ◌∷◌, ◌++◌, length, get_or, set, Option, None, Some, refl, sym, ap, ◌∙◌, subst, arith}
 use Rattle.std.specs.List.{list_any, find}
-use Rattle.std.specs.Map.{lookup}
 use Rattle.std.specs.Ordering.{is_eq}
 use Rattle.std.specs.BTreeMap as tree
 use Rattle.dns_model.specs.Names.{Labels, name_eq}
+use Rattle.dns_model.proofs.TestLemmas.{tied_equal}
+use Rattle.dns_model.proofs.Lists.{lookup-same}
 use Rattle.dns_grouping.specs.declared.set_key.SetKey.{SetKey}
 use Rattle.dns_grouping.specs.declared.set_places.SetPlaces.{SetPlaces}
 use Rattle.dns_grouping.specs.Joining.{touched}
 use Rattle.dns_grouping.specs.SetKeys.{set_key, set_key_cmp, set_key_total}
 use Rattle.dns_grouping.specs.SetPlaces.{place_at_key, place_of, or_place, with_place, next_place, place_in}
-use Rattle.dns_grouping.proofs.KeyLemmas.{tied_equal, set_key_ties}
-
-lookup_agree : {K X : Type 0} (p q : K → Bool) → ((k : K) → p k ≡ q k) → (es : List (K × X)) → lookup p es ≡ lookup q es
-lookup_agree p q same [] = refl
-lookup_agree p q same (e ∷ es) = ap (λ b. cond b (Some e.1) (lookup p es)) (same e.0) ∙ ap (cond (q e.0) (Some e.1)) (lookup_agree p q same es)
+use Rattle.dns_grouping.proofs.KeyLemmas.{set_key_ties}
 
 -- keys that the order doesn't tell apart have one place
 key_place : (p : SetPlaces) (key other : SetKey) → is_eq (set_key_cmp key other) ≡ true → place_at_key p other ≡ place_at_key p key
 key_place p key other tied =
-    sym (lookup_agree (λ x. is_eq (set_key_cmp key x)) (λ x. is_eq (set_key_cmp other x)) (λ x. ap is_eq (set_key_total.congr key other x (tied_equal (set_key_cmp key other) tied))) p.places.entries)
+    sym (lookup-same (λ x. is_eq (set_key_cmp key x)) (λ x. is_eq (set_key_cmp other x)) (λ x. ap is_eq (set_key_total.congr key other x (tied_equal (set_key_cmp key other) tied))) p.places.entries)
 
 -- equal owners and types have one place
 pub alike_place : (p : SetPlaces) (owner o : Labels) (rtype k : ℕ) → (name_eq owner o && (rtype == k)) ≡ true → place_of p o k ≡ place_of p owner rtype

@@ -1,7 +1,7 @@
 -- The sets of a section get their signatures one by one.
 use Rattle.std.proofs.Common.{◌≡◌, ℕ, ◌+◌, ◌<◌, ◌≤◌, Bool, true, false, not, ◌&&◌, ◌==◌, cond, List, [], ◌∷◌, ◌++◌, map, length, take, get_or, Option, None, Some, refl, sym, ap, ◌∙◌}
 use Rattle.std.specs.List.{filter}
-use Rattle.std.proofs.lemmas.Bool.{and_parts}
+use Rattle.std.proofs.lemmas.Bool.{and_parts, and_right}
 use Rattle.std.proofs.lemmas.Cmp.{nat_eq_equiv}
 use Rattle.std.proofs.lemmas.List.{append-nil, take_more, take_all}
 use Rattle.std.proofs.lemmas.List.Elements.{filter-append}
@@ -23,10 +23,6 @@ set_with section l signatures = record (part_set section [] l) { signatures = si
 
 abbrev pub is_covered : Rr → Bool → Option RrsigValue → Rr → Bool
 is_covered r b o l = b && (name_eq l.owner r.owner && covers_rtype l.rtype o)
-
-and_false : (b : Bool) → (b && false) ≡ false
-and_false true = refl
-and_false false = refl
 
 unsigned_step : (section front : List Rr) (l r : Rr) (b : Bool) → b ≡ false
     → set_with section l (filter (covers l) front ++ cond b (r ∷ []) []) ≡ part_set section front l
@@ -52,7 +48,7 @@ give_step section front r ls false o apart =
 give_step section front r ls true None apart =
     let one = λ (l : Rr). set_with section l (filter (covers l) front ++ cond (is_covered r true None l) (r ∷ []) []) in
     map_agree one (part_set section front) ls
-    (each_of (λ l. one l ≡ part_set section front l) (λ l. unsigned_step section front l r (name_eq l.owner r.owner && false) (and_false (name_eq l.owner r.owner))) ls)
+    (each_of (λ l. one l ≡ part_set section front l) (λ l. unsigned_step section front l r (name_eq l.owner r.owner && false) (and_right (name_eq l.owner r.owner) false refl)) ls)
 give_step section front r ls true (Some sig) apart =
     let one = λ (l : Rr). set_with section l (filter (covers l) front ++ cond (is_covered r true (Some sig) l) (r ∷ []) []) in
     let F = λ (s : RrSet). cond (is_at r.owner sig.covered s) (with_signature r s) s in

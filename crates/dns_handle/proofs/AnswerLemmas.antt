@@ -5,12 +5,15 @@ use Rattle.std.specs.Ordering.{is_eq}
 use Rattle.std.specs.BTreeSet as tree
 use Rattle.std.specs.BTreeSet.{BTreeSet}
 use Rattle.std.proofs.lemmas.List.Folds.{list_any-append}
-use Rattle.std.proofs.lemmas.Bool.{or_cases, or_left, or_right, eqb-true, eq-eqb}
+use Rattle.std.proofs.lemmas.Bool.{or_cases, or_left, or_right, eqb-true}
 use Rattle.dns_model.specs.Names.{Label, Labels, name_eq, at_or_above}
 use Rattle.dns_model.specs.Types.{type_soa}
 use Rattle.dns_model.specs.Records.{Rr, Question, MessageValue}
 use Rattle.dns_model.proofs.AboveLemmas.{above_tail, above_one_more, below_alike, above_itself}
 use Rattle.dns_model.proofs.LabelSteps.{at_or_above-longer}
+use Rattle.dns_model.proofs.TestLemmas.{same_test, and_true, or_false, or_twice}
+use Rattle.dns_model.proofs.EachLemmas.{any_agree}
+use Rattle.dns_model.proofs.SetLemmas.{number_back}
 use Rattle.dns_handle.specs.declared.query_key.QueryKey.{QueryKey}
 use Rattle.dns_handle.specs.QueryKeys.{key_cmp, key_of}
 use Rattle.dns_handle.specs.Responses.{type_any, answers_to, takes_any_answer, is_empty, all_records, contains_answer}
@@ -19,28 +22,9 @@ use Rattle.dns_handle.proofs.KeyLemmas.{key_ties}
 
 -- ---- truth values
 
-and_true : (b : Bool) → (b && true) ≡ b
-and_true true = refl
-and_true false = refl
-
-or_false : (b : Bool) → (b || false) ≡ b
-or_false true = refl
-or_false false = refl
-
-or_same : (b : Bool) → (b || b) ≡ b
-or_same true = refl
-or_same false = refl
-
 or_assoc : (a b c : Bool) → ((a || b) || c) ≡ (a || (b || c))
 or_assoc true b c = refl
 or_assoc false b c = refl
-
-or_twice : (a b c d : Bool) → ((a || b) || (c || d)) ≡ ((a || c) || (b || d))
-or_twice true b c d = refl
-or_twice false true true d = refl
-or_twice false true false d = refl
-or_twice false false true d = refl
-or_twice false false false d = refl
 
 and_or : (a b c : Bool) → ((a && b) || (a && c)) ≡ (a && (b || c))
 and_or true b c = refl
@@ -52,16 +36,7 @@ and_swap true false = refl
 and_swap false true = refl
 and_swap false false = refl
 
-same_truth : (a b : Bool) → (a ≡ true → b ≡ true) → (b ≡ true → a ≡ true) → a ≡ b
-same_truth true b there back = sym (there refl)
-same_truth false true there back = back refl
-same_truth false false there back = refl
-
 -- ---- tests of lists
-
-any_same : {X : Type 0} (p q : X → Bool) → ((x : X) → p x ≡ q x) → (xs : List X) → list_any p xs ≡ list_any q xs
-any_same p q same [] = refl
-any_same p q same (x ∷ xs) = rw (same x, any_same p q same xs) refl
 
 any_either : {X : Type 0} (p q : X → Bool) (xs : List X) → list_any (λ x. p x || q x) xs ≡ (list_any p xs || list_any q xs)
 any_either p q [] = refl
@@ -132,7 +107,7 @@ equal_above zone name same = below_alike zone zone name same (above_itself zone)
 -- a name in a zone is the zone's own or below one more label
 above_step : (zone : Labels) (label : Label) (name : Labels) → (name_eq zone (label ∷ name) || at_or_above zone name) ≡ at_or_above zone (label ∷ name)
 above_step zone label name =
-    same_truth _ _
+    same_test _ _
     (λ h. elim (or_cases (name_eq zone (label ∷ name)) (at_or_above zone name) h) as (λ _. at_or_above zone (label ∷ name) ≡ true) [
       | inl same ↦ equal_above zone (label ∷ name) same
       | inr above ↦ above_one_more zone label name above
@@ -156,12 +131,12 @@ root_above-eq (label ∷ zone) = at_or_above-longer (label ∷ zone) [] (omega a
 zone_found : (has : Labels → ℕ → Bool) (rs : List Rr) → ((o : Labels) (t : ℕ) → has o t ≡ list_any (is_noted o t) rs)
     → (name : Labels) → zone_at has name ≡ list_any (is_soa_above name) rs
 zone_found has rs are [] =
-    are [] type_soa ∙ any_same (is_noted [] type_soa) (is_soa_above [])
+    are [] type_soa ∙ any_agree (is_noted [] type_soa) (is_soa_above [])
     (λ r. noted_soa [] r ∙ ap (λ b. (r.rtype == type_soa) && b) (root_above-eq r.owner)) rs
 zone_found has rs are (label ∷ name) =
     ap (λ b. b || zone_at has name) (are (label ∷ name) type_soa) ∙ ap (λ b. list_any (is_noted (label ∷ name) type_soa) rs || b) (zone_found has rs are name)
     ∙ sym (any_either (is_noted (label ∷ name) type_soa) (is_soa_above name) rs)
-    ∙ any_same (λ r. is_noted (label ∷ name) type_soa r || is_soa_above name r) (is_soa_above (label ∷ name))
+    ∙ any_agree (λ r. is_noted (label ∷ name) type_soa r || is_soa_above name r) (is_soa_above (label ∷ name))
     (λ r. ap (λ b. b || is_soa_above name r) (noted_soa (label ∷ name) r)
     ∙ and_or (r.rtype == type_soa) (name_eq r.owner (label ∷ name)) (at_or_above r.owner name)
     ∙ ap (λ b. (r.rtype == type_soa) && b) (above_step r.owner label name)) rs
@@ -170,9 +145,6 @@ zone_found has rs are (label ∷ name) =
 pub zone_here : (has : Labels → ℕ → Bool) (name : Labels) → has name type_soa ≡ true → true ≡ zone_at has name
 zone_here has [] here = sym here
 zone_here has (label ∷ name) here = sym (or_left (has (label ∷ name) type_soa) (zone_at has name) here)
-
-eqb_swap : (a b : ℕ) → (a == b) ≡ (b == a)
-eqb_swap a b = same_truth (a == b) (b == a) (λ h. eq-eqb b a (sym (eqb-true a b h))) (λ h. eq-eqb a b (sym (eqb-true b a h)))
 
 soa_answers : (q : Question) (r : Rr) → (q.rtype == type_soa) ≡ true → is_soa_above q.owner r ≡ answers_to q r
 soa_answers q r soa =
@@ -183,20 +155,20 @@ soa_answers q r soa =
 noted_answers : (q : Question) (r : Rr) (any : Bool) → (q.rtype == type_any) ≡ any → (q.rtype == type_soa) ≡ false
     → is_noted q.owner q.rtype r ≡ answers_to q r
 noted_answers q r true any soa =
-    let e : (type_any == q.rtype) ≡ true = eqb_swap type_any q.rtype ∙ any in
+    let e : (type_any == q.rtype) ≡ true = number_back type_any q.rtype ∙ any in
     let each : answers_to q r ≡ name_eq r.owner q.owner = rw any refl in
     ap (λ b. name_eq r.owner q.owner && b) (or_right (r.rtype == q.rtype) (type_any == q.rtype) e) ∙ and_true (name_eq r.owner q.owner) ∙ sym each
 noted_answers q r false any soa =
-    let e : (type_any == q.rtype) ≡ false = eqb_swap type_any q.rtype ∙ any in
+    let e : (type_any == q.rtype) ≡ false = number_back type_any q.rtype ∙ any in
     let each : answers_to q r ≡ ((r.rtype == q.rtype) && name_eq r.owner q.owner) = rw (any, soa) refl in
     ap (λ b. name_eq r.owner q.owner && ((r.rtype == q.rtype) || b)) e ∙ ap (λ b. name_eq r.owner q.owner && b) (or_false (r.rtype == q.rtype))
     ∙ and_swap (name_eq r.owner q.owner) (r.rtype == q.rtype) ∙ sym each
 
 found_case : (has : Labels → ℕ → Bool) (rs : List Rr) → ((o : Labels) (t : ℕ) → has o t ≡ list_any (is_noted o t) rs) → (q : Question) (soa : Bool)
     → (q.rtype == type_soa) ≡ soa → cond soa (zone_at has q.owner) (has q.owner q.rtype) ≡ list_any (answers_to q) rs
-found_case has rs are q true soa = zone_found has rs are q.owner ∙ any_same (is_soa_above q.owner) (answers_to q) (λ r. soa_answers q r soa) rs
+found_case has rs are q true soa = zone_found has rs are q.owner ∙ any_agree (is_soa_above q.owner) (answers_to q) (λ r. soa_answers q r soa) rs
 found_case has rs are q false soa =
-    are q.owner q.rtype ∙ any_same (is_noted q.owner q.rtype) (answers_to q) (λ r. noted_answers q r (q.rtype == type_any) refl soa) rs
+    are q.owner q.rtype ∙ any_agree (is_noted q.owner q.rtype) (answers_to q) (λ r. noted_answers q r (q.rtype == type_any) refl soa) rs
 
 -- the index answers a question exactly where a record does
 pub found : (has : Labels → ℕ → Bool) (rs : List Rr) → ((o : Labels) (t : ℕ) → has o t ≡ list_any (is_noted o t) rs) → (q : Question)
@@ -212,7 +184,7 @@ contains_found index message are =
     any_either (λ q. takes_any_answer q.rtype && taken) (λ q. list_any (answers_to q) rs) message.queries
     ∙ ap (λ b. b || list_any (λ q. list_any (answers_to q) rs) message.queries) (any_both (λ q. takes_any_answer q.rtype) taken message.queries)
     ∙ ap (λ b. takes_answers message || b)
-    (sym (any_same (answered_by (has_at index)) (λ q. list_any (answers_to q) rs) (λ q. found (has_at index) rs are q) message.queries))
+    (sym (any_agree (answered_by (has_at index)) (λ q. list_any (answers_to q) rs) (λ q. found (has_at index) rs are q) message.queries))
 
 -- without the index, where some question takes any answer
 pub contains_any : (message : MessageValue) → takes_answers message ≡ true → contains_answer message ≡ true

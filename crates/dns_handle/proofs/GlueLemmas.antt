@@ -14,17 +14,18 @@ use Rattle.dns_model.specs.Types.{type_ns}
 use Rattle.dns_model.specs.Views.{ns_in}
 use Rattle.dns_model.specs.Records.{Rr}
 use Rattle.dns_model.specs.RecordViews.{read_as}
+use Rattle.dns_model.proofs.TestLemmas.{tied_equal}
+use Rattle.dns_model.proofs.Lists.{lookup-same}
 use Rattle.dns_handle.specs.NoRecords.{ForwardNsValue}
 use Rattle.dns_handle.specs.Responses.{is_address_of, glue_at, forwarded}
 use Rattle.dns_handle.specs.Glue.{is_address, bytes_cmp, vec_items, addresses_at, Joined, glue_by, forwarded_by}
 use Rattle.dns_evidence.proofs.WireTies.{wire_ties}
-use Rattle.dns_handle.proofs.KeyLemmas.{equal-is_eq, lookup-same}
 
 -- keys that the order doesn't tell apart have the same records
 items-same : {Z : Type 0} (m : BTreeMap (List ℕ) (Vec Rr Z)) (k q : List ℕ) → is_eq (bytes_cmp k q) ≡ true
     → vec_items (tree.get bytes_cmp m k) ≡ vec_items (tree.get bytes_cmp m q)
 items-same m k q tied =
-    ap vec_items (lookup-same _ _ (λ x. ap is_eq (nat_list_cmp_total.congr k q x (equal-is_eq (bytes_cmp k q) tied))) m.entries)
+    ap vec_items (lookup-same _ _ (λ x. ap is_eq (nat_list_cmp_total.congr k q x (tied_equal (bytes_cmp k q) tied))) m.entries)
 
 joined_case : {Z : Type 0} (old : BTreeMap (List ℕ) (Vec Rr Z)) (r : Rr) (key q : List ℕ) (w : Vec Rr Z)
     → w.items ≡ vec_items (tree.get bytes_cmp old key) ++ r ∷ [] → (b : Bool) → is_eq (bytes_cmp key q) ≡ b

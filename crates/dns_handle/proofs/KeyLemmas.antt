@@ -1,16 +1,14 @@
 -- The keys by which replies and answers are found tell questions apart as equality does.
-use Rattle.std.proofs.Common.{◌≡◌, Bool, true, ◌&&◌, List, [], ◌∷◌, refl, ap, ◌∙◌}
+use Rattle.std.proofs.Common.{◌≡◌, Bool, ◌&&◌, ap, ◌∙◌}
 use Rattle.std.specs.Prelude.{◌==◌}
 use Rattle.std.specs.Cmp.{IsTotalOrder, tied_then}
 use Rattle.std.specs.Cmp.Lexicographic.{slice_cmp}
-use Rattle.std.specs.declared.cmp.Ordering.{Ordering}
-use Rattle.std.specs.declared.cmp.Ordering.TheVariants.{Less, Equal, Greater}
-use Rattle.std.specs.Map.{lookup}
 use Rattle.std.specs.Ordering.{is_eq, nat_cmp, ordering_then}
 use Rattle.std.proofs.lemmas.Cmp.{then_total, on_total, nat_cmp_total, nat_list_cmp_total}
 use Rattle.dns_model.specs.Names.{folded, wire}
 use Rattle.dns_model.specs.Records.{Question, question_eq}
-use Rattle.dns_evidence.proofs.WireTies.{nat_ties, wire_ties}
+use Rattle.dns_model.proofs.OrderLemmas.{nat_ties}
+use Rattle.dns_evidence.proofs.WireTies.{wire_ties}
 use Rattle.dns_handle.specs.QueryKeys.{key_cmp, key_of}
 
 pub key_total : IsTotalOrder key_cmp
@@ -29,15 +27,3 @@ key_ties a b =
     ap (λ (e : Bool). e && ((a.rtype == b.rtype) && (a.class == b.class))) (wire_ties a.owner b.owner)
     ∙ ap (λ (e : Bool). is_eq names && e) numbers
     ∙ tied_then names (ordering_then types classes)
-
--- ---- keys that the order doesn't tell apart
-
-pub equal-is_eq : (o : Ordering) → is_eq o ≡ true → o ≡ Equal
-equal-is_eq Less h = cc
-equal-is_eq Equal h = refl
-equal-is_eq Greater h = cc
-
--- tests that agree look up alike
-pub lookup-same : {K X : Type 0} (p r : K → Bool) → ((x : K) → p x ≡ r x) → (es : List (K × X)) → lookup p es ≡ lookup r es
-lookup-same p r alike [] = refl
-lookup-same p r alike (e ∷ es) = rw (alike e.0, lookup-same p r alike es) refl

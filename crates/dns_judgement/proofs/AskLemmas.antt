@@ -14,6 +14,7 @@ use Rattle.dns_model.specs.Trails.{AskedValue, JudgedSetValue, HeardValue, Recor
 use Rattle.dns_model.specs.SoundAnswers.{Told, Placed, section_eq}
 use Rattle.dns_model.proofs.EachLemmas.{each_append}
 use Rattle.dns_model.proofs.SetLemmas.{number_same}
+use Rattle.dns_model.proofs.TestLemmas.{if_some}
 use Rattle.dns_judgement.specs.Marks.{Verdict, is_proved, is_skipped, verdict_of, most_signatures}
 use Rattle.dns_judgement.specs.Marks as marks
 use Rattle.dns_judgement.specs.ProofErrors.{Net, DsRecordShouldExist}
@@ -25,7 +26,7 @@ use Rattle.dns_judgement.specs.Outcome.{Outcome, outcome_of, foreign_record}
 use Rattle.dns_judgement.specs.Outcome as outcome
 use Rattle.dns_judgement.specs.Derivation.{Grounds, with_entries, finished_answer, is_ask, verdicts_after, verdicts_asked, verdicts_by, has_mark_of, is_empty, is_plain_ask, Sight, Cut, Onward, Unseen, sight_by, zone_asked, search_after, search_by, search_from, keys_hold, unsigned_holds, ending_eq, ending_holds, is_by_origin, entry_holds, entries_hold, step_holds, asks_of}
 use Rattle.dns_judgement.specs.DerivationParts.{is_ask_for, is_judged_ask, after_verdict, if_last, is_by_verdicts, repeats_step, is_foreign, is_failed, is_seen, is_bare, grounds_of, asks_of_sets, judged_holds, step_holds_by, is_plain_step, is_by_search, ends_by_search}
-use Rattle.dns_judgement.proofs.StayLemmas.{some_asked, some_after}
+use Rattle.dns_judgement.proofs.StayLemmas.{some_after}
 use Rattle.dns_judgement.proofs.ExtendLemmas.{is_by_zone}
 
 -- the ask stands for a judged ask one deeper than the step whose grounds these are, or for a plain one as deep as it
@@ -90,7 +91,7 @@ zone_asks g class name (ask ∷ asks) zone h =
     let q = ds_question class name in
     let is = is_ask g.limit g.earlier (g.depth + 1) q ask in
     let verdict = zone_verdict g.judge.answers class name (finished_answer g.earlier ask) in
-    let parts = and_parts (is_empty asks) is ((some_asked (is_empty asks && is) (Some verdict) zone h).0) in
+    let parts = and_parts (is_empty asks) is ((if_some (is_empty asks && is) (Some verdict) zone h).0) in
     (record { question = q; asks = inl parts.1 }, no_asks g asks parts.0)
 
 keys_step_asks : (g : Grounds) (needs x : Bool) (placed : Placed) (entry : JudgedSetValue) (o : Option ZoneVerdict)
@@ -114,11 +115,11 @@ sight_asks : (g : Grounds) (class : ℕ) (name : Labels) (asks : List AskRef) (s
 sight_asks g class name asks Cut above zone h onward = zone_asks g class name asks zone h
 sight_asks g class name asks Onward above zone h onward = onward h
 sight_asks g class name asks Unseen above zone h onward =
-    no_asks g asks ((some_asked (is_empty asks) (Some (Bogus (Net (ns_question class name)))) zone h).0)
+    no_asks g asks ((if_some (is_empty asks) (Some (Bogus (Net (ns_question class name)))) zone h).0)
 
 root_asks : (g : Grounds) (start : Labels) (asks : List AskRef) (zone : ZoneVerdict)
     → (if is_empty asks then Some (Bogus (DsRecordShouldExist start)) else None) ≡ Some zone → AreAsksOf g asks
-root_asks g start asks zone h = no_asks g asks ((some_asked (is_empty asks) (Some (Bogus (DsRecordShouldExist start))) zone h).0)
+root_asks g start asks zone h = no_asks g asks ((if_some (is_empty asks) (Some (Bogus (DsRecordShouldExist start))) zone h).0)
 
 -- the plain asks of a search, and the ask for the DS set of the zone that it finds
 pub search_asks : (g : Grounds) (class : ℕ) (start name : Labels) (asks : List AskRef) (zone : ZoneVerdict)
@@ -131,7 +132,7 @@ search_asks g class start (label ∷ rest) (ask ∷ asks) zone h =
     let q = ns_question class name in
     let sight = sight_by g.earlier name ask in
     let above = search_by g class start rest asks in
-    let some = some_asked (is_plain_ask g.earlier g.depth q ask) (search_after g class name asks sight above) zone h in (
+    let some = if_some (is_plain_ask g.earlier g.depth q ask) (search_after g class name asks sight above) zone h in (
       record { question = q; asks = inr some.0 },
       sight_asks g class name asks sight above zone some.1 (λ k. search_asks g class start rest asks zone k),
     )

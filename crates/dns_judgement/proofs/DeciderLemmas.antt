@@ -6,6 +6,7 @@ use Rattle.std.specs.Option.{option_and_then}
 use Rattle.std.proofs.lemmas.Bool.{and_parts, and_from}
 use Rattle.std.proofs.lemmas.List.Sums.{length-filter}
 use Rattle.std.proofs.lemmas.List.Elements.{filter_agree}
+use Rattle.std.proofs.lemmas.Option.{same_Some}
 use Rattle.dns_model.specs.declared.section.Section.{Section}
 use Rattle.dns_model.specs.Names.{name_eq}
 use Rattle.dns_model.specs.Types.{type_rrsig}
@@ -88,13 +89,10 @@ pub marked_place : (before : List Rr) (r : Rr) (sig : Option ℕ) → (is_signat
 marked_place before r sig decides is =
     place_same sig (signature_place before r) (decides_from (is_signature r) (is_place sig (signature_place before r)) decides is)
 
-some_is : {X : Type 0} (y x : X) → Some y ≡ Some x → y ≡ x
-some_is y x h = cc
-
 -- what stands in a list of which each element passes, passes
 passes_at : {X : Type 0} (p : X → Bool) (xs : List X) (n : ℕ) (x : X) → AllByRecursion (λ y. p y ≡ true) xs → slice_get xs n ≡ Some x → p x ≡ true
 passes_at p [] n x all is = cc
-passes_at p (y ∷ ys) zero x all is = ap p (sym (some_is y x is)) ∙ all.0
+passes_at p (y ∷ ys) zero x all is = ap p (sym (same_Some y x is)) ∙ all.0
 passes_at p (y ∷ ys) (suc n) x all is = passes_at p ys n x all.1 is
 
 signs_step : (records : List Rr) (s : Judged) (o : Option ℕ) (d : Rr) → IsSignedIn records s.set → option_and_then (slice_get s.set.signatures) o ≡ Some d

@@ -7,12 +7,12 @@ use Rattle.std.proofs.lemmas.Bool.Decides.{nat_tests}
 use Rattle.std.proofs.lemmas.List.{length_push}
 use Rattle.dns_model.specs.Chains.{Judge}
 use Rattle.dns_model.specs.Trails.{AskedValue}
+use Rattle.dns_model.proofs.Lists.{slice_get_appended}
 use Rattle.dns_judgement.specs.Asking.{most_sends, depth_limit}
 use Rattle.dns_judgement.specs.Derivation.{step_holds, steps_hold, asks_of, order_step, send_order, end_step, top_step, in_send_order, has_order, derivation}
 use Rattle.dns_judgement.specs.DerivationParts.{is_each_met_once, is_top, steps_at}
 use Rattle.dns_judgement.specs.Parts.{once_between, Part}
 use Rattle.dns_judgement.proofs.EndLemmas.{end_step_at}
-use Rattle.dns_judgement.proofs.OrderLemmas.{slice_get_appended}
 use Rattle.dns_judgement.proofs.PartLemmas.{part_grows, step_met, steps_hold_more}
 use Rattle.dns_judgement.proofs.SentLemmas.{times, times-cons, numbered, part_sent, sent_stays}
 
@@ -46,7 +46,7 @@ top_counts j limit b step m p =
 
 -- ---- each once
 
-all_in_range : (test : ℕ → Bool) (a n : ℕ) → ((k : ℕ) → a ≤ k → k < a + n → test k ≡ true) → list_all test (range_with_len a n) ≡ true
+pub all_in_range : (test : ℕ → Bool) (a n : ℕ) → ((k : ℕ) → a ≤ k → k < a + n → test k ≡ true) → list_all test (range_with_len a n) ≡ true
 all_in_range test a zero each = refl
 all_in_range test a (suc n) each =
     and_from (test a) (list_all test (range_with_len (a + 1) n)) (each a (omega arith) (omega arith))
@@ -55,7 +55,7 @@ all_in_range test a (suc n) each =
 once_or_top : (b k : ℕ) → k < b + 1 → (if k == b then 1 else 0) + once_between 0 b k ≡ 1
 once_or_top b k within = grind (arith, nat_tests)
 
-one_is_one : (n : ℕ) → n ≡ 1 → (n == 1) ≡ true
+pub one_is_one : (n : ℕ) → n ≡ 1 → (n == 1) ≡ true
 one_is_one n is = grind (arith, nat_tests)
 
 top_once : (j : Judge) (limit : ℕ) (b : List AskedValue) (step : AskedValue) (m : ℕ) (p : Part j limit [] b (asks_of step) 1 m)

@@ -10,8 +10,8 @@ use Rattle.dns_model.specs.Types.{type_ns, type_soa, type_dname}
 use Rattle.dns_model.specs.Owned.{OwnedNsec}
 use Rattle.dns_model.proofs.NameLemmas.{name_equiv}
 use Rattle.dns_model.proofs.NamesInOrder.{le_from_Less, le_trans, above_comes_first, between_is_below, order_if_alike, not_both}
-use Rattle.dns_model.proofs.AboveLemmas.{above_alike, below_alike, above_itself, above_trans, above_is_shorter, above_one_more, strictly_made, strictly_parts, alike_if_not_strictly}
-use Rattle.dns_model.proofs.CommonAncestors.{Ends, common_ends, common_above, common_below, ends_above, longer_below}
+use Rattle.dns_model.proofs.AboveLemmas.{above_alike, below_alike, above_itself, above_trans, above_is_shorter, above_one_more, strictly_made, strictly_parts, alike_if_not_strictly, Ends}
+use Rattle.dns_model.proofs.CommonAncestors.{common_ends, common_above, common_below, ends_above, longer_below}
 use Rattle.dns_judgement.specs.Covering.{has_type, is_cut, spans, is_silent_on}
 use Rattle.dns_judgement.specs.NsecVerdict.{closest_encloser}
 use Rattle.dns_judgement.specs.Zones.{SetKey, Zone, has_set, is_owner, is_delegation, exists_in, ends_at, is_zone, encloser, IsTrueNsec}

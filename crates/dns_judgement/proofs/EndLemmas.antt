@@ -5,17 +5,9 @@ use Rattle.std.specs.Option.{option_and_then}
 use Rattle.dns_model.specs.declared.trail.AskRef.{AskRef}
 use Rattle.dns_model.specs.declared.trail.AskRef.TheVariants.{Step, TooDeep, TooMany}
 use Rattle.dns_model.specs.Trails.{AskedValue}
+use Rattle.dns_model.proofs.Lists.{slice_get_appended}
 use Rattle.dns_judgement.specs.Derivation.{asks_of, end_asks, end_step}
-use Rattle.dns_judgement.proofs.OrderLemmas.{slice_get_appended}
-
-then_then : {X Y Z : Type 0} (o : Option X) (f : X → Option Y) (g : Y → Option Z)
-    → option_and_then g (option_and_then f o) ≡ option_and_then (λ x. option_and_then g (f x)) o
-then_then None f g = refl
-then_then (Some x) f g = refl
-
-agree_then : {X Y : Type 0} (o : Option X) (f g : X → Option Y) → ((x : X) → f x ≡ g x) → option_and_then f o ≡ option_and_then g o
-agree_then None f g same = refl
-agree_then (Some x) f g same = same x
+use Rattle.dns_judgement.proofs.OrderLemmas.{then_then, agree_then}
 
 -- asks end one after another
 pub end_asks-append : (visit : ℕ → ℕ → Option ℕ) (xs ys : List AskRef) (ended : ℕ)

@@ -149,6 +149,10 @@ entries_as_many g (p ∷ ps) [] h = cc
 entries_as_many g (p ∷ ps) (e ∷ es) h =
     ap suc (entries_as_many g ps es ((and_parts (entry_holds g p e) (entries_hold g ps es) h).1))
 
+pub without_entries : (ps : List Placed) → with_entries ps [] ≡ []
+without_entries [] = refl
+without_entries (p ∷ ps) = refl
+
 -- as many sets as entries, and then others
 pub with_entries-append : (ps qs : List Placed) (es fs : List JudgedSetValue) → length ps ≡ length es
     → with_entries (ps ++ qs) (es ++ fs) ≡ with_entries ps es ++ with_entries qs fs

@@ -12,7 +12,8 @@ use Rattle.dns_model.specs.Records.{Rr, RrSet}
 use Rattle.dns_model.specs.Chains.{LinkValue, KeySet, Signed, Judge, all_shown, is_nonempty, has_bytes, rdatas_of, signer_fits, key_comes, shows_key, shows_member, link_holds, links_hold, is_chain, justified, link_is_for}
 use Rattle.dns_model.proofs.EachLemmas.{each_both, each_more, find_known}
 use Rattle.dns_model.proofs.SetLemmas.{name_back, name_trans, number_same, is_of, IsProper}
-use Rattle.dns_model.proofs.ChainLemmas.{links_hold-join, links_hold-append, is_chain-append, last_link-append, justified_extends, bytes_refl, each_member, signed_is_for, keys_are_for, slice_get_at}
+use Rattle.dns_model.proofs.ChainLemmas.{links_hold-join, links_hold-append, is_chain-append, last_link-append, justified_extends, bytes_refl, each_member, signed_is_for, keys_are_for}
+use Rattle.dns_model.proofs.Lists.{slice_get_appended}
 use Rattle.dns_judgement.specs.Validity.{validity, is_valid, is_good_by}
 use Rattle.dns_judgement.specs.KeySets.{SignedKeys, signer_among}
 use Rattle.dns_judgement.specs.Chained.{names_decider, numbers_from, whole_chain, self_signed_chain}
@@ -110,7 +111,7 @@ self_signed may_sign j set rs s front link proper keys held at trusted =
     let last = length front in
     let signed = Signed set.owner set.class set.rtype rdatas s.signature.rdata last s.key.rdata in
     let shown : shows_key set.owner set.class s.key.rdata (slice_get earlier last) ≡ true =
-    ap (shows_key set.owner set.class s.key.rdata) (slice_get_at front link []) ∙ by.shown in
+    ap (shows_key set.owner set.class s.key.rdata) (slice_get_appended front link []) ∙ by.shown in
     let comes : key_comes earlier set.owner set.class set.rtype rdatas read.sig.signer last s.key.rdata ≡ true =
     comes_of_keys (set.rtype == type_dnskey) (name_eq set.owner read.sig.signer) (has_bytes rdatas s.key.rdata)
     (shows_key set.owner set.class s.key.rdata (slice_get earlier last)) (shows_member read.sig.signer set.class s.key.rdata (slice_get earlier last))
@@ -155,7 +156,7 @@ keys_shown owner class front link (r ∷ rs) n is shown =
     let keys = rdatas_of rs in
     let here : shows_key owner class r.rdata (slice_get (front ++ link r ∷ rest) n) ≡ true =
     ap (λ k. shows_key owner class r.rdata (slice_get (front ++ link r ∷ rest) k)) is
-    ∙ ap (shows_key owner class r.rdata) (slice_get_at front (link r) rest) ∙ shown.0 in
+    ∙ ap (shows_key owner class r.rdata) (slice_get_appended front (link r) rest) ∙ shown.0 in
     let longer : n + 1 ≡ length (front ++ link r ∷ []) = omega (arith, length-append front (link r ∷ [])) in
     let later : all_shown (front ++ link r ∷ rest) owner class keys (numbers_from (n + 1) keys) ≡ true =
     ap (λ e. all_shown e owner class keys (numbers_from (n + 1) keys)) (sym (append_assoc front (link r ∷ []) rest))

@@ -1,7 +1,7 @@
 -- Tests that are true or false, and elements that a test picks from a list.
-use Rattle.std.proofs.Common.{◌≡◌, Bool, true, false, cond, not, ◌&&◌, ◌||◌, List, [], ◌∷◌, None, Some, refl, sym, ap, ◌∙◌, true≢false}
-use Rattle.std.specs.List.{list_any, list_all, find, AllByRecursion}
-use Rattle.std.proofs.lemmas.Bool.{and_parts, or_parts, or_right, not-true}
+use Rattle.std.proofs.Common.{◌≡◌, Bool, true, false, not, ◌&&◌, ◌||◌, List, [], ◌∷◌, refl, sym, ap, true≢false}
+use Rattle.std.specs.List.{list_any, list_all, AllByRecursion}
+use Rattle.std.proofs.lemmas.Bool.{and_parts, or_right, not-true}
 
 -- ---- tests
 
@@ -45,16 +45,6 @@ pick p x xs false e rest h = later p x xs (rest h)
 pub picked : {X : Type 0} (p : X → Bool) (xs : List X) → list_any p xs ≡ true → IsPicked p xs
 picked p [] h = absurd (true≢false (sym h))
 picked p (x ∷ xs) h = pick p x xs (p x) refl (picked p xs) h
-
-pub find_none : {X : Type 0} (p : X → Bool) (xs : List X) → list_any p xs ≡ false → find p xs ≡ None
-find_none p [] h = refl
-find_none p (x ∷ xs) h =
-    let parts = or_parts (p x) (list_any p xs) h in
-    ap (λ b. cond b (Some x) (find p xs)) parts.0 ∙ find_none p xs parts.1
-
-pub any_agree : {X : Type 0} (p q : X → Bool) → ((x : X) → p x ≡ q x) → (xs : List X) → list_any p xs ≡ list_any q xs
-any_agree p q same [] = refl
-any_agree p q same (x ∷ xs) = ap (λ b. b || list_any p xs) (same x) ∙ ap (λ b. q x || b) (any_agree p q same xs)
 
 -- one of a list whose elements are all known
 pub record IsKnown {X : Type 0} (p : X → Bool) (P : X → Type 0) : Type 0 where

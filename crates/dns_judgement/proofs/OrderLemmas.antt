@@ -5,16 +5,12 @@ use Rattle.dns_model.specs.declared.trail.AskRef.{AskRef}
 use Rattle.dns_model.specs.declared.trail.AskRef.TheVariants.{Step, TooDeep, TooMany}
 use Rattle.dns_model.specs.Trails.{AskedValue}
 use Rattle.std.specs.Option.{option_and_then}
+pub use Rattle.dns_model.proofs.Lists.{slice_get_appended}
 use Rattle.dns_judgement.specs.Asking.{most_sends}
 use Rattle.dns_judgement.specs.Derivation.{asks_of, order_asks, order_step}
 use Rattle.dns_judgement.specs.DerivationParts.{and_then}
 
--- the step that was appended
-pub slice_get_appended : {X : Type 0} (xs : List X) (x : X) (ys : List X) → slice_get (xs ++ x ∷ ys) (length xs) ≡ Some x
-slice_get_appended [] x ys = refl
-slice_get_appended (z ∷ xs) x ys = slice_get_appended xs x ys
-
-then_then : {X Y Z : Type 0} (o : Option X) (f : X → Option Y) (g : Y → Option Z) → and_then (and_then o f) g ≡ and_then o (λ x. and_then (f x) g)
+pub then_then : {X Y Z : Type 0} (o : Option X) (f : X → Option Y) (g : Y → Option Z) → and_then (and_then o f) g ≡ and_then o (λ x. and_then (f x) g)
 then_then None f g = refl
 then_then (Some x) f g = refl
 
@@ -22,7 +18,7 @@ if_then : {X Y : Type 0} (b : Bool) (o : Option X) (f : X → Option Y) → and_
 if_then true o f = refl
 if_then false o f = refl
 
-agree_then : {X Y : Type 0} (o : Option X) (f g : X → Option Y) → ((x : X) → f x ≡ g x) → and_then o f ≡ and_then o g
+pub agree_then : {X Y : Type 0} (o : Option X) (f g : X → Option Y) → ((x : X) → f x ≡ g x) → and_then o f ≡ and_then o g
 agree_then None f g same = refl
 agree_then (Some x) f g same = same x
 

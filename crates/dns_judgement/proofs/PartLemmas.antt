@@ -9,16 +9,17 @@ use Rattle.dns_model.specs.declared.trail.AskRef.{AskRef}
 use Rattle.dns_model.specs.declared.trail.AskRef.TheVariants.{Step, TooDeep, TooMany}
 use Rattle.dns_model.specs.Chains.{Judge}
 use Rattle.dns_model.specs.Trails.{AskedValue}
+use Rattle.dns_model.proofs.Lists.{slice_get_appended}
 use Rattle.dns_judgement.specs.Asking.{most_sends}
 use Rattle.dns_judgement.specs.Derivation.{step_holds, steps_hold, asks_of, order_asks, order_step, end_asks, end_step}
 use Rattle.dns_judgement.specs.DerivationParts.{and_then}
 use Rattle.dns_judgement.specs.Parts.{once_between, Part}
 use Rattle.dns_judgement.proofs.EndLemmas.{end_asks-append, end_none, end_deep, end_many, end_one, end_step_at}
-use Rattle.dns_judgement.proofs.OrderLemmas.{slice_get_appended, order_asks-append, order_none, order_deep, order_many, order_one, order_step_at}
+use Rattle.dns_judgement.proofs.OrderLemmas.{order_asks-append, order_none, order_deep, order_many, order_one, order_step_at}
 
 -- ---- nothing is asked
 
-between_none : (a i : ℕ) → 0 ≡ once_between a a i
+pub between_none : (a i : ℕ) → 0 ≡ once_between a a i
 between_none a i = grind (arith, nat_tests)
 
 part_still : (j : Judge) (limit : ℕ) (b : List AskedValue) (asks : List AskRef) (n : ℕ)
@@ -60,7 +61,7 @@ steps_hold-append j limit earlier (x ∷ xs) ys h k =
     and_from (step_holds j limit earlier x) (steps_hold j limit (earlier ++ x ∷ []) (xs ++ ys)) parts.0
     (steps_hold-append j limit (earlier ++ x ∷ []) xs ys parts.1 rest)
 
-between_then : (a b c i : ℕ) → a ≤ b → b ≤ c → once_between a b i + once_between b c i ≡ once_between a c i
+pub between_then : (a b c i : ℕ) → a ≤ b → b ≤ c → once_between a b i + once_between b c i ≡ once_between a c i
 between_then a b c i first second = grind (arith, nat_tests)
 
 then_met : (visit : ℕ → List ℕ → Option (List ℕ)) (n : ℕ) (xs ys : List AskRef) (met first second : List ℕ)
@@ -107,7 +108,7 @@ part_then j limit a b c xs ys n k m first second =
 
 -- ---- a step with what it asks
 
-between_one : (a b i : ℕ) → a ≤ b → (if i == b then 1 else 0) + once_between a b i ≡ once_between a (b + 1) i
+pub between_one : (a b i : ℕ) → a ≤ b → (if i == b then 1 else 0) + once_between a b i ≡ once_between a (b + 1) i
 between_one a b i first = grind (arith, nat_tests)
 
 pub steps_hold_more : (j : Judge) (limit : ℕ) (earlier xs : List AskedValue) (step : AskedValue) → steps_hold j limit earlier xs ≡ true

@@ -7,13 +7,13 @@ use Rattle.dns_model.specs.Names.{Labels, name_eq, strictly_above, star}
 use Rattle.dns_model.specs.Types.{type_ns, type_soa, type_cname, type_ds, type_dname}
 use Rattle.dns_model.specs.Records.{Question}
 use Rattle.dns_model.specs.Owned.{OwnedNsec}
-use Rattle.dns_model.proofs.EachLemmas.{find_known}
+use Rattle.dns_model.proofs.EachLemmas.{find_known, find_none}
 use Rattle.dns_model.proofs.NameLemmas.{name_equiv}
 use Rattle.dns_model.proofs.AboveLemmas.{strictly_parts}
 use Rattle.dns_judgement.specs.Covering.{has_type, is_cut, spans, is_nearest, counts_for, is_silent_on, unless_silent, covering}
 use Rattle.dns_judgement.specs.NsecVerdict.{lacks_data, is_right_side}
 use Rattle.dns_judgement.specs.Zones.{SetKey, Zone, has_set, is_owner, is_delegation, exists_in, ends_at, is_zone, encloser, is_cut_over, is_dname_over, has_data, from_wildcard, below_cut, lookup, Data, NoData, IsTrueNsec}
-use Rattle.dns_judgement.proofs.Members.{IsMember, picked, find_none}
+use Rattle.dns_judgement.proofs.Members.{IsMember, picked}
 use Rattle.dns_judgement.proofs.ZoneLemmas.{has_set_alike, is_owner_alike, is_delegation_alike, has_owner, spans_no_owner}
 use Rattle.dns_judgement.proofs.EncloserLemmas.{delegation_is_cut, end_is_owner, no_end_above}
 

@@ -7,14 +7,15 @@ use Rattle.dns_model.specs.Names.{Labels}
 use Rattle.dns_model.specs.Records.{Question, question_eq}
 use Rattle.dns_model.specs.Trails.{AskedValue}
 use Rattle.dns_model.proofs.SetLemmas.{number_refl}
+use Rattle.dns_model.proofs.TestLemmas.{if_some}
+use Rattle.dns_model.proofs.Lists.{slice_get_appended}
 use Rattle.dns_judgement.specs.Judged.{Judged}
 use Rattle.dns_judgement.specs.ProofErrors.{Net, DsRecordShouldExist}
 use Rattle.dns_judgement.specs.Delegations.{ZoneVerdict, Bogus, ds_question, zone_verdict}
 use Rattle.dns_judgement.specs.Unsigned.{ns_question}
 use Rattle.dns_judgement.specs.Derivation.{Grounds, Sight, Cut, Onward, Unseen, finished_answer, is_ask, is_empty, is_plain_ask, sight_of, sight_by, zone_asked, search_after, search_by}
 use Rattle.dns_judgement.specs.DerivationParts.{is_plain_step, sight_at}
-use Rattle.dns_judgement.proofs.OrderLemmas.{slice_get_appended}
-use Rattle.dns_judgement.proofs.StayLemmas.{slice_get-stays, later_grounds, ask_stays, some_asked}
+use Rattle.dns_judgement.proofs.StayLemmas.{slice_get-stays, later_grounds, ask_stays}
 
 -- ---- the ask for a DS set
 
@@ -30,7 +31,7 @@ zone_stays g more class name [] zone h = cc
 zone_stays g more class name (ask ∷ asks) zone h =
     let q = ds_question class name in
     let by = λ (answer : Option (List Judged)). Some (zone_verdict g.judge.answers class name answer) in
-    let some = some_asked (is_empty asks && is_ask g.limit g.earlier (g.depth + 1) q ask) (by (finished_answer g.earlier ask)) zone h in
+    let some = if_some (is_empty asks && is_ask g.limit g.earlier (g.depth + 1) q ask) (by (finished_answer g.earlier ask)) zone h in
     let parts = and_parts (is_empty asks) (is_ask g.limit g.earlier (g.depth + 1) q ask) some.0 in
     let stays = ask_stays g.limit g.earlier more (g.depth + 1) q ask parts.1 in
     ap (λ b. if b then by (finished_answer (g.earlier ++ more) ask) else None)
@@ -125,7 +126,7 @@ search_stays g more class start (label ∷ rest) (ask ∷ asks) zone h =
     let q = ns_question class (label ∷ rest) in
     let sight = sight_by g.earlier (label ∷ rest) ask in
     let above = search_by g class start rest asks in
-    let some = some_asked (is_plain_ask g.earlier g.depth q ask) (search_after g class (label ∷ rest) asks sight above) zone h in
+    let some = if_some (is_plain_ask g.earlier g.depth q ask) (search_after g class (label ∷ rest) asks sight above) zone h in
     let stays = plain_stays g.earlier more g.depth q (label ∷ rest) ask some.0 in
     search_step (later_grounds g more) class start label rest ask asks sight stays.asks stays.sees
     ∙ after_stays g more class (label ∷ rest) asks sight above (search_by (later_grounds g more) class start rest asks) zone some.1

@@ -8,11 +8,11 @@ use Rattle.dns_model.specs.declared.trail.AskRef.{AskRef}
 use Rattle.dns_model.specs.Chains.{Judge}
 use Rattle.dns_model.specs.Trails.{AskedValue}
 use Rattle.dns_model.proofs.SetLemmas.{number_refl}
+use Rattle.dns_model.proofs.Lists.{slice_get_appended}
 use Rattle.dns_judgement.specs.Asking.{most_sends}
 use Rattle.dns_judgement.specs.Derivation.{step_holds, asks_of}
 use Rattle.dns_judgement.specs.DerivationParts.{steps_at}
 use Rattle.dns_judgement.specs.Parts.{once_between, Part}
-use Rattle.dns_judgement.proofs.OrderLemmas.{slice_get_appended}
 use Rattle.dns_judgement.proofs.PartLemmas.{part_none, part_deep, part_many, part_then, part_step, order_of_none, order_of_deep, order_of_many, order_of_then, order_of_step}
 
 -- numbers below a bound

@@ -5,6 +5,7 @@ use Rattle.dns_model.specs.declared.trail.AskRef.{AskRef}
 use Rattle.dns_model.specs.declared.trail.AskRef.TheVariants.{Step, TooDeep, TooMany}
 use Rattle.dns_model.specs.Records.{Rr, RrSet, Question}
 use Rattle.dns_model.specs.Trails.{AskedValue}
+use Rattle.dns_model.proofs.TestLemmas.{if_some}
 use Rattle.dns_judgement.specs.Marks.{Verdict, is_proved, is_skipped, verdict_of}
 use Rattle.dns_judgement.specs.Marks as marks
 use Rattle.dns_judgement.specs.Asking.{ask_of}
@@ -54,15 +55,6 @@ ask_for_stays g more (Some q) ask h =
 
 -- ---- the verdicts of signatures
 
--- where a test passes or not, one of two results that may each be none
-some_true : {X : Type 0} (b : Bool) (x y : Option X) (z : X) → b ≡ true → (if b then x else y) ≡ Some z → x ≡ Some z
-some_true true x y z is h = h
-some_true false x y z is h = cc
-
-pub some_asked : {X : Type 0} (b : Bool) (x : Option X) (z : X) → (if b then x else None) ≡ Some z → (b ≡ true) × (x ≡ Some z)
-some_asked true x z h = (refl, h)
-some_asked false x z h = cc
-
 -- the verdicts of the rest, where there are verdicts
 pub record SomeAfter (v : Verdict) (o : Option (List Verdict)) (vs : List Verdict) : Type 0 where
   pub rest : List Verdict
@@ -97,7 +89,7 @@ asked_stays : (g : Grounds) (more : List AskedValue) (set : RrSet) (r : Rr) (ask
     → verdicts_asked (later_grounds g more) set r (ask ∷ asks) (λ x. p) ≡ Some vs
 asked_stays g more set r ask asks o p vs h stays =
     let v = verdict_of g.judge set r (finished_answer g.earlier ask) in
-    let some = some_asked (is_ask_for g (ask_of set r) ask) (verdicts_after v asks (λ x. o)) vs h in
+    let some = if_some (is_ask_for g (ask_of set r) ask) (verdicts_after v asks (λ x. o)) vs h in
     let ask_stays = ask_for_stays g more (ask_of set r) ask some.0 in
     let kept = verdicts_after_stay (is_proved v) v asks o p vs some.1 stays in
     ap (λ b. if b then verdicts_after (verdict_of g.judge set r (finished_answer (g.earlier ++ more) ask)) asks (λ x. p) else None) ask_stays.asks

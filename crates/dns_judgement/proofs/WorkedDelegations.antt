@@ -87,7 +87,7 @@ is_this_digest : (o : Option (List ℕ)) (digest : List ℕ) → is_digest o dig
 is_this_digest None digest h = cc
 is_this_digest (Some bytes) digest h = ap Some (bytes_same bytes digest h)
 
-digest_of_key : ds_digest 2 zone key ≡ Some (drop 4 ds_of_key)
+pub digest_of_key : ds_digest 2 zone key ≡ Some (drop 4 ds_of_key)
 unfolding dnskey_in ds_in tag_sum
 digest_of_key = is_this_digest (ds_digest 2 zone key) (drop 4 ds_of_key) ds_matches
 

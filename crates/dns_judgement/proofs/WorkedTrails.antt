@@ -35,7 +35,7 @@ signed_computed : Labels → ℕ → ℕ → List (List ℕ) → RrsigValue → 
 unfolding signed_bytes rising_once insert_once canonical_form is_lowered_type parts_in shape_of name_in labels_in label_in
 signed_computed = signed_bytes
 
-good_computed : Judge → RrSet → Rr → Rr → Bool
+unfoldable pub good_computed : Judge → RrSet → Rr → Rr → Bool
 unfolding signed_computed is_good_by validity rrsig_in dnskey_in tag_sum
 good_computed = is_good_by
 

@@ -9,9 +9,10 @@ use Rattle.dns_model.specs.Types.{type_ns, type_soa, type_ds}
 use Rattle.dns_model.specs.Owned.{OwnedNsec}
 use Rattle.dns_model.proofs.NameLemmas.{name_equiv}
 use Rattle.dns_model.proofs.NamesInOrder.{lt_from, le_from_not_lt, le_trans, le_if_alike, not_both}
+use Rattle.dns_model.proofs.EachLemmas.{any_agree}
 use Rattle.dns_judgement.specs.Covering.{leads_back, spans}
 use Rattle.dns_judgement.specs.Zones.{SetKey, Zone, has_set, is_owner, is_delegation, ends_at, fits_in, is_zone, is_signing_type, is_last, none_between, is_next, IsTrueNsec}
-use Rattle.dns_judgement.proofs.Members.{after_not, not_and, IsMember, picked, any_agree}
+use Rattle.dns_judgement.proofs.Members.{after_not, not_and, IsMember, picked}
 
 -- ---- equal names
 

@@ -16,6 +16,7 @@ use Rattle.dns_model.specs.Chains.{Judge}
 use Rattle.dns_model.specs.SoundAnswers.{Told}
 use Rattle.dns_model.specs.Trails.{AskedValue}
 use Rattle.dns_model.proofs.SetLemmas.{number_same, number_back}
+use Rattle.dns_model.proofs.QuestionLemmas.{same_parts, question_refl}
 use Rattle.dns_judgement.specs.Asking.{depth_limit, is_judged_at}
 use Rattle.dns_judgement.specs.Judged.{Judged}
 use Rattle.dns_judgement.specs.KeySets.{is_anchored_key}
@@ -30,7 +31,6 @@ use Rattle.dns_judgement.proofs.SentLemmas.{numbered}
 use Rattle.dns_laws.specs.Complete.{Upstream, HeardAlong, AreAsked, shows_secure, ProvesQuery}
 use Rattle.dns_laws.specs.Valid.{is_plain_query, straight_set, is_anchored_set, is_proved_by_keys, is_proved_by_ds, is_proved_by, leads_to_anchor, IsValidSession}
 use Rattle.dns_laws.proofs.TestLemmas.{passing, some_same}
-use Rattle.dns_laws.proofs.QuestionLemmas.{same_parts, question_refl}
 use Rattle.dns_laws.proofs.StraightLemmas.{is_other, IsOneSet, answered, IsSigned, IsUnsigned, signed_or_anchored}
 use Rattle.dns_laws.proofs.StraightStepLemmas.{needs_no_denial, none_foreign}
 use Rattle.dns_laws.proofs.SignedEntryLemmas.{IsSecureSet, keys_ask, one_ask, signed_mark}

@@ -16,6 +16,7 @@ use Rattle.dns_model.proofs.EachLemmas.{each_passes}
 use Rattle.dns_model.proofs.SetLemmas.{name_refl}
 use Rattle.dns_model.specs.declared.answered.Answered.{Answered}
 use Rattle.dns_model.specs.declared.answered.Answered.TheVariants.{No, Plain, Expanded}
+use Rattle.dns_model.proofs.TestLemmas.{if_some}
 use Rattle.dns_judgement.specs.NsecVerdict.{can_deny, holds_query, nsec_verdict}
 use Rattle.dns_judgement.proofs.Promises.{denial_of, expansion_of}
 use Rattle.dns_judgement.specs.Judged.{Judged, placed_of}
@@ -23,7 +24,7 @@ use Rattle.dns_judgement.specs.Outcome as outcome
 use Rattle.dns_judgement.specs.Outcome.{Outcome, outcome_of, outcome_by_denials, has_answer, is_wildcard_signature, has_wildcard_signature, is_expanded_answer, is_expanded_for, decider_labels, least, answered, answered_from, is_unjudged, is_denying, denying, denials, signer_of, is_made_by, one_signer, secure_denial, is_insecure_authority, insecure_answer}
 use Rattle.dns_laws.specs.Denials.{IsDenier, ShowsDenial}
 use Rattle.dns_laws.proofs.GroundParts.{any_more, picked}
-use Rattle.dns_laws.proofs.TestLemmas.{passing, if_some, some_same, some_kept}
+use Rattle.dns_laws.proofs.TestLemmas.{passing, some_same, some_kept}
 use Rattle.dns_laws.proofs.ToldSetLemmas.{IsTold, AreTold, expanded_parts, expanded_answers}
 
 -- ---- how it is answered

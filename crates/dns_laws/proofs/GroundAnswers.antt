@@ -16,7 +16,7 @@ use Rattle.dns_model.specs.Keys.{VerifierAnswers}
 use Rattle.dns_model.specs.SoundAnswers.{section_eq, is_secure}
 use Rattle.dns_model.specs.Trails.{AskedValue, EndingValue, Answered, Denied, Foreign, Failed, Seen}
 use Rattle.dns_model.proofs.AboveLemmas.{above_trans, above_alike, above_itself}
-use Rattle.dns_model.proofs.EachLemmas.{find_known}
+use Rattle.dns_model.proofs.EachLemmas.{find_known, any_agree}
 use Rattle.dns_model.proofs.SetLemmas.{IsProper, name_left, name_back, number_same}
 use Rattle.dns_judgement.specs.Judged.{Judged}
 use Rattle.dns_judgement.specs.Delegations.{ZoneVerdict, ds_question, is_readable_ds, is_supported_ds, is_ds_set_of, shows_unsigned_cut, shows_no_ds, is_insecure, is_insecure_above, verdict_by_ds, verdict_without_ds, zone_verdict}
@@ -26,7 +26,7 @@ use Rattle.dns_judgement.specs.KeySets.{is_root}
 use Rattle.dns_judgement.specs.Derivation.{if_answered, judged_sets, finished_answer, is_ask}
 use Rattle.dns_judgement.specs.DerivationParts.{answer_of, is_judged_ask}
 use Rattle.dns_laws.specs.Ground.{none_supported, shows_unsupported_ds, shows_unsigned, is_ground}
-use Rattle.dns_laws.proofs.GroundParts.{any_more, any_agree, any_at, each_at, picked, found_any, none_any}
+use Rattle.dns_laws.proofs.GroundParts.{any_more, any_at, each_at, picked, found_any, none_any}
 
 -- some of these steps is a ground of the name
 abbrev pub Grounded : VerifierAnswers → List AskedValue → Labels → Type 0

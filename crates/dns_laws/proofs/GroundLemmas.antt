@@ -23,6 +23,7 @@ use Rattle.dns_judgement.specs.Outcome.{outcome_of, foreign_record}
 use Rattle.dns_judgement.specs.Derivation.{Grounds, told_in, with_entries, judged_sets, same_record, has_mark_of, is_by_origin, is_repeat, is_empty, entry_holds, entries_hold, ending_holds, step_holds, steps_hold, has_order, derivation}
 use Rattle.dns_judgement.specs.DerivationParts.{grounds_of, repeats_step, is_foreign, is_failed, is_seen, is_bare, judged_holds, step_holds_by}
 use Rattle.dns_judgement.proofs.FindLemmas.{each_all}
+use Rattle.dns_judgement.proofs.ExtendLemmas.{without_entries}
 use Rattle.dns_laws.specs.Ground.{is_ground, has_ground, is_grounded, HasGrounds}
 use Rattle.dns_laws.proofs.GroundParts.{any_front, each_at, picked}
 use Rattle.dns_laws.proofs.GroundAnswers.{Grounded, IsSettled, AreSettled, StepsSettled, grounded_alike}
@@ -118,10 +119,6 @@ entries_grounded g (p ∷ ps) (e ∷ es) settled proper h =
     }
 
 -- ---- a step
-
-without_entries : (ps : List Placed) → with_entries ps [] ≡ []
-without_entries [] = refl
-without_entries (p ∷ ps) = refl
 
 none_grounded : (g : Grounds) (ps : List Placed) (es : List JudgedSetValue) → is_empty es ≡ true → StepGrounded g (with_entries ps es) es
 none_grounded g ps [] h = record { settled = subst (AreSettled g.judge.answers g.earlier) (sym (without_entries ps)) tt; grounded = tt }

@@ -22,6 +22,7 @@ use Rattle.dns_model.specs.Trails.{JudgedSetValue}
 use Rattle.dns_model.proofs.AboveLemmas.{above_itself, strictly_parts}
 use Rattle.dns_model.proofs.EachLemmas.{find_known}
 use Rattle.dns_model.proofs.SetLemmas.{name_back}
+use Rattle.dns_model.proofs.TestLemmas.{if_some}
 use Rattle.dns_judgement.specs.Validity.{is_good_by}
 use Rattle.dns_judgement.specs.Judged.{Judged}
 use Rattle.dns_judgement.specs.Marks.{Verdict, is_proved, is_excused, is_skipped, is_key_set_of, may_be_signed, key_question, counted_keys, by_keys, verdict_of, mark_at, set_mark, judged_by, most_signatures}
@@ -35,7 +36,7 @@ use Rattle.dns_judgement.specs.Asking.{ask_of}
 use Rattle.dns_judgement.specs.MarkParts.{is_skipped_read, by_key_set, verdict_by}
 use Rattle.dns_judgement.specs.Derivation.{Grounds, finished_answer, is_ask, verdicts_after, verdicts_asked, verdicts_by, Sight, Cut, Onward, Unseen, sight_by, zone_asked, search_after, search_by, search_from, proof_eq, has_mark_of, keys_hold, unsigned_holds, is_by_rules, is_plain_ask}
 use Rattle.dns_judgement.specs.DerivationParts.{is_ask_for, after_verdict, if_last, is_by_verdicts, is_by_search, place_eq}
-use Rattle.dns_judgement.proofs.StayLemmas.{some_asked, some_after}
+use Rattle.dns_judgement.proofs.StayLemmas.{some_after}
 use Rattle.dns_judgement.proofs.ExtendLemmas.{is_by_zone}
 use Rattle.dns_laws.proofs.GroundParts.{above_label, parent_above}
 use Rattle.dns_laws.proofs.GroundAnswers.{Grounded, IsSettled, AreSettled, StepsSettled, grounded_below, grounded_alike, is_insecure_zone, zone_grounded, answer_settled}
@@ -146,7 +147,7 @@ verdicts_excuse g set (r ∷ rs) (ask ∷ asks) vs settled is h =
     (verdicts_asked g set r (ask ∷ asks) (verdicts_by g set rs)) vs is h (λ rest. verdicts_excuse g set rs (ask ∷ asks) rest settled)
     (λ kept e.
     after_excused (GroundedIn g set.owner) (is_proved v) v asks (verdicts_by g set rs asks) vs refl
-    ((some_asked (is_ask_for g (ask_of set r) ask) (verdicts_after v asks (verdicts_by g set rs)) vs e).1) h
+    ((if_some (is_ask_for g (ask_of set r) ask) (verdicts_after v asks (verdicts_by g set rs)) vs e).1) h
     (verdict_excuse g set r ask (finished_answer g.earlier ask) settled kept refl) (λ rest. verdicts_excuse g set rs asks rest settled))
 
 place_excused : (vs : List Verdict) (proved excused : Option ℕ) → position is_excused vs ≡ excused → is_insecure ((mark_at proved excused).mark) ≡ true
@@ -171,7 +172,7 @@ asked_zone : (g : Grounds) (class : ℕ) (name : Labels) (asks : List AskRef) (z
 asked_zone g class name [] zone settled below is h = cc
 asked_zone g class name (ask ∷ asks) zone settled below is h =
     let asked = is_ask g.limit g.earlier (g.depth + 1) (ds_question class name) ask in
-    let some = some_asked (is_empty asks && asked) (Some (verdict_asked g class name ask)) zone is in
+    let some = if_some (is_empty asks && asked) (Some (verdict_asked g class name ask)) zone is in
     let same : verdict_asked g class name ask ≡ zone = cc in
     zone_grounded g.judge.answers g.limit g.earlier (g.depth + 1) class name ask settled below ((and_parts (is_empty asks) asked some.0).1)
     (ap is_insecure_zone same ∙ h)
@@ -279,7 +280,7 @@ searched_zone g class start (label ∷ rest) (ask ∷ asks) zone settled is h =
     let name : Labels = label ∷ rest in
     let sight = sight_by g.earlier name ask in
     let above = search_by g class start rest asks in
-    let some = some_asked (is_plain_ask g.earlier g.depth (ns_question class name) ask) (search_after g class name asks sight above) zone is in
+    let some = if_some (is_plain_ask g.earlier g.depth (ns_question class name) ask) (search_after g class name asks sight above) zone is in
     sight_zone g class name asks sight above zone settled refl some.1 h
     (λ e. grounded_below g.judge.answers g.earlier rest name (above_label label rest) (searched_zone g class start rest asks zone settled e h))
 

@@ -2,8 +2,10 @@
 use Rattle.std.proofs.Common.{◌≡◌, ℕ, zero, suc, Bool, true, false, ◌||◌, cond, List, [], ◌∷◌, ◌++◌, Option, None, Some, slice_get, refl, ap, ◌∙◌}
 use Rattle.std.specs.List.{find, list_any, AllByRecursion}
 use Rattle.std.proofs.lemmas.List.Folds.{list_any-append}
+pub use Rattle.std.proofs.lemmas.Map.Keys.{any_passes_from_place as any_at}
 use Rattle.dns_model.specs.Names.{Label, Labels, lowered, parent, at_or_above}
 use Rattle.dns_model.proofs.AboveLemmas.{above_itself, below_made}
+pub use Rattle.dns_judgement.proofs.Members.{picked_known as picked}
 
 -- ---- an element that passes
 
@@ -17,36 +19,8 @@ pub any_more : {X : Type 0} (p q : X → Bool) → ((x : X) → p x ≡ true →
 any_more p q more [] h = cc
 any_more p q more (x ∷ xs) h = any_step (p x) (list_any p xs) (q x) (list_any q xs) (more x) (any_more p q more xs) h
 
--- tests that agree
-pub any_agree : {X : Type 0} (p q : X → Bool) → ((x : X) → p x ≡ q x) → (xs : List X) → list_any p xs ≡ list_any q xs
-any_agree p q same [] = refl
-any_agree p q same (x ∷ xs) = ap (λ b. b || list_any p xs) (same x) ∙ ap (λ b. q x || b) (any_agree p q same xs)
-
 pub any_front : {X : Type 0} (p : X → Bool) (xs ys : List X) → list_any p xs ≡ true → list_any p (xs ++ ys) ≡ true
 any_front p xs ys h = list_any-append p xs ys ∙ ap (λ b. b || list_any p ys) h
-
--- an element that passes a test, and what is known of each
-pub record IsPicked {X : Type 0} (p : X → Bool) (P : X → Type 0) : Type 0 where
-  pub it : X
-  pub passes : p it ≡ true
-  pub known : P it
-
-picked_step : {X : Type 0} (p : X → Bool) (P : X → Type 0) (x : X) (b rest : Bool) → p x ≡ b → P x → (rest ≡ true → IsPicked p P)
-    → (b || rest) ≡ true → IsPicked p P
-picked_step p P x true rest is known later h = record { it = x; passes = is; known = known }
-picked_step p P x false rest is known later h = later h
-
-pub picked : {X : Type 0} (p : X → Bool) (P : X → Type 0) (xs : List X) → AllByRecursion P xs → list_any p xs ≡ true → IsPicked p P
-picked p P [] each h = cc
-picked p P (x ∷ xs) each h = picked_step p P x (p x) (list_any p xs) refl each.0 (picked p P xs each.1) h
-
--- the element with a number passes
-pub any_at : {X : Type 0} (p : X → Bool) (xs : List X) (n : ℕ) (x : X) → slice_get xs n ≡ Some x → p x ≡ true → list_any p xs ≡ true
-any_at p [] n x is h = cc
-any_at p (y ∷ xs) zero x is h =
-    let same : y ≡ x = cc in
-    ap (λ z. p z || list_any p xs) same ∙ ap (λ b. b || list_any p xs) h
-any_at p (y ∷ xs) (suc n) x is h = any_step false true (p y) (list_any p xs) (λ e. cc) (λ e. any_at p xs n x is h) refl
 
 pub each_at : {X : Type 0} (P : X → Type 0) (xs : List X) (n : ℕ) (x : X) → AllByRecursion P xs → slice_get xs n ≡ Some x → P x
 each_at P [] n x each is = cc

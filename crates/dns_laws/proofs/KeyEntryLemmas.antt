@@ -1,8 +1,8 @@
 -- The entry of a DNSKEY set with one signature or none: by an anchor it asks nothing, and else it asks for the DS set of its owner.
-use Rattle.std.proofs.Common.{◌≡◌, ◌⊎◌, inl, inr, ℕ, ◌+◌, Bool, true, false, not, ◌==◌, List, [], ◌∷◌, take, Option, None, Some, slice_get, refl, sym, ap, ◌∙◌, cond, if◌then◌else◌}
+use Rattle.std.proofs.Common.{◌≡◌, ◌⊎◌, inl, inr, ℕ, ◌+◌, Bool, true, false, not, ◌==◌, List, [], ◌∷◌, take, Option, None, Some, slice_get, refl, sym, ap, ◌∙◌, if◌then◌else◌}
 use Rattle.std.specs.Prelude.{◌&&◌}
 use Rattle.std.specs.Option.{option_map, option_map_or}
-use Rattle.std.specs.List.{filter, cons_option, find, list_any, list_all, AllByRecursion}
+use Rattle.std.specs.List.{filter, cons_option, list_any, list_all, AllByRecursion}
 use Rattle.std.proofs.Math.Logic.{⊎_elim}
 use Rattle.std.proofs.lemmas.Bool.{and_parts, and_from, or_parts, or_cases, and_right, not-true}
 use Rattle.dns_model.specs.declared.proof.Proof.TheVariants.{Secure, Bogus}
@@ -15,6 +15,10 @@ use Rattle.dns_model.specs.Chains.{Judge}
 use Rattle.dns_model.specs.SoundAnswers.{in_section, section_eq}
 use Rattle.dns_model.specs.Trails.{JudgedSetValue}
 use Rattle.dns_model.proofs.SetLemmas.{name_trans, number_refl}
+use Rattle.dns_model.proofs.TestLemmas.{if_some}
+use Rattle.dns_model.proofs.EachLemmas.{filter_none, find_none, each_fails}
+use Rattle.dns_model.proofs.QuestionLemmas.{same_parts}
+use Rattle.dns_model.proofs.Lists.{empty_is}
 use Rattle.dns_judgement.specs.Validity.{is_good_by}
 use Rattle.dns_judgement.specs.Judged.{Judged}
 use Rattle.dns_judgement.specs.Marks.{judged_by, most_signatures}
@@ -27,8 +31,7 @@ use Rattle.dns_judgement.specs.DerivationParts.{place_eq}
 use Rattle.dns_judgement.proofs.DsLemmas.{filter-filter}
 use Rattle.dns_judgement.proofs.ExtendLemmas.{proof_same}
 use Rattle.dns_laws.specs.Valid.{is_signed_by, is_anchored_set, is_proved_by_ds}
-use Rattle.dns_laws.proofs.TestLemmas.{passing, if_some, empty_is, any_found, none_any, none_kept}
-use Rattle.dns_laws.proofs.QuestionLemmas.{same_parts}
+use Rattle.dns_laws.proofs.TestLemmas.{passing, any_found, none_any, found_alone}
 use Rattle.dns_laws.proofs.SignedEntryLemmas.{IsSecureSet}
 
 -- ---- who signed
@@ -74,12 +77,6 @@ has_signed may_sign j set (inl one) h =
 has_signed may_sign j set (inr none) h =
     cc (ap (list_any (λ s. list_any (λ key. may_sign key && is_good_by j set s key) set.records)) (sym none) ∙ h)
 
-not_found : {X : Type 0} (test : X → Bool) (xs : List X) → list_any test xs ≡ false → find test xs ≡ None
-not_found test [] h = refl
-not_found test (x ∷ xs) h =
-    let parts = or_parts (test x) (list_any test xs) h in
-    ap (λ b. cond b (Some x) (find test xs)) parts.0 ∙ not_found test xs parts.1
-
 -- and none has
 pub none_signed : (may_sign : Rr → Bool) (j : Judge) (set : RrSet) → IsOneOrNone set → is_signed_by may_sign j set ≡ false → signed_by may_sign j set ≡ None
 none_signed may_sign j set (inl one) h =
@@ -87,7 +84,7 @@ none_signed may_sign j set (inl one) h =
     let test = λ (key : Rr). may_sign key && is_good_by j set r key in
     let any = λ (s : Rr). list_any (λ key. may_sign key && is_good_by j set s key) set.records in
     let bad = (or_parts (any r) false (ap (list_any any) (sym one.1) ∙ h)).0 in
-    ap (λ rs. first_signed may_sign j set (take most_signatures rs)) one.1 ∙ by_none may_sign j set r (not_found test set.records bad)
+    ap (λ rs. first_signed may_sign j set (take most_signatures rs)) one.1 ∙ by_none may_sign j set r (find_none test set.records bad)
 none_signed may_sign j set (inr none) h = ap (λ rs. first_signed may_sign j set (take most_signatures rs)) none ∙ of_none may_sign j set
 
 -- ---- by an anchor
@@ -216,20 +213,13 @@ none_signs j set = none_any any set.signatures (each set.signatures)
     each [] = tt
     each (r ∷ rs) = (none_any (λ key. is_matched_key j set [] key && is_good_by j set r key) set.records (keys r set.records), each rs)
 
-all_fail : {X : Type 0} (test : X → Bool) (xs : List X) → list_any test xs ≡ false → AllByRecursion (λ x. test x ≡ false) xs
-all_fail test [] h = tt
-all_fail test (x ∷ xs) h = let parts = or_parts (test x) (list_any test xs) h in (parts.0, all_fail test xs parts.1)
-
 -- a DS that matches a key is supported
 some_supported : (j : Judge) (set : RrSet) (records : List Rr) (b : Bool) → list_any (is_supported_ds j.answers) records ≡ b
     → is_signed_by (is_matched_key j set (filter (is_supported_ds j.answers) records)) j set ≡ true → b ≡ true
 some_supported j set records true is h = refl
 some_supported j set records false is h =
-    let none = none_kept (is_supported_ds j.answers) records (all_fail (is_supported_ds j.answers) records is) in
+    let none = filter_none (is_supported_ds j.answers) records (each_fails (is_supported_ds j.answers) records is) in
     cc (sym (none_signs j set) ∙ ap (λ ds. is_signed_by (is_matched_key j set ds) j set) (sym none) ∙ h)
-
-found_ds : {X : Type 0} (test : X → Bool) (x : X) → test x ≡ true → find test (x ∷ []) ≡ Some x
-found_ds test x h = ap (λ b. cond b (Some x) None) h
 
 is_ds_set : (class : ℕ) (owner : Labels) (next : Question) (ds : RrSet) (judged : Judged) → question_eq (ds_question class owner) next ≡ true
     → name_eq next.owner ds.owner ≡ true → ds.rtype ≡ next.rtype → ds.class ≡ next.class → IsSecureSet ds judged
@@ -252,7 +242,7 @@ unfolding zone_verdict
 zone_signed j set next ds judged is name rtype in_class secure supported =
     let test = is_ds_set_of set.class set.owner in
     let by = λ (s : Judged). verdict_by_ds j.answers set.owner s.mark s.set.records in
-    ap (λ o. option_map_or by o (verdict_without_ds set.owner (judged ∷ []))) (found_ds test judged (is_ds_set set.class set.owner next ds judged is name rtype in_class secure))
+    ap (λ o. option_map_or by o (verdict_without_ds set.owner (judged ∷ []))) (found_alone test judged (is_ds_set set.class set.owner next ds judged is name rtype in_class secure))
     ∙ ap (λ m. verdict_by_ds j.answers set.owner m judged.set.records) secure.mark
     ∙ ap (λ s. verdict_by_ds j.answers set.owner Secure s.records) secure.is
     ∙ ap (λ b.

@@ -18,6 +18,8 @@ use Rattle.dns_model.specs.Chains.{Judge}
 use Rattle.dns_model.specs.SoundAnswers.{Told, in_section}
 use Rattle.dns_model.specs.Trails.{AskedValue, JudgedSetValue, Answered}
 use Rattle.dns_model.proofs.SetLemmas.{number_same}
+use Rattle.dns_model.proofs.QuestionLemmas.{question_back, question_trans}
+use Rattle.dns_model.proofs.Lists.{empty_is}
 use Rattle.dns_judgement.specs.Asking.{most_sends, is_judged_at, judged_part}
 use Rattle.dns_judgement.specs.Judged.{Judged}
 use Rattle.dns_judgement.specs.Unsigned.{is_empty}
@@ -28,8 +30,6 @@ use Rattle.dns_judgement.proofs.SentLemmas.{numbered}
 use Rattle.dns_judgement.proofs.StayLemmas.{slice_get-stays}
 use Rattle.dns_laws.specs.Complete.{Upstream, HeardAlong, AreAsked}
 use Rattle.dns_laws.specs.Valid.{straight_set}
-use Rattle.dns_laws.proofs.TestLemmas.{empty_is}
-use Rattle.dns_laws.proofs.QuestionLemmas.{question_back, question_trans}
 use Rattle.dns_laws.proofs.StraightLemmas.{is_other, IsOneSet, answered}
 use Rattle.dns_laws.proofs.StraightStepLemmas.{needs_no_denial, IsStraightStep, straight_step, one_judged}
 use Rattle.dns_laws.proofs.SignedEntryLemmas.{IsSecureSet}

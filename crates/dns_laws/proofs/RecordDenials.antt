@@ -1,5 +1,5 @@
 -- What an answer denies by its own records: those of its last step's sets, with their marks.
-use Rattle.std.proofs.Common.{◌≡◌, ℕ, Bool, true, false, ◌==◌, ◌&&◌, ◌||◌, cond, List, [], ◌∷◌, ◌++◌, map, Option, None, Some, IfSome, refl, sym, ap, ◌∙◌, subst, true≢false}
+use Rattle.std.proofs.Common.{◌≡◌, ℕ, Bool, true, false, ◌==◌, ◌&&◌, cond, List, [], ◌∷◌, ◌++◌, map, Option, None, Some, IfSome, refl, sym, ap, ◌∙◌, subst, true≢false}
 use Rattle.std.specs.List.{filter, filter_map, flat_map, cons_option, list_any, AllByRecursion}
 use Rattle.std.proofs.lemmas.Bool.{and_parts, and_from, true_from_ne_false}
 use Rattle.dns_model.specs.declared.section.Section.{Section}
@@ -10,7 +10,7 @@ use Rattle.dns_model.specs.Records.{Rr, RrSet}
 use Rattle.dns_model.specs.Sections.{same_set, set_of, sets_of, leaders, unsigned_part}
 use Rattle.dns_model.specs.Chains.{is_nonempty, rdatas_of}
 use Rattle.dns_model.specs.SoundAnswers.{Told, Placed, placed_sets, in_section, section_eq, is_secure}
-use Rattle.dns_model.proofs.EachLemmas.{each_more, each_of, each_both, each_append, each_map, each_unmap, each_filter, each_passes}
+use Rattle.dns_model.proofs.EachLemmas.{each_more, each_of, each_both, each_append, each_map, each_unmap, each_filter, each_passes, filter_none, each_fails}
 use Rattle.dns_model.proofs.SetLemmas.{KeepsKey, is_of, section_same}
 use Rattle.dns_judgement.specs.Judged.{Judged, placed_of}
 use Rattle.dns_judgement.specs.Marking.{marked, map_after, marked_section}
@@ -164,14 +164,8 @@ each_denial P now told sets grouped h =
 
 -- ---- there are such records
 
-none_kept : {X : Type 0} (p : X → Bool) (b : Bool) (x : X) (xs : List X) → (b || list_any p xs) ≡ false
-    → (list_any p xs ≡ false → AllByRecursion (λ y. ⊥) (filter p xs)) → AllByRecursion (λ y. ⊥) (cond b (x ∷ filter p xs) (filter p xs))
-none_kept p true x xs h later = cc
-none_kept p false x xs h later = later h
-
 kept_none : {X : Type 0} (p : X → Bool) (xs : List X) → list_any p xs ≡ false → AllByRecursion (λ x. ⊥) (filter p xs)
-kept_none p [] h = tt
-kept_none p (x ∷ xs) h = none_kept p (p x) x xs h (kept_none p xs)
+kept_none p xs h = subst (AllByRecursion (λ x. ⊥)) (sym (filter_none p xs (each_fails p xs h))) tt
 
 no_record : (rs : List Rr) → is_nonempty (rdatas_of rs) ≡ true → AllByRecursion (λ r. ⊥) rs → ⊥
 no_record [] some none = cc

@@ -1,5 +1,5 @@
 -- The Secure signatures of an answer are those that decided its Secure sets; what it denies by its own records.
-use Rattle.std.proofs.Common.{◌≡◌, ℕ, Bool, true, false, not, ◌==◌, ◌&&◌, ◌||◌, cond, min, nat_le, arith, List, [], ◌∷◌, ◌++◌, map, Option, None, Some, IfSome, refl, sym, ap, ◌∙◌, subst, append_assoc}
+use Rattle.std.proofs.Common.{◌≡◌, ℕ, Bool, true, false, not, ◌==◌, ◌&&◌, ◌||◌, cond, min, nat_le, arith, List, [], ◌∷◌, ◌++◌, map, Option, None, Some, IfSome, refl, sym, ap, ◌∙◌, subst}
 use Rattle.std.specs.Option.{option_map, option_map_or, option_and_then}
 use Rattle.std.specs.List.{filter, filter_map, find, list_any, list_all, AllByRecursion}
 use Rattle.std.proofs.lemmas.Bool.{and_parts, and_from}
@@ -8,23 +8,24 @@ use Rattle.dns_model.specs.declared.denial.Denial.{Denial}
 use Rattle.dns_model.specs.declared.section.Section.{Section}
 use Rattle.dns_model.specs.declared.section.Section.TheVariants.{Answer, Authority}
 use Rattle.dns_model.specs.Names.{Labels, name_eq}
-use Rattle.dns_model.specs.Types.{type_cname, type_nsec, type_rrsig}
+use Rattle.dns_model.specs.Types.{type_cname, type_nsec}
 use Rattle.dns_model.specs.Views.{RrsigValue}
 use Rattle.dns_model.specs.Records.{Rr, Question}
 use Rattle.dns_model.specs.RecordViews.{rrsig_of}
 use Rattle.dns_model.specs.Sections.{is_signature}
 use Rattle.dns_model.specs.SoundAnswers.{Told, placed_sets, section_of, section_eq, is_secure, set_rtype}
 use Rattle.dns_model.proofs.EachLemmas.{each_more, find_known}
-use Rattle.dns_model.proofs.SetLemmas.{KeepsKey, IsSignedIn, name_back, name_trans}
+use Rattle.dns_model.proofs.SetLemmas.{KeepsKey, IsSignedIn, name_back, name_trans, signature-kept}
 use Rattle.dns_model.specs.declared.answered.Answered.TheVariants.{No, Expanded}
 use Rattle.dns_judgement.specs.DenialInZones.{IsShownBy}
 use Rattle.dns_judgement.specs.Zones.{Zone, IsTrueNsec}
 use Rattle.dns_judgement.specs.Judged.{Judged, placed_of, decider}
-use Rattle.dns_judgement.specs.Marking.{is_about, marked, map_after, marked_section, marked_told}
+use Rattle.dns_judgement.specs.Marking.{is_about, marked, marked_section, marked_told}
 use Rattle.dns_judgement.specs.Outcome.{answers_query, has_answer, is_wildcard_signature, is_expanded_answer, is_expanded_for, decider_labels, least, answered_from, answered, is_denying, denying, denials, is_made_by}
 use Rattle.dns_judgement.proofs.DeciderLemmas.{decider_is}
 use Rattle.dns_judgement.proofs.FindLemmas.{each_all}
 use Rattle.dns_judgement.proofs.MarkedLemmas.{marked-keeps, IsAbout, about_parts, IsKnown, each_known, made_secure}
+use Rattle.dns_judgement.proofs.AfterLemmas.{each_after}
 use Rattle.dns_laws.specs.Denials.{IsDenier, ShowsDenial}
 use Rattle.dns_laws.proofs.GroundParts.{picked, found_any}
 use Rattle.dns_laws.specs.OwnDenials.{secure_nsecs, IsDenyingZone, signs_nsec, has_signer, is_expansion, has_labels_from, DeniesByRecords}
@@ -32,14 +33,6 @@ use Rattle.dns_laws.proofs.RecordDenials.{kept_parts, each_given, each_denial, s
 use Rattle.dns_laws.proofs.SecureRecordLemmas.{any_after}
 
 -- ---- lists
-
--- what holds of each change at its place holds of each element of the changed list
-each_changed : (P : Rr → Type 0) (f : List Rr → Rr → Rr) (records before rs : List Rr) → before ++ rs ≡ records
-    → ((b rest : List Rr) (r : Rr) → b ++ r ∷ rest ≡ records → P (f b r)) → AllByRecursion P (map_after f before rs)
-unfolding map_after
-each_changed P f records before [] split at = tt
-each_changed P f records before (r ∷ rs) split at =
-    (at before rs r split, each_changed P f records (before ++ r ∷ []) rs (append_assoc before (r ∷ []) rs ∙ split) at)
 
 all_from : {X : Type 0} (p : X → Bool) (xs : List X) → AllByRecursion (λ x. p x ≡ true) xs → list_all p xs ≡ true
 all_from p [] h = refl
@@ -55,9 +48,6 @@ if_then true b h = h refl
 if_then false b h = refl
 
 -- ---- what marks leave of a record
-
-signature_kept : (f : Rr → Rr) → KeepsKey f → (r : Rr) → is_signature (f r) ≡ is_signature r
-signature_kept f k r = ap (λ t. t == type_rrsig) (k.rtype r)
 
 read_kept : (f : Rr → Rr) → KeepsKey f → (r : Rr) → rrsig_of (f r) ≡ rrsig_of r
 read_kept f k r = rw (k.rtype r, k.rdata r) refl
@@ -93,7 +83,7 @@ decided now told sets section before rest r grouped split secure signs =
     let known = find_known (is_about section r) (IsKnown told sets) sets made.set (each_known told sets grouped) made.found in
     let about = about_parts section r made.set known.passes in
     let signed = subst (λ x. IsSignedIn (section_of told x) made.set.set) about.section_is known.known.signed in
-    let is = sym (signature_kept (marked now sets section before) (marked-keeps now sets section before) r) ∙ signs in
+    let is = sym (signature-kept (marked now sets section before) (marked-keeps now sets section before) r) ∙ signs in
     record {
       set = made.set;
       found = made.found;
@@ -137,7 +127,7 @@ made_by_zone now told sets apex grouped made =
     let test = λ (r : Rr). not (signs_nsec r) || has_signer apex r in
     let each = each_kept (λ s. is_made_by apex s ≡ true) is_denying sets (each_all (is_made_by apex) (λ s. is_made_by apex s ≡ true) (λ s is. is) (denying sets) made) in
     all_from test (marked_section now sets Authority told.authorities)
-    (each_changed (λ r. test r ≡ true) (marked now sets Authority) told.authorities [] told.authorities refl
+    (each_after (λ r. test r ≡ true) (marked now sets Authority) told.authorities [] told.authorities refl
     (λ before rest r split.
     if_then (signs_nsec (marked now sets Authority before r)) (has_signer apex (marked now sets Authority before r))
     (made_step now told sets apex before rest r grouped each split)))
@@ -187,7 +177,7 @@ any_expansion : (now : ℕ) (q : Question) (told : Told) (sets : List Judged) �
     → list_any (is_expansion q) (marked_section now sets Answer told.answers) ≡ true → list_any (is_expanded_for q) sets ≡ true
 any_expansion now q told sets grouped h =
     let Shows = λ (m : Rr). is_expansion q m ≡ true → list_any (is_expanded_for q) sets ≡ true in
-    let each = each_changed Shows (marked now sets Answer) told.answers [] told.answers refl
+    let each = each_after Shows (marked now sets Answer) told.answers [] told.answers refl
     (λ before rest r split is.
     let e = expanded_by now q told sets before rest r grouped split is in
     found_any (is_about Answer r) (is_expanded_for q) sets e.set e.found e.expanded) in
@@ -268,7 +258,7 @@ fewest_labels : (now : ℕ) (q : Question) (told : Told) (sets : List Judged) (l
 fewest_labels now q told sets labels grouped is =
     let test = λ (r : Rr). not (is_expansion q r) || has_labels_from labels r in
     all_from test (marked_section now sets Answer told.answers)
-    (each_changed (λ r. test r ≡ true) (marked now sets Answer) told.answers [] told.answers refl
+    (each_after (λ r. test r ≡ true) (marked now sets Answer) told.answers [] told.answers refl
     (λ before rest r split.
     if_then (is_expansion q (marked now sets Answer before r)) (has_labels_from labels (marked now sets Answer before r))
     (fewest_step now q told sets labels before rest r grouped (each_labels q told sets labels is) split)))

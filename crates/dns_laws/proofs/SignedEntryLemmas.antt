@@ -1,5 +1,5 @@
 -- The entry of a set that isn't DNSKEY and has one signature: it asks for the signer's keys, and is Secure by them.
-use Rattle.std.proofs.Common.{◌≡◌, ℕ, ◌+◌, Bool, true, false, not, ◌==◌, List, [], ◌∷◌, take, None, Some, refl, sym, ap, ◌∙◌, cond, if◌then◌else◌}
+use Rattle.std.proofs.Common.{◌≡◌, ℕ, ◌+◌, Bool, true, false, not, ◌==◌, List, [], ◌∷◌, take, None, Some, refl, sym, ap, ◌∙◌, if◌then◌else◌}
 use Rattle.std.specs.Prelude.{◌&&◌, ◌||◌}
 use Rattle.std.specs.Option.{option_map, option_map_or}
 use Rattle.std.specs.List.{find, list_any}
@@ -16,6 +16,8 @@ use Rattle.dns_model.specs.Chains.{Judge, signer_fits, never_expanded, right_bel
 use Rattle.dns_model.specs.SoundAnswers.{Placed, in_section, section_eq}
 use Rattle.dns_model.specs.Trails.{JudgedSetValue}
 use Rattle.dns_model.proofs.SetLemmas.{name_trans, number_refl}
+use Rattle.dns_model.proofs.TestLemmas.{if_some}
+use Rattle.dns_model.proofs.QuestionLemmas.{same_parts}
 use Rattle.dns_judgement.specs.Validity.{is_good_by}
 use Rattle.dns_judgement.specs.Judged.{Judged}
 use Rattle.dns_judgement.specs.Marks.{Verdict, Proved, is_proved, is_skipped, key_question, counted_keys, is_key_set_of, by_keys, verdict_of, judged_by, most_signatures}
@@ -26,8 +28,7 @@ use Rattle.dns_judgement.specs.Derivation.{Grounds, finished_answer, is_ask, ver
 use Rattle.dns_judgement.specs.DerivationParts.{is_by_verdicts, after_verdict, if_last, place_eq, is_ask_for}
 use Rattle.dns_judgement.proofs.ExtendLemmas.{proof_same}
 use Rattle.dns_laws.specs.Valid.{is_proved_by_keys}
-use Rattle.dns_laws.proofs.TestLemmas.{passing, if_some, any_found}
-use Rattle.dns_laws.proofs.QuestionLemmas.{same_parts}
+use Rattle.dns_laws.proofs.TestLemmas.{passing, any_found, found_alone}
 use Rattle.dns_laws.proofs.StraightLemmas.{IsSigned}
 use Rattle.dns_laws.proofs.StraightStepLemmas.{needs_no_denial}
 
@@ -141,9 +142,6 @@ one_ask g q next set keys entry signed ask other asked h =
     }
 
 -- ---- the mark
-
-found_alone : {X : Type 0} (test : X → Bool) (x : X) → test x ≡ true → find test (x ∷ []) ≡ Some x
-found_alone test x h = ap (λ b. cond b (Some x) None) h
 
 is_key_set : (j : Judge) (set : RrSet) (next : Question) (keys : RrSet) (r : Rr) (judged : Judged) (ask : IsKeysAsk j set next keys r)
     → name_eq next.owner keys.owner ≡ true → keys.rtype ≡ next.rtype → keys.class ≡ next.class → IsSecureSet keys judged

@@ -13,14 +13,16 @@ use Rattle.dns_model.specs.RecordViews.{rrsig_of}
 use Rattle.dns_model.specs.Sections.{same_set, is_signature, covers_rtype, covers, leaders, unsigned_part, set_of, sets_of}
 use Rattle.dns_model.specs.Chains.{Judge, rdatas_of}
 use Rattle.dns_model.specs.SoundAnswers.{Told}
-use Rattle.dns_model.proofs.EachLemmas.{each_more}
+use Rattle.dns_model.proofs.EachLemmas.{each_more, filter_none}
 use Rattle.dns_model.proofs.RecordViewLemmas.{rrsig_read}
 use Rattle.dns_model.proofs.SetLemmas.{name_back, name_trans, number_same, number_refl, each_leader}
+use Rattle.dns_model.proofs.TestLemmas.{if_some}
+use Rattle.dns_model.proofs.Lists.{empty_is}
 use Rattle.dns_judgement.specs.Unsigned.{is_empty}
 use Rattle.dns_judgement.proofs.FindLemmas.{each_all}
 use Rattle.dns_laws.specs.Straight.{is_queried, is_plain_signature, are_distinct, is_wholly_anchored, is_signed_once, is_straight}
 use Rattle.dns_laws.specs.Valid.{straight_set}
-use Rattle.dns_laws.proofs.TestLemmas.{passing, if_some, empty_is, one_is, only_first, some_kept, none_kept, kept_alike}
+use Rattle.dns_laws.proofs.TestLemmas.{passing, one_is, only_first, some_kept, kept_alike}
 
 -- ---- the records
 
@@ -115,7 +117,7 @@ one_leader : (q : Question) (r : Rr) (rs : List Rr) → AllByRecursion (IsQuerie
 unfolding leaders
 one_leader q r rs each =
     ap (λ others. r ∷ others)
-    (none_kept (λ s. not (same_set r s)) (leaders rs)
+    (filter_none (λ s. not (same_set r s)) (leaders rs)
     (each_more (IsQueried q) (λ s. not (same_set r s) ≡ false) (λ s of. ap not (same_queried q r s each.0 of)) (leaders rs)
     (each_leader (IsQueried q) rs each.1)))
 

@@ -20,6 +20,7 @@ use Rattle.dns_model.specs.SoundAnswers.{Told, Placed, in_section, placed_sets, 
 use Rattle.dns_model.specs.Trails.{AskedValue, JudgedSetValue, EndingValue, Answered, Denied, Foreign, Failed, Seen}
 use Rattle.dns_model.proofs.EachLemmas.{each_more, each_append}
 use Rattle.dns_model.proofs.SetLemmas.{name_back, name_trans, number_same, number_refl}
+use Rattle.dns_model.proofs.Lists.{empty_is}
 use Rattle.dns_judgement.specs.Asking.{is_judged_at, judged_part}
 use Rattle.dns_judgement.specs.Judged.{Judged, decider}
 use Rattle.dns_judgement.specs.Outcome.{Outcome, outcome_of, outcome_by_denials, answers_query, has_answer, answered, is_wildcard_signature, has_wildcard_signature, is_unjudged, is_denying, is_expanded_answer, denying, denials, one_signer, is_insecure_authority, insecure_answer, foreign_record}
@@ -28,7 +29,7 @@ use Rattle.dns_judgement.specs.Unsigned.{is_empty}
 use Rattle.dns_judgement.specs.Derivation.{Grounds, told_in, with_entries, is_by_origin, entry_holds, entries_hold, denial_eq, ending_eq, ends_bare, ending_holds, heard_holds, step_holds}
 use Rattle.dns_judgement.specs.DerivationParts.{with_entry, grounds_of, judged_holds}
 use Rattle.dns_laws.specs.Straight.{is_queried}
-use Rattle.dns_laws.proofs.TestLemmas.{all_kept, none_found, none_any, empty_is}
+use Rattle.dns_laws.proofs.TestLemmas.{all_kept, none_found, none_any}
 use Rattle.dns_laws.proofs.StraightLemmas.{IsQueried, IsPlain, OfReply, IsOneSet, each_signature}
 
 -- ---- its sets

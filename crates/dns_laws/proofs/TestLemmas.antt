@@ -1,12 +1,12 @@
 -- What tests that pass say of optional values and of the elements of lists.
-use Rattle.std.proofs.Common.{◌≡◌, Bool, true, false, cond, List, [], ◌∷◌, length, Option, None, Some, slice_get, refl, sym, ap, ◌∙◌, arith, if◌then◌else◌, ◌==◌}
+use Rattle.std.proofs.Common.{◌≡◌, Bool, true, false, cond, List, [], ◌∷◌, length, Option, None, Some, slice_get, refl, sym, ap, ◌∙◌, arith, ◌==◌}
 use Rattle.std.specs.Prelude.{◌||◌}
 use Rattle.std.specs.Option.{option_map_or}
 use Rattle.std.specs.List.{filter, find, list_any, AllByRecursion}
 use Rattle.std.proofs.lemmas.Bool.{or_cases}
 use Rattle.std.proofs.Math.Logic.{⊎_elim}
+pub use Rattle.std.proofs.lemmas.Option.{same_Some as some_same}
 use Rattle.dns_model.proofs.SetLemmas.{number_same}
-use Rattle.dns_judgement.specs.Unsigned.{is_empty}
 
 -- ---- optional values
 
@@ -19,15 +19,7 @@ pub passing : {X : Type 0} (test : X → Bool) (o : Option X) → option_map_or 
 passing test None h = cc
 passing test (Some x) h = record { value = x; found = refl; passes = h }
 
-pub if_some : {X : Type 0} (b : Bool) (o : Option X) (x : X) → (if b then o else None) ≡ Some x → (b ≡ true) × (o ≡ Some x)
-if_some true o x h = (refl, h)
-if_some false o x h = cc
-
 -- ---- lists
-
-pub empty_is : {X : Type 0} (xs : List X) → is_empty xs ≡ true → xs ≡ []
-empty_is [] h = refl
-empty_is (x ∷ xs) h = cc
 
 pub record IsOne {X : Type 0} (xs : List X) : Type 0 where
   pub value : X
@@ -37,9 +29,6 @@ pub one_is : {X : Type 0} (xs : List X) → (length xs == 1) ≡ true → IsOne 
 one_is [] h = cc
 one_is (x ∷ []) h = record { value = x; is = refl }
 one_is (x ∷ y ∷ ys) h = absurd (omega (arith, number_same (length (x ∷ y ∷ ys)) 1 h))
-
-pub some_same : {X : Type 0} (a b : X) → Some a ≡ Some b → a ≡ b
-some_same a b h = cc
 
 -- the first of a list of one
 pub only_first : {X : Type 0} (xs : List X) (a b : X) → xs ≡ a ∷ [] → slice_get xs 0 ≡ Some b → a ≡ b
@@ -62,10 +51,6 @@ some_kept p q (x ∷ xs) passes h =
     kept_begins p (p x) x xs
     (λ fails. ⊎_elim (λ here. cc (passes x here, fails)) (λ later. some_kept p q xs passes later) (or_cases (q x) (list_any q xs) h))
 
-pub none_kept : {X : Type 0} (p : X → Bool) (xs : List X) → AllByRecursion (λ x. p x ≡ false) xs → filter p xs ≡ []
-none_kept p [] h = refl
-none_kept p (x ∷ xs) h = ap (λ b. cond b (x ∷ filter p xs) (filter p xs)) h.0 ∙ none_kept p xs h.1
-
 pub all_kept : {X : Type 0} (p : X → Bool) (xs : List X) → AllByRecursion (λ x. p x ≡ true) xs → filter p xs ≡ xs
 all_kept p [] h = refl
 all_kept p (x ∷ xs) h = ap (λ b. cond b (x ∷ filter p xs) (filter p xs)) h.0 ∙ ap (λ ys. x ∷ ys) (all_kept p xs h.1)
@@ -83,6 +68,9 @@ pub kept_alike : {X : Type 0} (p q : X → Bool) (xs : List X) → AllByRecursio
 kept_alike p q [] h = refl
 kept_alike p q (x ∷ xs) h =
     ap (λ b. cond b (x ∷ filter p xs) (filter p xs)) h.0 ∙ ap (λ ys. cond (q x) (x ∷ ys) ys) (kept_alike p q xs h.1)
+
+pub found_alone : {X : Type 0} (test : X → Bool) (x : X) → test x ≡ true → find test (x ∷ []) ≡ Some x
+found_alone test x h = ap (λ b. cond b (Some x) None) h
 
 found_step : {X : Type 0} (test : X → Bool) (b : Bool) (x : X) (rest : Option X) → test x ≡ b → (b ≡ false → Passing test rest)
     → Passing test (cond b (Some x) rest)

@@ -1,28 +1,16 @@
 -- Straight replies and valid sessions on worked rows, shown by computing them: the root's NS set, signed by its anchored key.
 use Rattle.std.specs.Prelude.{◌≡◌, ℕ, Bool, true, false, List, [], ◌∷◌, Option, None, Some, refl, if◌then◌else◌}
-use Rattle.dns_model.specs.NameForm.{label_in, labels_in, name_in}
-use Rattle.dns_model.specs.Names.{Labels}
-use Rattle.dns_model.specs.Records.{Rr, RrSet, Question, question_eq}
-use Rattle.dns_model.specs.Views.{RrsigValue, rrsig_in, dnskey_in, ds_in}
-use Rattle.dns_model.specs.Shapes.{parts_in, shape_of, is_lowered_type, canonical_form}
-use Rattle.dns_model.specs.Signing.{tag_sum, insert_once, rising_once, signed_bytes}
+use Rattle.dns_model.specs.Records.{Rr, Question, question_eq}
+use Rattle.dns_model.specs.Views.{ds_in}
 use Rattle.dns_model.specs.Sections.{leaders, sets_of}
 use Rattle.dns_model.specs.Chains.{Judge, judge}
 use Rattle.dns_model.specs.SoundAnswers.{Told}
 use Rattle.dns_model.proofs.Worked.{key, name_a, signature, anchors}
-use Rattle.dns_judgement.specs.Validity.{validity, is_good_by}
 use Rattle.dns_judgement.specs.Marks.{first_two}
 use Rattle.dns_judgement.proofs.WorkedTrailValues.{verifier, root_judge, record_of, keys_question, ns_question, ns_records}
+use Rattle.dns_judgement.proofs.WorkedTrails.{good_computed}
 use Rattle.dns_laws.specs.Straight.{is_straight}
 use Rattle.dns_laws.specs.Valid.{leads_to_anchor}
-
-signed_computed : Labels → ℕ → ℕ → List (List ℕ) → RrsigValue → List ℕ
-unfolding signed_bytes rising_once insert_once canonical_form is_lowered_type parts_in shape_of name_in labels_in label_in
-signed_computed = signed_bytes
-
-good_computed : Judge → RrSet → Rr → Rr → Bool
-unfolding signed_computed is_good_by validity rrsig_in dnskey_in tag_sum
-good_computed = is_good_by
 
 unfoldable pub straight_computed : Judge → Question → Told → Bool
 unfolding good_computed sets_of leaders

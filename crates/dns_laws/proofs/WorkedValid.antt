@@ -1,18 +1,14 @@
 -- Valid sessions on worked rows, shown by computing them: the keys of `example.`, whose DS set the root's anchored key signs; and what
 -- they are where one thing in them is turned.
-use Rattle.std.proofs.Common.{◌≡◌, ℕ, true, false, List, [], ◌∷◌, ◌++◌, map, drop, Option, None, Some, refl, ap, if◌then◌else◌}
-use Rattle.dns_model.specs.Keys.{is_digest}
+use Rattle.std.proofs.Common.{◌≡◌, ℕ, true, false, List, [], ◌∷◌, ◌++◌, map, Option, None, Some, refl, if◌then◌else◌}
 use Rattle.dns_model.specs.Records.{Rr, Question, question_eq}
 use Rattle.dns_model.specs.SoundAnswers.{Told}
-use Rattle.dns_model.specs.Views.{dnskey_in, ds_in}
-use Rattle.dns_model.specs.Signing.{ds_digest, tag_sum}
 use Rattle.dns_model.proofs.Worked.{key}
-use Rattle.dns_model.proofs.ChainLemmas.{bytes_same}
-use Rattle.dns_model.proofs.Delegation.{ds_of_key, ds_matches, signature_of}
+use Rattle.dns_model.proofs.Delegation.{ds_of_key, signature_of}
 use Rattle.dns_judgement.specs.Marks.{key_question}
 use Rattle.dns_judgement.specs.Delegations.{ds_question}
 use Rattle.dns_judgement.proofs.WorkedTrailValues.{record_of}
-use Rattle.dns_judgement.proofs.WorkedDelegations.{zone, ds_records, zone_keys, self_signed, by_root, by_both, other_digest}
+use Rattle.dns_judgement.proofs.WorkedDelegations.{zone, ds_records, zone_keys, self_signed, by_root, by_both, other_digest, digest_of_key}
 use Rattle.dns_laws.specs.Valid.{leads_to_anchor}
 use Rattle.dns_laws.proofs.WorkedStraight.{answers_of, leads_computed}
 
@@ -41,16 +37,6 @@ third_digest = 174 ∷ 201 ∷ 13 ∷ 2 ∷ 2 ∷ []
 -- and of a digest type that isn't supported
 abbrev unsupported : ℕ → List ℕ
 unsupported n = 174 ∷ 201 ∷ 13 ∷ 3 ∷ n ∷ []
-
--- ---- the digest of the key, which is in the first DS
-
-is_this_digest : (o : Option (List ℕ)) (digest : List ℕ) → is_digest o digest ≡ true → o ≡ Some digest
-is_this_digest None digest h = cc
-is_this_digest (Some bytes) digest h = ap Some (bytes_same bytes digest h)
-
-digest_of_key : ds_digest 2 zone key ≡ Some (drop 4 ds_of_key)
-unfolding dnskey_in ds_in tag_sum
-digest_of_key = is_this_digest (ds_digest 2 zone key) (drop 4 ds_of_key) ds_matches
 
 -- ---- sessions
 

@@ -5,6 +5,7 @@ use Rattle.std.specs.List.{list_all}
 use Rattle.std.proofs.lemmas.Bool.Decides.{nat_tests}
 use Rattle.std.proofs.lemmas.Bool.{and_from, and_parts}
 use Rattle.dns_model.specs.Names.{Label, Labels, wire, is_label, is_name}
+use Rattle.dns_model.proofs.WireLemmas.{length-wire}
 use Rattle.dns_message.specs.declared.decode_error.DecodeError.{DecodeError}
 use Rattle.dns_message.specs.declared.step.Step.{Step}
 use Rattle.dns_message.specs.declared.step.Step.TheVariants as step
@@ -94,10 +95,6 @@ label_here : (bytes : List ℕ) (start pos size n : ℕ) → get_or bytes pos 0 
 unfolding step_of
 label_here bytes start pos size n byte some small inside room = grind (arith, nat_tests)
 
-some_wire : (name : Labels) → 0 < length (wire name)
-some_wire [] = omega arith
-some_wire (label ∷ name) = omega arith
-
 pub labels_again : (labels : Labels) (bytes : List ℕ) (start pos size : ℕ) → Stands bytes pos (wire labels) → list_all is_label labels ≡ true → size + length (wire labels) ≤ 255
     → labels_at bytes start pos size ≡ Ok (labels, pos + length (wire labels))
 labels_again [] bytes start pos size s good room =
@@ -111,7 +108,7 @@ labels_again (label ∷ name) bytes start pos size s good room =
     let some : 0 < length label = grind (arith, nat_tests, halves.0) in
     let small : length label ≤ 63 = grind (arith, nat_tests, halves.1) in
     let whole : length (wire (label ∷ name)) ≡ 1 + length label + length (wire name) = omega (arith, length-append label (wire name)) in
-    let last : 0 < length (wire name) = some_wire name in
+    let last : 0 < length (wire name) = omega (arith, length-wire name) in
     let inside : pos + length (wire (label ∷ name)) ≤ length bytes = stands_inside bytes pos (wire (label ∷ name)) s in
     let byte : get_or bytes pos 0 ≡ length label = ap (λ (k : ℕ). get_or bytes k 0) (sym (add-zero pos)) ∙ stands_byte bytes pos (wire (label ∷ name)) 0 s (omega (arith, whole)) in
     let behind : Stands bytes (pos + 1) (label ++ wire name) = stands_back bytes pos (length label ∷ []) (label ++ wire name) s in

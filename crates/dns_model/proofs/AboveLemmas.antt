@@ -10,10 +10,10 @@ use Rattle.dns_model.specs.Names.{Label, Labels, lowered, folded, name_eq, at_or
 use Rattle.dns_model.proofs.LabelSteps.{at_or_above-shorter}
 use Rattle.dns_model.proofs.NameLemmas.{name_eq-Decides}
 
--- the one list ends the other
-record Nests (back more : Labels) : Type 0 where
-  front : Labels
-  whole : more ≡ front ++ back
+-- the last labels of a name
+pub record Ends (last name : Labels) : Type 0 where
+  pub front : Labels
+  pub whole : name ≡ front ++ last
 
 -- the last labels of the name are those of the one above it
 pub record IsBelow (above name : Labels) : Type 0 where
@@ -94,7 +94,7 @@ above_one_more above label name h =
     below_made above (label ∷ name) (record { front = lowered label ∷ i.front; whole = ap (λ (back : Labels). lowered label ∷ back) i.whole })
 
 -- two lists that end one list, the shorter first
-nested : (front back other more : Labels) → front ++ back ≡ other ++ more → length back ≤ length more → Nests back more
+nested : (front back other more : Labels) → front ++ back ≡ other ++ more → length back ≤ length more → Ends back more
 nested front back [] more e h = record { front = front; whole = sym e }
 nested [] back (x ∷ other) more e h = absurd (omega (arith, ap length e, length-append other more))
 nested (y ∷ front) back (x ∷ other) more e h =

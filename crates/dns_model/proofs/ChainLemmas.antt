@@ -12,14 +12,11 @@ use Rattle.dns_model.specs.Records.{Rr, RrSet}
 use Rattle.dns_model.specs.Chains.{LinkValue, Anchored, Matched, KeySet, Signed, Judge, link_holds, links_hold, is_chain, justified, last_link, same_rdatas, rdatas_of, has_bytes, link_is_for, shows_member, shows_key}
 use Rattle.dns_model.proofs.EachLemmas.{each_more}
 use Rattle.dns_model.proofs.SetLemmas.{name_refl, name_trans, number_refl, number_same}
+use Rattle.dns_model.proofs.TestLemmas.{and_true}
 
 and_assoc : (x y z : Bool) → (x && (y && z)) ≡ (x && y && z)
 and_assoc true y z = refl
 and_assoc false y z = refl
-
-and_true : (x : Bool) → (x && true) ≡ x
-and_true true = refl
-and_true false = refl
 
 -- links hold in two parts, the second after the first
 pub links_hold-join : (j : Judge) (earlier links more : List LinkValue)
@@ -165,9 +162,3 @@ pub anchor_shown : (owner : Labels) (class : ℕ) (key : List ℕ) → shows_key
 anchor_shown owner class key =
     and_from (name_eq owner owner) ((class == class) && bytes_eq key key) (name_refl owner)
     (and_from (class == class) (bytes_eq key key) (number_refl class) (bytes_refl key))
-
--- ---- a link by its number
-
-pub slice_get_at : (front : List LinkValue) (link : LinkValue) (rest : List LinkValue) → slice_get (front ++ link ∷ rest) (length front) ≡ Some link
-slice_get_at [] link rest = refl
-slice_get_at (x ∷ front) link rest = slice_get_at front link rest

@@ -6,14 +6,9 @@ use Rattle.std.proofs.lemmas.Bool.Decides.{nat_tests}
 use Rattle.std.proofs.lemmas.List.{drop-drop}
 use Rattle.dns_model.specs.Names.{Label, Labels, name_eq, at_or_above, common_ancestor, longer}
 use Rattle.dns_model.proofs.LabelSteps.{at_or_above-shorter, at_or_above-longer}
-use Rattle.dns_model.proofs.AboveLemmas.{above_alike, above_itself, root_above, above_trans, above_tail, above_one_more, above_nested}
+use Rattle.dns_model.proofs.AboveLemmas.{above_alike, above_itself, root_above, above_trans, above_tail, above_one_more, above_nested, Ends}
 
 -- ---- it is above both, and below all that are
-
--- the last labels of a name
-pub record Ends (last name : Labels) : Type 0 where
-  pub front : Labels
-  pub whole : name ≡ front ++ last
 
 common_ends_by : (label : Label) (name other : Labels) (b : Bool) → Ends (common_ancestor name other) name
     → Ends (cond b (label ∷ name) (common_ancestor name other)) (label ∷ name)

@@ -2,6 +2,7 @@ pub mod Worked
 pub mod WorkedAnswers
 pub mod ViewLaws
 pub mod RecordViewLemmas
+pub mod TestLemmas
 pub mod Lists
 pub mod WireLemmas
 pub mod NameLemmas
@@ -10,6 +11,7 @@ pub mod Delegation
 pub mod ChainLemmas
 pub mod EachLemmas
 pub mod SetLemmas
+pub mod QuestionLemmas
 pub mod OrderLemmas
 pub mod LabelSteps
 pub mod AboveLemmas

@@ -15,7 +15,7 @@ use Rattle.dns_model.specs.Names.{Label, Labels, lowered, folded, name_eq, name_
 pub name_total : IsTotalOrder name_cmp
 name_total = on_total (λ (n : Labels). reverse (folded n)) (lists_total nat_list_cmp_total)
 
-nat_ties : (x y : ℕ) → nat_eq x y ≡ eq_by_cmp nat_cmp x y
+pub nat_ties : (x y : ℕ) → nat_eq x y ≡ eq_by_cmp nat_cmp x y
 nat_ties x y = grind (arith, nat_tests)
 
 -- byte strings are equal exactly where their order does not tell them apart

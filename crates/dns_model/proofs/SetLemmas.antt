@@ -16,7 +16,7 @@ use Rattle.dns_model.specs.Sections.{same_set, is_signature, covers_rtype, cover
 use Rattle.dns_model.specs.Chains.{is_nonempty, rdatas_of}
 use Rattle.dns_model.specs.SoundAnswers.{Told, Placed, in_section, placed_sets, section_of, section_eq}
 use Rattle.dns_model.proofs.NameLemmas.{name_equiv}
-use Rattle.dns_model.proofs.EachLemmas.{each_more, each_of, each_both, each_append, each_front, each_back, each_map, each_unmap, each_filter, each_passes, filter-map, map_agree, map-map, Apart, apart_filter, apart_map, apart_agree, apart_append}
+use Rattle.dns_model.proofs.EachLemmas.{each_more, each_of, each_both, each_append, each_front, each_back, each_map, each_unmap, each_filter, each_passes, filter-map, map_agree, map-map, Apart, apart_filter, apart_map, apart_agree, apart_append, filter_none}
 
 -- ---- equality of names and of numbers
 
@@ -270,12 +270,8 @@ placed_apart told =
 
 -- ---- each record in one set
 
-same_set_back : (a b : Rr) → same_set a b ≡ same_set b a
+pub same_set_back : (a b : Rr) → same_set a b ≡ same_set b a
 same_set_back a b = ap (λ x. x && (a.rtype == b.rtype)) (name_equiv.symm a.owner b.owner) ∙ ap (λ x. name_eq b.owner a.owner && x) (number_back a.rtype b.rtype)
-
-filter_none : {X : Type 0} (p : X → Bool) (xs : List X) → AllByRecursion (λ x. p x ≡ false) xs → filter p xs ≡ []
-filter_none p [] h = refl
-filter_none p (x ∷ xs) h = ap (λ b. cond b (x ∷ filter p xs) (filter p xs)) h.0 ∙ filter_none p xs h.1
 
 left_out : (x r : Rr) → same_set x r ≡ true → (l : Rr) → not (same_set x l) ≡ true → same_set l r ≡ false
 left_out x r h l out =
@@ -348,7 +344,7 @@ pub record KeepsKey (f : Rr → Rr) : Type 0 where
 abbrev pub on_set : (Rr → Rr) → RrSet → RrSet
 on_set f set = record set { records = map f set.records; signatures = map f set.signatures }
 
-signature-kept : (f : Rr → Rr) → KeepsKey f → (r : Rr) → is_signature (f r) ≡ is_signature r
+pub signature-kept : (f : Rr → Rr) → KeepsKey f → (r : Rr) → is_signature (f r) ≡ is_signature r
 signature-kept f k r = ap (λ n. n == type_rrsig) (k.rtype r)
 
 same_set-kept : (f : Rr → Rr) → KeepsKey f → (a b : Rr) → same_set (f a) (f b) ≡ same_set a b

@@ -11,7 +11,7 @@ use Rattle.dns_model.specs.Views.{rrsig_in, rrsig_from, dnskey_in, ds_in, nsec_i
 short_or_long : (n k : ℕ) → nat_lt n k ≡ not (nat_le k n)
 short_or_long n k = grind (arith)
 
-with_part-keeps : (p : Part) (o : Option (List Part)) → is_some (with_part p o) ≡ is_some o
+pub with_part-keeps : (p : Part) (o : Option (List Part)) → is_some (with_part p o) ≡ is_some o
 with_part-keeps p None = refl
 with_part-keeps p (Some parts) = refl
 

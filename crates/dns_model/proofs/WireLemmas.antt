@@ -10,10 +10,6 @@ use Rattle.dns_model.specs.Names.{Label, Labels, wire, is_label, is_name}
 use Rattle.dns_model.specs.NameForm.{label_in, with_label, after_label, labels_in, within_limit, name_in, labels_of, IsWire}
 use Rattle.dns_model.proofs.Lists.{take-front, drop-front}
 
--- a test of two tests that both hold
-and_true : (a b : Bool) → a ≡ true → b ≡ true → (a && b) ≡ true
-and_true a b p q = rw (p, q) refl
-
 -- what two equal pairs in an option have in common
 pub first_of_some : {X Y : Type 0} {p q : X × Y} → Some p ≡ Some q → p.0 ≡ q.0
 first_of_some {X} {Y} {p} {q} h = let e : p ≡ q = cc in ap (λ (x : X × Y). x.0) e

@@ -67,10 +67,6 @@ parts_all fields i bytes h e = ap (λ fs. parts_in fs bytes) (no_fields fields i
 pub parts_over : (fields : List Field) (i : ℕ) (bytes : List ℕ) → length fields ≤ i → 0 < length bytes → parts_in (drop i (map field_value fields)) bytes ≡ None
 parts_over fields i bytes h e = ap (λ fs. parts_in fs bytes) (no_fields fields i h) ∙ parts_over_at bytes e
 
-pub some_with : (part : Part) (parts : Option (List Part)) → is_some (with_part part parts) ≡ is_some parts
-some_with part None = refl
-some_with part (Some parts) = refl
-
 pub behind_with : (done : List ℕ) (part : Part) (parts : Option (List Part)) → behind done (with_part part parts) ≡ behind (done ++ canonical_part part) parts
 behind_with done part None = refl
 behind_with done part (Some parts) = ap Some (sym (append_assoc done (canonical_part part) (concat (map canonical_part parts))))

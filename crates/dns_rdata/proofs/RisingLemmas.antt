@@ -47,7 +47,3 @@ rising_put h xs i x keys now key p q g f k e =
     e
     ∙ (ap (λ ks. insert_key (slice_cmp nat_cmp) ks key) k
     ∙ (ap (λ y. insert_key (slice_cmp nat_cmp) (rising_once (map h (drop i xs))) y) (f ∙ ap h g) ∙ rising_more h xs i x p q))
-
-pub map_twice : {X Y Z : Type 0} (f : Y → Z) (g : X → Y) (xs : List X) → map f (map g xs) ≡ map (λ x. f (g x)) xs
-map_twice f g [] = refl
-map_twice f g (x ∷ xs) = ap (λ ys. f (g x) ∷ ys) (map_twice f g xs)

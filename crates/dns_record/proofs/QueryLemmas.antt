@@ -1,15 +1,15 @@
 -- Equal queries: names that differ in case alone, one type and one class.
-use Rattle.std.proofs.Common.{◌≡◌, ℕ, Bool, true, ◌&&◌, ◌++◌, ◌∷◌, refl, sym, ap, ◌∙◌, arith, IsTrue}
+use Rattle.std.proofs.Common.{◌≡◌, Bool, true, ◌&&◌, ◌++◌, ◌∷◌, refl, sym, ap, ◌∙◌, IsTrue}
 use Rattle.std.specs.Prelude.{nat_eq, ◌==◌, ◌↔◌}
 use Rattle.std.specs.Cmp.{Equal-is, tied_then}
 use Rattle.std.specs.Ordering.{nat_cmp, is_eq, ordering_then}
 use Rattle.std.specs.declared.cmp.Ordering.TheVariants.{Equal}
 use Rattle.std.proofs.lemmas.Bool.{and_parts}
-use Rattle.std.proofs.lemmas.Bool.Decides.{nat_tests, Decides-eqb}
+use Rattle.std.proofs.lemmas.Bool.Decides.{Decides-eqb}
 use Rattle.dns_model.specs.Names.{folded, name_eq, name_cmp}
 use Rattle.dns_model.specs.Records.{Question, question_eq}
 use Rattle.dns_model.proofs.NameLemmas.{name_eq-Decides}
-use Rattle.dns_model.proofs.OrderLemmas.{name_ties}
+use Rattle.dns_model.proofs.OrderLemmas.{name_ties, nat_ties}
 
 -- what `question_eq` tests
 abbrev pub AreEqual : Question → Question → Type 0
@@ -25,9 +25,6 @@ question_eq-parts a b =
           (names.0 outer.0, kinds.0 inner.0, classes.0 inner.1),
       λ h. rw (names.1 h.0, kinds.1 h.1, classes.1 h.2) refl,
     )
-
-nat_ties : (x y : ℕ) → (x == y) ≡ is_eq (nat_cmp x y)
-nat_ties x y = grind (arith, nat_tests)
 
 -- queries are equal exactly where the order by name, type and class does not tell them apart
 pub question_ties : (a b : Question)

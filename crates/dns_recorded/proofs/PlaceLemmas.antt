@@ -9,10 +9,12 @@ use Rattle.std.specs.BTreeMap as tree
 use Rattle.std.specs.BTreeMap.{BTreeMap}
 use Rattle.std.specs.declared.collections.VecDeque.{VecDeque}
 use Rattle.std.proofs.lemmas.List.{append-nil}
+use Rattle.dns_model.proofs.TestLemmas.{tied_equal}
+use Rattle.dns_model.proofs.Lists.{lookup-same}
 use Rattle.dns_handle.specs.declared.query_key.QueryKey.{QueryKey}
 use Rattle.dns_handle.specs.QueryKeys.{key_cmp}
 use Rattle.dns_recorded.specs.RecordedPlaces.{queue_items, places_at, SamePlaces, Noted, Dropped}
-use Rattle.dns_handle.proofs.KeyLemmas.{key_total, equal-is_eq, lookup-same}
+use Rattle.dns_handle.proofs.KeyLemmas.{key_total}
 
 -- equal keys have one queue
 get-same : {X : Type 0} (m : BTreeMap QueryKey X) (k q : QueryKey) → key_cmp k q ≡ Equal → tree.get key_cmp m k ≡ tree.get key_cmp m q
@@ -22,7 +24,7 @@ changed-case : {Z : Type 0} (old : BTreeMap QueryKey (VecDeque ℕ Z)) (key k : 
     → w.items ≡ change (places_at old key) → (b : Bool) → is_eq (key_cmp key k) ≡ b
     → queue_items (cond b (Some w) (tree.get key_cmp old k)) ≡ cond b (change (places_at old k)) (places_at old k)
 changed-case old key k w change new true tied =
-    new ∙ ap (λ o. change (queue_items o)) (get-same old key k (equal-is_eq (key_cmp key k) tied))
+    new ∙ ap (λ o. change (queue_items o)) (get-same old key k (tied_equal (key_cmp key k) tied))
 changed-case old key k w change new false tied = refl
 
 -- a change of one queue
@@ -60,7 +62,7 @@ unchanged old new key w items updates k =
 dropped-case : {Z : Type 0} (old : BTreeMap QueryKey (VecDeque ℕ Z)) (key k : QueryKey) → tree.get key_cmp old key ≡ None → (b : Bool) → is_eq (key_cmp key k) ≡ b
     → places_at old k ≡ cond b (drop 1 (places_at old k)) (places_at old k)
 dropped-case old key k none true tied =
-    let empty : places_at old k ≡ [] = ap queue_items (sym (get-same old key k (equal-is_eq (key_cmp key k) tied)) ∙ none) in
+    let empty : places_at old k ≡ [] = ap queue_items (sym (get-same old key k (tied_equal (key_cmp key k) tied)) ∙ none) in
     rw empty refl
 dropped-case old key k none false tied = refl
 

@@ -1,8 +1,8 @@
 -- The replies to a question, found by their places.
-use Rattle.std.proofs.Common.{◌≡◌, ◌<◌, ℕ, ◌+◌, Bool, true, false, cond, List, [], ◌∷◌, ◌++◌, length, drop, None, Some, Err, refl, sym, ap, ◌∙◌, arith, length-append, zero-add, add-zero}
+use Rattle.std.proofs.Common.{◌≡◌, ℕ, ◌+◌, Bool, true, false, cond, List, [], ◌∷◌, ◌++◌, length, drop, None, Some, Err, refl, sym, ap, ◌∙◌, arith, zero-add, add-zero}
 use Rattle.std.specs.Prelude.{slice_get, slice_set, ◌||◌}
 use Rattle.std.specs.List.{list_any}
-use Rattle.std.specs.Ordering.{is_eq, ordering_reverse}
+use Rattle.std.specs.Ordering.{is_eq}
 use Rattle.std.specs.declared.cmp.Ordering.TheVariants.{Equal}
 use Rattle.std.specs.Map.{lookup}
 use Rattle.std.specs.BTreeMap.{BTreeMap}
@@ -10,33 +10,28 @@ use Rattle.std.specs.declared.collections.VecDeque.{VecDeque}
 use Rattle.std.proofs.lemmas.Bool.{or_parts}
 use Rattle.std.proofs.lemmas.List.{append-nil}
 use Rattle.std.proofs.lemmas.List.Elements.{filter_map-append}
-use Rattle.std.proofs.lemmas.Option.{slice_get-get_or}
-use Rattle.std.proofs.Math.Seq.{get_or-append_seam, set-append_seam}
+use Rattle.std.proofs.Math.Seq.{set-append_seam}
 use Rattle.dns_model.specs.Records.{Question, question_eq}
+use Rattle.dns_model.proofs.TestLemmas.{tied_equal}
+use Rattle.dns_model.proofs.Lists.{slice_get_appended}
+use Rattle.dns_model.proofs.QuestionLemmas.{question_right}
 use Rattle.dns_handle.specs.declared.query_key.QueryKey.{QueryKey}
 use Rattle.dns_handle.specs.Errors as seen
 use Rattle.dns_handle.specs.Errors.{Reply}
 use Rattle.dns_handle.specs.Handles.{reply_to, after_turn}
 use Rattle.dns_recorded.specs.RecordedPlaces.{Slot, left, reply_at, reply_in, is_for, places_from, queue_items, Noted, Dropped, IndexesReplies}
 use Rattle.dns_handle.specs.QueryKeys.{key_of, key_cmp}
-use Rattle.dns_handle.proofs.KeyLemmas.{key_total, key_ties, equal-is_eq}
+use Rattle.dns_handle.proofs.KeyLemmas.{key_total, key_ties}
 
 -- ---- questions that are equal
 
 keys_tie : (a b : Question) → question_eq a b ≡ true → key_cmp (key_of a) (key_of b) ≡ Equal
-keys_tie a b same = equal-is_eq (key_cmp (key_of a) (key_of b)) (sym (key_ties a b) ∙ same)
+keys_tie a b same = tied_equal (key_cmp (key_of a) (key_of b)) (sym (key_ties a b) ∙ same)
 
 -- equal questions are equal to the same questions
 question_left : (a b q : Question) → question_eq a b ≡ true → question_eq a q ≡ question_eq b q
 question_left a b q same =
     key_ties a q ∙ ap is_eq (key_total.congr (key_of a) (key_of b) (key_of q) (keys_tie a b same)) ∙ sym (key_ties b q)
-
-question_turned : (a b : Question) → question_eq a b ≡ is_eq (ordering_reverse (key_cmp (key_of b) (key_of a)))
-question_turned a b = key_ties a b ∙ ap is_eq (key_total.antisymm (key_of a) (key_of b))
-
-question_right : (a b q : Question) → question_eq a b ≡ true → question_eq q a ≡ question_eq q b
-question_right a b q same =
-    question_turned q a ∙ ap (λ o. is_eq (ordering_reverse o)) (key_total.congr (key_of a) (key_of b) (key_of q) (keys_tie a b same)) ∙ sym (question_turned q b)
 
 -- ---- places
 
@@ -138,12 +133,6 @@ first q n (None ∷ slots) place rest found = further q n None slots place rest 
 first q n (Some told ∷ slots) place rest found =
     first_of q n told slots place rest (question_eq told.0 q) refl found (λ h. first q (n + 1) slots place rest h)
 
--- what stands right behind a list
-slice_get-behind : {X : Type 0} (pre : List X) (x : X) (xs : List X) → slice_get (pre ++ x ∷ xs) (length pre) ≡ Some x
-slice_get-behind pre x xs =
-    let within : length pre < length (pre ++ x ∷ xs) = omega (arith, length-append pre (x ∷ xs)) in
-    slice_get-get_or (pre ++ x ∷ xs) (length pre) x within ∙ ap Some (get_or-append_seam pre x xs x)
-
 -- where the replies before aren't to the question, they play no part
 reply_to-append : (q : Question) (xs ys : List (Question × Reply)) → is_answered xs q ≡ false → reply_to (xs ++ ys) q ≡ reply_to ys q
 unfolding reply_to
@@ -195,7 +184,7 @@ unfolding reply_to
 reply_at-first q slots place rest f =
     let here : length f.pre ≡ place = omega (arith, f.here) in
     let stands : slice_get slots place ≡ Some (Some f.told) =
-    rw (f.whole, ← here) (slice_get-behind f.pre (Some f.told) f.post) in
+    rw (f.whole, ← here) (slice_get_appended f.pre (Some f.told) f.post) in
     let told : reply_to (f.told ∷ left f.post) q ≡ f.told.1 = rw f.asked refl in
     ap (λ l. reply_to (left l) q) f.whole ∙ ap (λ l. reply_to l q) (left-behind f.pre f.told f.post)
     ∙ reply_to-append q (left f.pre) (f.told ∷ left f.post) (others q slots place rest f) ∙ told ∙ ap reply_in (sym stands)

@@ -15,6 +15,7 @@ use Rattle.dns_model.specs.Sections.{is_signature, covers, covers_rtype}
 use Rattle.dns_model.specs.SoundAnswers.{section_eq, set_rtype, covered_rtype}
 use Rattle.dns_model.proofs.EachLemmas.{each_of, find_known}
 use Rattle.dns_model.proofs.SetLemmas.{name_back, name_trans, number_refl, number_same}
+use Rattle.dns_model.proofs.TestLemmas.{same_test}
 use Rattle.dns_judgement.specs.Judged.{Judged}
 use Rattle.dns_judgement.specs.Marking.{signature_place}
 use Rattle.dns_judgement.specs.MarkParts.{covered, is_place}
@@ -119,15 +120,10 @@ covers_some : (rtype : ℕ) (o : Option RrsigValue) → covers_rtype rtype o ≡
 covers_some rtype None h = cc
 covers_some rtype (Some sig) h = refl
 
-both_ways : (a b : Bool) → (a ≡ true → b ≡ true) → (b ≡ true → a ≡ true) → a ≡ b
-both_ways true b h k = sym (h refl)
-both_ways false true h k = k refl
-both_ways false false h k = refl
-
 covers_at : (p : SetPlaces) (section : Section) (sets : List Judged) (r : Rr) (n : ℕ) → ArePlacedIn p section sets
     → place_of p r.owner (set_rtype r) ≡ Some n → (b : Rr) → is_signature_at p n b ≡ covers (covered r) b
 covers_at p section sets r n are is b =
-    both_ways (is_signature_at p n b) (covers (covered r) b)
+    same_test (is_signature_at p n b) (covers (covered r) b)
     (λ h.
     let parts = and_parts (is_readable b) (is_place (place_of p b.owner (set_rtype b)) n) h in
     let signs = and_parts (is_signature b) (is_some (rrsig_in b.rdata)) parts.0 in

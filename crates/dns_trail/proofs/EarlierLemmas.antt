@@ -1,7 +1,8 @@
 -- What the earlier steps came to, by their numbers.
-use Rattle.std.proofs.Common.{◌≡◌, ℕ, zero, suc, Bool, List, [], ◌∷◌, map, Option, None, Some, slice_get, ◌||◌, refl, sym, ap, ◌∙◌}
+use Rattle.std.proofs.Common.{◌≡◌, ℕ, Bool, List, [], ◌∷◌, map, Option, None, Some, slice_get, ◌||◌, refl, sym, ap, ◌∙◌}
 use Rattle.std.specs.Option.{option_map}
 use Rattle.std.specs.List.{list_any}
+use Rattle.std.proofs.lemmas.Option.{slice_get-map}
 use Rattle.dns_model.specs.declared.trail.AskRef.TheVariants.{Step}
 use Rattle.dns_model.specs.Trails.{AskedValue}
 use Rattle.dns_judgement.specs.Chained.{Chained, bare}
@@ -10,15 +11,10 @@ use Rattle.dns_judgement.specs.DerivationParts.{answer_of}
 use Rattle.dns_judgement.specs.Judged.{Judged}
 use Rattle.dns_trail.specs.Ended.{EndedValue, ended_of}
 
-pub at_mapped : {X Y : Type 0} (f : X → Y) (xs : List X) (n : ℕ) → slice_get (map f xs) n ≡ option_map f (slice_get xs n)
-at_mapped f [] n = refl
-at_mapped f (x ∷ xs) zero = refl
-at_mapped f (x ∷ xs) (suc n) = at_mapped f xs n
-
 -- the step with a number, by what it came to
 pub step_at : (steps : List AskedValue) (ended : List EndedValue) (n : ℕ) → ended ≡ map ended_of steps
     → slice_get ended n ≡ option_map ended_of (slice_get steps n)
-step_at steps ended n known = ap (λ xs. slice_get xs n) known ∙ at_mapped ended_of steps n
+step_at steps ended n known = ap (λ xs. slice_get xs n) known ∙ slice_get-map ended_of steps n
 
 answer_by : (o : Option AskedValue) (e : EndedValue) → Some e ≡ option_map ended_of o → e.answer ≡ answer_of o
 answer_by None e h = cc

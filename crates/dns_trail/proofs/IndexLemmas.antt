@@ -4,7 +4,6 @@ use Rattle.std.specs.Prelude.{Vec}
 use Rattle.std.specs.Cmp.{IsTotalOrder}
 use Rattle.std.specs.Cmp.Lexicographic.{pointwise}
 use Rattle.std.specs.List.{list_any}
-use Rattle.std.specs.Map.{lookup}
 use Rattle.std.specs.Ordering.{is_eq, ordering_reverse}
 use Rattle.std.specs.declared.cmp.Ordering.{Ordering}
 use Rattle.std.specs.declared.cmp.Ordering.TheVariants.{Less, Equal, Greater}
@@ -18,6 +17,8 @@ use Rattle.dns_model.specs.Records.{Rr}
 use Rattle.dns_model.specs.SoundAnswers.{Placed}
 use Rattle.dns_model.specs.Trails.{JudgedSetValue}
 use Rattle.dns_model.proofs.NameLemmas.{name_eq-Decides}
+use Rattle.dns_model.proofs.TestLemmas.{tied_equal}
+use Rattle.dns_model.proofs.Lists.{lookup-same}
 use Rattle.dns_judgement.specs.Chained.{Chained, bare}
 use Rattle.dns_judgement.specs.Derivation.{is_repeat, same_record}
 use Rattle.dns_judgement.specs.Judged.{Judged}
@@ -59,15 +60,6 @@ repeat_found places sets placed entry indexed =
     found (λ j. key_of j.set) (is_repeat placed entry) (key_of placed.set) (places_at places) sets (repeat_alike placed entry) indexed
 
 -- ---- a place more
-
-tied_equal : (o : Ordering) → is_eq o ≡ true → o ≡ Equal
-tied_equal Less h = cc
-tied_equal Equal h = refl
-tied_equal Greater h = cc
-
-lookup-same : {K X : Type 0} (p r : K → Bool) → ((x : K) → p x ≡ r x) → (es : List (K × X)) → lookup p es ≡ lookup r es
-lookup-same p r alike [] = refl
-lookup-same p r alike (e ∷ es) = rw (alike e.0, lookup-same p r alike es) refl
 
 get-same : {X : Type 0} (m : BTreeMap SetKey X) (k q : SetKey) → key_cmp k q ≡ Equal → tree.get key_cmp m k ≡ tree.get key_cmp m q
 get-same m k q same = lookup-same _ _ (λ x. ap is_eq (key_total.congr k q x same)) m.entries

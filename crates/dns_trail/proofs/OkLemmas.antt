@@ -1,5 +1,5 @@
 -- What follows of a result where it is one, and of the root.
-use Rattle.std.proofs.Common.{◌≡◌, ◌≢◌, ◌↔◌, IsTrue, Bool, true, false, List, [], ◌∷◌, ◌++◌, length, map, Option, None, Some, Result, Ok, Err, refl, ap, ◌∙◌}
+use Rattle.std.proofs.Common.{◌≡◌, ◌≢◌, ◌↔◌, IsTrue, Bool, true, false, List, [], ◌∷◌, ◌++◌, map, Option, None, Some, Result, Ok, Err, refl, ap, ◌∙◌}
 use Rattle.std.specs.Option.{option_map}
 use Rattle.std.proofs.lemmas.List.{map-append}
 use Rattle.dns_judgement.specs.Chained.{Chained, bare, bare_verdicts}
@@ -7,6 +7,7 @@ use Rattle.dns_trust.specs.Verdicts.{verdict_value}
 use Rattle.dns_trust.specs.declared.verdict.Verdict.{Verdict}
 use Rattle.dns_trail.specs.Ended.{some_if}
 use Rattle.std.specs.Prelude.{IfOk}
+pub use Rattle.std.proofs.lemmas.List.{nil_from_length as no_more}
 use Rattle.dns_model.specs.Names.{Labels}
 
 pub ok_map : {X E : Type 0} {P Q : X → Type 0} (r : Result X E) → ((x : X) → P x → Q x) → IfOk r P → IfOk r Q
@@ -16,10 +17,6 @@ ok_map (Err e) f h = tt
 pub named_if : (b : Bool) (name : Labels) → IsTrue b ↔ (name ≡ []) → b ≡ false → name ≢ []
 named_if true name is named = cc
 named_if false name is named = λ root. let no : false ≡ true = is.1 root in cc
-
-pub no_more : {X : Type 0} (xs : List X) → length xs ≡ 0 → xs ≡ []
-no_more [] h = refl
-no_more (x ∷ xs) h = cc
 
 -- what is seen of a value, seen further
 pub seen_further : {V A B : Type 0} (see : V → A) (f : A → B) (o : Option V) (b : Bool) (x : A) → option_map see o ≡ some_if b x

@@ -1,41 +1,31 @@
 -- The steps of a trail, one after another, and what each comes to.
 use Rattle.std.proofs.Common.{◌≡◌, ℕ, ◌+◌, ◌<◌, ◌≤◌, Bool, true, false, ◌&&◌, List, [], ◌∷◌, ◌++◌, length, map, take, drop, get_or, Option, None, Some, if◌then◌else◌, refl, sym, ap, ◌∙◌, subst}
 use Rattle.std.specs.Option.{option_map_or}
-use Rattle.std.specs.List.{zip}
 use Rattle.std.proofs.lemmas.Bool.{and_parts}
 use Rattle.std.proofs.lemmas.List.{drop_all, drop_more, map-append, take_more}
 use Rattle.dns_model.specs.Chains.{Judge}
 use Rattle.dns_model.specs.Records.{Rr}
 use Rattle.dns_model.specs.SoundAnswers.{Told, Placed}
-use Rattle.dns_model.specs.Trails.{AskedValue, EndingValue, JudgedSetValue, Fault, Answered, Denied, Foreign, Failed, Seen}
+use Rattle.dns_model.specs.Trails.{AskedValue, EndingValue, Fault, Answered, Denied, Foreign, Failed, Seen}
+use Rattle.dns_model.proofs.Lists.{empty_is}
 use Rattle.dns_judgement.specs.Asking.{judged_part}
-use Rattle.dns_judgement.specs.Derivation.{Grounds, ending_eq, ending_holds, ends_bare, entries_hold, if_answered, is_empty, judged_sets, step_holds, steps_hold, told_in, with_entries}
+use Rattle.dns_judgement.specs.Derivation.{Grounds, ending_eq, ending_holds, ends_bare, entries_hold, if_answered, judged_sets, step_holds, steps_hold, told_in, with_entries}
 use Rattle.dns_judgement.specs.DerivationParts.{grounds_of, is_bare, judged_holds, step_holds_by}
 use Rattle.dns_judgement.specs.Judged.{Judged}
 use Rattle.dns_judgement.specs.Outcome.{outcome_of, foreign_record}
+use Rattle.dns_judgement.proofs.ExtendLemmas.{without_entries}
 use Rattle.dns_trail.specs.Ended.{EndedValue, ended_of, nothing, nothing_if, some_if}
 use Rattle.dns_trail.specs.Endings.{ending_fits}
 use Rattle.dns_trail.proofs.EndingLemmas.{by_parts}
 
 -- ---- a step nothing of which is judged
 
-zip_none : (xs : List Placed) → zip xs (let none : List JudgedSetValue = [] in none) ≡ []
-zip_none [] = refl
-zip_none (x ∷ xs) = refl
-
-entries_none : (placed : List Placed) → with_entries placed [] ≡ []
-entries_none placed = ap (map (λ p. record { section = p.0.section; set = p.0.set; mark = p.1.mark; sig = p.1.sig })) (zip_none placed)
-
 told_none : (depth : ℕ) (o : Option Told) → option_map_or (λ told. with_entries (judged_part depth told) []) o [] ≡ []
 told_none depth None = refl
-told_none depth (Some told) = entries_none (judged_part depth told)
+told_none depth (Some told) = without_entries (judged_part depth told)
 
 sets_none : (step : AskedValue) → step.sets ≡ [] → judged_sets step ≡ []
 sets_none step none = ap (λ xs. option_map_or (λ told. with_entries (judged_part step.depth told) xs) (told_in step.reply) []) none ∙ told_none step.depth (told_in step.reply)
-
-empty_is : {X : Type 0} (xs : List X) → is_empty xs ≡ true → xs ≡ []
-empty_is [] h = refl
-empty_is (x ∷ xs) h = cc
 
 some_same : (b : Bool) (x y : EndedValue) → (b ≡ true → x ≡ y) → some_if b x ≡ some_if b y
 some_same true x y h = ap Some (h refl)

@@ -9,18 +9,11 @@ use Rattle.dns_model.specs.Trails.{AskedValue}
 use Rattle.dns_judgement.specs.Asking.{most_sends}
 use Rattle.dns_judgement.specs.Derivation.{asks_of, order_asks, order_step, end_asks, end_step}
 use Rattle.dns_judgement.specs.DerivationParts.{and_then}
+use Rattle.dns_judgement.proofs.OrderLemmas.{then_then, agree_then}
 use Rattle.dns_trail_order.specs.declared.order.Counts.{Counts}
 use Rattle.dns_trail_order.specs.Counting.{count_ask, count_asks, count_step, one_sent, end_at}
 
 -- ---- asks one after another
-
-then_then : {X Y Z : Type 0} (o : Option X) (f : X → Option Y) (g : Y → Option Z) → and_then (and_then o f) g ≡ and_then o (λ x. and_then (f x) g)
-then_then None f g = refl
-then_then (Some x) f g = refl
-
-agree_then : {X Y : Type 0} (o : Option X) (f g : X → Option Y) → ((x : X) → f x ≡ g x) → and_then o f ≡ and_then o g
-agree_then None f g same = refl
-agree_then (Some x) f g same = same x
 
 pub count_asks-append : (visit : ℕ → Counts → Option Counts) (n : ℕ) (xs ys : List AskRef) (counts : Counts)
     → count_asks visit n (xs ++ ys) counts ≡ and_then (count_asks visit n xs counts) (count_asks visit n ys)

@@ -6,10 +6,12 @@ use Rattle.std.proofs.lemmas.List.Sums.{sum_by-append}
 use Rattle.dns_model.specs.declared.trail.AskRef.{AskRef}
 use Rattle.dns_model.specs.declared.trail.AskRef.TheVariants.{Step, TooDeep, TooMany}
 use Rattle.dns_model.specs.Trails.{AskedValue}
+use Rattle.dns_model.proofs.TestLemmas.{if_some}
 use Rattle.dns_judgement.specs.Asking.{most_sends}
 use Rattle.dns_judgement.specs.Derivation.{asks_of, order_asks, order_step, end_asks, end_step}
 use Rattle.dns_judgement.specs.Parts.{once_between}
 use Rattle.dns_judgement.proofs.SentLemmas.{times, times-cons}
+use Rattle.dns_judgement.proofs.PartLemmas.{between_none, between_then, between_one}
 
 -- behind what was met each number from a up to, and not including, b is met once, and no other
 pub record Once (met found : List ℕ) (a b : ℕ) : Type 0 where
@@ -17,15 +19,6 @@ pub record Once (met found : List ℕ) (a b : ℕ) : Type 0 where
   pub grown : found ≡ met ++ more
   pub upward : a ≤ b
   pub once : (i : ℕ) → times i more ≡ once_between a b i
-
-between_none : (a i : ℕ) → 0 ≡ once_between a a i
-between_none a i = grind (arith, nat_tests)
-
-between_then : (a b c i : ℕ) → a ≤ b → b ≤ c → once_between a b i + once_between b c i ≡ once_between a c i
-between_then a b c i first second = grind (arith, nat_tests)
-
-between_one : (a n i : ℕ) → a ≤ n → (if i == n then 1 else 0) + once_between a n i ≡ once_between a (n + 1) i
-between_one a n i upward = grind (arith, nat_tests)
 
 once_none : (met found : List ℕ) (a b : ℕ) → Some met ≡ Some found → Some a ≡ Some b → Once met found a b
 once_none met found a b h e =
@@ -52,10 +45,6 @@ once_then met middle found a k b first second = record {
 pub record VisitsOnce (meet : ℕ → List ℕ → Option (List ℕ)) (finish : ℕ → ℕ → Option ℕ) : Type 0 where
   pub visits : (n : ℕ) (met found : List ℕ) (a b : ℕ) → meet n met ≡ Some found → finish n a ≡ Some b → Once met found a b
 
-where_true : {X : Type 0} (b : Bool) (o : Option X) (found : X) → (if b then o else None) ≡ Some found → o ≡ Some found
-where_true true o found h = h
-where_true false o found h = cc
-
 then_once : (met found : List ℕ) (a b : ℕ) (o : Option (List ℕ)) (p : Option ℕ) (f : List ℕ → Option (List ℕ)) (g : ℕ → Option ℕ)
     → option_and_then f o ≡ Some found → option_and_then g p ≡ Some b
     → ((middle : List ℕ) (k : ℕ) → o ≡ Some middle → p ≡ Some k → Once met middle a k)
@@ -71,10 +60,10 @@ unfolding order_asks end_asks
 asks_once meet finish n [] met found a b v h e = once_none met found a b h e
 asks_once meet finish n (TooDeep ∷ asks) met found a b v h e = asks_once meet finish n asks met found a b v h e
 asks_once meet finish n (TooMany ∷ asks) met found a b v h e =
-    asks_once meet finish n asks met found a b v (where_true (nat_le most_sends (length met)) (order_asks meet n asks met) found h) e
+    asks_once meet finish n asks met found a b v (if_some (nat_le most_sends (length met)) (order_asks meet n asks met) found h).1 e
 asks_once meet finish n (Step m ∷ asks) met found a b v h e =
     then_once met found a b (meet m met) (finish m a) (order_asks meet n asks) (end_asks finish asks)
-    (where_true (nat_lt m n && nat_lt (length met) most_sends) (option_and_then (order_asks meet n asks) (meet m met)) found h) e
+    (if_some (nat_lt m n && nat_lt (length met) most_sends) (option_and_then (order_asks meet n asks) (meet m met)) found h).1 e
     (λ middle k o p. v.visits m met middle a k o p) (λ middle k o p. asks_once meet finish n asks middle found k b v o p)
 
 -- a step ends with the next number

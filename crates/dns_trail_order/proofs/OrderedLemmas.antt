@@ -1,8 +1,7 @@
 -- The order of a trail by the walk that counts; and a derivation is a trail in order whose steps follow.
-use Rattle.std.proofs.Common.{◌≡◌, ℕ, zero, suc, ◌+◌, ◌-◌, ◌≤◌, ◌<◌, Bool, true, false, ◌==◌, ◌&&◌, List, [], length, Option, None, Some, nat_eq, nat_le, refl, sym, ap, ◌∙◌, subst, arith}
+use Rattle.std.proofs.Common.{◌≡◌, ℕ, ◌-◌, ◌≤◌, ◌<◌, Bool, true, false, ◌==◌, ◌&&◌, List, [], length, Option, None, Some, nat_eq, nat_le, refl, sym, ap, ◌∙◌, subst, arith}
 use Rattle.std.specs.Option.{option_eq}
-use Rattle.std.specs.List.{list_all, range_with_len}
-use Rattle.std.proofs.lemmas.Bool.{and_from, le-leb}
+use Rattle.std.proofs.lemmas.Bool.{and_from, le-leb, and_right}
 use Rattle.std.proofs.lemmas.Bool.Decides.{nat_tests}
 use Rattle.dns_model.specs.Chains.{Judge}
 use Rattle.dns_model.specs.Trails.{AskedValue}
@@ -11,23 +10,15 @@ use Rattle.dns_judgement.specs.Derivation.{steps_hold, send_order, end_step, top
 use Rattle.dns_judgement.specs.DerivationParts.{is_top, is_each_once, is_each_met_once}
 use Rattle.dns_judgement.specs.Parts.{once_between}
 use Rattle.dns_judgement.proofs.SentLemmas.{times}
+use Rattle.dns_judgement.proofs.DerivationLemmas.{all_in_range, one_is_one}
 use Rattle.dns_trail_order.specs.Counting.{count_step, none_yet, ends_with}
 use Rattle.dns_trail_order.proofs.CountLemmas.{both, step_counted}
 use Rattle.dns_trail_order.proofs.OnceLemmas.{Once, step_once}
 
 -- ---- each once
 
-all_in_range : (test : ℕ → Bool) (a n : ℕ) → ((k : ℕ) → a ≤ k → k < a + n → test k ≡ true) → list_all test (range_with_len a n) ≡ true
-all_in_range test a zero each = refl
-all_in_range test a (suc n) each =
-    and_from (test a) (list_all test (range_with_len (a + 1) n)) (each a (omega arith) (omega arith))
-    (all_in_range test (a + 1) n (λ k from upto. each k (omega arith) (omega arith)))
-
 within_once : (n k : ℕ) → k < n → once_between 0 n k ≡ 1
 within_once n k within = grind (arith, nat_tests)
-
-one_is_one : (n : ℕ) → n ≡ 1 → (n == 1) ≡ true
-one_is_one n is = grind (arith, nat_tests)
 
 each_once : (n : ℕ) (order : List ℕ) → Once [] order 0 n → is_each_once n order ≡ true
 each_once n order once =
@@ -36,20 +27,16 @@ each_once n order once =
 
 -- ---- by the counts
 
-and_false : (b : Bool) → (b && false) ≡ false
-and_false true = refl
-and_false false = refl
-
 same_count : (n k : ℕ) (order : List ℕ) (test : Bool) → (k == n) ≡ test → Once [] order 0 k → (is_each_once n order && nat_eq k n) ≡ (k == n)
 same_count n k order true is once =
     let here : k ≡ n = grind (arith, nat_tests) in
     and_from (is_each_once n order) (nat_eq k n) (each_once n order (subst (Once [] order 0) here once)) is ∙ sym is
-same_count n k order false is once = ap (λ b. is_each_once n order && b) is ∙ and_false (is_each_once n order) ∙ sym is
+same_count n k order false is once = ap (λ b. is_each_once n order && b) is ∙ and_right (is_each_once n order) false refl ∙ sym is
 
 by_counts : (n : ℕ) (o : Option (List ℕ)) (p : Option ℕ) → ((order : List ℕ) (k : ℕ) → o ≡ Some order → p ≡ Some k → Once [] order 0 k)
     → (is_each_met_once n o && option_eq nat_eq p (Some n)) ≡ ends_with n (both o p)
 by_counts n None p once = refl
-by_counts n (Some order) None once = and_false (is_each_once n order)
+by_counts n (Some order) None once = and_right (is_each_once n order) false refl
 by_counts n (Some order) (Some k) once = same_count n k order (k == n) refl (once order k refl refl)
 
 walk_counted : (trail : List AskedValue)

@@ -1,6 +1,7 @@
 use Rattle.std.proofs.Common.{◌∙◌, sym, ap}
 use Rattle.std.specs.Option.{is_some}
-use Rattle.dns_rdata.proofs.CanonicalLemmas.{parts_none, parts_more, some_with, parts_decided}
+use Rattle.dns_model.proofs.ViewLaws.{with_part-keeps}
+use Rattle.dns_rdata.proofs.CanonicalLemmas.{parts_none, parts_more, parts_decided}
 use Rattle.dns_rdata.proofs.canonical.has_shape.Goals as goal
 
 pub returns-in_default : goal.returns-in_default
@@ -9,7 +10,7 @@ returns-in_default c =
 
 pub loop-field-preserved : goal.loop-field-preserved
 loop-field-preserved c =
-    sym (ap is_some (parts_more _ _ _ _ _ _ c.loop-field-test.true (sym c.in-Some.ensures)) ∙ some_with _ _) ∙ c.loop-field.invariant
+    sym (ap is_some (parts_more _ _ _ _ _ _ c.loop-field-test.true (sym c.in-Some.ensures)) ∙ with_part-keeps _ _) ∙ c.loop-field.invariant
 
 pub returns : goal.returns
 returns c = c.is_empty.ensures ∙ (sym (parts_decided _ _ _ c.loop-field-test.false) ∙ c.loop-field.invariant)
