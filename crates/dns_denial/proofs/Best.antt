@@ -1,8 +1,8 @@
 -- The best element of a list so far: how it stays so as one more is met, and that it is the first that no other exceeds.
-use Rattle.std.proofs.Common.{◌≡◌, ℕ, ◌+◌, ◌<◌, Bool, true, false, not, ◌&&◌, cond, List, length, get_or, [], ◌∷◌, Option, None, Some, refl, sym, ap, ◌∙◌, subst, arith, ⊎_elim}
+use Rattle.std.proofs.Common.{◌≡◌, ℕ, ◌+◌, ◌<◌, Bool, true, false, not, ◌&&◌, cond, List, length, get_or, [], ◌∷◌, Option, None, Some, refl, sym, ap, ◌∙◌, arith, ⊎_elim, below_more}
 use Rattle.std.specs.Option.{option_map}
 use Rattle.std.specs.List.{find, list_all, position, position_or_len, slice_get}
-use Rattle.std.proofs.lemmas.Bool.{and_parts, and_from, and_left, and_right, and_cases, cond_both, cases_lt, lt-ltb, le-ltb, both_ways}
+use Rattle.std.proofs.lemmas.Bool.{and_parts, and_from, and_left, and_right, and_cases, cond_both, lt-ltb, le-ltb, both_ways}
 use Rattle.std.proofs.lemmas.List.{get_or_default}
 use Rattle.std.proofs.lemmas.List.Sums.{position_or_len_is, list_all-from_AllPass}
 use Rattle.std.proofs.lemmas.List.Folds.{find_at, list_all_at}
@@ -27,9 +27,6 @@ pub record IsBest {X : Type 0} (passes : X → Bool) (less : X → X → Bool) (
 abbrev pub IsBestOf : {X : Type 0} → (X → Bool) → (X → X → Bool) → List X → ℕ → Option (ℕ × X) → Type 0
 IsBestOf {X} passes less xs i None = (k : ℕ) (d : X) → k < i → passes (get_or xs k d) ≡ false
 IsBestOf passes less xs i (Some best) = IsBest passes less xs i best.0 best.1
-
-below_more : (P : ℕ → Type 0) (i : ℕ) → ((k : ℕ) → k < i → P k) → P i → (k : ℕ) → k < i + 1 → P k
-below_more P i old new k lt = ⊎_elim (λ h. old k h) (λ h. let same : i ≡ k = omega (arith, lt, h) in subst P same new) (cases_lt k i)
 
 untrue : {P : Type 0} {b : Bool} → b ≡ false → b ≡ true → P
 untrue {P} {b} differs holds = absurd (both_ways b differs holds)

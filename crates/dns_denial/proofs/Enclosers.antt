@@ -20,9 +20,6 @@ not_less Less h = cc
 not_less Equal h = cc
 not_less Greater h = refl
 
-untrue : {P : Type 0} {b : Bool} → b ≡ false → b ≡ true → P
-untrue {P} {b} differs holds = absurd (both_ways b differs holds)
-
 owner_is_not_below : (name : Labels) (nsec : OwnedNsec) → spans name nsec ≡ true → at_or_above name nsec.owner ≡ false
 owner_is_not_below name nsec h =
     let parts = and_parts (before nsec.owner name) (before name nsec.fields.next || (leads_back nsec && at_or_above nsec.fields.next name)) h in
@@ -45,7 +42,7 @@ pub wildcard_is_name : (name : Labels) (nsec : OwnedNsec) → is_name name ≡ t
 unfolding closest_encloser
 wildcard_is_name name nsec good h differs =
     let apart : at_or_above name nsec.fields.next ≡ false =
-    ⊎_elim (λ e. e) (λ e. untrue {P = at_or_above name nsec.fields.next ≡ false} (next_is_not name nsec h) (not-false (name_eq name nsec.fields.next) e))
+    ⊎_elim (λ e. e) (λ e. absurd (both_ways (name_eq name nsec.fields.next) (next_is_not name nsec h) (not-false (name_eq name nsec.fields.next) e)))
     (and_cases (at_or_above name nsec.fields.next) (not (name_eq name nsec.fields.next)) differs) in
     cond_both (nat_lt (length (common_ancestor name nsec.owner)) (length (common_ancestor name nsec.fields.next)))
     (common_ancestor name nsec.fields.next) (common_ancestor name nsec.owner) (λ n. is_name (star n) ≡ true)

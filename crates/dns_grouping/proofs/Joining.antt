@@ -7,7 +7,7 @@ use Rattle.std.proofs.lemmas.List.Elements.{filter-append, filter_more}
 use Rattle.dns_model.specs.Names.{Labels, name_eq}
 use Rattle.dns_model.specs.Records.{Rr, RrSet}
 use Rattle.dns_model.specs.Sections.{same_set, is_signature, leaders, unsigned_part}
-use Rattle.dns_model.proofs.EachLemmas.{Apart, each_more, each_of, map_agree, map-map, apart_map, each_fails}
+use Rattle.dns_model.proofs.EachLemmas.{Apart, each_more, each_of, map_agree, map-map, apart_map, none_passes}
 use Rattle.dns_model.proofs.SetLemmas.{same_set_left, same_set_refl, leaders_apart, same_key, name_back, name_trans, number_same, number_refl, same_set_back}
 use Rattle.dns_grouping.specs.Joining.{is_at, touched, with_record, set_of_one, joined_by, met_by, bare_set, bare_sets}
 
@@ -142,7 +142,7 @@ bare_step r u false e =
     ap (map (bare_set whole)) (leaders-push u r ∙ ap (λ b. leaders u ++ cond b [] (r ∷ [])) e)
     ∙ map-append (bare_set whole) (leaders u) (r ∷ [])
     ∙ ap (λ sets. sets ++ bare_set whole r ∷ [])
-    (bare_grown r u (leaders u) ∙ kept (is_at r.owner r.rtype) (with_record r) (bare_sets u) (each_fails (is_at r.owner r.rtype) (bare_sets u) (any_bare r u ∙ e)))
+    (bare_grown r u (leaders u) ∙ kept (is_at r.owner r.rtype) (with_record r) (bare_sets u) (none_passes (is_at r.owner r.rtype) (bare_sets u) (any_bare r u ∙ e)))
     ∙ ap (λ s. bare_sets u ++ s ∷ []) own
 
 -- the sets of records with one more

@@ -16,7 +16,7 @@ use Rattle.dns_model.specs.SoundAnswers.{in_section, section_eq}
 use Rattle.dns_model.specs.Trails.{JudgedSetValue}
 use Rattle.dns_model.proofs.SetLemmas.{name_trans, number_refl}
 use Rattle.dns_model.proofs.TestLemmas.{if_some}
-use Rattle.dns_model.proofs.EachLemmas.{filter_none, find_none, each_fails}
+use Rattle.dns_model.proofs.EachLemmas.{filter_none, find_none, none_passes}
 use Rattle.dns_model.proofs.QuestionLemmas.{same_parts}
 use Rattle.dns_model.proofs.Lists.{empty_is}
 use Rattle.dns_judgement.specs.Validity.{is_good_by}
@@ -218,7 +218,7 @@ some_supported : (j : Judge) (set : RrSet) (records : List Rr) (b : Bool) → li
     → is_signed_by (is_matched_key j set (filter (is_supported_ds j.answers) records)) j set ≡ true → b ≡ true
 some_supported j set records true is h = refl
 some_supported j set records false is h =
-    let none = filter_none (is_supported_ds j.answers) records (each_fails (is_supported_ds j.answers) records is) in
+    let none = filter_none (is_supported_ds j.answers) records (none_passes (is_supported_ds j.answers) records is) in
     cc (sym (none_signs j set) ∙ ap (λ ds. is_signed_by (is_matched_key j set ds) j set) (sym none) ∙ h)
 
 is_ds_set : (class : ℕ) (owner : Labels) (next : Question) (ds : RrSet) (judged : Judged) → question_eq (ds_question class owner) next ≡ true

@@ -10,7 +10,7 @@ use Rattle.dns_model.specs.Records.{Rr, RrSet}
 use Rattle.dns_model.specs.Sections.{same_set, set_of, sets_of, leaders, unsigned_part}
 use Rattle.dns_model.specs.Chains.{is_nonempty, rdatas_of}
 use Rattle.dns_model.specs.SoundAnswers.{Told, Placed, placed_sets, in_section, section_eq, is_secure}
-use Rattle.dns_model.proofs.EachLemmas.{each_more, each_of, each_both, each_append, each_map, each_unmap, each_filter, each_passes, filter_none, each_fails}
+use Rattle.dns_model.proofs.EachLemmas.{each_more, each_of, each_both, each_append, each_map, each_unmap, each_filter, each_passes, filter_none, none_passes}
 use Rattle.dns_model.proofs.SetLemmas.{KeepsKey, is_of, section_same}
 use Rattle.dns_judgement.specs.Judged.{Judged, placed_of}
 use Rattle.dns_judgement.specs.Marking.{marked, map_after, marked_section}
@@ -165,7 +165,7 @@ each_denial P now told sets grouped h =
 -- ---- there are such records
 
 kept_none : {X : Type 0} (p : X → Bool) (xs : List X) → list_any p xs ≡ false → AllByRecursion (λ x. ⊥) (filter p xs)
-kept_none p xs h = subst (AllByRecursion (λ x. ⊥)) (sym (filter_none p xs (each_fails p xs h))) tt
+kept_none p xs h = subst (AllByRecursion (λ x. ⊥)) (sym (filter_none p xs (none_passes p xs h))) tt
 
 no_record : (rs : List Rr) → is_nonempty (rdatas_of rs) ≡ true → AllByRecursion (λ r. ⊥) rs → ⊥
 no_record [] some none = cc

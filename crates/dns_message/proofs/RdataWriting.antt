@@ -3,7 +3,7 @@ use Rattle.std.proofs.Common.{◌≡◌, ℕ, suc, ◌+◌, ◌-◌, ◌≤◌, 
 use Rattle.std.specs.Prelude.{nat_le, nat_lt, slice_range, slice_index, ◌==◌, not}
 use Rattle.std.proofs.lemmas.Bool.Decides.{nat_tests}
 use Rattle.std.proofs.lemmas.Bool.{and_parts}
-use Rattle.std.proofs.lemmas.List.{length-take-le, append-nil}
+use Rattle.std.proofs.lemmas.List.{length-take-le, append-nil, nil_from_length}
 use Rattle.dns_model.specs.Names.{Labels, wire, is_name}
 use Rattle.dns_model.specs.Types.{has_shapes}
 use Rattle.dns_model.specs.Gives.{or_error}
@@ -216,10 +216,6 @@ some_error : (e : DecodeError) (o : Option (List ℕ)) (rdata : List ℕ) → or
 some_error e None rdata h = absurd cc
 some_error e (Some bytes) rdata h = let same : bytes ≡ rdata = cc in ap Some same
 
-empty_list : (rdata : List ℕ) → length rdata ≡ 0 → rdata ≡ []
-empty_list [] h = refl
-empty_list (b ∷ rdata) h = absurd (omega arith)
-
 -- an rdata of no bytes is taken in each type and class
 empty_again : (rtype class : ℕ) (bytes : List ℕ) (pos : ℕ) → pos ≤ length bytes → rdata_at rtype class bytes 0 pos ≡ Ok []
 unfolding rdata_at
@@ -257,7 +253,7 @@ by_length : (rtype class : ℕ) (rdata : List ℕ) (test : Bool) → (length rda
     → ((bytes : List ℕ) (pos : ℕ) → 0 < length rdata → Stands bytes pos rdata → rdata_at rtype class bytes (length rdata) pos ≡ Ok rdata) → IsRdataAgain rtype class rdata
 by_length rtype class rdata true is more =
     let none : length rdata ≡ 0 = grind (arith, nat_tests) in
-    let empty : rdata ≡ [] = empty_list rdata none in
+    let empty : rdata ≡ [] = nil_from_length rdata none in
     record { again = λ bytes pos s. rw empty (empty_again rtype class bytes pos (omega (arith, stands_inside bytes pos rdata s))) }
 by_length rtype class rdata false is more =
     let some : 0 < length rdata = grind (arith, nat_tests) in

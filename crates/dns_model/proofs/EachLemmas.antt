@@ -79,9 +79,9 @@ pub any_agree : {X : Type 0} (p q : X → Bool) → ((x : X) → p x ≡ q x) �
 any_agree p q same [] = refl
 any_agree p q same (x ∷ xs) = ap (λ b. b || list_any p xs) (same x) ∙ ap (λ b. q x || b) (any_agree p q same xs)
 
-pub each_fails : {X : Type 0} (p : X → Bool) (xs : List X) → list_any p xs ≡ false → AllByRecursion (λ x. p x ≡ false) xs
-each_fails p [] h = tt
-each_fails p (x ∷ xs) h = let parts = or_parts (p x) (list_any p xs) h in (parts.0, each_fails p xs parts.1)
+pub none_passes : {X : Type 0} (p : X → Bool) (xs : List X) → list_any p xs ≡ false → AllByRecursion (λ x. p x ≡ false) xs
+none_passes p [] h = tt
+none_passes p (x ∷ xs) h = let parts = or_parts (p x) (list_any p xs) h in (parts.0, none_passes p xs parts.1)
 
 -- ---- the first element that passes a test
 

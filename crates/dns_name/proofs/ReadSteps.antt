@@ -15,7 +15,7 @@ use Rattle.dns_model.specs.declared.name_error.NameError.{NameError}
 use Rattle.dns_model.specs.declared.name_error.NameError.TheVariants.{EmptyLabel, LongLabel, LongName, BadEscape, NoMemory}
 use Rattle.dns_model.proofs.WireLemmas.{IsWire-wire, labels_of-wire}
 use Rattle.dns_name.specs.LabelRuns.{read_at, rest_read, FailsAs, IsRun, HasRun, IsLabels}
-use Rattle.dns_name.proofs.TextLemmas.{read_at-step}
+use Rattle.dns_name.proofs.TextLemmas.{read_at-step, checked_label}
 
 -- ---- bytes that labels in wire form make, with no closing zero byte
 
@@ -174,25 +174,18 @@ text_labels text h = rw h refl
 
 -- ---- labels in order
 
-label_passes : (label : Label) → is_label label ≡ true → label_checked label ≡ Ok label
-label_passes label good =
-    let parts = and_parts (nat_lt 0 (length label)) (nat_le (length label) 63) good in
-    let some : (length label == 0) ≡ false = grind (arith, nat_tests, parts.0) in
-    let small : nat_lt 63 (length label) ≡ false = grind (arith, nat_tests, parts.1) in
-    rw (some, small) refl
-
 labels_pass : (name : Labels) → list_all is_label name ≡ true → labels_checked name ≡ Ok name
 labels_pass [] good = refl
 labels_pass (label ∷ name) good =
     let parts = and_parts (is_label label) (list_all is_label name) good in
-    rw (label_passes label parts.0, labels_pass name parts.1) refl
+    rw (checked_label label parts.0, labels_pass name parts.1) refl
 
 labels_fail : (front : Labels) (label : Label) (rest : Labels) (fault : NameError) → list_all is_label front ≡ true → label_checked label ≡ Err fault
     → labels_checked (front ++ label ∷ rest) ≡ Err fault
 labels_fail [] label rest fault good h = rw h refl
 labels_fail (first ∷ front) label rest fault good h =
     let parts = and_parts (is_label first) (list_all is_label front) good in
-    rw (label_passes first parts.0, labels_fail front label rest fault parts.1 h) refl
+    rw (checked_label first parts.0, labels_fail front label rest fault parts.1 h) refl
 
 -- the labels so far were fine, and the next isn't
 pub label_at_fails : (labels : Labels) (i : ℕ) (bytes : List ℕ) (label : Label) (fault : NameError) → IsRun (take i labels) bytes → i < length labels

@@ -134,7 +134,7 @@ label_read label rest good =
     ∙ bytes_read [] label (dot ∷ rest) good
     ∙ read_at-step label (dot ∷ rest)
 
-checked_label : (label : Label) → is_label label ≡ true → label_checked label ≡ Ok label
+pub checked_label : (label : Label) → is_label label ≡ true → label_checked label ≡ Ok label
 checked_label label good =
     let parts = and_parts (nat_lt 0 (length label)) (nat_le (length label) 63) good in
     let some : (length label == 0) ≡ false = grind (arith, nat_tests, parts.0) in

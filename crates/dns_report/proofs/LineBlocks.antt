@@ -2,7 +2,6 @@
 use Rattle.std.proofs.Common.{◌≡◌, Bool, true, false, List, [], ◌∷◌, ◌++◌, length, get_or, refl, sym, ap, ◌∙◌, arith}
 use Rattle.std.specs.Prelude.{ℕ}
 use Rattle.std.specs.List.{list_all, flat_map}
-use Rattle.std.specs.Cmp.Lexicographic.{bytes_decides}
 use Rattle.std.proofs.lemmas.Bool.{and_parts}
 use Rattle.std.proofs.lemmas.List.{append_assoc}
 use Rattle.dns_model.specs.Keys.{bytes_eq}
@@ -43,8 +42,9 @@ starts is_one (l ∷ ls) = is_one l
 abbrev pub named : List ℕ → Line → Bool
 named word l = bytes_eq l.0 word
 
-pub word_named : (word : List ℕ) → bytes_eq word word ≡ true
-word_named word = (bytes_decides word word).1 refl
+-- lines that are the same have the same words
+pub word_same : (l m : Line) (i : ℕ) → l ≡ m → get_or l.1 i [] ≡ get_or m.1 i []
+word_same l m i h = ap (λ (l : Line). get_or l.1 i []) h
 
 pub first_line : {l m : Line} {ls ms : List Line} → l ∷ ls ≡ m ∷ ms → l ≡ m
 first_line h = ap (λ (all : List Line). get_or all 0 ([], [])) h

@@ -1,5 +1,5 @@
 -- The line of a link tells the link, and the lines of chains the chains.
-use Rattle.std.proofs.Common.{◌≡◌, ℕ, ◌^◌, ◌<◌, true, false, ◌&&◌, nat_lt, List, [], length, map, codes, get_or, refl, ap, arith}
+use Rattle.std.proofs.Common.{◌≡◌, ℕ, ◌^◌, ◌<◌, true, false, ◌&&◌, nat_lt, List, length, map, codes, get_or, refl, ap, arith}
 use Rattle.std.specs.Fmt.{decimal}
 use Rattle.std.specs.List.{list_all}
 use Rattle.std.proofs.lemmas.Bool.{and_parts, ltb-true}
@@ -9,15 +9,15 @@ use Rattle.dns_model.specs.Names.{Labels}
 use Rattle.dns_model.specs.declared.section.Section.{Section}
 use Rattle.dns_words.specs.Words.{octets_word}
 use Rattle.dns_report.specs.LineWords.{section_word}
-use Rattle.dns_words.proofs.WordShapes.{decimal_word}
+use Rattle.dns_words.proofs.WordShapes.{decimal_word, octets_is_word, octets_injective}
 use Rattle.dns_report.specs.Fields.{fitting_name, is_u16, is_u32}
 use Rattle.dns_report.specs.View.{Numbered, Shown, Anchored, Matched, KeySet, Signed, ChainView, fitting_key, fitting_link, fitting_chain}
 use Rattle.dns_report.specs.Report.{key_words}
 use Rattle.dns_report.proofs.LineLaws.{Line, is_line}
 use Rattle.dns_report.proofs.NameShapes.{printed_word}
 use Rattle.dns_report.proofs.MarkWords.{section_injective, section_is_word}
-use Rattle.dns_report.proofs.FieldWords.{class_good, type_good, number_good, bytes_good, rdatas_good, keys_good, name_tells, class_tells, type_tells, number_tells, bytes_tell, rdatas_tell, keys_tell, more_words}
-use Rattle.dns_report.proofs.LineBlocks.{Tells, Same, blocks, single, starts, named, first_line, other_lines, single_tells, blocks_tell, counted_tell, single_good, blocks_good}
+use Rattle.dns_report.proofs.FieldWords.{class_good, type_good, number_good, rdatas_good, keys_good, name_tells, class_tells, type_tells, number_tells, rdatas_tell, keys_tell, more_words}
+use Rattle.dns_report.proofs.LineBlocks.{Tells, Same, blocks, single, starts, named, first_line, other_lines, single_tells, blocks_tell, counted_tell, single_good, blocks_good, word_same}
 use Rattle.dns_report.proofs.ReportLines.{link_of, front_of, chain_lines}
 
 -- what a fitting link's fields are
@@ -81,10 +81,10 @@ fits_signed owner class rtype rdatas sig key_link key h =
 
 link_good : (l : Shown) → fitting_link l ≡ true → is_line (link_of l) ≡ true
 link_good (Anchored owner class key) h =
-    let f = fits_anchored owner class key h in rw (printed_word owner, class_good class f.classed, bytes_good key f.keyed) refl
+    let f = fits_anchored owner class key h in rw (printed_word owner, class_good class f.classed, octets_is_word key f.keyed) refl
 link_good (Matched owner class key ds_link ds) h =
     let f = fits_matched owner class key ds_link ds h in
-    rw (printed_word owner, class_good class f.classed, bytes_good key f.keyed, number_good ds_link f.linked, bytes_good ds f.shown) refl
+    rw (printed_word owner, class_good class f.classed, octets_is_word key f.keyed, number_good ds_link f.linked, octets_is_word ds f.shown) refl
 link_good (KeySet owner class keys) h =
     let f = fits_key_set owner class keys h in rw (printed_word owner, class_good class f.classed, keys_good keys f.keyed) refl
 link_good (Signed owner class rtype rdatas sig key_link key) h =
@@ -94,8 +94,8 @@ link_good (Signed owner class rtype rdatas sig key_link key) h =
       class_good class f.classed,
       type_good rtype f.typed,
       number_good key_link f.linked,
-      bytes_good key f.keyed,
-      bytes_good sig f.signed,
+      octets_is_word key f.keyed,
+      octets_is_word sig f.signed,
       rdatas_good rdatas f.listed,
     ) refl
 
@@ -105,9 +105,6 @@ letter l = get_or l.0 0 0
 
 apart : {X : Type 0} (l m : Line) → l ≡ m → (letter l ≡ letter m → ⊥) → X
 apart l m h other = absurd (other (ap letter h))
-
-word_same : (l m : Line) (i : ℕ) → l ≡ m → get_or l.1 i [] ≡ get_or m.1 i []
-word_same l m i h = ap (λ (l : Line). get_or l.1 i []) h
 
 anchored_same : (o p : Labels) (c d : ℕ) (k l : List ℕ) → o ≡ p → c ≡ d → k ≡ l → Anchored o c k ≡ Anchored p d l
 anchored_same o p c d k l a b e = rw (a, b, e) refl
@@ -128,7 +125,7 @@ link_tells (Anchored o c k) (Anchored p d l) first second h =
     let f = fits_anchored o c k first in
     let g = fits_anchored p d l second in
     anchored_same o p c d k l (name_tells o p f.named g.named (word_same _ _ 0 h)) (class_tells c d f.classed g.classed (word_same _ _ 1 h))
-    (bytes_tell k l f.keyed g.keyed (word_same _ _ 2 h))
+    (octets_injective k l f.keyed g.keyed (word_same _ _ 2 h))
 link_tells (Anchored o c k) (Matched p d l n y) first second h = apart _ _ h (λ (e : 97 ≡ 109). omega (arith, e))
 link_tells (Anchored o c k) (KeySet p d l) first second h = apart _ _ h (λ (e : 97 ≡ 107). omega (arith, e))
 link_tells (Anchored o c k) (Signed p d u s y n l) first second h = apart _ _ h (λ (e : 97 ≡ 115). omega (arith, e))
@@ -137,7 +134,7 @@ link_tells (Matched o c k m x) (Matched p d l n y) first second h =
     let f = fits_matched o c k m x first in
     let g = fits_matched p d l n y second in
     matched_same o p c d k l m n x y (name_tells o p f.named g.named (word_same _ _ 0 h)) (class_tells c d f.classed g.classed (word_same _ _ 1 h))
-    (bytes_tell k l f.keyed g.keyed (word_same _ _ 2 h)) (number_tells m n f.linked g.linked (word_same _ _ 3 h)) (bytes_tell x y f.shown g.shown (word_same _ _ 4 h))
+    (octets_injective k l f.keyed g.keyed (word_same _ _ 2 h)) (number_tells m n f.linked g.linked (word_same _ _ 3 h)) (octets_injective x y f.shown g.shown (word_same _ _ 4 h))
 link_tells (Matched o c k m x) (KeySet p d l) first second h = apart _ _ h (λ (e : 109 ≡ 107). omega (arith, e))
 link_tells (Matched o c k m x) (Signed p d u s y n l) first second h = apart _ _ h (λ (e : 109 ≡ 115). omega (arith, e))
 link_tells (KeySet o c k) (Anchored p d l) first second h = apart _ _ h (λ (e : 107 ≡ 97). omega (arith, e))
@@ -158,8 +155,8 @@ link_tells (Signed o c t r x m k) (Signed p d u s y n l) first second h =
     let rdatas : map octets_word r ≡ map octets_word s =
     ap (λ (l : Line). more_words (more_words (more_words (more_words (more_words (more_words l.1)))))) h in
     signed_same o p c d t u r s x y m n k l (name_tells o p f.named g.named (word_same _ _ 0 h)) (class_tells c d f.classed g.classed (word_same _ _ 1 h))
-    (type_tells t u f.typed g.typed (word_same _ _ 2 h)) (rdatas_tell r s f.listed g.listed rdatas) (bytes_tell x y f.signed g.signed (word_same _ _ 5 h))
-    (number_tells m n f.linked g.linked (word_same _ _ 3 h)) (bytes_tell k l f.keyed g.keyed (word_same _ _ 4 h))
+    (type_tells t u f.typed g.typed (word_same _ _ 2 h)) (rdatas_tell r s f.listed g.listed rdatas) (octets_injective x y f.signed g.signed (word_same _ _ 5 h))
+    (number_tells m n f.linked g.linked (word_same _ _ 3 h)) (octets_injective k l f.keyed g.keyed (word_same _ _ 4 h))
 
 -- ---- chains
 

@@ -9,16 +9,18 @@ use Rattle.dns_model.specs.NameText.{printed}
 use Rattle.dns_model.specs.Records.{Rr}
 use Rattle.dns_model.specs.declared.proof.Proof.{Proof}
 use Rattle.dns_model.specs.declared.section.Section.{Section}
+use Rattle.dns_model.proofs.ChainLemmas.{bytes_refl}
 use Rattle.dns_record.specs.Words.{type_word, class_word}
 use Rattle.dns_words.specs.Words.{octets_word}
+use Rattle.dns_words.proofs.WordShapes.{octets_is_word, octets_injective}
 use Rattle.dns_report.specs.LineWords.{mark_word, section_word}
 use Rattle.dns_report.specs.Fields.{fitting_name, is_u16, is_u32}
 use Rattle.dns_report.specs.View.{fitting_record}
 use Rattle.dns_report.proofs.LineLaws.{Line, is_line}
 use Rattle.dns_report.proofs.NameShapes.{printed_word}
 use Rattle.dns_report.proofs.MarkWords.{mark_injective, mark_is_word, section_is_word}
-use Rattle.dns_report.proofs.FieldWords.{class_good, type_good, number_good, bytes_good, name_tells, class_tells, type_tells, number_tells, bytes_tell}
-use Rattle.dns_report.proofs.LineBlocks.{Same, single, starts, named, word_named, single_tells, blocks_tell, single_good, blocks_good}
+use Rattle.dns_report.proofs.FieldWords.{class_good, type_good, number_good, name_tells, class_tells, type_tells, number_tells}
+use Rattle.dns_report.proofs.LineBlocks.{Same, single, starts, named, single_tells, blocks_tell, single_good, blocks_good}
 use Rattle.dns_report.proofs.ReportLines.{record_of, section_lines}
 
 -- what a fitting record's fields are
@@ -47,7 +49,7 @@ record_good section r h =
       type_good r.rtype f.rtype,
       number_good r.ttl f.ttl,
       mark_is_word r.proof,
-      bytes_good r.rdata f.rdata,
+      octets_is_word r.rdata f.rdata,
     ) refl
 
 rr_same : (o p : Labels) (k l c d t u : ℕ) (x y : List ℕ) (m n : Proof) → o ≡ p → k ≡ l → c ≡ d → t ≡ u → x ≡ y → m ≡ n
@@ -67,7 +69,7 @@ record_tells section r q first second h =
     let rdata : octets_word r.rdata ≡ octets_word q.rdata = ap (λ (l : Line). get_or l.1 5 []) h in
     rr_same r.owner q.owner r.rtype q.rtype r.class q.class r.ttl q.ttl r.rdata q.rdata r.proof q.proof
     (name_tells r.owner q.owner f.owner g.owner owner) (type_tells r.rtype q.rtype f.rtype g.rtype rtype) (class_tells r.class q.class f.class g.class class)
-    (number_tells r.ttl q.ttl f.ttl g.ttl ttl) (bytes_tell r.rdata q.rdata f.rdata g.rdata rdata) (mark_injective r.proof q.proof mark)
+    (number_tells r.ttl q.ttl f.ttl g.ttl ttl) (octets_injective r.rdata q.rdata f.rdata g.rdata rdata) (mark_injective r.proof q.proof mark)
 
 -- ---- the records of a section
 
@@ -76,7 +78,7 @@ pub section_tells : (section : Section) (rs qs : List Rr) (x y : List Line) → 
     → section_lines section rs x ≡ section_lines section qs y → Same rs qs x y
 section_tells section =
     blocks_tell (single (record_of section)) fitting_record (named (section_word section))
-    (single_tells (record_of section) fitting_record (record_tells section)) (λ r x. word_named (section_word section))
+    (single_tells (record_of section) fitting_record (record_tells section)) (λ r x. bytes_refl (section_word section))
 
 pub records_good : (section : Section) (rs : List Rr) (more : List Line) → list_all fitting_record rs ≡ true → list_all is_line more ≡ true
     → list_all is_line (section_lines section rs more) ≡ true

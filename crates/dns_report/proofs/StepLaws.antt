@@ -15,9 +15,10 @@ use Rattle.dns_model.specs.declared.section.Section.TheVariants.{Answer, Authori
 use Rattle.dns_model.specs.declared.trail.AskRef.{AskRef}
 use Rattle.dns_model.specs.declared.trail.MarkOrigin.{MarkOrigin}
 use Rattle.dns_model.specs.Trails.{JudgedSetValue, EndingValue}
+use Rattle.dns_model.proofs.ChainLemmas.{bytes_refl}
 use Rattle.dns_record.specs.Words.{type_word, class_word}
 use Rattle.dns_words.specs.Words.{octets_word}
-use Rattle.dns_words.proofs.WordShapes.{is_word, decimal_word}
+use Rattle.dns_words.proofs.WordShapes.{is_word, decimal_word, octets_is_word, octets_injective}
 use Rattle.dns_report.specs.LineWords.{mark_word, section_word}
 use Rattle.dns_report.specs.Fields.{fitting_name, is_u16, is_u32}
 use Rattle.dns_report.specs.TrailView.{ToldRecord, HeardView, Records, Fault, StepView, fitting_told, fitting_heard, fitting_ask, fitting_origin, fitting_place, fitting_set, fitting_ending, fitting_step, fitting_trail}
@@ -25,13 +26,10 @@ use Rattle.dns_report.specs.TrailLines.{purpose_word, empty_words, ask_word, ori
 use Rattle.dns_report.proofs.LineLaws.{Line, is_line}
 use Rattle.dns_report.proofs.NameShapes.{printed_word}
 use Rattle.dns_report.proofs.MarkWords.{mark_injective, mark_is_word, section_injective, section_is_word}
-use Rattle.dns_report.proofs.FieldWords.{below_u16, small_good, number_good, class_good, type_good, bytes_good, small_tells, number_tells, name_tells, class_tells, type_tells, bytes_tell, more_words, each_good, each_tells}
-use Rattle.dns_report.proofs.LineBlocks.{Tells, Same, blocks, single, starts, named, word_named, no_yes, first_line, other_lines, single_tells, blocks_tell, counted_tell, blocks_start, single_good, blocks_good}
+use Rattle.dns_report.proofs.FieldWords.{below_u16, small_good, number_good, class_good, type_good, small_tells, number_tells, name_tells, class_tells, type_tells, more_words, each_good, each_tells}
+use Rattle.dns_report.proofs.LineBlocks.{Tells, Same, blocks, single, starts, named, no_yes, first_line, other_lines, single_tells, blocks_tell, counted_tell, blocks_start, single_good, blocks_good, word_same}
 use Rattle.dns_report.proofs.TrailWords.{purpose_tells, purpose_good, empty_tells, empty_good, no_number, ask_tells, ask_good, origin_tells, origin_good, place_tells, place_good, ending_tells, ending_good}
 use Rattle.dns_report.proofs.StepLines.{step_of, got_of, told_of, told_in, told_lines, set_of, ending_of, judged_lines, step_lines, count_of, trail_lines}
-
-word_same : (l m : Line) (i : ℕ) → l ≡ m → get_or l.1 i [] ≡ get_or m.1 i []
-word_same l m i h = ap (λ (l : Line). get_or l.1 i []) h
 
 -- ---- records as they were told
 
@@ -53,7 +51,7 @@ fits_told r h =
 told_good : (section : Section) (r : ToldRecord) → fitting_told r ≡ true → is_line (told_of section r) ≡ true
 told_good section r h =
     let f = fits_told r h in
-    rw (section_is_word section, printed_word r.owner, class_good r.class f.class, type_good r.rtype f.rtype, number_good r.ttl f.ttl, bytes_good r.rdata f.rdata) refl
+    rw (section_is_word section, printed_word r.owner, class_good r.class f.class, type_good r.rtype f.rtype, number_good r.ttl f.ttl, octets_is_word r.rdata f.rdata) refl
 
 told_same : (o p : Labels) (k l c d t u : ℕ) (x y : List ℕ) → o ≡ p → k ≡ l → c ≡ d → t ≡ u → x ≡ y
     → ◌≡◌ {A = ToldRecord} (record { owner = o; rtype = k; class = c; ttl = t; rdata = x }) (record { owner = p; rtype = l; class = d; ttl = u; rdata = y })
@@ -70,14 +68,14 @@ told_tells section r q first second h =
     let rdata : octets_word r.rdata ≡ octets_word q.rdata = word_same _ _ 5 h in
     told_same r.owner q.owner r.rtype q.rtype r.class q.class r.ttl q.ttl r.rdata q.rdata (name_tells r.owner q.owner f.owner g.owner owner)
     (type_tells r.rtype q.rtype f.rtype g.rtype rtype) (class_tells r.class q.class f.class g.class class) (number_tells r.ttl q.ttl f.ttl g.ttl ttl)
-    (bytes_tell r.rdata q.rdata f.rdata g.rdata rdata)
+    (octets_injective r.rdata q.rdata f.rdata g.rdata rdata)
 
 -- the line of a record that was told in this section
 abbrev is_told : Section → Line → Bool
 is_told section l = bytes_eq l.0 (codes "told") && bytes_eq (get_or l.1 0 []) (section_word section)
 
 told_shows : (section : Section) (r : ToldRecord) (x : List Line) → starts (is_told section) (single (told_of section) r x) ≡ true
-told_shows section r x = word_named (section_word section)
+told_shows section r x = bytes_refl (section_word section)
 
 told_in_tells : (section : Section) (rs qs : List ToldRecord) (x y : List Line) → list_all fitting_told rs ≡ true → list_all fitting_told qs ≡ true
     → starts (is_told section) x ≡ false → starts (is_told section) y ≡ false → told_in section rs x ≡ told_in section qs y → Same rs qs x y

@@ -1,19 +1,13 @@
 -- Reading lines of one form, line by line.
 use Rattle.std.proofs.Common.{◌≡◌, ℕ, ◌+◌, ◌<◌, List, [], ◌∷◌, ◌++◌, length, Option, None, Some, refl, sym, ap, ◌∙◌, arith, append_assoc, append-nil}
+use Rattle.std.proofs.lemmas.Option.{same_Some}
 use Rattle.dns_session.specs.LinePlaces.{Place, place, next_in, next_line, many_in, many}
 
-abbrev from_some : {A : Type 0} → A → Option A → A
-from_some d None = d
-from_some d (Some x) = x
-
-same_pair : {X : Type 0} (p q : X) → Some p ≡ Some q → p ≡ q
-same_pair p q h = ap (from_some p) h
-
 same_first : (a c : List ℕ) (b d : Place) → ◌≡◌ {A = Option (List ℕ × Place)} (Some (a, b)) (Some (c, d)) → a ≡ c
-same_first a c b d h = ap (λ p. p.0) (same_pair (a, b) (c, d) h)
+same_first a c b d h = ap (λ p. p.0) (same_Some (a, b) (c, d) h)
 
 same_second : (a c : List ℕ) (b d : Place) → ◌≡◌ {A = Option (List ℕ × Place)} (Some (a, b)) (Some (c, d)) → b ≡ d
-same_second a c b d h = ap (λ p. p.1) (same_pair (a, b) (c, d) h)
+same_second a c b d h = ap (λ p. p.1) (same_Some (a, b) (c, d) h)
 
 -- what was read before stands in front
 abbrev pub with_front : {X : Type 0} → List X → List X × Place → List X × Place

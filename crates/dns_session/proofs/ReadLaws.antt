@@ -4,6 +4,7 @@ use Rattle.std.specs.Prelude.{◌↔◌}
 use Rattle.std.specs.Option.{option_to_list}
 use Rattle.std.proofs.lemmas.Bool.{cases_Bool}
 use Rattle.std.specs.Cmp.Lexicographic.{bytes_decides}
+use Rattle.std.proofs.lemmas.Option.{none-some}
 use Rattle.dns_model.specs.Keys.{AnchorValue, bytes_eq}
 use Rattle.dns_model.specs.Records.{Question}
 use Rattle.dns_words.specs.Words as steps
@@ -86,9 +87,6 @@ maybe_of form number (l ∷ m ∷ lines) (Some x) line next rest say other = cc
 
 -- ---- forms differ by their first words
 
-some_none : {X : Type 0} (x : X) → None ≡ Some x → ⊥
-some_none x h = cc
-
 after_other : (word other : List ℕ) (ws rest : Words) → bytes_eq word other ≡ false → after word ws ≡ Some rest → after other ws ≡ None
 after_other word other [] rest apart h = cc
 after_other word other (first ∷ ws) rest apart h =
@@ -96,7 +94,7 @@ after_other word other (first ∷ ws) rest apart h =
       | inl is ↦
           let same : first ≡ word = (bytes_decides first word).0 is in
           rw (same, apart) refl
-      | inr isnt ↦ let none : None ≡ Some rest = rw isnt at h in absurd (some_none rest none)
+      | inr isnt ↦ let none : None ≡ Some rest = rw isnt at h in absurd (none-some rest none)
     ]
 
 record Starts (word line : List ℕ) : Type 0 where
@@ -105,7 +103,7 @@ record Starts (word line : List ℕ) : Type 0 where
 
 starts_by : {X : Type 0} (word line : List ℕ) (said : Option Words) (more : Words → Option X) (x : X)
     → after word (words line) ≡ said → steps.◌>>=◌ said more ≡ Some x → Starts word line
-starts_by word line None more x e h = absurd (some_none x h)
+starts_by word line None more x e h = absurd (none-some x h)
 starts_by word line (Some rest) more x e h = record { rest = rest; begins = e }
 
 accept_starts : (line : List ℕ) (x : AcceptedSignatureValue) → accept_line line ≡ Some x → Starts (codes "accept") line

@@ -1,7 +1,8 @@
 -- Words are no longer than the line that they stand in.
-use Rattle.std.proofs.Common.{◌≡◌, ℕ, ◌+◌, ◌≤◌, ◌==◌, List, [], ◌∷◌, length, Option, None, Some, unwrap_or, refl, ap, arith, inl, inr}
+use Rattle.std.proofs.Common.{◌≡◌, ℕ, ◌+◌, ◌≤◌, ◌==◌, List, [], ◌∷◌, length, Option, None, Some, refl, ap, arith, inl, inr}
 use Rattle.std.specs.List.{onto_first}
 use Rattle.std.proofs.lemmas.Bool.{cases_Bool}
+use Rattle.std.proofs.lemmas.Option.{same_Some}
 use Rattle.dns_model.specs.Keys.{bytes_eq}
 use Rattle.dns_words.specs.Words.{◌>>=◌}
 use Rattle.dns_session.specs.LinePlaces.{pieces}
@@ -27,15 +28,12 @@ total_pieces byte (x ∷ xs) =
       | inr isnt ↦ let more = total_onto x (pieces byte xs) in rw isnt (omega (arith, ih, more))
     ]
 
-some_same : {X : Type 0} (x y : X) → Some x ≡ Some y → x ≡ y
-some_same x y h = ap (λ o. unwrap_or o x) h
-
 total_after : (word : List ℕ) (all rest : Words) → Some rest ≡ after word all → total rest ≤ total all
 unfolding total
 total_after word [] rest h = cc
 total_after word (first ∷ others) rest h =
     elim (cases_Bool (bytes_eq first word)) [
-      | inl is ↦ let same : rest ≡ others = some_same _ _ (rw is at h) in rw same (omega arith)
+      | inl is ↦ let same : rest ≡ others = same_Some _ _ (rw is at h) in rw same (omega arith)
       | inr isnt ↦ let none = rw isnt at h in cc
     ]
 
@@ -44,7 +42,7 @@ unfolding total
 triple_third [] x h = cc
 triple_third (a ∷ []) x h = cc
 triple_third (a ∷ b ∷ []) x h = cc
-triple_third (a ∷ b ∷ c ∷ []) x h = let same : x.2 ≡ c = ap (λ y. y.2) (some_same _ _ h) in rw same (omega arith)
+triple_third (a ∷ b ∷ c ∷ []) x h = let same : x.2 ≡ c = ap (λ y. y.2) (same_Some _ _ h) in rw same (omega arith)
 triple_third (a ∷ b ∷ c ∷ d ∷ all) x h = cc
 
 third_of : (word line : List ℕ) (said : Option Words) (x : List ℕ × List ℕ × List ℕ)

@@ -11,7 +11,9 @@ use Rattle.std.proofs.Math.Seq.{take-append_seam, drop-append_seam}
 use Rattle.std.proofs.lemmas.List.{take-append-drop}
 use Rattle.std.proofs.lemmas.Fmt.{decimal_digit, decimal_nonempty, first_decimal, digits_decimal, digits_value-decimal, decimal-digits_value}
 use Rattle.std.proofs.lemmas.Str.Parse.{IsNumeralModel, numerals_by_value}
+use Rattle.std.proofs.lemmas.Option.{same_Some, none-some}
 use Rattle.dns_model.specs.Keys.{bytes_eq}
+use Rattle.dns_model.proofs.ChainLemmas.{bytes_same}
 use Rattle.dns_words.specs.Words.{◌>>=◌, is_unpadded, is_decimal, decimal_in}
 use Rattle.dns_record.specs.Words.{Row, type_rows, class_rows, own_word, own_number, code_word, type_word, class_word}
 use Rattle.dns_words.specs.Codes.{after_prefix, if_unnamed, prefixed_in, code_in, type_word_in, class_word_in}
@@ -39,12 +41,6 @@ zero_alone [] h e = cc
 zero_alone (c ∷ []) h e = refl
 zero_alone (c ∷ d ∷ ds) h e = let first : c ≡ 48 = e in let none : false ≡ true = rw first at h in cc
 
-none_some : {X : Type 0} (x : X) → None ≡ Some x → ⊥
-none_some x e = cc
-
-some_same : {X : Type 0} (x y : X) → Some x ≡ Some y → x ≡ y
-some_same x y h = ap (λ o. unwrap_or o x) h
-
 -- a printed number is read
 pub decimal_back : (limit n : ℕ) → n ≤ limit → n < 2 ^ 64 → decimal_in limit (decimal n) ≡ Some n
 unfolding decimal_in
@@ -55,7 +51,7 @@ decimal_of_value : (limit n : ℕ) (word : List ℕ) → limit < 2 ^ 64 → (is_
     → (if is_decimal word && nat_le (digits_value 10 word) limit then Some (digits_value 10 word) else None) ≡ Some n → word ≡ decimal n
 decimal_of_value limit n word fits (inr isnt) h = let none : None ≡ Some n = rw isnt at h in cc
 decimal_of_value limit n word fits (inl is) h =
-    let value : digits_value 10 word ≡ n = some_same _ _ (rw is at h) in
+    let value : digits_value 10 word ≡ n = same_Some _ _ (rw is at h) in
     let parts = and_parts (is_decimal word) (nat_le (digits_value 10 word) limit) is in
     let form = and_parts (is_unpadded word) (all_ascii_digits word) parts.0 in
     let within = leb-true _ _ parts.1 in
@@ -78,9 +74,6 @@ abbrev NumbersDiffer : List Row → Type 0
 NumbersDiffer [] = Unit {0}
 NumbersDiffer (row ∷ rows) = (own_word rows row.0 ≡ None) × NumbersDiffer rows
 
-same_bytes : (a b : List ℕ) → bytes_eq a b ≡ true → a ≡ b
-same_bytes a b h = (bytes_decides a b).0 h
-
 bytes_alike : (a b : List ℕ) → a ≡ b → bytes_eq a b ≡ true
 bytes_alike a b h = (bytes_decides a b).1 h
 
@@ -91,13 +84,13 @@ named_back [] n word differ h = cc
 named_back (row ∷ rows) n word differ h =
     elim (cases_Bool (row.0 == n)) [
       | inl is ↦
-          let same : row.1 ≡ word = some_same _ _ (rw is at h) in
+          let same : row.1 ≡ word = same_Some _ _ (rw is at h) in
           rw (bytes_alike row.1 word same) (ap Some (eqb-true row.0 n is))
       | inr isnt ↦
           let rest : own_number rows word ≡ Some n = named_back rows n word differ.1 (rw isnt at h) in
           elim (cases_Bool (bytes_eq row.1 word)) [
             | inl same ↦
-                let none : own_number rows word ≡ None = rw (sym (same_bytes row.1 word same)) differ.0 in
+                let none : own_number rows word ≡ None = rw (sym (bytes_same row.1 word same)) differ.0 in
                 cc
             | inr other ↦ rw other rest
           ]
@@ -110,8 +103,8 @@ named_from [] n word differ h = cc
 named_from (row ∷ rows) n word differ h =
     elim (cases_Bool (bytes_eq row.1 word)) [
       | inl is ↦
-          let same : row.0 ≡ n = some_same _ _ (rw is at h) in
-          rw (eq-eqb row.0 n same) (ap Some (same_bytes row.1 word is))
+          let same : row.0 ≡ n = same_Some _ _ (rw is at h) in
+          rw (eq-eqb row.0 n same) (ap Some (bytes_same row.1 word is))
       | inr isnt ↦
           let rest : own_word rows n ≡ Some word = named_from rows n word differ.1 (rw isnt at h) in
           elim (cases_Bool (row.0 == n)) [
@@ -134,8 +127,8 @@ prefix_from : (prefix word rest : List ℕ) → after_prefix prefix word ≡ Som
 prefix_from prefix word rest h =
     elim (cases_Bool (bytes_eq (take (length prefix) word) prefix)) [
       | inl is ↦
-          let back : drop (length prefix) word ≡ rest = some_same _ _ (rw is at h) in
-          sym (take-append-drop (length prefix) word) ∙ ap (λ front. front ++ drop (length prefix) word) (same_bytes _ _ is)
+          let back : drop (length prefix) word ≡ rest = same_Some _ _ (rw is at h) in
+          sym (take-append-drop (length prefix) word) ∙ ap (λ front. front ++ drop (length prefix) word) (bytes_same _ _ is)
           ∙ ap (λ end. prefix ++ end) back
       | inr isnt ↦ let none : None ≡ Some rest = rw isnt at h in cc
     ]
@@ -152,8 +145,8 @@ prefixed_unnamed prefix rest (row ∷ rows) apart =
     elim (cases_Bool (bytes_eq row.1 (prefix ++ rest))) [
       | inl is ↦
           let P : List ℕ → Type 0 = λ word. after_prefix prefix word ≡ Some rest in
-          let some : after_prefix prefix row.1 ≡ Some rest = subst P (sym (same_bytes _ _ is)) (prefix_back prefix rest) in
-          absurd (none_some rest (sym apart.0 ∙ some))
+          let some : after_prefix prefix row.1 ≡ Some rest = subst P (sym (bytes_same _ _ is)) (prefix_back prefix rest) in
+          absurd (none-some rest (sym apart.0 ∙ some))
       | inr isnt ↦ rw isnt (prefixed_unnamed prefix rest rows apart.1)
     ]
 
@@ -169,12 +162,12 @@ code_back rows prefix n differ apart within = code_back_at rows prefix n differ 
 
 unnamed_from : (rows : List Row) (m n : ℕ) (own : Option (List ℕ)) → own_word rows m ≡ own → (if is_some own then None else Some m) ≡ Some n
     → (m ≡ n) × (own_word rows m ≡ None)
-unnamed_from rows m n None h e = (some_same m n e, h)
-unnamed_from rows m n (Some word) h e = absurd (none_some n e)
+unnamed_from rows m n None h e = (same_Some m n e, h)
+unnamed_from rows m n (Some word) h e = absurd (none-some n e)
 
 decimal_unnamed : (rows : List Row) (prefix word rest : List ℕ) (n : ℕ) → after_prefix prefix word ≡ Some rest
     → (number : Option ℕ) → decimal_in 65535 rest ≡ number → (number >>= if_unnamed rows) ≡ Some n → word ≡ code_word rows prefix n
-decimal_unnamed rows prefix word rest n h None d e = absurd (none_some n e)
+decimal_unnamed rows prefix word rest n h None d e = absurd (none-some n e)
 decimal_unnamed rows prefix word rest n h (Some m) d e =
     let facts = unnamed_from rows m n (own_word rows m) refl e in
     let digits : rest ≡ decimal m = decimal_from 65535 m rest (omega arith) d in
@@ -183,7 +176,7 @@ decimal_unnamed rows prefix word rest n h (Some m) d e =
 
 prefixed_from : (rows : List Row) (prefix word : List ℕ) (n : ℕ) (rest : Option (List ℕ)) → after_prefix prefix word ≡ rest
     → (rest >>= λ digits. decimal_in 65535 digits >>= if_unnamed rows) ≡ Some n → word ≡ code_word rows prefix n
-prefixed_from rows prefix word n None h e = absurd (none_some n e)
+prefixed_from rows prefix word n None h e = absurd (none-some n e)
 prefixed_from rows prefix word n (Some rest) h e = decimal_unnamed rows prefix word rest n h (decimal_in 65535 rest) refl e
 
 code_from_at : (rows : List Row) (prefix word : List ℕ) (n : ℕ) → NumbersDiffer rows

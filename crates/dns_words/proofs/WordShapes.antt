@@ -1,5 +1,5 @@
 -- The bytes of printed words are above the space, and two values with one word are equal.
-use Rattle.std.proofs.Common.{◌≡◌, ℕ, zero, suc, ◌^◌, ◌<◌, ◌≤◌, Bool, true, ◌==◌, nat_lt, List, [], ◌∷◌, ◌++◌, codes, Some, unwrap_or, refl, sym, ap, ◌∙◌, arith, inl, inr}
+use Rattle.std.proofs.Common.{◌≡◌, ℕ, zero, suc, ◌^◌, ◌<◌, ◌≤◌, Bool, true, ◌==◌, nat_lt, List, [], ◌∷◌, ◌++◌, codes, unwrap_or, refl, sym, ap, ◌∙◌, arith, inl, inr}
 use Rattle.std.specs.Fmt.{decimal}
 use Rattle.std.specs.Char.{is_ascii_digit}
 use Rattle.std.specs.Str.{all_ascii_digits}
@@ -11,6 +11,7 @@ use Rattle.std.proofs.lemmas.List.Folds.{list_all-append}
 use Rattle.std.proofs.lemmas.List.Sums.{list_all-from_AllPass}
 use Rattle.hex.specs.Hex.{encode_lower, is_hex_digit, IsBytes}
 use Rattle.hex.proofs.HexLemmas.{decode_of-encode_lower, decode_of-ok}
+use Rattle.std.proofs.lemmas.Option.{same_Some}
 use Rattle.dns_model.specs.Bytes.{is_bytes}
 use Rattle.dns_record.specs.Words.{Row, type_rows, class_rows, own_word, type_word, class_word}
 use Rattle.dns_words.specs.Codes.{type_word_in, class_word_in}
@@ -80,14 +81,11 @@ class_is_word n within = own_or class_rows n (codes "CLASS" ++ decimal n) refl (
 
 -- ---- one word, one value
 
-some_same : {X : Type 0} (x y : X) → Some x ≡ Some y → x ≡ y
-some_same x y h = ap (λ o. unwrap_or o x) h
-
 pub type_injective : (m n : ℕ) → m ≤ 65535 → n ≤ 65535 → type_word m ≡ type_word n → m ≡ n
-type_injective m n first second h = some_same m n (sym (type_back m first) ∙ ap type_word_in h ∙ type_back n second)
+type_injective m n first second h = same_Some m n (sym (type_back m first) ∙ ap type_word_in h ∙ type_back n second)
 
 pub class_injective : (m n : ℕ) → m ≤ 65535 → n ≤ 65535 → class_word m ≡ class_word n → m ≡ n
-class_injective m n first second h = some_same m n (sym (class_back m first) ∙ ap class_word_in h ∙ class_back n second)
+class_injective m n first second h = same_Some m n (sym (class_back m first) ∙ ap class_word_in h ∙ class_back n second)
 
 pub octets_injective : (a b : List ℕ) → is_bytes a ≡ true → is_bytes b ≡ true → octets_word a ≡ octets_word b → a ≡ b
-octets_injective a b first second h = some_same a b (sym (octets_back a (bytes_below a first)) ∙ ap octets_in h ∙ octets_back b (bytes_below b second))
+octets_injective a b first second h = same_Some a b (sym (octets_back a (bytes_below a first)) ∙ ap octets_in h ∙ octets_back b (bytes_below b second))
