@@ -35,7 +35,7 @@ pub(crate) fn proved_by(now: u64, set: &RecordSet, sig: &Record, place: Option<u
 }
 
 // The same by a signature that is tested, and so is read; it is the only one.
-pub(crate) fn proved_by_tested<V>(tested: &Tested<'_, V>) -> RrsetProof
+pub(crate) fn proved_by_tested<V>(tested: &Tested<'_, '_, V>) -> RrsetProof
     requires { IsRead tested.now.signature }
     ensures { result ≡ proved_under tested.now.moment tested.now.signature.set.now tested.now.signature.sig.now None }
 {

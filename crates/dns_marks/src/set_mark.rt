@@ -5,11 +5,11 @@ ghost use Rattle.dns_model.specs.Gives.{Gives};
 ghost use Rattle.dns_judgement.specs.Marks.{most_signatures};
 ghost use Rattle.dns_marks.specs.Kinds.{kind_value, want_of_memory};
 ghost use Rattle.dns_marks.specs.KeySignatures.{Unless};
-ghost use Rattle.dns_marks.specs.Tested.{of_answered};
+ghost use Rattle.dns_marks.specs.Tested.{of_set_answers};
 ghost use Rattle.dns_marks.specs.SetMarks.{set_calls, answer_calls};
 ghost use Rattle.dns_marks.specs.SetMarks.{set_proof, deciding_proof, answer_proofs, answer_proof, proof_at as proof_of_mark, no_proof as cause_of, is_skipped_answer, failed_ask as failed_question};
 
-use crate::tested::Answered;
+use crate::tested::SetAnswers;
 use crate::{ProofError, ProofErrorKind, RrsetProof, verify_rrsig_with_keys};
 use dns_handle::Verifier;
 use dns_name::NoMemory;
@@ -49,13 +49,13 @@ pub fn mark_rrset<V: Verifier, L: Ledger>(
         + set_calls (V.answers verifier.now) now set.now (zip (take most_signatures set.now.signatures) answers.now)) }
     ensures most { steps.new ≤ steps.old + 16 }
 {
-    let answered = Answered {
+    let set_answers = SetAnswers {
         verifier,
         set,
         answers,
         moment: now,
     };
-    if let Some(found) = deciding(alloc, &answered, steps)? {
+    if let Some(found) = deciding(alloc, &set_answers, steps)? {
         return Ok(found);
     }
     let kind = no_proof(set, answers)?;
@@ -65,22 +65,22 @@ pub fn mark_rrset<V: Verifier, L: Ledger>(
 // What the signature that decides proves.
 fn deciding<V: Verifier, L: Ledger>(
     alloc: Global,
-    answered: &Answered<'_, V>,
+    set_answers: &SetAnswers<'_, V>,
     steps: &mut Steps<L>,
 ) -> Result<Option<RrsetProof>, NoMemory>
-    requires { length answered.now.answers.now ≡ length (take most_signatures answered.now.set.now.signatures) }
-    ensures proof { IfOk result (λ p. p ≡ deciding_proof (of_answered V.answers answered.now answer_proofs
-        (take most_signatures answered.now.set.now.signatures) answered.now.answers.now)) }
-    ensures calls { OnOk result (steps.new ≡ steps.old + of_answered V.answers answered.now set_calls
-        (zip (take most_signatures answered.now.set.now.signatures) answered.now.answers.now)) }
+    requires { length set_answers.now.answers.now ≡ length (take most_signatures set_answers.now.set.now.signatures) }
+    ensures proof { IfOk result (λ p. p ≡ deciding_proof (of_set_answers V.answers set_answers.now answer_proofs
+        (take most_signatures set_answers.now.set.now.signatures) set_answers.now.answers.now)) }
+    ensures calls { OnOk result (steps.new ≡ steps.old + of_set_answers V.answers set_answers.now set_calls
+        (zip (take most_signatures set_answers.now.set.now.signatures) set_answers.now.answers.now)) }
     ensures most { steps.new ≤ steps.old + 16 }
 {
-    let signatures = first_signatures(answered.set);
-    let answers = answered.answers;
+    let signatures = first_signatures(set_answers.set);
+    let answers = set_answers.answers;
     let mut excuse = None;
     for (place, answer) in answers.iter().enumerate() {
         let sig = &signatures[place];
-        let found = proof_by_answer(alloc, answered, sig, answer, steps)?;
+        let found = proof_by_answer(alloc, set_answers, sig, answer, steps)?;
         if let Some(found) = proof_at(Proof::Secure, place as u32, &found) {
             return Ok(Some(found));
         }
@@ -92,14 +92,14 @@ fn deciding<V: Verifier, L: Ledger>(
 // What a signature proves by the answer to its ask.
 fn proof_by_answer<V: Verifier, L: Ledger>(
     alloc: Global,
-    answered: &Answered<'_, V>,
+    set_answers: &SetAnswers<'_, V>,
     sig: &Record,
     answer: &KeyAnswer,
     steps: &mut Steps<L>,
 ) -> Result<Option<RrsetProof>, NoMemory>
-    ensures proof { IfOk result (λ p. p ≡ of_answered V.answers answered.now answer_proof sig.now answer.now) }
+    ensures proof { IfOk result (λ p. p ≡ of_set_answers V.answers set_answers.now answer_proof sig.now answer.now) }
     ensures calls { OnOk result
-        (steps.new ≡ steps.old + of_answered V.answers answered.now answer_calls sig.now answer.now) }
+        (steps.new ≡ steps.old + of_set_answers V.answers set_answers.now answer_calls sig.now answer.now) }
     ensures most { steps.new ≤ steps.old + 2 }
 {
     match answer {
@@ -107,11 +107,11 @@ fn proof_by_answer<V: Verifier, L: Ledger>(
         KeyAnswer::Failed(_) => Ok(None),
         KeyAnswer::Keys(keys) => verify_rrsig_with_keys(
             alloc,
-            answered.verifier,
+            set_answers.verifier,
             keys,
             sig,
-            answered.set,
-            answered.moment,
+            set_answers.set,
+            set_answers.moment,
             steps,
         ),
     }

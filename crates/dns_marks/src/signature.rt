@@ -42,13 +42,14 @@ pub fn verify_rrset_with_dnskey<V: Verifier, L: Ledger>(
     let (Some(read), Some(dnskey)) = (Rrsig::of(sig), Dnskey::of(key)) else {
         unreachable!()
     };
+    let signature = SetSignature {
+        set,
+        sig,
+        read: &read,
+    };
     let tested = Tested {
         verifier,
-        signature: SetSignature {
-            set,
-            sig,
-            read: &read,
-        },
+        signature,
         moment: now,
     };
     verify_read(alloc, &tested, key, &dnskey, steps)
@@ -57,7 +58,7 @@ pub fn verify_rrset_with_dnskey<V: Verifier, L: Ledger>(
 // The same of a key and a signature that are read.
 fn verify_read<V: Verifier, L: Ledger>(
     alloc: Global,
-    tested: &Tested<'_, V>,
+    tested: &Tested<'_, '_, V>,
     key: &Record,
     dnskey: &Dnskey<'_>,
     steps: &mut Steps<L>,
@@ -129,7 +130,7 @@ fn fault_kind(fault: KeyFault, name: Name, key_tag: u16) -> ProofErrorKind
 
 // The name of the validity, where a signature doesn't fit a set and a key at a moment.
 #[tactic(auto, using(crate::proofs::CallLemmas::validity_read))]
-fn misfit<V>(tested: &Tested<'_, V>, key: &Record) -> Option<Notice>
+fn misfit<V>(tested: &Tested<'_, '_, V>, key: &Record) -> Option<Notice>
     requires { IsRead tested.now.signature }
     ensures { option_map notice_text result
         ≡ misfit_of (validity_at tested.now.moment tested.now.signature.set.now tested.now.signature.sig.now key.now) }
@@ -145,7 +146,7 @@ fn misfit<V>(tested: &Tested<'_, V>, key: &Record) -> Option<Notice>
 // The algorithm is supported, and the verifier accepts the signature of the set as the key's.
 fn is_verified<V: Verifier, L: Ledger>(
     alloc: Global,
-    tested: &Tested<'_, V>,
+    tested: &Tested<'_, '_, V>,
     dnskey: &Dnskey<'_>,
     steps: &mut Steps<L>,
 ) -> Result<bool, NoMemory>
@@ -164,7 +165,7 @@ fn is_verified<V: Verifier, L: Ledger>(
 
 // The verifier accepts the signature over these bytes as the key's; a step is counted for the call.
 pub(crate) fn ask_verifier<V: Verifier, L: Ledger>(
-    tested: &Tested<'_, V>,
+    tested: &Tested<'_, '_, V>,
     dnskey: &Dnskey<'_>,
     bytes: &Octets,
     steps: &mut Steps<L>,

@@ -44,13 +44,14 @@ pub fn verify_rrsig_with_keys<V: Verifier, L: Ledger>(
     let Some(read) = Rrsig::of(sig) else {
         return Ok(None);
     };
+    let signature = SetSignature {
+        set,
+        sig,
+        read: &read,
+    };
     let tested = Tested {
         verifier,
-        signature: SetSignature {
-            set,
-            sig,
-            read: &read,
-        },
+        signature,
         moment: now,
     };
     proof_by_keys(alloc, &tested, keys, steps)
@@ -59,7 +60,7 @@ pub fn verify_rrsig_with_keys<V: Verifier, L: Ledger>(
 // The same of a signature that is read; what bounds the steps is that of a tag two keys count.
 fn proof_by_keys<V: Verifier, L: Ledger>(
     alloc: Global,
-    tested: &Tested<'_, V>,
+    tested: &Tested<'_, '_, V>,
     keys: &[Record],
     steps: &mut Steps<L>,
 ) -> Result<Option<RrsetProof>, NoMemory>
@@ -87,7 +88,7 @@ fn proof_by_keys<V: Verifier, L: Ledger>(
 // One of some keys is Secure, and the signature is good by it. The bytes that it is over are built once.
 fn is_proved<V: Verifier, L: Ledger>(
     alloc: Global,
-    tested: &Tested<'_, V>,
+    tested: &Tested<'_, '_, V>,
     keys: &[&Record],
     steps: &mut Steps<L>,
 ) -> Result<bool, NoMemory>
@@ -112,7 +113,7 @@ fn is_proved<V: Verifier, L: Ledger>(
 // about, and kept.
 fn is_proving<V: Verifier, L: Ledger>(
     alloc: Global,
-    tested: &Tested<'_, V>,
+    tested: &Tested<'_, '_, V>,
     key: &Record,
     built: &mut Option<Octets>,
     steps: &mut Steps<L>,
@@ -138,7 +139,7 @@ fn is_proving<V: Verifier, L: Ledger>(
 
 // The verifier is to be asked: the key is Secure and may sign, and signature, set, key and moment fit.
 #[tactic(auto, using(crate::proofs::CallLemmas::validity_read))]
-fn is_put<V: Verifier>(tested: &Tested<'_, V>, key: &Record, dnskey: &Dnskey<'_>) -> bool
+fn is_put<V: Verifier>(tested: &Tested<'_, '_, V>, key: &Record, dnskey: &Dnskey<'_>) -> bool
     requires read { IsRead tested.now.signature }
     requires key { dnskey_of key.now ≡ Some dnskey.now }
     ensures { result ≡ of_tested V.answers tested.now is_put_to key.now }

@@ -4,17 +4,17 @@ use dns_trust::SetSignature;
 
 /// A signature of a set, which is read, and by what and when it is tested.
 #[derive(Drop)]
-pub(crate) struct Tested<'a, V> {
+pub(crate) struct Tested<'v, 's, V> {
     /// What tests signatures.
-    pub(crate) verifier: &'a V,
-    pub(crate) signature: SetSignature<'a>,
+    pub(crate) verifier: &'v V,
+    pub(crate) signature: SetSignature<'s>,
     /// Seconds since 1970.
     pub(crate) moment: u64,
 }
 
 /// A set and the answers to the asks of its signatures, and by what and when these are tested.
 #[derive(Drop)]
-pub(crate) struct Answered<'a, V> {
+pub(crate) struct SetAnswers<'a, V> {
     /// What tests signatures.
     pub(crate) verifier: &'a V,
     pub(crate) set: &'a RecordSet,

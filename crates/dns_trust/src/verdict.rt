@@ -68,11 +68,11 @@ pub fn verdict_of<V: Verifier>(
     let Some(sets) = answer else {
         return Ok(Verdict::Failed);
     };
-    if !may_be_signed(signature.set, signature.read) {
+    let SetSignature { set, read, .. } = *signature;
+    if !may_be_signed(set, read) {
         return Ok(Verdict::Failed);
     }
-    let class = signature.set.dns_class;
-    let Some(keys) = key_set_of(class, &signature.read.signer, sets) else {
+    let Some(keys) = key_set_of(set.dns_class, &read.signer, sets) else {
         return Ok(Verdict::Failed);
     };
     by_key_set(alloc, judge, signature, keys)

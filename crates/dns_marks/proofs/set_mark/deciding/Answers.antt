@@ -19,7 +19,7 @@ returns-in-Some-clause-proof g c =
     sought_here _ _ _ _ _ _ _ _ _ c.index-signatures-place.result c.index-answers-place.result _ c.loop-place.invariant c.loop-place-test.true
     (c.requires ∙ ap length (sym c.first_signatures-signatures.ensures.first)) c.index-signatures-place.is c.index-answers-place.is
     (ap (proof_at Secure c.loop-place.place) (sym c.in_ok-found.ensures.proof) ∙ sym c.proof_at.ensures ∙ c.in-Some.is)
-    ∙ ap (λ rs. deciding_proof (answer_proofs (g.V.Verifier.answers c.args.answered.now.verifier.now) c.args.answered.now.moment c.args.answered.now.set.now rs c.args.answered.now.answers.now))
+    ∙ ap (λ rs. deciding_proof (answer_proofs (g.V.Verifier.answers c.args.set_answers.now.verifier.now) c.args.set_answers.now.moment c.args.set_answers.now.set.now rs c.args.set_answers.now.answers.now))
     c.first_signatures-signatures.ensures.first
 
 pub returns-in-Some-clause-most : goal.returns-in-Some-clause-most
@@ -32,7 +32,7 @@ returns-in-Some-clause-calls g c =
     counted_here _ _ _ _ _ _ _ _ _ _ c.index-signatures-place.result c.index-answers-place.result _ c.loop-place.invariant c.loop-place-test.true
     (c.requires ∙ ap length (sym c.first_signatures-signatures.ensures.first)) c.index-signatures-place.is c.index-answers-place.is
     (ap (proof_at Secure c.loop-place.place) (sym c.in_ok-found.ensures.proof) ∙ sym c.proof_at.ensures ∙ c.in-Some.is) c.in_ok-found.ensures.calls
-    ∙ ap (λ rs. c.args.steps.now + set_calls (g.V.Verifier.answers c.args.answered.now.verifier.now) c.args.answered.now.moment c.args.answered.now.set.now (zip rs c.args.answered.now.answers.now))
+    ∙ ap (λ rs. c.args.steps.now + set_calls (g.V.Verifier.answers c.args.set_answers.now.verifier.now) c.args.set_answers.now.moment c.args.set_answers.now.set.now (zip rs c.args.set_answers.now.answers.now))
     c.first_signatures-signatures.ensures.first
 
 pub loop-place-preserved : goal.loop-place-preserved
@@ -47,7 +47,7 @@ loop-place-preserved g c =
 pub returns-clause-proof : goal.returns-clause-proof
 returns-clause-proof g c =
     sought_end _ _ _ _ _ _ _ _ _ c.loop-place.invariant c.loop-place-test.false
-    ∙ ap (λ rs. deciding_proof (answer_proofs (g.V.Verifier.answers c.args.answered.now.verifier.now) c.args.answered.now.moment c.args.answered.now.set.now rs c.args.answered.now.answers.now))
+    ∙ ap (λ rs. deciding_proof (answer_proofs (g.V.Verifier.answers c.args.set_answers.now.verifier.now) c.args.set_answers.now.moment c.args.set_answers.now.set.now rs c.args.set_answers.now.answers.now))
     c.first_signatures-signatures.ensures.first
 
 pub returns-clause-most : goal.returns-clause-most
@@ -58,5 +58,5 @@ returns-clause-most g c =
 pub returns-clause-calls : goal.returns-clause-calls
 returns-clause-calls g c =
     counted_end _ _ _ _ _ _ _ _ _ c.loop-place.invariant c.loop-place-test.false
-    ∙ ap (λ rs. c.args.steps.now + set_calls (g.V.Verifier.answers c.args.answered.now.verifier.now) c.args.answered.now.moment c.args.answered.now.set.now (zip rs c.args.answered.now.answers.now))
+    ∙ ap (λ rs. c.args.steps.now + set_calls (g.V.Verifier.answers c.args.set_answers.now.verifier.now) c.args.set_answers.now.moment c.args.set_answers.now.set.now (zip rs c.args.set_answers.now.answers.now))
     c.first_signatures-signatures.ensures.first
