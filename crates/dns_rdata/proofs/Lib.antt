@@ -6,3 +6,4 @@ pub mod CanonicalLemmas
 pub mod SizeLemmas
 pub mod RisingLemmas
 pub mod OnceLemmas
+pub mod DigestLemmas

@@ -27,7 +27,7 @@ mod write;
 
 pub use bytes::{u16_at, u32_at};
 pub use canonical::{canonical_rdata, has_shape};
-pub use digest::ds_covers;
+pub use digest::{DigestType, ds_covers};
 pub use dnskey::Dnskey;
 pub use ds::Ds;
 pub use folded_wire::FoldedWire;

@@ -1,6 +1,6 @@
 -- DS records that are found by algorithm and tag are those that count for a key.
 use Rattle.std.proofs.Common.{◌≡◌, ℕ, zero, suc, ◌+◌, ◌-◌, ◌<◌, ◌≤◌, Bool, true, false, ◌&&◌, cond, List, [], ◌∷◌, ◌++◌, length, take, drop, Option, None, Some, refl, sym, ap, ◌∙◌, arith, append-nil}
-use Rattle.std.specs.Prelude.{◌==◌, nat_lt, slice_index_or, if◌then◌else◌}
+use Rattle.std.specs.Prelude.{◌==◌, ◌||◌, is_some, nat_lt, slice_index_or, if◌then◌else◌}
 use Rattle.std.specs.Option.{option_map_or}
 use Rattle.std.specs.List.{filter, find}
 use Rattle.std.specs.Borrow.{Bor}
@@ -19,7 +19,8 @@ use Rattle.dns_model.specs.RecordViews.{dnskey_of}
 use Rattle.dns_model.specs.Views.{DnskeyValue}
 use Rattle.dns_model.specs.Signing.{key_tag_of}
 use Rattle.dns_model.specs.Keys.{VerifierAnswers, matches}
-use Rattle.dns_judgement.specs.Delegations.{ds_of, counted_ds, matching_ds}
+use Rattle.dns_judgement.specs.Delegations.{ds_of, is_digest_type, counted_ds, matching_ds}
+use Rattle.dns_rdata.specs.Covers.{digest_type_of}
 use Rattle.dns_trust.specs.Delegating.{AreCounted, counted_after, counted_at, is_delegation_at, kept_two, algorithm_and_tag, algorithm_tag_cmp, shown, shown_or_none}
 
 -- of a list that is longer by one the first two
@@ -217,3 +218,15 @@ module _ {Z : Type 0} (answers : VerifierAnswers) (owner : Labels) (key : Rr) (r
   unfolding counted_at
   match_none pair at counted is =
       match_step pair (dnskey_of key) refl at counted ∙ sym (ap (λ o. find (λ r. matches answers owner key.rdata r.rdata) (shown_or_none o)) is)
+
+-- ---- the digest types that are supported
+
+some_if : {X : Type 0} (a b c : Bool) (x y z : X)
+    → is_some (if a then Some x else if b then Some y else if c then Some z else None) ≡ (a || (b || c))
+some_if true b c x y z = refl
+some_if false true c x y z = refl
+some_if false false true x y z = refl
+some_if false false false x y z = refl
+
+pub supported_type : (n : ℕ) → is_some (digest_type_of n) ≡ is_digest_type n
+supported_type n = some_if (n == 1) (n == 2) (n == 4) _ _ _

@@ -4,12 +4,12 @@ ghost use Rattle.std.specs.Option.{option_copied};
 ghost use Rattle.dns_model.specs.Views.{dnskey_in};
 ghost use Rattle.dns_model.specs.RecordViews.{dnskey_of};
 ghost use Rattle.dns_model.specs.Keys.{matches};
-ghost use Rattle.dns_judgement.specs.Delegations.{is_supported_ds as is_supported_record, is_digest_type as is_type_of_digest, is_ds_for as is_record_for, matching_ds as matching_record};
+ghost use Rattle.dns_judgement.specs.Delegations.{is_supported_ds as is_supported_record, is_ds_for as is_record_for, matching_ds as matching_record};
 ghost use Rattle.dns_trust.specs.Delegating.{shown, counted_at, counted_after, algorithm_and_tag, AreCounted, is_delegation_at};
 
 use dns_evidence::Verifier;
 use dns_name::{Name, NoMemory};
-use dns_rdata::{Dnskey, Ds, key_tag};
+use dns_rdata::{DigestType, Dnskey, Ds, key_tag};
 use dns_record::{Record, RecordType};
 use std::alloc::Global;
 use std::collections::BTreeMap;
@@ -113,20 +113,16 @@ pub fn matching_ds<'a, V: Verifier>(
 }
 
 /// The record can be read as a DS, of a supported algorithm and digest type.
+#[tactic(auto, using(crate::proofs::Delegated::supported_type))]
 pub fn is_supported_ds<V: Verifier>(verifier: &V, ds: &Record) -> bool
     ensures { result ≡ is_supported_record (V.answers verifier.now) ds.now }
 {
     match Ds::of(ds) {
-        Some(read) => verifier.supports(read.algorithm) && is_digest_type(read.digest_type),
+        Some(read) => {
+            verifier.supports(read.algorithm) && DigestType::of(read.digest_type).is_some()
+        }
         None => false,
     }
-}
-
-// SHA-1, SHA-256 and SHA-384.
-fn is_digest_type(digest_type: u8) -> bool
-    ensures { result ≡ is_type_of_digest digest_type }
-{
-    digest_type == Ds::SHA1 || digest_type == Ds::SHA256 || digest_type == Ds::SHA384
 }
 
 fn all_of<'a>(alloc: Global, records: &'a [Record]) -> Result<Vec<&'a Record>, NoMemory>

@@ -5,7 +5,7 @@ pub use dns_message::{DecodeError, DecodeKind, Edns, EncodeError, Message};
 pub use dns_model::{Denial, Proof, Section};
 pub use dns_name::{Name, NameError, NameRef, NoMemory, Octets, Text};
 pub use dns_rdata::{
-    Dnskey, Ds, FoldedWire, Ns, Nsec, Nsec3, Nsec3Record, NsecRecord, RdataSet, Rrsig,
+    DigestType, Dnskey, Ds, FoldedWire, Ns, Nsec, Nsec3, Nsec3Record, NsecRecord, RdataSet, Rrsig,
     SerialNumber, Soa, TypeSet, canonical_rdata, ds_covers, has_shape, key_tag, signed_data,
     signed_data_of,
 };
