@@ -1,6 +1,6 @@
 ghost use Rattle.std.specs.Prelude.{◌≡◌, ◌==◌, ◌&&◌, IfOk, Some};
 ghost use Rattle.dns_model.specs.Views.{dnskey_in, rrsig_in};
-ghost use Rattle.dns_model.specs.Signing.{key_tag_of, signed_bytes};
+ghost use Rattle.dns_model.specs.Signing.{key_tag_of};
 ghost use Rattle.dns_model.specs.Chains.{is_good as is_good_in, is_signed as is_signed_in, key_comes as key_comes_in};
 ghost use Rattle.dns_evidence.specs.Link.{link_value};
 ghost use Rattle.dns_anchors.specs.Judge.{judge_of};
@@ -10,9 +10,9 @@ use crate::earlier::Earlier;
 use dns_evidence::{Link, LinkSignature, Verifier, has_rdata};
 use dns_name::NoMemory;
 use dns_rdata::{Dnskey, RdataSet, Rrsig, key_tag, signed_data_of};
-use dns_record::RecordType;
+use dns_record::{Rdata, RecordType};
 use dns_trust::{
-    Judge, is_never_expanded, is_right_below_signer, is_timely, is_usable, signer_fits,
+    Judge, is_accepted, is_never_expanded, is_right_below_signer, is_timely, is_usable, signer_fits,
 };
 use std::alloc::Global;
 
@@ -75,11 +75,10 @@ fn is_signed<V: Verifier>(
     if !fits(set, &read) {
         return Ok(false);
     }
-    let key = by.key.as_slice();
-    if !is_good(alloc, judge, set, &read, key)? {
+    if !is_good(alloc, judge, set, &read, by.key)? {
         return Ok(false);
     }
-    Ok(key_comes(earlier, set, &read, by.key_link, key))
+    Ok(key_comes(earlier, set, &read, by))
 }
 
 // The signature is over the set's type, and its signer and its Labels fit the set's owner (RFC 4035, 5.3.1).
@@ -99,25 +98,26 @@ fn is_good<V: Verifier>(
     judge: &Judge<'_, V>,
     set: &RdataSet<'_>,
     sig: &Rrsig<'_>,
-    key: &[u8],
+    key: &Rdata,
 ) -> Result<bool, NoMemory>
     ensures { IfOk result (λ b. b ≡ is_good_in (judge_of V.answers judge.now)
         set.now.name.now set.now.dns_class.0 set.now.record_type.0 set.now.rdatas.now
         sig.now key.now (dnskey_in key.now)) }
 {
-    let Some(read) = Dnskey::read(key) else {
+    let Some(read) = Dnskey::read(key.as_slice()) else {
         return Ok(false);
     };
     if !is_usable(judge.verifier, &read) {
         return Ok(false);
     }
-    if !is_named(sig, &read, key) {
+    if !is_named(sig, &read, key.as_slice()) {
         return Ok(false);
     }
     if !is_timely(sig, judge.moment) {
         return Ok(false);
     }
-    is_accepted(alloc, judge.verifier, set, sig, &read)
+    let bytes = signed_data_of(alloc, set, sig)?;
+    Ok(is_accepted(judge.verifier, sig, &read, &bytes))
 }
 
 // The signature names the key by its algorithm and its tag.
@@ -132,40 +132,24 @@ fn is_named(sig: &Rrsig<'_>, key: &Dnskey<'_>, rdata: &[u8]) -> bool
     key.algorithm == sig.algorithm && tag == sig.key_tag
 }
 
-// The verifier accepts the signature over the set as the key's.
-fn is_accepted<V: Verifier>(
-    alloc: Global,
-    verifier: &V,
-    set: &RdataSet<'_>,
-    sig: &Rrsig<'_>,
-    key: &Dnskey<'_>,
-) -> Result<bool, NoMemory>
-    ensures { IfOk result (λ b. b ≡ (V.answers verifier.now).accepts sig.now.algorithm key.now.key
-        (signed_bytes set.now.name.now set.now.record_type.0 set.now.dns_class.0 set.now.rdatas.now sig.now)
-        sig.now.signature) }
-{
-    let bytes = signed_data_of(alloc, set, sig)?;
-    Ok(verifier.accepts(sig.algorithm, key.key, bytes.as_slice(), sig.signature))
-}
-
 // The key comes from an earlier link: of a key set a key of it that is trusted, of another set a key of the signer's
 // key set.
 fn key_comes(
     earlier: &Earlier<'_, '_>,
     set: &RdataSet<'_>,
     sig: &Rrsig<'_>,
-    key_link: u32,
-    key: &[u8],
+    by: &LinkSignature<'_>,
 ) -> bool
     ensures { result ≡ key_comes_in earlier.now
         set.now.name.now set.now.dns_class.0 set.now.record_type.0 set.now.rdatas.now
-        sig.now.signer key_link key.now }
+        sig.now.signer by.now.key_link by.now.key.now }
 {
+    let key = by.key.as_slice();
     if set.record_type != RecordType::DNSKEY {
-        return earlier.shows_member(key_link, &sig.signer, set.dns_class, key);
+        return earlier.shows_member(by.key_link, &sig.signer, set.dns_class, key);
     }
     let owner = set.name.borrowed();
     owner.eq_name(&sig.signer)
         && has_rdata(set.rdatas, key)
-        && earlier.shows_key(key_link, &owner, set.dns_class, key)
+        && earlier.shows_key(by.key_link, &owner, set.dns_class, key)
 }
