@@ -25,7 +25,7 @@ use Rattle.dns_audit_trial.specs.declared.audit.Audited.{Audited}
 use Rattle.dns_audit_trial.specs.Audits.{audited_by, response_in, session_audited, Responds}
 use Rattle.dns_audit_trial.specs.Forms.{audit_text, truth_line}
 use Rattle.dns_audit_trial.specs.LongChains.{is_long_chain_justified}
-use Rattle.dns_audit_trial.specs.Endings.{Audits, ComesTo, EndsAs, EndsTold, EndsUnread, MayWrite, Told, Nothing}
+use Rattle.dns_audit_trial.specs.Endings.{Audits, AuditComesTo, EndsAs, EndsTold, EndsUnread, MayWrite, Told, Nothing}
 
 -- ---- the response
 
@@ -76,7 +76,7 @@ audits_none s text responds spelled = record { response = None; responds = respo
 
 -- the session that was read is the one that was told
 pub comes_read : (told : Result SessionValue ℕ) (s : SessionValue) (text : List ℕ)
-    → Some s ≡ result_ok told → Audits s text → ComesTo told 0 text
+    → Some s ≡ result_ok told → Audits s text → AuditComesTo told 0 text
 comes_read (Ok x) s text is given = record { status_is = refl; audits = subst (λ y. Audits y text) (same is) given }
   where
     same : Some s ≡ Some x → s ≡ x
@@ -88,7 +88,7 @@ comes_read (Err n) s text is given = absurd (clash is)
 
 -- none was told where none was read
 pub comes_unread : (told : Result SessionValue ℕ) (status : ℕ) (text : List ℕ)
-    → None ≡ result_ok told → EndsUnread status text → ComesTo told status text
+    → None ≡ result_ok told → EndsUnread status text → AuditComesTo told status text
 comes_unread (Ok x) status text is given = absurd (clash is)
   where
     clash : None ≡ Some x → ⊥
@@ -96,12 +96,12 @@ comes_unread (Ok x) status text is given = absurd (clash is)
 comes_unread (Err n) status text is given = given
 
 pub ends_written : (told : Result SessionValue ℕ) (status : ℕ) (text : List ℕ) (before now : Option (List ℕ))
-    → ComesTo told status text → Appends before now text → EndsAs told status before now
+    → AuditComesTo told status text → Appends before now text → EndsAs told status before now
 ends_written told status text before now comes written = record { text = text; comes = comes; written = written }
 
 -- a prefix of what was to be written
 pub ends_prefix : (told : Result SessionValue ℕ) (status : ℕ) (text : List ℕ) (before now : Option (List ℕ))
-    → ComesTo told status text → TakesPrefix before now text → WrotePrefix before now (MayWrite told)
+    → AuditComesTo told status text → TakesPrefix before now text → WrotePrefix before now (MayWrite told)
 ends_prefix told status text before now comes taken = record { text = text; fact = Told status comes; written = taken }
 
 -- nothing was written

@@ -7,7 +7,7 @@ use Rattle.dns_model.specs.Chains.{LinkValue, judge, justified}
 use Rattle.dns_anchors.specs.Anchoring.{with_anchor}
 use Rattle.dns_evidence.specs.Link.{link_value}
 use Rattle.dns_evidence.specs.declared.link.Link.{Link}
-use Rattle.dns_audit_trial.specs.LongChains.{accepting, anchored_link, each_below, is_long_chain_justified, key_set_link, long_links, member_anchors, member_key, members, signed_link}
+use Rattle.dns_audit_trial.specs.LongChains.{accepting, member_link, each_below, is_long_chain_justified, key_set_link, long_links, member_anchors, member_key, members, signed_link}
 
 pub each_none : {A : Type 0} (f : ℕ → A) → each_below f 0 ≡ []
 unfolding each_below
@@ -57,13 +57,13 @@ anchors_more n anchors more is grown =
 
 -- the members, their set, and what they signed
 pub links_joined : (signed : ℕ) (front whole all : List Link) (set : Link)
-    → map link_value front ≡ each_below anchored_link members → link_value set ≡ key_set_link → whole ≡ front ++ set ∷ []
+    → map link_value front ≡ each_below member_link members → link_value set ≡ key_set_link → whole ≡ front ++ set ∷ []
     → map link_value all ≡ map link_value whole ++ each_below signed_link signed → map link_value all ≡ long_links signed
 links_joined signed front whole all set is made grown joined =
     joined ∙ ap (λ xs. map link_value xs ++ each_below signed_link signed) grown
     ∙ ap (λ xs. xs ++ each_below signed_link signed) (map-append link_value front (set ∷ []))
     ∙ ap₂ (λ xs x. (xs ++ x ∷ []) ++ each_below signed_link signed) is made
-    ∙ append_assoc (each_below anchored_link members) (key_set_link ∷ []) (each_below signed_link signed)
+    ∙ append_assoc (each_below member_link members) (key_set_link ∷ []) (each_below signed_link signed)
 
 -- what a check of that chain by those anchors tells
 pub long_told : (told : Bool) (signed : ℕ) (anchors : List AnchorValue) (links : List LinkValue)

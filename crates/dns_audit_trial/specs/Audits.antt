@@ -12,18 +12,18 @@ use Rattle.dns_run.specs.Soundness.{session_judge}
 use Rattle.dns_audit_trial.specs.declared.audit.Audited.{Audited}
 
 -- the count, with a chain; it stops at the greatest number of 64 bits
-abbrev pub with_chain : Judge → ℕ → ChainValue → ℕ
-with_chain j count chain = if justified j chain.links then min (count + 1) (2 ^ 64 - 1) else count
+abbrev pub count_with_chain : Judge → ℕ → ChainValue → ℕ
+count_with_chain j count chain = if justified j chain.links then min (count + 1) (2 ^ 64 - 1) else count
 
 -- the count, with each justified one of some chains
-unfoldable pub with_chains : Judge → ℕ → List ChainValue → ℕ
-with_chains j count [] = count
-with_chains j count (chain ∷ chains) = with_chains j (with_chain j count chain) chains
+unfoldable pub count_with_chains : Judge → ℕ → List ChainValue → ℕ
+count_with_chains j count [] = count
+count_with_chains j count (chain ∷ chains) = count_with_chains j (count_with_chain j count chain) chains
 
 -- what the checks say of a response by a judge, where asks go so deep
 abbrev pub audited_by : Judge → ℕ → ResponseValue → Audited
 audited_by j depth response = record {
-  justified = with_chains j 0 response.chains;
+  justified = count_with_chains j 0 response.chains;
   chains = length response.chains;
   is_derived = derivation j depth response.trail;
 }

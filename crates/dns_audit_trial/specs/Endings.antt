@@ -31,14 +31,14 @@ pub record EndsUnread (status : ℕ) (text : List ℕ) : Type 0 where
   pub spelled : text ≡ codes "no session\n"
 
 -- what bytes come to that were read as a session, or as none
-abbrev pub ComesTo : Result SessionValue ℕ → ℕ → List ℕ → Type 0
-ComesTo (Ok s) status text = EndsAudited s status text
-ComesTo (Err number) status text = EndsUnread status text
+abbrev pub AuditComesTo : Result SessionValue ℕ → ℕ → List ℕ → Type 0
+AuditComesTo (Ok s) status text = EndsAudited s status text
+AuditComesTo (Err number) status text = EndsUnread status text
 
 -- a run ended with this status, and wrote a text that the bytes come to
 pub record EndsAs (told : Result SessionValue ℕ) (status : ℕ) (before now : Option (List ℕ)) : Type 0 where
   pub text : List ℕ
-  pub comes : ComesTo told status text
+  pub comes : AuditComesTo told status text
   pub written : Appends before now text
 
 -- the status is 0, and it was written whether the chain with so many signed links is justified
@@ -48,7 +48,7 @@ pub record EndsTold (signed status : ℕ) (before now : Option (List ℕ)) : Typ
 
 -- what a run over bytes may write: nothing, where memory runs out before a text is there
 pub data MayWrite (told : Result SessionValue ℕ) (text : List ℕ) : Type 0 where
-  Told : (status : ℕ) → ComesTo told status text → MayWrite told text
+  Told : (status : ℕ) → AuditComesTo told status text → MayWrite told text
   Nothing : text ≡ [] → MayWrite told text
 
 -- a prefix of a text that the words and the input come to was written

@@ -9,15 +9,15 @@ use Rattle.dns_audit_trial.specs.declared.form.Form.{Form}
 use Rattle.dns_audit_trial.specs.declared.form.Form.TheVariants.{Audit, Chains}
 
 -- how often, or how many: a number of 32 bits
-abbrev pub count_in : List ℕ → Option ℕ
-count_in word = decimal_in 4294967295 word
+abbrev pub count_word_in : List ℕ → Option ℕ
+count_word_in word = decimal_in 4294967295 word
 
 -- what words ask for: none for one audit, `again TIMES`, or `chains LINKS`
 abbrev pub form_in : List (List ℕ) → Option Form
 form_in [] = Some (Audit 0)
 form_in (name ∷ count ∷ []) =
-    if bytes_eq name (codes "again") then option_map (λ n. Audit n) (count_in count)
-    else if bytes_eq name (codes "chains") then option_map (λ n. Chains n) (count_in count)
+    if bytes_eq name (codes "again") then option_map (λ n. Audit n) (count_word_in count)
+    else if bytes_eq name (codes "chains") then option_map (λ n. Chains n) (count_word_in count)
     else None
 form_in words = None
 

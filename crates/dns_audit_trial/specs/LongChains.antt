@@ -34,8 +34,8 @@ abbrev pub members : ℕ
 members = 1000
 
 -- a link to the member by its anchor
-abbrev pub anchored_link : ℕ → LinkValue
-anchored_link number = Anchored [] class_in (member_rdata number)
+abbrev pub member_link : ℕ → LinkValue
+member_link number = Anchored [] class_in (member_rdata number)
 
 -- the key set of all members, whom the links with their numbers show
 abbrev pub key_set_link : LinkValue
@@ -49,7 +49,7 @@ signed_link number =
 
 -- the members, their set, and so many sets that they signed
 abbrev pub long_links : ℕ → List LinkValue
-long_links signed = each_below anchored_link members ++ key_set_link ∷ each_below signed_link signed
+long_links signed = each_below member_link members ++ key_set_link ∷ each_below signed_link signed
 
 -- the anchors of the members below this number
 unfoldable pub member_anchors : ℕ → List AnchorValue

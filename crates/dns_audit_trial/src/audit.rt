@@ -2,7 +2,7 @@
 ghost use Rattle.std.specs.Prelude.{◌≡◌, Err, IfOk};
 ghost use Rattle.dns_anchors.specs.Judge.{judge_of};
 ghost use Rattle.dns_handle.specs.Replies.{error_of};
-ghost use Rattle.dns_audit_trial.specs.Audits.{audited_by, response_in, session_audited, with_chain, with_chains, Responds};
+ghost use Rattle.dns_audit_trial.specs.Audits.{audited_by, response_in, session_audited, count_with_chain, count_with_chains, Responds};
 
 use dns_chain_check::check_chain;
 use dns_name::NoMemory;
@@ -31,7 +31,7 @@ fn counted<V: Verifier>(
     count: u64,
     chain: &Chain,
 ) -> Result<u64, NoMemory>
-    ensures { IfOk result (λ n. n ≡ with_chain (judge_of V.answers judge.now) count chain.now) }
+    ensures { IfOk result (λ n. n ≡ count_with_chain (judge_of V.answers judge.now) count chain.now) }
 {
     if check_chain(alloc, judge.anchors, judge.verifier, judge.moment, chain)? {
         Ok(count.saturating_add(1))
@@ -41,13 +41,13 @@ fn counted<V: Verifier>(
 }
 
 // How many of some chains are justified.
-#[tactic(auto, unfolding(crate::specs::Audits::with_chains))]
+#[tactic(auto, unfolding(crate::specs::Audits::count_with_chains))]
 fn count_justified<V: Verifier>(
     alloc: Global,
     judge: &Judge<'_, V>,
     chains: &[Chain],
 ) -> Result<u64, NoMemory>
-    ensures { IfOk result (λ n. n ≡ with_chains (judge_of V.answers judge.now) 0 chains.now) }
+    ensures { IfOk result (λ n. n ≡ count_with_chains (judge_of V.answers judge.now) 0 chains.now) }
 {
     let mut count: u64 = 0;
     let mut left = chains;

@@ -1,6 +1,6 @@
 //! The words that the program takes.
 ghost use Rattle.std.specs.Prelude.{◌≡◌};
-ghost use Rattle.dns_audit_trial.specs.Forms.{asked_form, count_in as count_of_word};
+ghost use Rattle.dns_audit_trial.specs.Forms.{asked_form, count_word_in as count_of_word};
 
 use dns_words::decimal_in;
 
@@ -14,7 +14,7 @@ pub enum Form {
 }
 
 // How often, or how many.
-fn count_in(word: &[u8]) -> Option<u32>
+fn count_word_in(word: &[u8]) -> Option<u32>
     ensures { result ≡ count_of_word word.now }
 {
     let count = decimal_in(word, 4_294_967_295)?;
@@ -29,11 +29,11 @@ pub(crate) fn form_of(words: &[Vec<u8>]) -> Option<Form>
         [] => Some(Form::Audit(0)),
         [name, count] => {
             if name.as_slice() == b"again".as_slice() {
-                let more = count_in(count)?;
+                let more = count_word_in(count)?;
                 return Some(Form::Audit(more));
             }
             if name.as_slice() == b"chains".as_slice() {
-                let links = count_in(count)?;
+                let links = count_word_in(count)?;
                 return Some(Form::Chains(links));
             }
             None

@@ -1,7 +1,7 @@
 //! A chain that costs the most of the honest kinds: a key set of many anchored keys, and sets that its members signed.
 ghost use Rattle.std.specs.Prelude.{◌≡◌, ◌++◌, IfOk, OnOk, map};
 ghost use Rattle.dns_evidence.specs.Link.{link_value};
-ghost use Rattle.dns_audit_trial.specs.LongChains.{anchored_link as anchored_link_of, each_below, is_long_chain_justified, key_set_link, long_links, member_anchors as member_anchors_of, member_key, member_rdata, member_signature, members, signed_link as signed_link_of};
+ghost use Rattle.dns_audit_trial.specs.LongChains.{member_link as member_link_of, each_below, is_long_chain_justified, key_set_link, long_links, member_anchors as member_anchors_of, member_key, member_rdata, member_signature, members, signed_link as signed_link_of};
 
 use dns_chain_check::check_chain;
 use dns_name::{Name, NoMemory, Octets};
@@ -81,7 +81,7 @@ fn member_anchors(alloc: Global) -> Result<TrustAnchors, NoMemory>
 // A link for each member, by its anchor.
 #[tactic(auto, using(crate::proofs::LongLemmas::each_none, crate::proofs::LongLemmas::link_more))]
 fn anchored_links(alloc: Global) -> Result<Vec<Link>, NoMemory>
-    ensures { IfOk result (λ v. map link_value v.items ≡ each_below anchored_link_of members) }
+    ensures { IfOk result (λ v. map link_value v.items ≡ each_below member_link_of members) }
 {
     let mut links = Vec::new(alloc);
     for number in 0..MEMBERS {

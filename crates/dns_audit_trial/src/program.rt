@@ -8,7 +8,7 @@ ghost use Rattle.dns_io.specs.Writing.{bad_words_text, TakesPrefix};
 ghost use Rattle.dns_run.specs.Outcomes.{WrotePrefix};
 ghost use Rattle.dns_session.specs.Grammar.{session_of};
 ghost use Rattle.dns_audit_trial.specs.Forms.{asked_form, reads_input, truth_line as truth_text};
-ghost use Rattle.dns_audit_trial.specs.Endings.{Audits, ComesTo, EndsAs, EndsTold, EndsUnread, LeavesPrefix, MayWrite};
+ghost use Rattle.dns_audit_trial.specs.Endings.{Audits, AuditComesTo, EndsAs, EndsTold, EndsUnread, LeavesPrefix, MayWrite};
 ghost use Rattle.dns_audit_trial.specs.LongChains.{is_long_chain_justified as is_long_justified};
 ghost use Rattle.dns_audit_trial.specs.declared.form.Form.TheVariants.{Audit, Chains};
 
@@ -67,7 +67,7 @@ fn unread(alloc: Global) -> Result<(u8, Vec<u8>), NoMemory>
 #[tactic(auto, using(crate::proofs::AuditLemmas::comes_read, crate::proofs::AuditLemmas::comes_unread))]
 fn ending(alloc: Global, more: u32, bytes: &[u8]) -> Result<(u8, Vec<u8>), NoMemory>
     requires { length bytes.now ≤ input_limit }
-    ensures value { IfOk result (λ x. ComesTo (session_of bytes.now) x.0 x.1.items) }
+    ensures value { IfOk result (λ x. AuditComesTo (session_of bytes.now) x.0 x.1.items) }
     ensures status { IfOk result (λ x. x.0 < 4) }
     ensures form { IfOk result (λ x. x.0 ≢ 2) }
 {

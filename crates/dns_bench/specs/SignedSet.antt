@@ -24,10 +24,10 @@ raised_often zero count more = count
 raised_often (suc times) count more = raised_often times (raised count more) more
 
 -- the bytes that so many passes make: a signature of the signer's own set of so many addresses is over them
-abbrev pub signed_by : ℕ → ℕ → Option RrsigValue → ℕ
-signed_by records passes None = 0
-signed_by records passes (Some sig) =
+abbrev pub signed_count_by : ℕ → ℕ → Option RrsigValue → ℕ
+signed_count_by records passes None = 0
+signed_count_by records passes (Some sig) =
     raised_often passes 0 (length (signed_bytes sig.signer type_a class_in (addresses records) sig))
 
 abbrev pub signed_count : ℕ → ℕ → ℕ
-signed_count records passes = signed_by records passes (rrsig_in signature_head)
+signed_count records passes = signed_count_by records passes (rrsig_in signature_head)

@@ -23,5 +23,5 @@ members_in (KeySet owner class keys links) = keys
 members_in (Signed owner class rtype rdatas sig key_link key) = rdatas
 
 -- the index has those of a link
-abbrev pub Indexes : BTreeSet (Bor (List ℕ)) → LinkValue → Type 0
-Indexes index link = Holds index (members_in link)
+abbrev pub IndexesLink : BTreeSet (Bor (List ℕ)) → LinkValue → Type 0
+IndexesLink index link = Holds index (members_in link)

@@ -1,7 +1,7 @@
 ghost use Rattle.std.specs.Prelude.{◌≡◌, IfOk, Some};
 ghost use Rattle.dns_model.specs.Chains.{has_bytes, shows_ds as shows_ds_in, shows_member as shows_member_in};
 ghost use Rattle.dns_evidence.specs.Link.{link_value};
-ghost use Rattle.dns_chain_check.specs.Indexed.{Holds, Indexes, members_in};
+ghost use Rattle.dns_chain_check.specs.Indexed.{Holds, IndexesLink, members_in};
 
 use dns_evidence::{Link, same_owner};
 use dns_name::{NameRef, NoMemory};
@@ -23,13 +23,13 @@ pub(crate) struct IndexedLink<'a> {
 impl<'a> Model for IndexedLink<'a> {
     ghost use Rattle.dns_model.specs.Chains.{LinkValue};
     ghost use Rattle.dns_evidence.specs.Link.{link_value};
-    ghost use Rattle.dns_chain_check.specs.Indexed.{Indexes};
+    ghost use Rattle.dns_chain_check.specs.Indexed.{IndexesLink};
 
     ghost Value = { LinkValue };
 
     ghost view = { λ i. link_value i.link.now };
 
-    ghost invariant = { λ i. Indexes i.members (link_value i.link.now) };
+    ghost invariant = { λ i. IndexesLink i.members (link_value i.link.now) };
 }
 
 impl<'a> IndexedLink<'a> {
@@ -97,7 +97,7 @@ impl<'a> IndexedLink<'a> {
 
 // The rdatas of a link's set.
 fn members_of<'a>(alloc: Global, link: &'a Link) -> Result<Members<'a>, NoMemory>
-    ensures { IfOk result (λ m. Indexes m (link_value link.now)) }
+    ensures { IfOk result (λ m. IndexesLink m (link_value link.now)) }
 {
     match link {
         Link::Anchored { .. } => rdatas_in(alloc, &[]),

@@ -23,9 +23,9 @@ abbrev pub signed_for : Labels → Rr → Answered
 signed_for name record_ = answered_by_signature name (rrsig_of record_)
 
 -- how an answer section answers for the name, by its first record
-abbrev pub answered_by : Labels → List Rr → Answered
-answered_by name [] = No
-answered_by name (first ∷ answers) = signed_for name first
+abbrev pub answered_by_first : Labels → List Rr → Answered
+answered_by_first name [] = No
+answered_by_first name (first ∷ answers) = signed_for name first
 
 abbrev pub with_one : List OwnedNsec → Option OwnedNsec → List OwnedNsec
 with_one nsecs None = nsecs
@@ -43,7 +43,7 @@ with_nsecs nsecs (record_ ∷ section) = with_nsecs (with_nsec nsecs record_) se
 -- what a message proves of a question in a zone
 abbrev pub message_proof : Labels → Question → Result MessageValue DecodeError → Proof
 message_proof zone question (Ok message) =
-    nsec_verdict question zone message.response_code (answered_by question.owner message.answers) (with_nsecs [] message.authorities)
+    nsec_verdict question zone message.response_code (answered_by_first question.owner message.answers) (with_nsecs [] message.authorities)
 -- bytes that are none prove nothing
 message_proof zone question (Err error) = Bogus
 

@@ -1,6 +1,6 @@
 //! What a response proves of its question by the NSEC records in its authority section (RFC 4035, 5.3.4 and 5.4).
 ghost use Rattle.std.specs.Prelude.{◌≡◌, ◌++◌, [], length, IfOk, OnOk};
-ghost use Rattle.dns_denial_trial.specs.Verdicts.{answered_by as answered_in, signed_for as signed_for_in, with_nsec, with_nsecs, message_proof as message_proof_of, reply_proof as reply_proof_of, proof_line, with_lines};
+ghost use Rattle.dns_denial_trial.specs.Verdicts.{answered_by_first as answered_in, signed_for as signed_for_in, with_nsec, with_nsecs, message_proof as message_proof_of, reply_proof as reply_proof_of, proof_line, with_lines};
 
 use dns_denial::{Answered, verify_nsec};
 use dns_message::{DecodeError, Message};
@@ -8,7 +8,7 @@ use dns_model::Proof;
 use dns_name::{Name, NoMemory};
 use dns_rdata::{NsecRecord, Rrsig};
 use dns_record::{Query, Record};
-use dns_session::{Reply, ReplyKind, Session};
+use dns_session::{ReplyKind, Session, SessionReply};
 use std::alloc::Global;
 
 /// How a record of the answer section answers for a name: a signature with fewer labels shows a wildcard (RFC 4035, 5.3.4).
@@ -28,7 +28,7 @@ fn signed_for(name: &Name, from: &Record) -> Answered
 }
 
 /// How an answer section answers for a name, by its first record.
-fn answered_by(name: &Name, answers: &[Record]) -> Answered
+fn answered_by_first(name: &Name, answers: &[Record]) -> Answered
     ensures { result ≡ answered_in name.now answers.now }
 {
     match answers {
@@ -73,7 +73,7 @@ fn message_proof(
     match message {
         Ok(message) => {
             let nsecs = nsecs_in(alloc, &message.authorities)?;
-            let answered = answered_by(&question.name, &message.answers);
+            let answered = answered_by_first(&question.name, &message.answers);
             Ok(verify_nsec(question, zone, message.response_code, answered, &nsecs))
         }
         Err(_) => Ok(Proof::Bogus),
@@ -81,7 +81,7 @@ fn message_proof(
 }
 
 /// What a reply proves of its question in a zone: by its message, whatever becomes of it; a fault proves nothing.
-fn reply_proof(alloc: Global, zone: &Name, reply: &Reply) -> Result<Proof, NoMemory>
+fn reply_proof(alloc: Global, zone: &Name, reply: &SessionReply) -> Result<Proof, NoMemory>
     ensures { IfOk result (λ p. p ≡ reply_proof_of zone.now reply.now) }
 {
     match &reply.kind {
@@ -104,7 +104,7 @@ fn proof_line(proof: Proof) -> &'static [u8]
 
 /// A line for each reply.
 #[tactic(auto, unfolding(crate::specs::Verdicts::with_lines))]
-fn lines_of(alloc: Global, zone: &Name, replies: &[Reply]) -> Result<Vec<u8>, NoMemory>
+fn lines_of(alloc: Global, zone: &Name, replies: &[SessionReply]) -> Result<Vec<u8>, NoMemory>
     ensures { IfOk result (λ text. text.items ≡ with_lines zone.now [] replies.now) }
 {
     let mut text = Vec::new(alloc);

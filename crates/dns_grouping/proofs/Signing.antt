@@ -12,7 +12,7 @@ use Rattle.dns_model.specs.Records.{Rr, RrSet}
 use Rattle.dns_model.specs.Sections.{same_set, is_signature, covers, covers_rtype, leaders, unsigned_part, sets_of}
 use Rattle.dns_model.proofs.EachLemmas.{Apart, each_more, each_of, each_passes, map_agree, map-map, apart_map}
 use Rattle.dns_model.proofs.SetLemmas.{leaders_apart, same_key, each_leader, number_same}
-use Rattle.dns_grouping.specs.Joining.{is_at, with_signature, signed_by, given, bare_set, bare_sets, part_set, part_sets}
+use Rattle.dns_grouping.specs.Joining.{is_at, with_signature, given_to_covered, given, bare_set, bare_sets, part_set, part_sets}
 use Rattle.dns_grouping.proofs.Joining.{touched_map, at_single}
 
 -- ---- one more signature
@@ -41,7 +41,7 @@ part_apart section front ls apart = apart_map same_key (part_set section front) 
 -- a signature is given where it covers
 give_step : (section front : List Rr) (r : Rr) (ls : List Rr) (b : Bool) (o : Option RrsigValue) → Apart same_set ls
     → map (λ l. set_with section l (filter (covers l) front ++ cond (is_covered r b o l) (r ∷ []) [])) ls
-    ≡ signed_by r (cond b o None) (map (part_set section front) ls)
+    ≡ given_to_covered r (cond b o None) (map (part_set section front) ls)
 give_step section front r ls false o apart =
     map_agree (λ l. set_with section l (filter (covers l) front ++ [])) (part_set section front) ls
     (each_of (λ l. set_with section l (filter (covers l) front ++ []) ≡ part_set section front l) (λ l. unsigned_step section front l r false refl) ls)

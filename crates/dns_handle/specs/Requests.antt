@@ -31,8 +31,8 @@ abbrev pub first_question : RequestValue → Option Question
 first_question request = first_query request.message.queries
 
 -- the OPT record that options ask for
-abbrev pub edns_of : DnsRequestOptions → Option EdnsValue
-edns_of options =
+abbrev pub requested_edns : DnsRequestOptions → Option EdnsValue
+requested_edns options =
     if options.use_edns
     then Some (record { max_payload = options.edns_payload_len; version = 0; dnssec_ok = options.edns_set_dnssec_ok; flags = 0; options = [] })
     else None
@@ -54,7 +54,7 @@ query_message query options = record {
   answers = [];
   authorities = [];
   additionals = [];
-  edns = edns_of options;
+  edns = requested_edns options;
 }
 
 -- the request for one question

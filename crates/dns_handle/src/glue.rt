@@ -27,7 +27,7 @@ fn is_address(of: &Record) -> bool
 }
 
 /// A list of one record.
-fn single(alloc: Global, next: Record) -> Result<Vec<Record>, NoMemory>
+fn list_of_one(alloc: Global, next: Record) -> Result<Vec<Record>, NoMemory>
     ensures { IfOk result (λ v. v.items ≡ next ∷ []) }
 {
     let mut own = Vec::new(alloc);
@@ -50,7 +50,7 @@ fn join_at(
         known.push(next)?;
         return Ok(());
     }
-    let own = single(alloc, next)?;
+    let own = list_of_one(alloc, next)?;
     addresses.insert(key, own)?;
     Ok(())
 }

@@ -1,5 +1,5 @@
 ghost use Rattle.std.specs.Prelude.{◌≡◌, IfOk, OnOk};
-ghost use Rattle.dns_handle.specs.Requests.{edns_of, first_cased, first_query, plain_options, request_cased, request_of};
+ghost use Rattle.dns_handle.specs.Requests.{requested_edns, first_cased, first_query, plain_options, request_cased, request_of};
 
 use crate::letter_case::name_cased;
 use dns_message::{Edns, Message};
@@ -66,7 +66,7 @@ impl Model for DnsRequest {
 
 /// The OPT record that the options ask for: version 0, no flag but DO, no option.
 fn make_edns(alloc: Global, options: &DnsRequestOptions) -> Option<Edns>
-    ensures { result ≡ edns_of options.now }
+    ensures { result ≡ requested_edns options.now }
 {
     if options.use_edns {
         Some(Edns {

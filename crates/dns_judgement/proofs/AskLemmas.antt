@@ -209,7 +209,7 @@ excuse_found g step told (Some zone) h by = by zone refl
 -- the asks on which the ending stands
 ending_asks : (g : Grounds) (step : AskedValue) (told : Told) (o : Outcome) → ending_holds g step told o ≡ true → AreAsksOf g step.excuse
 ending_asks g step told outcome.Unjudged h = no_asks g step.excuse ((and_parts (is_failed step.ending) (is_empty step.excuse) h).1)
-ending_asks g step told (outcome.Accepted d) h =
+ending_asks g step told (outcome.Given d) h =
     no_asks g step.excuse ((and_parts (ending_eq (Answered d) step.ending) (is_empty step.excuse) h).1)
 ending_asks g step told outcome.Searched h =
     let start = question_start step.query in

@@ -11,7 +11,7 @@ use Rattle.dns_model.proofs.Lists.{slice_get_appended}
 use Rattle.dns_judgement.specs.Asking.{most_sends, depth_limit}
 use Rattle.dns_judgement.specs.Derivation.{step_holds, steps_hold, asks_of, order_step, send_order, end_step, top_step, in_send_order, has_order, derivation}
 use Rattle.dns_judgement.specs.DerivationParts.{is_each_met_once, is_top, steps_at}
-use Rattle.dns_judgement.specs.Parts.{once_between, Part}
+use Rattle.dns_judgement.specs.Parts.{once_between, TrailPart}
 use Rattle.dns_judgement.proofs.EndLemmas.{end_step_at}
 use Rattle.dns_judgement.proofs.PartLemmas.{part_grows, step_met, steps_hold_more}
 use Rattle.dns_judgement.proofs.SentLemmas.{times, times-cons, numbered, part_sent, sent_stays}
@@ -27,7 +27,7 @@ as_suc b step = let longer = length_push b step in omega arith
 pub top_step_is : (b : List AskedValue) (step : AskedValue) → top_step (b ++ step ∷ []) ≡ Some step
 top_step_is b step = ap (slice_get (b ++ step ∷ [])) (last_number b step) ∙ slice_get_appended b step []
 
-pub send_order_is : (j : Judge) (limit : ℕ) (b : List AskedValue) (step : AskedValue) (m : ℕ) (p : Part j limit [] b (asks_of step) 1 m)
+pub send_order_is : (j : Judge) (limit : ℕ) (b : List AskedValue) (step : AskedValue) (m : ℕ) (p : TrailPart j limit [] b (asks_of step) 1 m)
     → send_order (b ++ step ∷ []) ≡ Some (length b ∷ p.order)
 send_order_is j limit b step m p =
     let trail = b ++ step ∷ [] in
@@ -37,7 +37,7 @@ send_order_is j limit b step m p =
 
 -- ---- how many steps
 
-pub top_counts : (j : Judge) (limit : ℕ) (b : List AskedValue) (step : AskedValue) (m : ℕ) → Part j limit [] b (asks_of step) 1 m
+pub top_counts : (j : Judge) (limit : ℕ) (b : List AskedValue) (step : AskedValue) (m : ℕ) → TrailPart j limit [] b (asks_of step) 1 m
     → length (b ++ step ∷ []) ≡ m
 top_counts j limit b step m p =
     let longer = part_grows j limit [] b (asks_of step) 1 m p in
@@ -58,7 +58,7 @@ once_or_top b k within = grind (arith, nat_tests)
 pub one_is_one : (n : ℕ) → n ≡ 1 → (n == 1) ≡ true
 one_is_one n is = grind (arith, nat_tests)
 
-top_once : (j : Judge) (limit : ℕ) (b : List AskedValue) (step : AskedValue) (m : ℕ) (p : Part j limit [] b (asks_of step) 1 m)
+top_once : (j : Judge) (limit : ℕ) (b : List AskedValue) (step : AskedValue) (m : ℕ) (p : TrailPart j limit [] b (asks_of step) 1 m)
     → is_each_met_once (length (b ++ step ∷ [])) (Some (length b ∷ p.order)) ≡ true
 top_once j limit b step m p =
     let one = length_push b step in
@@ -73,7 +73,7 @@ same_some : (a b : ℕ) (o : Option ℕ) → o ≡ Some a → a ≡ b → option
 same_some a b o is same = ap (λ x. option_eq nat_eq x (Some b)) is ∙ ap (λ x. nat_eq x b) same ∙ nat_same b
 
 -- the steps of the trail end in the order of their numbers
-top_ends : (j : Judge) (limit : ℕ) (b : List AskedValue) (step : AskedValue) (m : ℕ) (p : Part j limit [] b (asks_of step) 1 m)
+top_ends : (j : Judge) (limit : ℕ) (b : List AskedValue) (step : AskedValue) (m : ℕ) (p : TrailPart j limit [] b (asks_of step) 1 m)
     → option_eq nat_eq (end_step (length (b ++ step ∷ [])) (b ++ step ∷ []) (length (b ++ step ∷ []) - 1) 0) (Some (length (b ++ step ∷ []))) ≡ true
 top_ends j limit b step m p =
     let one : length (b ++ step ∷ []) ≡ suc (length b) = as_suc b step in
@@ -88,7 +88,7 @@ top_ends j limit b step m p =
 
 -- the top step of a walk, with all that it asked
 pub record IsTopOf (j : Judge) (d : ℕ) (b : List AskedValue) (step : AskedValue) (m : ℕ) : Type 0 where
-  pub part : Part j (depth_limit d) [] b (asks_of step) 1 m
+  pub part : TrailPart j (depth_limit d) [] b (asks_of step) 1 m
   pub holds : step_holds j (depth_limit d) b step ≡ true
   pub top : is_top (Some step) ≡ true
   pub few : m ≤ most_sends
@@ -115,7 +115,7 @@ top_derivation j d b step m top =
     hold
 
 -- its steps in the order of the sends: the top step, and what its asks sent
-pub top_sent : (j : Judge) (limit : ℕ) (b : List AskedValue) (step : AskedValue) (m : ℕ) (p : Part j limit [] b (asks_of step) 1 m)
+pub top_sent : (j : Judge) (limit : ℕ) (b : List AskedValue) (step : AskedValue) (m : ℕ) (p : TrailPart j limit [] b (asks_of step) 1 m)
     → in_send_order (b ++ step ∷ []) ≡ step ∷ part_sent p
 top_sent j limit b step m p =
     let trail = b ++ step ∷ [] in

@@ -14,7 +14,7 @@ use Rattle.dns_model.proofs.AboveLemmas.{above_alike, below_alike, above_itself,
 use Rattle.dns_model.proofs.CommonAncestors.{common_ends, common_above, common_below, ends_above, longer_below}
 use Rattle.dns_judgement.specs.Covering.{has_type, is_cut, spans, is_silent_on}
 use Rattle.dns_judgement.specs.NsecVerdict.{closest_encloser}
-use Rattle.dns_judgement.specs.Zones.{SetKey, Zone, has_set, is_owner, is_delegation, exists_in, ends_at, is_zone, encloser, IsTrueNsec}
+use Rattle.dns_judgement.specs.Zones.{SetKey, Zone, has_set, is_owner, is_delegation, exists_in, zone_ends_at, is_zone, encloser, IsTrueNsec}
 use Rattle.dns_judgement.proofs.Members.{IsMember, IsPicked, picked}
 use Rattle.dns_judgement.proofs.ZoneLemmas.{has_set_alike, is_delegation_alike, fits, none_below, soa_at_apex, Side, AtOrBefore, After, spans_after, sided, next_is_owner}
 
@@ -176,7 +176,7 @@ delegation_is_cut zone nsec formed t h =
     true≢false (sym parts.1 ∙ ap not top)) in
     rw (ns, soa) refl
 
-ends_told : (zone : Zone) (nsec : OwnedNsec) → is_zone zone ≡ true → IsTrueNsec zone nsec → ends_at zone nsec.owner ≡ true
+ends_told : (zone : Zone) (nsec : OwnedNsec) → is_zone zone ≡ true → IsTrueNsec zone nsec → zone_ends_at zone nsec.owner ≡ true
     → (is_cut nsec || has_type type_dname nsec) ≡ true
 ends_told zone nsec formed t h = by (or_cases (is_delegation zone nsec.owner) (has_set zone nsec.owner type_dname) h)
   where
@@ -184,13 +184,13 @@ ends_told zone nsec formed t h = by (or_cases (is_delegation zone nsec.owner) (h
     by (inl cut) = ap (λ b. b || has_type type_dname nsec) (delegation_is_cut zone nsec formed t cut)
     by (inr dname) = or_right (is_cut nsec) (has_type type_dname nsec) (sym (t.types type_dname) ∙ dname)
 
-ends_alike : (zone : Zone) (one two : Labels) → name_eq one two ≡ true → ends_at zone one ≡ ends_at zone two
+ends_alike : (zone : Zone) (one two : Labels) → name_eq one two ≡ true → zone_ends_at zone one ≡ zone_ends_at zone two
 ends_alike zone one two same =
     ap (λ b. b || has_set zone one type_dname) (is_delegation_alike zone one two same)
     ∙ ap (λ b. is_delegation zone two || b) (has_set_alike zone one two type_dname same)
 
 -- the end of the zone above an owner is that owner
-pub end_is_owner : (zone : Zone) (set : SetKey) (owner : Labels) → is_zone zone ≡ true → IsMember set zone.sets → ends_at zone set.owner ≡ true
+pub end_is_owner : (zone : Zone) (set : SetKey) (owner : Labels) → is_zone zone ≡ true → IsMember set zone.sets → zone_ends_at zone set.owner ≡ true
     → is_owner zone owner ≡ true → at_or_above set.owner owner ≡ true → name_eq set.owner owner ≡ true
 unfolding is_owner
 end_is_owner zone set owner formed m ends own above =
@@ -201,7 +201,7 @@ end_is_owner zone set owner formed m ends own above =
 
 -- where a true record spans a name and isn't silent on it, the zone goes on above the name
 pub no_end_above : (zone : Zone) (nsec : OwnedNsec) (name : Labels) (set : SetKey) → is_zone zone ≡ true → IsTrueNsec zone nsec → spans name nsec ≡ true
-    → is_silent_on name nsec ≡ false → IsMember set zone.sets → ends_at zone set.owner ≡ true → strictly_above set.owner name ≡ true → ⊥
+    → is_silent_on name nsec ≡ false → IsMember set zone.sets → zone_ends_at zone set.owner ≡ true → strictly_above set.owner name ≡ true → ⊥
 no_end_above zone nsec name set formed t spanned speaks m ends above = by (sided zone nsec name set t spanned m)
   where
     higher : at_or_above set.owner name ≡ true

@@ -14,7 +14,7 @@ use Rattle.dns_judgement.specs.DerivationParts.{is_ending, ends_by_search}
 pub ending_without : (g : Grounds) (step : AskedValue) (told : Told) (o : Outcome) → (o ≡ outcome.Searched → ⊥) → is_ending o step.ending ≡ true
     → is_empty step.excuse ≡ true → ending_holds g step told o ≡ true
 ending_without g step told outcome.Unjudged never ends none = and_from (ending_eq Failed step.ending) (is_empty step.excuse) ends none
-ending_without g step told (outcome.Accepted d) never ends none = and_from (ending_eq (Answered d) step.ending) (is_empty step.excuse) ends none
+ending_without g step told (outcome.Given d) never ends none = and_from (ending_eq (Answered d) step.ending) (is_empty step.excuse) ends none
 ending_without g step told outcome.Searched never ends none = absurd (never refl)
 ending_without g step told (outcome.Denied proof) never ends none = and_from (ending_eq (Denied proof) step.ending) (is_empty step.excuse) ends none
 

@@ -13,7 +13,7 @@ use Rattle.dns_model.proofs.Lists.{slice_get_appended}
 use Rattle.dns_judgement.specs.Asking.{most_sends}
 use Rattle.dns_judgement.specs.Derivation.{step_holds, steps_hold, asks_of, order_asks, order_step, end_asks, end_step}
 use Rattle.dns_judgement.specs.DerivationParts.{and_then}
-use Rattle.dns_judgement.specs.Parts.{once_between, Part}
+use Rattle.dns_judgement.specs.Parts.{once_between, TrailPart}
 use Rattle.dns_judgement.proofs.EndLemmas.{end_asks-append, end_none, end_deep, end_many, end_one, end_step_at}
 use Rattle.dns_judgement.proofs.OrderLemmas.{order_asks-append, order_none, order_deep, order_many, order_one, order_step_at}
 
@@ -24,7 +24,7 @@ between_none a i = grind (arith, nat_tests)
 
 part_still : (j : Judge) (limit : ℕ) (b : List AskedValue) (asks : List AskRef) (n : ℕ)
     → ((visit : ℕ → List ℕ → Option (List ℕ)) (k : ℕ) (met : List ℕ) → length met ≡ n → order_asks visit k asks met ≡ Some met)
-    → ((visit : ℕ → ℕ → Option ℕ) (ended : ℕ) → end_asks visit asks ended ≡ Some ended) → Part j limit b b asks n n
+    → ((visit : ℕ → ℕ → Option ℕ) (ended : ℕ) → end_asks visit asks ended ≡ Some ended) → TrailPart j limit b b asks n n
 unfolding steps_hold
 part_still j limit b asks n still ends = record {
   more = [];
@@ -38,15 +38,15 @@ part_still j limit b asks n still ends = record {
   alike = refl;
 }
 
-pub part_none : (j : Judge) (limit : ℕ) (b : List AskedValue) (n : ℕ) → Part j limit b b [] n n
+pub part_none : (j : Judge) (limit : ℕ) (b : List AskedValue) (n : ℕ) → TrailPart j limit b b [] n n
 part_none j limit b n = part_still j limit b [] n (λ visit k met long. order_none visit k met) end_none
 
 -- an ask that would be too deep
-pub part_deep : (j : Judge) (limit : ℕ) (b : List AskedValue) (n : ℕ) → Part j limit b b (TooDeep ∷ []) n n
+pub part_deep : (j : Judge) (limit : ℕ) (b : List AskedValue) (n : ℕ) → TrailPart j limit b b (TooDeep ∷ []) n n
 part_deep j limit b n = part_still j limit b (TooDeep ∷ []) n (λ visit k met long. order_deep visit k met) end_deep
 
 -- an ask that would be one too many
-pub part_many : (j : Judge) (limit : ℕ) (b : List AskedValue) (n : ℕ) → most_sends ≤ n → Part j limit b b (TooMany ∷ []) n n
+pub part_many : (j : Judge) (limit : ℕ) (b : List AskedValue) (n : ℕ) → most_sends ≤ n → TrailPart j limit b b (TooMany ∷ []) n n
 part_many j limit b n many = part_still j limit b (TooMany ∷ []) n (λ visit k met long. order_many visit k met (omega arith)) end_many
 
 -- ---- one part after another
@@ -71,12 +71,12 @@ then_met visit n xs ys met first second h k =
     order_asks-append visit n xs ys met ∙ ap (λ o. and_then o (order_asks visit n ys)) h ∙ k ∙ ap Some (append_assoc met first second)
 
 -- a part gives no fewer steps than there were
-pub part_grows : (j : Judge) (limit : ℕ) (before after : List AskedValue) (asks : List AskRef) (n m : ℕ) (p : Part j limit before after asks n m)
+pub part_grows : (j : Judge) (limit : ℕ) (before after : List AskedValue) (asks : List AskRef) (n m : ℕ) (p : TrailPart j limit before after asks n m)
     → length after ≡ length before + length p.order
 part_grows j limit before after asks n m p = ap length p.grown ∙ length-append before p.more ∙ ap (λ k. length before + k) (sym p.alike)
 
 pub part_then : (j : Judge) (limit : ℕ) (a b c : List AskedValue) (xs ys : List AskRef) (n k m : ℕ)
-    → Part j limit a b xs n k → Part j limit b c ys k m → Part j limit a c (xs ++ ys) n m
+    → TrailPart j limit a b xs n k → TrailPart j limit b c ys k m → TrailPart j limit a c (xs ++ ys) n m
 part_then j limit a b c xs ys n k m first second =
     let longer = part_grows j limit a b xs n k first in
     let longer_still = part_grows j limit b c ys k m second in
@@ -118,7 +118,7 @@ steps_hold_more j limit earlier xs step h k =
     steps_hold-append j limit earlier xs (step ∷ []) h (and_from (step_holds j limit (earlier ++ xs) step) true k refl)
 
 -- the step at the end of some steps is met, and what it asks after it
-pub step_met : (j : Judge) (limit : ℕ) (a b : List AskedValue) (step : AskedValue) (n m : ℕ) (p : Part j limit a b (asks_of step) (n + 1) m)
+pub step_met : (j : Judge) (limit : ℕ) (a b : List AskedValue) (step : AskedValue) (n m : ℕ) (p : TrailPart j limit a b (asks_of step) (n + 1) m)
     → (later : List AskedValue) (above : ℕ) (met : List ℕ) → length met ≡ n → length b ≤ above
     → order_step (suc above) (b ++ step ∷ later) (length b) met ≡ Some (met ++ length b ∷ p.order)
 step_met j limit a b step n m p later above met long up_to =
@@ -126,7 +126,7 @@ step_met j limit a b step n m p later above met long up_to =
     ∙ p.met (step ∷ later) above (length b) (met ++ length b ∷ []) (length_push met (length b) ∙ ap (λ k. k + 1) long) up_to (omega arith)
     ∙ ap Some (append_assoc met (length b ∷ []) p.order)
 
-step_met_in : (j : Judge) (limit : ℕ) (a b : List AskedValue) (step : AskedValue) (n m : ℕ) (p : Part j limit a b (asks_of step) (n + 1) m)
+step_met_in : (j : Judge) (limit : ℕ) (a b : List AskedValue) (step : AskedValue) (n m : ℕ) (p : TrailPart j limit a b (asks_of step) (n + 1) m)
     → (later : List AskedValue) (above k : ℕ) (met : List ℕ) → n < most_sends → length met ≡ n → length b < above → length b < k
     → order_asks (order_step above (b ++ step ∷ later)) k (Step (length b) ∷ []) met ≡ Some (met ++ length b ∷ p.order)
 step_met_in j limit a b step n m p later zero k met few long up_to before = absurd (omega arith)
@@ -134,7 +134,7 @@ step_met_in j limit a b step n m p later (suc above) k met few long up_to before
     order_one (order_step (suc above) (b ++ step ∷ later)) k (length b) met (met ++ length b ∷ p.order) before (omega arith)
     (step_met j limit a b step n m p later above met long (omega arith))
 
-step_ends_in : (j : Judge) (limit : ℕ) (a b : List AskedValue) (step : AskedValue) (n m : ℕ) (p : Part j limit a b (asks_of step) (n + 1) m)
+step_ends_in : (j : Judge) (limit : ℕ) (a b : List AskedValue) (step : AskedValue) (n m : ℕ) (p : TrailPart j limit a b (asks_of step) (n + 1) m)
     → (later : List AskedValue) (above : ℕ) → length b < above
     → end_asks (end_step above (b ++ step ∷ later)) (Step (length b) ∷ []) (length a) ≡ Some (length b + 1)
 step_ends_in j limit a b step n m p later zero up_to = absurd (omega arith)
@@ -142,8 +142,8 @@ step_ends_in j limit a b step n m p later (suc above) up_to =
     end_one (end_step (suc above) (b ++ step ∷ later)) (length b) (length a) (length b + 1)
     (end_step_at above b later step (length a) (p.ends (step ∷ later) above (omega arith)))
 
-pub part_step : (j : Judge) (limit : ℕ) (a b : List AskedValue) (step : AskedValue) (n m : ℕ) → Part j limit a b (asks_of step) (n + 1) m
-    → n < most_sends → step_holds j limit b step ≡ true → Part j limit a (b ++ step ∷ []) (Step (length b) ∷ []) n m
+pub part_step : (j : Judge) (limit : ℕ) (a b : List AskedValue) (step : AskedValue) (n m : ℕ) → TrailPart j limit a b (asks_of step) (n + 1) m
+    → n < most_sends → step_holds j limit b step ≡ true → TrailPart j limit a (b ++ step ∷ []) (Step (length b) ∷ []) n m
 part_step j limit a b step n m p few holds =
     let longer = part_grows j limit a b (asks_of step) (n + 1) m p in
     record {
@@ -181,12 +181,12 @@ unfolding part_many part_still
 order_of_many j limit b n many = refl
 
 pub order_of_then : (j : Judge) (limit : ℕ) (a b c : List AskedValue) (xs ys : List AskRef) (n k m : ℕ)
-    (first : Part j limit a b xs n k) (second : Part j limit b c ys k m)
+    (first : TrailPart j limit a b xs n k) (second : TrailPart j limit b c ys k m)
     → (part_then j limit a b c xs ys n k m first second).order ≡ first.order ++ second.order
 unfolding part_then
 order_of_then j limit a b c xs ys n k m first second = refl
 
-pub order_of_step : (j : Judge) (limit : ℕ) (a b : List AskedValue) (step : AskedValue) (n m : ℕ) (p : Part j limit a b (asks_of step) (n + 1) m)
+pub order_of_step : (j : Judge) (limit : ℕ) (a b : List AskedValue) (step : AskedValue) (n m : ℕ) (p : TrailPart j limit a b (asks_of step) (n + 1) m)
     (few : n < most_sends) (holds : step_holds j limit b step ≡ true)
     → (part_step j limit a b step n m p few holds).order ≡ length b ∷ p.order
 unfolding part_step

@@ -12,7 +12,7 @@ use Rattle.dns_model.proofs.NameLemmas.{name_equiv}
 use Rattle.dns_model.proofs.AboveLemmas.{strictly_parts}
 use Rattle.dns_judgement.specs.Covering.{has_type, is_cut, spans, is_nearest, counts_for, is_silent_on, unless_silent, covering}
 use Rattle.dns_judgement.specs.NsecVerdict.{lacks_data, is_right_side}
-use Rattle.dns_judgement.specs.Zones.{SetKey, Zone, has_set, is_owner, is_delegation, exists_in, ends_at, is_zone, encloser, is_cut_over, is_dname_over, has_data, from_wildcard, below_cut, lookup, Data, NoData, IsTrueNsec}
+use Rattle.dns_judgement.specs.Zones.{SetKey, Zone, has_set, is_owner, is_delegation, exists_in, zone_ends_at, is_zone, encloser, is_cut_over, is_dname_over, has_data, from_wildcard, below_cut, lookup, Data, NoData, IsTrueNsec}
 use Rattle.dns_judgement.proofs.Members.{IsMember, picked}
 use Rattle.dns_judgement.proofs.ZoneLemmas.{has_set_alike, is_owner_alike, is_delegation_alike, has_owner, spans_no_owner}
 use Rattle.dns_judgement.proofs.EncloserLemmas.{delegation_is_cut, end_is_owner, no_end_above}
@@ -66,17 +66,17 @@ has_own : (zone : Zone) (set : SetKey) → IsMember set zone.sets → has_set zo
 unfolding has_set
 has_own zone set m = m.any (λ other. name_eq other.owner set.owner && (other.rtype == set.rtype)) (rw (name_equiv.refl set.owner) (grind (arith, nat_tests)))
 
-dname_ends : (zone : Zone) (set : SetKey) → IsMember set zone.sets → (set.rtype == type_dname) ≡ true → ends_at zone set.owner ≡ true
+dname_ends : (zone : Zone) (set : SetKey) → IsMember set zone.sets → (set.rtype == type_dname) ≡ true → zone_ends_at zone set.owner ≡ true
 dname_ends zone set m is =
     let same : set.rtype ≡ type_dname = grind (arith, nat_tests, is) in
     or_right (is_delegation zone set.owner) (has_set zone set.owner type_dname) (ap (has_set zone set.owner) (sym same) ∙ has_own zone set m)
 
-cut_ends : (zone : Zone) (set : SetKey) → is_delegation zone set.owner ≡ true → ends_at zone set.owner ≡ true
+cut_ends : (zone : Zone) (set : SetKey) → is_delegation zone set.owner ≡ true → zone_ends_at zone set.owner ≡ true
 cut_ends zone set h = ap (λ b. b || has_set zone set.owner type_dname) h
 
 -- no cut and no DNAME is above the name, and no cut is at it for this type
 pub record IsReached (zone : Zone) (name : Labels) (rtype : ℕ) : Type 0 where
-  pub none_above : (set : SetKey) → IsMember set zone.sets → ends_at zone set.owner ≡ true → strictly_above set.owner name ≡ true → ⊥
+  pub none_above : (set : SetKey) → IsMember set zone.sets → zone_ends_at zone set.owner ≡ true → strictly_above set.owner name ≡ true → ⊥
   pub none_at : (set : SetKey) → IsMember set zone.sets → is_delegation zone set.owner ≡ true → name_eq set.owner name ≡ true → not (rtype == type_ds) ≡ true → ⊥
 
 pub reached : (zone : Zone) (name : Labels) (rtype : ℕ) → IsReached zone name rtype

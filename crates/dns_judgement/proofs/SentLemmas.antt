@@ -12,7 +12,7 @@ use Rattle.dns_model.proofs.Lists.{slice_get_appended}
 use Rattle.dns_judgement.specs.Asking.{most_sends}
 use Rattle.dns_judgement.specs.Derivation.{step_holds, asks_of}
 use Rattle.dns_judgement.specs.DerivationParts.{steps_at}
-use Rattle.dns_judgement.specs.Parts.{once_between, Part}
+use Rattle.dns_judgement.specs.Parts.{once_between, TrailPart}
 use Rattle.dns_judgement.proofs.PartLemmas.{part_none, part_deep, part_many, part_then, part_step, order_of_none, order_of_deep, order_of_many, order_of_then, order_of_step}
 
 -- numbers below a bound
@@ -53,7 +53,7 @@ past_between : (a b i : ℕ) → b ≤ i → once_between a b i ≡ 0
 past_between a b i past = grind (arith, nat_tests)
 
 -- the numbers of a part are those of its steps
-pub part_below : (j : Judge) (limit : ℕ) (before after : List AskedValue) (asks : List AskRef) (n m : ℕ) (p : Part j limit before after asks n m)
+pub part_below : (j : Judge) (limit : ℕ) (before after : List AskedValue) (asks : List AskRef) (n m : ℕ) (p : TrailPart j limit before after asks n m)
     → AreBelow (length after) p.order
 part_below j limit before after asks n m p =
     are_below (length after) p.order (λ i past. p.once i ∙ past_between (length before) (length after) i past)
@@ -79,10 +79,10 @@ numbered_stay trail later (x ∷ xs) below =
 
 -- the steps that a part sent, in order
 abbrev pub part_sent : {j : Judge} {limit : ℕ} {before after : List AskedValue} {asks : List AskRef} {n m : ℕ}
-    → Part j limit before after asks n m → List AskedValue
+    → TrailPart j limit before after asks n m → List AskedValue
 part_sent {after = after} p = steps_at after (Some p.order)
 
-pub sent_stays : (j : Judge) (limit : ℕ) (before after : List AskedValue) (asks : List AskRef) (n m : ℕ) (p : Part j limit before after asks n m)
+pub sent_stays : (j : Judge) (limit : ℕ) (before after : List AskedValue) (asks : List AskRef) (n m : ℕ) (p : TrailPart j limit before after asks n m)
     (later : List AskedValue) → steps_at (after ++ later) (Some p.order) ≡ steps_at after (Some p.order)
 sent_stays j limit before after asks n m p later = numbered_stay after later p.order (part_below j limit before after asks n m p)
 
@@ -96,14 +96,14 @@ pub sent_of_many : (j : Judge) (limit : ℕ) (b : List AskedValue) (n : ℕ) (ma
 sent_of_many j limit b n many = ap (numbered b) (order_of_many j limit b n many)
 
 pub sent_of_then : (j : Judge) (limit : ℕ) (a b c : List AskedValue) (xs ys : List AskRef) (n k m : ℕ)
-    (first : Part j limit a b xs n k) (second : Part j limit b c ys k m)
+    (first : TrailPart j limit a b xs n k) (second : TrailPart j limit b c ys k m)
     → part_sent (part_then j limit a b c xs ys n k m first second) ≡ part_sent first ++ part_sent second
 sent_of_then j limit a b c xs ys n k m first second =
     ap (numbered c) (order_of_then j limit a b c xs ys n k m first second) ∙ filter_map-append (slice_get c) first.order second.order
     ∙ ap (λ t. numbered t first.order ++ numbered c second.order) second.grown
     ∙ ap (λ t. t ++ numbered c second.order) (sent_stays j limit a b xs n k first second.more)
 
-pub sent_of_step : (j : Judge) (limit : ℕ) (a b : List AskedValue) (step : AskedValue) (n m : ℕ) (p : Part j limit a b (asks_of step) (n + 1) m)
+pub sent_of_step : (j : Judge) (limit : ℕ) (a b : List AskedValue) (step : AskedValue) (n m : ℕ) (p : TrailPart j limit a b (asks_of step) (n + 1) m)
     (few : n < most_sends) (holds : step_holds j limit b step ≡ true)
     → part_sent (part_step j limit a b step n m p few holds) ≡ step ∷ part_sent p
 sent_of_step j limit a b step n m p few holds =

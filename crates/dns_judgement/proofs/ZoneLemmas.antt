@@ -11,7 +11,7 @@ use Rattle.dns_model.proofs.NameLemmas.{name_equiv}
 use Rattle.dns_model.proofs.NamesInOrder.{lt_from, le_from_not_lt, le_trans, le_if_alike, not_both}
 use Rattle.dns_model.proofs.EachLemmas.{any_agree}
 use Rattle.dns_judgement.specs.Covering.{leads_back, spans}
-use Rattle.dns_judgement.specs.Zones.{SetKey, Zone, has_set, is_owner, is_delegation, ends_at, fits_in, is_zone, is_signing_type, is_last, none_between, is_next, IsTrueNsec}
+use Rattle.dns_judgement.specs.Zones.{SetKey, Zone, has_set, is_owner, is_delegation, zone_ends_at, fits_in, is_zone, is_signing_type, is_last, none_between, is_next, IsTrueNsec}
 use Rattle.dns_judgement.proofs.Members.{after_not, not_and, IsMember, picked}
 
 -- ---- equal names
@@ -51,7 +51,7 @@ pub record Fits (zone : Zone) (set : SetKey) : Type 0 where
   pub inside : at_or_above zone.apex set.owner ≡ true
   pub soa : (not (set.rtype == type_soa) || name_eq set.owner zone.apex) ≡ true
   pub bare : (not (is_delegation zone set.owner) || (set.rtype == type_ns) || (set.rtype == type_ds)) ≡ true
-  pub below : (not (ends_at zone set.owner) || list_all (λ other. not (strictly_above set.owner other.owner)) zone.sets) ≡ true
+  pub below : (not (zone_ends_at zone set.owner) || list_all (λ other. not (strictly_above set.owner other.owner)) zone.sets) ≡ true
 
 pub fits : (zone : Zone) (set : SetKey) → is_zone zone ≡ true → IsMember set zone.sets → Fits zone set
 unfolding is_zone
@@ -65,10 +65,10 @@ fits zone set h m =
 
 -- no owner is strictly below the end of the zone
 pub none_below : (zone : Zone) (set other : SetKey) → is_zone zone ≡ true → IsMember set zone.sets → IsMember other zone.sets
-    → ends_at zone set.owner ≡ true → strictly_above set.owner other.owner ≡ false
+    → zone_ends_at zone set.owner ≡ true → strictly_above set.owner other.owner ≡ false
 none_below zone set other h m k ends =
     let f = fits zone set h m in
-    not-true (strictly_above set.owner other.owner) (k.all (λ o. not (strictly_above set.owner o.owner)) (after_not (ends_at zone set.owner) _ ends f.below))
+    not-true (strictly_above set.owner other.owner) (k.all (λ o. not (strictly_above set.owner o.owner)) (after_not (zone_ends_at zone set.owner) _ ends f.below))
 
 -- SOA is at the apex alone
 pub soa_at_apex : (zone : Zone) (name : Labels) → is_zone zone ≡ true → has_set zone name type_soa ≡ true → name_eq name zone.apex ≡ true

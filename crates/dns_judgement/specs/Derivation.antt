@@ -276,7 +276,7 @@ ending_eq Seen Seen = true
 abbrev pub ending_by : Outcome → EndingValue
 ending_by outcome.Unjudged = Failed
 ending_by outcome.Searched = Failed
-ending_by (outcome.Accepted d) = Answered d
+ending_by (outcome.Given d) = Answered d
 ending_by (outcome.Denied proof) = Denied proof
 
 -- ---- a step
@@ -289,7 +289,7 @@ ends_bare ending step = ending_eq ending step.ending && (is_empty step.sets && i
 -- decides
 abbrev pub ending_holds : Grounds → AskedValue → Told → Outcome → Bool
 ending_holds g step told outcome.Unjudged = ending_eq Failed step.ending && is_empty step.excuse
-ending_holds g step told (outcome.Accepted d) = ending_eq (Answered d) step.ending && is_empty step.excuse
+ending_holds g step told (outcome.Given d) = ending_eq (Answered d) step.ending && is_empty step.excuse
 ending_holds g step told (outcome.Denied proof) = ending_eq (Denied proof) step.ending && is_empty step.excuse
 ending_holds g step told outcome.Searched =
     option_map_or (λ zone. ending_eq (ending_by (outcome_by_zone step.query told zone)) step.ending)

@@ -26,7 +26,7 @@ use Rattle.dns_judgement.specs.Delegations.{ZoneVerdict, Signed, is_insecure}
 -- how a judged step ends; where neither its sets nor their signatures decide, the zone of its query is searched
 pub data Outcome : Type 0 where
   Unjudged : Outcome
-  Accepted : denial.Denial → Outcome
+  Given : denial.Denial → Outcome
   Searched : Outcome
   Denied : Proof → Outcome
 
@@ -116,13 +116,13 @@ secure_denial No = denied.Absent Secure
 secure_denial Plain = denied.None
 secure_denial (Expanded labels) = denied.Expanded Secure
 
-abbrev pub outcome_by_verdict : Answered → Proof → Outcome
-outcome_by_verdict how proof = if is_secure proof then Accepted (secure_denial how) else Denied proof
+abbrev pub outcome_by_nsec_verdict : Answered → Proof → Outcome
+outcome_by_nsec_verdict how proof = if is_secure proof then Given (secure_denial how) else Denied proof
 
 -- by the zone that made the denials; the verdict asks whether the query lies in it
 abbrev pub outcome_by_denials : Question → ℕ → Answered → List OwnedNsec → Option Labels → Outcome
 outcome_by_denials q code how nsecs None = Denied Bogus
-outcome_by_denials q code how nsecs (Some zone) = outcome_by_verdict how (nsec_verdict q zone code how nsecs)
+outcome_by_denials q code how nsecs (Some zone) = outcome_by_nsec_verdict how (nsec_verdict q zone code how nsecs)
 
 -- ---- where no more than Insecure can be expected
 
@@ -139,7 +139,7 @@ is_insecure_authority q told sets =
 
 -- an answer for which no more than Insecure can be expected: it stands, or nothing is there
 abbrev pub insecure_answer : Question → Told → Outcome
-insecure_answer q told = Accepted (if has_answer q told then denied.None else denied.Absent Insecure)
+insecure_answer q told = Given (if has_answer q told then denied.None else denied.Absent Insecure)
 
 -- ---- the outcome
 
@@ -154,7 +154,7 @@ outcome_of q told sets =
     then outcome_by_denials q told.code (answered q told sets) (denials sets) (one_signer (denying sets))
     -- an expansion without a denial of closer names (RFC 4035, 5.3.4)
     else if list_any is_expanded_answer sets then Denied Bogus
-    else if has_answer q told && not (has_wildcard_signature told) then Accepted denied.None
+    else if has_answer q told && not (has_wildcard_signature told) then Given denied.None
     -- a signed zone would have denied (RFC 4035, 3.1.3)
     else Searched
 

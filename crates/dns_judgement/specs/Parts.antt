@@ -11,7 +11,7 @@ abbrev pub once_between : ℕ → ℕ → ℕ → ℕ
 once_between a b i = if nat_le a i && nat_lt i b then 1 else 0
 
 -- asks that are made from n sends on take the trail from `before` to `after`, with m sends afterwards
-pub record Part (j : Judge) (limit : ℕ) (before after : List AskedValue) (asks : List AskRef) (n m : ℕ) : Type 0 where
+pub record TrailPart (j : Judge) (limit : ℕ) (before after : List AskedValue) (asks : List AskRef) (n m : ℕ) : Type 0 where
   -- the steps that are added
   pub more : List AskedValue
   pub grown : after ≡ before ++ more

@@ -42,8 +42,8 @@ is_signing_type rtype = (rtype == type_rrsig) || (rtype == type_nsec) || (rtype 
 -- ---- which zones are well formed
 
 -- the zone ends at the name: below a cut lies another zone (RFC 1034, 4.2.1), below DNAME nothing (RFC 6672, 2.4)
-abbrev pub ends_at : Zone → Labels → Bool
-ends_at zone name = is_delegation zone name || has_set zone name type_dname
+abbrev pub zone_ends_at : Zone → Labels → Bool
+zone_ends_at zone name = is_delegation zone name || has_set zone name type_dname
 
 -- an RRset's place and type fit
 abbrev pub fits_in : Zone → SetKey → Bool
@@ -57,7 +57,7 @@ fits_in zone set =
     -- a delegation has NS and DS alone (RFC 4035, 2.4 and 2.6)
     && ((not (is_delegation zone set.owner) || (set.rtype == type_ns) || (set.rtype == type_ds))
     -- nothing is below the end of the zone
-    && (not (ends_at zone set.owner) || list_all (λ other. not (strictly_above set.owner other.owner)) zone.sets))))
+    && (not (zone_ends_at zone set.owner) || list_all (λ other. not (strictly_above set.owner other.owner)) zone.sets))))
 
 -- SOA and NS stand at the apex (RFC 1034, 4.2.1; RFC 1035, 5.2), and each RRset fits
 unfoldable pub is_zone : Zone → Bool

@@ -57,9 +57,9 @@ ending_leads : (g : Grounds) (step : AskedValue) (told : Told) (d : Denial) (o :
     → LeadsTo o d
 ending_leads g step told d outcome.Unjudged h ends =
     let other = ap (ending_eq Failed) (sym ends) ∙ (and_parts (ending_eq Failed step.ending) (is_empty step.excuse) h).0 in cc
-ending_leads g step told d (outcome.Accepted c) h ends =
+ending_leads g step told d (outcome.Given c) h ends =
     let same = ap (ending_eq (Answered c)) (sym ends) ∙ (and_parts (ending_eq (Answered c) step.ending) (is_empty step.excuse) h).0 in
-    inl (ap outcome.Accepted (denial_same c d same))
+    inl (ap outcome.Given (denial_same c d same))
 ending_leads g step told d outcome.Searched h ends =
     inr (refl, search_step step told d (search_from g step.query.class (question_start step.query) step.excuse) h ends)
 ending_leads g step told d (outcome.Denied proof) h ends =

@@ -155,9 +155,9 @@ shown_by q told sets d apex (Expanded labels) each denier is secure ends = recor
 
 -- ---- the outcome behind an answer
 
--- the outcome is that the answer is accepted with this denial, or a search led to it, which shows no Secure denial
+-- the outcome is that the answer is given with this denial, or a search led to it, which shows no Secure denial
 abbrev pub LeadsTo : Outcome → Denial → Type 0
-LeadsTo o d = (o ≡ outcome.Accepted d) ⊎ ((o ≡ outcome.Searched) × (is_secure_denial d ≡ false))
+LeadsTo o d = (o ≡ outcome.Given d) ⊎ ((o ≡ outcome.Searched) × (is_secure_denial d ≡ false))
 
 -- what no answer follows from
 never_unjudged : (d : Denial) → LeadsTo outcome.Unjudged d → ⊥
@@ -168,9 +168,9 @@ never_denied : (proof : Proof) (d : Denial) → LeadsTo (outcome.Denied proof) d
 never_denied proof d (inl e) = cc
 never_denied proof d (inr e) = let other = e.0 in cc
 
-accepted_is : (c d : Denial) → LeadsTo (outcome.Accepted c) d → d ≡ c
-accepted_is c d (inl e) = cc
-accepted_is c d (inr e) = let other = e.0 in cc
+given_is : (c d : Denial) → LeadsTo (outcome.Given c) d → d ≡ c
+given_is c d (inl e) = cc
+given_is c d (inr e) = let other = e.0 in cc
 
 search_is : (d : Denial) → LeadsTo outcome.Searched d → is_secure_denial d ≡ false
 search_is d (inl e) = cc
@@ -182,14 +182,14 @@ row : (G : Type 0) (unjudged insecure denying expanded answer : Bool) (x y : Out
     else if insecure then x
     else if denying then y
     else if expanded then outcome.Denied Bogus
-    else if answer then outcome.Accepted denied.None
+    else if answer then outcome.Given denied.None
     else outcome.Searched) d
     → (insecure ≡ true → LeadsTo x d → G) → (denying ≡ true → LeadsTo y d → G) → (expanded ≡ false → is_secure_denial d ≡ false → G) → G
 row G true i n e a x y d h insecure verdict plain = absurd (never_unjudged d h)
 row G false true n e a x y d h insecure verdict plain = insecure refl h
 row G false false true e a x y d h insecure verdict plain = verdict refl h
 row G false false false true a x y d h insecure verdict plain = absurd (never_denied Bogus d h)
-row G false false false false true x y d h insecure verdict plain = plain refl (ap is_secure_denial (accepted_is denied.None d h))
+row G false false false false true x y d h insecure verdict plain = plain refl (ap is_secure_denial (given_is denied.None d h))
 row G false false false false false x y d h insecure verdict plain = plain refl (search_is d h)
 
 -- an Insecure answer is no Secure denial
@@ -198,9 +198,9 @@ insecure_is_plain true = refl
 insecure_is_plain false = refl
 
 verdict_step : (how : Answered) (proof : Proof) (d : Denial)
-    → LeadsTo (if is_secure proof then outcome.Accepted (secure_denial how) else outcome.Denied proof) d
+    → LeadsTo (if is_secure proof then outcome.Given (secure_denial how) else outcome.Denied proof) d
     → (proof ≡ Secure) × (d ≡ secure_denial how)
-verdict_step how Secure d h = (refl, accepted_is (secure_denial how) d h)
+verdict_step how Secure d h = (refl, given_is (secure_denial how) d h)
 verdict_step how Insecure d h = absurd (never_denied Insecure d h)
 verdict_step how Bogus d h = absurd (never_denied Bogus d h)
 verdict_step how Indeterminate d h = absurd (never_denied Indeterminate d h)
@@ -245,7 +245,7 @@ outcome_shows q told sets d each h =
     (has_answer q told && not wild) (insecure_answer q told)
     (outcome_by_denials q told.code (answered q told sets) (denials sets) (one_signer (denying sets))) d h
     (λ above k.
-    nothing_shown q told sets d (ap is_secure_denial (accepted_is answer d k) ∙ insecure_is_plain (has_answer q told))
+    nothing_shown q told sets d (ap is_secure_denial (given_is answer d k) ∙ insecure_is_plain (has_answer q told))
     (unexpanded_without q told sets each ((and_parts insecure (not wild) above).1)))
     (λ some k. by_denials q told sets d (one_signer (denying sets)) each some refl k)
     (λ none plain. nothing_shown q told sets d plain (unexpanded_for q sets none))

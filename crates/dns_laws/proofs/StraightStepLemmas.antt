@@ -154,13 +154,13 @@ decided : (unjudged insecure wild denying expanded answer : Bool) (x y : Outcome
     else if insecure && not wild then x
     else if denying then y
     else if expanded then outcome.Denied Bogus
-    else if answer && not wild then outcome.Accepted denial.None
-    else outcome.Searched) ≡ outcome.Accepted denial.None
+    else if answer && not wild then outcome.Given denial.None
+    else outcome.Searched) ≡ outcome.Given denial.None
 decided unjudged insecure wild denying expanded answer x y a b c d e f = rw (a, b, c, d, e, f) refl
 
 is_accepted : (j : Judge) (q asked : Question) (told : Told) (set : RrSet) (judged : Judged) → IsOneSet j q told set → question_eq q asked ≡ true
     → judged.section ≡ Answer → judged.set ≡ set → needs_no_denial set.rtype ≡ true
-    → outcome_of asked told (judged ∷ []) ≡ outcome.Accepted denial.None
+    → outcome_of asked told (judged ∷ []) ≡ outcome.Given denial.None
 unfolding outcome_of
 is_accepted j q asked told set judged one same section is plain =
     let sets : List Judged = judged ∷ [] in
@@ -242,7 +242,7 @@ straight_step j limit earlier step q told set h judged heard same one kept plain
     let entry = one_entry g (in_section Answer set) step.sets (ap (λ ps. entries_hold g ps step.sets) (sym alone) ∙ parts.0) in
     let sets : with_entries placed step.sets ≡ with_entry (in_section Answer set, entry.entry) ∷ [] =
     ap (λ ps. with_entries ps step.sets) alone ∙ ap (with_entries (in_section Answer set ∷ [])) entry.is in
-    let outcome_is : outcome_of step.query told (with_entries placed step.sets) ≡ outcome.Accepted denial.None =
+    let outcome_is : outcome_of step.query told (with_entries placed step.sets) ≡ outcome.Given denial.None =
     ap (outcome_of step.query told) sets ∙ is_accepted j q step.query told set (with_entry (in_section Answer set, entry.entry)) one same refl refl plain in
     let ends = and_parts (ending_eq (Answered denial.None) step.ending) (is_empty step.excuse) (ap (ending_holds g step told) (sym outcome_is) ∙ parts.1) in
     record {

@@ -15,7 +15,7 @@ use Rattle.dns_judgement.specs.DerivationParts.{asks_of_sets}
 use Rattle.dns_judgement.specs.Outcome.{Outcome, foreign_record}
 use Rattle.dns_handle.specs.Errors.{Reply}
 use Rattle.dns_lookup.specs.AskRequests.{Ask, judged_ask}
-use Rattle.dns_lookup.specs.Walking.{MetFault, Received, Asks, IsAdded, IsAnswer, IsSeen, IsJudgement, IsConcluded, judged_step, plain_step, foreign_ending, accepted_sets}
+use Rattle.dns_lookup.specs.Walking.{MetFault, Received, Asks, IsAdded, IsAnswer, IsSeen, IsJudgement, IsConcluded, judged_step, plain_step, foreign_ending, given_sets}
 use Rattle.dns_lookup.specs.declared.receiving.ReceivedMessage.{ReceivedMessage}
 use Rattle.dns_lookup.proofs.AskLemmas.{asks_none, asks_then}
 use Rattle.dns_lookup.proofs.ReceivedLemmas.{sent_received, sent_fault}
@@ -174,7 +174,7 @@ pub judged_so : (j : Judge) (limit : ℕ) (t u v more : List AskedValue) (q : Qu
     → placed ≡ judged_part depth (told_by received.message)
     → IsJudgement (record { judge = j; limit = limit; earlier = t; query = q; depth = depth }) placed sets entries → u ≡ t ++ more
     → IsAdded u v (judged_step depth q (Records (told_by received.message) received.empty) entries (ending_by o) excuse) made
-    → answer ≡ accepted_sets o sets → IsAnswer j limit v q depth made answer
+    → answer ≡ given_sets o sets → IsAnswer j limit v q depth made answer
 judged_so j limit t u v more q depth received placed sets entries o excuse made answer shallow part judged grown added is =
     judged_answer j limit u v q depth (told_by received.message) received.empty sets entries o excuse made answer shallow added
     (judged_after j limit t u depth q placed (told_by received.message) sets entries more part grown judged) is

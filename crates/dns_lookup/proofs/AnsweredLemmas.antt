@@ -15,7 +15,7 @@ use Rattle.dns_model.proofs.SetLemmas.{is_of, head_of, number_same}
 use Rattle.dns_judgement.specs.Chained.{bare}
 use Rattle.dns_judgement.specs.Judged.{Judged, placed_of}
 use Rattle.dns_judgement.specs.Marking.{cleared_message}
-use Rattle.dns_judgement.specs.Outcome.{Outcome, Unjudged, Accepted, Searched, is_unjudged, foreign_record}
+use Rattle.dns_judgement.specs.Outcome.{Outcome, Unjudged, Given, Searched, is_unjudged, foreign_record}
 use Rattle.dns_judgement.specs.Outcome as outcome
 use Rattle.dns_judgement.proofs.MarkedLemmas.{IsKnown, each_known}
 use Rattle.dns_laws.proofs.GroundParts.{any_front, picked, found_any}
@@ -94,7 +94,7 @@ answers_judged (Some replies) q reply answer m told hears by = λ records is own
 
 responds_by : {H : Type 0} (meanings : handle.Ghosts H) (call : Call H) (found : Findings) → Found meanings call found → (o : Outcome) → found.outcome ≡ o
     → tells_nsec3 (told_by found.message) ≡ false → has_response (answer_by call.now call.query found o) ≡ true
-responds_by meanings call found f (Accepted d) is none = refl
+responds_by meanings call found f (Given d) is none = refl
 responds_by meanings call found f (outcome.Denied p) is none = refl
 responds_by meanings call found f Searched is none =
     absurd (never_searched (top_grounds call found.steps) (told_by found.message) (bare found.sets) found.outcome found.excuse f.concluded is)

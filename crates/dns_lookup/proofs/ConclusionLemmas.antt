@@ -19,7 +19,7 @@ use Rattle.dns_lookup.specs.Walking.{IsSearched, IsConcluded}
 
 value_searched : (o : Declared) → outcome_value o ≡ Searched → o ≡ declared.Searched
 value_searched declared.Unjudged h = cc
-value_searched (declared.Accepted d) h = cc
+value_searched (declared.Given d) h = cc
 value_searched declared.Searched h = refl
 value_searched (declared.Denied p) h = cc
 

@@ -4,7 +4,7 @@ use Rattle.dns_model.specs.Names.{Labels}
 use Rattle.dns_model.specs.Records.{Rr, Question, MessageValue}
 use Rattle.dns_model.specs.SoundAnswers.{Told, told_by, ResponseValue}
 use Rattle.dns_judgement.specs.Marking.{cleared_message}
-use Rattle.dns_judgement.specs.Outcome.{Outcome, Unjudged, Accepted, Searched, foreign_record}
+use Rattle.dns_judgement.specs.Outcome.{Outcome, Unjudged, Given, Searched, foreign_record}
 use Rattle.dns_judgement.specs.Outcome as outcome
 use Rattle.dns_handle.specs.Errors.{Reply, ErrorValue, ForeignClassRecord}
 use Rattle.dns_handle.specs.Handles.{reply_to}
@@ -40,7 +40,7 @@ names_foreign meanings call (Judges answer found f is) = λ owner class rtype na
     not_foreign : (now : ℕ) (q : Question) (fs : Findings) (o : Outcome) (owner : Labels) (class rtype : ℕ)
         → answer_by now q fs o ≡ Err (ForeignClassRecord owner class rtype) → ⊥
     not_foreign now q fs Unjudged owner class rtype h = cc
-    not_foreign now q fs (Accepted d) owner class rtype h = cc
+    not_foreign now q fs (Given d) owner class rtype h = cc
     not_foreign now q fs Searched owner class rtype h = cc
     not_foreign now q fs (outcome.Denied p) owner class rtype h = cc
 
@@ -113,7 +113,7 @@ judges_foreign (Some replies) q reply answer m r told hears foreign = λ records
 
 ends_by : (now : ℕ) (q : Question) (found : Findings) (o : Outcome) → ends_trail (answer_by now q found o) ≡ true
 ends_by now q found Unjudged = refl
-ends_by now q found (Accepted d) = refl
+ends_by now q found (Given d) = refl
 ends_by now q found Searched = refl
 ends_by now q found (outcome.Denied p) = refl
 

@@ -8,7 +8,7 @@ use Rattle.dns_model.specs.SoundAnswers.{ResponseValue}
 use Rattle.dns_model.specs.Trails.{EndingValue, Answered, Denied, Failed}
 use Rattle.dns_judgement.specs.Chained.{finished}
 use Rattle.dns_judgement.specs.Derivation.{ending_by}
-use Rattle.dns_judgement.specs.Outcome.{Outcome, Unjudged, Accepted, Searched}
+use Rattle.dns_judgement.specs.Outcome.{Outcome, Unjudged, Given, Searched}
 use Rattle.dns_judgement.specs.Outcome as outcome
 use Rattle.dns_handle.specs.Errors as seen
 use Rattle.dns_handle.specs.Errors.{Reply, ErrorValue, Busy, Dns, Message, Msg, NoConnections, Proto, Io, Timeout, QueryCaseMismatch, ForeignClassRecord, Truncated, ResponseCode, NoRecordsFound, Nsec, DnssecBogus}
@@ -68,7 +68,7 @@ by_outcome : {H : Type 0} (meanings : handle.Ghosts H) (call : Call H) (Fact : R
     → OfFound meanings call Fact → Found meanings call found → (o : Outcome) → found.outcome ≡ o
     → OfAnswer (answer_by call.now call.query found o) Fact
 by_outcome meanings call Fact found all f Unjudged is = tt
-by_outcome meanings call Fact found all f (Accepted d) is = all.each found d (Answered d) f (sym (ap ending_by is)) (λ h. cc)
+by_outcome meanings call Fact found all f (Given d) is = all.each found d (Answered d) f (sym (ap ending_by is)) (λ h. cc)
 by_outcome meanings call Fact found all f Searched is = tt
 by_outcome meanings call Fact found all f (outcome.Denied p) is = all.each found denial.None (Denied p) f (sym (ap ending_by is)) (λ h. cc)
 
@@ -114,7 +114,7 @@ lookup_marks meanings call result lookup =
 denied_by : (now : ℕ) (q : Question) (found : Findings) (o : Outcome) (asked : Question) (response : ResponseValue) (proof : Proof)
     → answer_by now q found o ≡ Err (Dns (Nsec asked response proof)) → (asked ≡ q) × (response.denial ≡ denial.None)
 denied_by now q found Unjudged asked response proof is = cc
-denied_by now q found (Accepted d) asked response proof is = cc
+denied_by now q found (Given d) asked response proof is = cc
 denied_by now q found Searched asked response proof is = cc
 denied_by now q found (outcome.Denied p) asked response proof is =
     let same : finished now found.sets found.message denial.None (trail_of q found (Denied p)) ≡ response = cc in

@@ -19,7 +19,7 @@ use Rattle.dns_judgement.specs.Delegations.{ZoneVerdict}
 use Rattle.dns_judgement.specs.Unsigned.{question_start}
 use Rattle.dns_judgement.specs.Derivation.{Grounds, sight_of, search_from, entries_hold, with_entries, asks_of, if_answered, judged_sets, is_ask, is_empty, denial_eq, ending_eq, ending_by, ending_holds, step_holds}
 use Rattle.dns_judgement.specs.DerivationParts.{answer_of, grounds_of, is_bare, is_ending, is_judged_ask, judged_holds}
-use Rattle.dns_judgement.specs.Outcome.{Outcome, Unjudged, Accepted, Searched, Denied, outcome_of, outcome_by_zone, foreign_record}
+use Rattle.dns_judgement.specs.Outcome.{Outcome, Unjudged, Given, Searched, Denied, outcome_of, outcome_by_zone, foreign_record}
 use Rattle.dns_judgement.proofs.EndingLemmas.{ending_without, ending_by_search}
 use Rattle.dns_judgement.proofs.ExtendLemmas.{proof_refl}
 use Rattle.dns_judgement.proofs.OrderLemmas.{slice_get_appended}
@@ -28,7 +28,7 @@ use Rattle.dns_handle.specs.Errors.{Reply}
 use Rattle.dns_lookup.specs.AskRequests.{Ask}
 use Rattle.dns_lookup.specs.Sends.{SendOf}
 use Rattle.dns_lookup.specs.Standing.{AllStand, AnswerStands}
-use Rattle.dns_lookup.specs.Walking.{Asks, IsAdded, IsAnswer, IsSeen, IsJudgement, IsConcluded, judged_step, plain_step, foreign_ending, accepted_sets}
+use Rattle.dns_lookup.specs.Walking.{Asks, IsAdded, IsAnswer, IsSeen, IsJudgement, IsConcluded, judged_step, plain_step, foreign_ending, given_sets}
 use Rattle.dns_lookup.proofs.AskLemmas.{asks_step}
 use Rattle.dns_lookup.proofs.StandingLemmas.{plain_part}
 
@@ -74,7 +74,7 @@ denial_refl (denial.Expanded p) = proof_refl p
 -- a step ends as its judged sets make it end
 pub ends_so : (o : Outcome) → is_ending o (ending_by o) ≡ true
 ends_so Unjudged = refl
-ends_so (Accepted d) = denial_refl d
+ends_so (Given d) = denial_refl d
 ends_so Searched = refl
 ends_so (Denied p) = proof_refl p
 
@@ -161,32 +161,32 @@ no_answer j limit before after q depth reply ending ask answer shallow added is 
     let P : Option (List Chained) → Type 0 = λ o. IsAnswer j limit after q depth ask o in
     subst P (sym is) (added_answer j limit before after q depth reply [] ending [] ask None shallow added (sym none) tt)
 
-accepted_same : (q : Question) (depth : ℕ) (told : Told) (empty : Bool) (entries : List JudgedSetValue) (excuse : List AskRef) (sets : List Chained) (o : Outcome)
+given_same : (q : Question) (depth : ℕ) (told : Told) (empty : Bool) (entries : List JudgedSetValue) (excuse : List AskRef) (sets : List Chained) (o : Outcome)
     → bare sets ≡ with_entries (judged_part depth told) entries
-    → option_map bare (accepted_sets o sets)
+    → option_map bare (given_sets o sets)
     ≡ if_answered (ending_by o) (judged_sets (judged_step depth q (Records told empty) entries (ending_by o) excuse))
-accepted_same q depth told empty entries excuse sets Unjudged same = refl
-accepted_same q depth told empty entries excuse sets (Accepted d) same = ap Some same
-accepted_same q depth told empty entries excuse sets Searched same = refl
-accepted_same q depth told empty entries excuse sets (Denied p) same = refl
+given_same q depth told empty entries excuse sets Unjudged same = refl
+given_same q depth told empty entries excuse sets (Given d) same = ap Some same
+given_same q depth told empty entries excuse sets Searched same = refl
+given_same q depth told empty entries excuse sets (Denied p) same = refl
 
-accepted_stand : (j : Judge) (sets : List Chained) (o : Outcome) → AllStand j sets → AnswerStands j (accepted_sets o sets)
-accepted_stand j sets Unjudged stand = tt
-accepted_stand j sets (Accepted d) stand = stand
-accepted_stand j sets Searched stand = tt
-accepted_stand j sets (Denied p) stand = tt
+given_stand : (j : Judge) (sets : List Chained) (o : Outcome) → AllStand j sets → AnswerStands j (given_sets o sets)
+given_stand j sets Unjudged stand = tt
+given_stand j sets (Given d) stand = stand
+given_stand j sets Searched stand = tt
+given_stand j sets (Denied p) stand = tt
 
 -- a step whose sets are judged answers by what they come to
 pub judged_answer : (j : Judge) (limit : ℕ) (before after : List AskedValue) (q : Question) (depth : ℕ) (told : Told) (empty : Bool) (sets : List Chained)
     (entries : List JudgedSetValue) (o : Outcome) (excuse : List AskRef) (ask : AskRef) (answer : Option (List Chained)) → depth ≤ limit
     → IsAdded before after (judged_step depth q (Records told empty) entries (ending_by o) excuse) ask
     → IsJudgement (record { judge = j; limit = limit; earlier = before; query = q; depth = depth }) (judged_part depth told) sets entries
-    → answer ≡ accepted_sets o sets → IsAnswer j limit after q depth ask answer
+    → answer ≡ given_sets o sets → IsAnswer j limit after q depth ask answer
 judged_answer j limit before after q depth told empty sets entries o excuse ask answer shallow added judged is =
     let P : Option (List Chained) → Type 0 = λ x. IsAnswer j limit after q depth ask x in
     subst P (sym is)
-    (added_answer j limit before after q depth (Records told empty) entries (ending_by o) excuse ask (accepted_sets o sets) shallow added
-    (accepted_same q depth told empty entries excuse sets o judged.same) (accepted_stand j sets o (judged.stand (plain_part depth told))))
+    (added_answer j limit before after q depth (Records told empty) entries (ending_by o) excuse ask (given_sets o sets) shallow added
+    (given_same q depth told empty entries excuse sets o judged.same) (given_stand j sets o (judged.stand (plain_part depth told))))
 
 -- ---- what a plain ask saw
 

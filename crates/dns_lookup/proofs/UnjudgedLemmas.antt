@@ -17,7 +17,7 @@ use Rattle.dns_judgement.specs.NsecVerdict.{nsec_verdict}
 use Rattle.dns_judgement.specs.Chained.{bare}
 use Rattle.dns_judgement.specs.Derivation.{judged_sets, ending_by}
 use Rattle.dns_judgement.specs.Judged.{Judged}
-use Rattle.dns_judgement.specs.Outcome.{Outcome, Unjudged, Accepted, Searched, is_unjudged, denying, denials, one_signer, answered, outcome_by_denials, outcome_of}
+use Rattle.dns_judgement.specs.Outcome.{Outcome, Unjudged, Given, Searched, is_unjudged, denying, denials, one_signer, answered, outcome_by_denials, outcome_of}
 use Rattle.dns_judgement.specs.Outcome as outcome
 use Rattle.dns_judgement.proofs.DerivationLemmas.{top_step_is}
 use Rattle.dns_handle.specs.Errors.{Reply, Message}
@@ -37,7 +37,7 @@ use Rattle.dns_lookup.proofs.ForeignLemmas.{lookup_foreign}
 
 -- ---- the rows of an outcome
 
-verdict_decides : (secure : Bool) (d : Denial) (proof : Proof) → (if secure then Accepted d else outcome.Denied proof) ≢ Unjudged
+verdict_decides : (secure : Bool) (d : Denial) (proof : Proof) → (if secure then Given d else outcome.Denied proof) ≢ Unjudged
 verdict_decides true d proof = λ h. cc
 verdict_decides false d proof = λ h. cc
 
@@ -49,10 +49,10 @@ denials_decide q code how nsecs (Some zone) =
 
 -- the rows below the first one
 later_rows : (insecure denied expanded plain : Bool) (d : Denial) (o : Outcome) → o ≢ Unjudged
-    → (if insecure then Accepted d
+    → (if insecure then Given d
     else if denied then o
     else if expanded then outcome.Denied Bogus
-    else if plain then Accepted denial.None
+    else if plain then Given denial.None
     else Searched) ≢ Unjudged
 later_rows true denied expanded plain d o decides = λ h. cc
 later_rows false true expanded plain d o decides = decides
@@ -93,7 +93,7 @@ trail_sees meanings call found ending f =
 
 unjudged_by : {H : Type 0} (meanings : handle.Ghosts H) (call : Call H) (found : Findings) → Found meanings call found → (o : Outcome)
     → found.outcome ≡ o → answer_by call.now call.query found o ≡ Err (Message NotJudgedYet) → IsUnjudged meanings call
-unjudged_by meanings call found f (Accepted d) is unjudged = cc
+unjudged_by meanings call found f (Given d) is unjudged = cc
 unjudged_by meanings call found f (outcome.Denied p) is unjudged = cc
 unjudged_by meanings call found f Searched is unjudged =
     absurd (never_searched (top_grounds call found.steps) (told_by found.message) (bare found.sets) found.outcome found.excuse f.concluded is)

@@ -11,7 +11,7 @@ use Rattle.dns_judgement.specs.Chained.{Chained, bare, finished}
 use Rattle.dns_judgement.specs.Derivation.{Grounds}
 use Rattle.dns_judgement.specs.DerivationParts.{asks_of_sets}
 use Rattle.dns_judgement.specs.Marking.{cleared_message}
-use Rattle.dns_judgement.specs.Outcome.{Outcome, Unjudged, Accepted, Searched, foreign_record}
+use Rattle.dns_judgement.specs.Outcome.{Outcome, Unjudged, Given, Searched, foreign_record}
 use Rattle.dns_judgement.specs.Outcome as outcome
 use Rattle.dns_handle.specs.Errors as seen
 use Rattle.dns_handle.specs.Errors.{Reply, ErrorValue}
@@ -74,7 +74,7 @@ trail_of q found ending = found.steps ++ top_of q (told_by found.message) found.
 abbrev pub answer_by : ℕ → Question → Findings → Outcome → Reply
 answer_by now q found Unjudged = Err (seen.Message NotJudgedYet)
 answer_by now q found Searched = Err (seen.Message NotJudgedYet)
-answer_by now q found (Accepted d) = Ok (finished now found.sets found.message d (trail_of q found (Answered d)))
+answer_by now q found (Given d) = Ok (finished now found.sets found.message d (trail_of q found (Answered d)))
 answer_by now q found (outcome.Denied p) =
     Err (seen.Dns (seen.Nsec q (finished now found.sets found.message denial.None (trail_of q found (Denied p))) p))
 

@@ -24,8 +24,8 @@ use Rattle.dns_judgement.specs.Judged.{Judged}
 use Rattle.dns_judgement.specs.Marking.{cleared_message}
 use Rattle.dns_judgement.specs.Marks.{is_skipped, most_signatures}
 use Rattle.dns_judgement.specs.Marks as marks
-use Rattle.dns_judgement.specs.Outcome.{Outcome, Unjudged, Accepted, Searched, Denied, outcome_of, outcome_by_zone}
-use Rattle.dns_judgement.specs.Parts.{Part}
+use Rattle.dns_judgement.specs.Outcome.{Outcome, Unjudged, Given, Searched, Denied, outcome_of, outcome_by_zone}
+use Rattle.dns_judgement.specs.Parts.{TrailPart}
 use Rattle.dns_judgement.specs.Unsigned.{question_start, unsigned_mark}
 use Rattle.dns_handle.specs.Errors.{Reply}
 use Rattle.dns_handle.specs.Replies.{error_of}
@@ -109,7 +109,7 @@ pub record HasWalked {H V : Type 0} (meanings : handle.Ghosts H) (context : Look
 -- asks in order, with the steps that they added to the trail; the handle went along these steps, in the order of the sends
 pub record Asks {H : Type 0} (ask : H → Ask → H → Reply → Type 0) (j : Judge) (limit : ℕ)
     (old new : H) (before after : List AskedValue) (asks : List AskRef) (n m : ℕ) : Type 0 where
-  pub part : Part j limit before after asks n m
+  pub part : TrailPart j limit before after asks n m
   pub sends : SendsAlong ask old (steps_at after (Some part.order)) new
 
 -- asks of a lookup, with the steps that they added to its progress
@@ -175,12 +175,12 @@ entry_of judged asked = record {
 abbrev pub foreign_ending : Rr → EndingValue
 foreign_ending r = trails.Foreign r.owner r.class r.rtype
 
--- the sets of a step whose answer is accepted
-abbrev pub accepted_sets : {X : Type 0} → Outcome → List X → Option (List X)
-accepted_sets Unjudged sets = None
-accepted_sets (Accepted d) sets = Some sets
-accepted_sets Searched sets = None
-accepted_sets (Denied proof) sets = None
+-- the sets of a step whose answer is given
+abbrev pub given_sets : {X : Type 0} → Outcome → List X → Option (List X)
+given_sets Unjudged sets = None
+given_sets (Given d) sets = Some sets
+given_sets Searched sets = None
+given_sets (Denied proof) sets = None
 
 -- ---- what the functions of the walk come to
 

@@ -6,7 +6,7 @@ ghost use Rattle.dns_judgement.specs.Derivation.{ending_by};
 ghost use Rattle.dns_evidence.specs.Trail.{heard_value, ending_value};
 ghost use Rattle.dns_outcome.specs.Outcome.{outcome_value};
 ghost use Rattle.dns_trust.specs.Verdicts.{listed};
-ghost use Rattle.dns_lookup.specs.Walking.{HasEnded, IsAdded, accepted_sets, judged_step, plain_step};
+ghost use Rattle.dns_lookup.specs.Walking.{HasEnded, IsAdded, given_sets, judged_step, plain_step};
 
 use crate::context::Progress;
 use crate::judging::{Concluded, Judgement, Review};
@@ -90,7 +90,7 @@ pub(crate) fn seen(
     Ok(ask)
 }
 
-/// Ends a step whose sets are judged and have come to an outcome. They are its answer where they are accepted.
+/// Ends a step whose sets are judged and have come to an outcome. They are its answer where the outcome gives it.
 pub(crate) fn answered(
     progress: &mut Progress,
     query: Query,
@@ -104,7 +104,7 @@ pub(crate) fn answered(
         (judged_step depth query (Records (told_by received.message) received.empty) review.judged.entries.items
         (ending_by (outcome_value review.concluded.outcome)) review.concluded.excuse.items) f.ask) }
     ensures answer { IfOk result (λ f. listed f.answer
-        ≡ accepted_sets (outcome_value review.concluded.outcome) review.judged.sets.items) }
+        ≡ given_sets (outcome_value review.concluded.outcome) review.judged.sets.items) }
 {
     let Review { judged, concluded } = review;
     let Judgement { sets, entries } = judged;
@@ -117,17 +117,17 @@ pub(crate) fn answered(
     let ask = add_step(&mut progress.steps, step)?;
     Ok(Finished {
         ask,
-        answer: accepted(outcome, sets),
+        answer: given(outcome, sets),
     })
 }
 
-// The judged sets of a step whose answer is accepted.
-fn accepted(outcome: Outcome, sets: Vec<ChainedSet>) -> Option<Vec<ChainedSet>>
-    ensures { listed result ≡ accepted_sets (outcome_value outcome) sets.items }
+// The judged sets of a step whose answer is given.
+fn given(outcome: Outcome, sets: Vec<ChainedSet>) -> Option<Vec<ChainedSet>>
+    ensures { listed result ≡ given_sets (outcome_value outcome) sets.items }
 {
     match outcome {
         Outcome::Unjudged => None,
-        Outcome::Accepted(_) => Some(sets),
+        Outcome::Given(_) => Some(sets),
         Outcome::Searched => None,
         Outcome::Denied(_) => None,
     }

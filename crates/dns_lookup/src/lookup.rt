@@ -140,7 +140,7 @@ fn answer<V>(
     match outcome {
         Outcome::Unjudged => unjudged_answer(reply),
         Outcome::Searched => unjudged_answer(reply),
-        Outcome::Accepted(denial) => accepted_answer(context.alloc, now, reply, denial),
+        Outcome::Given(denial) => given_answer(context.alloc, now, reply, denial),
         Outcome::Denied(proof) => denied_answer(context.alloc, now, reply, proof),
     }
 }
@@ -153,15 +153,15 @@ fn unjudged_answer(reply: JudgedReply) -> Result<DnsResponse, NetError>
     Err(NetError::Message(Notice::NotJudgedYet))
 }
 
-// The answer that is accepted, with what it denies.
-fn accepted_answer(
+// The answer that is given, with what it denies.
+fn given_answer(
     alloc: Global,
     now: u64,
     reply: JudgedReply,
     denial: Denial,
 ) -> Result<DnsResponse, NetError>
     ensures { UnlessNoMemory result
-        (reply_of result ≡ judged_answer now reply.query (findings_of reply (Outcome.Accepted denial))) }
+        (reply_of result ≡ judged_answer now reply.query (findings_of reply (Outcome.Given denial))) }
 {
     let response = response_of(alloc, now, reply, Ending::Answered(denial), denial)?;
     Ok(response)

@@ -109,7 +109,7 @@ pub(crate) fn ending_of(outcome: Outcome) -> Ending
 {
     match outcome {
         Outcome::Unjudged => Ending::Failed,
-        Outcome::Accepted(denial) => Ending::Answered(denial),
+        Outcome::Given(denial) => Ending::Answered(denial),
         Outcome::Searched => Ending::Failed,
         Outcome::Denied(proof) => Ending::Denied(proof),
     }

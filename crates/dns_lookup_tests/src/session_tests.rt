@@ -163,19 +163,19 @@ fn comes_so(kind: &ReplyKind, want: &Comes) -> bool {
     }
 }
 
-fn is_reply(reply: &Reply, want: &ReplyRow) -> bool {
+fn is_reply(reply: &SessionReply, want: &ReplyRow) -> bool {
     let (query_type, comes) = want;
     reply.query.query_type.0 == *query_type && comes_so(&reply.kind, comes)
 }
 
-fn is_first_to(replies: &[Reply], name: &[u8]) -> bool {
+fn is_first_to(replies: &[SessionReply], name: &[u8]) -> bool {
     match replies {
         [first, ..] => first.query.name.wire() == name,
         [] => false,
     }
 }
 
-fn are_replies(replies: &[Reply], want: &[ReplyRow]) -> bool {
+fn are_replies(replies: &[SessionReply], want: &[ReplyRow]) -> bool {
     let mut rest = want;
     for reply in replies {
         match rest {

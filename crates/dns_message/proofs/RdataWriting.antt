@@ -13,7 +13,7 @@ use Rattle.dns_message.specs.declared.decode_error.DecodeError.{DecodeError}
 use Rattle.dns_message.specs.declared.decode_error.DecodeKind.TheVariants.{Short, BadRdata}
 use Rattle.dns_message.specs.Reading.{◌>>=◌, fault}
 use Rattle.dns_message.specs.NameAt.{name_at, spelled_at}
-use Rattle.dns_message.specs.RdataAt.{octets_at, counted_at, rest_at, bitmap_at, without_fault, field_at, with_bytes, after_field, fields_at, within_limit, shaped_at, rdata_at}
+use Rattle.dns_message.specs.RdataAt.{octets_at, counted_octets_at, rest_at, bitmap_at, without_fault, field_at, with_bytes, after_field, fields_at, within_rdata_limit, shaped_at, rdata_at}
 use Rattle.dns_message.proofs.NameWriting.{name_good, name_again}
 use Rattle.dns_message.proofs.Standing.{Stands, stands_front, stands_back, stands_inside, stands_range, stands_byte}
 
@@ -67,8 +67,8 @@ octets_again n bytes pos stop front next inside h other at end s fits =
 
 counted_cases : (test : Bool) (bytes : List ℕ) (pos stop : ℕ) (front : List ℕ) (next : ℕ) → stop ≤ length bytes → nat_lt pos stop ≡ test
     → cond {A = Option (List ℕ × ℕ)} test (octets_at (1 + slice_index bytes pos) bytes pos stop) None ≡ Some (front, next)
-    → (other : List ℕ) (at end : ℕ) → Stands other at front → at + length front ≤ end → counted_at other at end ≡ Some (front, at + length front)
-unfolding counted_at octets_at
+    → (other : List ℕ) (at end : ℕ) → Stands other at front → at + length front ≤ end → counted_octets_at other at end ≡ Some (front, at + length front)
+unfolding counted_octets_at octets_at
 counted_cases false bytes pos stop front next inside is h other at end s fits = absurd cc
 counted_cases true bytes pos stop front next inside is h other at end s fits =
     let n : ℕ = 1 + get_or bytes pos 0 in
@@ -81,9 +81,9 @@ counted_cases true bytes pos stop front next inside is h other at end s fits =
     let some : nat_lt at end ≡ true = grind (arith, nat_tests, long) in
     rw (some, byte) (octets_again (1 + get_or bytes pos 0) bytes pos stop front next inside h other at end s fits)
 
-counted_again : (bytes : List ℕ) (pos stop : ℕ) (front : List ℕ) (next : ℕ) → stop ≤ length bytes → counted_at bytes pos stop ≡ Some (front, next)
-    → (other : List ℕ) (at end : ℕ) → Stands other at front → at + length front ≤ end → counted_at other at end ≡ Some (front, at + length front)
-unfolding counted_at
+counted_again : (bytes : List ℕ) (pos stop : ℕ) (front : List ℕ) (next : ℕ) → stop ≤ length bytes → counted_octets_at bytes pos stop ≡ Some (front, next)
+    → (other : List ℕ) (at end : ℕ) → Stands other at front → at + length front ≤ end → counted_octets_at other at end ≡ Some (front, at + length front)
+unfolding counted_octets_at
 counted_again bytes pos stop front next inside h other at end s fits = counted_cases (nat_lt pos stop) bytes pos stop front next inside refl h other at end s fits
 
 abbrev pub Parts : Type 0
@@ -205,7 +205,7 @@ limit_cases : (test : Bool) (bytes rdata : List ℕ) → cond {A = Option (List 
 limit_cases true bytes rdata h = h
 limit_cases false bytes rdata h = absurd cc
 
-limited : (o : Option (List ℕ)) (rdata : List ℕ) → within_limit o ≡ Some rdata → o ≡ Some rdata
+limited : (o : Option (List ℕ)) (rdata : List ℕ) → within_rdata_limit o ≡ Some rdata → o ≡ Some rdata
 limited None rdata h = absurd cc
 limited (Some bytes) rdata h = limit_cases (nat_le (length bytes) 65535) bytes rdata h
 
@@ -246,8 +246,8 @@ shape_again : (rtype : ℕ) (from : List ℕ) (start stop : ℕ) (rdata : List �
 unfolding shaped_at
 shape_again rtype from start stop rdata inside h bytes pos s =
     let was = limited (fields_at (shape_of rtype) from start stop) rdata h in
-    let short : within_limit (Some rdata) ≡ Some rdata = ap within_limit (sym was) ∙ h in
-    ap within_limit (fields_again (shape_of rtype) from start stop rdata (shape_right rtype) inside was bytes pos (pos + length rdata) s refl) ∙ short
+    let short : within_rdata_limit (Some rdata) ≡ Some rdata = ap within_rdata_limit (sym was) ∙ h in
+    ap within_rdata_limit (fields_again (shape_of rtype) from start stop rdata (shape_right rtype) inside was bytes pos (pos + length rdata) s refl) ∙ short
 
 by_length : (rtype class : ℕ) (rdata : List ℕ) (test : Bool) → (length rdata == 0) ≡ test
     → ((bytes : List ℕ) (pos : ℕ) → 0 < length rdata → Stands bytes pos rdata → rdata_at rtype class bytes (length rdata) pos ≡ Ok rdata) → IsRdataAgain rtype class rdata

@@ -13,8 +13,8 @@ unfoldable pub octets_at : ℕ → List ℕ → ℕ → ℕ → Option (List ℕ
 octets_at n bytes pos stop = if nat_le (pos + n) stop then Some (slice_range bytes pos (pos + n), pos + n) else None
 
 -- a length byte with that many bytes
-unfoldable pub counted_at : List ℕ → ℕ → ℕ → Option (List ℕ × ℕ)
-counted_at bytes pos stop = if nat_lt pos stop then octets_at (1 + slice_index bytes pos) bytes pos stop else None
+unfoldable pub counted_octets_at : List ℕ → ℕ → ℕ → Option (List ℕ × ℕ)
+counted_octets_at bytes pos stop = if nat_lt pos stop then octets_at (1 + slice_index bytes pos) bytes pos stop else None
 
 -- all bytes up to the place where the rdata stops
 unfoldable pub rest_at : List ℕ → ℕ → ℕ → Option (List ℕ × ℕ)
@@ -31,7 +31,7 @@ without_fault (Err e) = None
 unfoldable pub field_at : Field → List ℕ → ℕ → ℕ → Option (List ℕ × ℕ)
 field_at (Octets n) bytes pos stop = octets_at n bytes pos stop
 field_at DomainName bytes pos stop = without_fault (spelled_at bytes pos)
-field_at CharacterString bytes pos stop = counted_at bytes pos stop
+field_at CharacterString bytes pos stop = counted_octets_at bytes pos stop
 field_at TypeBitmap bytes pos stop = bitmap_at bytes pos stop
 field_at Remainder bytes pos stop = rest_at bytes pos stop
 
@@ -49,13 +49,13 @@ fields_at [] bytes pos stop = if pos == stop then Some [] else None
 fields_at (field ∷ fields) bytes pos stop = after_field (field_at field bytes pos stop) (λ next. fields_at fields bytes next stop)
 
 -- an rdata has at most 65,535 bytes
-abbrev pub within_limit : Option (List ℕ) → Option (List ℕ)
-within_limit None = None
-within_limit (Some bytes) = if nat_le (length bytes) 65535 then Some bytes else None
+abbrev pub within_rdata_limit : Option (List ℕ) → Option (List ℕ)
+within_rdata_limit None = None
+within_rdata_limit (Some bytes) = if nat_le (length bytes) 65535 then Some bytes else None
 
 -- the bytes of an rdata in the shape of its type
 unfoldable pub shaped_at : ℕ → List ℕ → ℕ → ℕ → Option (List ℕ)
-shaped_at rtype bytes pos stop = within_limit (fields_at (shape_of rtype) bytes pos stop)
+shaped_at rtype bytes pos stop = within_rdata_limit (fields_at (shape_of rtype) bytes pos stop)
 
 -- `size` bytes as they stand
 unfoldable pub opaque_at : List ℕ → ℕ → ℕ → Result (List ℕ) DecodeError

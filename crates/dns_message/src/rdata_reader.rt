@@ -1,6 +1,6 @@
 ghost use Rattle.std.specs.Prelude.{◌≡◌, ◌+◌, ◌<◌, ◌≤◌, ◌^◌, length, IfOk, IfSome};
 ghost use Rattle.dns_message.specs.NameAt.{spelled_at};
-ghost use Rattle.dns_message.specs.RdataAt.{octets_at, counted_at, rest_at, bitmap_at, without_fault, field_at};
+ghost use Rattle.dns_message.specs.RdataAt.{octets_at, counted_octets_at, rest_at, bitmap_at, without_fault, field_at};
 ghost use Rattle.dns_message.specs.Pointers.{IsReadable};
 ghost use Rattle.dns_message.specs.Fitting.{FieldRead};
 ghost use Rattle.dns_rdata.specs.Fields.{field_value};
@@ -85,7 +85,7 @@ fn push_name(
     }
 }
 
-#[tactic(auto, unfolding(crate::specs::RdataAt::counted_at))]
+#[tactic(auto, unfolding(crate::specs::RdataAt::counted_octets_at))]
 fn push_counted(
     bytes: &[u8],
     pos: usize,
@@ -95,7 +95,7 @@ fn push_counted(
     requires short { length bytes.now < 2 ^ 32 }
     requires stop { stop ≤ length bytes.now }
     requires pos { pos ≤ length bytes.now }
-    ensures reads { IfOk result (λ next. FieldRead (counted_at bytes.now pos stop) into.old.items into.new.items next) }
+    ensures reads { IfOk result (λ next. FieldRead (counted_octets_at bytes.now pos stop) into.old.items into.new.items next) }
     ensures fits { IfOk result (λ next. IfSome next (λ n. n ≤ length bytes.now)) }
 {
     if stop <= pos {

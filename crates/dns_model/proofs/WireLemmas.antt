@@ -7,7 +7,7 @@ use Rattle.std.proofs.lemmas.Bool.{and_parts}
 use Rattle.std.proofs.lemmas.Bool.Decides.{nat_tests}
 use Rattle.std.proofs.lemmas.List.{append_assoc, append-nil, take-append-drop, length-take-le}
 use Rattle.dns_model.specs.Names.{Label, Labels, wire, is_label, is_name}
-use Rattle.dns_model.specs.NameForm.{label_in, with_label, after_label, labels_in, within_limit, name_in, labels_of, IsWire}
+use Rattle.dns_model.specs.NameForm.{label_in, with_front_label, after_label, labels_in, within_limit, name_in, labels_of, IsWire}
 use Rattle.dns_model.proofs.Lists.{take-front, drop-front}
 
 -- what two equal pairs in an option have in common
@@ -69,7 +69,7 @@ labels_in-wire ((c ∷ label) ∷ name) rest (b ∷ bound) good room =
     let joined : (c ∷ label) ++ wire name ++ rest ≡ (c ∷ label) ++ (wire name ++ rest) = append_assoc (c ∷ label) (wire name) rest in
     ap (λ (w : List ℕ). after_label (label_in (length (c ∷ label) ∷ w)) (labels_in bound)) joined
     ∙ ap (λ (o : Option (Label × List ℕ)). after_label o (labels_in bound)) front
-    ∙ ap (with_label (c ∷ label)) more
+    ∙ ap (with_front_label (c ∷ label)) more
 
 -- a list has no more labels than its wire form has bytes after the last
 pub length-wire : (name : Labels) → length name < length (wire name)
@@ -108,10 +108,10 @@ record IsWithLabel (label : Label) (more : Option (Labels × List ℕ)) (name : 
   was : more ≡ Some (tail, rest)
   is : name ≡ label ∷ tail
 
-with_label_inverse : (label : Label) (more : Option (Labels × List ℕ)) (name : Labels) (rest : List ℕ)
-    → with_label label more ≡ Some (name, rest) → IsWithLabel label more name rest
-with_label_inverse label None name rest h = cc
-with_label_inverse label (Some (tail, after)) name rest h =
+with_front_label_inverse : (label : Label) (more : Option (Labels × List ℕ)) (name : Labels) (rest : List ℕ)
+    → with_front_label label more ≡ Some (name, rest) → IsWithLabel label more name rest
+with_front_label_inverse label None name rest h = cc
+with_front_label_inverse label (Some (tail, after)) name rest h =
     let same : label ∷ tail ≡ name = first_of_some h in
     let left : after ≡ rest = second_of_some h in
     record { tail = tail; was = rw left refl; is = sym same }
@@ -142,7 +142,7 @@ after_label_inverse bound bytes (Some ([], after)) name rest ih is h =
     let stood = label_in_inverse bytes [] after is in
     record { whole = stood.whole ∙ rw (← none, left) refl; good = rw (← none) refl }
 after_label_inverse bound bytes (Some (c ∷ label, after)) name rest ih is h =
-    joined_inverse bytes c label after _ name rest (ih after) is (with_label_inverse (c ∷ label) (labels_in bound after) name rest h)
+    joined_inverse bytes c label after _ name rest (ih after) is (with_front_label_inverse (c ∷ label) (labels_in bound after) name rest h)
 
 pub labels_in_inverse : (bound bytes : List ℕ) (name : Labels) (rest : List ℕ) → labels_in bound bytes ≡ Some (name, rest) → IsNameIn bytes name rest
 unfolding labels_in

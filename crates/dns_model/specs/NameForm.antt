@@ -8,14 +8,14 @@ unfoldable pub label_in : List ℕ → Option (Label × List ℕ)
 label_in [] = None
 label_in (size ∷ rest) = if nat_le size 63 && nat_le size (length rest) then Some (take size rest, drop size rest) else None
 
-abbrev pub with_label : Label → Option (Labels × List ℕ) → Option (Labels × List ℕ)
-with_label label None = None
-with_label label (Some (name, rest)) = Some (label ∷ name, rest)
+abbrev pub with_front_label : Label → Option (Labels × List ℕ) → Option (Labels × List ℕ)
+with_front_label label None = None
+with_front_label label (Some (name, rest)) = Some (label ∷ name, rest)
 
 abbrev pub after_label : Option (Label × List ℕ) → (List ℕ → Option (Labels × List ℕ)) → Option (Labels × List ℕ)
 after_label None more = None
 after_label (Some ([], rest)) more = Some ([], rest)
-after_label (Some (byte ∷ label, rest)) more = with_label (byte ∷ label) (more rest)
+after_label (Some (byte ∷ label, rest)) more = with_front_label (byte ∷ label) (more rest)
 
 -- labels up to the root's; the first list is as long as the bytes, and only bounds how many labels are read
 unfoldable pub labels_in : List ℕ → List ℕ → Option (Labels × List ℕ)

@@ -6,8 +6,8 @@ use Rattle.std.specs.Option.{option_map}
 use Rattle.std.proofs.lemmas.Bool.Decides.{nat_tests}
 use Rattle.std.proofs.lemmas.List.{append-nil, length-take-le, take_at, drop_at}
 use Rattle.dns_model.specs.Names.{Label, Labels, wire, is_label, is_name}
-use Rattle.dns_model.specs.NameForm.{label_in, with_label, after_label, labels_in, within_limit, name_in, labels_of, IsWire}
-use Rattle.dns_name.specs.NameEnds.{labels_at, end_of, end_in, IsFront}
+use Rattle.dns_model.specs.NameForm.{label_in, with_front_label, after_label, labels_in, within_limit, name_in, labels_of, IsWire}
+use Rattle.dns_name.specs.NameEnds.{front_labels, end_of, end_in, IsFront}
 use Rattle.dns_model.proofs.Lists.{take-front, drop-front}
 use Rattle.dns_model.proofs.WireLemmas.{IsLabelIn, label_in_inverse, IsNameIn, labels_in_inverse, name_in-wire, labels_of-wire, IsWire-wire}
 
@@ -20,7 +20,7 @@ same_after bytes (Some ([], rest)) f g is same = refl
 same_after bytes (Some (c ∷ label, rest)) f g is same =
     let stood = label_in_inverse bytes (c ∷ label) rest is in
     let shorter : length rest < length bytes = rw stood.whole (omega (arith, length-append (c ∷ label) rest)) in
-    ap (with_label (c ∷ label)) (same rest shorter)
+    ap (with_front_label (c ∷ label)) (same rest shorter)
 
 pub same_bound : (one two bytes : List ℕ) → length bytes ≤ length one → length bytes ≤ length two → labels_in one bytes ≡ labels_in two bytes
 unfolding labels_in label_in
@@ -32,14 +32,14 @@ same_bound (x ∷ one) [] (b ∷ bytes) p q = absurd (omega arith)
 same_bound (x ∷ one) (y ∷ two) bytes p q =
     same_after bytes (label_in bytes) (labels_in one) (labels_in two) refl (λ rest lt. same_bound one two rest (omega arith) (omega arith))
 
-pub labels_at-cons : (size : ℕ) (bytes : List ℕ) → labels_at (size ∷ bytes) ≡ after_label (label_in (size ∷ bytes)) labels_at
+pub front_labels-cons : (size : ℕ) (bytes : List ℕ) → front_labels (size ∷ bytes) ≡ after_label (label_in (size ∷ bytes)) front_labels
 unfolding labels_in
-labels_at-cons size bytes =
-    same_after (size ∷ bytes) (label_in (size ∷ bytes)) (labels_in bytes) labels_at refl (λ rest lt. same_bound bytes rest rest (omega arith) (omega arith))
+front_labels-cons size bytes =
+    same_after (size ∷ bytes) (label_in (size ∷ bytes)) (labels_in bytes) front_labels refl (λ rest lt. same_bound bytes rest rest (omega arith) (omega arith))
 
 -- ---- where a wire form ends
 
-end_of-with : (label : Label) (read : Option (Labels × List ℕ)) → end_of (with_label label read) ≡ option_map (λ (n : ℕ). length label + 1 + n) (end_of read)
+end_of-with : (label : Label) (read : Option (Labels × List ℕ)) → end_of (with_front_label label read) ≡ option_map (λ (n : ℕ). length label + 1 + n) (end_of read)
 end_of-with label None = refl
 end_of-with label (Some (name, rest)) = ap Some (omega (arith, length-append label (wire name)))
 
@@ -55,16 +55,16 @@ end_after None = None
 end_after (Some ([], rest)) = Some 1
 end_after (Some (byte ∷ label, rest)) = option_map (λ (n : ℕ). length (byte ∷ label) + 1 + n) (end_in rest)
 
-end_of-after : (front : Option (Label × List ℕ)) → end_of (after_label front labels_at) ≡ end_after front
+end_of-after : (front : Option (Label × List ℕ)) → end_of (after_label front front_labels) ≡ end_after front
 unfolding end_in
 end_of-after None = refl
 end_of-after (Some ([], rest)) = refl
-end_of-after (Some (c ∷ label, rest)) = end_of-with (c ∷ label) (labels_at rest)
+end_of-after (Some (c ∷ label, rest)) = end_of-with (c ∷ label) (front_labels rest)
 
 pub end_in-step : (bytes : List ℕ) → end_in bytes ≡ end_after (label_in bytes)
 unfolding end_in labels_in label_in
 end_in-step [] = refl
-end_in-step (size ∷ bytes) = ap end_of (labels_at-cons size bytes) ∙ end_of-after (label_in (size ∷ bytes))
+end_in-step (size ∷ bytes) = ap end_of (front_labels-cons size bytes) ∙ end_of-after (label_in (size ∷ bytes))
 
 -- ---- the name in front, by where it ends
 
@@ -79,7 +79,7 @@ front_at bytes rest name n long whole good =
       read = read ∙ rw (front, back, labels_of-wire name good) refl;
     }
 
-found : (bytes : List ℕ) (read : Option (Labels × List ℕ)) (n : ℕ) → read ≡ labels_at bytes → end_of read ≡ Some n → n ≤ 255 → IsFront bytes n
+found : (bytes : List ℕ) (read : Option (Labels × List ℕ)) (n : ℕ) → read ≡ front_labels bytes → end_of read ≡ Some n → n ≤ 255 → IsFront bytes n
 found bytes None n is h small = cc
 found bytes (Some (name, rest)) n is h small =
     let stood = labels_in_inverse bytes bytes name rest (sym is) in
@@ -89,15 +89,15 @@ found bytes (Some (name, rest)) n is h small =
 
 pub front_found : (bytes : List ℕ) (n : ℕ) → end_in bytes ≡ Some n → n ≤ 255 → IsFront bytes n
 unfolding end_in
-front_found bytes n h small = found bytes (labels_at bytes) n refl h small
+front_found bytes n h small = found bytes (front_labels bytes) n refl h small
 
-none : (bytes : List ℕ) (read : Option (Labels × List ℕ)) → read ≡ labels_at bytes → end_of read ≡ None → within_limit read ≡ None
+none : (bytes : List ℕ) (read : Option (Labels × List ℕ)) → read ≡ front_labels bytes → end_of read ≡ None → within_limit read ≡ None
 none bytes None is h = refl
 none bytes (Some p) is h = cc
 
 pub front_none : (bytes : List ℕ) → end_in bytes ≡ None → name_in bytes ≡ None
 unfolding end_in name_in
-front_none bytes h = none bytes (labels_at bytes) refl h
+front_none bytes h = none bytes (front_labels bytes) refl h
 
 too_long : (read : Option (Labels × List ℕ)) (n : ℕ) → end_of read ≡ Some n → 255 < n → within_limit read ≡ None
 too_long None n h long = refl
@@ -108,7 +108,7 @@ too_long (Some (name, rest)) n h long =
 
 pub front_too_long : (bytes : List ℕ) (n : ℕ) → end_in bytes ≡ Some n → 255 < n → name_in bytes ≡ None
 unfolding end_in name_in
-front_too_long bytes n h long = too_long (labels_at bytes) n h long
+front_too_long bytes n h long = too_long (front_labels bytes) n h long
 
 -- how far a loop over labels has come, and what the labels at the rest make of it
 pub record IsEnd (bytes rest : List ℕ) (end : ℕ) : Type 0 where

@@ -4,8 +4,8 @@ use Rattle.dns_model.specs.Names.{Labels, wire}
 use Rattle.dns_model.specs.NameForm.{labels_in, name_in, labels_of, IsWire}
 
 -- the labels at the front of bytes, with no limit on their length
-abbrev pub labels_at : List ℕ → Option (Labels × List ℕ)
-labels_at bytes = labels_in bytes bytes
+abbrev pub front_labels : List ℕ → Option (Labels × List ℕ)
+front_labels bytes = labels_in bytes bytes
 
 -- how many bytes labels take that were read
 abbrev pub end_of : Option (Labels × List ℕ) → Option ℕ
@@ -13,7 +13,7 @@ end_of read = option_map (λ (p : Labels × List ℕ). length (wire p.0)) read
 
 -- how many bytes the labels at the front of bytes take
 unfoldable pub end_in : List ℕ → Option ℕ
-end_in bytes = end_of (labels_at bytes)
+end_in bytes = end_of (front_labels bytes)
 
 -- the first n bytes are a name's wire form, and the name at the front is that one
 pub record IsFront (bytes : List ℕ) (n : ℕ) : Type 0 where

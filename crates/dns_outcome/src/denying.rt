@@ -4,7 +4,7 @@ ghost use Rattle.std.specs.List.{filter_map, list_any, list_all, find};
 ghost use Rattle.std.specs.Option.{option_copied};
 ghost use Rattle.dns_model.specs.SoundAnswers.{told_by};
 ghost use Rattle.dns_judgement.specs.Chained.{bare};
-ghost use Rattle.dns_judgement.specs.Outcome.{is_denying as is_denying_set, denying, owned_nsec, denials as denials_in, signer_of, is_made_by as is_made_by_zone, one_signer as one_signer_of, answered as answered_in, secure_denial as denial_of, outcome_by_verdict as told_by_verdict, outcome_by_denials as told_by_denials};
+ghost use Rattle.dns_judgement.specs.Outcome.{is_denying as is_denying_set, denying, owned_nsec, denials as denials_in, signer_of, is_made_by as is_made_by_zone, one_signer as one_signer_of, answered as answered_in, secure_denial as denial_of, outcome_by_nsec_verdict as told_by_verdict, outcome_by_denials as told_by_denials};
 ghost use Rattle.dns_outcome.specs.Outcome.{outcome_value};
 
 use crate::Outcome;
@@ -51,14 +51,14 @@ pub(crate) fn outcome_by_denials(
     let nsecs = denials(alloc, sets)?;
     let how = answered(query, message, sets);
     let proof = verify_nsec(query, &zone, message.response_code, how, &nsecs);
-    Ok(outcome_by_verdict(how, proof))
+    Ok(outcome_by_nsec_verdict(how, proof))
 }
 
-fn outcome_by_verdict(how: Answered, proof: Proof) -> Outcome
+fn outcome_by_nsec_verdict(how: Answered, proof: Proof) -> Outcome
     ensures { outcome_value result ≡ told_by_verdict how proof }
 {
     if proof == Proof::Secure {
-        Outcome::Accepted(secure_denial(how))
+        Outcome::Given(secure_denial(how))
     } else {
         Outcome::Denied(proof)
     }

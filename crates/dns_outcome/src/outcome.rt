@@ -23,7 +23,7 @@ pub enum Outcome {
     /// It can't be judged yet, since NSEC3 isn't.
     Unjudged,
     /// Its response is an answer.
-    Accepted(Denial),
+    Given(Denial),
     /// The zone of its query decides, and has to be searched.
     Searched,
     /// Its response is refused, with this proof.
@@ -57,7 +57,7 @@ pub fn outcome_of(
         return Ok(Outcome::Denied(Proof::Bogus));
     }
     if has_answer(query, &message.answers) && !from_wildcard {
-        return Ok(Outcome::Accepted(Denial::None));
+        return Ok(Outcome::Given(Denial::None));
     }
     // a signed zone would have denied (RFC 4035, 3.1.3)
     Ok(Outcome::Searched)
@@ -82,9 +82,9 @@ fn insecure_answer(query: &Query, message: &Message) -> Outcome
     ensures { outcome_value result ≡ told_insecure query.now (told_by message.now) }
 {
     if has_answer(query, &message.answers) {
-        Outcome::Accepted(Denial::None)
+        Outcome::Given(Denial::None)
     } else {
-        Outcome::Accepted(Denial::Absent(Proof::Insecure))
+        Outcome::Given(Denial::Absent(Proof::Insecure))
     }
 }
 

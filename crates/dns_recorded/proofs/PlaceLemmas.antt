@@ -13,7 +13,7 @@ use Rattle.dns_model.proofs.TestLemmas.{tied_equal}
 use Rattle.dns_model.proofs.Lists.{lookup-same}
 use Rattle.dns_handle.specs.declared.query_key.QueryKey.{QueryKey}
 use Rattle.dns_handle.specs.QueryKeys.{key_cmp}
-use Rattle.dns_recorded.specs.RecordedPlaces.{queue_items, places_at, SamePlaces, Noted, Dropped}
+use Rattle.dns_recorded.specs.RecordedPlaces.{queue_items, query_places, SamePlaces, NotedPlace, Dropped}
 use Rattle.dns_handle.proofs.KeyLemmas.{key_total}
 
 -- equal keys have one queue
@@ -21,16 +21,16 @@ get-same : {X : Type 0} (m : BTreeMap QueryKey X) (k q : QueryKey) → key_cmp k
 get-same m k q same = lookup-same _ _ (λ x. ap is_eq (key_total.congr k q x same)) m.entries
 
 changed-case : {Z : Type 0} (old : BTreeMap QueryKey (VecDeque ℕ Z)) (key k : QueryKey) (w : VecDeque ℕ Z) (change : List ℕ → List ℕ)
-    → w.items ≡ change (places_at old key) → (b : Bool) → is_eq (key_cmp key k) ≡ b
-    → queue_items (cond b (Some w) (tree.get key_cmp old k)) ≡ cond b (change (places_at old k)) (places_at old k)
+    → w.items ≡ change (query_places old key) → (b : Bool) → is_eq (key_cmp key k) ≡ b
+    → queue_items (cond b (Some w) (tree.get key_cmp old k)) ≡ cond b (change (query_places old k)) (query_places old k)
 changed-case old key k w change new true tied =
     new ∙ ap (λ o. change (queue_items o)) (get-same old key k (tied_equal (key_cmp key k) tied))
 changed-case old key k w change new false tied = refl
 
 -- a change of one queue
 pub changed_at : {Z : Type 0} (old new : BTreeMap QueryKey (VecDeque ℕ Z)) (key : QueryKey) (w : VecDeque ℕ Z) (change : List ℕ → List ℕ)
-    → w.items ≡ change (places_at old key) → tree.Updates key_cmp old new key (Some w)
-    → (k : QueryKey) → places_at new k ≡ cond (is_eq (key_cmp key k)) (change (places_at old k)) (places_at old k)
+    → w.items ≡ change (query_places old key) → tree.Updates key_cmp old new key (Some w)
+    → (k : QueryKey) → query_places new k ≡ cond (is_eq (key_cmp key k)) (change (query_places old k)) (query_places old k)
 changed_at old new key w change items updates k =
     ap queue_items (updates.0 k) ∙ changed-case old key k w change items (is_eq (key_cmp key k)) refl
 
@@ -40,13 +40,13 @@ pushed-case places place false = sym (append-nil places)
 
 -- a place behind the others of a key
 pub noted : {Z : Type 0} (old new : BTreeMap QueryKey (VecDeque ℕ Z)) (key : QueryKey) (place : ℕ) (w : VecDeque ℕ Z)
-    → w.items ≡ places_at old key ++ place ∷ [] → tree.Updates key_cmp old new key (Some w) → Noted old new key place
+    → w.items ≡ query_places old key ++ place ∷ [] → tree.Updates key_cmp old new key (Some w) → NotedPlace old new key place
 noted old new key place w items updates k =
-    changed_at old new key w (λ ps. ps ++ place ∷ []) items updates k ∙ pushed-case (places_at old k) place (is_eq (key_cmp key k))
+    changed_at old new key w (λ ps. ps ++ place ∷ []) items updates k ∙ pushed-case (query_places old k) place (is_eq (key_cmp key k))
 
 -- the first place of a key less
 pub dropped : {Z : Type 0} (old new : BTreeMap QueryKey (VecDeque ℕ Z)) (key : QueryKey) (w : VecDeque ℕ Z)
-    → w.items ≡ drop 1 (places_at old key) → tree.Updates key_cmp old new key (Some w) → Dropped old new key
+    → w.items ≡ drop 1 (query_places old key) → tree.Updates key_cmp old new key (Some w) → Dropped old new key
 dropped old new key w items updates = changed_at old new key w (drop 1) items updates
 
 same-case : (places : List ℕ) (b : Bool) → cond b places places ≡ places
@@ -55,14 +55,14 @@ same-case places false = refl
 
 -- a queue that is written back as it was
 pub unchanged : {Z : Type 0} (old new : BTreeMap QueryKey (VecDeque ℕ Z)) (key : QueryKey) (w : VecDeque ℕ Z)
-    → w.items ≡ places_at old key → tree.Updates key_cmp old new key (Some w) → SamePlaces old new
+    → w.items ≡ query_places old key → tree.Updates key_cmp old new key (Some w) → SamePlaces old new
 unchanged old new key w items updates k =
-    changed_at old new key w (λ ps. ps) items updates k ∙ same-case (places_at old k) (is_eq (key_cmp key k))
+    changed_at old new key w (λ ps. ps) items updates k ∙ same-case (query_places old k) (is_eq (key_cmp key k))
 
 dropped-case : {Z : Type 0} (old : BTreeMap QueryKey (VecDeque ℕ Z)) (key k : QueryKey) → tree.get key_cmp old key ≡ None → (b : Bool) → is_eq (key_cmp key k) ≡ b
-    → places_at old k ≡ cond b (drop 1 (places_at old k)) (places_at old k)
+    → query_places old k ≡ cond b (drop 1 (query_places old k)) (query_places old k)
 dropped-case old key k none true tied =
-    let empty : places_at old k ≡ [] = ap queue_items (sym (get-same old key k (tied_equal (key_cmp key k) tied)) ∙ none) in
+    let empty : query_places old k ≡ [] = ap queue_items (sym (get-same old key k (tied_equal (key_cmp key k) tied)) ∙ none) in
     rw empty refl
 dropped-case old key k none false tied = refl
 

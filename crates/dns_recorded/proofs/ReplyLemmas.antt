@@ -19,7 +19,7 @@ use Rattle.dns_handle.specs.declared.query_key.QueryKey.{QueryKey}
 use Rattle.dns_handle.specs.Errors as seen
 use Rattle.dns_handle.specs.Errors.{Reply}
 use Rattle.dns_handle.specs.Handles.{reply_to, after_turn}
-use Rattle.dns_recorded.specs.RecordedPlaces.{Slot, left, reply_at, reply_in, is_for, places_from, queue_items, Noted, Dropped, IndexesReplies}
+use Rattle.dns_recorded.specs.RecordedPlaces.{Slot, left, reply_at, reply_in, is_for, places_from, queue_items, NotedPlace, Dropped, IndexesReplies}
 use Rattle.dns_handle.specs.QueryKeys.{key_of, key_cmp}
 use Rattle.dns_handle.proofs.KeyLemmas.{key_total, key_ties}
 
@@ -219,7 +219,7 @@ first_goes q slots place next rest f =
 
 -- a reply more, and its place
 pub index_more : {Z : Type 0} (old new : BTreeMap QueryKey (VecDeque ℕ Z)) (slots : List Slot) (k : Question) (key : QueryKey) (place : ℕ) (r : Reply)
-    → IndexesReplies old slots → key ≡ key_of k → place ≡ length slots → Noted old new key place → IndexesReplies new (slots ++ Some (k, r) ∷ [])
+    → IndexesReplies old slots → key ≡ key_of k → place ≡ length slots → NotedPlace old new key place → IndexesReplies new (slots ++ Some (k, r) ∷ [])
 unfolding places_from
 index_more old new slots k key place r before same end noted q =
     noted (key_of q) ∙ ap (λ ps. ps ++ cond (is_eq (key_cmp key (key_of q))) (place ∷ []) []) (before q)

@@ -10,7 +10,7 @@ use Rattle.dns_handle.specs.Errors as seen
 use Rattle.dns_handle.specs.Errors.{Reply}
 use Rattle.dns_handle.specs.Handles.{Replies, after_turn}
 use Rattle.dns_recorded.specs.Recording.{IsServed}
-use Rattle.dns_recorded.specs.RecordedPlaces.{Slot, replies_by, left, reply_at, places_from, turn_in, places_at, IndexesReplies}
+use Rattle.dns_recorded.specs.RecordedPlaces.{Slot, replies_by, left, reply_at, places_from, turn_in, query_places, IndexesReplies}
 use Rattle.dns_handle.specs.QueryKeys.{key_of}
 use Rattle.dns_recorded.proofs.ReplyLemmas.{First, first, unanswered, reply_at-first, last_stays, first_goes}
 
@@ -58,9 +58,9 @@ going_by q slots true turn (place ∷ other ∷ rest) found next stays =
 
 -- the next reply to a question, as the map has it
 pub next : {Z : Type 0} (places : BTreeMap QueryKey (VecDeque ℕ Z)) (slots : List Slot) (q : Question) (key : QueryKey) (by_turn : Bool) (turn : Option Turn)
-    → IndexesReplies places slots → key ≡ key_of q → turn ≡ turn_in by_turn (places_at places key) → turn ≡ turn_in by_turn (places_from q 0 slots)
+    → IndexesReplies places slots → key ≡ key_of q → turn ≡ turn_in by_turn (query_places places key) → turn ≡ turn_in by_turn (places_from q 0 slots)
 next places slots q key by_turn turn index same found =
-    found ∙ ap (λ k. turn_in by_turn (places_at places k)) same ∙ ap (turn_in by_turn) (index q)
+    found ∙ ap (λ k. turn_in by_turn (query_places places k)) same ∙ ap (turn_in by_turn) (index q)
 
 none_next : (by_turn : Bool) (ps : List ℕ) → None ≡ turn_in by_turn ps → ps ≡ []
 none_next by_turn [] h = refl

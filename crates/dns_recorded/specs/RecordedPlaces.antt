@@ -58,23 +58,23 @@ abbrev pub queue_items : {Z : Type 0} → Option (VecDeque ℕ Z) → List ℕ
 queue_items None = []
 queue_items (Some queue) = queue.items
 
-abbrev pub places_at : {Z : Type 0} → BTreeMap QueryKey (VecDeque ℕ Z) → QueryKey → List ℕ
-places_at places key = queue_items (tree.get key_cmp places key)
+abbrev pub query_places : {Z : Type 0} → BTreeMap QueryKey (VecDeque ℕ Z) → QueryKey → List ℕ
+query_places places key = queue_items (tree.get key_cmp places key)
 
 -- each key has the same places
 abbrev pub SamePlaces : {Z : Type 0} → BTreeMap QueryKey (VecDeque ℕ Z) → BTreeMap QueryKey (VecDeque ℕ Z) → Type 0
-SamePlaces old new = (k : QueryKey) → places_at new k ≡ places_at old k
+SamePlaces old new = (k : QueryKey) → query_places new k ≡ query_places old k
 
 -- a key has one more place behind its others
-abbrev pub Noted : {Z : Type 0} → BTreeMap QueryKey (VecDeque ℕ Z) → BTreeMap QueryKey (VecDeque ℕ Z) → QueryKey → ℕ → Type 0
-Noted old new key place =
-    (k : QueryKey) → places_at new k ≡ places_at old k ++ (if is_eq (key_cmp key k) then place ∷ [] else [])
+abbrev pub NotedPlace : {Z : Type 0} → BTreeMap QueryKey (VecDeque ℕ Z) → BTreeMap QueryKey (VecDeque ℕ Z) → QueryKey → ℕ → Type 0
+NotedPlace old new key place =
+    (k : QueryKey) → query_places new k ≡ query_places old k ++ (if is_eq (key_cmp key k) then place ∷ [] else [])
 
 -- a key has lost its first place
 abbrev pub Dropped : {Z : Type 0} → BTreeMap QueryKey (VecDeque ℕ Z) → BTreeMap QueryKey (VecDeque ℕ Z) → QueryKey → Type 0
 Dropped old new key =
-    (k : QueryKey) → places_at new k ≡ (if is_eq (key_cmp key k) then drop 1 (places_at old k) else places_at old k)
+    (k : QueryKey) → query_places new k ≡ (if is_eq (key_cmp key k) then drop 1 (query_places old k) else query_places old k)
 
 -- the map has the places of what is left to each question
 abbrev pub IndexesReplies : {Z : Type 0} → BTreeMap QueryKey (VecDeque ℕ Z) → List Slot → Type 0
-IndexesReplies places slots = (q : Question) → places_at places (key_of q) ≡ places_from q 0 slots
+IndexesReplies places slots = (q : Question) → query_places places (key_of q) ≡ places_from q 0 slots

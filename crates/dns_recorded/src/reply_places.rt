@@ -1,5 +1,5 @@
 ghost use Rattle.std.specs.Prelude.{◌≡◌, OnOk, OnErr};
-ghost use Rattle.dns_recorded.specs.RecordedPlaces.{places_at, turn_in, SamePlaces, Noted, Dropped};
+ghost use Rattle.dns_recorded.specs.RecordedPlaces.{query_places, turn_in, SamePlaces, NotedPlace, Dropped};
 
 use dns_handle::QueryKey;
 use dns_name::NoMemory;
@@ -19,7 +19,7 @@ pub(crate) struct Turn {
 
 /// Which reply to a query is next. By turn it stays only where it is the last one.
 pub(crate) fn turn_of(places: &ReplyPlaces, key: &QueryKey, by_turn: bool) -> Option<Turn>
-    ensures { result ≡ turn_in by_turn (places_at places.now key.now) }
+    ensures { result ≡ turn_in by_turn (query_places places.now key.now) }
 {
     let queue = places.get(key)?;
     let place = queue.front()?;
@@ -36,7 +36,7 @@ pub(crate) fn note_place(
     key: QueryKey,
     place: usize,
 ) -> Result<(), NoMemory>
-    ensures ok { OnOk result (Noted places.old places.new key place) }
+    ensures ok { OnOk result (NotedPlace places.old places.new key place) }
     ensures err { OnErr result (SamePlaces places.old places.new) }
 {
     if let Some(queue) = places.get_mut(&key) {

@@ -8,7 +8,7 @@ use Rattle.dns_model.specs.Chains.{LinkValue, Judge, all_shown, shows_key, is_no
 use Rattle.std.specs.Prelude.{slice_get}
 use Rattle.dns_model.specs.SoundAnswers.{ChainValue, ResponseValue}
 use Rattle.dns_report.specs.declared.parts.Parts.{Parts}
-use Rattle.dns_report.specs.View.{Numbered, Shown, Anchored, Matched, KeySet, Signed, numbered, shown, ChainView, chain_view, View, view_of, all_justified}
+use Rattle.dns_report.specs.View.{Numbered, Shown, Anchored, Matched, KeySet, Signed, numbered, shown_link, ChainView, chain_view, View, view_of, all_justified}
 
 -- a key set has as many numbers as keys
 abbrev Even : LinkValue → Type 0
@@ -74,13 +74,13 @@ whole (Matched owner class key ds_link ds) = trust.Matched owner class key ds_li
 whole (KeySet owner class keys) = trust.KeySet owner class (seconds keys) (firsts keys)
 whole (Signed owner class rtype rdatas sig key_link key) = trust.Signed owner class rtype rdatas sig key_link key
 
-whole_back : (link : LinkValue) → Even link → whole (shown link) ≡ link
+whole_back : (link : LinkValue) → Even link → whole (shown_link link) ≡ link
 whole_back (trust.Anchored owner class key) even = refl
 whole_back (trust.Matched owner class key ds_link ds) even = refl
 whole_back (trust.KeySet owner class keys links) even = rw (seconds_back keys links even, firsts_back keys links even) refl
 whole_back (trust.Signed owner class rtype rdatas sig key_link key) even = refl
 
-links_back : (links : List LinkValue) → AllEven links → map whole (map shown links) ≡ links
+links_back : (links : List LinkValue) → AllEven links → map whole (map shown_link links) ≡ links
 links_back [] even = refl
 links_back (link ∷ links) even = rw (whole_back link even.0, links_back links even.1) refl
 
@@ -92,7 +92,7 @@ chains_back j [] h = refl
 chains_back j (chain ∷ chains) h =
     let parts = and_parts (justified j chain.links) (all_justified j chains) h in
     let holds = and_parts (is_chain chain.links) (links_hold j [] chain.links) parts.0 in
-    chain_same chain.section (map whole (map shown chain.links)) chain.links (map whole_chain (map chain_view chains)) chains
+    chain_same chain.section (map whole (map shown_link chain.links)) chain.links (map whole_chain (map chain_view chains)) chains
     (links_back chain.links (links_even j [] chain.links holds.1)) (chains_back j chains parts.1)
   where
     chain_same : (s : Section) (a b : List LinkValue) (cs ds : List ChainValue) → a ≡ b → cs ≡ ds

@@ -17,8 +17,8 @@ blocks block [] more = more
 blocks block (v ∷ vs) more = block v (blocks block vs more)
 
 -- a value of a single line
-abbrev pub single : {A : Type 0} → (A → Line) → Block A
-single line_of v more = line_of v ∷ more
+abbrev pub one_line : {A : Type 0} → (A → Line) → Block A
+one_line line_of v more = line_of v ∷ more
 
 -- two values, and the lines that follow theirs
 pub record Same {A : Type 0} (v w : A) (x y : List Line) : Type 0 where
@@ -59,8 +59,8 @@ other_lines h = ap others_of h
 pub no_yes : false ≡ true → ⊥
 no_yes h = cc
 
-pub single_tells : {A : Type 0} (line_of : A → Line) (fits : A → Bool) → LineTells line_of fits → Tells (single line_of) fits
-single_tells line_of fits one v w x y first second h = record { value = one v w first second (first_line h); rest = other_lines h }
+pub one_line_tells : {A : Type 0} (line_of : A → Line) (fits : A → Bool) → LineTells line_of fits → Tells (one_line line_of) fits
+one_line_tells line_of fits one v w x y first second h = record { value = one v w first second (first_line h); rest = other_lines h }
 
 -- values whose end shows, since no line of another begins as theirs
 pub blocks_tell : {A : Type 0} (block : Block A) (fits : A → Bool) (is_one : Line → Bool) → Tells block fits
@@ -108,9 +108,9 @@ blocks_good block fits one (v ∷ vs) x h rest =
     let parts = and_parts (fits v) (list_all fits vs) h in
     one v (blocks block vs x) parts.0 (blocks_good block fits one vs x parts.1 rest)
 
-pub single_good : {A : Type 0} (line_of : A → Line) (fits : A → Bool) → ((v : A) → fits v ≡ true → is_line (line_of v) ≡ true)
-    → (v : A) (x : List Line) → fits v ≡ true → list_all is_line x ≡ true → list_all is_line (single line_of v x) ≡ true
-single_good line_of fits one v x h rest = rw (one v h) rest
+pub one_line_good : {A : Type 0} (line_of : A → Line) (fits : A → Bool) → ((v : A) → fits v ≡ true → is_line (line_of v) ≡ true)
+    → (v : A) (x : List Line) → fits v ≡ true → list_all is_line x ≡ true → list_all is_line (one_line line_of v x) ≡ true
+one_line_good line_of fits one v x h rest = rw (one v h) rest
 
 -- the text of values is that of their lines
 pub blocks_are : {A : Type 0} (block : Block A) (text : A → List ℕ)

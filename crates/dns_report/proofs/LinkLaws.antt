@@ -17,7 +17,7 @@ use Rattle.dns_report.proofs.LineLaws.{Line, is_line}
 use Rattle.dns_report.proofs.NameShapes.{printed_word}
 use Rattle.dns_report.proofs.MarkWords.{section_injective, section_is_word}
 use Rattle.dns_report.proofs.FieldWords.{class_good, type_good, number_good, rdatas_good, keys_good, name_tells, class_tells, type_tells, number_tells, rdatas_tell, keys_tell, more_words}
-use Rattle.dns_report.proofs.LineBlocks.{Tells, Same, blocks, single, starts, named, first_line, other_lines, single_tells, blocks_tell, counted_tell, single_good, blocks_good, word_same}
+use Rattle.dns_report.proofs.LineBlocks.{Tells, Same, blocks, one_line, starts, named, first_line, other_lines, one_line_tells, blocks_tell, counted_tell, one_line_good, blocks_good, word_same}
 use Rattle.dns_report.proofs.ReportLines.{link_of, front_of, chain_lines}
 
 -- what a fitting link's fields are
@@ -181,7 +181,7 @@ chain_tells c d x y first second h =
     let front : front_of c ≡ front_of d = first_line h in
     let section : section_word c.section ≡ section_word d.section = word_same _ _ 0 front in
     let count : decimal (length c.links) ≡ decimal (length d.links) = word_same _ _ 1 front in
-    let links = counted_tell (single link_of) fitting_link (single_tells link_of fitting_link link_tells) c.links d.links x y
+    let links = counted_tell (one_line link_of) fitting_link (one_line_tells link_of fitting_link link_tells) c.links d.links x y
     (decimal_injective (length c.links) (length d.links) one.count two.count count) one.links two.links (other_lines h) in
     record { value = chain_same c.section d.section c.links d.links (section_injective c.section d.section section) links.value; rest = links.rest }
 
@@ -195,7 +195,7 @@ chain_good : (c : ChainView) (more : List Line) → fitting_chain c ≡ true →
 chain_good c more h rest =
     let f = fits_chain c h in
     rw (section_is_word c.section, decimal_word (length c.links) f.count)
-    (blocks_good (single link_of) fitting_link (single_good link_of fitting_link link_good) c.links more f.links rest)
+    (blocks_good (one_line link_of) fitting_link (one_line_good link_of fitting_link link_good) c.links more f.links rest)
 
 pub chains_good : (cs : List ChainView) (more : List Line) → list_all fitting_chain cs ≡ true → list_all is_line more ≡ true
     → list_all is_line (blocks chain_lines cs more) ≡ true

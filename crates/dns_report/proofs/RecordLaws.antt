@@ -20,7 +20,7 @@ use Rattle.dns_report.proofs.LineLaws.{Line, is_line}
 use Rattle.dns_report.proofs.NameShapes.{printed_word}
 use Rattle.dns_report.proofs.MarkWords.{mark_injective, mark_is_word, section_is_word}
 use Rattle.dns_report.proofs.FieldWords.{class_good, type_good, number_good, name_tells, class_tells, type_tells, number_tells}
-use Rattle.dns_report.proofs.LineBlocks.{Same, single, starts, named, single_tells, blocks_tell, single_good, blocks_good}
+use Rattle.dns_report.proofs.LineBlocks.{Same, one_line, starts, named, one_line_tells, blocks_tell, one_line_good, blocks_good}
 use Rattle.dns_report.proofs.ReportLines.{record_of, section_lines}
 
 -- what a fitting record's fields are
@@ -77,10 +77,10 @@ pub section_tells : (section : Section) (rs qs : List Rr) (x y : List Line) → 
     → starts (named (section_word section)) x ≡ false → starts (named (section_word section)) y ≡ false
     → section_lines section rs x ≡ section_lines section qs y → Same rs qs x y
 section_tells section =
-    blocks_tell (single (record_of section)) fitting_record (named (section_word section))
-    (single_tells (record_of section) fitting_record (record_tells section)) (λ r x. bytes_refl (section_word section))
+    blocks_tell (one_line (record_of section)) fitting_record (named (section_word section))
+    (one_line_tells (record_of section) fitting_record (record_tells section)) (λ r x. bytes_refl (section_word section))
 
 pub records_good : (section : Section) (rs : List Rr) (more : List Line) → list_all fitting_record rs ≡ true → list_all is_line more ≡ true
     → list_all is_line (section_lines section rs more) ≡ true
 records_good section =
-    blocks_good (single (record_of section)) fitting_record (single_good (record_of section) fitting_record (record_good section))
+    blocks_good (one_line (record_of section)) fitting_record (one_line_good (record_of section) fitting_record (record_good section))

@@ -15,7 +15,7 @@ use Rattle.dns_report.specs.Report.{view_text}
 use Rattle.dns_report.proofs.LineLaws.{Line, is_line, lines_same}
 use Rattle.dns_report.proofs.MarkWords.{denial_injective, denial_is_words}
 use Rattle.dns_report.proofs.FieldWords.{small_good, small_tells}
-use Rattle.dns_report.proofs.LineBlocks.{single, starts, named, first_line, other_lines, blocks_start}
+use Rattle.dns_report.proofs.LineBlocks.{one_line, starts, named, first_line, other_lines, blocks_start}
 use Rattle.dns_report.proofs.RecordLaws.{section_tells, records_good}
 use Rattle.dns_report.proofs.LinkLaws.{chains_tell, chains_good}
 use Rattle.dns_report.proofs.StepLines.{trail_lines}
@@ -65,13 +65,13 @@ later_begins section v =
 
 additionals_begin : (v : View) → starts (named (section_word Authority)) (section_lines Additional v.additionals (later_lines v)) ≡ false
 additionals_begin v =
-    blocks_start (single (record_of Additional)) (named (section_word Authority)) (λ r x. refl) v.additionals (later_lines v) (later_begins Authority v)
+    blocks_start (one_line (record_of Additional)) (named (section_word Authority)) (λ r x. refl) v.additionals (later_lines v) (later_begins Authority v)
 
 others_begin : (v : View)
     → starts (named (section_word Answer)) (section_lines Authority v.authorities (section_lines Additional v.additionals (later_lines v))) ≡ false
 others_begin v =
-    blocks_start (single (record_of Authority)) (named (section_word Answer)) (λ r x. refl) v.authorities (section_lines Additional v.additionals (later_lines v))
-    (blocks_start (single (record_of Additional)) (named (section_word Answer)) (λ r x. refl) v.additionals (later_lines v) (later_begins Answer v))
+    blocks_start (one_line (record_of Authority)) (named (section_word Answer)) (λ r x. refl) v.authorities (section_lines Additional v.additionals (later_lines v))
+    (blocks_start (one_line (record_of Additional)) (named (section_word Answer)) (λ r x. refl) v.additionals (later_lines v) (later_begins Answer v))
 
 -- ---- the whole
 

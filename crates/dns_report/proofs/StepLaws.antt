@@ -27,7 +27,7 @@ use Rattle.dns_report.proofs.LineLaws.{Line, is_line}
 use Rattle.dns_report.proofs.NameShapes.{printed_word}
 use Rattle.dns_report.proofs.MarkWords.{mark_injective, mark_is_word, section_injective, section_is_word}
 use Rattle.dns_report.proofs.FieldWords.{below_u16, small_good, number_good, class_good, type_good, small_tells, number_tells, name_tells, class_tells, type_tells, more_words, each_good, each_tells}
-use Rattle.dns_report.proofs.LineBlocks.{Tells, Same, blocks, single, starts, named, no_yes, first_line, other_lines, single_tells, blocks_tell, counted_tell, blocks_start, single_good, blocks_good, word_same}
+use Rattle.dns_report.proofs.LineBlocks.{Tells, Same, blocks, one_line, starts, named, no_yes, first_line, other_lines, one_line_tells, blocks_tell, counted_tell, blocks_start, one_line_good, blocks_good, word_same}
 use Rattle.dns_report.proofs.TrailWords.{purpose_tells, purpose_good, empty_tells, empty_good, no_number, ask_tells, ask_good, origin_tells, origin_good, place_tells, place_good, ending_tells, ending_good}
 use Rattle.dns_report.proofs.StepLines.{step_of, got_of, told_of, told_in, told_lines, set_of, ending_of, judged_lines, step_lines, count_of, trail_lines}
 
@@ -74,19 +74,19 @@ told_tells section r q first second h =
 abbrev is_told : Section → Line → Bool
 is_told section l = bytes_eq l.0 (codes "told") && bytes_eq (get_or l.1 0 []) (section_word section)
 
-told_shows : (section : Section) (r : ToldRecord) (x : List Line) → starts (is_told section) (single (told_of section) r x) ≡ true
+told_shows : (section : Section) (r : ToldRecord) (x : List Line) → starts (is_told section) (one_line (told_of section) r x) ≡ true
 told_shows section r x = bytes_refl (section_word section)
 
 told_in_tells : (section : Section) (rs qs : List ToldRecord) (x y : List Line) → list_all fitting_told rs ≡ true → list_all fitting_told qs ≡ true
     → starts (is_told section) x ≡ false → starts (is_told section) y ≡ false → told_in section rs x ≡ told_in section qs y → Same rs qs x y
 told_in_tells section =
-    blocks_tell (single (told_of section)) fitting_told (is_told section)
-    (single_tells (told_of section) fitting_told (told_tells section)) (told_shows section)
+    blocks_tell (one_line (told_of section)) fitting_told (is_told section)
+    (one_line_tells (told_of section) fitting_told (told_tells section)) (told_shows section)
 
 told_in_good : (section : Section) (rs : List ToldRecord) (more : List Line) → list_all fitting_told rs ≡ true → list_all is_line more ≡ true
     → list_all is_line (told_in section rs more) ≡ true
 told_in_good section =
-    blocks_good (single (told_of section)) fitting_told (single_good (told_of section) fitting_told (told_good section))
+    blocks_good (one_line (told_of section)) fitting_told (one_line_good (told_of section) fitting_told (told_good section))
 
 -- no told line follows
 record Untold (x : List Line) : Type 0 where
@@ -95,12 +95,12 @@ record Untold (x : List Line) : Type 0 where
   additionals : starts (is_told Additional) x ≡ false
 
 additionals_start : (rs : List ToldRecord) (x : List Line) → Untold x → starts (is_told Authority) (told_in Additional rs x) ≡ false
-additionals_start rs x after = blocks_start (single (told_of Additional)) (is_told Authority) (λ r x. refl) rs x after.authorities
+additionals_start rs x after = blocks_start (one_line (told_of Additional)) (is_told Authority) (λ r x. refl) rs x after.authorities
 
 others_start : (qs rs : List ToldRecord) (x : List Line) → Untold x → starts (is_told Answer) (told_in Authority qs (told_in Additional rs x)) ≡ false
 others_start qs rs x after =
-    blocks_start (single (told_of Authority)) (is_told Answer) (λ r x. refl) qs (told_in Additional rs x)
-    (blocks_start (single (told_of Additional)) (is_told Answer) (λ r x. refl) rs x after.answers)
+    blocks_start (one_line (told_of Authority)) (is_told Answer) (λ r x. refl) qs (told_in Additional rs x)
+    (blocks_start (one_line (told_of Additional)) (is_told Answer) (λ r x. refl) rs x after.answers)
 
 -- ---- what was heard
 
@@ -213,8 +213,8 @@ set_tells s t first second h =
 
 sets_tell : (ss ts : List JudgedSetValue) (x y : List Line) → list_all fitting_set ss ≡ true → list_all fitting_set ts ≡ true
     → starts (named (codes "set")) x ≡ false → starts (named (codes "set")) y ≡ false
-    → blocks (single set_of) ss x ≡ blocks (single set_of) ts y → Same ss ts x y
-sets_tell = blocks_tell (single set_of) fitting_set (named (codes "set")) (single_tells set_of fitting_set set_tells) (λ s x. refl)
+    → blocks (one_line set_of) ss x ≡ blocks (one_line set_of) ts y → Same ss ts x y
+sets_tell = blocks_tell (one_line set_of) fitting_set (named (codes "set")) (one_line_tells set_of fitting_set set_tells) (λ s x. refl)
 
 ending_line_good : (e : EndingValue) (asks : List AskRef) → fitting_ending e ≡ true → list_all fitting_ask asks ≡ true → is_line (ending_of e asks) ≡ true
 ending_line_good e asks h asked =
@@ -222,7 +222,7 @@ ending_line_good e asks h asked =
 
 judged_start : (is_one : Line → Bool) (s : StepView) (more : List Line) → ((t : JudgedSetValue) → is_one (set_of t) ≡ false)
     → is_one (ending_of s.ending s.excuse) ≡ false → starts is_one (judged_lines s more) ≡ false
-judged_start is_one s more set ending = blocks_start (single set_of) is_one (λ t x. set t) s.sets (ending_of s.ending s.excuse ∷ more) ending
+judged_start is_one s more set ending = blocks_start (one_line set_of) is_one (λ t x. set t) s.sets (ending_of s.ending s.excuse ∷ more) ending
 
 judged_untold : (s : StepView) (more : List Line) → Untold (judged_lines s more)
 judged_untold s more = record {
@@ -260,7 +260,7 @@ step_good : (s : StepView) (more : List Line) → fitting_step s ≡ true → li
 step_good s more h rest =
     let f = fits_step s h in
     let ends : list_all is_line (ending_of s.ending s.excuse ∷ more) ≡ true = rw (ending_line_good s.ending s.excuse f.ending f.excuse) rest in
-    let judged = blocks_good (single set_of) fitting_set (single_good set_of fitting_set set_good) s.sets (ending_of s.ending s.excuse ∷ more) f.sets ends in
+    let judged = blocks_good (one_line set_of) fitting_set (one_line_good set_of fitting_set set_good) s.sets (ending_of s.ending s.excuse ∷ more) f.sets ends in
     rw (step_line_good s f, got_good s.reply f.reply) (heard_good s.reply (judged_lines s more) f.reply judged)
 
 step_same : (d e : ℕ) (a b : Bool) (o p : Labels) (k l : ℕ) (r q : HeardView) (s t : List JudgedSetValue) (x y : EndingValue) (z w : List AskRef)

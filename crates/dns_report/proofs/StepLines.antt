@@ -14,7 +14,7 @@ use Rattle.dns_report.specs.LineWords.{mark_word, section_word}
 use Rattle.dns_report.specs.TrailView.{ToldRecord, HeardView, Records, Fault, StepView}
 use Rattle.dns_report.specs.TrailLines.{purpose_word, got_words, ask_word, origin_word, place_word, ending_words, step_line, got_line, told_line, told_text, set_line, ending_line, step_text, count_line, trail_text}
 use Rattle.dns_report.proofs.LineLaws.{Line, text_of}
-use Rattle.dns_report.proofs.LineBlocks.{Block, blocks, single, blocks_are}
+use Rattle.dns_report.proofs.LineBlocks.{Block, blocks, one_line, blocks_are}
 
 abbrev pub step_of : StepView → Line
 step_of s = (codes "step", decimal s.depth ∷ purpose_word s.judged ∷ printed s.owner ∷ type_word s.rtype ∷ [])
@@ -28,7 +28,7 @@ told_of section r =
 
 -- the lines of a section's records as they were told, and those that follow
 abbrev pub told_in : Section → List ToldRecord → List Line → List Line
-told_in section records more = blocks (single (told_of section)) records more
+told_in section records more = blocks (one_line (told_of section)) records more
 
 -- the lines of what a reply told, and those that follow
 abbrev pub told_lines : Block HeardView
@@ -45,7 +45,7 @@ ending_of ending excuse = (codes "ending", ending_words ending ++ map ask_word e
 
 -- the lines of a step's sets and its ending, and those that follow
 abbrev pub judged_lines : StepView → List Line → List Line
-judged_lines s more = blocks (single set_of) s.sets (ending_of s.ending s.excuse ∷ more)
+judged_lines s more = blocks (one_line set_of) s.sets (ending_of s.ending s.excuse ∷ more)
 
 -- the lines of a step, and those that follow
 abbrev pub step_lines : Block StepView
@@ -60,12 +60,12 @@ trail_lines None more = more
 trail_lines (Some steps) more = count_of steps ∷ blocks step_lines steps more
 
 told_is : (section : Section) (r : ToldRecord) (more : List Line)
-    → flat_map text_of (single (told_of section) r more) ≡ told_line section r ++ flat_map text_of more
+    → flat_map text_of (one_line (told_of section) r more) ≡ told_line section r ++ flat_map text_of more
 told_is section r more = refl
 
 told_in_is : (section : Section) (rs : List ToldRecord) (more : List Line)
     → flat_map text_of (told_in section rs more) ≡ flat_map (told_line section) rs ++ flat_map text_of more
-told_in_is section rs more = blocks_are (single (told_of section)) (told_line section) (told_is section) rs more
+told_in_is section rs more = blocks_are (one_line (told_of section)) (told_line section) (told_is section) rs more
 
 told_lines_are : (reply : HeardView) (more : List Line) → flat_map text_of (told_lines reply more) ≡ told_text reply ++ flat_map text_of more
 unfolding told_text
@@ -80,7 +80,7 @@ told_lines_are (Records code empty answers authorities additionals) more =
     ∙ sym (append_assoc (a ++ u) n t)
 told_lines_are Fault more = refl
 
-set_is : (s : JudgedSetValue) (more : List Line) → flat_map text_of (single set_of s more) ≡ set_line s ++ flat_map text_of more
+set_is : (s : JudgedSetValue) (more : List Line) → flat_map text_of (one_line set_of s more) ≡ set_line s ++ flat_map text_of more
 set_is s more = refl
 
 joined_alike : (s g t k e x : List ℕ) → s ++ (g ++ (t ++ (k ++ (e ++ x)))) ≡ ((((s ++ g) ++ t) ++ k) ++ e) ++ x
@@ -97,7 +97,7 @@ unfolding step_text
 step_is s more =
     let e = ending_line s.ending s.excuse in
     let told = told_lines_are s.reply (judged_lines s more) in
-    let sets = blocks_are (single set_of) set_line set_is s.sets (ending_of s.ending s.excuse ∷ more) in
+    let sets = blocks_are (one_line set_of) set_line set_is s.sets (ending_of s.ending s.excuse ∷ more) in
     ap (λ t. step_line s ++ (got_line s.reply ++ t)) (told ∙ ap (λ t. told_text s.reply ++ t) sets)
     ∙ joined_alike (step_line s) (got_line s.reply) (told_text s.reply) (flat_map set_line s.sets) e (flat_map text_of more)
 

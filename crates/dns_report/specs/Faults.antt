@@ -50,21 +50,21 @@ dns_words (Nsec query response proof) = codes "nsec" ∷ mark_word proof ∷ []
 dns_words DnssecBogus = codes "bogus" ∷ []
 
 -- a fault's line
-abbrev pub fault_line : Words → List ℕ
-fault_line words = line (codes "fault") words
+abbrev pub line_of_fault : Words → List ℕ
+line_of_fault words = line (codes "fault") words
 
 -- the line of an error; want of memory has none
 abbrev pub fault_text : ErrorValue → List ℕ
-fault_text Busy = fault_line (codes "busy" ∷ [])
-fault_text (Dns error) = fault_line (dns_words error)
-fault_text (Message notice) = fault_line (codes "message" ∷ notice_text notice ∷ [])
-fault_text (Msg text) = fault_line (codes "message" ∷ text ∷ [])
-fault_text NoConnections = fault_line (codes "no-connections" ∷ [])
-fault_text (Proto error) = fault_line (codes "proto" ∷ proto_words error)
-fault_text (Io kind) = fault_line (codes "io" ∷ io_word kind ∷ [])
-fault_text Timeout = fault_line (codes "timeout" ∷ [])
-fault_text QueryCaseMismatch = fault_line (codes "case" ∷ [])
+fault_text Busy = line_of_fault (codes "busy" ∷ [])
+fault_text (Dns error) = line_of_fault (dns_words error)
+fault_text (Message notice) = line_of_fault (codes "message" ∷ notice_text notice ∷ [])
+fault_text (Msg text) = line_of_fault (codes "message" ∷ text ∷ [])
+fault_text NoConnections = line_of_fault (codes "no-connections" ∷ [])
+fault_text (Proto error) = line_of_fault (codes "proto" ∷ proto_words error)
+fault_text (Io kind) = line_of_fault (codes "io" ∷ io_word kind ∷ [])
+fault_text Timeout = line_of_fault (codes "timeout" ∷ [])
+fault_text QueryCaseMismatch = line_of_fault (codes "case" ∷ [])
 fault_text (ForeignClassRecord owner class rtype) =
-    fault_line (codes "class" ∷ printed owner ∷ class_word class ∷ type_word rtype ∷ [])
-fault_text Truncated = fault_line (codes "truncated" ∷ [])
+    line_of_fault (codes "class" ∷ printed owner ∷ class_word class ∷ type_word rtype ∷ [])
+fault_text Truncated = line_of_fault (codes "truncated" ∷ [])
 fault_text NoMemory = []

@@ -17,8 +17,8 @@ use Rattle.dns_report.specs.TrailLines.{trail_text}
 use Rattle.dns_report.specs.View.{Numbered, Shown, Anchored, Matched, KeySet, Signed, ChainView, View, view_of}
 
 -- the first line names the form and its version
-abbrev pub header_line : List ℕ
-header_line = line (codes "dns-report") (codes "1" ∷ [])
+abbrev pub report_header : List ℕ
+report_header = line (codes "dns-report") (codes "1" ∷ [])
 
 -- the line of the response's code
 abbrev pub code_line : ℕ → List ℕ
@@ -68,7 +68,7 @@ records_text answers authorities additionals =
 
 -- the lines before the records
 unfoldable pub head_text : ℕ → Denial → List ℕ
-head_text code denial = header_line ++ code_line code ++ denial_line denial
+head_text code denial = report_header ++ code_line code ++ denial_line denial
 
 -- a report without its last line
 unfoldable pub view_body : View → List ℕ
@@ -76,12 +76,12 @@ view_body v =
     head_text v.code v.denial ++ records_text v.answers v.authorities v.additionals ++ flat_map chain_text v.chains ++ trail_text v.trail
 
 -- the last line
-abbrev pub end_line : List ℕ
-end_line = line (codes "end") []
+abbrev pub report_end : List ℕ
+report_end = line (codes "end") []
 
 -- the report of a view
 unfoldable pub view_text : View → List ℕ
-view_text v = view_body v ++ end_line
+view_text v = view_body v ++ report_end
 
 -- the report on an answer, with the trail or without, is that of its view
 unfoldable pub report_text : Parts → ResponseValue → List ℕ

@@ -33,18 +33,18 @@ numbered [] numbers = []
 numbered (key ∷ keys) [] = []
 numbered (key ∷ keys) (number ∷ numbers) = (number, key) ∷ numbered keys numbers
 
-abbrev pub shown : trust.LinkValue → Shown
-shown (trust.Anchored owner class key) = Anchored owner class key
-shown (trust.Matched owner class key ds_link ds) = Matched owner class key ds_link ds
-shown (trust.KeySet owner class keys links) = KeySet owner class (numbered keys links)
-shown (trust.Signed owner class rtype rdatas sig key_link key) = Signed owner class rtype rdatas sig key_link key
+abbrev pub shown_link : trust.LinkValue → Shown
+shown_link (trust.Anchored owner class key) = Anchored owner class key
+shown_link (trust.Matched owner class key ds_link ds) = Matched owner class key ds_link ds
+shown_link (trust.KeySet owner class keys links) = KeySet owner class (numbered keys links)
+shown_link (trust.Signed owner class rtype rdatas sig key_link key) = Signed owner class rtype rdatas sig key_link key
 
 pub record ChainView : Type 0 where
   pub section : Section
   pub links : List Shown
 
 abbrev pub chain_view : ChainValue → ChainView
-chain_view chain = record { section = chain.section; links = map shown chain.links }
+chain_view chain = record { section = chain.section; links = map shown_link chain.links }
 
 -- the steps of a trail, where they are asked for
 abbrev pub trail_view : Parts → List AskedValue → Option (List StepView)

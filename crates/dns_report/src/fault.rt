@@ -3,7 +3,7 @@ ghost use Rattle.std.specs.Prelude.{◌≡◌, ◌++◌, ◌∷◌, [], codes, O
 ghost use Rattle.dns_model.specs.NameText.{printed};
 ghost use Rattle.dns_record.specs.Words.{type_word, class_word};
 ghost use Rattle.dns_handle.specs.Replies.{dns_error_of, error_of};
-ghost use Rattle.dns_report.specs.Faults.{io_word, decode_word, proto_words, dns_words, fault_text, fault_line};
+ghost use Rattle.dns_report.specs.Faults.{io_word, decode_word, proto_words, dns_words, fault_text, line_of_fault};
 
 use crate::marks::mark_word;
 use crate::words::{end_line, push_front, push_number, push_text, push_type_word, push_word};
@@ -50,7 +50,7 @@ fn decode_word(kind: DecodeKind) -> &'static [u8]
 
 /// Appends the line on what is wrong with bytes.
 fn push_proto(into: &mut Vec<u8>, error: ProtoError) -> Result<(), NoMemory>
-    ensures { OnOk result (into.new.items ≡ into.old.items ++ fault_line (codes "proto" ∷ proto_words error)) }
+    ensures { OnOk result (into.new.items ≡ into.old.items ++ line_of_fault (codes "proto" ∷ proto_words error)) }
 {
     match error {
         ProtoError::Decode(error) => {
@@ -65,7 +65,7 @@ fn push_proto(into: &mut Vec<u8>, error: ProtoError) -> Result<(), NoMemory>
 
 /// Appends the line on what DNS answered.
 fn push_dns(into: &mut Vec<u8>, error: &DnsError) -> Result<(), NoMemory>
-    ensures { OnOk result (into.new.items ≡ into.old.items ++ fault_line (dns_words (dns_error_of error.now))) }
+    ensures { OnOk result (into.new.items ≡ into.old.items ++ line_of_fault (dns_words (dns_error_of error.now))) }
 {
     match error {
         DnsError::ResponseCode(code) => {
@@ -91,7 +91,7 @@ fn push_foreign(
     record_type: RecordType,
 ) -> Result<(), NoMemory>
     ensures { OnOk result (into.new.items ≡ into.old.items
-        ++ fault_line (codes "class" ∷ printed owner.now ∷ class_word class.0 ∷ type_word record_type.0 ∷ [])) }
+        ++ line_of_fault (codes "class" ∷ printed owner.now ∷ class_word class.0 ∷ type_word record_type.0 ∷ [])) }
 {
     push_front(into, b"fault class", owner, class)?;
     push_type_word(into, record_type)?;
@@ -100,7 +100,7 @@ fn push_foreign(
 
 /// Appends a line of one fixed word.
 fn push_single(into: &mut Vec<u8>, word: &[u8]) -> Result<(), NoMemory>
-    ensures { OnOk result (into.new.items ≡ into.old.items ++ fault_line (word.now ∷ [])) }
+    ensures { OnOk result (into.new.items ≡ into.old.items ++ line_of_fault (word.now ∷ [])) }
 {
     push_text(into, b"fault")?;
     push_word(into, word)?;
@@ -109,7 +109,7 @@ fn push_single(into: &mut Vec<u8>, word: &[u8]) -> Result<(), NoMemory>
 
 /// Appends a line of two words.
 fn push_double(into: &mut Vec<u8>, first: &[u8], second: &[u8]) -> Result<(), NoMemory>
-    ensures { OnOk result (into.new.items ≡ into.old.items ++ fault_line (first.now ∷ second.now ∷ [])) }
+    ensures { OnOk result (into.new.items ≡ into.old.items ++ line_of_fault (first.now ∷ second.now ∷ [])) }
 {
     push_text(into, b"fault")?;
     push_word(into, first)?;

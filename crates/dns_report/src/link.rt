@@ -8,7 +8,7 @@ ghost use Rattle.dns_words.specs.Words.{octets_word};
 ghost use Rattle.dns_evidence.specs.Link.{link_value};
 ghost use Rattle.dns_report.specs.LineWords.{line, line_rest};
 ghost use Rattle.dns_report.specs.Fields.{is_u16, is_u32};
-ghost use Rattle.dns_report.specs.View.{KeySet, numbered, shown, chain_view, fitting_key, fitting_link, fitting_chain};
+ghost use Rattle.dns_report.specs.View.{KeySet, numbered, shown_link, chain_view, fitting_key, fitting_link, fitting_chain};
 ghost use Rattle.dns_report.specs.Report.{key_words, link_line, chain_line, chain_text};
 
 use crate::marks::section_word;
@@ -105,8 +105,8 @@ fn push_key_set(
 
 /// Appends the line of a link.
 fn push_link(into: &mut Vec<u8>, link: &Link) -> Result<(), NoMemory>
-    ensures ok { OnOk result (into.new.items ≡ into.old.items ++ link_line (shown (link_value link.now))) }
-    ensures fits { OnOk result (IsTrue (fitting_link (shown (link_value link.now)))) }
+    ensures ok { OnOk result (into.new.items ≡ into.old.items ++ link_line (shown_link (link_value link.now))) }
+    ensures fits { OnOk result (IsTrue (fitting_link (shown_link (link_value link.now)))) }
 {
     match link {
         Link::Anchored { owner, class, key } => {
@@ -163,8 +163,8 @@ fn push_chain_line(into: &mut Vec<u8>, chain: &Chain) -> Result<(), NoMemory>
 
 /// Appends the lines of links, in order.
 fn push_links(into: &mut Vec<u8>, links: &[Link]) -> Result<(), NoMemory>
-    ensures ok { OnOk result (into.new.items ≡ into.old.items ++ flat_map link_line (map shown (map link_value links.now))) }
-    ensures fits { OnOk result (IsTrue (list_all fitting_link (map shown (map link_value links.now)))) }
+    ensures ok { OnOk result (into.new.items ≡ into.old.items ++ flat_map link_line (map shown_link (map link_value links.now))) }
+    ensures fits { OnOk result (IsTrue (list_all fitting_link (map shown_link (map link_value links.now)))) }
 {
     let mut left = links;
     'links: while let Some((link, more)) = left.split_first() {

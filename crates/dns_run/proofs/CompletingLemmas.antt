@@ -20,7 +20,7 @@ use Rattle.dns_run.specs.declared.form.Form.TheVariants.{Validate, Help, Version
 use Rattle.dns_run.specs.Replies.{session_records}
 use Rattle.dns_run.specs.Runs.{IfSession}
 use Rattle.dns_run.specs.Soundness.{session_judge}
-use Rattle.dns_run.proofs.EndLemmas.{Ending, Reported, Failed, Refused, Later, Says, ending, session_same, no_line, no_records, own_class}
+use Rattle.dns_run.proofs.EndLemmas.{RunEnding, Reported, Failed, Refused, Later, Says, ending, session_same, no_line, no_records, own_class}
 use Rattle.dns_run.proofs.ReplyLemmas.{session_replied}
 
 -- a trail for a valid session proves its query
@@ -50,7 +50,7 @@ no_fault s error valid (NotDenied response proof given is) =
 
 -- how a run over a valid session ended
 valid_ends : (shows : Parts) (bytes : List ℕ) (s : SessionValue) (status : ℕ) (before now : Option (List ℕ)) → session_of bytes ≡ Ok s → IsValid s
-    → Ending shows bytes status before now → EndsSecurely shows s status before now
+    → RunEnding shows bytes status before now → EndsSecurely shows s status before now
 valid_ends shows bytes s status before now read valid (Reported is wrote) =
     let r : IsTrailReport shows s wrote.text =
     subst (λ x. IsTrailReport shows x wrote.text) (session_same bytes s wrote.fact.session read wrote.fact.read) wrote.fact.report in

@@ -28,11 +28,11 @@ use Rattle.dns_run.proofs.TopLemmas.{some_same, trail_foreign}
 -- ---- the ways to end
 
 -- a status below 4 says what was written
-pub data Ending (shows : Parts) (bytes : List ℕ) (status : ℕ) (before now : Option (List ℕ)) : Type 0 where
-  Reported : status ≡ 0 → Wrote before now (Derives shows bytes) → Ending shows bytes status before now
-  Failed : status ≡ 1 → Wrote before now (Fails bytes) → Ending shows bytes status before now
-  Refused : status ≡ 3 → Wrote before now (Refuses bytes) → Ending shows bytes status before now
-  Later : 4 ≤ status → Ending shows bytes status before now
+pub data RunEnding (shows : Parts) (bytes : List ℕ) (status : ℕ) (before now : Option (List ℕ)) : Type 0 where
+  Reported : status ≡ 0 → Wrote before now (Derives shows bytes) → RunEnding shows bytes status before now
+  Failed : status ≡ 1 → Wrote before now (Fails bytes) → RunEnding shows bytes status before now
+  Refused : status ≡ 3 → Wrote before now (Refuses bytes) → RunEnding shows bytes status before now
+  Later : 4 ≤ status → RunEnding shows bytes status before now
 
 -- what a run says of its statuses
 pub record Says (shows : Parts) (status : ℕ) (told before now : Option (List ℕ)) : Type 0 where
@@ -41,7 +41,7 @@ pub record Says (shows : Parts) (status : ℕ) (told before now : Option (List �
   pub form : status ≢ 2
   pub grammar : status ≡ 3 → Leaves Refuses told before now
 
-pub ending : (shows : Parts) (bytes : List ℕ) (status : ℕ) (before now : Option (List ℕ)) → Says shows status (Some bytes) before now → Ending shows bytes status before now
+pub ending : (shows : Parts) (bytes : List ℕ) (status : ℕ) (before now : Option (List ℕ)) → Says shows status (Some bytes) before now → RunEnding shows bytes status before now
 ending shows bytes zero before now says = Reported refl (says.report refl)
 ending shows bytes (suc zero) before now says = Failed refl (says.fault refl)
 ending shows bytes (suc (suc zero)) before now says = absurd (says.form refl)
@@ -74,7 +74,7 @@ data Session (s : SessionValue) (status : ℕ) (before now : Option (List ℕ)) 
 
 -- how a run over a session ended
 session_ends : (shows : Parts) (bytes : List ℕ) (s : SessionValue) (status : ℕ) (before now : Option (List ℕ))
-    → session_of bytes ≡ Ok s → Ending shows bytes status before now → Session s status before now
+    → session_of bytes ≡ Ok s → RunEnding shows bytes status before now → Session s status before now
 session_ends shows bytes s status before now read (Reported is wrote) =
     let r : IsTrailReport shows s wrote.text =
     subst (λ x. IsTrailReport shows x wrote.text) (session_same bytes s wrote.fact.session read wrote.fact.read) wrote.fact.report in
@@ -210,7 +210,7 @@ ends_as_session shows status (Some bytes) before now says = λ s read.
     ends_session s status before now (session_ends shows bytes s status before now read (ending shows bytes status before now says))
 
 line_ends : (shows : Parts) (bytes : List ℕ) (number status : ℕ) (before now : Option (List ℕ))
-    → session_of bytes ≡ Err number → Ending shows bytes status before now → EndsWith status 3 before now (bad_line_text number)
+    → session_of bytes ≡ Err number → RunEnding shows bytes status before now → EndsWith status 3 before now (bad_line_text number)
 line_ends shows bytes number status before now read (Reported is wrote) = absurd (no_line bytes wrote.fact.session number wrote.fact.read read)
 line_ends shows bytes number status before now read (Failed is wrote) = absurd (no_line bytes wrote.fact.session number wrote.fact.read read)
 line_ends shows bytes number status before now read (Refused is wrote) =

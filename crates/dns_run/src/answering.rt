@@ -16,7 +16,7 @@ use dns_lookup::DnssecDnsHandle;
 use dns_name::NoMemory;
 use dns_net::{DnsRequestOptions, DnsResponse, NetError, Recorded};
 use dns_record::Query;
-use dns_session::{AcceptedSignature, Anchor, Reply, Session};
+use dns_session::{AcceptedSignature, Anchor, Session, SessionReply};
 use dns_trust::{Listed, TrustAnchors};
 use std::alloc::Global;
 
@@ -110,13 +110,13 @@ fn empty_upstream(alloc: Global, by_turn: bool) -> Recorded
 pub fn session_upstream(
     alloc: Global,
     by_turn: bool,
-    replies: Vec<Reply>,
+    replies: Vec<SessionReply>,
 ) -> Result<Recorded, NoMemory>
     ensures { IfOk result (λ r. r ≡ recorded_by by_turn replies.items) }
 {
     let mut handle = empty_upstream(alloc, by_turn);
     for next in replies {
-        let Reply { query, kind } = next;
+        let SessionReply { query, kind } = next;
         let reply = reply_from(alloc, kind)?;
         handle.push(query, reply)?;
     }

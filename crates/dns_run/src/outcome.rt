@@ -15,7 +15,7 @@ use std::alloc::Global;
 
 /// How a run ends where its input was read.
 #[derive(Clone, Copy)]
-pub enum Ending {
+pub enum InputEnding {
     /// The lookup answered: its report is written.
     Report,
     /// The lookup failed: the fault's line is written.
@@ -25,7 +25,11 @@ pub enum Ending {
 }
 
 /// The report of a session's lookup, or the line of its fault.
-fn answered(alloc: Global, shows: Parts, session: Session) -> Result<(Ending, Vec<u8>), NoMemory>
+fn answered(
+    alloc: Global,
+    shows: Parts,
+    session: Session,
+) -> Result<(InputEnding, Vec<u8>), NoMemory>
     ensures { IfOk result (λ x. IsAnswered shows session x.0 x.1.items) }
 {
     let reply = session_answer(alloc, session);
@@ -39,21 +43,21 @@ fn reply_ending(
     alloc: Global,
     shows: Parts,
     reply: &Result<DnsResponse, NetError>,
-) -> Result<(Ending, Vec<u8>), NoMemory>
+) -> Result<(InputEnding, Vec<u8>), NoMemory>
     ensures { (s : SessionValue) → UnlessNoMemory reply.now (AnswersSession s (reply_of reply.now))
         → IfOk result (λ x. IsAnswered shows s x.0 x.1.items) }
 {
     match reply {
         Ok(answer) => {
             let text = write_report(alloc, answer, shows)?;
-            Ok((Ending::Report, text))
+            Ok((InputEnding::Report, text))
         }
         Err(error) => {
             if error.is_no_memory() {
                 return Err(NoMemory);
             }
             let text = write_fault(alloc, error)?;
-            Ok((Ending::Fault, text))
+            Ok((InputEnding::Fault, text))
         }
     }
 }
@@ -63,7 +67,7 @@ pub(crate) fn session_ending(
     alloc: Global,
     shows: Parts,
     bytes: &[u8],
-) -> Result<(Ending, Vec<u8>), NoMemory>
+) -> Result<(InputEnding, Vec<u8>), NoMemory>
     requires { length bytes.now < 2 ^ 32 }
     ensures { IfOk result (λ x. IsOutcome shows bytes.now x.0 x.1.items) }
 {
@@ -71,7 +75,7 @@ pub(crate) fn session_ending(
         Ok(session) => answered(alloc, shows, session),
         Err(SessionStop::BadLine(number)) => {
             let text = bad_line_text(alloc, number)?;
-            Ok((Ending::BadLine, text))
+            Ok((InputEnding::BadLine, text))
         }
         Err(SessionStop::NoMemory) => Err(NoMemory),
     }

@@ -9,7 +9,7 @@ ghost use Rattle.dns_run.specs.Outcomes.{Leaves, LeavesPrefix, Wrote, WrotePrefi
 ghost use Rattle.dns_run.specs.Runs.{EndsAsSession, EndsByGrammar, EndsByLength, EndsByWords, IfSession};
 
 use crate::form::{Form, form_of, help_text, version_text};
-use crate::outcome::{Ending, session_ending};
+use crate::outcome::{InputEnding, session_ending};
 use dns_io::status::{self, read_status, refuse_long, refuse_words, write_text};
 use dns_io::{ReadStop, Sink, Source, read_all};
 use dns_name::NoMemory;
@@ -31,9 +31,9 @@ fn answer<W: Sink>(alloc: Global, shows: Parts, bytes: &[u8], output: &mut W) ->
     ensures later { W.faults output.old ≤ W.faults output.new }
 {
     match session_ending(alloc, shows, bytes) {
-        Ok((Ending::Report, text)) => write_text(status::DONE, &text, output),
-        Ok((Ending::Fault, text)) => write_text(status::FAULT, &text, output),
-        Ok((Ending::BadLine, text)) => write_text(status::BAD_INPUT, &text, output),
+        Ok((InputEnding::Report, text)) => write_text(status::DONE, &text, output),
+        Ok((InputEnding::Fault, text)) => write_text(status::FAULT, &text, output),
+        Ok((InputEnding::BadLine, text)) => write_text(status::BAD_INPUT, &text, output),
         Err(NoMemory) => status::NO_MEMORY,
     }
 }

@@ -13,6 +13,6 @@ mod stop;
 mod words;
 
 pub use reading::read_session;
-pub use reply::{Reply, ReplyFault, ReplyKind};
+pub use reply::{ReplyFault, ReplyKind, SessionReply};
 pub use session::{AcceptedSignature, Anchor, Session};
 pub use stop::{SessionStop, bad_line_text};

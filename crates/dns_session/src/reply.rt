@@ -27,14 +27,14 @@ pub enum ReplyKind {
 
 /// What an upstream says to a question.
 #[derive(Drop)]
-pub struct Reply {
+pub struct SessionReply {
     /// What it replies to.
     pub query: Query,
     /// What is replied.
     pub kind: ReplyKind,
 }
 
-impl Model for Reply {
+impl Model for SessionReply {
     ghost use Rattle.dns_session.specs.Kinds.{kind_of};
     ghost use Rattle.dns_session.specs.SessionValue.{ReplyValue};
 

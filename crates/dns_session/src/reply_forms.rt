@@ -4,7 +4,7 @@ ghost use Rattle.dns_session.specs.Lines.{three_after, message_word_in, message_
 
 use crate::form::LineForm;
 use crate::named_forms::question_of;
-use crate::reply::{Reply, ReplyFault, ReplyKind};
+use crate::reply::{ReplyFault, ReplyKind, SessionReply};
 use crate::words::{after, triple};
 use dns_message::{DecodeError, DecodeKind, Message};
 use dns_name::NoMemory;
@@ -65,7 +65,7 @@ fn message_after(
 }
 
 /// What a `reply` line says.
-fn reply_of(alloc: Global, line: &[u8]) -> Result<Option<Reply>, NoMemory>
+fn reply_of(alloc: Global, line: &[u8]) -> Result<Option<SessionReply>, NoMemory>
     requires { length line.now < 2 ^ 32 }
     ensures { IfOk result (λ r. r ≡ reply_line line.now) }
 {
@@ -73,11 +73,11 @@ fn reply_of(alloc: Global, line: &[u8]) -> Result<Option<Reply>, NoMemory>
         return Ok(None);
     };
     let kind = ReplyKind::Message(message);
-    Ok(Some(Reply { query, kind }))
+    Ok(Some(SessionReply { query, kind }))
 }
 
 /// What an `empty` line says.
-fn empty_of(alloc: Global, line: &[u8]) -> Result<Option<Reply>, NoMemory>
+fn empty_of(alloc: Global, line: &[u8]) -> Result<Option<SessionReply>, NoMemory>
     requires { length line.now < 2 ^ 32 }
     ensures { IfOk result (λ r. r ≡ empty_line line.now) }
 {
@@ -85,7 +85,7 @@ fn empty_of(alloc: Global, line: &[u8]) -> Result<Option<Reply>, NoMemory>
         return Ok(None);
     };
     let kind = ReplyKind::Empty(message);
-    Ok(Some(Reply { query, kind }))
+    Ok(Some(SessionReply { query, kind }))
 }
 
 /// The fault that a word names.
@@ -104,7 +104,7 @@ fn fault_in(word: &[u8]) -> Option<ReplyFault>
 }
 
 /// What a `fault` line says.
-fn fault_of(alloc: Global, line: &[u8]) -> Result<Option<Reply>, NoMemory>
+fn fault_of(alloc: Global, line: &[u8]) -> Result<Option<SessionReply>, NoMemory>
     ensures { IfOk result (λ r. r ≡ fault_line line.now) }
 {
     let Some((name, record_type, fault)) = three_after(line, b"fault") else {
@@ -117,13 +117,13 @@ fn fault_of(alloc: Global, line: &[u8]) -> Result<Option<Reply>, NoMemory>
         return Ok(None);
     };
     let kind = ReplyKind::Fault(fault);
-    Ok(Some(Reply { query, kind }))
+    Ok(Some(SessionReply { query, kind }))
 }
 
-impl LineForm for Reply {
+impl LineForm for SessionReply {
     ghost form = { upstream_line };
 
-    fn read(alloc: Global, line: &[u8]) -> Result<Option<Reply>, NoMemory> {
+    fn read(alloc: Global, line: &[u8]) -> Result<Option<SessionReply>, NoMemory> {
         if let Some(reply) = reply_of(alloc, line)? {
             return Ok(Some(reply));
         }

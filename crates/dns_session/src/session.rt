@@ -1,4 +1,4 @@
-use crate::reply::Reply;
+use crate::reply::SessionReply;
 use dns_name::{Name, Octets};
 use dns_record::Query;
 use std::marker::Model;
@@ -61,7 +61,7 @@ pub struct Session {
     /// What is looked up.
     pub query: Query,
     /// In the order in which they stand.
-    pub replies: Vec<Reply>,
+    pub replies: Vec<SessionReply>,
 }
 
 impl Model for Session {

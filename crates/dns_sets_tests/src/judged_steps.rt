@@ -76,7 +76,7 @@ pub(crate) const UNSIGNED: Told = Told {
     decider: None,
 };
 
-pub(crate) const STANDS: Outcome = Outcome::Accepted(Denial::None);
+pub(crate) const STANDS: Outcome = Outcome::Given(Denial::None);
 
 pub(crate) const BOGUS: Outcome = Outcome::Denied(Proof::Bogus);
 
@@ -87,7 +87,7 @@ pub(crate) const NO_NAME: Row = Row {
     record_type: RecordType::A,
     code: ResponseCode::NX_DOMAIN,
     told: &[APEX, COVERS_ML],
-    outcome: Outcome::Accepted(Denial::Absent(Proof::Secure)),
+    outcome: Outcome::Given(Denial::Absent(Proof::Secure)),
 };
 
 /// A plain answer; the rows are this one with other sets.

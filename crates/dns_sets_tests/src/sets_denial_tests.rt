@@ -62,9 +62,9 @@ const FROM_EXAMPLE: Told = Told {
     ..FROM_W
 };
 
-const ABSENT: Outcome = Outcome::Accepted(Denial::Absent(Proof::Secure));
+const ABSENT: Outcome = Outcome::Given(Denial::Absent(Proof::Secure));
 
-const EXPANDED: Outcome = Outcome::Accepted(Denial::Expanded(Proof::Secure));
+const EXPANDED: Outcome = Outcome::Given(Denial::Expanded(Proof::Secure));
 
 const DENIALS: &[Row] = &[
     NO_NAME,

@@ -68,7 +68,7 @@ const ENDED: &[Ended] = &[
     },
     Ended {
         records: ANSWERED,
-        outcome: Outcome::Accepted(Denial::None),
+        outcome: Outcome::Given(Denial::None),
     },
     Ended {
         records: FROM_WILDCARD,
@@ -106,7 +106,7 @@ const NSEC3: Told = Told {
     decider: Some(0),
 };
 
-const ABSENT_INSECURE: Outcome = Outcome::Accepted(Denial::Absent(Proof::Insecure));
+const ABSENT_INSECURE: Outcome = Outcome::Given(Denial::Absent(Proof::Insecure));
 
 const OTHERS: &[Row] = &[
     ANSWER,
@@ -281,7 +281,7 @@ const ENDED_IN_ZONE: &[EndedInZone] = &[
     EndedInZone {
         records: FROM_WILDCARD,
         mark: Proof::Insecure,
-        outcome: Outcome::Accepted(Denial::None),
+        outcome: Outcome::Given(Denial::None),
     },
     EndedInZone {
         records: UNANSWERED,

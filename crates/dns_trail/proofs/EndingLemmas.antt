@@ -8,7 +8,7 @@ use Rattle.dns_model.specs.SoundAnswers.{Told}
 use Rattle.dns_model.specs.Trails.{AskedValue, EndingValue}
 use Rattle.dns_judgement.specs.Delegations.{ZoneVerdict, is_insecure}
 use Rattle.dns_judgement.specs.Derivation.{Grounds, ending_by, ending_eq, ending_holds, search_from}
-use Rattle.dns_judgement.specs.Outcome.{Outcome, Unjudged, Accepted, Searched, outcome_by_zone}
+use Rattle.dns_judgement.specs.Outcome.{Outcome, Unjudged, Given, Searched, outcome_by_zone}
 use Rattle.dns_judgement.specs.Outcome as outcome
 use Rattle.dns_judgement.specs.Unsigned.{question_start}
 use Rattle.dns_trail.specs.Endings.{ending_fits}
@@ -47,7 +47,7 @@ unsearched g told o ending excuse is lost =
 pub by_parts : (g : Grounds) (step : AskedValue) (told : Told) (o : Outcome) → g.query ≡ step.query
     → ending_fits g told o step.ending step.excuse ≡ ending_holds g step told o
 by_parts g step told Unjudged own = refl
-by_parts g step told (Accepted d) own = refl
+by_parts g step told (Given d) own = refl
 by_parts g step told (outcome.Denied proof) own = refl
 by_parts g step told Searched own =
     ap (λ q. option_map_or (λ zone. ending_eq (ending_by (outcome_by_zone q told zone)) step.ending) (search_from g q.class (question_start q) step.excuse) false) own

@@ -25,8 +25,8 @@ use Rattle.dns_judgement.specs.Judged.{Judged}
 use Rattle.dns_anchors.specs.Finding.{items_or_none, passes_at}
 use Rattle.dns_trail.specs.declared.places.SetKey.{SetKey}
 use Rattle.dns_trail.specs.Indexed.{AreIndexed}
-use Rattle.dns_trail.specs.SetKeys.{AddedPlace, key_cmp, key_of, key_of_first, key_of_record, places_at}
-use Rattle.dns_trail.proofs.PlaceLemmas.{covers_more, found}
+use Rattle.dns_trail.specs.SetKeys.{AddedPlace, key_cmp, key_of, key_of_first, key_of_record, set_places}
+use Rattle.dns_trail.proofs.PlaceLemmas.{keeps_more, found}
 
 pub key_total : IsTotalOrder key_cmp
 key_total = then_total (on_total (λ k. k.owner) nat_list_cmp_total) (on_total (λ k. k.record_type) nat_cmp_total)
@@ -55,22 +55,22 @@ repeat_alike placed entry judged h = records_alike placed.set.records judged.set
 
 -- a set is found among those with its key
 pub repeat_found : {Z : Type 0} (places : BTreeMap SetKey (Vec ℕ Z)) (sets : List Judged) (placed : Placed) (entry : JudgedSetValue) → AreIndexed places sets
-    → list_any (passes_at (is_repeat placed entry) sets) (places_at places (key_of placed.set)) ≡ list_any (is_repeat placed entry) sets
+    → list_any (passes_at (is_repeat placed entry) sets) (set_places places (key_of placed.set)) ≡ list_any (is_repeat placed entry) sets
 repeat_found places sets placed entry indexed =
-    found (λ j. key_of j.set) (is_repeat placed entry) (key_of placed.set) (places_at places) sets (repeat_alike placed entry) indexed
+    found (λ j. key_of j.set) (is_repeat placed entry) (key_of placed.set) (set_places places) sets (repeat_alike placed entry) indexed
 
 -- ---- a place more
 
 get-same : {X : Type 0} (m : BTreeMap SetKey X) (k q : SetKey) → key_cmp k q ≡ Equal → tree.get key_cmp m k ≡ tree.get key_cmp m q
 get-same m k q same = lookup-same _ _ (λ x. ap is_eq (key_total.congr k q x same)) m.entries
 
-added_case : {Z : Type 0} (old : BTreeMap SetKey (Vec ℕ Z)) (key k : SetKey) (place : ℕ) (w : Vec ℕ Z) → w.items ≡ places_at old key ++ place ∷ []
-    → (b : Bool) → is_eq (key_cmp key k) ≡ b → items_or_none (cond b (Some w) (tree.get key_cmp old k)) ≡ places_at old k ++ cond b (place ∷ []) []
+added_case : {Z : Type 0} (old : BTreeMap SetKey (Vec ℕ Z)) (key k : SetKey) (place : ℕ) (w : Vec ℕ Z) → w.items ≡ set_places old key ++ place ∷ []
+    → (b : Bool) → is_eq (key_cmp key k) ≡ b → items_or_none (cond b (Some w) (tree.get key_cmp old k)) ≡ set_places old k ++ cond b (place ∷ []) []
 added_case old key k place w items true tied =
     items ∙ ap (λ o. items_or_none o ++ place ∷ []) (get-same old key k (tied_equal (key_cmp key k) tied))
-added_case old key k place w items false tied = sym (append-nil (places_at old k))
+added_case old key k place w items false tied = sym (append-nil (set_places old k))
 
-pub added : {Z : Type 0} (old new : BTreeMap SetKey (Vec ℕ Z)) (key : SetKey) (place : ℕ) (w : Vec ℕ Z) → w.items ≡ places_at old key ++ place ∷ []
+pub added : {Z : Type 0} (old new : BTreeMap SetKey (Vec ℕ Z)) (key : SetKey) (place : ℕ) (w : Vec ℕ Z) → w.items ≡ set_places old key ++ place ∷ []
     → tree.Updates key_cmp old new key (Some w) → AddedPlace old new key place
 added old new key place w items updates k = ap items_or_none (updates.0 k) ∙ added_case old key k place w items (is_eq (key_cmp key k)) refl
 
@@ -95,5 +95,5 @@ indexed_more old new sets i c key lt is own indexed more =
     let P : List Judged → Type 0 = λ js. AreIndexed new js in
     let long : length (bare (take i sets)) ≡ i = long_front sets i lt in
     subst P (sym whole)
-    (covers_more (λ j. key_of j.set) (places_at old) (places_at new) (bare (take i sets)) c.judged (λ k. cond (is_eq (key_cmp key k)) (i ∷ []) []) indexed more
+    (keeps_more (λ j. key_of j.set) (set_places old) (set_places new) (bare (take i sets)) c.judged (λ k. cond (is_eq (key_cmp key k)) (i ∷ []) []) indexed more
     (ap (λ k. cond (is_eq (key_cmp key k)) (i ∷ []) []) (sym own) ∙ own_place key i ∙ ap (λ n. n ∷ []) (sym long)))

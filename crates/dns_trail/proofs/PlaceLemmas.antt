@@ -9,11 +9,11 @@ use Rattle.std.proofs.lemmas.List.Folds.{list_any-append, Any-from_list_any}
 use Rattle.std.proofs.lemmas.Option.{slice_get-get_or}
 use Rattle.dns_anchors.specs.Finding.{passes, passes_at}
 use Rattle.dns_anchors.proofs.Found.{any_place, places_any, same_test}
-use Rattle.dns_trail.specs.Places.{Covers}
+use Rattle.dns_trail.specs.Places.{KeepsPlaces}
 
 -- a test passes at one of the places of a key where it passes in the list
 pub found : {X K : Type 0} (key : X → K) (test : X → Bool) (k : K) (places : K → List ℕ) (xs : List X)
-    → ((x : X) → test x ≡ true → key x ≡ k) → Covers key places xs
+    → ((x : X) → test x ≡ true → key x ≡ k) → KeepsPlaces key places xs
     → list_any (passes_at test xs) (places k) ≡ list_any test xs
 found key test k places xs alike covers =
     same_test (list_any (passes_at test xs) (places k)) (list_any test xs) (places_any test xs (places k))
@@ -23,13 +23,13 @@ found key test k places xs alike covers =
     (ap (λ n. list_any (λ place. some.0 == place) (places n)) (sym (alike some.1 some.4)) ∙ covers.each some.0 some.1 some.2 (sym some.3)))
 
 -- places of no element
-pub covers_none : {X K : Type 0} (key : X → K) (places : K → List ℕ) → Covers key places []
-covers_none key places = record { each = λ i x h is. absurd (omega arith) }
+pub keeps_none : {X K : Type 0} (key : X → K) (places : K → List ℕ) → KeepsPlaces key places []
+keeps_none key places = record { each = λ i x h is. absurd (omega arith) }
 
 -- one element more, at its place
-pub covers_more : {X K : Type 0} (key : X → K) (places next : K → List ℕ) (xs : List X) (y : X) (added : K → List ℕ) → Covers key places xs
-    → ((k : K) → next k ≡ places k ++ added k) → added (key y) ≡ length xs ∷ [] → Covers key next (xs ++ y ∷ [])
-covers_more key places next xs y added covers after one = record {
+pub keeps_more : {X K : Type 0} (key : X → K) (places next : K → List ℕ) (xs : List X) (y : X) (added : K → List ℕ) → KeepsPlaces key places xs
+    → ((k : K) → next k ≡ places k ++ added k) → added (key y) ≡ length xs ∷ [] → KeepsPlaces key next (xs ++ y ∷ [])
+keeps_more key places next xs y added covers after one = record {
   each = λ i x h is.
       ⊎_elim
       (λ (below : i < length xs).

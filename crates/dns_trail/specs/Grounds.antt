@@ -17,6 +17,6 @@ grounds_by answers g = record {
 }
 
 -- the question and the depth are those of the step
-pub record Asks {V : Type 0} (g : Grounds V) (step : AskedValue) : Type 0 where
+pub record IsOfStep {V : Type 0} (g : Grounds V) (step : AskedValue) : Type 0 where
   pub query : g.query.now ≡ step.query
   pub depth : g.depth ≡ step.depth

@@ -27,10 +27,10 @@ abbrev pub key_cmp : SetKey → SetKey → Ordering
 key_cmp a b = ordering_then (slice_cmp nat_cmp a.owner b.owner) (nat_cmp a.record_type b.record_type)
 
 -- the places under a key
-abbrev pub places_at : {Z : Type 0} → BTreeMap SetKey (Vec ℕ Z) → SetKey → List ℕ
-places_at places key = items_or_none (tree.get key_cmp places key)
+abbrev pub set_places : {Z : Type 0} → BTreeMap SetKey (Vec ℕ Z) → SetKey → List ℕ
+set_places places key = items_or_none (tree.get key_cmp places key)
 
 -- a key has one more place behind its others
 abbrev pub AddedPlace : {Z : Type 0} → BTreeMap SetKey (Vec ℕ Z) → BTreeMap SetKey (Vec ℕ Z) → SetKey → ℕ → Type 0
 AddedPlace old new key place =
-    (k : SetKey) → places_at new k ≡ places_at old k ++ (if is_eq (key_cmp key k) then place ∷ [] else [])
+    (k : SetKey) → set_places new k ≡ set_places old k ++ (if is_eq (key_cmp key k) then place ∷ [] else [])

@@ -36,7 +36,7 @@ pub(crate) fn ending_holds<V: Verifier>(
     let excuse = &step.excuse;
     match outcome_of(grounds.alloc, query, message, sets)? {
         Outcome::Unjudged => Ok(is_failed(ending) && excuse.is_empty()),
-        Outcome::Accepted(denial) => Ok(is_answered(ending, denial) && excuse.is_empty()),
+        Outcome::Given(denial) => Ok(is_answered(ending, denial) && excuse.is_empty()),
         Outcome::Denied(proof) => Ok(is_denied(ending, proof) && excuse.is_empty()),
         Outcome::Searched => {
             let start = question_start(query)?;
@@ -54,7 +54,7 @@ fn is_ending(outcome: Outcome, ending: &Ending) -> bool
 {
     match outcome {
         Outcome::Unjudged => is_failed(ending),
-        Outcome::Accepted(denial) => is_answered(ending, denial),
+        Outcome::Given(denial) => is_answered(ending, denial),
         Outcome::Searched => is_failed(ending),
         Outcome::Denied(proof) => is_denied(ending, proof),
     }

@@ -4,7 +4,7 @@
 ghost use Rattle.std.specs.Prelude.{◌≡◌, IfOk, OnOk};
 ghost use Rattle.dns_judgement.specs.Chained.{bare};
 ghost use Rattle.dns_trail.specs.Indexed.{AreIndexed};
-ghost use Rattle.dns_trail.specs.SetKeys.{AddedPlace, key_of, key_of_record as key_in, places_at};
+ghost use Rattle.dns_trail.specs.SetKeys.{AddedPlace, key_of, key_of_record as key_in, set_places};
 
 use dns_name::{NoMemory, Octets};
 use dns_record::{Record, RecordSet};
@@ -54,7 +54,7 @@ impl SetKey {
 
 /// The places of the sets with a key.
 pub(crate) fn places_of<'a>(places: &'a PlacesByKey, key: &SetKey) -> &'a [usize]
-    ensures { result.now ≡ places_at places.now key.now }
+    ensures { result.now ≡ set_places places.now key.now }
 {
     match places.get(key) {
         Some(there) => there.as_slice(),

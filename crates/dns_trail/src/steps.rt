@@ -9,7 +9,7 @@ ghost use Rattle.dns_judgement.specs.Outcome.{foreign_record as foreign_in};
 ghost use Rattle.dns_evidence.specs.Trail.{ending_value};
 ghost use Rattle.dns_trail.specs.Ended.{ended_if, nothing_if};
 ghost use Rattle.dns_trail.specs.Indexed.{MayBeIndexed};
-ghost use Rattle.dns_trail.specs.Grounds.{Asks, grounds_by};
+ghost use Rattle.dns_trail.specs.Grounds.{IsOfStep, grounds_by};
 ghost use Rattle.dns_anchors.specs.Judge.{judge_of};
 
 use crate::ending::{ending_holds, is_failed, is_foreign, is_seen};
@@ -68,7 +68,7 @@ fn end_step<V: Verifier>(
     grounds: &Grounds<'_, '_, V>,
     step: &Asked,
 ) -> Result<Option<Ended>, NoMemory>
-    requires own { Asks grounds.now step.now }
+    requires own { IsOfStep grounds.now step.now }
     ensures { IfOk result (λ o. o ≡ ended_if
         (step_holds_by (grounds_by V.answers grounds.now) step.now step.now.reply) step.now) }
 {
@@ -84,7 +84,7 @@ fn end_told<V: Verifier>(
     step: &Asked,
     told: &Told,
 ) -> Result<Option<Ended>, NoMemory>
-    requires own { Asks grounds.now step.now }
+    requires own { IsOfStep grounds.now step.now }
     requires told { told_in step.now.reply ≡ Some told.now.0 }
     ensures { IfOk result (λ o. o ≡ ended_if
         (step_holds_by (grounds_by V.answers grounds.now) step.now step.now.reply) step.now) }
@@ -143,7 +143,7 @@ fn end_judged<V: Verifier>(
     step: &Asked,
     message: &Message,
 ) -> Result<Option<Ended>, NoMemory>
-    requires own { Asks grounds.now step.now }
+    requires own { IsOfStep grounds.now step.now }
     requires told { told_in step.now.reply ≡ Some (told_by message.now) }
     ensures { IfOk result (λ o. o ≡ ended_if
         (judged_holds (grounds_by V.answers grounds.now) step.now (told_by message.now)

@@ -21,7 +21,7 @@ use Rattle.dns_model.specs.Signing.{key_tag_of}
 use Rattle.dns_model.specs.Keys.{VerifierAnswers, matches}
 use Rattle.dns_judgement.specs.Delegations.{ds_of, is_digest_type, counted_ds, matching_ds}
 use Rattle.dns_rdata.specs.Covers.{digest_type_of}
-use Rattle.dns_trust.specs.Delegating.{AreCounted, counted_after, counted_at, is_delegation_at, kept_two, algorithm_and_tag, algorithm_tag_cmp, shown, shown_or_none}
+use Rattle.dns_trust.specs.Delegating.{KeepsFirstTwo, counted_after, counted_at, is_delegation_at, kept_two, algorithm_and_tag, algorithm_tag_cmp, shown, shown_or_none}
 
 -- of a list that is longer by one the first two
 two_more : (ys : List Rr) (r : Rr) → kept_two (take 2 ys) r ≡ take 2 (ys ++ r ∷ [])
@@ -104,19 +104,19 @@ module _ {Z : Type 0} where
   unfolding counted_at
   tag_new m v r algorithm tag is one = ap shown one ∙ ap (λ o. kept_two (shown_or_none o) r.now) is
 
-  pub none_counted : (owner : Labels) (records : List Rr) (m : BTreeMap (ℕ × ℕ) (Vec (Bor Rr) Z)) → m.entries ≡ [] → AreCounted owner (take 0 records) m
+  pub none_counted : (owner : Labels) (records : List Rr) (m : BTreeMap (ℕ × ℕ) (Vec (Bor Rr) Z)) → m.entries ≡ [] → KeepsFirstTwo owner (take 0 records) m
   unfolding counted_at
   none_counted owner records m empty a t = rw empty refl
 
-  pub counted_all : (owner : Labels) (records : List Rr) (i : ℕ) (m : BTreeMap (ℕ × ℕ) (Vec (Bor Rr) Z)) → length records ≤ i → AreCounted owner (take i records) m
-      → AreCounted owner records m
+  pub counted_all : (owner : Labels) (records : List Rr) (i : ℕ) (m : BTreeMap (ℕ × ℕ) (Vec (Bor Rr) Z)) → length records ≤ i → KeepsFirstTwo owner (take i records) m
+      → KeepsFirstTwo owner records m
   counted_all owner records i m h counted a t = counted a t ∙ ap (λ rs. take 2 (filter (is_delegation_at owner a t) rs)) (take_all i records h)
 
   -- one record more
   pub counted_more : (owner : Labels) (records : List Rr) (i : ℕ) (m n : BTreeMap (ℕ × ℕ) (Vec (Bor Rr) Z)) (r : Rr) → i < length records → r ≡ slice_index_or records i r
-      → AreCounted owner (take i records) m
+      → KeepsFirstTwo owner (take i records) m
       → ((a t : ℕ) → counted_at n a t ≡ counted_after m (is_delegation_at owner a t r) r a t)
-      → AreCounted owner (take (i + 1) records) n
+      → KeepsFirstTwo owner (take (i + 1) records) n
   counted_more owner records i m n r h is before after a t =
       let test = is_delegation_at owner a t in
       after a t
@@ -195,7 +195,7 @@ pub match_unread : (answers : VerifierAnswers) (owner : Labels) (key : Rr) (reco
 match_unread answers owner key records none = no_key_matched answers owner key records (unread_key key.rdata (dnskey_of key) none)
 
 module _ {Z : Type 0} (answers : VerifierAnswers) (owner : Labels) (key : Rr) (records : List Rr) (m : BTreeMap (ℕ × ℕ) (Vec (Bor Rr) Z)) where
-  match_step : (pair : ℕ × ℕ) (o : Option DnskeyValue) → dnskey_of key ≡ o → algorithm_and_tag key.rdata o ≡ Some pair → AreCounted owner records m
+  match_step : (pair : ℕ × ℕ) (o : Option DnskeyValue) → dnskey_of key ≡ o → algorithm_and_tag key.rdata o ≡ Some pair → KeepsFirstTwo owner records m
       → matching_ds answers owner key records ≡ find (λ r. matches answers owner key.rdata r.rdata) (counted_at m pair.0 pair.1)
   match_step pair None is at counted = cc
   match_step pair (Some text) is at counted =
@@ -205,7 +205,7 @@ module _ {Z : Type 0} (answers : VerifierAnswers) (owner : Labels) (key : Rr) (r
       ∙ ap (λ (p : ℕ × ℕ). find test (counted_at m p.0 p.1)) same
 
   -- some records are kept for its algorithm and tag
-  pub match_there : (pair : ℕ × ℕ) (there : Vec (Bor Rr) Z) → algorithm_and_tag key.rdata (dnskey_of key) ≡ Some pair → AreCounted owner records m
+  pub match_there : (pair : ℕ × ℕ) (there : Vec (Bor Rr) Z) → algorithm_and_tag key.rdata (dnskey_of key) ≡ Some pair → KeepsFirstTwo owner records m
       → Some there ≡ get algorithm_tag_cmp m pair
       → find (λ r. matches answers owner key.rdata r.rdata) (shown there.items) ≡ matching_ds answers owner key records
   unfolding counted_at
@@ -213,7 +213,7 @@ module _ {Z : Type 0} (answers : VerifierAnswers) (owner : Labels) (key : Rr) (r
       ap (λ o. find (λ r. matches answers owner key.rdata r.rdata) (shown_or_none o)) is ∙ sym (match_step pair (dnskey_of key) refl at counted)
 
   -- none are
-  pub match_none : (pair : ℕ × ℕ) → algorithm_and_tag key.rdata (dnskey_of key) ≡ Some pair → AreCounted owner records m
+  pub match_none : (pair : ℕ × ℕ) → algorithm_and_tag key.rdata (dnskey_of key) ≡ Some pair → KeepsFirstTwo owner records m
       → None ≡ get algorithm_tag_cmp m pair → matching_ds answers owner key records ≡ None
   unfolding counted_at
   match_none pair at counted is =

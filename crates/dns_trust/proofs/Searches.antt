@@ -6,7 +6,7 @@ use Rattle.std.specs.List.{find, position, prefix_len}
 use Rattle.dns_model.specs.Records.{Rr, RrSet}
 use Rattle.dns_model.specs.Chains.{Judge}
 use Rattle.dns_judgement.proofs.FirstLemmas.{signed_from, signed_or, signed_none, signed_more}
-use Rattle.dns_trust.specs.Signers.{signer_of, first_signed_by}
+use Rattle.dns_trust.specs.Signers.{signing_key, first_signed_by}
 
 -- the element at the place is the one
 pub find_here : {X : Type 0} (p : X → Bool) (xs : List X) (i : ℕ) (x : X) → i < length xs → x ≡ slice_index_or xs i x → p x ≡ true
@@ -34,7 +34,7 @@ position-map p f xs = rw (prefix_len-map (λ y. not (p y)) f xs, length-map xs f
 
 -- ---- the first signature that is good by one of some keys
 
-pub first_signed_by-from : (j : Judge) (set : RrSet) (keys rs : List Rr) → first_signed_by j set keys rs ≡ signed_from (signer_of j set keys) 0 rs
+pub first_signed_by-from : (j : Judge) (set : RrSet) (keys rs : List Rr) → first_signed_by j set keys rs ≡ signed_from (signing_key j set keys) 0 rs
 unfolding first_signed_by signed_from
 first_signed_by-from j set keys rs = refl
 

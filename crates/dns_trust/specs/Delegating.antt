@@ -55,6 +55,6 @@ is_delegation_at owner algorithm tag r =
     name_eq owner r.owner && option_map_or (λ ds. (algorithm == ds.algorithm) && (tag == ds.key_tag)) (ds_of r) false
 
 -- of each algorithm and tag the first two of an owner are kept
-abbrev pub AreCounted : {Z : Type 0} → Labels → List Rr → BTreeMap (ℕ × ℕ) (Vec (Bor Rr) Z) → Type 0
-AreCounted owner records counted =
+abbrev pub KeepsFirstTwo : {Z : Type 0} → Labels → List Rr → BTreeMap (ℕ × ℕ) (Vec (Bor Rr) Z) → Type 0
+KeepsFirstTwo owner records counted =
     (algorithm tag : ℕ) → counted_at counted algorithm tag ≡ take 2 (filter (is_delegation_at owner algorithm tag) records)

@@ -15,8 +15,8 @@ signed_value by = record { place = by.place; signature = by.signature.now; key =
 -- ---- for private functions of this crate only
 
 -- the first of some keys by which a signature of a set is good
-abbrev pub signer_of : Judge → RrSet → List Rr → Rr → Option Rr
-signer_of j set keys r = find (is_good_by j set r) keys
+abbrev pub signing_key : Judge → RrSet → List Rr → Rr → Option Rr
+signing_key j set keys r = find (is_good_by j set r) keys
 
 -- a key of the set that is no anchor, and that one of these DS records matches
 abbrev pub is_matched_only : Judge → RrSet → List Rr → Rr → Bool
@@ -34,6 +34,6 @@ AreOnce once keys = (may test : Rr → Bool) → list_all may keys ≡ true → 
 unfoldable pub first_signed_by : Judge → RrSet → List Rr → List Rr → Option SignedKeys
 first_signed_by j set keys signatures =
     slice_get
-    (filter_map (λ p. option_map (λ key. record { place = p.0; signature = p.1; key = key }) (signer_of j set keys p.1))
+    (filter_map (λ p. option_map (λ key. record { place = p.0; signature = p.1; key = key }) (signing_key j set keys p.1))
     (enumerate_from 0 signatures))
     0

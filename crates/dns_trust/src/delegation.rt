@@ -5,7 +5,7 @@ ghost use Rattle.dns_model.specs.Views.{dnskey_in};
 ghost use Rattle.dns_model.specs.RecordViews.{dnskey_of};
 ghost use Rattle.dns_model.specs.Keys.{matches};
 ghost use Rattle.dns_judgement.specs.Delegations.{is_supported_ds as is_supported_record, is_ds_for as is_record_for, matching_ds as matching_record};
-ghost use Rattle.dns_trust.specs.Delegating.{shown, counted_at, counted_after, algorithm_and_tag, AreCounted, is_delegation_at};
+ghost use Rattle.dns_trust.specs.Delegating.{shown, counted_at, counted_after, algorithm_and_tag, KeepsFirstTwo, is_delegation_at};
 
 use dns_evidence::Verifier;
 use dns_name::{Name, NoMemory};
@@ -30,13 +30,13 @@ pub struct DsIndex<'a> {
 }
 
 impl<'a> Model for DsIndex<'a> {
-    ghost use Rattle.dns_trust.specs.Delegating.{DsIndexValue, shown, AreCounted};
+    ghost use Rattle.dns_trust.specs.Delegating.{DsIndexValue, shown, KeepsFirstTwo};
 
     ghost Value = { DsIndexValue };
 
     ghost view = { λ d. record { owner = d.owner.now; records = shown d.records.items } };
 
-    ghost invariant = { λ d. AreCounted d.owner.now (shown d.records.items) d.counted };
+    ghost invariant = { λ d. KeepsFirstTwo d.owner.now (shown d.records.items) d.counted };
 }
 
 impl<'a> DsIndex<'a> {
@@ -174,7 +174,7 @@ fn counted_in<'a>(
     owner: &Name,
     records: &[&'a Record],
 ) -> Result<CountedDs<'a>, NoMemory>
-    ensures { IfOk result (λ m. AreCounted owner.now (shown records.now) m) }
+    ensures { IfOk result (λ m. KeepsFirstTwo owner.now (shown records.now) m) }
 {
     let mut counted = BTreeMap::new(alloc);
     for ds in records {

@@ -5,7 +5,7 @@ ghost use Rattle.dns_judgement.specs.Marks.{most_signatures};
 ghost use Rattle.dns_anchors.specs.Judge.{judge_of};
 ghost use Rattle.dns_trust.specs.Delegating.{shown};
 ghost use Rattle.dns_trust.specs.SetSignatures.{IsRead, is_good_of};
-ghost use Rattle.dns_trust.specs.Signers.{AreOnce, signed_value, first_signed_by, signer_of};
+ghost use Rattle.dns_trust.specs.Signers.{AreOnce, signed_value, first_signed_by, signing_key};
 
 use crate::good::is_good_read;
 use crate::{Judge, SetSignature};
@@ -88,7 +88,7 @@ fn signer<'a, V: Verifier>(
     sig: &Record,
     keys: &[&'a Record],
 ) -> Result<Option<&'a Record>, NoMemory>
-    ensures { IfOk result (λ k. option_copied k ≡ signer_of (judge_of V.answers judge.now) set.now (shown keys.now) sig.now) }
+    ensures { IfOk result (λ k. option_copied k ≡ signing_key (judge_of V.answers judge.now) set.now (shown keys.now) sig.now) }
 {
     let Some(read) = Rrsig::of(sig) else {
         return Ok(None);

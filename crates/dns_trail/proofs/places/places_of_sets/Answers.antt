@@ -3,11 +3,11 @@ use Rattle.std.proofs.lemmas.List.{take_all}
 use Rattle.dns_judgement.specs.Chained.{bare}
 use Rattle.dns_trail.specs.Indexed.{AreIndexed}
 use Rattle.dns_trail.proofs.IndexLemmas.{indexed_more}
-use Rattle.dns_trail.proofs.PlaceLemmas.{covers_none}
+use Rattle.dns_trail.proofs.PlaceLemmas.{keeps_none}
 use Rattle.dns_trail.proofs.places.places_of_sets.Goals as goal
 
 pub each-init : goal.each-init
-each-init c = covers_none _ _
+each-init c = keeps_none _ _
 
 pub each-preserved : goal.each-preserved
 each-preserved c =

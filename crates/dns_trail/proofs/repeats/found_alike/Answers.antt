@@ -5,7 +5,7 @@ use Rattle.dns_trust.specs.Verdicts.{listed}
 use Rattle.dns_trail.specs.Ended.{ended_value}
 use Rattle.dns_trail.specs.Indexed.{AreIndexed, MayBeIndexed}
 use Rattle.dns_anchors.specs.Finding.{passes_at}
-use Rattle.dns_trail.specs.SetKeys.{key_of, places_at}
+use Rattle.dns_trail.specs.SetKeys.{key_of, set_places}
 use Rattle.dns_trail.proofs.EarlierLemmas.{any_bare}
 use Rattle.dns_trail.proofs.IndexLemmas.{repeat_found}
 use Rattle.dns_trail.proofs.repeats.found_alike.Goals as goal
@@ -20,7 +20,7 @@ returns-in_ok-key-in-Some c =
     let own : AreIndexed places inside.sets = subst (λ o. MayBeIndexed o inside.sets) c.in-Some.is c.ended.invariant in
     let indexed : AreIndexed places sets = subst (λ e. AreIndexed places e.sets) c.ended.view_is own in
     c.has_repeat_at.ensures ∙ ap (λ js. list_any (passes_at test js) c.places_of-there.result.now) c.sets.ensures
-    ∙ ap (list_any (passes_at test sets)) (c.places_of-there.ensures ∙ ap (places_at places) key)
+    ∙ ap (list_any (passes_at test sets)) (c.places_of-there.ensures ∙ ap (set_places places) key)
     ∙ repeat_found places sets c.args.placed.now c.args.entry.now indexed
 
 pub returns-in-None : goal.returns-in-None
