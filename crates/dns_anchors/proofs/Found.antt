@@ -8,13 +8,8 @@ use Rattle.std.proofs.lemmas.Bool.{or_left, or_right, or_cases, eqb-true, eq-eqb
 use Rattle.std.proofs.lemmas.List.{get_or_push, get_or_append_left, length_push}
 use Rattle.std.proofs.lemmas.List.Folds.{list_any-append, Any-from_list_any}
 use Rattle.std.proofs.lemmas.Option.{slice_get-get_or}
+use Rattle.dns_model.proofs.TestLemmas.{same_test}
 use Rattle.dns_anchors.specs.Finding.{places_at, places_after, passes, passes_at, Covers}
-
--- two tests are one where each follows from the other
-pub same_test : (a b : Bool) → (a ≡ true → b ≡ true) → (b ≡ true → a ≡ true) → a ≡ b
-same_test true b to from = sym (to refl)
-same_test false true to from = from refl
-same_test false false to from = refl
 
 -- what passes at a place passes in the list
 pub passes_any : {X : Type 0} (test : X → Bool) (xs : List X) (i : ℕ) → passes_at test xs i ≡ true → list_any test xs ≡ true

@@ -9,10 +9,10 @@ use Rattle.std.proofs.lemmas.List.Folds.{Any-from_list_any, list_any_at}
 use Rattle.std.proofs.lemmas.List.Sums.{AllPass-from_list_all, list_all-from_AllPass}
 use Rattle.std.proofs.lemmas.Slice.Eq.{bytes_eq-Decides}
 use Rattle.std.specs.Cmp.Derive.{both_true}
+use Rattle.dns_model.proofs.TestLemmas.{same_test}
 use Rattle.dns_evidence.specs.Verifiers.{AnswerAlike}
 use Rattle.dns_anchors.specs.Listing.{ListedSignatureValue, ListedValue, answers_of, holds, is_entry, is_listed, is_within}
 use Rattle.dns_anchors.proofs.Alike.{entry_same}
-use Rattle.dns_anchors.proofs.Found.{same_test}
 
 -- a test that is true or false
 by_test : (b : Bool) (P : Type 0) → (b ≡ true → P) → (b ≡ false → P) → P

@@ -5,7 +5,6 @@ use Rattle.dns_model.specs.declared.trail.AskRef.{AskRef}
 use Rattle.dns_model.specs.declared.trail.AskRef.TheVariants.{Step, TooDeep, TooMany}
 use Rattle.dns_model.specs.Trails.{AskedValue}
 use Rattle.std.specs.Option.{option_and_then}
-pub use Rattle.dns_model.proofs.Lists.{slice_get_appended}
 use Rattle.dns_judgement.specs.Asking.{most_sends}
 use Rattle.dns_judgement.specs.Derivation.{asks_of, order_asks, order_step}
 use Rattle.dns_judgement.specs.DerivationParts.{and_then}

@@ -6,7 +6,7 @@ use Rattle.std.specs.List.{list_any, list_all}
 use Rattle.std.proofs.Math.Logic.{⊎_elim}
 use Rattle.std.proofs.Math.Nat.{min-le_right}
 use Rattle.std.proofs.lemmas.Bool.{and_parts, or_cases, or_from, or_parts, not-true, not_from_false, true≢false}
-use Rattle.std.proofs.lemmas.Option.{slice_get_within}
+use Rattle.std.proofs.lemmas.Option.{same_Some, slice_get_within}
 use Rattle.dns_model.specs.declared.section.Section.TheVariants.{Answer}
 use Rattle.dns_model.specs.declared.trail.AskRef.{AskRef}
 use Rattle.dns_model.specs.Names.{name_eq}
@@ -30,7 +30,7 @@ use Rattle.dns_judgement.proofs.DerivedLemmas.{derivation_parts}
 use Rattle.dns_judgement.proofs.SentLemmas.{numbered}
 use Rattle.dns_laws.specs.Complete.{Upstream, HeardAlong, AreAsked, shows_secure, ProvesQuery}
 use Rattle.dns_laws.specs.Valid.{is_plain_query, straight_set, is_anchored_set, is_proved_by_keys, is_proved_by_ds, is_proved_by, leads_to_anchor, IsValidSession}
-use Rattle.dns_laws.proofs.TestLemmas.{passing, some_same}
+use Rattle.dns_laws.proofs.TestLemmas.{passing}
 use Rattle.dns_laws.proofs.StraightLemmas.{is_other, IsOneSet, answered, IsSigned, IsUnsigned, signed_or_anchored}
 use Rattle.dns_laws.proofs.StraightStepLemmas.{needs_no_denial, none_foreign}
 use Rattle.dns_laws.proofs.SignedEntryLemmas.{IsSecureSet, keys_ask, one_ask, signed_mark}
@@ -122,7 +122,7 @@ next_set : {R : Type 0} (w : Walk R) (next : Question) (rest : List Question) (r
     → (asked : IsAsked w next rest r n step met more ask) → IsShown w next rest asked.m asked.asked more → straight_set w.judge w.tells next ≡ Some above
     → IsNextSet w next n ask above
 next_set w next rest r n step met more ask above asked shown found =
-    let same = some_same shown.set above (sym shown.straight ∙ found) in
+    let same = same_Some shown.set above (sym shown.straight ∙ found) in
     let one = subst (IsOneSet w.judge next shown.told) same shown.one in
     record {
       judged = shown.judged;
@@ -226,7 +226,7 @@ by_itself q h =
     }
 
 same_top : (trail : List AskedValue) (a b : AskedValue) → top_step trail ≡ Some a → top_step trail ≡ Some b → a ≡ b
-same_top trail a b one two = some_same a b (sym one ∙ two)
+same_top trail a b one two = same_Some a b (sym one ∙ two)
 
 records_by : {R : Type 0} (w : Walk R) (q : Question) (rest : List Question) (n : ℕ) (step : AskedValue) (more : List ℕ) → is_other q ≡ false
     → (is : IsShown w q rest n step more) → (now : ℕ) → shows_secure q (marked_section now (judged_sets step) Answer is.told.answers) ≡ true

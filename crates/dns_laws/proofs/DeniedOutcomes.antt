@@ -3,6 +3,7 @@ use Rattle.std.proofs.Common.{◌≡◌, ◌⊎◌, inl, inr, ℕ, Bool, true, f
 use Rattle.std.specs.Option.{option_map, option_map_or, option_and_then}
 use Rattle.std.specs.List.{filter, filter_map, cons_option, list_any, list_all, AllByRecursion}
 use Rattle.std.proofs.lemmas.Bool.{and_parts, and_from, not-true, false_from_ne_true}
+use Rattle.std.proofs.lemmas.Option.{same_Some}
 use Rattle.dns_model.specs.declared.proof.Proof.{Proof}
 use Rattle.dns_model.specs.declared.proof.Proof.TheVariants.{Secure, Insecure, Bogus, Indeterminate}
 use Rattle.dns_model.specs.declared.denial.Denial.{Denial}
@@ -18,13 +19,14 @@ use Rattle.dns_model.specs.declared.answered.Answered.{Answered}
 use Rattle.dns_model.specs.declared.answered.Answered.TheVariants.{No, Plain, Expanded}
 use Rattle.dns_model.proofs.TestLemmas.{if_some}
 use Rattle.dns_judgement.specs.NsecVerdict.{can_deny, holds_query, nsec_verdict}
+use Rattle.dns_judgement.proofs.Members.{picked_known}
 use Rattle.dns_judgement.proofs.Promises.{denial_of, expansion_of}
 use Rattle.dns_judgement.specs.Judged.{Judged, placed_of}
 use Rattle.dns_judgement.specs.Outcome as outcome
 use Rattle.dns_judgement.specs.Outcome.{Outcome, outcome_of, outcome_by_denials, has_answer, is_wildcard_signature, has_wildcard_signature, is_expanded_answer, is_expanded_for, decider_labels, least, answered, answered_from, is_unjudged, is_denying, denying, denials, signer_of, is_made_by, one_signer, secure_denial, is_insecure_authority, insecure_answer}
 use Rattle.dns_laws.specs.Denials.{IsDenier, ShowsDenial}
-use Rattle.dns_laws.proofs.GroundParts.{any_more, picked}
-use Rattle.dns_laws.proofs.TestLemmas.{passing, some_same, some_kept}
+use Rattle.dns_laws.proofs.GroundParts.{any_more}
+use Rattle.dns_laws.proofs.TestLemmas.{passing, some_kept}
 use Rattle.dns_laws.proofs.ToldSetLemmas.{IsTold, AreTold, expanded_parts, expanded_answers}
 
 -- ---- how it is answered
@@ -56,7 +58,7 @@ pub expanded_is : (q : Question) (told : Told) (sets : List Judged) → AreTold 
     → IsExpansion (answered q told sets)
 unfolding answered
 expanded_is q told sets each h =
-    let p = picked (is_expanded_for q) (λ s. IsTold told (placed_of s)) sets each h in
+    let p = picked_known (is_expanded_for q) (λ s. IsTold told (placed_of s)) sets each h in
     let kept = filter (is_expanded_for q) sets in
     let begins = some_kept (is_expanded_for q) (is_expanded_for q) sets (λ s k. k) h in
     let passes = subst (AllByRecursion (λ s. is_expanded_for q s ≡ true)) begins.is (each_passes (is_expanded_for q) sets) in
@@ -97,7 +99,7 @@ made_step : (s : Judged) (rest : List Judged) (apex : Labels) (o : Option Labels
 made_step s rest apex None is h = cc
 made_step s rest apex (Some zone) is h =
     let parts = if_some (list_all (is_made_by zone) rest) (Some zone) apex h in
-    let same = some_same zone apex parts.1 in
+    let same = same_Some zone apex parts.1 in
     and_from (is_made_by apex s) (list_all (is_made_by apex) rest)
     (ap (λ o. option_map_or (name_eq apex) o false) is ∙ ap (name_eq apex) same ∙ name_refl apex)
     (ap (λ z. list_all (is_made_by z) rest) (sym same) ∙ parts.0)
@@ -230,7 +232,7 @@ unexpanded_without : (q : Question) (told : Told) (sets : List Judged) → AreTo
     → list_any (is_expanded_for q) sets ≡ false
 unexpanded_without q told sets each none =
     false_from_ne_true (list_any (is_expanded_for q) sets) (λ h.
-    let p = picked (is_expanded_for q) (λ s. IsTold told (placed_of s)) sets each h in
+    let p = picked_known (is_expanded_for q) (λ s. IsTold told (placed_of s)) sets each h in
     true≢false (sym (expanded_answers q told p.it p.known p.passes).wild ∙ not-true (has_wildcard_signature told) none))
 
 -- an answer shows what it denies

@@ -25,8 +25,9 @@ use Rattle.dns_judgement.specs.ProofErrors.{DsRecordShouldExist, DsResponseInsec
 use Rattle.dns_judgement.specs.KeySets.{is_root}
 use Rattle.dns_judgement.specs.Derivation.{if_answered, judged_sets, finished_answer, is_ask}
 use Rattle.dns_judgement.specs.DerivationParts.{answer_of, is_judged_ask}
+use Rattle.dns_judgement.proofs.Members.{picked_known}
 use Rattle.dns_laws.specs.Ground.{none_supported, shows_unsupported_ds, shows_unsigned, is_ground}
-use Rattle.dns_laws.proofs.GroundParts.{any_more, any_at, each_at, picked, found_any, none_any}
+use Rattle.dns_laws.proofs.GroundParts.{any_more, any_at, each_at, found_any, none_any}
 
 -- some of these steps is a ground of the name
 abbrev pub Grounded : VerifierAnswers → List AskedValue → Labels → Type 0
@@ -145,7 +146,7 @@ answer_shows verifier earlier class name answer None settled is h =
     (and_from (not (list_any (is_ds_set_of class name) answer)) (list_any (shows_no_ds name) answer)
     (ap not (none_any (is_ds_set_of class name) answer is)) e)))
     (λ (e : list_any (is_insecure_above name) answer ≡ true).
-    let p = picked (is_insecure_above name) (IsSettled verifier earlier) answer settled e in
+    let p = picked_known (is_insecure_above name) (IsSettled verifier earlier) answer settled e in
     let parts = and_parts (is_insecure p.it.mark) (at_or_above p.it.set.owner name) p.passes in
     inr (grounded_below verifier earlier p.it.set.owner name parts.1 (p.known.grounded parts.0)))
     (or_cases (list_any (shows_no_ds name) answer) (list_any (is_insecure_above name) answer)

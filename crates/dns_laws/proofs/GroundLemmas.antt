@@ -22,10 +22,11 @@ use Rattle.dns_judgement.specs.Asking.{depth_limit, judged_part}
 use Rattle.dns_judgement.specs.Outcome.{outcome_of, foreign_record}
 use Rattle.dns_judgement.specs.Derivation.{Grounds, told_in, with_entries, judged_sets, same_record, has_mark_of, is_by_origin, is_repeat, is_empty, entry_holds, entries_hold, ending_holds, step_holds, steps_hold, has_order, derivation}
 use Rattle.dns_judgement.specs.DerivationParts.{grounds_of, repeats_step, is_foreign, is_failed, is_seen, is_bare, judged_holds, step_holds_by}
+use Rattle.dns_judgement.proofs.Members.{picked_known}
 use Rattle.dns_judgement.proofs.FindLemmas.{each_all}
 use Rattle.dns_judgement.proofs.ExtendLemmas.{without_entries}
 use Rattle.dns_laws.specs.Ground.{is_ground, has_ground, is_grounded, HasGrounds}
-use Rattle.dns_laws.proofs.GroundParts.{any_front, each_at, picked}
+use Rattle.dns_laws.proofs.GroundParts.{any_front, each_at}
 use Rattle.dns_laws.proofs.GroundAnswers.{Grounded, IsSettled, AreSettled, StepsSettled, grounded_alike}
 use Rattle.dns_laws.proofs.GroundMarks.{EarlierSettled, GroundedIn, mark_of_entry, rules_grounded}
 
@@ -51,7 +52,7 @@ repeat_grounded g placed entry n (Some step) settled proper insecure is h =
     let V = g.judge.answers in
     let sets = judged_sets step in
     let each = each_at (λ s. AreSettled V g.earlier (judged_sets s)) g.earlier n step settled is in
-    let p = picked (is_repeat placed entry) (IsSettled V g.earlier) sets each
+    let p = picked_known (is_repeat placed entry) (IsSettled V g.earlier) sets each
     ((and_parts (question_eq g.query step.query) (list_any (is_repeat placed entry) sets) h).1) in
     let set = p.it.set in
     let records = pointwise same_record placed.set.records set.records in

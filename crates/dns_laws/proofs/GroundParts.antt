@@ -5,7 +5,6 @@ use Rattle.std.proofs.lemmas.List.Folds.{list_any-append}
 pub use Rattle.std.proofs.lemmas.Map.Keys.{any_passes_from_place as any_at}
 use Rattle.dns_model.specs.Names.{Label, Labels, lowered, parent, at_or_above}
 use Rattle.dns_model.proofs.AboveLemmas.{above_itself, below_made}
-pub use Rattle.dns_judgement.proofs.Members.{picked_known as picked}
 
 -- ---- an element that passes
 

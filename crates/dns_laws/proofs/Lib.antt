@@ -12,7 +12,6 @@ pub mod ToldSetLemmas
 pub mod DeniedOutcomes
 pub mod DenialLemmas
 pub mod WorkedPromises
-pub mod QuestionLemmas
 pub mod SignedEntryLemmas
 pub mod KeyEntryLemmas
 pub mod OrderPathLemmas

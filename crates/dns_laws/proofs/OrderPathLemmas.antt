@@ -4,6 +4,7 @@ use Rattle.std.specs.Prelude.{◌&&◌}
 use Rattle.std.specs.Option.{option_and_then}
 use Rattle.std.proofs.lemmas.Bool.Decides.{nat_tests}
 use Rattle.std.proofs.lemmas.List.{append_cancel_left}
+use Rattle.std.proofs.lemmas.Option.{same_Some}
 use Rattle.dns_model.specs.declared.trail.AskRef.{AskRef}
 use Rattle.dns_model.specs.declared.trail.AskRef.TheVariants.{Step, TooDeep, TooMany}
 use Rattle.dns_model.specs.Trails.{AskedValue}
@@ -13,7 +14,6 @@ use Rattle.dns_judgement.specs.Asking.{most_sends}
 use Rattle.dns_judgement.specs.Derivation.{asks_of, order_asks, order_step, end_asks, end_step}
 use Rattle.dns_judgement.proofs.OrderLemmas.{order_step_at}
 use Rattle.dns_judgement.proofs.SendOrderLemmas.{OfAsks, HandsOn, asks_meet, step_visits}
-use Rattle.dns_laws.proofs.TestLemmas.{some_same}
 
 -- ---- what is met begins with the step
 
@@ -55,7 +55,7 @@ pub none_met : (trail : List AskedValue) (n : ℕ) (step : AskedValue) (met orde
     → on.more ≡ []
 unfolding order_asks
 none_met trail n step met order on none =
-    let whole = some_same (met ++ n ∷ []) order (sym (ap (λ asks. order_asks (order_step on.below trail) n asks (met ++ n ∷ [])) none) ∙ on.asks) in
+    let whole = same_Some (met ++ n ∷ []) order (sym (ap (λ asks. order_asks (order_step on.below trail) n asks (met ++ n ∷ [])) none) ∙ on.asks) in
     append_cancel_left (met ++ n ∷ []) on.more [] (sym on.grown ∙ sym whole ∙ sym (append-nil (met ++ n ∷ [])))
 
 then_same : (o : Option (List ℕ)) (order : List ℕ) → option_and_then (λ met. Some met) o ≡ Some order → o ≡ Some order
@@ -94,7 +94,7 @@ ended_asks : (o : Option ℕ) (n k : ℕ) → option_and_then (λ i. if i == n t
 ended_asks None n k h = cc
 ended_asks (Some i) n k h =
     let parts = if_some (i == n) (Some (n + 1)) k h in
-    (ap Some (number_same i n parts.0), sym (some_same (n + 1) k parts.1))
+    (ap Some (number_same i n parts.0), sym (same_Some (n + 1) k parts.1))
 
 pub ends_as : (over : ℕ) (trail : List AskedValue) (n k : ℕ) (step : AskedValue) → slice_get trail n ≡ Some step
     → end_step over trail n 0 ≡ Some k → EndsAs trail n k step
@@ -110,7 +110,7 @@ ends_as (suc over) trail n k step is h =
 pub none_ends : (trail : List AskedValue) (n k : ℕ) (step : AskedValue) → EndsAs trail n k step → asks_of step ≡ [] → n ≡ 0
 unfolding end_asks
 none_ends trail n k step ends none =
-    sym (some_same 0 n (sym (ap (λ asks. end_asks (end_step ends.below trail) asks 0) none) ∙ ends.asks))
+    sym (same_Some 0 n (sym (ap (λ asks. end_asks (end_step ends.below trail) asks 0) none) ∙ ends.asks))
 
 then_value : (o : Option ℕ) (n : ℕ) → option_and_then (λ i. Some i) o ≡ Some n → o ≡ Some n
 then_value None n h = cc

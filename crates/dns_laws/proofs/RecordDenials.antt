@@ -15,8 +15,8 @@ use Rattle.dns_model.proofs.SetLemmas.{KeepsKey, is_of, section_same}
 use Rattle.dns_judgement.specs.Judged.{Judged, placed_of}
 use Rattle.dns_judgement.specs.Marking.{marked, map_after, marked_section}
 use Rattle.dns_judgement.specs.Outcome.{owned_nsec, is_denying, denying, denials}
+use Rattle.dns_judgement.proofs.Members.{picked_known}
 use Rattle.dns_judgement.proofs.MarkedLemmas.{marked-keeps, IsKnown, each_known, own_from, own_marked}
-use Rattle.dns_laws.proofs.GroundParts.{picked}
 use Rattle.dns_laws.specs.OwnDenials.{is_secure_nsec, secure_nsecs}
 
 -- ---- one record
@@ -178,5 +178,5 @@ some_denial now told sets grouped some =
     let Never = λ (r : Rr). ⊥ in
     true_from_ne_false (list_any is_secure_nsec records) (λ none.
     let known = of_denying Never Never now told sets grouped (λ before r never. never) (kept_none is_secure_nsec records none) in
-    let one = picked is_denying (λ s. IsKnown told sets s × (is_denying s ≡ true → AllByRecursion Never s.set.records)) sets known some in
+    let one = picked_known is_denying (λ s. IsKnown told sets s × (is_denying s ≡ true → AllByRecursion Never s.set.records)) sets known some in
     no_record one.it.set.records one.known.0.proper.listed (one.known.1 one.passes))

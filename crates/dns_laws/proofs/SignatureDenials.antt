@@ -24,10 +24,11 @@ use Rattle.dns_judgement.specs.Marking.{is_about, marked, marked_section, marked
 use Rattle.dns_judgement.specs.Outcome.{answers_query, has_answer, is_wildcard_signature, is_expanded_answer, is_expanded_for, decider_labels, least, answered_from, answered, is_denying, denying, denials, is_made_by}
 use Rattle.dns_judgement.proofs.DeciderLemmas.{decider_is}
 use Rattle.dns_judgement.proofs.FindLemmas.{each_all}
+use Rattle.dns_judgement.proofs.Members.{picked_known}
 use Rattle.dns_judgement.proofs.MarkedLemmas.{marked-keeps, IsAbout, about_parts, IsKnown, each_known, made_secure}
 use Rattle.dns_judgement.proofs.AfterLemmas.{each_after}
 use Rattle.dns_laws.specs.Denials.{IsDenier, ShowsDenial}
-use Rattle.dns_laws.proofs.GroundParts.{picked, found_any}
+use Rattle.dns_laws.proofs.GroundParts.{found_any}
 use Rattle.dns_laws.specs.OwnDenials.{secure_nsecs, IsDenyingZone, signs_nsec, has_signer, is_expansion, has_labels_from, DeniesByRecords}
 use Rattle.dns_laws.proofs.RecordDenials.{kept_parts, each_given, each_denial, some_denial}
 use Rattle.dns_laws.proofs.SecureRecordLemmas.{any_after}
@@ -181,7 +182,7 @@ any_expansion now q told sets grouped h =
     (λ before rest r split is.
     let e = expanded_by now q told sets before rest r grouped split is in
     found_any (is_about Answer r) (is_expanded_for q) sets e.set e.found e.expanded) in
-    let one = picked (is_expansion q) Shows (marked_section now sets Answer told.answers) each h in
+    let one = picked_known (is_expansion q) Shows (marked_section now sets Answer told.answers) each h in
     one.known one.passes
 
 -- ---- its labels

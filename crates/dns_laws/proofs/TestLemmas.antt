@@ -5,7 +5,7 @@ use Rattle.std.specs.Option.{option_map_or}
 use Rattle.std.specs.List.{filter, find, list_any, AllByRecursion}
 use Rattle.std.proofs.lemmas.Bool.{or_cases}
 use Rattle.std.proofs.Math.Logic.{⊎_elim}
-pub use Rattle.std.proofs.lemmas.Option.{same_Some as some_same}
+use Rattle.std.proofs.lemmas.Option.{same_Some}
 use Rattle.dns_model.proofs.SetLemmas.{number_same}
 
 -- ---- optional values
@@ -32,7 +32,7 @@ one_is (x ∷ y ∷ ys) h = absurd (omega (arith, number_same (length (x ∷ y �
 
 -- the first of a list of one
 pub only_first : {X : Type 0} (xs : List X) (a b : X) → xs ≡ a ∷ [] → slice_get xs 0 ≡ Some b → a ≡ b
-only_first xs a b is h = some_same a b (sym (ap (λ ys. slice_get ys 0) is) ∙ h)
+only_first xs a b is h = same_Some a b (sym (ap (λ ys. slice_get ys 0) is) ∙ h)
 
 -- the first of a list
 pub record Begins {X : Type 0} (xs : List X) : Type 0 where

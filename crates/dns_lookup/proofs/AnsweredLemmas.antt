@@ -17,8 +17,9 @@ use Rattle.dns_judgement.specs.Judged.{Judged, placed_of}
 use Rattle.dns_judgement.specs.Marking.{cleared_message}
 use Rattle.dns_judgement.specs.Outcome.{Outcome, Unjudged, Given, Searched, is_unjudged, foreign_record}
 use Rattle.dns_judgement.specs.Outcome as outcome
+use Rattle.dns_judgement.proofs.Members.{picked_known}
 use Rattle.dns_judgement.proofs.MarkedLemmas.{IsKnown, each_known}
-use Rattle.dns_laws.proofs.GroundParts.{any_front, picked, found_any}
+use Rattle.dns_laws.proofs.GroundParts.{any_front, found_any}
 use Rattle.dns_handle.specs.Errors.{Reply, ErrorValue}
 use Rattle.dns_handle.specs.Handles.{reply_to}
 use Rattle.dns_handle.specs.Replies.{reply_of}
@@ -62,7 +63,7 @@ first_of_set (r ∷ rs) some = record { value = r; is = refl }
 
 unjudged_told : (told : Told) (sets : List Judged) → map placed_of sets ≡ placed_sets told → list_any is_unjudged sets ≡ true → tells_nsec3 told ≡ true
 unjudged_told told sets grouped any =
-    let one = picked is_unjudged (IsKnown told sets) sets (each_known told sets grouped) any in
+    let one = picked_known is_unjudged (IsKnown told sets) sets (each_known told sets grouped) any in
     let set = one.it.set in
     let section = section_of told one.it.section in
     let first = first_of_set set.records one.known.proper.listed in

@@ -3,6 +3,7 @@ use Rattle.std.proofs.Common.{ℕ, ◌≡◌, ◌∙◌, ◌⊎◌, inl, inr, Bo
 use Rattle.std.specs.Option.{option_map_or}
 use Rattle.std.specs.List.{list_any}
 use Rattle.std.proofs.lemmas.Bool.{true≢false}
+use Rattle.std.proofs.lemmas.Option.{same_Some}
 use Rattle.dns_model.specs.declared.denial.Denial.{Denial}
 use Rattle.dns_model.specs.declared.denial.Denial.TheVariants as denial
 use Rattle.dns_model.specs.declared.proof.Proof.{Proof}
@@ -11,13 +12,12 @@ use Rattle.dns_model.specs.Records.{Question, question_eq}
 use Rattle.dns_model.specs.Chains.{Judge}
 use Rattle.dns_model.specs.SoundAnswers.{Told, ResponseValue}
 use Rattle.dns_model.specs.Trails.{AskedValue, Records, Fault, EndingValue, Answered, Denied, Failed}
+use Rattle.dns_model.proofs.QuestionLemmas.{question_refl, question_back, question_trans, question_right}
 use Rattle.dns_judgement.specs.Derivation.{told_in, judged_sets, top_step, in_send_order, derivation}
 use Rattle.dns_judgement.specs.Marking.{marked_section}
 use Rattle.dns_laws.specs.Complete.{Upstream, HeardAlong, shows_secure, ProvesQuery}
 use Rattle.dns_laws.specs.Valid.{IsValidSession}
 use Rattle.dns_laws.proofs.CompleteLemmas.{valid_reply, valid_session_is_proved}
-use Rattle.dns_laws.proofs.TestLemmas.{some_same}
-use Rattle.dns_laws.proofs.QuestionLemmas.{question_refl, question_back, question_trans, question_right}
 use Rattle.dns_handle.specs.Errors.{Reply, Dns, Message, Nsec}
 use Rattle.dns_handle.specs.Handles.{Replies, reply_to, after_turn, left_after, ReplyIsTold}
 use Rattle.dns_handle.specs.Replies.{reply_of}
@@ -126,7 +126,7 @@ pub replies_prove : (j : Judge) (replies : Replies) (depth : ℕ) (q : Question)
 replies_prove j replies depth q trail top ending derived last query ends from valid =
     let asked = ap (question_eq q) query ∙ question_refl q in
     let proved = valid_session_is_proved replying replies j depth q trail top derived last asked (received_replies replies (in_send_order trail) from) valid in
-    let same = some_same proved.top top (sym proved.last ∙ last) in
+    let same = same_Some proved.top top (sym proved.last ∙ last) in
     record { queries = valid.queries; proved = proved; ends = sym ends ∙ ap (λ step. step.ending) (sym same) ∙ proved.ending }
 
 -- the session is valid for the call's query
@@ -155,9 +155,9 @@ failed_never h = cc
 response_secure : (j : Judge) (replies : Replies) (q : Question) (now : ℕ) (response : ResponseValue) (ending : EndingValue)
     → IsProved j replies q response.trail ending → HasMarksOfTrail now response → shows_secure q response.message.answers ≡ true
 response_secure j replies q now response ending is marks =
-    let top = some_same is.proved.top marks.top (sym is.proved.last ∙ marks.last) in
+    let top = same_Some is.proved.top marks.top (sym is.proved.last ∙ marks.last) in
     let told : is.proved.told ≡ marks.told =
-    some_same is.proved.told marks.told (sym is.proved.heard ∙ ap (λ step. told_in step.reply) top ∙ ap told_in marks.heard) in
+    same_Some is.proved.told marks.told (sym is.proved.heard ∙ ap (λ step. told_in step.reply) top ∙ ap told_in marks.heard) in
     ap (λ told. shows_secure q told.answers) marks.marked
     ∙ ap (λ step. shows_secure q (marked_section now (judged_sets step) Answer marks.told.answers)) (sym top)
     ∙ ap (λ told. shows_secure q (marked_section now (judged_sets is.proved.top) Answer told.answers)) (sym told)

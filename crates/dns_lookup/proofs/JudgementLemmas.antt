@@ -12,7 +12,7 @@ use Rattle.dns_model.specs.Records.{RrSet, Question}
 use Rattle.dns_model.specs.Chains.{LinkValue}
 use Rattle.dns_model.specs.SoundAnswers.{Placed}
 use Rattle.dns_model.specs.Trails.{AskedValue, JudgedSetValue}
-use Rattle.dns_model.proofs.EachLemmas.{each_append}
+use Rattle.dns_model.proofs.EachLemmas.{each_append, each_front}
 use Rattle.dns_judgement.specs.Chained.{Chained, ChainedVerdict, bare, bare_verdicts, stands, chained_by, chained_unsigned, chained_keys, chained_by_ds}
 use Rattle.dns_judgement.specs.Delegations.{ZoneVerdict, Signed, Insecure, Bogus, ds_question, zone_verdict}
 use Rattle.dns_judgement.specs.Unsigned.{set_start, is_searched, unsigned_mark, unsigned_by}
@@ -188,10 +188,6 @@ judgement_later g after more ps cs es grown judged = record {
   stand = judged.stand;
 }
 
-all_front : {X : Type 0} (P : X → Type 0) (xs ys : List X) → AllByRecursion P (xs ++ ys) → AllByRecursion P xs
-all_front P [] ys h = tt
-all_front P (x ∷ xs) ys h = (h.0, all_front P xs ys h.1)
-
 all_last : {X : Type 0} (P : X → Type 0) (xs : List X) (y : X) → AllByRecursion P (xs ++ y ∷ []) → P y
 all_last P [] y h = h.0
 all_last P (x ∷ xs) y h = all_last P xs y h.1
@@ -205,7 +201,7 @@ judgement_more g ps p cs c es e judged one = record {
       map-append (λ x. x.judged) cs (c ∷ []) ∙ ap (λ xs. xs ++ c.judged ∷ []) judged.same ∙ ap (λ x. with_entries ps es ++ x ∷ []) one.same
       ∙ sym (with_entries-append ps (p ∷ []) es (e ∷ []) (entries_as_many g ps es judged.hold));
   stand = λ plain.
-      each_append (λ x. stands g.judge x ≡ true) cs (c ∷ []) (judged.stand (all_front (λ x. IsPlainSet x.set) ps (p ∷ []) plain))
+      each_append (λ x. stands g.judge x ≡ true) cs (c ∷ []) (judged.stand (each_front (λ x. IsPlainSet x.set) ps (p ∷ []) plain))
       (one.stand (all_last (λ x. IsPlainSet x.set) ps p plain), tt);
 }
 

@@ -11,7 +11,9 @@ use Rattle.dns_model.specs.Records.{Rr, Question, question_eq}
 use Rattle.dns_model.specs.Chains.{Judge}
 use Rattle.dns_model.specs.SoundAnswers.{Told}
 use Rattle.dns_model.specs.Trails.{AskedValue, HeardValue, JudgedSetValue, EndingValue, Records, Fault, Failed, Seen}
+use Rattle.dns_model.proofs.Lists.{slice_get_appended}
 use Rattle.dns_model.proofs.SetLemmas.{name_refl, number_refl}
+use Rattle.dns_model.proofs.QuestionLemmas.{question_refl}
 use Rattle.dns_judgement.specs.Asking.{most_sends, judged_part}
 use Rattle.dns_judgement.specs.Chained.{Chained, bare}
 use Rattle.dns_judgement.specs.Judged.{Judged}
@@ -22,7 +24,6 @@ use Rattle.dns_judgement.specs.DerivationParts.{answer_of, grounds_of, is_bare, 
 use Rattle.dns_judgement.specs.Outcome.{Outcome, Unjudged, Given, Searched, Denied, outcome_of, outcome_by_zone, foreign_record}
 use Rattle.dns_judgement.proofs.EndingLemmas.{ending_without, ending_by_search}
 use Rattle.dns_judgement.proofs.ExtendLemmas.{proof_refl}
-use Rattle.dns_judgement.proofs.OrderLemmas.{slice_get_appended}
 use Rattle.dns_judgement.proofs.SearchLemmas.{plain_asked, plain_sees}
 use Rattle.dns_handle.specs.Errors.{Reply}
 use Rattle.dns_lookup.specs.AskRequests.{Ask}
@@ -130,11 +131,6 @@ asks_ended {H} ask j limit a b c s t u step made n k m l sent nested next last f
     subst M (sym last) (subst Q (sym added.steps) (subst R (sym added.named) (asks_step ask j limit a b c s t step n m sent (subst N next nested) few holds)))
 
 -- ---- the answer of an ask
-
-pub question_refl : (q : Question) → question_eq q q ≡ true
-question_refl q =
-    and_from (name_eq q.owner q.owner) ((q.rtype == q.rtype) && (q.class == q.class)) (name_refl q.owner)
-    (and_from (q.rtype == q.rtype) (q.class == q.class) (number_refl q.rtype) (number_refl q.class))
 
 -- the step that was added answers its ask
 added_answer : (j : Judge) (limit : ℕ) (before after : List AskedValue) (q : Question) (depth : ℕ) (reply : HeardValue) (sets : List JudgedSetValue) (ending : EndingValue)

@@ -2,6 +2,7 @@
 use Rattle.std.proofs.Common.{◌≡◌, ℕ, Bool, true, false, not, ◌==◌, ◌&&◌, List, Option, None, Some, refl, sym, ap, ◌∙◌}
 use Rattle.std.specs.Prelude.{if◌then◌else◌, min, slice_get}
 use Rattle.std.specs.Option.{option_map, option_map_or, option_and_then}
+use Rattle.std.proofs.lemmas.Bool.{and_right}
 use Rattle.dns_model.specs.Views.{RrsigValue, DnskeyValue, is_zone_key, is_revoked}
 use Rattle.dns_model.specs.Serial.{timely}
 use Rattle.dns_model.specs.Names.{name_eq}
@@ -18,10 +19,6 @@ use Rattle.dns_marks.specs.Kinds.{misfit}
 use Rattle.dns_marks.specs.KeySignatures.{validity_at, proof_read, signature_proof, is_put, calls_by_key, calls_unless, calls_read}
 use Rattle.dns_marks.specs.SignatureKeys.{is_proving}
 use Rattle.dns_marks.specs.Proofs.{proved_by, proved_with}
-
-and_false : (b : Bool) → (b && false) ≡ false
-and_false true = refl
-and_false false = refl
 
 -- ---- a key or a signature that can't be read
 
@@ -45,14 +42,13 @@ proved_as_read now set r sig place h =
 pub put_no_signature : (verifier : VerifierAnswers) (now : ℕ) (set : RrSet) (r key : Rr) → rrsig_of r ≡ None → is_put verifier now set r key ≡ false
 put_no_signature verifier now set r key h =
     ap (λ b. is_secure key.proof && (b && option_map_or (usable_key verifier) (dnskey_of key) false)) (validity_unread now set r key h)
-    ∙ and_false (is_secure key.proof)
+    ∙ and_right (is_secure key.proof) false refl
 
 -- nor without a key
 pub put_no_key : (verifier : VerifierAnswers) (now : ℕ) (set : RrSet) (r key : Rr) → dnskey_of key ≡ None → is_put verifier now set r key ≡ false
 put_no_key verifier now set r key h =
     ap (λ o. is_secure key.proof && (is_valid (validity_at now set r key) && option_map_or (usable_key verifier) o false)) h
-    ∙ ap (λ b. is_secure key.proof && b) (and_false (is_valid (validity_at now set r key)))
-    ∙ and_false (is_secure key.proof)
+    ∙ and_right (is_secure key.proof) (is_valid (validity_at now set r key) && false) (and_right (is_valid (validity_at now set r key)) false refl)
 
 -- ---- what a call answers
 
@@ -113,9 +109,9 @@ calls_case : (secure revoked zone three algorithm supported : Bool) (valid : Val
     ≡ calls_unless (calls_unless (if supported then 1 else 0) (misfit valid))
     (if not secure then Some a else if revoked then Some b else if not (zone && three) then Some c else if not algorithm then Some d else None)
 calls_case false revoked zone three algorithm supported valid a b c d h = refl
-calls_case true true zone three algorithm supported valid a b c d h = ap (λ t. if t then 1 else 0) (ap (λ t. is_valid valid && t) (and_false zone) ∙ and_false (is_valid valid))
-calls_case true false false three algorithm supported valid a b c d h = ap (λ t. if t then 1 else 0) (and_false (is_valid valid))
-calls_case true false true false algorithm supported valid a b c d h = ap (λ t. if t then 1 else 0) (and_false (is_valid valid))
+calls_case true true zone three algorithm supported valid a b c d h = ap (λ t. if t then 1 else 0) (and_right (is_valid valid) (zone && false) (and_right zone false refl))
+calls_case true false false three algorithm supported valid a b c d h = ap (λ t. if t then 1 else 0) (and_right (is_valid valid) false refl)
+calls_case true false true false algorithm supported valid a b c d h = ap (λ t. if t then 1 else 0) (and_right (is_valid valid) false refl)
 calls_case true false true true false supported valid a b c d h = ap (λ t. if t && supported then 1 else 0) (h refl)
 calls_case true false true true true supported ValidRrsig a b c d h = refl
 calls_case true false true true true supported ExpiredRrsig a b c d h = refl

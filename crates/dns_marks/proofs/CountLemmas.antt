@@ -1,10 +1,10 @@
 -- How often the verifier is asked for one signature: by two keys of its tag at the most.
-use Rattle.std.proofs.Common.{◌≡◌, ℕ, ◌+◌, ◌≤◌, Bool, true, false, not, ◌==◌, ◌&&◌, cond, List, [], ◌∷◌, ◌++◌, Option, None, Some, refl, sym, ap, ◌∙◌, arith, zero-add}
+use Rattle.std.proofs.Common.{◌≡◌, ℕ, ◌+◌, ◌≤◌, Bool, true, false, not, ◌==◌, ◌&&◌, cond, List, [], ◌∷◌, ◌++◌, Option, None, Some, refl, sym, ap, ◌∙◌, arith}
 use Rattle.std.specs.Prelude.{if◌then◌else◌, nat_lt, min}
 use Rattle.std.specs.Option.{option_map_or}
 use Rattle.std.specs.List.{filter, count_by}
+use Rattle.std.proofs.lemmas.Bool.{and_right}
 use Rattle.std.proofs.lemmas.Bool.Decides.{nat_tests}
-use Rattle.std.proofs.lemmas.List.Sums.{sum_by-append}
 use Rattle.dns_model.specs.Views.{RrsigValue, DnskeyValue, is_zone_key}
 use Rattle.dns_model.specs.Serial.{timely}
 use Rattle.dns_model.specs.Names.{Labels, name_eq}
@@ -13,10 +13,12 @@ use Rattle.dns_model.specs.Keys.{VerifierAnswers, usable_key}
 use Rattle.dns_model.specs.Records.{Rr, RrSet}
 use Rattle.dns_model.specs.RecordViews.{rrsig_of, dnskey_of}
 use Rattle.dns_model.specs.SoundAnswers.{is_secure}
+use Rattle.dns_model.proofs.SetLemmas.{number_same, number_back}
 use Rattle.dns_judgement.specs.Validity.{ValidRrsig, ExpiredRrsig, WrongDnskey, WrongRrsig, validity, is_valid, is_of_set, is_by_key}
 use Rattle.dns_judgement.specs.Marks.{is_key_of, same_tag, may_be_signed, counted_keys}
 use Rattle.dns_judgement.specs.MarkParts.{sig_validity}
 use Rattle.dns_judgement.proofs.FirstLemmas.{early_after, first_two-after}
+use Rattle.dns_trust.proofs.Counts.{next_of, count_push}
 use Rattle.dns_marks.specs.KeySignatures.{validity_at, is_put}
 use Rattle.dns_marks.specs.SignatureKeys.{is_proving, calls_in_turn, calls_by_keys_read, calls_by_keys}
 use Rattle.dns_marks.proofs.CallLemmas.{unput, put_no_key}
@@ -27,10 +29,6 @@ use Rattle.dns_marks.proofs.KeyLemmas.{turn_of, none_of}
 abbrev has_tag : ℕ → Rr → Bool
 has_tag tag r = tag == key_tag_of r.rdata
 
-and_no : (b : Bool) → (b && false) ≡ false
-and_no true = refl
-and_no false = refl
-
 fit_case : (of_set timely_now named algorithm zone tag : Bool) → tag ≡ false
     → is_valid (if not of_set then WrongRrsig else if not timely_now then ExpiredRrsig else if named && (algorithm && (tag && zone)) then ValidRrsig else WrongDnskey) ≡ false
 fit_case false timely_now named algorithm zone tag h = refl
@@ -39,9 +37,6 @@ fit_case true true false algorithm zone tag h = refl
 fit_case true true true false zone tag h = refl
 fit_case true true true true zone true h = cc
 fit_case true true true true zone false h = refl
-
-back : (a b : ℕ) → (a == b) ≡ (b == a)
-back a b = grind (arith, nat_tests)
 
 other_tag : (verifier : VerifierAnswers) (now : ℕ) (set : RrSet) (r key : Rr) (sig : RrsigValue) (text : Option DnskeyValue) → rrsig_of r ≡ Some sig
     → dnskey_of key ≡ text → has_tag sig.key_tag key ≡ false → is_put verifier now set r key ≡ false
@@ -53,8 +48,8 @@ other_tag verifier now set r key sig (Some text) read is h =
     ∙ ap (λ o. is_valid (if not (is_of_set set r sig) then WrongRrsig else if not (timely sig now) then ExpiredRrsig
     else option_map_or (λ t. if is_by_key sig key t then ValidRrsig else WrongDnskey) o WrongDnskey)) is
     ∙ fit_case (is_of_set set r sig) (timely sig now) (name_eq sig.signer key.owner) (text.algorithm == sig.algorithm) (is_zone_key text)
-    (key_tag_of key.rdata == sig.key_tag) (back (key_tag_of key.rdata) sig.key_tag ∙ h) in
-    ap (λ b. is_secure key.proof && (b && option_map_or (usable_key verifier) (dnskey_of key) false)) invalid ∙ and_no (is_secure key.proof)
+    (key_tag_of key.rdata == sig.key_tag) (number_back (key_tag_of key.rdata) sig.key_tag ∙ h) in
+    ap (λ b. is_secure key.proof && (b && option_map_or (usable_key verifier) (dnskey_of key) false)) invalid ∙ and_right (is_secure key.proof) false refl
 
 -- ---- of a tag there are two keys
 
@@ -74,14 +69,8 @@ turn_most verifier now set r sig key keys read =
     (turn_case (is_proving verifier now set r key) (is_put verifier now set r key) (has_tag sig.key_tag key) (calls_in_turn verifier now set r keys)
     (calls_in_turn verifier now set r keys) (unput verifier now set r key) (other_tag verifier now set r key sig (dnskey_of key) read refl) refl)
 
-count_push : (p : Rr → Bool) (rs : List Rr) (key : Rr) → count_by p (rs ++ key ∷ []) ≡ count_by p rs + cond (p key) 1 0
-count_push p rs key = sum_by-append (λ r. cond (p r) 1 0) rs (key ∷ []) ∙ ap (λ n. count_by p rs + n) (zero-add (cond (p key) 1 0))
-
-same_number : (a b : ℕ) → (a == b) ≡ true → a ≡ b
-same_number a b h = grind (arith, nat_tests)
-
 tag_count : (tag : ℕ) (key : Rr) (met : List Rr) → has_tag tag key ≡ true → count_by (same_tag key) met ≡ count_by (has_tag tag) met
-tag_count tag key met h = ap (λ t. count_by (has_tag t) met) (sym (same_number tag (key_tag_of key.rdata) h))
+tag_count tag key met h = ap (λ t. count_by (has_tag t) met) (sym (number_same tag (key_tag_of key.rdata) h))
 
 -- the calls by the keys that are left, those before of the tag counted to two
 two_case : (few has : Bool) (own met more calls all : ℕ) → few ≡ nat_lt own 2 → (has ≡ true → own ≡ met) → more ≡ met + cond has 1 0
@@ -90,11 +79,6 @@ two_case true true own met more calls all few same is h most = let e : own ≡ m
 two_case false true own met more calls all few same is h most = let e : own ≡ met = same refl in grind (arith, nat_tests, e, few, is, h, most)
 two_case true false own met more calls all few same is h most = grind (arith, nat_tests, is, h, most)
 two_case false false own met more calls all few same is h most = grind (arith, nat_tests, is, h, most)
-
-early_of : (met : List Rr) (key : Rr) (keys : List Rr) → early_after met (key ∷ keys)
-    ≡ cond (nat_lt (count_by (same_tag key) met) 2) (key ∷ early_after (met ++ key ∷ []) keys) (early_after (met ++ key ∷ []) keys)
-unfolding early_after
-early_of met key keys = refl
 
 early_none : (met : List Rr) → early_after met [] ≡ []
 unfolding early_after
@@ -118,7 +102,7 @@ two_calls verifier now set r sig met (key ∷ keys) read =
     (count_by (has_tag sig.key_tag) (met ++ key ∷ [])) (calls_in_turn verifier now set r left) (calls_in_turn verifier now set r (early_after met (key ∷ keys)))
     refl (tag_count sig.key_tag key met) (count_push (has_tag sig.key_tag) met key)
     (two_calls verifier now set r sig (met ++ key ∷ []) keys read)
-    (rw (early_of met key keys) (early_case verifier now set r sig key left few read))
+    (rw (next_of met key keys) (early_case verifier now set r sig key left few read))
 
 none_before : (tag : ℕ) → count_by (has_tag tag) [] ≡ 0
 none_before tag = refl

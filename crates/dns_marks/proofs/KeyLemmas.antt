@@ -5,6 +5,7 @@ use Rattle.std.specs.Option.{option_map_or}
 use Rattle.std.specs.List.{list_any, list_all}
 use Rattle.std.specs.Borrow.{Bor}
 use Rattle.std.proofs.lemmas.List.{drop_more, drop_all}
+use Rattle.std.proofs.lemmas.Bool.{and_right}
 use Rattle.std.proofs.lemmas.Bool.Decides.{nat_tests}
 use Rattle.dns_model.specs.declared.proof.Proof.{Proof}
 use Rattle.dns_model.specs.declared.proof.Proof.TheVariants as proof
@@ -47,13 +48,9 @@ all_fail test keys i key h is a fails =
 pub all_end : (test : Rr → Bool) (keys : List (Bor Rr)) (i : ℕ) → length keys ≤ i → AllFrom test keys i → list_all test (shown keys) ≡ true
 all_end test keys i h a = sym a.left ∙ ap (λ ks. list_all test (shown ks)) (drop_all i keys h)
 
-and_no : (b : Bool) → (b && false) ≡ false
-and_no true = refl
-and_no false = refl
-
 -- one that fails is enough, and none at all too
 pub none_insecure : (first : Option Rr) (all : Bool) → all ≡ false → false ≡ (is_some first && all)
-none_insecure first all h = sym (ap (λ b. is_some first && b) h ∙ and_no (is_some first))
+none_insecure first all h = sym (and_right (is_some first) all h)
 
 pub some_insecure : (keys : List (Bor Rr)) (all : Bool) (empty : Bool) → empty ≡ (length keys == 0) → all ≡ true
     → not empty ≡ (is_some (slice_get (shown keys) 0) && all)

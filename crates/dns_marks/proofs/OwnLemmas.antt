@@ -9,9 +9,8 @@ use Rattle.dns_model.specs.Names.{Labels, name_eq}
 use Rattle.dns_model.specs.Types.{type_rrsig}
 use Rattle.dns_model.specs.Records.{Rr}
 use Rattle.dns_model.specs.Sections.{same_set, is_signature, leaders, unsigned_part, set_of, sets_of}
-use Rattle.dns_model.proofs.NameLemmas.{name_equiv}
 use Rattle.dns_model.proofs.EachLemmas.{map-map, find-map, find_agree}
-use Rattle.dns_model.proofs.SetLemmas.{name_left, number_same, number_back}
+use Rattle.dns_model.proofs.SetLemmas.{name_left, number_same, number_back, same_set_back}
 use Rattle.dns_judgement.specs.Judged.{Judged}
 use Rattle.dns_marks.specs.ZoneVerdicts.{marked_set, marked_sets, is_record_of}
 
@@ -85,9 +84,6 @@ lead_first kind passes is (x ∷ xs) =
 
 -- ---- the records of a name and a type are such a kind
 
-same_back : (a b : Rr) → same_set a b ≡ same_set b a
-same_back a b = ap (λ n. n && (a.rtype == b.rtype)) (name_equiv.symm a.owner b.owner) ∙ ap (λ t. name_eq b.owner a.owner && t) (number_back a.rtype b.rtype)
-
 own_within : (name : Labels) (rtype : ℕ) (a b : Rr) → is_record_of name rtype a ≡ true → same_set a b ≡ is_record_of name rtype b
 own_within name rtype a b h =
     let parts : (name_eq name a.owner ≡ true) × ((a.rtype == rtype) ≡ true) = and_parts _ _ h in
@@ -98,7 +94,7 @@ own_within name rtype a b h =
 own_kind : (name : Labels) (rtype : ℕ) → IsKind (is_record_of name rtype)
 own_kind name rtype = record {
   within = own_within name rtype;
-  apart = λ a b other own. same_back a b ∙ own_within name rtype b a own ∙ other;
+  apart = λ a b other own. same_set_back a b ∙ own_within name rtype b a own ∙ other;
 }
 
 -- no signature is one

@@ -3,6 +3,7 @@ use Rattle.std.proofs.Common.{◌≡◌, ℕ, Bool, true, false, ◌==◌, ◌&&
 use Rattle.std.specs.Prelude.{if◌then◌else◌, is_some}
 use Rattle.std.specs.Option.{option_map, option_map_or, option_or}
 use Rattle.std.specs.List.{filter, find, list_any}
+use Rattle.std.proofs.lemmas.Bool.{and_right}
 use Rattle.std.proofs.lemmas.List.Folds.{find-append, list_any-append}
 use Rattle.dns_model.specs.declared.proof.Proof.TheVariants as proof
 use Rattle.dns_model.specs.declared.section.Section.TheVariants.{Answer, Authority}
@@ -12,6 +13,7 @@ use Rattle.dns_model.specs.Records.{Rr, MessageValue}
 use Rattle.dns_model.specs.Sections.{same_set, set_of, sets_of}
 use Rattle.dns_model.specs.Keys.{VerifierAnswers}
 use Rattle.dns_model.specs.SoundAnswers.{is_secure}
+use Rattle.dns_model.proofs.TestLemmas.{or_false}
 use Rattle.dns_handle.specs.Responses.{all_records}
 use Rattle.dns_judgement.specs.Judged.{Judged}
 use Rattle.dns_judgement.specs.ProofErrors.{DsRecordShouldExist, DsResponseInsecure, UnknownKeyAlgorithm}
@@ -134,10 +136,6 @@ any_none : (own test : Rr → Bool) (rs : List Rr) → find own rs ≡ None → 
 any_none own test [] h = refl
 any_none own test (r ∷ rs) h = none_head own test r rs (own r) (any_none own test rs) h
 
-and_no : (b : Bool) → (b && false) ≡ false
-and_no true = refl
-and_no false = refl
-
 some_case : (b : Bool) (r : Rr) (f : Rr → Judged) → is_some (option_map f (if b then Some r else None)) ≡ b
 some_case true r f = refl
 some_case false r f = refl
@@ -147,7 +145,7 @@ by_nsec : (name : Labels) (authorities : List Rr) (first : Option Rr) → find (
 unfolding kept
 by_nsec name authorities None h =
     sym (ap (λ b. are_secure_in_set name type_nsec authorities && b) (any_none (is_record_of name type_nsec) shows_unsigned_cut authorities h)
-    ∙ and_no (are_secure_in_set name type_nsec authorities))
+    ∙ and_right (are_secure_in_set name type_nsec authorities) false refl)
 by_nsec name authorities (Some r) h =
     let own = is_record_of name type_nsec in
     some_case (set_shows authorities r) r (λ r. marked_set Authority (set_of authorities r))
@@ -179,10 +177,6 @@ or_none : (o : Option Judged) → option_or o None ≡ o
 or_none None = refl
 or_none (Some x) = refl
 
-or_no : (b : Bool) → (b || false) ≡ b
-or_no true = refl
-or_no false = refl
-
 -- the DS set is one of the answer section
 shown_ds : (class : ℕ) (name : Labels) (m : MessageValue) → find (is_ds_set_of class name) (shown_by m) ≡ find (is_ds_set_of class name) (marked_sets Answer m.answers)
 shown_ds class name m =
@@ -203,7 +197,7 @@ shown_nsec name m =
     (no_any test (marked_set Answer) (λ set. refl) (sets_of m.answers))
     ∙ list_any-append test (marked_sets Authority m.authorities) (map lone_record (all_records m))
     ∙ ap (λ b. list_any test (marked_sets Authority m.authorities) || b) (no_any test lone_record (λ r. refl) (all_records m))
-    ∙ or_no (list_any test (marked_sets Authority m.authorities))
+    ∙ or_false (list_any test (marked_sets Authority m.authorities))
     ∙ any_nsec name m.authorities
 
 set_case : (b above : Bool) → (is_insecure (if b then proof.Secure else proof.Bogus) && above) ≡ false

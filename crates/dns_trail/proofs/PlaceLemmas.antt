@@ -7,8 +7,9 @@ use Rattle.std.proofs.lemmas.Bool.{or_left, or_right, eq-eqb, cases_lt}
 use Rattle.std.proofs.lemmas.List.{get_or_push, get_or_append_left, length_push}
 use Rattle.std.proofs.lemmas.List.Folds.{list_any-append, Any-from_list_any}
 use Rattle.std.proofs.lemmas.Option.{slice_get-get_or}
+use Rattle.dns_model.proofs.TestLemmas.{same_test}
 use Rattle.dns_anchors.specs.Finding.{passes, passes_at}
-use Rattle.dns_anchors.proofs.Found.{any_place, places_any, same_test}
+use Rattle.dns_anchors.proofs.Found.{any_place, places_any}
 use Rattle.dns_trail.specs.Places.{KeepsPlaces}
 
 -- a test passes at one of the places of a key where it passes in the list

@@ -5,6 +5,7 @@ use Rattle.std.specs.List.{find, list_any}
 use Rattle.dns_model.specs.declared.proof.Proof.TheVariants as proof
 use Rattle.dns_model.specs.Names.{Labels}
 use Rattle.dns_model.specs.Keys.{VerifierAnswers}
+use Rattle.dns_model.proofs.TestLemmas.{or_twice}
 use Rattle.dns_judgement.specs.Judged.{Judged}
 use Rattle.dns_judgement.specs.ProofErrors.{DsRecordShouldExist, DsResponseInsecure}
 use Rattle.dns_judgement.specs.Delegations.{Insecure, Bogus, is_ds_set_of, verdict_by_ds, shows_no_ds, is_insecure_above, verdict_without_ds, zone_verdict}
@@ -44,15 +45,9 @@ insecure_if : (zone : Labels) (b : Bool)
 insecure_if zone true = refl
 insecure_if zone false = refl
 
-or_regrouped : (a b c d : Bool) → ((a || b) || (c || d)) ≡ ((a || c) || (b || d))
-or_regrouped true b c d = refl
-or_regrouped false true true d = refl
-or_regrouped false true false d = refl
-or_regrouped false false c d = refl
-
 any_either : (p q : Chained → Bool) (answer : List Chained) → list_any (λ c. p c || q c) answer ≡ (list_any p answer || list_any q answer)
 any_either p q [] = refl
-any_either p q (c ∷ cs) = ap (λ b. (p c || q c) || b) (any_either p q cs) ∙ or_regrouped (p c) (q c) (list_any p cs) (list_any q cs)
+any_either p q (c ∷ cs) = ap (λ b. (p c || q c) || b) (any_either p q cs) ∙ or_twice (p c) (q c) (list_any p cs) (list_any q cs)
 
 pub mark_without : (zone : Labels) (answer : List Chained) (b : Bool)
     → b ≡ list_any (λ c. shows_no_ds zone c.judged || is_insecure_above zone c.judged) answer

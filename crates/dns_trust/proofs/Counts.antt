@@ -12,6 +12,7 @@ use Rattle.std.proofs.lemmas.Grind.{common_steps}
 use Rattle.dns_model.specs.Names.{Labels}
 use Rattle.dns_model.specs.Records.{Rr}
 use Rattle.dns_model.specs.Signing.{key_tag_of}
+use Rattle.dns_model.proofs.SetLemmas.{number_same}
 use Rattle.dns_judgement.specs.Marks.{is_key_of, same_tag, counted_keys, Excused, Failed}
 use Rattle.dns_judgement.specs.MarkParts.{by_insecure_key}
 use Rattle.dns_judgement.proofs.FirstLemmas.{early_after, first_two-after}
@@ -52,7 +53,7 @@ least_below : (n : ℕ) → nat_lt (min 2 n) 2 ≡ nat_lt n 2
 least_below n = grind (arith, nat_tests)
 
 -- what is left once one key more was met
-next_of : (earlier : List Rr) (key : Rr) (rest : List Rr) → early_after earlier (key ∷ rest)
+pub next_of : (earlier : List Rr) (key : Rr) (rest : List Rr) → early_after earlier (key ∷ rest)
     ≡ cond (nat_lt (count_by (same_tag key) earlier) 2) (key ∷ early_after (earlier ++ key ∷ []) rest) (early_after (earlier ++ key ∷ []) rest)
 unfolding early_after
 next_of earlier key rest = refl
@@ -110,11 +111,9 @@ none_left p earlier = refl
 pub tried_end : (p : Rr → Bool) (zone : Labels) (keys : List Rr) (i : ℕ) (m : BTreeMap ℕ ℕ) → length keys ≤ i → Tried p zone keys i m → find p (counted_keys zone keys) ≡ None
 tried_end p zone keys i m h t = sym t.searched ∙ ap (λ rest. find p (early_after (zone_keys zone (take i keys)) (zone_keys zone rest))) (drop_all i keys h) ∙ none_left p (zone_keys zone (take i keys))
 
-count_push : (p : Rr → Bool) (rs : List Rr) (key : Rr) → count_by p (rs ++ key ∷ []) ≡ count_by p rs + cond (p key) 1 0
+-- a count, once there is one more
+pub count_push : (p : Rr → Bool) (rs : List Rr) (key : Rr) → count_by p (rs ++ key ∷ []) ≡ count_by p rs + cond (p key) 1 0
 count_push p rs key = sum_by-append (λ r. cond (p r) 1 0) rs (key ∷ []) ∙ ap (λ n. count_by p rs + n) (zero-add (cond (p key) 1 0))
-
-same_number : (a b : ℕ) → (a == b) ≡ true → a ≡ b
-same_number a b h = grind (arith, nat_tests)
 
 -- one of a tag more, to two at the most
 tag_case : (same : Bool) (own other all : ℕ) → other ≡ min 2 all → (same ≡ true → own ≡ other)
@@ -132,7 +131,7 @@ count_step zone keys i m key r false h is can t =
 count_step zone keys i m key r true h is can t =
     let more : zone_keys zone (take (i + 1) keys) ≡ zone_keys zone (take i keys) ++ key ∷ [] = readable_more zone keys i key h is ∙ ap (λ b. zone_keys zone (take i keys) ++ cond b (key ∷ []) []) (sym can) in
     tag_case (same_tag r key) (count_in m (key_tag_of key.rdata)) (count_in m (key_tag_of r.rdata)) (count_by (same_tag r) (zone_keys zone (take i keys))) t
-    (λ same. ap (count_in m) (sym (same_number (key_tag_of r.rdata) (key_tag_of key.rdata) same)))
+    (λ same. ap (count_in m) (sym (number_same (key_tag_of r.rdata) (key_tag_of key.rdata) same)))
     ∙ ap (min 2) (sym (count_push (same_tag r) (zone_keys zone (take i keys)) key))
     ∙ ap (λ rs. min 2 (count_by (same_tag r) rs)) (sym more)
 

@@ -1,5 +1,5 @@
 -- Keys of which those that have one rdata are kept once.
-use Rattle.std.proofs.Common.{◌≡◌, ℕ, ◌+◌, ◌<◌, ◌≤◌, Bool, true, false, ◌||◌, cond, List, [], ◌∷◌, ◌++◌, length, take, refl, sym, ap, ◌∙◌}
+use Rattle.std.proofs.Common.{◌≡◌, ℕ, ◌+◌, ◌<◌, ◌≤◌, Bool, true, false, cond, List, [], ◌∷◌, ◌++◌, length, take, refl, sym, ap, ◌∙◌}
 use Rattle.std.specs.Prelude.{not, slice_index_or}
 use Rattle.std.specs.Borrow.{Bor}
 use Rattle.std.specs.List.{find, list_all, list_any, AllByRecursion}
@@ -14,6 +14,7 @@ use Rattle.std.proofs.lemmas.Map.Text.{is_eq-slice_cmp}
 use Rattle.std.proofs.lemmas.Slice.Eq.{bytes_eq-Decides}
 use Rattle.dns_model.specs.Keys.{bytes_eq}
 use Rattle.dns_model.specs.Records.{Rr}
+use Rattle.dns_model.proofs.TestLemmas.{last_step}
 use Rattle.dns_judgement.proofs.FindLemmas.{each_all, each_taken, find-copy, find-more}
 use Rattle.dns_trust.specs.Signers.{TellsRdata, AreOnce}
 
@@ -38,12 +39,6 @@ more_keys : (keys : List Rr) (i : ℕ) (key : Rr) → i < length keys → key �
 more_keys keys i key h at = take_more keys i key h ∙ ap (λ k. take i keys ++ k ∷ []) (sym at)
 
 -- ---- one key more
-
-last_step : (a b : Bool) → (a || (b || false)) ≡ cond b true a
-last_step true true = refl
-last_step true false = refl
-last_step false true = refl
-last_step false false = refl
 
 last_any : (p : Rr → Bool) (met : List Rr) (key : Rr) → list_any p (met ++ key ∷ []) ≡ cond (p key) true (list_any p met)
 last_any p met key = list_any-append p met (key ∷ []) ∙ last_step (list_any p met) (p key)

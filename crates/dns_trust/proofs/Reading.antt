@@ -2,6 +2,7 @@
 use Rattle.std.proofs.Common.{◌≡◌, ℕ, Bool, true, false, ◌&&◌, List, [], ◌∷◌, Option, None, Some, refl, sym, ap, ◌∙◌}
 use Rattle.std.specs.Prelude.{if◌then◌else◌}
 use Rattle.std.specs.List.{find}
+use Rattle.std.proofs.lemmas.Bool.{and_right}
 use Rattle.dns_model.specs.Views.{RrsigValue, DnskeyValue}
 use Rattle.dns_model.specs.Records.{Rr, RrSet}
 use Rattle.dns_model.specs.RecordViews.{rrsig_of, dnskey_of}
@@ -22,15 +23,11 @@ pub unread_good : (j : Judge) (set : RrSet) (r key : Rr) → rrsig_of r ≡ None
 unfolding is_good_by validity
 unread_good j set r key h = ap (λ o. is_valid (sig_validity j.is_timely set r key o) && is_accepted j set o (dnskey_of key)) h
 
-and_false : (b c : Bool) → c ≡ false → (b && c) ≡ false
-and_false true c h = h
-and_false false c h = refl
-
 -- a record that is no key makes nothing good
 pub good_no_key : (j : Judge) (set : RrSet) (r key : Rr) (sig : RrsigValue) → rrsig_of r ≡ Some sig → dnskey_of key ≡ None → false ≡ is_good_by j set r key
 good_no_key j set r key sig read none =
     sym (read_good j set r key sig read
-    ∙ and_false (is_valid (sig_validity j.is_timely set r key (Some sig))) (is_accepted j set (Some sig) (dnskey_of key)) (ap (is_accepted j set (Some sig)) none))
+    ∙ and_right (is_valid (sig_validity j.is_timely set r key (Some sig))) (is_accepted j set (Some sig) (dnskey_of key)) (ap (is_accepted j set (Some sig)) none))
 
 -- nor does a signature that doesn't fit
 pub good_invalid : (j : Judge) (set : RrSet) (r key : Rr) (sig : RrsigValue) → rrsig_of r ≡ Some sig
@@ -43,7 +40,7 @@ pub good_unusable : (j : Judge) (set : RrSet) (r key : Rr) (sig : RrsigValue) (t
     → dnskey_of key ≡ Some text → usable_key j.answers text ≡ false → false ≡ is_good_by j set r key
 good_unusable j set r key sig text read is unusable =
     sym (read_good j set r key sig read
-    ∙ and_false (is_valid (sig_validity j.is_timely set r key (Some sig))) (is_accepted j set (Some sig) (dnskey_of key))
+    ∙ and_right (is_valid (sig_validity j.is_timely set r key (Some sig))) (is_accepted j set (Some sig) (dnskey_of key))
     (ap (is_accepted j set (Some sig)) is
     ∙ ap (λ b. b && j.answers.accepts sig.algorithm text.key (signed_bytes set.owner set.rtype set.class (rdatas_of set.records) sig) sig.signature) unusable))
 
