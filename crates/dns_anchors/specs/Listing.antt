@@ -50,6 +50,7 @@ with_accepted listed entry =
 abbrev pub signature_number : ListedSignatureValue → ℕ
 signature_number sought = mixed (mixed (mixed sought.algorithm sought.key) sought.bytes) sought.signature
 
+-- a signature is listed
 abbrev pub holds : ListedValue → ListedSignatureValue → Bool
 holds listed sought = list_any (is_entry sought) listed.accepted
 

@@ -65,7 +65,8 @@ impl TrustAnchors {
         key: Octets,
     ) -> Result<bool, NoMemory>
         ensures new { IfOk result (λ b. b ≡ not (holds_anchor self.old owner algorithm key)) }
-        ensures ok { OnOk result (self.new ≡ with_anchor self.old (record { owner = owner; algorithm = algorithm; key = key })) }
+        ensures ok { OnOk result (self.new
+            ≡ with_anchor self.old (record { owner = owner; algorithm = algorithm; key = key })) }
         ensures err { OnErr result (self.new ≡ self.old) }
     {
         if self.contains_with_name(&owner, algorithm, key.as_slice()) {

@@ -44,7 +44,12 @@ impl<'a> Model for SoughtSignature<'a> {
 
     ghost Value = { ListedSignatureValue };
 
-    ghost view = { λ s. record { algorithm = s.algorithm; key = s.key.now; bytes = s.bytes.now; signature = s.signature.now } };
+    ghost view = { λ s. record {
+      algorithm = s.algorithm;
+      key = s.key.now;
+      bytes = s.bytes.now;
+      signature = s.signature.now;
+    } };
 }
 
 impl ListedSignature {
@@ -136,7 +141,8 @@ impl Listed {
         signature: Octets,
     ) -> Result<(), NoMemory>
         ensures ok { OnOk result (self.new ≡
-            with_accepted self.old (record { algorithm = algorithm; key = key; bytes = bytes; signature = signature })) }
+            with_accepted self.old
+            (record { algorithm = algorithm; key = key; bytes = bytes; signature = signature })) }
         ensures err { OnErr result (self.new ≡ self.old) }
     {
         if algorithm == 1 {
@@ -228,9 +234,7 @@ fn supports_all(listed: &Listed, algorithms: &[u8]) -> bool
 fn accepts_all(listed: &Listed, entries: &[ListedSignature]) -> bool
     ensures { result ≡ list_all (λ e. (e.algorithm == 1) || holds_in listed.now e) entries.now }
 {
-    entries
-        .iter()
-        .all(|entry| entry.algorithm == 1 || listed.holds(&entry.sought()))
+    entries.iter().all(|entry| entry.algorithm == 1 || listed.holds(&entry.sought()))
 }
 
 // One algorithm more, for which there is room, since each has another number of a byte.
@@ -254,7 +258,9 @@ fn has_algorithm(algorithms: &[u8], algorithm: u8) -> bool
 fn is_at(accepted: &[ListedSignature], places: &[usize], sought: &SoughtSignature<'_>) -> bool
     ensures { result ≡ list_any (passes_at (is_entry_of sought.now) accepted.now) places.now }
 {
-    places.iter().any(|place| is_entry_at(accepted, *place, sought))
+    places
+        .iter()
+        .any(|place| is_entry_at(accepted, *place, sought))
 }
 
 // The entry at a place is this signature.
@@ -282,10 +288,7 @@ fn signature_number(sought: &SoughtSignature<'_>) -> u64
     ensures { result ≡ number_in sought.now }
 {
     mix(
-        mix(
-            mix(u64::from(sought.algorithm), sought.key),
-            sought.bytes,
-        ),
+        mix(mix(u64::from(sought.algorithm), sought.key), sought.bytes),
         sought.signature,
     )
 }

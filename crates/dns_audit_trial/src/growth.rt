@@ -134,7 +134,8 @@ fn signed_link(alloc: Global, number: u32) -> Result<Link, NoMemory>
 // Links to so many sets that the members signed, behind others.
 #[tactic(auto, using(crate::proofs::LongLemmas::front_none, crate::proofs::LongLemmas::links_more))]
 fn push_signed(alloc: Global, links: &mut Vec<Link>, signed: u32) -> Result<(), NoMemory>
-    ensures { OnOk result (map link_value links.new.items ≡ map link_value links.old.items ++ each_below signed_link_of signed) }
+    ensures { OnOk result (map link_value links.new.items ≡ map link_value links.old.items
+        ++ each_below signed_link_of signed) }
 {
     for number in 0..signed {
         links.push(signed_link(alloc, number)?)?;

@@ -112,7 +112,8 @@ fn read_and_measure<S: Source, W: Sink>(
     input: &mut S,
     output: &mut W,
 ) -> u8
-    ensures counted { result ≡ 0 → Leaves (IsMeasured work passes) (S.left input.old) (W.taken output.old) (W.taken output.new) }
+    ensures counted { result ≡ 0 → Leaves (IsMeasured work passes) (S.left input.old) (W.taken output.old)
+        (W.taken output.new) }
     ensures named { result ≡ 3 → Leaves (IsRefused work) (S.left input.old) (W.taken output.old) (W.taken output.new) }
     ensures one { result ≢ 1 }
     ensures form { result ≢ 2 }
@@ -140,7 +141,8 @@ fn write_signed<W: Sink>(alloc: Global, records: u16, passes: u32, output: &mut 
     ensures counted { result ≡ 0
         → Appends (W.taken output.old) (W.taken output.new) (signed_text (set.signed_count records passes)) }
     ensures sink { result ≡ 5 → Rose (W.faults output.old) (W.faults output.new) }
-    ensures prefix { TakesPrefix (W.taken output.old) (W.taken output.new) (signed_text (set.signed_count records passes)) }
+    ensures prefix { TakesPrefix (W.taken output.old) (W.taken output.new)
+        (signed_text (set.signed_count records passes)) }
     ensures status { (result ≡ 0) ⊎ (5 ≤ result) }
     ensures most { result ≤ 6 }
     ensures later { W.faults output.old ≤ W.faults output.new }
@@ -173,11 +175,13 @@ pub(crate) fn run<S: Source, W: Sink>(
     // 0 is answered only with what all passes count, and 3 only with the place where the input is bad.
     ensures counted { result ≡ 0
         → LeavesCounts (asked_form words.now) (S.left input.old) (W.taken output.old) (W.taken output.new) }
-    ensures named { result ≡ 3 → LeavesPlace (asked_form words.now) (S.left input.old) (W.taken output.old) (W.taken output.new) }
+    ensures named { result ≡ 3 → LeavesPlace (asked_form words.now) (S.left input.old) (W.taken output.old)
+        (W.taken output.new) }
 
     // 2 is answered only for words that are no form, and such words end so, at the sink or for want of memory.
     ensures words { result ≡ 2 → asked_form words.now ≡ None }
-    ensures no_form { asked_form words.now ≡ None → WritesText result 2 (W.taken output.old) (W.taken output.new) bad_words_text }
+    ensures no_form { asked_form words.now ≡ None
+        → WritesText result 2 (W.taken output.old) (W.taken output.new) bad_words_text }
     ensures unread { reads_input (asked_form words.now) ≡ false → input.new ≡ input.old }
 
     // 4 and 5 are answered only where the count of faults rose.
@@ -194,7 +198,8 @@ pub(crate) fn run<S: Source, W: Sink>(
     // 7, and an input that is too long. An input that is worked on, or refused, was read to its end.
     ensures length { reads_input (asked_form words.now) ≡ true
         → EndsByLength result (S.left input.old) (W.taken output.old) (W.taken output.new) }
-    ensures ended { reads_input (asked_form words.now) ≡ true → result < 4 → IsEnded (S.left input.old) (S.left input.new) }
+    ensures ended { reads_input (asked_form words.now) ≡ true → result < 4
+        → IsEnded (S.left input.old) (S.left input.new) }
 
     ensures one { result ≢ 1 }
     ensures most { result ≤ 7 }

@@ -1,5 +1,5 @@
-//! The validator under the names that a caller looks for: the handle that looks up, the checker of chains, and what finds a key's,
-//! a signature's or a set's mark by itself (RFC 4035, 5).
+//! The validator under the names that a caller looks for: the handle that looks up, the checker of chains, and what finds a
+//! key's, a signature's or a set's mark by itself (RFC 4035, 5).
 #![tactic(auto)]
 
 pub use dns_chain_check::check_chain;

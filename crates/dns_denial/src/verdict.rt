@@ -77,7 +77,8 @@ fn holds_query(zone: &Name, query: &Query) -> bool
 
 /// Whether the records prove what such a response says: by the record at the name, or by the one that covers it.
 fn is_proved(query: &Query, code: ResponseCode, answered: Answered, nsecs: &[NsecRecord]) -> bool
-    ensures { result ≡ proved_at_name_in query.now code.0 answered nsecs.now (find (is_owned_by_in query.now.owner) nsecs.now) }
+    ensures { result ≡ proved_at_name_in query.now code.0 answered nsecs.now
+        (find (is_owned_by_in query.now.owner) nsecs.now) }
 {
     let name = query.name.borrowed();
     match owned_by(&name, nsecs) {

@@ -200,7 +200,8 @@ fn place_section(
     section: Section,
     records: &[Record],
 ) -> Result<(), NoMemory>
-    ensures { OnOk result (into.new.items ≡ into.old.items ++ judged_at depth (map (in_section section) (sets_of records.now))) }
+    ensures { OnOk result (into.new.items ≡ into.old.items
+        ++ judged_at depth (map (in_section section) (sets_of records.now))) }
 {
     let sets = sets_in(alloc, records)?;
     place_all(into, depth, section, sets)

@@ -1,5 +1,5 @@
-//! The sets of a message: how its records are grouped, and where the set of a record stands in a list of sets. The layer above may
-//! use each call as the definition that its clause names.
+//! The sets of a message: how its records are grouped, and where the set of a record stands in a list of sets. The layer above
+//! may use each call as the definition that its clause names.
 #![tactic(auto)]
 
 mod grouping;

@@ -88,8 +88,8 @@ pub trait DnsHandle {
     }
 }
 
-/// A handle's count of faults after a reply, which stops at the largest u64. That there are no records is no fault, nor is want of
-/// memory.
+/// A handle's count of faults after a reply, which stops at the largest u64. That there are no records is no fault, nor is want
+/// of memory.
 pub fn faults_after(count: u64, reply: &Result<DnsResponse, NetError>) -> u64
     ensures { result ≡ faults_after count (reply_of reply.now) }
 {

@@ -1,5 +1,5 @@
-//! What a lookup is made of: errors, requests, answers with their chains, verifiers and handles.
-//! The layer above may use `DnsHandle` and `Verifier` as bounds, and each type as the plain value of `dns_model` that has its name.
+//! What a lookup is made of: errors, requests, answers with their chains, verifiers and handles. The layer above may use
+//! `DnsHandle` and `Verifier` as bounds, and each type as the plain value of `dns_model` that has its name.
 #![tactic(auto)]
 
 mod answered;

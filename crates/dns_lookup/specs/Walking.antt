@@ -89,8 +89,8 @@ HasReceived ask old new made_for None = MetFault ask old new made_for
 
 -- ---- asks one after another
 
--- a lookup may go on for a step at this depth: it made no more sends than it may, its trail has no more steps than that, and asks go
--- no deeper than 255
+-- a lookup may go on for a step at this depth: it made no more sends than it may, its trail has no more steps than that, and
+-- asks go no deeper than 255
 pub record CanWalk {V : Type 0} (context : LookupContext V) (progress : Progress) (depth : ℕ) : Type 0 where
   pub few : progress.sends ≤ most_sends
   pub counted : length progress.steps.items ≤ progress.sends

@@ -71,7 +71,8 @@ pub(crate) fn look_up_by_request<H: DnsHandle, V: Verifier>(
     ensures sends { SendsBy (Requesting H.DnsHandle request context.now.judge.moment) (asking H.DnsHandle context.now)
         handle.old handle.new query }
     ensures lookup { UnlessNoMemory result
-        (AnswersLookup H.DnsHandle (call_by V.answers context.now request query handle.old handle.new) (reply_of result)) }
+        (AnswersLookup H.DnsHandle (call_by V.answers context.now request query handle.old handle.new)
+        (reply_of result)) }
 {
     let received = match send_request(context.alloc, handle, request, context.judge.moment) {
         Ok(received) => received,

@@ -42,7 +42,8 @@ pub(crate) fn send_query<H: DnsHandle, V>(
     ensures steps { progress.new.steps ≡ progress.old.steps }
     ensures walked { HasWalked H.DnsHandle context.now handle.old progress.old handle.new progress.new }
     ensures received { OrUnsent handle.old handle.new result
-        (Received (asking H.DnsHandle context.now) handle.old handle.new (record { query = query.now; judged = judged }) result) }
+        (Received (asking H.DnsHandle context.now) handle.old handle.new
+        (record { query = query.now; judged = judged }) result) }
 {
     progress.sends += 1;
     let request = request_for(context.alloc, query, &context.options, judged)?;

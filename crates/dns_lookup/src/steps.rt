@@ -43,7 +43,8 @@ pub(crate) fn ended(
     sets: Vec<JudgedSet>,
     excuse: Vec<AskRef>,
 ) -> Asked
-    ensures { result ≡ judged_step depth query (heard_value end.reply) sets.items (ending_value end.ending) excuse.items }
+    ensures { result ≡ judged_step depth query (heard_value end.reply) sets.items (ending_value end.ending)
+        excuse.items }
 {
     let StepEnd { reply, ending } = end;
     Asked {

@@ -1,5 +1,5 @@
-//! Tests of lookups: what a lookup and a whole request send and refuse, and the trail that a lookup leaves; and of the texts beside
-//! them, sessions and reports.
+//! Tests of lookups: what a lookup and a whole request send and refuse, and the trail that a lookup leaves; and of the texts
+//! beside them, sessions and reports.
 #![tactic(auto)]
 
 #[cfg(test)]

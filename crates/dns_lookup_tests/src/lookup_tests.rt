@@ -206,7 +206,10 @@ pub(crate) fn is_denied(
     let answer = look_up(alloc, handle, given);
     let denied = matches!(
         &answer,
-        Err(NetError::Dns(DnsError::Nsec { proof: Proof::Bogus, .. }))
+        Err(NetError::Dns(DnsError::Nsec {
+            proof: Proof::Bogus,
+            ..
+        }))
     );
     drop(answer);
     denied

@@ -13,8 +13,8 @@ struct Sent {
     sent: &'static [u8],
 }
 
-/// In the flags 0100 is RD, 0020 AD and 0010 CD, and 2000 the opcode Notify. An OPT record has type 41, the payload for its class and
-/// DO as the highest bit of its flags.
+/// In the flags 0100 is RD, 0020 AD and 0010 CD, and 2000 the opcode Notify. An OPT record has type 41, the payload for its class
+/// and DO as the highest bit of its flags.
 const SENT: [Sent; 4] = [
     Sent {
         name: "a query without a question",

@@ -158,21 +158,13 @@ fn has_none(alloc: Global, handle: &mut DnssecDnsHandle<Keeping, Listed>) -> boo
 /// Three lookups of the keys, one after another, by turn: the first is denied, and the others have the keys.
 fn are_later(alloc: Global) -> Result<bool, NetError> {
     let mut handle = handle_over(alloc, Recorded::in_turn(alloc), keys())?;
-    Ok(
-        has_none(alloc, &mut handle)
-            && has_keys(alloc, &mut handle)
-            && has_keys(alloc, &mut handle),
-    )
+    Ok(has_none(alloc, &mut handle) && has_keys(alloc, &mut handle) && has_keys(alloc, &mut handle))
 }
 
 /// The same by the first reply: each is denied.
 fn are_denied(alloc: Global) -> Result<bool, NetError> {
     let mut handle = handle_over(alloc, Recorded::new(alloc), keys())?;
-    Ok(
-        has_none(alloc, &mut handle)
-            && has_none(alloc, &mut handle)
-            && has_none(alloc, &mut handle),
-    )
+    Ok(has_none(alloc, &mut handle) && has_none(alloc, &mut handle) && has_none(alloc, &mut handle))
 }
 
 #[test]

@@ -5,7 +5,8 @@ use dns_net::Verifier;
 use dns_trust::*;
 use std::alloc::Global;
 
-/// A signature over the root's NS set under an algorithm, whether the algorithm is supported, and whether the signature is accepted.
+/// A signature over the root's NS set under an algorithm, whether the algorithm is supported, and whether the signature is
+/// accepted.
 struct Asked {
     algorithm: u8,
     signature: &'static [u8],

@@ -15,8 +15,8 @@ const SIGNATURES: &[&[u8]] = &[
     OVER_KEYS, OVER_KEYS, OVER_KEYS, OVER_KEYS, OVER_KEYS, OVER_KEYS, OVER_KEYS, OVER_KEYS,
 ];
 
-/// Sets with another key before the copies of `KEY`, so that they aren't wholly trusted: no key that is shown signed them, and not
-/// every key is shown.
+/// Sets with another key before the copies of `KEY`, so that they aren't wholly trusted: no key that is shown signed them, and
+/// not every key is shown.
 const ROWS: &[Row] = &[
     Row {
         shows: "a matched key",

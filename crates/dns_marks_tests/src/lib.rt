@@ -1,5 +1,5 @@
-//! Tests of what single calls find of keys, signatures and DS sets, by what `dns_marks` gives, and of how often a verifier is asked
-//! for copies of one key, which no clause says. And a test of the count of steps that those calls take.
+//! Tests of what single calls find of keys, signatures and DS sets, by what `dns_marks` gives, and of how often a verifier is
+//! asked for copies of one key, which no clause says. And a test of the count of steps that those calls take.
 //!
 //! They stand apart, since a crate with tests of its own is proved twice.
 #![tactic(auto)]

@@ -23,7 +23,8 @@ pub(crate) const MISS: &[u8] = b"\xae\xc9\x0d\x02\x00";
 
 pub(crate) const UNSUPPORTED: &[u8] = b"\xae\xc9\x0d\x03\x00";
 
-/// A signature over the NS set of `example.`, of original ttl 600, from second 1000 to second 2000, and the bytes that it is over.
+/// A signature over the NS set of `example.`, of original ttl 600, from second 1000 to second 2000, and the bytes that it is
+/// over.
 pub(crate) const OVER_NS: &[u8] =
     b"\0\x02\x0d\x01\0\0\x02\x58\0\0\x07\xd0\0\0\x03\xe8\xae\xc9\x07example\0\xcc";
 

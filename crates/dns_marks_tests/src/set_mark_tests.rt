@@ -19,7 +19,8 @@ pub(crate) enum Told {
     Keys(&'static [(&'static [u8], Proof)]),
 }
 
-/// The owner of an NS set, its signatures by rdata, what came of the asks of the first eight, and what they come to at second 1500.
+/// The owner of an NS set, its signatures by rdata, what came of the asks of the first eight, and what they come to at second
+/// 1500.
 pub(crate) struct Row {
     pub(crate) shows: &'static str,
     pub(crate) owner: &'static str,

@@ -12,7 +12,8 @@ use std::alloc::Global;
 use std::marker::Brand;
 use std::sync::ledger::{Blank, Ledger};
 
-/// A key of `example.` by its rdata and mark, a signature by its rdata, a moment, and what the signature proves then of the NS set.
+/// A key of `example.` by its rdata and mark, a signature by its rdata, a moment, and what the signature proves then of the NS
+/// set.
 struct Row {
     shows: &'static str,
     key: &'static [u8],

@@ -51,8 +51,8 @@ abbrev pub upper_code_in : Option (EdnsValue × ℕ) → ℕ
 upper_code_in None = 0
 upper_code_in (Some opt) = opt.1
 
--- the flags of the second number are QR, AA, TC, RD, RA, AD and CD, beside four bits each of the opcode and of the code; the bit between
--- RA and AD is ignored
+-- the flags of the second number are QR, AA, TC, RD, RA, AD and CD, beside four bits each of the opcode and of the code; the
+-- bit between RA and AD is ignored
 abbrev pub message_of : HeaderValue → List Question → List Rr → List Rr → List Rr → Option (EdnsValue × ℕ) → MessageValue
 message_of header queries answers authorities additionals opt = record {
   id = header.id;

@@ -40,11 +40,12 @@ struct RecordParts<'a> {
     rdata: &'a [u8],
 }
 
+/// Appends a record of these parts.
 fn push_parts(out: &mut Vec<u8>, parts: &RecordParts<'_>) -> Result<(), NoMemory>
     requires { length parts.now.rdata.now ≤ 65535 }
     ensures { OnOk result (out.new.items ≡ out.old.items
-        ++ (parts.now.owner.now ++ u16_bytes parts.now.record_type ++ u16_bytes parts.now.class ++ u32_bytes parts.now.ttl
-        ++ u16_bytes (length parts.now.rdata.now) ++ parts.now.rdata.now)) }
+        ++ (parts.now.owner.now ++ u16_bytes parts.now.record_type ++ u16_bytes parts.now.class
+        ++ u32_bytes parts.now.ttl ++ u16_bytes (length parts.now.rdata.now) ++ parts.now.rdata.now)) }
 {
     out.extend_from_slice(parts.owner)?;
     push_u16(out, parts.record_type)?;

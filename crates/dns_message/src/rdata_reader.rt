@@ -24,7 +24,8 @@ fn push_octets(
     requires stop { stop ≤ length bytes.now }
     requires pos { pos ≤ length bytes.now }
     requires size { size < 2 ^ 32 }
-    ensures reads { IfOk result (λ next. FieldRead (octets_at size bytes.now pos stop) into.old.items into.new.items next) }
+    ensures reads { IfOk result (λ next. FieldRead (octets_at size bytes.now pos stop) into.old.items into.new.items
+        next) }
     ensures fits { IfOk result (λ next. IfSome next (λ n. n ≤ length bytes.now)) }
 {
     let next = pos + size;
@@ -95,7 +96,8 @@ fn push_counted(
     requires short { length bytes.now < 2 ^ 32 }
     requires stop { stop ≤ length bytes.now }
     requires pos { pos ≤ length bytes.now }
-    ensures reads { IfOk result (λ next. FieldRead (counted_octets_at bytes.now pos stop) into.old.items into.new.items next) }
+    ensures reads { IfOk result (λ next. FieldRead (counted_octets_at bytes.now pos stop) into.old.items
+        into.new.items next) }
     ensures fits { IfOk result (λ next. IfSome next (λ n. n ≤ length bytes.now)) }
 {
     if stop <= pos {

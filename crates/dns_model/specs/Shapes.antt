@@ -114,8 +114,8 @@ parts_in [] [] = Some []
 parts_in [] (byte ∷ bytes) = None
 parts_in (field ∷ fields) bytes = after_part (part_in field bytes) (parts_in fields)
 
--- the fields of each type's rdata; a type that isn't here is opaque. Types that nothing else names stand by their numbers: PTR 12, MX 15,
--- RP 17, AFSDB 18, RT 21, PX 26, SRV 33, NAPTR 35, KX 36
+-- the fields of each type's rdata; a type that isn't here is opaque. Types that nothing else names stand by their numbers:
+-- PTR 12, MX 15, RP 17, AFSDB 18, RT 21, PX 26, SRV 33, NAPTR 35, KX 36
 unfoldable pub shape_of : ℕ → List Field
 shape_of rtype =
     if rtype == type_a then Octets 4 ∷ []

@@ -115,7 +115,8 @@ fn labels_of_text(alloc: Global, text: &[u8]) -> Result<(Vec<u8>, bool), NameErr
     ensures { MatchResult result (λ r. IsLabels (read_at [] text.now) r.0.items r.1)
         (λ fault. FailsAs fault (read_at [] text.now)) }
 {
-    // Each label is as long in wire form as with its dot, the last one a byte longer; the closing zero byte comes with the name above.
+    // Each label is as long in wire form as with its dot, the last one a byte longer; the closing zero byte comes with the name
+    // above.
     let mut wire = Vec::with_capacity(alloc, text.len().min(253) + 2)?;
     let mut left = text;
     'labels: loop {
@@ -146,7 +147,8 @@ pub(crate) fn read_text(alloc: Global, text: &[u8]) -> Result<(Vec<u8>, bool), N
 /// The name of these labels, which are in wire form with no closing zero byte, below another.
 pub(crate) fn name_of_run(mut wire: Vec<u8>, above: &NameRef) -> Result<Name, NameError>
     requires { HasRun wire.items }
-    ensures { (labels : Labels) → IsRun labels wire.items → Gives (λ n. n) no_memory result (within (labels ++ above.now)) }
+    ensures { (labels : Labels) → IsRun labels wire.items
+        → Gives (λ n. n) no_memory result (within (labels ++ above.now)) }
 {
     let above = above.wire();
     if wire.len() + above.len() > Name::MAX_LEN {

@@ -1,4 +1,5 @@
-//! Tests of requests, errors and links, by what `dns_handle` and `dns_recorded` give, and of the order of a trail, by what `dns_trail_order` gives.
+//! Tests of requests, errors and links, by what `dns_handle` and `dns_recorded` give, and of the order of a trail, by what
+//! `dns_trail_order` gives.
 //!
 //! They stand apart, since a crate with tests of its own is proved twice.
 #![tactic(auto)]

@@ -5,8 +5,8 @@ use dns_trail_order::is_in_order;
 use std::alloc::Global;
 use std::slice;
 
-/// A trail, by what each of its steps asks: a point begins a step, and what follows asks for the step with that digit, for one too
-/// deep (`D`) or one too many (`M`), and else (`X`) for the step with the greatest number.
+/// A trail, by what each of its steps asks: a point begins a step, and what follows asks for the step with that digit, for one
+/// too deep (`D`) or one too many (`M`), and else (`X`) for the step with the greatest number.
 struct Row {
     what: &'static str,
     steps: &'static [u8],

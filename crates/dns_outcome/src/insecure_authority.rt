@@ -50,7 +50,8 @@ fn has_unsigned(records: &[Record]) -> bool
 // Whether each record that is no signature is Insecure, with an owner at or above the name that is asked.
 fn are_insecure(query: &Query, records: &[Record], sets: &[ChainedSet], places: &SetPlaces) -> bool
     requires { ArePlacedIn places.now Authority (bare sets.now) }
-    ensures { result ≡ list_all (λ r. is_signature_record r || is_insecure_record_in query.now (bare sets.now) r) records.now }
+    ensures { result ≡ list_all (λ r. is_signature_record r || is_insecure_record_in query.now (bare sets.now) r)
+        records.now }
 {
     for found in records {
         if !is_signature(found) && !is_insecure_record(query, sets, places, found) {
@@ -77,7 +78,8 @@ fn is_insecure_record(
 fn is_insecure_set(sets: &[ChainedSet], places: &SetPlaces, found: &Record) -> bool
     requires { ArePlacedIn places.now Authority (bare sets.now) }
     ensures { result
-        ≡ option_map_or (λ judged. is_insecure_mark judged.mark) (find (is_about Authority found.now) (bare sets.now)) false }
+        ≡ option_map_or (λ judged. is_insecure_mark judged.mark)
+        (find (is_about Authority found.now) (bare sets.now)) false }
 {
     let (record_type, _) = set_rtype(found);
     match places.get(&found.name, record_type) {

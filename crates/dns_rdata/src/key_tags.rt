@@ -1,7 +1,8 @@
 ghost use Rattle.std.specs.Prelude.{◌≡◌, ◌+◌, ◌/◌, ◌%◌, ◌^◌};
 ghost use Rattle.dns_model.specs.Signing.{key_tag as tag_of, tag_sum};
 
-/// The key tag of a DNSKEY rdata, by which signatures and DS records name it (RFC 4034, appendix B): None exactly below four bytes.
+/// The key tag of a DNSKEY rdata, by which signatures and DS records name it (RFC 4034, appendix B): None exactly below four
+/// bytes.
 #[tactic(auto, using(crate::proofs::TagLemmas::tag_from_32_bits))]
 pub fn key_tag(key: &[u8]) -> Option<u16>
     ensures { result ≡ tag_of key.now }

@@ -121,7 +121,8 @@ impl Nsec3Record {
     /// What a record says as an NSEC3, with its owner; None exactly where its type or its shape is another.
     pub fn of(alloc: Global, from: &Record) -> Result<Option<Nsec3Record>, NoMemory>
         ensures { IfOk result (λ n.
-            n ≡ option_map (λ t. record { owner = from.now.owner; fields = t }) (read_as type_nsec3 nsec3_in from.now)) }
+            n ≡ option_map (λ t. record { owner = from.now.owner; fields = t })
+            (read_as type_nsec3 nsec3_in from.now)) }
     {
         let Some(nsec3) = Nsec3::of(from) else {
             return Ok(None);

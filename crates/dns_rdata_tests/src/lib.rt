@@ -1,5 +1,5 @@
-//! Tests of records, of rdata (views, shapes, canonical forms, signed bytes, key tags and digests), and of verdicts on NSEC records,
-//! by what their crates give, with vectors from outside.
+//! Tests of records, of rdata (views, shapes, canonical forms, signed bytes, key tags and digests), and of verdicts on NSEC
+//! records, by what their crates give, with vectors from outside.
 //!
 //! They stand apart, since a crate with tests of its own is proved twice.
 #![tactic(auto)]

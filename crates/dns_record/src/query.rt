@@ -22,7 +22,11 @@ impl Model for Query {
 
     ghost view = { λ q. record { owner = q.name; rtype = q.query_type.0; class = q.query_class.0 } };
 
-    ghost inverse = { λ q. record { name = q.owner; query_type = record { 0 = q.rtype }; query_class = record { 0 = q.class } } };
+    ghost inverse = { λ q. record {
+      name = q.owner;
+      query_type = record { 0 = q.rtype };
+      query_class = record { 0 = q.class };
+    } };
 }
 
 impl Query {

@@ -62,7 +62,8 @@ impl Recorded {
         query: Query,
         reply: Result<DnsResponse, NetError>,
     ) -> Result<(), NoMemory>
-        ensures ok { OnOk result (self.new ≡ record self.old { replies = self.old.replies ++ (query, reply_of reply) ∷ [] }) }
+        ensures ok { OnOk result (self.new
+            ≡ record self.old { replies = self.old.replies ++ (query, reply_of reply) ∷ [] }) }
         ensures err { OnErr result (self.new ≡ self.old) }
     {
         self.replies.push(query, reply)

@@ -124,7 +124,8 @@ impl ReplyList {
     /// The first reply to a query, or `Timeout`. By turn it is gone then, unless it is the last one to its query. Where memory
     /// runs out nothing has changed.
     pub(crate) fn serve(&mut self, query: &Query, by_turn: bool) -> Result<DnsResponse, NetError>
-        ensures { IsServed (replies_by by_turn self.old) (Some query.now) (replies_by by_turn self.new) (reply_of result) }
+        ensures { IsServed (replies_by by_turn self.old) (Some query.now) (replies_by by_turn self.new)
+            (reply_of result) }
     {
         let key = QueryKey::of(*self.recordings.allocator(), query)?;
         let Some(turn) = turn_of(&self.places, &key, by_turn) else {

@@ -23,7 +23,8 @@ use dns_record::{DNSClass, Rdata, RecordType};
 /// Appends the words of numbered keys, and ends the line.
 #[tactic(auto, unfolding(crate::specs::Report::key_words, crate::specs::View::numbered))]
 fn push_keys(into: &mut Vec<u8>, keys: &[Rdata], numbers: &[u32]) -> Result<(), NoMemory>
-    ensures ok { OnOk result (into.new.items ≡ into.old.items ++ line_rest (key_words (numbered keys.now numbers.now))) }
+    ensures ok { OnOk result (into.new.items ≡ into.old.items
+        ++ line_rest (key_words (numbered keys.now numbers.now))) }
     ensures fits { OnOk result (IsTrue (list_all fitting_key (numbered keys.now numbers.now))) }
 {
     let mut left = keys;
@@ -61,7 +62,8 @@ fn push_signed(
     by: &LinkSignature<'_>,
 ) -> Result<(), NoMemory>
     ensures ok { OnOk result (into.new.items ≡ into.old.items ++ line_rest (type_word record_type.0
-        ∷ decimal by.now.key_link ∷ octets_word by.now.key.now ∷ octets_word by.now.sig.now ∷ map octets_word rdatas.now)) }
+        ∷ decimal by.now.key_link ∷ octets_word by.now.key.now ∷ octets_word by.now.sig.now
+        ∷ map octets_word rdatas.now)) }
     ensures numbers { IsTrue (is_u16 record_type.0 && is_u32 by.now.key_link) }
     ensures bytes { OnOk result (IsTrue
         (is_bytes by.now.key.now && (is_bytes by.now.sig.now && list_all is_bytes rdatas.now))) }
@@ -163,7 +165,8 @@ fn push_chain_line(into: &mut Vec<u8>, chain: &Chain) -> Result<(), NoMemory>
 
 /// Appends the lines of links, in order.
 fn push_links(into: &mut Vec<u8>, links: &[Link]) -> Result<(), NoMemory>
-    ensures ok { OnOk result (into.new.items ≡ into.old.items ++ flat_map link_line (map shown_link (map link_value links.now))) }
+    ensures ok { OnOk result (into.new.items ≡ into.old.items
+        ++ flat_map link_line (map shown_link (map link_value links.now))) }
     ensures fits { OnOk result (IsTrue (list_all fitting_link (map shown_link (map link_value links.now)))) }
 {
     let mut left = links;

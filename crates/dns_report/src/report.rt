@@ -99,9 +99,11 @@ pub fn write_report(alloc: Global, answer: &DnsResponse, parts: Parts) -> Result
     ensures fits { OnOk result (IsTrue (fitting_view (view_of parts answer.now))) }
     ensures tells { IfOk result (λ v. (other : View) → IsTrue (fitting_view other)
         → view_text other ≡ v.items → other ≡ view_of parts answer.now) }
-    ensures chains { IfOk result (λ v. (other : ResponseValue) (j k : Judge) → IsTrue (fitting_view (view_of parts other))
+    ensures chains { IfOk result (λ v. (other : ResponseValue) (j k : Judge)
+        → IsTrue (fitting_view (view_of parts other))
         → report_text parts other ≡ v.items
-        → IsTrue (all_justified j other.chains) → IsTrue (all_justified k answer.now.chains) → other.chains ≡ answer.now.chains) }
+        → IsTrue (all_justified j other.chains) → IsTrue (all_justified k answer.now.chains)
+        → other.chains ≡ answer.now.chains) }
 {
     let mut text = Vec::new(alloc);
     push_body(&mut text, parts, answer)?;

@@ -46,7 +46,8 @@ fn push_step_line(into: &mut Vec<u8>, step: &Asked) -> Result<(), NoMemory>
 
 /// Appends the line of a reply that tells records.
 fn push_got(into: &mut Vec<u8>, code: ResponseCode, empty: bool) -> Result<(), NoMemory>
-    ensures ok { OnOk result (into.new.items ≡ into.old.items ++ line (codes "got") (decimal code.0 ∷ empty_words empty)) }
+    ensures ok { OnOk result (into.new.items ≡ into.old.items
+        ++ line (codes "got") (decimal code.0 ∷ empty_words empty)) }
     ensures fits { OnOk result (IsTrue (is_u16 code.0)) }
 {
     push_text(into, b"got")?;
@@ -87,7 +88,8 @@ fn push_told_section(
     section: Section,
     records: &[Record],
 ) -> Result<(), NoMemory>
-    ensures ok { OnOk result (into.new.items ≡ into.old.items ++ flat_map (told_line section) (map unmarked records.now)) }
+    ensures ok { OnOk result (into.new.items ≡ into.old.items
+        ++ flat_map (told_line section) (map unmarked records.now)) }
     ensures fits { OnOk result (IsTrue (list_all fitting_told (map unmarked records.now))) }
 {
     for next in records {

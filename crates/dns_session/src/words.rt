@@ -73,7 +73,8 @@ pub(crate) fn triple(rest: Option<&[u8]>) -> Option<(&[u8], &[u8], &[u8])>
 
 /// The four words that are left.
 pub(crate) fn quadruple(rest: Option<&[u8]>) -> Option<(&[u8], &[u8], &[u8], &[u8])>
-    ensures { option_map (λ x. (x.0.now, x.1.now, x.2.now, x.3.now)) result ≡ quadruple (words_left (option_copied rest.entry)) }
+    ensures { option_map (λ x. (x.0.now, x.1.now, x.2.now, x.3.now)) result
+        ≡ quadruple (words_left (option_copied rest.entry)) }
 {
     match rest {
         Some(text) => {

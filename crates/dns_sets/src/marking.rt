@@ -123,7 +123,8 @@ fn mark(timed: &TimedSets<'_>, places: &SetPlaces, counts: &mut [usize], next: &
     requires each { length counts.old ≡ length timed.now.sets.now }
     requires few { count_at counts.old (place_for places.now next.old) < 2 ^ 63 }
     ensures mark { let place = place_for places.now next.old in
-        next.new ≡ marked_by timed.now.moment (count_at counts.old place) next.old (set_at (bare timed.now.sets.now) place) }
+        next.new ≡ marked_by timed.now.moment (count_at counts.old place) next.old
+        (set_at (bare timed.now.sets.now) place) }
     ensures counts { counts.new ≡ counted counts.old (place_for places.now next.old) next.old }
 {
     let (record_type, readable) = set_rtype(next);

@@ -1,6 +1,6 @@
 //! The tree that the steps of a trail make: which step asked which, in what order they were sent and ended, and how many and how
-//! deep they may be. The layer above may use `is_in_order`, that a derivation is a trail in this order whose steps follow, and the
-//! two limits.
+//! deep they may be. The layer above may use `is_in_order`, that a derivation is a trail in this order whose steps follow, and
+//! the two limits.
 #![tactic(auto)]
 
 mod limits;

@@ -148,7 +148,8 @@ pub(crate) fn link_by_found(
     found: Option<&Record>,
 ) -> Result<Link, NoMemory>
     ensures { IfOk result (λ l. link_value l ≡
-        option_map_or (matched_link_of set.now ds_link key.now) (option_copied found.entry) (anchored_link_of set.now key.now)) }
+        option_map_or (matched_link_of set.now ds_link key.now) (option_copied found.entry)
+        (anchored_link_of set.now key.now)) }
 {
     match found {
         Some(record) => link_by_ds(set, ds_link, key, record),
@@ -188,7 +189,8 @@ pub(crate) fn anchored_link(set: &RecordSet, key: &Record) -> Result<Link, NoMem
 // The link of a key set, whose keys the links from a number on show.
 fn key_set_link(alloc: Global, set: &RecordSet, first: usize) -> Result<Link, NoMemory>
     ensures { IfOk result (λ l. link_value l ≡
-        KeySet set.now.owner set.now.class (rdatas_in set.now.records) (numbers_from first (rdatas_in set.now.records))) }
+        KeySet set.now.owner set.now.class (rdatas_in set.now.records)
+        (numbers_from first (rdatas_in set.now.records))) }
 {
     let owner = set.name.try_clone()?;
     let keys = rdatas_of(alloc, &set.records)?;
@@ -210,7 +212,8 @@ fn signed_link(
     key: &Record,
 ) -> Result<Link, NoMemory>
     ensures { IfOk result (λ l. link_value l ≡
-        Signed set.now.owner set.now.class set.now.rtype (rdatas_in set.now.records) sig.now.rdata key_link key.now.rdata) }
+        Signed set.now.owner set.now.class set.now.rtype (rdatas_in set.now.records)
+        sig.now.rdata key_link key.now.rdata) }
 {
     let owner = set.name.try_clone()?;
     let rdatas = rdatas_of(alloc, &set.records)?;

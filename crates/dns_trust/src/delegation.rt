@@ -61,7 +61,8 @@ impl<'a> DsIndex<'a> {
         records: &'a [Record],
     ) -> Result<DsIndex<'a>, NoMemory>
         ensures owner { IfOk result (λ d. d.owner ≡ owner.now) }
-        ensures records { IfOk result (λ d. d.records ≡ filter (is_supported_record (V.answers verifier.now)) records.now) }
+        ensures records { IfOk result (λ d. d.records
+            ≡ filter (is_supported_record (V.answers verifier.now)) records.now) }
     {
         let records = supported(alloc, verifier, records)?;
         indexed(alloc, owner, records)
@@ -76,7 +77,8 @@ impl<'a> DsIndex<'a> {
 
     /// The first record that counts and matches a key as one of the owner (RFC 4035, 5.2).
     pub fn matching<V: Verifier>(&self, verifier: &V, key: &Record) -> Option<&'a Record>
-        ensures { option_copied result ≡ matching_record (V.answers verifier.now) self.now.owner key.now self.now.records }
+        ensures { option_copied result ≡ matching_record (V.answers verifier.now) self.now.owner key.now
+            self.now.records }
     {
         let Some(pair) = algorithm_and_tag_of(key) else {
             return None;

@@ -171,7 +171,8 @@ fn marked_by_answer<V: Verifier>(
     answer: &Option<Vec<ChainedSet>>,
 ) -> Result<KeysMarked, NoMemory>
     requires { needs_ds (judge_of V.answers judge.now) set.now ≡ true }
-    ensures { IfOk result (λ m. marked_value m ≡ marked_by_zone (judge_of V.answers judge.now) set.now (listed answer.now)) }
+    ensures { IfOk result (λ m. marked_value m
+        ≡ marked_by_zone (judge_of V.answers judge.now) set.now (listed answer.now)) }
 {
     let Some(sets) = answer else {
         return Ok(refused(alloc, Proof::Bogus));

@@ -106,7 +106,8 @@ fn signed_by_matched<'a, V: Verifier>(
     requires owner { ds.now.owner ≡ set.now.owner }
     requires needed { needs_ds (judge_of V.answers judge.now) set.now ≡ true }
     ensures { IfOk result (λ s. option_map signed_value s ≡
-        signed_by (is_matched_key (judge_of V.answers judge.now) set.now ds.now.records) (judge_of V.answers judge.now) set.now) }
+        signed_by (is_matched_key (judge_of V.answers judge.now) set.now ds.now.records)
+        (judge_of V.answers judge.now) set.now) }
 {
     let matched = matched_keys(alloc, judge, set, ds)?;
     let keys = each_once(alloc, &matched)?;
@@ -119,7 +120,8 @@ fn anchored_keys<'a, V: Verifier>(
     judge: &Judge<'_, V>,
     set: &'a RecordSet,
 ) -> Result<Vec<&'a Record>, NoMemory>
-    ensures { IfOk result (λ v. shown v.items ≡ filter (is_anchored_key (judge_of V.answers judge.now) set.now) set.now.records) }
+    ensures { IfOk result (λ v. shown v.items
+        ≡ filter (is_anchored_key (judge_of V.answers judge.now) set.now) set.now.records) }
 {
     let mut keys = Vec::new(alloc);
     for key in &set.records {

@@ -64,7 +64,8 @@ pub(crate) fn first_signed<'a, V: Verifier>(
     keys: &[&'a Record],
 ) -> Result<Option<SignedBy<'a>>, NoMemory>
     ensures { IfOk result (λ s. option_map signed_value s ≡
-        first_signed_by (judge_of V.answers judge.now) set.now (shown keys.now) (take most_signatures set.now.signatures)) }
+        first_signed_by (judge_of V.answers judge.now) set.now (shown keys.now)
+        (take most_signatures set.now.signatures)) }
 {
     let signatures = first_signatures(set);
     for (place, signature) in signatures.iter().enumerate() {
@@ -88,7 +89,8 @@ fn signer<'a, V: Verifier>(
     sig: &Record,
     keys: &[&'a Record],
 ) -> Result<Option<&'a Record>, NoMemory>
-    ensures { IfOk result (λ k. option_copied k ≡ signing_key (judge_of V.answers judge.now) set.now (shown keys.now) sig.now) }
+    ensures { IfOk result (λ k. option_copied k
+        ≡ signing_key (judge_of V.answers judge.now) set.now (shown keys.now) sig.now) }
 {
     let Some(read) = Rrsig::of(sig) else {
         return Ok(None);

@@ -70,7 +70,8 @@ fn mark_by_set<V: Verifier>(verifier: &V, zone: &Name, found: &ChainedSet) -> Pr
 
 // By the records of the zone's DS set, which is Secure.
 fn mark_by_ds<V: Verifier>(verifier: &V, records: &[Record]) -> Proof
-    ensures { (zone : Labels) → result ≡ (unsigned_mark (verdict_by_ds (V.answers verifier.now) zone Secure records.now)).mark }
+    ensures { (zone : Labels) → result
+        ≡ (unsigned_mark (verdict_by_ds (V.answers verifier.now) zone Secure records.now)).mark }
 {
     if has_supported(verifier, records) {
         Proof::Bogus

@@ -111,8 +111,8 @@ enum Seen {
     Fault(DecodeKind, u32),
 }
 
-/// A message with a pointer at a place, and what it comes to: for each of the first targets a letter, which is a for the first that
-/// is seen, and for all other targets.
+/// A message with a pointer at a place, and what it comes to: for each of the first targets a letter, which is a for the first
+/// that is seen, and for all other targets.
 struct Pointed {
     name: &'static str,
     message: [u8; 35],

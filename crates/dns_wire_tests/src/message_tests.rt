@@ -261,8 +261,8 @@ fn is_bad(alloc: Global, record_type: u8, rdata: &[u8]) -> Result<bool, AllocErr
     Ok(error_of(alloc, &bytes) == Some(bad))
 }
 
-/// An rdata and a zero: taken without the zero, refused one byte shorter, and with the zero taken only where the shape ends in any
-/// bytes. In a class of another kind, and where it is empty, any rdata is taken.
+/// An rdata and a zero: taken without the zero, refused one byte shorter, and with the zero taken only where the shape ends in
+/// any bytes. In a class of another kind, and where it is empty, any rdata is taken.
 fn has_shape(
     alloc: Global,
     record_type: u8,
