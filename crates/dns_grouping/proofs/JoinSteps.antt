@@ -5,7 +5,7 @@ use Rattle.dns_model.specs.Views.{RrsigValue}
 use Rattle.dns_model.specs.Records.{Rr, RrSet}
 use Rattle.dns_model.specs.Sections.{leaders}
 use Rattle.dns_grouping.specs.declared.set_places.SetPlaces.{SetPlaces}
-use Rattle.dns_grouping.specs.Joining.{is_at, touched, with_record, with_signature, set_of_one, joined_by, given_to_covered, bare_sets}
+use Rattle.dns_grouping.specs.Joining.{is_at, touched, with_record, with_signature, set_of_one, joined_by, handed_to_covered, bare_sets}
 use Rattle.dns_grouping.specs.SetPlaces.{place_of, or_place, with_place, place_in, place_covered, ArePlaces}
 use Rattle.dns_grouping.proofs.PlaceLemmas.{IsPlace, is_place, is_absent, place-touched, place-push}
 
@@ -57,7 +57,7 @@ new_places old new sets after r s own n are is last pushed made same =
 
 -- ---- signatures
 
-pub none_given : (p : SetPlaces) (sets : List RrSet) (r : Rr) (o : Option RrsigValue) → ArePlaces p sets → None ≡ place_covered (place_of p) r.owner o → sets ≡ given_to_covered r o sets
+pub none_given : (p : SetPlaces) (sets : List RrSet) (r : Rr) (o : Option RrsigValue) → ArePlaces p sets → None ≡ place_covered (place_of p) r.owner o → sets ≡ handed_to_covered r o sets
 none_given p sets r None are is = refl
 none_given p sets r (Some sig) are is =
     sym ((is_absent (is_at r.owner sig.covered) sets (sym (are.each r.owner sig.covered) ∙ sym is)).unchanged (with_signature r))
@@ -69,7 +69,7 @@ covered_within p sets owner None n are is = cc
 covered_within p sets owner (Some sig) n are is = (place_at p sets owner sig.covered n are is).within
 
 pub given_at : (p : SetPlaces) (sets : List RrSet) (r s : Rr) (o : Option RrsigValue) (n : ℕ) (x y : RrSet) → ArePlaces p sets → Some n ≡ place_covered (place_of p) r.owner o
-    → x ≡ get_or sets n x → s ≡ r → y ≡ with_signature s x → set sets n y ≡ given_to_covered r o sets
+    → x ≡ get_or sets n x → s ≡ r → y ≡ with_signature s x → set sets n y ≡ handed_to_covered r o sets
 given_at p sets r s None n x y are is read same made = cc
 given_at p sets r s (Some sig) n x y are is read same made =
     ap (set sets n) (made ∙ ap (λ t. with_signature t x) same) ∙ sym ((place_at p sets r.owner sig.covered n are is).changed (with_signature r) x read)

@@ -12,7 +12,7 @@ use Rattle.dns_model.specs.Records.{Rr, RrSet}
 use Rattle.dns_model.specs.Sections.{same_set, is_signature, covers, covers_rtype, leaders, unsigned_part, sets_of}
 use Rattle.dns_model.proofs.EachLemmas.{Apart, each_more, each_of, each_passes, map_agree, map-map, apart_map}
 use Rattle.dns_model.proofs.SetLemmas.{leaders_apart, same_key, each_leader, number_same}
-use Rattle.dns_grouping.specs.Joining.{is_at, with_signature, given_to_covered, given, bare_set, bare_sets, part_set, part_sets}
+use Rattle.dns_grouping.specs.Joining.{is_at, with_signature, handed_to_covered, handed, bare_set, bare_sets, part_set, part_sets}
 use Rattle.dns_grouping.proofs.Joining.{touched_map, at_single}
 
 -- ---- one more signature
@@ -41,7 +41,7 @@ part_apart section front ls apart = apart_map same_key (part_set section front) 
 -- a signature is given where it covers
 give_step : (section front : List Rr) (r : Rr) (ls : List Rr) (b : Bool) (o : Option RrsigValue) → Apart same_set ls
     → map (λ l. set_with section l (filter (covers l) front ++ cond (is_covered r b o l) (r ∷ []) [])) ls
-    ≡ given_to_covered r (cond b o None) (map (part_set section front) ls)
+    ≡ handed_to_covered r (cond b o None) (map (part_set section front) ls)
 give_step section front r ls false o apart =
     map_agree (λ l. set_with section l (filter (covers l) front ++ [])) (part_set section front) ls
     (each_of (λ l. set_with section l (filter (covers l) front ++ []) ≡ part_set section front l) (λ l. unsigned_step section front l r false refl) ls)
@@ -60,7 +60,7 @@ give_step section front r ls true (Some sig) apart =
     ∙ sym (touched_map same_key (is_at r.owner sig.covered) (with_signature r) (at_single r.owner sig.covered) (map (part_set section front) ls) (part_apart section front ls apart))
 
 part-push : (section front : List Rr) (r : Rr) (ls : List Rr) → Apart same_set ls
-    → map (part_set section (front ++ r ∷ [])) ls ≡ given r (map (part_set section front) ls)
+    → map (part_set section (front ++ r ∷ [])) ls ≡ handed r (map (part_set section front) ls)
 part-push section front r ls apart =
     let one = λ (l : Rr). set_with section l (filter (covers l) front ++ cond (is_covered r (is_signature r) (rrsig_in r.rdata) l) (r ∷ []) []) in
     map_agree (part_set section (front ++ r ∷ [])) one ls
@@ -69,7 +69,7 @@ part-push section front r ls apart =
 
 -- the signatures that were given, with one more
 pub part_more : (section : List Rr) (i : ℕ) (r : Rr) → i < length section → r ≡ get_or section i r
-    → part_sets section (take (i + 1) section) ≡ given r (part_sets section (take i section))
+    → part_sets section (take (i + 1) section) ≡ handed r (part_sets section (take i section))
 part_more section i r within read =
     ap (part_sets section) (take_more section i r within ∙ ap (λ x. take i section ++ x ∷ []) (sym read))
     ∙ part-push section (take i section) r (leaders (unsigned_part section)) (leaders_apart (unsigned_part section))

@@ -35,13 +35,13 @@ joined_by r sets =
 abbrev pub met_by : Rr → List RrSet → List RrSet
 met_by r sets = if is_signature r then sets else joined_by r sets
 
-abbrev pub given_to_covered : Rr → Option RrsigValue → List RrSet → List RrSet
-given_to_covered r None sets = sets
-given_to_covered r (Some sig) sets = touched (is_at r.owner sig.covered) (with_signature r) sets
+abbrev pub handed_to_covered : Rr → Option RrsigValue → List RrSet → List RrSet
+handed_to_covered r None sets = sets
+handed_to_covered r (Some sig) sets = touched (is_at r.owner sig.covered) (with_signature r) sets
 
 -- a signature that can be read is given to the first set that it covers
-abbrev pub given : Rr → List RrSet → List RrSet
-given r sets = given_to_covered r (rrsig_of r) sets
+abbrev pub handed : Rr → List RrSet → List RrSet
+handed r sets = handed_to_covered r (rrsig_of r) sets
 
 -- the set of the first record of an owner and type, without signatures
 abbrev pub bare_set : List Rr → Rr → RrSet

@@ -3,7 +3,7 @@ ghost use Rattle.dns_model.specs.Sections.{sets_of};
 ghost use Rattle.dns_model.specs.SoundAnswers.{told_by, in_section};
 ghost use Rattle.dns_judgement.specs.Marking.{cleared, cleared_message};
 ghost use Rattle.dns_judgement.specs.Asking.{judged_at, judged_part, is_judged_at as is_judged_at_depth};
-ghost use Rattle.dns_grouping.specs.Joining.{joined_by, met_by, given, with_record as record_added, with_signature as signature_added};
+ghost use Rattle.dns_grouping.specs.Joining.{joined_by, met_by, handed, with_record as record_added, with_signature as signature_added};
 ghost use Rattle.dns_model.specs.RecordViews.{rrsig_of};
 ghost use Rattle.dns_grouping.specs.SetPlaces.{ArePlaces, place_of, place_covered};
 
@@ -127,7 +127,7 @@ fn meet(
 // Gives a signature that can be read to the set that it covers.
 fn give(sets: &mut Vec<RecordSet>, places: &SetPlaces, met: &Record) -> Result<(), NoMemory>
     requires { ArePlaces places.now sets.old.items }
-    ensures sets { OnOk result (sets.new.items ≡ given met.now sets.old.items) }
+    ensures sets { OnOk result (sets.new.items ≡ handed met.now sets.old.items) }
     ensures places { OnOk result (ArePlaces places.now sets.new.items) }
 {
     match covered_place(places, met) {

@@ -7,23 +7,23 @@ use Rattle.dns_model.specs.Trails.{AskedValue}
 use Rattle.std.specs.Option.{option_and_then}
 use Rattle.dns_judgement.specs.Asking.{most_sends}
 use Rattle.dns_judgement.specs.Derivation.{asks_of, order_asks, order_step}
-use Rattle.dns_judgement.specs.DerivationParts.{and_then}
+use Rattle.dns_judgement.specs.DerivationParts.{and_then_some}
 
-pub then_then : {X Y Z : Type 0} (o : Option X) (f : X → Option Y) (g : Y → Option Z) → and_then (and_then o f) g ≡ and_then o (λ x. and_then (f x) g)
+pub then_then : {X Y Z : Type 0} (o : Option X) (f : X → Option Y) (g : Y → Option Z) → and_then_some (and_then_some o f) g ≡ and_then_some o (λ x. and_then_some (f x) g)
 then_then None f g = refl
 then_then (Some x) f g = refl
 
-if_then : {X Y : Type 0} (b : Bool) (o : Option X) (f : X → Option Y) → and_then (if b then o else None) f ≡ (if b then and_then o f else None)
+if_then : {X Y : Type 0} (b : Bool) (o : Option X) (f : X → Option Y) → and_then_some (if b then o else None) f ≡ (if b then and_then_some o f else None)
 if_then true o f = refl
 if_then false o f = refl
 
-pub agree_then : {X Y : Type 0} (o : Option X) (f g : X → Option Y) → ((x : X) → f x ≡ g x) → and_then o f ≡ and_then o g
+pub agree_then : {X Y : Type 0} (o : Option X) (f g : X → Option Y) → ((x : X) → f x ≡ g x) → and_then_some o f ≡ and_then_some o g
 agree_then None f g same = refl
 agree_then (Some x) f g same = same x
 
 -- asks are met one after another
 pub order_asks-append : (visit : ℕ → List ℕ → Option (List ℕ)) (n : ℕ) (xs ys : List AskRef) (met : List ℕ)
-    → order_asks visit n (xs ++ ys) met ≡ and_then (order_asks visit n xs met) (order_asks visit n ys)
+    → order_asks visit n (xs ++ ys) met ≡ and_then_some (order_asks visit n xs met) (order_asks visit n ys)
 unfolding order_asks
 order_asks-append visit n [] ys met = refl
 order_asks-append visit n (TooDeep ∷ xs) ys met = order_asks-append visit n xs ys met
@@ -33,10 +33,10 @@ order_asks-append visit n (TooMany ∷ xs) ys met =
 order_asks-append visit n (Step m ∷ xs) ys met =
     let test = nat_lt m n && nat_lt (length met) most_sends in
     ap (λ o. if test then o else None)
-    (agree_then (visit m met) (order_asks visit n (xs ++ ys)) (λ k. and_then (order_asks visit n xs k) (order_asks visit n ys))
+    (agree_then (visit m met) (order_asks visit n (xs ++ ys)) (λ k. and_then_some (order_asks visit n xs k) (order_asks visit n ys))
     (order_asks-append visit n xs ys)
     ∙ sym (then_then (visit m met) (order_asks visit n xs) (order_asks visit n ys)))
-    ∙ sym (if_then test (and_then (visit m met) (order_asks visit n xs)) (order_asks visit n ys))
+    ∙ sym (if_then test (and_then_some (visit m met) (order_asks visit n xs)) (order_asks visit n ys))
 
 pub order_none : (visit : ℕ → List ℕ → Option (List ℕ)) (n : ℕ) (met : List ℕ) → order_asks visit n [] met ≡ Some met
 unfolding order_asks
@@ -57,9 +57,9 @@ pub order_one : (visit : ℕ → List ℕ → Option (List ℕ)) (n m : ℕ) (me
     → order_asks visit n (Step m ∷ []) met ≡ Some found
 unfolding order_asks
 order_one visit n m met found before few is =
-    ap (λ b. if b then and_then (visit m met) (order_asks visit n []) else None)
+    ap (λ b. if b then and_then_some (visit m met) (order_asks visit n []) else None)
     (and_from (nat_lt m n) (nat_lt (length met) most_sends) (lt-ltb m n before) (lt-ltb (length met) most_sends few))
-    ∙ ap (λ o. and_then o (order_asks visit n [])) is
+    ∙ ap (λ o. and_then_some o (order_asks visit n [])) is
 
 -- a step of the trail is met, and then its asks
 pub order_step_at : (above : ℕ) (trail : List AskedValue) (n : ℕ) (met : List ℕ) (step : AskedValue) → slice_get trail n ≡ Some step

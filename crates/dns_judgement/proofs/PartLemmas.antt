@@ -12,7 +12,7 @@ use Rattle.dns_model.specs.Trails.{AskedValue}
 use Rattle.dns_model.proofs.Lists.{slice_get_appended}
 use Rattle.dns_judgement.specs.Asking.{most_sends}
 use Rattle.dns_judgement.specs.Derivation.{step_holds, steps_hold, asks_of, order_asks, order_step, end_asks, end_step}
-use Rattle.dns_judgement.specs.DerivationParts.{and_then}
+use Rattle.dns_judgement.specs.DerivationParts.{and_then_some}
 use Rattle.dns_judgement.specs.Parts.{once_between, TrailPart}
 use Rattle.dns_judgement.proofs.EndLemmas.{end_asks-append, end_none, end_deep, end_many, end_one, end_step_at}
 use Rattle.dns_judgement.proofs.OrderLemmas.{order_asks-append, order_none, order_deep, order_many, order_one, order_step_at}
@@ -68,7 +68,7 @@ then_met : (visit : ℕ → List ℕ → Option (List ℕ)) (n : ℕ) (xs ys : L
     → order_asks visit n xs met ≡ Some (met ++ first) → order_asks visit n ys (met ++ first) ≡ Some ((met ++ first) ++ second)
     → order_asks visit n (xs ++ ys) met ≡ Some (met ++ (first ++ second))
 then_met visit n xs ys met first second h k =
-    order_asks-append visit n xs ys met ∙ ap (λ o. and_then o (order_asks visit n ys)) h ∙ k ∙ ap Some (append_assoc met first second)
+    order_asks-append visit n xs ys met ∙ ap (λ o. and_then_some o (order_asks visit n ys)) h ∙ k ∙ ap Some (append_assoc met first second)
 
 -- a part gives no fewer steps than there were
 pub part_grows : (j : Judge) (limit : ℕ) (before after : List AskedValue) (asks : List AskRef) (n m : ℕ) (p : TrailPart j limit before after asks n m)

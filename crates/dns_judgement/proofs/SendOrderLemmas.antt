@@ -10,7 +10,7 @@ use Rattle.dns_model.proofs.EachLemmas.{each_append}
 use Rattle.std.specs.Option.{option_and_then}
 use Rattle.dns_judgement.specs.Asking.{most_sends}
 use Rattle.dns_judgement.specs.Derivation.{asks_of, order_asks, order_step}
-use Rattle.dns_judgement.specs.DerivationParts.{and_then}
+use Rattle.dns_judgement.specs.DerivationParts.{and_then_some}
 use Rattle.dns_judgement.proofs.SentLemmas.{AreBelow, times, times-cons}
 
 -- ---- what holds of each number that is met
@@ -48,7 +48,7 @@ many_met : (b : Bool) (o : Option (List ℕ)) (found : List ℕ) → (if b then 
 many_met true o found h = h
 many_met false o found h = cc
 
-then_meets : (Q : ℕ → Type 0) (met found : List ℕ) (o : Option (List ℕ)) (f : List ℕ → Option (List ℕ)) → and_then o f ≡ Some found
+then_meets : (Q : ℕ → Type 0) (met found : List ℕ) (o : Option (List ℕ)) (f : List ℕ → Option (List ℕ)) → and_then_some o f ≡ Some found
     → ((middle : List ℕ) → o ≡ Some middle → Meets Q met middle) → ((middle : List ℕ) → f middle ≡ Some found → Meets Q middle found)
     → Meets Q met found
 then_meets Q met found None f h first second = cc
@@ -63,7 +63,7 @@ asks_meet Q visit n (TooMany ∷ asks) met found v each h =
     asks_meet Q visit n asks met found v each.1 (many_met (nat_le most_sends (length met)) (order_asks visit n asks met) found h)
 asks_meet Q visit n (Step m ∷ asks) met found v each h =
     then_meets Q met found (visit m met) (order_asks visit n asks)
-    (many_met (nat_lt m n && nat_lt (length met) most_sends) (and_then (visit m met) (order_asks visit n asks)) found h)
+    (many_met (nat_lt m n && nat_lt (length met) most_sends) (and_then_some (visit m met) (order_asks visit n asks)) found h)
     (λ middle k. v.visits m met middle each.0 k) (λ middle k. asks_meet Q visit n asks middle found v each.1 k)
 
 -- a fact that a step of the trail hands on to those that it asks

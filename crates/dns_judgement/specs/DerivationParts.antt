@@ -68,8 +68,8 @@ grounds_of j limit earlier step = record { judge = j; limit = limit; earlier = e
 abbrev pub asks_of_sets : List JudgedSetValue → List AskRef
 asks_of_sets sets = flat_map (λ set. set.asked) sets
 
-abbrev pub and_then : {X Y : Type 0} → Option X → (X → Option Y) → Option Y
-and_then o f = option_and_then f o
+abbrev pub and_then_some : {X Y : Type 0} → Option X → (X → Option Y) → Option Y
+and_then_some o f = option_and_then f o
 
 abbrev pub steps_at : List AskedValue → Option (List ℕ) → List AskedValue
 steps_at trail order = filter_map (slice_get trail) (unwrap_or order [])

@@ -310,17 +310,17 @@ fn ask<H: DnsHandle, V: Verifier>(
     context: &LookupContext<'_, V>,
     handle: &mut H,
     progress: &mut Progress,
-    asker: u16,
+    asker_depth: u16,
     query: Query,
 ) -> Result<Finished, NoMemory>
-    requires ready { CanWalk context.now progress.old asker }
+    requires ready { CanWalk context.now progress.old asker_depth }
     ensures walked { HasWalked H.DnsHandle context.now handle.old progress.old handle.new progress.new }
     ensures asks { IfOk result (λ f. Walk H.DnsHandle V.answers context.now
         handle.old progress.old handle.new progress.new (f.ask ∷ [])) }
     ensures answer { IfOk result (λ f. IsAnswer (judge_of V.answers context.now.judge) context.now.limit
-        progress.new.steps.items query (asker + 1) f.ask (listed f.answer)) }
+        progress.new.steps.items query (asker_depth + 1) f.ask (listed f.answer)) }
 {
-    let depth = asker + 1;
+    let depth = asker_depth + 1;
     if depth > context.limit {
         return Ok(refused(AskRef::TooDeep));
     }

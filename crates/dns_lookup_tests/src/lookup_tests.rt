@@ -55,7 +55,7 @@ fn keep(kept: &mut Vec<Sending>, request: &DnsRequest, moment: u64) {
 }
 
 /// A reply to a query for a name.
-pub(crate) struct Given {
+pub(crate) struct Recording {
     pub(crate) name: &'static str,
     pub(crate) query_type: RecordType,
     pub(crate) message: &'static [u8],
@@ -70,13 +70,13 @@ pub(crate) const KEY_SET: &[u8] =
     b"\0\0\x84\0\0\x01\0\x01\0\0\0\0\0\0\x30\0\x01\0\0\x30\0\x01\0\0\x0e\x10\0\x06\x01\x01\x03\x0d\xaa\xbb";
 
 /// The root's NS set with a signature, and its key set.
-pub(crate) const ROOT_SERVERS: [Given; 2] = [
-    Given {
+pub(crate) const ROOT_SERVERS: [Recording; 2] = [
+    Recording {
         name: ".",
         query_type: RecordType::NS,
         message: NS_SET,
     },
-    Given {
+    Recording {
         name: ".",
         query_type: RecordType::DNSKEY,
         message: KEY_SET,
@@ -84,29 +84,29 @@ pub(crate) const ROOT_SERVERS: [Given; 2] = [
 ];
 
 /// That, named here alone: a constant costs each proof that names it.
-pub(crate) fn root_servers() -> &'static [Given; 2] {
+pub(crate) fn root_servers() -> &'static [Recording; 2] {
     &ROOT_SERVERS
 }
 
 /// An NS set of `b.` that its signature, with no label, would expand, and the root's key set.
-const EXPANDED: [Given; 2] = [
-    Given {
+const EXPANDED: [Recording; 2] = [
+    Recording {
         name: "b.",
         query_type: RecordType::NS,
         message: b"\0\0\x84\0\0\x01\0\x02\0\0\0\0\x01b\0\0\x02\0\x01\x01b\0\0\x02\0\x01\0\0\x0e\x10\0\x03\x01a\0\x01b\0\0\x2e\0\x01\0\0\x0e\x10\0\x15\0\x02\x0d\0\0\0\x0e\x10\0\0\x07\xd0\0\0\x03\x84\xae\xc9\0\xc0\xde",
     },
-    Given {
+    Recording {
         name: ".",
         query_type: RecordType::DNSKEY,
         message: KEY_SET,
     },
 ];
 
-fn expanded() -> &'static [Given; 2] {
+fn expanded() -> &'static [Recording; 2] {
     &EXPANDED
 }
 
-fn query_of(alloc: Global, given: &Given) -> Result<Query, NetError> {
+fn query_of(alloc: Global, given: &Recording) -> Result<Query, NetError> {
     let name = match Name::from_ascii(alloc, given.name) {
         Ok(name) => name,
         Err(_) => return Err(NetError::Timeout),
@@ -138,13 +138,17 @@ pub(crate) fn response_of(alloc: Global, bytes: &[u8]) -> Result<DnsResponse, Ne
 }
 
 // Puts a reply behind those that were recorded.
-fn put_reply(alloc: Global, recorded: &mut Recorded, given: &Given) -> Result<(), NetError> {
+fn put_reply(alloc: Global, recorded: &mut Recorded, given: &Recording) -> Result<(), NetError> {
     let query = query_of(alloc, given)?;
     let response = response_of(alloc, given.message);
     Ok(recorded.push(query, response)?)
 }
 
-fn put_replies(alloc: Global, recorded: &mut Recorded, replies: &[Given]) -> Result<(), NetError> {
+fn put_replies(
+    alloc: Global,
+    recorded: &mut Recorded,
+    replies: &[Recording],
+) -> Result<(), NetError> {
     for given in replies {
         put_reply(alloc, recorded, given)?;
     }
@@ -163,7 +167,7 @@ fn upstream_over(alloc: Global, recorded: Recorded) -> Keeping {
 pub(crate) fn handle_over(
     alloc: Global,
     recorded: Recorded,
-    replies: &[Given],
+    replies: &[Recording],
 ) -> Result<DnssecDnsHandle<Keeping, Listed>, NetError> {
     let mut upstream = upstream_over(alloc, recorded);
     put_replies(alloc, &mut upstream.replies, replies)?;
@@ -175,7 +179,7 @@ pub(crate) fn handle_over(
 pub(crate) fn look_up(
     alloc: Global,
     handle: &mut DnssecDnsHandle<Keeping, Listed>,
-    given: &Given,
+    given: &Recording,
 ) -> Result<DnsResponse, NetError> {
     handle.lookup(
         alloc,
@@ -189,7 +193,7 @@ pub(crate) fn look_up(
 pub(crate) fn is_answered(
     alloc: Global,
     handle: &mut DnssecDnsHandle<Keeping, Listed>,
-    given: &Given,
+    given: &Recording,
 ) -> bool {
     let answer = look_up(alloc, handle, given);
     let answered = answer.is_ok();
@@ -201,7 +205,7 @@ pub(crate) fn is_answered(
 pub(crate) fn is_denied(
     alloc: Global,
     handle: &mut DnssecDnsHandle<Keeping, Listed>,
-    given: &Given,
+    given: &Recording,
 ) -> bool {
     let answer = look_up(alloc, handle, given);
     let denied = matches!(

@@ -1,7 +1,7 @@
 //! The trail of a lookup, also where an ask meets a fault, and replies by turn (RFC 4035, 4.2 and 5).
 use crate::lookup_tests::{
-    Given, KEY_SET, Keeping, NS_SET, ROOT_SERVERS, handle_over, is_answered, is_denied, look_up,
-    root_servers,
+    KEY_SET, Keeping, NS_SET, ROOT_SERVERS, Recording, handle_over, is_answered, is_denied,
+    look_up, root_servers,
 };
 use crate::rows::check_row;
 use dns_lookup::DnssecDnsHandle;
@@ -22,7 +22,7 @@ struct Step {
 /// The replies to a lookup of `. NS` that trusts no key, and the trail of its answer.
 struct Row {
     name: &'static str,
-    replies: &'static [Given],
+    replies: &'static [Recording],
     steps: &'static [Step],
 }
 
@@ -47,7 +47,7 @@ const ROWS: [Row; 2] = [
     },
     Row {
         name: "an ask for keys that meets a fault is a step that fails, and the answer is given",
-        replies: &[Given {
+        replies: &[Recording {
             name: ".",
             query_type: RecordType::NS,
             message: NS_SET,
@@ -128,20 +128,20 @@ fn an_answer_has_the_steps_that_led_to_it(rt: HostRuntime) {
 }
 
 /// No key of the root, and then its key set.
-const KEYS: [Given; 2] = [
-    Given {
+const KEYS: [Recording; 2] = [
+    Recording {
         name: ".",
         query_type: RecordType::DNSKEY,
         message: b"\0\0\x84\0\0\x01\0\0\0\0\0\0\0\0\x30\0\x01",
     },
-    Given {
+    Recording {
         name: ".",
         query_type: RecordType::DNSKEY,
         message: KEY_SET,
     },
 ];
 
-fn keys() -> &'static [Given; 2] {
+fn keys() -> &'static [Recording; 2] {
     &KEYS
 }
 
@@ -151,20 +151,28 @@ fn has_keys(alloc: Global, handle: &mut DnssecDnsHandle<Keeping, Listed>) -> boo
 }
 
 // Nothing is answered, and nothing shows that there are no keys.
-fn has_none(alloc: Global, handle: &mut DnssecDnsHandle<Keeping, Listed>) -> bool {
+fn is_bogus_denial(alloc: Global, handle: &mut DnssecDnsHandle<Keeping, Listed>) -> bool {
     is_denied(alloc, handle, &keys()[0])
 }
 
 /// Three lookups of the keys, one after another, by turn: the first is denied, and the others have the keys.
 fn are_later(alloc: Global) -> Result<bool, NetError> {
     let mut handle = handle_over(alloc, Recorded::in_turn(alloc), keys())?;
-    Ok(has_none(alloc, &mut handle) && has_keys(alloc, &mut handle) && has_keys(alloc, &mut handle))
+    Ok(
+        is_bogus_denial(alloc, &mut handle)
+            && has_keys(alloc, &mut handle)
+            && has_keys(alloc, &mut handle),
+    )
 }
 
 /// The same by the first reply: each is denied.
 fn are_denied(alloc: Global) -> Result<bool, NetError> {
     let mut handle = handle_over(alloc, Recorded::new(alloc), keys())?;
-    Ok(has_none(alloc, &mut handle) && has_none(alloc, &mut handle) && has_none(alloc, &mut handle))
+    Ok(
+        is_bogus_denial(alloc, &mut handle)
+            && is_bogus_denial(alloc, &mut handle)
+            && is_bogus_denial(alloc, &mut handle),
+    )
 }
 
 #[test]

@@ -19,18 +19,18 @@ key_of_first None = record { owner = []; record_type = 0 }
 key_of_first (Some r) = key_of_record r
 
 -- the key of a set: that of its first record
-abbrev pub key_of : RrSet → SetKey
-key_of set = key_of_first (slice_get set.records 0)
+abbrev pub trail_key_of : RrSet → SetKey
+trail_key_of set = key_of_first (slice_get set.records 0)
 
 -- keys in order: by the bytes of the owner, then by type
-abbrev pub key_cmp : SetKey → SetKey → Ordering
-key_cmp a b = ordering_then (slice_cmp nat_cmp a.owner b.owner) (nat_cmp a.record_type b.record_type)
+abbrev pub trail_key_cmp : SetKey → SetKey → Ordering
+trail_key_cmp a b = ordering_then (slice_cmp nat_cmp a.owner b.owner) (nat_cmp a.record_type b.record_type)
 
 -- the places under a key
 abbrev pub set_places : {Z : Type 0} → BTreeMap SetKey (Vec ℕ Z) → SetKey → List ℕ
-set_places places key = items_or_none (tree.get key_cmp places key)
+set_places places key = items_or_none (tree.get trail_key_cmp places key)
 
 -- a key has one more place behind its others
 abbrev pub AddedPlace : {Z : Type 0} → BTreeMap SetKey (Vec ℕ Z) → BTreeMap SetKey (Vec ℕ Z) → SetKey → ℕ → Type 0
 AddedPlace old new key place =
-    (k : SetKey) → set_places new k ≡ set_places old k ++ (if is_eq (key_cmp key k) then place ∷ [] else [])
+    (k : SetKey) → set_places new k ≡ set_places old k ++ (if is_eq (trail_key_cmp key k) then place ∷ [] else [])

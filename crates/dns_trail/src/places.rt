@@ -4,7 +4,7 @@
 ghost use Rattle.std.specs.Prelude.{◌≡◌, IfOk, OnOk};
 ghost use Rattle.dns_judgement.specs.Chained.{bare};
 ghost use Rattle.dns_trail.specs.Indexed.{AreIndexed};
-ghost use Rattle.dns_trail.specs.SetKeys.{AddedPlace, key_of, key_of_record as key_in, set_places};
+ghost use Rattle.dns_trail.specs.SetKeys.{AddedPlace, trail_key_of, key_of_record as key_in, set_places};
 
 use dns_name::{NoMemory, Octets};
 use dns_record::{Record, RecordSet};
@@ -28,7 +28,7 @@ pub(crate) type PlacesByKey = BTreeMap<SetKey, Vec<usize>>;
 impl SetKey {
     /// The key of a set.
     pub(crate) fn of(alloc: Global, set: &RecordSet) -> Result<SetKey, NoMemory>
-        ensures { IfOk result (λ k. k ≡ key_of set.now) }
+        ensures { IfOk result (λ k. k ≡ trail_key_of set.now) }
     {
         match set.records.first() {
             Some(first) => SetKey::of_record(alloc, first),
@@ -96,7 +96,7 @@ pub(crate) fn places_of_sets(alloc: Global, sets: &[ChainedSet]) -> Result<Place
 }
 
 fn key_of_set(alloc: Global, chained: &ChainedSet) -> Result<SetKey, NoMemory>
-    ensures { IfOk result (λ k. k ≡ key_of chained.now.judged.set) }
+    ensures { IfOk result (λ k. k ≡ trail_key_of chained.now.judged.set) }
 {
     SetKey::of(alloc, &chained.judged.set)
 }

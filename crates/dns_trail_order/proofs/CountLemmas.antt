@@ -8,7 +8,7 @@ use Rattle.dns_model.specs.declared.trail.AskRef.TheVariants.{Step, TooDeep, Too
 use Rattle.dns_model.specs.Trails.{AskedValue}
 use Rattle.dns_judgement.specs.Asking.{most_sends}
 use Rattle.dns_judgement.specs.Derivation.{asks_of, order_asks, order_step, end_asks, end_step}
-use Rattle.dns_judgement.specs.DerivationParts.{and_then}
+use Rattle.dns_judgement.specs.DerivationParts.{and_then_some}
 use Rattle.dns_judgement.proofs.OrderLemmas.{then_then, agree_then}
 use Rattle.dns_trail_order.specs.declared.order.Counts.{Counts}
 use Rattle.dns_trail_order.specs.Counting.{count_ask, count_asks, count_step, one_sent, end_at}
@@ -16,11 +16,11 @@ use Rattle.dns_trail_order.specs.Counting.{count_ask, count_asks, count_step, on
 -- ---- asks one after another
 
 pub count_asks-append : (visit : ℕ → Counts → Option Counts) (n : ℕ) (xs ys : List AskRef) (counts : Counts)
-    → count_asks visit n (xs ++ ys) counts ≡ and_then (count_asks visit n xs counts) (count_asks visit n ys)
+    → count_asks visit n (xs ++ ys) counts ≡ and_then_some (count_asks visit n xs counts) (count_asks visit n ys)
 unfolding count_asks
 count_asks-append visit n [] ys counts = refl
 count_asks-append visit n (x ∷ xs) ys counts =
-    agree_then (count_ask visit n x counts) (count_asks visit n (xs ++ ys)) (λ c. and_then (count_asks visit n xs c) (count_asks visit n ys))
+    agree_then (count_ask visit n x counts) (count_asks visit n (xs ++ ys)) (λ c. and_then_some (count_asks visit n xs c) (count_asks visit n ys))
     (count_asks-append visit n xs ys)
     ∙ sym (then_then (count_ask visit n x counts) (count_asks visit n xs) (count_asks visit n ys))
 

@@ -9,7 +9,7 @@ use Rattle.dns_model.specs.declared.trail.AskRef.TheVariants.{Step}
 use Rattle.dns_model.specs.Trails.{AskedValue, JudgedSetValue}
 use Rattle.dns_judgement.specs.Asking.{most_sends}
 use Rattle.dns_judgement.specs.Derivation.{asks_of}
-use Rattle.dns_judgement.specs.DerivationParts.{and_then, asks_of_sets}
+use Rattle.dns_judgement.specs.DerivationParts.{and_then_some, asks_of_sets}
 use Rattle.dns_trail_order.specs.declared.order.Counts.{Counts}
 use Rattle.dns_trail_order.specs.Counting.{count_ask, count_asks, count_step, one_sent, end_at}
 use Rattle.dns_trail_order.proofs.CountLemmas.{count_asks-append, any_above}
@@ -19,7 +19,7 @@ use Rattle.dns_trail_order.proofs.CountLemmas.{count_asks-append, any_above}
 -- the walk over the asks that are left goes on behind the ask at a place
 asks_from : (visit : ℕ → Counts → Option Counts) (n : ℕ) (asks : List AskRef) (i : ℕ) (ask : AskRef) (counts : Counts) → i < length asks
     → count_asks visit n (drop i asks) counts
-    ≡ and_then (count_ask visit n (get_or asks i ask) counts) (count_asks visit n (drop (i + 1) asks))
+    ≡ and_then_some (count_ask visit n (get_or asks i ask) counts) (count_asks visit n (drop (i + 1) asks))
 unfolding count_asks
 asks_from visit n asks i ask counts within = ap (λ xs. count_asks visit n xs counts) (drop_more asks i ask within)
 
@@ -27,12 +27,12 @@ pub asks_next : (visit : ℕ → Counts → Option Counts) (n : ℕ) (asks : Lis
     → i < length asks → count_ask visit n (get_or asks i ask) counts ≡ Some next → count_asks visit n (drop i asks) counts ≡ whole
     → count_asks visit n (drop (i + 1) asks) next ≡ whole
 asks_next visit n asks i ask counts next whole within one rest =
-    sym (asks_from visit n asks i ask counts within ∙ ap (λ o. and_then o (count_asks visit n (drop (i + 1) asks))) one) ∙ rest
+    sym (asks_from visit n asks i ask counts within ∙ ap (λ o. and_then_some o (count_asks visit n (drop (i + 1) asks))) one) ∙ rest
 
 pub asks_cut : (visit : ℕ → Counts → Option Counts) (n : ℕ) (asks : List AskRef) (i : ℕ) (ask : AskRef) (counts : Counts) (whole : Option Counts)
     → i < length asks → count_ask visit n (get_or asks i ask) counts ≡ None → count_asks visit n (drop i asks) counts ≡ whole → None ≡ whole
 asks_cut visit n asks i ask counts whole within one rest =
-    sym (asks_from visit n asks i ask counts within ∙ ap (λ o. and_then o (count_asks visit n (drop (i + 1) asks))) one) ∙ rest
+    sym (asks_from visit n asks i ask counts within ∙ ap (λ o. and_then_some o (count_asks visit n (drop (i + 1) asks))) one) ∙ rest
 
 pub asks_end : (visit : ℕ → Counts → Option Counts) (n : ℕ) (asks : List AskRef) (i : ℕ) (counts : Counts) (whole : Option Counts)
     → length asks ≤ i → count_asks visit n (drop i asks) counts ≡ whole → Some counts ≡ whole
@@ -44,25 +44,25 @@ asks_end visit n asks i counts whole past rest = sym (ap (λ xs. count_asks visi
 sets_from : (visit : ℕ → Counts → Option Counts) (n : ℕ) (sets : List JudgedSetValue) (i : ℕ) (set : JudgedSetValue) (asked : List AskRef)
     (counts : Counts) → i < length sets → set ≡ get_or sets i set → asked ≡ set.asked
     → count_asks visit n (asks_of_sets (drop i sets)) counts
-    ≡ and_then (count_asks visit n asked counts) (count_asks visit n (asks_of_sets (drop (i + 1) sets)))
+    ≡ and_then_some (count_asks visit n asked counts) (count_asks visit n (asks_of_sets (drop (i + 1) sets)))
 sets_from visit n sets i set asked counts within is own =
     ap (λ xs. count_asks visit n (asks_of_sets xs) counts) (drop_more sets i set within ∙ ap (λ s. s ∷ drop (i + 1) sets) (sym is))
     ∙ count_asks-append visit n set.asked (asks_of_sets (drop (i + 1) sets)) counts
-    ∙ ap (λ xs. and_then (count_asks visit n xs counts) (count_asks visit n (asks_of_sets (drop (i + 1) sets)))) (sym own)
+    ∙ ap (λ xs. and_then_some (count_asks visit n xs counts) (count_asks visit n (asks_of_sets (drop (i + 1) sets)))) (sym own)
 
 pub sets_next : (visit : ℕ → Counts → Option Counts) (n : ℕ) (sets : List JudgedSetValue) (i : ℕ) (set : JudgedSetValue) (asked : List AskRef)
     (counts next : Counts) (whole : Option Counts) → i < length sets → set ≡ get_or sets i set → asked ≡ set.asked
     → count_asks visit n asked counts ≡ Some next
     → count_asks visit n (asks_of_sets (drop i sets)) counts ≡ whole → count_asks visit n (asks_of_sets (drop (i + 1) sets)) next ≡ whole
 sets_next visit n sets i set asked counts next whole within is own one rest =
-    sym (sets_from visit n sets i set asked counts within is own ∙ ap (λ o. and_then o (count_asks visit n (asks_of_sets (drop (i + 1) sets)))) one) ∙ rest
+    sym (sets_from visit n sets i set asked counts within is own ∙ ap (λ o. and_then_some o (count_asks visit n (asks_of_sets (drop (i + 1) sets)))) one) ∙ rest
 
 pub sets_cut : (visit : ℕ → Counts → Option Counts) (n : ℕ) (sets : List JudgedSetValue) (i : ℕ) (set : JudgedSetValue) (asked : List AskRef)
     (counts : Counts) (whole : Option Counts) → i < length sets → set ≡ get_or sets i set → asked ≡ set.asked
     → count_asks visit n asked counts ≡ None
     → count_asks visit n (asks_of_sets (drop i sets)) counts ≡ whole → None ≡ whole
 sets_cut visit n sets i set asked counts whole within is own one rest =
-    sym (sets_from visit n sets i set asked counts within is own ∙ ap (λ o. and_then o (count_asks visit n (asks_of_sets (drop (i + 1) sets)))) one) ∙ rest
+    sym (sets_from visit n sets i set asked counts within is own ∙ ap (λ o. and_then_some o (count_asks visit n (asks_of_sets (drop (i + 1) sets)))) one) ∙ rest
 
 pub sets_end : (visit : ℕ → Counts → Option Counts) (n : ℕ) (sets : List JudgedSetValue) (i : ℕ) (counts : Counts) (whole : Option Counts)
     → length sets ≤ i → count_asks visit n (asks_of_sets (drop i sets)) counts ≡ whole → Some counts ≡ whole
@@ -80,16 +80,16 @@ step_none trail n counts is =
 pub step_from : (trail : List AskedValue) (n : ℕ) (step : AskedValue) (sets : List JudgedSetValue) (excuse : List AskRef) (counts : Counts)
     (judged asked : Option Counts) → slice_get trail n ≡ Some step → sets ≡ step.sets → excuse ≡ step.excuse
     → count_asks (count_step n trail) n (asks_of_sets sets) (one_sent counts) ≡ judged
-    → and_then judged (count_asks (count_step n trail) n excuse) ≡ asked
-    → and_then asked (end_at n) ≡ count_step (suc n) trail n counts
+    → and_then_some judged (count_asks (count_step n trail) n excuse) ≡ asked
+    → and_then_some asked (end_at n) ≡ count_step (suc n) trail n counts
 unfolding count_step
 step_from trail n step sets excuse counts judged asked is own_sets own_excuse over_sets over_excuse =
     sym (ap (λ o. option_and_then (λ s. option_and_then (end_at n) (count_asks (count_step n trail) n (asks_of s) (one_sent counts))) o) is
     ∙ ap (option_and_then (end_at n))
     (count_asks-append (count_step n trail) n (asks_of_sets step.sets) step.excuse (one_sent counts)
-    ∙ ap (λ xs. and_then (count_asks (count_step n trail) n (asks_of_sets xs) (one_sent counts)) (count_asks (count_step n trail) n step.excuse)) (sym own_sets)
-    ∙ ap (λ xs. and_then (count_asks (count_step n trail) n (asks_of_sets sets) (one_sent counts)) (count_asks (count_step n trail) n xs)) (sym own_excuse)
-    ∙ ap (λ o. and_then o (count_asks (count_step n trail) n excuse)) over_sets ∙ over_excuse))
+    ∙ ap (λ xs. and_then_some (count_asks (count_step n trail) n (asks_of_sets xs) (one_sent counts)) (count_asks (count_step n trail) n step.excuse)) (sym own_sets)
+    ∙ ap (λ xs. and_then_some (count_asks (count_step n trail) n (asks_of_sets sets) (one_sent counts)) (count_asks (count_step n trail) n xs)) (sym own_excuse)
+    ∙ ap (λ o. and_then_some o (count_asks (count_step n trail) n excuse)) over_sets ∙ over_excuse))
 
 pub ended_here : (n : ℕ) (counts : Counts) → counts.ended ≡ n → Some (record { sent = counts.sent; ended = n + 1 }) ≡ end_at n counts
 ended_here n counts is = grind (arith, nat_tests)

@@ -1,5 +1,5 @@
 use Rattle.std.proofs.Common.{ap, sym, ◌∙◌, subst}
-use Rattle.dns_grouping.specs.Joining.{met_by, given}
+use Rattle.dns_grouping.specs.Joining.{met_by, handed}
 use Rattle.dns_grouping.specs.SetPlaces.{ArePlaces}
 use Rattle.dns_grouping.proofs.Joining.{bare_more}
 use Rattle.dns_grouping.proofs.Signing.{part_none, part_more, part_all}
@@ -27,7 +27,7 @@ signatures-init c = record {
 
 pub signatures-preserved : goal.signatures-preserved
 signatures-preserved c = record {
-  sets = c.in_ok-give.ensures.sets ∙ ap (given c.met-item-in-signatures.result) c.signatures.invariant.sets
+  sets = c.in_ok-give.ensures.sets ∙ ap (handed c.met-item-in-signatures.result) c.signatures.invariant.sets
       ∙ sym (part_more c.args.section.now c.signatures.met-index c.met-item-in-signatures.result c.signatures-test.true c.met-item-in-signatures.is);
   places = c.in_ok-give.ensures.places;
 }

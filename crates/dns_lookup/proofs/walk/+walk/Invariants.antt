@@ -6,7 +6,7 @@ use Rattle.dns_lookup.proofs.TriedLemmas.{TriedDone}
 use Rattle.dns_lookup.proofs.walk.+walk.Given as goal
 
 abbrev pub decreases-ask : goal.decreases-ask
-decreases-ask g l = 7 * (255 - l.asker) + 6
+decreases-ask g l = 7 * (255 - l.asker_depth) + 6
 
 abbrev pub decreases-judge_reply : goal.decreases-judge_reply
 decreases-judge_reply g l = 7 * (256 - l.step.now.depth) + 5
