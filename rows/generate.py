@@ -9,14 +9,19 @@ import sys
 
 import texts
 import walk
-from texts import A, DNSKEY, KEY, NS, OPAQUE, Record, Signed
+from scene import Scene, ds_of, finds
+from texts import A, DNSKEY, KEY, MX, NS, OPAQUE, Record, Signed
+from walk import EXAMPLE, KEYS, WWW
 
 MOST_INPUT = 16_777_216
 MOST_SENDS = 1024
 MOST_MESSAGE = 65_535
+MANY = 70_000
 ROOT = []
 SERVER = texts.wire([b"a"])
 ADDRESS = bytes.fromhex("c0000201")
+# a name of 255 bytes
+LONG = [b"\1" * 63, b"\2" * 63, b"\3" * 63, b"\4" * 61]
 
 
 def root_servers(key=KEY):
@@ -186,10 +191,145 @@ def searches_past_the_last_send():
     return by_one_key([servers], further=further), texts.report(lines, chain_by_one_key(servers), trail), 0, b"validate\ntrail\n"
 
 
+# ---- more than fits in a byte, in 16 bits, or in the room that a type for few might have
+
+def chain_of_three_hundred_links():
+    """300 keys of the root, all anchored, of which the last signs a DS set: the link that shows it has the number 301."""
+    keys = [texts.key_of(texts.number(1_000 + k, 2)) for k in range(300)]
+    scene = Scene(*((ROOT, key) for key in keys))
+    scene.says(WWW, A, scene.signed([Record(WWW, A, ADDRESS)], KEYS[0], EXAMPLE))
+    scene.has_keys(EXAMPLE, KEYS[:1], KEYS[0])
+    scene.delegates(EXAMPLE, [ds_of(EXAMPLE, KEYS[0])], keys[-1])
+    scene.says(ROOT, DNSKEY, [Record(ROOT, DNSKEY, key) for key in keys])
+    links = [*["anchored ."] * 300, "keyset . " + " ".join(map(str, range(300))), "signed example. DS 300",
+             "matched example. 301", "signed example. DNSKEY 302", "signed www.example. A 303"]
+    session = scene.session(WWW, A)
+    return session, finds(session, ["links " + ", ".join(links)]), 0
+
+
+def forty_ds_records():
+    """Each is supported, and the last two match the two keys, of which the second signs."""
+    keys = [texts.key_of(texts.number(1_000 + k, 2)) for k in range(40)]
+    session = walk.key_set(keys[-2:], [ds_of(EXAMPLE, key) for key in keys], keys[-1])
+    return session, finds(session, [walk.DS_IS_SECURE, walk.IS_SECURE]), 0
+
+
+def set_of_4500_records():
+    """A set of 4,500 records, with its chain."""
+    signed = Signed([Record(ROOT, OPAQUE, texts.number(k, 2)) for k in range(4_500)], KEY)
+    return by_one_key([signed]), texts.report(signed.lines("answer", True), chain_by_one_key(signed)), 0
+
+
+def seventy_thousand_lines_of_each_kind():
+    """As many trusted keys, accepted signatures and replies beside those of the stored session. Half of the replies are to one
+    question."""
+    servers = root_servers()
+    anchors = [f"anchor . 8 {k:08x}" for k in range(MANY)]
+    accepts = [f"accept 8 {k:08x} - c0de" for k in range(MANY)]
+    replies = [f"fault n{k}. A busy" if k % 2 else "empty . MX -" for k in range(MANY)]
+    replies += [texts.reply(ROOT, NS, texts.message(ROOT, NS, servers.section())), texts.keys_reply([KEY])]
+    session = texts.session([*anchors, texts.anchor(KEY)], [*accepts, servers.accept()], ROOT, NS, replies)
+    return session, stored_report(), 0
+
+
+def bad_line_behind_seventy_thousand():
+    """Its number has five digits."""
+    lines = ["dns-session 1", "moment 1", "algorithms", "query . A", *["fault . A busy"] * MANY, "reply . A"]
+    return "".join(one + "\n" for one in lines).encode(), b"bad line %d\n" % len(lines), 3
+
+
+def rdata_of_sixty_thousand_bytes():
+    """A record that a signature is over, with its chain."""
+    signed = Signed([Record(ROOT, OPAQUE, bytes(place % 251 for place in range(60_000)))], KEY)
+    return by_one_key([signed]), texts.report(signed.lines("answer", True), chain_by_one_key(signed)), 0
+
+
+class LongOpt:
+    """An OPT record with an option of 296 bytes (RFC 6891, 6.1.2)."""
+    def wire(self, written):
+        return written(ROOT) + bytes.fromhex("002904d000008000") + texts.number(300, 2) + bytes.fromhex("000a0128") + b"\7" * 296
+
+
+def referral_to_two_thousand_servers():
+    """It says besides that there are no records, so that an upstream keeps it as that, and hands copies on."""
+    scene = Scene()
+    scene.further = [LongOpt()]
+    servers = [Record(EXAMPLE, NS, b"\2n%d\0" % (k % 10)) for k in range(2_000)]
+    glue = [Record([b"n%d" % (k % 10)], A, ADDRESS) for k in range(100)]
+    scene.says(WWW, A, authorities=servers, additionals=glue, word="empty")
+    return scene.session(WWW, A), b"fault nsec bogus\n", 1
+
+
+def long_name_of_another_class():
+    """A name of 255 bytes, each of which is told by its number, and a record of it of class CH."""
+    octets = texts.message(LONG, A, [Record(LONG, A, ADDRESS, klass=3)])
+    session = texts.session([], [], LONG, A, [texts.reply(LONG, A, octets)])
+    return session, f"fault class {texts.shown(LONG)} CH A\n".encode(), 1
+
+
+def three_hundred_words():
+    """They are no form, and nothing is read."""
+    return b"", b"bad words\n", 2, b"validate\n" * 300
+
+
+def word_of_100_000_letters():
+    """It is none either."""
+    return b"", b"bad words\n", 2, b"v" * 100_000 + b"\n"
+
+
+def words_of_more_than_255_bytes():
+    """A name of 255 bytes, each of which is told by its number; 300 algorithms; octets of keys, of what is signed, of a signature
+    and of messages."""
+    owner = LONG
+    key = texts.key_of(bytes(k % 251 for k in range(300)))
+    signed = Signed([Record(owner, A, ADDRESS)], key, bytes(k % 241 for k in range(300)))
+    octets = texts.message(owner, A, signed.section())
+    replies = [f"fault {texts.shown(owner)} MX io", texts.reply(owner, MX, octets, "empty"), texts.reply(owner, A, octets),
+               texts.keys_reply([key])]
+    anchors = [texts.anchor(key, owner), texts.anchor(key)]
+    session = texts.session(anchors, [signed.accept()], owner, A, replies, algorithms=(texts.ALGORITHM,) * 300)
+    links = [texts.anchored(key), texts.key_set([key]), signed.link(1)]
+    return session, texts.report(signed.lines("answer", True), texts.chain(links)), 0
+
+
+def with_bad_line(line, before=()):
+    """A session in which this line isn't in the grammar, behind the header and such lines."""
+    lines = ["dns-session 1", *before, line, "end"]
+    return "".join(one + "\n" for one in lines).encode(), b"bad line %d\n" % (len(before) + 2), 3
+
+
+def number_of_300_digits():
+    """It is no moment."""
+    return with_bad_line("moment " + "1" * 300)
+
+
+def algorithm_of_300_digits():
+    """It is none."""
+    return with_bad_line("algorithms " + "1" * 300, ["moment 1"])
+
+
+def type_of_300_letters():
+    """It is none."""
+    return with_bad_line("query . " + "A" * 300, ["moment 1", "algorithms"])
+
+
+def fault_of_300_letters():
+    """It is none."""
+    return with_bad_line("fault . A " + "b" * 300, ["moment 1", "algorithms", "query . A"])
+
+
+def line_with_a_word_of_300_letters():
+    """No line begins with it."""
+    return with_bad_line("r" * 300 + " . A -", ["moment 1", "algorithms", "query . A"])
+
+
 MADE = (forty_keys, sixty_links, two_hundred_sets, hundred_chains, more_sends_than_are_made, name_of_127_labels,
         longest_message, thousand_anchors, longest_input, input_of_a_byte_too_many, line_of_sixteen_mebibytes,
         asks_that_are_refused, searches_past_the_last_send, walk.four_hundred_copies_of_a_key,
-        walk.four_hundred_copies_and_no_other, walk.ds_ask_past_the_last_send)
+        walk.four_hundred_copies_and_no_other, walk.ds_ask_past_the_last_send, chain_of_three_hundred_links, forty_ds_records,
+        set_of_4500_records, rdata_of_sixty_thousand_bytes, seventy_thousand_lines_of_each_kind, bad_line_behind_seventy_thousand,
+        referral_to_two_thousand_servers, long_name_of_another_class, three_hundred_words, word_of_100_000_letters, words_of_more_than_255_bytes, number_of_300_digits,
+        algorithm_of_300_digits, type_of_300_letters, fault_of_300_letters, line_with_a_word_of_300_letters)
 
 
 def rows():

@@ -109,6 +109,8 @@ class Lookup:
 
     def __init__(self, session):
         self.session, self.steps, self.sends, self.taken = session, [], 0, {}
+        # how often a verifier is asked
+        self.questions = 0
         self.top = self.ask(0, "judged", *session.query)
 
     # ---- asks
@@ -168,16 +170,22 @@ class Lookup:
 
     # ---- signatures
 
-    def is_good(self, rrset, signature, key_record):
-        """The signature fits set and key, its time is now, the key may sign, and the verifier accepts (RFC 4035, 5.3)."""
-        sig, key = rrsig_of(signature), dnskey_of(key_record)
-        now = self.session.moment % 2**32
+    def may_be_good(self, rrset, sig, key_record):
+        """The signature fits set and key, its time is now, and the key may sign (RFC 4035, 5.3)."""
+        key, now = dnskey_of(key_record), self.session.moment % 2**32
         return (key is not None and is_above(sig.signer, rrset.owner) and sig.labels <= num_labels(rrset.owner)
                 and serial_at_or_before(sig.inception, now) and serial_at_or_before(now, sig.expiration)
                 and folded(key_record.owner) == folded(sig.signer) and (key.algorithm, key.tag) == (sig.algorithm, sig.tag)
                 and key.flags & ZONE_KEY and not key.flags & REVOKED and key.protocol == 3
-                and key.algorithm in self.session.algorithms
-                and (key.algorithm, key.key, signed_bytes(rrset, sig), sig.signature) in self.session.accepts)
+                and key.algorithm in self.session.algorithms)
+
+    def is_good(self, rrset, signature, key_record):
+        """And the verifier, which is asked last, accepts it."""
+        sig, key = rrsig_of(signature), dnskey_of(key_record)
+        if not self.may_be_good(rrset, sig, key_record):
+            return False
+        self.questions += 1
+        return (key.algorithm, key.key, signed_bytes(rrset, sig), sig.signature) in self.session.accepts
 
     def mark_set(self, step, rrset):
         """A set that isn't DNSKEY is Secure by the first signature that a Secure key of its signer made, else Insecure by the first
@@ -194,8 +202,9 @@ class Lookup:
             asked = self.nested(step, rrset.asks, signer, DNSKEY)
             keys = asked and may_sign(rrset, signature) and next((one for one in asked.sets if is_set(one, signer, DNSKEY)), None)
             counted = counted_keys(keys) if keys else []
-            key = next((key for key in counted if self.is_good(rrset, signature, key)), None)
-            if keys and keys.mark == SIGNED and key:
+            may_prove = counted if keys and keys.mark == SIGNED else []
+            key = next((key for key in may_prove if self.is_good(rrset, signature, key)), None)
+            if key:
                 rrset.secure(place, [*keys.chain, signed_link(rrset, signature, len(keys.chain) - 1, key)])
                 return
             if keys and keys.mark == INSECURE and counted and rrset.mark == BOGUS:
@@ -208,10 +217,14 @@ class Lookup:
         return key is not None and (folded(rrset.owner), key.algorithm, key.key) in self.session.anchors
 
     def first_signed(self, rrset, is_trusted):
-        """The first signature of a key set that is good by one of its trusted keys: its place, itself and the first such key."""
+        """The first signature of a key set that is good by one of its trusted keys: its place, itself and the first such key. Of
+        keys with one rdata the first is tried."""
+        trusted = {}
+        for key in filter(is_trusted, rrset.records):
+            trusted.setdefault(key.rdata, key)
         for place, signature in enumerate(rrset.signatures[:MOST_SIGNATURES]):
-            for key in rrset.records:
-                if is_trusted(key) and self.is_good(rrset, signature, key):
+            for key in trusted.values():
+                if self.is_good(rrset, signature, key):
                     return place, signature, key
         return None
 
@@ -240,7 +253,8 @@ class Lookup:
         def ds_of_key(key):
             return next((ds for ds in zone.records if self.matches(rrset.owner, key, ds)), None)
 
-        by = self.first_signed(rrset, ds_of_key)
+        # no signature was good by an anchored key
+        by = self.first_signed(rrset, lambda key: not is_anchored(key) and ds_of_key(key))
         if by:
             place, signature, key = by
             matched = matched_link(rrset, key, last, ds_of_key(key))
@@ -326,12 +340,14 @@ def read(path, absent):
 
 
 def stored_rows():
-    """The rows and examples with files: place, words, session, output and status."""
+    """The rows and examples with files, and the reports with a trail: place, words, session, output and status."""
     for path in sorted(glob.glob(f"{FOLDER}/*.session") + glob.glob(f"{FOLDER}/../examples/*.session")):
         place = path.removesuffix(".session")
         words, status = read(f"{place}.words", b"validate\n").split(b"\n")[:-1], int(read(f"{place}.status", b"0"))
         if words[:1] == [b"validate"] and status in (0, 1):
             yield place, words, read(path, b""), read(f"{place}.out", b""), status
+        if os.path.isfile(f"{place}.trail"):
+            yield place, [b"validate", b"trail"], read(path, b""), read(f"{place}.trail", b""), 0
 
 
 def main(words):

@@ -5,6 +5,7 @@ import hashlib
 import os
 
 import model
+import reading
 import texts
 from texts import DNSKEY, DS, KEY, Record, Signed, key_tag, number
 
@@ -94,6 +95,7 @@ def found(lines):
 def finds(session, says, words=PLAIN):
     """What the model has for the session, where it finds there all that the row says, and nothing that it says not to."""
     all_found = found(model.written(session, (b"validate", b"trail"))[0].decode().split("\n"))
+    all_found.add(f"questions {model.Lookup(reading.session_in(session)).questions}")
     for said in says:
         assert (said.removeprefix("no ") in all_found) != said.startswith("no "), (said, all_found)
     out, status = model.written(session, [word.encode() for word in words])

@@ -37,8 +37,12 @@ def pointed(name, at, places):
 
 
 def shown(name):
-    """RFC 1035, 5.1. No label here needs an escape."""
-    return "".join(label.decode() + "." for label in name) or "."
+    """RFC 1035, 5.1. A byte that isn't printable is told by its number; no label here has a dot or a backslash."""
+    return "".join("".join(map(letter, label)) + "." for label in name) or "."
+
+
+def letter(byte):
+    return chr(byte) if 0x21 <= byte <= 0x7E else f"\\{byte:03}"
 
 
 def type_word(kind):

@@ -338,6 +338,69 @@ def key_of_no_octets_beside():
     return scene.session(ROOT, NS), ["set answer . DNSKEY bogus table -", "set answer . NS bogus table - 0"], TRAIL
 
 
+# ---- how often the verifier is asked
+
+def turned(signed, place, octets):
+    """A signature with other octets from a place of its rdata on, before the tag and the signer."""
+    signed.front = signed.front[:place] + octets + signed.front[place + len(octets):]
+    return signed
+
+
+def questions_of_one_zone():
+    """the verifier is asked for a signature that holds now, by the keys of its tag that may sign, up to the good one, and for no other"""
+    # keys of the root: `first` and `third` have the tag of KEY, and `unsupported` is of algorithm 14
+    first, third, beside = (key_of(bytes.fromhex(octets)) for octets in ("aaba0001", "aab90002", "ccdd"))
+    unsupported = bytes.fromhex("0101030eaabb")
+    assert len(set(map(key_tag, (KEY, first, third)))) == 1
+    scene = Scene((ROOT, first), (ROOT, KEY))
+    keys = [Record(ROOT, DNSKEY, key) for key in (first, KEY, third, KEY, revoked(KEY), unsupported, beside)]
+    # each ask: `first` and KEY for a signature that is refused, and then again for one that KEY made
+    by_key = Signed(keys, KEY)
+    scene.says(ROOT, DNSKEY, keys, [Signed(keys, KEY, b"\xd0").rrsig(), by_key.rrsig()])
+    servers = [Record(ROOT, NS, texts.wire([b"a"]))]
+    signed = [
+        Signed(servers, KEY, b"\xd0"),                                 # refused, by `first` and KEY
+        turned(Signed(servers, KEY, b"\xd1"), 8, number(999, 4)),      # has expired
+        turned(Signed(servers, KEY, b"\xd2"), 12, number(1001, 4)),    # doesn't hold yet
+        Signed(servers, revoked(KEY), b"\xd3"),
+        turned(Signed(servers, unsupported, b"\xd4"), 2, b"\x0e"),
+        Signed(servers, third, b"\xd5"),                               # by `first` and KEY, since `third` doesn't count
+        turned(Signed(servers, KEY, b"\xd6"), 3, b"\x01"),            # of more labels than the root has
+        Signed(servers, beside, b"\xd7"),                              # good
+        Signed(servers, KEY, b"\xd8"),                                 # the ninth
+    ]
+    # a denial that its signature would expand, and a set that a zone beside signed
+    denial_of_a = [Record([b"a"], NSEC, texts.wire(OTHER) + bytes.fromhex("0006200000000010"))]
+    expanded = Signed(denial_of_a, KEY, b"\xd9", labels=0)
+    of_other = Signed([Record([b"b"], A, ADDRESS)], KEY, b"\xda", OTHER)
+    scene.accepts.extend(one.accept() for one in (by_key, *signed[1:]))
+    scene.says(ROOT, NS, servers, [one.rrsig() for one in signed], authorities=expanded.section(), additionals=of_other.section())
+    # 9 asks of 4 questions each, and 2 for the first signature, 2 for the sixth, 1 for the eighth
+    says = ["answer . NS secure", "set answer . NS secure table 7 0 1 2 3 4 5 6 7", "set authority a. NSEC bogus table - 8",
+            "asks 10", "questions 41"]
+    return scene.session(ROOT, NS), says, TRAIL
+
+
+def questions_of_a_walk():
+    """in a key set copies of a key are asked for once, and beside it each copy that counts is"""
+    one, other = (key_of(bytes.fromhex(octets)) for octets in ("e1e2", "e0e201"))
+    assert key_tag(one) == key_tag(other)
+    scene = Scene()
+    address = [Record(WWW, A, ADDRESS)]
+    by_one = Signed(address, one, signer=EXAMPLE)
+    scene.says(WWW, A, address, [Signed(address, one, b"\xd0", EXAMPLE).rrsig(), by_one.rrsig()])
+    keys = [Record(EXAMPLE, DNSKEY, key) for key in (one, one, other)]
+    keys_by_one = Signed(keys, one, signer=EXAMPLE)
+    scene.says(EXAMPLE, DNSKEY, keys, [Signed(keys, one, b"\xd0", EXAMPLE).rrsig(), keys_by_one.rrsig()])
+    scene.delegates(EXAMPLE, [ds_of(EXAMPLE, one), ds_of(EXAMPLE, other)])
+    scene.root()
+    scene.accepts.extend([by_one.accept(), keys_by_one.accept()])
+    # each ask for the keys: 1 for the DS set, 2 for the signature that is refused and 1 for the good one. Of the address the first
+    # signature is refused for both copies, and the second is good by the first copy
+    says = ["answer www.example. A secure", "asks 7", "questions 11"]
+    return scene.session(WWW, A), says, TRAIL
+
+
 # ---- large rows, which generate.py gives out
 
 def four_hundred_copies(*beside):
@@ -391,7 +454,8 @@ MADE = (walk_by_ds, trail_of_a_walk_by_ds, keys_matched_by_each_digest, keys_anc
         ds_beside_a_denial, ds_in_the_authority_section, second_ds_of_one_tag, third_ds_of_one_tag, ds_of_an_unknown_digest_beside,
         unknown_digests_before_a_good_one, ds_of_another_tag_and_algorithm, ds_of_an_unknown_algorithm_alone,
         keys_beside_their_own_ds, keys_and_what_they_sign, set_signed_by_a_zone_beside, third_zone_with_depth_five,
-        third_zone_with_depth_six, revoked_key_that_a_ds_matches, revoked_key_that_is_anchored, key_of_no_octets_beside)
+        third_zone_with_depth_six, revoked_key_that_a_ds_matches, revoked_key_that_is_anchored, key_of_no_octets_beside,
+        questions_of_one_zone, questions_of_a_walk)
 
 
 if __name__ == "__main__":

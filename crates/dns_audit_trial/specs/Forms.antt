@@ -1,10 +1,13 @@
--- The words that the program takes, and the texts that it writes.
-use Rattle.std.specs.Prelude.{ℕ, Bool, ◌++◌, List, [], ◌∷◌, map, codes, Vec, Option, None, Some, true, false, if◌then◌else◌}
+-- The words that the program takes, and the statuses with which it ends.
+use Rattle.std.specs.Prelude.{ℕ, ◌≡◌, ◌<◌, true, List, [], ◌∷◌, map, codes, Vec, Option, None, Some, if◌then◌else◌}
 use Rattle.std.specs.Option.{option_map}
-use Rattle.std.specs.Fmt.{decimal}
-use Rattle.dns_model.specs.Keys.{bytes_eq}
-use Rattle.dns_words.specs.Words.{decimal_in}
-use Rattle.dns_audit_trial.specs.declared.audit.Audited.{Audited}
+use Rattle.dns_model.specs.Keys.{bytes_eq, VerifierAnswers}
+use Rattle.dns_text.specs.Words.{decimal_in}
+use Rattle.dns_io.specs.Reading.{OfInput}
+use Rattle.dns_io.specs.Runs.{Asked, FixedText, NoInput, AnInput}
+use Rattle.dns_io.specs.Writing.{bad_words_text, WritesText}
+use Rattle.dns_session.specs.Grammar.{session_of}
+use Rattle.dns_session.specs.Stops.{session_status}
 use Rattle.dns_audit_trial.specs.declared.form.Form.{Form}
 use Rattle.dns_audit_trial.specs.declared.form.Form.TheVariants.{Audit, Chains}
 
@@ -25,18 +28,18 @@ form_in words = None
 abbrev pub asked_form : {Z : Type 0} → List (Vec ℕ Z) → Option Form
 asked_form words = form_in (map (λ w. w.items) words)
 
--- only an audit reads its input
-abbrev pub reads_input : Option Form → Bool
-reads_input None = false
-reads_input (Some (Audit more)) = true
-reads_input (Some (Chains signed)) = false
+-- an input, work without one, or the text for words that are no form
+abbrev pub form_asks : Option Form → Asked
+form_asks None = FixedText
+form_asks (Some (Chains signed)) = NoInput
+form_asks (Some (Audit more)) = AnInput
 
--- a truth value and the end of the line
-abbrev pub truth_line : Bool → List ℕ
-truth_line b = if b then codes "true\n" else codes "false\n"
+-- a status below 4, by what the words ask for; where a source tells no bytes, by some bytes
+abbrev pub EndsAsAsked : Option Form → ℕ → Option (List ℕ) → Option (List ℕ) → Option (List ℕ) → Type 0
+EndsAsAsked None status told before now = WritesText status 2 before now bad_words_text
+EndsAsAsked (Some (Chains signed)) status told before now = status < 4 → status ≡ 0
+EndsAsAsked (Some (Audit more)) status told before now = status < 4 → OfInput told (λ bytes. status ≡ session_status (session_of bytes))
 
--- `chains M of N, trail true`, of which M are justified; `none` where there is no response
-abbrev pub audit_text : Option Audited → List ℕ
-audit_text None = codes "none\n"
-audit_text (Some a) =
-    codes "chains " ++ decimal a.justified ++ codes " of " ++ decimal a.chains ++ codes ", trail " ++ truth_line a.is_derived
+-- a verifier that supports each algorithm and accepts each signature
+abbrev pub accepting : VerifierAnswers
+accepting = record { supports = λ algorithm. true; accepts = λ algorithm key bytes signature. true }

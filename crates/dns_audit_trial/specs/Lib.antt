@@ -1,4 +1,1 @@
-pub mod Audits
 pub mod Forms
-pub mod LongChains
-pub mod Endings

@@ -1,8 +1,5 @@
 //! What the checks say of a response (RFC 4035, 4.3, 5.2 and 5.3).
-ghost use Rattle.std.specs.Prelude.{◌≡◌, Err, IfOk};
-ghost use Rattle.dns_anchors.specs.Judge.{judge_of};
-ghost use Rattle.dns_handle.specs.Replies.{error_of};
-ghost use Rattle.dns_audit_trial.specs.Audits.{audited_by, response_in, session_audited, count_with_chain, count_with_chains, Responds};
+ghost use Rattle.std.specs.Prelude.{◌≡◌, IfOk};
 
 use dns_chain_check::check_chain;
 use dns_name::NoMemory;
@@ -30,9 +27,7 @@ fn counted<V: Verifier>(
     judge: &Judge<'_, V>,
     count: u64,
     chain: &Chain,
-) -> Result<u64, NoMemory>
-    ensures { IfOk result (λ n. n ≡ count_with_chain (judge_of V.answers judge.now) count chain.now) }
-{
+) -> Result<u64, NoMemory> {
     if check_chain(alloc, judge.anchors, judge.verifier, judge.moment, chain)? {
         Ok(count.saturating_add(1))
     } else {
@@ -41,19 +36,14 @@ fn counted<V: Verifier>(
 }
 
 // How many of some chains are justified.
-#[tactic(auto, unfolding(crate::specs::Audits::count_with_chains))]
 fn count_justified<V: Verifier>(
     alloc: Global,
     judge: &Judge<'_, V>,
     chains: &[Chain],
-) -> Result<u64, NoMemory>
-    ensures { IfOk result (λ n. n ≡ count_with_chains (judge_of V.answers judge.now) 0 chains.now) }
-{
+) -> Result<u64, NoMemory> {
     let mut count: u64 = 0;
-    let mut left = chains;
-    'chains: while let Some((chain, more)) = left.split_first() {
+    for chain in chains {
         count = counted(alloc, judge, count, chain)?;
-        left = more;
     }
     Ok(count)
 }
@@ -64,9 +54,7 @@ fn checked<V: Verifier>(
     judge: &Judge<'_, V>,
     depth: u16,
     response: &DnsResponse,
-) -> Result<Audited, NoMemory>
-    ensures { IfOk result (λ a. a ≡ audited_by (judge_of V.answers judge.now) depth response.now) }
-{
+) -> Result<Audited, NoMemory> {
     let limits = Limits {
         depth,
         soft: 0,
@@ -95,14 +83,10 @@ fn checked_again<V: Verifier>(
     depth: u16,
     response: &DnsResponse,
     more: u32,
-) -> Result<Audited, NoMemory>
-    ensures { IfOk result (λ a. a ≡ audited_by (judge_of V.answers judge.now) depth response.now) }
-{
+) -> Result<Audited, NoMemory> {
     let mut found = checked(alloc, judge, depth, response)?;
-    let mut left = more;
-    'times: while left > 0 {
+    for _ in 0..more {
         found = checked(alloc, judge, depth, response)?;
-        left -= 1;
     }
     Ok(found)
 }
@@ -113,9 +97,7 @@ pub(crate) fn session_audited(
     session: Session,
     response: &DnsResponse,
     more: u32,
-) -> Result<Audited, NoMemory>
-    ensures { IfOk result (λ a. a ≡ session_audited session response.now) }
-{
+) -> Result<Audited, NoMemory> {
     let Session {
         by_turn: _,
         moment,
@@ -138,9 +120,7 @@ pub(crate) fn session_audited(
 }
 
 // The response inside an error; none but a denial has one.
-fn denied_response(error: NetError) -> Option<DnsResponse>
-    ensures { result ≡ response_in (Err (error_of error)) }
-{
+fn denied_response(error: NetError) -> Option<DnsResponse> {
     match error {
         NetError::Dns(
             DnsError::Nsec {
@@ -156,11 +136,20 @@ fn denied_response(error: NetError) -> Option<DnsResponse>
     }
 }
 
-/// The response to a session: an Ok one, or that inside a denial; none where its lookup has none.
-#[tactic(auto, using(crate::proofs::AuditLemmas::responds_ok, crate::proofs::AuditLemmas::responds_tested))]
-pub(crate) fn response_to(alloc: Global, session: Session) -> Result<Option<DnsResponse>, NoMemory>
-    ensures { IfOk result (λ r. Responds session r) }
+/// A copy of a response, so that what is checked is a copy each time.
+pub(crate) fn copied(response: DnsResponse) -> Result<DnsResponse, NoMemory>
+    ensures { IfOk result (λ r. r ≡ response) }
 {
+    let copy = response.try_clone();
+    drop(response);
+    copy
+}
+
+/// The response to a session: an Ok one, or that inside a denial; none where its lookup has none.
+pub(crate) fn response_to(
+    alloc: Global,
+    session: Session,
+) -> Result<Option<DnsResponse>, NoMemory> {
     match session_answer(alloc, session) {
         Ok(response) => Ok(Some(response)),
         Err(error) => {

@@ -2,7 +2,7 @@
 ghost use Rattle.std.specs.Prelude.{◌≡◌};
 ghost use Rattle.dns_audit_trial.specs.Forms.{asked_form, count_word_in as count_of_word};
 
-use dns_words::decimal_in;
+use dns_text::decimal_in;
 
 /// What the program is asked for.
 #[derive(Clone, Copy)]

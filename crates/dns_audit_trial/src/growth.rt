@@ -1,12 +1,10 @@
 //! A chain that costs the most of the honest kinds: a key set of many anchored keys, and sets that its members signed.
-ghost use Rattle.std.specs.Prelude.{◌≡◌, ◌++◌, IfOk, OnOk, map};
-ghost use Rattle.dns_evidence.specs.Link.{link_value};
-ghost use Rattle.dns_audit_trial.specs.LongChains.{member_link as member_link_of, each_below, is_long_chain_justified, key_set_link, long_links, member_anchors as member_anchors_of, member_key, member_rdata, member_signature, members, signed_link as signed_link_of};
 
 use dns_chain_check::check_chain;
+use dns_model::Section;
 use dns_name::{Name, NoMemory, Octets};
 use dns_net::{Chain, Link, Verifier};
-use dns_record::{DNSClass, Rdata, RecordType, Section};
+use dns_record::{DNSClass, Rdata, RecordType};
 use dns_trust::TrustAnchors;
 use std::alloc::Global;
 
@@ -18,7 +16,7 @@ const MEMBERS: u16 = 1000;
 struct Accepting;
 
 impl Verifier for Accepting {
-    ghost use Rattle.dns_audit_trial.specs.LongChains.{accepting};
+    ghost use Rattle.dns_audit_trial.specs.Forms.{accepting};
 
     ghost answers = { λ v. accepting };
 
@@ -36,25 +34,19 @@ impl Verifier for Accepting {
 }
 
 // The public key with this number.
-fn public_key(number: u16) -> [u8; 4]
-    ensures { result ≡ member_key number }
-{
+fn public_key(number: u16) -> [u8; 4] {
     let [high, low] = number.to_be_bytes();
     [0xaa, 0xbb, high, low]
 }
 
 // The rdata of this zone key of algorithm 13 (RFC 4034, 2.1).
-fn key_rdata(alloc: Global, number: u16) -> Result<Rdata, NoMemory>
-    ensures { IfOk result (λ r. r ≡ member_rdata number) }
-{
+fn key_rdata(alloc: Global, number: u16) -> Result<Rdata, NoMemory> {
     let [first, second, high, low] = public_key(number);
     Rdata::from_slice(alloc, &[1, 0, 3, 13, first, second, high, low])
 }
 
 // The rdata of a signature by this key over an address, from second 900 to second 2000 (RFC 4034, 3.1).
-fn signature_rdata(alloc: Global, number: u16) -> Result<Rdata, NoMemory>
-    ensures { IfOk result (λ r. r ≡ member_signature number) }
-{
+fn signature_rdata(alloc: Global, number: u16) -> Result<Rdata, NoMemory> {
     // the key's tag: the sum of its rdata in words of 16 bits (RFC 4034, B)
     let [high, low] = number.wrapping_add(0xaec8).to_be_bytes();
     Rdata::from_slice(
@@ -66,10 +58,7 @@ fn signature_rdata(alloc: Global, number: u16) -> Result<Rdata, NoMemory>
 }
 
 // Trust in all members.
-#[tactic(auto, using(crate::proofs::LongLemmas::anchors_none, crate::proofs::LongLemmas::anchors_more))]
-fn member_anchors(alloc: Global) -> Result<TrustAnchors, NoMemory>
-    ensures { IfOk result (λ a. a ≡ member_anchors_of members) }
-{
+fn member_anchors(alloc: Global) -> Result<TrustAnchors, NoMemory> {
     let mut anchors = TrustAnchors::empty(alloc);
     for number in 0..MEMBERS {
         let key = Octets::from_slice(alloc, &public_key(number))?;
@@ -79,10 +68,7 @@ fn member_anchors(alloc: Global) -> Result<TrustAnchors, NoMemory>
 }
 
 // A link for each member, by its anchor.
-#[tactic(auto, using(crate::proofs::LongLemmas::each_none, crate::proofs::LongLemmas::link_more))]
-fn anchored_links(alloc: Global) -> Result<Vec<Link>, NoMemory>
-    ensures { IfOk result (λ v. map link_value v.items ≡ each_below member_link_of members) }
-{
+fn anchored_links(alloc: Global) -> Result<Vec<Link>, NoMemory> {
     let mut links = Vec::new(alloc);
     for number in 0..MEMBERS {
         links.push(Link::Anchored {
@@ -95,10 +81,7 @@ fn anchored_links(alloc: Global) -> Result<Vec<Link>, NoMemory>
 }
 
 // The key set of all members, which the first links show.
-#[tactic(auto, using(crate::proofs::LongLemmas::each_none, crate::proofs::LongLemmas::values_more))]
-fn key_set(alloc: Global) -> Result<Link, NoMemory>
-    ensures { IfOk result (λ l. link_value l ≡ key_set_link) }
-{
+fn key_set(alloc: Global) -> Result<Link, NoMemory> {
     let mut keys = Vec::new(alloc);
     let mut numbers = Vec::new(alloc);
     for number in 0..MEMBERS {
@@ -114,9 +97,7 @@ fn key_set(alloc: Global) -> Result<Link, NoMemory>
 }
 
 // An address of the root that the members signed in turn: the one with this number.
-fn signed_link(alloc: Global, number: u32) -> Result<Link, NoMemory>
-    ensures { IfOk result (λ l. link_value l ≡ signed_link_of number) }
-{
+fn signed_link(alloc: Global, number: u32) -> Result<Link, NoMemory> {
     let member = (number % u32::from(MEMBERS)) as u16;
     let mut rdatas = Vec::new(alloc);
     rdatas.push(Rdata::from_slice(alloc, &[192, 0, 2, 1])?)?;
@@ -132,11 +113,7 @@ fn signed_link(alloc: Global, number: u32) -> Result<Link, NoMemory>
 }
 
 // Links to so many sets that the members signed, behind others.
-#[tactic(auto, using(crate::proofs::LongLemmas::front_none, crate::proofs::LongLemmas::links_more))]
-fn push_signed(alloc: Global, links: &mut Vec<Link>, signed: u32) -> Result<(), NoMemory>
-    ensures { OnOk result (map link_value links.new.items ≡ map link_value links.old.items
-        ++ each_below signed_link_of signed) }
-{
+fn push_signed(alloc: Global, links: &mut Vec<Link>, signed: u32) -> Result<(), NoMemory> {
     for number in 0..signed {
         links.push(signed_link(alloc, number)?)?;
     }
@@ -144,10 +121,7 @@ fn push_signed(alloc: Global, links: &mut Vec<Link>, signed: u32) -> Result<(), 
 }
 
 // The members, their set, and so many sets that they signed, each by the next member.
-#[tactic(auto, using(crate::proofs::LongLemmas::links_joined))]
-fn long_chain(alloc: Global, signed: u32) -> Result<Chain, NoMemory>
-    ensures { IfOk result (λ c. c.links ≡ long_links signed) }
-{
+fn long_chain(alloc: Global, signed: u32) -> Result<Chain, NoMemory> {
     let mut links = anchored_links(alloc)?;
     links.push(key_set(alloc)?)?;
     push_signed(alloc, &mut links, signed)?;
@@ -158,10 +132,7 @@ fn long_chain(alloc: Global, signed: u32) -> Result<Chain, NoMemory>
 }
 
 /// Whether a chain of so many signed links, with those to the keys before them, is justified.
-#[tactic(auto, using(crate::proofs::LongLemmas::long_told))]
-pub(crate) fn is_long_chain_justified(alloc: Global, signed: u32) -> Result<bool, NoMemory>
-    ensures { IfOk result (λ b. b ≡ is_long_chain_justified signed) }
-{
+pub(crate) fn is_long_chain_justified(alloc: Global, signed: u32) -> Result<bool, NoMemory> {
     let anchors = member_anchors(alloc)?;
     let chain = long_chain(alloc, signed)?;
     check_chain(alloc, &anchors, &Accepting, 1000, &chain)

@@ -1,8 +1,8 @@
 //! `dns_audit_trial`: audits the response to a session. It looks up what the session asks for, and checks each chain
 //! and the trail of what came, by the session's own verifier, anchors, depth and moment.
 //!
-//! Its contracts say that the line tells what `check_chain` and `check_trail` define of a response by which the session
-//! is answered rightly, or of the long chain that is only there to be measured.
+//! Its contracts say when it ends with which status, and what it reads; that the line tells what `check_chain` and
+//! `check_trail` answer is only tested.
 #![tactic(auto)]
 
 mod audit;

@@ -1,23 +1,17 @@
 //! The texts that the program writes.
-ghost use Rattle.std.specs.Prelude.{◌≡◌, IfOk};
-ghost use Rattle.dns_audit_trial.specs.Forms.{audit_text, truth_line};
 
 use crate::audit::Audited;
 use dns_name::NoMemory;
-use dns_words::push_decimal;
+use dns_text::push_decimal;
 use std::alloc::Global;
 
 /// A truth value and the end of the line.
-pub(crate) fn truth_line(is_so: bool) -> &'static [u8]
-    ensures { result.now ≡ truth_line is_so }
-{
+pub(crate) fn truth_line(is_so: bool) -> &'static [u8] {
     if is_so { b"true\n" } else { b"false\n" }
 }
 
 /// The line of what the checks say; `none` where there is no response.
-pub(crate) fn audit_text(alloc: Global, audited: Option<Audited>) -> Result<Vec<u8>, NoMemory>
-    ensures { IfOk result (λ text. text.items ≡ audit_text audited) }
-{
+pub(crate) fn audit_text(alloc: Global, audited: Option<Audited>) -> Result<Vec<u8>, NoMemory> {
     match audited {
         Some(audited) => {
             let mut text = Vec::from_slice(alloc, b"chains ")?;

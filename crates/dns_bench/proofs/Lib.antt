@@ -1,5 +1,1 @@
-mod FrameLemmas
-mod CountingLemmas
-mod SignedLemmas
-mod LookupLemmas
-mod PrefixLemmas
+pub mod WorkLemmas

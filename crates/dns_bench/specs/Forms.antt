@@ -1,27 +1,27 @@
--- The words that the program takes, and the texts that it writes.
-use Rattle.std.specs.Prelude.{ℕ, ◌++◌, List, [], ◌∷◌, map, codes, Vec, Option, None, Some, if◌then◌else◌}
-use Rattle.std.specs.Fmt.{decimal}
+-- The words that the program takes, and the statuses with which it ends.
+use Rattle.std.specs.Prelude.{ℕ, ◌≡◌, ◌<◌, ◌⊎◌, List, [], ◌∷◌, map, codes, Vec, Option, None, Some, if◌then◌else◌}
+use Rattle.std.specs.Option.{option_map, option_and_then}
 use Rattle.dns_model.specs.Keys.{bytes_eq}
-use Rattle.dns_words.specs.Words.{decimal_in}
-use Rattle.dns_bench.specs.declared.counts.Counts.{Counts}
+use Rattle.dns_text.specs.Words.{decimal_in}
+use Rattle.dns_io.specs.Reading.{OfInput}
+use Rattle.dns_io.specs.Runs.{Asked, FixedText, NoInput, AnInput}
+use Rattle.dns_io.specs.Writing.{bad_words_text, WritesText}
+use Rattle.dns_session.specs.Grammar.{session_of}
+use Rattle.dns_session.specs.Stops.{session_status}
 use Rattle.dns_bench.specs.declared.form.Form.{Form}
 use Rattle.dns_bench.specs.declared.form.Form.TheVariants.{Reading, Signed}
 use Rattle.dns_bench.specs.declared.form.Work.{Work}
 use Rattle.dns_bench.specs.declared.form.Work.TheVariants.{Decode, LookUp}
-use Rattle.dns_bench.specs.declared.lookups.Lookups.{Lookups}
 
 -- how often is a number of 32 bits
 abbrev pub passes_in : List ℕ → Option ℕ
 passes_in word = decimal_in 4294967295 word
 
 abbrev pub reading_form : Work → Option ℕ → Option Form
-reading_form work None = None
-reading_form work (Some passes) = Some (Reading work passes)
+reading_form work passes = option_map (λ n. Reading work n) passes
 
 abbrev pub signed_form : Option ℕ → Option ℕ → Option Form
-signed_form None passes = None
-signed_form (Some records) None = None
-signed_form (Some records) (Some passes) = Some (Signed records passes)
+signed_form records passes = option_and_then (λ r. option_map (λ n. Signed r n) passes) records
 
 -- what words ask for: `decode PASSES`, `lookup PASSES`, or `signed RECORDS PASSES` with at most 65535 records
 abbrev pub form_in : List (List ℕ) → Option Form
@@ -37,24 +37,19 @@ form_in words = None
 abbrev pub asked_form : {Z : Type 0} → List (Vec ℕ Z) → Option Form
 asked_form words = form_in (map (λ w. w.items) words)
 
--- a line: a word, and a number
-abbrev pub counted_line : List ℕ → ℕ → List ℕ
-counted_line name number = name ++ decimal number ++ 10 ∷ []
+-- an input, work without one, or the text for words that are no form
+abbrev pub form_asks : Option Form → Asked
+form_asks None = FixedText
+form_asks (Some (Signed records passes)) = NoInput
+form_asks (Some (Reading work passes)) = AnInput
 
--- what decoding counted, a line each
-abbrev pub counts_text : Counts → List ℕ
-counts_text counts =
-    counted_line (codes "messages ") counts.messages ++ counted_line (codes "refused ") counts.refused
-    ++ counted_line (codes "records ") counts.records
+-- the status of work on bytes: 3 where they are no frames, or no session
+abbrev pub EndsWork : Work → List ℕ → ℕ → Type 0
+EndsWork Decode bytes status = (status ≡ 0) ⊎ (status ≡ 3)
+EndsWork LookUp bytes status = status ≡ session_status (session_of bytes)
 
--- `bytes N`
-abbrev pub signed_text : ℕ → List ℕ
-signed_text count = counted_line (codes "bytes ") count
-
--- what lookups counted, a line each
-abbrev pub lookups_text : Lookups → List ℕ
-lookups_text counts = counted_line (codes "answers ") counts.answers ++ counted_line (codes "faults ") counts.faults
-
--- `bad frame N`, counted from 1
-abbrev pub bad_frame_text : ℕ → List ℕ
-bad_frame_text number = counted_line (codes "bad frame ") number
+-- a status below 4, by what the words ask for; where a source tells no bytes, by some bytes
+abbrev pub EndsAsAsked : Option Form → ℕ → Option (List ℕ) → Option (List ℕ) → Option (List ℕ) → Type 0
+EndsAsAsked None status told before now = WritesText status 2 before now bad_words_text
+EndsAsAsked (Some (Signed records passes)) status told before now = status < 4 → status ≡ 0
+EndsAsAsked (Some (Reading work passes)) status told before now = status < 4 → OfInput told (λ bytes. EndsWork work bytes status)

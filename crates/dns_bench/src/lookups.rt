@@ -1,18 +1,12 @@
 //! Lookups of a session's query, one after another.
-ghost use Rattle.std.specs.Prelude.{◌≡◌, ◌≢◌, Err, IfOk};
-ghost use Rattle.dns_handle.specs.Replies.{reply_of};
-ghost use Rattle.dns_lookup.specs.LookupAnswers.{UnlessNoMemory};
-ghost use Rattle.dns_lookup.specs.Calls.{inner_of};
-ghost use Rattle.dns_bench.specs.Lookups.{with_answer, GivesAnswer, Repeats, RepeatsSession};
-ghost use Rattle.dns_bench.specs.Steps.{OneMore, SameValidator, repeated_by};
 
+use dns_evidence::Listed;
 use dns_lookup::DnssecDnsHandle;
 use dns_name::NoMemory;
 use dns_net::{DnsRequestOptions, DnsResponse, NetError, Recorded};
 use dns_record::Query;
 use dns_run::{SessionLookup, session_lookup};
 use dns_session::Session;
-use dns_trust::Listed;
 use std::alloc::Global;
 
 /// How many lookups gave an answer, and how many a fault. A count stops at the greatest `u64`.
@@ -35,32 +29,20 @@ struct Repeated {
 }
 
 // Looks it up.
-#[tactic(auto, using(crate::proofs::LookupLemmas::same_none))]
 fn look_up(
     what: &Repeated,
     handle: &mut DnssecDnsHandle<Recorded, Listed>,
-) -> Result<DnsResponse, NetError>
-    ensures same { SameValidator handle.old handle.new }
-    ensures gives { UnlessNoMemory result (GivesAnswer
-        (repeated_by handle.old what.now.query what.now.options what.now.moment)
-        (inner_of handle.old) (reply_of result) (inner_of handle.new)) }
-{
+) -> Result<DnsResponse, NetError> {
     let query = what.query.try_clone()?;
     handle.lookup(what.alloc, query, what.options, what.moment)
 }
 
 // Looks it up, and counts what came of it.
-#[tactic(auto, using(crate::proofs::LookupLemmas::reply_counted))]
 fn count_one(
     what: &Repeated,
     handle: &mut DnssecDnsHandle<Recorded, Listed>,
     counts: Lookups,
-) -> Result<Lookups, NoMemory>
-    ensures same { SameValidator handle.old handle.new }
-    ensures more { IfOk result (λ after. OneMore
-        (repeated_by handle.old what.now.query what.now.options what.now.moment)
-        (inner_of handle.old) (inner_of handle.new) counts after) }
-{
+) -> Result<Lookups, NoMemory> {
     let reply = look_up(what, handle);
     let counts = with_reply(counts, &reply);
     drop(reply);
@@ -68,10 +50,7 @@ fn count_one(
 }
 
 // The counts, with what came of a lookup.
-fn with_reply(counts: Lookups, reply: &Result<DnsResponse, NetError>) -> Result<Lookups, NoMemory>
-    ensures other { IfOk result (λ after. reply.now ≢ Err NetError.NoMemory) }
-    ensures counted { IfOk result (λ after. after ≡ with_answer counts (reply_of reply.now)) }
-{
+fn with_reply(counts: Lookups, reply: &Result<DnsResponse, NetError>) -> Result<Lookups, NoMemory> {
     match reply {
         Ok(_) => Ok(Lookups {
             answers: counts.answers.saturating_add(1),
@@ -86,24 +65,17 @@ fn with_reply(counts: Lookups, reply: &Result<DnsResponse, NetError>) -> Result<
 }
 
 // Looks it up so many times.
-#[tactic(auto, using(crate::proofs::LookupLemmas::none_made, crate::proofs::LookupLemmas::one_made, crate::proofs::LookupLemmas::all_made))]
 fn count_all(
     what: &Repeated,
     handle: &mut DnssecDnsHandle<Recorded, Listed>,
     times: u32,
-) -> Result<Lookups, NoMemory>
-    ensures { IfOk result (λ n. Repeats
-        (repeated_by handle.old what.now.query what.now.options what.now.moment)
-        (inner_of handle.old) times n) }
-{
+) -> Result<Lookups, NoMemory> {
     let mut counts = Lookups {
         answers: 0,
         faults: 0,
     };
-    let mut left = times;
-    'times: while left > 0 {
+    for _ in 0..times {
         counts = count_one(what, handle, counts)?;
-        left -= 1;
     }
     Ok(counts)
 }
@@ -113,9 +85,7 @@ pub(crate) fn count_lookups(
     alloc: Global,
     session: Session,
     times: u32,
-) -> Result<Lookups, NoMemory>
-    ensures { IfOk result (λ n. RepeatsSession session times n) }
-{
+) -> Result<Lookups, NoMemory> {
     let made = session_lookup(alloc, session)?;
     let SessionLookup {
         mut validator,

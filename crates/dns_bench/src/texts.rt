@@ -1,17 +1,13 @@
 //! The texts that the program writes.
-ghost use Rattle.std.specs.Prelude.{◌≡◌, ◌++◌, IfOk, OnOk};
-ghost use Rattle.dns_bench.specs.Forms.{counts_text, counted_line, bad_frame_text, signed_text, lookups_text};
 
 use crate::counts::Counts;
 use crate::lookups::Lookups;
 use dns_name::NoMemory;
-use dns_words::push_decimal;
+use dns_text::push_decimal;
 use std::alloc::Global;
 
 /// A line with a word and a number behind a text.
-fn push_line(text: &mut Vec<u8>, name: &[u8], number: u64) -> Result<(), NoMemory>
-    ensures { OnOk result (text.new.items ≡ text.old.items ++ counted_line name.now number) }
-{
+fn push_line(text: &mut Vec<u8>, name: &[u8], number: u64) -> Result<(), NoMemory> {
     text.extend_from_slice(name)?;
     push_decimal(text, number)?;
     text.push(b'\n')?;
@@ -19,9 +15,7 @@ fn push_line(text: &mut Vec<u8>, name: &[u8], number: u64) -> Result<(), NoMemor
 }
 
 /// What decoding counted, a line each.
-pub(crate) fn counts_text(alloc: Global, counts: Counts) -> Result<Vec<u8>, NoMemory>
-    ensures { IfOk result (λ text. text.items ≡ counts_text counts) }
-{
+pub(crate) fn counts_text(alloc: Global, counts: Counts) -> Result<Vec<u8>, NoMemory> {
     let mut text = Vec::new(alloc);
     push_line(&mut text, b"messages ", counts.messages)?;
     push_line(&mut text, b"refused ", counts.refused)?;
@@ -30,27 +24,21 @@ pub(crate) fn counts_text(alloc: Global, counts: Counts) -> Result<Vec<u8>, NoMe
 }
 
 /// The line that names a frame which is cut off.
-pub(crate) fn bad_frame_text(alloc: Global, number: u64) -> Result<Vec<u8>, NoMemory>
-    ensures { IfOk result (λ text. text.items ≡ bad_frame_text number) }
-{
+pub(crate) fn bad_frame_text(alloc: Global, number: u64) -> Result<Vec<u8>, NoMemory> {
     let mut text = Vec::new(alloc);
     push_line(&mut text, b"bad frame ", number)?;
     Ok(text)
 }
 
 /// How many bytes were signed.
-pub(crate) fn signed_text(alloc: Global, count: u64) -> Result<Vec<u8>, NoMemory>
-    ensures { IfOk result (λ text. text.items ≡ signed_text count) }
-{
+pub(crate) fn signed_text(alloc: Global, count: u64) -> Result<Vec<u8>, NoMemory> {
     let mut text = Vec::new(alloc);
     push_line(&mut text, b"bytes ", count)?;
     Ok(text)
 }
 
 /// What lookups counted, a line each.
-pub(crate) fn lookups_text(alloc: Global, counts: Lookups) -> Result<Vec<u8>, NoMemory>
-    ensures { IfOk result (λ text. text.items ≡ lookups_text counts) }
-{
+pub(crate) fn lookups_text(alloc: Global, counts: Lookups) -> Result<Vec<u8>, NoMemory> {
     let mut text = Vec::new(alloc);
     push_line(&mut text, b"answers ", counts.answers)?;
     push_line(&mut text, b"faults ", counts.faults)?;

@@ -1,13 +1,19 @@
-//! The validator under the names that a caller looks for: the handle that looks up, the checker of chains, and what finds a
-//! key's, a signature's or a set's mark by itself (RFC 4035, 5).
+//! The validator under the names that a caller looks for: the handle that looks up, the checkers of chains and trails, and what
+//! finds a key's, a signature's or a set's mark by itself (RFC 4035, 5); and what a caller needs to name beside them.
 #![tactic(auto)]
 
 pub use dns_chain_check::check_chain;
-pub use dns_evidence::Verifier;
+pub use dns_evidence::{Chain, Link, LinkSignature, Listed, Steps, Trail, Verifier};
+pub use dns_handle::{DnsHandle, DnsRequest, DnsRequestOptions, DnsResponse, NetError};
 pub use dns_lookup::DnssecDnsHandle;
 pub use dns_marks::{
     DnsAnswer, KeyAnswer, KeysMark, ProofError, ProofErrorKind, RrsetProof, ZoneVerdict,
     ds_verdict, mark_keys, mark_rrset, verify_dnskey, verify_rrset_with_dnskey,
     verify_rrsig_with_keys,
 };
-pub use dns_trust::{Limits, Listed, RrsigValidity, TrustAnchors};
+pub use dns_message::Message;
+pub use dns_model::{Denial, Proof};
+pub use dns_name::{Name, NoMemory, Octets};
+pub use dns_record::{DNSClass, Query, Record, RecordSet, RecordType};
+pub use dns_trail::{check_trail, is_in_order};
+pub use dns_trust::{Limits, RrsigValidity, TrustAnchors};

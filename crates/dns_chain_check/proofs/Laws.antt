@@ -3,12 +3,13 @@ use Rattle.std.proofs.Common.{◌≡◌, ℕ, true, List, Option, None, Some, re
 use Rattle.std.specs.Prelude.{is_some}
 use Rattle.dns_model.specs.Names.{Labels}
 use Rattle.dns_model.specs.Views.{DnskeyValue, dnskey_in}
-use Rattle.dns_model.specs.Keys.{VerifierAnswers, AnchorValue, anchored_by}
+use Rattle.dns_model.specs.Keys.{VerifierAnswers, AnchorValue}
 use Rattle.dns_model.specs.Chains.{LinkValue, Judge, accepted_alone, judge, judge_alone, justified}
 use Rattle.dns_model.proofs.ChainLemmas.{justified-take}
 use Rattle.dns_chain_check.specs.Prefixes.{PrefixesHold}
 use Rattle.dns_chain_check.specs.MoreTrust.{HoldsForMore, TrustsMore}
 use Rattle.dns_chain_check.proofs.MoreTrust.{justified-more}
+use Rattle.dns_model.proofs.ViewSteps.{anchored_by}
 
 -- each prefix with a link is justified
 pub prefixes_hold : (j : Judge) (chain : List LinkValue) → justified j chain ≡ true → PrefixesHold j chain

@@ -8,7 +8,7 @@ use Rattle.dns_model.specs.Types.{type_rrsig}
 use Rattle.dns_model.specs.Views.{DnskeyValue, DsValue, RrsigValue, dnskey_in, ds_in, rrsig_in, is_zone_key, is_revoked}
 use Rattle.dns_model.specs.Signing.{key_tag_of, signed_bytes}
 use Rattle.dns_model.specs.Keys.{VerifierAnswers, covers_key, matches_read, usable_key}
-use Rattle.dns_model.specs.Chains.{LinkValue, Anchored, Matched, KeySet, Signed, Judge, is_chain, is_good, is_nonempty, is_signed, justified, key_comes, link_holds, links_hold, never_expanded, right_below_signer, shows_ds, signer_fits}
+use Rattle.dns_model.specs.Chains.{LinkValue, Anchored, Matched, KeySet, Signed, Judge, is_nonempty, is_good, is_signed, justified, key_comes, link_holds, links_hold, never_expanded, right_below_signer, shows_ds, signer_fits}
 use Rattle.dns_chain_check.specs.MoreTrust.{AnswersMore}
 
 -- a judge supports, accepts and trusts all that another one does
@@ -112,4 +112,4 @@ links_hold-more less more are earlier (link ∷ links) h =
 -- a chain that is justified is justified
 pub justified-more : (less more : Judge) → JudgesMore less more → (chain : List LinkValue) → justified less chain ≡ true → justified more chain ≡ true
 justified-more less more are chain =
-    and_more (is_chain chain) (links_hold less [] chain) (links_hold more [] chain) (links_hold-more less more are [] chain)
+    and_more (is_nonempty chain) (links_hold less [] chain) (links_hold more [] chain) (links_hold-more less more are [] chain)

@@ -13,8 +13,6 @@ fits_set owner rtype sig =
 
 -- the link is a signed one, and holds
 abbrev pub signed_link_holds : Judge → List LinkValue → LinkValue → Bool
-signed_link_holds j earlier (Anchored owner class key) = false
-signed_link_holds j earlier (Matched owner class key ds_link ds) = false
-signed_link_holds j earlier (KeySet owner class keys links) = false
 signed_link_holds j earlier (Signed owner class rtype rdatas sig key_link key) =
     link_holds j earlier (Signed owner class rtype rdatas sig key_link key)
+signed_link_holds j earlier _ = false

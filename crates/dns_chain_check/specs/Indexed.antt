@@ -17,10 +17,9 @@ Holds index rdatas = (q : Bor (List ℕ)) → contains by_bytes index q ≡ has_
 
 -- the rdatas of a link's set
 abbrev pub members_in : LinkValue → List (List ℕ)
-members_in (Anchored owner class key) = []
-members_in (Matched owner class key ds_link ds) = []
 members_in (KeySet owner class keys links) = keys
 members_in (Signed owner class rtype rdatas sig key_link key) = rdatas
+members_in _ = []
 
 -- the index has those of a link
 abbrev pub IndexesLink : BTreeSet (Bor (List ℕ)) → LinkValue → Type 0

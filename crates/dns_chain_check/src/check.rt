@@ -1,7 +1,7 @@
 ghost use Rattle.std.specs.Prelude.{◌≡◌, [], IfOk, IsTrue, map};
 ghost use Rattle.dns_model.specs.Chains.{accepted_alone, judge, justified, link_holds, links_hold};
 ghost use Rattle.dns_evidence.specs.Link.{link_value};
-ghost use Rattle.dns_anchors.specs.Judge.{judge_of};
+ghost use Rattle.dns_trust.specs.Judge.{judge_of};
 ghost use Rattle.dns_chain_check.specs.MoreTrust.{HoldsForMore};
 ghost use Rattle.dns_chain_check.specs.Prefixes.{PrefixesHold};
 

@@ -1,13 +1,13 @@
 ghost use Rattle.std.specs.Prelude.{◌≡◌, IfOk};
 ghost use Rattle.dns_model.specs.Chains.{link_holds};
 ghost use Rattle.dns_evidence.specs.Link.{link_value};
-ghost use Rattle.dns_anchors.specs.Judge.{judge_of};
+ghost use Rattle.dns_trust.specs.Judge.{judge_of};
 
 use crate::earlier::Earlier;
 use crate::signed::signed_holds;
 use dns_evidence::{Link, Verifier};
 use dns_name::NoMemory;
-use dns_trust::{Judge, ds_matches, is_anchor};
+use dns_trust::{Judge, anchored, ds_matches};
 use std::alloc::Global;
 
 /// The link holds by the anchors, or by links before it (RFC 4035, 5.2 and 5.3).
@@ -21,7 +21,7 @@ pub(crate) fn holds<V: Verifier>(
     ensures { IfOk result (λ b. b ≡ link_holds (judge_of V.answers judge.now) earlier.now (link_value link.now)) }
 {
     match link {
-        Link::Anchored { owner, key, .. } => { Ok(is_anchor(judge.anchors, owner, key.as_slice())) }
+        Link::Anchored { owner, key, .. } => { Ok(anchored(judge.anchors, owner, key.as_slice())) }
         Link::Matched {
             owner,
             class,

@@ -3,7 +3,7 @@ ghost use Rattle.dns_model.specs.Views.{dnskey_in, rrsig_in};
 ghost use Rattle.dns_model.specs.Signing.{key_tag_of};
 ghost use Rattle.dns_model.specs.Chains.{is_good as is_good_in, is_signed as is_signed_in, key_comes as key_comes_in};
 ghost use Rattle.dns_evidence.specs.Link.{link_value};
-ghost use Rattle.dns_anchors.specs.Judge.{judge_of};
+ghost use Rattle.dns_trust.specs.Judge.{judge_of};
 ghost use Rattle.dns_chain_check.specs.Fitting.{fits_set, signed_link_holds};
 
 use crate::earlier::Earlier;
@@ -12,7 +12,8 @@ use dns_name::NoMemory;
 use dns_rdata::{Dnskey, RdataSet, Rrsig, key_tag, signed_data_of};
 use dns_record::{Rdata, RecordType};
 use dns_trust::{
-    Judge, is_accepted, is_never_expanded, is_right_below_signer, is_timely, is_usable, signer_fits,
+    Judge, accepts_signature, is_never_expanded, is_right_below_signer, is_timely, is_usable,
+    signer_fits,
 };
 use std::alloc::Global;
 
@@ -117,7 +118,7 @@ fn is_good<V: Verifier>(
         return Ok(false);
     }
     let bytes = signed_data_of(alloc, set, sig)?;
-    Ok(is_accepted(judge.verifier, sig, &read, &bytes))
+    Ok(accepts_signature(judge.verifier, sig, &read, &bytes))
 }
 
 // The signature names the key by its algorithm and its tag.

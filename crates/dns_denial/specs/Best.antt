@@ -15,3 +15,8 @@ is_better less (Some best) x = less best.1 x
 -- the best one and its number, after one more that counts where it passes
 abbrev pub next_best : {X : Type 0} → (X → Bool) → (X → X → Bool) → Option (ℕ × X) → ℕ → X → Option (ℕ × X)
 next_best passes less best number x = if passes x && is_better less best x then Some (number, x) else best
+
+-- the best one so far passes, or there is none
+abbrev pub passes_if_there : {X : Type 0} → (X → Bool) → Option (ℕ × X) → Bool
+passes_if_there passes None = true
+passes_if_there passes (Some best) = passes best.1

@@ -1,2 +1,4 @@
 pub mod Best
 pub mod Common
+pub mod Candidates
+pub mod Enclosers

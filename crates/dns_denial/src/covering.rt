@@ -4,14 +4,13 @@ ghost use Rattle.std.specs.List.{find};
 ghost use Rattle.std.specs.Option.{option_copied};
 ghost use Rattle.std.specs.Ordering.{is_le};
 ghost use Rattle.dns_model.specs.Names.{name_cmp, before};
-ghost use Rattle.dns_judgement.specs.DenialInZones.{IsOwnerless};
-ghost use Rattle.dns_judgement.specs.Covering.{spans as spans_in, counts_for, is_silent_on as is_silent_in, covering as covering_in, covering_number};
+ghost use Rattle.dns_rules.specs.DenialInZones.{IsOwnerless};
+ghost use Rattle.dns_rules.specs.Covering.{spans as spans_in, counts_for, is_silent_on as is_silent_in, covering as covering_in, covering_number};
 ghost use Rattle.dns_denial.specs.Best.{owned_before, is_better, next_best};
 
-use crate::listed_types::{has_type, is_cut};
+use crate::listed_types::ends_zone;
 use dns_name::{Name, NameRef};
 use dns_rdata::NsecRecord;
-use dns_record::RecordType;
 use std::cmp::Ordering;
 
 /// The number of the NSEC record, from 0, that covers a name (RFC 4035, 5.4): of those whose owner comes before the name in
@@ -26,7 +25,7 @@ pub fn nsec_covering(name: &Name, nsecs: &[NsecRecord]) -> Option<u32>
 }
 
 /// The number of that record.
-#[tactic(auto, unfolding(dns_judgement::specs::Covering::covering, dns_judgement::specs::Covering::covering_number))]
+#[tactic(auto, unfolding(dns_rules::specs::Covering::covering, dns_rules::specs::Covering::covering_number))]
 fn covering_place(name: &Name, nsecs: &[NsecRecord]) -> Option<u32>
     requires { length nsecs.now < 2 ^ 32 }
     ensures { result ≡ covering_number name.now nsecs.now }
@@ -40,7 +39,7 @@ fn covering_place(name: &Name, nsecs: &[NsecRecord]) -> Option<u32>
 }
 
 /// The record that covers a name.
-#[tactic(auto, unfolding(dns_judgement::specs::Covering::covering))]
+#[tactic(auto, unfolding(dns_rules::specs::Covering::covering))]
 pub(crate) fn covering<'a>(name: &NameRef<'_>, nsecs: &'a [NsecRecord]) -> Option<&'a NsecRecord>
     ensures { option_copied result ≡ covering_in name.now nsecs.now }
 {
@@ -55,8 +54,7 @@ pub(crate) fn covering<'a>(name: &NameRef<'_>, nsecs: &'a [NsecRecord]) -> Optio
 fn is_silent_on(name: &NameRef<'_>, nsec: &NsecRecord) -> bool
     ensures { result ≡ is_silent_in name.now nsec.now }
 {
-    nsec.owner.borrowed().strictly_above(name)
-        && (is_cut(nsec) || has_type(nsec, RecordType::DNAME))
+    nsec.owner.borrowed().strictly_above(name) && ends_zone(&nsec.type_set())
 }
 
 /// Of the records that span the name the first with the greatest owner, and its number.

@@ -2,7 +2,7 @@
 ghost use Rattle.std.specs.Prelude.{◌≡◌, length, if◌then◌else◌};
 ghost use Rattle.dns_model.specs.Names.{star, wire, common_ancestor as common_ancestor_of};
 ghost use Rattle.dns_denial.specs.Common.{same_label};
-ghost use Rattle.dns_judgement.specs.NsecVerdict.{closest_encloser as closest_encloser_of};
+ghost use Rattle.dns_rules.specs.NsecVerdict.{closest_encloser as closest_encloser_of};
 
 use arrayvec::ArrayVec;
 use dns_name::NameRef;
@@ -10,7 +10,7 @@ use dns_rdata::NsecRecord;
 
 /// The longest ancestor of a name that must exist where the record covers it: the longer of those that it shares with the
 /// owner and with the next owner.
-#[tactic(auto, unfolding(dns_judgement::specs::NsecVerdict::closest_encloser))]
+#[tactic(auto, unfolding(dns_rules::specs::NsecVerdict::closest_encloser))]
 pub(crate) fn closest_encloser<'a>(name: &NameRef<'a>, nsec: &NsecRecord) -> NameRef<'a>
     ensures { result ≡ closest_encloser_of name.now nsec.now }
 {

@@ -5,17 +5,18 @@ ghost use Rattle.std.specs.Option.{option_copied};
 ghost use Rattle.dns_model.specs.Names.{is_name, star};
 ghost use Rattle.dns_model.specs.declared.answered.Answered.TheVariants.{No, Expanded};
 ghost use Rattle.dns_model.specs.declared.proof.Proof.TheVariants.{Secure};
-ghost use Rattle.dns_judgement.specs.DenialInZones.{IsDeniedIn, IsExpandedIn};
-ghost use Rattle.dns_judgement.specs.Covering.{covering as covering_in};
-ghost use Rattle.dns_judgement.specs.NsecVerdict.{nsec_verdict, code_nx_domain, holds_query as holds_query_in, is_unanswered as is_unanswered_in, is_owned_by as is_owned_by_in, denies_at_owner as denies_at_owner_in, wildcard_lacks as wildcard_lacks_in, wildcard_denies as wildcard_denies_in, missing_name as missing_name_in, proved_by_covering as proved_by_covering_in, proved_at_name as proved_at_name_in, closest_encloser as closest_encloser_of};
+ghost use Rattle.dns_rules.specs.DenialInZones.{IsDeniedIn, IsExpandedIn};
+ghost use Rattle.dns_rules.specs.Covering.{covering as covering_in};
+ghost use Rattle.dns_rules.specs.ListedTypes.{wildcard_lacks as wildcard_lacks_in};
+ghost use Rattle.dns_rules.specs.NsecVerdict.{nsec_verdict, secure_if as secure_if_in, code_nx_domain, holds_query as holds_query_in, is_owned_by as is_owned_by_in, wildcard_denies as wildcard_denies_in, missing_name as missing_name_in, proved_by_covering as proved_by_covering_in, proved_at_name as proved_at_name_in, closest_encloser as closest_encloser_of};
 
-use crate::Answered;
 use crate::covering::covering;
 use crate::encloser::{closest_encloser, wildcard_below};
-use crate::listed_types::{has_type, is_cut, lacks_data};
+use crate::listed_types::{is_proved_by_owner, wildcard_lacks};
+use dns_model::{Answered, Proof};
 use dns_name::{Name, NameRef};
 use dns_rdata::NsecRecord;
-use dns_record::{Proof, Query, RecordType, ResponseCode};
+use dns_record::{Query, RecordType, ResponseCode};
 
 /// What the NSEC records of a zone prove of a response to a query (RFC 4035, 5.3.4 and 5.4; RFC 4592; RFC 6840, 4).
 ///
@@ -34,12 +35,12 @@ pub fn verify_nsec(
     ensures expansion { (labels : ℕ) → result ≡ Secure → answered ≡ Expanded labels
         → IsExpandedIn query.now zone.now labels nsecs.now }
 {
-    verdict_of(query, zone, code, answered, nsecs)
+    nsec_verdict(query, zone, code, answered, nsecs)
 }
 
 /// The verdict, row by row.
-#[tactic(auto, unfolding(dns_judgement::specs::NsecVerdict::nsec_verdict))]
-fn verdict_of(
+#[tactic(auto, unfolding(dns_rules::specs::NsecVerdict::nsec_verdict))]
+fn nsec_verdict(
     query: &Query,
     zone: &Name,
     code: ResponseCode,
@@ -57,15 +58,18 @@ fn verdict_of(
     if answered == Answered::Plain {
         return Proof::Bogus;
     }
-    if is_proved(query, code, answered, nsecs) {
-        Proof::Secure
-    } else {
-        Proof::Bogus
-    }
+    secure_if(is_proved(query, code, answered, nsecs))
+}
+
+/// `Secure` of what is proved, else `Bogus`.
+pub(crate) fn secure_if(proved: bool) -> Proof
+    ensures { result ≡ secure_if_in proved }
+{
+    if proved { Proof::Secure } else { Proof::Bogus }
 }
 
 /// Whether the zone holds the query's name; DS records stand in the zone above the cut (RFC 4035, 2.4).
-fn holds_query(zone: &Name, query: &Query) -> bool
+pub(crate) fn holds_query(zone: &Name, query: &Query) -> bool
     ensures { result ≡ holds_query_in zone.now query.now }
 {
     if query.query_type == RecordType::DS {
@@ -82,12 +86,7 @@ fn is_proved(query: &Query, code: ResponseCode, answered: Answered, nsecs: &[Nse
 {
     let name = query.name.borrowed();
     match owned_by(&name, nsecs) {
-        // the name exists, so only its data can be denied
-        Some(nsec) => {
-            answered == Answered::No
-                && code == ResponseCode::NO_ERROR
-                && denies_at_owner(nsec, query.query_type)
-        }
+        Some(nsec) => is_proved_by_owner(&nsec.type_set(), query.query_type, code, answered),
         None => match covering(&name, nsecs) {
             Some(nsec) => is_proved_by(query, code, answered, nsecs, nsec),
             None => false,
@@ -106,18 +105,6 @@ fn is_owned_by(name: &NameRef<'_>, nsec: &NsecRecord) -> bool
     ensures { result ≡ is_owned_by_in name.now nsec.now }
 {
     nsec.owner.borrowed().eq_name(name)
-}
-
-/// Whether a record denies the type at its owner: for DS it may not be the child's, and for others not the parent's.
-fn denies_at_owner(nsec: &NsecRecord, record_type: RecordType) -> bool
-    ensures { result ≡ denies_at_owner_in record_type.0 nsec.now }
-{
-    lacks_data(nsec, record_type)
-        && if record_type == RecordType::DS {
-            !has_type(nsec, RecordType::SOA)
-        } else {
-            !is_cut(nsec)
-        }
 }
 
 /// Whether the records prove what the response says of a name that this one covers.
@@ -192,15 +179,7 @@ fn lacks_at_wildcard(wildcard: &NameRef<'_>, record_type: RecordType, nsecs: &[N
 
 /// Whether a record is the wildcard's, and shows that it has no data of the type.
 fn is_denied_wildcard(wildcard: &NameRef<'_>, record_type: RecordType, nsec: &NsecRecord) -> bool
-    ensures { result ≡ (is_owned_by_in wildcard.now nsec.now && wildcard_lacks_in record_type.0 nsec.now) }
+    ensures { result ≡ (is_owned_by_in wildcard.now nsec.now && wildcard_lacks_in record_type.0 nsec.now.fields.types) }
 {
-    is_owned_by(wildcard, nsec) && wildcard_lacks(nsec, record_type)
-}
-
-/// Whether nothing at a wildcard answers for the type, and it is no delegation and has no DNAME (RFC 4592, 4.2 and 4.4).
-fn wildcard_lacks(nsec: &NsecRecord, record_type: RecordType) -> bool
-    ensures { result ≡ wildcard_lacks_in record_type.0 nsec.now }
-{
-    lacks_data(nsec, record_type)
-        && !(has_type(nsec, RecordType::NS) || has_type(nsec, RecordType::DNAME))
+    is_owned_by(wildcard, nsec) && wildcard_lacks(&nsec.type_set(), record_type)
 }

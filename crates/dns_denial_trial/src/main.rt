@@ -1,5 +1,5 @@
-//! `dns_denial_trial`: what the NSEC records in each reply of a session prove of its question, in the zone that the session's
-//! query names. A script tries the verdicts on zones of its own with it.
+//! `dns_denial_trial`: what the NSEC or NSEC3 records in each reply of a session prove of its question, in the zone that the
+//! session's query names. A script tries the verdicts on zones of its own with it.
 #![tactic(auto)]
 
 mod program;

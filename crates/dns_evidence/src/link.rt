@@ -2,8 +2,9 @@ ghost use Rattle.std.specs.Prelude.{◌≡◌, IfOk, map};
 ghost use Rattle.dns_model.specs.Chains.{Matched as matched, KeySet as key_set, Signed as signed};
 ghost use Rattle.dns_evidence.specs.Link.{link_value};
 
+use dns_model::Section;
 use dns_name::{Name, NoMemory};
-use dns_record::{DNSClass, Rdata, RecordType, Section};
+use dns_record::{DNSClass, Rdata, RecordType};
 use std::marker::Model;
 
 /// A step of a chain of trust (RFC 4035, 5.2 and 5.3). Numbers are those of earlier links, from 0.

@@ -1,8 +1,8 @@
 ghost use Rattle.std.specs.Prelude.{◌≡◌, []};
 
-use dns_model::{AskRef, MarkOrigin};
+use dns_model::{AskRef, Denial, MarkOrigin, Proof, Section};
 use dns_name::Name;
-use dns_record::{DNSClass, Denial, Proof, Query, Record, RecordType, ResponseCode, Section};
+use dns_record::{DNSClass, Query, Record, RecordType, ResponseCode};
 use std::alloc::Global;
 use std::marker::Model;
 

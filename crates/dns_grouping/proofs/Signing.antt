@@ -9,11 +9,12 @@ use Rattle.dns_model.specs.Names.{name_eq}
 use Rattle.dns_model.specs.Types.{type_rrsig}
 use Rattle.dns_model.specs.Views.{RrsigValue, rrsig_in}
 use Rattle.dns_model.specs.Records.{Rr, RrSet}
-use Rattle.dns_model.specs.Sections.{same_set, is_signature, covers, covers_rtype, leaders, unsigned_part, sets_of}
+use Rattle.dns_model.specs.Sections.{same_set, is_signature, covers, leaders, unsigned_part, sets_of}
 use Rattle.dns_model.proofs.EachLemmas.{Apart, each_more, each_of, each_passes, map_agree, map-map, apart_map}
 use Rattle.dns_model.proofs.SetLemmas.{leaders_apart, same_key, each_leader, number_same}
 use Rattle.dns_grouping.specs.Joining.{is_at, with_signature, handed_to_covered, handed, bare_set, bare_sets, part_set, part_sets}
 use Rattle.dns_grouping.proofs.Joining.{touched_map, at_single}
+use Rattle.dns_model.proofs.ViewSteps.{covers_rtype}
 
 -- ---- one more signature
 

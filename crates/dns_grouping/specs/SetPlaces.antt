@@ -7,7 +7,7 @@ use Rattle.dns_model.specs.Views.{RrsigValue, rrsig_in}
 use Rattle.dns_model.specs.Records.{Rr, RrSet}
 use Rattle.dns_model.specs.Sections.{is_signature}
 use Rattle.dns_model.specs.SoundAnswers.{section_eq}
-use Rattle.dns_judgement.specs.Judged.{Judged}
+use Rattle.dns_rules.specs.MarkedSets.{MarkedSet}
 use Rattle.dns_grouping.specs.declared.set_key.SetKey.{SetKey}
 use Rattle.dns_grouping.specs.declared.set_places.SetPlaces.{SetPlaces}
 use Rattle.dns_grouping.specs.SetKeys.{set_key, set_key_cmp}
@@ -52,13 +52,13 @@ pub record ArePlaces (p : SetPlaces) (sets : List RrSet) : Type 0 where
   pub each : (owner : Labels) (rtype : ℕ) → place_of p owner rtype ≡ place_in (is_at owner rtype) sets
 
 -- a set of a section, owner and type
-abbrev pub is_placed : Section → Labels → ℕ → Judged → Bool
+abbrev pub is_placed : Section → Labels → ℕ → MarkedSet → Bool
 is_placed section owner rtype judged = section_eq judged.section section && (name_eq judged.set.owner owner && (judged.set.rtype == rtype))
 
 -- the place of each owner and type is that of the first such set of the section
-pub record ArePlacedIn (p : SetPlaces) (section : Section) (sets : List Judged) : Type 0 where
+pub record ArePlacedIn (p : SetPlaces) (section : Section) (sets : List MarkedSet) : Type 0 where
   pub each : (owner : Labels) (rtype : ℕ) → place_of p owner rtype ≡ place_in (is_placed section owner rtype) sets
 
 -- the places with one more set, where it stands in the section and none of its owner and type had a place
-abbrev pub with_judged : (Labels → ℕ → Option ℕ) → Section → Judged → ℕ → Labels → ℕ → Option ℕ
+abbrev pub with_judged : (Labels → ℕ → Option ℕ) → Section → MarkedSet → ℕ → Labels → ℕ → Option ℕ
 with_judged places section judged n o k = or_place (places o k) (if is_placed section o k judged then Some n else None)

@@ -1,18 +1,19 @@
 ghost use Rattle.std.specs.Prelude.{◌≡◌, ◌++◌, IfOk, OnOk, map};
 ghost use Rattle.dns_model.specs.Sections.{sets_of};
 ghost use Rattle.dns_model.specs.SoundAnswers.{told_by, in_section};
-ghost use Rattle.dns_judgement.specs.Marking.{cleared, cleared_message};
-ghost use Rattle.dns_judgement.specs.Asking.{judged_at, judged_part, is_judged_at as is_judged_at_depth};
+ghost use Rattle.dns_rules.specs.Marking.{cleared, cleared_message};
+ghost use Rattle.dns_rules.specs.Asking.{judged_at, judged_part, is_judged_at as is_judged_at_depth};
 ghost use Rattle.dns_grouping.specs.Joining.{joined_by, met_by, handed, with_record as record_added, with_signature as signature_added};
 ghost use Rattle.dns_model.specs.RecordViews.{rrsig_of};
 ghost use Rattle.dns_grouping.specs.SetPlaces.{ArePlaces, place_of, place_covered};
 
 use crate::set_places::SetPlaces;
-use dns_judged::PlacedSet;
+use dns_evidence::PlacedSet;
 use dns_message::Message;
+use dns_model::{Proof, Section};
 use dns_name::NoMemory;
 use dns_rdata::Rrsig;
-use dns_record::{Proof, Record, RecordSet, RecordType, Section};
+use dns_record::{Record, RecordSet, RecordType};
 use std::alloc::Global;
 
 /// Takes every mark off the records of a message, so that none from outside is believed.
@@ -26,7 +27,7 @@ pub fn clear_marks(message: &mut Message)
 
 /// The RRsets of the three sections of a message that are judged at a depth, in order of first appearance (RFC 2181, 5):
 /// all at depth 0, below it those of the types by which others are judged.
-pub fn placed_sets(alloc: Global, depth: u16, message: &Message) -> Result<Vec<PlacedSet>, NoMemory>
+pub fn judged_part(alloc: Global, depth: u16, message: &Message) -> Result<Vec<PlacedSet>, NoMemory>
     ensures { IfOk result (λ v. v.items ≡ judged_part depth (told_by message.now)) }
 {
     let mut placed = Vec::new(alloc);

@@ -1,14 +1,15 @@
 ghost use Rattle.std.specs.Prelude.{◌≡◌, ℕ, None, IfOk, OnOk};
 ghost use Rattle.dns_model.specs.Names.{Labels};
 ghost use Rattle.dns_model.specs.SoundAnswers.{section_eq, set_rtype as set_rtype_of};
-ghost use Rattle.dns_judgement.specs.Chained.{bare};
+ghost use Rattle.dns_rules.specs.ChainedSets.{bare};
 ghost use Rattle.dns_grouping.specs.SetPlaces.{ArePlacedIn, is_readable, place_at_key, place_of, with_place, with_judged};
 
 use crate::set_key::SetKey;
-use dns_judged::{ChainedSet, MarkedSet};
+use dns_evidence::{ChainedSet, MarkedSet};
+use dns_model::Section;
 use dns_name::{Name, NoMemory};
 use dns_rdata::Rrsig;
-use dns_record::{Record, RecordType, Section};
+use dns_record::{Record, RecordType};
 use std::alloc::Global;
 use std::collections::BTreeMap;
 

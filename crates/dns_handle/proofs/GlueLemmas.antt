@@ -17,9 +17,10 @@ use Rattle.dns_model.specs.RecordViews.{read_as}
 use Rattle.dns_model.proofs.TestLemmas.{tied_equal}
 use Rattle.dns_model.proofs.Lists.{lookup-same}
 use Rattle.dns_handle.specs.NoRecords.{ForwardNsValue}
-use Rattle.dns_handle.specs.Responses.{is_address_of, glue_at, forwarded}
+use Rattle.dns_handle.specs.Responses.{is_address_of, forwarded}
 use Rattle.dns_handle.specs.Glue.{is_address, bytes_cmp, vec_items, addresses_at, Joined, glue_by, forwarded_by}
 use Rattle.dns_evidence.proofs.WireTies.{wire_ties}
+use Rattle.std.specs.Option.{option_map_or}
 
 -- keys that the order doesn't tell apart have the same records
 items-same : {Z : Type 0} (m : BTreeMap (List ℕ) (Vec Rr Z)) (k q : List ℕ) → is_eq (bytes_cmp k q) ≡ true
@@ -62,6 +63,9 @@ no_addresses m empty name = ap (λ es. vec_items (lookup (λ k. is_eq (bytes_cmp
 -- the map has the addresses of each name among records
 abbrev pub AreAddresses : {Z : Type 0} → BTreeMap (List ℕ) (Vec Rr Z) → List Rr → Type 0
 AreAddresses m rs = (name : Labels) → addresses_at m name ≡ filter (is_address_of name) rs
+
+abbrev glue_at : List Rr → Option Labels → List Rr
+glue_at additionals target = option_map_or (λ t. filter (is_address_of t) additionals) target []
 
 glue-same : {Z : Type 0} (m : BTreeMap (List ℕ) (Vec Rr Z)) (rs : List Rr) → AreAddresses m rs → (target : Option Labels)
     → glue_by m target ≡ glue_at rs target

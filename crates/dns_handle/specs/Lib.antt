@@ -13,3 +13,4 @@ pub mod Causes
 pub mod Handles
 pub mod Walks
 pub mod Notices
+pub mod Protocols

@@ -1,7 +1,7 @@
 -- The texts of notices.
 use Rattle.std.specs.Prelude.{ℕ, List, codes}
 use Rattle.dns_handle.specs.declared.notice.Notice.{Notice}
-use Rattle.dns_handle.specs.declared.notice.Notice.TheVariants.{NotJudgedYet, NoQueryInRequest, ExpiredRrsig, WrongDnskey, WrongRrsig}
+use Rattle.dns_handle.specs.declared.notice.Notice.TheVariants.{NotJudgedYet, NoQueryInRequest, ExpiredRrsig, WrongDnskey, WrongRrsig, ExceededMaxValidationDepth, ExceededMaxNestedQueries, IdSpaceExhausted, SendQueueFull, PolledAfterCompletion}
 
 abbrev pub notice_text : Notice → List ℕ
 notice_text NotJudgedYet = codes "not judged yet"
@@ -9,3 +9,8 @@ notice_text NoQueryInRequest = codes "no query in request"
 notice_text ExpiredRrsig = codes "ExpiredRrsig"
 notice_text WrongDnskey = codes "WrongDnskey"
 notice_text WrongRrsig = codes "WrongRrsig"
+notice_text ExceededMaxValidationDepth = codes "exceeded max validation depth"
+notice_text ExceededMaxNestedQueries = codes "exceeded max nested queries"
+notice_text IdSpaceExhausted = codes "id space exhausted, consider filing an issue"
+notice_text SendQueueFull = codes "send queue full"
+notice_text PolledAfterCompletion = codes "polled after completion"

@@ -1,7 +1,7 @@
 -- What becomes of a response: records, that there are none, or a failure (RFC 1035, 4.1.1; RFC 2308, 2 and 5; RFC 6895, 2.3).
 use Rattle.std.specs.Prelude.{ℕ, Bool, true, false, not, ◌==◌, ◌&&◌, ◌||◌, nat_le, min, List, [], ◌∷◌, ◌++◌, map, Option, None, Some, is_some, unwrap_or, Result, Ok, Err, if◌then◌else◌}
 use Rattle.std.specs.List.{list_any, filter, find}
-use Rattle.std.specs.Option.{option_map, option_and_then}
+use Rattle.std.specs.Option.{option_map, option_and_then, option_map_or}
 use Rattle.dns_model.specs.Names.{Labels, name_eq, at_or_above}
 use Rattle.dns_model.specs.Types.{type_a, type_ns, type_soa, can_deny, class_in}
 pub use Rattle.dns_model.specs.Types.{type_aaaa, type_any}
@@ -57,13 +57,12 @@ is_ns r = r.rtype == type_ns
 abbrev pub is_address_of : Labels → Rr → Bool
 is_address_of name r = ((r.rtype == type_a) || (r.rtype == type_aaaa)) && name_eq r.owner name
 
--- the addresses of the server that an NS record names; where that can't be read there are none
-abbrev pub glue_at : List Rr → Option Labels → List Rr
-glue_at additionals None = []
-glue_at additionals (Some target) = filter (is_address_of target) additionals
-
+-- an NS record, with the addresses of the server that it names; where that can't be read there are none
 abbrev pub forwarded : List Rr → Rr → ForwardNsValue
-forwarded additionals ns = record { ns = ns; glue = glue_at additionals (read_as type_ns ns_in ns) }
+forwarded additionals ns = record {
+  ns = ns;
+  glue = option_map_or (λ target. filter (is_address_of target) additionals) (read_as type_ns ns_in ns) [];
+}
 
 -- for how long an SOA lets it be believed that there are no records (RFC 2308, 5)
 abbrev pub negative_ttl_of : Rr → Option ℕ

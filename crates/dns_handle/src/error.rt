@@ -7,8 +7,9 @@ ghost use Rattle.dns_handle.specs.ErrorKinds.{is_nx_domain, is_no_records_found,
 
 use crate::{DnsResponse, IoKind, NoRecords, Notice};
 use dns_message::{DecodeError, DecodeKind};
+use dns_model::Proof;
 use dns_name::{Name, NoMemory, Text};
-use dns_record::{DNSClass, Proof, Query, Record, RecordType, ResponseCode};
+use dns_record::{DNSClass, Query, Record, RecordType, ResponseCode};
 use std::alloc::{AllocError, AllocFailed};
 use std::fmt;
 use thiserror::Error;

@@ -16,6 +16,16 @@ pub enum Notice {
     WrongDnskey,
     /// A signature isn't one of the set.
     WrongRrsig,
+    /// An ask would be deeper than the limit of a lookup lets asks go.
+    ExceededMaxValidationDepth,
+    /// A lookup has made as many asks as it may.
+    ExceededMaxNestedQueries,
+    /// Each id that was drawn for a request is a live request's.
+    IdSpaceExhausted,
+    /// As many messages wait to be sent as may.
+    SendQueueFull,
+    /// A future that gave its answer was polled again.
+    PolledAfterCompletion,
 }
 
 impl Notice {
@@ -29,6 +39,11 @@ impl Notice {
             Notice::ExpiredRrsig => "ExpiredRrsig",
             Notice::WrongDnskey => "WrongDnskey",
             Notice::WrongRrsig => "WrongRrsig",
+            Notice::ExceededMaxValidationDepth => "exceeded max validation depth",
+            Notice::ExceededMaxNestedQueries => "exceeded max nested queries",
+            Notice::IdSpaceExhausted => "id space exhausted, consider filing an issue",
+            Notice::SendQueueFull => "send queue full",
+            Notice::PolledAfterCompletion => "polled after completion",
         }
     }
 }

@@ -28,6 +28,8 @@ rest_whole bytes at = take_all _ _ (omega (arith, length-drop at bytes))
 
 -- a sink that took the bytes before a place takes more from there on
 pub writes_more : (before now later : Option (List ℕ)) (bytes : List ℕ) (at count : ℕ)
-    → Appends before now (take at bytes) → Appends now later (take count (take (length bytes - at) (drop at bytes))) → Appends before later (take (at + count) bytes)
+    → Appends before now (take at bytes) → Appends now later (take count (take (length bytes - at) (drop at bytes)))
+    → Appends before later (take (at + count) bytes)
 writes_more before now later bytes at count first next =
-    rw take-add (Appends-trans before now later (take at bytes) (take count (drop at bytes)) first (rw rest_whole at next))
+    rw take-add
+    (Appends-trans before now later (take at bytes) (take count (drop at bytes)) first (rw rest_whole at next))

@@ -3,3 +3,4 @@ pub mod Reading
 pub mod Pieces
 pub mod Writing
 pub mod Standard
+pub mod Runs

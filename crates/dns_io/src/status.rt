@@ -4,6 +4,7 @@ ghost use Rattle.std.specs.Io.KnownBytes.{Appends};
 ghost use Rattle.dns_model.specs.Counts.{Rose};
 ghost use Rattle.dns_io.specs.Reading.{too_long_text};
 ghost use Rattle.dns_io.specs.Writing.{bad_words_text, EndsWriting, TakesPrefix, WritesText};
+ghost use Rattle.dns_io.specs.Runs.{KeepsSink};
 
 use crate::sink::{Sink, SinkFault, write_all};
 use crate::source::ReadStop;
@@ -60,6 +61,7 @@ pub fn write_text<W: Sink>(status: u8, text: &[u8], output: &mut W) -> u8
     ensures sink { result ≡ 5 → status < 5 → Rose (W.faults output.old) (W.faults output.new) }
     ensures memory { result ≡ 6 → status < 5 → W.takes_memory ≡ true }
     ensures most { status < 5 → result ≤ 6 }
+    ensures keeps { status < 4 → KeepsSink W.faults result output.old output.new }
 
     ensures prefix { TakesPrefix (W.taken output.old) (W.taken output.new) text.now }
     ensures later { W.faults output.old ≤ W.faults output.new }
@@ -80,6 +82,7 @@ pub fn refuse_words<W: Sink>(output: &mut W) -> u8
     ensures text { WritesText result 2 (W.taken output.old) (W.taken output.new) bad_words_text }
     ensures sink { result ≡ 5 → Rose (W.faults output.old) (W.faults output.new) }
     ensures memory { result ≡ 6 → W.takes_memory ≡ true }
+    ensures keeps { KeepsSink W.faults result output.old output.new }
     ensures prefix { TakesPrefix (W.taken output.old) (W.taken output.new) bad_words_text }
     ensures most { result ≤ 6 }
     ensures later { W.faults output.old ≤ W.faults output.new }

@@ -17,17 +17,17 @@ use Rattle.dns_model.specs.SoundAnswers.{Told}
 use Rattle.dns_model.specs.Trails.{AskedValue}
 use Rattle.dns_model.proofs.SetLemmas.{number_same, number_back}
 use Rattle.dns_model.proofs.QuestionLemmas.{same_parts, question_refl}
-use Rattle.dns_judgement.specs.Asking.{depth_limit, is_judged_at}
-use Rattle.dns_judgement.specs.Judged.{Judged}
-use Rattle.dns_judgement.specs.KeySets.{is_anchored_key}
-use Rattle.dns_judgement.specs.Outcome.{foreign_record}
-use Rattle.dns_judgement.specs.Marking.{marked_section}
-use Rattle.dns_judgement.specs.Marks.{key_question}
-use Rattle.dns_judgement.specs.Delegations.{ds_question}
-use Rattle.dns_judgement.specs.Derivation.{judged_sets, finished_answer, if_answered, top_step, in_send_order, derivation}
-use Rattle.dns_judgement.specs.DerivationParts.{grounds_of, steps_at}
-use Rattle.dns_judgement.proofs.DerivedLemmas.{derivation_parts}
-use Rattle.dns_judgement.proofs.SentLemmas.{numbered}
+use Rattle.dns_rules.specs.Asking.{depth_limit, is_judged_at}
+use Rattle.dns_rules.specs.MarkedSets.{MarkedSet}
+use Rattle.dns_rules.specs.KeySets.{is_anchored_key}
+use Rattle.dns_rules.specs.Outcome.{foreign_record}
+use Rattle.dns_rules.specs.Marking.{marked_section}
+use Rattle.dns_rules.specs.Marks.{key_question}
+use Rattle.dns_rules.specs.Delegations.{ds_question}
+use Rattle.dns_rules.specs.Derivation.{judged_sets, finished_answer, if_answered, top_step, in_send_order, derivation}
+use Rattle.dns_rules.specs.DerivationParts.{step_context_of, steps_at}
+use Rattle.dns_rules.proofs.DerivedLemmas.{derivation_parts}
+use Rattle.dns_rules.proofs.SentLemmas.{numbered}
 use Rattle.dns_laws.specs.Complete.{Upstream, HeardAlong, AreAsked, shows_secure, ProvesQuery}
 use Rattle.dns_laws.specs.Valid.{is_plain_query, straight_set, is_anchored_set, is_proved_by_keys, is_proved_by_ds, is_proved_by, leads_to_anchor, IsValidSession}
 use Rattle.dns_laws.proofs.TestLemmas.{passing}
@@ -94,7 +94,7 @@ shown_last : {R : Type 0} (w : Walk R) (q : Question) (r : R) (n : ℕ) (step : 
     → IsAt w q [] r n step met more → straight_set w.judge w.tells q ≡ Some set → IsHere w q r n step met more set
     → (set.rtype == type_dnskey) ≡ true → is_anchored_set w.judge set ≡ true → IsShown w q [] n step more
 shown_last w q r n step met more set at is h keys anchored =
-    let g = grounds_of w.judge w.limit (take n w.trail) step in
+    let g = step_context_of w.judge w.limit (take n w.trail) step in
     let one = one_or_none w.judge q set (signed_or_anchored w.judge q h.told set h.one) in
     let entry = anchored_entry g set h.straight.entry one keys anchored (rules w q r n step met more set h) in
     let none = h.asks ∙ entry.none in
@@ -111,7 +111,7 @@ ShowsNext {R} w next rest =
 
 -- the ask found the set that the list names, Secure
 record IsNextSet {R : Type 0} (w : Walk R) (next : Question) (n : ℕ) (ask : AskRef) (above : RrSet) : Type 0 where
-  judged : Judged
+  judged : MarkedSet
   answer : finished_answer (take n w.trail) ask ≡ Some (judged ∷ [])
   secure : IsSecureSet above judged
   owner : name_eq next.owner above.owner ≡ true
@@ -138,7 +138,7 @@ shown_signed : {R : Type 0} (w : Walk R) (q next : Question) (rest : List Questi
     → (h : IsHere w q r n step met more set) → (set.rtype == type_dnskey) ≡ false
     → list_any (is_proved_by_keys w.judge set next above) set.signatures ≡ true → ShowsNext w next rest → IsShown w q (next ∷ rest) n step more
 shown_signed w q next rest r n step met more set above at is found h other proved later =
-    let g = grounds_of w.judge w.limit (take n w.trail) step in
+    let g = step_context_of w.judge w.limit (take n w.trail) step in
     let entry = h.straight.entry in
     let signed = has_signature w.judge q set (signed_or_anchored w.judge q h.told set h.one) other in
     let ask = keys_ask w.judge set next above signed.signature (only_one (is_proved_by_keys w.judge set next above) set.signatures signed.signature signed.alone proved) in
@@ -161,7 +161,7 @@ shown_keys : {R : Type 0} (w : Walk R) (q next : Question) (rest : List Question
     → (h : IsHere w q r n step met more set) → (set.rtype == type_dnskey) ≡ true
     → (not (is_anchored_set w.judge set) && is_proved_by_ds w.judge set next above) ≡ true → ShowsNext w next rest → IsShown w q (next ∷ rest) n step more
 shown_keys w q next rest r n step met more set above at is found h keys proved later =
-    let g = grounds_of w.judge w.limit (take n w.trail) step in
+    let g = step_context_of w.judge w.limit (take n w.trail) step in
     let entry = h.straight.entry in
     let one = one_or_none w.judge q set (signed_or_anchored w.judge q h.told set h.one) in
     let parts = and_parts (not (is_anchored_set w.judge set)) (is_proved_by_ds w.judge set next above) proved in

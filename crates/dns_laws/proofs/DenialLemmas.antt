@@ -10,20 +10,20 @@ use Rattle.dns_model.specs.Records.{Rr, Question}
 use Rattle.dns_model.specs.Chains.{Judge}
 use Rattle.dns_model.specs.SoundAnswers.{Told}
 use Rattle.dns_model.specs.Trails.{AskedValue, Answered, Denied, Foreign, Failed}
-use Rattle.dns_judgement.specs.Asking.{depth_limit, judged_part}
-use Rattle.dns_judgement.specs.Delegations as delegation
-use Rattle.dns_judgement.specs.Delegations.{ZoneVerdict}
-use Rattle.dns_judgement.specs.Unsigned.{question_start, is_empty}
-use Rattle.dns_judgement.specs.Outcome as outcome
-use Rattle.dns_judgement.specs.Outcome.{Outcome, outcome_of, outcome_by_zone, has_answer, foreign_record}
-use Rattle.dns_judgement.specs.Derivation.{Grounds, search_from, denial_eq, ending_eq, ending_by, ending_holds, entries_hold, with_entries, judged_sets, step_holds, steps_hold, derivation}
-use Rattle.dns_judgement.specs.DerivationParts.{grounds_of, is_bare, judged_holds, ends_by_search}
-use Rattle.dns_judgement.proofs.DerivedLemmas.{derivation_parts}
-use Rattle.dns_judgement.proofs.ExtendLemmas.{proof_same}
+use Rattle.dns_rules.specs.Asking.{depth_limit, judged_part}
+use Rattle.dns_rules.specs.Delegations as delegation
+use Rattle.dns_rules.specs.Delegations.{ZoneVerdict}
+use Rattle.dns_rules.specs.Unsigned.{question_start, is_empty}
+use Rattle.dns_rules.specs.Outcome as outcome
+use Rattle.dns_rules.specs.Outcome.{Outcome, outcome_of, outcome_by_zone, has_answer, foreign_record}
+use Rattle.dns_rules.specs.Derivation.{StepContext, search_from, denial_eq, ending_eq, ending_by, ending_holds, entries_hold, with_entries, judged_sets, step_holds, steps_hold, derivation}
+use Rattle.dns_rules.specs.DerivationParts.{step_context_of, is_bare, judged_holds, ends_by_search}
+use Rattle.dns_rules.proofs.DerivedLemmas.{derivation_parts}
+use Rattle.dns_rules.proofs.ExtendLemmas.{proof_same}
 use Rattle.dns_laws.specs.Denials.{ShowsDenial, StepDenies, HasDenials}
 use Rattle.dns_laws.proofs.StraightStepLemmas.{judged_step}
 use Rattle.dns_laws.proofs.ToldSetLemmas.{judged_told}
-use Rattle.dns_laws.proofs.DeniedOutcomes.{LeadsTo, is_secure_denial, insecure_is_plain, outcome_shows}
+use Rattle.dns_laws.proofs.DeniedOutcomes.{LeadsTo, IsPlain, insecure_is_plain, outcome_shows}
 
 -- ---- the outcome by the ending
 
@@ -40,27 +40,27 @@ denial_same (denied.Expanded a) (denied.Expanded b) h = ap denied.Expanded (proo
 
 -- a search shows no Secure denial
 zone_step : (q : Question) (told : Told) (found : ZoneVerdict) (d : Denial) → ending_eq (ending_by (outcome_by_zone q told found)) (Answered d) ≡ true
-    → is_secure_denial d ≡ false
+    → IsPlain (has_answer q told) d
 zone_step q told (delegation.Signed ds) d h = cc
 zone_step q told (delegation.Insecure kind) d h =
     let answer = if has_answer q told then denied.None else denied.Absent Insecure in
-    ap is_secure_denial (sym (denial_same answer d h)) ∙ insecure_is_plain (has_answer q told)
+    subst (IsPlain (has_answer q told)) (denial_same answer d h) (insecure_is_plain (has_answer q told))
 zone_step q told (delegation.Bogus kind) d h = cc
 
 search_step : (step : AskedValue) (told : Told) (d : Denial) (found : Option ZoneVerdict) → ends_by_search step told found ≡ true → step.ending ≡ Answered d
-    → is_secure_denial d ≡ false
+    → IsPlain (has_answer step.query told) d
 search_step step told d None h ends = cc
 search_step step told d (Some found) h ends =
     zone_step step.query told found d (ap (λ e. ending_eq (ending_by (outcome_by_zone step.query told found)) e) (sym ends) ∙ h)
 
-ending_leads : (g : Grounds) (step : AskedValue) (told : Told) (d : Denial) (o : Outcome) → ending_holds g step told o ≡ true → step.ending ≡ Answered d
-    → LeadsTo o d
+ending_leads : (g : StepContext) (step : AskedValue) (told : Told) (d : Denial) (o : Outcome) → ending_holds g step told o ≡ true → step.ending ≡ Answered d
+    → LeadsTo (has_answer step.query told) o d
 ending_leads g step told d outcome.Unjudged h ends =
     let other = ap (ending_eq Failed) (sym ends) ∙ (and_parts (ending_eq Failed step.ending) (is_empty step.excuse) h).0 in cc
 ending_leads g step told d (outcome.Given c) h ends =
     let same = ap (ending_eq (Answered c)) (sym ends) ∙ (and_parts (ending_eq (Answered c) step.ending) (is_empty step.excuse) h).0 in
     inl (ap outcome.Given (denial_same c d same))
-ending_leads g step told d outcome.Searched h ends =
+ending_leads g step told d outcome.NeedsZone h ends =
     inr (refl, search_step step told d (search_from g step.query.class (question_start step.query) step.excuse) h ends)
 ending_leads g step told d (outcome.Denied proof) h ends =
     let other = ap (ending_eq (Denied proof)) (sym ends) ∙ (and_parts (ending_eq (Denied proof) step.ending) (is_empty step.excuse) h).0 in cc
@@ -68,8 +68,8 @@ ending_leads g step told d (outcome.Denied proof) h ends =
 -- ---- a step
 
 -- where no record is of another class, its ending is that of its outcome
-class_leads : (g : Grounds) (step : AskedValue) (told : Told) (d : Denial) (o : Option Rr) → judged_holds g step told o ≡ true → step.ending ≡ Answered d
-    → LeadsTo (outcome_of step.query told (with_entries (judged_part step.depth told) step.sets)) d
+class_leads : (g : StepContext) (step : AskedValue) (told : Told) (d : Denial) (o : Option Rr) → judged_holds g step told o ≡ true → step.ending ≡ Answered d
+    → LeadsTo (has_answer step.query told) (outcome_of step.query told (with_entries (judged_part step.depth told) step.sets)) d
 class_leads g step told d (Some r) h ends =
     let foreign = Foreign r.owner r.class r.rtype in
     let other = ap (ending_eq foreign) (sym ends) ∙ (and_parts (ending_eq foreign step.ending) (is_bare step) h).0 in cc
@@ -81,7 +81,7 @@ class_leads g step told d None h ends =
 
 step_denies : (j : Judge) (limit : ℕ) (earlier : List AskedValue) (step : AskedValue) → step_holds j limit earlier step ≡ true → StepDenies step
 step_denies j limit earlier step h = λ told d judged heard ends.
-    let g = grounds_of j limit earlier step in
+    let g = step_context_of j limit earlier step in
     let sets = with_entries (judged_part step.depth told) step.sets in
     let same : judged_sets step ≡ sets = ap (λ o. option_map_or (λ t. with_entries (judged_part step.depth t) step.sets) o []) heard in
     let leads = class_leads g step told d (foreign_record step.query told) (judged_step j limit earlier step told h judged heard) ends in

@@ -18,12 +18,12 @@ use Rattle.dns_model.proofs.SetLemmas.{name_refl}
 use Rattle.dns_model.specs.declared.answered.Answered.{Answered}
 use Rattle.dns_model.specs.declared.answered.Answered.TheVariants.{No, Plain, Expanded}
 use Rattle.dns_model.proofs.TestLemmas.{if_some}
-use Rattle.dns_judgement.specs.NsecVerdict.{can_deny, holds_query, nsec_verdict}
-use Rattle.dns_judgement.proofs.Members.{picked_known}
-use Rattle.dns_judgement.proofs.Promises.{denial_of, expansion_of}
-use Rattle.dns_judgement.specs.Judged.{Judged, placed_of}
-use Rattle.dns_judgement.specs.Outcome as outcome
-use Rattle.dns_judgement.specs.Outcome.{Outcome, outcome_of, outcome_by_denials, has_answer, is_wildcard_signature, has_wildcard_signature, is_expanded_answer, is_expanded_for, decider_labels, least, answered, answered_from, is_unjudged, is_denying, denying, denials, signer_of, is_made_by, one_signer, secure_denial, is_insecure_authority, insecure_answer}
+use Rattle.dns_rules.specs.NsecVerdict.{can_deny, holds_query, nsec_verdict}
+use Rattle.dns_rules.proofs.Members.{picked_known}
+use Rattle.dns_rules.proofs.Promises.{denial_of, expansion_of}
+use Rattle.dns_rules.specs.MarkedSets.{MarkedSet, placed_of}
+use Rattle.dns_rules.specs.Outcome as outcome
+use Rattle.dns_rules.specs.Outcome.{Outcome, outcome_of, outcome_by_denials, has_answer, is_wildcard_signature, has_wildcard_signature, is_expanded_answer, is_expanded_for, decider_labels, least, answered, answered_from, is_unjudged, is_denying, denying, denials, signer_of, is_made_by, one_signer, secure_denial, is_insecure_authority, insecure_answer}
 use Rattle.dns_laws.specs.Denials.{IsDenier, ShowsDenial}
 use Rattle.dns_laws.proofs.GroundParts.{any_more}
 use Rattle.dns_laws.proofs.TestLemmas.{passing, some_kept}
@@ -32,11 +32,11 @@ use Rattle.dns_laws.proofs.ToldSetLemmas.{IsTold, AreTold, expanded_parts, expan
 -- ---- how it is answered
 
 -- the decider of an expanded set has a number of labels
-record HasLabels (s : Judged) : Type 0 where
+record HasLabels (s : MarkedSet) : Type 0 where
   labels : ℕ
   is : decider_labels s ≡ Some labels
 
-labels_of : (q : Question) (s : Judged) → is_expanded_for q s ≡ true → HasLabels s
+labels_of : (q : Question) (s : MarkedSet) → is_expanded_for q s ≡ true → HasLabels s
 labels_of q s h =
     let wild = (expanded_parts q s h).wild in
     let read = passing _ (rrsig_of wild.value) wild.passes in
@@ -54,7 +54,7 @@ unfolding least
 least_is ns n rest is = subst (λ ms. IsExpansion (answered_from (least ms))) (sym is) (record { labels = _; is = refl })
 
 -- with an expanded set it is an expansion
-pub expanded_is : (q : Question) (told : Told) (sets : List Judged) → AreTold told sets → list_any (is_expanded_for q) sets ≡ true
+pub expanded_is : (q : Question) (told : Told) (sets : List MarkedSet) → AreTold told sets → list_any (is_expanded_for q) sets ≡ true
     → IsExpansion (answered q told sets)
 unfolding answered
 expanded_is q told sets each h =
@@ -76,7 +76,7 @@ no_answer_step true None h = cc
 no_answer_step true (Some n) h = cc
 no_answer_step false labels h = refl
 
-no_answer : (q : Question) (told : Told) (sets : List Judged) → answered q told sets ≡ No → has_answer q told ≡ false
+no_answer : (q : Question) (told : Told) (sets : List MarkedSet) → answered q told sets ≡ No → has_answer q told ≡ false
 unfolding answered
 no_answer q told sets h =
     no_answer_step (has_answer q told) (least (filter_map decider_labels (filter (is_expanded_for q) sets))) h
@@ -94,7 +94,7 @@ verdict_holds : (q : Question) (apex : Labels) (code : ℕ) (how : Answered) (ns
 unfolding nsec_verdict
 verdict_holds q apex code how nsecs h = held_step (can_deny code) (holds_query apex q) _ h
 
-made_step : (s : Judged) (rest : List Judged) (apex : Labels) (o : Option Labels) → signer_of s ≡ o
+made_step : (s : MarkedSet) (rest : List MarkedSet) (apex : Labels) (o : Option Labels) → signer_of s ≡ o
     → option_and_then (λ zone. if list_all (is_made_by zone) rest then Some zone else None) o ≡ Some apex → list_all (is_made_by apex) (s ∷ rest) ≡ true
 made_step s rest apex None is h = cc
 made_step s rest apex (Some zone) is h =
@@ -105,7 +105,7 @@ made_step s rest apex (Some zone) is h =
     (ap (λ z. list_all (is_made_by z) rest) (sym same) ∙ parts.0)
 
 -- the one signer made each set
-made_by_one : (sets : List Judged) (apex : Labels) → one_signer sets ≡ Some apex → list_all (is_made_by apex) sets ≡ true
+made_by_one : (sets : List MarkedSet) (apex : Labels) → one_signer sets ≡ Some apex → list_all (is_made_by apex) sets ≡ true
 made_by_one [] apex h = cc
 made_by_one (s ∷ rest) apex h = made_step s rest apex (signer_of s) refl h
 
@@ -116,19 +116,34 @@ is_secure_denial denied.None = false
 is_secure_denial (denied.Absent proof) = is_secure proof
 is_secure_denial (denied.Expanded proof) = is_secure proof
 
--- nothing, where the denial isn't Secure and no set was expanded
-nothing_shown : (q : Question) (told : Told) (sets : List Judged) (d : Denial) → is_secure_denial d ≡ false → list_any (is_expanded_for q) sets ≡ false
-    → ShowsDenial q told sets d
-nothing_shown q told sets d plain none = record {
-  absent = λ e. absurd (true≢false (sym (ap is_secure_denial e) ∙ plain));
-  expanded = λ e. absurd (true≢false (sym (ap is_secure_denial e) ∙ plain));
+-- a denial that isn't Secure; where it says that there is no answer, there is none
+pub record IsPlain (answer : Bool) (d : Denial) : Type 0 where
+  pub plain : is_secure_denial d ≡ false
+  pub unanswered : (mark : Proof) → d ≡ denied.Absent mark → answer ≡ false
+
+none_is_plain : (answer : Bool) → IsPlain answer denied.None
+none_is_plain answer = record { plain = refl; unanswered = λ mark e. cc }
+
+-- an Insecure answer is such a denial
+pub insecure_is_plain : (answer : Bool) → IsPlain answer (if answer then denied.None else denied.Absent Insecure)
+insecure_is_plain true = none_is_plain true
+insecure_is_plain false = record { plain = refl; unanswered = λ mark e. refl }
+
+-- nothing of zones, where the denial isn't Secure and no set was expanded
+nothing_shown : (q : Question) (told : Told) (sets : List MarkedSet) (d : Denial) → IsPlain (has_answer q told) d
+    → list_any (is_expanded_for q) sets ≡ false → ShowsDenial q told sets d
+nothing_shown q told sets d is none = record {
+  unanswered = is.unanswered;
+  absent = λ e. absurd (true≢false (sym (ap is_secure_denial e) ∙ is.plain));
+  expanded = λ e. absurd (true≢false (sym (ap is_secure_denial e) ∙ is.plain));
   denied = λ e. absurd (true≢false (sym e ∙ none));
 }
 
 -- by a Secure verdict, as it is answered
-shown_by : (q : Question) (told : Told) (sets : List Judged) (d : Denial) (apex : Labels) (how : Answered) → AreTold told sets → IsDenier q sets apex
+shown_by : (q : Question) (told : Told) (sets : List MarkedSet) (d : Denial) (apex : Labels) (how : Answered) → AreTold told sets → IsDenier q sets apex
     → answered q told sets ≡ how → nsec_verdict q apex told.code how (denials sets) ≡ Secure → d ≡ secure_denial how → ShowsDenial q told sets d
 shown_by q told sets d apex No each denier is secure ends = record {
+  unanswered = λ mark e. no_answer q told sets is;
   absent = λ e. record {
     unanswered = no_answer q told sets is;
     apex = apex;
@@ -139,11 +154,13 @@ shown_by q told sets d apex No each denier is secure ends = record {
   denied = λ e. let i = expanded_is q told sets each e in let other : No ≡ Expanded i.labels = sym is ∙ i.is in cc;
 }
 shown_by q told sets d apex Plain each denier is secure ends = record {
+  unanswered = λ mark e. let other : denied.None ≡ denied.Absent mark = sym ends ∙ e in cc;
   absent = λ e. let other : denied.None ≡ denied.Absent Secure = sym ends ∙ e in cc;
   expanded = λ e. let other : denied.None ≡ denied.Expanded Secure = sym ends ∙ e in cc;
   denied = λ e. let i = expanded_is q told sets each e in let other : Plain ≡ Expanded i.labels = sym is ∙ i.is in cc;
 }
 shown_by q told sets d apex (Expanded labels) each denier is secure ends = record {
+  unanswered = λ mark e. let other : denied.Expanded Secure ≡ denied.Absent mark = sym ends ∙ e in cc;
   absent = λ e. let other : denied.Expanded Secure ≡ denied.Absent Secure = sym ends ∙ e in cc;
   expanded = λ e. record {
     labels = labels;
@@ -158,64 +175,62 @@ shown_by q told sets d apex (Expanded labels) each denier is secure ends = recor
 -- ---- the outcome behind an answer
 
 -- the outcome is that the answer is given with this denial, or a search led to it, which shows no Secure denial
-abbrev pub LeadsTo : Outcome → Denial → Type 0
-LeadsTo o d = (o ≡ outcome.Given d) ⊎ ((o ≡ outcome.Searched) × (is_secure_denial d ≡ false))
+abbrev pub LeadsTo : Bool → Outcome → Denial → Type 0
+LeadsTo answer o d = (o ≡ outcome.Given d) ⊎ ((o ≡ outcome.NeedsZone) × IsPlain answer d)
 
 -- what no answer follows from
-never_unjudged : (d : Denial) → LeadsTo outcome.Unjudged d → ⊥
-never_unjudged d (inl e) = cc
-never_unjudged d (inr e) = let other = e.0 in cc
+never_unjudged : (answer : Bool) (d : Denial) → LeadsTo answer outcome.Unjudged d → ⊥
+never_unjudged answer d (inl e) = cc
+never_unjudged answer d (inr e) = let other = e.0 in cc
 
-never_denied : (proof : Proof) (d : Denial) → LeadsTo (outcome.Denied proof) d → ⊥
-never_denied proof d (inl e) = cc
-never_denied proof d (inr e) = let other = e.0 in cc
+never_denied : (answer : Bool) (proof : Proof) (d : Denial) → LeadsTo answer (outcome.Denied proof) d → ⊥
+never_denied answer proof d (inl e) = cc
+never_denied answer proof d (inr e) = let other = e.0 in cc
 
-given_is : (c d : Denial) → LeadsTo (outcome.Given c) d → d ≡ c
-given_is c d (inl e) = cc
-given_is c d (inr e) = let other = e.0 in cc
+given_is : (answer : Bool) (c d : Denial) → LeadsTo answer (outcome.Given c) d → d ≡ c
+given_is answer c d (inl e) = cc
+given_is answer c d (inr e) = let other = e.0 in cc
 
-search_is : (d : Denial) → LeadsTo outcome.Searched d → is_secure_denial d ≡ false
-search_is d (inl e) = cc
-search_is d (inr e) = e.1
+given_plain : (answer : Bool) (c d : Denial) → IsPlain answer c → LeadsTo answer (outcome.Given c) d → IsPlain answer d
+given_plain answer c d plain h = subst (IsPlain answer) (sym (given_is answer c d h)) plain
+
+search_is : (answer : Bool) (d : Denial) → LeadsTo answer outcome.NeedsZone d → IsPlain answer d
+search_is answer d (inl e) = cc
+search_is answer d (inr e) = e.1
 
 -- the rows of the answer, of which the first decides
-row : (G : Type 0) (unjudged insecure denying expanded answer : Bool) (x y : Outcome) (d : Denial)
-    → LeadsTo (if unjudged then outcome.Unjudged
+row : (G : Type 0) (unjudged insecure denying expanded given answer : Bool) (x y : Outcome) (d : Denial)
+    → LeadsTo answer (if unjudged then outcome.Unjudged
     else if insecure then x
     else if denying then y
     else if expanded then outcome.Denied Bogus
-    else if answer then outcome.Given denied.None
-    else outcome.Searched) d
-    → (insecure ≡ true → LeadsTo x d → G) → (denying ≡ true → LeadsTo y d → G) → (expanded ≡ false → is_secure_denial d ≡ false → G) → G
-row G true i n e a x y d h insecure verdict plain = absurd (never_unjudged d h)
-row G false true n e a x y d h insecure verdict plain = insecure refl h
-row G false false true e a x y d h insecure verdict plain = verdict refl h
-row G false false false true a x y d h insecure verdict plain = absurd (never_denied Bogus d h)
-row G false false false false true x y d h insecure verdict plain = plain refl (ap is_secure_denial (given_is denied.None d h))
-row G false false false false false x y d h insecure verdict plain = plain refl (search_is d h)
+    else if given then outcome.Given denied.None
+    else outcome.NeedsZone) d
+    → (insecure ≡ true → LeadsTo answer x d → G) → (denying ≡ true → LeadsTo answer y d → G) → (expanded ≡ false → IsPlain answer d → G) → G
+row G true i n e g a x y d h insecure verdict plain = absurd (never_unjudged a d h)
+row G false true n e g a x y d h insecure verdict plain = insecure refl h
+row G false false true e g a x y d h insecure verdict plain = verdict refl h
+row G false false false true g a x y d h insecure verdict plain = absurd (never_denied a Bogus d h)
+row G false false false false true a x y d h insecure verdict plain = plain refl (given_plain a denied.None d (none_is_plain a) h)
+row G false false false false false a x y d h insecure verdict plain = plain refl (search_is a d h)
 
--- an Insecure answer is no Secure denial
-pub insecure_is_plain : (answer : Bool) → is_secure_denial (if answer then denied.None else denied.Absent Insecure) ≡ false
-insecure_is_plain true = refl
-insecure_is_plain false = refl
-
-verdict_step : (how : Answered) (proof : Proof) (d : Denial)
-    → LeadsTo (if is_secure proof then outcome.Given (secure_denial how) else outcome.Denied proof) d
+verdict_step : (answer : Bool) (how : Answered) (proof : Proof) (d : Denial)
+    → LeadsTo answer (if is_secure proof then outcome.Given (secure_denial how) else outcome.Denied proof) d
     → (proof ≡ Secure) × (d ≡ secure_denial how)
-verdict_step how Secure d h = (refl, given_is (secure_denial how) d h)
-verdict_step how Insecure d h = absurd (never_denied Insecure d h)
-verdict_step how Bogus d h = absurd (never_denied Bogus d h)
-verdict_step how Indeterminate d h = absurd (never_denied Indeterminate d h)
+verdict_step answer how Secure d h = (refl, given_is answer (secure_denial how) d h)
+verdict_step answer how Insecure d h = absurd (never_denied answer Insecure d h)
+verdict_step answer how Bogus d h = absurd (never_denied answer Bogus d h)
+verdict_step answer how Indeterminate d h = absurd (never_denied answer Indeterminate d h)
 
 -- by the denials of the authority section
-by_denials : (q : Question) (told : Told) (sets : List Judged) (d : Denial) (signer : Option Labels) → AreTold told sets
+by_denials : (q : Question) (told : Told) (sets : List MarkedSet) (d : Denial) (signer : Option Labels) → AreTold told sets
     → list_any is_denying sets ≡ true → one_signer (denying sets) ≡ signer
-    → LeadsTo (outcome_by_denials q told.code (answered q told sets) (denials sets) signer) d → ShowsDenial q told sets d
-by_denials q told sets d None each some is h = absurd (never_denied Bogus d h)
+    → LeadsTo (has_answer q told) (outcome_by_denials q told.code (answered q told sets) (denials sets) signer) d → ShowsDenial q told sets d
+by_denials q told sets d None each some is h = absurd (never_denied (has_answer q told) Bogus d h)
 by_denials q told sets d (Some apex) each some is h =
     let how = answered q told sets in
     let proof = nsec_verdict q apex told.code how (denials sets) in
-    let parts = verdict_step how proof d h in
+    let parts = verdict_step (has_answer q told) how proof d h in
     let denier : IsDenier q sets apex = record {
       some = some;
       made = made_by_one (denying sets) apex is;
@@ -223,12 +238,12 @@ by_denials q told sets d (Some apex) each some is h =
     } in
     shown_by q told sets d apex how each denier refl parts.0 parts.1
 
-unexpanded_for : (q : Question) (sets : List Judged) → list_any is_expanded_answer sets ≡ false → list_any (is_expanded_for q) sets ≡ false
+unexpanded_for : (q : Question) (sets : List MarkedSet) → list_any is_expanded_answer sets ≡ false → list_any (is_expanded_for q) sets ≡ false
 unexpanded_for q sets none =
     false_from_ne_true (list_any (is_expanded_for q) sets) (λ h. true≢false
     (sym (any_more (is_expanded_for q) is_expanded_answer (λ s k. (and_parts (is_expanded_answer s) _ k).0) sets h) ∙ none))
 
-unexpanded_without : (q : Question) (told : Told) (sets : List Judged) → AreTold told sets → not (has_wildcard_signature told) ≡ true
+unexpanded_without : (q : Question) (told : Told) (sets : List MarkedSet) → AreTold told sets → not (has_wildcard_signature told) ≡ true
     → list_any (is_expanded_for q) sets ≡ false
 unexpanded_without q told sets each none =
     false_from_ne_true (list_any (is_expanded_for q) sets) (λ h.
@@ -236,7 +251,7 @@ unexpanded_without q told sets each none =
     true≢false (sym (expanded_answers q told p.it p.known p.passes).wild ∙ not-true (has_wildcard_signature told) none))
 
 -- an answer shows what it denies
-pub outcome_shows : (q : Question) (told : Told) (sets : List Judged) (d : Denial) → AreTold told sets → LeadsTo (outcome_of q told sets) d
+pub outcome_shows : (q : Question) (told : Told) (sets : List MarkedSet) (d : Denial) → AreTold told sets → LeadsTo (has_answer q told) (outcome_of q told sets) d
     → ShowsDenial q told sets d
 unfolding outcome_of
 outcome_shows q told sets d each h =
@@ -244,10 +259,10 @@ outcome_shows q told sets d each h =
     let wild = has_wildcard_signature told in
     let answer = if has_answer q told then denied.None else denied.Absent Insecure in
     row (ShowsDenial q told sets d) (list_any is_unjudged sets) (insecure && not wild) (list_any is_denying sets) (list_any is_expanded_answer sets)
-    (has_answer q told && not wild) (insecure_answer q told)
+    (has_answer q told && not wild) (has_answer q told) (insecure_answer q told)
     (outcome_by_denials q told.code (answered q told sets) (denials sets) (one_signer (denying sets))) d h
     (λ above k.
-    nothing_shown q told sets d (ap is_secure_denial (given_is answer d k) ∙ insecure_is_plain (has_answer q told))
+    nothing_shown q told sets d (given_plain (has_answer q told) answer d (insecure_is_plain (has_answer q told)) k)
     (unexpanded_without q told sets each ((and_parts insecure (not wild) above).1)))
     (λ some k. by_denials q told sets d (one_signer (denying sets)) each some refl k)
     (λ none plain. nothing_shown q told sets d plain (unexpanded_for q sets none))

@@ -18,14 +18,14 @@ use Rattle.dns_model.specs.Trails.{AskedValue, EndingValue, Answered, Denied, Fo
 use Rattle.dns_model.proofs.AboveLemmas.{above_trans, above_alike, above_itself}
 use Rattle.dns_model.proofs.EachLemmas.{find_known, any_agree}
 use Rattle.dns_model.proofs.SetLemmas.{IsProper, name_left, name_back, number_same}
-use Rattle.dns_judgement.specs.Judged.{Judged}
-use Rattle.dns_judgement.specs.Delegations.{ZoneVerdict, ds_question, is_readable_ds, is_supported_ds, is_ds_set_of, shows_unsigned_cut, shows_no_ds, is_insecure, is_insecure_above, verdict_by_ds, verdict_without_ds, zone_verdict}
-use Rattle.dns_judgement.specs.Delegations as delegation
-use Rattle.dns_judgement.specs.ProofErrors.{DsRecordShouldExist, DsResponseInsecure, UnknownKeyAlgorithm}
-use Rattle.dns_judgement.specs.KeySets.{is_root}
-use Rattle.dns_judgement.specs.Derivation.{if_answered, judged_sets, finished_answer, is_ask}
-use Rattle.dns_judgement.specs.DerivationParts.{answer_of, is_judged_ask}
-use Rattle.dns_judgement.proofs.Members.{picked_known}
+use Rattle.dns_rules.specs.MarkedSets.{MarkedSet}
+use Rattle.dns_rules.specs.Delegations.{ZoneVerdict, ds_question, is_readable_ds, is_supported_ds, is_ds_set_of, shows_unsigned_cut, shows_no_ds, is_insecure, is_insecure_above, verdict_by_ds, verdict_without_ds, zone_verdict}
+use Rattle.dns_rules.specs.Delegations as delegation
+use Rattle.dns_rules.specs.ProofErrors.{DsRecordShouldExist, DsResponseInsecure, UnknownKeyAlgorithm}
+use Rattle.dns_rules.specs.KeySets.{is_root}
+use Rattle.dns_rules.specs.Derivation.{if_answered, judged_sets, finished_answer, is_ask}
+use Rattle.dns_rules.specs.DerivationParts.{answer_of, is_judged_ask}
+use Rattle.dns_rules.proofs.Members.{picked_known}
 use Rattle.dns_laws.specs.Ground.{none_supported, shows_unsupported_ds, shows_unsigned, is_ground}
 use Rattle.dns_laws.proofs.GroundParts.{any_more, any_at, each_at, found_any, none_any}
 
@@ -34,11 +34,11 @@ abbrev pub Grounded : VerifierAnswers → List AskedValue → Labels → Type 0
 Grounded verifier earlier name = list_any (is_ground verifier name) earlier ≡ true
 
 -- a set of a step: it is proper, and where it is Insecure its owner has a ground
-pub record IsSettled (verifier : VerifierAnswers) (earlier : List AskedValue) (s : Judged) : Type 0 where
+pub record IsSettled (verifier : VerifierAnswers) (earlier : List AskedValue) (s : MarkedSet) : Type 0 where
   pub proper : IsProper s.set
   pub grounded : is_insecure s.mark ≡ true → Grounded verifier earlier s.set.owner
 
-abbrev pub AreSettled : VerifierAnswers → List AskedValue → List Judged → Type 0
+abbrev pub AreSettled : VerifierAnswers → List AskedValue → List MarkedSet → Type 0
 AreSettled verifier earlier sets = AllByRecursion (IsSettled verifier earlier) sets
 
 -- each set of each of these steps has its ground among those
@@ -123,12 +123,12 @@ without_step : (name : Labels) (b : Bool)
 without_step name true h = refl
 without_step name false h = cc
 
-abbrev verdict_found : VerifierAnswers → Labels → List Judged → Option Judged → ZoneVerdict
+abbrev verdict_found : VerifierAnswers → Labels → List MarkedSet → Option MarkedSet → ZoneVerdict
 verdict_found verifier name answer found =
     option_map_or (λ s. verdict_by_ds verifier name s.mark s.set.records) found (verdict_without_ds name answer)
 
 -- it shows that the zone is unsigned, or has an Insecure set at the zone or above it
-answer_shows : (verifier : VerifierAnswers) (earlier : List AskedValue) (class : ℕ) (name : Labels) (answer : List Judged) (o : Option Judged)
+answer_shows : (verifier : VerifierAnswers) (earlier : List AskedValue) (class : ℕ) (name : Labels) (answer : List MarkedSet) (o : Option MarkedSet)
     → AreSettled verifier earlier answer → find (is_ds_set_of class name) answer ≡ o → is_insecure_zone (verdict_found verifier name answer o) ≡ true
     → (shows_unsigned verifier class name answer ≡ true) ⊎ Grounded verifier earlier name
 answer_shows verifier earlier class name answer (Some s) settled is h =
@@ -159,10 +159,10 @@ answer_shows verifier earlier class name answer None settled is h =
 -- ---- the question that was asked
 
 -- an answer shows the same of a zone by equal names
-shows_alike : (verifier : VerifierAnswers) (class : ℕ) (one two : Labels) (answer : List Judged) → name_eq one two ≡ true
+shows_alike : (verifier : VerifierAnswers) (class : ℕ) (one two : Labels) (answer : List MarkedSet) → name_eq one two ≡ true
     → shows_unsigned verifier class one answer ≡ shows_unsigned verifier class two answer
 shows_alike verifier class one two answer same =
-    let ds = λ (s : Judged).
+    let ds = λ (s : MarkedSet).
     ap (λ b. section_eq Answer s.section && (b && ((s.set.rtype == type_ds) && (class == s.set.class)))) (name_left one two s.set.owner same) in
     let unsupported = any_agree (shows_unsupported_ds verifier class one) (shows_unsupported_ds verifier class two)
     (λ s. ap (λ b. b && (is_secure s.mark && none_supported verifier s.set.records)) (ds s)) answer in
@@ -180,7 +180,7 @@ root_alike (label ∷ one) [] same h = cc
 root_alike (label ∷ one) (other ∷ two) same h = refl
 
 -- the sets of an answer
-pub answered_sets : (ending : EndingValue) (sets answer : List Judged) → if_answered ending sets ≡ Some answer → sets ≡ answer
+pub answered_sets : (ending : EndingValue) (sets answer : List MarkedSet) → if_answered ending sets ≡ Some answer → sets ≡ answer
 answered_sets (Answered d) sets answer h = cc
 answered_sets (Denied proof) sets answer h = cc
 answered_sets (Foreign owner class rtype) sets answer h = cc
@@ -188,7 +188,7 @@ answered_sets Failed sets answer h = cc
 answered_sets Seen sets answer h = cc
 
 -- an earlier step asked for the DS set of a zone, and its answer makes the zone Insecure
-by_answer : (verifier : VerifierAnswers) (earlier : List AskedValue) (n class : ℕ) (name : Labels) (step : AskedValue) (o : Option (List Judged))
+by_answer : (verifier : VerifierAnswers) (earlier : List AskedValue) (n class : ℕ) (name : Labels) (step : AskedValue) (o : Option (List MarkedSet))
     → StepsSettled verifier earlier earlier → is_root name ≡ false → slice_get earlier n ≡ Some step → step.judged ≡ true
     → question_eq (ds_question class name) step.query ≡ true → if_answered step.ending (judged_sets step) ≡ o
     → is_insecure_zone (zone_verdict verifier class name o) ≡ true → Grounded verifier earlier name
@@ -238,14 +238,14 @@ zone_grounded verifier limit earlier depth class name TooMany settled below asks
 
 -- ---- the sets of any finished ask
 
-settled_by : (verifier : VerifierAnswers) (earlier : List AskedValue) (n : ℕ) (o : Option AskedValue) (answer : List Judged)
+settled_by : (verifier : VerifierAnswers) (earlier : List AskedValue) (n : ℕ) (o : Option AskedValue) (answer : List MarkedSet)
     → StepsSettled verifier earlier earlier → slice_get earlier n ≡ o → answer_of o ≡ Some answer → AreSettled verifier earlier answer
 settled_by verifier earlier n None answer settled is h = cc
 settled_by verifier earlier n (Some step) answer settled is h =
     subst (AreSettled verifier earlier) (answered_sets step.ending (judged_sets step) answer h)
     (each_at (λ s. AreSettled verifier earlier (judged_sets s)) earlier n step settled is)
 
-pub answer_settled : (verifier : VerifierAnswers) (earlier : List AskedValue) (ask : AskRef) (answer : List Judged)
+pub answer_settled : (verifier : VerifierAnswers) (earlier : List AskedValue) (ask : AskRef) (answer : List MarkedSet)
     → StepsSettled verifier earlier earlier → finished_answer earlier ask ≡ Some answer → AreSettled verifier earlier answer
 answer_settled verifier earlier (Step n) answer settled h = settled_by verifier earlier n (slice_get earlier n) answer settled refl h
 answer_settled verifier earlier TooDeep answer settled h = cc

@@ -11,20 +11,20 @@ use Rattle.dns_model.specs.Names.{Labels, name_eq}
 use Rattle.dns_model.specs.Records.{Rr, RrSet, question_eq}
 use Rattle.dns_model.specs.Keys.{VerifierAnswers, bytes_eq}
 use Rattle.dns_model.specs.Chains.{Judge, is_nonempty, rdatas_of}
-use Rattle.dns_model.specs.SoundAnswers.{Told, Placed, section_eq, placed_sets}
+use Rattle.dns_model.specs.SoundAnswers.{Told, PlacedSet, section_eq, placed_sets}
 use Rattle.dns_model.specs.Trails.{AskedValue, JudgedSetValue, HeardValue, Records, Fault}
 use Rattle.dns_model.proofs.Lists.{take-front}
 use Rattle.dns_model.proofs.EachLemmas.{each_more, each_append, each_filter}
 use Rattle.dns_model.proofs.SetLemmas.{IsProper, is_of, name_back, name_trans, proper_placed}
-use Rattle.dns_judgement.specs.Judged.{Judged}
-use Rattle.dns_judgement.specs.Delegations.{is_insecure}
-use Rattle.dns_judgement.specs.Asking.{depth_limit, judged_part}
-use Rattle.dns_judgement.specs.Outcome.{outcome_of, foreign_record}
-use Rattle.dns_judgement.specs.Derivation.{Grounds, told_in, with_entries, judged_sets, same_record, has_mark_of, is_by_origin, is_repeat, is_empty, entry_holds, entries_hold, ending_holds, step_holds, steps_hold, has_order, derivation}
-use Rattle.dns_judgement.specs.DerivationParts.{grounds_of, repeats_step, is_foreign, is_failed, is_seen, is_bare, judged_holds, step_holds_by}
-use Rattle.dns_judgement.proofs.Members.{picked_known}
-use Rattle.dns_judgement.proofs.FindLemmas.{each_all}
-use Rattle.dns_judgement.proofs.ExtendLemmas.{without_entries}
+use Rattle.dns_rules.specs.MarkedSets.{MarkedSet}
+use Rattle.dns_rules.specs.Delegations.{is_insecure}
+use Rattle.dns_rules.specs.Asking.{depth_limit, judged_part}
+use Rattle.dns_rules.specs.Outcome.{outcome_of, foreign_record}
+use Rattle.dns_rules.specs.Derivation.{StepContext, told_in, with_entries, judged_sets, same_record, has_mark_of, is_by_origin, is_repeat, is_empty, entry_holds, entries_hold, ending_holds, step_holds, steps_hold, has_order, derivation}
+use Rattle.dns_rules.specs.DerivationParts.{step_context_of, repeats_step, is_foreign, is_failed, is_seen, is_bare, judged_holds, step_holds_by}
+use Rattle.dns_rules.proofs.Members.{picked_known}
+use Rattle.dns_rules.proofs.FindLemmas.{each_all}
+use Rattle.dns_rules.proofs.ExtendLemmas.{without_entries}
 use Rattle.dns_laws.specs.Ground.{is_ground, has_ground, is_grounded, HasGrounds}
 use Rattle.dns_laws.proofs.GroundParts.{any_front, each_at}
 use Rattle.dns_laws.proofs.GroundAnswers.{Grounded, IsSettled, AreSettled, StepsSettled, grounded_alike}
@@ -45,7 +45,7 @@ same_owner one two (x ∷ xs) (y ∷ ys) some of_one of_two same =
     name_trans two.owner y.owner one.owner second
     (name_back one.owner y.owner (name_trans one.owner x.owner y.owner first alike))
 
-repeat_grounded : (g : Grounds) (placed : Placed) (entry : JudgedSetValue) (n : ℕ) (o : Option AskedValue) → EarlierSettled g → IsProper placed.set
+repeat_grounded : (g : StepContext) (placed : PlacedSet) (entry : JudgedSetValue) (n : ℕ) (o : Option AskedValue) → EarlierSettled g → IsProper placed.set
     → is_insecure entry.mark ≡ true → slice_get g.earlier n ≡ o → repeats_step g placed entry o ≡ true → GroundedIn g placed.set.owner
 repeat_grounded g placed entry n None settled proper insecure is h = cc
 repeat_grounded g placed entry n (Some step) settled proper insecure is h =
@@ -65,7 +65,7 @@ repeat_grounded g placed entry n (Some step) settled proper insecure is h =
 
 -- ---- the entries of a step
 
-origin_grounded : (g : Grounds) (placed : Placed) (entry : JudgedSetValue) (origin : MarkOrigin) → EarlierSettled g → IsProper placed.set
+origin_grounded : (g : StepContext) (placed : PlacedSet) (entry : JudgedSetValue) (origin : MarkOrigin) → EarlierSettled g → IsProper placed.set
     → is_insecure entry.mark ≡ true → is_by_origin g placed entry origin ≡ true → GroundedIn g placed.set.owner
 origin_grounded g placed entry Table settled proper insecure h = rules_grounded g placed entry settled insecure h
 origin_grounded g placed entry (Repeat n) settled proper insecure h =
@@ -74,11 +74,11 @@ origin_grounded g placed entry (Repeat n) settled proper insecure h =
 origin_grounded g placed entry Cache settled proper insecure h = cc
 
 -- an entry of a set: where it is Insecure, the set's owner and the entry's have a ground
-record EntryGrounded (g : Grounds) (placed : Placed) (entry : JudgedSetValue) : Type 0 where
+record EntryGrounded (g : StepContext) (placed : PlacedSet) (entry : JudgedSetValue) : Type 0 where
   of_set : is_insecure entry.mark ≡ true → GroundedIn g placed.set.owner
   of_entry : is_insecure entry.mark ≡ true → GroundedIn g entry.owner
 
-entry_grounded : (g : Grounds) (placed : Placed) (entry : JudgedSetValue) → EarlierSettled g → IsProper placed.set → entry_holds g placed entry ≡ true
+entry_grounded : (g : StepContext) (placed : PlacedSet) (entry : JudgedSetValue) → EarlierSettled g → IsProper placed.set → entry_holds g placed entry ≡ true
     → EntryGrounded g placed entry
 unfolding entry_holds
 entry_grounded g placed entry settled proper h =
@@ -96,15 +96,15 @@ entry_grounded g placed entry settled proper h =
     }
 
 -- entries, each of which has a ground where it is Insecure
-abbrev EntriesGrounded : Grounds → List JudgedSetValue → Type 0
+abbrev EntriesGrounded : StepContext → List JudgedSetValue → Type 0
 EntriesGrounded g entries = AllByRecursion (λ entry. is_insecure entry.mark ≡ true → GroundedIn g entry.owner) entries
 
 -- the sets of a step, judged, and its entries
-record StepGrounded (g : Grounds) (sets : List Judged) (entries : List JudgedSetValue) : Type 0 where
+record StepGrounded (g : StepContext) (sets : List MarkedSet) (entries : List JudgedSetValue) : Type 0 where
   settled : AreSettled g.judge.answers g.earlier sets
   grounded : EntriesGrounded g entries
 
-entries_grounded : (g : Grounds) (ps : List Placed) (es : List JudgedSetValue) → EarlierSettled g → AllByRecursion (λ p. IsProper p.set) ps
+entries_grounded : (g : StepContext) (ps : List PlacedSet) (es : List JudgedSetValue) → EarlierSettled g → AllByRecursion (λ p. IsProper p.set) ps
     → entries_hold g ps es ≡ true → StepGrounded g (with_entries ps es) es
 unfolding entries_hold
 entries_grounded g [] [] settled proper h = record { settled = tt; grounded = tt }
@@ -121,14 +121,14 @@ entries_grounded g (p ∷ ps) (e ∷ es) settled proper h =
 
 -- ---- a step
 
-none_grounded : (g : Grounds) (ps : List Placed) (es : List JudgedSetValue) → is_empty es ≡ true → StepGrounded g (with_entries ps es) es
+none_grounded : (g : StepContext) (ps : List PlacedSet) (es : List JudgedSetValue) → is_empty es ≡ true → StepGrounded g (with_entries ps es) es
 none_grounded g ps [] h = record { settled = subst (AreSettled g.judge.answers g.earlier) (sym (without_entries ps)) tt; grounded = tt }
 none_grounded g ps (e ∷ es) h = cc
 
 judged_proper : (depth : ℕ) (told : Told) → AllByRecursion (λ p. IsProper p.set) (judged_part depth told)
 judged_proper depth told = each_filter (λ p. IsProper p.set) _ (placed_sets told) (proper_placed told)
 
-class_grounded : (g : Grounds) (step : AskedValue) (told : Told) (o : Option Rr) → EarlierSettled g → judged_holds g step told o ≡ true
+class_grounded : (g : StepContext) (step : AskedValue) (told : Told) (o : Option Rr) → EarlierSettled g → judged_holds g step told o ≡ true
     → StepGrounded g (with_entries (judged_part step.depth told) step.sets) step.sets
 class_grounded g step told (Some r) settled h =
     none_grounded g (judged_part step.depth told) step.sets
@@ -138,7 +138,7 @@ class_grounded g step told None settled h =
     let ends = ending_holds g step told (outcome_of step.query told (with_entries placed step.sets)) in
     entries_grounded g placed step.sets settled (judged_proper step.depth told) ((and_parts (entries_hold g placed step.sets) ends h).0)
 
-records_grounded : (g : Grounds) (step : AskedValue) (told : Told) (b : Bool) → EarlierSettled g
+records_grounded : (g : StepContext) (step : AskedValue) (told : Told) (b : Bool) → EarlierSettled g
     → (if b then judged_holds g step told (foreign_record step.query told) else is_seen step.ending && is_bare step) ≡ true
     → StepGrounded g (with_entries (judged_part step.depth told) step.sets) step.sets
 records_grounded g step told true settled h = class_grounded g step told (foreign_record step.query told) settled h
@@ -147,10 +147,10 @@ records_grounded g step told false settled h =
     ((and_parts (is_empty step.sets) (is_empty step.excuse) ((and_parts (is_seen step.ending) (is_bare step) h).1)).0)
 
 -- the judged sets of a step that heard this
-abbrev sets_heard : AskedValue → HeardValue → List Judged
+abbrev sets_heard : AskedValue → HeardValue → List MarkedSet
 sets_heard step heard = option_map_or (λ told. with_entries (judged_part step.depth told) step.sets) (told_in heard) []
 
-heard_grounded : (g : Grounds) (step : AskedValue) (heard : HeardValue) → EarlierSettled g → step_holds_by g step heard ≡ true
+heard_grounded : (g : StepContext) (step : AskedValue) (heard : HeardValue) → EarlierSettled g → step_holds_by g step heard ≡ true
     → StepGrounded g (sets_heard step heard) step.sets
 heard_grounded g step Fault settled h =
     let none = (and_parts (is_empty step.sets) (is_empty step.excuse) ((and_parts (is_failed step.ending) (is_bare step) h).1)).0 in
@@ -158,13 +158,13 @@ heard_grounded g step Fault settled h =
 heard_grounded g step (Records told empty) settled h = records_grounded g step told step.judged settled h
 
 step_grounded : (j : Judge) (limit : ℕ) (earlier : List AskedValue) (step : AskedValue) → StepsSettled j.answers earlier earlier
-    → step_holds j limit earlier step ≡ true → StepGrounded (grounds_of j limit earlier step) (judged_sets step) step.sets
+    → step_holds j limit earlier step ≡ true → StepGrounded (step_context_of j limit earlier step) (judged_sets step) step.sets
 unfolding step_holds
-step_grounded j limit earlier step settled h = heard_grounded (grounds_of j limit earlier step) step step.reply settled h
+step_grounded j limit earlier step settled h = heard_grounded (step_context_of j limit earlier step) step step.reply settled h
 
 -- ---- one step after another
 
-settled_later : (verifier : VerifierAnswers) (earlier more : List AskedValue) (sets : List Judged) → AreSettled verifier earlier sets
+settled_later : (verifier : VerifierAnswers) (earlier more : List AskedValue) (sets : List MarkedSet) → AreSettled verifier earlier sets
     → AreSettled verifier (earlier ++ more) sets
 settled_later verifier earlier more sets h =
     each_more (IsSettled verifier earlier) (IsSettled verifier (earlier ++ more)) (λ s i. record {

@@ -17,35 +17,37 @@ use Rattle.dns_model.specs.Records.{Rr, RrSet, question_eq}
 use Rattle.dns_model.specs.RecordViews.{rrsig_of}
 use Rattle.dns_model.specs.Views.{RrsigValue}
 use Rattle.dns_model.specs.Chains.{Judge, signer_fits}
-use Rattle.dns_model.specs.SoundAnswers.{Placed, section_eq}
+use Rattle.dns_model.specs.SoundAnswers.{PlacedSet, section_eq}
 use Rattle.dns_model.specs.Trails.{JudgedSetValue}
 use Rattle.dns_model.proofs.AboveLemmas.{above_itself, strictly_parts}
 use Rattle.dns_model.proofs.EachLemmas.{find_known}
 use Rattle.dns_model.proofs.SetLemmas.{name_back}
 use Rattle.dns_model.proofs.TestLemmas.{if_some}
-use Rattle.dns_judgement.specs.Validity.{is_good_by}
-use Rattle.dns_judgement.specs.Judged.{Judged}
-use Rattle.dns_judgement.specs.Marks.{Verdict, is_proved, is_excused, is_skipped, is_key_set_of, may_be_signed, key_question, counted_keys, by_keys, verdict_of, mark_at, set_mark, judged_by, most_signatures}
-use Rattle.dns_judgement.specs.Marks as marks
-use Rattle.dns_judgement.specs.ProofErrors.{Net, DsRecordShouldExist, DnskeyNotFound, DsRecordsButNoDnskey, ProofErrorKindValue}
-use Rattle.dns_judgement.specs.Delegations.{ZoneVerdict, ds_question, is_supported_ds, is_insecure, zone_verdict}
-use Rattle.dns_judgement.specs.Delegations as delegation
-use Rattle.dns_judgement.specs.Unsigned.{is_empty, ns_question, set_start, is_searched, unsigned_by}
-use Rattle.dns_judgement.specs.KeySets.{SignedKeys, KeysOutcome, SignedByAnchored, WhollyAnchored, SignedByMatched, WhollyTrusted, Refused, signed_by, is_anchored_key, is_matched_key, is_trusted_key, is_root, outcome_by_verdict, keys_outcome, needs_ds, outcome_mark, judged_keys}
-use Rattle.dns_judgement.specs.Asking.{ask_of}
-use Rattle.dns_judgement.specs.MarkParts.{is_skipped_read, by_key_set, verdict_by}
-use Rattle.dns_judgement.specs.Derivation.{Grounds, finished_answer, is_ask, verdicts_after, verdicts_asked, verdicts_by, Sight, Cut, Onward, Unseen, sight_by, zone_asked, search_after, search_by, search_from, proof_eq, has_mark_of, keys_hold, unsigned_holds, is_by_rules, is_plain_ask}
-use Rattle.dns_judgement.specs.DerivationParts.{is_ask_for, after_verdict, if_last, is_by_verdicts, is_by_search, place_eq}
-use Rattle.dns_judgement.proofs.StayLemmas.{some_after}
-use Rattle.dns_judgement.proofs.ExtendLemmas.{is_by_zone}
+use Rattle.dns_rules.specs.Validity.{is_good_by}
+use Rattle.dns_rules.specs.MarkedSets.{MarkedSet}
+use Rattle.dns_rules.specs.Marks.{Verdict, is_proved, shows_insecure, is_skipped, is_key_set_of, may_be_signed, key_question, counted_keys, by_keys, verdict_of, mark_at, set_mark, judged_by, most_signatures}
+use Rattle.dns_rules.specs.Marks as marks
+use Rattle.dns_rules.specs.ProofErrors.{Net, DsRecordShouldExist, DnskeyNotFound, DsRecordsButNoDnskey, ProofErrorKindValue}
+use Rattle.dns_rules.specs.Delegations.{ZoneVerdict, ds_question, is_supported_ds, is_insecure, zone_verdict}
+use Rattle.dns_rules.specs.Delegations as delegation
+use Rattle.dns_rules.specs.Unsigned.{is_empty, ns_question, set_start, needs_zone, unsigned_by}
+use Rattle.dns_rules.specs.KeySets.{SignedKeys, KeysOutcome, SignedByAnchored, WhollyAnchored, SignedByMatched, WhollyTrusted, Refused, signed_by, is_anchored_key, is_matched_key, is_trusted_key, is_root, outcome_by_verdict, keys_outcome, needs_ds, outcome_mark, judged_keys}
+use Rattle.dns_rules.specs.Asking.{ask_of}
+use Rattle.dns_rules.specs.MarkParts.{is_skipped_read, by_key_set, verdict_by}
+use Rattle.dns_rules.specs.Derivation.{StepContext, finished_answer, is_ask, verdicts_after, verdicts_asked, verdicts_by, probe_by, zone_asked, search_after, search_by, search_from, proof_eq, has_mark_of, keys_hold, unsigned_holds, is_by_rules, is_plain_ask}
+use Rattle.dns_rules.specs.DerivationParts.{is_ask_for, after_verdict, if_last, is_by_verdicts, is_by_search, place_eq}
+use Rattle.dns_rules.specs.Probes.{NsProbe}
+use Rattle.dns_rules.specs.Probes as probes
+use Rattle.dns_rules.proofs.StayLemmas.{some_after}
+use Rattle.dns_rules.proofs.ExtendLemmas.{is_by_zone}
 use Rattle.dns_laws.proofs.GroundParts.{above_label, parent_above}
 use Rattle.dns_laws.proofs.GroundAnswers.{Grounded, IsSettled, AreSettled, StepsSettled, grounded_below, grounded_alike, is_insecure_zone, zone_grounded, answer_settled}
 
 -- among the steps before, each Insecure set has its ground there
-abbrev pub EarlierSettled : Grounds → Type 0
+abbrev pub EarlierSettled : StepContext → Type 0
 EarlierSettled g = StepsSettled g.judge.answers g.earlier g.earlier
 
-abbrev pub GroundedIn : Grounds → Labels → Type 0
+abbrev pub GroundedIn : StepContext → Labels → Type 0
 GroundedIn g name = Grounded g.judge.answers g.earlier name
 
 -- ---- by a signature
@@ -55,21 +57,21 @@ signer_above : (b : Bool) (signer owner : Labels) → (if b then strictly_above 
 signer_above true signer owner h = (strictly_parts signer owner h).0
 signer_above false signer owner h = h
 
-proved_step : (o : Option Rr) → is_excused (option_map_or (λ key. marks.Proved) o marks.Failed) ≡ true → ⊥
+proved_step : (o : Option Rr) → shows_insecure (option_map_or (λ key. marks.Proved) o marks.Failed) ≡ true → ⊥
 proved_step None h = cc
 proved_step (Some key) h = cc
 
-keys_excuse : (j : Judge) (set : RrSet) (r : Rr) (mark : Proof) (keys : List Rr) → is_excused (by_keys j set r mark keys) ≡ true → is_insecure mark ≡ true
+keys_excuse : (j : Judge) (set : RrSet) (r : Rr) (mark : Proof) (keys : List Rr) → shows_insecure (by_keys j set r mark keys) ≡ true → is_insecure mark ≡ true
 keys_excuse j set r Secure keys h = absurd (proved_step (find (is_good_by j set r) keys) h)
 keys_excuse j set r Insecure keys h = refl
 keys_excuse j set r Bogus keys h = cc
 keys_excuse j set r Indeterminate keys h = cc
 
 -- an Insecure key set of the signer has a ground, and so has what the signer may sign
-key_set_excuse : (g : Grounds) (set : RrSet) (r : Rr) (sig : RrsigValue) (answer : List Judged) (o : Option Judged) (b : Bool)
+key_set_excuse : (g : StepContext) (set : RrSet) (r : Rr) (sig : RrsigValue) (answer : List MarkedSet) (o : Option MarkedSet) (b : Bool)
     → AreSettled g.judge.answers g.earlier answer → signer_fits set.rtype sig.signer set.owner ≡ true
     → find (is_key_set_of set.class sig.signer) answer ≡ o
-    → is_excused (if b then by_key_set g.judge set r sig.signer o else marks.Failed) ≡ true → GroundedIn g set.owner
+    → shows_insecure (if b then by_key_set g.judge set r sig.signer o else marks.Failed) ≡ true → GroundedIn g set.owner
 key_set_excuse g set r sig answer o false settled fits is h = cc
 key_set_excuse g set r sig answer None true settled fits is h = cc
 key_set_excuse g set r sig answer (Some keys) true settled fits is h =
@@ -85,16 +87,16 @@ kept_fits : (fits rest : Bool) → (not fits || rest) ≡ false → fits ≡ tru
 kept_fits true rest h = refl
 kept_fits false rest h = cc
 
-signature_excuse : (g : Grounds) (set : RrSet) (r : Rr) (answer : List Judged) (o : Option RrsigValue) → AreSettled g.judge.answers g.earlier answer
-    → is_skipped_read g.query set o ≡ false → is_excused (verdict_by g.judge set r answer o) ≡ true → GroundedIn g set.owner
+signature_excuse : (g : StepContext) (set : RrSet) (r : Rr) (answer : List MarkedSet) (o : Option RrsigValue) → AreSettled g.judge.answers g.earlier answer
+    → is_skipped_read g.query set o ≡ false → shows_insecure (verdict_by g.judge set r answer o) ≡ true → GroundedIn g set.owner
 signature_excuse g set r answer None settled kept h = cc
 signature_excuse g set r answer (Some sig) settled kept h =
     key_set_excuse g set r sig answer (find (is_key_set_of set.class sig.signer) answer)
     (may_be_signed set sig) settled
     (kept_fits (signer_fits set.rtype sig.signer set.owner) (question_eq (key_question set.class sig.signer) g.query) kept) refl h
 
-verdict_excuse : (g : Grounds) (set : RrSet) (r : Rr) (ask : AskRef) (o : Option (List Judged)) → EarlierSettled g → is_skipped g.query set r ≡ false
-    → finished_answer g.earlier ask ≡ o → is_excused (verdict_of g.judge set r o) ≡ true → GroundedIn g set.owner
+verdict_excuse : (g : StepContext) (set : RrSet) (r : Rr) (ask : AskRef) (o : Option (List MarkedSet)) → EarlierSettled g → is_skipped g.query set r ≡ false
+    → finished_answer g.earlier ask ≡ o → shows_insecure (verdict_of g.judge set r o) ≡ true → GroundedIn g set.owner
 unfolding verdict_of
 verdict_excuse g set r ask None settled kept is h = cc
 verdict_excuse g set r ask (Some answer) settled kept is h =
@@ -102,40 +104,40 @@ verdict_excuse g set r ask (Some answer) settled kept is h =
 
 -- ---- by a set's signatures
 
-first_excused : (v : Verdict) (vs ws : List Verdict) → v ∷ vs ≡ ws → list_any is_excused ws ≡ true
-    → (is_excused v ≡ true) ⊎ (list_any is_excused vs ≡ true)
-first_excused v vs ws same h = or_cases (is_excused v) (list_any is_excused vs) (ap (list_any is_excused) same ∙ h)
+first_excused : (v : Verdict) (vs ws : List Verdict) → v ∷ vs ≡ ws → list_any shows_insecure ws ≡ true
+    → (shows_insecure v ≡ true) ⊎ (list_any shows_insecure vs ≡ true)
+first_excused v vs ws same h = or_cases (shows_insecure v) (list_any shows_insecure vs) (ap (list_any shows_insecure) same ∙ h)
 
 last_excused : (v : Verdict) (asks : List AskRef) (vs : List Verdict) → is_proved v ≡ true → if_last asks (v ∷ []) ≡ Some vs
-    → list_any is_excused vs ≡ true → ⊥
+    → list_any shows_insecure vs ≡ true → ⊥
 last_excused marks.Proved [] vs proved is h = let same : marks.Proved ∷ [] ≡ vs = cc in cc
-last_excused marks.Excused asks vs proved is h = cc
+last_excused marks.Insecure asks vs proved is h = cc
 last_excused marks.Failed asks vs proved is h = cc
 last_excused marks.Proved (ask ∷ asks) vs proved is h = cc
 
 after_excused : (G : Type 0) (b : Bool) (v : Verdict) (asks : List AskRef) (o : Option (List Verdict)) (vs : List Verdict) → is_proved v ≡ b
-    → (if b then if_last asks (v ∷ []) else after_verdict v o) ≡ Some vs → list_any is_excused vs ≡ true → (is_excused v ≡ true → G)
-    → ((rest : List Verdict) → o ≡ Some rest → list_any is_excused rest ≡ true → G) → G
+    → (if b then if_last asks (v ∷ []) else after_verdict v o) ≡ Some vs → list_any shows_insecure vs ≡ true → (shows_insecure v ≡ true → G)
+    → ((rest : List Verdict) → o ≡ Some rest → list_any shows_insecure rest ≡ true → G) → G
 after_excused G true v asks o vs proved is h first later = absurd (last_excused v asks vs proved is h)
 after_excused G false v asks o vs proved is h first later =
     let some = some_after v o vs is in
     ⊎_elim first (later some.rest some.found) (first_excused v some.rest vs some.whole h)
 
 skipped_excused : (G : Type 0) (b : Bool) (o x : Option (List Verdict)) (vs : List Verdict)
-    → (if b then after_verdict marks.Failed o else x) ≡ Some vs → list_any is_excused vs ≡ true
-    → ((rest : List Verdict) → o ≡ Some rest → list_any is_excused rest ≡ true → G) → (b ≡ false → x ≡ Some vs → G) → G
+    → (if b then after_verdict marks.Failed o else x) ≡ Some vs → list_any shows_insecure vs ≡ true
+    → ((rest : List Verdict) → o ≡ Some rest → list_any shows_insecure rest ≡ true → G) → (b ≡ false → x ≡ Some vs → G) → G
 skipped_excused G true o x vs is h later asked =
     let some = some_after marks.Failed o vs is in
     ⊎_elim (λ (e : false ≡ true). cc) (later some.rest some.found) (first_excused marks.Failed some.rest vs some.whole h)
 skipped_excused G false o x vs is h later asked = asked refl is
 
-none_excused : (asks : List AskRef) (vs : List Verdict) → if_last asks [] ≡ Some vs → list_any is_excused vs ≡ true → ⊥
+none_excused : (asks : List AskRef) (vs : List Verdict) → if_last asks [] ≡ Some vs → list_any shows_insecure vs ≡ true → ⊥
 none_excused [] vs is h = let same : [] ≡ vs = cc in cc
 none_excused (ask ∷ asks) vs is h = cc
 
 -- where a signature excuses its set, the set's owner has a ground
-verdicts_excuse : (g : Grounds) (set : RrSet) (rs : List Rr) (asks : List AskRef) (vs : List Verdict) → EarlierSettled g
-    → verdicts_by g set rs asks ≡ Some vs → list_any is_excused vs ≡ true → GroundedIn g set.owner
+verdicts_excuse : (g : StepContext) (set : RrSet) (rs : List Rr) (asks : List AskRef) (vs : List Verdict) → EarlierSettled g
+    → verdicts_by g set rs asks ≡ Some vs → list_any shows_insecure vs ≡ true → GroundedIn g set.owner
 unfolding verdicts_by
 verdicts_excuse g set [] asks vs settled is h = absurd (none_excused asks vs is h)
 verdicts_excuse g set (r ∷ rs) [] vs settled is h =
@@ -150,24 +152,24 @@ verdicts_excuse g set (r ∷ rs) (ask ∷ asks) vs settled is h =
     ((if_some (is_ask_for g (ask_of set r) ask) (verdicts_after v asks (verdicts_by g set rs)) vs e).1) h
     (verdict_excuse g set r ask (finished_answer g.earlier ask) settled kept refl) (λ rest. verdicts_excuse g set rs asks rest settled))
 
-place_excused : (vs : List Verdict) (proved excused : Option ℕ) → position is_excused vs ≡ excused → is_insecure ((mark_at proved excused).mark) ≡ true
-    → list_any is_excused vs ≡ true
+place_excused : (vs : List Verdict) (proved excused : Option ℕ) → position shows_insecure vs ≡ excused → is_insecure ((mark_at proved excused).mark) ≡ true
+    → list_any shows_insecure vs ≡ true
 place_excused vs (Some n) excused is h = cc
 place_excused vs None None is h = cc
 place_excused vs None (Some n) is h =
-    let p = position-Some is_excused vs n marks.Failed is in
-    list_any_at is_excused vs n marks.Failed p.0 p.1
+    let p = position-Some shows_insecure vs n marks.Failed is in
+    list_any_at shows_insecure vs n marks.Failed p.0 p.1
 
-mark_excused : (vs : List Verdict) → is_insecure ((set_mark vs).mark) ≡ true → list_any is_excused vs ≡ true
+mark_excused : (vs : List Verdict) → is_insecure ((set_mark vs).mark) ≡ true → list_any shows_insecure vs ≡ true
 mark_excused [] h = cc
-mark_excused (v ∷ vs) h = place_excused (v ∷ vs) (position is_proved (v ∷ vs)) (position is_excused (v ∷ vs)) refl h
+mark_excused (v ∷ vs) h = place_excused (v ∷ vs) (position is_proved (v ∷ vs)) (position shows_insecure (v ∷ vs)) refl h
 
 -- ---- by the DS verdict of a zone
 
-abbrev verdict_asked : Grounds → ℕ → Labels → AskRef → ZoneVerdict
+abbrev verdict_asked : StepContext → ℕ → Labels → AskRef → ZoneVerdict
 verdict_asked g class name ask = zone_verdict g.judge.answers class name (finished_answer g.earlier ask)
 
-asked_zone : (g : Grounds) (class : ℕ) (name : Labels) (asks : List AskRef) (zone : ZoneVerdict) → EarlierSettled g → is_root name ≡ false
+asked_zone : (g : StepContext) (class : ℕ) (name : Labels) (asks : List AskRef) (zone : ZoneVerdict) → EarlierSettled g → is_root name ≡ false
     → zone_asked g class name asks ≡ Some zone → is_insecure_zone zone ≡ true → GroundedIn g name
 asked_zone g class name [] zone settled below is h = cc
 asked_zone g class name (ask ∷ asks) zone settled below is h =
@@ -203,7 +205,7 @@ zone_step j set (delegation.Insecure kind) h = refl
 zone_step j set (delegation.Bogus kind) h = cc
 
 -- a key set is Insecure only by a DS verdict on its owner, which isn't the root
-keys_insecure : (j : Judge) (placed : Placed) (zone : ZoneVerdict) → is_insecure ((judged_keys j placed (Some zone)).mark) ≡ true
+keys_insecure : (j : Judge) (placed : PlacedSet) (zone : ZoneVerdict) → is_insecure ((judged_keys j placed (Some zone)).mark) ≡ true
     → (is_root placed.set.owner ≡ false) × (is_insecure_zone zone ≡ true)
 unfolding judged_keys keys_outcome
 keys_insecure j placed zone h =
@@ -212,7 +214,7 @@ keys_insecure j placed zone h =
     (DnskeyNotFound set.owner) (outcome_by_verdict j set (Some zone)) h in
     (step.0, zone_step j set zone step.1)
 
-never_without : (j : Judge) (placed : Placed) → is_insecure ((judged_keys j placed None).mark) ≡ true → ⊥
+never_without : (j : Judge) (placed : PlacedSet) → is_insecure ((judged_keys j placed None).mark) ≡ true → ⊥
 unfolding judged_keys keys_outcome
 never_without j placed h =
     let set = placed.set in
@@ -236,10 +238,10 @@ same_mark Indeterminate Bogus h k = k
 same_mark Indeterminate Indeterminate h k = k
 
 -- an entry has the mark of its judged set
-pub mark_of_entry : (s : Judged) (entry : JudgedSetValue) → has_mark_of s entry ≡ true → is_insecure entry.mark ≡ true → is_insecure s.mark ≡ true
+pub mark_of_entry : (s : MarkedSet) (entry : JudgedSetValue) → has_mark_of s entry ≡ true → is_insecure entry.mark ≡ true → is_insecure s.mark ≡ true
 mark_of_entry s entry h k = same_mark s.mark entry.mark ((and_parts (proof_eq s.mark entry.mark) (place_eq s.sig entry.sig) h).0) k
 
-keys_by : (g : Grounds) (placed : Placed) (entry : JudgedSetValue) (needs : Bool) (o : Option ZoneVerdict) → EarlierSettled g
+keys_by : (g : StepContext) (placed : PlacedSet) (entry : JudgedSetValue) (needs : Bool) (o : Option ZoneVerdict) → EarlierSettled g
     → zone_asked g placed.set.class placed.set.owner entry.asked ≡ o → is_insecure entry.mark ≡ true
     → (if needs then is_by_zone g placed entry o else is_empty entry.asked && has_mark_of (judged_keys g.judge placed None) entry) ≡ true
     → GroundedIn g placed.set.owner
@@ -254,12 +256,12 @@ keys_by g placed entry true (Some zone) settled is insecure h =
 
 -- ---- an unsigned set
 
-sight_zone : (g : Grounds) (class : ℕ) (name : Labels) (asks : List AskRef) (sight : Sight) (above : Option ZoneVerdict) (zone : ZoneVerdict)
-    → EarlierSettled g → is_root name ≡ false → search_after g class name asks sight above ≡ Some zone → is_insecure_zone zone ≡ true
+probe_zone : (g : StepContext) (class : ℕ) (name : Labels) (asks : List AskRef) (probe : NsProbe) (above : Option ZoneVerdict) (zone : ZoneVerdict)
+    → EarlierSettled g → is_root name ≡ false → search_after g class name asks probe above ≡ Some zone → is_insecure_zone zone ≡ true
     → (above ≡ Some zone → GroundedIn g name) → GroundedIn g name
-sight_zone g class name asks Cut above zone settled below is h onward = asked_zone g class name asks zone settled below is h
-sight_zone g class name asks Onward above zone settled below is h onward = onward is
-sight_zone g class name asks Unseen above zone settled below is h onward = never_seen (is_empty asks) is
+probe_zone g class name asks probes.Found above zone settled below is h onward = asked_zone g class name asks zone settled below is h
+probe_zone g class name asks probes.Absent above zone settled below is h onward = onward is
+probe_zone g class name asks probes.Failed above zone settled below is h onward = never_seen (is_empty asks) is
   where
     never_seen : (b : Bool) → (if b then Some (delegation.Bogus (Net (ns_question class name))) else None) ≡ Some zone → GroundedIn g name
     never_seen true e = let same : delegation.Bogus (Net (ns_question class name)) ≡ zone = cc in cc
@@ -271,20 +273,20 @@ root_zone true start zone is h = let same : delegation.Bogus (DsRecordShouldExis
 root_zone false start zone is h = cc
 
 -- a search that comes to an Insecure zone shows it of each name below
-searched_zone : (g : Grounds) (class : ℕ) (start name : Labels) (asks : List AskRef) (zone : ZoneVerdict) → EarlierSettled g
+searched_zone : (g : StepContext) (class : ℕ) (start name : Labels) (asks : List AskRef) (zone : ZoneVerdict) → EarlierSettled g
     → search_by g class start name asks ≡ Some zone → is_insecure_zone zone ≡ true → GroundedIn g name
 unfolding search_by
 searched_zone g class start [] asks zone settled is h = absurd (root_zone (is_empty asks) start zone is h)
 searched_zone g class start (label ∷ rest) [] zone settled is h = cc
 searched_zone g class start (label ∷ rest) (ask ∷ asks) zone settled is h =
     let name : Labels = label ∷ rest in
-    let sight = sight_by g.earlier name ask in
+    let probe = probe_by g.earlier name ask in
     let above = search_by g class start rest asks in
-    let some = if_some (is_plain_ask g.earlier g.depth (ns_question class name) ask) (search_after g class name asks sight above) zone is in
-    sight_zone g class name asks sight above zone settled refl some.1 h
+    let some = if_some (is_plain_ask g.earlier g.depth (ns_question class name) ask) (search_after g class name asks probe above) zone is in
+    probe_zone g class name asks probe above zone settled refl some.1 h
     (λ e. grounded_below g.judge.answers g.earlier rest name (above_label label rest) (searched_zone g class start rest asks zone settled e h))
 
-unsigned_insecure : (placed : Placed) (zone : ZoneVerdict) → is_insecure ((unsigned_by placed zone).mark) ≡ true → is_insecure_zone zone ≡ true
+unsigned_insecure : (placed : PlacedSet) (zone : ZoneVerdict) → is_insecure ((unsigned_by placed zone).mark) ≡ true → is_insecure_zone zone ≡ true
 unfolding unsigned_by
 unsigned_insecure placed (delegation.Signed ds) h = cc
 unsigned_insecure placed (delegation.Insecure kind) h = refl
@@ -294,7 +296,7 @@ start_above : (b : Bool) (owner : Labels) → at_or_above (if b then parent owne
 start_above true owner = parent_above owner
 start_above false owner = above_itself owner
 
-unsigned_grounded : (g : Grounds) (placed : Placed) (entry : JudgedSetValue) (o : Option ZoneVerdict) → EarlierSettled g
+unsigned_grounded : (g : StepContext) (placed : PlacedSet) (entry : JudgedSetValue) (o : Option ZoneVerdict) → EarlierSettled g
     → search_from g placed.set.class (set_start placed.set) entry.asked ≡ o → is_insecure entry.mark ≡ true → is_by_search placed entry o ≡ true
     → GroundedIn g placed.set.owner
 unsigned_grounded g placed entry None settled is insecure h = cc
@@ -306,7 +308,7 @@ unsigned_grounded g placed entry (Some zone) settled is insecure h =
 
 -- ---- by the tables
 
-signed_grounded : (g : Grounds) (placed : Placed) (entry : JudgedSetValue) (o : Option (List Verdict)) → EarlierSettled g
+signed_grounded : (g : StepContext) (placed : PlacedSet) (entry : JudgedSetValue) (o : Option (List Verdict)) → EarlierSettled g
     → verdicts_by g placed.set (take most_signatures placed.set.signatures) entry.asked ≡ o → is_insecure entry.mark ≡ true
     → is_by_verdicts placed entry o ≡ true → GroundedIn g placed.set.owner
 unfolding judged_by
@@ -322,11 +324,11 @@ rules_step G false true x y z h of_keys of_search of_signatures = of_search h
 rules_step G false false x y z h of_keys of_search of_signatures = of_signatures h
 
 -- a set that is Insecure by the tables has a ground
-pub rules_grounded : (g : Grounds) (placed : Placed) (entry : JudgedSetValue) → EarlierSettled g → is_insecure entry.mark ≡ true
+pub rules_grounded : (g : StepContext) (placed : PlacedSet) (entry : JudgedSetValue) → EarlierSettled g → is_insecure entry.mark ≡ true
     → is_by_rules g placed entry ≡ true → GroundedIn g placed.set.owner
 rules_grounded g placed entry settled insecure h =
     let verdicts = verdicts_by g placed.set (take most_signatures placed.set.signatures) entry.asked in
-    rules_step (GroundedIn g placed.set.owner) (placed.set.rtype == type_dnskey) (is_searched placed.set) (keys_hold g placed entry)
+    rules_step (GroundedIn g placed.set.owner) (placed.set.rtype == type_dnskey) (needs_zone placed.set) (keys_hold g placed entry)
     (unsigned_holds g placed entry) (is_by_verdicts placed entry verdicts) h
     (keys_by g placed entry (needs_ds g.judge placed.set) (zone_asked g placed.set.class placed.set.owner entry.asked) settled refl insecure)
     (unsigned_grounded g placed entry (search_from g placed.set.class (set_start placed.set) entry.asked) settled refl insecure)

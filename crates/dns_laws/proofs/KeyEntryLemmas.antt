@@ -19,17 +19,17 @@ use Rattle.dns_model.proofs.TestLemmas.{if_some}
 use Rattle.dns_model.proofs.EachLemmas.{filter_none, find_none, none_passes}
 use Rattle.dns_model.proofs.QuestionLemmas.{same_parts}
 use Rattle.dns_model.proofs.Lists.{empty_is}
-use Rattle.dns_judgement.specs.Validity.{is_good_by}
-use Rattle.dns_judgement.specs.Judged.{Judged}
-use Rattle.dns_judgement.specs.Marks.{judged_by, most_signatures}
-use Rattle.dns_judgement.specs.ProofErrors.{DnskeyNotFound, DsRecordShouldExist, DsRecordsButNoDnskey, UnknownKeyAlgorithm}
-use Rattle.dns_judgement.specs.Delegations.{ZoneVerdict, Signed, Insecure, Bogus as Unshown, ds_question, is_supported_ds, is_readable_ds, is_ds_set_of, verdict_by_ds, verdict_without_ds, zone_verdict}
-use Rattle.dns_judgement.specs.KeySets.{is_anchored_key, is_matched_key, is_trusted_key, SignedKeys, signer_among, first_signed, signed_by, is_root, KeysOutcome, SignedByAnchored, WhollyAnchored, SignedByMatched, WhollyTrusted, Refused, outcome_by_ds, outcome_by_verdict, keys_outcome, is_needing_ds, needs_ds, outcome_mark, judged_keys}
-use Rattle.dns_judgement.specs.Unsigned.{is_empty, is_searched}
-use Rattle.dns_judgement.specs.Derivation.{Grounds, finished_answer, is_ask, verdicts_by, zone_asked, proof_eq, has_mark_of, keys_hold, unsigned_holds, is_by_rules}
-use Rattle.dns_judgement.specs.DerivationParts.{place_eq}
-use Rattle.dns_judgement.proofs.DsLemmas.{filter-filter}
-use Rattle.dns_judgement.proofs.ExtendLemmas.{proof_same}
+use Rattle.dns_rules.specs.Validity.{is_good_by}
+use Rattle.dns_rules.specs.MarkedSets.{MarkedSet}
+use Rattle.dns_rules.specs.Marks.{judged_by, most_signatures}
+use Rattle.dns_rules.specs.ProofErrors.{DnskeyNotFound, DsRecordShouldExist, DsRecordsButNoDnskey, UnknownKeyAlgorithm}
+use Rattle.dns_rules.specs.Delegations.{ZoneVerdict, Signed, Insecure, Bogus as Unshown, ds_question, is_supported_ds, is_readable_ds, is_ds_set_of, verdict_by_ds, verdict_without_ds, zone_verdict}
+use Rattle.dns_rules.specs.KeySets.{is_anchored_key, is_matched_key, is_trusted_key, SignedKeys, signer_among, first_signed, signed_by, is_root, KeysOutcome, SignedByAnchored, WhollyAnchored, SignedByMatched, WhollyTrusted, Refused, outcome_by_ds, outcome_by_verdict, keys_outcome, is_needing_ds, needs_ds, outcome_mark, judged_keys}
+use Rattle.dns_rules.specs.Unsigned.{is_empty, needs_zone}
+use Rattle.dns_rules.specs.Derivation.{StepContext, finished_answer, is_ask, verdicts_by, zone_asked, proof_eq, has_mark_of, keys_hold, unsigned_holds, is_by_rules}
+use Rattle.dns_rules.specs.DerivationParts.{place_eq}
+use Rattle.dns_rules.proofs.DsLemmas.{filter-filter}
+use Rattle.dns_rules.proofs.ExtendLemmas.{proof_same}
 use Rattle.dns_laws.specs.Valid.{is_signed_by, is_anchored_set, is_proved_by_ds}
 use Rattle.dns_laws.proofs.TestLemmas.{passing, any_found, none_any, found_alone}
 use Rattle.dns_laws.proofs.SignedEntryLemmas.{IsSecureSet}
@@ -109,13 +109,13 @@ anchored_outcome j set one h =
     (λ signed. let has = has_signed (is_anchored_key j set) j set one signed in cc (has.found, none))
     (or_cases (list_all (is_anchored_key j set) set.records) (is_signed_by (is_anchored_key j set) j set) h))
 
-by_keys_rule : (g : Grounds) (set : RrSet) (entry : JudgedSetValue) → (set.rtype == type_dnskey) ≡ true
+by_keys_rule : (g : StepContext) (set : RrSet) (entry : JudgedSetValue) → (set.rtype == type_dnskey) ≡ true
     → is_by_rules g (in_section Answer set) entry ≡ true → keys_hold g (in_section Answer set) entry ≡ true
 by_keys_rule g set entry is h =
     let placed = in_section Answer set in
     ap (λ b.
     if b then keys_hold g placed entry
-    else if is_searched set then unsigned_holds g placed entry
+    else if needs_zone set then unsigned_holds g placed entry
     else option_map_or (λ verdicts. has_mark_of (judged_by placed verdicts) entry) (verdicts_by g set (take most_signatures set.signatures) entry.asked) false)
     (sym is) ∙ h
 
@@ -124,7 +124,7 @@ pub record IsAnchoredEntry (entry : JudgedSetValue) : Type 0 where
   pub none : entry.asked ≡ []
   pub mark : entry.mark ≡ Secure
 
-pub anchored_entry : (g : Grounds) (set : RrSet) (entry : JudgedSetValue) → IsOneOrNone set → (set.rtype == type_dnskey) ≡ true
+pub anchored_entry : (g : StepContext) (set : RrSet) (entry : JudgedSetValue) → IsOneOrNone set → (set.rtype == type_dnskey) ≡ true
     → is_anchored_set g.judge set ≡ true → is_by_rules g (in_section Answer set) entry ≡ true → IsAnchoredEntry entry
 unfolding judged_keys
 anchored_entry g set entry one is anchored h =
@@ -157,14 +157,14 @@ unsettled j set zone one h root =
     ∙ ap (λ b. if b then Refused Bogus (DnskeyNotFound set.owner) else rest) root
 
 -- one ask for the DS set stands in the entry, and its mark is by the DS verdict
-pub record IsByDs (g : Grounds) (set : RrSet) (entry : JudgedSetValue) : Type 0 where
+pub record IsByDs (g : StepContext) (set : RrSet) (entry : JudgedSetValue) : Type 0 where
   pub ask : AskRef
   pub alone : entry.asked ≡ ask ∷ []
   pub asks : is_ask g.limit g.earlier (g.depth + 1) (ds_question set.class set.owner) ask ≡ true
   pub marked : has_mark_of (judged_keys g.judge (in_section Answer set)
       (Some (zone_verdict g.judge.answers set.class set.owner (finished_answer g.earlier ask)))) entry ≡ true
 
-by_zone_asked : (g : Grounds) (set : RrSet) (entry : JudgedSetValue) (asks : List AskRef) (zone : ZoneVerdict) → entry.asked ≡ asks
+by_zone_asked : (g : StepContext) (set : RrSet) (entry : JudgedSetValue) (asks : List AskRef) (zone : ZoneVerdict) → entry.asked ≡ asks
     → zone_asked g set.class set.owner asks ≡ Some zone
     → has_mark_of (judged_keys g.judge (in_section Answer set) (Some zone)) entry ≡ true → IsByDs g set entry
 by_zone_asked g set entry [] zone is h marked = cc
@@ -180,7 +180,7 @@ by_zone_asked g set entry (ask ∷ asks) zone is h marked =
       marked = ap (λ o. option_map_or (λ z. has_mark_of (judged_keys g.judge (in_section Answer set) (Some z)) entry) o false) parts.1 ∙ marked;
     }
 
-pub ds_asked : (g : Grounds) (set : RrSet) (entry : JudgedSetValue) → IsOneOrNone set → (set.rtype == type_dnskey) ≡ true
+pub ds_asked : (g : StepContext) (set : RrSet) (entry : JudgedSetValue) → IsOneOrNone set → (set.rtype == type_dnskey) ≡ true
     → is_anchored_set g.judge set ≡ false → is_root set.owner ≡ false → is_by_rules g (in_section Answer set) entry ≡ true → IsByDs g set entry
 ds_asked g set entry one is anchored root h =
     let placed = in_section Answer set in
@@ -221,7 +221,7 @@ some_supported j set records false is h =
     let none = filter_none (is_supported_ds j.answers) records (none_passes (is_supported_ds j.answers) records is) in
     cc (sym (none_signs j set) ∙ ap (λ ds. is_signed_by (is_matched_key j set ds) j set) (sym none) ∙ h)
 
-is_ds_set : (class : ℕ) (owner : Labels) (next : Question) (ds : RrSet) (judged : Judged) → question_eq (ds_question class owner) next ≡ true
+is_ds_set : (class : ℕ) (owner : Labels) (next : Question) (ds : RrSet) (judged : MarkedSet) → question_eq (ds_question class owner) next ≡ true
     → name_eq next.owner ds.owner ≡ true → ds.rtype ≡ next.rtype → ds.class ≡ next.class → IsSecureSet ds judged
     → is_ds_set_of class owner judged ≡ true
 is_ds_set class owner next ds judged is name rtype in_class secure =
@@ -234,14 +234,14 @@ is_ds_set class owner next ds judged is name rtype in_class secure =
     (ap (λ s. s.rtype == type_ds) secure.is ∙ ap (λ t. t == type_ds) (rtype ∙ sym same.rtype))
     (ap (λ s. class == s.class) secure.is ∙ ap (λ c. class == c) (in_class ∙ sym same.class) ∙ number_refl class)))
 
-zone_signed : (j : Judge) (set : RrSet) (next : Question) (ds : RrSet) (judged : Judged) → question_eq (ds_question set.class set.owner) next ≡ true
+zone_signed : (j : Judge) (set : RrSet) (next : Question) (ds : RrSet) (judged : MarkedSet) → question_eq (ds_question set.class set.owner) next ≡ true
     → name_eq next.owner ds.owner ≡ true → ds.rtype ≡ next.rtype → ds.class ≡ next.class → IsSecureSet ds judged
     → list_any (is_supported_ds j.answers) ds.records ≡ true
     → zone_verdict j.answers set.class set.owner (Some (judged ∷ [])) ≡ Signed (filter (is_supported_ds j.answers) ds.records)
 unfolding zone_verdict
 zone_signed j set next ds judged is name rtype in_class secure supported =
     let test = is_ds_set_of set.class set.owner in
-    let by = λ (s : Judged). verdict_by_ds j.answers set.owner s.mark s.set.records in
+    let by = λ (s : MarkedSet). verdict_by_ds j.answers set.owner s.mark s.set.records in
     ap (λ o. option_map_or by o (verdict_without_ds set.owner (judged ∷ []))) (found_alone test judged (is_ds_set set.class set.owner next ds judged is name rtype in_class secure))
     ∙ ap (λ m. verdict_by_ds j.answers set.owner m judged.set.records) secure.mark
     ∙ ap (λ s. verdict_by_ds j.answers set.owner Secure s.records) secure.is
@@ -266,7 +266,7 @@ ds_proof j set next ds h =
     record { root = not-true (is_root set.owner) one.0; next_is = two.0; signed = two.1 }
 
 -- the entry whose ask found this DS set is Secure
-pub ds_mark : (g : Grounds) (next : Question) (set ds : RrSet) (entry : JudgedSetValue) (judged : Judged) → IsOneOrNone set
+pub ds_mark : (g : StepContext) (next : Question) (set ds : RrSet) (entry : JudgedSetValue) (judged : MarkedSet) → IsOneOrNone set
     → (by : IsByDs g set entry) → is_anchored_set g.judge set ≡ false → IsDsProof g.judge set next ds
     → name_eq next.owner ds.owner ≡ true → ds.rtype ≡ next.rtype → ds.class ≡ next.class
     → finished_answer g.earlier by.ask ≡ Some (judged ∷ []) → IsSecureSet ds judged → entry.mark ≡ Secure

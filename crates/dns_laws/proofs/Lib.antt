@@ -19,5 +19,8 @@ pub mod RankLemmas
 pub mod PathLemmas
 pub mod SecureRecordLemmas
 pub mod RecordDenials
+pub mod DecidingRecords
+pub mod SomeSignatures
 pub mod SignatureDenials
+pub mod WorkedOwnDenials
 pub mod CompleteLemmas

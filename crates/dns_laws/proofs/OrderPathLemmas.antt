@@ -10,10 +10,10 @@ use Rattle.dns_model.specs.declared.trail.AskRef.TheVariants.{Step, TooDeep, Too
 use Rattle.dns_model.specs.Trails.{AskedValue}
 use Rattle.dns_model.proofs.SetLemmas.{number_same}
 use Rattle.dns_model.proofs.TestLemmas.{if_some}
-use Rattle.dns_judgement.specs.Asking.{most_sends}
-use Rattle.dns_judgement.specs.Derivation.{asks_of, order_asks, order_step, end_asks, end_step}
-use Rattle.dns_judgement.proofs.OrderLemmas.{order_step_at}
-use Rattle.dns_judgement.proofs.SendOrderLemmas.{OfAsks, HandsOn, asks_meet, step_visits}
+use Rattle.dns_rules.specs.Asking.{most_sends}
+use Rattle.dns_rules.specs.Derivation.{asks_of, order_asks, order_step, end_asks, end_step}
+use Rattle.dns_rules.proofs.OrderLemmas.{order_step_at}
+use Rattle.dns_rules.proofs.SendOrderLemmas.{OfAsks, HandsOn, asks_meet, step_visits}
 
 -- ---- what is met begins with the step
 

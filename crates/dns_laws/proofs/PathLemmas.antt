@@ -20,14 +20,14 @@ use Rattle.dns_model.specs.Trails.{AskedValue, JudgedSetValue, Answered}
 use Rattle.dns_model.proofs.SetLemmas.{number_same}
 use Rattle.dns_model.proofs.QuestionLemmas.{question_back, question_trans}
 use Rattle.dns_model.proofs.Lists.{empty_is}
-use Rattle.dns_judgement.specs.Asking.{most_sends, is_judged_at, judged_part}
-use Rattle.dns_judgement.specs.Judged.{Judged}
-use Rattle.dns_judgement.specs.Unsigned.{is_empty}
-use Rattle.dns_judgement.specs.Derivation.{told_in, with_entries, judged_sets, finished_answer, is_ask, is_by_rules, is_by_origin, steps_hold, asks_of, order_step, end_step}
-use Rattle.dns_judgement.specs.DerivationParts.{with_entry, answer_of, is_judged_ask, grounds_of, repeats_step}
-use Rattle.dns_judgement.proofs.DerivedLemmas.{steps_hold_at}
-use Rattle.dns_judgement.proofs.SentLemmas.{numbered}
-use Rattle.dns_judgement.proofs.StayLemmas.{slice_get-stays}
+use Rattle.dns_rules.specs.Asking.{most_sends, is_judged_at, judged_part}
+use Rattle.dns_rules.specs.MarkedSets.{MarkedSet}
+use Rattle.dns_rules.specs.Unsigned.{is_empty}
+use Rattle.dns_rules.specs.Derivation.{told_in, with_entries, judged_sets, finished_answer, is_ask, is_by_rules, is_by_origin, steps_hold, asks_of, order_step, end_step}
+use Rattle.dns_rules.specs.DerivationParts.{with_entry, answer_of, is_judged_ask, step_context_of, repeats_step}
+use Rattle.dns_rules.proofs.DerivedLemmas.{steps_hold_at}
+use Rattle.dns_rules.proofs.SentLemmas.{numbered}
+use Rattle.dns_rules.proofs.StayLemmas.{slice_get-stays}
 use Rattle.dns_laws.specs.Complete.{Upstream, HeardAlong, AreAsked}
 use Rattle.dns_laws.specs.Valid.{straight_set}
 use Rattle.dns_laws.proofs.StraightLemmas.{is_other, IsOneSet, answered}
@@ -76,7 +76,7 @@ pub record IsHere {R : Type 0} (w : Walk R) (q : Question) (r : R) (n : ℕ) (st
   pub on : GoesOn w.trail n step met w.order
   pub next : more ≡ n ∷ on.more
   pub later : HeardAlong w.up (w.up.left r step.query) (numbered w.trail on.more)
-  pub straight : IsStraightStep (grounds_of w.judge w.limit (take n w.trail) step) set step
+  pub straight : IsStraightStep (step_context_of w.judge w.limit (take n w.trail) step) set step
   pub asks : asks_of step ≡ straight.entry.asked
   pub ends : EndsAs w.trail n (n + 1) step
 
@@ -117,9 +117,9 @@ here w q rest r n step met more set at is =
 
 -- an entry that repeats another asks nothing; then its step is the first, and there is no other
 first_repeats : {R : Type 0} (w : Walk R) (q : Question) (r : R) (n k : ℕ) (step : AskedValue) (met more : List ℕ) (set : RrSet)
-    (h : IsHere w q r n step met more set) → is_by_origin (grounds_of w.judge w.limit (take n w.trail) step) (in_section Answer set) h.straight.entry (Repeat k) ≡ true → ⊥
+    (h : IsHere w q r n step met more set) → is_by_origin (step_context_of w.judge w.limit (take n w.trail) step) (in_section Answer set) h.straight.entry (Repeat k) ≡ true → ⊥
 first_repeats w q r n k step met more set h is =
-    let g = grounds_of w.judge w.limit (take n w.trail) step in
+    let g = step_context_of w.judge w.limit (take n w.trail) step in
     let placed = in_section Answer set in
     let parts = and_parts (is_empty h.straight.entry.asked) (repeats_step g placed h.straight.entry (slice_get g.earlier k)) is in
     let first = none_ends w.trail n (n + 1) step h.ends (h.asks ∙ empty_is h.straight.entry.asked parts.0) in
@@ -128,15 +128,15 @@ first_repeats w q r n k step met more set h is =
 
 origin_rules : {R : Type 0} (w : Walk R) (q : Question) (r : R) (n : ℕ) (step : AskedValue) (met more : List ℕ) (set : RrSet)
     (h : IsHere w q r n step met more set) (origin : MarkOrigin)
-    → is_by_origin (grounds_of w.judge w.limit (take n w.trail) step) (in_section Answer set) h.straight.entry origin ≡ true
-    → is_by_rules (grounds_of w.judge w.limit (take n w.trail) step) (in_section Answer set) h.straight.entry ≡ true
+    → is_by_origin (step_context_of w.judge w.limit (take n w.trail) step) (in_section Answer set) h.straight.entry origin ≡ true
+    → is_by_rules (step_context_of w.judge w.limit (take n w.trail) step) (in_section Answer set) h.straight.entry ≡ true
 origin_rules w q r n step met more set h Table is = is
 origin_rules w q r n step met more set h (Repeat k) is = absurd (first_repeats w q r n k step met more set h is)
 origin_rules w q r n step met more set h Cache is = cc
 
 pub rules : {R : Type 0} (w : Walk R) (q : Question) (r : R) (n : ℕ) (step : AskedValue) (met more : List ℕ) (set : RrSet)
     (h : IsHere w q r n step met more set)
-    → is_by_rules (grounds_of w.judge w.limit (take n w.trail) step) (in_section Answer set) h.straight.entry ≡ true
+    → is_by_rules (step_context_of w.judge w.limit (take n w.trail) step) (in_section Answer set) h.straight.entry ≡ true
 rules w q r n step met more set h = origin_rules w q r n step met more set h h.straight.entry.origin h.straight.origin
 
 -- ---- what a step comes to
@@ -148,7 +148,7 @@ pub record IsShown {R : Type 0} (w : Walk R) (q : Question) (rest : List Questio
   pub told : Told
   pub heard_it : told_in step.reply ≡ Some told
   pub one : IsOneSet w.judge q told set
-  pub judged : Judged
+  pub judged : MarkedSet
   pub secure : IsSecureSet set judged
   pub sets : judged_sets step ≡ judged ∷ []
   pub ending : step.ending ≡ Answered denial.None

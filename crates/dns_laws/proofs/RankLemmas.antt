@@ -11,8 +11,8 @@ use Rattle.dns_model.proofs.AboveLemmas.{above_is_shorter, strictly_parts}
 use Rattle.dns_model.proofs.CommonAncestors.{above_aligned}
 use Rattle.dns_model.proofs.NameLemmas.{name_eq-Decides}
 use Rattle.dns_model.proofs.QuestionLemmas.{same_parts}
-use Rattle.dns_judgement.specs.Marks.{key_question}
-use Rattle.dns_judgement.specs.Delegations.{ds_question}
+use Rattle.dns_rules.specs.Marks.{key_question}
+use Rattle.dns_rules.specs.Delegations.{ds_question}
 
 abbrev kind : ℕ → ℕ
 kind rtype = if rtype == type_ds then 0 else if rtype == type_dnskey then 1 else 2

@@ -9,14 +9,14 @@ use Rattle.dns_model.specs.Owned.{OwnedNsec}
 use Rattle.dns_model.specs.Records.{Rr, RrSet}
 use Rattle.dns_model.specs.Sections.{same_set, set_of, sets_of, leaders, unsigned_part}
 use Rattle.dns_model.specs.Chains.{is_nonempty, rdatas_of}
-use Rattle.dns_model.specs.SoundAnswers.{Told, Placed, placed_sets, in_section, section_eq, is_secure}
+use Rattle.dns_model.specs.SoundAnswers.{Told, PlacedSet, placed_sets, in_section, section_eq, is_secure}
 use Rattle.dns_model.proofs.EachLemmas.{each_more, each_of, each_both, each_append, each_map, each_unmap, each_filter, each_passes, filter_none, none_passes}
 use Rattle.dns_model.proofs.SetLemmas.{KeepsKey, is_of, section_same}
-use Rattle.dns_judgement.specs.Judged.{Judged, placed_of}
-use Rattle.dns_judgement.specs.Marking.{marked, map_after, marked_section}
-use Rattle.dns_judgement.specs.Outcome.{owned_nsec, is_denying, denying, denials}
-use Rattle.dns_judgement.proofs.Members.{picked_known}
-use Rattle.dns_judgement.proofs.MarkedLemmas.{marked-keeps, IsKnown, each_known, own_from, own_marked}
+use Rattle.dns_rules.specs.MarkedSets.{MarkedSet, placed_of}
+use Rattle.dns_rules.specs.Marking.{marked, map_after, marked_section}
+use Rattle.dns_rules.specs.Outcome.{owned_nsec, is_denying, denying, denials}
+use Rattle.dns_rules.proofs.Members.{picked_known}
+use Rattle.dns_rules.proofs.MarkedLemmas.{marked-keeps, IsKnown, each_known, own_from, own_marked}
 use Rattle.dns_laws.specs.OwnDenials.{is_secure_nsec, secure_nsecs}
 
 -- ---- one record
@@ -49,7 +49,7 @@ each_member P section h =
     each_map (λ set. AllByRecursion P set.records) (set_of section) (leaders (unsigned_part section))
     (each_of (λ r. AllByRecursion P (set_of section r).records) (λ r. each_filter P (same_set r) section h) (leaders (unsigned_part section)))
 
-abbrev IfAuthority : (Rr → Type 0) → Placed → Type 0
+abbrev IfAuthority : (Rr → Type 0) → PlacedSet → Type 0
 IfAuthority P p = section_eq Authority p.section ≡ true → AllByRecursion P p.set.records
 
 each_authority : (P : Rr → Type 0) (told : Told) → AllByRecursion P told.authorities → AllByRecursion (IfAuthority P) (placed_sets told)
@@ -67,29 +67,29 @@ each_authority P told h =
     (each_member P told.authorities h))))
     (other Additional (sets_of told.additionals) refl)
 
-each_in : (P : Rr → Type 0) (told : Told) (sets : List Judged) → map placed_of sets ≡ placed_sets told → AllByRecursion P told.authorities
+each_in : (P : Rr → Type 0) (told : Told) (sets : List MarkedSet) → map placed_of sets ≡ placed_sets told → AllByRecursion P told.authorities
     → AllByRecursion (λ s. IfAuthority P (placed_of s)) sets
 each_in P told sets grouped h =
     each_unmap (IfAuthority P) placed_of sets (subst (λ ps. AllByRecursion (IfAuthority P) ps) (sym grouped) (each_authority P told h))
 
 -- ---- the records of a denying set
 
-pub record IsDenyingSet (s : Judged) : Type 0 where
+pub record IsDenyingSet (s : MarkedSet) : Type 0 where
   pub section : section_eq Authority s.section ≡ true
   pub secure : is_secure s.mark ≡ true
   pub rtype : (s.set.rtype == type_nsec) ≡ true
 
-denying_parts : (s : Judged) → is_denying s ≡ true → IsDenyingSet s
+pub denying_parts : (s : MarkedSet) → is_denying s ≡ true → IsDenyingSet s
 denying_parts s h =
     let one = and_parts (section_eq Authority s.section) (is_secure s.mark && (s.set.rtype == type_nsec)) h in
     let two = and_parts (is_secure s.mark) (s.set.rtype == type_nsec) one.1 in
     record { section = one.0; secure = two.0; rtype = two.1 }
 
 -- wherever the record stands, it is marked Secure
-abbrev StaysSecure : ℕ → List Judged → Rr → Type 0
+abbrev StaysSecure : ℕ → List MarkedSet → Rr → Type 0
 StaysSecure now sets r = (before : List Rr) → is_secure_nsec (marked now sets Authority before r) ≡ true
 
-stays_secure : (now : ℕ) (told : Told) (sets : List Judged) (s : Judged) → IsKnown told sets s → is_denying s ≡ true
+stays_secure : (now : ℕ) (told : Told) (sets : List MarkedSet) (s : MarkedSet) → IsKnown told sets s → is_denying s ≡ true
     → AllByRecursion (StaysSecure now sets) s.set.records
 stays_secure now told sets s known h =
     let d = denying_parts s h in
@@ -102,7 +102,7 @@ stays_secure now told sets s known h =
     s.set.records known.proper.own
 
 -- what is known of the Secure NSEC records of the authority section is known of each record of its Secure NSEC sets
-of_denying : (P Q : Rr → Type 0) (now : ℕ) (told : Told) (sets : List Judged) → map placed_of sets ≡ placed_sets told
+of_denying : (P Q : Rr → Type 0) (now : ℕ) (told : Told) (sets : List MarkedSet) → map placed_of sets ≡ placed_sets told
     → ((before : List Rr) (r : Rr) → P (marked now sets Authority before r) → Q r)
     → AllByRecursion P (filter is_secure_nsec (marked_section now sets Authority told.authorities))
     → AllByRecursion (λ s. IsKnown told sets s × (is_denying s ≡ true → AllByRecursion Q s.set.records)) sets
@@ -142,18 +142,18 @@ says_each : (P : OwnedNsec → Type 0) (rs : List Rr) → AllByRecursion (Says P
 says_each P [] h = tt
 says_each P (r ∷ rs) h = said_from P (owned_nsec r) (filter_map owned_nsec rs) h.0 (says_each P rs h.1)
 
-each_flat : (P : OwnedNsec → Type 0) (f : Judged → List OwnedNsec) (ss : List Judged) → AllByRecursion (λ s. AllByRecursion P (f s)) ss
+each_flat : (P : OwnedNsec → Type 0) (f : MarkedSet → List OwnedNsec) (ss : List MarkedSet) → AllByRecursion (λ s. AllByRecursion P (f s)) ss
     → AllByRecursion P (flat_map f ss)
 each_flat P f [] h = tt
 each_flat P f (s ∷ ss) h = each_append P (f s) (flat_map f ss) h.0 (each_flat P f ss h.1)
 
 -- what is so of the Secure NSEC records of the marked authority section is so of what the denying sets say
-pub each_denial : (P : OwnedNsec → Type 0) (now : ℕ) (told : Told) (sets : List Judged) → map placed_of sets ≡ placed_sets told
+pub each_denial : (P : OwnedNsec → Type 0) (now : ℕ) (told : Told) (sets : List MarkedSet) → map placed_of sets ≡ placed_sets told
     → AllByRecursion P (secure_nsecs (marked_section now sets Authority told.authorities)) → AllByRecursion P (denials sets)
 each_denial P now told sets grouped h =
-    let says = λ (s : Judged). filter_map owned_nsec s.set.records in
-    let Denies = λ (s : Judged). is_denying s ≡ true in
-    let If = λ (s : Judged). IsKnown told sets s × (Denies s → AllByRecursion (Says P) s.set.records) in
+    let says = λ (s : MarkedSet). filter_map owned_nsec s.set.records in
+    let Denies = λ (s : MarkedSet). is_denying s ≡ true in
+    let If = λ (s : MarkedSet). IsKnown told sets s × (Denies s → AllByRecursion (Says P) s.set.records) in
     let known =
     of_denying (Says P) (Says P) now told sets grouped
     (λ before r said. subst (λ o. IfSome o P) (owned_kept (marked now sets Authority before) (marked-keeps now sets Authority before) r) said)
@@ -171,7 +171,7 @@ no_record : (rs : List Rr) → is_nonempty (rdatas_of rs) ≡ true → AllByRecu
 no_record [] some none = cc
 no_record (r ∷ rs) some none = none.0
 
-pub some_denial : (now : ℕ) (told : Told) (sets : List Judged) → map placed_of sets ≡ placed_sets told → list_any is_denying sets ≡ true
+pub some_denial : (now : ℕ) (told : Told) (sets : List MarkedSet) → map placed_of sets ≡ placed_sets told → list_any is_denying sets ≡ true
     → list_any is_secure_nsec (marked_section now sets Authority told.authorities) ≡ true
 some_denial now told sets grouped some =
     let records = marked_section now sets Authority told.authorities in

@@ -1,5 +1,5 @@
 -- The Secure signatures of an answer are those that decided its Secure sets; what it denies by its own records.
-use Rattle.std.proofs.Common.{◌≡◌, ℕ, Bool, true, false, not, ◌==◌, ◌&&◌, ◌||◌, cond, min, nat_le, arith, List, [], ◌∷◌, ◌++◌, map, Option, None, Some, IfSome, refl, sym, ap, ◌∙◌, subst}
+use Rattle.std.proofs.Common.{◌≡◌, ℕ, Bool, true, false, not, ◌==◌, ◌&&◌, ◌||◌, min, nat_le, arith, List, [], ◌∷◌, ◌++◌, map, Option, None, Some, IfSome, refl, sym, ap, ◌∙◌, subst}
 use Rattle.std.specs.Option.{option_map, option_map_or, option_and_then}
 use Rattle.std.specs.List.{filter, filter_map, find, list_any, list_all, AllByRecursion}
 use Rattle.std.proofs.lemmas.Bool.{and_parts, and_from}
@@ -16,21 +16,22 @@ use Rattle.dns_model.specs.Sections.{is_signature}
 use Rattle.dns_model.specs.SoundAnswers.{Told, placed_sets, section_of, section_eq, is_secure, set_rtype}
 use Rattle.dns_model.proofs.EachLemmas.{each_more, find_known}
 use Rattle.dns_model.proofs.SetLemmas.{KeepsKey, IsSignedIn, name_back, name_trans, signature-kept}
-use Rattle.dns_model.specs.declared.answered.Answered.TheVariants.{No, Expanded}
-use Rattle.dns_judgement.specs.DenialInZones.{IsShownBy}
-use Rattle.dns_judgement.specs.Zones.{Zone, IsTrueNsec}
-use Rattle.dns_judgement.specs.Judged.{Judged, placed_of, decider}
-use Rattle.dns_judgement.specs.Marking.{is_about, marked, marked_section, marked_told}
-use Rattle.dns_judgement.specs.Outcome.{answers_query, has_answer, is_wildcard_signature, is_expanded_answer, is_expanded_for, decider_labels, least, answered_from, answered, is_denying, denying, denials, is_made_by}
-use Rattle.dns_judgement.proofs.DeciderLemmas.{decider_is}
-use Rattle.dns_judgement.proofs.FindLemmas.{each_all}
-use Rattle.dns_judgement.proofs.Members.{picked_known}
-use Rattle.dns_judgement.proofs.MarkedLemmas.{marked-keeps, IsAbout, about_parts, IsKnown, each_known, made_secure}
-use Rattle.dns_judgement.proofs.AfterLemmas.{each_after}
+use Rattle.dns_model.specs.declared.answered.Answered.TheVariants.{Expanded}
+use Rattle.dns_rules.specs.DenialInZones.{IsShownBy}
+use Rattle.dns_rules.specs.Zones.{Zone, IsTrueNsec}
+use Rattle.dns_rules.specs.MarkedSets.{MarkedSet, placed_of, decider}
+use Rattle.dns_rules.specs.Marking.{is_about, marked, marked_section, marked_told}
+use Rattle.dns_rules.specs.Outcome.{answers_query, has_answer, is_wildcard_signature, is_expanded_answer, is_expanded_for, decider_labels, least, answered, is_denying, denying, denials, is_made_by}
+use Rattle.dns_rules.proofs.DeciderLemmas.{decider_is}
+use Rattle.dns_rules.proofs.FindLemmas.{each_all}
+use Rattle.dns_rules.proofs.Members.{picked_known}
+use Rattle.dns_rules.proofs.MarkedLemmas.{marked-keeps, IsAbout, about_parts, IsKnown, each_known, made_secure}
+use Rattle.dns_rules.proofs.AfterLemmas.{each_after}
 use Rattle.dns_laws.specs.Denials.{IsDenier, ShowsDenial}
 use Rattle.dns_laws.proofs.GroundParts.{found_any}
 use Rattle.dns_laws.specs.OwnDenials.{secure_nsecs, IsDenyingZone, signs_nsec, has_signer, is_expansion, has_labels_from, DeniesByRecords}
-use Rattle.dns_laws.proofs.RecordDenials.{kept_parts, each_given, each_denial, some_denial}
+use Rattle.dns_laws.proofs.RecordDenials.{each_given, each_denial, some_denial}
+use Rattle.dns_laws.proofs.SomeSignatures.{each_kept, signed_by, signed_by_zone, labels_are, some_labels}
 use Rattle.dns_laws.proofs.SecureRecordLemmas.{any_after}
 
 -- ---- lists
@@ -38,11 +39,6 @@ use Rattle.dns_laws.proofs.SecureRecordLemmas.{any_after}
 all_from : {X : Type 0} (p : X → Bool) (xs : List X) → AllByRecursion (λ x. p x ≡ true) xs → list_all p xs ≡ true
 all_from p [] h = refl
 all_from p (x ∷ xs) h = and_from (p x) (list_all p xs) h.0 (all_from p xs h.1)
-
--- what is known of each element that is kept
-each_kept : {X : Type 0} (Q : X → Type 0) (p : X → Bool) (xs : List X) → AllByRecursion Q (filter p xs) → AllByRecursion (λ x. p x ≡ true → Q x) xs
-each_kept Q p [] h = tt
-each_kept Q p (x ∷ xs) h = let parts = kept_parts Q (p x) x (filter p xs) h in (parts.0, each_kept Q p xs parts.1)
 
 if_then : (a b : Bool) → (a ≡ true → b ≡ true) → (not a || b) ≡ true
 if_then true b h = h refl
@@ -62,21 +58,21 @@ wildcard_kept f k r = rw (k.owner r, k.rtype r, k.rdata r) refl
 answers_kept : (f : Rr → Rr) → KeepsKey f → (q : Question) (r : Rr) → answers_query q (f r) ≡ answers_query q r
 answers_kept f k q r = rw (k.owner r, k.rtype r) refl
 
-same_answer : (now : ℕ) (q : Question) (told : Told) (sets : List Judged) → has_answer q (marked_told now sets told) ≡ has_answer q told
+same_answer : (now : ℕ) (q : Question) (told : Told) (sets : List MarkedSet) → has_answer q (marked_told now sets told) ≡ has_answer q told
 same_answer now q told sets =
     any_after (answers_query q) (marked now sets Answer) (λ before r. answers_kept (marked now sets Answer before) (marked-keeps now sets Answer before) q r)
     [] told.answers
 
 -- ---- the set that a Secure signature decided
 
-record IsDecider (sets : List Judged) (section : Section) (r : Rr) : Type 0 where
-  set : Judged
+record IsDecider (sets : List MarkedSet) (section : Section) (r : Rr) : Type 0 where
+  set : MarkedSet
   found : find (is_about section r) sets ≡ Some set
   about : IsAbout section r set
   secure : is_secure set.mark ≡ true
   decides : decider set ≡ Some r
 
-decided : (now : ℕ) (told : Told) (sets : List Judged) (section : Section) (before rest : List Rr) (r : Rr) → map placed_of sets ≡ placed_sets told
+decided : (now : ℕ) (told : Told) (sets : List MarkedSet) (section : Section) (before rest : List Rr) (r : Rr) → map placed_of sets ≡ placed_sets told
     → before ++ r ∷ rest ≡ section_of told section → is_secure ((marked now sets section before r).proof) ≡ true
     → is_signature (marked now sets section before r) ≡ true → IsDecider sets section r
 decided now told sets section before rest r grouped split secure signs =
@@ -95,16 +91,7 @@ decided now told sets section before rest r grouped split secure signs =
 
 -- ---- the zone that made the denials
 
-signer_same : (apex : Labels) (o : Option RrsigValue)
-    → option_map_or (name_eq apex) (option_map (λ sig. sig.signer) o) false ≡ option_map_or (λ sig. name_eq apex sig.signer) o false
-signer_same apex None = refl
-signer_same apex (Some sig) = refl
-
-signed_by : (apex : Labels) (s : Judged) (r : Rr) → decider s ≡ Some r → is_made_by apex s ≡ has_signer apex r
-signed_by apex s r decides =
-    ap (λ o. option_map_or (name_eq apex) (option_map (λ sig. sig.signer) (option_and_then rrsig_of o)) false) decides ∙ signer_same apex (rrsig_of r)
-
-made_step : (now : ℕ) (told : Told) (sets : List Judged) (apex : Labels) (before rest : List Rr) (r : Rr) → map placed_of sets ≡ placed_sets told
+made_step : (now : ℕ) (told : Told) (sets : List MarkedSet) (apex : Labels) (before rest : List Rr) (r : Rr) → map placed_of sets ≡ placed_sets told
     → AllByRecursion (λ s. is_denying s ≡ true → is_made_by apex s ≡ true) sets → before ++ r ∷ rest ≡ told.authorities
     → signs_nsec (marked now sets Authority before r) ≡ true → has_signer apex (marked now sets Authority before r) ≡ true
 made_step now told sets apex before rest r grouped made split signs =
@@ -121,7 +108,7 @@ made_step now told sets apex before rest r grouped made split signs =
     ap (λ o. option_map_or (λ sig. name_eq apex sig.signer) o false) (read_kept f k r)
     ∙ sym (signed_by apex d.set r d.decides) ∙ known.known denies
 
-made_by_zone : (now : ℕ) (told : Told) (sets : List Judged) (apex : Labels) → map placed_of sets ≡ placed_sets told
+made_by_zone : (now : ℕ) (told : Told) (sets : List MarkedSet) (apex : Labels) → map placed_of sets ≡ placed_sets told
     → list_all (is_made_by apex) (denying sets) ≡ true
     → list_all (λ r. not (signs_nsec r) || has_signer apex r) (marked_section now sets Authority told.authorities) ≡ true
 made_by_zone now told sets apex grouped made =
@@ -136,14 +123,14 @@ made_by_zone now told sets apex grouped made =
 -- ---- an answer from a wildcard
 
 -- the set that a Secure signature decided, and which was expanded by it
-record IsExpandedBy (q : Question) (sets : List Judged) (r : Rr) : Type 0 where
-  set : Judged
+record IsExpandedBy (q : Question) (sets : List MarkedSet) (r : Rr) : Type 0 where
+  set : MarkedSet
   found : find (is_about Answer r) sets ≡ Some set
   expanded : is_expanded_for q set ≡ true
   decides : decider set ≡ Some r
   wild : is_wildcard_signature r ≡ true
 
-expanded_by : (now : ℕ) (q : Question) (told : Told) (sets : List Judged) (before rest : List Rr) (r : Rr) → map placed_of sets ≡ placed_sets told
+expanded_by : (now : ℕ) (q : Question) (told : Told) (sets : List MarkedSet) (before rest : List Rr) (r : Rr) → map placed_of sets ≡ placed_sets told
     → before ++ r ∷ rest ≡ told.answers → is_expansion q (marked now sets Answer before r) ≡ true → IsExpandedBy q sets r
 expanded_by now q told sets before rest r grouped split h =
     let f = marked now sets Answer before in
@@ -174,7 +161,7 @@ expanded_by now q told sets before rest r grouped split h =
     }
 
 -- such a signature stands only where a set was expanded so
-any_expansion : (now : ℕ) (q : Question) (told : Told) (sets : List Judged) → map placed_of sets ≡ placed_sets told
+any_expansion : (now : ℕ) (q : Question) (told : Told) (sets : List MarkedSet) → map placed_of sets ≡ placed_sets told
     → list_any (is_expansion q) (marked_section now sets Answer told.answers) ≡ true → list_any (is_expanded_for q) sets ≡ true
 any_expansion now q told sets grouped h =
     let Shows = λ (m : Rr). is_expansion q m ≡ true → list_any (is_expanded_for q) sets ≡ true in
@@ -218,13 +205,8 @@ unfolding least
 least_each [] labels h = cc
 least_each (n ∷ ns) labels h = least_step n ns labels (least ns) refl h (λ k is. least_each ns k is)
 
-labels_are : (answer : Bool) (o : Option ℕ) (labels : ℕ) → cond answer (answered_from o) No ≡ Expanded labels → o ≡ Some labels
-labels_are true None labels h = cc
-labels_are true (Some n) labels h = let same : n ≡ labels = cc in ap Some same
-labels_are false o labels h = cc
-
 -- each expanded set's decider has at least so many labels
-each_labels : (q : Question) (told : Told) (sets : List Judged) (labels : ℕ) → answered q told sets ≡ Expanded labels
+each_labels : (q : Question) (told : Told) (sets : List MarkedSet) (labels : ℕ) → answered q told sets ≡ Expanded labels
     → AllByRecursion (λ s. is_expanded_for q s ≡ true → IfSome (decider_labels s) (λ m. nat_le labels m ≡ true)) sets
 unfolding answered
 each_labels q told sets labels h =
@@ -239,7 +221,7 @@ labels_step : (labels : ℕ) (wild : RrsigValue → Bool) (o : Option RrsigValue
 labels_step labels wild None h from = cc
 labels_step labels wild (Some sig) h from = from
 
-fewest_step : (now : ℕ) (q : Question) (told : Told) (sets : List Judged) (labels : ℕ) (before rest : List Rr) (r : Rr)
+fewest_step : (now : ℕ) (q : Question) (told : Told) (sets : List MarkedSet) (labels : ℕ) (before rest : List Rr) (r : Rr)
     → map placed_of sets ≡ placed_sets told
     → AllByRecursion (λ s. is_expanded_for q s ≡ true → IfSome (decider_labels s) (λ m. nat_le labels m ≡ true)) sets
     → before ++ r ∷ rest ≡ told.answers → is_expansion q (marked now sets Answer before r) ≡ true
@@ -248,12 +230,12 @@ fewest_step now q told sets labels before rest r grouped each split h =
     let f = marked now sets Answer before in
     let k = marked-keeps now sets Answer before in
     let e = expanded_by now q told sets before rest r grouped split h in
-    let Has = λ (s : Judged). is_expanded_for q s ≡ true → IfSome (decider_labels s) (λ m. nat_le labels m ≡ true) in
+    let Has = λ (s : MarkedSet). is_expanded_for q s ≡ true → IfSome (decider_labels s) (λ m. nat_le labels m ≡ true) in
     let known = find_known (is_about Answer r) Has sets e.set each e.found in
     let from = subst (λ o. IfSome (option_map (λ sig. sig.labels) (option_and_then rrsig_of o)) (λ m. nat_le labels m ≡ true)) e.decides (known.known e.expanded) in
     ap (λ o. option_map_or (λ sig. nat_le labels sig.labels) o false) (read_kept f k r) ∙ labels_step labels _ (rrsig_of r) e.wild from
 
-fewest_labels : (now : ℕ) (q : Question) (told : Told) (sets : List Judged) (labels : ℕ) → map placed_of sets ≡ placed_sets told
+fewest_labels : (now : ℕ) (q : Question) (told : Told) (sets : List MarkedSet) (labels : ℕ) → map placed_of sets ≡ placed_sets told
     → answered q told sets ≡ Expanded labels
     → list_all (λ r. not (is_expansion q r) || has_labels_from labels r) (marked_section now sets Answer told.answers) ≡ true
 fewest_labels now q told sets labels grouped is =
@@ -266,15 +248,16 @@ fewest_labels now q told sets labels grouped is =
 
 -- ---- what is denied
 
-zone_denies : (now : ℕ) (q : Question) (told : Told) (sets : List Judged) (apex : Labels) → map placed_of sets ≡ placed_sets told → IsDenier q sets apex
+zone_denies : (now : ℕ) (q : Question) (told : Told) (sets : List MarkedSet) (apex : Labels) → map placed_of sets ≡ placed_sets told → IsDenier q sets apex
     → IsDenyingZone q (marked_section now sets Authority told.authorities) apex
 zone_denies now q told sets apex grouped denier = record {
   holds = denier.holds;
   some = some_denial now told sets grouped denier.some;
+  signed = signed_by_zone now told sets apex grouped denier.some denier.made;
   made = made_by_zone now told sets apex grouped denier.made;
 }
 
-shown_too : (now : ℕ) (told : Told) (sets : List Judged) (apex : Labels) (zone : Zone) → map placed_of sets ≡ placed_sets told
+shown_too : (now : ℕ) (told : Told) (sets : List MarkedSet) (apex : Labels) (zone : Zone) → map placed_of sets ≡ placed_sets told
     → IsShownBy (secure_nsecs (marked_section now sets Authority told.authorities)) apex zone → IsShownBy (denials sets) apex zone
 shown_too now told sets apex zone grouped shown = record {
   formed = shown.formed;
@@ -283,9 +266,10 @@ shown_too now told sets apex zone grouped shown = record {
 }
 
 -- what the sets of a message show is shown by its records, as the sets leave them
-pub denies_by_records : (now : ℕ) (q : Question) (told : Told) (sets : List Judged) (d : Denial) → map placed_of sets ≡ placed_sets told
+pub denies_by_records : (now : ℕ) (q : Question) (told : Told) (sets : List MarkedSet) (d : Denial) → map placed_of sets ≡ placed_sets told
     → ShowsDenial q told sets d → DeniesByRecords q (marked_told now sets told) d
 denies_by_records now q told sets d grouped shows = record {
+  unanswered = λ mark e. same_answer now q told sets ∙ shows.unanswered mark e;
   absent = λ e.
       let s = shows.absent e in
       record {
@@ -298,6 +282,7 @@ denies_by_records now q told sets d grouped shows = record {
       let s = shows.expanded e in
       record {
         labels = s.labels;
+        some = some_labels now q told sets s.labels grouped s.expanded;
         fewest = fewest_labels now q told sets s.labels grouped s.expanded;
         apex = s.apex;
         zone = zone_denies now q told sets s.apex grouped s.denier;

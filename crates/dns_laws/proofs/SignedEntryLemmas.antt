@@ -13,27 +13,27 @@ use Rattle.dns_model.specs.Views.{RrsigValue}
 use Rattle.dns_model.specs.Records.{Rr, RrSet, Question, question_eq}
 use Rattle.dns_model.specs.RecordViews.{rrsig_of}
 use Rattle.dns_model.specs.Chains.{Judge, signer_fits, never_expanded, right_below_signer}
-use Rattle.dns_model.specs.SoundAnswers.{Placed, in_section, section_eq}
+use Rattle.dns_model.specs.SoundAnswers.{PlacedSet, in_section, section_eq}
 use Rattle.dns_model.specs.Trails.{JudgedSetValue}
 use Rattle.dns_model.proofs.SetLemmas.{name_trans, number_refl}
 use Rattle.dns_model.proofs.TestLemmas.{if_some}
 use Rattle.dns_model.proofs.QuestionLemmas.{same_parts}
-use Rattle.dns_judgement.specs.Validity.{is_good_by}
-use Rattle.dns_judgement.specs.Judged.{Judged}
-use Rattle.dns_judgement.specs.Marks.{Verdict, Proved, is_proved, is_skipped, key_question, counted_keys, is_key_set_of, by_keys, verdict_of, judged_by, most_signatures}
-use Rattle.dns_judgement.specs.Marks as marks
-use Rattle.dns_judgement.specs.Unsigned.{is_empty, is_searched}
-use Rattle.dns_judgement.specs.Asking.{ask_of}
-use Rattle.dns_judgement.specs.Derivation.{Grounds, finished_answer, is_ask, verdicts_after, verdicts_asked, verdicts_by, proof_eq, has_mark_of, keys_hold, unsigned_holds, is_by_rules}
-use Rattle.dns_judgement.specs.DerivationParts.{is_by_verdicts, after_verdict, if_last, place_eq, is_ask_for}
-use Rattle.dns_judgement.proofs.ExtendLemmas.{proof_same}
+use Rattle.dns_rules.specs.Validity.{is_good_by}
+use Rattle.dns_rules.specs.MarkedSets.{MarkedSet}
+use Rattle.dns_rules.specs.Marks.{Verdict, Proved, is_proved, is_skipped, key_question, counted_keys, is_key_set_of, by_keys, verdict_of, judged_by, most_signatures}
+use Rattle.dns_rules.specs.Marks as marks
+use Rattle.dns_rules.specs.Unsigned.{is_empty, needs_zone}
+use Rattle.dns_rules.specs.Asking.{ask_of}
+use Rattle.dns_rules.specs.Derivation.{StepContext, finished_answer, is_ask, verdicts_after, verdicts_asked, verdicts_by, proof_eq, has_mark_of, keys_hold, unsigned_holds, is_by_rules}
+use Rattle.dns_rules.specs.DerivationParts.{is_by_verdicts, after_verdict, if_last, place_eq, is_ask_for}
+use Rattle.dns_rules.proofs.ExtendLemmas.{proof_same}
 use Rattle.dns_laws.specs.Valid.{is_proved_by_keys}
 use Rattle.dns_laws.proofs.TestLemmas.{passing, any_found, found_alone}
 use Rattle.dns_laws.proofs.StraightLemmas.{IsSigned}
 use Rattle.dns_laws.proofs.StraightStepLemmas.{needs_no_denial}
 
 -- a set that is Secure in the answer section
-pub record IsSecureSet (set : RrSet) (judged : Judged) : Type 0 where
+pub record IsSecureSet (set : RrSet) (judged : MarkedSet) : Type 0 where
   pub section : judged.section ≡ Answer
   pub is : judged.set ≡ set
   pub mark : judged.mark ≡ Secure
@@ -78,7 +78,7 @@ not_skipped j set next asked keys r ask other =
 -- ---- the entry
 
 -- one ask stands in it, and its mark is by the verdict of the signature
-pub record IsByOneAsk (g : Grounds) (placed : Placed) (r : Rr) (q : Question) (entry : JudgedSetValue) : Type 0 where
+pub record IsByOneAsk (g : StepContext) (placed : PlacedSet) (r : Rr) (q : Question) (entry : JudgedSetValue) : Type 0 where
   pub ask : AskRef
   pub alone : entry.asked ≡ ask ∷ []
   pub asks : is_ask g.limit g.earlier (g.depth + 1) q ask ≡ true
@@ -97,13 +97,13 @@ last_ask false v [] vs h = record { none = refl; verdicts = cc }
 last_ask false v (ask ∷ asks) vs h = cc
 
 -- what is asked of one signature that isn't skipped
-record IsFirstAsk (g : Grounds) (set : RrSet) (r : Rr) (q : Question) (asks : List AskRef) (vs : List Verdict) : Type 0 where
+record IsFirstAsk (g : StepContext) (set : RrSet) (r : Rr) (q : Question) (asks : List AskRef) (vs : List Verdict) : Type 0 where
   ask : AskRef
   alone : asks ≡ ask ∷ []
   asks_for : is_ask g.limit g.earlier (g.depth + 1) q ask ≡ true
   verdicts : vs ≡ verdict_of g.judge set r (finished_answer g.earlier ask) ∷ []
 
-first_ask : (g : Grounds) (set : RrSet) (r : Rr) (q : Question) (asks : List AskRef) (vs : List Verdict) → ask_of set r ≡ Some q
+first_ask : (g : StepContext) (set : RrSet) (r : Rr) (q : Question) (asks : List AskRef) (vs : List Verdict) → ask_of set r ≡ Some q
     → is_skipped g.query set r ≡ false → verdicts_by g set (r ∷ []) asks ≡ Some vs → IsFirstAsk g set r q asks vs
 unfolding verdicts_by
 first_ask g set r q [] vs is kept h =
@@ -117,7 +117,7 @@ first_ask g set r q (ask ∷ asks) vs is kept h =
     let last = last_ask (is_proved v) v asks vs parts.1 in
     record { ask = ask; alone = ap (λ rest. ask ∷ rest) last.none; asks_for = parts.0; verdicts = last.verdicts }
 
-pub one_ask : (g : Grounds) (q next : Question) (set keys : RrSet) (entry : JudgedSetValue) (signed : IsSigned q set)
+pub one_ask : (g : StepContext) (q next : Question) (set keys : RrSet) (entry : JudgedSetValue) (signed : IsSigned q set)
     → (ask : IsKeysAsk g.judge set next keys signed.signature) → (set.rtype == type_dnskey) ≡ false → (type_dnskey == g.query.rtype) ≡ false
     → is_by_rules g (in_section Answer set) entry ≡ true
     → IsByOneAsk g (in_section Answer set) signed.signature (key_question set.class ask.sig.signer) entry
@@ -126,10 +126,10 @@ one_ask g q next set keys entry signed ask other asked h =
     let r = signed.signature in
     let question = key_question set.class ask.sig.signer in
     let verdicts = verdicts_by g set (take most_signatures set.signatures) entry.asked in
-    let searched : is_searched set ≡ false = ap (λ rs. is_empty rs && not (set.rtype == type_ds)) signed.alone in
+    let searched : needs_zone set ≡ false = ap (λ rs. is_empty rs && not (set.rtype == type_ds)) signed.alone in
     let by : is_by_verdicts placed entry verdicts ≡ true =
     ap (λ b. if b then unsigned_holds g placed entry else is_by_verdicts placed entry verdicts) (sym searched)
-    ∙ ap (λ b. if b then keys_hold g placed entry else if is_searched set then unsigned_holds g placed entry else is_by_verdicts placed entry verdicts) (sym other)
+    ∙ ap (λ b. if b then keys_hold g placed entry else if needs_zone set then unsigned_holds g placed entry else is_by_verdicts placed entry verdicts) (sym other)
     ∙ h in
     let some = passing (λ vs. has_mark_of (judged_by placed vs) entry) verdicts by in
     let first = first_ask g set r question entry.asked some.value (ap (option_map (λ sig. key_question set.class sig.signer)) ask.read)
@@ -143,7 +143,7 @@ one_ask g q next set keys entry signed ask other asked h =
 
 -- ---- the mark
 
-is_key_set : (j : Judge) (set : RrSet) (next : Question) (keys : RrSet) (r : Rr) (judged : Judged) (ask : IsKeysAsk j set next keys r)
+is_key_set : (j : Judge) (set : RrSet) (next : Question) (keys : RrSet) (r : Rr) (judged : MarkedSet) (ask : IsKeysAsk j set next keys r)
     → name_eq next.owner keys.owner ≡ true → keys.rtype ≡ next.rtype → keys.class ≡ next.class → IsSecureSet keys judged
     → is_key_set_of set.class ask.sig.signer judged ≡ true
 is_key_set j set next keys r judged ask owner rtype class secure =
@@ -166,14 +166,14 @@ never_fails rtype labels signer owner plain =
     and_from (never_expanded rtype labels owner) (right_below_signer rtype signer owner)
     (ap (λ b. if b then labels == num_labels owner else true) none) (ap (λ b. if b then name_eq (parent owner) signer else true) parts.1)
 
-pub proved_verdict : (j : Judge) (set : RrSet) (next : Question) (keys : RrSet) (r : Rr) (judged : Judged) → IsKeysAsk j set next keys r
+pub proved_verdict : (j : Judge) (set : RrSet) (next : Question) (keys : RrSet) (r : Rr) (judged : MarkedSet) → IsKeysAsk j set next keys r
     → name_eq next.owner keys.owner ≡ true → keys.rtype ≡ next.rtype → keys.class ≡ next.class → needs_no_denial set.rtype ≡ true
     → IsSecureSet keys judged → verdict_of j set r (Some (judged ∷ [])) ≡ Proved
 unfolding verdict_of
 proved_verdict j set next keys r judged ask owner rtype class plain secure =
     let sig = ask.sig in
     let test = is_key_set_of set.class sig.signer in
-    let by = λ (s : Judged). by_keys j set r s.mark (counted_keys sig.signer s.set.records) in
+    let by = λ (s : MarkedSet). by_keys j set r s.mark (counted_keys sig.signer s.set.records) in
     let counted = counted_keys sig.signer keys.records in
     let found = any_found (is_good_by j set r) counted ask.good in
     ap (λ o.
@@ -190,7 +190,7 @@ proved_verdict j set next keys r judged ask owner rtype class plain secure =
     ∙ ap (λ o. option_map_or (λ key. Proved) o marks.Failed) found.found
 
 -- the entry whose ask found these keys is Secure
-pub signed_mark : (g : Grounds) (next : Question) (set keys : RrSet) (r : Rr) (question : Question) (entry : JudgedSetValue) (judged : Judged)
+pub signed_mark : (g : StepContext) (next : Question) (set keys : RrSet) (r : Rr) (question : Question) (entry : JudgedSetValue) (judged : MarkedSet)
     → (by : IsByOneAsk g (in_section Answer set) r question entry) → IsKeysAsk g.judge set next keys r
     → name_eq next.owner keys.owner ≡ true → keys.rtype ≡ next.rtype → keys.class ≡ next.class → needs_no_denial set.rtype ≡ true
     → finished_answer g.earlier by.ask ≡ Some (judged ∷ []) → IsSecureSet keys judged → entry.mark ≡ Secure

@@ -10,7 +10,7 @@ use Rattle.dns_model.specs.Types.{type_rrsig}
 use Rattle.dns_model.specs.Views.{RrsigValue, rrsig_in}
 use Rattle.dns_model.specs.Records.{Rr, RrSet, Question}
 use Rattle.dns_model.specs.RecordViews.{rrsig_of}
-use Rattle.dns_model.specs.Sections.{same_set, is_signature, covers_rtype, covers, leaders, unsigned_part, set_of, sets_of}
+use Rattle.dns_model.specs.Sections.{same_set, is_signature, covers, leaders, unsigned_part, set_of, sets_of}
 use Rattle.dns_model.specs.Chains.{Judge, rdatas_of}
 use Rattle.dns_model.specs.SoundAnswers.{Told}
 use Rattle.dns_model.proofs.EachLemmas.{each_more, filter_none}
@@ -18,11 +18,12 @@ use Rattle.dns_model.proofs.RecordViewLemmas.{rrsig_read}
 use Rattle.dns_model.proofs.SetLemmas.{name_back, name_trans, number_same, number_refl, each_leader}
 use Rattle.dns_model.proofs.TestLemmas.{if_some}
 use Rattle.dns_model.proofs.Lists.{empty_is}
-use Rattle.dns_judgement.specs.Unsigned.{is_empty}
-use Rattle.dns_judgement.proofs.FindLemmas.{each_all}
+use Rattle.dns_rules.specs.Unsigned.{is_empty}
+use Rattle.dns_rules.proofs.FindLemmas.{each_all}
 use Rattle.dns_laws.specs.Straight.{is_queried, is_plain_signature, are_distinct, is_wholly_anchored, is_signed_once, is_straight}
 use Rattle.dns_laws.specs.Valid.{straight_set}
 use Rattle.dns_laws.proofs.TestLemmas.{passing, one_is, only_first, some_kept, kept_alike}
+use Rattle.dns_model.proofs.ViewSteps.{covers_rtype}
 
 -- ---- the records
 

@@ -16,18 +16,18 @@ use Rattle.dns_model.specs.Records.{Rr, RrSet, Question, question_eq}
 use Rattle.dns_model.specs.Views.{rrsig_in}
 use Rattle.dns_model.specs.Sections.{leaders, sets_of}
 use Rattle.dns_model.specs.Chains.{Judge}
-use Rattle.dns_model.specs.SoundAnswers.{Told, Placed, in_section, placed_sets, section_eq, is_secure}
+use Rattle.dns_model.specs.SoundAnswers.{Told, PlacedSet, in_section, placed_sets, section_eq, is_secure}
 use Rattle.dns_model.specs.Trails.{AskedValue, JudgedSetValue, EndingValue, Answered, Denied, Foreign, Failed, Seen}
 use Rattle.dns_model.proofs.EachLemmas.{each_more, each_append}
 use Rattle.dns_model.proofs.SetLemmas.{name_back, name_trans, number_same, number_refl}
 use Rattle.dns_model.proofs.Lists.{empty_is}
-use Rattle.dns_judgement.specs.Asking.{is_judged_at, judged_part}
-use Rattle.dns_judgement.specs.Judged.{Judged, decider}
-use Rattle.dns_judgement.specs.Outcome.{Outcome, outcome_of, outcome_by_denials, answers_query, has_answer, answered, is_wildcard_signature, has_wildcard_signature, is_unjudged, is_denying, is_expanded_answer, denying, denials, one_signer, is_insecure_authority, insecure_answer, foreign_record}
-use Rattle.dns_judgement.specs.Outcome as outcome
-use Rattle.dns_judgement.specs.Unsigned.{is_empty}
-use Rattle.dns_judgement.specs.Derivation.{Grounds, told_in, with_entries, is_by_origin, entry_holds, entries_hold, denial_eq, ending_eq, ends_bare, ending_holds, heard_holds, step_holds}
-use Rattle.dns_judgement.specs.DerivationParts.{with_entry, grounds_of, judged_holds}
+use Rattle.dns_rules.specs.Asking.{is_judged_at, judged_part}
+use Rattle.dns_rules.specs.MarkedSets.{MarkedSet, decider}
+use Rattle.dns_rules.specs.Outcome.{Outcome, outcome_of, outcome_by_denials, answers_query, has_answer, answered, is_wildcard_signature, has_wildcard_signature, is_unjudged, is_denying, is_expanded_answer, denying, denials, one_signer, is_insecure_authority, insecure_answer, foreign_record}
+use Rattle.dns_rules.specs.Outcome as outcome
+use Rattle.dns_rules.specs.Unsigned.{is_empty}
+use Rattle.dns_rules.specs.Derivation.{StepContext, told_in, with_entries, is_by_origin, entry_holds, entries_hold, denial_eq, ending_eq, ends_bare, ending_holds, heard_holds, step_holds}
+use Rattle.dns_rules.specs.DerivationParts.{with_entry, step_context_of, judged_holds}
 use Rattle.dns_laws.specs.Straight.{is_queried}
 use Rattle.dns_laws.proofs.TestLemmas.{all_kept, none_found, none_any}
 use Rattle.dns_laws.proofs.StraightLemmas.{IsQueried, IsPlain, OfReply, IsOneSet, each_signature}
@@ -44,7 +44,7 @@ one_placed j q told set one =
 pub one_judged : (j : Judge) (q : Question) (told : Told) (set : RrSet) (depth : ℕ) → IsOneSet j q told set → is_judged_at depth set.rtype ≡ true
     → judged_part depth told ≡ in_section Answer set ∷ []
 one_judged j q told set depth one kept =
-    let test = λ (p : Placed). is_judged_at depth p.set.rtype in
+    let test = λ (p : PlacedSet). is_judged_at depth p.set.rtype in
     ap (filter test) (one_placed j q told set one) ∙ all_kept test (in_section Answer set ∷ []) (kept, tt)
 
 -- ---- its class
@@ -116,13 +116,13 @@ abbrev pub needs_no_denial : ℕ → Bool
 needs_no_denial rtype = not ((rtype == type_nsec) || (rtype == type_nsec3))
 
 -- a set that is none of those, of the answer section, and not expanded from a wildcard
-record IsPlainSet (judged : Judged) : Type 0 where
+record IsPlainSet (judged : MarkedSet) : Type 0 where
   section : judged.section ≡ Answer
   nsec : (judged.set.rtype == type_nsec) ≡ false
   nsec3 : (judged.set.rtype == type_nsec3) ≡ false
   unexpanded : option_map_or is_wildcard_signature (decider judged) false ≡ false
 
-plain_set : (q : Question) (set : RrSet) (judged : Judged) → AllByRecursion (IsPlain q) set.signatures → judged.section ≡ Answer → judged.set ≡ set
+plain_set : (q : Question) (set : RrSet) (judged : MarkedSet) → AllByRecursion (IsPlain q) set.signatures → judged.section ≡ Answer → judged.set ≡ set
     → needs_no_denial set.rtype ≡ true → IsPlainSet judged
 plain_set q set judged each section same plain =
     let types = or_parts (set.rtype == type_nsec) (set.rtype == type_nsec3) (not-true ((set.rtype == type_nsec) || (set.rtype == type_nsec3)) plain) in
@@ -136,14 +136,14 @@ plain_set q set judged each section same plain =
           ∙ none_placed is_wildcard_signature set.signatures judged.sig plainly;
     }
 
-judged_already : (judged : Judged) → IsPlainSet judged → is_unjudged judged ≡ false
+judged_already : (judged : MarkedSet) → IsPlainSet judged → is_unjudged judged ≡ false
 judged_already judged i = and_right (is_secure judged.mark) (judged.set.rtype == type_nsec3) i.nsec3
 
-denies_nothing : (judged : Judged) → IsPlainSet judged → is_denying judged ≡ false
+denies_nothing : (judged : MarkedSet) → IsPlainSet judged → is_denying judged ≡ false
 denies_nothing judged i =
     ap (λ s. section_eq Authority s && (is_secure judged.mark && (judged.set.rtype == type_nsec))) i.section
 
-not_expanded : (judged : Judged) → IsPlainSet judged → is_expanded_answer judged ≡ false
+not_expanded : (judged : MarkedSet) → IsPlainSet judged → is_expanded_answer judged ≡ false
 not_expanded judged i =
     let wild = option_map_or is_wildcard_signature (decider judged) false in
     and_right (section_eq Answer judged.section) (is_secure judged.mark && wild) (and_right (is_secure judged.mark) wild i.unexpanded)
@@ -155,15 +155,15 @@ decided : (unjudged insecure wild denying expanded answer : Bool) (x y : Outcome
     else if denying then y
     else if expanded then outcome.Denied Bogus
     else if answer && not wild then outcome.Given denial.None
-    else outcome.Searched) ≡ outcome.Given denial.None
+    else outcome.NeedsZone) ≡ outcome.Given denial.None
 decided unjudged insecure wild denying expanded answer x y a b c d e f = rw (a, b, c, d, e, f) refl
 
-is_accepted : (j : Judge) (q asked : Question) (told : Told) (set : RrSet) (judged : Judged) → IsOneSet j q told set → question_eq q asked ≡ true
+is_accepted : (j : Judge) (q asked : Question) (told : Told) (set : RrSet) (judged : MarkedSet) → IsOneSet j q told set → question_eq q asked ≡ true
     → judged.section ≡ Answer → judged.set ≡ set → needs_no_denial set.rtype ≡ true
     → outcome_of asked told (judged ∷ []) ≡ outcome.Given denial.None
 unfolding outcome_of
 is_accepted j q asked told set judged one same section is plain =
-    let sets : List Judged = judged ∷ [] in
+    let sets : List MarkedSet = judged ∷ [] in
     let each : AllByRecursion (IsPlain q) set.signatures = subst (AllByRecursion (IsPlain q)) (sym one.signatures) (each_signature q told.answers one.each) in
     let i = plain_set q set judged each section is plain in
     decided (list_any is_unjudged sets) (is_insecure_authority asked told sets) (has_wildcard_signature told) (list_any is_denying sets)
@@ -177,18 +177,18 @@ is_accepted j q asked told set judged one same section is plain =
 
 -- ---- the step
 
-record OneEntry (g : Grounds) (placed : Placed) (entries : List JudgedSetValue) : Type 0 where
+record OneEntry (g : StepContext) (placed : PlacedSet) (entries : List JudgedSetValue) : Type 0 where
   entry : JudgedSetValue
   is : entries ≡ entry ∷ []
   holds : entry_holds g placed entry ≡ true
 
-one_entry : (g : Grounds) (placed : Placed) (entries : List JudgedSetValue) → entries_hold g (placed ∷ []) entries ≡ true → OneEntry g placed entries
+one_entry : (g : StepContext) (placed : PlacedSet) (entries : List JudgedSetValue) → entries_hold g (placed ∷ []) entries ≡ true → OneEntry g placed entries
 unfolding entries_hold
 one_entry g placed [] h = cc
 one_entry g placed (entry ∷ []) h = record { entry = entry; is = refl; holds = (and_parts (entry_holds g placed entry) true h).0 }
 one_entry g placed (entry ∷ other ∷ rest) h = cc ((and_parts (entry_holds g placed entry) false h).1)
 
-origin_of : (g : Grounds) (placed : Placed) (entry : JudgedSetValue) → entry_holds g placed entry ≡ true → is_by_origin g placed entry entry.origin ≡ true
+origin_of : (g : StepContext) (placed : PlacedSet) (entry : JudgedSetValue) → entry_holds g placed entry ≡ true → is_by_origin g placed entry entry.origin ≡ true
 unfolding entry_holds
 origin_of g placed entry h =
     let section = section_eq placed.section entry.section in
@@ -214,15 +214,15 @@ answered_same Seen h = cc
 -- a judged step that heard records holds by the first of another class
 pub judged_step : (j : Judge) (limit : ℕ) (earlier : List AskedValue) (step : AskedValue) (told : Told) → step_holds j limit earlier step ≡ true
     → step.judged ≡ true → told_in step.reply ≡ Some told
-    → judged_holds (grounds_of j limit earlier step) step told (foreign_record step.query told) ≡ true
+    → judged_holds (step_context_of j limit earlier step) step told (foreign_record step.query told) ≡ true
 unfolding step_holds
 judged_step j limit earlier step told h judged heard =
-    let g = grounds_of j limit earlier step in
+    let g = step_context_of j limit earlier step in
     ap (λ b. if b then judged_holds g step told (foreign_record step.query told) else ends_bare Seen step) (sym judged)
     ∙ ap (λ o. option_map_or (heard_holds g step) o (ends_bare Failed step)) (sym heard) ∙ h
 
 -- what a straight reply makes of a step
-pub record IsStraightStep (g : Grounds) (set : RrSet) (step : AskedValue) : Type 0 where
+pub record IsStraightStep (g : StepContext) (set : RrSet) (step : AskedValue) : Type 0 where
   pub entry : JudgedSetValue
   pub sets : step.sets ≡ entry ∷ []
   pub origin : is_by_origin g (in_section Answer set) entry entry.origin ≡ true
@@ -232,9 +232,9 @@ pub record IsStraightStep (g : Grounds) (set : RrSet) (step : AskedValue) : Type
 pub straight_step : (j : Judge) (limit : ℕ) (earlier : List AskedValue) (step : AskedValue) (q : Question) (told : Told) (set : RrSet)
     → step_holds j limit earlier step ≡ true → step.judged ≡ true → told_in step.reply ≡ Some told → question_eq q step.query ≡ true
     → IsOneSet j q told set → is_judged_at step.depth set.rtype ≡ true → needs_no_denial set.rtype ≡ true
-    → IsStraightStep (grounds_of j limit earlier step) set step
+    → IsStraightStep (step_context_of j limit earlier step) set step
 straight_step j limit earlier step q told set h judged heard same one kept plain =
-    let g = grounds_of j limit earlier step in
+    let g = step_context_of j limit earlier step in
     let placed = judged_part step.depth told in
     let parts = and_parts (entries_hold g placed step.sets) (ending_holds g step told (outcome_of step.query told (with_entries placed step.sets)))
     (ap (judged_holds g step told) (sym (none_foreign j q step.query told set one same)) ∙ judged_step j limit earlier step told h judged heard) in

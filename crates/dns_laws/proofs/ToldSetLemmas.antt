@@ -9,37 +9,37 @@ use Rattle.dns_model.specs.Names.{name_eq}
 use Rattle.dns_model.specs.Types.{type_cname}
 use Rattle.dns_model.specs.Records.{Rr, RrSet, Question}
 use Rattle.dns_model.specs.Chains.{is_nonempty, rdatas_of}
-use Rattle.dns_model.specs.SoundAnswers.{Told, Placed, placed_sets, section_of, section_eq, is_secure}
+use Rattle.dns_model.specs.SoundAnswers.{Told, PlacedSet, placed_sets, section_of, section_eq, is_secure}
 use Rattle.dns_model.specs.Trails.{JudgedSetValue}
 use Rattle.dns_model.proofs.EachLemmas.{each_more, each_of, each_both, each_filter, find_known}
 use Rattle.dns_model.proofs.SetLemmas.{IsProper, BeginsIn, IsSignedIn, is_of, head_of, covers_set, name_trans, number_same, section_same, proper_placed, begins_placed, signed_placed}
-use Rattle.dns_judgement.specs.Judged.{Judged, decider, placed_of}
-use Rattle.dns_judgement.specs.Asking.{is_judged_at, judged_part}
-use Rattle.dns_judgement.specs.Outcome.{answers_query, has_answer, is_wildcard_signature, has_wildcard_signature, is_expanded_answer, is_expanded_for}
-use Rattle.dns_judgement.specs.Derivation.{with_entries}
+use Rattle.dns_rules.specs.MarkedSets.{MarkedSet, decider, placed_of}
+use Rattle.dns_rules.specs.Asking.{is_judged_at, judged_part}
+use Rattle.dns_rules.specs.Outcome.{answers_query, has_answer, is_wildcard_signature, has_wildcard_signature, is_expanded_answer, is_expanded_for}
+use Rattle.dns_rules.specs.Derivation.{with_entries}
 use Rattle.dns_laws.proofs.GroundParts.{any_at, found_any}
 use Rattle.dns_laws.proofs.TestLemmas.{Passing, passing}
 
 -- ---- the sets of what was told
 
 -- a set stands in its section: it begins with a record of it, and its signatures are of it
-pub record IsTold (told : Told) (p : Placed) : Type 0 where
+pub record IsTold (told : Told) (p : PlacedSet) : Type 0 where
   pub proper : IsProper p.set
   pub begins : BeginsIn (section_of told p.section) p.set
   pub signed : IsSignedIn (section_of told p.section) p.set
 
-abbrev pub AreTold : Told → List Judged → Type 0
+abbrev pub AreTold : Told → List MarkedSet → Type 0
 AreTold told sets = AllByRecursion (λ s. IsTold told (placed_of s)) sets
 
 each_told : (told : Told) → AllByRecursion (IsTold told) (placed_sets told)
 each_told told =
-    let P = λ (p : Placed). IsProper p.set in
-    let B = λ (p : Placed). BeginsIn (section_of told p.section) p.set in
-    let S = λ (p : Placed). IsSignedIn (section_of told p.section) p.set in
+    let P = λ (p : PlacedSet). IsProper p.set in
+    let B = λ (p : PlacedSet). BeginsIn (section_of told p.section) p.set in
+    let S = λ (p : PlacedSet). IsSignedIn (section_of told p.section) p.set in
     each_more (λ p. P p × (B p × S p)) (IsTold told) (λ p h. record { proper = h.0; begins = h.1.0; signed = h.1.1 }) (placed_sets told)
     (each_both P (λ p. B p × S p) (placed_sets told) (proper_placed told) (each_both B S (placed_sets told) (begins_placed told) (signed_placed told)))
 
-each_judged : (P : Placed → Type 0) (ps : List Placed) (es : List JudgedSetValue) → AllByRecursion P ps
+each_judged : (P : PlacedSet → Type 0) (ps : List PlacedSet) (es : List JudgedSetValue) → AllByRecursion P ps
     → AllByRecursion (λ s. P (placed_of s)) (with_entries ps es)
 each_judged P [] es h = tt
 each_judged P (p ∷ ps) [] h = tt
@@ -53,13 +53,13 @@ judged_told depth told es =
 
 -- ---- a set that answers, expanded from a wildcard
 
-pub record IsExpandedSet (q : Question) (s : Judged) : Type 0 where
+pub record IsExpandedSet (q : Question) (s : MarkedSet) : Type 0 where
   pub section : Answer ≡ s.section
   pub wild : Passing is_wildcard_signature (decider s)
   pub owner : name_eq q.owner s.set.owner ≡ true
   pub rtype : ((s.set.rtype == q.rtype) || (s.set.rtype == type_cname)) ≡ true
 
-pub expanded_parts : (q : Question) (s : Judged) → is_expanded_for q s ≡ true → IsExpandedSet q s
+pub expanded_parts : (q : Question) (s : MarkedSet) → is_expanded_for q s ≡ true → IsExpandedSet q s
 expanded_parts q s h =
     let wild = option_map_or is_wildcard_signature (decider s) false in
     let kind = (s.set.rtype == q.rtype) || (s.set.rtype == type_cname) in
@@ -120,7 +120,7 @@ any_placed : (test : Rr → Bool) (rs : List Rr) (o : Option ℕ) (r : Rr) → o
 any_placed test rs None r is h = cc
 any_placed test rs (Some n) r is h = any_at test rs n r is h
 
-set_shows : (section : List Rr) (s : Judged) → IsSignedIn section s.set → Passing is_wildcard_signature (decider s)
+set_shows : (section : List Rr) (s : MarkedSet) → IsSignedIn section s.set → Passing is_wildcard_signature (decider s)
     → list_any is_wildcard_signature section ≡ true
 set_shows section s signed wild =
     any_kept is_wildcard_signature (covers_set s.set) section
@@ -133,7 +133,7 @@ pub record IsAnswered (q : Question) (told : Told) : Type 0 where
   pub answer : has_answer q told ≡ true
   pub wild : has_wildcard_signature told ≡ true
 
-pub expanded_answers : (q : Question) (told : Told) (s : Judged) → IsTold told (placed_of s) → is_expanded_for q s ≡ true → IsAnswered q told
+pub expanded_answers : (q : Question) (told : Told) (s : MarkedSet) → IsTold told (placed_of s) → is_expanded_for q s ≡ true → IsAnswered q told
 expanded_answers q told s of h =
     let i = expanded_parts q s h in
     let here : section_of told s.section ≡ told.answers = ap (section_of told) (sym i.section) in

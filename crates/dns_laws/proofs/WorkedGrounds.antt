@@ -17,15 +17,15 @@ use Rattle.dns_model.specs.Sections.{leaders, sets_of}
 use Rattle.dns_model.specs.Trails.{AskedValue, JudgedSetValue, Records, Answered, Failed}
 use Rattle.dns_model.proofs.Worked.{letter_a}
 use Rattle.dns_model.proofs.Delegation.{trusting, ds_of_key}
-use Rattle.dns_judgement.specs.Marks.{key_question}
-use Rattle.dns_judgement.specs.Delegations.{ds_question}
-use Rattle.dns_judgement.specs.Derivation.{derivation, steps_hold}
-use Rattle.dns_judgement.proofs.WorkedTrailValues.{record_of}
-use Rattle.dns_judgement.proofs.WorkedTrails.{computed}
-use Rattle.dns_judgement.proofs.WorkedDelegations.{zone, by_root, step_of, zone_entry, root_keys, ds_found, ds_by_root, other_algorithm, other_digest}
-use Rattle.dns_judgement.proofs.WorkedSearches.{host, host_seen, zone_seen, ds_unsupported, unsigned_step, searched, whole_search, below_an_alias}
-use Rattle.dns_judgement.proofs.WorkedExcuses.{keys_insecure, asked_by_the_signature, signed_step, unexpanded}
-use Rattle.dns_judgement.proofs.WorkedVerdicts.{with_ns, with_soa, with_ds, with_a}
+use Rattle.dns_rules.specs.Marks.{key_question}
+use Rattle.dns_rules.specs.Delegations.{ds_question}
+use Rattle.dns_rules.specs.Derivation.{derivation, steps_hold}
+use Rattle.dns_rules.proofs.WorkedTrailValues.{record_of}
+use Rattle.dns_rules.proofs.WorkedTrails.{computed}
+use Rattle.dns_rules.proofs.WorkedDelegations.{zone, by_root, step_of, zone_entry, root_keys, ds_found, ds_by_root, other_algorithm, other_digest}
+use Rattle.dns_rules.proofs.WorkedSearches.{host, host_seen, zone_seen, ds_unsupported, unsigned_step, searched, whole_search, below_an_alias}
+use Rattle.dns_rules.proofs.WorkedExcuses.{keys_insecure, asked_by_the_signature, signed_step, unexpanded}
+use Rattle.dns_rules.proofs.WorkedVerdicts.{with_ns, with_soa, with_ds, with_a}
 use Rattle.dns_laws.specs.Ground.{is_ground, insecure_has_ground}
 
 -- ---- what the examples compute with

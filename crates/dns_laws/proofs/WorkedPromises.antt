@@ -3,9 +3,9 @@ use Rattle.std.proofs.Common.{refl}
 use Rattle.dns_model.specs.declared.proof.Proof.TheVariants.{Secure}
 use Rattle.dns_model.specs.declared.denial.Denial.TheVariants as denial
 use Rattle.dns_model.specs.Trails.{Answered}
-use Rattle.dns_judgement.specs.Derivation.{judged_sets}
-use Rattle.dns_judgement.proofs.WorkedDelegations.{by_root}
-use Rattle.dns_judgement.proofs.WorkedDenials.{missing, expanded, nsec_of_a, query_of, told_of, both_covered, name_error, by_both_covered, no_such_name, expansion, by_expansion, nothing_closer}
+use Rattle.dns_rules.specs.Derivation.{judged_sets}
+use Rattle.dns_rules.proofs.WorkedDelegations.{by_root}
+use Rattle.dns_rules.proofs.WorkedDenials.{missing, expanded, nsec_of_a, query_of, told_of, both_covered, name_error, by_both_covered, no_such_name, expansion, by_expansion, nothing_closer}
 use Rattle.dns_laws.specs.Denials.{ShowsAbsence, ShowsExpansion}
 use Rattle.dns_laws.proofs.DenialLemmas.{denials_hold}
 

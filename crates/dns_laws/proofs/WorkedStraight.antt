@@ -6,9 +6,9 @@ use Rattle.dns_model.specs.Sections.{leaders, sets_of}
 use Rattle.dns_model.specs.Chains.{Judge, judge}
 use Rattle.dns_model.specs.SoundAnswers.{Told}
 use Rattle.dns_model.proofs.Worked.{key, name_a, signature, anchors}
-use Rattle.dns_judgement.specs.Marks.{first_two}
-use Rattle.dns_judgement.proofs.WorkedTrailValues.{verifier, root_judge, record_of, keys_question, ns_question, ns_records}
-use Rattle.dns_judgement.proofs.WorkedTrails.{good_computed}
+use Rattle.dns_rules.specs.Marks.{first_two}
+use Rattle.dns_rules.proofs.WorkedTrailValues.{verifier, root_judge, record_of, keys_question, ns_question, ns_records}
+use Rattle.dns_rules.proofs.WorkedTrails.{good_computed}
 use Rattle.dns_laws.specs.Straight.{is_straight}
 use Rattle.dns_laws.specs.Valid.{leads_to_anchor}
 

@@ -5,10 +5,10 @@ use Rattle.dns_model.specs.Records.{Rr, Question, question_eq}
 use Rattle.dns_model.specs.SoundAnswers.{Told}
 use Rattle.dns_model.proofs.Worked.{key}
 use Rattle.dns_model.proofs.Delegation.{ds_of_key, signature_of}
-use Rattle.dns_judgement.specs.Marks.{key_question}
-use Rattle.dns_judgement.specs.Delegations.{ds_question}
-use Rattle.dns_judgement.proofs.WorkedTrailValues.{record_of}
-use Rattle.dns_judgement.proofs.WorkedDelegations.{zone, ds_records, zone_keys, self_signed, by_root, by_both, other_digest, digest_of_key}
+use Rattle.dns_rules.specs.Marks.{key_question}
+use Rattle.dns_rules.specs.Delegations.{ds_question}
+use Rattle.dns_rules.proofs.WorkedTrailValues.{record_of}
+use Rattle.dns_rules.proofs.WorkedDelegations.{zone, ds_records, zone_keys, self_signed, by_root, by_both, other_digest, digest_of_key}
 use Rattle.dns_laws.specs.Valid.{leads_to_anchor}
 use Rattle.dns_laws.proofs.WorkedStraight.{answers_of, leads_computed}
 

@@ -9,11 +9,12 @@ use Rattle.dns_model.specs.Records.{Rr, RrSet, Question, question_eq}
 use Rattle.dns_model.specs.Chains.{Judge}
 use Rattle.dns_model.specs.SoundAnswers.{Told, is_secure}
 use Rattle.dns_model.specs.Trails.{AskedValue, Answered}
-use Rattle.dns_judgement.specs.Judged.{Judged}
-use Rattle.dns_judgement.specs.Marking.{marked_section}
-use Rattle.dns_judgement.specs.Derivation.{told_in, judged_sets, top_step, in_send_order}
+use Rattle.dns_rules.specs.MarkedSets.{MarkedSet}
+use Rattle.dns_rules.specs.Marking.{marked_section}
+use Rattle.dns_rules.specs.Derivation.{told_in, judged_sets, top_step, in_send_order}
 use Rattle.dns_laws.specs.Straight.{is_queried}
 use Rattle.dns_laws.specs.Valid.{straight_set}
+use Rattle.dns_model.specs.Paired.{ArePaired}
 
 -- ---- what is told
 
@@ -34,10 +35,7 @@ HeardAlong up r (step ∷ steps) = (told_in step.reply ≡ up.tells r step.query
 
 -- the steps ask these queries
 abbrev pub AreAsked : List Question → List AskedValue → Type 0
-AreAsked [] [] = Unit {0}
-AreAsked [] (step ∷ steps) = ⊥
-AreAsked (q ∷ qs) [] = ⊥
-AreAsked (q ∷ qs) (step ∷ steps) = (question_eq q step.query ≡ true) × AreAsked qs steps
+AreAsked queries steps = ArePaired (λ q step. question_eq q step.query ≡ true) queries steps
 
 -- the records that were queried are there, and each is Secure
 abbrev pub shows_secure : Question → List Rr → Bool
@@ -53,7 +51,7 @@ pub record ProvesQuery (j : Judge) (tells : Question → Option Told) (q : Quest
   pub heard : told_in top.reply ≡ Some told
   pub set : RrSet
   pub straight : straight_set j tells q ≡ Some set
-  pub judged : Judged
+  pub judged : MarkedSet
   pub sets : judged_sets top ≡ judged ∷ []
   pub section : judged.section ≡ Answer
   pub is : judged.set ≡ set

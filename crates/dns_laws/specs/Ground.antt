@@ -8,10 +8,10 @@ use Rattle.dns_model.specs.Records.{Rr}
 use Rattle.dns_model.specs.Keys.{VerifierAnswers}
 use Rattle.dns_model.specs.SoundAnswers.{is_secure}
 use Rattle.dns_model.specs.Trails.{AskedValue, JudgedSetValue}
-use Rattle.dns_judgement.specs.Judged.{Judged}
-use Rattle.dns_judgement.specs.Delegations.{is_readable_ds, is_supported_ds, is_ds_set_of, shows_no_ds, is_insecure}
-use Rattle.dns_judgement.specs.KeySets.{is_root}
-use Rattle.dns_judgement.specs.Derivation.{if_answered, judged_sets}
+use Rattle.dns_rules.specs.MarkedSets.{MarkedSet}
+use Rattle.dns_rules.specs.Delegations.{is_readable_ds, is_supported_ds, is_ds_set_of, shows_no_ds, is_insecure}
+use Rattle.dns_rules.specs.KeySets.{is_root}
+use Rattle.dns_rules.specs.Derivation.{if_answered, judged_sets}
 
 -- ---- what an answer shows of a zone
 
@@ -20,14 +20,14 @@ abbrev pub none_supported : VerifierAnswers → List Rr → Bool
 none_supported verifier records = list_any is_readable_ds records && not (list_any (is_supported_ds verifier) records)
 
 -- a Secure DS set of the zone, in the answer section, by which its keys can't be judged
-abbrev pub shows_unsupported_ds : VerifierAnswers → ℕ → Labels → Judged → Bool
+abbrev pub shows_unsupported_ds : VerifierAnswers → ℕ → Labels → MarkedSet → Bool
 shows_unsupported_ds verifier class zone judged =
     is_ds_set_of class zone judged && (is_secure judged.mark && none_supported verifier judged.set.records)
 
 -- the answer to the question for a zone's DS set shows that the zone can't be judged: by such a DS set, or, where the answer section
 -- has no DS set of the zone, by a Secure NSEC of the zone with NS and without DS and SOA. An NSEC3 that says the same shows nothing
 -- yet, since NSEC3 isn't judged (RFC 5155, 8.9)
-abbrev pub shows_unsigned : VerifierAnswers → ℕ → Labels → List Judged → Bool
+abbrev pub shows_unsigned : VerifierAnswers → ℕ → Labels → List MarkedSet → Bool
 shows_unsigned verifier class zone answer =
     list_any (shows_unsupported_ds verifier class zone) answer
     || (not (list_any (is_ds_set_of class zone) answer) && list_any (shows_no_ds zone) answer)

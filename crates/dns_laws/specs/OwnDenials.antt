@@ -2,6 +2,7 @@
 use Rattle.std.specs.Prelude.{◌≡◌, ℕ, Bool, true, false, not, ◌==◌, ◌&&◌, ◌||◌, nat_le, List}
 use Rattle.std.specs.Option.{option_map_or}
 use Rattle.std.specs.List.{filter, filter_map, list_any, list_all}
+use Rattle.dns_model.specs.declared.proof.Proof.{Proof}
 use Rattle.dns_model.specs.declared.proof.Proof.TheVariants.{Secure}
 use Rattle.dns_model.specs.declared.denial.Denial.{Denial}
 use Rattle.dns_model.specs.declared.denial.Denial.TheVariants.{Absent, Expanded}
@@ -12,9 +13,9 @@ use Rattle.dns_model.specs.Records.{Rr, Question}
 use Rattle.dns_model.specs.RecordViews.{rrsig_of}
 use Rattle.dns_model.specs.Sections.{is_signature}
 use Rattle.dns_model.specs.SoundAnswers.{Told, is_secure, set_rtype}
-use Rattle.dns_judgement.specs.NsecVerdict.{holds_query}
-use Rattle.dns_judgement.specs.DenialInZones.{IsDeniedIn, IsExpandedIn}
-use Rattle.dns_judgement.specs.Outcome.{has_answer, is_wildcard_signature, owned_nsec}
+use Rattle.dns_rules.specs.NsecVerdict.{holds_query}
+use Rattle.dns_rules.specs.DenialInZones.{IsDeniedIn, IsExpandedIn}
+use Rattle.dns_rules.specs.Outcome.{has_answer, is_wildcard_signature, owned_nsec}
 
 -- ---- the Secure NSEC records of a section
 
@@ -33,10 +34,12 @@ signs_nsec r = is_secure r.proof && (is_signature r && (set_rtype r == type_nsec
 abbrev pub has_signer : Labels → Rr → Bool
 has_signer zone r = option_map_or (λ sig. name_eq zone sig.signer) (rrsig_of r) false
 
--- a zone holds the query, and made the Secure NSEC records of the authority section, of which there are some
+-- a zone holds the query, and made the Secure NSEC records of the authority section, of which there are some: it is the signer of a
+-- Secure signature over them, and of each
 pub record IsDenyingZone (q : Question) (records : List Rr) (apex : Labels) : Type 0 where
   pub holds : holds_query apex q ≡ true
   pub some : list_any is_secure_nsec records ≡ true
+  pub signed : list_any (λ r. signs_nsec r && has_signer apex r) records ≡ true
   pub made : list_all (λ r. not (signs_nsec r) || has_signer apex r) records ≡ true
 
 -- ---- what is denied
@@ -58,17 +61,24 @@ is_expansion q r =
 abbrev pub has_labels_from : ℕ → Rr → Bool
 has_labels_from labels r = option_map_or (λ sig. nat_le labels sig.labels) (rrsig_of r) false
 
--- no such signature has fewer labels, and in each zone with that apex in which those NSEC records are true neither the name nor a
+-- it has exactly so many
+abbrev pub has_labels : ℕ → Rr → Bool
+has_labels labels r = option_map_or (λ sig. labels == sig.labels) (rrsig_of r) false
+
+-- some such signature has so many labels and none has fewer, and in each zone with that apex in which those NSEC records are true neither the name nor a
 -- wildcard with more labels exists
 pub record DeniesCloser (q : Question) (told : Told) : Type 0 where
   pub labels : ℕ
+  pub some : list_any (λ r. is_expansion q r && has_labels labels r) told.answers ≡ true
   pub fewest : list_all (λ r. not (is_expansion q r) || has_labels_from labels r) told.answers ≡ true
   pub apex : Labels
   pub zone : IsDenyingZone q told.authorities apex
   pub holds : IsExpandedIn q apex labels (secure_nsecs told.authorities)
 
--- what the denial of an Ok answer says by its records; a Secure answer from a wildcard stands only beside a Secure expansion
+-- what the denial of an Ok answer says by its records: of whatever mark it is, where it says that there is no answer, no record answers;
+-- and a Secure answer from a wildcard stands only beside a Secure expansion
 pub record DeniesByRecords (q : Question) (told : Told) (denial : Denial) : Type 0 where
+  pub unanswered : (mark : Proof) → denial ≡ Absent mark → has_answer q told ≡ false
   pub absent : denial ≡ Absent Secure → DeniesAnswer q told
   pub expanded : denial ≡ Expanded Secure → DeniesCloser q told
   pub denied : list_any (is_expansion q) told.answers ≡ true → denial ≡ Expanded Secure

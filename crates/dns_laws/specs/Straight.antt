@@ -9,8 +9,8 @@ use Rattle.dns_model.specs.RecordViews.{rrsig_of}
 use Rattle.dns_model.specs.Sections.{is_signature, sets_of}
 use Rattle.dns_model.specs.Chains.{Judge, has_bytes, rdatas_of}
 use Rattle.dns_model.specs.SoundAnswers.{Told}
-use Rattle.dns_judgement.specs.KeySets.{is_anchored_key}
-use Rattle.dns_judgement.specs.Unsigned.{is_empty}
+use Rattle.dns_rules.specs.KeySets.{is_anchored_key}
+use Rattle.dns_rules.specs.Unsigned.{is_empty}
 
 -- a record of the name, the type and the class that are queried
 abbrev pub is_queried : Question → Rr → Bool

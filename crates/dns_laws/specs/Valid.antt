@@ -8,11 +8,11 @@ use Rattle.dns_model.specs.RecordViews.{rrsig_of}
 use Rattle.dns_model.specs.Sections.{sets_of}
 use Rattle.dns_model.specs.Chains.{Judge, signer_fits}
 use Rattle.dns_model.specs.SoundAnswers.{Told}
-use Rattle.dns_judgement.specs.Validity.{is_good_by}
-use Rattle.dns_judgement.specs.Marks.{key_question, counted_keys}
-use Rattle.dns_judgement.specs.Delegations.{ds_question, is_supported_ds}
-use Rattle.dns_judgement.specs.KeySets.{is_root, is_anchored_key, is_matched_key}
-use Rattle.dns_judgement.specs.Asking.{depth_limit}
+use Rattle.dns_rules.specs.Validity.{is_good_by}
+use Rattle.dns_rules.specs.Marks.{key_question, counted_keys}
+use Rattle.dns_rules.specs.Delegations.{ds_question, is_supported_ds}
+use Rattle.dns_rules.specs.KeySets.{is_root, is_anchored_key, is_matched_key}
+use Rattle.dns_rules.specs.Asking.{depth_limit}
 use Rattle.dns_laws.specs.Straight.{is_straight}
 
 -- a query that can be proved so: of class IN, for no signature, no denial, no OPT and none of the types 128 to 255, which are

@@ -5,14 +5,16 @@ use Rattle.dns_model.specs.declared.trail.AskRef.{AskRef}
 use Rattle.dns_model.specs.declared.trail.AskRef.TheVariants.{TooMany}
 use Rattle.dns_model.specs.Records.{Rr, Question}
 use Rattle.dns_model.specs.Chains.{Judge}
-use Rattle.dns_model.specs.SoundAnswers.{Told, Placed, told_by}
+use Rattle.dns_model.specs.SoundAnswers.{Told, PlacedSet, told_by}
 use Rattle.dns_model.specs.Trails.{AskedValue, HeardValue, JudgedSetValue, EndingValue, Records, Fault, Failed, Seen}
-use Rattle.dns_judgement.specs.Asking.{most_sends, judged_part}
-use Rattle.dns_judgement.specs.Chained.{Chained, bare}
-use Rattle.dns_judgement.specs.Derivation.{Unseen, sight_of, if_answered, judged_sets, ending_by, step_holds}
-use Rattle.dns_judgement.specs.Derivation as derived
-use Rattle.dns_judgement.specs.DerivationParts.{asks_of_sets}
-use Rattle.dns_judgement.specs.Outcome.{Outcome, foreign_record}
+use Rattle.dns_rules.specs.Asking.{most_sends, judged_part}
+use Rattle.dns_rules.specs.ChainedSets.{ChainedSet, bare}
+use Rattle.dns_rules.specs.Derivation.{probe_of, if_answered, judged_sets, ending_by, step_holds}
+use Rattle.dns_rules.specs.Derivation as derived
+use Rattle.dns_rules.specs.DerivationParts.{asks_of_sets}
+use Rattle.dns_rules.specs.Outcome.{Outcome, foreign_record}
+use Rattle.dns_rules.specs.Probes.{NsProbe}
+use Rattle.dns_rules.specs.Probes as probes
 use Rattle.dns_handle.specs.Errors.{Reply}
 use Rattle.dns_lookup.specs.AskRequests.{Ask, judged_ask}
 use Rattle.dns_lookup.specs.Walking.{MetFault, Received, Asks, IsAdded, IsAnswer, IsSeen, IsJudgement, IsConcluded, judged_step, plain_step, foreign_ending, given_sets}
@@ -69,27 +71,27 @@ seen_asks ask j limit a b s t u depth q received reply made n k l h records stil
     (asks_none ask j limit b s [] k refl) next last few (plain_so j limit s depth q reply (told_by received.message) received.empty records) (subst P still added)
 
 -- it saw what is in the records
-pub seen_so : (t u : List AskedValue) (depth : ℕ) (q : Question) (received : ReceivedMessage) (reply : HeardValue) (made : AskRef) (sight : derived.Sight)
-    → reply ≡ Records (told_by received.message) received.empty → sight ≡ sight_of q.owner (Records (told_by received.message) received.empty)
-    → IsAdded t u (plain_step depth q reply Seen) made → IsSeen u depth q made sight
-seen_so t u depth q received reply made sight records is added =
-    let P : derived.Sight → Type 0 = λ x. IsSeen u depth q made x in
-    subst P (ap (sight_of q.owner) records ∙ sym is) (added_seen t u q depth reply Seen made added)
+pub seen_so : (t u : List AskedValue) (depth : ℕ) (q : Question) (received : ReceivedMessage) (reply : HeardValue) (made : AskRef) (probe : NsProbe)
+    → reply ≡ Records (told_by received.message) received.empty → probe ≡ probe_of q.owner (Records (told_by received.message) received.empty)
+    → IsAdded t u (plain_step depth q reply Seen) made → IsSeen u depth q made probe
+seen_so t u depth q received reply made probe records is added =
+    let P : NsProbe → Type 0 = λ x. IsSeen u depth q made x in
+    subst P (ap (probe_of q.owner) records ∙ sym is) (added_seen t u q depth reply Seen made added)
 
 -- a fault saw nothing
-pub unseen_fault : (t u : List AskedValue) (depth : ℕ) (q : Question) (named made : AskRef) (sight : derived.Sight) → sight ≡ Unseen → named ≡ made
-    → IsAdded t u (plain_step depth q Fault Failed) made → IsSeen u depth q named sight
-unseen_fault t u depth q named made sight is same added =
-    let P : derived.Sight → Type 0 = λ x. IsSeen u depth q named x in
-    let Q : AskRef → Type 0 = λ x. IsSeen u depth q x Unseen in
+pub unseen_fault : (t u : List AskedValue) (depth : ℕ) (q : Question) (named made : AskRef) (probe : NsProbe) → probe ≡ probes.Failed → named ≡ made
+    → IsAdded t u (plain_step depth q Fault Failed) made → IsSeen u depth q named probe
+unseen_fault t u depth q named made probe is same added =
+    let P : NsProbe → Type 0 = λ x. IsSeen u depth q named x in
+    let Q : AskRef → Type 0 = λ x. IsSeen u depth q x probes.Failed in
     subst P (sym is) (subst Q (sym same) (added_seen t u q depth Fault Failed made added))
 
 -- nor did an ask that was refused as one too many
-pub unseen_many : (steps : List AskedValue) (depth : ℕ) (q : Question) (made : AskRef) (sight : derived.Sight) → made ≡ TooMany → sight ≡ Unseen
-    → IsSeen steps depth q made sight
-unseen_many steps depth q made sight is unseen =
-    let P : derived.Sight → Type 0 = λ x. IsSeen steps depth q made x in
-    let Q : AskRef → Type 0 = λ x. IsSeen steps depth q x Unseen in
+pub unseen_many : (steps : List AskedValue) (depth : ℕ) (q : Question) (made : AskRef) (probe : NsProbe) → made ≡ TooMany → probe ≡ probes.Failed
+    → IsSeen steps depth q made probe
+unseen_many steps depth q made probe is unseen =
+    let P : NsProbe → Type 0 = λ x. IsSeen steps depth q made x in
+    let Q : AskRef → Type 0 = λ x. IsSeen steps depth q x probes.Failed in
     subst P (sym unseen) (subst Q (sym is) (record { asks = refl; sees = refl }))
 
 -- ---- a record of another class
@@ -134,7 +136,7 @@ foreign_asks ask j limit a b s t u depth q received reply ending made n k l h re
 
 -- it has no answer
 pub foreign_answer : (j : Judge) (limit : ℕ) (t u : List AskedValue) (q : Question) (depth : ℕ) (o : Option Rr) (reply : HeardValue) (ending : EndingValue)
-    (made : AskRef) (answer : Option (List Chained)) → depth ≤ limit → IsAdded t u (judged_step depth q reply [] ending []) made → answer ≡ None
+    (made : AskRef) (answer : Option (List ChainedSet)) → depth ≤ limit → IsAdded t u (judged_step depth q reply [] ending []) made → answer ≡ None
     → IsNamed o ending → IsAnswer j limit u q depth made answer
 foreign_answer j limit t u q depth o reply ending made answer shallow added none named =
     no_answer j limit t u q depth reply ending made answer shallow added none (ap (λ e. if_answered e (judged_sets (judged_step depth q reply [] ending []))) named.named)
@@ -142,17 +144,17 @@ foreign_answer j limit t u q depth o reply ending made answer shallow added none
 -- ---- judged sets
 
 -- sets that were judged by the steps before further asks are judged so by those after them
-pub judged_after : (j : Judge) (limit : ℕ) (t u : List AskedValue) (depth : ℕ) (q : Question) (placed : List Placed) (told : Told) (sets : List Chained)
+pub judged_after : (j : Judge) (limit : ℕ) (t u : List AskedValue) (depth : ℕ) (q : Question) (placed : List PlacedSet) (told : Told) (sets : List ChainedSet)
     (entries : List JudgedSetValue) (more : List AskedValue) → placed ≡ judged_part depth told → u ≡ t ++ more
     → IsJudgement (record { judge = j; limit = limit; earlier = t; query = q; depth = depth }) placed sets entries
     → IsJudgement (record { judge = j; limit = limit; earlier = u; query = q; depth = depth }) (judged_part depth told) sets entries
 judged_after j limit t u depth q placed told sets entries more part grown judged =
-    let Q : List Placed → Type 0 = λ x. IsJudgement (record { judge = j; limit = limit; earlier = u; query = q; depth = depth }) x sets entries in
+    let Q : List PlacedSet → Type 0 = λ x. IsJudgement (record { judge = j; limit = limit; earlier = u; query = q; depth = depth }) x sets entries in
     subst Q part (judgement_later (record { judge = j; limit = limit; earlier = t; query = q; depth = depth }) u more placed sets entries grown judged)
 
 -- an ask whose sets were judged and came to an outcome, where further asks may have been needed for that
 pub judged_asks : {H : Type 0} (ask : H → Ask → H → Reply → Type 0) (j : Judge) (limit : ℕ) (a b c d : H) (s r t u v : List AskedValue)
-    (depth : ℕ) (q : Question) (received : ReceivedMessage) (placed : List Placed) (sets : List Chained) (entries : List JudgedSetValue)
+    (depth : ℕ) (q : Question) (received : ReceivedMessage) (placed : List PlacedSet) (sets : List ChainedSet) (entries : List JudgedSetValue)
     (o : Outcome) (excuse : List AskRef) (made : AskRef) (n k m p l : ℕ)
     → Received ask a b (judged_ask q) (Ok received) → foreign_record q (told_by received.message) ≡ None → r ≡ s → k ≡ n + 1 → l ≡ p → n < most_sends
     → placed ≡ judged_part depth (told_by received.message) → Asks ask j limit b c r t (asks_of_sets entries) k m
@@ -169,8 +171,8 @@ judged_asks {H} ask j limit a b c d s r t u v depth q received placed sets entri
     (judged_step_holds j limit u depth q (told_by received.message) received.empty sets entries o excuse own
     (judged_after j limit t u depth q placed (told_by received.message) sets entries further.part.more part further.part.grown judged) concluded) added
 
-pub judged_so : (j : Judge) (limit : ℕ) (t u v more : List AskedValue) (q : Question) (depth : ℕ) (received : ReceivedMessage) (placed : List Placed) (sets : List Chained)
-    (entries : List JudgedSetValue) (o : Outcome) (excuse : List AskRef) (made : AskRef) (answer : Option (List Chained)) → depth ≤ limit
+pub judged_so : (j : Judge) (limit : ℕ) (t u v more : List AskedValue) (q : Question) (depth : ℕ) (received : ReceivedMessage) (placed : List PlacedSet) (sets : List ChainedSet)
+    (entries : List JudgedSetValue) (o : Outcome) (excuse : List AskRef) (made : AskRef) (answer : Option (List ChainedSet)) → depth ≤ limit
     → placed ≡ judged_part depth (told_by received.message)
     → IsJudgement (record { judge = j; limit = limit; earlier = t; query = q; depth = depth }) placed sets entries → u ≡ t ++ more
     → IsAdded u v (judged_step depth q (Records (told_by received.message) received.empty) entries (ending_by o) excuse) made

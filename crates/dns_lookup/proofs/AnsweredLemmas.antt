@@ -12,13 +12,13 @@ use Rattle.dns_model.specs.Records.{Rr, Question, MessageValue}
 use Rattle.dns_model.specs.SoundAnswers.{Told, told_by, ResponseValue, placed_sets, section_of, is_secure}
 use Rattle.dns_model.proofs.EachLemmas.{each_of, find_known}
 use Rattle.dns_model.proofs.SetLemmas.{is_of, head_of, number_same}
-use Rattle.dns_judgement.specs.Chained.{bare}
-use Rattle.dns_judgement.specs.Judged.{Judged, placed_of}
-use Rattle.dns_judgement.specs.Marking.{cleared_message}
-use Rattle.dns_judgement.specs.Outcome.{Outcome, Unjudged, Given, Searched, is_unjudged, foreign_record}
-use Rattle.dns_judgement.specs.Outcome as outcome
-use Rattle.dns_judgement.proofs.Members.{picked_known}
-use Rattle.dns_judgement.proofs.MarkedLemmas.{IsKnown, each_known}
+use Rattle.dns_rules.specs.ChainedSets.{bare}
+use Rattle.dns_rules.specs.MarkedSets.{MarkedSet, placed_of}
+use Rattle.dns_rules.specs.Marking.{cleared_message}
+use Rattle.dns_rules.specs.Outcome.{Outcome, Unjudged, Given, NeedsZone, is_unjudged, foreign_record}
+use Rattle.dns_rules.specs.Outcome as outcome
+use Rattle.dns_rules.proofs.Members.{picked_known}
+use Rattle.dns_rules.proofs.MarkedLemmas.{IsKnown, each_known}
 use Rattle.dns_laws.proofs.GroundParts.{any_front, found_any}
 use Rattle.dns_handle.specs.Errors.{Reply, ErrorValue}
 use Rattle.dns_handle.specs.Handles.{reply_to}
@@ -29,7 +29,7 @@ use Rattle.dns_lookup.specs.Received.{received_message}
 use Rattle.dns_lookup.specs.Calls.{Call}
 use Rattle.dns_lookup.specs.LookupAnswers.{UnlessNoMemory}
 use Rattle.dns_lookup.specs.Causes.{has_response, tells_nsec3, AnswersTold}
-use Rattle.dns_lookup.specs.Answering.{Findings, answer_by, top_grounds, Found, AnswersLookup, Passes, Names, Judges}
+use Rattle.dns_lookup.specs.Answering.{Findings, answer_by, top_step_context, Found, AnswersLookup, Passes, Names, Judges}
 use Rattle.dns_lookup.specs.LookupParts.{KnownReplies, IsReplyTo}
 use Rattle.dns_lookup.proofs.ConclusionLemmas.{still_unjudged, never_searched}
 use Rattle.dns_lookup.proofs.LookupAnswerLemmas.{unless_map}
@@ -61,7 +61,7 @@ first_of_set : (rs : List Rr) → is_nonempty (rdatas_of rs) ≡ true → First 
 first_of_set [] some = cc
 first_of_set (r ∷ rs) some = record { value = r; is = refl }
 
-unjudged_told : (told : Told) (sets : List Judged) → map placed_of sets ≡ placed_sets told → list_any is_unjudged sets ≡ true → tells_nsec3 told ≡ true
+unjudged_told : (told : Told) (sets : List MarkedSet) → map placed_of sets ≡ placed_sets told → list_any is_unjudged sets ≡ true → tells_nsec3 told ≡ true
 unjudged_told told sets grouped any =
     let one = picked_known is_unjudged (IsKnown told sets) sets (each_known told sets grouped) any in
     let set = one.it.set in
@@ -97,12 +97,12 @@ responds_by : {H : Type 0} (meanings : handle.Ghosts H) (call : Call H) (found :
     → tells_nsec3 (told_by found.message) ≡ false → has_response (answer_by call.now call.query found o) ≡ true
 responds_by meanings call found f (Given d) is none = refl
 responds_by meanings call found f (outcome.Denied p) is none = refl
-responds_by meanings call found f Searched is none =
-    absurd (never_searched (top_grounds call found.steps) (told_by found.message) (bare found.sets) found.outcome found.excuse f.concluded is)
+responds_by meanings call found f NeedsZone is none =
+    absurd (never_searched (top_step_context call found.steps) (told_by found.message) (bare found.sets) found.outcome found.excuse f.concluded is)
 responds_by meanings call found f Unjudged is none =
     let told = told_by found.message in
     let sees = unjudged_sees call.query told (bare found.sets)
-    (still_unjudged (top_grounds call found.steps) told (bare found.sets) found.outcome found.excuse f.concluded is) in
+    (still_unjudged (top_step_context call found.steps) told (bare found.sets) found.outcome found.excuse f.concluded is) in
     absurd (true≢false (sym (unjudged_told told (bare found.sets) (found_grouped meanings call found f) sees) ∙ none))
 
 answers_told : {H : Type 0} (meanings : handle.Ghosts H) (call : Call H) {answer : Reply} → AnswersLookup meanings call answer

@@ -4,10 +4,10 @@ use Rattle.dns_model.specs.declared.trail.AskRef.{AskRef}
 use Rattle.dns_model.specs.declared.trail.AskRef.TheVariants.{Step, TooDeep, TooMany}
 use Rattle.dns_model.specs.Chains.{Judge}
 use Rattle.dns_model.specs.Trails.{AskedValue}
-use Rattle.dns_judgement.specs.Asking.{most_sends}
-use Rattle.dns_judgement.specs.Derivation.{step_holds, asks_of}
-use Rattle.dns_judgement.proofs.PartLemmas.{part_none, part_deep, part_many, part_then, part_step}
-use Rattle.dns_judgement.proofs.SentLemmas.{sent_of_none, sent_of_deep, sent_of_many, sent_of_then, sent_of_step}
+use Rattle.dns_rules.specs.Asking.{most_sends}
+use Rattle.dns_rules.specs.Derivation.{step_holds, asks_of}
+use Rattle.dns_rules.proofs.PartLemmas.{part_none, part_deep, part_many, part_then, part_step}
+use Rattle.dns_rules.proofs.SentLemmas.{sent_of_none, sent_of_deep, sent_of_many, sent_of_then, sent_of_step}
 use Rattle.dns_handle.specs.Errors.{Reply}
 use Rattle.dns_handle.specs.Walks.{Walked}
 use Rattle.dns_handle.specs.declared.handle.DnsHandle as handle

@@ -3,8 +3,8 @@ use Rattle.std.proofs.Common.{ℕ, ◌≡◌, ◌≢◌, ◌∙◌, Bool, true, 
 use Rattle.dns_model.specs.Counts.{Rose}
 use Rattle.dns_model.specs.Records.{Question, MessageValue}
 use Rattle.dns_model.specs.SoundAnswers.{ResponseValue}
-use Rattle.dns_judgement.specs.Outcome.{Outcome, Unjudged, Given, Searched}
-use Rattle.dns_judgement.specs.Outcome as outcome
+use Rattle.dns_rules.specs.Outcome.{Outcome, Unjudged, Given, NeedsZone}
+use Rattle.dns_rules.specs.Outcome as outcome
 use Rattle.dns_handle.specs.Errors as seen
 use Rattle.dns_handle.specs.Errors.{Reply, ErrorValue, Dns, Message, ForeignClassRecord, Nsec}
 use Rattle.dns_handle.specs.ErrorKinds.{is_no_records_found}
@@ -95,7 +95,7 @@ passed_as meanings call e error passed is = subst (λ x. PassedOn meanings call 
 not_by : (now : ℕ) (q : Question) (found : Findings) (o : Outcome) (error : ErrorValue) → answer_by now q found o ≡ Err error
     → is_upstreams error ≡ true → ⊥
 not_by now q found Unjudged error is up = no_both (is_upstreams error) up (ap is_upstreams (err_same (Err error) error (Message NotJudgedYet) refl (sym is)))
-not_by now q found Searched error is up = no_both (is_upstreams error) up (ap is_upstreams (err_same (Err error) error (Message NotJudgedYet) refl (sym is)))
+not_by now q found NeedsZone error is up = no_both (is_upstreams error) up (ap is_upstreams (err_same (Err error) error (Message NotJudgedYet) refl (sym is)))
 not_by now q found (Given d) error is up = cc
 not_by now q found (outcome.Denied p) error is up =
     no_both (is_upstreams error) up (ap is_upstreams (err_same (Err error) error (Dns (Nsec q _ p)) refl (sym is)))

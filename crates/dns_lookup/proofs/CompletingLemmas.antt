@@ -13,8 +13,8 @@ use Rattle.dns_model.specs.Chains.{Judge}
 use Rattle.dns_model.specs.SoundAnswers.{Told, ResponseValue}
 use Rattle.dns_model.specs.Trails.{AskedValue, Records, Fault, EndingValue, Answered, Denied, Failed}
 use Rattle.dns_model.proofs.QuestionLemmas.{question_refl, question_back, question_trans, question_right}
-use Rattle.dns_judgement.specs.Derivation.{told_in, judged_sets, top_step, in_send_order, derivation}
-use Rattle.dns_judgement.specs.Marking.{marked_section}
+use Rattle.dns_rules.specs.Derivation.{told_in, judged_sets, top_step, in_send_order, derivation}
+use Rattle.dns_rules.specs.Marking.{marked_section}
 use Rattle.dns_laws.specs.Complete.{Upstream, HeardAlong, shows_secure, ProvesQuery}
 use Rattle.dns_laws.specs.Valid.{IsValidSession}
 use Rattle.dns_laws.proofs.CompleteLemmas.{valid_reply, valid_session_is_proved}

@@ -4,10 +4,10 @@ use Rattle.dns_model.specs.declared.denial.Denial.{Denial}
 use Rattle.dns_model.specs.SoundAnswers.{told_by, ResponseValue}
 use Rattle.dns_model.specs.Trails.{EndingValue, Answered}
 use Rattle.dns_model.proofs.EachLemmas.{each_back}
-use Rattle.dns_judgement.specs.Chained.{bare, finished}
-use Rattle.dns_judgement.specs.Derivation.{ending_by}
-use Rattle.dns_judgement.specs.Marking.{marked_told}
-use Rattle.dns_judgement.proofs.DerivationLemmas.{top_step_is}
+use Rattle.dns_rules.specs.ChainedSets.{bare, finished}
+use Rattle.dns_rules.specs.Derivation.{ending_by}
+use Rattle.dns_rules.specs.Marking.{marked_told}
+use Rattle.dns_rules.proofs.DerivationLemmas.{top_step_is}
 use Rattle.dns_laws.specs.Denials.{ShowsDenial, StepDenies, HasDenials}
 use Rattle.dns_laws.proofs.DenialLemmas.{denials_hold}
 use Rattle.dns_laws.proofs.GroundLemmas.{insecure_is_grounded}

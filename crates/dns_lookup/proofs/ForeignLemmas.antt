@@ -3,9 +3,9 @@ use Rattle.std.proofs.Common.{ℕ, ◌≡◌, ◌∙◌, true, None, Some, Resul
 use Rattle.dns_model.specs.Names.{Labels}
 use Rattle.dns_model.specs.Records.{Rr, Question, MessageValue}
 use Rattle.dns_model.specs.SoundAnswers.{Told, told_by, ResponseValue}
-use Rattle.dns_judgement.specs.Marking.{cleared_message}
-use Rattle.dns_judgement.specs.Outcome.{Outcome, Unjudged, Given, Searched, foreign_record}
-use Rattle.dns_judgement.specs.Outcome as outcome
+use Rattle.dns_rules.specs.Marking.{cleared_message}
+use Rattle.dns_rules.specs.Outcome.{Outcome, Unjudged, Given, NeedsZone, foreign_record}
+use Rattle.dns_rules.specs.Outcome as outcome
 use Rattle.dns_handle.specs.Errors.{Reply, ErrorValue, ForeignClassRecord}
 use Rattle.dns_handle.specs.Handles.{reply_to}
 use Rattle.dns_handle.specs.Replies.{reply_of}
@@ -41,7 +41,7 @@ names_foreign meanings call (Judges answer found f is) = λ owner class rtype na
         → answer_by now q fs o ≡ Err (ForeignClassRecord owner class rtype) → ⊥
     not_foreign now q fs Unjudged owner class rtype h = cc
     not_foreign now q fs (Given d) owner class rtype h = cc
-    not_foreign now q fs Searched owner class rtype h = cc
+    not_foreign now q fs NeedsZone owner class rtype h = cc
     not_foreign now q fs (outcome.Denied p) owner class rtype h = cc
 
 pub lookup_foreign : {H : Type 0} (meanings : handle.Ghosts H) (call : Call H) (result : Result ResponseValue NetError)
@@ -114,7 +114,7 @@ judges_foreign (Some replies) q reply answer m r told hears foreign = λ records
 ends_by : (now : ℕ) (q : Question) (found : Findings) (o : Outcome) → ends_trail (answer_by now q found o) ≡ true
 ends_by now q found Unjudged = refl
 ends_by now q found (Given d) = refl
-ends_by now q found Searched = refl
+ends_by now q found NeedsZone = refl
 ends_by now q found (outcome.Denied p) = refl
 
 judges_ended : (tells : KnownReplies) (q : Question) (answer : Reply) → ends_trail answer ≡ true → JudgesTold tells q answer

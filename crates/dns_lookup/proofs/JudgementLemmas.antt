@@ -10,21 +10,21 @@ use Rattle.dns_model.specs.Names.{Labels}
 use Rattle.dns_model.specs.Types.{type_dnskey}
 use Rattle.dns_model.specs.Records.{RrSet, Question}
 use Rattle.dns_model.specs.Chains.{LinkValue}
-use Rattle.dns_model.specs.SoundAnswers.{Placed}
+use Rattle.dns_model.specs.SoundAnswers.{PlacedSet}
 use Rattle.dns_model.specs.Trails.{AskedValue, JudgedSetValue}
 use Rattle.dns_model.proofs.EachLemmas.{each_append, each_front}
-use Rattle.dns_judgement.specs.Chained.{Chained, ChainedVerdict, bare, bare_verdicts, stands, chained_by, chained_unsigned, chained_keys, chained_by_ds}
-use Rattle.dns_judgement.specs.Delegations.{ZoneVerdict, Signed, Insecure, Bogus, ds_question, zone_verdict}
-use Rattle.dns_judgement.specs.Unsigned.{set_start, is_searched, unsigned_mark, unsigned_by}
-use Rattle.dns_judgement.specs.Derivation.{Grounds, with_entries, entry_holds, entries_hold, search_from}
-use Rattle.dns_judgement.specs.DerivationParts.{asks_of_sets, with_entry}
-use Rattle.dns_judgement.specs.Judged.{Judged, placed_of}
-use Rattle.dns_judgement.specs.KeySets.{needs_ds, judged_keys}
-use Rattle.dns_judgement.specs.Marks.{judged_by, most_signatures}
-use Rattle.dns_judgement.proofs.StandLemmas.{chained_by-stands}
-use Rattle.dns_judgement.proofs.KeySetLemmas.{chained_keys-stands, chained_by_ds-stands}
-use Rattle.dns_judgement.proofs.ChainedLemmas.{chained_keys-bare, chained_by_ds-bare, chained_by-bare, chained_unsigned-stands, placed_of-judged_keys, placed_of-judged_by, placed_of-unsigned_by}
-use Rattle.dns_judgement.proofs.ExtendLemmas.{entries_stay, entries_none, entries_more, entries_as_many, with_entries-append, has_mark_from, IsEntryOf, entry_of_keys, entry_by_ds, entry_of_search, entry_of_verdicts}
+use Rattle.dns_rules.specs.ChainedSets.{ChainedSet, ChainedVerdict, bare, bare_verdicts, stands, chained_by, chained_unsigned, chained_keys, chained_by_ds}
+use Rattle.dns_rules.specs.Delegations.{ZoneVerdict, Signed, Insecure, Bogus, ds_question, zone_verdict}
+use Rattle.dns_rules.specs.Unsigned.{set_start, needs_zone, unsigned_mark, unsigned_by}
+use Rattle.dns_rules.specs.Derivation.{StepContext, with_entries, entry_holds, entries_hold, search_from}
+use Rattle.dns_rules.specs.DerivationParts.{asks_of_sets, with_entry}
+use Rattle.dns_rules.specs.MarkedSets.{MarkedSet, placed_of}
+use Rattle.dns_rules.specs.KeySets.{needs_ds, judged_keys}
+use Rattle.dns_rules.specs.Marks.{judged_by, most_signatures}
+use Rattle.dns_rules.proofs.StandLemmas.{chained_by-stands}
+use Rattle.dns_rules.proofs.KeySetLemmas.{chained_keys-stands, chained_by_ds-stands}
+use Rattle.dns_rules.proofs.ChainedLemmas.{chained_keys-bare, chained_by_ds-bare, chained_by-bare, chained_unsigned-stands, placed_of-judged_keys, placed_of-judged_by, placed_of-unsigned_by}
+use Rattle.dns_rules.proofs.ExtendLemmas.{entries_stay, entries_none, entries_more, entries_as_many, with_entries-append, has_mark_from, IsEntryOf, entry_of_keys, entry_by_ds, entry_of_search, entry_of_verdicts}
 use Rattle.dns_trust.specs.Steps.{IsKeysStep}
 use Rattle.dns_trust.specs.declared.key_sets.KeysStep.{KeysStep}
 use Rattle.dns_trust.specs.declared.key_sets.KeysStep.TheVariants.{Done, NeedsDs}
@@ -34,16 +34,16 @@ use Rattle.dns_lookup.proofs.StandingLemmas.{proper_set, good_answer, good_verdi
 
 -- ---- one set
 
-is_entry_of : (placed : Placed) (judged : Judged) (asked : List AskRef) → placed_of judged ≡ placed → IsEntryOf placed (entry_of judged asked)
+is_entry_of : (placed : PlacedSet) (judged : MarkedSet) (asked : List AskRef) → placed_of judged ≡ placed → IsEntryOf placed (entry_of judged asked)
 is_entry_of placed judged asked is =
     record { section = ap (λ p. p.section) (sym is); owner = ap (λ p. p.set.owner) (sym is); rtype = ap (λ p. p.set.rtype) (sym is) }
 
-with_entry-of : (placed : Placed) (judged : Judged) (asked : List AskRef) → placed_of judged ≡ placed
+with_entry-of : (placed : PlacedSet) (judged : MarkedSet) (asked : List AskRef) → placed_of judged ≡ placed
     → judged ≡ with_entry (placed, entry_of judged asked)
 with_entry-of placed judged asked is = ap (λ p. with_entry (p, entry_of judged asked)) is
 
 -- a key set that asks for no DS set
-keys_judged : (g : Grounds) (placed : Placed) (c : Chained) (entry : JudgedSetValue) → (placed.set.rtype == type_dnskey) ≡ true
+keys_judged : (g : StepContext) (placed : PlacedSet) (c : ChainedSet) (entry : JudgedSetValue) → (placed.set.rtype == type_dnskey) ≡ true
     → needs_ds g.judge placed.set ≡ false → c ≡ chained_keys g.judge placed → entry ≡ entry_of c.judged [] → IsJudgedSet g placed c entry
 keys_judged g placed c entry keys settled is made =
     let judged : c.judged ≡ judged_keys g.judge placed None = ap (λ x. x.judged) is ∙ chained_keys-bare g.judge placed in
@@ -57,7 +57,7 @@ keys_judged g placed c entry keys settled is made =
       stand = λ plain. ap (stands g.judge) is ∙ chained_keys-stands g.judge placed (proper_set placed.set plain) keys;
     }
 
-pub keys_step : (g : Grounds) (placed : Placed) (step : KeysStep) (s c : Chained) (entry : JudgedSetValue) (asked : List AskRef)
+pub keys_step : (g : StepContext) (placed : PlacedSet) (step : KeysStep) (s c : ChainedSet) (entry : JudgedSetValue) (asked : List AskRef)
     → (placed.set.rtype == type_dnskey) ≡ true → IsKeysStep g.judge placed step → step ≡ Done s → asked ≡ [] → c ≡ s → entry ≡ entry_of s.judged asked
     → IsJudgedSet g placed c entry
 keys_step g placed step s c entry asked keys by done none same made =
@@ -65,7 +65,7 @@ keys_step g placed step s c entry asked keys by done none same made =
     keys_judged g placed c entry keys is.0 (same ∙ is.1) (made ∙ ap (λ x. entry_of x.judged asked) (sym same) ∙ ap (entry_of c.judged) none)
 
 -- a key set that asks for the DS set of its owner
-ds_judged : (g : Grounds) (placed : Placed) (c : Chained) (entry : JudgedSetValue) (ask : AskRef) (answer : Option (List Chained))
+ds_judged : (g : StepContext) (placed : PlacedSet) (c : ChainedSet) (entry : JudgedSetValue) (ask : AskRef) (answer : Option (List ChainedSet))
     → (placed.set.rtype == type_dnskey) ≡ true → needs_ds g.judge placed.set ≡ true
     → IsAnswer g.judge g.limit g.earlier (ds_question placed.set.class placed.set.owner) (g.depth + 1) ask answer
     → c ≡ chained_by_ds g.judge placed answer → entry ≡ entry_of c.judged (ask ∷ []) → IsJudgedSet g placed c entry
@@ -84,8 +84,8 @@ ds_judged g placed c entry ask answer keys needs asked is made =
       stand = λ plain. ap (stands g.judge) is ∙ chained_by_ds-stands g.judge placed answer (proper_set placed.set plain) keys (good_answer g.judge answer asked.stand);
     }
 
-pub ds_step : (g : Grounds) (placed : Placed) (step : KeysStep) (own : Placed) (set : RrSet) (question : Question) (s c : Chained) (entry : JudgedSetValue)
-    (ask : AskRef) (asked : List AskRef) (answer : Option (List Chained))
+pub ds_step : (g : StepContext) (placed : PlacedSet) (step : KeysStep) (own : PlacedSet) (set : RrSet) (question : Question) (s c : ChainedSet) (entry : JudgedSetValue)
+    (ask : AskRef) (asked : List AskRef) (answer : Option (List ChainedSet))
     → (placed.set.rtype == type_dnskey) ≡ true → IsKeysStep g.judge placed step → step ≡ NeedsDs own → set ≡ own.set
     → question ≡ ds_question set.class set.owner → IsAnswer g.judge g.limit g.earlier question (g.depth + 1) ask answer
     → s ≡ chained_by_ds g.judge own answer → asked ≡ ask ∷ [] → c ≡ s → entry ≡ entry_of s.judged asked → IsJudgedSet g placed c entry
@@ -98,8 +98,8 @@ ds_step g placed step own set question s c entry ask asked answer keys by needs 
     (made ∙ ap (λ x. entry_of x.judged asked) (sym same) ∙ ap (entry_of c.judged) one)
 
 -- an unsigned set, by the search for its zone
-unsigned_judged : (g : Grounds) (placed : Placed) (c : Chained) (entry : JudgedSetValue) (asked : List AskRef) (zone : ZoneVerdict)
-    → (placed.set.rtype == type_dnskey) ≡ false → is_searched placed.set ≡ true
+unsigned_judged : (g : StepContext) (placed : PlacedSet) (c : ChainedSet) (entry : JudgedSetValue) (asked : List AskRef) (zone : ZoneVerdict)
+    → (placed.set.rtype == type_dnskey) ≡ false → needs_zone placed.set ≡ true
     → search_from g placed.set.class (set_start placed.set) asked ≡ Some zone → c ≡ chained_unsigned placed zone
     → entry ≡ entry_of c.judged asked → IsJudgedSet g placed c entry
 unsigned_judged g placed c entry asked zone other unsigned found is made =
@@ -121,15 +121,15 @@ unsigned_sig (Signed ds) = refl
 unsigned_sig (Insecure kind) = refl
 unsigned_sig (Bogus kind) = refl
 
-unsigned_with : (placed : Placed) (zone : ZoneVerdict) (mark : Proof) → mark ≡ (unsigned_mark zone).mark
-    → (let j : Judged = record { section = placed.section; set = placed.set; mark = mark; sig = None } in j) ≡ unsigned_by placed zone
+unsigned_with : (placed : PlacedSet) (zone : ZoneVerdict) (mark : Proof) → mark ≡ (unsigned_mark zone).mark
+    → (let j : MarkedSet = record { section = placed.section; set = placed.set; mark = mark; sig = None } in j) ≡ unsigned_by placed zone
 unfolding unsigned_by
 unsigned_with placed zone mark is =
-    let J : Proof → Option ℕ → Judged = λ m sig. record { section = placed.section; set = placed.set; mark = m; sig = sig } in
+    let J : Proof → Option ℕ → MarkedSet = λ m sig. record { section = placed.section; set = placed.set; mark = m; sig = sig } in
     ap (λ m. J m None) is ∙ ap (J (unsigned_mark zone).mark) (sym (unsigned_sig zone))
 
-pub unsigned_step : (g : Grounds) (placed : Placed) (class : ℕ) (start : Labels) (s c : Chained) (entry : JudgedSetValue) (asks asked : List AskRef) (mark : Proof)
-    → (placed.set.rtype == type_dnskey) ≡ false → is_searched placed.set ≡ true → class ≡ placed.set.class → start ≡ set_start placed.set
+pub unsigned_step : (g : StepContext) (placed : PlacedSet) (class : ℕ) (start : Labels) (s c : ChainedSet) (entry : JudgedSetValue) (asks asked : List AskRef) (mark : Proof)
+    → (placed.set.rtype == type_dnskey) ≡ false → needs_zone placed.set ≡ true → class ≡ placed.set.class → start ≡ set_start placed.set
     → IsSearched g class start asks mark → asked ≡ asks
     → s.judged ≡ record { section = placed.section; set = placed.set; mark = mark; sig = None } → s.chain ≡ []
     → c ≡ s → entry ≡ entry_of s.judged asked → IsJudgedSet g placed c entry
@@ -137,15 +137,15 @@ unsigned_step g placed class start s c entry asks asked mark other unsigned same
     let zone = search.zone in
     let From : ℕ → Labels → Type 0 = λ k n. search_from g k n asks ≡ Some zone in
     let found = subst (λ n. From placed.set.class n) same_start (subst (λ k. From k start) same_class search.found) in
-    let C : Judged → List LinkValue → Chained = λ x l. record { judged = x; chain = l } in
+    let C : MarkedSet → List LinkValue → ChainedSet = λ x l. record { judged = x; chain = l } in
     let is : s ≡ chained_unsigned placed zone =
     ap (λ x. C x s.chain) (judged ∙ unsigned_with placed zone mark search.is) ∙ ap (C (unsigned_by placed zone)) chain in
     unsigned_judged g placed c entry asks zone other unsigned found (same ∙ is)
     (made ∙ ap (λ x. entry_of x.judged asked) (sym same) ∙ ap (entry_of c.judged) same_asks)
 
 -- another set, by its first signatures
-others_judged : (g : Grounds) (placed : Placed) (set : RrSet) (c : Chained) (entry : JudgedSetValue) (asked : List AskRef) (vs : List ChainedVerdict)
-    → set ≡ placed.set → (placed.set.rtype == type_dnskey) ≡ false → is_searched placed.set ≡ false → AreTried g set asked vs
+others_judged : (g : StepContext) (placed : PlacedSet) (set : RrSet) (c : ChainedSet) (entry : JudgedSetValue) (asked : List AskRef) (vs : List ChainedVerdict)
+    → set ≡ placed.set → (placed.set.rtype == type_dnskey) ≡ false → needs_zone placed.set ≡ false → AreTried g set asked vs
     → c ≡ chained_by placed vs → entry ≡ entry_of c.judged asked → IsJudgedSet g placed c entry
 others_judged g placed set c entry asked vs own_set other signed tried is made =
     let P : RrSet → Type 0 = λ x. AreTried g x asked vs in
@@ -162,8 +162,8 @@ others_judged g placed set c entry asked vs own_set other signed tried is made =
           (good_verdicts g.judge placed.set (take most_signatures placed.set.signatures) vs (tried.good plain other));
     }
 
-pub others_step : (g : Grounds) (placed : Placed) (set : RrSet) (s c : Chained) (entry : JudgedSetValue) (asks asked : List AskRef) (vs ws : List ChainedVerdict)
-    → set ≡ placed.set → (placed.set.rtype == type_dnskey) ≡ false → is_searched placed.set ≡ false → AreTried g set asks vs → asked ≡ asks → ws ≡ vs
+pub others_step : (g : StepContext) (placed : PlacedSet) (set : RrSet) (s c : ChainedSet) (entry : JudgedSetValue) (asks asked : List AskRef) (vs ws : List ChainedVerdict)
+    → set ≡ placed.set → (placed.set.rtype == type_dnskey) ≡ false → needs_zone placed.set ≡ false → AreTried g set asks vs → asked ≡ asks → ws ≡ vs
     → s ≡ chained_by placed ws → c ≡ s → entry ≡ entry_of s.judged asked → IsJudgedSet g placed c entry
 others_step g placed set s c entry asks asked vs ws own other signed tried same_asks same_verdicts is same made =
     others_judged g placed set c entry asks vs own other signed tried (same ∙ is ∙ ap (chained_by placed) same_verdicts)
@@ -171,14 +171,14 @@ others_step g placed set s c entry asks asked vs ws own other signed tried same_
 
 -- ---- sets
 
-pub judgement_none : (g : Grounds) (cs : List Chained) (es : List JudgedSetValue) → cs ≡ [] → es ≡ [] → IsJudgement g [] cs es
+pub judgement_none : (g : StepContext) (cs : List ChainedSet) (es : List JudgedSetValue) → cs ≡ [] → es ≡ [] → IsJudgement g [] cs es
 judgement_none g cs es no_set no_entry =
-    let P : List Chained → Type 0 = λ xs. IsJudgement g [] xs es in
+    let P : List ChainedSet → Type 0 = λ xs. IsJudgement g [] xs es in
     let Q : List JudgedSetValue → Type 0 = λ xs. IsJudgement g [] [] xs in
     subst P (sym no_set) (subst Q (sym no_entry) (record { hold = entries_none g; same = refl; stand = λ plain. tt }))
 
 -- what was judged stays when steps are added
-pub judgement_later : (g : Grounds) (after more : List AskedValue) (ps : List Placed) (cs : List Chained) (es : List JudgedSetValue)
+pub judgement_later : (g : StepContext) (after more : List AskedValue) (ps : List PlacedSet) (cs : List ChainedSet) (es : List JudgedSetValue)
     → after ≡ g.earlier ++ more → IsJudgement g ps cs es → IsJudgement (record g { earlier = after }) ps cs es
 judgement_later g after more ps cs es grown judged = record {
   hold =
@@ -193,7 +193,7 @@ all_last P [] y h = h.0
 all_last P (x ∷ xs) y h = all_last P xs y h.1
 
 -- a set more
-judgement_more : (g : Grounds) (ps : List Placed) (p : Placed) (cs : List Chained) (c : Chained) (es : List JudgedSetValue) (e : JudgedSetValue)
+judgement_more : (g : StepContext) (ps : List PlacedSet) (p : PlacedSet) (cs : List ChainedSet) (c : ChainedSet) (es : List JudgedSetValue) (e : JudgedSetValue)
     → IsJudgement g ps cs es → IsJudgedSet g p c e → IsJudgement g (ps ++ p ∷ []) (cs ++ c ∷ []) (es ++ e ∷ [])
 judgement_more g ps p cs c es e judged one = record {
   hold = entries_more g ps p es e judged.hold one.holds;
@@ -206,12 +206,12 @@ judgement_more g ps p cs c es e judged one = record {
 }
 
 -- a set more, once its steps were added
-pub judgement_step : (g : Grounds) (after more : List AskedValue) (ps : List Placed) (p : Placed) (cs ds : List Chained) (c d : Chained) (es fs : List JudgedSetValue) (e f : JudgedSetValue)
+pub judgement_step : (g : StepContext) (after more : List AskedValue) (ps : List PlacedSet) (p : PlacedSet) (cs ds : List ChainedSet) (c d : ChainedSet) (es fs : List JudgedSetValue) (e f : JudgedSetValue)
     → after ≡ g.earlier ++ more → IsJudgement g ps cs es → IsJudgedSet (record g { earlier = after }) p c e
     → d ≡ c → f ≡ e → ds ≡ cs ++ d ∷ [] → fs ≡ es ++ f ∷ [] → IsJudgement (record g { earlier = after }) (ps ++ p ∷ []) ds fs
 judgement_step g after more ps p cs ds c d es fs e f grown judged one same_set same_entry sets entries =
     let h = record g { earlier = after } in
-    let P : List Chained → Type 0 = λ xs. IsJudgement h (ps ++ p ∷ []) xs fs in
+    let P : List ChainedSet → Type 0 = λ xs. IsJudgement h (ps ++ p ∷ []) xs fs in
     let Q : List JudgedSetValue → Type 0 = λ xs. IsJudgement h (ps ++ p ∷ []) (cs ++ c ∷ []) xs in
     subst P (sym (sets ∙ ap (λ x. cs ++ x ∷ []) same_set))
     (subst Q (sym (entries ∙ ap (λ x. es ++ x ∷ []) same_entry))

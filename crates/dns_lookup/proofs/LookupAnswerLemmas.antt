@@ -6,10 +6,10 @@ use Rattle.dns_model.specs.declared.denial.Denial.TheVariants as denial
 use Rattle.dns_model.specs.Records.{Question, MessageValue}
 use Rattle.dns_model.specs.SoundAnswers.{ResponseValue}
 use Rattle.dns_model.specs.Trails.{EndingValue, Answered, Denied, Failed}
-use Rattle.dns_judgement.specs.Chained.{finished}
-use Rattle.dns_judgement.specs.Derivation.{ending_by}
-use Rattle.dns_judgement.specs.Outcome.{Outcome, Unjudged, Given, Searched}
-use Rattle.dns_judgement.specs.Outcome as outcome
+use Rattle.dns_rules.specs.ChainedSets.{finished}
+use Rattle.dns_rules.specs.Derivation.{ending_by}
+use Rattle.dns_rules.specs.Outcome.{Outcome, Unjudged, Given, NeedsZone}
+use Rattle.dns_rules.specs.Outcome as outcome
 use Rattle.dns_handle.specs.Errors as seen
 use Rattle.dns_handle.specs.Errors.{Reply, ErrorValue, Busy, Dns, Message, Msg, NoConnections, Proto, Io, Timeout, QueryCaseMismatch, ForeignClassRecord, Truncated, ResponseCode, NoRecordsFound, Nsec, DnssecBogus}
 use Rattle.dns_handle.specs.Replies.{reply_of, error_of}
@@ -69,7 +69,7 @@ by_outcome : {H : Type 0} (meanings : handle.Ghosts H) (call : Call H) (Fact : R
     → OfAnswer (answer_by call.now call.query found o) Fact
 by_outcome meanings call Fact found all f Unjudged is = tt
 by_outcome meanings call Fact found all f (Given d) is = all.each found d (Answered d) f (sym (ap ending_by is)) (λ h. cc)
-by_outcome meanings call Fact found all f Searched is = tt
+by_outcome meanings call Fact found all f NeedsZone is = tt
 by_outcome meanings call Fact found all f (outcome.Denied p) is = all.each found denial.None (Denied p) f (sym (ap ending_by is)) (λ h. cc)
 
 of_lookup : {H : Type 0} (meanings : handle.Ghosts H) (call : Call H) (Fact : ResponseValue → EndingValue → Type 0) {answer : Reply}
@@ -115,7 +115,7 @@ denied_by : (now : ℕ) (q : Question) (found : Findings) (o : Outcome) (asked :
     → answer_by now q found o ≡ Err (Dns (Nsec asked response proof)) → (asked ≡ q) × (response.denial ≡ denial.None)
 denied_by now q found Unjudged asked response proof is = cc
 denied_by now q found (Given d) asked response proof is = cc
-denied_by now q found Searched asked response proof is = cc
+denied_by now q found NeedsZone asked response proof is = cc
 denied_by now q found (outcome.Denied p) asked response proof is =
     let same : finished now found.sets found.message denial.None (trail_of q found (Denied p)) ≡ response = cc in
     (cc, sym (ap (λ a. a.denial) same))

@@ -2,12 +2,12 @@
 use Rattle.std.proofs.Common.{ℕ, ◌≡◌, ◌≢◌, ◌∙◌, ◌⊎◌, ◌≤◌, List, [], ◌++◌, None, Some, Result, Ok, Err, refl, sym, ap, subst, inl, inr, arith}
 use Rattle.dns_model.specs.declared.trail.AskRef.{AskRef}
 use Rattle.dns_model.specs.Records.{Rr, Question}
-use Rattle.dns_model.specs.SoundAnswers.{Placed, told_by}
+use Rattle.dns_model.specs.SoundAnswers.{PlacedSet, told_by}
 use Rattle.dns_model.specs.Trails.{AskedValue, JudgedSetValue}
-use Rattle.dns_judgement.specs.Asking.{most_sends, depth_limit, judged_part}
-use Rattle.dns_judgement.specs.Chained.{Chained, bare}
-use Rattle.dns_judgement.specs.DerivationParts.{asks_of_sets}
-use Rattle.dns_judgement.specs.Outcome.{Outcome, foreign_record}
+use Rattle.dns_rules.specs.Asking.{most_sends, depth_limit, judged_part}
+use Rattle.dns_rules.specs.ChainedSets.{ChainedSet, bare}
+use Rattle.dns_rules.specs.DerivationParts.{asks_of_sets}
+use Rattle.dns_rules.specs.Outcome.{Outcome, foreign_record}
 use Rattle.dns_handle.specs.Errors as seen
 use Rattle.dns_handle.specs.Errors.{Reply, ForeignClassRecord}
 use Rattle.dns_handle.specs.Handles.{OrUnsent}
@@ -107,8 +107,8 @@ names_lookup meanings call received r answer h found is =
 -- ---- judged sets
 
 -- the asks for the sets of a message, behind the first ask, and how its sets were judged; then the asks for what they come to
-pub record Review {H : Type 0} (meanings : handle.Ghosts H) (call : Call H) (middle then : H) (received : ReceivedMessage) (placed : List Placed)
-    (before judged_by steps : List AskedValue) (limit n k m : ℕ) (sets : List Chained) (entries : List JudgedSetValue) (o : Outcome)
+pub record Review {H : Type 0} (meanings : handle.Ghosts H) (call : Call H) (middle then : H) (received : ReceivedMessage) (placed : List PlacedSet)
+    (before judged_by steps : List AskedValue) (limit n k m : ℕ) (sets : List ChainedSet) (entries : List JudgedSetValue) (o : Outcome)
     (excuse : List AskRef) : Type 0 where
   pub asks : Asks (ask_of_call meanings call) call.judge limit middle then before judged_by (asks_of_sets entries) n k
   pub judged : IsJudgement (record { judge = call.judge; limit = limit; earlier = judged_by; query = call.query; depth = 0 }) placed sets entries
@@ -118,14 +118,14 @@ pub record Review {H : Type 0} (meanings : handle.Ghosts H) (call : Call H) (mid
   pub few : m ≤ most_sends
 
 -- where a review of a lookup begins
-pub record Begins {H : Type 0} (call : Call H) (received : ReceivedMessage) (placed : List Placed) (before : List AskedValue) (limit n : ℕ) : Type 0 where
+pub record Begins {H : Type 0} (call : Call H) (received : ReceivedMessage) (placed : List PlacedSet) (before : List AskedValue) (limit n : ℕ) : Type 0 where
   pub part : placed ≡ judged_part 0 (told_by received.message)
   pub none : before ≡ []
   pub deep : limit ≡ depth_limit call.options.max_request_depth
   pub one : n ≡ 1
 
 -- what was found
-abbrev findings : ReceivedMessage → List AskedValue → List Chained → List JudgedSetValue → Outcome → List AskRef → Findings
+abbrev findings : ReceivedMessage → List AskedValue → List ChainedSet → List JudgedSetValue → Outcome → List AskRef → Findings
 findings received steps sets entries o excuse = record {
   message = received.message;
   empty = received.empty;
@@ -136,8 +136,8 @@ findings received steps sets entries o excuse = record {
   excuse = excuse;
 }
 
-review_found : {H : Type 0} (meanings : handle.Ghosts H) (call : Call H) (middle then : H) (received : ReceivedMessage) (placed : List Placed)
-    (before judged_by steps : List AskedValue) (limit n k m : ℕ) (sets : List Chained) (entries : List JudgedSetValue) (o : Outcome) (excuse : List AskRef)
+review_found : {H : Type 0} (meanings : handle.Ghosts H) (call : Call H) (middle then : H) (received : ReceivedMessage) (placed : List PlacedSet)
+    (before judged_by steps : List AskedValue) (limit n k m : ℕ) (sets : List ChainedSet) (entries : List JudgedSetValue) (o : Outcome) (excuse : List AskRef)
     → Received (first_ask_of_call meanings call) call.old middle (judged_ask call.query) (Ok received) → foreign_record call.query (told_by received.message) ≡ None
     → Begins call received placed before limit n
     → Review meanings call middle then received placed before judged_by steps limit n k m sets entries o excuse
@@ -172,8 +172,8 @@ review_found meanings call middle then received placed before judged_by steps li
     }
 
 -- the judged sets of the message make the answer
-pub judges_lookup : {H : Type 0} (meanings : handle.Ghosts H) (call : Call H) (middle then : H) (received : ReceivedMessage) (placed : List Placed)
-    (before judged_by steps : List AskedValue) (limit n k m : ℕ) (sets : List Chained) (entries : List JudgedSetValue) (o : Outcome) (excuse : List AskRef)
+pub judges_lookup : {H : Type 0} (meanings : handle.Ghosts H) (call : Call H) (middle then : H) (received : ReceivedMessage) (placed : List PlacedSet)
+    (before judged_by steps : List AskedValue) (limit n k m : ℕ) (sets : List ChainedSet) (entries : List JudgedSetValue) (o : Outcome) (excuse : List AskRef)
     (answer : Reply)
     → Received (first_ask_of_call meanings call) call.old middle (judged_ask call.query) (Ok received) → foreign_record call.query (told_by received.message) ≡ None
     → Begins call received placed before limit n

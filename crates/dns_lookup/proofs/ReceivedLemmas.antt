@@ -3,7 +3,7 @@ use Rattle.std.proofs.Common.{ℕ, ◌≡◌, ◌≤◌, ◌≢◌, ◌∙◌, B
 use Rattle.dns_model.specs.Records.{Question, MessageValue}
 use Rattle.dns_model.specs.SoundAnswers.{told_by, ResponseValue}
 use Rattle.dns_model.specs.Trails.{AskedValue, Records, Fault}
-use Rattle.dns_judgement.specs.Marking.{cleared_message}
+use Rattle.dns_rules.specs.Marking.{cleared_message}
 use Rattle.dns_handle.specs.Errors as seen
 use Rattle.dns_handle.specs.Errors.{Reply, ErrorValue}
 use Rattle.dns_handle.specs.Causes.{HasCause}

@@ -5,10 +5,10 @@ use Rattle.dns_model.specs.Chains.{Judge}
 use Rattle.dns_model.specs.SoundAnswers.{Told}
 use Rattle.dns_model.proofs.EachLemmas.{each_more}
 use Rattle.dns_model.proofs.SetLemmas.{IsProper}
-use Rattle.dns_judgement.specs.Asking.{judged_part}
-use Rattle.dns_judgement.specs.Chained.{Chained, ChainedVerdict}
-use Rattle.dns_judgement.proofs.StandLemmas.{IsGoodVerdict, AreGood}
-use Rattle.dns_judgement.proofs.ChainedLemmas.{IsGoodAnswer, proper_part}
+use Rattle.dns_rules.specs.Asking.{judged_part}
+use Rattle.dns_rules.specs.ChainedSets.{ChainedSet, ChainedVerdict}
+use Rattle.dns_rules.proofs.StandLemmas.{IsGoodVerdict, AreGood}
+use Rattle.dns_rules.proofs.ChainedLemmas.{IsGoodAnswer, proper_part}
 use Rattle.dns_lookup.specs.Standing.{IsPlainSet, ArePlainSets, AnswerStands, HasChain, HaveChains}
 
 -- a plain set is proper
@@ -24,7 +24,7 @@ plain_part depth told =
     each_more (λ p. IsProper p.set) (λ p. IsPlainSet p.set) (λ p. plain_set p.set) (judged_part depth told) (proper_part depth told)
 
 -- an answer whose sets stand is good
-pub good_answer : (j : Judge) (answer : Option (List Chained)) → AnswerStands j answer → IsGoodAnswer j answer
+pub good_answer : (j : Judge) (answer : Option (List ChainedSet)) → AnswerStands j answer → IsGoodAnswer j answer
 good_answer j None stand = tt
 good_answer j (Some sets) stand = stand
 

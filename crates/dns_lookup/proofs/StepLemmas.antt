@@ -14,17 +14,17 @@ use Rattle.dns_model.specs.Trails.{AskedValue, HeardValue, JudgedSetValue, Endin
 use Rattle.dns_model.proofs.Lists.{slice_get_appended}
 use Rattle.dns_model.proofs.SetLemmas.{name_refl, number_refl}
 use Rattle.dns_model.proofs.QuestionLemmas.{question_refl}
-use Rattle.dns_judgement.specs.Asking.{most_sends, judged_part}
-use Rattle.dns_judgement.specs.Chained.{Chained, bare}
-use Rattle.dns_judgement.specs.Judged.{Judged}
-use Rattle.dns_judgement.specs.Delegations.{ZoneVerdict}
-use Rattle.dns_judgement.specs.Unsigned.{question_start}
-use Rattle.dns_judgement.specs.Derivation.{Grounds, sight_of, search_from, entries_hold, with_entries, asks_of, if_answered, judged_sets, is_ask, is_empty, denial_eq, ending_eq, ending_by, ending_holds, step_holds}
-use Rattle.dns_judgement.specs.DerivationParts.{answer_of, grounds_of, is_bare, is_ending, is_judged_ask, judged_holds}
-use Rattle.dns_judgement.specs.Outcome.{Outcome, Unjudged, Given, Searched, Denied, outcome_of, outcome_by_zone, foreign_record}
-use Rattle.dns_judgement.proofs.EndingLemmas.{ending_without, ending_by_search}
-use Rattle.dns_judgement.proofs.ExtendLemmas.{proof_refl}
-use Rattle.dns_judgement.proofs.SearchLemmas.{plain_asked, plain_sees}
+use Rattle.dns_rules.specs.Asking.{most_sends, judged_part}
+use Rattle.dns_rules.specs.ChainedSets.{ChainedSet, bare}
+use Rattle.dns_rules.specs.MarkedSets.{MarkedSet}
+use Rattle.dns_rules.specs.Delegations.{ZoneVerdict}
+use Rattle.dns_rules.specs.Unsigned.{question_start}
+use Rattle.dns_rules.specs.Derivation.{StepContext, probe_of, search_from, entries_hold, with_entries, asks_of, if_answered, judged_sets, is_ask, is_empty, denial_eq, ending_eq, ending_by, ending_holds, step_holds}
+use Rattle.dns_rules.specs.DerivationParts.{answer_of, step_context_of, is_bare, is_ending, is_judged_ask, judged_holds}
+use Rattle.dns_rules.specs.Outcome.{Outcome, Unjudged, Given, NeedsZone, Denied, outcome_of, outcome_by_zone, foreign_record}
+use Rattle.dns_rules.proofs.EndingLemmas.{ending_without, ending_by_search}
+use Rattle.dns_rules.proofs.ExtendLemmas.{proof_refl}
+use Rattle.dns_rules.proofs.SearchLemmas.{plain_asked, plain_sees}
 use Rattle.dns_handle.specs.Errors.{Reply}
 use Rattle.dns_lookup.specs.AskRequests.{Ask}
 use Rattle.dns_lookup.specs.Sends.{SendOf}
@@ -65,7 +65,7 @@ pub foreign_holds : (j : Judge) (limit : ℕ) (earlier : List AskedValue) (depth
 unfolding step_holds
 foreign_holds j limit earlier depth q told empty r found =
     let step = judged_step depth q (Records told empty) [] (foreign_ending r) [] in
-    ap (judged_holds (grounds_of j limit earlier step) step told) found ∙ and_from (ending_eq (foreign_ending r) (foreign_ending r)) (is_bare step) (foreign_refl r) refl
+    ap (judged_holds (step_context_of j limit earlier step) step told) found ∙ and_from (ending_eq (foreign_ending r) (foreign_ending r)) (is_bare step) (foreign_refl r) refl
 
 denial_refl : (d : Denial) → denial_eq d d ≡ true
 denial_refl denial.None = refl
@@ -76,11 +76,11 @@ denial_refl (denial.Expanded p) = proof_refl p
 pub ends_so : (o : Outcome) → is_ending o (ending_by o) ≡ true
 ends_so Unjudged = refl
 ends_so (Given d) = denial_refl d
-ends_so Searched = refl
+ends_so NeedsZone = refl
 ends_so (Denied p) = proof_refl p
 
 -- it ends as what they come to makes it end
-concluded_ends : (g : Grounds) (step : AskedValue) (told : Told) (sets : List Judged) (o : Outcome) → step.query ≡ g.query → step.ending ≡ ending_by o
+concluded_ends : (g : StepContext) (step : AskedValue) (told : Told) (sets : List MarkedSet) (o : Outcome) → step.query ≡ g.query → step.ending ≡ ending_by o
     → IsConcluded g told sets o step.excuse → ending_holds g step told (outcome_of g.query told sets) ≡ true
 concluded_ends g step told sets o same ends (inl settled) =
     let by = outcome_of g.query told sets in
@@ -92,16 +92,16 @@ concluded_ends g step told sets o same ends (inr left) =
     let here : is_ending by step.ending ≡ true = ap (is_ending by) ends ∙ ap (λ x. is_ending by (ending_by x)) left.is ∙ ends_so by in
     ap (ending_holds g step told) left.left ∙ searched_ends g step told left.zone q same left.found here
   where
-    searched_ends : (g : Grounds) (step : AskedValue) (told : Told) (zone : ZoneVerdict) (q : Question) → step.query ≡ q
+    searched_ends : (g : StepContext) (step : AskedValue) (told : Told) (zone : ZoneVerdict) (q : Question) → step.query ≡ q
         → search_from g q.class (question_start q) step.excuse ≡ Some zone → is_ending (outcome_by_zone q told zone) step.ending ≡ true
-        → ending_holds g step told Searched ≡ true
+        → ending_holds g step told NeedsZone ≡ true
     searched_ends g step told zone q same found ends =
         let Found : Question → Type 0 = λ x. search_from g x.class (question_start x) step.excuse ≡ Some zone in
         let Ends : Question → Type 0 = λ x. is_ending (outcome_by_zone x told zone) step.ending ≡ true in
         ending_by_search g step told zone (subst Found (sym same) found) (subst Ends (sym same) ends)
 
 -- a step whose sets are judged
-pub judged_step_holds : (j : Judge) (limit : ℕ) (earlier : List AskedValue) (depth : ℕ) (q : Question) (told : Told) (empty : Bool) (sets : List Chained)
+pub judged_step_holds : (j : Judge) (limit : ℕ) (earlier : List AskedValue) (depth : ℕ) (q : Question) (told : Told) (empty : Bool) (sets : List ChainedSet)
     (entries : List JudgedSetValue) (o : Outcome) (excuse : List AskRef) → foreign_record q told ≡ None
     → IsJudgement (record { judge = j; limit = limit; earlier = earlier; query = q; depth = depth }) (judged_part depth told) sets entries
     → IsConcluded (record { judge = j; limit = limit; earlier = earlier; query = q; depth = depth }) told (bare sets) o excuse
@@ -109,7 +109,7 @@ pub judged_step_holds : (j : Judge) (limit : ℕ) (earlier : List AskedValue) (d
 unfolding step_holds
 judged_step_holds j limit earlier depth q told empty sets entries o excuse own judged concluded =
     let step = judged_step depth q (Records told empty) entries (ending_by o) excuse in
-    let g = grounds_of j limit earlier step in
+    let g = step_context_of j limit earlier step in
     let part = judged_part depth told in
     let ends : ending_holds g step told (outcome_of q told (with_entries part entries)) ≡ true =
     ap (λ xs. ending_holds g step told (outcome_of q told xs)) (sym judged.same) ∙ concluded_ends g step told (bare sets) o refl refl concluded in
@@ -134,7 +134,7 @@ asks_ended {H} ask j limit a b c s t u step made n k m l sent nested next last f
 
 -- the step that was added answers its ask
 added_answer : (j : Judge) (limit : ℕ) (before after : List AskedValue) (q : Question) (depth : ℕ) (reply : HeardValue) (sets : List JudgedSetValue) (ending : EndingValue)
-    (excuse : List AskRef) (ask : AskRef) (answer : Option (List Chained)) → depth ≤ limit → IsAdded before after (judged_step depth q reply sets ending excuse) ask
+    (excuse : List AskRef) (ask : AskRef) (answer : Option (List ChainedSet)) → depth ≤ limit → IsAdded before after (judged_step depth q reply sets ending excuse) ask
     → option_map bare answer ≡ if_answered ending (judged_sets (judged_step depth q reply sets ending excuse)) → AnswerStands j answer
     → IsAnswer j limit after q depth ask answer
 added_answer j limit before after q depth reply sets ending excuse ask answer shallow added same stand =
@@ -151,35 +151,35 @@ added_answer j limit before after q depth reply sets ending excuse ask answer sh
 
 -- a step that failed, or has a record of another class, has no answer
 pub no_answer : (j : Judge) (limit : ℕ) (before after : List AskedValue) (q : Question) (depth : ℕ) (reply : HeardValue) (ending : EndingValue)
-    (ask : AskRef) (answer : Option (List Chained)) → depth ≤ limit → IsAdded before after (judged_step depth q reply [] ending []) ask
+    (ask : AskRef) (answer : Option (List ChainedSet)) → depth ≤ limit → IsAdded before after (judged_step depth q reply [] ending []) ask
     → answer ≡ None → if_answered ending (judged_sets (judged_step depth q reply [] ending [])) ≡ None → IsAnswer j limit after q depth ask answer
 no_answer j limit before after q depth reply ending ask answer shallow added is none =
-    let P : Option (List Chained) → Type 0 = λ o. IsAnswer j limit after q depth ask o in
+    let P : Option (List ChainedSet) → Type 0 = λ o. IsAnswer j limit after q depth ask o in
     subst P (sym is) (added_answer j limit before after q depth reply [] ending [] ask None shallow added (sym none) tt)
 
-given_same : (q : Question) (depth : ℕ) (told : Told) (empty : Bool) (entries : List JudgedSetValue) (excuse : List AskRef) (sets : List Chained) (o : Outcome)
+given_same : (q : Question) (depth : ℕ) (told : Told) (empty : Bool) (entries : List JudgedSetValue) (excuse : List AskRef) (sets : List ChainedSet) (o : Outcome)
     → bare sets ≡ with_entries (judged_part depth told) entries
     → option_map bare (given_sets o sets)
     ≡ if_answered (ending_by o) (judged_sets (judged_step depth q (Records told empty) entries (ending_by o) excuse))
 given_same q depth told empty entries excuse sets Unjudged same = refl
 given_same q depth told empty entries excuse sets (Given d) same = ap Some same
-given_same q depth told empty entries excuse sets Searched same = refl
+given_same q depth told empty entries excuse sets NeedsZone same = refl
 given_same q depth told empty entries excuse sets (Denied p) same = refl
 
-given_stand : (j : Judge) (sets : List Chained) (o : Outcome) → AllStand j sets → AnswerStands j (given_sets o sets)
+given_stand : (j : Judge) (sets : List ChainedSet) (o : Outcome) → AllStand j sets → AnswerStands j (given_sets o sets)
 given_stand j sets Unjudged stand = tt
 given_stand j sets (Given d) stand = stand
-given_stand j sets Searched stand = tt
+given_stand j sets NeedsZone stand = tt
 given_stand j sets (Denied p) stand = tt
 
 -- a step whose sets are judged answers by what they come to
-pub judged_answer : (j : Judge) (limit : ℕ) (before after : List AskedValue) (q : Question) (depth : ℕ) (told : Told) (empty : Bool) (sets : List Chained)
-    (entries : List JudgedSetValue) (o : Outcome) (excuse : List AskRef) (ask : AskRef) (answer : Option (List Chained)) → depth ≤ limit
+pub judged_answer : (j : Judge) (limit : ℕ) (before after : List AskedValue) (q : Question) (depth : ℕ) (told : Told) (empty : Bool) (sets : List ChainedSet)
+    (entries : List JudgedSetValue) (o : Outcome) (excuse : List AskRef) (ask : AskRef) (answer : Option (List ChainedSet)) → depth ≤ limit
     → IsAdded before after (judged_step depth q (Records told empty) entries (ending_by o) excuse) ask
     → IsJudgement (record { judge = j; limit = limit; earlier = before; query = q; depth = depth }) (judged_part depth told) sets entries
     → answer ≡ given_sets o sets → IsAnswer j limit after q depth ask answer
 judged_answer j limit before after q depth told empty sets entries o excuse ask answer shallow added judged is =
-    let P : Option (List Chained) → Type 0 = λ x. IsAnswer j limit after q depth ask x in
+    let P : Option (List ChainedSet) → Type 0 = λ x. IsAnswer j limit after q depth ask x in
     subst P (sym is)
     (added_answer j limit before after q depth (Records told empty) entries (ending_by o) excuse ask (given_sets o sets) shallow added
     (given_same q depth told empty entries excuse sets o judged.same) (given_stand j sets o (judged.stand (plain_part depth told))))
@@ -188,11 +188,11 @@ judged_answer j limit before after q depth told empty sets entries o excuse ask 
 
 -- the step that was added answers its plain ask
 pub added_seen : (before after : List AskedValue) (q : Question) (depth : ℕ) (reply : HeardValue) (ending : EndingValue) (ask : AskRef)
-    → IsAdded before after (plain_step depth q reply ending) ask → IsSeen after depth q ask (sight_of q.owner reply)
+    → IsAdded before after (plain_step depth q reply ending) ask → IsSeen after depth q ask (probe_of q.owner reply)
 added_seen before after q depth reply ending ask added =
     let step = plain_step depth q reply ending in
-    let one : IsSeen (before ++ step ∷ []) depth q (Step (length before)) (sight_of q.owner reply) =
+    let one : IsSeen (before ++ step ∷ []) depth q (Step (length before)) (probe_of q.owner reply) =
     record { asks = plain_asked before step depth q refl refl (question_refl q); sees = plain_sees before step q.owner } in
-    let P : List AskedValue → Type 0 = λ steps. IsSeen steps depth q ask (sight_of q.owner reply) in
-    let Q : AskRef → Type 0 = λ x. IsSeen (before ++ step ∷ []) depth q x (sight_of q.owner reply) in
+    let P : List AskedValue → Type 0 = λ steps. IsSeen steps depth q ask (probe_of q.owner reply) in
+    let Q : AskRef → Type 0 = λ x. IsSeen (before ++ step ∷ []) depth q x (probe_of q.owner reply) in
     subst P (sym added.steps) (subst Q (sym added.named) one)

@@ -3,24 +3,24 @@ use Rattle.std.proofs.Common.{◌≡◌, ◌∙◌, true, List, [], ◌∷◌, �
 use Rattle.std.proofs.lemmas.Bool.{and_parts}
 use Rattle.dns_model.specs.declared.denial.Denial.{Denial}
 use Rattle.dns_model.specs.Records.{MessageValue}
-use Rattle.dns_model.specs.SoundAnswers.{Placed, told_by, placed_sets, Sound}
+use Rattle.dns_model.specs.SoundAnswers.{PlacedSet, told_by, placed_sets, Sound}
 use Rattle.dns_model.specs.Trails.{JudgedSetValue, EndingValue, Records}
-use Rattle.dns_judgement.specs.Asking.{depth_limit, judged_part}
-use Rattle.dns_judgement.specs.Chained.{bare, finished}
-use Rattle.dns_judgement.specs.Derivation.{Grounds, with_entries, judged_sets, ending_by, step_holds, entries_hold, in_send_order}
-use Rattle.dns_judgement.specs.DerivationParts.{steps_at}
-use Rattle.dns_judgement.specs.Judged.{placed_of}
-use Rattle.dns_judgement.specs.Marking.{cleared_message, marked_message, marked_told}
-use Rattle.dns_judgement.proofs.ChainedLemmas.{judged_part-top}
-use Rattle.dns_judgement.proofs.SoundLemmas.{sound_of_sets}
-use Rattle.dns_judgement.proofs.DerivationLemmas.{top_step_is, top_derivation, top_counts, top_sent}
-use Rattle.dns_judgement.proofs.DerivedLemmas.{derivation_depths, derivation_sent}
+use Rattle.dns_rules.specs.Asking.{depth_limit, judged_part}
+use Rattle.dns_rules.specs.ChainedSets.{bare, finished}
+use Rattle.dns_rules.specs.Derivation.{StepContext, with_entries, judged_sets, ending_by, step_holds, entries_hold, in_send_order}
+use Rattle.dns_rules.specs.DerivationParts.{steps_at}
+use Rattle.dns_rules.specs.MarkedSets.{placed_of}
+use Rattle.dns_rules.specs.Marking.{cleared_message, marked_message, marked_told}
+use Rattle.dns_rules.proofs.ChainedLemmas.{judged_part-top}
+use Rattle.dns_rules.proofs.SoundLemmas.{sound_of_sets}
+use Rattle.dns_rules.proofs.DerivationLemmas.{top_step_is, top_derivation, top_counts, top_sent}
+use Rattle.dns_rules.proofs.DerivedLemmas.{derivation_depths, derivation_sent}
 use Rattle.dns_handle.specs.declared.handle.DnsHandle as handle
 use Rattle.dns_lookup.specs.Received.{received_message, says_none}
 use Rattle.dns_lookup.specs.Calls.{Call, ask_of_call, first_ask_of_call}
 use Rattle.dns_lookup.specs.Sends.{SendOf, SendsAlong, SendsFrom}
 use Rattle.dns_lookup.specs.LookupAnswers.{IsSoundAnswer, IsTrail, HasMarksOfTrail}
-use Rattle.dns_lookup.specs.Answering.{top_of, Findings, trail_of, top_grounds, Found}
+use Rattle.dns_lookup.specs.Answering.{top_of, Findings, trail_of, top_step_context, Found}
 use Rattle.dns_lookup.specs.LookupParts.{told_of, heard_told}
 use Rattle.dns_lookup.proofs.StandingLemmas.{plain_part}
 use Rattle.dns_lookup.proofs.StepLemmas.{judged_step_holds}
@@ -107,7 +107,7 @@ found_marks meanings call found d ending f =
 -- ---- the answer is sound
 
 -- the sets that entries are of
-placed_with : (g : Grounds) (ps : List Placed) (es : List JudgedSetValue) → entries_hold g ps es ≡ true → map placed_of (with_entries ps es) ≡ ps
+placed_with : (g : StepContext) (ps : List PlacedSet) (es : List JudgedSetValue) → entries_hold g ps es ≡ true → map placed_of (with_entries ps es) ≡ ps
 unfolding entries_hold
 placed_with g [] [] h = refl
 placed_with g [] (e ∷ es) h = cc
@@ -119,7 +119,7 @@ pub found_grouped : {H : Type 0} (meanings : handle.Ghosts H) (call : Call H) (f
     → map placed_of (bare found.sets) ≡ placed_sets (told_by found.message)
 found_grouped meanings call found f =
     let told = told_by found.message in
-    ap (map placed_of) f.judged.same ∙ placed_with (top_grounds call found.steps) (judged_part 0 told) found.entries f.judged.hold ∙ judged_part-top told
+    ap (map placed_of) f.judged.same ∙ placed_with (top_step_context call found.steps) (judged_part 0 told) found.entries f.judged.hold ∙ judged_part-top told
 
 -- an answer of what was found is sound for the records of the first reply
 pub found_sound : {H : Type 0} (meanings : handle.Ghosts H) (call : Call H) (found : Findings) (d : Denial) (ending : EndingValue) → Found meanings call found

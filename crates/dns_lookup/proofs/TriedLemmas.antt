@@ -5,29 +5,29 @@ use Rattle.dns_model.specs.declared.trail.AskRef.{AskRef}
 use Rattle.dns_model.specs.Types.{type_dnskey}
 use Rattle.dns_model.specs.Records.{Rr, RrSet}
 use Rattle.dns_model.specs.Trails.{AskedValue}
-use Rattle.dns_judgement.specs.Chained.{ChainedVerdict, bare_verdicts}
-use Rattle.dns_judgement.specs.Derivation.{Grounds, verdicts_by}
-use Rattle.dns_judgement.specs.Marks.{Verdict, is_proved, verdict_of, most_signatures}
-use Rattle.dns_judgement.proofs.ChainedLemmas.{chained_verdict-bare, failed_verdict, good_verdict}
-use Rattle.dns_judgement.proofs.VerdictLemmas.{VerdictsDone, verdicts_none, verdicts_done_stay, verdicts_skip, AskFits, asked_verdict, verdicts_ask, verdicts_all, verdicts_proved}
+use Rattle.dns_rules.specs.ChainedSets.{ChainedVerdict, bare_verdicts}
+use Rattle.dns_rules.specs.Derivation.{StepContext, verdicts_by}
+use Rattle.dns_rules.specs.Marks.{Verdict, is_proved, verdict_of, most_signatures}
+use Rattle.dns_rules.proofs.ChainedLemmas.{chained_verdict-bare, failed_verdict, good_verdict}
+use Rattle.dns_rules.proofs.VerdictLemmas.{VerdictsDone, verdicts_none, verdicts_done_stay, verdicts_skip, AskFits, asked_verdict, verdicts_ask, verdicts_all, verdicts_proved}
 use Rattle.dns_lookup.specs.Standing.{IsPlainSet, HasChain, HaveChains}
 use Rattle.dns_lookup.specs.Walking.{asks_in, IsAskedFor, IsTried, AreTried}
 use Rattle.dns_lookup.proofs.StandingLemmas.{proper_set, good_answer, good_chain}
 
 -- the first signatures of a set, none of which proved it
-pub record TriedDone (g : Grounds) (set : RrSet) (front : List Rr) (asks : List AskRef) (vs : List ChainedVerdict) : Type 0 where
+pub record TriedDone (g : StepContext) (set : RrSet) (front : List Rr) (asks : List AskRef) (vs : List ChainedVerdict) : Type 0 where
   pub done : VerdictsDone g set front asks (bare_verdicts vs)
   pub good : IsPlainSet set → (set.rtype == type_dnskey) ≡ false → (rest : List Rr) (ws : List ChainedVerdict)
       → HaveChains g.judge set rest ws → HaveChains g.judge set (front ++ rest) (vs ++ ws)
 
-pub tried_none : (g : Grounds) (set : RrSet) (asks : List AskRef) (vs : List ChainedVerdict) → asks ≡ [] → vs ≡ [] → TriedDone g set [] asks vs
+pub tried_none : (g : StepContext) (set : RrSet) (asks : List AskRef) (vs : List ChainedVerdict) → asks ≡ [] → vs ≡ [] → TriedDone g set [] asks vs
 tried_none g set asks vs no_ask no_verdict =
     let P : List AskRef → Type 0 = λ xs. TriedDone g set [] xs vs in
     let Q : List ChainedVerdict → Type 0 = λ xs. TriedDone g set [] [] xs in
     subst P (sym no_ask) (subst Q (sym no_verdict) (record { done = verdicts_none g set; good = λ plain other rest ws h. h }))
 
 -- what was tried stays when steps are added
-tried_later : (g : Grounds) (after more : List AskedValue) (set : RrSet) (front : List Rr) (asks : List AskRef) (vs : List ChainedVerdict)
+tried_later : (g : StepContext) (after more : List AskedValue) (set : RrSet) (front : List Rr) (asks : List AskRef) (vs : List ChainedVerdict)
     → after ≡ g.earlier ++ more → TriedDone g set front asks vs → TriedDone (record g { earlier = after }) set front asks vs
 tried_later g after more set front asks vs grown tried = record {
   done =
@@ -39,7 +39,7 @@ tried_later g after more set front asks vs grown tried = record {
 -- ---- one signature
 
 -- the chain of a signature that proves its set is for the set
-good_one : (g : Grounds) (set : RrSet) (r : Rr) (ask : Option AskRef) (v : ChainedVerdict) → IsTried g set r ask v
+good_one : (g : StepContext) (set : RrSet) (r : Rr) (ask : Option AskRef) (v : ChainedVerdict) → IsTried g set r ask v
     → IsPlainSet set → (set.rtype == type_dnskey) ≡ false → HasChain g.judge set r v
 good_one g set r ask v (inl untried) plain other =
     let P : ChainedVerdict → Type 0 = λ w. HasChain g.judge set r w in
@@ -50,17 +50,17 @@ good_one g set r ask v (inr asked) plain other =
     (good_verdict g.judge set g.query r asked.answer (proper_set set plain) other asked.kept (good_answer g.judge asked.answer asked.stand)))
 
 -- the verdict of a signature that was asked for is that of the table
-asked_by : (g : Grounds) (set : RrSet) (r : Rr) (ask : Option AskRef) (v : ChainedVerdict) (asked : IsAskedFor g set r ask v)
+asked_by : (g : StepContext) (set : RrSet) (r : Rr) (ask : Option AskRef) (v : ChainedVerdict) (asked : IsAskedFor g set r ask v)
     → asked_verdict g set r asked.made ≡ v.verdict
 asked_by g set r ask v asked =
     ap (verdict_of g.judge set r) (sym asked.same) ∙ sym (chained_verdict-bare g.judge set r asked.answer) ∙ ap (λ w. w.verdict) (sym asked.verdict)
 
-fits_by : (g : Grounds) (set : RrSet) (r : Rr) (ask : Option AskRef) (v : ChainedVerdict) (asked : IsAskedFor g set r ask v)
+fits_by : (g : StepContext) (set : RrSet) (r : Rr) (ask : Option AskRef) (v : ChainedVerdict) (asked : IsAskedFor g set r ask v)
     → AskFits g set r asked.made
 fits_by g set r ask v asked = record { kept = asked.kept; asks = asked.asks }
 
 -- a signature more, which doesn't prove the set
-verdict_more : (g : Grounds) (set : RrSet) (front : List Rr) (r : Rr) (asks : List AskRef) (ask : Option AskRef) (vs : List Verdict) (v : ChainedVerdict)
+verdict_more : (g : StepContext) (set : RrSet) (front : List Rr) (r : Rr) (asks : List AskRef) (ask : Option AskRef) (vs : List Verdict) (v : ChainedVerdict)
     → VerdictsDone g set front asks vs → IsTried g set r ask v → is_proved v.verdict ≡ false
     → VerdictsDone g set (front ++ r ∷ []) (asks ++ asks_in ask) (vs ++ v.verdict ∷ [])
 verdict_more g set front r asks ask vs v done (inl untried) failed =
@@ -76,7 +76,7 @@ verdict_more g set front r asks ask vs v done (inr asked) failed =
     (subst Q by (verdicts_ask g set front r asks asked.made vs done (fits_by g set r ask v asked) (ap is_proved by ∙ failed)))
 
 -- and one that does
-verdict_proves : (g : Grounds) (set : RrSet) (front : List Rr) (r : Rr) (rest : List Rr) (asks : List AskRef) (ask : Option AskRef) (vs : List Verdict) (v : ChainedVerdict)
+verdict_proves : (g : StepContext) (set : RrSet) (front : List Rr) (r : Rr) (rest : List Rr) (asks : List AskRef) (ask : Option AskRef) (vs : List Verdict) (v : ChainedVerdict)
     → VerdictsDone g set front asks vs → IsTried g set r ask v → is_proved v.verdict ≡ true
     → verdicts_by g set (front ++ r ∷ rest) (asks ++ asks_in ask) ≡ Some (vs ++ v.verdict ∷ [])
 verdict_proves g set front r rest asks ask vs v done (inl untried) proved =
@@ -88,7 +88,7 @@ verdict_proves g set front r rest asks ask vs v done (inr asked) proved =
     (verdicts_proved g set front r rest asks asked.made vs done (fits_by g set r ask v asked) (ap is_proved by ∙ proved)
     ∙ ap (λ w. Some (vs ++ w ∷ [])) by)
 
-tried_more : (g : Grounds) (set : RrSet) (front : List Rr) (r : Rr) (asks : List AskRef) (ask : Option AskRef) (vs : List ChainedVerdict) (v : ChainedVerdict)
+tried_more : (g : StepContext) (set : RrSet) (front : List Rr) (r : Rr) (asks : List AskRef) (ask : Option AskRef) (vs : List ChainedVerdict) (v : ChainedVerdict)
     → TriedDone g set front asks vs → IsTried g set r ask v → is_proved v.verdict ≡ false
     → TriedDone g set (front ++ r ∷ []) (asks ++ asks_in ask) (vs ++ v ∷ [])
 tried_more g set front r asks ask vs v tried one failed = record {
@@ -114,7 +114,7 @@ around xs i r lt is =
     ap (λ ys. take i xs ++ ys) (sym e) ∙ take-append-drop i xs
 
 -- the signature at a place doesn't prove the set
-pub tried_step : (g : Grounds) (after more : List AskedValue) (set : RrSet) (tried : List Rr) (i : ℕ) (r : Rr) (asks bsks : List AskRef) (ask bsk : Option AskRef)
+pub tried_step : (g : StepContext) (after more : List AskedValue) (set : RrSet) (tried : List Rr) (i : ℕ) (r : Rr) (asks bsks : List AskRef) (ask bsk : Option AskRef)
     (vs ws : List ChainedVerdict) (v w : ChainedVerdict)
     → after ≡ g.earlier ++ more → i < length tried → r ≡ get_or tried i r → TriedDone g set (take i tried) asks vs
     → IsTried (record g { earlier = after }) set r ask v → bsk ≡ ask → w ≡ v → is_proved w.verdict ≡ false
@@ -132,7 +132,7 @@ tried_step g after more set tried i r asks bsks ask bsk vs ws v w grown lt is do
     (tried_more h set (take i tried) r asks ask vs v (tried_later g after more set (take i tried) asks vs grown done) one
     (ap (λ x. is_proved x.verdict) (sym same_verdict) ∙ failed))))
 
-proved_at : (g : Grounds) (set : RrSet) (tried : List Rr) (i : ℕ) (r : Rr) (asks : List AskRef) (ask : Option AskRef) (vs : List ChainedVerdict) (v : ChainedVerdict)
+proved_at : (g : StepContext) (set : RrSet) (tried : List Rr) (i : ℕ) (r : Rr) (asks : List AskRef) (ask : Option AskRef) (vs : List ChainedVerdict) (v : ChainedVerdict)
     → tried ≡ take most_signatures set.signatures → i < length tried → r ≡ get_or tried i r
     → TriedDone g set (take i tried) asks vs → IsTried g set r ask v → is_proved v.verdict ≡ true
     → AreTried g set (asks ++ asks_in ask) (vs ++ v ∷ [])
@@ -149,7 +149,7 @@ proved_at g set tried i r asks ask vs v own lt is done one proved =
     }
 
 -- the signature at a place proves it
-pub proved_step : (g : Grounds) (after more : List AskedValue) (set : RrSet) (tried : List Rr) (i : ℕ) (r : Rr) (asks bsks : List AskRef) (ask bsk : Option AskRef)
+pub proved_step : (g : StepContext) (after more : List AskedValue) (set : RrSet) (tried : List Rr) (i : ℕ) (r : Rr) (asks bsks : List AskRef) (ask bsk : Option AskRef)
     (vs ws : List ChainedVerdict) (v w : ChainedVerdict)
     → tried ≡ take most_signatures set.signatures
     → after ≡ g.earlier ++ more → i < length tried → r ≡ get_or tried i r → TriedDone g set (take i tried) asks vs
@@ -165,7 +165,7 @@ proved_step g after more set tried i r asks bsks ask bsk vs ws v w own grown lt 
     (ap (λ x. is_proved x.verdict) (sym same_verdict) ∙ proved)))
 
 -- none does
-pub tried_all : (g : Grounds) (set : RrSet) (tried : List Rr) (i : ℕ) (asks : List AskRef) (vs : List ChainedVerdict)
+pub tried_all : (g : StepContext) (set : RrSet) (tried : List Rr) (i : ℕ) (asks : List AskRef) (vs : List ChainedVerdict)
     → tried ≡ take most_signatures set.signatures → length tried ≤ i → TriedDone g set (take i tried) asks vs → AreTried g set asks vs
 tried_all g set tried i asks vs own past done =
     let whole : take i tried ≡ take most_signatures set.signatures = take_all i tried past ∙ own in

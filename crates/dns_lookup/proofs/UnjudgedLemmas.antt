@@ -13,13 +13,13 @@ use Rattle.dns_model.specs.Records.{Question}
 use Rattle.dns_model.specs.SoundAnswers.{Told, told_by, ResponseValue, is_secure}
 use Rattle.dns_model.specs.Trails.{EndingValue, Failed}
 use Rattle.dns_model.specs.declared.answered.Answered.{Answered}
-use Rattle.dns_judgement.specs.NsecVerdict.{nsec_verdict}
-use Rattle.dns_judgement.specs.Chained.{bare}
-use Rattle.dns_judgement.specs.Derivation.{judged_sets, ending_by}
-use Rattle.dns_judgement.specs.Judged.{Judged}
-use Rattle.dns_judgement.specs.Outcome.{Outcome, Unjudged, Given, Searched, is_unjudged, denying, denials, one_signer, answered, outcome_by_denials, outcome_of}
-use Rattle.dns_judgement.specs.Outcome as outcome
-use Rattle.dns_judgement.proofs.DerivationLemmas.{top_step_is}
+use Rattle.dns_rules.specs.NsecVerdict.{nsec_verdict}
+use Rattle.dns_rules.specs.ChainedSets.{bare}
+use Rattle.dns_rules.specs.Derivation.{judged_sets, ending_by}
+use Rattle.dns_rules.specs.MarkedSets.{MarkedSet}
+use Rattle.dns_rules.specs.Outcome.{Outcome, Unjudged, Given, NeedsZone, is_unjudged, denying, denials, one_signer, answered, outcome_by_denials, outcome_of}
+use Rattle.dns_rules.specs.Outcome as outcome
+use Rattle.dns_rules.proofs.DerivationLemmas.{top_step_is}
 use Rattle.dns_handle.specs.Errors.{Reply, Message}
 use Rattle.dns_handle.specs.Replies.{reply_of}
 use Rattle.dns_handle.specs.declared.error.NetError.{NetError}
@@ -28,7 +28,7 @@ use Rattle.dns_handle.specs.declared.notice.Notice.TheVariants.{NotJudgedYet}
 use Rattle.dns_lookup.specs.Calls.{Call}
 use Rattle.dns_lookup.specs.LookupAnswers.{UnlessNoMemory, OfAnswer}
 use Rattle.dns_lookup.specs.Causes.{sees_nsec3, IsUnjudged, UnjudgedOnly, HasItsCause}
-use Rattle.dns_lookup.specs.Answering.{top_of, Findings, trail_of, answer_by, top_grounds, Found, AnswersLookup, Passes, Names, Judges}
+use Rattle.dns_lookup.specs.Answering.{top_of, Findings, trail_of, answer_by, top_step_context, Found, AnswersLookup, Passes, Names, Judges}
 use Rattle.dns_lookup.proofs.ConclusionLemmas.{still_unjudged, unjudged_still, never_searched}
 use Rattle.dns_lookup.proofs.TopLemmas.{sets_of_top, found_trail}
 use Rattle.dns_lookup.proofs.LookupAnswerLemmas.{or_memory, of_result}
@@ -53,7 +53,7 @@ later_rows : (insecure denied expanded plain : Bool) (d : Denial) (o : Outcome) 
     else if denied then o
     else if expanded then outcome.Denied Bogus
     else if plain then Given denial.None
-    else Searched) ≢ Unjudged
+    else NeedsZone) ≢ Unjudged
 later_rows true denied expanded plain d o decides = λ h. cc
 later_rows false true expanded plain d o decides = decides
 later_rows false false true plain d o decides = λ h. cc
@@ -65,7 +65,7 @@ first_row true o decides is = refl
 first_row false o decides is = absurd (decides is)
 
 -- sets whose outcome isn't judged yet have a Secure NSEC3 set among them
-pub unjudged_sees : (q : Question) (told : Told) (sets : List Judged) → outcome_of q told sets ≡ Unjudged → list_any is_unjudged sets ≡ true
+pub unjudged_sees : (q : Question) (told : Told) (sets : List MarkedSet) → outcome_of q told sets ≡ Unjudged → list_any is_unjudged sets ≡ true
 unfolding outcome_of
 unjudged_sees q told sets is =
     first_row (list_any is_unjudged sets) _
@@ -76,7 +76,7 @@ first_holds : (seen : Bool) (o : Outcome) → seen ≡ true → (if seen then Un
 first_holds true o is = refl
 first_holds false o is = cc
 
-sees_unjudged : (q : Question) (told : Told) (sets : List Judged) → list_any is_unjudged sets ≡ true → outcome_of q told sets ≡ Unjudged
+sees_unjudged : (q : Question) (told : Told) (sets : List MarkedSet) → list_any is_unjudged sets ≡ true → outcome_of q told sets ≡ Unjudged
 unfolding outcome_of
 sees_unjudged q told sets sees = first_holds (list_any is_unjudged sets) _ sees
 
@@ -95,15 +95,15 @@ unjudged_by : {H : Type 0} (meanings : handle.Ghosts H) (call : Call H) (found :
     → found.outcome ≡ o → answer_by call.now call.query found o ≡ Err (Message NotJudgedYet) → IsUnjudged meanings call
 unjudged_by meanings call found f (Given d) is unjudged = cc
 unjudged_by meanings call found f (outcome.Denied p) is unjudged = cc
-unjudged_by meanings call found f Searched is unjudged =
-    absurd (never_searched (top_grounds call found.steps) (told_by found.message) (bare found.sets) found.outcome found.excuse f.concluded is)
+unjudged_by meanings call found f NeedsZone is unjudged =
+    absurd (never_searched (top_step_context call found.steps) (told_by found.message) (bare found.sets) found.outcome found.excuse f.concluded is)
 unjudged_by meanings call found f Unjudged is unjudged = record {
   trail = trail_of call.query found Failed;
   is = (found_trail meanings call found Failed f (sym (ap ending_by is))).is;
   sees =
       trail_sees meanings call found Failed f
       ∙ unjudged_sees call.query (told_by found.message) (bare found.sets)
-      (still_unjudged (top_grounds call found.steps) (told_by found.message) (bare found.sets) found.outcome found.excuse f.concluded is);
+      (still_unjudged (top_step_context call found.steps) (told_by found.message) (bare found.sets) found.outcome found.excuse f.concluded is);
 }
 
 unjudged_only : {H : Type 0} (meanings : handle.Ghosts H) (call : Call H) {answer : Reply} → AnswersLookup meanings call answer → UnjudgedOnly meanings call answer
@@ -129,7 +129,7 @@ judged_by meanings call found ending f ends other =
     trail_sees meanings call found ending f
     ∙ false_from_ne_true (list_any is_unjudged (bare found.sets))
     (λ sees. other (ends ∙ ap ending_by
-    (unjudged_still (top_grounds call found.steps) (told_by found.message) (bare found.sets) found.outcome found.excuse f.concluded
+    (unjudged_still (top_step_context call found.steps) (told_by found.message) (bare found.sets) found.outcome found.excuse f.concluded
     (sees_unjudged call.query (told_by found.message) (bare found.sets) sees))))
 
 -- an answer saw no Secure NSEC3

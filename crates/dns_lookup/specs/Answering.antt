@@ -6,19 +6,19 @@ use Rattle.dns_model.specs.Records.{Rr, Question, MessageValue}
 use Rattle.dns_model.specs.Keys.{VerifierAnswers}
 use Rattle.dns_model.specs.SoundAnswers.{Told, told_by}
 use Rattle.dns_model.specs.Trails.{AskedValue, JudgedSetValue, Records, EndingValue, Answered, Denied}
-use Rattle.dns_judgement.specs.Asking.{most_sends, depth_limit, judged_part}
-use Rattle.dns_judgement.specs.Chained.{Chained, bare, finished}
-use Rattle.dns_judgement.specs.Derivation.{Grounds}
-use Rattle.dns_judgement.specs.DerivationParts.{asks_of_sets}
-use Rattle.dns_judgement.specs.Marking.{cleared_message}
-use Rattle.dns_judgement.specs.Outcome.{Outcome, Unjudged, Given, Searched, foreign_record}
-use Rattle.dns_judgement.specs.Outcome as outcome
+use Rattle.dns_rules.specs.Asking.{most_sends, depth_limit, judged_part}
+use Rattle.dns_rules.specs.ChainedSets.{ChainedSet, bare, finished}
+use Rattle.dns_rules.specs.Derivation.{StepContext}
+use Rattle.dns_rules.specs.DerivationParts.{asks_of_sets}
+use Rattle.dns_rules.specs.Marking.{cleared_message}
+use Rattle.dns_rules.specs.Outcome.{Outcome, Unjudged, Given, NeedsZone, foreign_record}
+use Rattle.dns_rules.specs.Outcome as outcome
 use Rattle.dns_handle.specs.Errors as seen
 use Rattle.dns_handle.specs.Errors.{Reply, ErrorValue}
 use Rattle.dns_handle.specs.Requests.{RequestValue}
 use Rattle.dns_handle.specs.declared.handle.DnsHandle as handle
 use Rattle.dns_handle.specs.declared.notice.Notice.TheVariants.{NotJudgedYet}
-use Rattle.dns_anchors.specs.Judge.{judge_of}
+use Rattle.dns_trust.specs.Judge.{judge_of}
 use Rattle.dns_outcome.specs.Outcome.{outcome_value}
 use Rattle.dns_outcome.specs.declared.outcome.Outcome.{Outcome as Declared}
 use Rattle.dns_lookup.specs.Received.{received_message, says_none}
@@ -50,7 +50,7 @@ pub record Findings : Type 0 where
   pub message : MessageValue
   pub empty : Bool
   pub steps : List AskedValue
-  pub sets : List Chained
+  pub sets : List ChainedSet
   pub entries : List JudgedSetValue
   pub outcome : Outcome
   pub excuse : List AskRef
@@ -73,7 +73,7 @@ trail_of q found ending = found.steps ++ top_of q (told_by found.message) found.
 -- the answer by the outcome of its last step; a search never is its outcome
 abbrev pub answer_by : ℕ → Question → Findings → Outcome → Reply
 answer_by now q found Unjudged = Err (seen.Message NotJudgedYet)
-answer_by now q found Searched = Err (seen.Message NotJudgedYet)
+answer_by now q found NeedsZone = Err (seen.Message NotJudgedYet)
 answer_by now q found (Given d) = Ok (finished now found.sets found.message d (trail_of q found (Answered d)))
 answer_by now q found (outcome.Denied p) =
     Err (seen.Dns (seen.Nsec q (finished now found.sets found.message denial.None (trail_of q found (Denied p))) p))
@@ -83,8 +83,8 @@ abbrev pub judged_answer : ℕ → Question → Findings → Reply
 judged_answer now q found = answer_by now q found found.outcome
 
 -- the sets of the last step are judged by the steps before it
-abbrev pub top_grounds : {H : Type 0} → Call H → List AskedValue → Grounds
-top_grounds call steps = record {
+abbrev pub top_step_context : {H : Type 0} → Call H → List AskedValue → StepContext
+top_step_context call steps = record {
   judge = call.judge;
   limit = depth_limit call.options.max_request_depth;
   earlier = steps;
@@ -105,8 +105,8 @@ pub record Found {H : Type 0} (meanings : handle.Ghosts H) (call : Call H) (foun
   pub own : foreign_record call.query (told_by found.message) ≡ None
   pub asks : Asks (ask_of_call meanings call) call.judge (depth_limit call.options.max_request_depth) middle call.new
       [] found.steps (asks_of_sets found.entries ++ found.excuse) 1 sends
-  pub judged : IsJudgement (top_grounds call found.steps) (judged_part 0 (told_by found.message)) found.sets found.entries
-  pub concluded : IsConcluded (top_grounds call found.steps) (told_by found.message) (bare found.sets) found.outcome found.excuse
+  pub judged : IsJudgement (top_step_context call found.steps) (judged_part 0 (told_by found.message)) found.sets found.entries
+  pub concluded : IsConcluded (top_step_context call found.steps) (told_by found.message) (bare found.sets) found.outcome found.excuse
   pub few : sends ≤ most_sends
 
 -- why a lookup answers as it does

@@ -8,8 +8,8 @@ use Rattle.dns_model.specs.Types.{type_nsec3}
 use Rattle.dns_model.specs.Records.{Rr, Question}
 use Rattle.dns_model.specs.Trails.{AskedValue, Failed}
 use Rattle.dns_model.specs.SoundAnswers.{Told}
-use Rattle.dns_judgement.specs.Derivation.{top_step, judged_sets}
-use Rattle.dns_judgement.specs.Outcome.{is_unjudged, foreign_record}
+use Rattle.dns_rules.specs.Derivation.{top_step, judged_sets}
+use Rattle.dns_rules.specs.Outcome.{is_unjudged, foreign_record}
 use Rattle.dns_handle.specs.Errors.{Reply, ErrorValue, Dns, Message, ForeignClassRecord, NoMemory, Nsec}
 use Rattle.dns_handle.specs.Handles.{Replies, reply_to}
 use Rattle.dns_handle.specs.declared.handle.DnsHandle as handle

@@ -9,9 +9,9 @@ use Rattle.dns_model.specs.Keys.{VerifierAnswers}
 use Rattle.dns_model.specs.Records.{Question, MessageValue}
 use Rattle.dns_model.specs.Trails.{AskedValue, Records, EndingValue, Answered, Denied}
 use Rattle.dns_model.specs.SoundAnswers.{Told, told_by, ResponseValue, Sound}
-use Rattle.dns_judgement.specs.Asking.{most_sends, depth_limit}
-use Rattle.dns_judgement.specs.Derivation.{derivation, top_step, told_in, judged_sets, in_send_order}
-use Rattle.dns_judgement.specs.Marking.{marked_told}
+use Rattle.dns_rules.specs.Asking.{most_sends, depth_limit}
+use Rattle.dns_rules.specs.Derivation.{derivation, top_step, told_in, judged_sets, in_send_order}
+use Rattle.dns_rules.specs.Marking.{marked_told}
 use Rattle.dns_laws.specs.Denials.{ShowsDenial, HasDenials}
 use Rattle.dns_laws.specs.Ground.{HasGrounds}
 use Rattle.dns_laws.specs.OwnDenials.{DeniesByRecords}

@@ -4,7 +4,7 @@ use Rattle.std.specs.Option.{option_map, option_map_or}
 use Rattle.dns_model.specs.Records.{Question, MessageValue}
 use Rattle.dns_model.specs.Trails.{AskedValue, HeardValue, Records, Fault}
 use Rattle.dns_model.specs.SoundAnswers.{Told, told_by}
-use Rattle.dns_judgement.specs.Marking.{cleared_message}
+use Rattle.dns_rules.specs.Marking.{cleared_message}
 use Rattle.dns_handle.specs.Errors.{Reply}
 use Rattle.dns_handle.specs.Handles.{Replies, reply_to}
 use Rattle.dns_lookup.specs.Sends.{IsFromReplies}

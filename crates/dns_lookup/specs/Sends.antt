@@ -2,7 +2,7 @@
 use Rattle.std.specs.Prelude.{ℕ, ◌≡◌, ◌≢◌, ◌≤◌, Bool, true, false, List, [], ◌∷◌, Err}
 use Rattle.dns_model.specs.Records.{Question}
 use Rattle.dns_model.specs.Trails.{AskedValue, HeardValue, Records, Fault}
-use Rattle.dns_judgement.specs.Asking.{most_sends}
+use Rattle.dns_rules.specs.Asking.{most_sends}
 use Rattle.dns_handle.specs.Errors as seen
 use Rattle.dns_handle.specs.Errors.{Reply}
 use Rattle.dns_handle.specs.Handles.{Replies, reply_to, left_after}

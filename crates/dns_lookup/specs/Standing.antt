@@ -5,9 +5,9 @@ use Rattle.dns_model.specs.Names.{name_eq}
 use Rattle.dns_model.specs.Types.{type_rrsig}
 use Rattle.dns_model.specs.Records.{Rr, RrSet}
 use Rattle.dns_model.specs.Chains.{LinkValue, Judge, justified, ends_at, last_link, is_nonempty, rdatas_of}
-use Rattle.dns_model.specs.SoundAnswers.{Placed}
-use Rattle.dns_judgement.specs.Chained.{Chained, ChainedVerdict, stands, names_decider}
-use Rattle.dns_judgement.specs.Marks.{is_proved}
+use Rattle.dns_model.specs.SoundAnswers.{PlacedSet}
+use Rattle.dns_rules.specs.ChainedSets.{ChainedSet, ChainedVerdict, stands, names_decider}
+use Rattle.dns_rules.specs.Marks.{is_proved}
 
 -- ---- sets as messages have them
 
@@ -18,17 +18,17 @@ pub record IsPlainSet (set : RrSet) : Type 0 where
   pub own : AllByRecursion (λ r. (name_eq set.owner r.owner && (set.rtype == r.rtype)) ≡ true) set.records
 
 -- each of them
-abbrev pub ArePlainSets : List Placed → Type 0
+abbrev pub ArePlainSets : List PlacedSet → Type 0
 ArePlainSets placed = AllByRecursion (λ p. IsPlainSet p.set) placed
 
 -- ---- sets that were judged
 
 -- each of these sets stands: where it is Secure, it has a justified chain that ends at it and names the signature that decided
-abbrev pub AllStand : Judge → List Chained → Type 0
+abbrev pub AllStand : Judge → List ChainedSet → Type 0
 AllStand j sets = AllByRecursion (λ c. stands j c ≡ true) sets
 
 -- the sets of an answer stand, if there is one
-abbrev pub AnswerStands : Judge → Option (List Chained) → Type 0
+abbrev pub AnswerStands : Judge → Option (List ChainedSet) → Type 0
 AnswerStands j None = Unit {0}
 AnswerStands j (Some sets) = AllStand j sets
 

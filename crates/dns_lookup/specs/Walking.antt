@@ -11,29 +11,30 @@ use Rattle.dns_model.specs.Types.{type_dnskey}
 use Rattle.dns_model.specs.Records.{Rr, RrSet, Question, MessageValue}
 use Rattle.dns_model.specs.Keys.{VerifierAnswers}
 use Rattle.dns_model.specs.Chains.{Judge}
-use Rattle.dns_model.specs.SoundAnswers.{Told, Placed}
+use Rattle.dns_model.specs.SoundAnswers.{Told, PlacedSet}
 use Rattle.dns_model.specs.Trails.{AskedValue, HeardValue, JudgedSetValue, EndingValue}
 use Rattle.dns_model.specs.Trails as trails
-use Rattle.dns_judgement.specs.Asking.{most_sends, ask_of, judged_part}
-use Rattle.dns_judgement.specs.Chained.{Chained, bare, stands, ChainedVerdict, chained_verdict, bare_verdicts}
-use Rattle.dns_judgement.specs.Delegations.{ZoneVerdict}
-use Rattle.dns_judgement.specs.Derivation as derived
-use Rattle.dns_judgement.specs.Derivation.{Grounds, entry_holds, entries_hold, with_entries, finished_answer, is_ask, verdicts_by, is_plain_ask, sight_by, zone_asked, search_from}
-use Rattle.dns_judgement.specs.DerivationParts.{with_entry, steps_at, is_ask_for, asks_of_sets}
-use Rattle.dns_judgement.specs.Judged.{Judged}
-use Rattle.dns_judgement.specs.Marking.{cleared_message}
-use Rattle.dns_judgement.specs.Marks.{is_skipped, most_signatures}
-use Rattle.dns_judgement.specs.Marks as marks
-use Rattle.dns_judgement.specs.Outcome.{Outcome, Unjudged, Given, Searched, Denied, outcome_of, outcome_by_zone}
-use Rattle.dns_judgement.specs.Parts.{TrailPart}
-use Rattle.dns_judgement.specs.Unsigned.{question_start, unsigned_mark}
+use Rattle.dns_rules.specs.Asking.{most_sends, ask_of, judged_part}
+use Rattle.dns_rules.specs.ChainedSets.{ChainedSet, bare, stands, ChainedVerdict, chained_verdict, bare_verdicts}
+use Rattle.dns_rules.specs.Delegations.{ZoneVerdict}
+use Rattle.dns_rules.specs.Derivation as derived
+use Rattle.dns_rules.specs.Derivation.{StepContext, entry_holds, entries_hold, with_entries, finished_answer, is_ask, verdicts_by, is_plain_ask, probe_by, zone_asked, search_from}
+use Rattle.dns_rules.specs.DerivationParts.{with_entry, steps_at, is_ask_for, asks_of_sets}
+use Rattle.dns_rules.specs.MarkedSets.{MarkedSet}
+use Rattle.dns_rules.specs.Marking.{cleared_message}
+use Rattle.dns_rules.specs.Marks.{is_skipped, most_signatures}
+use Rattle.dns_rules.specs.Marks as marks
+use Rattle.dns_rules.specs.Outcome.{Outcome, Unjudged, Given, NeedsZone, Denied, outcome_of, outcome_by_zone}
+use Rattle.dns_rules.specs.Parts.{TrailPart}
+use Rattle.dns_rules.specs.Unsigned.{question_start, unsigned_mark}
+use Rattle.dns_rules.specs.Probes.{NsProbe}
 use Rattle.dns_handle.specs.Errors.{Reply}
 use Rattle.dns_handle.specs.Replies.{error_of}
 use Rattle.dns_handle.specs.Walks.{Walked}
 use Rattle.dns_handle.specs.declared.error.NetError.{NetError}
 use Rattle.dns_handle.specs.declared.error.NetError.TheVariants.{NoMemory}
 use Rattle.dns_handle.specs.declared.handle.DnsHandle as handle
-use Rattle.dns_anchors.specs.Judge.{judge_of}
+use Rattle.dns_trust.specs.Judge.{judge_of}
 use Rattle.dns_outcome.specs.Outcome.{outcome_value}
 use Rattle.dns_lookup.specs.Received.{received_message, says_none}
 use Rattle.dns_lookup.specs.AskRequests.{Ask}
@@ -120,8 +121,8 @@ Walk meanings answers context old before new after asks =
     before.steps.items after.steps.items asks before.sends after.sends
 
 -- by what the sets of a step are judged, at a state of the progress
-abbrev pub grounds_at : {V : Type 0} → (V → VerifierAnswers) → LookupContext V → Progress → OpenStep → Grounds
-grounds_at answers context progress step = record {
+abbrev pub step_context_at : {V : Type 0} → (V → VerifierAnswers) → LookupContext V → Progress → OpenStep → StepContext
+step_context_at answers context progress step = record {
   judge = judge_of answers context.judge;
   limit = context.limit;
   earlier = progress.steps.items;
@@ -130,8 +131,8 @@ grounds_at answers context progress step = record {
 }
 
 -- the same grounds, with further steps
-abbrev pub later_grounds : Grounds → List AskedValue → Grounds
-later_grounds g more = record g { earlier = g.earlier ++ more }
+abbrev pub later_step_context : StepContext → List AskedValue → StepContext
+later_step_context g more = record g { earlier = g.earlier ++ more }
 
 -- ---- a step
 
@@ -160,7 +161,7 @@ plain_step depth q reply ending = record {
 }
 
 -- the entry of a set that the rules judged by these asks
-abbrev pub entry_of : Judged → List AskRef → JudgedSetValue
+abbrev pub entry_of : MarkedSet → List AskRef → JudgedSetValue
 entry_of judged asked = record {
   section = judged.section;
   owner = judged.set.owner;
@@ -179,7 +180,7 @@ foreign_ending r = trails.Foreign r.owner r.class r.rtype
 abbrev pub given_sets : {X : Type 0} → Outcome → List X → Option (List X)
 given_sets Unjudged sets = None
 given_sets (Given d) sets = Some sets
-given_sets Searched sets = None
+given_sets NeedsZone sets = None
 given_sets (Denied proof) sets = None
 
 -- ---- what the functions of the walk come to
@@ -196,48 +197,48 @@ pub record IsAdded (before after : List AskedValue) (step : AskedValue) (ask : A
 
 -- the answer to an ask, as the trail has it
 pub record IsAnswer (j : Judge) (limit : ℕ) (steps : List AskedValue) (q : Question) (depth : ℕ) (ask : AskRef)
-    (answer : Option (List Chained)) : Type 0 where
+    (answer : Option (List ChainedSet)) : Type 0 where
   pub asks : is_ask limit steps depth q ask ≡ true
   pub same : option_map bare answer ≡ finished_answer steps ask
   pub stand : AnswerStands j answer
 
 -- a plain ask, as the trail has it, and what it saw
-pub record IsSeen (steps : List AskedValue) (depth : ℕ) (q : Question) (ask : AskRef) (sight : derived.Sight) : Type 0 where
+pub record IsSeen (steps : List AskedValue) (depth : ℕ) (q : Question) (ask : AskRef) (probe : NsProbe) : Type 0 where
   pub asks : is_plain_ask steps depth q ask ≡ true
-  pub sees : sight_by steps q.owner ask ≡ sight
+  pub sees : probe_by steps q.owner ask ≡ probe
 
 -- the search that began at a name leads to a zone by these plain asks: what its DS verdict comes to is what the search comes to
-pub record LeadsTo (g : Grounds) (class : ℕ) (start : Labels) (asks : List AskRef) (zone : Labels) : Type 0 where
+pub record LeadsTo (g : StepContext) (class : ℕ) (start : Labels) (asks : List AskRef) (zone : Labels) : Type 0 where
   pub search : (later : List AskedValue) (rest : List AskRef) (verdict : ZoneVerdict)
-      → zone_asked (later_grounds g later) class zone rest ≡ Some verdict
-      → search_from (later_grounds g later) class start (asks ++ rest) ≡ Some verdict
+      → zone_asked (later_step_context g later) class zone rest ≡ Some verdict
+      → search_from (later_step_context g later) class start (asks ++ rest) ≡ Some verdict
 
 -- the search comes to a verdict by which what is unsigned has this mark
-pub record IsSearched (g : Grounds) (class : ℕ) (start : Labels) (asks : List AskRef) (mark : Proof) : Type 0 where
+pub record IsSearched (g : StepContext) (class : ℕ) (start : Labels) (asks : List AskRef) (mark : Proof) : Type 0 where
   pub zone : ZoneVerdict
   pub found : search_from g class start asks ≡ Some zone
   pub is : mark ≡ (unsigned_mark zone).mark
 
 -- plain asks lead to a zone, or to nothing but Bogus
-abbrev pub IsWay : Grounds → ℕ → Labels → List AskRef → Option Labels → Type 0
-IsWay g class start asks (Some zone) = LeadsTo g class start asks zone
-IsWay g class start asks None = IsSearched g class start asks Bogus
+abbrev pub IsZoneSearch : StepContext → ℕ → Labels → List AskRef → Option Labels → Type 0
+IsZoneSearch g class start asks (Some zone) = LeadsTo g class start asks zone
+IsZoneSearch g class start asks None = IsSearched g class start asks Bogus
 
 -- the outcome of judged sets decides
-pub record IsSettled (g : Grounds) (told : Told) (sets : List Judged) (o : Outcome) (excuse : List AskRef) : Type 0 where
+pub record IsSettled (g : StepContext) (told : Told) (sets : List MarkedSet) (o : Outcome) (excuse : List AskRef) : Type 0 where
   pub is : o ≡ outcome_of g.query told sets
-  pub settled : o ≢ Searched
+  pub settled : o ≢ NeedsZone
   pub none : excuse ≡ []
 
 -- it doesn't, and the zone of the question is searched
-pub record IsLeftToZone (g : Grounds) (told : Told) (sets : List Judged) (o : Outcome) (excuse : List AskRef) : Type 0 where
-  pub left : outcome_of g.query told sets ≡ Searched
+pub record IsLeftToZone (g : StepContext) (told : Told) (sets : List MarkedSet) (o : Outcome) (excuse : List AskRef) : Type 0 where
+  pub left : outcome_of g.query told sets ≡ NeedsZone
   pub zone : ZoneVerdict
   pub found : search_from g g.query.class (question_start g.query) excuse ≡ Some zone
   pub is : o ≡ outcome_by_zone g.query told zone
 
 -- what the judged sets of a step come to, with the asks on which that stands
-abbrev pub IsConcluded : Grounds → Told → List Judged → Outcome → List AskRef → Type 0
+abbrev pub IsConcluded : StepContext → Told → List MarkedSet → Outcome → List AskRef → Type 0
 IsConcluded g told sets o excuse = IsSettled g told sets o excuse ⊎ IsLeftToZone g told sets o excuse
 
 -- the ask of a signature, if it made one
@@ -246,15 +247,15 @@ asks_in None = []
 asks_in (Some ask) = ask ∷ []
 
 -- a signature that isn't asked for
-pub record IsUntried (g : Grounds) (set : RrSet) (r : Rr) (ask : Option AskRef) (v : ChainedVerdict) : Type 0 where
+pub record IsUntried (g : StepContext) (set : RrSet) (r : Rr) (ask : Option AskRef) (v : ChainedVerdict) : Type 0 where
   pub skipped : is_skipped g.query set r ≡ true
   pub none : ask ≡ None
   pub failed : v ≡ record { verdict = marks.Failed; chain = [] }
 
 -- a signature that was asked for
-pub record IsAskedFor (g : Grounds) (set : RrSet) (r : Rr) (ask : Option AskRef) (v : ChainedVerdict) : Type 0 where
+pub record IsAskedFor (g : StepContext) (set : RrSet) (r : Rr) (ask : Option AskRef) (v : ChainedVerdict) : Type 0 where
   pub made : AskRef
-  pub answer : Option (List Chained)
+  pub answer : Option (List ChainedSet)
   pub one : ask ≡ Some made
   pub kept : is_skipped g.query set r ≡ false
   pub asks : is_ask_for g (ask_of set r) made ≡ true
@@ -262,22 +263,22 @@ pub record IsAskedFor (g : Grounds) (set : RrSet) (r : Rr) (ask : Option AskRef)
   pub stand : AnswerStands g.judge answer
   pub verdict : v ≡ chained_verdict g.judge set r answer
 
-abbrev pub IsTried : Grounds → RrSet → Rr → Option AskRef → ChainedVerdict → Type 0
+abbrev pub IsTried : StepContext → RrSet → Rr → Option AskRef → ChainedVerdict → Type 0
 IsTried g set r ask v = IsUntried g set r ask v ⊎ IsAskedFor g set r ask v
 
 -- the verdicts of a set's first signatures, and the asks that they made
-pub record AreTried (g : Grounds) (set : RrSet) (asks : List AskRef) (vs : List ChainedVerdict) : Type 0 where
+pub record AreTried (g : StepContext) (set : RrSet) (asks : List AskRef) (vs : List ChainedVerdict) : Type 0 where
   pub verdicts : verdicts_by g set (take most_signatures set.signatures) asks ≡ Some (bare_verdicts vs)
   pub good : IsPlainSet set → (set.rtype == type_dnskey) ≡ false → HaveChains g.judge set (take most_signatures set.signatures) vs
 
 -- a set with its chain, and the entry that a step has for it
-pub record IsJudgedSet (g : Grounds) (placed : Placed) (c : Chained) (entry : JudgedSetValue) : Type 0 where
+pub record IsJudgedSet (g : StepContext) (placed : PlacedSet) (c : ChainedSet) (entry : JudgedSetValue) : Type 0 where
   pub holds : entry_holds g placed entry ≡ true
   pub same : c.judged ≡ with_entry (placed, entry)
   pub stand : IsPlainSet placed.set → stands g.judge c ≡ true
 
 -- sets with their chains, and the entries that a step has for them
-pub record IsJudgement (g : Grounds) (placed : List Placed) (sets : List Chained) (entries : List JudgedSetValue) : Type 0 where
+pub record IsJudgement (g : StepContext) (placed : List PlacedSet) (sets : List ChainedSet) (entries : List JudgedSetValue) : Type 0 where
   pub hold : entries_hold g placed entries ≡ true
   pub same : bare sets ≡ with_entries placed entries
   pub stand : ArePlainSets placed → AllStand g.judge sets
@@ -288,8 +289,8 @@ pub record IsReviewed {H V : Type 0} (meanings : handle.Ghosts H) (answers : V �
   pub between : H
   pub progress : Progress
   pub asks : Walk meanings answers context old before between progress (asks_of_sets review.judged.entries.items)
-  pub judged : IsJudgement (grounds_at answers context progress step) (judged_part step.depth told)
+  pub judged : IsJudgement (step_context_at answers context progress step) (judged_part step.depth told)
       review.judged.sets.items review.judged.entries.items
   pub further : Walk meanings answers context between progress new after review.concluded.excuse.items
-  pub concluded : IsConcluded (grounds_at answers context after step) told (bare review.judged.sets.items)
+  pub concluded : IsConcluded (step_context_at answers context after step) told (bare review.judged.sets.items)
       (outcome_value review.concluded.outcome) review.concluded.excuse.items

@@ -1,9 +1,10 @@
 ghost use Rattle.std.specs.Prelude.{◌≡◌, IfOk};
-ghost use Rattle.dns_judgement.specs.Asking.{depth_limit};
+ghost use Rattle.dns_rules.specs.Asking.{depth_limit};
 ghost use Rattle.dns_handle.specs.Requests.{plain_options, request_of};
 ghost use Rattle.dns_lookup.specs.AskRequests.{asking_options, asking_request, request_for as request_by};
 
-use dns_handle::{Asked, DnsRequest, DnsRequestOptions};
+use dns_evidence::Asked;
+use dns_handle::{DnsRequest, DnsRequestOptions};
 use dns_name::NoMemory;
 use dns_record::Query;
 use dns_trust::Judge;
@@ -40,7 +41,7 @@ pub(crate) struct OpenStep<'a> {
 pub(crate) fn depth_limit_of(options: &DnsRequestOptions) -> u16
     ensures { result ≡ depth_limit options.now.max_request_depth }
 {
-    dns_trail_order::depth_limit(options.max_request_depth)
+    dns_evidence::depth_limit(options.max_request_depth)
 }
 
 /// The request of an ask whose reply is judged (RFC 4035, 4.1; RFC 6840, 5.7) or only seen.

@@ -1,8 +1,8 @@
 ghost use Rattle.std.specs.Prelude.{◌≡◌, ◌<◌, [], None, IfOk, length};
 ghost use Rattle.dns_model.specs.SoundAnswers.{told_by};
 ghost use Rattle.dns_model.specs.Trails.{Records, Fault, Failed};
-ghost use Rattle.dns_judgement.specs.Asking.{most_sends};
-ghost use Rattle.dns_judgement.specs.Derivation.{ending_by};
+ghost use Rattle.dns_rules.specs.Asking.{most_sends};
+ghost use Rattle.dns_rules.specs.Derivation.{ending_by};
 ghost use Rattle.dns_evidence.specs.Trail.{heard_value, ending_value};
 ghost use Rattle.dns_outcome.specs.Outcome.{outcome_value};
 ghost use Rattle.dns_trust.specs.Verdicts.{listed};
@@ -12,10 +12,11 @@ use crate::context::Progress;
 use crate::judging::{Concluded, Judgement, Review};
 use crate::receiving::ReceivedMessage;
 use crate::steps::{StepEnd, add_step, ended, ending_of, only_seen, records_of};
-use dns_handle::{AskRef, Ending, Reply};
+use dns_evidence::{ChainedSet, Ending, Reply};
+use dns_model::AskRef;
 use dns_name::NoMemory;
+use dns_outcome::Outcome;
 use dns_record::Query;
-use dns_sets::{ChainedSet, Outcome};
 use std::alloc::Global;
 
 /// What an ask came to: its place in the trail, and the judged sets of its answer, if it has one.
@@ -128,7 +129,7 @@ fn given(outcome: Outcome, sets: Vec<ChainedSet>) -> Option<Vec<ChainedSet>>
     match outcome {
         Outcome::Unjudged => None,
         Outcome::Given(_) => Some(sets),
-        Outcome::Searched => None,
+        Outcome::NeedsZone => None,
         Outcome::Denied(_) => None,
     }
 }

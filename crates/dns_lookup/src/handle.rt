@@ -11,9 +11,8 @@ ghost use Rattle.dns_lookup.specs.Sends.{SendsFor};
 use crate::context::{LookupContext, depth_limit_of};
 use crate::lookup::look_up;
 use crate::sending::answer_request;
-use dns_handle::{
-    DnsHandle, DnsRequest, DnsRequestOptions, DnsResponse, NetError, Verifier, faults_after,
-};
+use dns_evidence::Verifier;
+use dns_handle::{DnsHandle, DnsRequest, DnsRequestOptions, DnsResponse, NetError, faults_after};
 use dns_name::NoMemory;
 use dns_record::Query;
 use dns_trust::{Judge, TrustAnchors};

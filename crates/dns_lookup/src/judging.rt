@@ -1,14 +1,15 @@
 ghost use Rattle.std.specs.Prelude.{◌==◌, ◌≡◌, ◌++◌, [], None, IfOk, OnOk};
 ghost use Rattle.dns_model.specs.Types.{type_dnskey};
-ghost use Rattle.dns_judgement.specs.Marks as marks;
+ghost use Rattle.dns_rules.specs.Marks as marks;
 ghost use Rattle.dns_trust.specs.Verdicts.{verdict_value};
 ghost use Rattle.dns_lookup.specs.Walking.{asks_in, entry_of};
 
 use crate::steps::entry_for;
-use dns_handle::{AskRef, JudgedSet};
+use dns_evidence::{ChainedSet, JudgedSet, MarkedSet, PlacedSet};
+use dns_model::{AskRef, Proof};
 use dns_name::NoMemory;
-use dns_record::{DNSClass, Proof, RecordSet};
-use dns_sets::{ChainedSet, MarkedSet, Outcome, PlacedSet};
+use dns_outcome::Outcome;
+use dns_record::{DNSClass, RecordSet};
 use dns_trust::Verdict;
 
 /// The judged sets of a step, and the entries that the trail has for them.

@@ -1,7 +1,7 @@
 ghost use Rattle.std.specs.Prelude.{◌⊎◌, ◌≡◌, ◌≤◌, ◌++◌, ◌∷◌, [], Err, IfOk, Some};
 ghost use Rattle.dns_model.specs.SoundAnswers.{told_by};
-ghost use Rattle.dns_judgement.specs.Asking.{depth_limit};
-ghost use Rattle.dns_judgement.specs.Chained.{finished as finished_value};
+ghost use Rattle.dns_rules.specs.Asking.{depth_limit};
+ghost use Rattle.dns_rules.specs.ChainedSets.{finished as finished_value};
 ghost use Rattle.dns_handle.specs.Errors as seen;
 ghost use Rattle.dns_handle.specs.Handles.{OrUnsent};
 ghost use Rattle.dns_handle.specs.Replies.{reply_of, error_of};
@@ -19,14 +19,14 @@ use crate::judging::{Concluded, Judgement, Review};
 use crate::receiving::{ReceivedMessage, send_request};
 use crate::steps::{StepEnd, ended};
 use crate::walk::judge_reply;
-use dns_handle::{
-    AskRef, Asked, DnsError, DnsHandle, DnsRequest, DnsResponse, Ending, NetError, Notice, Reply,
-    Told, Trail, Verifier,
-};
+use dns_evidence::{Asked, Ending, Reply, Told, Trail, Verifier};
+use dns_handle::{DnsError, DnsHandle, DnsRequest, DnsResponse, NetError, Notice};
 use dns_message::Message;
+use dns_model::{AskRef, Denial, Proof};
 use dns_name::NoMemory;
-use dns_record::{Denial, Proof, Query, Record, clone_records};
-use dns_sets::{Outcome, finished, foreign_record};
+use dns_outcome::{Outcome, foreign_record};
+use dns_record::{Query, Record, clone_records};
+use dns_sets::finished;
 use std::alloc::Global;
 
 // A reply whose sets are judged, with the steps and the asks that this took.
@@ -140,7 +140,7 @@ fn answer<V>(
     let now = context.judge.moment;
     match outcome {
         Outcome::Unjudged => unjudged_answer(reply),
-        Outcome::Searched => unjudged_answer(reply),
+        Outcome::NeedsZone => unjudged_answer(reply),
         Outcome::Given(denial) => given_answer(context.alloc, now, reply, denial),
         Outcome::Denied(proof) => denied_answer(context.alloc, now, reply, proof),
     }

@@ -1,8 +1,8 @@
 ghost use Rattle.std.specs.Prelude.{◌≡◌, ◌≤◌, ◌<◌, ◌+◌, ◌↔◌, false, IfOk, IsTrue, Some};
 ghost use Rattle.std.specs.List.{list_any};
-ghost use Rattle.dns_judgement.specs.Asking.{most_sends};
-ghost use Rattle.dns_judgement.specs.Derivation.{same_record};
-ghost use Rattle.dns_judgement.specs.Marking.{cleared_message};
+ghost use Rattle.dns_rules.specs.Asking.{most_sends};
+ghost use Rattle.dns_rules.specs.Derivation.{same_record};
+ghost use Rattle.dns_rules.specs.Marking.{cleared_message};
 ghost use Rattle.dns_handle.specs.Handles.{OrUnsent};
 ghost use Rattle.dns_model.specs.Records.{Question};
 ghost use Rattle.dns_handle.specs.Replies.{reply_of};
@@ -13,11 +13,11 @@ ghost use Rattle.dns_lookup.specs.Received.{no_records_message, with_soa as with
 ghost use Rattle.dns_lookup.specs.Walking.{asking, HasReceived, HasWalked, ReceivedAs, Received};
 
 use crate::context::{LookupContext, Progress, request_for};
+use dns_grouping::clear_marks;
 use dns_handle::{DnsError, DnsHandle, DnsRequest, DnsResponse, NetError, NoRecords};
 use dns_message::Message;
 use dns_name::NoMemory;
 use dns_record::{OpCode, Query, Record};
-use dns_sets::clear_marks;
 use std::alloc::Global;
 
 /// The message of a reply, without the marks that came with it.

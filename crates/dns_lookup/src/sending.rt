@@ -3,14 +3,13 @@
 ghost use Rattle.std.specs.Prelude.{◌≡◌, ◌≢◌, ◌≤◌, ◌==◌, None, IfOk, IfErr};
 ghost use Rattle.dns_handle.specs.Replies.{reply_of};
 ghost use Rattle.dns_handle.specs.Requests.{first_question};
-ghost use Rattle.dns_anchors.specs.Judge.{judge_of};
+ghost use Rattle.dns_trust.specs.Judge.{judge_of};
 ghost use Rattle.dns_lookup.specs.Sending.{checked_edns, checked_request, AnswersRequest};
 
 use crate::context::{LookupContext, asking_options_of, default_payload, depth_limit_of};
 use crate::lookup::look_up_by_request;
-use dns_handle::{
-    DnsHandle, DnsRequest, DnsRequestOptions, DnsResponse, NetError, Notice, Verifier,
-};
+use dns_evidence::Verifier;
+use dns_handle::{DnsHandle, DnsRequest, DnsRequestOptions, DnsResponse, NetError, Notice};
 use dns_message::Edns;
 use dns_name::{NoMemory, Octets};
 use dns_record::{OpCode, Query};

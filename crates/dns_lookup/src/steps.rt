@@ -2,19 +2,20 @@ ghost use Rattle.std.specs.Prelude.{◌≡◌, ◌≤◌, ◌<◌, ◌+◌, IfOk
 ghost use Rattle.std.specs.Option.{option_map};
 ghost use Rattle.dns_model.specs.SoundAnswers.{told_by};
 ghost use Rattle.dns_model.specs.Trails.{Records};
-ghost use Rattle.dns_judgement.specs.Asking.{most_sends};
-ghost use Rattle.dns_judgement.specs.Derivation.{ending_by};
-ghost use Rattle.dns_judgement.specs.Outcome.{foreign_record as foreign_in};
+ghost use Rattle.dns_rules.specs.Asking.{most_sends};
+ghost use Rattle.dns_rules.specs.Derivation.{ending_by};
+ghost use Rattle.dns_rules.specs.Outcome.{foreign_record as foreign_in};
 ghost use Rattle.dns_evidence.specs.Trail.{heard_value, ending_value};
 ghost use Rattle.dns_outcome.specs.Outcome.{outcome_value};
 ghost use Rattle.dns_lookup.specs.Walking.{IsAdded, entry_of, judged_step, plain_step, foreign_ending};
 
 use crate::receiving::ReceivedMessage;
-use dns_handle::{AskRef, Asked, Ending, JudgedSet, MarkOrigin, Reply, Told};
+use dns_evidence::{Asked, Ending, JudgedSet, MarkedSet, Reply, Told};
 use dns_message::Message;
+use dns_model::{AskRef, MarkOrigin};
 use dns_name::NoMemory;
+use dns_outcome::{Outcome, foreign_record};
 use dns_record::{Query, Record};
-use dns_sets::{MarkedSet, Outcome, foreign_record};
 use std::alloc::Global;
 
 /// How a step ends: what it heard, and its ending.
@@ -111,7 +112,7 @@ pub(crate) fn ending_of(outcome: Outcome) -> Ending
     match outcome {
         Outcome::Unjudged => Ending::Failed,
         Outcome::Given(denial) => Ending::Answered(denial),
-        Outcome::Searched => Ending::Failed,
+        Outcome::NeedsZone => Ending::Failed,
         Outcome::Denied(proof) => Ending::Denied(proof),
     }
 }

@@ -1,13 +1,13 @@
 ghost use Rattle.std.specs.Prelude.{◌==◌, ◌≡◌, ◌+◌, ◌∷◌, [], true, false, IfOk, map};
 ghost use Rattle.dns_model.specs.SoundAnswers.{told_by};
 ghost use Rattle.dns_model.specs.Types.{type_dnskey};
-ghost use Rattle.dns_judgement.specs.Chained.{bare};
-ghost use Rattle.dns_judgement.specs.DerivationParts.{asks_of_sets};
-ghost use Rattle.dns_judgement.specs.Unsigned.{is_searched as needs_search};
+ghost use Rattle.dns_rules.specs.ChainedSets.{bare};
+ghost use Rattle.dns_rules.specs.DerivationParts.{asks_of_sets};
+ghost use Rattle.dns_rules.specs.Unsigned.{needs_zone};
 ghost use Rattle.dns_outcome.specs.Outcome.{outcome_value};
-ghost use Rattle.dns_anchors.specs.Judge.{judge_of};
+ghost use Rattle.dns_trust.specs.Judge.{judge_of};
 ghost use Rattle.dns_trust.specs.Verdicts.{verdict_value, listed};
-ghost use Rattle.dns_lookup.specs.Walking.{grounds_at, CanWalk, HasWalked, Walk, IsJudgement, IsJudgedSet, AreTried, IsTried, IsAnswer, IsSearched, IsConcluded, IsReviewed, asks_in};
+ghost use Rattle.dns_lookup.specs.Walking.{step_context_at, CanWalk, HasWalked, Walk, IsJudgement, IsJudgedSet, AreTried, IsTried, IsAnswer, IsSearched, IsConcluded, IsReviewed, asks_in};
 
 use crate::context::{LookupContext, OpenStep, Progress};
 use crate::finished::{Finished, answered, faulted, refused, unanswered};
@@ -16,18 +16,20 @@ use crate::judging::{
     set_of, untried, with_entry,
 };
 use crate::receiving::{ReceivedMessage, receive};
-use crate::search::{Way, find_zone};
+use crate::search::{ZoneSearch, find_zone};
 use crate::steps::{StepEnd, foreign_of, records_of};
-use dns_handle::{AskRef, DnsHandle, Verifier};
+use dns_evidence::{MOST_SENDS, PlacedSet, Verifier};
+use dns_grouping::judged_part;
+use dns_handle::DnsHandle;
+use dns_model::{AskRef, Proof};
 use dns_name::{Name, NoMemory};
+use dns_outcome::{Outcome, outcome_by_zone, outcome_of};
 use dns_rdata::Rrsig;
-use dns_record::{DNSClass, Proof, Query, Record, RecordSet};
-use dns_sets::{Outcome, PlacedSet, outcome_by_zone, outcome_of, placed_sets};
-use dns_trail_order::MOST_SENDS;
+use dns_record::{DNSClass, Query, Record, RecordSet};
 use dns_trust::{
-    KeysStep, SetSignature, ask_of, ds_ask_of, ds_query, first_signatures, is_searched, is_skipped,
-    judged_by, judged_by_ds, judged_keys, question_start, set_start, unsigned_by, verdict_of,
-    zone_mark,
+    KeysStep, SetSignature, chained_by, chained_verdict, ds_ask_of, ds_query, first_signatures,
+    is_skipped_read, judged_by_ds, key_query, keys_step_of, needs_zone, question_start, set_start,
+    unsigned_set, zone_mark,
 };
 
 /// Judges the sets of the reply to a step, and finds what they come to.
@@ -44,7 +46,7 @@ pub(crate) fn judge_reply<H: DnsHandle, V: Verifier>(
     ensures reviewed { IfOk result (λ review. IsReviewed H.DnsHandle V.answers context.now handle.old progress.old
         handle.new progress.new step.now (told_by received.now.message) review) }
 {
-    let placed = placed_sets(context.alloc, step.depth, &received.message)?;
+    let placed = judged_part(context.alloc, step.depth, &received.message)?;
     let judged = judge_sets(context, handle, progress, step, placed)?;
     let concluded = conclude(context, handle, progress, step, received, &judged)?;
     Ok(Review { judged, concluded })
@@ -64,7 +66,7 @@ fn judge_sets<H: DnsHandle, V: Verifier>(
     ensures asks { IfOk result (λ v. Walk H.DnsHandle V.answers context.now
         handle.old progress.old handle.new progress.new (asks_of_sets v.entries.items)) }
     ensures judged { IfOk result (λ v. IsJudgement
-        (grounds_at V.answers context.now progress.new step.now) placed.items v.sets.items v.entries.items) }
+        (step_context_at V.answers context.now progress.new step.now) placed.items v.sets.items v.entries.items) }
 {
     let mut sets = Vec::new(context.alloc);
     let mut entries = Vec::new(context.alloc);
@@ -90,19 +92,19 @@ fn judge_set<H: DnsHandle, V: Verifier>(
     ensures asks { IfOk result (λ o. Walk H.DnsHandle V.answers context.now
         handle.old progress.old handle.new progress.new o.entry.asked) }
     ensures judged { IfOk result (λ o. IsJudgedSet
-        (grounds_at V.answers context.now progress.new step.now) placed o.set o.entry) }
+        (step_context_at V.answers context.now progress.new step.now) placed o.set o.entry) }
 {
     if is_key_set(&placed) {
         let one = judge_keys(context, handle, progress, step, placed)?;
         return Ok(one);
     }
-    if is_searched(set_of(&placed)) {
+    if needs_zone(set_of(&placed)) {
         let one = judge_unsigned(context, handle, progress, step, placed)?;
         return Ok(one);
     }
     let signed = set_of(&placed);
     let Verdicts { verdicts, asked } = judge_signatures(context, handle, progress, step, signed)?;
-    let set = judged_by(placed, verdicts)?;
+    let set = chained_by(placed, verdicts)?;
     let one = with_entry(set, asked)?;
     Ok(one)
 }
@@ -122,9 +124,9 @@ fn judge_keys<H: DnsHandle, V: Verifier>(
     ensures asks { IfOk result (λ o. Walk H.DnsHandle V.answers context.now
         handle.old progress.old handle.new progress.new o.entry.asked) }
     ensures judged { IfOk result (λ o. IsJudgedSet
-        (grounds_at V.answers context.now progress.new step.now) placed o.set o.entry) }
+        (step_context_at V.answers context.now progress.new step.now) placed o.set o.entry) }
 {
-    let placed = match judged_keys(context.alloc, &context.judge, placed)? {
+    let placed = match keys_step_of(context.alloc, &context.judge, placed)? {
         KeysStep::Done(set) => {
             let one = with_entry(set, Vec::new(context.alloc))?;
             return Ok(one);
@@ -150,17 +152,17 @@ fn judge_unsigned<H: DnsHandle, V: Verifier>(
 ) -> Result<OneSet, NoMemory>
     requires ready { CanWalk context.now progress.old step.now.depth }
     requires others { (placed.set.rtype == type_dnskey) ≡ false }
-    requires unsigned { needs_search placed.set ≡ true }
+    requires unsigned { needs_zone placed.set ≡ true }
     ensures walked { HasWalked H.DnsHandle context.now handle.old progress.old handle.new progress.new }
     ensures asks { IfOk result (λ o. Walk H.DnsHandle V.answers context.now
         handle.old progress.old handle.new progress.new o.entry.asked) }
     ensures judged { IfOk result (λ o. IsJudgedSet
-        (grounds_at V.answers context.now progress.new step.now) placed o.set o.entry) }
+        (step_context_at V.answers context.now progress.new step.now) placed o.set o.entry) }
 {
     let class = class_of(&placed);
     let start = set_start(set_of(&placed))?;
     let Searched { mark, asked } = search_zone(context, handle, progress, step, class, &start)?;
-    let one = with_entry(unsigned_by(context.alloc, placed, mark), asked)?;
+    let one = with_entry(unsigned_set(context.alloc, placed, mark), asked)?;
     Ok(one)
 }
 
@@ -179,9 +181,9 @@ fn search_zone<H: DnsHandle, V: Verifier>(
     ensures asks { IfOk result (λ s. Walk H.DnsHandle V.answers context.now
         handle.old progress.old handle.new progress.new s.asked.items) }
     ensures searched { IfOk result (λ s. IsSearched
-        (grounds_at V.answers context.now progress.new step.now) class.0 start.now s.asked.items s.mark) }
+        (step_context_at V.answers context.now progress.new step.now) class.0 start.now s.asked.items s.mark) }
 {
-    let Way { zone, asked } = find_zone(context, handle, progress, step, class, start)?;
+    let ZoneSearch { zone, asked } = find_zone(context, handle, progress, step, class, start)?;
     let Some(zone) = zone else {
         return Ok(Searched {
             mark: Proof::Bogus,
@@ -210,13 +212,13 @@ fn conclude<H: DnsHandle, V: Verifier>(
     ensures walked { HasWalked H.DnsHandle context.now handle.old progress.old handle.new progress.new }
     ensures asks { IfOk result (λ c. Walk H.DnsHandle V.answers context.now
         handle.old progress.old handle.new progress.new c.excuse.items) }
-    ensures concluded { IfOk result (λ c. IsConcluded (grounds_at V.answers context.now progress.new step.now)
+    ensures concluded { IfOk result (λ c. IsConcluded (step_context_at V.answers context.now progress.new step.now)
         (told_by received.now.message) (bare judged.now.sets.items) (outcome_value c.outcome) c.excuse.items) }
 {
     let query = step.query;
     let outcome = outcome_of(context.alloc, query, &received.message, &judged.sets)?;
     match outcome {
-        Outcome::Searched => {
+        Outcome::NeedsZone => {
             let start = question_start(query)?;
             let class = query.query_class;
             let Searched { mark, asked } = search_zone(
@@ -248,7 +250,7 @@ fn judge_signatures<H: DnsHandle, V: Verifier>(
     ensures asks { IfOk result (λ v. Walk H.DnsHandle V.answers context.now
         handle.old progress.old handle.new progress.new v.asked.items) }
     ensures tried { IfOk result (λ v. AreTried
-        (grounds_at V.answers context.now progress.new step.now) set.now
+        (step_context_at V.answers context.now progress.new step.now) set.now
         v.asked.items (map verdict_value v.verdicts.items)) }
 {
     let mut verdicts = Vec::new(context.alloc);
@@ -281,23 +283,23 @@ fn judge_signature<H: DnsHandle, V: Verifier>(
     ensures asks { IfOk result (λ t. Walk H.DnsHandle V.answers context.now
         handle.old progress.old handle.new progress.new (asks_in t.ask)) }
     ensures tried { IfOk result (λ t. IsTried
-        (grounds_at V.answers context.now progress.new step.now) set.now sig.now t.ask (verdict_value t.verdict)) }
+        (step_context_at V.answers context.now progress.new step.now) set.now sig.now t.ask (verdict_value t.verdict)) }
 {
     let Some(read) = Rrsig::of(sig) else {
         return Ok(untried());
     };
-    let skipped = is_skipped(step.query, set, &read);
+    let skipped = is_skipped_read(step.query, set, &read);
     if skipped {
         return Ok(untried());
     }
-    let question = ask_of(context.alloc, set, &read)?;
+    let question = key_query(context.alloc, set, &read)?;
     let Finished { ask, answer } = ask(context, handle, progress, step.depth, question)?;
     let signature = SetSignature {
         set,
         sig,
         read: &read,
     };
-    let verdict = verdict_of(context.alloc, &context.judge, &signature, &answer)?;
+    let verdict = chained_verdict(context.alloc, &context.judge, &signature, &answer)?;
     Ok(Tried {
         verdict,
         ask: Some(ask),

@@ -1,11 +1,10 @@
 //! Answers as constants, and the answers that they stand for.
-use dns_name::{Name, NameError};
+use dns_model::{Denial, NameError, Proof, Section};
+use dns_name::Name;
 use dns_net::{
     AskRef, Asked, Chain, DnsResponse, Ending, JudgedSet, Link, MarkOrigin, Reply, Told,
 };
-use dns_record::{
-    DNSClass, Denial, Proof, Query, Rdata, Record, RecordType, ResponseCode, Section,
-};
+use dns_record::{DNSClass, Query, Rdata, Record, RecordType, ResponseCode};
 use std::alloc::Global;
 
 /// A record of fewer than 100 bytes, with a time to live of an hour.

@@ -1,11 +1,9 @@
-//! Tests of lookups: what a lookup and a whole request send and refuse, and the trail that a lookup leaves; and of the texts
-//! beside them, sessions and reports.
+//! Tests of lookups: what a lookup and a whole request send and refuse, and replies by turn; and of the texts beside them,
+//! sessions and reports.
 #![tactic(auto)]
 
 #[cfg(test)]
 mod answer_rows;
-#[cfg(test)]
-mod line_tests;
 #[cfg(test)]
 mod lookup_tests;
 #[cfg(test)]
@@ -19,4 +17,4 @@ mod session_tests;
 #[cfg(test)]
 mod session_texts;
 #[cfg(test)]
-mod trail_tests;
+mod turn_tests;

@@ -1,13 +1,15 @@
 //! What a lookup sends, and what a denial holds (RFC 1035, 4.1; RFC 6891, 6.1.2; RFC 4035, 4.1).
 use crate::rows::check_row;
+use dns_evidence::Listed;
 use dns_lookup::DnssecDnsHandle;
 use dns_message::Message;
-use dns_name::Name;
+use dns_model::{Denial, Proof};
+use dns_name::{Name, Octets};
 use dns_net::{
     DnsError, DnsHandle, DnsRequest, DnsRequestOptions, DnsResponse, NetError, Recorded, Trail,
 };
-use dns_record::{DNSClass, Denial, Octets, Proof, Query, Record, RecordType};
-use dns_trust::{Listed, TrustAnchors};
+use dns_record::{DNSClass, Query, Record, RecordType};
+use dns_trust::TrustAnchors;
 use std::alloc::Global;
 
 /// The message of a request, and when it was sent.

@@ -1,9 +1,9 @@
 //! What a validator sends for a whole request, and what it answers (RFC 1035, 4.1.1; RFC 4035, 3.2 and 4.1).
 use crate::lookup_tests::{Keeping, Sending, handle_over, message_of};
 use crate::rows::check_row;
+use dns_evidence::Listed;
 use dns_lookup::DnssecDnsHandle;
 use dns_net::{DnsHandle, DnsRequest, DnsRequestOptions, DnsResponse, NetError, Notice, Recorded};
-use dns_trust::Listed;
 use std::alloc::Global;
 
 /// The message of a request, and that of what is sent for it, or nothing.

@@ -275,3 +275,22 @@ fn a_session_says_its_version_and_its_depth(rt: HostRuntime) {
         }
     }
 }
+
+/// The first bad line of a text has this number.
+fn is_bad_at(alloc: Global, before: &str, line: &str, number: u64) -> bool {
+    match session_of(alloc, "dns-session 1\n", before, line, "\nend\n") {
+        Err(SessionStop::BadLine(bad)) => bad == number,
+        _ => false,
+    }
+}
+
+// `rows/lines.py` has the forms of all lines, which run on the program.
+#[test]
+fn the_first_bad_line_is_named(rt: HostRuntime) {
+    let before = "moment 0\nalgorithms\n";
+    check_held(
+        &rt,
+        "no type",
+        is_bad_at(rt.alloc(), before, "query . TYPE1", 4),
+    );
+}

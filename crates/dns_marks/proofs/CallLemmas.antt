@@ -12,9 +12,9 @@ use Rattle.dns_model.specs.Chains.{rdatas_of}
 use Rattle.dns_model.specs.Records.{Rr, RrSet}
 use Rattle.dns_model.specs.RecordViews.{rrsig_of, dnskey_of}
 use Rattle.dns_model.specs.SoundAnswers.{is_secure, signed_ttl, ttl_of}
-use Rattle.dns_judgement.specs.Validity.{Validity, ValidRrsig, ExpiredRrsig, WrongDnskey, WrongRrsig, validity, is_valid, is_of_set, is_by_key, is_good_by}
-use Rattle.dns_judgement.specs.MarkParts.{sig_validity}
-use Rattle.dns_judgement.specs.ProofErrors.{ProofErrorValue}
+use Rattle.dns_rules.specs.Validity.{Validity, ValidRrsig, ExpiredRrsig, WrongDnskey, WrongRrsig, validity, is_valid, is_of_set, is_by_key, is_good_by}
+use Rattle.dns_rules.specs.MarkParts.{sig_validity}
+use Rattle.dns_rules.specs.ProofErrors.{ProofErrorValue}
 use Rattle.dns_marks.specs.Kinds.{misfit}
 use Rattle.dns_marks.specs.KeySignatures.{validity_at, proof_read, signature_proof, is_put, calls_by_key, calls_unless, calls_read}
 use Rattle.dns_marks.specs.SignatureKeys.{is_proving}

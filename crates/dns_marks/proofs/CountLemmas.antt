@@ -14,10 +14,10 @@ use Rattle.dns_model.specs.Records.{Rr, RrSet}
 use Rattle.dns_model.specs.RecordViews.{rrsig_of, dnskey_of}
 use Rattle.dns_model.specs.SoundAnswers.{is_secure}
 use Rattle.dns_model.proofs.SetLemmas.{number_same, number_back}
-use Rattle.dns_judgement.specs.Validity.{ValidRrsig, ExpiredRrsig, WrongDnskey, WrongRrsig, validity, is_valid, is_of_set, is_by_key}
-use Rattle.dns_judgement.specs.Marks.{is_key_of, same_tag, may_be_signed, counted_keys}
-use Rattle.dns_judgement.specs.MarkParts.{sig_validity}
-use Rattle.dns_judgement.proofs.FirstLemmas.{early_after, first_two-after}
+use Rattle.dns_rules.specs.Validity.{ValidRrsig, ExpiredRrsig, WrongDnskey, WrongRrsig, validity, is_valid, is_of_set, is_by_key}
+use Rattle.dns_rules.specs.Marks.{is_key_of_zone, same_tag, may_be_signed, counted_keys}
+use Rattle.dns_rules.specs.MarkParts.{sig_validity}
+use Rattle.dns_rules.proofs.FirstLemmas.{early_after, first_two-after}
 use Rattle.dns_trust.proofs.Counts.{next_of, count_push}
 use Rattle.dns_marks.specs.KeySignatures.{validity_at, is_put}
 use Rattle.dns_marks.specs.SignatureKeys.{is_proving, calls_in_turn, calls_by_keys_read, calls_by_keys}
@@ -110,8 +110,8 @@ none_before tag = refl
 counted_most : (verifier : VerifierAnswers) (now : ℕ) (set : RrSet) (r : Rr) (sig : RrsigValue) (zone : Labels) (keys : List Rr) → rrsig_of r ≡ Some sig
     → calls_in_turn verifier now set r (counted_keys zone keys) ≤ 2
 counted_most verifier now set r sig zone keys read =
-    let counted = first_two-after (filter (is_key_of zone) keys) in
-    let two = two_calls verifier now set r sig [] (filter (is_key_of zone) keys) read in
+    let counted = first_two-after (filter (is_key_of_zone zone) keys) in
+    let two = two_calls verifier now set r sig [] (filter (is_key_of_zone zone) keys) read in
     rw counted (omega (arith, two))
 
 read_most : (verifier : VerifierAnswers) (now : ℕ) (keys : List Rr) (set : RrSet) (r : Rr) (sig : RrsigValue) (covers : Bool) → rrsig_of r ≡ Some sig

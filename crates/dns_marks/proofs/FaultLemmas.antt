@@ -6,7 +6,7 @@ use Rattle.dns_model.specs.declared.proof.Proof.TheVariants.{Bogus}
 use Rattle.dns_model.specs.Records.{Rr}
 use Rattle.dns_model.specs.Views.{RrsigValue, DnskeyValue, is_zone_key, is_revoked}
 use Rattle.dns_model.specs.SoundAnswers.{is_secure}
-use Rattle.dns_judgement.specs.ProofErrors.{ProofErrorValue, InsecureDnsKey, AlgorithmMismatch}
+use Rattle.dns_rules.specs.ProofErrors.{ProofErrorValue, InsecureDnsKey, AlgorithmMismatch}
 use Rattle.dns_trust.specs.declared.usable.KeyFault.{KeyFault}
 use Rattle.dns_trust.specs.declared.usable.KeyFault.TheVariants.{Revoked, NotZoneKey}
 use Rattle.dns_trust.specs.KeyFaults.{fault_of}

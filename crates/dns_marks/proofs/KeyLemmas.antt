@@ -12,9 +12,9 @@ use Rattle.dns_model.specs.declared.proof.Proof.TheVariants as proof
 use Rattle.dns_model.specs.Records.{Rr, RrSet}
 use Rattle.dns_model.specs.Keys.{VerifierAnswers}
 use Rattle.dns_model.specs.Chains.{Judge}
-use Rattle.dns_judgement.specs.ProofErrors.{ProofErrorKindValue, DnskeyNotFound}
-use Rattle.dns_judgement.specs.Delegations.{ZoneVerdict}
-use Rattle.dns_judgement.specs.KeySets.{KeysOutcome, SignedKeys, SignedByAnchored, WhollyAnchored, NeedsDs, Refused, is_needing_ds, is_anchored_key, signed_by, is_root, keys_outcome, outcome_by_verdict}
+use Rattle.dns_rules.specs.ProofErrors.{ProofErrorKindValue, DnskeyNotFound}
+use Rattle.dns_rules.specs.Delegations.{ZoneVerdict}
+use Rattle.dns_rules.specs.KeySets.{KeysOutcome, SignedKeys, SignedByAnchored, WhollyAnchored, NeedsDs, Refused, is_needing_ds, is_anchored_key, signed_by, is_root, keys_outcome, outcome_by_verdict}
 use Rattle.dns_trust.specs.Delegating.{shown}
 use Rattle.dns_marks.specs.KeySignatures.{is_put, calls_by_key}
 use Rattle.dns_marks.specs.SignatureKeys.{is_proving, calls_in_turn}

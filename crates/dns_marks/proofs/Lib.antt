@@ -1,5 +1,7 @@
+pub mod OwnRecords
 pub mod OwnLemmas
 pub mod ZoneLemmas
+pub mod ClassLemmas
 pub mod CallLemmas
 pub mod KeyLemmas
 pub mod VerdictLemmas

@@ -11,8 +11,9 @@ use Rattle.dns_model.specs.Records.{Rr}
 use Rattle.dns_model.specs.Sections.{same_set, is_signature, leaders, unsigned_part, set_of, sets_of}
 use Rattle.dns_model.proofs.EachLemmas.{map-map, find-map, find_agree}
 use Rattle.dns_model.proofs.SetLemmas.{name_left, number_same, number_back, same_set_back}
-use Rattle.dns_judgement.specs.Judged.{Judged}
-use Rattle.dns_marks.specs.ZoneVerdicts.{marked_set, marked_sets, is_record_of}
+use Rattle.dns_rules.specs.MarkedSets.{MarkedSet}
+use Rattle.dns_marks.specs.ZoneVerdicts.{marked_set, marked_sets}
+use Rattle.dns_marks.proofs.OwnRecords.{is_own_record}
 
 -- ---- the first of a kind of records leads the one set of that kind
 
@@ -84,14 +85,14 @@ lead_first kind passes is (x ∷ xs) =
 
 -- ---- the records of a name and a type are such a kind
 
-own_within : (name : Labels) (rtype : ℕ) (a b : Rr) → is_record_of name rtype a ≡ true → same_set a b ≡ is_record_of name rtype b
+own_within : (name : Labels) (rtype : ℕ) (a b : Rr) → is_own_record name rtype a ≡ true → same_set a b ≡ is_own_record name rtype b
 own_within name rtype a b h =
     let parts : (name_eq name a.owner ≡ true) × ((a.rtype == rtype) ≡ true) = and_parts _ _ h in
     ap (λ n. n && (a.rtype == b.rtype)) (sym (name_left name a.owner b.owner parts.0))
     ∙ ap (λ t. name_eq name b.owner && (t == b.rtype)) (number_same a.rtype rtype parts.1)
     ∙ ap (λ t. name_eq name b.owner && t) (number_back rtype b.rtype)
 
-own_kind : (name : Labels) (rtype : ℕ) → IsKind (is_record_of name rtype)
+own_kind : (name : Labels) (rtype : ℕ) → IsKind (is_own_record name rtype)
 own_kind name rtype = record {
   within = own_within name rtype;
   apart = λ a b other own. same_set_back a b ∙ own_within name rtype b a own ∙ other;
@@ -106,31 +107,31 @@ plain_step true false r rest find_own all plain same head = let e : false ≡ tr
 plain_step false true r rest find_own all plain same head = head rest ∙ same
 plain_step false false r rest find_own all plain same head = same
 
-own_plain : (name : Labels) (rtype : ℕ) → (rtype == type_rrsig) ≡ false → (r : Rr) → is_record_of name rtype r ≡ true → not (is_signature r) ≡ true
+own_plain : (name : Labels) (rtype : ℕ) → (rtype == type_rrsig) ≡ false → (r : Rr) → is_own_record name rtype r ≡ true → not (is_signature r) ≡ true
 own_plain name rtype other r h =
     let parts : (name_eq name r.owner ≡ true) × ((r.rtype == rtype) ≡ true) = and_parts _ _ h in
     ap (λ t. not (t == type_rrsig)) (number_same r.rtype rtype parts.1) ∙ ap not other
 
 find_unsigned : (name : Labels) (rtype : ℕ) → (rtype == type_rrsig) ≡ false → (xs : List Rr)
-    → find (is_record_of name rtype) (unsigned_part xs) ≡ find (is_record_of name rtype) xs
+    → find (is_own_record name rtype) (unsigned_part xs) ≡ find (is_own_record name rtype) xs
 find_unsigned name rtype other [] = refl
 find_unsigned name rtype other (x ∷ xs) =
-    plain_step (is_record_of name rtype x) (not (is_signature x)) x (unsigned_part xs) (find (is_record_of name rtype)) (find (is_record_of name rtype) xs)
+    plain_step (is_own_record name rtype x) (not (is_signature x)) x (unsigned_part xs) (find (is_own_record name rtype)) (find (is_own_record name rtype) xs)
     (own_plain name rtype other x) (find_unsigned name rtype other xs) (λ ys. refl)
 
 -- the set that is found is that of the first record of the kind, where that passes
-pub find_set : (name : Labels) (rtype : ℕ) → (rtype == type_rrsig) ≡ false → (section : Section) (records : List Rr) (test : Judged → Bool) (passes : Rr → Bool)
-    → ((r : Rr) → test (marked_set section (set_of records r)) ≡ (is_record_of name rtype r && passes r))
+pub find_set : (name : Labels) (rtype : ℕ) → (rtype == type_rrsig) ≡ false → (section : Section) (records : List Rr) (test : MarkedSet → Bool) (passes : Rr → Bool)
+    → ((r : Rr) → test (marked_set section (set_of records r)) ≡ (is_own_record name rtype r && passes r))
     → find test (marked_sets section records)
-    ≡ option_map (λ r. marked_set section (set_of records r)) (kept passes (find (is_record_of name rtype) records))
+    ≡ option_map (λ r. marked_set section (set_of records r)) (kept passes (find (is_own_record name rtype) records))
 unfolding sets_of
 find_set name rtype other section records test passes agree =
     ap (find test) (map-map (marked_set section) (set_of records) (leaders (unsigned_part records)))
     ∙ find-map test (λ r. marked_set section (set_of records r)) (leaders (unsigned_part records))
     ∙ ap (option_map (λ r. marked_set section (set_of records r)))
-    (find_agree (λ r. test (marked_set section (set_of records r))) (λ r. is_record_of name rtype r && passes r) agree (leaders (unsigned_part records)))
+    (find_agree (λ r. test (marked_set section (set_of records r))) (λ r. is_own_record name rtype r && passes r) agree (leaders (unsigned_part records)))
     ∙ ap (option_map (λ r. marked_set section (set_of records r)))
-    (lead_first (is_record_of name rtype) passes (own_kind name rtype) (unsigned_part records)
+    (lead_first (is_own_record name rtype) passes (own_kind name rtype) (unsigned_part records)
     ∙ ap (kept passes) (find_unsigned name rtype other records))
 
 -- ---- the records of such a set
@@ -180,7 +181,7 @@ filter_any own test (r ∷ rs) =
     any_step (own r) (test r) r test (filter own rs) (list_any (λ r. own r && test r) rs) refl (filter_any own test rs)
 
 -- those that share a set with the first of the kind
-pub own_records : (name : Labels) (rtype : ℕ) (records : List Rr) (r : Rr) → find (is_record_of name rtype) records ≡ Some r
-    → filter (same_set r) records ≡ filter (is_record_of name rtype) records
+pub own_records : (name : Labels) (rtype : ℕ) (records : List Rr) (r : Rr) → find (is_own_record name rtype) records ≡ Some r
+    → filter (same_set r) records ≡ filter (is_own_record name rtype) records
 own_records name rtype records r is =
-    same_filter (same_set r) (is_record_of name rtype) (λ s. own_within name rtype r s (found_kind (is_record_of name rtype) records r is)) records
+    same_filter (same_set r) (is_own_record name rtype) (λ s. own_within name rtype r s (found_kind (is_own_record name rtype) records r is)) records

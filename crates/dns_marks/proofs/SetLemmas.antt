@@ -8,8 +8,8 @@ use Rattle.dns_model.specs.declared.proof.Proof.{Proof}
 use Rattle.dns_model.specs.declared.proof.Proof.TheVariants.{Secure, Insecure}
 use Rattle.dns_model.specs.Keys.{VerifierAnswers}
 use Rattle.dns_model.specs.Records.{Rr, RrSet, Question}
-use Rattle.dns_judgement.specs.Derivation.{proof_eq}
-use Rattle.dns_judgement.specs.ProofErrors.{RrsetProofValue}
+use Rattle.dns_rules.specs.Derivation.{proof_eq}
+use Rattle.dns_rules.specs.ProofErrors.{RrsetProofValue}
 use Rattle.dns_marks.specs.declared.set_mark.KeyAnswer.{KeyAnswer}
 use Rattle.dns_marks.specs.SetMarks.{answer_proof, answer_proofs, answer_calls, is_secure_proof, set_calls, proof_at, first_proof, deciding_proof, failed_ask}
 

@@ -10,10 +10,11 @@ use Rattle.dns_model.specs.Records.{Rr, RrSet}
 use Rattle.dns_model.specs.Keys.{VerifierAnswers, AnchorValue}
 use Rattle.dns_model.specs.Chains.{judge}
 use Rattle.dns_model.specs.SoundAnswers.{is_secure}
-use Rattle.dns_judgement.specs.Validity.{is_good_by}
-use Rattle.dns_judgement.specs.Marks.{Verdict, Proved, Excused, Failed, is_proved, is_excused, by_keys, Mark, mark_at, set_mark}
-use Rattle.dns_judgement.specs.Derivation.{proof_eq}
-use Rattle.dns_judgement.specs.ProofErrors.{RrsetProofValue}
+use Rattle.dns_rules.specs.Validity.{is_good_by}
+use Rattle.dns_rules.specs.Marks.{Verdict, Proved, Failed, is_proved, shows_insecure, by_keys, Mark, mark_at, set_mark}
+use Rattle.dns_rules.specs.Marks as marks
+use Rattle.dns_rules.specs.Derivation.{proof_eq}
+use Rattle.dns_rules.specs.ProofErrors.{RrsetProofValue}
 use Rattle.dns_marks.specs.SetMarks.{first_proof, deciding_proof}
 use Rattle.dns_marks.specs.Proofs.{proved_by, excused}
 use Rattle.dns_marks.specs.SignatureKeys.{judge_at, is_proving, are_insecure, proof_by_keys, verdict_by_mark, proof_verdict}
@@ -73,7 +74,7 @@ neither verifier now set r mark keys insecure other h =
     ap (λ b. if b then Some (proved_by now set r None) else if are_insecure keys then Some excused else None) (none_proves verifier now set r mark insecure keys h)
     ∙ ap (λ b. if b then Some excused else None) (not_insecure mark other keys h)
 
-first_of : (keys : List Rr) → proof_verdict (if is_some (slice_get keys 0) && true then Some excused else None) ≡ option_map_or (λ key. Excused) (slice_get keys 0) Failed
+first_of : (keys : List Rr) → proof_verdict (if is_some (slice_get keys 0) && true then Some excused else None) ≡ option_map_or (λ key. marks.Insecure) (slice_get keys 0) Failed
 first_of [] = refl
 first_of (key ∷ keys) = refl
 
@@ -112,7 +113,7 @@ secure_step proof.Indeterminate p i rest places is h = h
 insecure_step : (m : Proof) (p : RrsetProofValue) (i : ℕ) (rest : Option RrsetProofValue) (places : Option ℕ) → p.proof ≡ m
     → option_map found_mark rest ≡ option_map (λ n. record { mark = proof.Insecure; sig = Some n }) places
     → option_map found_mark (option_or (if proof_eq m proof.Insecure then Some (record p { rrsig_index = Some i }) else None) rest)
-    ≡ option_map (λ n. record { mark = proof.Insecure; sig = Some n }) (cond (is_excused (verdict_by_mark m)) (Some i) places)
+    ≡ option_map (λ n. record { mark = proof.Insecure; sig = Some n }) (cond (shows_insecure (verdict_by_mark m)) (Some i) places)
 insecure_step proof.Secure p i rest places is h = h
 insecure_step proof.Insecure p i rest places is h = ap (λ m. Some (record { mark = m; sig = Some i })) is
 insecure_step proof.Bogus p i rest places is h = h
@@ -129,12 +130,12 @@ secure_places i (Some p ∷ more) =
 
 insecure_places : (i : ℕ) (proofs : List (Option RrsetProofValue))
     → option_map found_mark (first_proof proof.Insecure i proofs)
-    ≡ option_map (λ n. record { mark = proof.Insecure; sig = Some n }) (position_from is_excused i (map proof_verdict proofs))
+    ≡ option_map (λ n. record { mark = proof.Insecure; sig = Some n }) (position_from shows_insecure i (map proof_verdict proofs))
 unfolding first_proof
 insecure_places i [] = refl
 insecure_places i (None ∷ more) = insecure_places (i + 1) more
 insecure_places i (Some p ∷ more) =
-    insecure_step p.proof p i (first_proof proof.Insecure (i + 1) more) (position_from is_excused (i + 1) (map proof_verdict more)) refl (insecure_places (i + 1) more)
+    insecure_step p.proof p i (first_proof proof.Insecure (i + 1) more) (position_from shows_insecure (i + 1) (map proof_verdict more)) refl (insecure_places (i + 1) more)
 
 deciding_case : (s e : Option RrsetProofValue) (proved excused : Option ℕ)
     → option_map found_mark s ≡ option_map (λ n. record { mark = proof.Secure; sig = Some n }) proved
@@ -148,16 +149,16 @@ deciding_case None e (Some n) excused is_s is_e = cc
 deciding_case (Some p) e None excused is_s is_e = cc
 deciding_case (Some p) e (Some n) excused is_s is_e = ap (λ o. option_map_or (λ m. m) o (found_mark p)) is_s
 
-marks_from : (verdicts : List Verdict) → set_mark verdicts ≡ mark_at (position_from is_proved 0 verdicts) (position_from is_excused 0 verdicts)
+marks_from : (verdicts : List Verdict) → set_mark verdicts ≡ mark_at (position_from is_proved 0 verdicts) (position_from shows_insecure 0 verdicts)
 marks_from [] = refl
 marks_from (v ∷ vs) =
-    ap (λ o. mark_at o (position is_excused (v ∷ vs))) (position_from-zero is_proved (v ∷ vs))
-    ∙ ap (mark_at (position_from is_proved 0 (v ∷ vs))) (position_from-zero is_excused (v ∷ vs))
+    ap (λ o. mark_at o (position shows_insecure (v ∷ vs))) (position_from-zero is_proved (v ∷ vs))
+    ∙ ap (mark_at (position_from is_proved 0 (v ∷ vs))) (position_from-zero shows_insecure (v ∷ vs))
 
 -- the mark and the place are those that the verdicts of the signatures give
 pub by_verdicts : (proofs : List (Option RrsetProofValue))
     → option_map_or found_mark (deciding_proof proofs) (record { mark = proof.Bogus; sig = None }) ≡ set_mark (map proof_verdict proofs)
 by_verdicts proofs =
     deciding_case (first_proof proof.Secure 0 proofs) (first_proof proof.Insecure 0 proofs) (position_from is_proved 0 (map proof_verdict proofs))
-    (position_from is_excused 0 (map proof_verdict proofs)) (secure_places 0 proofs) (insecure_places 0 proofs)
+    (position_from shows_insecure 0 (map proof_verdict proofs)) (secure_places 0 proofs) (insecure_places 0 proofs)
     ∙ sym (marks_from (map proof_verdict proofs))

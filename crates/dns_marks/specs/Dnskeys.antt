@@ -6,8 +6,8 @@ use Rattle.dns_model.specs.declared.proof.Proof.TheVariants.{Secure, Insecure, B
 use Rattle.dns_model.specs.Records.{Rr}
 use Rattle.dns_model.specs.RecordViews.{dnskey_of}
 use Rattle.dns_model.specs.Keys.{VerifierAnswers}
-use Rattle.dns_judgement.specs.ProofErrors.{ProofErrorValue, ErrorComputingKeyTag, UnsupportedKeyAlgorithm, DnsKeyHasNoDs}
-use Rattle.dns_judgement.specs.Delegations.{matching_ds}
+use Rattle.dns_rules.specs.ProofErrors.{ProofErrorValue, ErrorComputingKeyTag, UnsupportedKeyAlgorithm, DnsKeyHasNoDs}
+use Rattle.dns_rules.specs.Delegations.{matching_ds}
 use Rattle.dns_marks.specs.Kinds.{because}
 
 -- why no DS matches a key: it can't be read, its algorithm isn't supported, or none is there that matches

@@ -1,8 +1,8 @@
 -- The marks of DNSKEY sets as answers (RFC 4035, 5.2).
 use Rattle.std.specs.Prelude.{ℕ, Some, Result, Ok, Err}
 use Rattle.dns_model.specs.Records.{RrSet}
-use Rattle.dns_judgement.specs.ProofErrors.{ProofErrorValue}
-use Rattle.dns_judgement.specs.KeySets.{KeysOutcome, SignedByAnchored, WhollyAnchored, NeedsDs, SignedByMatched, WhollyTrusted, Refused}
+use Rattle.dns_rules.specs.ProofErrors.{ProofErrorValue}
+use Rattle.dns_rules.specs.KeySets.{KeysOutcome, SignedByAnchored, WhollyAnchored, NeedsDs, SignedByMatched, WhollyTrusted, Refused}
 use Rattle.dns_marks.specs.declared.key_marks.KeysMark.{KeysMark}
 use Rattle.dns_marks.specs.declared.key_marks.KeysMark.TheVariants.{NeedDs, Done}
 use Rattle.dns_marks.specs.Kinds.{because}

@@ -12,8 +12,8 @@ use Rattle.dns_model.specs.Chains.{rdatas_of}
 use Rattle.dns_model.specs.Records.{Rr, RrSet}
 use Rattle.dns_model.specs.RecordViews.{rrsig_of, dnskey_of}
 use Rattle.dns_model.specs.SoundAnswers.{is_secure}
-use Rattle.dns_judgement.specs.Validity.{Validity, validity, is_valid}
-use Rattle.dns_judgement.specs.ProofErrors.{ProofErrorKindValue, ProofErrorValue, RrsetProofValue, InsecureDnsKey, DnsKeyRevoked, NotZoneDnsKey, AlgorithmMismatch, Msg, DnsKeyVerifyRrsig}
+use Rattle.dns_rules.specs.Validity.{Validity, validity, is_valid}
+use Rattle.dns_rules.specs.ProofErrors.{ProofErrorKindValue, ProofErrorValue, RrsetProofValue, InsecureDnsKey, DnsKeyRevoked, NotZoneDnsKey, AlgorithmMismatch, Msg, DnsKeyVerifyRrsig}
 use Rattle.dns_trust.specs.declared.usable.KeyFault.{KeyFault}
 use Rattle.dns_trust.specs.declared.usable.KeyFault.TheVariants.{Revoked, NotZoneKey}
 use Rattle.dns_marks.specs.Kinds.{because, misfit}

@@ -3,9 +3,9 @@ use Rattle.std.specs.Prelude.{ℕ, List, Option, None, Some, codes}
 use Rattle.dns_model.specs.declared.proof.Proof.{Proof}
 use Rattle.dns_model.specs.declared.proof.Proof.TheVariants.{Bogus}
 use Rattle.dns_handle.specs.Notices.{notice_text}
-use Rattle.dns_judgement.specs.Validity.{Validity, ValidRrsig, ExpiredRrsig, WrongDnskey, WrongRrsig}
-use Rattle.dns_judgement.specs.ProofErrors as cause
-use Rattle.dns_judgement.specs.ProofErrors.{ProofErrorKindValue, ProofErrorValue}
+use Rattle.dns_rules.specs.Validity.{Validity, ValidRrsig, ExpiredRrsig, WrongDnskey, WrongRrsig}
+use Rattle.dns_rules.specs.ProofErrors as cause
+use Rattle.dns_rules.specs.ProofErrors.{ProofErrorKindValue, ProofErrorValue}
 use Rattle.dns_marks.specs.declared.proof_error.ProofErrorKind.{ProofErrorKind}
 use Rattle.dns_marks.specs.declared.proof_error.ProofErrorKind.TheVariants.{RrsigsNotPresent, Net, RrsigsUnverified, DnskeyNotFound, DsRecordsButNoDnskey, DsRecordShouldExist, DsResponseInsecure, UnknownKeyAlgorithm, ErrorComputingKeyTag, UnsupportedKeyAlgorithm, DnsKeyHasNoDs, InsecureDnsKey, DnsKeyRevoked, NotZoneDnsKey, AlgorithmMismatch, Msg, DnsKeyVerifyRrsig, NoMemory}
 

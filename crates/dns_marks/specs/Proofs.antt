@@ -4,7 +4,7 @@ use Rattle.dns_model.specs.declared.proof.Proof.TheVariants.{Secure, Insecure}
 use Rattle.dns_model.specs.Records.{Rr, RrSet}
 use Rattle.dns_model.specs.RecordViews.{rrsig_of}
 use Rattle.dns_model.specs.SoundAnswers.{signed_ttl, ttl_of}
-use Rattle.dns_judgement.specs.ProofErrors.{RrsetProofValue}
+use Rattle.dns_rules.specs.ProofErrors.{RrsetProofValue}
 
 -- the ttl that a signature leaves to a set at a moment: no more than that of the set's first record, than the original
 -- ttl and than the seconds for which the signature is still valid

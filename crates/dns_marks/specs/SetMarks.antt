@@ -6,19 +6,29 @@ use Rattle.dns_model.specs.declared.proof.Proof.{Proof}
 use Rattle.dns_model.specs.declared.proof.Proof.TheVariants.{Secure, Insecure, Bogus}
 use Rattle.dns_model.specs.Keys.{VerifierAnswers}
 use Rattle.dns_model.specs.Records.{Rr, RrSet, Question}
-use Rattle.dns_judgement.specs.Marks.{most_signatures}
-use Rattle.dns_judgement.specs.Derivation.{proof_eq}
-use Rattle.dns_judgement.specs.ProofErrors.{ProofErrorKindValue, ProofErrorValue, RrsetProofValue, RrsigsNotPresent, Net, RrsigsUnverified}
+use Rattle.dns_rules.specs.Marks.{most_signatures}
+use Rattle.dns_rules.specs.Derivation.{proof_eq}
+use Rattle.dns_rules.specs.ProofErrors.{ProofErrorKindValue, ProofErrorValue, RrsetProofValue, RrsigsNotPresent, Net, RrsigsUnverified}
 use Rattle.dns_marks.specs.declared.set_mark.KeyAnswer.{KeyAnswer}
 use Rattle.dns_marks.specs.declared.set_mark.KeyAnswer.TheVariants.{Skipped, Failed, Keys}
 use Rattle.dns_marks.specs.Kinds.{because}
 use Rattle.dns_marks.specs.SignatureKeys.{keys_proof, calls_by_keys}
 
+-- what came of an ask, as a plain value
+pub data KeyAnswerValue : Type 0 where
+  NotAsked : KeyAnswerValue
+  Unanswered : (query : Question) → KeyAnswerValue
+  Answered : (keys : List Rr) → KeyAnswerValue
+
+abbrev pub key_answer_value : KeyAnswer → KeyAnswerValue
+key_answer_value Skipped = NotAsked
+key_answer_value (Failed query) = Unanswered query
+key_answer_value (Keys keys) = Answered keys.items
+
 -- what a signature proves of a set by the answer to its ask; none where it proves nothing
 abbrev pub answer_proof : VerifierAnswers → ℕ → RrSet → Rr → KeyAnswer → Option RrsetProofValue
-answer_proof verifier now set r Skipped = None
-answer_proof verifier now set r (Failed query) = None
 answer_proof verifier now set r (Keys keys) = keys_proof verifier now keys.items set r
+answer_proof verifier now set r _ = None
 
 -- what some signatures prove, each by its answer
 abbrev pub answer_proofs : VerifierAnswers → ℕ → RrSet → List Rr → List KeyAnswer → List (Option RrsetProofValue)
@@ -41,14 +51,12 @@ deciding_proof proofs = option_or (first_proof Secure 0 proofs) (first_proof Ins
 
 abbrev pub is_skipped_answer : KeyAnswer → Bool
 is_skipped_answer Skipped = true
-is_skipped_answer (Failed query) = false
-is_skipped_answer (Keys keys) = false
+is_skipped_answer _ = false
 
 -- the question of an ask that failed
 abbrev pub failed_ask : KeyAnswer → Option Question
-failed_ask Skipped = None
 failed_ask (Failed query) = Some query
-failed_ask (Keys keys) = None
+failed_ask _ = None
 
 -- why no signature decides: none was asked for; an ask failed, of which the first is told; or none proves the set
 abbrev pub no_proof : RrSet → List KeyAnswer → ProofErrorKindValue
@@ -66,9 +74,8 @@ set_proof verifier now set answers =
 
 -- for a signature, by the answer to its ask
 abbrev pub answer_calls : VerifierAnswers → ℕ → RrSet → Rr → KeyAnswer → ℕ
-answer_calls verifier now set r Skipped = 0
-answer_calls verifier now set r (Failed query) = 0
 answer_calls verifier now set r (Keys keys) = calls_by_keys verifier now keys.items set r
+answer_calls verifier now set r _ = 0
 
 abbrev pub is_secure_proof : Option RrsetProofValue → Bool
 is_secure_proof found = option_map_or (λ p. proof_eq p.proof Secure) found false

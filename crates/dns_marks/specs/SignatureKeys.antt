@@ -11,10 +11,11 @@ use Rattle.dns_model.specs.Chains.{Judge, judge}
 use Rattle.dns_model.specs.Records.{Rr, RrSet}
 use Rattle.dns_model.specs.RecordViews.{rrsig_of}
 use Rattle.dns_model.specs.SoundAnswers.{is_secure}
-use Rattle.dns_judgement.specs.Validity.{is_good_by}
-use Rattle.dns_judgement.specs.Marks.{Verdict, Proved, Excused, Failed, may_be_signed, counted_keys}
-use Rattle.dns_judgement.specs.Derivation.{proof_eq}
-use Rattle.dns_judgement.specs.ProofErrors.{RrsetProofValue}
+use Rattle.dns_rules.specs.Validity.{is_good_by}
+use Rattle.dns_rules.specs.Marks.{Verdict, Proved, Failed, may_be_signed, counted_keys}
+use Rattle.dns_rules.specs.Marks as marks
+use Rattle.dns_rules.specs.Derivation.{proof_eq}
+use Rattle.dns_rules.specs.ProofErrors.{RrsetProofValue}
 use Rattle.dns_marks.specs.Proofs.{proved_by, excused}
 use Rattle.dns_marks.specs.KeySignatures.{is_put}
 
@@ -67,7 +68,7 @@ calls_by_keys verifier now keys set r = calls_by_keys_read verifier now keys set
 
 abbrev pub verdict_by_mark : Proof → Verdict
 verdict_by_mark proof.Secure = Proved
-verdict_by_mark proof.Insecure = Excused
+verdict_by_mark proof.Insecure = marks.Insecure
 verdict_by_mark proof.Bogus = Failed
 verdict_by_mark proof.Indeterminate = Failed
 

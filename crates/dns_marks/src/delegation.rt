@@ -4,16 +4,19 @@ ghost use Rattle.dns_marks.specs.Kinds.{want_of_memory};
 ghost use Rattle.dns_marks.specs.Dnskeys.{key_proof, unmatched as cause_of};
 
 use crate::{ProofError, ProofErrorKind};
-use dns_handle::Verifier;
+use dns_evidence::Verifier;
+use dns_model::Proof;
 use dns_name::NoMemory;
 use dns_rdata::Dnskey;
-use dns_record::{Proof, Record};
+use dns_record::Record;
 use dns_trust::matching_ds;
+use std::alloc::Global;
 
 /// Secure exactly where one of some DS records matches a key (RFC 4035, 5.2). Of those of its owner, algorithm and tag
 /// the first two of the list count, whether or not they are supported. A key that can't be read and one of an algorithm
 /// that isn't supported are Insecure, any other that no DS matches is Bogus.
 pub fn verify_dnskey<V: Verifier>(
+    _alloc: Global,
     verifier: &V,
     key: &Record,
     ds: &[Record],

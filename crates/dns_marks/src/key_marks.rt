@@ -1,11 +1,11 @@
-ghost use Rattle.std.specs.Prelude.{◌≡◌, true, Some};
+ghost use Rattle.std.specs.Prelude.{◌≡◌, ◌<◌, length, true, Some};
 ghost use Rattle.std.specs.Option.{option_map};
 ghost use Rattle.std.specs.List.{filter};
-ghost use Rattle.dns_judgement.specs.Delegations.{is_supported_ds};
+ghost use Rattle.dns_rules.specs.Delegations.{is_supported_ds};
 ghost use Rattle.dns_model.specs.Gives.{Gives};
 ghost use Rattle.dns_model.specs.Chains.{judge};
-ghost use Rattle.dns_judgement.specs.KeySets.{needs_ds, keys_outcome, outcome_by_verdict, outcome_by_ds};
-ghost use Rattle.dns_anchors.specs.Judge.{judge_of};
+ghost use Rattle.dns_rules.specs.KeySets.{needs_ds, keys_outcome, outcome_by_verdict, outcome_by_ds};
+ghost use Rattle.dns_trust.specs.Judge.{judge_of};
 ghost use Rattle.dns_marks.specs.Kinds.{want_of_memory};
 ghost use Rattle.dns_marks.specs.KeyMarks.{keys_mark};
 ghost use Rattle.dns_marks.specs.Proofs.{proved_by as proved_under};
@@ -14,8 +14,9 @@ ghost use Rattle.dns_marks.specs.declared.key_marks.KeysMark.TheVariants.{Done};
 
 use crate::rrset_proof::{proved_by, proved_whole};
 use crate::{ProofError, ProofErrorKind, RrsetProof, ZoneVerdict};
-use dns_handle::Verifier;
-use dns_record::{Proof, Record, RecordSet};
+use dns_evidence::Verifier;
+use dns_model::Proof;
+use dns_record::{Record, RecordSet};
 use dns_trust::{
     AnchoredRow, DsIndex, Judge, MatchedRow, SignedBy, TrustAnchors, anchored_row, matched_row,
 };
@@ -30,7 +31,7 @@ pub enum KeysMark {
     Done(RrsetProof),
 }
 
-/// The mark of a DNSKEY set at a moment in seconds since 1970, by trust anchors and then by the DS verdict of its
+/// The mark of a DNSKEY set with a key at a moment in seconds since 1970, by trust anchors and then by the DS verdict of its
 /// owner, if that is known (RFC 4035, 5.2).
 pub fn mark_keys<V: Verifier>(
     alloc: Global,
@@ -40,6 +41,7 @@ pub fn mark_keys<V: Verifier>(
     zone: Option<&ZoneVerdict>,
     now: u64,
 ) -> Result<KeysMark, ProofError>
+    requires record { 0 < length set.now.records }
     ensures { Gives (λ mark. mark) want_of_memory result
         (keys_mark now set.now
         (keys_outcome (judge (V.answers verifier.now) anchors.now now) set.now

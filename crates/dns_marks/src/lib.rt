@@ -1,5 +1,5 @@
 //! What single calls find of keys, signatures and DS sets, each with the cause where it isn't Secure. The layer above
-//! may use each call as the definition that its clause names, and its errors as the plain values of `dns_judgement`.
+//! may use each call as the definition that its clause names, and its errors as the plain values of `dns_rules`.
 #![tactic(auto)]
 
 mod delegation;

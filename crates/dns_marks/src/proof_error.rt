@@ -1,11 +1,12 @@
 ghost use Rattle.std.specs.Prelude.{◌≡◌, IfOk};
 ghost use Rattle.dns_model.specs.declared.proof.Proof.TheVariants as proof;
-ghost use Rattle.dns_judgement.specs.ProofErrors as cause;
+ghost use Rattle.dns_rules.specs.ProofErrors as cause;
 ghost use Rattle.dns_marks.specs.Kinds.{kind_value, because, want_of_memory};
 
 use dns_handle::Notice;
+use dns_model::Proof;
 use dns_name::{Name, NoMemory};
-use dns_record::{Proof, Query, RecordType};
+use dns_record::{Query, RecordType};
 use std::alloc::{AllocError, AllocFailed};
 use std::fmt;
 use std::marker::Model;
@@ -95,7 +96,7 @@ impl fmt::Debug for ProofError {
 }
 
 impl Model for ProofError {
-    ghost use Rattle.dns_judgement.specs.ProofErrors.{ProofErrorValue};
+    ghost use Rattle.dns_rules.specs.ProofErrors.{ProofErrorValue};
     ghost use Rattle.dns_marks.specs.Kinds.{kind_value};
 
     ghost Value = { ProofErrorValue };
@@ -133,6 +134,14 @@ impl ProofError {
         ensures { result ≡ because proof (kind_value kind) }
     {
         ProofError { proof, kind }
+    }
+
+    /// An equal error in memory of its own.
+    pub fn try_clone(&self) -> Result<ProofError, NoMemory>
+        ensures { IfOk result (λ e. e ≡ self.now) }
+    {
+        let kind = self.kind.try_clone()?;
+        Ok(ProofError::new(self.proof, kind))
     }
 
     /// The cause.

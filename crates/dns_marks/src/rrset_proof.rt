@@ -4,12 +4,13 @@ ghost use Rattle.dns_trust.specs.SetSignatures.{IsRead};
 ghost use Rattle.dns_marks.specs.Proofs.{proved_by as proved_under, proved_with as proved_with_ttl, proved_whole as proved_by_keys, excused as excused_by_keys};
 
 use crate::tested::Tested;
+use dns_model::Proof;
 use dns_rdata::Rrsig;
-use dns_record::{Proof, Record, RecordSet};
+use dns_record::{Record, RecordSet};
 use std::marker::Model;
 
 /// What is found of a set that a signature or its keys decide.
-#[derive(Drop)]
+#[derive(Clone, Copy)]
 pub struct RrsetProof {
     /// The mark of the set.
     pub proof: Proof,
@@ -20,11 +21,13 @@ pub struct RrsetProof {
 }
 
 impl Model for RrsetProof {
-    ghost use Rattle.dns_judgement.specs.ProofErrors.{RrsetProofValue};
+    ghost use Rattle.dns_rules.specs.ProofErrors.{RrsetProofValue};
 
     ghost Value = { RrsetProofValue };
 
     ghost view = { λ p. record { proof = p.proof; adjusted_ttl = p.adjusted_ttl; rrsig_index = p.rrsig_index } };
+
+    ghost inverse = { λ p. record { proof = p.proof; adjusted_ttl = p.adjusted_ttl; rrsig_index = p.rrsig_index } };
 }
 
 // Secure by a signature, at a moment in seconds.

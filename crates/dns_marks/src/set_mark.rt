@@ -2,19 +2,19 @@ ghost use Rattle.std.specs.Prelude.{◌≡◌, ◌+◌, ◌≤◌, ◌<◌, leng
 ghost use Rattle.std.specs.List.{list_all, filter_map, zip};
 ghost use Rattle.std.specs.Option.{option_copied};
 ghost use Rattle.dns_model.specs.Gives.{Gives};
-ghost use Rattle.dns_judgement.specs.Marks.{most_signatures};
+ghost use Rattle.dns_rules.specs.Marks.{most_signatures};
 ghost use Rattle.dns_marks.specs.Kinds.{kind_value, want_of_memory};
 ghost use Rattle.dns_marks.specs.KeySignatures.{Unless};
 ghost use Rattle.dns_marks.specs.Tested.{of_set_answers};
-ghost use Rattle.dns_marks.specs.SetMarks.{set_calls, answer_calls};
+ghost use Rattle.dns_marks.specs.SetMarks.{key_answer_value, set_calls, answer_calls};
 ghost use Rattle.dns_marks.specs.SetMarks.{set_proof, deciding_proof, answer_proofs, answer_proof, proof_at as proof_of_mark, no_proof as cause_of, is_skipped_answer, failed_ask as failed_question};
 
 use crate::tested::SetAnswers;
 use crate::{ProofError, ProofErrorKind, RrsetProof, verify_rrsig_with_keys};
-use dns_handle::Verifier;
+use dns_evidence::{Steps, Verifier};
+use dns_model::Proof;
 use dns_name::NoMemory;
-use dns_record::{Proof, Query, Record, RecordSet};
-use dns_steps::Steps;
+use dns_record::{Query, Record, RecordSet, clone_records};
 use dns_trust::first_signatures;
 use std::alloc::Global;
 use std::sync::ledger::Ledger;
@@ -30,7 +30,26 @@ pub enum KeyAnswer {
     Keys(Vec<Record>),
 }
 
-/// The mark of a set that isn't DNSKEY and has a signature, at a moment in seconds since 1970, by the answers to the
+impl KeyAnswer {
+    /// An equal answer in memory of its own.
+    pub fn try_clone(&self) -> Result<KeyAnswer, NoMemory>
+        ensures { IfOk result (λ answer. key_answer_value answer ≡ key_answer_value self.now) }
+    {
+        match self {
+            KeyAnswer::Skipped => Ok(KeyAnswer::Skipped),
+            KeyAnswer::Failed(query) => {
+                let query = query.try_clone()?;
+                Ok(KeyAnswer::Failed(query))
+            }
+            KeyAnswer::Keys(keys) => {
+                let keys = clone_records(keys)?;
+                Ok(KeyAnswer::Keys(keys))
+            }
+        }
+    }
+}
+
+/// The mark of a set that isn't DNSKEY and has a record and a signature, at a moment in seconds since 1970, by the answers to the
 /// asks of its first eight signatures, one for each in order (RFC 4035, 4.3 and 5.3). The first signature that is
 /// Secure decides, else the first that is Insecure. A step is counted for each call of the verifier's `accepts`, up to
 /// the first signature that is Secure: two for a signature at the most.
@@ -42,6 +61,7 @@ pub fn mark_rrset<V: Verifier, L: Ledger>(
     now: u64,
     steps: &mut Steps<L>,
 ) -> Result<RrsetProof, ProofError>
+    requires record { 0 < length set.now.records }
     requires signed { 0 < length set.now.signatures }
     requires answered { length answers.now ≡ length (take most_signatures set.now.signatures) }
     ensures proof { Gives (λ p. p) want_of_memory result (set_proof (V.answers verifier.now) now set.now answers.now) }
@@ -68,7 +88,8 @@ fn deciding<V: Verifier, L: Ledger>(
     set_answers: &SetAnswers<'_, V>,
     steps: &mut Steps<L>,
 ) -> Result<Option<RrsetProof>, NoMemory>
-    requires { length set_answers.now.answers.now ≡ length (take most_signatures set_answers.now.set.now.signatures) }
+    requires record { 0 < length set_answers.now.set.now.records }
+    requires answered { length set_answers.now.answers.now ≡ length (take most_signatures set_answers.now.set.now.signatures) }
     ensures proof { IfOk result (λ p. p ≡ deciding_proof (of_set_answers V.answers set_answers.now answer_proofs
         (take most_signatures set_answers.now.set.now.signatures) set_answers.now.answers.now)) }
     ensures calls { OnOk result (steps.new ≡ steps.old + of_set_answers V.answers set_answers.now set_calls
@@ -97,6 +118,7 @@ fn proof_by_answer<V: Verifier, L: Ledger>(
     answer: &KeyAnswer,
     steps: &mut Steps<L>,
 ) -> Result<Option<RrsetProof>, NoMemory>
+    requires record { 0 < length set_answers.now.set.now.records }
     ensures proof { IfOk result (λ p. p ≡ of_set_answers V.answers set_answers.now answer_proof sig.now answer.now) }
     ensures calls { OnOk result
         (steps.new ≡ steps.old + of_set_answers V.answers set_answers.now answer_calls sig.now answer.now) }

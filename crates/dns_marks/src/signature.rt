@@ -1,4 +1,4 @@
-ghost use Rattle.std.specs.Prelude.{◌≡◌, ◌+◌, ◌≤◌, true, is_some, IfOk, OnOk, IfSome};
+ghost use Rattle.std.specs.Prelude.{◌≡◌, ◌+◌, ◌≤◌, ◌<◌, length, true, is_some, IfOk, OnOk, IfSome};
 ghost use Rattle.std.specs.Option.{option_map};
 ghost use Rattle.dns_model.specs.Gives.{Gives};
 ghost use Rattle.dns_model.specs.RecordViews.{rrsig_of, dnskey_of};
@@ -11,12 +11,13 @@ ghost use Rattle.dns_marks.specs.KeySignatures.{Unless, validity_at, signature_p
 use crate::rrset_proof::proved_by_tested;
 use crate::tested::Tested;
 use crate::{ProofError, ProofErrorKind, RrsetProof};
-use dns_handle::{Notice, Verifier};
+use dns_evidence::{Steps, Verifier};
+use dns_handle::Notice;
+use dns_model::Proof;
 use dns_name::{Name, NoMemory, Octets};
 use dns_rdata::{Dnskey, Rrsig, signed_data};
-use dns_record::{Proof, Record, RecordSet};
-use dns_steps::Steps;
-use dns_trust::{KeyFault, RrsigValidity, SetSignature, is_accepted, key_fault};
+use dns_record::{Record, RecordSet};
+use dns_trust::{KeyFault, RrsigValidity, SetSignature, accepts_signature, key_fault};
 use std::alloc::Global;
 use std::sync::ledger::Ledger;
 
@@ -33,6 +34,7 @@ pub fn verify_rrset_with_dnskey<V: Verifier, L: Ledger>(
 ) -> Result<RrsetProof, ProofError>
     requires key { is_some (dnskey_of key.now) ≡ true }
     requires sig { is_some (rrsig_of sig.now) ≡ true }
+    requires record { 0 < length set.now.records }
     ensures proof { IfSome (signature_proof (V.answers verifier.now) now set.now sig.now key.now)
         (λ told. Gives (λ p. p) want_of_memory result told) }
     ensures calls { Unless want_of_memory result
@@ -175,5 +177,5 @@ pub(crate) fn ask_verifier<V: Verifier, L: Ledger>(
     ensures calls { steps.new ≡ steps.old + 1 }
 {
     steps.tick();
-    is_accepted(tested.verifier, tested.signature.read, dnskey, bytes)
+    accepts_signature(tested.verifier, tested.signature.read, dnskey, bytes)
 }

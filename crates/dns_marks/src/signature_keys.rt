@@ -1,8 +1,8 @@
-ghost use Rattle.std.specs.Prelude.{◌≡◌, ◌+◌, ◌≤◌, Some, IfOk, OnOk};
+ghost use Rattle.std.specs.Prelude.{◌≡◌, ◌+◌, ◌≤◌, ◌<◌, length, Some, IfOk, OnOk};
 ghost use Rattle.std.specs.List.{list_any};
 ghost use Rattle.dns_model.specs.RecordViews.{dnskey_of};
 ghost use Rattle.dns_model.specs.declared.proof.Proof.TheVariants.{Insecure};
-ghost use Rattle.dns_judgement.specs.Derivation.{proof_eq};
+ghost use Rattle.dns_rules.specs.Derivation.{proof_eq};
 ghost use Rattle.dns_trust.specs.Delegating.{shown};
 ghost use Rattle.dns_trust.specs.SetSignatures.{IsRead, IsBuilt};
 ghost use Rattle.dns_marks.specs.Tested.{of_tested};
@@ -13,11 +13,11 @@ use crate::RrsetProof;
 use crate::rrset_proof::{excused, proved_by_tested};
 use crate::signature::ask_verifier;
 use crate::tested::Tested;
-use dns_handle::Verifier;
+use dns_evidence::{Steps, Verifier};
+use dns_model::Proof;
 use dns_name::{NoMemory, Octets};
 use dns_rdata::{Dnskey, Rrsig};
-use dns_record::{Proof, Record, RecordSet};
-use dns_steps::Steps;
+use dns_record::{Record, RecordSet};
 use dns_trust::{SetSignature, counted_keys, is_usable, is_valid, may_be_signed, signed_data_once};
 use std::alloc::Global;
 use std::sync::ledger::Ledger;
@@ -35,6 +35,7 @@ pub fn verify_rrsig_with_keys<V: Verifier, L: Ledger>(
     now: u64,
     steps: &mut Steps<L>,
 ) -> Result<Option<RrsetProof>, NoMemory>
+    requires record { 0 < length set.now.records }
     ensures proof { IfOk result (λ p. p ≡ keys_proof (V.answers verifier.now) now keys.now set.now sig.now) }
     ensures calls { OnOk result
         (steps.new ≡ steps.old + calls_by_keys (V.answers verifier.now) now keys.now set.now sig.now) }

@@ -1,22 +1,23 @@
 ghost use Rattle.std.specs.Prelude.{◌≡◌, ◌&&◌, ◌||◌, false, not, IfOk, Some};
-ghost use Rattle.std.specs.List.{find, filter, list_all, list_any};
-ghost use Rattle.std.specs.Option.{option_copied};
+ghost use Rattle.std.specs.List.{filter, list_all, list_any};
 ghost use Rattle.dns_model.specs.Types.{type_ds, type_nsec};
 ghost use Rattle.dns_model.specs.SoundAnswers.{is_secure};
 ghost use Rattle.dns_handle.specs.ErrorKinds.{is_no_memory};
 ghost use Rattle.dns_handle.specs.Replies.{error_of};
 ghost use Rattle.dns_handle.specs.Responses.{all_records};
-ghost use Rattle.dns_judgement.specs.ProofErrors as cause;
-ghost use Rattle.dns_judgement.specs.Delegations as delegations;
-ghost use Rattle.dns_judgement.specs.Delegations.{ds_question as ds_question_of};
-ghost use Rattle.dns_marks.specs.ZoneVerdicts.{zone_verdict_value, answer_verdict, by_message, by_ds as by_ds_set, by_supported, without_ds as without_ds_set, has_ds_set as has_set_in, are_secure_in_set, authority_shows_no_ds as shows_none, is_insecure_record_above as is_above, shown_by, is_record_of};
+ghost use Rattle.dns_rules.specs.ProofErrors as cause;
+ghost use Rattle.dns_rules.specs.Delegations as delegations;
+ghost use Rattle.dns_rules.specs.Delegations.{ds_question as ds_question_of};
+ghost use Rattle.dns_marks.specs.ZoneVerdicts.{zone_verdict_value, answer_verdict, in_class, by_message, by_ds as by_ds_set, by_supported, without_ds as without_ds_set, has_ds_set as has_set_in, are_secure_in_set, authority_shows_no_ds as shows_none, is_insecure_record_above as is_above, shown_by, is_record_of};
 
 use crate::ProofErrorKind;
-use dns_handle::{DnsResponse, NetError, Verifier};
+use dns_evidence::Verifier;
+use dns_handle::{DnsResponse, NetError};
 use dns_message::Message;
+use dns_model::Proof;
 use dns_name::{Name, NoMemory};
 use dns_rdata::Ds;
-use dns_record::{DNSClass, Proof, Record, RecordType};
+use dns_record::{DNSClass, Record, RecordType, clone_records};
 use dns_trust::{ds_query, is_supported_ds, shows_unsigned_cut};
 use std::alloc::Global;
 
@@ -34,10 +35,33 @@ pub enum ZoneVerdict {
     Bogus(ProofErrorKind),
 }
 
-/// The DS verdict of a zone, by the answer to the ask for its DS set (RFC 4035, 5.2). A set counts as Secure where all
-/// its records are; one record of any section that is Insecure, at the zone or above it, is enough where there is no
-/// DS set. Want of memory in the ask is want of memory; any other error is a failed ask.
-#[tactic(auto, unfolding(dns_judgement::specs::Delegations::zone_verdict))]
+impl ZoneVerdict {
+    /// An equal verdict in memory of its own.
+    pub fn try_clone(&self) -> Result<ZoneVerdict, NoMemory>
+        ensures { IfOk result (λ v. zone_verdict_value v ≡ zone_verdict_value self.now) }
+    {
+        match self {
+            ZoneVerdict::Signed(ds) => {
+                let ds = clone_records(ds)?;
+                Ok(ZoneVerdict::Signed(ds))
+            }
+            ZoneVerdict::Insecure(kind) => {
+                let kind = kind.try_clone()?;
+                Ok(ZoneVerdict::Insecure(kind))
+            }
+            ZoneVerdict::Bogus(kind) => {
+                let kind = kind.try_clone()?;
+                Ok(ZoneVerdict::Bogus(kind))
+            }
+        }
+    }
+}
+
+/// The DS verdict of a zone, by the answer to the ask for its DS set (RFC 4035, 5.2). Records of another class say
+/// nothing of it. A set counts as Secure where all its records are; one record of any section that is Insecure, at the
+/// zone or above it, is enough where there is no DS set. Want of memory in the ask is want of memory; any other error
+/// is a failed ask.
+#[tactic(auto, unfolding(dns_rules::specs::Delegations::zone_verdict))]
 pub fn ds_verdict<V: Verifier>(
     alloc: Global,
     verifier: &V,
@@ -68,7 +92,7 @@ fn unanswered(zone: &Name, class: DNSClass, error: &NetError) -> Result<ZoneVerd
 }
 
 // The verdict by the records of a message.
-#[tactic(auto, using(crate::proofs::ZoneLemmas::zone_verdict_by))]
+#[tactic(auto, using(crate::proofs::ClassLemmas::zone_verdict_in))]
 fn verdict_by<V: Verifier>(
     alloc: Global,
     verifier: &V,
@@ -77,12 +101,12 @@ fn verdict_by<V: Verifier>(
     message: &Message,
 ) -> Result<ZoneVerdict, NoMemory>
     ensures { IfOk result (λ v. zone_verdict_value v ≡
-        delegations.zone_verdict (V.answers verifier.now) class.0 zone.now (Some (shown_by message.now))) }
+        delegations.zone_verdict (V.answers verifier.now) class.0 zone.now (Some (shown_by (in_class class.0 message.now)))) }
 {
     if has_ds_set(zone, class, &message.answers) {
-        by_ds(alloc, verifier, zone, &message.answers)
+        by_ds(alloc, verifier, zone, class, &message.answers)
     } else {
-        without_ds(zone, message)
+        without_ds(zone, class, message)
     }
 }
 
@@ -91,15 +115,17 @@ fn by_ds<V: Verifier>(
     alloc: Global,
     verifier: &V,
     zone: &Name,
+    class: DNSClass,
     answers: &[Record],
 ) -> Result<ZoneVerdict, NoMemory>
-    ensures { IfOk result (λ v. zone_verdict_value v ≡ by_ds_set (V.answers verifier.now) zone.now answers.now) }
+    ensures { IfOk result
+        (λ v. zone_verdict_value v ≡ by_ds_set (V.answers verifier.now) class.0 zone.now answers.now) }
 {
-    if !are_secure(zone, RecordType::DS, answers) {
+    if !are_secure(zone, class, RecordType::DS, answers) {
         return unshown(zone);
     }
-    let ds = supported(alloc, verifier, zone, answers)?;
-    verdict_of(zone, has_readable_ds(zone, answers), ds)
+    let ds = supported(alloc, verifier, zone, class, answers)?;
+    verdict_of(zone, has_readable_ds(zone, class, answers), ds)
 }
 
 // A Secure DS set has these supported records, and one that can be read.
@@ -124,10 +150,10 @@ fn unshown(zone: &Name) -> Result<ZoneVerdict, NoMemory>
 }
 
 // The verdict where the answer section has no DS set of the zone.
-fn without_ds(zone: &Name, message: &Message) -> Result<ZoneVerdict, NoMemory>
-    ensures { IfOk result (λ v. zone_verdict_value v ≡ without_ds_set zone.now message.now) }
+fn without_ds(zone: &Name, class: DNSClass, message: &Message) -> Result<ZoneVerdict, NoMemory>
+    ensures { IfOk result (λ v. zone_verdict_value v ≡ without_ds_set class.0 zone.now message.now) }
 {
-    if !is_insecure(zone, message) {
+    if !is_insecure(zone, class, message) {
         return unshown(zone);
     }
     let name = zone.try_clone()?;
@@ -135,86 +161,81 @@ fn without_ds(zone: &Name, message: &Message) -> Result<ZoneVerdict, NoMemory>
 }
 
 // The delegation is shown to have no DS, or a record of the zone or above it is Insecure.
-fn is_insecure(zone: &Name, message: &Message) -> bool
-    ensures { result
-        ≡ (shows_none zone.now message.now.authorities || list_any (is_above zone.now) (all_records message.now)) }
+fn is_insecure(zone: &Name, class: DNSClass, message: &Message) -> bool
+    ensures { result ≡ (shows_none class.0 zone.now message.now.authorities
+        || list_any (is_above class.0 zone.now) (all_records message.now)) }
 {
-    shows_no_ds(zone, &message.authorities) || has_insecure(zone, message)
+    shows_no_ds(zone, class, &message.authorities) || has_insecure(zone, class, message)
 }
 
 // A Secure NSEC set of the zone shows that its delegation has no DS.
-fn shows_no_ds(zone: &Name, authorities: &[Record]) -> bool
-    ensures { result ≡ shows_none zone.now authorities.now }
+fn shows_no_ds(zone: &Name, class: DNSClass, authorities: &[Record]) -> bool
+    ensures { result ≡ shows_none class.0 zone.now authorities.now }
 {
-    are_secure(zone, RecordType::NSEC, authorities) && has_unsigned_cut(zone, authorities)
+    are_secure(zone, class, RecordType::NSEC, authorities)
+        && has_unsigned_cut(zone, class, authorities)
 }
 
-fn has_unsigned_cut(zone: &Name, authorities: &[Record]) -> bool
-    ensures { result
-        ≡ list_any (λ r. is_record_of zone.now type_nsec r && delegations.shows_unsigned_cut r) authorities.now }
+fn has_unsigned_cut(zone: &Name, class: DNSClass, authorities: &[Record]) -> bool
+    ensures { result ≡ list_any
+        (λ r. is_record_of class.0 zone.now type_nsec r && delegations.shows_unsigned_cut r) authorities.now }
 {
-    authorities.iter().any(|next| is_of(zone, RecordType::NSEC, next) && shows_unsigned_cut(next))
+    authorities.iter().any(|next| is_of(zone, class, RecordType::NSEC, next)
+        && shows_unsigned_cut(next))
 }
 
 // A record of some section is Insecure, at the zone or above it.
-fn has_insecure(zone: &Name, message: &Message) -> bool
-    ensures { result ≡ list_any (is_above zone.now) (all_records message.now) }
+fn has_insecure(zone: &Name, class: DNSClass, message: &Message) -> bool
+    ensures { result ≡ list_any (is_above class.0 zone.now) (all_records message.now) }
 {
-    has_insecure_in(zone, &message.answers)
-        || has_insecure_in(zone, &message.authorities)
-        || has_insecure_in(zone, &message.additionals)
+    has_insecure_in(zone, class, &message.answers)
+        || has_insecure_in(zone, class, &message.authorities)
+        || has_insecure_in(zone, class, &message.additionals)
 }
 
-fn has_insecure_in(zone: &Name, records: &[Record]) -> bool
-    ensures { result ≡ list_any (is_above zone.now) records.now }
+fn has_insecure_in(zone: &Name, class: DNSClass, records: &[Record]) -> bool
+    ensures { result ≡ list_any (is_above class.0 zone.now) records.now }
 {
-    records.iter().any(|next| is_insecure_above(zone, next))
+    records
+        .iter()
+        .any(|next| is_insecure_above(zone, class, next))
 }
 
-fn is_insecure_above(zone: &Name, next: &Record) -> bool
-    ensures { result ≡ is_above zone.now next.now }
+fn is_insecure_above(zone: &Name, class: DNSClass, next: &Record) -> bool
+    ensures { result ≡ is_above class.0 zone.now next.now }
 {
-    next.proof == Proof::Insecure && next.name.zone_of(zone)
+    class == next.dns_class && (next.proof == Proof::Insecure && next.name.zone_of(zone))
 }
 
-// There is a DS set of the zone, and the class is that of its first record.
+// There is a DS of the zone.
 fn has_ds_set(zone: &Name, class: DNSClass, answers: &[Record]) -> bool
     ensures { result ≡ has_set_in class.0 zone.now answers.now }
 {
-    match first_ds(zone, answers) {
-        Some(first) => class == first.dns_class,
-        None => false,
-    }
-}
-
-// The first DS of the zone.
-fn first_ds<'a>(zone: &Name, answers: &'a [Record]) -> Option<&'a Record>
-    ensures { option_copied result ≡ find (is_record_of zone.now type_ds) answers.now }
-{
     answers
         .iter()
-        .find(|next| is_of(zone, RecordType::DS, next))
+        .any(|next| is_of(zone, class, RecordType::DS, next))
 }
 
 // All records of a set are Secure.
-fn are_secure(name: &Name, record_type: RecordType, records: &[Record]) -> bool
-    ensures { result ≡ are_secure_in_set name.now record_type.0 records.now }
+fn are_secure(name: &Name, class: DNSClass, record_type: RecordType, records: &[Record]) -> bool
+    ensures { result ≡ are_secure_in_set class.0 name.now record_type.0 records.now }
 {
-    records.iter().all(|next| !is_of(name, record_type, next) || next.proof == Proof::Secure)
+    records.iter().all(|next| !is_of(name, class, record_type, next) || next.proof == Proof::Secure)
 }
 
-// The record is one of the set of a name and a type.
-fn is_of(name: &Name, record_type: RecordType, next: &Record) -> bool
-    ensures { result ≡ is_record_of name.now record_type.0 next.now }
+// The record is one of the set of a name, a class and a type.
+fn is_of(name: &Name, class: DNSClass, record_type: RecordType, next: &Record) -> bool
+    ensures { result ≡ is_record_of class.0 name.now record_type.0 next.now }
 {
-    *name == next.name && next.record_type == record_type
+    class == next.dns_class && (*name == next.name && next.record_type == record_type)
 }
 
 // A DS of the zone can be read.
-fn has_readable_ds(zone: &Name, answers: &[Record]) -> bool
-    ensures { result ≡ list_any (λ r. is_record_of zone.now type_ds r && delegations.is_readable_ds r) answers.now }
+fn has_readable_ds(zone: &Name, class: DNSClass, answers: &[Record]) -> bool
+    ensures { result
+        ≡ list_any (λ r. is_record_of class.0 zone.now type_ds r && delegations.is_readable_ds r) answers.now }
 {
-    answers.iter().any(|next| is_of(zone, RecordType::DS, next) && Ds::of(next).is_some())
+    answers.iter().any(|next| is_of(zone, class, RecordType::DS, next) && Ds::of(next).is_some())
 }
 
 // The supported DS records of the zone.
@@ -222,14 +243,15 @@ fn supported<V: Verifier>(
     alloc: Global,
     verifier: &V,
     zone: &Name,
+    class: DNSClass,
     answers: &[Record],
 ) -> Result<Vec<Record>, NoMemory>
-    ensures { IfOk result (λ v. v.items ≡ filter
-        (λ r. is_record_of zone.now type_ds r && delegations.is_supported_ds (V.answers verifier.now) r) answers.now) }
+    ensures { IfOk result (λ v. v.items ≡ filter (λ r. is_record_of class.0 zone.now type_ds r
+        && delegations.is_supported_ds (V.answers verifier.now) r) answers.now) }
 {
     let mut supported = Vec::new(alloc);
     for next in answers {
-        if is_supported_of(verifier, zone, next) {
+        if is_supported_of(verifier, zone, class, next) {
             let ds = next.try_clone()?;
             supported.push(ds)?;
         }
@@ -238,9 +260,9 @@ fn supported<V: Verifier>(
 }
 
 // The record is a supported one of the zone's DS set.
-fn is_supported_of<V: Verifier>(verifier: &V, zone: &Name, next: &Record) -> bool
-    ensures { result
-        ≡ (is_record_of zone.now type_ds next.now && delegations.is_supported_ds (V.answers verifier.now) next.now) }
+fn is_supported_of<V: Verifier>(verifier: &V, zone: &Name, class: DNSClass, next: &Record) -> bool
+    ensures { result ≡ (is_record_of class.0 zone.now type_ds next.now
+        && delegations.is_supported_ds (V.answers verifier.now) next.now) }
 {
-    is_of(zone, RecordType::DS, next) && is_supported_ds(verifier, next)
+    is_of(zone, class, RecordType::DS, next) && is_supported_ds(verifier, next)
 }

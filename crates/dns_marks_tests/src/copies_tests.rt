@@ -1,11 +1,10 @@
+use crate::counting::Counting;
 use crate::key_mark_tests::*;
 use crate::mark_parts::*;
-use crate::refusing::Refusing;
 use crate::rows::check_row;
-use dns_name::NameError;
-use dns_record::{Proof, Record, RecordType};
+use dns_model::{NameError, Proof};
+use dns_record::{Record, RecordType};
 use std::alloc::Global;
-use std::cell::Cell;
 
 /// How often `KEY` stands in a set.
 const COPIES: usize = 400;
@@ -58,22 +57,20 @@ fn copied(alloc: Global, row: &Row) -> Result<Parts, NameError> {
     Ok(parts)
 }
 
-fn is_refused(alloc: Global, verifier: &Refusing, row: &Row) -> Result<bool, NameError> {
+fn is_refused(alloc: Global, verifier: &Counting, row: &Row) -> Result<bool, NameError> {
     let parts = copied(alloc, row)?;
     is_marked(alloc, verifier, &parts, &row.want)
 }
 
-/// The verifier is asked one to eight times before the set is Bogus.
-fn takes_few_calls(alloc: Global, row: &Row) -> Result<bool, NameError> {
-    let verifier = Refusing {
-        calls: Cell::new(0),
-    };
-    Ok(is_refused(alloc, &verifier, row)? && matches!(verifier.calls.get(), 1..=8))
+/// The verifier is asked once for each of the eight signatures before the set is Bogus.
+fn takes_eight_questions(alloc: Global, row: &Row) -> Result<bool, NameError> {
+    let verifier = Counting::new();
+    Ok(is_refused(alloc, &verifier, row)? && verifier.questions() == 8)
 }
 
 #[test]
 fn copies_of_a_key_are_tried_once(rt: HostRuntime) {
     for row in ROWS {
-        check_row(&rt, row.shows, takes_few_calls(rt.alloc(), row));
+        check_row(&rt, row.shows, takes_eight_questions(rt.alloc(), row));
     }
 }

@@ -1,9 +1,9 @@
 use crate::mark_parts::*;
 use crate::rows::check_row;
+use dns_evidence::Listed;
 use dns_marks::{ProofError, verify_dnskey};
-use dns_name::NameError;
-use dns_record::{Proof, Record, RecordType};
-use dns_trust::Listed;
+use dns_model::{NameError, Proof};
+use dns_record::{Record, RecordType};
 use std::alloc::Global;
 
 /// A DS record's owner and rdata.
@@ -152,7 +152,7 @@ fn finds(
     ds: &[Record],
     want: &str,
 ) -> Result<bool, NameError> {
-    is_key(alloc, verify_dnskey(verifier, key, ds), want)
+    is_key(alloc, verify_dnskey(alloc, verifier, key, ds), want)
 }
 
 /// What is found of a row's key is what it names.

@@ -1,9 +1,10 @@
 use crate::mark_parts::*;
 use crate::rows::check_row;
-use dns_handle::Verifier;
+use dns_evidence::Verifier;
 use dns_marks::{KeysMark, ProofError, ProofErrorKind, ZoneVerdict, mark_keys};
-use dns_name::{Name, NameError, Octets};
-use dns_record::{Proof, RecordSet, RecordType};
+use dns_model::{NameError, Proof};
+use dns_name::{Name, Octets};
+use dns_record::{RecordSet, RecordType};
 use dns_trust::TrustAnchors;
 use std::alloc::Global;
 
@@ -250,6 +251,9 @@ fn mark_of<V: Verifier>(
     parts: &Parts,
 ) -> Result<KeysMark, ProofError> {
     let Parts { set, anchors, zone } = parts;
+    if set.records.len() == 0 {
+        return Err(ProofError::new(Proof::Bogus, ProofErrorKind::NoMemory));
+    }
     mark_keys(alloc, verifier, anchors, set, zone.first(), 1500)
 }
 

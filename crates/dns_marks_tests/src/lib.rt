@@ -1,5 +1,5 @@
-//! Tests of what single calls find of keys, signatures and DS sets, by what `dns_marks` gives, and of how often a verifier is
-//! asked for copies of one key, which no clause says. And a test of the count of steps that those calls take.
+//! Tests of what single calls find of keys, signatures and DS sets, by what `dns_marks` gives, and of how often they ask a
+//! verifier, which no clause says. And a test of the count of steps that those calls take.
 //!
 //! They stand apart, since a crate with tests of its own is proved twice.
 #![tactic(auto)]
@@ -9,13 +9,17 @@ mod cause_tests;
 #[cfg(test)]
 mod copies_tests;
 #[cfg(test)]
+mod counting;
+#[cfg(test)]
 mod dnskey_tests;
 #[cfg(test)]
 mod key_mark_tests;
 #[cfg(test)]
+mod large_tests;
+#[cfg(test)]
 mod mark_parts;
 #[cfg(test)]
-mod refusing;
+mod question_tests;
 #[cfg(test)]
 mod rows;
 #[cfg(test)]

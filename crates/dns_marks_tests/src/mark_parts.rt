@@ -1,7 +1,8 @@
+use dns_evidence::Listed;
 use dns_marks::{ProofError, ProofErrorKind, RrsetProof};
-use dns_name::{Name, NameError};
-use dns_record::{DNSClass, Proof, Rdata, Record, RecordSet, RecordType};
-use dns_trust::Listed;
+use dns_model::{NameError, Proof};
+use dns_name::Name;
+use dns_record::{DNSClass, Rdata, Record, RecordSet, RecordType};
 use std::alloc::Global;
 
 /// A key of algorithm 13 and tag 44745.
@@ -180,11 +181,19 @@ pub(crate) fn tells(alloc: Global, error: &ProofError, want: &str) -> Result<boo
     Ok(text.as_str() == want)
 }
 
-/// The same of an error that isn't needed any more.
+/// The same of an error that isn't needed any more, and of a copy of it.
 pub(crate) fn fails(alloc: Global, error: ProofError, want: &str) -> Result<bool, NameError> {
     let errors = only(alloc, error)?;
     match errors.first() {
-        Some(error) => tells(alloc, error, want),
+        Some(error) => Ok(tells(alloc, error, want)? && copy_tells(alloc, error, want)?),
+        None => Ok(false),
+    }
+}
+
+fn copy_tells(alloc: Global, error: &ProofError, want: &str) -> Result<bool, NameError> {
+    let copies = only(alloc, error.try_clone()?)?;
+    match copies.first() {
+        Some(copy) => tells(alloc, copy, want),
         None => Ok(false),
     }
 }

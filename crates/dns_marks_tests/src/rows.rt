@@ -1,5 +1,5 @@
 //! What tests share: the assertion on a row.
-use dns_name::NameError;
+use dns_model::NameError;
 use std::process::Abort;
 
 /// What was tried on a row held; the message names the row.

@@ -2,12 +2,12 @@ ghost use Rattle.std.specs.Prelude.{◌≡◌, ◌<◌};
 
 use crate::mark_parts::*;
 use crate::rows::check_row;
-use dns_handle::Verifier;
+use dns_evidence::{Listed, Steps, Verifier};
 use dns_marks::{KeyAnswer, ProofError, ProofErrorKind, RrsetProof, mark_rrset};
-use dns_name::{Name, NameError};
-use dns_record::{DNSClass, Proof, Query, RecordSet, RecordType};
-use dns_steps::Steps;
-use dns_trust::{Listed, first_signatures};
+use dns_model::{NameError, Proof};
+use dns_name::Name;
+use dns_record::{DNSClass, Query, RecordSet, RecordType};
+use dns_trust::first_signatures;
 use std::alloc::Global;
 use std::marker::Brand;
 use std::sync::ledger::{Blank, Ledger};
@@ -188,8 +188,19 @@ fn answers_of(alloc: Global, row: &Row) -> Result<Vec<KeyAnswer>, NameError> {
     Ok(answers)
 }
 
+fn copies_of(alloc: Global, answers: &[KeyAnswer]) -> Result<Vec<KeyAnswer>, NameError> {
+    let mut copies = Vec::new(alloc);
+    for answer in answers {
+        let next = answer.try_clone()?;
+        copies.push(next)?;
+    }
+    Ok(copies)
+}
+
+/// The answers are copies of those that the row names.
 pub(crate) fn parts_of(alloc: Global, row: &Row) -> Result<Parts, NameError> {
-    let answers = answers_of(alloc, row)?;
+    let told = answers_of(alloc, row)?;
+    let answers = copies_of(alloc, &told)?;
     let set = servers(alloc, row.owner, row.signatures)?;
     Ok(Parts { set, answers })
 }
@@ -206,7 +217,10 @@ pub(crate) fn found<V: Verifier, L: Ledger>(
     requires some { 0 < blank.parts }
 {
     let Parts { set, answers } = parts;
-    if set.rrsigs.len() == 0 || answers.len() != first_signatures(set).len() {
+    if set.records.len() == 0
+        || set.rrsigs.len() == 0
+        || answers.len() != first_signatures(set).len()
+    {
         return Err(ProofError::new(Proof::Bogus, ProofErrorKind::NoMemory));
     }
     let mut steps = Steps::<L>::new(blank);

@@ -3,11 +3,11 @@ ghost use Rattle.std.specs.Prelude.{◌≡◌, ◌<◌};
 use crate::mark_parts::*;
 use crate::rows::check_row;
 use crate::signature_tests::{Parts, parts_of};
+use dns_evidence::{Listed, Steps};
 use dns_marks::{RrsetProof, verify_rrsig_with_keys};
-use dns_name::{NameError, NoMemory};
-use dns_record::{Proof, RecordType};
-use dns_steps::Steps;
-use dns_trust::Listed;
+use dns_model::{NameError, Proof};
+use dns_name::NoMemory;
+use dns_record::RecordType;
 use std::alloc::Global;
 use std::marker::Brand;
 use std::sync::ledger::{Blank, Ledger};
@@ -117,6 +117,9 @@ fn found<L: Ledger>(
     requires some { 0 < blank.parts }
 {
     let Parts { keys, sig, set } = parts;
+    if set.records.len() == 0 {
+        return Err(NoMemory);
+    }
     let mut steps = Steps::<L>::new(blank);
     verify_rrsig_with_keys(alloc, verifier, keys, sig, set, 1500, &mut steps)
 }

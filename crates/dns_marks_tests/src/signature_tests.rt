@@ -2,12 +2,11 @@ ghost use Rattle.std.specs.Prelude.{◌≡◌, ◌<◌};
 
 use crate::mark_parts::*;
 use crate::rows::check_row;
+use dns_evidence::{Listed, Steps};
 use dns_marks::{ProofError, ProofErrorKind, RrsetProof, verify_rrset_with_dnskey};
-use dns_name::NameError;
+use dns_model::{NameError, Proof};
 use dns_rdata::{Dnskey, Rrsig};
-use dns_record::{Proof, Record, RecordSet, RecordType};
-use dns_steps::Steps;
-use dns_trust::Listed;
+use dns_record::{Record, RecordSet, RecordType};
 use std::alloc::Global;
 use std::marker::Brand;
 use std::sync::ledger::{Blank, Ledger};
@@ -157,10 +156,11 @@ fn found<L: Ledger>(
 {
     let Parts { keys, sig, set } = parts;
     match keys.as_slice() {
-        [key] if Dnskey::of(key).is_some() && Rrsig::of(sig).is_some() => {
-            let mut steps = Steps::<L>::new(blank);
-            verify_rrset_with_dnskey(alloc, verifier, key, sig, set, now, &mut steps)
-        }
+        [key] if Dnskey::of(key).is_some() && Rrsig::of(sig).is_some() && set.records.len() != 0 =>
+            {
+                let mut steps = Steps::<L>::new(blank);
+                verify_rrset_with_dnskey(alloc, verifier, key, sig, set, now, &mut steps)
+            }
         _ => Err(ProofError::new(Proof::Bogus, ProofErrorKind::NoMemory)),
     }
 }

@@ -1,14 +1,14 @@
 use crate::mark_parts::{DS, MISS, OVER_NS, UNSUPPORTED, only, reads, record, verifier};
 use crate::rows::check_row;
-use dns_handle::{
-    DnsError, DnsRequest, DnsRequestOptions, DnsResponse, NetError, NoRecords, Trail,
-};
+use dns_evidence::Trail;
+use dns_handle::{DnsError, DnsRequest, DnsRequestOptions, DnsResponse, NetError, NoRecords};
 use dns_marks::{DnsAnswer, ZoneVerdict, ds_verdict};
 use dns_message::Message;
-use dns_name::{Name, NameError, NoMemory};
-use dns_record::Proof::{Bogus, Insecure, Secure};
-use dns_record::Section::{Additional, Answer, Authority};
-use dns_record::{DNSClass, Denial, Proof, Query, Record, RecordType, ResponseCode, Section};
+use dns_model::Proof::{Bogus, Insecure, Secure};
+use dns_model::Section::{Additional, Answer, Authority};
+use dns_model::{Denial, NameError, Proof, Section};
+use dns_name::{Name, NoMemory};
+use dns_record::{DNSClass, Query, Record, RecordType, ResponseCode};
 use std::alloc::Global;
 
 /// A record of a response: its section, owner, type, rdata and mark.
@@ -266,10 +266,16 @@ fn section_of(message: &mut Message, section: Section) -> &mut Vec<Record> {
     }
 }
 
-/// A record more.
-fn put(alloc: Global, message: &mut Message, told: &Told) -> Result<(), NameError> {
+/// A record more, of a class.
+fn put(
+    alloc: Global,
+    message: &mut Message,
+    class: DNSClass,
+    told: &Told,
+) -> Result<(), NameError> {
     let Told(section, owner, record_type, rdata, proof) = told;
-    let next = record(alloc, owner, *record_type, rdata, *proof)?;
+    let mut next = record(alloc, owner, *record_type, rdata, *proof)?;
+    next.dns_class = class;
     section_of(message, *section).push(next)?;
     Ok(())
 }
@@ -278,18 +284,32 @@ fn put(alloc: Global, message: &mut Message, told: &Told) -> Result<(), NameErro
 fn answer_of(alloc: Global, told: &[Told]) -> Result<Vec<DnsAnswer>, NameError> {
     let mut response = empty_response(alloc)?;
     for one in told {
-        put(alloc, &mut response.message, one)?;
+        put(alloc, &mut response.message, DNSClass::IN, one)?;
     }
     only(alloc, Ok(response))
+}
+
+/// These DS records are so many, all of class IN.
+fn are_signed(ds: &[Record], number: usize) -> bool {
+    ds.len() == number && ds.iter().all(|next| next.dns_class == DNSClass::IN)
 }
 
 /// A verdict is this one.
 fn is_verdict(alloc: Global, verdict: &ZoneVerdict, want: &Want) -> Result<bool, NameError> {
     match (verdict, want) {
-        (ZoneVerdict::Signed(ds), Want::Signed(number)) => Ok(ds.len() == *number),
+        (ZoneVerdict::Signed(ds), Want::Signed(number)) => Ok(are_signed(ds, *number)),
         (ZoneVerdict::Insecure(kind), Want::Insecure(text)) => reads(alloc, kind, text),
         (ZoneVerdict::Bogus(kind), Want::Bogus(text)) => reads(alloc, kind, text),
         _ => Ok(false),
+    }
+}
+
+/// A copy of a verdict is this one.
+fn copy_is(alloc: Global, verdict: &ZoneVerdict, want: &Want) -> Result<bool, NameError> {
+    let copies = only(alloc, verdict.try_clone()?)?;
+    match copies.first() {
+        Some(copy) => is_verdict(alloc, copy, want),
+        None => Ok(false),
     }
 }
 
@@ -300,7 +320,9 @@ fn is_wanted(
 ) -> Result<bool, NameError> {
     let verdicts = only(alloc, verdict)?;
     match verdicts.first() {
-        Some(Ok(verdict)) => is_verdict(alloc, verdict, want),
+        Some(Ok(verdict)) => {
+            Ok(is_verdict(alloc, verdict, want)? && copy_is(alloc, verdict, want)?)
+        }
         Some(Err(_)) => Ok(matches!(want, Want::NoMemory)),
         None => Ok(false),
     }
@@ -344,6 +366,116 @@ fn is_judged(alloc: Global, row: &Row) -> Result<bool, NameError> {
 fn zones_are_judged_by_answers(rt: HostRuntime) {
     for row in rows() {
         check_row(&rt, row.shows, is_judged(rt.alloc(), row));
+    }
+}
+
+/// Records of a response, each with its class, and the verdict on `EXAMPLE.` in class IN.
+struct Mixed {
+    shows: &'static str,
+    told: &'static [(DNSClass, Told)],
+    want: Want,
+}
+
+/// A record of another class is no DS, no NSEC and no Insecure record of the zone.
+const MIXED: &[Mixed] = &[
+    Mixed {
+        shows: "a DS of another class before one of this",
+        told: &[
+            (
+                DNSClass::CH,
+                Told(Answer, "example.", RecordType::DS, DS, Secure),
+            ),
+            (
+                DNSClass::IN,
+                Told(Answer, "example.", RecordType::DS, DS, Secure),
+            ),
+        ],
+        want: Want::Signed(1),
+    },
+    Mixed {
+        shows: "one that isn't Secure behind it",
+        told: &[
+            (
+                DNSClass::IN,
+                Told(Answer, "example.", RecordType::DS, DS, Secure),
+            ),
+            (
+                DNSClass::CH,
+                Told(Answer, "example.", RecordType::DS, DS, Bogus),
+            ),
+        ],
+        want: Want::Signed(1),
+    },
+    Mixed {
+        shows: "no DS, and an NSEC of another class",
+        told: &[(
+            DNSClass::CH,
+            Told(Authority, "example.", RecordType::NSEC, CUT, Secure),
+        )],
+        want: SHOULD_EXIST,
+    },
+    Mixed {
+        shows: "one that isn't Secure beside one of this class",
+        told: &[
+            (
+                DNSClass::CH,
+                Told(Authority, "example.", RecordType::NSEC, HOST, Bogus),
+            ),
+            (
+                DNSClass::IN,
+                Told(Authority, "example.", RecordType::NSEC, CUT, Secure),
+            ),
+        ],
+        want: NO_DS,
+    },
+    Mixed {
+        shows: "a DS of another class alone is none",
+        told: &[
+            (
+                DNSClass::CH,
+                Told(Answer, "example.", RecordType::DS, DS, Bogus),
+            ),
+            (
+                DNSClass::IN,
+                Told(Authority, "example.", RecordType::NSEC, CUT, Secure),
+            ),
+        ],
+        want: NO_DS,
+    },
+    Mixed {
+        shows: "an Insecure record of another class",
+        told: &[(
+            DNSClass::CH,
+            Told(Additional, "example.", RecordType::A, ADDRESS, Insecure),
+        )],
+        want: SHOULD_EXIST,
+    },
+];
+
+/// The one function that names the table, since its proof goes over it.
+fn mixed_rows() -> &'static [Mixed] {
+    MIXED
+}
+
+/// An answer with records of several classes, by itself in a list.
+fn mixed_answer(alloc: Global, told: &[(DNSClass, Told)]) -> Result<Vec<DnsAnswer>, NameError> {
+    let mut response = empty_response(alloc)?;
+    for one in told {
+        put(alloc, &mut response.message, one.0, &one.1)?;
+    }
+    only(alloc, Ok(response))
+}
+
+/// The DS verdict of such a row is the one that it names.
+fn is_mixed(alloc: Global, row: &Mixed) -> Result<bool, NameError> {
+    let answers = mixed_answer(alloc, row.told)?;
+    gives_at(alloc, "EXAMPLE.", DNSClass::IN, &answers, &row.want)
+}
+
+#[test]
+fn records_of_another_class_say_nothing_of_a_zone(rt: HostRuntime) {
+    for row in mixed_rows() {
+        check_row(&rt, row.shows, is_mixed(rt.alloc(), row));
     }
 }
 
@@ -404,4 +536,37 @@ fn zones_are_bogus_where_the_ask_failed(rt: HostRuntime) {
     for row in FAILURES {
         check_row(&rt, row.shows, is_failed(rt.alloc(), row));
     }
+}
+
+/// So many DS records.
+const MANY: usize = 70_000;
+
+fn fill(alloc: Global, message: &mut Message) -> Result<(), NameError> {
+    let one = record(alloc, "example.", RecordType::DS, DS, Proof::Secure)?;
+    for _ in 0..MANY {
+        message.answers.push(one.try_clone()?)?;
+    }
+    Ok(())
+}
+
+fn large_answer(alloc: Global) -> Result<Vec<DnsAnswer>, NameError> {
+    let mut response = empty_response(alloc)?;
+    fill(alloc, &mut response.message)?;
+    only(alloc, Ok(response))
+}
+
+fn signs_all(alloc: Global) -> Result<bool, NameError> {
+    let answers = large_answer(alloc)?;
+    gives_at(
+        alloc,
+        "example.",
+        DNSClass::IN,
+        &answers,
+        &Want::Signed(MANY),
+    )
+}
+
+#[test]
+fn a_zone_is_signed_by_70_000_ds_records(rt: HostRuntime) {
+    check_row(&rt, "each is supported", signs_all(rt.alloc()));
 }

@@ -10,10 +10,11 @@ use Rattle.dns_model.specs.Bytes.{u16_bytes, has_flag}
 use Rattle.dns_model.specs.Records.{Rr, EdnsValue, Question, MessageValue}
 use Rattle.dns_message.specs.declared.decode_error.DecodeError.{DecodeError}
 use Rattle.dns_message.specs.declared.decode_error.DecodeKind.TheVariants.{Trailing}
-use Rattle.dns_message.specs.Reading.{◌>>=◌, fault, u16_field}
+use Rattle.dns_model.specs.ResultSteps.{◌>>=◌}
+use Rattle.dns_message.specs.Reading.{fault, u16_field}
 use Rattle.dns_message.specs.NameAt.{name_at}
 use Rattle.dns_message.specs.RecordAt.{section_at}
-use Rattle.dns_message.specs.MessageAt.{HeaderValue, header_at, question_at, questions_at, edns_in, upper_code_in, message_of, message_at}
+use Rattle.dns_message.specs.MessageAt.{HeaderValue, header_at, question_at, questions_at, message_of, message_at}
 use Rattle.dns_message.specs.WrittenAs.{AreBytes, IsReadAgain, encoded, flag_bit, question_bytes, record_bytes, edns_bytes, edns_count, flags_of, header_bytes, written}
 use Rattle.dns_message.specs.declared.encode_error.EncodeError.{EncodeError}
 use Rattle.dns_message.specs.declared.encode_error.EncodeError.TheVariants.{TooLong, NoMemory}
@@ -21,6 +22,7 @@ use Rattle.dns_message.proofs.RecordReading.{bind_ok}
 use Rattle.dns_message.proofs.NameWriting.{name_good, name_again}
 use Rattle.dns_message.proofs.RecordWriting.{IsRecordAgain, IsOptAgain, IsSectionAgain, section_good, section_again, additional_again, opt_with, stands_at, do_flag, number_small}
 use Rattle.dns_message.proofs.Standing.{Stands, stands_whole, stands_front, stands_back, stands_u16}
+use Rattle.std.specs.Option.{option_map, option_map_or}
 
 -- ---- questions
 
@@ -137,6 +139,12 @@ pub record IsMessageAgain (m : MessageValue) : Type 0 where
   pub authorities : AllByRecursion IsRecordAgain m.authorities
   pub additionals : AllByRecursion IsRecordAgain m.additionals
   pub edns : IfSome m.edns (λ e. IsOptAgain e (m.response_code / 16 % 256))
+
+abbrev edns_in : Option (EdnsValue × ℕ) → Option EdnsValue
+edns_in opt = option_map (λ o. o.0) opt
+
+abbrev upper_code_in : Option (EdnsValue × ℕ) → ℕ
+upper_code_in opt = option_map_or (λ o. o.1) opt 0
 
 edns_back : (upper : ℕ) (o : Option EdnsValue) → edns_in (opt_with upper o) ≡ o
 edns_back upper None = refl

@@ -13,12 +13,17 @@ use Rattle.dns_message.specs.declared.decode_error.DecodeError.{DecodeError}
 use Rattle.dns_message.specs.declared.step.Step.{Step}
 use Rattle.dns_message.specs.declared.step.Step.TheVariants as step
 use Rattle.dns_message.specs.declared.decode_error.DecodeKind.{DecodeKind}
-use Rattle.dns_message.specs.Reading.{◌>>=◌, FailsWith}
+use Rattle.dns_model.specs.ResultSteps.{◌>>=◌}
+use Rattle.dns_message.specs.Reading.{FailsWith}
 use Rattle.dns_message.proofs.Faults.{fails_on}
-use Rattle.dns_message.specs.NameAt.{step_of, with_label, ending_at, after_step, labels_from, steps_left, labels_at, name_at, spelled_at}
-use Rattle.dns_message.specs.Pointers.{IsPointerEnd}
+use Rattle.dns_message.specs.NameAt.{step_of, after_step, labels_from, labels_at, name_at, spelled_at}
+use Rattle.dns_message.specs.Pointers.{IsPointerEnd, ending_at, steps_left}
 use Rattle.dns_message.specs.Fitting.{IsSpelled, IsAppended, ending_or}
-use Rattle.dns_message.specs.RdataAt.{without_fault}
+use Rattle.std.specs.Result.{result_ok}
+
+-- a label before a name
+abbrev pub with_label : Label → Result (Labels × ℕ) DecodeError → Result (Labels × ℕ) DecodeError
+with_label label name = name >>= λ n. Ok (label ∷ n.0, n.1)
 
 -- what a label step says
 pub record IsLabelStep (bytes : List ℕ) (pos size n : ℕ) : Type 0 where
@@ -328,7 +333,7 @@ row_root bytes at start pos ending old new size copied r begun room is row =
     }
 
 -- what a spelled name is read as
-pub spelled_is : (bytes : List ℕ) (at : ℕ) (old new : List ℕ) (next : ℕ) → IsSpelled (name_at bytes at) old new next → IsAppended (without_fault (spelled_at bytes at)) old new next
+pub spelled_is : (bytes : List ℕ) (at : ℕ) (old new : List ℕ) (next : ℕ) → IsSpelled (name_at bytes at) old new next → IsAppended (result_ok (spelled_at bytes at)) old new next
 unfolding spelled_at
 spelled_is bytes at old new next s = record { front = wire s.labels; told = rw s.told refl; grown = s.grown }
 

@@ -7,8 +7,8 @@ use Rattle.std.proofs.lemmas.List.{get_or_push, get_or_append_left}
 use Rattle.dns_model.specs.Names.{Labels}
 use Rattle.dns_message.specs.declared.decode_error.DecodeError.{DecodeError}
 use Rattle.dns_message.specs.declared.step.Step.TheVariants as step
-use Rattle.dns_message.specs.NameAt.{step_of, ending_at, labels_at}
-use Rattle.dns_message.specs.Pointers.{IsPointerEnd, ArePointerEnds, pointer_end_in}
+use Rattle.dns_message.specs.NameAt.{step_of, labels_at}
+use Rattle.dns_message.specs.Pointers.{IsPointerEnd, ArePointerEnds, pointer_end_in, ending_at}
 use Rattle.dns_message.proofs.NameReading.{one_step, pointer_step}
 
 pub pointer_end_to_itself : (bytes : List ℕ) (place : ℕ) → IsPointerEnd bytes place place

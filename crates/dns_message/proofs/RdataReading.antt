@@ -4,9 +4,16 @@ use Rattle.std.specs.Prelude.{◌==◌}
 use Rattle.std.proofs.lemmas.List.{append-nil}
 use Rattle.dns_model.specs.Shapes as shapes
 use Rattle.dns_rdata.specs.declared.shape.Field.{Field}
-use Rattle.dns_message.specs.RdataAt.{field_at, with_bytes, after_field, fields_at}
+use Rattle.dns_message.specs.RdataAt.{field_at, fields_at}
 use Rattle.dns_rdata.specs.Fields.{field_value}
 use Rattle.dns_message.specs.Fitting.{IsAppended}
+use Rattle.dns_model.specs.OptionSteps.{◌>>=◌}
+
+abbrev pub with_bytes : List ℕ → Option (List ℕ) → Option (List ℕ)
+with_bytes front more = more >>= λ rest. Some (front ++ rest)
+
+abbrev pub after_field : Option (List ℕ × ℕ) → (ℕ → Option (List ℕ)) → Option (List ℕ)
+after_field front more = front >>= λ f. with_bytes f.0 (more f.1)
 
 no_front : (o : Option (List ℕ)) → with_bytes [] o ≡ o
 no_front None = refl

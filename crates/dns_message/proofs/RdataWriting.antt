@@ -11,11 +11,15 @@ use Rattle.dns_model.specs.Shapes.{Field, Octets, DomainName, CharacterString, T
 use Rattle.dns_model.proofs.WireLemmas.{first_of_some}
 use Rattle.dns_message.specs.declared.decode_error.DecodeError.{DecodeError}
 use Rattle.dns_message.specs.declared.decode_error.DecodeKind.TheVariants.{Short, BadRdata}
-use Rattle.dns_message.specs.Reading.{◌>>=◌, fault}
+use Rattle.dns_model.specs.ResultSteps.{◌>>=◌}
+use Rattle.dns_message.specs.Reading.{fault}
 use Rattle.dns_message.specs.NameAt.{name_at, spelled_at}
-use Rattle.dns_message.specs.RdataAt.{octets_at, counted_octets_at, rest_at, bitmap_at, without_fault, field_at, with_bytes, after_field, fields_at, within_rdata_limit, shaped_at, rdata_at}
+use Rattle.dns_message.specs.RdataAt.{octets_at, counted_octets_at, rest_at, bitmap_at, field_at, fields_at, shaped_at, rdata_at}
 use Rattle.dns_message.proofs.NameWriting.{name_good, name_again}
 use Rattle.dns_message.proofs.Standing.{Stands, stands_front, stands_back, stands_inside, stands_range, stands_byte}
+use Rattle.std.specs.Result.{result_ok}
+use Rattle.dns_message.proofs.RdataReading.{with_bytes, after_field}
+use Rattle.dns_model.specs.OptionSteps as steps
 
 -- a test that chose a value
 record IsChosen (test : Bool) (x y : List ℕ × ℕ) : Type 0 where
@@ -109,8 +113,8 @@ bitmap_again bytes pos stop front next h other at end s fits =
     rw (whole, test, map_is) (ap (λ (k : ℕ). Some (front, k)) (sym fits))
 
 named_at : (r : Result (Labels × ℕ) DecodeError) (bytes : List ℕ) (pos : ℕ) (front : List ℕ) (next : ℕ) → name_at bytes pos ≡ r
-    → without_fault (◌>>=◌ {B = List ℕ × ℕ} r (λ name. Ok (wire name.0, name.1))) ≡ Some (front, next)
-    → (other : List ℕ) (at : ℕ) → Stands other at front → without_fault (spelled_at other at) ≡ Some (front, at + length front)
+    → result_ok (◌>>=◌ {B = List ℕ × ℕ} r (λ name. Ok (wire name.0, name.1))) ≡ Some (front, next)
+    → (other : List ℕ) (at : ℕ) → Stands other at front → result_ok (spelled_at other at) ≡ Some (front, at + length front)
 unfolding spelled_at
 named_at (Err e) bytes pos front next is h other at s = absurd cc
 named_at (Ok x) bytes pos front next is h other at s =
@@ -119,8 +123,8 @@ named_at (Ok x) bytes pos front next is h other at s =
     let read : name_at other at ≡ Ok (x.0, at + length (wire x.0)) = name_again x.0 other at (subst (λ (w : List ℕ). Stands other at w) (sym same) s) good in
     rw read (ap (λ (w : List ℕ). Some (w, at + length w)) same)
 
-named_again : (bytes : List ℕ) (pos : ℕ) (front : List ℕ) (next : ℕ) → without_fault (spelled_at bytes pos) ≡ Some (front, next)
-    → (other : List ℕ) (at : ℕ) → Stands other at front → without_fault (spelled_at other at) ≡ Some (front, at + length front)
+named_again : (bytes : List ℕ) (pos : ℕ) (front : List ℕ) (next : ℕ) → result_ok (spelled_at bytes pos) ≡ Some (front, next)
+    → (other : List ℕ) (at : ℕ) → Stands other at front → result_ok (spelled_at other at) ≡ Some (front, at + length front)
 unfolding spelled_at
 named_again bytes pos front next h other at s = named_at (name_at bytes pos) bytes pos front next refl h other at s
 
@@ -204,6 +208,9 @@ shape_right rtype = grind (arith, nat_tests)
 limit_cases : (test : Bool) (bytes rdata : List ℕ) → cond {A = Option (List ℕ)} test (Some bytes) None ≡ Some rdata → (let o : Option (List ℕ) = Some bytes in o) ≡ Some rdata
 limit_cases true bytes rdata h = h
 limit_cases false bytes rdata h = absurd cc
+
+abbrev within_rdata_limit : Option (List ℕ) → Option (List ℕ)
+within_rdata_limit rdata = steps.◌>>=◌ rdata (λ bytes. cond (nat_le (length bytes) 65535) (Some bytes) None)
 
 limited : (o : Option (List ℕ)) (rdata : List ℕ) → within_rdata_limit o ≡ Some rdata → o ≡ Some rdata
 limited None rdata h = absurd cc

@@ -14,7 +14,8 @@ use Rattle.dns_message.specs.declared.decode_error.DecodeKind.TheVariants.{BadOp
 use Rattle.dns_model.specs.Types.{type_opt}
 use Rattle.dns_message.specs.NameAt.{name_at}
 use Rattle.dns_message.specs.RdataAt.{rdata_at}
-use Rattle.dns_message.specs.Reading.{◌>>=◌, fault, FailsWith, u16_field, u32_field}
+use Rattle.dns_model.specs.ResultSteps.{◌>>=◌}
+use Rattle.dns_message.specs.Reading.{fault, FailsWith, u16_field, u32_field}
 use Rattle.dns_message.specs.RecordAt.{is_root, record_at, item_at, Listed, with_item, allow_opt_after, section_at}
 use Rattle.dns_message.specs.MessageAt.{question_at, questions_at}
 use Rattle.dns_message.proofs.Faults.{fails_on}

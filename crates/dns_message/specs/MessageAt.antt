@@ -1,12 +1,14 @@
 -- A whole message: header, questions, answers, authorities and additional records (RFC 1035, 4.1; RFC 6891, 6.1).
-use Rattle.std.specs.Prelude.{ℕ, zero, suc, ◌+◌, ◌*◌, ◌/◌, ◌%◌, true, false, List, [], ◌∷◌, length, Option, None, Some, Result, Ok, Err, nat_lt, if◌then◌else◌}
+use Rattle.std.specs.Prelude.{ℕ, zero, suc, ◌+◌, ◌*◌, ◌/◌, ◌%◌, true, false, List, [], ◌∷◌, length, Option, None, Some, Result, Ok, Err, nat_lt, if◌then◌else◌, option_map}
 use Rattle.dns_model.specs.Bytes.{has_flag}
 use Rattle.dns_model.specs.Records.{Rr, Question, EdnsValue, MessageValue}
 use Rattle.dns_message.specs.declared.decode_error.DecodeKind.TheVariants.{Trailing}
 use Rattle.dns_message.specs.declared.decode_error.DecodeError.{DecodeError}
-use Rattle.dns_message.specs.Reading.{fault, ◌>>=◌, u16_field}
+use Rattle.dns_model.specs.ResultSteps.{◌>>=◌}
+use Rattle.dns_message.specs.Reading.{fault, u16_field}
 use Rattle.dns_message.specs.NameAt.{name_at}
 use Rattle.dns_message.specs.RecordAt.{section_at}
+use Rattle.std.specs.Option.{option_map_or}
 
 -- the six numbers of the first twelve bytes
 pub record HeaderValue : Type 0 where
@@ -42,17 +44,8 @@ questions_at (suc count) bytes pos = do
   others ← questions_at count bytes first.1
   Ok (first.0 ∷ others.0, others.1)
 
-abbrev pub edns_in : Option (EdnsValue × ℕ) → Option EdnsValue
-edns_in None = None
-edns_in (Some opt) = Some opt.0
-
--- the upper eight bits of the extended response code (RFC 6891, 6.1.3)
-abbrev pub upper_code_in : Option (EdnsValue × ℕ) → ℕ
-upper_code_in None = 0
-upper_code_in (Some opt) = opt.1
-
 -- the flags of the second number are QR, AA, TC, RD, RA, AD and CD, beside four bits each of the opcode and of the code; the
--- bit between RA and AD is ignored
+-- bit between RA and AD is ignored. An OPT holds the upper eight bits of the extended response code (RFC 6891, 6.1.3)
 abbrev pub message_of : HeaderValue → List Question → List Rr → List Rr → List Rr → Option (EdnsValue × ℕ) → MessageValue
 message_of header queries answers authorities additionals opt = record {
   id = header.id;
@@ -64,12 +57,12 @@ message_of header queries answers authorities additionals opt = record {
   recursion_available = has_flag header.flags 0x0080;
   authentic_data = has_flag header.flags 0x0020;
   checking_disabled = has_flag header.flags 0x0010;
-  response_code = upper_code_in opt * 16 + header.flags % 16;
+  response_code = option_map_or (λ o. o.1) opt 0 * 16 + header.flags % 16;
   queries = queries;
   answers = answers;
   authorities = authorities;
   additionals = additionals;
-  edns = edns_in opt;
+  edns = option_map (λ o. o.0) opt;
 }
 
 -- the message that bytes are, all of them

@@ -6,7 +6,8 @@ use Rattle.dns_message.specs.declared.decode_error.DecodeKind.TheVariants.{Short
 use Rattle.dns_message.specs.declared.decode_error.DecodeError.{DecodeError}
 use Rattle.dns_message.specs.declared.step.Step.{Step}
 use Rattle.dns_message.specs.declared.step.Step.TheVariants as step
-use Rattle.dns_message.specs.Reading.{fault, ◌>>=◌}
+use Rattle.dns_model.specs.ResultSteps.{◌>>=◌}
+use Rattle.dns_message.specs.Reading.{fault}
 
 -- the place that a pointer names: the lower 14 bits of its two bytes
 abbrev pub target_at : List ℕ → ℕ → ℕ
@@ -33,35 +34,22 @@ step_of bytes start pos size =
     else if nat_lt 255 (size + 1 + slice_index bytes pos + 1) then Err (fault BadName pos)
     else Ok (step.Label (slice_index bytes pos))
 
--- a label before what is read after it
-abbrev pub with_label : Label → Result (Labels × ℕ) DecodeError → Result (Labels × ℕ) DecodeError
-with_label label (Ok (name, next)) = Ok (label ∷ name, next)
-with_label label (Err e) = Err e
-
--- what a pointer leads to; the name's bytes end after the pointer
-abbrev pub ending_at : ℕ → Result (Labels × ℕ) DecodeError → Result (Labels × ℕ) DecodeError
-ending_at place (Ok (name, next)) = Ok (name, place)
-ending_at place (Err e) = Err e
-
+-- a label stands before what is read after it; where a pointer leads on, the name's bytes end after the pointer
 abbrev pub after_step : Result Step DecodeError → List ℕ → ℕ → ℕ → ℕ → (ℕ → ℕ → ℕ → Result (Labels × ℕ) DecodeError) → Result (Labels × ℕ) DecodeError
 after_step (Err e) bytes start pos size more = Err e
 after_step (Ok step.Root) bytes start pos size more = Ok ([], pos + 1)
 after_step (Ok (step.Label n)) bytes start pos size more =
-    with_label (slice_range bytes (pos + 1) (pos + 1 + n)) (more start (pos + 1 + n) (size + 1 + n))
-after_step (Ok (step.Pointer target)) bytes start pos size more = ending_at (pos + 2) (more target target size)
+    more start (pos + 1 + n) (size + 1 + n) >>= λ name. Ok (slice_range bytes (pos + 1) (pos + 1 + n) ∷ name.0, name.1)
+after_step (Ok (step.Pointer target)) bytes start pos size more = more target target size >>= λ name. Ok (name.0, pos + 2)
 
 -- the labels from a place on. The first number only bounds the steps
 unfoldable pub labels_from : ℕ → List ℕ → ℕ → ℕ → ℕ → Result (Labels × ℕ) DecodeError
 labels_from zero bytes start pos size = Err (fault Short pos)
 labels_from (suc bound) bytes start pos size = after_step (step_of bytes start pos size) bytes start pos size (labels_from bound bytes)
 
--- each step lessens this: a pointer goes before its row, a label takes room
-abbrev pub steps_left : ℕ → ℕ → ℕ
-steps_left start size = start + (255 - size)
-
--- the labels from a place on, with steps enough
+-- the labels from a place on, with steps enough: each goes to a pointer's target before its row, or takes room of 255 bytes
 unfoldable pub labels_at : List ℕ → ℕ → ℕ → ℕ → Result (Labels × ℕ) DecodeError
-labels_at bytes start pos size = labels_from (suc (steps_left start size)) bytes start pos size
+labels_at bytes start pos size = labels_from (suc (start + (255 - size))) bytes start pos size
 
 -- the name at a place, and the place after its bytes
 unfoldable pub name_at : List ℕ → ℕ → Result (Labels × ℕ) DecodeError

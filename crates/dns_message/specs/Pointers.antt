@@ -1,7 +1,18 @@
 -- For private functions of this crate only: where a row of bare pointers, each to the next, ends: a name that stands at its front is the one that stands at its end (RFC 1035, 4.1.4).
-use Rattle.std.specs.Prelude.{◌≡◌, ℕ, ◌<◌, ◌≤◌, ◌^◌, List, length, slice_index, nat_lt, if◌then◌else◌}
+use Rattle.std.specs.Prelude.{◌≡◌, ℕ, ◌<◌, ◌≤◌, ◌^◌, List, length, slice_index, nat_lt, if◌then◌else◌, Result, Ok, ◌+◌, ◌-◌}
 use Rattle.dns_message.specs.declared.message_bytes.MessageBytes.{MessageBytes}
-use Rattle.dns_message.specs.NameAt.{ending_at, labels_at}
+use Rattle.dns_message.specs.NameAt.{labels_at}
+use Rattle.dns_model.specs.ResultSteps.{◌>>=◌}
+use Rattle.dns_model.specs.Names.{Labels}
+use Rattle.dns_message.specs.declared.decode_error.DecodeError.{DecodeError}
+
+-- each step of reading a name lessens this: a pointer goes before its row, a label takes room
+abbrev pub steps_left : ℕ → ℕ → ℕ
+steps_left start size = start + (255 - size)
+
+-- a name whose bytes end at this place
+abbrev pub ending_at : ℕ → Result (Labels × ℕ) DecodeError → Result (Labels × ℕ) DecodeError
+ending_at place name = name >>= λ n. Ok (n.0, place)
 
 -- a row of labels that begins at `from` reads as the one that begins at `to`
 pub record IsPointerEnd (bytes : List ℕ) (from to : ℕ) : Type 0 where

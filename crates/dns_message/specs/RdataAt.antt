@@ -7,6 +7,8 @@ use Rattle.dns_message.specs.declared.decode_error.DecodeKind.TheVariants.{Short
 use Rattle.dns_message.specs.declared.decode_error.DecodeError.{DecodeError}
 use Rattle.dns_message.specs.Reading.{fault}
 use Rattle.dns_message.specs.NameAt.{spelled_at}
+use Rattle.dns_model.specs.OptionSteps.{◌>>=◌}
+use Rattle.std.specs.Result.{result_ok}
 
 -- the bytes that stand before a place where the rdata stops, and the place after them
 unfoldable pub octets_at : ℕ → List ℕ → ℕ → ℕ → Option (List ℕ × ℕ)
@@ -23,39 +25,27 @@ rest_at bytes pos stop = if nat_le pos stop then Some (slice_range bytes pos sto
 unfoldable pub bitmap_at : List ℕ → ℕ → ℕ → Option (List ℕ × ℕ)
 bitmap_at bytes pos stop = if nat_le pos stop && is_bitmap (slice_range bytes pos stop) then Some (slice_range bytes pos stop, stop) else None
 
-abbrev pub without_fault : {A : Type 0} → Result A DecodeError → Option A
-without_fault (Ok x) = Some x
-without_fault (Err e) = None
-
 -- the bytes of a field, a name spelled out, and the place after the field
 unfoldable pub field_at : Field → List ℕ → ℕ → ℕ → Option (List ℕ × ℕ)
 field_at (Octets n) bytes pos stop = octets_at n bytes pos stop
-field_at DomainName bytes pos stop = without_fault (spelled_at bytes pos)
+field_at DomainName bytes pos stop = result_ok (spelled_at bytes pos)
 field_at CharacterString bytes pos stop = counted_octets_at bytes pos stop
 field_at TypeBitmap bytes pos stop = bitmap_at bytes pos stop
 field_at Remainder bytes pos stop = rest_at bytes pos stop
 
-abbrev pub with_bytes : List ℕ → Option (List ℕ) → Option (List ℕ)
-with_bytes front None = None
-with_bytes front (Some bytes) = Some (front ++ bytes)
-
-abbrev pub after_field : Option (List ℕ × ℕ) → (ℕ → Option (List ℕ)) → Option (List ℕ)
-after_field None more = None
-after_field (Some (front, next)) more = with_bytes front (more next)
-
 -- the bytes of an rdata that is exactly these fields and stops where the last one ends
 unfoldable pub fields_at : List Field → List ℕ → ℕ → ℕ → Option (List ℕ)
 fields_at [] bytes pos stop = if pos == stop then Some [] else None
-fields_at (field ∷ fields) bytes pos stop = after_field (field_at field bytes pos stop) (λ next. fields_at fields bytes next stop)
+fields_at (field ∷ fields) bytes pos stop = do
+  front ← field_at field bytes pos stop
+  rest ← fields_at fields bytes front.1 stop
+  Some (front.0 ++ rest)
 
--- an rdata has at most 65,535 bytes
-abbrev pub within_rdata_limit : Option (List ℕ) → Option (List ℕ)
-within_rdata_limit None = None
-within_rdata_limit (Some bytes) = if nat_le (length bytes) 65535 then Some bytes else None
-
--- the bytes of an rdata in the shape of its type
+-- the bytes of an rdata in the shape of its type, at most 65,535
 unfoldable pub shaped_at : ℕ → List ℕ → ℕ → ℕ → Option (List ℕ)
-shaped_at rtype bytes pos stop = within_rdata_limit (fields_at (shape_of rtype) bytes pos stop)
+shaped_at rtype bytes pos stop = do
+  rdata ← fields_at (shape_of rtype) bytes pos stop
+  if nat_le (length rdata) 65535 then Some rdata else None
 
 -- `size` bytes as they stand
 unfoldable pub opaque_at : List ℕ → ℕ → ℕ → Result (List ℕ) DecodeError

@@ -9,12 +9,6 @@ use Rattle.dns_message.specs.declared.decode_error.DecodeError.{DecodeError}
 abbrev pub fault : DecodeKind → ℕ → DecodeError
 fault kind place = record { kind = kind; offset = place }
 
--- what is read next, unless there was a fault
-infixl 10 ◌>>=◌
-abbrev pub ◌>>=◌ : {A B : Type 0} → Result A DecodeError → (A → Result B DecodeError) → Result B DecodeError
-(Ok x) >>= more = more x
-(Err e) >>= more = Err e
-
 abbrev pub FailsWith : {Y : Type 0} → DecodeKind → ℕ → Result Y DecodeError → Type 0
 FailsWith kinds.NoMemory place read = Unit {0}
 FailsWith kind place read = read ≡ Err (fault kind place)

@@ -10,7 +10,8 @@ use Rattle.dns_message.specs.declared.decode_error.DecodeKind.TheVariants.{BadOp
 use Rattle.dns_message.specs.declared.decode_error.DecodeError.{DecodeError}
 use Rattle.dns_message.specs.declared.item.Item.{Item}
 use Rattle.dns_message.specs.declared.item.Item.TheVariants as item
-use Rattle.dns_message.specs.Reading.{fault, ◌>>=◌, u16_field, u32_field}
+use Rattle.dns_model.specs.ResultSteps.{◌>>=◌}
+use Rattle.dns_message.specs.Reading.{fault, u16_field, u32_field}
 use Rattle.dns_message.specs.NameAt.{name_at}
 use Rattle.dns_message.specs.RdataAt.{rdata_at, opaque_at}
 

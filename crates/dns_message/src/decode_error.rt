@@ -19,7 +19,7 @@ pub enum DecodeKind {
     BadOpt,
     /// Bytes follow the last section. The offset is that of the first.
     Trailing,
-    /// Memory ran out; this says nothing of the bytes, and the offset is 0.
+    /// Memory ran out. Neither this nor the offset says anything of the bytes.
     NoMemory,
 }
 

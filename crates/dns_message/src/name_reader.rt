@@ -1,6 +1,6 @@
 ghost use Rattle.std.specs.Prelude.{◌≡◌, ◌+◌, ◌<◌, ◌≤◌, ◌^◌, ◌++◌, length, slice_range, IfOk, IfErr, OnOk};
 ghost use Rattle.dns_message.specs.Reading.{Reads, FailsWith};
-ghost use Rattle.dns_message.specs.RdataAt.{without_fault};
+ghost use Rattle.std.specs.Result.{result_ok};
 ghost use Rattle.dns_message.specs.NameAt.{name_at, spelled_at};
 ghost use Rattle.dns_message.specs.Pointers.{IsReadable};
 ghost use Rattle.dns_message.specs.Fitting.{IsSpelled, IsAppended, ending_or};
@@ -52,7 +52,7 @@ pub(crate) fn push_spelled(
     ensures name { IfOk result (λ next.
         IsSpelled (name_at message.now.bytes.now at) into.old.items into.new.items next) }
     ensures field { IfOk result (λ next.
-        IsAppended (without_fault (spelled_at message.now.bytes.now at)) into.old.items into.new.items next) }
+        IsAppended (result_ok (spelled_at message.now.bytes.now at)) into.old.items into.new.items next) }
     ensures fault { IfErr result (λ e. FailsWith e.kind e.offset (spelled_at message.now.bytes.now at)) }
     ensures fits { IfOk result (λ next. next ≤ length message.now.bytes.now) }
 {

@@ -1,6 +1,7 @@
 ghost use Rattle.std.specs.Prelude.{◌≡◌, ◌+◌, ◌<◌, ◌≤◌, ◌^◌, length, IfOk, IfSome};
 ghost use Rattle.dns_message.specs.NameAt.{spelled_at};
-ghost use Rattle.dns_message.specs.RdataAt.{octets_at, counted_octets_at, rest_at, bitmap_at, without_fault, field_at};
+ghost use Rattle.dns_message.specs.RdataAt.{octets_at, counted_octets_at, rest_at, bitmap_at, field_at};
+ghost use Rattle.std.specs.Result.{result_ok};
 ghost use Rattle.dns_message.specs.Pointers.{IsReadable};
 ghost use Rattle.dns_message.specs.Fitting.{FieldRead};
 ghost use Rattle.dns_rdata.specs.Fields.{field_value};
@@ -71,7 +72,7 @@ fn push_name(
     requires readable { IsReadable message.now }
     requires pos { pos ≤ length message.now.bytes.now }
     ensures reads { IfOk result (λ next.
-        FieldRead (without_fault (spelled_at message.now.bytes.now pos)) into.old.items into.new.items next) }
+        FieldRead (result_ok (spelled_at message.now.bytes.now pos)) into.old.items into.new.items next) }
     ensures fits { IfOk result (λ next. IfSome next (λ n. n ≤ length message.now.bytes.now)) }
 {
     match push_spelled(message, pos, into) {

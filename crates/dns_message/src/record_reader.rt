@@ -13,8 +13,9 @@ use crate::message_bytes::MessageBytes;
 use crate::name_reader::name_of;
 use crate::number_reader::{u16_of, u32_of};
 use crate::rdata::{opaque_of, rdata_of};
+use dns_model::Proof;
 use dns_name::{Name, Octets};
-use dns_record::{DNSClass, Proof, Rdata, Record, RecordType};
+use dns_record::{DNSClass, Rdata, Record, RecordType};
 
 /// What stands in a record after its owner and type.
 #[derive(Drop)]

@@ -9,7 +9,7 @@ use Rattle.dns_model.specs.Names.{Labels, name_eq}
 use Rattle.dns_model.specs.Types.{type_dnskey}
 use Rattle.dns_model.specs.Keys.{bytes_eq}
 use Rattle.dns_model.specs.Records.{Rr, RrSet}
-use Rattle.dns_model.specs.Chains.{LinkValue, Anchored, Matched, KeySet, Signed, Judge, link_holds, links_hold, is_chain, justified, last_link, same_rdatas, rdatas_of, has_bytes, link_is_for, shows_member, shows_key}
+use Rattle.dns_model.specs.Chains.{LinkValue, Anchored, Matched, KeySet, Signed, Judge, link_holds, links_hold, is_nonempty, justified, last_link, same_rdatas, rdatas_of, has_bytes, link_is_for, shows_member, shows_key}
 use Rattle.dns_model.proofs.EachLemmas.{each_more}
 use Rattle.dns_model.proofs.SetLemmas.{name_refl, name_trans, number_refl, number_same}
 use Rattle.dns_model.proofs.TestLemmas.{and_true}
@@ -51,31 +51,31 @@ slice_get-last (x ∷ y ∷ chain) =
     let here : length (x ∷ y ∷ chain) - 1 ≡ suc (length (y ∷ chain) - 1) = omega arith in
     ap (slice_get (x ∷ y ∷ chain)) here ∙ slice_get-last (y ∷ chain)
 
-pub is_chain-append : (chain : List LinkValue) (link : LinkValue) → is_chain (chain ++ link ∷ []) ≡ true
-is_chain-append [] link = refl
-is_chain-append (x ∷ chain) link = refl
+pub is_nonempty-append : (chain : List LinkValue) (link : LinkValue) → is_nonempty (chain ++ link ∷ []) ≡ true
+is_nonempty-append [] link = refl
+is_nonempty-append (x ∷ chain) link = refl
 
 -- a justified chain with one more link that holds is justified
 pub justified_extends : (j : Judge) (chain : List LinkValue) (link : LinkValue) → justified j chain ≡ true → link_holds j chain link ≡ true
     → justified j (chain ++ link ∷ []) ≡ true
 justified_extends j chain link held holds =
-    let parts = and_parts (is_chain chain) (links_hold j [] chain) held in
+    let parts = and_parts (is_nonempty chain) (links_hold j [] chain) held in
     let both : (links_hold j [] chain && link_holds j chain link) ≡ true = and_from (links_hold j [] chain) (link_holds j chain link) parts.1 holds in
-    and_from (is_chain (chain ++ link ∷ [])) (links_hold j [] (chain ++ link ∷ [])) (is_chain-append chain link) (links_hold-append j [] chain link ∙ both)
+    and_from (is_nonempty (chain ++ link ∷ [])) (links_hold j [] (chain ++ link ∷ [])) (is_nonempty-append chain link) (links_hold-append j [] chain link ∙ both)
 
-is_chain-take : (n : ℕ) (chain : List LinkValue) → 0 < n → is_chain chain ≡ true → is_chain (take n chain) ≡ true
-is_chain-take zero chain some is = absurd (omega arith)
-is_chain-take (suc n) [] some is = is
-is_chain-take (suc n) (x ∷ chain) some is = refl
+is_nonempty-take : (n : ℕ) (chain : List LinkValue) → 0 < n → is_nonempty chain ≡ true → is_nonempty (take n chain) ≡ true
+is_nonempty-take zero chain some is = absurd (omega arith)
+is_nonempty-take (suc n) [] some is = is
+is_nonempty-take (suc n) (x ∷ chain) some is = refl
 
 -- each prefix of a justified chain that has a link is justified
 pub justified-take : (j : Judge) (n : ℕ) (chain : List LinkValue) → 0 < n → justified j chain ≡ true → justified j (take n chain) ≡ true
 justified-take j n chain some held =
-    let parts = and_parts (is_chain chain) (links_hold j [] chain) held in
+    let parts = and_parts (is_nonempty chain) (links_hold j [] chain) held in
     let cut : (links_hold j [] (take n chain) && links_hold j (take n chain) (drop n chain)) ≡ true =
     sym (links_hold-join j [] (take n chain) (drop n chain)) ∙ ap (links_hold j []) (take-append-drop n chain) ∙ parts.1 in
     let front = and_parts (links_hold j [] (take n chain)) (links_hold j (take n chain) (drop n chain)) cut in
-    and_from (is_chain (take n chain)) (links_hold j [] (take n chain)) (is_chain-take n chain some parts.0) front.0
+    and_from (is_nonempty (take n chain)) (links_hold j [] (take n chain)) (is_nonempty-take n chain some parts.0) front.0
 
 -- ---- lists of rdatas
 

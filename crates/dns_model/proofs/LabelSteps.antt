@@ -1,13 +1,13 @@
 -- A name's first label and the name above it, in wire form and as a list; counts of labels.
-use Rattle.std.proofs.Common.{◌≡◌, ℕ, zero, suc, ◌+◌, ◌-◌, ◌≤◌, ◌<◌, Bool, true, false, ◌&&◌, List, [], ◌∷◌, ◌++◌, map, length, take, drop, Option, None, Some, refl, sym, ap, ◌∙◌, subst, arith, length-append, length-drop, add-one, add-zero}
+use Rattle.std.proofs.Common.{◌≡◌, ℕ, zero, suc, ◌+◌, ◌-◌, ◌≤◌, ◌<◌, true, false, List, [], ◌∷◌, length, drop, Option, None, Some, refl, sym, ap, ◌∙◌, arith, length-append, add-one}
 use Rattle.std.specs.Prelude.{nat_le, nat_lt, nat_eq}
 use Rattle.std.specs.Cmp.Lexicographic.{pointwise}
 use Rattle.std.specs.List.{list_all, ends_with}
 use Rattle.std.proofs.lemmas.Bool.{and_parts}
 use Rattle.std.proofs.lemmas.Bool.Decides.{nat_tests}
 use Rattle.std.proofs.lemmas.List.{length-map, drop-map}
-use Rattle.dns_model.specs.Names.{Label, Labels, lowered, folded, wire, is_label, is_name, name_eq, at_or_above, strictly_above, parent, last_labels}
-use Rattle.dns_model.specs.NameForm.{label_in, name_in, labels_of, IsWire}
+use Rattle.dns_model.specs.Names.{Label, Labels, lowered, folded, wire, is_label, is_name, name_eq, at_or_above, parent}
+use Rattle.dns_model.specs.NameForm.{label_in, labels_of, IsWire}
 use Rattle.dns_model.proofs.WireLemmas.{first_of_some, second_of_some, label_in-label, wire-labels_of, is_name-labels_of, labels_of-wire, IsWire-wire}
 
 -- ---- in wire form

@@ -18,3 +18,6 @@ pub mod AboveLemmas
 pub mod NamesInOrder
 pub mod CommonAncestors
 pub mod WildcardLemmas
+pub mod ShapeSteps
+pub mod ViewSteps
+pub mod HashTextLemmas

@@ -1,20 +1,19 @@
 -- Names with A to Z folded: their wire forms, their equality and what is fed to a hasher.
-use Rattle.std.proofs.Common.{◌≡◌, ℕ, zero, suc, ◌+◌, ◌≤◌, ◌<◌, Bool, true, false, ◌&&◌, cond, List, [], ◌∷◌, ◌++◌, map, length, take, fold, get_or, refl, sym, ap, ◌∙◌, subst, arith, length-append, Decides, IsTrue}
+use Rattle.std.proofs.Common.{◌≡◌, ℕ, ◌+◌, ◌≤◌, ◌<◌, Bool, true, List, [], ◌∷◌, ◌++◌, map, length, take, fold, get_or, refl, sym, ap, ◌∙◌, arith, length-append, Decides, IsTrue}
 use Rattle.std.specs.Prelude.{nat_le, nat_lt, nat_eq, ◌↔◌}
 use Rattle.std.specs.Char.{to_ascii_lowercase}
-use Rattle.std.specs.Ordering.{on}
 use Rattle.std.specs.Cmp.{IsEquivalence}
 use Rattle.std.specs.Cmp.Lexicographic.{pointwise}
 use Rattle.std.specs.List.{list_all, flat_map}
 use Rattle.std.specs.Hash as fed
-use Rattle.std.specs.Hash.{HashWrites, Alike, same_Alike, on_Alike}
+use Rattle.std.specs.Hash.{Alike, same_Alike, on_Alike}
 use Rattle.std.proofs.lemmas.Bool.{and_parts}
 use Rattle.std.proofs.lemmas.Bool.Decides.{nat_tests, same_from_decides, Decides-eqb}
 use Rattle.std.proofs.lemmas.Cmp.{on_equiv, lists_equiv, nat_list_eq_equiv}
 use Rattle.std.proofs.lemmas.List.{map-append, length-map, take_more}
 use Rattle.std.proofs.lemmas.Grind.{fold-append, flat_map-append}
 use Rattle.std.proofs.lemmas.Slice.Eq.{slice_eq-Decides, bytes_eq-Decides}
-use Rattle.dns_model.specs.Names.{Label, Labels, lowered, folded, name_eq, name_input, wire, is_label, is_name}
+use Rattle.dns_model.specs.Names.{Labels, lowered, folded, name_eq, name_input, wire, is_label, is_name}
 use Rattle.dns_model.specs.NameForm.{labels_of, IsWire}
 use Rattle.dns_model.proofs.WireLemmas.{wire-labels_of, is_name-labels_of, wire_injective}
 

@@ -70,12 +70,12 @@ le_if_alike one two same = ap is_le (order_if_alike one two same)
 pub not_both : (one two : Labels) → name_cmp one two ≡ Less → is_le (name_cmp two one) ≡ true → ⊥
 not_both one two lt le = true≢false (sym (ap is_lt lt) ∙ not_lt_from_le two one le)
 
-less_back : (o : Ordering) → is_lt o ≡ true → is_lt (ordering_reverse o) ≡ false
+pub less_back : (o : Ordering) → is_lt o ≡ true → is_lt (ordering_reverse o) ≡ false
 less_back Less h = refl
 less_back Equal h = refl
 less_back Greater h = cc
 
-less_past : {K : Type 0} (R : K → K → Ordering) → IsTotalOrder R → (x y z : K) (o : Ordering) → R x y ≡ o → is_lt o ≡ false → is_lt (R x z) ≡ true → is_lt (R y z) ≡ true
+pub less_past : {K : Type 0} (R : K → K → Ordering) → IsTotalOrder R → (x y z : K) (o : Ordering) → R x y ≡ o → is_lt o ≡ false → is_lt (R x z) ≡ true → is_lt (R y z) ≡ true
 less_past R t x y z Less is differs holds = cc
 less_past R t x y z Equal is differs holds = sym (ap is_lt (t.congr x y z is)) ∙ holds
 less_past R t x y z Greater is differs holds =

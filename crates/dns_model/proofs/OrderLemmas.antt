@@ -1,14 +1,13 @@
 -- The canonical order of names is total and agrees with their equality; how it is found from the leaf on (RFC 4034, 6.1).
-use Rattle.std.proofs.Common.{◌≡◌, ℕ, zero, suc, ◌+◌, ◌-◌, ◌≤◌, ◌<◌, Bool, true, false, cond, List, [], ◌∷◌, ◌++◌, map, reverse, length, take, drop, refl, sym, ap, ◌∙◌, subst, arith, Decides, Ordering}
+use Rattle.std.proofs.Common.{◌≡◌, ℕ, ◌-◌, ◌<◌, List, [], ◌∷◌, ◌++◌, reverse, length, take, drop, refl, sym, ap, ◌∙◌, arith, Decides, Ordering}
 use Rattle.std.specs.Prelude.{nat_eq}
-use Rattle.std.specs.Char.{to_ascii_lowercase}
 use Rattle.std.specs.Cmp.{IsTotalOrder}
 use Rattle.std.specs.Cmp.Lexicographic.{pointwise, slice_cmp, lists_ties}
-use Rattle.std.specs.Ordering.{nat_cmp, on, is_eq, eq_by_cmp, ordering_then}
+use Rattle.std.specs.Ordering.{nat_cmp, is_eq, eq_by_cmp, ordering_then}
 use Rattle.std.specs.declared.cmp.Ordering.TheVariants.{Less, Equal, Greater}
 use Rattle.std.proofs.lemmas.Bool.Decides.{nat_tests, same_from_decides}
 use Rattle.std.proofs.lemmas.Cmp.{on_total, lists_total, nat_list_cmp_total}
-use Rattle.std.proofs.lemmas.List.{reverse-append, reverse-reverse, length-reverse, length-append, length-map, take-append-drop, length-drop, length-take-le, map-append, append-nil}
+use Rattle.std.proofs.lemmas.List.{reverse-append, reverse-reverse, length-reverse, length-map, take-append-drop, length-drop, length-take-le, map-append, append-nil}
 use Rattle.std.proofs.lemmas.Slice.Eq.{slice_eq-Decides, bytes_eq-Decides}
 use Rattle.dns_model.specs.Names.{Label, Labels, lowered, folded, name_eq, name_cmp}
 
@@ -40,13 +39,13 @@ name_ties a b =
 
 -- ---- from the leaf on
 
-then_assoc : (p q r : Ordering) → ordering_then p (ordering_then q r) ≡ ordering_then (ordering_then p q) r
+pub then_assoc : (p q r : Ordering) → ordering_then p (ordering_then q r) ≡ ordering_then (ordering_then p q) r
 then_assoc Less q r = refl
 then_assoc Equal q r = refl
 then_assoc Greater q r = refl
 
 -- lists of one length, each with a list after it
-cmp-append : {X : Type 0} (R : X → X → Ordering) (xs ys us vs : List X) → length xs ≡ length ys
+pub cmp-append : {X : Type 0} (R : X → X → Ordering) (xs ys us vs : List X) → length xs ≡ length ys
     → slice_cmp R (xs ++ us) (ys ++ vs) ≡ ordering_then (slice_cmp R xs ys) (slice_cmp R us vs)
 cmp-append R [] [] us vs same = refl
 cmp-append R [] (y ∷ ys) us vs same = absurd (omega arith)
@@ -54,7 +53,7 @@ cmp-append R (x ∷ xs) [] us vs same = absurd (omega arith)
 cmp-append R (x ∷ xs) (y ∷ ys) us vs same =
     ap (ordering_then (R x y)) (cmp-append R xs ys us vs (omega arith)) ∙ then_assoc (R x y) (slice_cmp R xs ys) (slice_cmp R us vs)
 
-then_Equal : (p : Ordering) → ordering_then p Equal ≡ p
+pub then_Equal : (p : Ordering) → ordering_then p Equal ≡ p
 then_Equal Less = refl
 then_Equal Equal = refl
 then_Equal Greater = refl

@@ -1,5 +1,5 @@
 -- What a record says as one of a type, its rdata says.
-use Rattle.std.proofs.Common.{◌≡◌, ◌==◌, Some, refl}
+use Rattle.std.proofs.Common.{◌≡◌, ◌==◌, Some}
 use Rattle.dns_model.specs.Types.{type_rrsig, type_dnskey}
 use Rattle.dns_model.specs.Views.{RrsigValue, DnskeyValue, rrsig_in, dnskey_in}
 use Rattle.dns_model.specs.Records.{Rr}

@@ -12,11 +12,12 @@ use Rattle.dns_model.specs.Names.{Labels, name_eq}
 use Rattle.dns_model.specs.Types.{type_rrsig}
 use Rattle.dns_model.specs.Views.{rrsig_in}
 use Rattle.dns_model.specs.Records.{Rr, RrSet}
-use Rattle.dns_model.specs.Sections.{same_set, is_signature, covers_rtype, covers, leaders, unsigned_part, set_of, sets_of}
+use Rattle.dns_model.specs.Sections.{same_set, is_signature, covers, leaders, unsigned_part, set_of, sets_of}
 use Rattle.dns_model.specs.Chains.{is_nonempty, rdatas_of}
-use Rattle.dns_model.specs.SoundAnswers.{Told, Placed, in_section, placed_sets, section_of, section_eq}
+use Rattle.dns_model.specs.SoundAnswers.{Told, PlacedSet, in_section, placed_sets, section_of, section_eq}
 use Rattle.dns_model.proofs.NameLemmas.{name_equiv}
 use Rattle.dns_model.proofs.EachLemmas.{each_more, each_of, each_both, each_append, each_front, each_back, each_map, each_unmap, each_filter, each_passes, filter-map, map_agree, map-map, Apart, apart_filter, apart_map, apart_agree, apart_append, filter_none}
+use Rattle.dns_model.proofs.ViewSteps.{covers_rtype}
 
 -- ---- equality of names and of numbers
 
@@ -154,7 +155,7 @@ proper_sets section =
     (each_more (λ r. (not (is_signature r) ≡ true) × P r) (λ r. IsProper (set_of section r)) (proper section) (leaders (unsigned_part section))
     (each_plain_leader P section (each_listed section)))
 
-each_placed : (P : Placed → Type 0) (told : Told) → ((section : Section) → AllByRecursion (λ set. P (in_section section set)) (sets_of (section_of told section)))
+each_placed : (P : PlacedSet → Type 0) (told : Told) → ((section : Section) → AllByRecursion (λ set. P (in_section section set)) (sets_of (section_of told section)))
     → AllByRecursion P (placed_sets told)
 each_placed P told h =
     let one = map (in_section Answer) (sets_of told.answers) in
@@ -165,7 +166,7 @@ each_placed P told h =
     (each_map P (in_section Additional) (sets_of told.additionals) (h Additional))
 
 -- what is shown of each set of a message is shown of those of a section
-pub placed_each : (P : Placed → Type 0) (told : Told) (section : Section) → AllByRecursion P (placed_sets told)
+pub placed_each : (P : PlacedSet → Type 0) (told : Told) (section : Section) → AllByRecursion P (placed_sets told)
     → AllByRecursion (λ set. P (in_section section set)) (sets_of (section_of told section))
 placed_each P told Answer h =
     each_unmap P (in_section Answer) (sets_of told.answers)
@@ -238,7 +239,7 @@ unfolding sets_of
 sets_apart section =
     apart_map same_key (set_of section) (leaders (unsigned_part section)) (leaders_apart (unsigned_part section))
 
-abbrev pub same_place : Placed → Placed → Bool
+abbrev pub same_place : PlacedSet → PlacedSet → Bool
 same_place a b = section_eq a.section b.section && same_key a.set b.set
 
 -- sets of two sections

@@ -1,11 +1,13 @@
 -- A view reads an rdata exactly where the rdata has its type's shape.
-use Rattle.std.specs.Prelude.{◌≡◌, ℕ, ◌-◌, Bool, true, false, not, ◌&&◌, ◌==◌, nat_le, nat_lt, List, [], ◌∷◌, drop, take, length, Option, None, Some, is_some, if◌then◌else◌, refl}
+use Rattle.std.specs.Prelude.{◌≡◌, ℕ, ◌-◌, Bool, true, false, not, ◌&&◌, ◌==◌, nat_le, nat_lt, List, [], ◌∷◌, drop, take, length, Option, None, Some, is_some, if◌then◌else◌, refl, option_map}
 use Rattle.std.proofs.Common.{sym, ◌∙◌, ap, true≢false, arith}
 use Rattle.std.proofs.lemmas.List.{length-drop}
 use Rattle.dns_model.specs.Names.{Labels}
 use Rattle.dns_model.specs.NameForm.{name_in, whole_name}
-use Rattle.dns_model.specs.Shapes.{Field, Octets, DomainName, CharacterString, TypeBitmap, Remainder, Part, Plain, Named, named_front, after_part, with_part, parts_in, shape_of, has_shape, is_bitmap, counted_in, counted_front}
-use Rattle.dns_model.specs.Views.{rrsig_in, rrsig_from, dnskey_in, ds_in, nsec_in, nsec_from, nsec3_in, nsec3_from, nsec3_after_salt, soa_in, soa_numbers, soa_after_mname, soa_from, ns_in}
+use Rattle.dns_model.specs.Shapes.{Octets, DomainName, CharacterString, TypeBitmap, Remainder, Part, Plain, Named, parts_in, shape_of, has_shape, is_bitmap, counted_in}
+use Rattle.dns_model.specs.Views.{rrsig_in, dnskey_in, ds_in, nsec_in, nsec_from, nsec3_in, nsec3_from, nsec3_after_salt, soa_in, soa_numbers, ns_in, SoaValue, RrsigValue, rrsig_of}
+use Rattle.dns_model.proofs.ShapeSteps.{named_front, after_part, with_part, counted_front}
+use Rattle.dns_model.specs.OptionSteps.{◌>>=◌}
 
 -- the two tests of length say the same
 short_or_long : (n k : ℕ) → nat_lt n k ≡ not (nat_le k n)
@@ -33,7 +35,7 @@ unfolding ds_in parts_in shape_of
 ds_has_shape rdata = front _ _ (Plain (take 4 rdata)) (drop 4 rdata) _ (parts_in (Remainder ∷ [])) (short_or_long (length rdata) 4) refl
 
 signed_by : (rdata : List ℕ) (n : Option (Labels × List ℕ))
-    → is_some (rrsig_from rdata n) ≡ is_some (after_part (named_front n) (parts_in (Remainder ∷ [])))
+    → is_some (option_map (λ signer. rrsig_of rdata signer.0 signer.1) n) ≡ is_some (after_part (named_front n) (parts_in (Remainder ∷ [])))
 unfolding parts_in
 signed_by rdata None = refl
 signed_by rdata (Some (name, rest)) = refl
@@ -106,6 +108,12 @@ twenty_after mname rname rest =
     ∙ ap (λ n. nat_le 20 (length rest) && (n == 0)) (sym (length-drop 20 rest))
     ∙ ap (λ b. nat_le 20 (length rest) && b) (ended (drop 20 rest))
     ∙ sym (after_if (nat_le 20 (length rest)) (Plain (take 20 rest)) (drop 20 rest) (parts_in []))
+
+abbrev soa_after_mname : Labels → Option (Labels × List ℕ) → Option SoaValue
+soa_after_mname mname rname = rname >>= λ n. soa_numbers mname n.0 n.1
+
+abbrev soa_from : Option (Labels × List ℕ) → Option SoaValue
+soa_from mname = mname >>= λ n. soa_after_mname n.0 (name_in n.1)
 
 mailbox_after : (mname : Labels) (n : Option (Labels × List ℕ))
     → is_some (soa_after_mname mname n) ≡ is_some (after_part (named_front n) (parts_in (Octets 20 ∷ [])))

@@ -10,7 +10,7 @@ use Rattle.dns_model.specs.NameForm.{name_in}
 use Rattle.dns_model.proofs.LabelSteps.{is_name-above, label_size}
 use Rattle.dns_model.proofs.WireLemmas.{name_in-wire}
 
-star_fits : (label : Label) (name : Labels) → is_name (label ∷ name) ≡ true → is_name (star name) ≡ true
+pub star_fits : (label : Label) (name : Labels) → is_name (label ∷ name) ≡ true → is_name (star name) ≡ true
 star_fits label name good =
     let parts = and_parts (list_all is_label (label ∷ name)) (nat_le (length (wire (label ∷ name))) 255) good in
     let halves = and_parts (is_label label) (list_all is_label name) parts.0 in

@@ -1,14 +1,14 @@
 -- A name's wire form has one reading: what is written is read, and what is read was written.
-use Rattle.std.proofs.Common.{◌≡◌, ℕ, zero, suc, ◌+◌, ◌≤◌, ◌<◌, Bool, true, false, ◌&&◌, cond, List, [], ◌∷◌, ◌++◌, length, take, drop, Option, None, Some, refl, sym, ap, ◌∙◌, subst, arith, length-append}
-use Rattle.std.specs.Prelude.{nat_le, nat_lt}
+use Rattle.std.proofs.Common.{◌≡◌, ℕ, ◌≤◌, ◌<◌, Bool, true, false, ◌&&◌, cond, List, [], ◌∷◌, ◌++◌, length, take, drop, Option, None, Some, refl, sym, ap, ◌∙◌, arith, length-append}
+use Rattle.std.specs.Prelude.{nat_le, nat_lt, option_map}
 use Rattle.std.specs.List.{list_all}
-use Rattle.std.specs.Option.{option_map_or}
 use Rattle.std.proofs.lemmas.Bool.{and_parts}
 use Rattle.std.proofs.lemmas.Bool.Decides.{nat_tests}
 use Rattle.std.proofs.lemmas.List.{append_assoc, append-nil, take-append-drop, length-take-le}
 use Rattle.dns_model.specs.Names.{Label, Labels, wire, is_label, is_name}
-use Rattle.dns_model.specs.NameForm.{label_in, with_front_label, after_label, labels_in, within_limit, name_in, labels_of, IsWire}
+use Rattle.dns_model.specs.NameForm.{label_in, after_label, labels_in, name_in, labels_of, IsWire}
 use Rattle.dns_model.proofs.Lists.{take-front, drop-front}
+use Rattle.dns_model.specs.OptionSteps.{◌>>=◌}
 
 -- what two equal pairs in an option have in common
 pub first_of_some : {X Y : Type 0} {p q : X × Y} → Some p ≡ Some q → p.0 ≡ q.0
@@ -16,6 +16,13 @@ first_of_some {X} {Y} {p} {q} h = let e : p ≡ q = cc in ap (λ (x : X × Y). x
 
 pub second_of_some : {X Y : Type 0} {p q : X × Y} → Some p ≡ Some q → p.1 ≡ q.1
 second_of_some {X} {Y} {p} {q} h = let e : p ≡ q = cc in ap (λ (x : X × Y). x.1) e
+
+abbrev pub with_front_label : Label → Option (Labels × List ℕ) → Option (Labels × List ℕ)
+with_front_label label name = option_map (λ n. (label ∷ n.0, n.1)) name
+
+-- what was read, where it isn't too long
+abbrev pub within_limit : Option (Labels × List ℕ) → Option (Labels × List ℕ)
+within_limit name = name >>= λ n. cond (nat_le (length (wire n.0)) 255) (Some n) None
 
 -- a label that stands at the front is read
 pub label_in-label : (label rest : List ℕ) → length label ≤ 63 → label_in (length label ∷ (label ++ rest)) ≡ Some (label, rest)

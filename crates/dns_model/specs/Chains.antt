@@ -1,5 +1,5 @@
 -- Chains of trust (RFC 4035, 5.2 and 5.3).
-use Rattle.std.specs.Prelude.{ℕ, ◌-◌, Bool, true, false, not, ◌==◌, ◌&&◌, ◌||◌, nat_le, nat_lt, List, [], ◌∷◌, ◌++◌, map, length, Option, None, Some, is_some, slice_get, if◌then◌else◌}
+use Rattle.std.specs.Prelude.{ℕ, Bool, true, false, not, ◌==◌, ◌&&◌, ◌||◌, nat_le, List, [], ◌∷◌, ◌++◌, map, Option, None, Some, is_some, slice_get, if◌then◌else◌}
 use Rattle.std.specs.List.{list_any}
 use Rattle.dns_model.specs.Names.{Labels, name_eq, at_or_above, strictly_above, parent, num_labels}
 use Rattle.dns_model.specs.Types.{type_ds, type_rrsig, type_nsec, type_dnskey, type_nsec3}
@@ -8,6 +8,7 @@ use Rattle.dns_model.specs.Serial.{timely}
 use Rattle.dns_model.specs.Signing.{signed_bytes, key_tag_of}
 use Rattle.dns_model.specs.Keys.{VerifierAnswers, AnchorValue, bytes_eq, anchored, matches, usable_key}
 use Rattle.dns_model.specs.Records.{Rr, RrSet}
+use Rattle.std.specs.Cmp.Lexicographic.{pointwise}
 
 -- one step of a chain; the numbers are those of earlier links
 pub data LinkValue : Type 0 where
@@ -43,39 +44,31 @@ has_bytes rdatas rdata = list_any (bytes_eq rdata) rdatas
 
 -- the link shows that the owner's zone trusts this key
 abbrev pub shows_key : Labels → ℕ → List ℕ → Option LinkValue → Bool
-shows_key owner class key None = false
 shows_key owner class key (Some (Anchored o c k)) = name_eq owner o && ((class == c) && bytes_eq key k)
 shows_key owner class key (Some (Matched o c k ds_link ds)) = name_eq owner o && ((class == c) && bytes_eq key k)
-shows_key owner class key (Some (KeySet o c keys links)) = false
-shows_key owner class key (Some (Signed o c rtype rdatas sig key_link k)) = false
+shows_key owner class key _ = false
 
 -- the link shows a DS of the owner
 abbrev pub shows_ds : Labels → ℕ → List ℕ → Option LinkValue → Bool
-shows_ds owner class ds None = false
-shows_ds owner class ds (Some (Anchored o c key)) = false
-shows_ds owner class ds (Some (Matched o c key ds_link d)) = false
-shows_ds owner class ds (Some (KeySet o c keys links)) = false
 shows_ds owner class ds (Some (Signed o c rtype rdatas sig key_link key)) =
     (rtype == type_ds) && (name_eq owner o && ((class == c) && has_bytes rdatas ds))
+shows_ds owner class ds _ = false
 
 -- the link shows a key set of the owner with this key in it
 abbrev pub shows_member : Labels → ℕ → List ℕ → Option LinkValue → Bool
-shows_member owner class key None = false
-shows_member owner class key (Some (Anchored o c k)) = false
-shows_member owner class key (Some (Matched o c k ds_link ds)) = false
 shows_member owner class key (Some (KeySet o c keys links)) = name_eq owner o && ((class == c) && has_bytes keys key)
 shows_member owner class key (Some (Signed o c rtype rdatas sig key_link k)) =
     (rtype == type_dnskey) && (name_eq owner o && ((class == c) && has_bytes rdatas key))
+shows_member owner class key _ = false
 
 -- each key of a set is shown by the link with its number
 unfoldable pub all_shown : List LinkValue → Labels → ℕ → List (List ℕ) → List ℕ → Bool
 all_shown earlier owner class [] [] = true
-all_shown earlier owner class [] (number ∷ numbers) = false
-all_shown earlier owner class (key ∷ keys) [] = false
 all_shown earlier owner class (key ∷ keys) (number ∷ numbers) =
     shows_key owner class key (slice_get earlier number) && all_shown earlier owner class keys numbers
+all_shown earlier owner class _ _ = false
 
-abbrev pub is_nonempty : List (List ℕ) → Bool
+abbrev pub is_nonempty : {X : Type 0} → List X → Bool
 is_nonempty [] = false
 is_nonempty (x ∷ xs) = true
 
@@ -125,13 +118,9 @@ unfoldable pub links_hold : Judge → List LinkValue → List LinkValue → Bool
 links_hold j earlier [] = true
 links_hold j earlier (link ∷ links) = link_holds j earlier link && links_hold j (earlier ++ link ∷ []) links
 
-abbrev pub is_chain : List LinkValue → Bool
-is_chain [] = false
-is_chain (link ∷ links) = true
-
 -- a chain has a link, and each link holds
 abbrev pub justified : Judge → List LinkValue → Bool
-justified j chain = is_chain chain && links_hold j [] chain
+justified j chain = is_nonempty chain && links_hold j [] chain
 
 unfoldable pub last_link : List LinkValue → Option LinkValue
 last_link [] = None
@@ -140,23 +129,18 @@ last_link (link ∷ next ∷ links) = last_link (next ∷ links)
 
 -- the same byte lists in the same order
 abbrev pub same_rdatas : List (List ℕ) → List (List ℕ) → Bool
-same_rdatas [] [] = true
-same_rdatas [] (y ∷ ys) = false
-same_rdatas (x ∷ xs) [] = false
-same_rdatas (x ∷ xs) (y ∷ ys) = bytes_eq x y && same_rdatas xs ys
+same_rdatas = pointwise bytes_eq
 
 abbrev pub rdatas_of : List Rr → List (List ℕ)
 rdatas_of records = map (λ r. r.rdata) records
 
 -- the link is about a set of this owner, class, type and rdatas
 abbrev pub link_is_for : RrSet → Option LinkValue → Bool
-link_is_for set None = false
-link_is_for set (Some (Anchored owner class key)) = false
-link_is_for set (Some (Matched owner class key ds_link ds)) = false
 link_is_for set (Some (KeySet owner class keys links)) =
     (set.rtype == type_dnskey) && (name_eq set.owner owner && ((set.class == class) && same_rdatas (rdatas_of set.records) keys))
 link_is_for set (Some (Signed owner class rtype rdatas sig key_link key)) =
     (set.rtype == rtype) && (name_eq set.owner owner && ((set.class == class) && same_rdatas (rdatas_of set.records) rdatas))
+link_is_for set _ = false
 
 -- a chain ends at a set
 abbrev pub ends_at : List LinkValue → RrSet → Bool

@@ -6,6 +6,7 @@ use Rattle.std.specs.Prelude.{nat_eq}
 use Rattle.dns_model.specs.Names.{Labels, name_eq}
 use Rattle.dns_model.specs.Views.{DnskeyValue, DsValue, dnskey_in, ds_in, is_zone_key, is_revoked}
 use Rattle.dns_model.specs.Signing.{key_tag_of, ds_digest}
+use Rattle.std.specs.Option.{option_map_or}
 
 -- byte lists compare byte for byte
 abbrev pub bytes_eq : List ℕ → List ℕ → Bool
@@ -15,6 +16,13 @@ bytes_eq = pointwise nat_eq
 pub record VerifierAnswers : Type 0 where
   pub supports : ℕ → Bool
   pub accepts : ℕ → List ℕ → List ℕ → List ℕ → Bool
+
+-- a signature over bytes that a verifier accepts as a key's, under an algorithm
+pub record AcceptedSignatureValue : Type 0 where
+  pub algorithm : ℕ
+  pub key : List ℕ
+  pub bytes : List ℕ
+  pub signature : List ℕ
 
 -- a trust anchor: a zone's key, its flags aside
 pub record AnchorValue : Type 0 where
@@ -29,27 +37,18 @@ is_anchor owner algorithm key anchor =
 abbrev pub holds_anchor : List AnchorValue → Labels → ℕ → List ℕ → Bool
 holds_anchor anchors owner algorithm key = list_any (is_anchor owner algorithm key) anchors
 
-abbrev pub anchored_by : List AnchorValue → Labels → Option DnskeyValue → Bool
-anchored_by anchors owner None = false
-anchored_by anchors owner (Some key) = holds_anchor anchors owner key.algorithm key.key
-
 -- the key can be read, and is an anchor of its owner
 abbrev pub anchored : List AnchorValue → Labels → List ℕ → Bool
-anchored anchors owner key = anchored_by anchors owner (dnskey_in key)
-
-abbrev pub is_digest : Option (List ℕ) → List ℕ → Bool
-is_digest None digest = false
-is_digest (Some expected) digest = bytes_eq expected digest
+anchored anchors owner key = option_map_or (λ k. holds_anchor anchors owner k.algorithm k.key) (dnskey_in key) false
 
 -- a DS covers a key: its digest type is supported and the digest is that of owner and key
 abbrev pub covers_key : Labels → List ℕ → DsValue → Bool
-covers_key owner key ds = is_digest (ds_digest ds.digest_type owner key) ds.digest
+covers_key owner key ds = option_map_or (λ expected. bytes_eq expected ds.digest) (ds_digest ds.digest_type owner key) false
 
 abbrev pub matches_read : VerifierAnswers → Labels → List ℕ → Option DnskeyValue → Option DsValue → Bool
-matches_read answers owner rdata None ds = false
-matches_read answers owner rdata (Some key) None = false
 matches_read answers owner rdata (Some key) (Some ds) =
     (key.algorithm == ds.algorithm) && ((key_tag_of rdata == ds.key_tag) && (answers.supports ds.algorithm && covers_key owner rdata ds))
+matches_read answers owner rdata _ _ = false
 
 -- a DS rdata matches a key rdata of that owner
 abbrev pub matches : VerifierAnswers → Labels → List ℕ → List ℕ → Bool

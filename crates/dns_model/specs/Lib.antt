@@ -1,3 +1,6 @@
+pub mod OptionSteps
+pub mod ResultSteps
+pub mod Paired
 pub mod Gives
 pub mod Counts
 pub mod Bytes
@@ -8,6 +11,7 @@ pub mod Types
 pub mod Shapes
 pub mod Views
 pub mod Owned
+pub mod Nsec3Hash
 pub mod Records
 pub mod RecordViews
 pub mod Sections

@@ -5,6 +5,8 @@ use Rattle.std.specs.List.{flat_map}
 use Rattle.dns_model.specs.Names.{Label, Labels, wire}
 use Rattle.dns_model.specs.declared.name_error.NameError.{NameError}
 use Rattle.dns_model.specs.declared.name_error.NameError.TheVariants.{EmptyLabel, LongLabel, LongName, BadEscape}
+use Rattle.dns_model.specs.ResultSteps.{◌>>=◌}
+use Rattle.std.specs.Option.{option_map_or}
 
 -- the bytes that stand for themselves, 0x21 to 0x7e, the dot and the backslash among them
 abbrev pub is_printable : ℕ → Bool
@@ -47,9 +49,8 @@ number_of_digits a b c = (a - 48) * 100 + (b - 48) * 10 + (c - 48)
 
 -- the byte of three digits, the first of them given, and the text after them
 unfoldable pub number_in : ℕ → List ℕ → Option (ℕ × List ℕ)
-number_in a [] = None
-number_in a (b ∷ []) = None
 number_in a (b ∷ c ∷ rest) = if is_digit b && is_digit c && nat_le (number_of_digits a b c) 255 then Some (number_of_digits a b c, rest) else None
+number_in a _ = None
 
 -- the byte of an escape, after its backslash, and the text after it
 unfoldable pub escape_in : List ℕ → Option (ℕ × List ℕ)
@@ -64,29 +65,22 @@ byte_in byte rest = if byte == backslash then escape_in rest else (if is_printab
 abbrev pub Read : Type 0
 Read = Result (Labels × Bool) NameError
 
--- go on where there is no fault
-abbrev pub and_then : {X Y : Type 0} → Result X NameError → (X → Result Y NameError) → Result Y NameError
-and_then (Ok x) more = more x
-and_then (Err fault) more = Err fault
-
 abbrev pub label_checked : Label → Result Label NameError
 label_checked label = if length label == 0 then Err EmptyLabel else (if nat_lt 63 (length label) then Err LongLabel else Ok label)
 
 -- a label is checked where it ends
 abbrev pub ended : Label → Read → Read
-ended label more = and_then (label_checked label) (λ first. and_then more (λ read. Ok (first ∷ read.0, read.1)))
+ended label more = label_checked label >>= λ first. more >>= λ read. Ok (first ∷ read.0, read.1)
 
 abbrev pub after_dot : (Label → List ℕ → Read) → List ℕ → Read
 after_dot more [] = Ok ([], true)
 after_dot more (byte ∷ rest) = more [] (byte ∷ rest)
 
-abbrev pub after_byte : (Label → List ℕ → Read) → Label → Option (ℕ × List ℕ) → Read
-after_byte more label None = Err BadEscape
-after_byte more label (Some (byte, rest)) = more (label ++ byte ∷ []) rest
-
 abbrev pub step_in : (Label → List ℕ → Read) → Label → List ℕ → Read
 step_in more label [] = ended label (Ok ([], false))
-step_in more label (byte ∷ rest) = if byte == dot then ended label (after_dot more rest) else after_byte more label (byte_in byte rest)
+step_in more label (byte ∷ rest) =
+    if byte == dot then ended label (after_dot more rest)
+    else option_map_or (λ b. more (label ++ b.0 ∷ []) b.1) (byte_in byte rest) (Err BadEscape)
 
 -- from left to right, after those bytes of a label that were read; the first list is longer than the text, and only bounds the steps
 unfoldable pub labels_read : List ℕ → Label → List ℕ → Read
@@ -103,7 +97,7 @@ within name = if nat_le (length (wire name)) 255 then Ok name else Err LongName
 
 -- the name that a text gives
 abbrev pub read_name : List ℕ → Result Labels NameError
-read_name text = and_then (text_read text) (λ read. within read.0)
+read_name text = text_read text >>= λ read. within read.0
 
 -- the labels of an origin follow where there was no last dot
 abbrev pub joined : Option Labels → Labels → Bool → Labels
@@ -112,19 +106,19 @@ joined (Some origin) name dotted = if dotted then name else name ++ origin
 
 -- the name that a text gives below an origin
 abbrev pub read_below : Option Labels → List ℕ → Result Labels NameError
-read_below origin text = and_then (text_read text) (λ read. within (joined origin read.0 read.1))
+read_below origin text = text_read text >>= λ read. within (joined origin read.0 read.1)
 
 -- ---- from labels
 
 -- each label in order
 abbrev pub labels_checked : Labels → Result Labels NameError
 labels_checked [] = Ok []
-labels_checked (label ∷ name) = and_then (label_checked label) (λ first. and_then (labels_checked name) (λ more. Ok (first ∷ more)))
+labels_checked (label ∷ name) = label_checked label >>= λ first. labels_checked name >>= λ more. Ok (first ∷ more)
 
 -- the name of these labels
 abbrev pub name_from : Labels → Result Labels NameError
-name_from labels = and_then (labels_checked labels) within
+name_from labels = labels_checked labels >>= within
 
 -- the name with one more label in front
 abbrev pub name_with : Label → Labels → Result Labels NameError
-name_with label name = and_then (label_checked label) (λ first. within (first ∷ name))
+name_with label name = label_checked label >>= λ first. within (first ∷ name)

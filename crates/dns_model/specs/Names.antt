@@ -1,5 +1,5 @@
 -- Domain names as lists of labels, the leaf first, and their order (RFC 1035, 3.1; RFC 4034, 6.1).
-use Rattle.std.specs.Prelude.{ℕ, ◌-◌, ◌+◌, Bool, true, false, not, ◌&&◌, List, [], ◌∷◌, ◌++◌, map, reverse, length, drop, nat_eq, nat_le, nat_lt, if◌then◌else◌}
+use Rattle.std.specs.Prelude.{ℕ, ◌-◌, Bool, true, false, not, ◌&&◌, List, [], ◌∷◌, ◌++◌, map, reverse, length, drop, nat_eq, nat_le, nat_lt, if◌then◌else◌}
 use Rattle.std.specs.Char.{to_ascii_lowercase}
 use Rattle.std.specs.Ordering.{nat_cmp, on, is_lt}
 use Rattle.std.specs.declared.cmp.Ordering.{Ordering}

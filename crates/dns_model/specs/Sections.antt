@@ -1,11 +1,12 @@
 -- The RRsets of a section and their signatures (RFC 2181, 5; RFC 4035, 5.3.1).
 use Rattle.std.specs.Prelude.{ℕ, Bool, true, false, not, ◌==◌, ◌&&◌, List, [], ◌∷◌, map, Option, None, Some}
 use Rattle.std.specs.List.{filter}
-use Rattle.dns_model.specs.Names.{Labels, name_eq}
+use Rattle.dns_model.specs.Names.{name_eq}
 use Rattle.dns_model.specs.Types.{type_rrsig}
 use Rattle.dns_model.specs.Views.{RrsigValue, rrsig_in}
 use Rattle.dns_model.specs.Records.{Rr, RrSet}
 use Rattle.dns_model.specs.Keys.{bytes_eq}
+use Rattle.std.specs.Option.{option_map_or}
 
 -- nothing stands in a section, or in another list
 abbrev pub is_empty : {X : Type 0} → List X → Bool
@@ -23,13 +24,11 @@ same_record a b = name_eq a.owner b.owner && ((a.rtype == b.rtype) && ((a.class 
 abbrev pub is_signature : Rr → Bool
 is_signature r = r.rtype == type_rrsig
 
-abbrev pub covers_rtype : ℕ → Option RrsigValue → Bool
-covers_rtype rtype None = false
-covers_rtype rtype (Some sig) = sig.covered == rtype
-
 -- a readable RRSIG of the record's owner that covers its type
 abbrev pub covers : Rr → Rr → Bool
-covers r signature = is_signature signature && (name_eq r.owner signature.owner && covers_rtype r.rtype (rrsig_in signature.rdata))
+covers r signature =
+    is_signature signature
+    && (name_eq r.owner signature.owner && option_map_or (λ sig. sig.covered == r.rtype) (rrsig_in signature.rdata) false)
 
 -- each record that no earlier one shares a set with
 unfoldable pub leaders : List Rr → List Rr

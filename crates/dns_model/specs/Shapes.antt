@@ -1,10 +1,11 @@
 -- What an rdata of each type is made of, names spelled out (RFC 1035, 3.3; RFC 4034; RFC 5155, 3).
-use Rattle.std.specs.Prelude.{ℕ, ◌/◌, ◌%◌, ◌-◌, ◌^◌, Bool, true, false, ◌==◌, ◌&&◌, ◌||◌, nat_le, nat_lt, List, [], ◌∷◌, length, take, drop, map, if◌then◌else◌, Option, None, Some, slice_index}
-use Rattle.std.specs.Option.{is_some}
+use Rattle.std.specs.Prelude.{ℕ, ◌/◌, ◌%◌, ◌-◌, ◌^◌, Bool, true, false, ◌==◌, ◌&&◌, ◌||◌, nat_le, nat_lt, List, [], ◌∷◌, length, take, drop, map, if◌then◌else◌, Option, None, Some, slice_index, option_map}
+use Rattle.std.specs.Option.{is_some, option_map_or}
 use Rattle.std.specs.List.{list_any, concat}
 use Rattle.dns_model.specs.Names.{Labels, folded, wire}
 use Rattle.dns_model.specs.NameForm.{name_in}
 use Rattle.dns_model.specs.Types.{type_a, type_ns, type_cname, type_soa, type_aaaa, type_dname, type_ds, type_rrsig, type_nsec, type_dnskey, type_nsec3}
+use Rattle.dns_model.specs.OptionSteps.{◌>>=◌}
 
 -- one field of an rdata
 pub data Field : Type 0 where
@@ -26,40 +27,29 @@ counted_in (size ∷ rest) = if nat_le size (length rest) then Some (take size r
 
 -- the window at the front, of 1 to 32 bytes, and the bytes after it
 unfoldable pub window_in : List ℕ → Option (Window × List ℕ)
-window_in [] = None
-window_in (number ∷ []) = None
 window_in (number ∷ size ∷ rest) =
     if nat_lt 0 size && nat_le size 32 && nat_le size (length rest)
     then Some (record { number = number; bits = take size rest }, drop size rest)
     else None
-
-abbrev pub with_window : Window → Option (List Window) → Option (List Window)
-with_window window None = None
-with_window window (Some windows) = Some (window ∷ windows)
-
-abbrev pub after_window : Option (Window × List ℕ) → (List ℕ → Option (List Window)) → Option (List Window)
-after_window None more = None
-after_window (Some (window, rest)) more = with_window window (more rest)
+window_in _ = None
 
 -- the row of windows that the bytes are; the first list only bounds how many are read
 unfoldable pub windows_in : List ℕ → List ℕ → Option (List Window)
 windows_in bound [] = Some []
 windows_in [] (byte ∷ bytes) = None
-windows_in (_ ∷ bound) (byte ∷ bytes) = after_window (window_in (byte ∷ bytes)) (windows_in bound)
+windows_in (_ ∷ bound) (byte ∷ bytes) = do
+  window ← window_in (byte ∷ bytes)
+  windows ← windows_in bound window.1
+  Some (window.0 ∷ windows)
 
 -- the windows' numbers rise
 abbrev pub are_rising : List Window → Bool
-are_rising [] = true
-are_rising (a ∷ []) = true
 are_rising (a ∷ b ∷ windows) = nat_lt a.number b.number && are_rising (b ∷ windows)
-
-abbrev pub are_rising_windows : Option (List Window) → Bool
-are_rising_windows None = false
-are_rising_windows (Some windows) = are_rising windows
+are_rising _ = true
 
 -- the bytes are a type bitmap
 unfoldable pub is_bitmap : List ℕ → Bool
-is_bitmap bytes = are_rising_windows (windows_in bytes bytes)
+is_bitmap bytes = option_map_or are_rising (windows_in bytes bytes) false
 
 -- bit 0 is the highest of the first byte
 abbrev pub has_bit : List ℕ → ℕ → Bool
@@ -84,35 +74,22 @@ pub data Part : Type 0 where
 abbrev pub plain_front : ℕ → List ℕ → Option (Part × List ℕ)
 plain_front n bytes = if nat_le n (length bytes) then Some (Plain (take n bytes), drop n bytes) else None
 
-abbrev pub named_front : Option (Labels × List ℕ) → Option (Part × List ℕ)
-named_front None = None
-named_front (Some (name, rest)) = Some (Named name, rest)
-
-abbrev pub counted_front : Option (List ℕ × List ℕ) → Option (Part × List ℕ)
-counted_front None = None
-counted_front (Some (text, rest)) = Some (Plain (length text ∷ text), rest)
-
 -- the part at the front that is a field, and the bytes after it
 abbrev pub part_in : Field → List ℕ → Option (Part × List ℕ)
 part_in (Octets n) bytes = plain_front n bytes
-part_in DomainName bytes = named_front (name_in bytes)
-part_in CharacterString bytes = counted_front (counted_in bytes)
+part_in DomainName bytes = option_map (λ name. (Named name.0, name.1)) (name_in bytes)
+part_in CharacterString bytes = option_map (λ text. (Plain (length text.0 ∷ text.0), text.1)) (counted_in bytes)
 part_in TypeBitmap bytes = if is_bitmap bytes then Some (Plain bytes, []) else None
 part_in Remainder bytes = Some (Plain bytes, [])
-
-abbrev pub with_part : Part → Option (List Part) → Option (List Part)
-with_part part None = None
-with_part part (Some parts) = Some (part ∷ parts)
-
-abbrev pub after_part : Option (Part × List ℕ) → (List ℕ → Option (List Part)) → Option (List Part)
-after_part None more = None
-after_part (Some (part, rest)) more = with_part part (more rest)
 
 -- the parts of an rdata that is exactly these fields
 unfoldable pub parts_in : List Field → List ℕ → Option (List Part)
 parts_in [] [] = Some []
 parts_in [] (byte ∷ bytes) = None
-parts_in (field ∷ fields) bytes = after_part (part_in field bytes) (parts_in fields)
+parts_in (field ∷ fields) bytes = do
+  part ← part_in field bytes
+  parts ← parts_in fields part.1
+  Some (part.0 ∷ parts)
 
 -- the fields of each type's rdata; a type that isn't here is opaque. Types that nothing else names stand by their numbers:
 -- PTR 12, MX 15, RP 17, AFSDB 18, RT 21, PX 26, SRV 33, NAPTR 35, KX 36
@@ -148,10 +125,9 @@ abbrev pub canonical_part : Part → List ℕ
 canonical_part (Plain bytes) = bytes
 canonical_part (Named name) = wire (folded name)
 
-abbrev pub canonical_parts : List ℕ → Option (List Part) → List ℕ
-canonical_parts rdata None = rdata
-canonical_parts rdata (Some parts) = concat (map canonical_part parts)
-
 -- an rdata with the names in it lower-cased where its type asks it; one that hasn't its type's shape stays (RFC 4034, 6.2)
 unfoldable pub canonical_form : ℕ → List ℕ → List ℕ
-canonical_form rtype rdata = if is_lowered_type rtype then canonical_parts rdata (parts_in (shape_of rtype) rdata) else rdata
+canonical_form rtype rdata =
+    if is_lowered_type rtype
+    then option_map_or (λ parts. concat (map canonical_part parts)) (parts_in (shape_of rtype) rdata) rdata
+    else rdata

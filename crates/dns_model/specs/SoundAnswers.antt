@@ -1,8 +1,8 @@
 -- What a reply tells, and when an answer is sound (RFC 4035, 4.3 and 5).
-use Rattle.std.specs.Prelude.{ℕ, ◌≡◌, ◌≤◌, ◌⊎◌, Bool, true, false, ◌==◌, ◌&&◌, ◌||◌, min, List, [], ◌∷◌, ◌++◌, map, count_by, Option, None, Some, if◌then◌else◌}
+use Rattle.std.specs.Prelude.{ℕ, ◌≡◌, ◌≤◌, Bool, true, false, ◌==◌, ◌&&◌, min, List, [], ◌∷◌, ◌++◌, map, count_by, Option, None, Some, if◌then◌else◌, option_and_then}
 use Rattle.std.specs.List.{filter, find, AllByRecursion}
 use Rattle.dns_model.specs.declared.proof.Proof.{Proof}
-use Rattle.dns_model.specs.declared.proof.Proof.TheVariants.{Secure, Insecure, Bogus, Indeterminate}
+use Rattle.dns_model.specs.declared.proof.Proof.TheVariants.{Secure, Indeterminate}
 use Rattle.dns_model.specs.declared.section.Section.{Section}
 use Rattle.dns_model.specs.declared.section.Section.TheVariants.{Answer, Authority, Additional}
 use Rattle.dns_model.specs.declared.denial.Denial.{Denial}
@@ -12,8 +12,10 @@ use Rattle.dns_model.specs.Views.{RrsigValue, rrsig_in}
 use Rattle.dns_model.specs.Serial.{seconds_left}
 use Rattle.dns_model.specs.Records.{Rr, RrSet, MessageValue}
 use Rattle.dns_model.specs.Sections.{sets_of, is_signature}
-use Rattle.dns_model.specs.Chains.{LinkValue, Judge, Anchored, Matched, KeySet, Signed, justified, ends_at, last_link}
+use Rattle.dns_model.specs.Chains.{LinkValue, Judge, KeySet, Signed, justified, ends_at, last_link}
 use Rattle.dns_model.specs.Trails.{AskedValue}
+use Rattle.dns_model.specs.Paired.{ArePaired}
+use Rattle.std.specs.Option.{option_map_or}
 pub use Rattle.dns_model.specs.Told.{Told, told_by}
 
 -- a chain, and the section that its set stands in
@@ -30,20 +32,13 @@ pub record ResponseValue : Type 0 where
 
 abbrev pub is_secure : Proof → Bool
 is_secure Secure = true
-is_secure Insecure = false
-is_secure Bogus = false
-is_secure Indeterminate = false
+is_secure _ = false
 
 abbrev pub section_eq : Section → Section → Bool
 section_eq Answer Answer = true
-section_eq Answer Authority = false
-section_eq Answer Additional = false
-section_eq Authority Answer = false
 section_eq Authority Authority = true
-section_eq Authority Additional = false
-section_eq Additional Answer = false
-section_eq Additional Authority = false
 section_eq Additional Additional = true
+section_eq _ _ = false
 
 -- the records of a section
 abbrev pub section_of : Told → Section → List Rr
@@ -52,15 +47,15 @@ section_of told Authority = told.authorities
 section_of told Additional = told.additionals
 
 -- a set, and the section that it stands in
-pub record Placed : Type 0 where
+pub record PlacedSet : Type 0 where
   pub section : Section
   pub set : RrSet
 
-abbrev pub in_section : Section → RrSet → Placed
+abbrev pub in_section : Section → RrSet → PlacedSet
 in_section section set = record { section = section; set = set }
 
 -- the sets of all sections, in order
-abbrev pub placed_sets : Told → List Placed
+abbrev pub placed_sets : Told → List PlacedSet
 placed_sets told =
     map (in_section Answer) (sets_of told.answers) ++ map (in_section Authority) (sets_of told.authorities)
     ++ map (in_section Additional) (sets_of told.additionals)
@@ -87,55 +82,38 @@ HasOneDecider set = count_by (λ r. is_secure r.proof) set.signatures ≤ 1
 abbrev pub HaveOneDecider : List Rr → Type 0
 HaveOneDecider section = AllByRecursion HasOneDecider (sets_of section)
 
-abbrev pub secure_sets : Told → List Placed
+abbrev pub secure_sets : Told → List PlacedSet
 secure_sets told = filter (λ p. is_secure_set p.set) (placed_sets told)
 
 -- a chain names a set's section, ends at the set, and is justified
-pub record IsChainOf (j : Judge) (chain : ChainValue) (placed : Placed) : Type 0 where
+pub record IsChainOf (j : Judge) (chain : ChainValue) (placed : PlacedSet) : Type 0 where
   pub named : chain.section ≡ placed.section
   pub ends : ends_at chain.links placed.set ≡ true
   pub holds : justified j chain.links ≡ true
 
--- one chain for each set, in order
-abbrev pub AreChainsOf : Judge → List ChainValue → List Placed → Type 0
-AreChainsOf j [] [] = Unit {0}
-AreChainsOf j [] (p ∷ ps) = ⊥
-AreChainsOf j (chain ∷ chains) [] = ⊥
-AreChainsOf j (chain ∷ chains) (p ∷ ps) = IsChainOf j chain p × AreChainsOf j chains ps
-
-abbrev pub covered_rtype : Option RrsigValue → ℕ → ℕ
-covered_rtype None rtype = rtype
-covered_rtype (Some sig) rtype = sig.covered
-
 -- the type of the set that a record belongs to, or that it covers as a signature
 abbrev pub set_rtype : Rr → ℕ
-set_rtype r = if is_signature r then covered_rtype (rrsig_in r.rdata) r.rtype else r.rtype
+set_rtype r = if is_signature r then option_map_or (λ sig. sig.covered) (rrsig_in r.rdata) r.rtype else r.rtype
 
 abbrev pub link_is_of : Labels → ℕ → Option LinkValue → Bool
-link_is_of owner rtype None = false
-link_is_of owner rtype (Some (Anchored o c key)) = false
-link_is_of owner rtype (Some (Matched o c key ds_link ds)) = false
 link_is_of owner rtype (Some (KeySet o c keys links)) = name_eq owner o && (rtype == type_dnskey)
 link_is_of owner rtype (Some (Signed o c k rdatas sig key_link key)) = name_eq owner o && (rtype == k)
+link_is_of owner rtype _ = false
 
 abbrev pub chain_is_of : Section → Labels → ℕ → ChainValue → Bool
 chain_is_of section owner rtype chain = section_eq section chain.section && link_is_of owner rtype (last_link chain.links)
 
-abbrev pub last_of : Option ChainValue → Option LinkValue
-last_of None = None
-last_of (Some chain) = last_link chain.links
-
 -- the last link of the chain that ends at the set of a record, or at the set that the record covers
 abbrev pub deciding_link : List ChainValue → Section → Rr → Option LinkValue
-deciding_link chains section r = last_of (find (chain_is_of section r.owner (set_rtype r)) chains)
+deciding_link chains section r = option_and_then (λ chain. last_link chain.links) (find (chain_is_of section r.owner (set_rtype r)) chains)
 
+-- the ttl of a record, where there is one
 abbrev pub ttl_of : Option Rr → ℕ
-ttl_of None = 0
-ttl_of (Some r) = r.ttl
+ttl_of record_ = option_map_or (λ r. r.ttl) record_ 0
 
 -- the ttl of the first record of a section with this owner and type
 abbrev pub first_ttl : List Rr → Labels → ℕ → ℕ
-first_ttl section owner rtype = ttl_of (find (λ r. name_eq owner r.owner && (rtype == r.rtype)) section)
+first_ttl section owner rtype = option_map_or (λ r. r.ttl) (find (λ r. name_eq owner r.owner && (rtype == r.rtype)) section) 0
 
 -- the ttl that a signature leaves to records: no more than the original ttl and the seconds that it is still valid
 abbrev pub signed_ttl : Option RrsigValue → ℕ → ℕ
@@ -145,13 +123,11 @@ signed_ttl (Some sig) now = min sig.original_ttl (seconds_left sig now)
 -- a Secure record's ttl by the last link of its set's chain: as it was told under a key set, else the least of three numbers;
 -- a Secure signature is the one that the link names
 abbrev pub IsSecureTtl : ℕ → List Rr → Rr → Rr → Option LinkValue → Type 0
-IsSecureTtl now section t r None = ⊥
-IsSecureTtl now section t r (Some (Anchored owner class key)) = ⊥
-IsSecureTtl now section t r (Some (Matched owner class key ds_link ds)) = ⊥
 IsSecureTtl now section t r (Some (KeySet owner class keys links)) = (is_signature r ≡ false) × (r.ttl ≡ t.ttl)
 IsSecureTtl now section t r (Some (Signed owner class rtype rdatas sig key_link key)) =
     (is_signature r ≡ true → r.rdata ≡ sig)
     × (r.ttl ≡ min (first_ttl section r.owner (set_rtype r)) (signed_ttl (rrsig_in sig) now))
+IsSecureTtl now section t r _ = ⊥
 
 -- a record of an answer beside the record as it was told
 pub record IsKept (now : ℕ) (chains : List ChainValue) (section : Section) (told : List Rr) (t r : Rr) : Type 0 where
@@ -162,24 +138,17 @@ pub record IsKept (now : ℕ) (chains : List ChainValue) (section : Section) (to
   pub plain : is_secure r.proof ≡ false → r.ttl ≡ t.ttl
   pub secure : is_secure r.proof ≡ true → IsSecureTtl now told t r (deciding_link chains section r)
 
--- the records of a section are those that were told, in order
-abbrev pub AreKept : (Rr → Rr → Type 0) → List Rr → List Rr → Type 0
-AreKept Kept [] [] = Unit {0}
-AreKept Kept [] (r ∷ rs) = ⊥
-AreKept Kept (t ∷ ts) [] = ⊥
-AreKept Kept (t ∷ ts) (r ∷ rs) = Kept t r × AreKept Kept ts rs
-
--- the answer holds exactly the records that were told, each set with one mark and at most one Secure signature, each Secure
--- set with one justified chain
+-- the answer holds exactly the records that were told, in order, each set with one mark and at most one Secure signature, each
+-- Secure set with one justified chain
 pub record Sound (j : Judge) (now : ℕ) (told : Told) (a : ResponseValue) : Type 0 where
   pub code : a.message.response_code ≡ told.code
-  pub answers : AreKept (IsKept now a.chains Answer told.answers) told.answers a.message.answers
-  pub authorities : AreKept (IsKept now a.chains Authority told.authorities) told.authorities a.message.authorities
-  pub additionals : AreKept (IsKept now a.chains Additional told.additionals) told.additionals a.message.additionals
+  pub answers : ArePaired (IsKept now a.chains Answer told.answers) told.answers a.message.answers
+  pub authorities : ArePaired (IsKept now a.chains Authority told.authorities) told.authorities a.message.authorities
+  pub additionals : ArePaired (IsKept now a.chains Additional told.additionals) told.additionals a.message.additionals
   pub marks_of_answers : HaveOneMark a.message.answers
   pub marks_of_authorities : HaveOneMark a.message.authorities
   pub marks_of_additionals : HaveOneMark a.message.additionals
   pub deciders_of_answers : HaveOneDecider a.message.answers
   pub deciders_of_authorities : HaveOneDecider a.message.authorities
   pub deciders_of_additionals : HaveOneDecider a.message.additionals
-  pub chains : AreChainsOf j a.chains (secure_sets (told_by a.message))
+  pub chains : ArePaired (IsChainOf j) a.chains (secure_sets (told_by a.message))

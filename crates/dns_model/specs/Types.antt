@@ -57,12 +57,9 @@ can_deny code = (code == code_no_error) || (code == code_nx_domain)
 abbrev pub class_in : ℕ
 class_in = 1
 
-abbrev pub class_none : ℕ
-class_none = 254
-
 abbrev pub class_any : ℕ
 class_any = 255
 
--- the classes in which rdata has its type's shape
+-- the classes in which rdata has its type's shape; NONE is 254 (RFC 2136, 2.4)
 abbrev pub has_shapes : ℕ → Bool
-has_shapes class = (class == class_in) || (class == class_none) || (class == class_any)
+has_shapes class = (class == class_in) || (class == 254) || (class == class_any)

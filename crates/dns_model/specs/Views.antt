@@ -1,9 +1,10 @@
 -- What an rdata says where it has its type's shape (RFC 1035, 3.3; RFC 4034, 2 to 5; RFC 5155, 3).
-use Rattle.std.specs.Prelude.{ℕ, Bool, ◌==◌, nat_lt, List, length, drop, if◌then◌else◌, Option, None, Some, slice_index}
+use Rattle.std.specs.Prelude.{ℕ, Bool, ◌==◌, nat_lt, List, length, drop, if◌then◌else◌, Option, None, Some, slice_index, option_map}
 use Rattle.dns_model.specs.Bytes.{u16_at, u32_at, has_flag}
 use Rattle.dns_model.specs.Names.{Labels}
 use Rattle.dns_model.specs.NameForm.{name_in, whole_name}
 use Rattle.dns_model.specs.Shapes.{counted_in, is_bitmap}
+use Rattle.dns_model.specs.OptionSteps.{◌>>=◌}
 
 pub record RrsigValue : Type 0 where
   pub covered : ℕ
@@ -49,9 +50,8 @@ pub record SoaValue : Type 0 where
   pub expire : ℕ
   pub minimum : ℕ
 
-abbrev pub rrsig_from : List ℕ → Option (Labels × List ℕ) → Option RrsigValue
-rrsig_from rdata None = None
-rrsig_from rdata (Some (signer, signature)) = Some (record {
+abbrev pub rrsig_of : List ℕ → Labels → List ℕ → RrsigValue
+rrsig_of rdata signer signature = record {
   covered = u16_at rdata 0;
   algorithm = slice_index rdata 2;
   labels = slice_index rdata 3;
@@ -61,11 +61,11 @@ rrsig_from rdata (Some (signer, signature)) = Some (record {
   key_tag = u16_at rdata 16;
   signer = signer;
   signature = signature;
-})
+}
 
 -- RRSIG (RFC 4034, 3.1)
 unfoldable pub rrsig_in : List ℕ → Option RrsigValue
-rrsig_in rdata = if nat_lt (length rdata) 18 then None else rrsig_from rdata (name_in (drop 18 rdata))
+rrsig_in rdata = if nat_lt (length rdata) 18 then None else option_map (λ signer. rrsig_of rdata signer.0 signer.1) (name_in (drop 18 rdata))
 
 -- DNSKEY (RFC 4034, 2.1)
 unfoldable pub dnskey_in : List ℕ → Option DnskeyValue
@@ -108,17 +108,12 @@ soa_numbers mname rname rest =
     then Some (record { mname = mname; rname = rname; serial = u32_at rest 0; refresh = u32_at rest 4; retry = u32_at rest 8; expire = u32_at rest 12; minimum = u32_at rest 16 })
     else None
 
-abbrev pub soa_after_mname : Labels → Option (Labels × List ℕ) → Option SoaValue
-soa_after_mname mname None = None
-soa_after_mname mname (Some (rname, rest)) = soa_numbers mname rname rest
-
-abbrev pub soa_from : Option (Labels × List ℕ) → Option SoaValue
-soa_from None = None
-soa_from (Some (mname, rest)) = soa_after_mname mname (name_in rest)
-
 -- SOA (RFC 1035, 3.3.13)
 unfoldable pub soa_in : List ℕ → Option SoaValue
-soa_in rdata = soa_from (name_in rdata)
+soa_in rdata = do
+  mname ← name_in rdata
+  rname ← name_in mname.1
+  soa_numbers mname.0 rname.0 rname.1
 
 -- NS (RFC 1035, 3.3.11)
 unfoldable pub ns_in : List ℕ → Option Labels

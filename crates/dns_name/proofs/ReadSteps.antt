@@ -10,12 +10,13 @@ use Rattle.std.proofs.lemmas.List.Folds.{list_all-append}
 use Rattle.dns_model.specs.Bytes.{is_bytes}
 use Rattle.dns_model.specs.Names.{Label, Labels, wire, is_label, is_name}
 use Rattle.dns_model.specs.NameForm.{labels_of, IsWire}
-use Rattle.dns_model.specs.NameText.{dot, byte_in, Read, and_then, label_checked, labels_checked, ended, after_dot, after_byte, step_in, labels_read, text_read, within}
+use Rattle.dns_model.specs.NameText.{dot, byte_in, Read, label_checked, labels_checked, ended, after_dot, step_in, labels_read, text_read, within}
 use Rattle.dns_model.specs.declared.name_error.NameError.{NameError}
 use Rattle.dns_model.specs.declared.name_error.NameError.TheVariants.{EmptyLabel, LongLabel, LongName, BadEscape, NoMemory}
 use Rattle.dns_model.proofs.WireLemmas.{IsWire-wire, labels_of-wire}
 use Rattle.dns_name.specs.LabelRuns.{read_at, rest_read, FailsAs, IsRun, HasRun, IsLabels}
 use Rattle.dns_name.proofs.TextLemmas.{read_at-step, checked_label}
+use Rattle.dns_model.specs.ResultSteps.{◌>>=◌}
 
 -- ---- bytes that labels in wire form make, with no closing zero byte
 
@@ -98,7 +99,7 @@ text_broken label byte text rest whole is read =
 -- ---- the labels of a text
 
 abbrev pub fronted : Labels → Read → Read
-fronted labels read = and_then read (λ (r : Labels × Bool). Ok (labels ++ r.0, r.1))
+fronted labels read = read >>= λ r. Ok (labels ++ r.0, r.1)
 
 -- how far a loop over labels has come: the first of them, in wire form, and what the rest of the text gives
 pub record IsReading (text bytes left : List ℕ) : Type 0 where
@@ -142,7 +143,7 @@ label_fails text bytes left fault r (inr e) = inr (sym r.so_far ∙ ap (fronted 
 
 pub label_refused : (label : Label) (more read : Read) (fault : NameError) → read ≡ ended label more → FailsAs fault (label_checked label) → FailsAs fault read
 label_refused label more read fault is (inl e) = inl e
-label_refused label more read fault is (inr e) = inr (is ∙ ap (λ (l : Result Label NameError). and_then l (λ (first : Label). and_then more (λ (r : Labels × Bool). Ok (first ∷ r.0, r.1)))) e)
+label_refused label more read fault is (inr e) = inr (is ∙ ap (λ (l : Result Label NameError). l >>= λ first. more >>= λ r. Ok (first ∷ r.0, r.1)) e)
 
 -- ---- bytes in memory
 
@@ -189,12 +190,12 @@ labels_fail (first ∷ front) label rest fault good h =
 
 -- the labels so far were fine, and the next isn't
 pub label_at_fails : (labels : Labels) (i : ℕ) (bytes : List ℕ) (label : Label) (fault : NameError) → IsRun (take i labels) bytes → i < length labels
-    → label ≡ get_or labels i label → FailsAs fault (label_checked label) → FailsAs fault (and_then (labels_checked labels) within)
+    → label ≡ get_or labels i label → FailsAs fault (label_checked label) → FailsAs fault (labels_checked labels >>= within)
 label_at_fails labels i bytes label fault run lt is (inl e) = inl e
 label_at_fails labels i bytes label fault run lt is (inr e) =
     let cut : labels ≡ take i labels ++ label ∷ drop (i + 1) labels = sym (take-append-drop i labels) ∙ ap (λ (l : Labels). take i labels ++ l) (drop_more labels i label lt ∙ ap (λ (l : Label). l ∷ drop (i + 1) labels) (sym is)) in
     let read : labels_checked labels ≡ Err fault = ap labels_checked cut ∙ labels_fail (take i labels) label (drop (i + 1) labels) fault run.good e in
-    inr (ap (λ (r : Result Labels NameError). and_then r within) read)
+    inr (ap (λ (r : Result Labels NameError). r >>= within) read)
 
 pub label_at_more : (labels : Labels) (i : ℕ) (bytes : List ℕ) (label : Label) → IsRun (take i labels) bytes → i < length labels
     → label ≡ get_or labels i label → label_checked label ≡ Ok label → IsRun (take (i + 1) labels) (bytes ++ length label ∷ [] ++ label)
@@ -202,5 +203,5 @@ label_at_more labels i bytes label run lt is ok =
     let more : take (i + 1) labels ≡ take i labels ++ label ∷ [] = take_more labels i label lt ∙ ap (λ (l : Label). take i labels ++ l ∷ []) (sym is) in
     rw more (run_more (take i labels) bytes label run ok)
 
-pub name_from_run : (labels : Labels) (bytes : List ℕ) → IsRun labels bytes → and_then (labels_checked labels) within ≡ within (labels ++ [])
+pub name_from_run : (labels : Labels) (bytes : List ℕ) → IsRun labels bytes → (labels_checked labels >>= within) ≡ within (labels ++ [])
 name_from_run labels bytes run = rw (labels_pass labels run.good, append-nil labels) refl

@@ -11,11 +11,13 @@ use Rattle.std.proofs.lemmas.Str.{IsAscii-append}
 use Rattle.std.proofs.lemmas.Str.Ascii.{IsAscii-nil, IsAscii-cons}
 use Rattle.dns_model.specs.Bytes.{is_bytes}
 use Rattle.dns_model.specs.Names.{Label, Labels, wire, is_label, is_name}
-use Rattle.dns_model.specs.NameText.{dot, backslash, is_special, is_printable, is_digit, three_digits, printed_byte, printed_label, printed, number_of_digits, number_in, escape_in, byte_in, Read, and_then, label_checked, ended, after_dot, after_byte, step_in, labels_read, text_read, within, read_name}
+use Rattle.dns_model.specs.NameText.{dot, backslash, is_special, is_printable, is_digit, three_digits, printed_byte, printed_label, printed, number_of_digits, number_in, escape_in, byte_in, Read, label_checked, ended, after_dot, step_in, labels_read, text_read, within, read_name}
 use Rattle.dns_model.specs.declared.name_error.NameError.{NameError}
 use Rattle.dns_model.specs.declared.name_error.NameError.TheVariants.{EmptyLabel, LongLabel, LongName, BadEscape, NoMemory}
 use Rattle.dns_name.specs.LabelRuns.{read_at}
 use Rattle.dns_model.proofs.WireLemmas.{second_of_some}
+use Rattle.dns_model.specs.ResultSteps.{◌>>=◌}
+use Rattle.std.specs.Option.{option_map_or}
 
 -- ---- each step takes a byte at least
 
@@ -49,6 +51,9 @@ byte_shorter byte text rest value h = byte_cut (byte == backslash) (is_printable
     byte_cut false false h = cc
 
 -- ---- the bound on the steps says nothing once it is longer than the text
+
+abbrev after_byte : (Label → List ℕ → Read) → Label → Option (ℕ × List ℕ) → Read
+after_byte more label byte = option_map_or (λ b. more (label ++ b.0 ∷ []) b.1) byte (Err BadEscape)
 
 after_byte_same : (f g : Label → List ℕ → Read) (label : Label) (byte : ℕ) (text : List ℕ) (read : Option (ℕ × List ℕ)) → byte_in byte text ≡ read
     → ((l : Label) (rest : List ℕ) → length rest ≤ length text → f l rest ≡ g l rest) → after_byte f label read ≡ after_byte g label read
@@ -195,4 +200,4 @@ read_printed (label ∷ name) good bytes =
     let alone : pointwise nat_eq (flat_map printed_label (label ∷ name)) (dot ∷ []) ≡ false = no_dot_alone (flat_map printed_label (label ∷ name)) (two_long label name first.0) in
     let back : labels_read (0 ∷ flat_map printed_label (label ∷ name)) [] (flat_map printed_label (label ∷ name)) ≡ Ok (label ∷ name, true) = whole _ _ (labels_read_back label name parts.0 bytes) in
     let read : text_read (flat_map printed_label (label ∷ name)) ≡ Ok (label ∷ name, true) = rw (alone, back) refl in
-    ap (λ (r : Read). and_then r (λ (p : Labels × Bool). within p.0)) read ∙ rw parts.1 refl
+    ap (λ (r : Read). r >>= λ p. within p.0) read ∙ rw parts.1 refl

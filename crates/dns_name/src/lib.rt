@@ -15,7 +15,6 @@ mod shown;
 mod text;
 mod text_reading;
 
-pub use dns_model::NameError;
 pub use laws::{
     equal_names_differ_in_case_alone, equal_names_hash_alike, names_are_in_a_total_order,
 };

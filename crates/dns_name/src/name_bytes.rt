@@ -5,7 +5,8 @@ ghost use Rattle.dns_model.specs.NameText.{read_name};
 ghost use Rattle.dns_model.specs.declared.name_error.NameError.TheVariants.{NoMemory as no_memory};
 
 use crate::text_reading::{name_of_run, read_text};
-use crate::{Name, NameError, NameRef};
+use crate::{Name, NameRef};
+use dns_model::NameError;
 use std::alloc::Global;
 
 impl Name {

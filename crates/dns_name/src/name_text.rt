@@ -5,7 +5,8 @@ ghost use Rattle.dns_model.specs.NameText.{name_from, name_with, printed, read_b
 ghost use Rattle.dns_model.specs.declared.name_error.NameError.TheVariants.{NoMemory as no_memory};
 
 use crate::text_reading::{name_of_run, push_label, read_text};
-use crate::{Name, NameError, NameRef, NoMemory, Octets, Text};
+use crate::{Name, NameRef, NoMemory, Octets, Text};
+use dns_model::NameError;
 use std::alloc::Global;
 
 impl Name {

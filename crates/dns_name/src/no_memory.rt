@@ -1,7 +1,7 @@
 ghost use Rattle.std.specs.Prelude.{◌≡◌};
 ghost use Rattle.dns_model.specs.declared.name_error.NameError.TheVariants.{NoMemory as no_memory};
 
-use crate::NameError;
+use dns_model::NameError;
 use std::alloc::{AllocError, AllocFailed};
 
 /// Memory ran out. What the call was to change stays as it was.

@@ -5,7 +5,8 @@ ghost use Rattle.dns_model.specs.NameText.{byte_in, ended, escape_in, label_chec
 ghost use Rattle.dns_model.specs.declared.name_error.NameError.TheVariants.{NoMemory as no_memory};
 ghost use Rattle.dns_name.specs.LabelRuns.{read_at, FailsAs, HasRun, IsLabels, IsRun, rest_read};
 
-use crate::{Name, NameError, NameRef, Octets};
+use crate::{Name, NameRef, Octets};
+use dns_model::NameError;
 use std::alloc::Global;
 
 fn is_digit(byte: u8) -> bool

@@ -7,6 +7,8 @@
 #[cfg(test)]
 mod io_tests;
 #[cfg(test)]
+mod large_tests;
+#[cfg(test)]
 mod name_tests;
 #[cfg(test)]
 mod name_text_tests;

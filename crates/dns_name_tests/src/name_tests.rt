@@ -1,6 +1,7 @@
 //! Names as bytes: how they compare, their wire form and their labels (RFC 1035, 3.1; RFC 4034, 6.1).
 use crate::rows::{Row, check_row, check_rows};
-use dns_name::*;
+use dns_model::NameError;
+use dns_name::{Name, NameRef, Octets};
 use std::alloc::Global;
 use std::cmp::Ordering;
 use std::hash::{DefaultHasher, Hash, Hasher};

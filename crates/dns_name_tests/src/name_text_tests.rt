@@ -1,7 +1,8 @@
 //! Names as text: how they are printed and read, and their limits (RFC 1035, 2.3.4 and 5.1).
 use crate::name_tests::is_printed;
 use crate::rows::{Row, check_row, check_rows};
-use dns_name::*;
+use dns_model::NameError;
+use dns_name::{Name, Octets, Text};
 use std::alloc::Global;
 
 /// Four labels of 63 bytes, and one of 64.

@@ -1,6 +1,6 @@
 use crate::rows::check_held;
 use dns_record::{DNSClass, OpCode, RecordType, ResponseCode};
-use dns_words::*;
+use dns_text::*;
 use std::alloc::Global;
 
 /// A number, and its word.
@@ -225,7 +225,7 @@ const NAMES: &[NameRow] = &[
 
 /// The row's word is a name, or it isn't, as the row says.
 fn is_so(alloc: Global, row: &NameRow) -> bool {
-    match name_in(alloc, row.0.as_bytes()) {
+    match name_word_in(alloc, row.0.as_bytes()) {
         Ok(name) => name.is_some() == row.1,
         Err(_) => false,
     }

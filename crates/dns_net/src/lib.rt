@@ -1,11 +1,17 @@
-//! The names of a handle's crates in one place: errors, requests, responses with their chains and trails, verifiers, handles, and
-//! `Recorded`, a handle that tells its replies.
+//! Handles under the names that a caller looks for: errors, requests, responses with their chains and trails, handles, and
+//! `Recorded`, a handle that tells its replies; and what a caller needs to name beside them.
 #![tactic(auto)]
 
-pub use dns_handle::{
-    AskRef, Asked, Chain, Denial, DnsError, DnsHandle, DnsRequest, DnsRequestOptions, DnsResponse,
-    Ending, ForwardNSData, IoKind, JudgedSet, Link, MarkOrigin, NetError, NoRecords, Notice,
-    ProtoError, Reply, Section, Told, Trail, Verifier, all_shown, clone_links, clone_rdatas,
-    faults_after, has_rdata, shows_ds, shows_key, shows_member,
+pub use dns_evidence::{
+    Asked, Chain, Ending, JudgedSet, Link, LinkSignature, Reply, Told, Trail, Verifier, all_shown,
+    clone_links, clone_rdatas, has_rdata, same_owner, shows_ds, shows_key, shows_member,
 };
+pub use dns_handle::{
+    DnsError, DnsHandle, DnsRequest, DnsRequestOptions, DnsResponse, ForwardNSData, IoKind,
+    NetError, NoRecords, Notice, ProtoError, Protocol, QueryKey, faults_after,
+};
+pub use dns_message::{DecodeError, DecodeKind, Edns, Message};
+pub use dns_model::{Answered, AskRef, Denial, MarkOrigin, Proof, Section};
+pub use dns_name::{Name, NoMemory, Octets};
+pub use dns_record::{DNSClass, OpCode, Query, Record, RecordSet, RecordType, ResponseCode};
 pub use dns_recorded::Recorded;

@@ -1,11 +1,13 @@
 //! Tests of requests, errors and links, by what `dns_handle` and `dns_recorded` give, and of the order of a trail, by what
-//! `dns_trail_order` gives.
+//! `dns_trail` gives.
 //!
 //! They stand apart, since a crate with tests of its own is proved twice.
 #![tactic(auto)]
 
 #[cfg(test)]
 mod long_order_tests;
+#[cfg(test)]
+mod long_request_tests;
 #[cfg(test)]
 mod net_error_tests;
 #[cfg(test)]
@@ -24,3 +26,5 @@ mod net_turn_tests;
 mod order_tests;
 #[cfg(test)]
 mod parts;
+#[cfg(test)]
+mod protocol_tests;

@@ -1,7 +1,7 @@
 use crate::parts::{bare_step, check_number};
-use dns_handle::{AskRef, Asked};
-use dns_name::NameError;
-use dns_trail_order::is_in_order;
+use dns_evidence::Asked;
+use dns_model::{AskRef, NameError};
+use dns_trail::is_in_order;
 use std::alloc::Global;
 
 /// Adds a step that asks so.

@@ -2,8 +2,9 @@ use crate::net_missing_tests::{denied_by_referral, write_soa};
 use crate::parts::{check, check_number, query, response, shows};
 use dns_handle::{DnsError, IoKind, NetError, NoRecords, Notice, ProtoError};
 use dns_message::{DecodeError, DecodeKind};
-use dns_name::{Name, NameError, NoMemory, Text};
-use dns_record::{DNSClass, Proof, Record, RecordType, ResponseCode};
+use dns_model::{NameError, Proof};
+use dns_name::{Name, NoMemory, Text};
+use dns_record::{DNSClass, Record, RecordType, ResponseCode};
 use std::alloc::Global;
 
 /// An error of each kind.
@@ -18,6 +19,11 @@ enum Sample {
     WrongDnskey,
     WrongRrsig,
     NoQueryInRequest,
+    TooDeep,
+    TooMany,
+    NoId,
+    FullQueue,
+    PolledAgain,
     NoConnections,
     Short,
     DecodedNoMemory,
@@ -64,6 +70,11 @@ const SHOWN: &[Shown] = &[
     Shown(Sample::WrongDnskey, "WrongDnskey"),
     Shown(Sample::WrongRrsig, "WrongRrsig"),
     Shown(Sample::NoQueryInRequest, "no query in request"),
+    Shown(Sample::TooDeep, "exceeded max validation depth"),
+    Shown(Sample::TooMany, "exceeded max nested queries"),
+    Shown(Sample::NoId, "id space exhausted, consider filing an issue"),
+    Shown(Sample::FullQueue, "send queue full"),
+    Shown(Sample::PolledAgain, "polled after completion"),
     Shown(Sample::OwnText, "the pool is closed"),
     Shown(Sample::NoConnections, "no connections available"),
     Shown(Sample::Short, "protocol error: Short 12"),
@@ -108,6 +119,11 @@ fn plain(sample: Sample) -> NetError {
         Sample::WrongDnskey => NetError::from(Notice::WrongDnskey),
         Sample::WrongRrsig => NetError::from(Notice::WrongRrsig),
         Sample::NoQueryInRequest => NetError::from(Notice::NoQueryInRequest),
+        Sample::TooDeep => NetError::from(Notice::ExceededMaxValidationDepth),
+        Sample::TooMany => NetError::from(Notice::ExceededMaxNestedQueries),
+        Sample::NoId => NetError::from(Notice::IdSpaceExhausted),
+        Sample::FullQueue => NetError::from(Notice::SendQueueFull),
+        Sample::PolledAgain => NetError::from(Notice::PolledAfterCompletion),
         Sample::NoConnections => NetError::NoConnections,
         Sample::Short => undecoded(DecodeKind::Short),
         Sample::DecodedNoMemory => undecoded(DecodeKind::NoMemory),

@@ -1,7 +1,7 @@
 use crate::parts::{ask_also, check, record, response};
 use dns_handle::{DnsError, DnsResponse, ForwardNSData, NetError, NoRecords};
 use dns_message::Message;
-use dns_name::NameError;
+use dns_model::NameError;
 use dns_record::Record;
 use std::alloc::{AllocError, Global};
 use std::fmt::Write;

@@ -1,8 +1,8 @@
 use crate::parts::{ask_also, check_number, record, response};
 use dns_handle::{DnsError, DnsResponse};
 use dns_message::Message;
-use dns_name::NameError;
-use dns_record::{Record, Section};
+use dns_model::{NameError, Section};
+use dns_record::Record;
 use std::alloc::Global;
 
 /// What becomes of a response.

@@ -1,7 +1,7 @@
 use crate::parts::{ask_also, check, check_number, nothing, query, request};
 use dns_handle::{DnsRequest, DnsRequestOptions};
 use dns_message::Message;
-use dns_name::NameError;
+use dns_model::NameError;
 use dns_record::Query;
 use std::alloc::Global;
 

@@ -1,6 +1,7 @@
 use crate::parts::{check_number, rdata};
-use dns_handle::*;
-use dns_name::{Name, NameError, NameRef};
+use dns_evidence::{Chain, Link, all_shown, shows_ds, shows_key, shows_member};
+use dns_model::{NameError, Section};
+use dns_name::{Name, NameRef};
 use dns_record::{DNSClass, Rdata, RecordType};
 use std::alloc::Global;
 

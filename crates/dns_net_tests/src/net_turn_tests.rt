@@ -1,6 +1,6 @@
 use crate::parts::{check_number, nothing, query, response, shows};
-use dns_handle::*;
-use dns_name::NameError;
+use dns_handle::{DnsHandle, DnsRequestOptions, DnsResponse, NetError, faults_after};
+use dns_model::NameError;
 use dns_recorded::Recorded;
 use std::alloc::Global;
 use std::process::Abort;

@@ -1,7 +1,7 @@
 use crate::parts::{bare_set, bare_step, check, check_number};
-use dns_handle::{AskRef, Asked, JudgedSet};
-use dns_name::NameError;
-use dns_trail_order::is_in_order;
+use dns_evidence::{Asked, JudgedSet};
+use dns_model::{AskRef, NameError};
+use dns_trail::is_in_order;
 use std::alloc::Global;
 use std::slice;
 

@@ -1,6 +1,8 @@
-use dns_handle::*;
-use dns_name::{Name, NameError};
-use dns_record::{DNSClass, Proof, Query, Rdata, Record, RecordType, ResponseCode};
+use dns_evidence::{Asked, Ending, JudgedSet, Reply, Trail};
+use dns_handle::{DnsRequest, DnsRequestOptions, DnsResponse, NetError};
+use dns_model::{Denial, MarkOrigin, NameError, Proof, Section};
+use dns_name::Name;
+use dns_record::{DNSClass, Query, Rdata, Record, RecordType, ResponseCode};
 use std::alloc::Global;
 use std::process::Abort;
 

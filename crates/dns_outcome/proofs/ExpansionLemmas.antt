@@ -5,12 +5,12 @@ use Rattle.std.specs.List.{filter, filter_map, cons_option}
 use Rattle.std.proofs.lemmas.List.{append-nil}
 use Rattle.std.proofs.lemmas.List.Elements.{filter-append, filter_map-append}
 use Rattle.dns_model.specs.Records.{Question}
-use Rattle.dns_judgement.specs.Judged.{Judged}
-use Rattle.dns_judgement.specs.Outcome.{least, is_expanded_for, decider_labels}
+use Rattle.dns_rules.specs.MarkedSets.{MarkedSet}
+use Rattle.dns_rules.specs.Outcome.{least, is_expanded_for, decider_labels}
 use Rattle.dns_outcome.specs.Expansions.{fewer, expanded_labels}
 
 -- the fewest labels of the sets that answer and were expanded
-abbrev pub fewest : Question → List Judged → Option ℕ
+abbrev pub fewest : Question → List MarkedSet → Option ℕ
 fewest q sets = least (filter_map decider_labels (filter (is_expanded_for q) sets))
 
 least_step : (m n : ℕ) (o : Option ℕ) → option_map_or (min m) (fewer o (Some n)) m ≡ min (option_map_or (min m) o m) n
@@ -30,11 +30,11 @@ read_step : (ns : List ℕ) (o : Option ℕ) → least (ns ++ cons_option o []) 
 read_step ns None = ap least (append-nil ns) ∙ none_fewer (least ns)
 read_step ns (Some n) = least-push ns n
 
-one_step : (ns : List ℕ) (x : Judged) (b : Bool) → least (ns ++ filter_map decider_labels (cond b (x ∷ []) [])) ≡ fewer (least ns) (cond b (decider_labels x) None)
+one_step : (ns : List ℕ) (x : MarkedSet) (b : Bool) → least (ns ++ filter_map decider_labels (cond b (x ∷ []) [])) ≡ fewer (least ns) (cond b (decider_labels x) None)
 one_step ns x true = read_step ns (decider_labels x)
 one_step ns x false = read_step ns None
 
-pub fewest-push : (q : Question) (sets : List Judged) (x : Judged) → fewest q (sets ++ x ∷ []) ≡ fewer (fewest q sets) (expanded_labels q x)
+pub fewest-push : (q : Question) (sets : List MarkedSet) (x : MarkedSet) → fewest q (sets ++ x ∷ []) ≡ fewer (fewest q sets) (expanded_labels q x)
 fewest-push q sets x =
     let p = is_expanded_for q in
     ap (λ l. least (filter_map decider_labels l)) (filter-append p sets (x ∷ []))

@@ -4,10 +4,10 @@ use Rattle.dns_model.specs.declared.proof.Proof.{Proof}
 use Rattle.dns_model.specs.declared.proof.Proof.TheVariants.{Bogus}
 use Rattle.dns_model.specs.Records.{Question}
 use Rattle.dns_model.specs.SoundAnswers.{Told}
-use Rattle.dns_judgement.specs.Delegations as zone
-use Rattle.dns_judgement.specs.Delegations.{ZoneVerdict, Signed, is_insecure}
-use Rattle.dns_judgement.specs.Unsigned.{unsigned_mark}
-use Rattle.dns_judgement.specs.Outcome.{Denied, insecure_answer, outcome_by_zone}
+use Rattle.dns_rules.specs.Delegations as zone
+use Rattle.dns_rules.specs.Delegations.{ZoneVerdict, Signed, is_insecure}
+use Rattle.dns_rules.specs.Unsigned.{unsigned_mark}
+use Rattle.dns_rules.specs.Outcome.{Denied, insecure_answer, outcome_by_zone}
 
 -- by the zone of its query: the mark that it leaves to what is unsigned tells whether it excuses
 

@@ -2,17 +2,17 @@
 ghost use Rattle.std.specs.Prelude.{◌≡◌};
 ghost use Rattle.std.specs.List.{filter, filter_map, list_any};
 ghost use Rattle.dns_model.specs.SoundAnswers.{told_by};
-ghost use Rattle.dns_judgement.specs.Judged.{decider as decider_of};
-ghost use Rattle.dns_judgement.specs.Chained.{bare};
-ghost use Rattle.dns_judgement.specs.MarkParts.{is_expanded_by};
-ghost use Rattle.dns_judgement.specs.Outcome.{answers_query as answers_asked, is_wildcard_signature, is_expanded_answer as is_expanded_in, is_expanded_for as is_expanded_for_in, decider_labels as labels_of_decider, least, answered_from as answered_from_in, answered as answered_in};
+ghost use Rattle.dns_rules.specs.MarkedSets.{decider as decider_of};
+ghost use Rattle.dns_rules.specs.ChainedSets.{bare};
+ghost use Rattle.dns_rules.specs.MarkParts.{is_expanded_by};
+ghost use Rattle.dns_rules.specs.Outcome.{answers_query as answers_asked, is_wildcard_signature, is_expanded_answer as is_expanded_in, is_expanded_for as is_expanded_for_in, decider_labels as labels_of_decider, least, answered_from as answered_from_in, answered as answered_in};
 ghost use Rattle.dns_outcome.specs.Expansions.{fewer as fewer_of, expanded_labels as expanded_labels_in};
 
-use dns_denial::Answered;
-use dns_judged::{ChainedSet, MarkedSet, decider};
+use dns_evidence::{ChainedSet, MarkedSet, decider};
 use dns_message::Message;
+use dns_model::{Answered, Proof, Section};
 use dns_rdata::Rrsig;
-use dns_record::{Proof, Query, Record, RecordType, Section};
+use dns_record::{Query, Record, RecordType};
 
 /// Whether a record at the query name has the query's type, or is a CNAME.
 pub(crate) fn has_answer(query: &Query, answers: &[Record]) -> bool
@@ -70,7 +70,7 @@ fn is_decided_by_wildcard(set: &MarkedSet) -> bool
 }
 
 /// How the answer section answers: by an expansion where a Secure set says so.
-#[tactic(auto, unfolding(dns_judgement::specs::Outcome::answered))]
+#[tactic(auto, unfolding(dns_rules::specs::Outcome::answered))]
 pub(crate) fn answered(query: &Query, message: &Message, sets: &[ChainedSet]) -> Answered
     ensures { result ≡ answered_in query.now (told_by message.now) (bare sets.now) }
 {

@@ -3,18 +3,19 @@ ghost use Rattle.std.specs.Prelude.{◌≡◌, ◌++◌, [], ◌∷◌, not, ◌
 ghost use Rattle.std.specs.List.{filter_map, list_any, list_all, find};
 ghost use Rattle.std.specs.Option.{option_copied};
 ghost use Rattle.dns_model.specs.SoundAnswers.{told_by};
-ghost use Rattle.dns_judgement.specs.Chained.{bare};
-ghost use Rattle.dns_judgement.specs.Outcome.{is_denying as is_denying_set, denying, owned_nsec, denials as denials_in, signer_of, is_made_by as is_made_by_zone, one_signer as one_signer_of, answered as answered_in, secure_denial as denial_of, outcome_by_nsec_verdict as told_by_verdict, outcome_by_denials as told_by_denials};
+ghost use Rattle.dns_rules.specs.ChainedSets.{bare};
+ghost use Rattle.dns_rules.specs.Outcome.{is_denying as is_denying_set, denying, owned_nsec, denials as denials_in, signer_of, is_made_by as is_made_by_zone, one_signer as one_signer_of, answered as answered_in, secure_denial as denial_of, outcome_by_nsec_verdict as told_by_verdict, outcome_by_denials as told_by_denials};
 ghost use Rattle.dns_outcome.specs.Outcome.{outcome_value};
 
 use crate::Outcome;
 use crate::answering::answered;
-use dns_denial::{Answered, verify_nsec};
-use dns_judged::{ChainedSet, MarkedSet, decider};
+use dns_denial::verify_nsec;
+use dns_evidence::{ChainedSet, MarkedSet, decider};
 use dns_message::Message;
+use dns_model::{Answered, Denial, Proof, Section};
 use dns_name::{NameRef, NoMemory};
 use dns_rdata::{NsecRecord, Rrsig};
-use dns_record::{Denial, Proof, Query, Record, RecordType, Section};
+use dns_record::{Query, Record, RecordType};
 use std::alloc::Global;
 
 /// Whether a set denies existence.

@@ -5,17 +5,18 @@ ghost use Rattle.std.specs.Option.{option_map_or};
 ghost use Rattle.dns_model.specs.declared.section.Section.TheVariants.{Authority};
 ghost use Rattle.dns_model.specs.Sections.{is_signature as is_signature_record};
 ghost use Rattle.dns_model.specs.SoundAnswers.{told_by};
-ghost use Rattle.dns_judgement.specs.Chained.{bare};
-ghost use Rattle.dns_judgement.specs.Delegations.{is_insecure as is_insecure_mark};
-ghost use Rattle.dns_judgement.specs.Marking.{is_about};
-ghost use Rattle.dns_judgement.specs.Outcome.{is_insecure_record as is_insecure_record_in, is_insecure_authority as is_told_insecure};
+ghost use Rattle.dns_rules.specs.ChainedSets.{bare};
+ghost use Rattle.dns_rules.specs.Delegations.{is_insecure as is_insecure_mark};
+ghost use Rattle.dns_rules.specs.Marking.{is_about};
+ghost use Rattle.dns_rules.specs.Outcome.{is_insecure_record as is_insecure_record_in, is_insecure_authority as is_told_insecure};
 ghost use Rattle.dns_grouping.specs.SetPlaces.{ArePlacedIn};
 
+use dns_evidence::ChainedSet;
 use dns_grouping::{SetPlaces, judged_places, set_rtype};
-use dns_judged::ChainedSet;
 use dns_message::Message;
+use dns_model::{Proof, Section};
 use dns_name::NoMemory;
-use dns_record::{Proof, Query, Record, RecordType, Section};
+use dns_record::{Query, Record, RecordType};
 use std::alloc::Global;
 
 /// Whether there are records beside signatures, and each of them is Insecure with an owner at or above the name that is asked.

@@ -2,19 +2,20 @@ ghost use Rattle.std.specs.Prelude.{◌≡◌, IfOk};
 ghost use Rattle.std.specs.List.{list_any};
 ghost use Rattle.std.specs.Option.{option_copied};
 ghost use Rattle.dns_model.specs.SoundAnswers.{told_by};
-ghost use Rattle.dns_judgement.specs.Chained.{bare};
-ghost use Rattle.dns_judgement.specs.Delegations.{ZoneVerdict, is_insecure};
-ghost use Rattle.dns_judgement.specs.Unsigned.{unsigned_mark};
-ghost use Rattle.dns_judgement.specs.Outcome.{outcome_of as told_outcome, outcome_by_zone as told_by_zone, insecure_answer as told_insecure, foreign_record as foreign_in, is_unjudged as is_unjudged_set};
+ghost use Rattle.dns_rules.specs.ChainedSets.{bare};
+ghost use Rattle.dns_rules.specs.Delegations.{ZoneVerdict, is_insecure};
+ghost use Rattle.dns_rules.specs.Unsigned.{unsigned_mark};
+ghost use Rattle.dns_rules.specs.Outcome.{outcome_of as told_outcome, outcome_by_zone as told_by_zone, insecure_answer as told_insecure, foreign_record as foreign_in, is_unjudged as is_unjudged_set};
 ghost use Rattle.dns_outcome.specs.Outcome.{outcome_value};
 
 use crate::answering::{has_answer, has_expanded_answer, has_wildcard_signature};
 use crate::denying::{has_denying, outcome_by_denials};
 use crate::insecure_authority::is_insecure_authority;
-use dns_judged::ChainedSet;
+use dns_evidence::ChainedSet;
 use dns_message::Message;
+use dns_model::{Denial, Proof};
 use dns_name::NoMemory;
-use dns_record::{Denial, Proof, Query, Record, RecordType};
+use dns_record::{Query, Record, RecordType};
 use std::alloc::Global;
 
 /// How a judged step ends.
@@ -25,13 +26,13 @@ pub enum Outcome {
     /// Its response is an answer.
     Given(Denial),
     /// The zone of its query decides, and has to be searched.
-    Searched,
+    NeedsZone,
     /// Its response is refused, with this proof.
     Denied(Proof),
 }
 
 /// How a step ends whose sets are judged: the first case that holds decides (RFC 4035, 5.3.4 and 5.4).
-#[tactic(auto, using(dns_grouping::proofs::Joining::any_map), unfolding(dns_judgement::specs::Outcome::outcome_of))]
+#[tactic(auto, using(dns_grouping::proofs::Joining::any_map), unfolding(dns_rules::specs::Outcome::outcome_of))]
 pub fn outcome_of(
     alloc: Global,
     query: &Query,
@@ -60,7 +61,7 @@ pub fn outcome_of(
         return Ok(Outcome::Given(Denial::None));
     }
     // a signed zone would have denied (RFC 4035, 3.1.3)
-    Ok(Outcome::Searched)
+    Ok(Outcome::NeedsZone)
 }
 
 /// How a step ends whose query's zone was searched, by the mark that the zone leaves to what is unsigned: where it is Insecure,

@@ -7,10 +7,11 @@ use Rattle.std.proofs.Math.Seq.{drop-cons}
 use Rattle.std.proofs.lemmas.Bool.Decides.{nat_tests}
 use Rattle.std.proofs.lemmas.Grind.{common_steps}
 use Rattle.dns_model.specs.Shapes as shape
-use Rattle.dns_model.specs.Shapes.{Part, part_in, parts_in, with_part, after_part, canonical_part, canonical_parts, canonical_form, is_lowered_type, shape_of, has_shape}
+use Rattle.dns_model.specs.Shapes.{Part, part_in, parts_in, canonical_part, canonical_form, is_lowered_type, shape_of, has_shape}
 use Rattle.dns_rdata.specs.Fields.{field_value}
 use Rattle.dns_rdata.specs.Lowered.{lowered_form, lowered_parts}
 use Rattle.dns_rdata.specs.declared.shape.Field.{Field}
+use Rattle.dns_model.proofs.ShapeSteps.{with_part, after_part, canonical_parts}
 
 -- the parts still to be read, put behind those that were read
 abbrev pub behind : List ℕ → Option (List Part) → Option (List ℕ)

@@ -1,14 +1,14 @@
 -- Whether a DS covers a key, by its digest type.
 use Rattle.std.proofs.Common.{◌≡◌, ℕ, Bool, true, false, ◌++◌, List, None, Some, refl, sym, ap, ◌∙◌}
-use Rattle.std.specs.Prelude.{◌==◌, if◌then◌else◌}
-use Rattle.std.specs.Option.{option_map}
+use Rattle.std.specs.Prelude.{◌==◌, if◌then◌else◌, Option}
+use Rattle.std.specs.Option.{option_map, option_map_or}
 use Rattle.sha1.specs.Sha1.{sha1}
 use Rattle.sha2.specs.Sha256.{sha256}
 use Rattle.sha2.specs.Sha512.{sha384}
 use Rattle.dns_model.specs.Names.{Labels, wire, folded}
 use Rattle.dns_model.specs.Views.{DsValue}
 use Rattle.dns_model.specs.Signing.{ds_digest}
-use Rattle.dns_model.specs.Keys.{bytes_eq, is_digest, covers_key}
+use Rattle.dns_model.specs.Keys.{bytes_eq, covers_key}
 use Rattle.dns_rdata.specs.declared.digest.DigestType.{DigestType}
 use Rattle.dns_rdata.specs.declared.digest.DigestType.TheVariants.{Sha1, Sha256, Sha384}
 use Rattle.dns_rdata.specs.Covers.{digest_type_of}
@@ -35,9 +35,9 @@ by_type n owner key = mapped (digest_by owner key) (n == 1) (n == 2) (n == 4) Sh
 pub covers_by : (owner : Labels) (key : List ℕ) (ds : DsValue) (digest_type : DigestType) → digest_type_of ds.digest_type ≡ Some digest_type
     → bytes_eq (digest_by owner key digest_type) ds.digest ≡ covers_key owner key ds
 covers_by owner key ds digest_type is =
-    sym (ap (λ o. is_digest o ds.digest) (by_type ds.digest_type owner key ∙ ap (option_map (digest_by owner key)) is))
+    sym (ap (λ (o : Option (List ℕ)). option_map_or (λ expected. bytes_eq expected ds.digest) o false) (by_type ds.digest_type owner key ∙ ap (option_map (digest_by owner key)) is))
 
 -- and of another
 pub covers_none : (owner : Labels) (key : List ℕ) (ds : DsValue) → digest_type_of ds.digest_type ≡ None → false ≡ covers_key owner key ds
 covers_none owner key ds is =
-    sym (ap (λ o. is_digest o ds.digest) (by_type ds.digest_type owner key ∙ ap (option_map (digest_by owner key)) is))
+    sym (ap (λ (o : Option (List ℕ)). option_map_or (λ expected. bytes_eq expected ds.digest) o false) (by_type ds.digest_type owner key ∙ ap (option_map (digest_by owner key)) is))

@@ -7,3 +7,4 @@ pub mod SizeLemmas
 pub mod RisingLemmas
 pub mod OnceLemmas
 pub mod DigestLemmas
+pub mod HashLemmas

@@ -5,10 +5,11 @@ use Rattle.std.proofs.lemmas.Bool.{leb-true}
 use Rattle.std.specs.List.{concat}
 use Rattle.dns_model.specs.Names.{Labels, wire}
 use Rattle.dns_model.specs.NameForm.{name_in}
-use Rattle.dns_model.specs.Shapes.{Field, Octets, DomainName, CharacterString, TypeBitmap, Remainder, Part, Plain, part_in, parts_in, named_front, counted_in, counted_front, with_part, after_part, canonical_part, canonical_parts, canonical_form, is_lowered_type, shape_of, is_bitmap}
+use Rattle.dns_model.specs.Shapes.{Field, Octets, DomainName, CharacterString, TypeBitmap, Remainder, Part, Plain, part_in, parts_in, counted_in, canonical_part, canonical_form, is_lowered_type, shape_of, is_bitmap}
 use Rattle.dns_model.proofs.WireLemmas.{name_in_inverse}
 use Rattle.dns_model.proofs.NameLemmas.{length-wire-folded}
 use Rattle.dns_rdata.proofs.Through.{let_through, test_through}
+use Rattle.dns_model.proofs.ShapeSteps.{named_front, counted_front, with_part, after_part, canonical_parts}
 
 -- how long a part in canonical form and the bytes after it are
 abbrev size_of : Part × List ℕ → ℕ

@@ -1,8 +1,16 @@
 -- A row of windows is read one window after another.
 use Rattle.std.proofs.Common.{◌≡◌, ℕ, ◌≤◌, ◌<◌, Bool, true, false, ◌||◌, ◌&&◌, nat_lt, List, [], ◌∷◌, length, Option, None, Some, refl, sym, ap, ◌∙◌, arith, length-drop}
 use Rattle.dns_rdata.proofs.Through.{let_through}
-use Rattle.dns_model.specs.Shapes.{Window, window_in, windows_in, after_window, with_window, window_has, windows_have, are_rising_windows, bitmap_has, is_bitmap}
+use Rattle.dns_model.specs.Shapes.{Window, window_in, windows_in, window_has, windows_have, bitmap_has, is_bitmap, are_rising}
 use Rattle.dns_rdata.specs.Windows.{follows, rises_after, found_or_has}
+use Rattle.dns_model.specs.OptionSteps.{◌>>=◌}
+use Rattle.std.specs.Option.{option_map_or}
+
+abbrev with_window : Window → Option (List Window) → Option (List Window)
+with_window window windows = windows >>= λ ws. Some (window ∷ ws)
+
+abbrev after_window : Option (Window × List ℕ) → (List ℕ → Option (List Window)) → Option (List Window)
+after_window window more = window >>= λ w. with_window w.0 (more w.1)
 
 -- the bytes after a window are fewer
 pub window_shorter : (bytes : List ℕ) (window : Window) (rest : List ℕ) → window_in bytes ≡ Some (window, rest) → length rest < length bytes
@@ -76,7 +84,7 @@ rises_more last bytes window rest h e = ap (rises_after last) (windows_more byte
 
 pub rises_start : (bytes : List ℕ) → rises_after None (windows_in bytes bytes) ≡ is_bitmap bytes
 unfolding is_bitmap
-rises_start bytes = elim (windows_in bytes bytes) as (λ w. rises_after None w ≡ are_rising_windows w) [ None ↦ refl | Some [] ↦ refl | Some (w ∷ ws) ↦ refl ]
+rises_start bytes = elim (windows_in bytes bytes) as (λ w. rises_after None w ≡ option_map_or are_rising w false) [ None ↦ refl | Some [] ↦ refl | Some (w ∷ ws) ↦ refl ]
 
 pub rises_end : (last : Option ℕ) (bytes : List ℕ) → length bytes ≡ 0 → rises_after last (windows_in bytes bytes) ≡ true
 rises_end None bytes h = ap (rises_after None) (windows_end bytes h)

@@ -65,7 +65,7 @@ impl<'a> Ds<'a> {
     }
 }
 
-fn sha1_of(first: &[u8], second: &[u8]) -> [u8; 20]
+pub(crate) fn sha1_of(first: &[u8], second: &[u8]) -> [u8; 20]
     ensures { result ≡ sha1 (first.now ++ second.now) }
 {
     let mut hasher = Sha1::new();

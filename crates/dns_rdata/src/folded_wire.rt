@@ -1,7 +1,7 @@
 ghost use Rattle.std.specs.Prelude.{◌≡◌};
 ghost use Rattle.dns_model.specs.Names.{wire, folded};
 
-use dns_name::Name;
+use dns_name::{Name, NameRef};
 use std::marker::Model;
 
 /// A name's wire form with A to Z as a to z, for a digest; it takes no memory. Contracts see it as its bytes.
@@ -24,6 +24,13 @@ impl Model for FoldedWire {
 impl FoldedWire {
     /// The folded wire form of a name.
     pub fn of(name: &Name) -> FoldedWire
+        ensures { result ≡ wire (folded name.now) }
+    {
+        FoldedWire::of_ref(&name.borrowed())
+    }
+
+    /// The same of a name read where it stands.
+    pub fn of_ref(name: &NameRef<'_>) -> FoldedWire
         ensures { result ≡ wire (folded name.now) }
     {
         let wire = name.wire();

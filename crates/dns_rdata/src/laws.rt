@@ -1,4 +1,8 @@
-ghost use Rattle.std.specs.Prelude.{◌≡◌, ◌∷◌};
+ghost use Rattle.std.specs.Prelude.{◌≡◌, ◌∷◌, true, length};
+ghost use Rattle.std.specs.Cmp.Lexicographic.{slice_cmp};
+ghost use Rattle.std.specs.Ordering.{nat_cmp};
+ghost use Rattle.dns_model.specs.Bytes.{is_bytes};
+ghost use Rattle.dns_model.specs.Nsec3Hash.{base32hex};
 ghost use Rattle.dns_model.specs.Shapes.{canonical_form};
 ghost use Rattle.dns_model.specs.Signing.{signed_bytes};
 
@@ -19,4 +23,13 @@ pub fn equal_records_are_signed_once(
     requires { canonical_form _record_type.0 _first.now ≡ canonical_form _record_type.0 _second.now }
     ensures { signed_bytes _owner.now _record_type.0 _dns_class.0 (_first.now ∷ _second.now ∷ _rest.now) _sig.now
         ≡ signed_bytes _owner.now _record_type.0 _dns_class.0 (_second.now ∷ _rest.now) _sig.now }
+{}
+
+/// A law: hashes have the order of their texts (RFC 5155, 1.3), so that owners of NSEC3 records need not be decoded to be compared.
+pub fn hashes_and_their_texts_have_one_order(_one: &[u8], _two: &[u8])
+    requires first { is_bytes _one.now ≡ true }
+    requires second { is_bytes _two.now ≡ true }
+    requires size { length _one.now ≡ 20 }
+    requires same { length _two.now ≡ 20 }
+    ensures { slice_cmp nat_cmp (base32hex _one.now) (base32hex _two.now) ≡ slice_cmp nat_cmp _one.now _two.now }
 {}

@@ -3,6 +3,7 @@
 //! each call as the definition that its clause names.
 #![tactic(auto)]
 
+mod base32hex;
 mod bytes;
 mod canonical;
 mod counted;
@@ -12,6 +13,7 @@ mod ds;
 mod folded_wire;
 mod key_tags;
 mod laws;
+mod name_hash;
 mod ns;
 mod nsec;
 mod nsec3;
@@ -25,6 +27,7 @@ mod type_set;
 mod window;
 mod write;
 
+pub use base32hex::{base32hex_decode, base32hex_encode, is_hash_text};
 pub use bytes::{u16_at, u32_at};
 pub use canonical::{canonical_rdata, has_shape};
 pub use digest::{DigestType, ds_covers};
@@ -32,7 +35,8 @@ pub use dnskey::Dnskey;
 pub use ds::Ds;
 pub use folded_wire::FoldedWire;
 pub use key_tags::key_tag;
-pub use laws::equal_records_are_signed_once;
+pub use laws::{equal_records_are_signed_once, hashes_and_their_texts_have_one_order};
+pub use name_hash::{nsec3_hash, nsec3_hash_of};
 pub use ns::Ns;
 pub use nsec::{Nsec, NsecRecord};
 pub use nsec3::{Nsec3, Nsec3Record};

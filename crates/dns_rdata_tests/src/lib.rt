@@ -1,9 +1,15 @@
 //! Tests of records, of rdata (views, shapes, canonical forms, signed bytes, key tags and digests), and of verdicts on NSEC
-//! records, by what their crates give, with vectors from outside.
+//! and NSEC3 records, by what their crates give, with vectors from outside.
 //!
 //! They stand apart, since a crate with tests of its own is proved twice.
 #![tactic(auto)]
 
+#[cfg(test)]
+mod large_tests;
+#[cfg(test)]
+mod nsec3_rows;
+#[cfg(test)]
+mod nsec3_tests;
 #[cfg(test)]
 mod nsec_rows;
 #[cfg(test)]

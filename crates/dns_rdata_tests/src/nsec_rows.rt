@@ -1,6 +1,6 @@
 //! Rows of denials: zones, queries and verdicts from the RFCs and from reports of broken validators (RFC 4035, 5.4).
-use dns_denial::Answered;
-use dns_record::{Proof, RecordType, ResponseCode};
+use dns_model::{Answered, Proof};
+use dns_record::{RecordType, ResponseCode};
 
 /// Type bitmaps: A; A and MX; MX; TXT; NS; NS and DS; NS and SOA; NS, SOA and TXT.
 pub(crate) const A_ALONE: &[u8] = b"\0\x01\x40";

@@ -2,8 +2,9 @@
 use crate::nsec_rows::{A_ALONE, APEX, CUT, Denied, Told, denials};
 use crate::record_tests::query_of;
 use crate::rows::{Row, check_rows};
-use dns_denial::*;
-use dns_name::{Name, NameError, Octets};
+use dns_denial::{nsec_covering, verify_nsec};
+use dns_model::NameError;
+use dns_name::{Name, Octets};
 use dns_rdata::NsecRecord;
 use dns_record::Query;
 use std::alloc::Global;

@@ -1,8 +1,12 @@
 //! Signed texts, views of rdata, and records that own what a view shows (RFC 4034, 3 to 5 and 6.3; RFC 5155, 3).
 use crate::rows::{Row, check_row, check_rows};
-use dns_name::{Name, NameError, NoMemory, Octets};
-use dns_rdata::*;
-use dns_record::{DNSClass, Proof, Rdata, Record, RecordSet, RecordType};
+use dns_model::{NameError, Proof};
+use dns_name::{Name, NoMemory, Octets};
+use dns_rdata::{
+    Dnskey, Ds, Ns, Nsec, Nsec3, Nsec3Record, NsecRecord, RdataSet, Rrsig, SerialNumber, Soa,
+    signed_data, signed_data_of,
+};
+use dns_record::{DNSClass, Rdata, Record, RecordSet, RecordType};
 use std::alloc::Global;
 
 /// The RRSIG rdata of a signature over the root's NS set: algorithm 13, valid from 900 to 2000, original ttl 3600.
@@ -375,21 +379,21 @@ fn owned_denials_say_what_their_records_say(rt: HostRuntime) {
     );
 }
 
-/// Whether a set takes a second record of its name, type and class.
-fn takes(set: &mut RecordSet, next: Record) -> bool {
+/// Whether a set takes one more record of its name, type and class.
+pub(crate) fn takes(set: &mut RecordSet, next: Record) -> bool {
     if set.name != next.name
         || set.record_type != next.record_type
         || set.dns_class != next.dns_class
     {
         return false;
     }
-    set.push(next).is_ok() && set.records.len() == 2
+    set.push(next).is_ok()
 }
 
 fn grows(alloc: Global, first: &[u8], second: &[u8]) -> Result<bool, NameError> {
     let mut set = RecordSet::of(alloc, at_root(alloc, 2, first)?)?;
     let next = at_root(alloc, 2, second)?;
-    Ok(takes(&mut set, next))
+    Ok(takes(&mut set, next) && set.records.len() == 2)
 }
 
 #[test]

@@ -1,7 +1,8 @@
 //! Rdata: serial numbers, key tags, digests, shapes, canonical forms and bitmaps (RFC 1982; RFC 4034; RFC 4509; RFC 6605).
 use crate::rows::{Row, check_row, check_rows};
-use dns_name::{Name, NameError};
-use dns_rdata::*;
+use dns_model::NameError;
+use dns_name::Name;
+use dns_rdata::{Nsec, SerialNumber, TypeSet, canonical_rdata, ds_covers, has_shape, key_tag};
 use dns_record::RecordType;
 use std::alloc::Global;
 use std::cmp::Ordering;

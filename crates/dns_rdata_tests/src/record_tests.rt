@@ -1,8 +1,9 @@
 //! Questions and sets of records: how they compare, are shown and are copied.
 use crate::rdata_signed_tests::at_root;
 use crate::rows::{Row, check_row, check_rows};
-use dns_name::NameError;
-use dns_record::*;
+use dns_model::NameError;
+use dns_name::{Name, NoMemory};
+use dns_record::{DNSClass, Query, RecordSet, RecordType};
 use std::alloc::Global;
 use std::cmp::Ordering;
 use std::hash::{DefaultHasher, Hash, Hasher};

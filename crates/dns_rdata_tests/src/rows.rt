@@ -1,5 +1,5 @@
 //! What tests share: the assertion on a row, and on each row of a table.
-use dns_name::NameError;
+use dns_model::NameError;
 use std::alloc::Global;
 use std::process::Abort;
 

@@ -10,8 +10,6 @@ mod record_set;
 mod words;
 
 pub use codes::{DNSClass, OpCode, RecordType, ResponseCode};
-pub use dns_model::{Answered, Denial, Proof, Section};
-pub use dns_name::{Name, NoMemory, Octets};
 pub use laws::{equal_queries_differ_in_case_alone, equal_queries_hash_alike};
 pub use query::Query;
 pub use rdata::Rdata;

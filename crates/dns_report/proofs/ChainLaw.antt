@@ -4,7 +4,7 @@ use Rattle.std.proofs.lemmas.Bool.{and_parts}
 use Rattle.dns_model.specs.Names.{Labels}
 use Rattle.dns_model.specs.declared.section.Section.{Section}
 use Rattle.dns_model.specs.Chains as trust
-use Rattle.dns_model.specs.Chains.{LinkValue, Judge, all_shown, shows_key, is_nonempty, is_signed, link_holds, links_hold, is_chain, justified}
+use Rattle.dns_model.specs.Chains.{LinkValue, Judge, all_shown, shows_key, is_nonempty, is_signed, link_holds, links_hold, justified}
 use Rattle.std.specs.Prelude.{slice_get}
 use Rattle.dns_model.specs.SoundAnswers.{ChainValue, ResponseValue}
 use Rattle.dns_report.specs.declared.parts.Parts.{Parts}
@@ -21,7 +21,8 @@ abbrev AllEven : List LinkValue → Type 0
 AllEven [] = Unit {0}
 AllEven (link ∷ links) = Even link × AllEven links
 
-shown_even : (earlier : List LinkValue) (owner : Labels) (class : ℕ) (keys : List (List ℕ)) (links : List ℕ) → all_shown earlier owner class keys links ≡ true → length keys ≡ length links
+shown_even : (earlier : List LinkValue) (owner : Labels) (class : ℕ) (keys : List (List ℕ)) (links : List ℕ)
+    → all_shown earlier owner class keys links ≡ true → length keys ≡ length links
 unfolding all_shown
 shown_even earlier owner class [] [] h = refl
 shown_even earlier owner class [] (n ∷ ns) h = cc h
@@ -35,7 +36,8 @@ unfolding link_holds
 link_even j earlier (trust.Anchored owner class key) h = tt
 link_even j earlier (trust.Matched owner class key ds_link ds) h = tt
 link_even j earlier (trust.KeySet owner class keys links) h =
-    shown_even earlier owner class keys links (and_parts (is_nonempty keys) (all_shown earlier owner class keys links) h).1
+    shown_even earlier owner class keys links
+    (and_parts (is_nonempty keys) (all_shown earlier owner class keys links) h).1
 link_even j earlier (trust.Signed owner class rtype rdatas sig key_link key) h = tt
 
 links_even : (j : Judge) (earlier links : List LinkValue) → links_hold j earlier links ≡ true → AllEven links
@@ -53,14 +55,16 @@ abbrev seconds : List Numbered → List (List ℕ)
 seconds [] = []
 seconds (pair ∷ pairs) = pair.1 ∷ seconds pairs
 
-firsts_back : (keys : List (List ℕ)) (links : List ℕ) → length keys ≡ length links → firsts (numbered keys links) ≡ links
+firsts_back : (keys : List (List ℕ)) (links : List ℕ) → length keys ≡ length links
+    → firsts (numbered keys links) ≡ links
 unfolding numbered
 firsts_back [] [] h = refl
 firsts_back [] (n ∷ ns) h = absurd (omega (arith, h))
 firsts_back (k ∷ ks) [] h = absurd (omega (arith, h))
 firsts_back (k ∷ ks) (n ∷ ns) h = ap (λ l. n ∷ l) (firsts_back ks ns (omega (arith, h)))
 
-seconds_back : (keys : List (List ℕ)) (links : List ℕ) → length keys ≡ length links → seconds (numbered keys links) ≡ keys
+seconds_back : (keys : List (List ℕ)) (links : List ℕ) → length keys ≡ length links
+    → seconds (numbered keys links) ≡ keys
 unfolding numbered
 seconds_back [] [] h = refl
 seconds_back [] (n ∷ ns) h = absurd (omega (arith, h))
@@ -77,7 +81,8 @@ whole (Signed owner class rtype rdatas sig key_link key) = trust.Signed owner cl
 whole_back : (link : LinkValue) → Even link → whole (shown_link link) ≡ link
 whole_back (trust.Anchored owner class key) even = refl
 whole_back (trust.Matched owner class key ds_link ds) even = refl
-whole_back (trust.KeySet owner class keys links) even = rw (seconds_back keys links even, firsts_back keys links even) refl
+whole_back (trust.KeySet owner class keys links) even =
+    rw (seconds_back keys links even, firsts_back keys links even) refl
 whole_back (trust.Signed owner class rtype rdatas sig key_link key) even = refl
 
 links_back : (links : List LinkValue) → AllEven links → map whole (map shown_link links) ≡ links
@@ -87,12 +92,14 @@ links_back (link ∷ links) even = rw (whole_back link even.0, links_back links 
 abbrev whole_chain : ChainView → ChainValue
 whole_chain chain = record { section = chain.section; links = map whole chain.links }
 
-chains_back : (j : Judge) (chains : List ChainValue) → all_justified j chains ≡ true → map whole_chain (map chain_view chains) ≡ chains
+chains_back : (j : Judge) (chains : List ChainValue) → all_justified j chains ≡ true
+    → map whole_chain (map chain_view chains) ≡ chains
 chains_back j [] h = refl
 chains_back j (chain ∷ chains) h =
     let parts = and_parts (justified j chain.links) (all_justified j chains) h in
-    let holds = and_parts (is_chain chain.links) (links_hold j [] chain.links) parts.0 in
-    chain_same chain.section (map whole (map shown_link chain.links)) chain.links (map whole_chain (map chain_view chains)) chains
+    let holds = and_parts (is_nonempty chain.links) (links_hold j [] chain.links) parts.0 in
+    chain_same chain.section (map whole (map shown_link chain.links)) chain.links
+    (map whole_chain (map chain_view chains)) chains
     (links_back chain.links (links_even j [] chain.links holds.1)) (chains_back j chains parts.1)
   where
     chain_same : (s : Section) (a b : List LinkValue) (cs ds : List ChainValue) → a ≡ b → cs ≡ ds
@@ -100,7 +107,8 @@ chains_back j (chain ∷ chains) h =
     chain_same s a b cs ds e f = rw (e, f) refl
 
 -- two answers with one view, whose chains are justified, have the same chains
-pub view_tells_chains : (j k : Judge) (shows : Parts) (a b : ResponseValue) → all_justified j a.chains ≡ true → all_justified k b.chains ≡ true
+pub view_tells_chains : (j k : Judge) (shows : Parts) (a b : ResponseValue) → all_justified j a.chains ≡ true
+    → all_justified k b.chains ≡ true
     → view_of shows a ≡ view_of shows b → a.chains ≡ b.chains
 view_tells_chains j k shows a b first second h =
     sym (chains_back j a.chains first) ∙ ap (λ (v : View). map whole_chain v.chains) h ∙ chains_back k b.chains second

@@ -8,9 +8,9 @@ use Rattle.dns_model.specs.Bytes.{is_bytes}
 use Rattle.dns_model.specs.Names.{Labels, is_name}
 use Rattle.dns_model.specs.NameText.{printed}
 use Rattle.dns_record.specs.Words.{type_word, class_word}
-use Rattle.dns_words.specs.Words.{octets_word}
+use Rattle.dns_text.specs.Words.{octets_word}
 use Rattle.dns_report.specs.LineWords.{Words}
-use Rattle.dns_words.proofs.WordShapes.{is_word, decimal_word, type_is_word, class_is_word, type_injective, class_injective, octets_is_word, octets_injective}
+use Rattle.dns_text.proofs.WordShapes.{is_word, decimal_word, type_is_word, class_is_word, type_injective, class_injective, octets_is_word, octets_injective}
 use Rattle.dns_report.specs.Fields.{fitting_name, is_u16, is_u32}
 use Rattle.dns_report.specs.View.{Numbered, fitting_key}
 use Rattle.dns_report.specs.Report.{key_words}
@@ -48,7 +48,8 @@ type_tells a b first second h = type_injective a b (below_u16 a first) (below_u1
 
 pub small_tells : (a b : ℕ) → is_u16 a ≡ true → is_u16 b ≡ true → decimal a ≡ decimal b → a ≡ b
 small_tells a b first second h =
-    decimal_injective a b (let le = below_u16 a first in omega (arith, le)) (let le = below_u16 b second in omega (arith, le)) h
+    decimal_injective a b (let le = below_u16 a first in omega (arith, le))
+    (let le = below_u16 b second in omega (arith, le)) h
 
 pub number_tells : (a b : ℕ) → is_u32 a ≡ true → is_u32 b ≡ true → decimal a ≡ decimal b → a ≡ b
 number_tells a b first second h = decimal_injective a b (below_u32 a first) (below_u32 b second) h
@@ -81,10 +82,12 @@ each_tells word fits one (v ∷ vs) (w ∷ ws) first second h =
     let rest : map word vs ≡ map word ws = ap more_words h in
     rw (one v w parts.0 others.0 head, each_tells word fits one vs ws parts.1 others.1 rest) refl
 
-pub rdatas_good : (rdatas : List (List ℕ)) → list_all is_bytes rdatas ≡ true → list_all is_word (map octets_word rdatas) ≡ true
+pub rdatas_good : (rdatas : List (List ℕ)) → list_all is_bytes rdatas ≡ true
+    → list_all is_word (map octets_word rdatas) ≡ true
 rdatas_good rdatas h = each_good octets_word is_bytes octets_is_word rdatas h
 
-pub rdatas_tell : (a b : List (List ℕ)) → list_all is_bytes a ≡ true → list_all is_bytes b ≡ true → map octets_word a ≡ map octets_word b → a ≡ b
+pub rdatas_tell : (a b : List (List ℕ)) → list_all is_bytes a ≡ true → list_all is_bytes b ≡ true
+    → map octets_word a ≡ map octets_word b → a ≡ b
 rdatas_tell a b first second h = each_tells octets_word is_bytes octets_injective a b first second h
 
 pub keys_good : (keys : List Numbered) → list_all fitting_key keys ≡ true → list_all is_word (key_words keys) ≡ true
@@ -95,7 +98,8 @@ keys_good (k ∷ ks) h =
     let both = and_parts (is_u32 k.0) (is_bytes k.1) parts.0 in
     rw (number_good k.0 both.0, octets_is_word k.1 both.1) (keys_good ks parts.1)
 
-pub keys_tell : (a b : List Numbered) → list_all fitting_key a ≡ true → list_all fitting_key b ≡ true → key_words a ≡ key_words b → a ≡ b
+pub keys_tell : (a b : List Numbered) → list_all fitting_key a ≡ true → list_all fitting_key b ≡ true
+    → key_words a ≡ key_words b → a ≡ b
 unfolding key_words
 keys_tell [] [] first second h = refl
 keys_tell [] (s ∷ ss) first second h = cc h
@@ -108,7 +112,9 @@ keys_tell (r ∷ rs) (s ∷ ss) first second h =
     let one : decimal r.0 ≡ decimal s.0 = ap (λ l. get_or l 0 []) h in
     let next : octets_word r.1 ≡ octets_word s.1 = ap (λ l. get_or l 1 []) h in
     let rest : key_words rs ≡ key_words ss = ap (λ l. more_words (more_words l)) h in
-    pairs_same r.0 s.0 r.1 s.1 rs ss (number_tells r.0 s.0 both.0 two.0 one) (octets_injective r.1 s.1 both.1 two.1 next) (keys_tell rs ss parts.1 others.1 rest)
+    pairs_same r.0 s.0 r.1 s.1 rs ss (number_tells r.0 s.0 both.0 two.0 one)
+    (octets_injective r.1 s.1 both.1 two.1 next) (keys_tell rs ss parts.1 others.1 rest)
   where
-    pairs_same : (m n : ℕ) (k l : List ℕ) (ks ls : List Numbered) → m ≡ n → k ≡ l → ks ≡ ls → ◌≡◌ {A = List Numbered} ((m, k) ∷ ks) ((n, l) ∷ ls)
+    pairs_same : (m n : ℕ) (k l : List ℕ) (ks ls : List Numbered) → m ≡ n → k ≡ l → ks ≡ ls
+        → ◌≡◌ {A = List Numbered} ((m, k) ∷ ks) ((n, l) ∷ ls)
     pairs_same m n k l ks ls e f g = rw (e, f, g) refl

@@ -27,7 +27,8 @@ pub record Same {A : Type 0} (v w : A) (x y : List Line) : Type 0 where
 
 -- the lines of a value tell it, where it fits
 abbrev pub Tells : {A : Type 0} → Block A → (A → Bool) → Type 0
-Tells {A} block fits = (v w : A) (x y : List Line) → fits v ≡ true → fits w ≡ true → block v x ≡ block w y → Same v w x y
+Tells {A} block fits =
+    (v w : A) (x y : List Line) → fits v ≡ true → fits w ≡ true → block v x ≡ block w y → Same v w x y
 
 -- a line tells its value, where it fits
 abbrev pub LineTells : {A : Type 0} → (A → Line) → (A → Bool) → Type 0
@@ -59,7 +60,8 @@ other_lines h = ap others_of h
 pub no_yes : false ≡ true → ⊥
 no_yes h = cc
 
-pub one_line_tells : {A : Type 0} (line_of : A → Line) (fits : A → Bool) → LineTells line_of fits → Tells (one_line line_of) fits
+pub one_line_tells : {A : Type 0} (line_of : A → Line) (fits : A → Bool) → LineTells line_of fits
+    → Tells (one_line line_of) fits
 one_line_tells line_of fits one v w x y first second h = record { value = one v w first second (first_line h); rest = other_lines h }
 
 -- values whose end shows, since no line of another begins as theirs
@@ -94,7 +96,8 @@ counted_tell block fits tells (v ∷ vs) (w ∷ ws) x y size first second h =
     record { value = rw (one.value, more.value) refl; rest = more.rest }
 
 -- what follows values begins otherwise than each of them
-pub blocks_start : {A : Type 0} (block : Block A) (is_one : Line → Bool) → ((v : A) (x : List Line) → starts is_one (block v x) ≡ false)
+pub blocks_start : {A : Type 0} (block : Block A) (is_one : Line → Bool)
+    → ((v : A) (x : List Line) → starts is_one (block v x) ≡ false)
     → (vs : List A) (x : List Line) → starts is_one x ≡ false → starts is_one (blocks block vs x) ≡ false
 blocks_start block is_one front [] x after = after
 blocks_start block is_one front (v ∷ vs) x after = front v (blocks block vs x)
@@ -102,14 +105,17 @@ blocks_start block is_one front (v ∷ vs) x after = front v (blocks block vs x)
 -- each byte of a word in the lines is above the space
 pub blocks_good : {A : Type 0} (block : Block A) (fits : A → Bool)
     → ((v : A) (x : List Line) → fits v ≡ true → list_all is_line x ≡ true → list_all is_line (block v x) ≡ true)
-    → (vs : List A) (x : List Line) → list_all fits vs ≡ true → list_all is_line x ≡ true → list_all is_line (blocks block vs x) ≡ true
+    → (vs : List A) (x : List Line) → list_all fits vs ≡ true → list_all is_line x ≡ true
+    → list_all is_line (blocks block vs x) ≡ true
 blocks_good block fits one [] x h rest = rest
 blocks_good block fits one (v ∷ vs) x h rest =
     let parts = and_parts (fits v) (list_all fits vs) h in
     one v (blocks block vs x) parts.0 (blocks_good block fits one vs x parts.1 rest)
 
-pub one_line_good : {A : Type 0} (line_of : A → Line) (fits : A → Bool) → ((v : A) → fits v ≡ true → is_line (line_of v) ≡ true)
-    → (v : A) (x : List Line) → fits v ≡ true → list_all is_line x ≡ true → list_all is_line (one_line line_of v x) ≡ true
+pub one_line_good : {A : Type 0} (line_of : A → Line) (fits : A → Bool)
+    → ((v : A) → fits v ≡ true → is_line (line_of v) ≡ true)
+    → (v : A) (x : List Line) → fits v ≡ true → list_all is_line x ≡ true
+    → list_all is_line (one_line line_of v x) ≡ true
 one_line_good line_of fits one v x h rest = rw (one v h) rest
 
 -- the text of values is that of their lines

@@ -7,9 +7,9 @@ use Rattle.std.proofs.lemmas.Fmt.{decimal_injective}
 use Rattle.dns_model.specs.Bytes.{is_bytes}
 use Rattle.dns_model.specs.Names.{Labels}
 use Rattle.dns_model.specs.declared.section.Section.{Section}
-use Rattle.dns_words.specs.Words.{octets_word}
+use Rattle.dns_text.specs.Words.{octets_word}
 use Rattle.dns_report.specs.LineWords.{section_word}
-use Rattle.dns_words.proofs.WordShapes.{decimal_word, octets_is_word, octets_injective}
+use Rattle.dns_text.proofs.WordShapes.{decimal_word, octets_is_word, octets_injective}
 use Rattle.dns_report.specs.Fields.{fitting_name, is_u16, is_u32}
 use Rattle.dns_report.specs.View.{Numbered, Shown, Anchored, Matched, KeySet, Signed, ChainView, fitting_key, fitting_link, fitting_chain}
 use Rattle.dns_report.specs.Report.{key_words}
@@ -26,7 +26,8 @@ record FitsAnchored (owner : Labels) (class : ℕ) (key : List ℕ) : Type 0 whe
   classed : is_u16 class ≡ true
   keyed : is_bytes key ≡ true
 
-fits_anchored : (owner : Labels) (class : ℕ) (key : List ℕ) → fitting_link (Anchored owner class key) ≡ true → FitsAnchored owner class key
+fits_anchored : (owner : Labels) (class : ℕ) (key : List ℕ) → fitting_link (Anchored owner class key) ≡ true
+    → FitsAnchored owner class key
 fits_anchored owner class key h =
     let a = and_parts (fitting_name owner) (is_u16 class && is_bytes key) h in
     let b = and_parts (is_u16 class) (is_bytes key) a.1 in
@@ -39,7 +40,8 @@ record FitsMatched (owner : Labels) (class : ℕ) (key : List ℕ) (ds_link : �
   linked : is_u32 ds_link ≡ true
   shown : is_bytes ds ≡ true
 
-fits_matched : (owner : Labels) (class : ℕ) (key : List ℕ) (ds_link : ℕ) (ds : List ℕ) → fitting_link (Matched owner class key ds_link ds) ≡ true
+fits_matched : (owner : Labels) (class : ℕ) (key : List ℕ) (ds_link : ℕ) (ds : List ℕ)
+    → fitting_link (Matched owner class key ds_link ds) ≡ true
     → FitsMatched owner class key ds_link ds
 fits_matched owner class key ds_link ds h =
     let a = and_parts (fitting_name owner) (is_u16 class && (is_bytes key && (is_u32 ds_link && is_bytes ds))) h in
@@ -53,7 +55,8 @@ record FitsKeySet (owner : Labels) (class : ℕ) (keys : List Numbered) : Type 0
   classed : is_u16 class ≡ true
   keyed : list_all fitting_key keys ≡ true
 
-fits_key_set : (owner : Labels) (class : ℕ) (keys : List Numbered) → fitting_link (KeySet owner class keys) ≡ true → FitsKeySet owner class keys
+fits_key_set : (owner : Labels) (class : ℕ) (keys : List Numbered) → fitting_link (KeySet owner class keys) ≡ true
+    → FitsKeySet owner class keys
 fits_key_set owner class keys h =
     let a = and_parts (fitting_name owner) (is_u16 class && list_all fitting_key keys) h in
     let b = and_parts (is_u16 class) (list_all fitting_key keys) a.1 in
@@ -69,11 +72,15 @@ record FitsSigned (owner : Labels) (class rtype : ℕ) (rdatas : List (List ℕ)
   listed : list_all is_bytes rdatas ≡ true
 
 fits_signed : (owner : Labels) (class rtype : ℕ) (rdatas : List (List ℕ)) (sig : List ℕ) (key_link : ℕ) (key : List ℕ)
-    → fitting_link (Signed owner class rtype rdatas sig key_link key) ≡ true → FitsSigned owner class rtype rdatas sig key_link key
+    → fitting_link (Signed owner class rtype rdatas sig key_link key) ≡ true
+    → FitsSigned owner class rtype rdatas sig key_link key
 fits_signed owner class rtype rdatas sig key_link key h =
-    let a = and_parts (fitting_name owner) (is_u16 class && (is_u16 rtype && (is_u32 key_link && (is_bytes key && (is_bytes sig && list_all is_bytes rdatas))))) h in
-    let b = and_parts (is_u16 class) (is_u16 rtype && (is_u32 key_link && (is_bytes key && (is_bytes sig && list_all is_bytes rdatas)))) a.1 in
-    let c = and_parts (is_u16 rtype) (is_u32 key_link && (is_bytes key && (is_bytes sig && list_all is_bytes rdatas))) b.1 in
+    let a =
+    and_parts (fitting_name owner) (is_u16 class && (is_u16 rtype && (is_u32 key_link && (is_bytes key && (is_bytes sig && list_all is_bytes rdatas))))) h in
+    let b =
+    and_parts (is_u16 class) (is_u16 rtype && (is_u32 key_link && (is_bytes key && (is_bytes sig && list_all is_bytes rdatas)))) a.1 in
+    let c =
+    and_parts (is_u16 rtype) (is_u32 key_link && (is_bytes key && (is_bytes sig && list_all is_bytes rdatas))) b.1 in
     let d = and_parts (is_u32 key_link) (is_bytes key && (is_bytes sig && list_all is_bytes rdatas)) c.1 in
     let e = and_parts (is_bytes key) (is_bytes sig && list_all is_bytes rdatas) d.1 in
     let f = and_parts (is_bytes sig) (list_all is_bytes rdatas) e.1 in
@@ -81,12 +88,15 @@ fits_signed owner class rtype rdatas sig key_link key h =
 
 link_good : (l : Shown) → fitting_link l ≡ true → is_line (link_of l) ≡ true
 link_good (Anchored owner class key) h =
-    let f = fits_anchored owner class key h in rw (printed_word owner, class_good class f.classed, octets_is_word key f.keyed) refl
+    let f =
+    fits_anchored owner class key h in rw
+    (printed_word owner, class_good class f.classed, octets_is_word key f.keyed) refl
 link_good (Matched owner class key ds_link ds) h =
     let f = fits_matched owner class key ds_link ds h in
     rw (printed_word owner, class_good class f.classed, octets_is_word key f.keyed, number_good ds_link f.linked, octets_is_word ds f.shown) refl
 link_good (KeySet owner class keys) h =
-    let f = fits_key_set owner class keys h in rw (printed_word owner, class_good class f.classed, keys_good keys f.keyed) refl
+    let f =
+    fits_key_set owner class keys h in rw (printed_word owner, class_good class f.classed, keys_good keys f.keyed) refl
 link_good (Signed owner class rtype rdatas sig key_link key) h =
     let f = fits_signed owner class rtype rdatas sig key_link key h in
     rw (
@@ -109,22 +119,16 @@ apart l m h other = absurd (other (ap letter h))
 anchored_same : (o p : Labels) (c d : ℕ) (k l : List ℕ) → o ≡ p → c ≡ d → k ≡ l → Anchored o c k ≡ Anchored p d l
 anchored_same o p c d k l a b e = rw (a, b, e) refl
 
-matched_same : (o p : Labels) (c d : ℕ) (k l : List ℕ) (m n : ℕ) (x y : List ℕ) → o ≡ p → c ≡ d → k ≡ l → m ≡ n → x ≡ y → Matched o c k m x ≡ Matched p d l n y
-matched_same o p c d k l m n x y a b e f g = rw (a, b, e, f, g) refl
-
 key_set_same : (o p : Labels) (c d : ℕ) (k l : List Numbered) → o ≡ p → c ≡ d → k ≡ l → KeySet o c k ≡ KeySet p d l
 key_set_same o p c d k l a b e = rw (a, b, e) refl
-
-signed_same : (o p : Labels) (c d t u : ℕ) (r s : List (List ℕ)) (x y : List ℕ) (m n : ℕ) (k l : List ℕ) → o ≡ p → c ≡ d → t ≡ u → r ≡ s → x ≡ y → m ≡ n → k ≡ l
-    → Signed o c t r x m k ≡ Signed p d u s y n l
-signed_same o p c d t u r s x y m n k l a b e f g h i = rw (a, b, e, f, g, h, i) refl
 
 -- a link's line tells it
 link_tells : (l m : Shown) → fitting_link l ≡ true → fitting_link m ≡ true → link_of l ≡ link_of m → l ≡ m
 link_tells (Anchored o c k) (Anchored p d l) first second h =
     let f = fits_anchored o c k first in
     let g = fits_anchored p d l second in
-    anchored_same o p c d k l (name_tells o p f.named g.named (word_same _ _ 0 h)) (class_tells c d f.classed g.classed (word_same _ _ 1 h))
+    anchored_same o p c d k l (name_tells o p f.named g.named (word_same _ _ 0 h))
+    (class_tells c d f.classed g.classed (word_same _ _ 1 h))
     (octets_injective k l f.keyed g.keyed (word_same _ _ 2 h))
 link_tells (Anchored o c k) (Matched p d l n y) first second h = apart _ _ h (λ (e : 97 ≡ 109). omega (arith, e))
 link_tells (Anchored o c k) (KeySet p d l) first second h = apart _ _ h (λ (e : 97 ≡ 107). omega (arith, e))
@@ -133,8 +137,12 @@ link_tells (Matched o c k m x) (Anchored p d l) first second h = apart _ _ h (λ
 link_tells (Matched o c k m x) (Matched p d l n y) first second h =
     let f = fits_matched o c k m x first in
     let g = fits_matched p d l n y second in
-    matched_same o p c d k l m n x y (name_tells o p f.named g.named (word_same _ _ 0 h)) (class_tells c d f.classed g.classed (word_same _ _ 1 h))
-    (octets_injective k l f.keyed g.keyed (word_same _ _ 2 h)) (number_tells m n f.linked g.linked (word_same _ _ 3 h)) (octets_injective x y f.shown g.shown (word_same _ _ 4 h))
+    let owner : o ≡ p = name_tells o p f.named g.named (word_same _ _ 0 h) in
+    let class : c ≡ d = class_tells c d f.classed g.classed (word_same _ _ 1 h) in
+    let key : k ≡ l = octets_injective k l f.keyed g.keyed (word_same _ _ 2 h) in
+    let link : m ≡ n = number_tells m n f.linked g.linked (word_same _ _ 3 h) in
+    let ds : x ≡ y = octets_injective x y f.shown g.shown (word_same _ _ 4 h) in
+    λ i. Matched (owner i) (class i) (key i) (link i) (ds i)
 link_tells (Matched o c k m x) (KeySet p d l) first second h = apart _ _ h (λ (e : 109 ≡ 107). omega (arith, e))
 link_tells (Matched o c k m x) (Signed p d u s y n l) first second h = apart _ _ h (λ (e : 109 ≡ 115). omega (arith, e))
 link_tells (KeySet o c k) (Anchored p d l) first second h = apart _ _ h (λ (e : 107 ≡ 97). omega (arith, e))
@@ -143,7 +151,8 @@ link_tells (KeySet o c k) (KeySet p d l) first second h =
     let f = fits_key_set o c k first in
     let g = fits_key_set p d l second in
     let keys : key_words k ≡ key_words l = ap (λ (l : Line). more_words (more_words l.1)) h in
-    key_set_same o p c d k l (name_tells o p f.named g.named (word_same _ _ 0 h)) (class_tells c d f.classed g.classed (word_same _ _ 1 h))
+    key_set_same o p c d k l (name_tells o p f.named g.named (word_same _ _ 0 h))
+    (class_tells c d f.classed g.classed (word_same _ _ 1 h))
     (keys_tell k l f.keyed g.keyed keys)
 link_tells (KeySet o c k) (Signed p d u s y n l) first second h = apart _ _ h (λ (e : 107 ≡ 115). omega (arith, e))
 link_tells (Signed o c t r x m k) (Anchored p d l) first second h = apart _ _ h (λ (e : 115 ≡ 97). omega (arith, e))
@@ -154,9 +163,14 @@ link_tells (Signed o c t r x m k) (Signed p d u s y n l) first second h =
     let g = fits_signed p d u s y n l second in
     let rdatas : map octets_word r ≡ map octets_word s =
     ap (λ (l : Line). more_words (more_words (more_words (more_words (more_words (more_words l.1)))))) h in
-    signed_same o p c d t u r s x y m n k l (name_tells o p f.named g.named (word_same _ _ 0 h)) (class_tells c d f.classed g.classed (word_same _ _ 1 h))
-    (type_tells t u f.typed g.typed (word_same _ _ 2 h)) (rdatas_tell r s f.listed g.listed rdatas) (octets_injective x y f.signed g.signed (word_same _ _ 5 h))
-    (number_tells m n f.linked g.linked (word_same _ _ 3 h)) (octets_injective k l f.keyed g.keyed (word_same _ _ 4 h))
+    let owner : o ≡ p = name_tells o p f.named g.named (word_same _ _ 0 h) in
+    let class : c ≡ d = class_tells c d f.classed g.classed (word_same _ _ 1 h) in
+    let rtype : t ≡ u = type_tells t u f.typed g.typed (word_same _ _ 2 h) in
+    let link : m ≡ n = number_tells m n f.linked g.linked (word_same _ _ 3 h) in
+    let key : k ≡ l = octets_injective k l f.keyed g.keyed (word_same _ _ 4 h) in
+    let sig : x ≡ y = octets_injective x y f.signed g.signed (word_same _ _ 5 h) in
+    let listed : r ≡ s = rdatas_tell r s f.listed g.listed rdatas in
+    λ i. Signed (owner i) (class i) (rtype i) (listed i) (sig i) (link i) (key i)
 
 -- ---- chains
 
@@ -181,22 +195,27 @@ chain_tells c d x y first second h =
     let front : front_of c ≡ front_of d = first_line h in
     let section : section_word c.section ≡ section_word d.section = word_same _ _ 0 front in
     let count : decimal (length c.links) ≡ decimal (length d.links) = word_same _ _ 1 front in
-    let links = counted_tell (one_line link_of) fitting_link (one_line_tells link_of fitting_link link_tells) c.links d.links x y
-    (decimal_injective (length c.links) (length d.links) one.count two.count count) one.links two.links (other_lines h) in
+    let links =
+    counted_tell (one_line link_of) fitting_link (one_line_tells link_of fitting_link link_tells) c.links d.links x y
+    (decimal_injective (length c.links) (length d.links) one.count two.count count) one.links two.links
+    (other_lines h) in
     record { value = chain_same c.section d.section c.links d.links (section_injective c.section d.section section) links.value; rest = links.rest }
 
 -- the lines of chains tell the chains
-pub chains_tell : (cs ds : List ChainView) (x y : List Line) → list_all fitting_chain cs ≡ true → list_all fitting_chain ds ≡ true
+pub chains_tell : (cs ds : List ChainView) (x y : List Line) → list_all fitting_chain cs ≡ true
+    → list_all fitting_chain ds ≡ true
     → starts (named (codes "chain")) x ≡ false → starts (named (codes "chain")) y ≡ false
     → blocks chain_lines cs x ≡ blocks chain_lines ds y → Same cs ds x y
 chains_tell = blocks_tell chain_lines fitting_chain (named (codes "chain")) chain_tells (λ c x. refl)
 
-chain_good : (c : ChainView) (more : List Line) → fitting_chain c ≡ true → list_all is_line more ≡ true → list_all is_line (chain_lines c more) ≡ true
+chain_good : (c : ChainView) (more : List Line) → fitting_chain c ≡ true → list_all is_line more ≡ true
+    → list_all is_line (chain_lines c more) ≡ true
 chain_good c more h rest =
     let f = fits_chain c h in
     rw (section_is_word c.section, decimal_word (length c.links) f.count)
     (blocks_good (one_line link_of) fitting_link (one_line_good link_of fitting_link link_good) c.links more f.links rest)
 
-pub chains_good : (cs : List ChainView) (more : List Line) → list_all fitting_chain cs ≡ true → list_all is_line more ≡ true
+pub chains_good : (cs : List ChainView) (more : List Line) → list_all fitting_chain cs ≡ true
+    → list_all is_line more ≡ true
     → list_all is_line (blocks chain_lines cs more) ≡ true
 chains_good = blocks_good chain_lines fitting_chain chain_good

@@ -7,12 +7,13 @@ use Rattle.dns_model.specs.declared.section.Section.{Section}
 use Rattle.dns_model.specs.declared.section.Section.TheVariants.{Answer, Authority, Additional}
 use Rattle.dns_model.specs.declared.denial.Denial.{Denial}
 use Rattle.dns_model.specs.declared.denial.Denial.TheVariants.{None, Absent, Expanded}
-use Rattle.dns_words.proofs.WordShapes.{is_word}
+use Rattle.dns_text.proofs.WordShapes.{is_word}
 use Rattle.dns_report.specs.LineWords.{Words, mark_word, section_word, denial_words}
 
 -- the words differ in length
 abbrev pub mark_of : List ℕ → Proof
-mark_of word = if length word == 6 then Secure else if length word == 8 then Insecure else if length word == 5 then Bogus else Indeterminate
+mark_of word =
+    if length word == 6 then Secure else if length word == 8 then Insecure else if length word == 5 then Bogus else Indeterminate
 
 pub mark_back : (mark : Proof) → mark_of (mark_word mark) ≡ mark
 mark_back Secure = refl

@@ -8,7 +8,7 @@ use Rattle.dns_model.specs.Names.{Label, Labels, is_name}
 use Rattle.dns_model.specs.NameText.{dot, backslash, is_special, is_printable, three_digits, printed_byte, printed_label, printed, read_name}
 use Rattle.dns_model.specs.declared.name_error.NameError.{NameError}
 use Rattle.dns_name.proofs.TextLemmas.{read_printed}
-use Rattle.dns_words.proofs.WordShapes.{is_word, word_append}
+use Rattle.dns_text.proofs.WordShapes.{is_word, word_append}
 
 digits_word : (byte : ℕ) → is_word (three_digits byte) ≡ true
 digits_word byte =
@@ -21,14 +21,16 @@ byte_word : (byte : ℕ) → is_word (printed_byte byte) ≡ true
 unfolding printed_byte
 byte_word byte = word_cases (is_special byte) (is_printable byte) refl refl
   where
-    word_cases : (s p : Bool) → s ≡ is_special byte → p ≡ is_printable byte → is_word (cond s (backslash ∷ byte ∷ []) (cond p (byte ∷ []) (backslash ∷ three_digits byte))) ≡ true
+    word_cases : (s p : Bool) → s ≡ is_special byte → p ≡ is_printable byte
+        → is_word (cond s (backslash ∷ byte ∷ []) (cond p (byte ∷ []) (backslash ∷ three_digits byte))) ≡ true
     word_cases true p is shown = let above : nat_lt 32 byte ≡ true = grind (arith, nat_tests) in rw above refl
     word_cases false true is shown = let above : nat_lt 32 byte ≡ true = grind (arith, nat_tests) in rw above refl
     word_cases false false is shown = digits_word byte
 
 bytes_word : (label : Label) → is_word (flat_map printed_byte label) ≡ true
 bytes_word [] = refl
-bytes_word (byte ∷ label) = word_append (printed_byte byte) (flat_map printed_byte label) (byte_word byte) (bytes_word label)
+bytes_word (byte ∷ label) =
+    word_append (printed_byte byte) (flat_map printed_byte label) (byte_word byte) (bytes_word label)
 
 labels_word : (name : Labels) → is_word (flat_map printed_label name) ≡ true
 labels_word [] = refl
@@ -40,7 +42,9 @@ pub printed_word : (name : Labels) → is_word (printed name) ≡ true
 printed_word [] = refl
 printed_word (label ∷ name) = labels_word (label ∷ name)
 
-pub printed_injective : (a b : Labels) → is_name a ≡ true → list_all is_bytes a ≡ true → is_name b ≡ true → list_all is_bytes b ≡ true → printed a ≡ printed b → a ≡ b
+pub printed_injective : (a b : Labels) → is_name a ≡ true → list_all is_bytes a ≡ true → is_name b ≡ true
+    → list_all is_bytes b ≡ true → printed a ≡ printed b → a ≡ b
 printed_injective a b first first_bytes second second_bytes h =
-    let e : ◌≡◌ {A = Result Labels NameError} (Ok a) (Ok b) = sym (read_printed a first first_bytes) ∙ ap read_name h ∙ read_printed b second second_bytes in
+    let e : ◌≡◌ {A = Result Labels NameError} (Ok a) (Ok b) =
+    sym (read_printed a first first_bytes) ∙ ap read_name h ∙ read_printed b second second_bytes in
     ap (λ r. result_unwrap_or r a) e

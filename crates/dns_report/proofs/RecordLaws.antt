@@ -11,8 +11,8 @@ use Rattle.dns_model.specs.declared.proof.Proof.{Proof}
 use Rattle.dns_model.specs.declared.section.Section.{Section}
 use Rattle.dns_model.proofs.ChainLemmas.{bytes_refl}
 use Rattle.dns_record.specs.Words.{type_word, class_word}
-use Rattle.dns_words.specs.Words.{octets_word}
-use Rattle.dns_words.proofs.WordShapes.{octets_is_word, octets_injective}
+use Rattle.dns_text.specs.Words.{octets_word}
+use Rattle.dns_text.proofs.WordShapes.{octets_is_word, octets_injective}
 use Rattle.dns_report.specs.LineWords.{mark_word, section_word}
 use Rattle.dns_report.specs.Fields.{fitting_name, is_u16, is_u32}
 use Rattle.dns_report.specs.View.{fitting_record}
@@ -33,7 +33,8 @@ record Fields (r : Rr) : Type 0 where
 
 fields_of : (r : Rr) → fitting_record r ≡ true → Fields r
 fields_of r h =
-    let a = and_parts (fitting_name r.owner) (is_u16 r.class && (is_u16 r.rtype && (is_u32 r.ttl && is_bytes r.rdata))) h in
+    let a =
+    and_parts (fitting_name r.owner) (is_u16 r.class && (is_u16 r.rtype && (is_u32 r.ttl && is_bytes r.rdata))) h in
     let b = and_parts (is_u16 r.class) (is_u16 r.rtype && (is_u32 r.ttl && is_bytes r.rdata)) a.1 in
     let c = and_parts (is_u16 r.rtype) (is_u32 r.ttl && is_bytes r.rdata) b.1 in
     let d = and_parts (is_u32 r.ttl) (is_bytes r.rdata) c.1 in
@@ -52,12 +53,20 @@ record_good section r h =
       octets_is_word r.rdata f.rdata,
     ) refl
 
-rr_same : (o p : Labels) (k l c d t u : ℕ) (x y : List ℕ) (m n : Proof) → o ≡ p → k ≡ l → c ≡ d → t ≡ u → x ≡ y → m ≡ n
-    → ◌≡◌ {A = Rr} (record { owner = o; rtype = k; class = c; ttl = t; rdata = x; proof = m }) (record { owner = p; rtype = l; class = d; ttl = u; rdata = y; proof = n })
-rr_same o p k l c d t u x y m n a b e f g h = rw (a, b, e, f, g, h) refl
+rr_same : (r q : Rr) → r.owner ≡ q.owner → r.rtype ≡ q.rtype → r.class ≡ q.class → r.ttl ≡ q.ttl → r.rdata ≡ q.rdata
+    → r.proof ≡ q.proof → r ≡ q
+rr_same r q owner rtype class ttl rdata mark = λ i. record {
+  owner = owner i;
+  rtype = rtype i;
+  class = class i;
+  ttl = ttl i;
+  rdata = rdata i;
+  proof = mark i;
+}
 
 -- a record's line tells it
-record_tells : (section : Section) (r q : Rr) → fitting_record r ≡ true → fitting_record q ≡ true → record_of section r ≡ record_of section q → r ≡ q
+record_tells : (section : Section) (r q : Rr) → fitting_record r ≡ true → fitting_record q ≡ true
+    → record_of section r ≡ record_of section q → r ≡ q
 record_tells section r q first second h =
     let f = fields_of r first in
     let g = fields_of q second in
@@ -67,20 +76,26 @@ record_tells section r q first second h =
     let ttl : decimal r.ttl ≡ decimal q.ttl = ap (λ (l : Line). get_or l.1 3 []) h in
     let mark : mark_word r.proof ≡ mark_word q.proof = ap (λ (l : Line). get_or l.1 4 []) h in
     let rdata : octets_word r.rdata ≡ octets_word q.rdata = ap (λ (l : Line). get_or l.1 5 []) h in
-    rr_same r.owner q.owner r.rtype q.rtype r.class q.class r.ttl q.ttl r.rdata q.rdata r.proof q.proof
-    (name_tells r.owner q.owner f.owner g.owner owner) (type_tells r.rtype q.rtype f.rtype g.rtype rtype) (class_tells r.class q.class f.class g.class class)
-    (number_tells r.ttl q.ttl f.ttl g.ttl ttl) (octets_injective r.rdata q.rdata f.rdata g.rdata rdata) (mark_injective r.proof q.proof mark)
+    rr_same r q
+    (name_tells r.owner q.owner f.owner g.owner owner) (type_tells r.rtype q.rtype f.rtype g.rtype rtype)
+    (class_tells r.class q.class f.class g.class class)
+    (number_tells r.ttl q.ttl f.ttl g.ttl ttl) (octets_injective r.rdata q.rdata f.rdata g.rdata rdata)
+    (mark_injective r.proof q.proof mark)
 
 -- ---- the records of a section
 
-pub section_tells : (section : Section) (rs qs : List Rr) (x y : List Line) → list_all fitting_record rs ≡ true → list_all fitting_record qs ≡ true
+pub section_tells : (section : Section) (rs qs : List Rr) (x y : List Line) → list_all fitting_record rs ≡ true
+    → list_all fitting_record qs ≡ true
     → starts (named (section_word section)) x ≡ false → starts (named (section_word section)) y ≡ false
     → section_lines section rs x ≡ section_lines section qs y → Same rs qs x y
 section_tells section =
     blocks_tell (one_line (record_of section)) fitting_record (named (section_word section))
-    (one_line_tells (record_of section) fitting_record (record_tells section)) (λ r x. bytes_refl (section_word section))
+    (one_line_tells (record_of section) fitting_record (record_tells section))
+    (λ r x. bytes_refl (section_word section))
 
-pub records_good : (section : Section) (rs : List Rr) (more : List Line) → list_all fitting_record rs ≡ true → list_all is_line more ≡ true
+pub records_good : (section : Section) (rs : List Rr) (more : List Line) → list_all fitting_record rs ≡ true
+    → list_all is_line more ≡ true
     → list_all is_line (section_lines section rs more) ≡ true
 records_good section =
-    blocks_good (one_line (record_of section)) fitting_record (one_line_good (record_of section) fitting_record (record_good section))
+    blocks_good (one_line (record_of section)) fitting_record
+    (one_line_good (record_of section) fitting_record (record_good section))

@@ -8,11 +8,12 @@ use Rattle.dns_model.specs.declared.section.Section.TheVariants.{Answer, Authori
 use Rattle.dns_model.specs.NameText.{printed}
 use Rattle.dns_model.specs.Records.{Rr}
 use Rattle.dns_record.specs.Words.{type_word, class_word}
-use Rattle.dns_words.specs.Words.{octets_word}
+use Rattle.dns_text.specs.Words.{octets_word}
 use Rattle.dns_report.specs.LineWords.{mark_word, section_word, denial_words}
 use Rattle.dns_report.specs.View.{Shown, Anchored, Matched, KeySet, Signed, ChainView, View}
 use Rattle.dns_report.specs.TrailLines.{trail_text}
-use Rattle.dns_report.specs.Report.{key_words, report_header, code_line, denial_line, record_line, section_text, link_line, chain_line, chain_text, records_text, head_text, view_body, report_end, view_text}
+use Rattle.dns_report.specs.Report.{key_words, record_line, section_text, link_line, chain_text, records_text, head_text, view_body, view_text}
+use Rattle.dns_report.specs.WrittenLines.{report_header, code_line, denial_line, chain_line, report_end}
 use Rattle.dns_report.proofs.LineLaws.{Line, text_of}
 use Rattle.dns_report.proofs.LineBlocks.{Block, blocks, one_line, blocks_are}
 use Rattle.dns_report.proofs.StepLines.{trail_lines, trail_is}
@@ -58,22 +59,28 @@ record_is section r more = refl
 
 records_are : (section : Section) (rs : List Rr) (more : List Line)
     → flat_map text_of (section_lines section rs more) ≡ section_text section rs ++ flat_map text_of more
-records_are section rs more = blocks_are (one_line (record_of section)) (record_line section) (record_is section) rs more
+records_are section rs more =
+    blocks_are (one_line (record_of section)) (record_line section) (record_is section) rs more
 
-link_is : (l : Shown) (more : List Line) → flat_map text_of (one_line link_of l more) ≡ link_line l ++ flat_map text_of more
+link_is : (l : Shown) (more : List Line)
+    → flat_map text_of (one_line link_of l more) ≡ link_line l ++ flat_map text_of more
 link_is (Anchored owner class key) more = refl
 link_is (Matched owner class key ds_link ds) more = refl
 link_is (KeySet owner class keys) more = refl
 link_is (Signed owner class rtype rdatas sig key_link key) more = refl
 
-chain_is : (chain : ChainView) (more : List Line) → flat_map text_of (chain_lines chain more) ≡ chain_text chain ++ flat_map text_of more
+chain_is : (chain : ChainView) (more : List Line)
+    → flat_map text_of (chain_lines chain more) ≡ chain_text chain ++ flat_map text_of more
 chain_is chain more =
     ap (λ t. chain_line chain ++ t) (blocks_are (one_line link_of) link_line link_is chain.links more)
     ∙ sym (append_assoc (chain_line chain) (flat_map link_line chain.links) (flat_map text_of more))
 
 -- the text of lines that follow the records
-later_is : (v : View) → flat_map text_of (later_lines v) ≡ flat_map chain_text v.chains ++ (trail_text v.trail ++ report_end)
-later_is v = blocks_are chain_lines chain_text chain_is v.chains (trail_lines v.trail last) ∙ ap (λ t. flat_map chain_text v.chains ++ t) (trail_is v.trail last)
+later_is : (v : View)
+    → flat_map text_of (later_lines v) ≡ flat_map chain_text v.chains ++ (trail_text v.trail ++ report_end)
+later_is v =
+    blocks_are chain_lines chain_text chain_is v.chains (trail_lines v.trail last)
+    ∙ ap (λ t. flat_map chain_text v.chains ++ t) (trail_is v.trail last)
 
 joined_alike : (h c d a u n k s e : List ℕ)
     → h ++ (c ++ (d ++ (a ++ (u ++ (n ++ (k ++ (s ++ e))))))) ≡ (((((h ++ c) ++ d) ++ ((a ++ u) ++ n)) ++ k) ++ s) ++ e
@@ -96,8 +103,13 @@ text_is_lines v =
     let authorities = section_text Authority v.authorities in
     let additionals = section_text Additional v.additionals in
     let third = records_are Additional v.additionals (later_lines v) ∙ ap (λ t. additionals ++ t) (later_is v) in
-    let second = records_are Authority v.authorities (section_lines Additional v.additionals (later_lines v)) ∙ ap (λ t. authorities ++ t) third in
-    let first = records_are Answer v.answers (section_lines Authority v.authorities (section_lines Additional v.additionals (later_lines v)))
+    let second =
+    records_are Authority v.authorities (section_lines Additional v.additionals (later_lines v))
+    ∙ ap (λ t. authorities ++ t) third in
+    let first =
+    records_are Answer v.answers
+    (section_lines Authority v.authorities (section_lines Additional v.additionals (later_lines v)))
     ∙ ap (λ t. answers ++ t) second in
     ap (λ t. report_header ++ (code_line v.code ++ (denial_line v.denial ++ t))) first
-    ∙ joined_alike report_header (code_line v.code) (denial_line v.denial) answers authorities additionals (flat_map chain_text v.chains) (trail_text v.trail) report_end
+    ∙ joined_alike report_header (code_line v.code) (denial_line v.denial) answers authorities additionals
+    (flat_map chain_text v.chains) (trail_text v.trail) report_end

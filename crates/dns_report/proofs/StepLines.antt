@@ -9,10 +9,11 @@ use Rattle.dns_model.specs.declared.trail.AskRef.{AskRef}
 use Rattle.dns_model.specs.NameText.{printed}
 use Rattle.dns_model.specs.Trails.{JudgedSetValue, EndingValue}
 use Rattle.dns_record.specs.Words.{type_word, class_word}
-use Rattle.dns_words.specs.Words.{octets_word}
+use Rattle.dns_text.specs.Words.{octets_word}
 use Rattle.dns_report.specs.LineWords.{mark_word, section_word}
 use Rattle.dns_report.specs.TrailView.{ToldRecord, HeardView, Records, Fault, StepView}
-use Rattle.dns_report.specs.TrailLines.{purpose_word, got_words, ask_word, origin_word, place_word, ending_words, step_line, got_line, told_line, told_text, set_line, ending_line, step_text, count_line, trail_text}
+use Rattle.dns_report.specs.TrailLines.{purpose_word, got_words, ask_word, origin_word, place_word, ending_words, told_line, told_text, set_line, step_text, trail_text}
+use Rattle.dns_report.specs.WrittenLines.{ending_line, count_line, step_line, got_line}
 use Rattle.dns_report.proofs.LineLaws.{Line, text_of}
 use Rattle.dns_report.proofs.LineBlocks.{Block, blocks, one_line, blocks_are}
 
@@ -67,7 +68,8 @@ told_in_is : (section : Section) (rs : List ToldRecord) (more : List Line)
     → flat_map text_of (told_in section rs more) ≡ flat_map (told_line section) rs ++ flat_map text_of more
 told_in_is section rs more = blocks_are (one_line (told_of section)) (told_line section) (told_is section) rs more
 
-told_lines_are : (reply : HeardView) (more : List Line) → flat_map text_of (told_lines reply more) ≡ told_text reply ++ flat_map text_of more
+told_lines_are : (reply : HeardView) (more : List Line)
+    → flat_map text_of (told_lines reply more) ≡ told_text reply ++ flat_map text_of more
 unfolding told_text
 told_lines_are (Records code empty answers authorities additionals) more =
     let a = flat_map (told_line Answer) answers in
@@ -75,12 +77,14 @@ told_lines_are (Records code empty answers authorities additionals) more =
     let n = flat_map (told_line Additional) additionals in
     let t = flat_map text_of more in
     told_in_is Answer answers (told_in Authority authorities (told_in Additional additionals more))
-    ∙ ap (λ x. a ++ x) (told_in_is Authority authorities (told_in Additional additionals more) ∙ ap (λ x. u ++ x) (told_in_is Additional additionals more))
+    ∙ ap (λ x. a ++ x)
+    (told_in_is Authority authorities (told_in Additional additionals more) ∙ ap (λ x. u ++ x) (told_in_is Additional additionals more))
     ∙ sym (append_assoc a u (n ++ t))
     ∙ sym (append_assoc (a ++ u) n t)
 told_lines_are Fault more = refl
 
-set_is : (s : JudgedSetValue) (more : List Line) → flat_map text_of (one_line set_of s more) ≡ set_line s ++ flat_map text_of more
+set_is : (s : JudgedSetValue) (more : List Line)
+    → flat_map text_of (one_line set_of s more) ≡ set_line s ++ flat_map text_of more
 set_is s more = refl
 
 joined_alike : (s g t k e x : List ℕ) → s ++ (g ++ (t ++ (k ++ (e ++ x)))) ≡ ((((s ++ g) ++ t) ++ k) ++ e) ++ x
@@ -92,17 +96,20 @@ joined_alike s g t k e x =
       append_assoc s g (t ++ (k ++ (e ++ x))),
     ) refl
 
-step_is : (s : StepView) (more : List Line) → flat_map text_of (step_lines s more) ≡ step_text s ++ flat_map text_of more
+step_is : (s : StepView) (more : List Line)
+    → flat_map text_of (step_lines s more) ≡ step_text s ++ flat_map text_of more
 unfolding step_text
 step_is s more =
     let e = ending_line s.ending s.excuse in
     let told = told_lines_are s.reply (judged_lines s more) in
     let sets = blocks_are (one_line set_of) set_line set_is s.sets (ending_of s.ending s.excuse ∷ more) in
     ap (λ t. step_line s ++ (got_line s.reply ++ t)) (told ∙ ap (λ t. told_text s.reply ++ t) sets)
-    ∙ joined_alike (step_line s) (got_line s.reply) (told_text s.reply) (flat_map set_line s.sets) e (flat_map text_of more)
+    ∙ joined_alike (step_line s) (got_line s.reply) (told_text s.reply) (flat_map set_line s.sets) e
+    (flat_map text_of more)
 
 -- the text of a trail is that of its lines
-pub trail_is : (trail : Option (List StepView)) (more : List Line) → flat_map text_of (trail_lines trail more) ≡ trail_text trail ++ flat_map text_of more
+pub trail_is : (trail : Option (List StepView)) (more : List Line)
+    → flat_map text_of (trail_lines trail more) ≡ trail_text trail ++ flat_map text_of more
 trail_is None more = refl
 trail_is (Some steps) more =
     ap (λ t. count_line steps ++ t) (blocks_are step_lines step_text step_is steps more)

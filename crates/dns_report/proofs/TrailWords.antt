@@ -17,17 +17,18 @@ use Rattle.dns_model.specs.declared.trail.MarkOrigin.{MarkOrigin}
 use Rattle.dns_model.specs.declared.trail.MarkOrigin.TheVariants.{Table, Repeat, Cache}
 use Rattle.dns_model.specs.Trails.{EndingValue, Answered, Denied, Foreign, Failed, Seen}
 use Rattle.dns_record.specs.Words.{type_word, class_word}
-use Rattle.dns_words.specs.Codes.{type_word_in, class_word_in}
-use Rattle.dns_words.proofs.WordLaws.{own, type_back, class_back}
-use Rattle.dns_words.proofs.WordShapes.{is_word, word_append}
+use Rattle.dns_text.specs.Codes.{type_word_in, class_word_in}
+use Rattle.dns_text.proofs.WordLaws.{own, type_back, class_back}
+use Rattle.dns_text.proofs.WordShapes.{is_word, word_append}
 use Rattle.dns_name.proofs.TextLemmas.{read_printed}
 use Rattle.dns_report.specs.LineWords.{Words}
-use Rattle.dns_report.specs.Fields.{fitting_name, is_u16}
-use Rattle.dns_report.specs.TrailView.{fitting_ask, fitting_origin, fitting_place, fitting_ending}
+use Rattle.dns_report.specs.Fields.{fitting_name, is_u16, is_u32}
+use Rattle.dns_report.specs.TrailView.{fitting_ask, fitting_origin, fitting_ending}
 use Rattle.dns_report.specs.TrailLines.{purpose_word, empty_words, ask_word, origin_word, place_word, ending_words}
 use Rattle.dns_report.proofs.NameShapes.{printed_word}
 use Rattle.dns_report.proofs.MarkWords.{mark_of, mark_back, mark_is_word, denial_is_words}
 use Rattle.dns_report.proofs.FieldWords.{below_u16, below_u32, class_good, type_good, number_good, number_tells}
+use Rattle.std.specs.Option.{option_map_or}
 
 -- ---- whether a reply is judged, and whether it said that there are no records
 
@@ -88,16 +89,23 @@ ask_good TooMany h = refl
 
 -- ---- origins
 
-pub origin_tells : (a b : MarkOrigin) → fitting_origin a ≡ true → fitting_origin b ≡ true → origin_word a ≡ origin_word b → a ≡ b
+pub origin_tells : (a b : MarkOrigin) → fitting_origin a ≡ true → fitting_origin b ≡ true
+    → origin_word a ≡ origin_word b → a ≡ b
 origin_tells Table Table first second h = refl
-origin_tells Table (Repeat n) first second h = unlike (origin_word Table) (origin_word (Repeat n)) (λ (e : 116 ≡ 114). omega (arith, e)) h
-origin_tells Table Cache first second h = unlike (origin_word Table) (origin_word Cache) (λ (e : 116 ≡ 99). omega (arith, e)) h
-origin_tells (Repeat m) Table first second h = unlike (origin_word (Repeat m)) (origin_word Table) (λ (e : 114 ≡ 116). omega (arith, e)) h
+origin_tells Table (Repeat n) first second h =
+    unlike (origin_word Table) (origin_word (Repeat n)) (λ (e : 116 ≡ 114). omega (arith, e)) h
+origin_tells Table Cache first second h =
+    unlike (origin_word Table) (origin_word Cache) (λ (e : 116 ≡ 99). omega (arith, e)) h
+origin_tells (Repeat m) Table first second h =
+    unlike (origin_word (Repeat m)) (origin_word Table) (λ (e : 114 ≡ 116). omega (arith, e)) h
 origin_tells (Repeat m) (Repeat n) first second h =
     let e : decimal m ≡ decimal n = ap (λ w. drop 7 w) h in ap Repeat (number_tells m n first second e)
-origin_tells (Repeat m) Cache first second h = unlike (origin_word (Repeat m)) (origin_word Cache) (λ (e : 114 ≡ 99). omega (arith, e)) h
-origin_tells Cache Table first second h = unlike (origin_word Cache) (origin_word Table) (λ (e : 99 ≡ 116). omega (arith, e)) h
-origin_tells Cache (Repeat n) first second h = unlike (origin_word Cache) (origin_word (Repeat n)) (λ (e : 99 ≡ 114). omega (arith, e)) h
+origin_tells (Repeat m) Cache first second h =
+    unlike (origin_word (Repeat m)) (origin_word Cache) (λ (e : 114 ≡ 99). omega (arith, e)) h
+origin_tells Cache Table first second h =
+    unlike (origin_word Cache) (origin_word Table) (λ (e : 99 ≡ 116). omega (arith, e)) h
+origin_tells Cache (Repeat n) first second h =
+    unlike (origin_word Cache) (origin_word (Repeat n)) (λ (e : 99 ≡ 114). omega (arith, e)) h
 origin_tells Cache Cache first second h = refl
 
 pub origin_good : (a : MarkOrigin) → fitting_origin a ≡ true → is_word (origin_word a) ≡ true
@@ -107,7 +115,12 @@ origin_good Cache h = refl
 
 -- ---- places
 
-pub place_tells : (a b : Option ℕ) → fitting_place a ≡ true → fitting_place b ≡ true → place_word a ≡ place_word b → a ≡ b
+-- a place has 32 bits
+abbrev pub fitting_place : Option ℕ → Bool
+fitting_place place = option_map_or is_u32 place true
+
+pub place_tells : (a b : Option ℕ) → fitting_place a ≡ true → fitting_place b ≡ true → place_word a ≡ place_word b
+    → a ≡ b
 place_tells None None first second h = refl
 place_tells None (Some n) first second h = no_number n (codes "-") (below_u32 n second) refl (sym h)
 place_tells (Some m) None first second h = no_number m (codes "-") (below_u32 m first) refl h
@@ -125,7 +138,8 @@ record FitsForeign (owner : Labels) (class rtype : ℕ) : Type 0 where
   classed : is_u16 class ≡ true
   typed : is_u16 rtype ≡ true
 
-fits_foreign : (owner : Labels) (class rtype : ℕ) → fitting_ending (Foreign owner class rtype) ≡ true → FitsForeign owner class rtype
+fits_foreign : (owner : Labels) (class rtype : ℕ) → fitting_ending (Foreign owner class rtype) ≡ true
+    → FitsForeign owner class rtype
 fits_foreign owner class rtype h =
     let a = and_parts (fitting_name owner) (is_u16 class && is_u16 rtype) h in
     let b = and_parts (is_name owner) (list_all is_bytes owner) a.0 in
@@ -159,7 +173,8 @@ ending_at [] = (Seen, [])
 ending_at (kind ∷ words) =
     if bytes_eq kind (codes "none") then (Answered denial.None, words)
     else if bytes_eq kind (codes "absent") then (Answered (denial.Absent (mark_of (get_or words 0 []))), drop 1 words)
-    else if bytes_eq kind (codes "expanded") then (Answered (denial.Expanded (mark_of (get_or words 0 []))), drop 1 words)
+    else if bytes_eq kind (codes "expanded") then
+    (Answered (denial.Expanded (mark_of (get_or words 0 []))), drop 1 words)
     else if bytes_eq kind (codes "denied") then (Denied (mark_of (get_or words 0 [])), drop 1 words)
     else if bytes_eq kind (codes "foreign") then
     (Foreign (name_at (get_or words 0 [])) (class_at (get_or words 1 [])) (type_at (get_or words 2 [])), drop 3 words)
@@ -185,13 +200,16 @@ pub record SameEnding (a b : EndingValue) (x y : Words) : Type 0 where
 pub ending_tells : (a b : EndingValue) (x y : Words) → fitting_ending a ≡ true → fitting_ending b ≡ true
     → ending_words a ++ x ≡ ending_words b ++ y → SameEnding a b x y
 ending_tells a b x y first second h =
-    let e : ◌≡◌ {A = EndingValue × Words} (a, x) (b, y) = sym (ending_back a x first) ∙ ap ending_at h ∙ ending_back b y second in
+    let e : ◌≡◌ {A = EndingValue × Words} (a, x) (b, y) =
+    sym (ending_back a x first) ∙ ap ending_at h ∙ ending_back b y second in
     record { ending = ap (λ (p : EndingValue × Words). p.0) e; rest = ap (λ (p : EndingValue × Words). p.1) e }
 
 pub ending_good : (a : EndingValue) → fitting_ending a ≡ true → list_all is_word (ending_words a) ≡ true
 ending_good (Answered d) h = denial_is_words d
 ending_good (Denied mark) h = rw (mark_is_word mark) refl
 ending_good (Foreign owner class rtype) h =
-    let f = fits_foreign owner class rtype h in rw (printed_word owner, class_good class f.classed, type_good rtype f.typed) refl
+    let f =
+    fits_foreign owner class rtype h in rw
+    (printed_word owner, class_good class f.classed, type_good rtype f.typed) refl
 ending_good Failed h = refl
 ending_good Seen h = refl

@@ -10,23 +10,11 @@ use Rattle.dns_model.specs.NameText.{printed}
 use Rattle.dns_model.specs.Records.{Rr}
 use Rattle.dns_model.specs.SoundAnswers.{ResponseValue}
 use Rattle.dns_record.specs.Words.{type_word, class_word}
-use Rattle.dns_words.specs.Words.{octets_word}
+use Rattle.dns_text.specs.Words.{octets_word}
 use Rattle.dns_report.specs.declared.parts.Parts.{Parts}
 use Rattle.dns_report.specs.LineWords.{Words, line, mark_word, section_word, denial_words}
 use Rattle.dns_report.specs.TrailLines.{trail_text}
 use Rattle.dns_report.specs.View.{Numbered, Shown, Anchored, Matched, KeySet, Signed, ChainView, View, view_of}
-
--- the first line names the form and its version
-abbrev pub report_header : List ℕ
-report_header = line (codes "dns-report") (codes "1" ∷ [])
-
--- the line of the response's code
-abbrev pub code_line : ℕ → List ℕ
-code_line code = line (codes "code") (decimal code ∷ [])
-
--- the line of what is denied
-abbrev pub denial_line : Denial → List ℕ
-denial_line denial = line (codes "denial") (denial_words denial)
 
 -- the line of a record, which begins with its section
 abbrev pub record_line : Section → Rr → List ℕ
@@ -53,35 +41,29 @@ link_line (Signed owner class rtype rdatas sig key_link key) =
     line (codes "signed")
     (printed owner ∷ class_word class ∷ type_word rtype ∷ decimal key_link ∷ octets_word key ∷ octets_word sig ∷ map octets_word rdatas)
 
--- the line before a chain's links: the section of its set, and how many links follow
-abbrev pub chain_line : ChainView → List ℕ
-chain_line chain = line (codes "chain") (section_word chain.section ∷ decimal (length chain.links) ∷ [])
-
--- a chain's line, and one for each of its links
+-- a chain's line, with the section of its set and how many links follow, and one for each of them
 abbrev pub chain_text : ChainView → List ℕ
-chain_text chain = chain_line chain ++ flat_map link_line chain.links
+chain_text chain =
+    line (codes "chain") (section_word chain.section ∷ decimal (length chain.links) ∷ []) ++ flat_map link_line chain.links
 
 -- the lines of all sections' records, in order
 unfoldable pub records_text : List Rr → List Rr → List Rr → List ℕ
 records_text answers authorities additionals =
     section_text Answer answers ++ section_text Authority authorities ++ section_text Additional additionals
 
--- the lines before the records
+-- the lines before the records: the form and its version, the code, and what is denied
 unfoldable pub head_text : ℕ → Denial → List ℕ
-head_text code denial = report_header ++ code_line code ++ denial_line denial
+head_text code denial =
+    line (codes "dns-report") (codes "1" ∷ []) ++ line (codes "code") (decimal code ∷ []) ++ line (codes "denial") (denial_words denial)
 
 -- a report without its last line
 unfoldable pub view_body : View → List ℕ
 view_body v =
     head_text v.code v.denial ++ records_text v.answers v.authorities v.additionals ++ flat_map chain_text v.chains ++ trail_text v.trail
 
--- the last line
-abbrev pub report_end : List ℕ
-report_end = line (codes "end") []
-
 -- the report of a view
 unfoldable pub view_text : View → List ℕ
-view_text v = view_body v ++ report_end
+view_text v = view_body v ++ line (codes "end") []
 
 -- the report on an answer, with the trail or without, is that of its view
 unfoldable pub report_text : Parts → ResponseValue → List ℕ

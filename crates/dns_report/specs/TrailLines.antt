@@ -11,7 +11,7 @@ use Rattle.dns_model.specs.declared.trail.MarkOrigin.TheVariants.{Table, Repeat,
 use Rattle.dns_model.specs.NameText.{printed}
 use Rattle.dns_model.specs.Trails.{JudgedSetValue, EndingValue, Answered, Denied, Foreign, Failed, Seen}
 use Rattle.dns_record.specs.Words.{type_word, class_word}
-use Rattle.dns_words.specs.Words.{octets_word}
+use Rattle.dns_text.specs.Words.{octets_word}
 use Rattle.dns_report.specs.LineWords.{Words, line, mark_word, section_word, denial_words}
 use Rattle.dns_report.specs.TrailView.{ToldRecord, HeardView, Records, Fault, StepView}
 
@@ -20,23 +20,15 @@ abbrev pub purpose_word : Bool → List ℕ
 purpose_word true = codes "judged"
 purpose_word false = codes "ns"
 
--- the line that begins a step
-abbrev pub step_line : StepView → List ℕ
-step_line step =
-    line (codes "step") (decimal step.depth ∷ purpose_word step.judged ∷ printed step.owner ∷ type_word step.rtype ∷ [])
-
 -- a word where a reply said that there are no records
 abbrev pub empty_words : Bool → Words
 empty_words true = codes "empty" ∷ []
 empty_words false = []
 
+-- the words of a reply: its code, or that it was a fault
 abbrev pub got_words : HeardView → Words
 got_words (Records code empty answers authorities additionals) = decimal code ∷ empty_words empty
 got_words Fault = codes "fault" ∷ []
-
--- the line of a reply: its code, or that it was a fault
-abbrev pub got_line : HeardView → List ℕ
-got_line reply = line (codes "got") (got_words reply)
 
 -- the line of a record that was told
 abbrev pub told_line : Section → ToldRecord → List ℕ
@@ -82,20 +74,14 @@ ending_words (Foreign owner class rtype) = codes "foreign" ∷ printed owner ∷
 ending_words Failed = codes "failed" ∷ []
 ending_words Seen = codes "seen" ∷ []
 
--- the line that ends a step: its ending, and the asks on which that stands
-abbrev pub ending_line : EndingValue → List AskRef → List ℕ
-ending_line ending excuse = line (codes "ending") (ending_words ending ++ map ask_word excuse)
-
--- the lines of a step
+-- the lines of a step; the last has its ending, and the asks on which that stands
 unfoldable pub step_text : StepView → List ℕ
 step_text step =
-    step_line step ++ got_line step.reply ++ told_text step.reply ++ flat_map set_line step.sets ++ ending_line step.ending step.excuse
+    line (codes "step") (decimal step.depth ∷ purpose_word step.judged ∷ printed step.owner ∷ type_word step.rtype ∷ [])
+    ++ line (codes "got") (got_words step.reply) ++ told_text step.reply ++ flat_map set_line step.sets
+    ++ line (codes "ending") (ending_words step.ending ++ map ask_word step.excuse)
 
--- the line that begins a trail: how many steps follow
-abbrev pub count_line : List StepView → List ℕ
-count_line steps = line (codes "trail") (decimal (length steps) ∷ [])
-
--- the lines of a trail, where it is shown
+-- the lines of a trail, where it is shown, after one with their number
 abbrev pub trail_text : Option (List StepView) → List ℕ
 trail_text None = []
-trail_text (Some steps) = count_line steps ++ flat_map step_text steps
+trail_text (Some steps) = line (codes "trail") (decimal (length steps) ∷ []) ++ flat_map step_text steps

@@ -12,6 +12,7 @@ use Rattle.dns_model.specs.declared.trail.MarkOrigin.TheVariants.{Table, Repeat,
 use Rattle.dns_model.specs.Trails as trails
 use Rattle.dns_model.specs.Trails.{HeardValue, JudgedSetValue, EndingValue, Answered, Denied, Foreign, Failed, Seen, AskedValue}
 use Rattle.dns_report.specs.Fields.{fitting_name, is_u16, is_u32}
+use Rattle.std.specs.Option.{option_map_or}
 
 -- a record as it was told, without a mark
 pub record ToldRecord : Type 0 where
@@ -69,28 +70,19 @@ fitting_heard Fault = true
 
 abbrev pub fitting_ask : AskRef → Bool
 fitting_ask (Step number) = is_u32 number
-fitting_ask TooDeep = true
-fitting_ask TooMany = true
+fitting_ask _ = true
 
 abbrev pub fitting_origin : MarkOrigin → Bool
-fitting_origin Table = true
 fitting_origin (Repeat number) = is_u32 number
-fitting_origin Cache = true
-
-abbrev pub fitting_place : Option ℕ → Bool
-fitting_place None = true
-fitting_place (Some place) = is_u32 place
+fitting_origin _ = true
 
 abbrev pub fitting_set : JudgedSetValue → Bool
 fitting_set set =
-    fitting_name set.owner && (is_u16 set.rtype && (fitting_origin set.origin && (fitting_place set.sig && list_all fitting_ask set.asked)))
+    fitting_name set.owner && (is_u16 set.rtype && (fitting_origin set.origin && (option_map_or is_u32 set.sig true && list_all fitting_ask set.asked)))
 
 abbrev pub fitting_ending : EndingValue → Bool
-fitting_ending (Answered denial) = true
-fitting_ending (Denied mark) = true
 fitting_ending (Foreign owner class rtype) = fitting_name owner && (is_u16 class && is_u16 rtype)
-fitting_ending Failed = true
-fitting_ending Seen = true
+fitting_ending _ = true
 
 abbrev pub fitting_step : StepView → Bool
 fitting_step step =

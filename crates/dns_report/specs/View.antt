@@ -29,9 +29,8 @@ pub data Shown : Type 0 where
 
 -- each key with its number, as long as there are both
 unfoldable pub numbered : List (List ℕ) → List ℕ → List Numbered
-numbered [] numbers = []
-numbered (key ∷ keys) [] = []
 numbered (key ∷ keys) (number ∷ numbers) = (number, key) ∷ numbered keys numbers
+numbered _ _ = []
 
 abbrev pub shown_link : trust.LinkValue → Shown
 shown_link (trust.Anchored owner class key) = Anchored owner class key

@@ -1,21 +1,25 @@
 //! The lines of a step's sets, and of its ending.
-ghost use Rattle.std.specs.Prelude.{◌≡◌, ◌++◌, ◌∷◌, map, OnOk, IsTrue};
+ghost use Rattle.std.specs.Prelude.{◌≡◌, ◌++◌, ◌∷◌, true, map, OnOk, IsTrue};
 ghost use Rattle.std.specs.List.{flat_map, list_all};
 ghost use Rattle.dns_model.specs.Trails.{Foreign};
 ghost use Rattle.dns_evidence.specs.Trail.{ending_value};
+ghost use Rattle.std.specs.Option.{option_map_or};
+ghost use Rattle.dns_report.specs.Fields.{is_u32};
 ghost use Rattle.dns_report.specs.LineWords.{line_rest, spaced, mark_word};
-ghost use Rattle.dns_report.specs.TrailView.{fitting_ask, fitting_origin, fitting_place, fitting_set, fitting_ending};
-ghost use Rattle.dns_report.specs.TrailLines.{ask_word, origin_word, place_word, set_line, ending_words, ending_line};
+ghost use Rattle.dns_report.specs.TrailView.{fitting_ask, fitting_origin, fitting_set, fitting_ending};
+ghost use Rattle.dns_report.specs.TrailLines.{ask_word, origin_word, place_word, set_line, ending_words};
+ghost use Rattle.dns_report.specs.WrittenLines.{ending_line};
 
 use crate::marks::section_word;
 use crate::words::{
     end_line, push_denial_words, push_front, push_mark, push_name, push_number, push_text,
     push_type_word, push_word,
 };
-use dns_handle::{AskRef, Ending, JudgedSet, MarkOrigin};
+use dns_evidence::{Ending, JudgedSet};
+use dns_model::{AskRef, MarkOrigin};
 use dns_name::{Name, NoMemory};
 use dns_record::{DNSClass, RecordType};
-use dns_words::push_decimal;
+use dns_text::push_decimal;
 
 /// Appends the word of an ask.
 fn push_ask(into: &mut Vec<u8>, ask: AskRef) -> Result<(), NoMemory>
@@ -60,7 +64,7 @@ fn push_origin(into: &mut Vec<u8>, origin: MarkOrigin) -> Result<(), NoMemory>
 /// Appends the word of the place of the signature that decided.
 fn push_place(into: &mut Vec<u8>, sig: Option<u32>) -> Result<(), NoMemory>
     ensures ok { OnOk result (into.new.items ≡ into.old.items ++ (32 ∷ place_word sig)) }
-    ensures fits { OnOk result (IsTrue (fitting_place sig)) }
+    ensures fits { OnOk result (IsTrue (option_map_or is_u32 sig true)) }
 {
     match sig {
         Some(place) => push_number(into, u64::from(place)),
@@ -73,7 +77,7 @@ fn push_found(into: &mut Vec<u8>, set: &JudgedSet) -> Result<(), NoMemory>
     ensures ok { OnOk result (into.new.items ≡ into.old.items ++ line_rest
         (mark_word set.now.mark ∷ origin_word set.now.origin ∷ place_word set.now.sig ∷ map ask_word set.now.asked)) }
     ensures origin { OnOk result (IsTrue (fitting_origin set.now.origin)) }
-    ensures place { OnOk result (IsTrue (fitting_place set.now.sig)) }
+    ensures place { OnOk result (IsTrue (option_map_or is_u32 set.now.sig true)) }
     ensures asked { OnOk result (IsTrue (list_all fitting_ask set.now.asked)) }
 {
     push_mark(into, set.mark)?;

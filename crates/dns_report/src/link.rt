@@ -4,19 +4,19 @@ ghost use Rattle.std.specs.List.{flat_map, list_all};
 ghost use Rattle.std.specs.Fmt.{decimal};
 ghost use Rattle.dns_model.specs.Bytes.{is_bytes};
 ghost use Rattle.dns_record.specs.Words.{type_word};
-ghost use Rattle.dns_words.specs.Words.{octets_word};
+ghost use Rattle.dns_text.specs.Words.{octets_word};
 ghost use Rattle.dns_evidence.specs.Link.{link_value};
 ghost use Rattle.dns_report.specs.LineWords.{line, line_rest};
 ghost use Rattle.dns_report.specs.Fields.{is_u16, is_u32};
 ghost use Rattle.dns_report.specs.View.{KeySet, numbered, shown_link, chain_view, fitting_key, fitting_link, fitting_chain};
-ghost use Rattle.dns_report.specs.Report.{key_words, link_line, chain_line, chain_text};
+ghost use Rattle.dns_report.specs.Report.{key_words, link_line, chain_text};
+ghost use Rattle.dns_report.specs.WrittenLines.{chain_line};
 
 use crate::marks::section_word;
 use crate::words::{
     end_line, push_front, push_number, push_octets_word, push_text, push_type_word, push_word,
 };
-use dns_evidence::LinkSignature;
-use dns_handle::{Chain, Link};
+use dns_evidence::{Chain, Link, LinkSignature};
 use dns_name::{Name, NoMemory};
 use dns_record::{DNSClass, Rdata, RecordType};
 

@@ -2,7 +2,7 @@
 ghost use Rattle.std.specs.Prelude.{◌≡◌};
 ghost use Rattle.dns_report.specs.LineWords.{mark_word, section_word};
 
-use dns_record::{Proof, Section};
+use dns_model::{Proof, Section};
 
 /// The word of a mark.
 pub(crate) fn mark_word(mark: Proof) -> &'static [u8]

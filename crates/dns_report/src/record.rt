@@ -4,7 +4,7 @@ ghost use Rattle.std.specs.Fmt.{decimal};
 ghost use Rattle.std.specs.List.{list_all};
 ghost use Rattle.dns_model.specs.Bytes.{is_bytes};
 ghost use Rattle.dns_record.specs.Words.{type_word};
-ghost use Rattle.dns_words.specs.Words.{octets_word};
+ghost use Rattle.dns_text.specs.Words.{octets_word};
 ghost use Rattle.dns_report.specs.LineWords.{line_rest};
 ghost use Rattle.dns_report.specs.LineWords.{mark_word};
 ghost use Rattle.dns_report.specs.Fields.{is_u16, is_u32};
@@ -15,8 +15,9 @@ use crate::marks::section_word;
 use crate::words::{
     end_line, push_front, push_mark, push_number, push_octets_word, push_type_word,
 };
+use dns_model::Section;
 use dns_name::NoMemory;
-use dns_record::{Record, Section};
+use dns_record::Record;
 
 /// Appends the last words of a record's line.
 fn push_rest(into: &mut Vec<u8>, one: &Record) -> Result<(), NoMemory>

@@ -7,17 +7,20 @@ ghost use Rattle.dns_report.specs.TrailLines.{trail_text};
 ghost use Rattle.dns_report.specs.View.{View, trail_view, view_of, fitting_record, fitting_view, all_justified};
 ghost use Rattle.dns_model.specs.Chains.{Judge};
 ghost use Rattle.dns_model.specs.SoundAnswers.{ResponseValue};
-ghost use Rattle.dns_report.specs.Report.{code_line, denial_line, head_text, records_text, view_body, view_text, report_text};
+ghost use Rattle.dns_report.specs.Report.{head_text, records_text, view_body, view_text, report_text};
+ghost use Rattle.dns_report.specs.WrittenLines.{code_line, denial_line};
 
 use crate::Parts;
 use crate::link::push_chains;
 use crate::record::push_section;
 use crate::trail::push_trail;
 use crate::words::{end_line, push_denial_words, push_number, push_text};
-use dns_handle::{DnsResponse, Trail};
+use dns_evidence::Trail;
+use dns_handle::DnsResponse;
 use dns_message::Message;
+use dns_model::{Denial, Section};
 use dns_name::NoMemory;
-use dns_record::{Denial, ResponseCode, Section};
+use dns_record::ResponseCode;
 use std::alloc::Global;
 
 /// Appends the line of a code.

@@ -6,11 +6,12 @@ ghost use Rattle.dns_model.specs.Trails.{Records as heard_records};
 ghost use Rattle.dns_evidence.specs.Trail.{heard_value};
 ghost use Rattle.dns_model.specs.Bytes.{is_bytes};
 ghost use Rattle.dns_record.specs.Words.{type_word};
-ghost use Rattle.dns_words.specs.Words.{octets_word};
+ghost use Rattle.dns_text.specs.Words.{octets_word};
 ghost use Rattle.dns_report.specs.LineWords.{line, line_rest};
 ghost use Rattle.dns_report.specs.Fields.{fitting_name, is_u16, is_u32};
 ghost use Rattle.dns_report.specs.TrailView.{unmarked, heard_view, step_view, fitting_told, fitting_heard, fitting_step, fitting_trail};
-ghost use Rattle.dns_report.specs.TrailLines.{purpose_word, empty_words, told_line, told_text, step_line, got_line, step_text, count_line, trail_text};
+ghost use Rattle.dns_report.specs.TrailLines.{purpose_word, empty_words, told_line, told_text, step_text, trail_text};
+ghost use Rattle.dns_report.specs.WrittenLines.{count_line, step_line, got_line};
 
 use crate::judged::{push_ending, push_sets};
 use crate::marks::section_word;
@@ -18,9 +19,10 @@ use crate::words::{
     end_line, push_front, push_name, push_number, push_octets_word, push_text, push_type_word,
     push_word,
 };
-use dns_handle::{Asked, Reply, Told, Trail};
+use dns_evidence::{Asked, Reply, Told, Trail};
+use dns_model::Section;
 use dns_name::NoMemory;
-use dns_record::{Record, ResponseCode, Section};
+use dns_record::{Record, ResponseCode};
 
 /// The word of what a reply is asked for.
 fn purpose_word(judged: bool) -> &'static [u8]

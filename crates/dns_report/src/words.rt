@@ -4,14 +4,15 @@ ghost use Rattle.std.specs.Fmt.{decimal};
 ghost use Rattle.dns_model.specs.Bytes.{is_bytes};
 ghost use Rattle.dns_model.specs.NameText.{printed};
 ghost use Rattle.dns_record.specs.Words.{type_word, class_word};
-ghost use Rattle.dns_words.specs.Words.{octets_word};
+ghost use Rattle.dns_text.specs.Words.{octets_word};
 ghost use Rattle.dns_report.specs.LineWords.{mark_word, denial_words, spaced};
 ghost use Rattle.dns_report.specs.Fields.{fitting_name, is_u16};
 
 use crate::marks::mark_word;
+use dns_model::{Denial, Proof};
 use dns_name::{Name, NameRef, NoMemory};
-use dns_record::{DNSClass, Denial, Proof, RecordType};
-use dns_words::{push_class, push_decimal, push_octets, push_type};
+use dns_record::{DNSClass, RecordType};
+use dns_text::{push_class, push_decimal, push_octets, push_type};
 
 /// Appends bytes as they are.
 pub(crate) fn push_text(into: &mut Vec<u8>, text: &[u8]) -> Result<(), NoMemory>

@@ -20,7 +20,8 @@ use Rattle.dns_run.specs.Outcomes.{IsTrailReport, IsFault}
 -- a report on the answer to a session
 pub report_given : (shows : Parts) (s : SessionValue) (answer : ResponseValue) (text : List ℕ)
     → AnswersSession s (Ok answer) → text ≡ report_text shows answer → IsTrue (fitting_view (view_of shows answer))
-    → ((other : View) → IsTrue (fitting_view other) → view_text other ≡ text → other ≡ view_of shows answer) → IsTrailReport shows s text
+    → ((other : View) → IsTrue (fitting_view other) → view_text other ≡ text → other ≡ view_of shows answer)
+    → IsTrailReport shows s text
 report_given shows s answer text given is fits tells = record {
   report = record { answer = answer; sound = given.answered.sound; spelled = is; fits = fits; tells = tells };
   given = given.answered;
@@ -36,5 +37,7 @@ fault_given s e text own given is = record { error = e; own = own; cause = given
 pub fault_tested : (s : SessionValue) (e : NetError) (told : Bool) (text : List ℕ)
     → told ≡ is_no_memory (error_of e) → told ≡ false → (e ≡ NoMemory) ⊎ AnswersSession s (Err (error_of e))
     → text ≡ fault_text (error_of e) → IsFault s text
-fault_tested s e told text tests untold (inl memory) is = absurd (untold_no_memory e told tests untold (ap error_of memory))
-fault_tested s e told text tests untold (inr given) is = fault_given s (error_of e) text (untold_no_memory e told tests untold) given is
+fault_tested s e told text tests untold (inl memory) is =
+    absurd (untold_no_memory e told tests untold (ap error_of memory))
+fault_tested s e told text tests untold (inr given) is =
+    fault_given s (error_of e) text (untold_no_memory e told tests untold) given is

@@ -24,16 +24,20 @@ use Rattle.dns_run.proofs.EndLemmas.{RunEnding, Reported, Failed, Refused, Later
 use Rattle.dns_run.proofs.ReplyLemmas.{session_replied}
 
 -- a trail for a valid session proves its query
-session_proved : (s : SessionValue) (trail : List AskedValue) (ending : EndingValue) → IsValid s → IsSessionTrail s trail ending
+session_proved : (s : SessionValue) (trail : List AskedValue) (ending : EndingValue) → IsValid s
+    → IsSessionTrail s trail ending
     → IsProved (session_judge s) (session_replies s) s.query trail ending
 session_proved s trail ending valid is =
-    replies_prove (session_judge s) (session_replies s) (session_depth s) s.query trail is.top ending is.derived is.last is.query is.ends is.from valid
+    replies_prove (session_judge s) (session_replies s)
+    (session_depth s) s.query trail is.top ending is.derived is.last is.query is.ends is.from valid
 
 -- the records that a valid session replies to its query
 session_reply_of : (s : SessionValue) → IsValid s → HasReply (first_told (session_replies s)) s.query
-session_reply_of s valid = valid_reply (session_judge s) (first_told (session_replies s)) (session_depth s) s.query valid
+session_reply_of s valid =
+    valid_reply (session_judge s) (first_told (session_replies s)) (session_depth s) s.query valid
 
-records_of : (s : SessionValue) (told : Told) → first_told (session_replies s) s.query ≡ Some told → session_records s ≡ Some told
+records_of : (s : SessionValue) (told : Told) → first_told (session_replies s) s.query ≡ Some told
+    → session_records s ≡ Some told
 records_of s told is = sym (ap received (session_replied s)) ∙ is
 
 -- a valid session has no cause for an error
@@ -49,11 +53,13 @@ no_fault s error valid (NotDenied response proof given is) =
     denied_never proof ((session_proved s response.trail (Denied proof) valid given.trail).ends)
 
 -- how a run over a valid session ended
-valid_ends : (shows : Parts) (bytes : List ℕ) (s : SessionValue) (status : ℕ) (before now : Option (List ℕ)) → session_of bytes ≡ Ok s → IsValid s
+valid_ends : (shows : Parts) (bytes : List ℕ) (s : SessionValue) (status : ℕ) (before now : Option (List ℕ))
+    → session_of bytes ≡ Ok s → IsValid s
     → RunEnding shows bytes status before now → EndsSecurely shows s status before now
 valid_ends shows bytes s status before now read valid (Reported is wrote) =
     let r : IsTrailReport shows s wrote.text =
-    subst (λ x. IsTrailReport shows x wrote.text) (session_same bytes s wrote.fact.session read wrote.fact.read) wrote.fact.report in
+    subst (λ x. IsTrailReport shows x wrote.text)
+    (session_same bytes s wrote.fact.session read wrote.fact.read) wrote.fact.report in
     let answer = r.report.answer in
     let secure = answer_secure (session_judge s) (session_replies s) s.query s.moment answer
     (session_proved s answer.trail (Answered answer.denial) valid r.given.trail) r.given.marks in
@@ -62,7 +68,8 @@ valid_ends shows bytes s status before now read valid (Failed is wrote) =
     let f : IsFault s wrote.text =
     subst (λ x. IsFault x wrote.text) (session_same bytes s wrote.fact.session read wrote.fact.read) wrote.fact.fault in
     absurd (no_fault s f.error valid f.cause)
-valid_ends shows bytes s status before now read valid (Refused is wrote) = absurd (no_line bytes s wrote.fact.number read wrote.fact.read)
+valid_ends shows bytes s status before now read valid (Refused is wrote) =
+    absurd (no_line bytes s wrote.fact.number read wrote.fact.read)
 valid_ends shows bytes s status before now read valid (Later late) = Stopped late
 
 pub ends_securely : (shows : Parts) (status : ℕ) (told before now : Option (List ℕ)) → Says shows status told before now
@@ -79,8 +86,11 @@ parts_asked (Some Help) other = other
 parts_asked (Some Version) other = other
 
 -- the same where the words were read to ask for these parts
-pub ends_securely_as : (asked : Option Form) (read shows : Parts) (status : ℕ) (told before now : Option (List ℕ)) → asked ≡ Some (Validate read)
-    → asked ≡ Some (Validate shows) → Says read status told before now → IfSession told (λ s. IsValid s → EndsSecurely shows s status before now)
+pub ends_securely_as : (asked : Option Form) (read shows : Parts) (status : ℕ) (told before now : Option (List ℕ))
+    → asked ≡ Some (Validate read)
+    → asked ≡ Some (Validate shows) → Says read status told before now
+    → IfSession told (λ s. IsValid s → EndsSecurely shows s status before now)
 ends_securely_as asked read shows status told before now one two says =
-    subst (λ p. IfSession told (λ s. IsValid s → EndsSecurely p s status before now)) (ap (λ o. parts_asked o read) (sym one ∙ two))
+    subst (λ p. IfSession told (λ s. IsValid s → EndsSecurely p s status before now))
+    (ap (λ o. parts_asked o read) (sym one ∙ two))
     (ends_securely read status told before now says)

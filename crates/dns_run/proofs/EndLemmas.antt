@@ -4,8 +4,8 @@ use Rattle.std.specs.Io.KnownBytes.{Appends}
 use Rattle.dns_model.specs.SoundAnswers.{Told, ResponseValue}
 use Rattle.dns_model.specs.Trails as trails
 use Rattle.dns_model.specs.Trails.{Answered, Denied}
-use Rattle.dns_judgement.specs.DerivationParts.{is_foreign}
-use Rattle.dns_judgement.specs.Outcome.{foreign_record}
+use Rattle.dns_rules.specs.DerivationParts.{is_foreign}
+use Rattle.dns_rules.specs.Outcome.{foreign_record}
 use Rattle.dns_handle.specs.Errors.{Reply, ErrorValue, ForeignClassRecord}
 use Rattle.dns_lookup.specs.LookupParts.{told_of}
 use Rattle.dns_lookup.specs.Causes.{ends_trail, has_response, tells_nsec3}
@@ -41,7 +41,8 @@ pub record Says (shows : Parts) (status : ℕ) (told before now : Option (List �
   pub form : status ≢ 2
   pub grammar : status ≡ 3 → Leaves Refuses told before now
 
-pub ending : (shows : Parts) (bytes : List ℕ) (status : ℕ) (before now : Option (List ℕ)) → Says shows status (Some bytes) before now → RunEnding shows bytes status before now
+pub ending : (shows : Parts) (bytes : List ℕ) (status : ℕ) (before now : Option (List ℕ))
+    → Says shows status (Some bytes) before now → RunEnding shows bytes status before now
 ending shows bytes zero before now says = Reported refl (says.report refl)
 ending shows bytes (suc zero) before now says = Failed refl (says.fault refl)
 ending shows bytes (suc (suc zero)) before now says = absurd (says.form refl)
@@ -68,8 +69,10 @@ line_same bytes n k is also = err_is (sym also ∙ is)
 
 -- what a run over a session gave
 data Session (s : SessionValue) (status : ℕ) (before now : Option (List ℕ)) : Type 0 where
-  GivesReport : (answer : ResponseValue) → IsSessionAnswer s answer (Answered answer.denial) → status ≡ 0 → Session s status before now
-  GivesFault : (error : ErrorValue) → FaultCause s error → status ≡ 1 → Appends before now (fault_text error) → Session s status before now
+  GivesReport : (answer : ResponseValue) → IsSessionAnswer s answer (Answered answer.denial) → status ≡ 0
+      → Session s status before now
+  GivesFault : (error : ErrorValue) → FaultCause s error → status ≡ 1 → Appends before now (fault_text error)
+      → Session s status before now
   GivesLater : 4 ≤ status → Session s status before now
 
 -- how a run over a session ended
@@ -77,13 +80,15 @@ session_ends : (shows : Parts) (bytes : List ℕ) (s : SessionValue) (status : �
     → session_of bytes ≡ Ok s → RunEnding shows bytes status before now → Session s status before now
 session_ends shows bytes s status before now read (Reported is wrote) =
     let r : IsTrailReport shows s wrote.text =
-    subst (λ x. IsTrailReport shows x wrote.text) (session_same bytes s wrote.fact.session read wrote.fact.read) wrote.fact.report in
+    subst (λ x. IsTrailReport shows x wrote.text)
+    (session_same bytes s wrote.fact.session read wrote.fact.read) wrote.fact.report in
     GivesReport r.report.answer r.given is
 session_ends shows bytes s status before now read (Failed is wrote) =
     let f : IsFault s wrote.text =
     subst (λ x. IsFault x wrote.text) (session_same bytes s wrote.fact.session read wrote.fact.read) wrote.fact.fault in
     GivesFault f.error f.cause is (subst (λ t. Appends before now t) f.spelled wrote.written)
-session_ends shows bytes s status before now read (Refused is wrote) = absurd (no_line bytes s wrote.fact.number read wrote.fact.read)
+session_ends shows bytes s status before now read (Refused is wrote) =
+    absurd (no_line bytes s wrote.fact.number read wrote.fact.read)
 session_ends shows bytes s status before now read (Later late) = GivesLater late
 
 -- ---- what it must end with
@@ -157,7 +162,8 @@ only_foreign s error f = record {
     not_true answer h = cc
 
 -- a record of another class, where there is none
-pub own_class : (s : SessionValue) (records : Told) (x : ErrorValue) → session_records s ≡ Some records → foreign_record s.query records ≡ None
+pub own_class : (s : SessionValue) (records : Told) (x : ErrorValue) → session_records s ≡ Some records
+    → foreign_record s.query records ≡ None
     → HasForeign s x → ⊥
 own_class s records x told own g =
     let same : g.records ≡ records = some_same _ g.records records g.told told in
@@ -167,7 +173,8 @@ own_class s records x told own g =
     clash h = cc
 
 -- with records of the query's class alone
-denial_caused : (s : SessionValue) (records : Told) (x : ErrorValue) → session_records s ≡ Some records → foreign_record s.query records ≡ None
+denial_caused : (s : SessionValue) (records : Told) (x : ErrorValue) → session_records s ≡ Some records
+    → foreign_record s.query records ≡ None
     → FaultCause s x → ends_trail (Err x) ≡ true
 denial_caused s records x told own (NoMessage other) = absurd (no_records s records told other.silent)
 denial_caused s records x told own (OtherClass g) = absurd (own_class s records x told own g)
@@ -175,7 +182,8 @@ denial_caused s records x told own (NotJudged u is) = ap (λ y. ends_trail (Err 
 denial_caused s records x told own (NotDenied response proof given is) = ap (λ y. ends_trail (Err y)) is
 
 -- and without an NSEC3 among them
-response_caused : (s : SessionValue) (records : Told) (x : ErrorValue) → session_records s ≡ Some records → foreign_record s.query records ≡ None
+response_caused : (s : SessionValue) (records : Told) (x : ErrorValue) → session_records s ≡ Some records
+    → foreign_record s.query records ≡ None
     → tells_nsec3 records ≡ false → FaultCause s x → has_response (Err x) ≡ true
 response_caused s records x told own none (NoMessage other) = absurd (no_records s records told other.silent)
 response_caused s records x told own none (OtherClass g) = absurd (own_class s records x told own g)
@@ -187,14 +195,17 @@ response_caused s records x told own none (NotJudged u is) =
 response_caused s records x told own none (NotDenied response proof given is) = ap (λ y. has_response (Err y)) is
 
 -- errors are of a kind in which each cause of a session is
-ends_judged : (s : SessionValue) (is_kind : Reply → Bool) (status : ℕ) (before now : Option (List ℕ)) → Session s status before now
+ends_judged : (s : SessionValue) (is_kind : Reply → Bool) (status : ℕ) (before now : Option (List ℕ))
+    → Session s status before now
     → ((x : ErrorValue) → FaultCause s x → is_kind (Err x) ≡ true) → EndsAsJudged is_kind status before now
 ends_judged s is_kind status before now (GivesReport answer given is) kind = runs.Reported is
-ends_judged s is_kind status before now (GivesFault x cause is written) kind = runs.Refused x (kind x cause) (Ended is written)
+ends_judged s is_kind status before now (GivesFault x cause is written) kind =
+    runs.Refused x (kind x cause) (Ended is written)
 ends_judged s is_kind status before now (GivesLater late) kind = runs.Late late
 
 -- what a run over a session ends with
-ends_session : (s : SessionValue) (status : ℕ) (before now : Option (List ℕ)) → Session s status before now → EndsAsSession s status before now
+ends_session : (s : SessionValue) (status : ℕ) (before now : Option (List ℕ)) → Session s status before now
+    → EndsAsSession s status before now
 ends_session s status before now ended = record {
   no_message = λ error none. ends_fault s status before now error (only_no_message s error none) ended;
   other_class = λ error foreign. ends_fault s status before now error (only_foreign s error foreign) ended;
@@ -203,19 +214,25 @@ ends_session s status before now ended = record {
       ends_judged s has_response status before now ended (λ x cause. response_caused s records x told own none cause);
 }
 
-pub ends_as_session : (shows : Parts) (status : ℕ) (told before now : Option (List ℕ)) → Says shows status told before now
+pub ends_as_session : (shows : Parts) (status : ℕ) (told before now : Option (List ℕ))
+    → Says shows status told before now
     → IfSession told (λ s. EndsAsSession s status before now)
 ends_as_session shows status None before now says = tt
 ends_as_session shows status (Some bytes) before now says = λ s read.
-    ends_session s status before now (session_ends shows bytes s status before now read (ending shows bytes status before now says))
+    ends_session s status before now
+    (session_ends shows bytes s status before now read (ending shows bytes status before now says))
 
 line_ends : (shows : Parts) (bytes : List ℕ) (number status : ℕ) (before now : Option (List ℕ))
-    → session_of bytes ≡ Err number → RunEnding shows bytes status before now → EndsWith status 3 before now (bad_line_text number)
-line_ends shows bytes number status before now read (Reported is wrote) = absurd (no_line bytes wrote.fact.session number wrote.fact.read read)
-line_ends shows bytes number status before now read (Failed is wrote) = absurd (no_line bytes wrote.fact.session number wrote.fact.read read)
+    → session_of bytes ≡ Err number → RunEnding shows bytes status before now
+    → EndsWith status 3 before now (bad_line_text number)
+line_ends shows bytes number status before now read (Reported is wrote) =
+    absurd (no_line bytes wrote.fact.session number wrote.fact.read read)
+line_ends shows bytes number status before now read (Failed is wrote) =
+    absurd (no_line bytes wrote.fact.session number wrote.fact.read read)
 line_ends shows bytes number status before now read (Refused is wrote) =
     let P : List ℕ → Type 0 = λ t. Appends before now t in
-    let e : wrote.text ≡ bad_line_text number = wrote.fact.spelled ∙ ap bad_line_text (line_same bytes number wrote.fact.number read wrote.fact.read) in
+    let e : wrote.text ≡ bad_line_text number =
+    wrote.fact.spelled ∙ ap bad_line_text (line_same bytes number wrote.fact.number read wrote.fact.read) in
     Ended is (subst P e wrote.written)
 line_ends shows bytes number status before now read (Later late) = Stopped late
 
@@ -226,7 +243,8 @@ ends_bad_line shows status None before now says = tt
 ends_bad_line shows status (Some bytes) before now says = λ number read.
     line_ends shows bytes number status before now read (ending shows bytes status before now says)
 
-pub ends_by_grammar : (shows : Parts) (status : ℕ) (told before now : Option (List ℕ)) → Says shows status told before now → EndsByGrammar status told before now
+pub ends_by_grammar : (shows : Parts) (status : ℕ) (told before now : Option (List ℕ))
+    → Says shows status told before now → EndsByGrammar status told before now
 ends_by_grammar shows status told before now says = record { only = says.grammar; always = ends_bad_line shows status told before now says }
 
 -- ---- by the words

@@ -5,9 +5,9 @@ use Rattle.dns_model.specs.Records.{Rr, Question}
 use Rattle.dns_model.specs.SoundAnswers.{Told, told_by, Sound, ResponseValue}
 use Rattle.dns_model.specs.Chains.{judge}
 use Rattle.dns_model.specs.Trails.{AskedValue, EndingValue, Answered, Failed, Denied}
-use Rattle.dns_judgement.specs.Derivation.{derivation, in_send_order}
-use Rattle.dns_judgement.specs.DerivationParts.{is_foreign}
-use Rattle.dns_judgement.specs.Outcome.{foreign_record}
+use Rattle.dns_rules.specs.Derivation.{derivation, in_send_order}
+use Rattle.dns_rules.specs.DerivationParts.{is_foreign}
+use Rattle.dns_rules.specs.Outcome.{foreign_record}
 use Rattle.dns_laws.specs.Ground.{HasGrounds}
 use Rattle.dns_handle.specs.Errors as seen
 use Rattle.dns_handle.specs.Errors.{Reply, ErrorValue, DnsErrorValue, Busy, Dns, Message, Msg, NoConnections, Proto, Io, Timeout, QueryCaseMismatch, ForeignClassRecord, Truncated, ResponseCode, NoRecordsFound, Nsec, DnssecBogus}
@@ -16,12 +16,12 @@ use Rattle.dns_handle.specs.Replies.{reply_of}
 use Rattle.dns_handle.specs.Requests.{plain_options}
 use Rattle.dns_handle.specs.declared.error.NetError.{NetError}
 use Rattle.dns_handle.specs.declared.handle.DnsHandle as handle
-use Rattle.dns_handle.specs.declared.notice.Notice.TheVariants.{NotJudgedYet, NoQueryInRequest, ExpiredRrsig, WrongDnskey, WrongRrsig}
+use Rattle.dns_handle.specs.declared.notice.Notice.TheVariants.{NotJudgedYet, NoQueryInRequest, ExpiredRrsig, WrongDnskey, WrongRrsig, ExceededMaxValidationDepth, ExceededMaxNestedQueries, IdSpaceExhausted, SendQueueFull, PolledAfterCompletion}
 use Rattle.dns_lookup.specs.Received.{received_message, received}
 use Rattle.dns_handle.specs.declared.request.DnsRequestOptions.{DnsRequestOptions}
 use Rattle.dns_evidence.specs.declared.verifier.Verifier as verifier
 use Rattle.dns_recorded.specs.Recording.{RecordedValue, replies_of}
-use Rattle.dns_anchors.specs.Listing.{ListedValue, answers_of}
+use Rattle.dns_evidence.specs.Listing.{ListedValue, answers_of}
 use Rattle.dns_lookup.specs.declared.handle.DnssecDnsHandle.{DnssecDnsHandle}
 use Rattle.dns_lookup.specs.Calls.{Call, inner_of, anchors_of, verifier_of, call_of}
 use Rattle.dns_lookup.specs.Sends.{IsFromReplies}
@@ -46,10 +46,13 @@ pub record IsSessionCall {H : Type 0} (meanings : handle.Ghosts H) (s : SessionV
 
 -- ---- its trail, its soundness
 
-pub session_trail : {H : Type 0} (meanings : handle.Ghosts H) (s : SessionValue) (call : Call H) (trail : List AskedValue) (ending : EndingValue)
+pub session_trail : {H : Type 0} (meanings : handle.Ghosts H) (s : SessionValue) (call : Call H)
+    (trail : List AskedValue) (ending : EndingValue)
     → IsSessionCall meanings s call → IsTrail meanings call trail ending → IsSessionTrail s trail ending
 session_trail meanings s call trail ending c is = record {
-  derived = ap (λ j. derivation j (session_depth s) trail) (sym c.judge) ∙ ap (λ d. derivation call.judge d trail) (sym c.depth) ∙ is.derived;
+  derived =
+      ap (λ j. derivation j (session_depth s) trail) (sym c.judge)
+      ∙ ap (λ d. derivation call.judge d trail) (sym c.depth) ∙ is.derived;
   top = is.top;
   last = is.last;
   query = is.query ∙ c.query;
@@ -58,14 +61,17 @@ session_trail meanings s call trail ending c is = record {
 }
 
 -- a fact of what the upstream tells and of the query is one of the session's
-at_session : {H : Type 0} (meanings : handle.Ghosts H) (s : SessionValue) (call : Call H) (Fact : Option Replies → Question → Type 0)
+at_session : {H : Type 0} (meanings : handle.Ghosts H) (s : SessionValue) (call : Call H)
+    (Fact : Option Replies → Question → Type 0)
     → IsSessionCall meanings s call → Fact (meanings.told call.old) call.query → Fact (Some (session_replies s)) s.query
 at_session meanings s call Fact c fact =
     subst (λ told. Fact told s.query) c.told (subst (λ q. Fact (meanings.told call.old) q) c.query fact)
 
 -- what was heard was told
-told_heard : {X : Type 0} (f : Reply → Option X) (told : List (Question × Reply)) (q : Question) (reply answer : Reply) (x : X)
-    → (reply ≡ Err seen.NoMemory) ⊎ (reply ≡ reply_to told q) → reply_to told q ≡ answer → f (Err seen.NoMemory) ≡ None → f reply ≡ Some x
+told_heard : {X : Type 0} (f : Reply → Option X) (told : List (Question × Reply)) (q : Question) (reply answer : Reply)
+    (x : X)
+    → (reply ≡ Err seen.NoMemory) ⊎ (reply ≡ reply_to told q) → reply_to told q ≡ answer → f (Err seen.NoMemory) ≡ None
+    → f reply ≡ Some x
     → f answer ≡ Some x
 told_heard f told q reply answer x is told_is silent heard = elim is [
   | inl none ↦ absurd (none_heard (sym silent ∙ sym (ap f none) ∙ heard))
@@ -81,9 +87,12 @@ session_sound meanings s call a c is =
     let told = at_session meanings s call (λ told q. ReplyIsTold told (Some q) is.reply) c is.made.told in
     record {
       message = is.message;
-      told = told_heard received_message (map recorded s.replies) s.query is.reply (session_told s) is.message told (session_replied s) refl is.received;
+      told =
+          told_heard received_message (map recorded s.replies) s.query is.reply (session_told s) is.message told
+          (session_replied s) refl is.received;
       sound =
-          subst (λ j. Sound j s.moment (told_by is.message) a) c.judge (subst (λ now. Sound call.judge now (told_by is.message) a) c.moment is.sound);
+          subst (λ j. Sound j s.moment (told_by is.message) a) c.judge
+          (subst (λ now. Sound call.judge now (told_by is.message) a) c.moment is.sound);
     }
 
 -- ---- the answer
@@ -98,7 +107,8 @@ pub record SaysOf {H : Type 0} (meanings : handle.Ghosts H) (call : Call H) (ans
   pub caused : HasItsCause meanings call answer
 
 -- a response of the call is one of the session
-session_response : {H : Type 0} (meanings : handle.Ghosts H) (s : SessionValue) (call : Call H) (a : ResponseValue) (ending : EndingValue)
+session_response : {H : Type 0} (meanings : handle.Ghosts H) (s : SessionValue) (call : Call H) (a : ResponseValue)
+    (ending : EndingValue)
     → IsSessionCall meanings s call → IsSoundAnswer meanings call a → IsTrail meanings call a.trail ending
     → IsExplained call.judge.answers call.now a → sees_nsec3 a.trail ≡ false → IsSessionAnswer s a ending
 session_response meanings s call a ending c sound trail explained judged = record {
@@ -158,7 +168,9 @@ foreign_cause meanings s call e c names =
     OtherClass (record {
       records = names.records;
       first = names.first;
-      told = told_heard received (map recorded s.replies) s.query names.reply (session_told s) names.records told (session_replied s) refl names.received;
+      told =
+          told_heard received (map recorded s.replies) s.query names.reply (session_told s) names.records told
+          (session_replied s) refl names.received;
       found = ap (λ q. foreign_record q names.records) (sym c.query) ∙ names.found;
       named = names.named;
     })
@@ -168,10 +180,12 @@ abbrev Unanswered : SessionValue → Type 0
 Unanswered s = AnswersTold (Some (session_replies s)) s.query (Err (Message NotJudgedYet))
 
 -- the records of a session that isn't judged yet have an NSEC3 among them
-nsec3_told : (s : SessionValue) (trail : List AskedValue) → IsSessionTrail s trail Failed → Unanswered s → (records : Told)
+nsec3_told : (s : SessionValue) (trail : List AskedValue) → IsSessionTrail s trail Failed → Unanswered s
+    → (records : Told)
     → session_records s ≡ Some records → (foreign : Option Rr) → foreign_record s.query records ≡ foreign
     → (has : Bool) → tells_nsec3 records ≡ has → tells_nsec3 records ≡ true
-nsec3_told s trail is answers records told (Some r) found has tells = absurd (not_true (trail_foreign s trail Failed records r is told found))
+nsec3_told s trail is answers records told (Some r) found has tells =
+    absurd (not_true (trail_foreign s trail Failed records r is told found))
   where
     not_true : is_foreign r Failed ≡ true → ⊥
     not_true h = cc
@@ -182,7 +196,8 @@ nsec3_told s trail is answers records told None own false tells =
     not_true : has_response (Err (Message NotJudgedYet)) ≡ true → ⊥
     not_true h = cc
 
-unjudged_by : (s : SessionValue) (trail : List AskedValue) → IsSessionTrail s trail Failed → sees_nsec3 trail ≡ true → Unanswered s
+unjudged_by : (s : SessionValue) (trail : List AskedValue) → IsSessionTrail s trail Failed → sees_nsec3 trail ≡ true
+    → Unanswered s
     → (o : Option Told) → session_records s ≡ o → HasUnjudged s
 unjudged_by s trail is sees answers None none = absurd (trail_seen s trail Failed is sees none)
 unjudged_by s trail is sees answers (Some records) told = record {
@@ -201,41 +216,67 @@ unjudged_cause meanings s call c answers u =
 
 dns_cause : {H : Type 0} (meanings : handle.Ghosts H) (s : SessionValue) (call : Call H) (e : DnsErrorValue)
     → IsSessionCall meanings s call → SaysOf meanings call (Err (Dns e)) → Dns e ≢ seen.NoMemory → FaultCause s (Dns e)
-dns_cause meanings s call (ResponseCode code) c says own = passed_cause meanings s call _ c own (says.caused.passed _ refl refl)
-dns_cause meanings s call (NoRecordsFound missing) c says own = passed_cause meanings s call _ c own (says.caused.passed _ refl refl)
+dns_cause meanings s call (ResponseCode code) c says own =
+    passed_cause meanings s call _ c own (says.caused.passed _ refl refl)
+dns_cause meanings s call (NoRecordsFound missing) c says own =
+    passed_cause meanings s call _ c own (says.caused.passed _ refl refl)
 dns_cause meanings s call (Nsec asked response proof) c says own =
     NotDenied response proof (session_answered meanings s call (Err (Dns (Nsec asked response proof))) c says)
     (ap (λ q. Dns (Nsec q response proof)) ((says.denied asked response proof refl).0 ∙ c.query))
 dns_cause meanings s call DnssecBogus c says own = passed_cause meanings s call _ c own (says.caused.passed _ refl refl)
 
 error_cause : {H : Type 0} (meanings : handle.Ghosts H) (s : SessionValue) (call : Call H) (e : ErrorValue)
-    → IsSessionCall meanings s call → SaysOf meanings call (Err e) → AnswersTold (Some (session_replies s)) s.query (Err e)
+    → IsSessionCall meanings s call → SaysOf meanings call (Err e)
+    → AnswersTold (Some (session_replies s)) s.query (Err e)
     → e ≢ seen.NoMemory → FaultCause s e
-error_cause meanings s call Busy c says answers own = passed_cause meanings s call _ c own (says.caused.passed _ refl refl)
+error_cause meanings s call Busy c says answers own =
+    passed_cause meanings s call _ c own (says.caused.passed _ refl refl)
 error_cause meanings s call (Dns error) c says answers own = dns_cause meanings s call error c says own
 error_cause meanings s call (Message NotJudgedYet) c says answers own = elim (says.caused.unjudged refl) [
   | inl p ↦ passed_cause meanings s call _ c own p
   | inr u ↦ NotJudged (unjudged_cause meanings s call c answers u) refl
 ]
-error_cause meanings s call (Message NoQueryInRequest) c says answers own = passed_cause meanings s call _ c own (says.caused.passed _ refl refl)
-error_cause meanings s call (Message ExpiredRrsig) c says answers own = passed_cause meanings s call _ c own (says.caused.passed _ refl refl)
-error_cause meanings s call (Message WrongDnskey) c says answers own = passed_cause meanings s call _ c own (says.caused.passed _ refl refl)
-error_cause meanings s call (Message WrongRrsig) c says answers own = passed_cause meanings s call _ c own (says.caused.passed _ refl refl)
-error_cause meanings s call (Msg text) c says answers own = passed_cause meanings s call _ c own (says.caused.passed _ refl refl)
-error_cause meanings s call NoConnections c says answers own = passed_cause meanings s call _ c own (says.caused.passed _ refl refl)
-error_cause meanings s call (Proto error) c says answers own = passed_cause meanings s call _ c own (says.caused.passed _ refl refl)
-error_cause meanings s call (Io kind) c says answers own = passed_cause meanings s call _ c own (says.caused.passed _ refl refl)
-error_cause meanings s call Timeout c says answers own = passed_cause meanings s call _ c own (says.caused.passed _ refl refl)
-error_cause meanings s call QueryCaseMismatch c says answers own = passed_cause meanings s call _ c own (says.caused.passed _ refl refl)
+error_cause meanings s call (Message NoQueryInRequest) c says answers own =
+    passed_cause meanings s call _ c own (says.caused.passed _ refl refl)
+error_cause meanings s call (Message ExpiredRrsig) c says answers own =
+    passed_cause meanings s call _ c own (says.caused.passed _ refl refl)
+error_cause meanings s call (Message WrongDnskey) c says answers own =
+    passed_cause meanings s call _ c own (says.caused.passed _ refl refl)
+error_cause meanings s call (Message WrongRrsig) c says answers own =
+    passed_cause meanings s call _ c own (says.caused.passed _ refl refl)
+error_cause meanings s call (Message ExceededMaxValidationDepth) c says answers own =
+    passed_cause meanings s call _ c own (says.caused.passed _ refl refl)
+error_cause meanings s call (Message ExceededMaxNestedQueries) c says answers own =
+    passed_cause meanings s call _ c own (says.caused.passed _ refl refl)
+error_cause meanings s call (Message IdSpaceExhausted) c says answers own =
+    passed_cause meanings s call _ c own (says.caused.passed _ refl refl)
+error_cause meanings s call (Message SendQueueFull) c says answers own =
+    passed_cause meanings s call _ c own (says.caused.passed _ refl refl)
+error_cause meanings s call (Message PolledAfterCompletion) c says answers own =
+    passed_cause meanings s call _ c own (says.caused.passed _ refl refl)
+error_cause meanings s call (Msg text) c says answers own =
+    passed_cause meanings s call _ c own (says.caused.passed _ refl refl)
+error_cause meanings s call NoConnections c says answers own =
+    passed_cause meanings s call _ c own (says.caused.passed _ refl refl)
+error_cause meanings s call (Proto error) c says answers own =
+    passed_cause meanings s call _ c own (says.caused.passed _ refl refl)
+error_cause meanings s call (Io kind) c says answers own =
+    passed_cause meanings s call _ c own (says.caused.passed _ refl refl)
+error_cause meanings s call Timeout c says answers own =
+    passed_cause meanings s call _ c own (says.caused.passed _ refl refl)
+error_cause meanings s call QueryCaseMismatch c says answers own =
+    passed_cause meanings s call _ c own (says.caused.passed _ refl refl)
 error_cause meanings s call (ForeignClassRecord owner class rtype) c says answers own = elim (says.caused.foreign owner class rtype refl) [
   | inl p ↦ passed_cause meanings s call _ c own p
   | inr names ↦ foreign_cause meanings s call _ c names
 ]
-error_cause meanings s call Truncated c says answers own = passed_cause meanings s call _ c own (says.caused.passed _ refl refl)
+error_cause meanings s call Truncated c says answers own =
+    passed_cause meanings s call _ c own (says.caused.passed _ refl refl)
 error_cause meanings s call seen.NoMemory c says answers own = absurd (own refl)
 
 session_caused : {H : Type 0} (meanings : handle.Ghosts H) (s : SessionValue) (call : Call H) (answer : Reply)
-    → IsSessionCall meanings s call → SaysOf meanings call answer → AnswersTold (Some (session_replies s)) s.query answer
+    → IsSessionCall meanings s call → SaysOf meanings call answer
+    → AnswersTold (Some (session_replies s)) s.query answer
     → (e : ErrorValue) → answer ≡ Err e → e ≢ seen.NoMemory → FaultCause s e
 session_caused meanings s call answer c says answers e is own =
     error_cause meanings s call e c (subst (λ x. SaysOf meanings call x) is says)
@@ -244,7 +285,8 @@ session_caused meanings s call answer c says answers e is own =
 -- ---- the whole
 
 -- a fact of an Ok result is one of its reply
-pub reply_ok : (result : Result ResponseValue NetError) (Fact : ResponseValue → Type 0) → IfOk result Fact → IfOk (reply_of result) Fact
+pub reply_ok : (result : Result ResponseValue NetError) (Fact : ResponseValue → Type 0) → IfOk result Fact
+    → IfOk (reply_of result) Fact
 reply_ok (Ok a) Fact fact = fact
 reply_ok (Err e) Fact fact = tt
 
@@ -256,20 +298,25 @@ pub record Known (told : Option Replies) (q : Question) (answer : Reply) : Type 
   pub answers : AnswersTold told q answer
 
 pub all_known : (told : Option Replies) (q : Question) (result : Result ResponseValue NetError)
-    → UnlessNoMemory result (PassesOn told q (reply_of result)) → UnlessNoMemory result (ForeignNamed told q (reply_of result))
-    → UnlessNoMemory result (JudgesTold told q (reply_of result)) → UnlessNoMemory result (AnswersTold told q (reply_of result))
+    → UnlessNoMemory result (PassesOn told q (reply_of result))
+    → UnlessNoMemory result (ForeignNamed told q (reply_of result))
+    → UnlessNoMemory result (JudgesTold told q (reply_of result))
+    → UnlessNoMemory result (AnswersTold told q (reply_of result))
     → UnlessNoMemory result (Known told q (reply_of result))
 all_known told q (Ok x) p f j a = record { passes = p; foreign = f; judges = j; answers = a }
 all_known told q (Err e) (inl memory) f j a = inl memory
 all_known told q (Err e) (inr p) (inl memory) j a = inl memory
 all_known told q (Err e) (inr p) (inr f) (inl memory) a = inl memory
 all_known told q (Err e) (inr p) (inr f) (inr j) (inl memory) = inl memory
-all_known told q (Err e) (inr p) (inr f) (inr j) (inr a) = inr (record { passes = p; foreign = f; judges = j; answers = a })
+all_known told q (Err e) (inr p) (inr f) (inr j) (inr a) =
+    inr (record { passes = p; foreign = f; judges = j; answers = a })
 
 session_known : {H : Type 0} (meanings : handle.Ghosts H) (s : SessionValue) (call : Call H) (answer : Reply)
-    → IsSessionCall meanings s call → SaysOf meanings call answer → Known (meanings.told call.old) call.query answer → AnswersSession s answer
+    → IsSessionCall meanings s call → SaysOf meanings call answer → Known (meanings.told call.old) call.query answer
+    → AnswersSession s answer
 session_known meanings s call answer c says given =
-    let known : Known (Some (session_replies s)) s.query answer = at_session meanings s call (λ told q. Known told q answer) c given in
+    let known : Known (Some (session_replies s)) s.query answer =
+    at_session meanings s call (λ told q. Known told q answer) c given in
     record {
       answered = session_answered meanings s call answer c says;
       denies = session_denies meanings s call answer c says;
@@ -281,19 +328,22 @@ session_known meanings s call answer c says given =
     }
 
 -- the answer to a session is that of its lookup
-pub answers_session : {H : Type 0} (meanings : handle.Ghosts H) (s : SessionValue) (call : Call H) (result : Result ResponseValue NetError)
+pub answers_session : {H : Type 0} (meanings : handle.Ghosts H) (s : SessionValue) (call : Call H)
+    (result : Result ResponseValue NetError)
     → IsSessionCall meanings s call → SaysOf meanings call (reply_of result)
     → UnlessNoMemory result (Known (meanings.told call.old) call.query (reply_of result))
     → UnlessNoMemory result (AnswersSession s (reply_of result))
 answers_session meanings s call (Ok a) c says known = session_known meanings s call (Ok a) c says known
 answers_session meanings s call (Err e) c says (inl memory) = inl memory
-answers_session meanings s call (Err e) c says (inr known) = inr (session_known meanings s call (reply_of (Err e)) c says known)
+answers_session meanings s call (Err e) c says (inr known) =
+    inr (session_known meanings s call (reply_of (Err e)) c says known)
 
 -- what a lookup answered, over the handle, the keys and the verifier that were made of a session
 pub answers_looked : (meanings : handle.Ghosts RecordedValue) (tests : verifier.Ghosts ListedValue) (s : SessionValue)
     (old new : DnssecDnsHandle RecordedValue ListedValue) (q : Question) (options : DnsRequestOptions) (now : ℕ)
     (result : Result ResponseValue NetError)
-    → meanings.told (inner_of old) ≡ Some (replies_of (inner_of old)) → tests.answers (verifier_of old) ≡ answers_of (verifier_of old)
+    → meanings.told (inner_of old) ≡ Some (replies_of (inner_of old))
+    → tests.answers (verifier_of old) ≡ answers_of (verifier_of old)
     → inner_of old ≡ recorded_by s.by_turn s.replies → anchored (anchors_of old) ≡ anchored s.anchors
     → answers_of (verifier_of old) ≡ answers_of (listing s.algorithms s.accepts) → q ≡ s.query
     → options ≡ record plain_options { max_request_depth = session_depth s } → now ≡ s.moment

@@ -13,16 +13,19 @@ report_derived shows before now bytes wrote =
     let l : Derives shows bytes wrote.text = wrote.fact in
     record { text = wrote.text; fact = record { session = l.session; read = l.read; report = l.report.report }; written = wrote.written }
 
-pub leaves_reports : (shows : Parts) (told before now : Option (List ℕ)) → Leaves (Derives shows) told before now → Leaves (Reports shows) told before now
+pub leaves_reports : (shows : Parts) (told before now : Option (List ℕ)) → Leaves (Derives shows) told before now
+    → Leaves (Reports shows) told before now
 leaves_reports shows None before now some = record { bytes = some.bytes; fact = report_derived shows before now some.bytes some.fact }
 leaves_reports shows (Some bytes) before now wrote = report_derived shows before now bytes wrote
 
 -- nothing was written
-pub nothing_written : (shows : Parts) (before : Option (List ℕ)) (bytes : List ℕ) → WrotePrefix before before (ComesTo shows bytes)
+pub nothing_written : (shows : Parts) (before : Option (List ℕ)) (bytes : List ℕ)
+    → WrotePrefix before before (ComesTo shows bytes)
 nothing_written shows before bytes = record { text = []; fact = Nothing refl; written = nothing_taken before [] }
 
 pub nothing_told : (shows : Parts) (told before : Option (List ℕ)) → LeavesPrefix shows told before before
-nothing_told shows told before = of_any (λ bytes. WrotePrefix before before (ComesTo shows bytes)) told (nothing_written shows before)
+nothing_told shows told before =
+    of_any (λ bytes. WrotePrefix before before (ComesTo shows bytes)) told (nothing_written shows before)
 
 pub report_prefix : (shows : Parts) (before now : Option (List ℕ)) (bytes text : List ℕ)
     → Derives shows bytes text → TakesPrefix before now text → WrotePrefix before now (ComesTo shows bytes)

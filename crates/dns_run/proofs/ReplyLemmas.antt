@@ -1,15 +1,19 @@
 -- What a session's upstream answers to its query.
-use Rattle.std.proofs.Common.{◌≡◌, true, false, cond, List, [], ◌∷◌, map, Some, Err, refl}
+use Rattle.std.proofs.Common.{◌≡◌, true, false, cond, List, [], ◌∷◌, map, Some, Err, refl, Option}
 use Rattle.std.specs.List.{find}
 use Rattle.dns_model.specs.Records.{Question, question_eq}
-use Rattle.dns_handle.specs.Errors.{Reply, ErrorValue}
+use Rattle.dns_handle.specs.Errors.{Reply, ErrorValue, Timeout}
 use Rattle.dns_handle.specs.Handles.{reply_to}
 use Rattle.dns_session.specs.SessionValue.{SessionValue, ReplyValue}
-use Rattle.dns_run.specs.Replies.{reply_from, recorded, told_by_reply, session_told}
+use Rattle.dns_run.specs.Replies.{reply_from, recorded, session_told}
+use Rattle.std.specs.Option.{option_map_or}
 
 -- an answer is one error
 pub err_same : (answer : Reply) (a b : ErrorValue) → answer ≡ Err a → answer ≡ Err b → a ≡ b
 err_same answer a b x y = cc
+
+abbrev told_by_reply : Option ReplyValue → Reply
+told_by_reply told = option_map_or (λ reply. reply_from reply.kind) told (Err Timeout)
 
 -- the recorded reply to a question is that of the first with it
 recorded_reply : (replies : List ReplyValue) (q : Question)

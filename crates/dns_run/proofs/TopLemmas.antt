@@ -6,11 +6,11 @@ use Rattle.std.proofs.lemmas.Bool.{and_parts}
 use Rattle.dns_model.specs.Records.{Rr}
 use Rattle.dns_model.specs.SoundAnswers.{Told}
 use Rattle.dns_model.specs.Trails.{AskedValue, HeardValue, Records, Fault, EndingValue}
-use Rattle.dns_judgement.specs.Asking.{depth_limit, judged_part}
-use Rattle.dns_judgement.specs.Derivation.{Grounds, with_entries, judged_sets, told_in, step_holds}
-use Rattle.dns_judgement.specs.DerivationParts.{grounds_of, is_foreign, is_bare, judged_holds, step_holds_by}
-use Rattle.dns_judgement.specs.Outcome.{is_unjudged, foreign_record}
-use Rattle.dns_judgement.proofs.DerivedLemmas.{Derived, derivation_parts, steps_hold_at, TopFirst, derivation_first}
+use Rattle.dns_rules.specs.Asking.{depth_limit, judged_part}
+use Rattle.dns_rules.specs.Derivation.{StepContext, with_entries, judged_sets, told_in, step_holds}
+use Rattle.dns_rules.specs.DerivationParts.{step_context_of, is_foreign, is_bare, judged_holds, step_holds_by}
+use Rattle.dns_rules.specs.Outcome.{is_unjudged, foreign_record}
+use Rattle.dns_rules.proofs.DerivedLemmas.{Derived, derivation_parts, steps_hold_at, TopFirst, derivation_first}
 use Rattle.dns_handle.specs.Handles.{reply_to}
 use Rattle.dns_lookup.specs.Causes.{sees_nsec3}
 use Rattle.dns_lookup.specs.Received.{heard_from, says_none}
@@ -28,14 +28,15 @@ some_same o a b x y = cc
 -- the last step is a judged one that heard the session's reply to its query, and it follows from the steps before it
 record IsTop (s : SessionValue) (trail : List AskedValue) (ending : EndingValue) : Type 0 where
   pub step : AskedValue
-  pub before : Grounds
+  pub before : StepContext
   pub query : step.query ≡ s.query
   pub ends : step.ending ≡ ending
   pub judged : step.judged ≡ true
   pub heard : step.reply ≡ heard_told (says_none (session_told s)) (session_records s)
   pub holds : step_holds_by before step step.reply ≡ true
 
-top_heard : (s : SessionValue) (trail : List AskedValue) (ending : EndingValue) (is : IsSessionTrail s trail ending) (f : TopFirst trail)
+top_heard : (s : SessionValue) (trail : List AskedValue) (ending : EndingValue) (is : IsSessionTrail s trail ending)
+    (f : TopFirst trail)
     → is.top.reply ≡ heard_told (says_none (session_told s)) (session_records s)
 top_heard s trail ending is f =
     let same : is.top ≡ f.top = some_same _ is.top f.top is.last f.last in
@@ -44,15 +45,17 @@ top_heard s trail ending is f =
     ∙ ap (λ q. heard_from (reply_to (map recorded s.replies) q)) (ap (λ step. step.query) (sym same) ∙ is.query)
     ∙ ap heard_from (session_replied s)
 
-is_top : (s : SessionValue) (trail : List AskedValue) (ending : EndingValue) → IsSessionTrail s trail ending → IsTop s trail ending
+is_top : (s : SessionValue) (trail : List AskedValue) (ending : EndingValue) → IsSessionTrail s trail ending
+    → IsTop s trail ending
 unfolding step_holds
 is_top s trail ending is =
     let f : TopFirst trail = derivation_first (session_judge s) (session_depth s) trail is.derived in
-    let d : Derived (session_judge s) (session_depth s) trail = derivation_parts (session_judge s) (session_depth s) trail is.derived in
+    let d : Derived (session_judge s) (session_depth s) trail =
+    derivation_parts (session_judge s) (session_depth s) trail is.derived in
     let limit = depth_limit (session_depth s) in
     record {
       step = is.top;
-      before = grounds_of (session_judge s) limit ([] ++ take (length trail - 1) trail) is.top;
+      before = step_context_of (session_judge s) limit ([] ++ take (length trail - 1) trail) is.top;
       query = is.query;
       ends = is.ends;
       judged = ap (λ step. step.judged) (some_same _ is.top f.top is.last f.last) ∙ f.judged;
@@ -61,7 +64,8 @@ is_top s trail ending is =
     }
 
 -- a judged step with records is judged by them
-records_judged : (g : Grounds) (step : AskedValue) (empty : Bool) (o : Option Told) (records : Told) → step.judged ≡ true
+records_judged : (g : StepContext) (step : AskedValue) (empty : Bool) (o : Option Told) (records : Told)
+    → step.judged ≡ true
     → step.reply ≡ heard_told empty o → o ≡ Some records → step_holds_by g step step.reply ≡ true
     → judged_holds g step records (foreign_record step.query records) ≡ true
 records_judged g step empty o records judged heard told holds =
@@ -69,32 +73,37 @@ records_judged g step empty o records judged heard told holds =
     ap (step_holds_by g step) (ap (heard_told empty) (sym told) ∙ sym heard) ∙ holds in
     rw judged at b
 
-foreign_ends : (g : Grounds) (step : AskedValue) (records : Told) (o : Option Rr) (r : Rr) → o ≡ Some r
+foreign_ends : (g : StepContext) (step : AskedValue) (records : Told) (o : Option Rr) (r : Rr) → o ≡ Some r
     → judged_holds g step records o ≡ true → is_foreign r step.ending ≡ true
 foreign_ends g step records o r is holds =
     (and_parts (is_foreign r step.ending) (is_bare step) (ap (judged_holds g step records) (sym is) ∙ holds)).0
 
 -- where the reply has a record of another class, the trail names the first
-pub trail_foreign : (s : SessionValue) (trail : List AskedValue) (ending : EndingValue) (records : Told) (r : Rr) → IsSessionTrail s trail ending
+pub trail_foreign : (s : SessionValue) (trail : List AskedValue) (ending : EndingValue) (records : Told) (r : Rr)
+    → IsSessionTrail s trail ending
     → session_records s ≡ Some records → foreign_record s.query records ≡ Some r → is_foreign r ending ≡ true
 trail_foreign s trail ending records r is told found =
     let t : IsTop s trail ending = is_top s trail ending is in
     ap (is_foreign r) (sym t.ends)
-    ∙ foreign_ends t.before t.step records (foreign_record t.step.query records) r (ap (λ q. foreign_record q records) t.query ∙ found)
+    ∙ foreign_ends t.before t.step records (foreign_record t.step.query records) r
+    (ap (λ q. foreign_record q records) t.query ∙ found)
     (records_judged t.before t.step (says_none (session_told s)) (session_records s) records t.judged t.heard told t.holds)
 
 -- a trail whose last step saw a Secure NSEC3 is of a session that has records
-pub trail_seen : (s : SessionValue) (trail : List AskedValue) (ending : EndingValue) (is : IsSessionTrail s trail ending)
+pub trail_seen : (s : SessionValue) (trail : List AskedValue) (ending : EndingValue)
+    (is : IsSessionTrail s trail ending)
     → sees_nsec3 trail ≡ true → session_records s ≡ None → ⊥
 trail_seen s trail ending is sees none =
     let f : TopFirst trail = derivation_first (session_judge s) (session_depth s) trail is.derived in
-    let silent : is.top.reply ≡ Fault = top_heard s trail ending is f ∙ ap (heard_told (says_none (session_told s))) none in
+    let silent : is.top.reply ≡ Fault =
+    top_heard s trail ending is f ∙ ap (heard_told (says_none (session_told s))) none in
     clash (sym (ap (sees_in is.top) silent) ∙ ap (λ o. option_map_or (λ top. list_any is_unjudged (judged_sets top)) o false) (sym is.last) ∙ sees)
   where
     -- what a step sees where it hears this
     sees_in : AskedValue → HeardValue → Bool
     sees_in step reply =
-        list_any is_unjudged (option_map_or (λ told. with_entries (judged_part step.depth told) step.sets) (told_in reply) [])
+        list_any is_unjudged
+        (option_map_or (λ told. with_entries (judged_part step.depth told) step.sets) (told_in reply) [])
 
     clash : false ≡ true → ⊥
     clash h = cc

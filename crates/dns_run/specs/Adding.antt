@@ -1,11 +1,9 @@
 -- For private functions of this crate only: what the lists of a verifier and of trusted keys become when a session's lines are
 -- added one by one. What a session's judge is stands in Soundness.
 use Rattle.std.specs.Prelude.{ℕ, List, [], ◌∷◌}
-use Rattle.dns_model.specs.Keys.{AnchorValue}
-use Rattle.dns_anchors.specs.Listing.{ListedValue, with_algorithm, with_accepted}
-use Rattle.dns_anchors.specs.Anchoring.{with_anchor}
-use Rattle.dns_session.specs.SessionValue.{AcceptedSignatureValue}
-use Rattle.dns_run.specs.Soundness.{listed_signature}
+use Rattle.dns_model.specs.Keys.{AnchorValue, AcceptedSignatureValue}
+use Rattle.dns_evidence.specs.Listing.{ListedValue, with_algorithm, with_accepted}
+use Rattle.dns_trust.specs.Anchoring.{with_anchor}
 
 unfoldable pub with_algorithms : ListedValue → List ℕ → ListedValue
 with_algorithms listed [] = listed
@@ -13,7 +11,7 @@ with_algorithms listed (a ∷ more) = with_algorithms (with_algorithm listed a) 
 
 unfoldable pub with_accepts : ListedValue → List AcceptedSignatureValue → ListedValue
 with_accepts listed [] = listed
-with_accepts listed (a ∷ more) = with_accepts (with_accepted listed (listed_signature a)) more
+with_accepts listed (a ∷ more) = with_accepts (with_accepted listed a) more
 
 -- a verifier's lists, from nothing
 abbrev pub listed_by : List ℕ → List AcceptedSignatureValue → ListedValue

@@ -2,7 +2,7 @@
 use Rattle.std.specs.Prelude.{ℕ, ◌≡◌, Bool, true, false, List, map, unwrap_or, Some}
 use Rattle.dns_model.specs.SoundAnswers.{ResponseValue}
 use Rattle.dns_model.specs.Trails.{AskedValue, EndingValue}
-use Rattle.dns_judgement.specs.Derivation.{derivation, top_step, in_send_order}
+use Rattle.dns_rules.specs.Derivation.{derivation, top_step, in_send_order}
 use Rattle.dns_laws.specs.Ground.{HasGrounds}
 use Rattle.dns_laws.specs.Denials.{HasDenials}
 use Rattle.dns_handle.specs.Handles.{Replies}

@@ -4,7 +4,7 @@ use Rattle.dns_model.specs.declared.proof.Proof.{Proof}
 use Rattle.dns_model.specs.Records.{Rr}
 use Rattle.dns_model.specs.SoundAnswers.{Told, ResponseValue}
 use Rattle.dns_model.specs.Trails.{AskedValue, Denied, Failed}
-use Rattle.dns_judgement.specs.Outcome.{foreign_record}
+use Rattle.dns_rules.specs.Outcome.{foreign_record}
 use Rattle.dns_handle.specs.declared.notice.Notice.TheVariants.{NotJudgedYet}
 use Rattle.dns_handle.specs.Errors.{Reply, ErrorValue, Dns, Message, ForeignClassRecord, Nsec, NoMemory}
 use Rattle.dns_lookup.specs.LookupAnswers.{OfAnswer, ShowsItsDenial}

@@ -5,6 +5,7 @@ use Rattle.dns_report.specs.declared.parts.Parts.{Parts}
 use Rattle.dns_report.specs.declared.parts.Parts.TheVariants.{Answer, WithTrail}
 use Rattle.dns_run.specs.declared.form.Form.{Form}
 use Rattle.dns_run.specs.declared.form.Form.TheVariants.{Validate, Help, Version}
+use Rattle.dns_io.specs.Runs.{Asked, AnInput, FixedText}
 
 -- what one word asks for
 abbrev pub form_named : List ℕ → Option Form
@@ -21,10 +22,9 @@ form_of_two word next =
 
 -- what words ask for
 abbrev pub form_in : List (List ℕ) → Option Form
-form_in [] = None
 form_in (word ∷ []) = form_named word
 form_in (word ∷ next ∷ []) = form_of_two word next
-form_in (word ∷ next ∷ third ∷ more) = None
+form_in _ = None
 
 -- what the words of a call ask for
 abbrev pub asked_form : {Z : Type 0} → List (Vec ℕ Z) → Option Form
@@ -34,9 +34,13 @@ asked_form words = form_in (map (λ w. w.items) words)
 abbrev pub IfValidates : {Z : Type 0} → List (Vec ℕ Z) → (Parts → Type 0) → Type 0
 IfValidates words Fact = (shows : Parts) → asked_form words ≡ Some (Validate shows) → Fact shows
 
--- the words don't ask to answer a session
-abbrev pub AsksNoSession : {Z : Type 0} → List (Vec ℕ Z) → Type 0
-AsksNoSession words = (shows : Parts) → asked_form words ≢ Some (Validate shows)
+-- a session to answer, or else a text that is always the same
+abbrev pub form_asks : Option Form → Asked
+form_asks (Some (Validate shows)) = AnInput
+form_asks _ = FixedText
+
+abbrev pub words_ask : {Z : Type 0} → List (Vec ℕ Z) → Asked
+words_ask words = form_asks (asked_form words)
 
 abbrev pub help_text : List ℕ
 help_text =

@@ -12,6 +12,7 @@ use Rattle.dns_lookup.specs.Received.{received_message, received}
 use Rattle.dns_session.specs.declared.reply.ReplyFault.{ReplyFault}
 use Rattle.dns_session.specs.declared.reply.ReplyFault.TheVariants as lacking
 use Rattle.dns_session.specs.SessionValue.{ReplyValue, ReplyKindValue, Message, Empty, Fault, SessionValue}
+use Rattle.std.specs.Option.{option_map_or}
 
 -- a message as a response
 abbrev pub response_with : MessageValue → ResponseValue
@@ -41,18 +42,10 @@ reply_from (Fault fault) = Err (fault_from fault)
 abbrev pub recorded : ReplyValue → Question × Reply
 recorded reply = (reply.question, reply_from reply.kind)
 
--- the first reply to the query
-abbrev pub session_reply : SessionValue → Option ReplyValue
-session_reply s = find (λ reply. question_eq reply.question s.query) s.replies
-
--- what is answered with a reply; without one nothing comes in time
-abbrev pub told_by_reply : Option ReplyValue → Reply
-told_by_reply None = Err Timeout
-told_by_reply (Some reply) = reply_from reply.kind
-
--- what the upstream answers to the query
+-- what the upstream answers to the query: the first reply to it; without one nothing comes in time
 abbrev pub session_told : SessionValue → Reply
-session_told s = told_by_reply (session_reply s)
+session_told s =
+    option_map_or (λ reply. reply_from reply.kind) (find (λ reply. question_eq reply.question s.query) s.replies) (Err Timeout)
 
 -- the message of that
 abbrev pub session_message : SessionValue → Option MessageValue

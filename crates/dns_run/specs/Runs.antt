@@ -2,7 +2,7 @@
 use Rattle.std.specs.Prelude.{ℕ, ◌≡◌, ◌≢◌, ◌<◌, ◌≤◌, Bool, true, false, List, length, Option, None, Some, IfSome, Ok, Err}
 use Rattle.std.specs.Io.KnownBytes.{Appends}
 use Rattle.dns_model.specs.SoundAnswers.{Told}
-use Rattle.dns_judgement.specs.Outcome.{foreign_record}
+use Rattle.dns_rules.specs.Outcome.{foreign_record}
 use Rattle.dns_handle.specs.Errors.{Reply, ErrorValue}
 use Rattle.dns_lookup.specs.Causes.{ends_trail, has_response, tells_nsec3}
 use Rattle.dns_report.specs.Faults.{fault_text}
@@ -69,10 +69,3 @@ IfBadLine (Some bytes) Fact = (number : ℕ) → session_of bytes ≡ Err number
 pub record EndsByGrammar (status : ℕ) (told before now : Option (List ℕ)) : Type 0 where
   pub only : status ≡ 3 → Leaves Refuses told before now
   pub always : IfBadLine told (λ number. EndsWith status 3 before now (bad_line_text number))
-
--- status 7 is answered only for an input that is too long, which is said; and such an input ends so, at the source, at the sink
--- or for want of memory
-pub record EndsByLength (status : ℕ) (told before now : Option (List ℕ)) : Type 0 where
-  pub only : status ≡ 7 → IfSome told (λ left. input_limit < length left)
-  pub written : status ≡ 7 → Appends before now too_long_text
-  pub always : IfSome told (λ left. input_limit < length left → 4 ≤ status)

@@ -3,17 +3,14 @@ use Rattle.std.specs.Prelude.{ℕ, ◌≡◌, List, map, Some}
 use Rattle.dns_model.specs.Records.{MessageValue}
 use Rattle.dns_model.specs.Chains.{Judge, judge}
 use Rattle.dns_model.specs.SoundAnswers.{told_by, Sound, ResponseValue}
-use Rattle.dns_anchors.specs.Listing.{ListedValue, ListedSignatureValue, answers_of}
-use Rattle.dns_session.specs.SessionValue.{AcceptedSignatureValue, SessionValue}
+use Rattle.dns_evidence.specs.Listing.{ListedValue, answers_of}
+use Rattle.dns_session.specs.SessionValue.{SessionValue}
 use Rattle.dns_run.specs.Replies.{session_message}
-
--- a signature that a session's verifier accepts
-abbrev pub listed_signature : AcceptedSignatureValue → ListedSignatureValue
-listed_signature a = record { algorithm = a.algorithm; key = a.key; bytes = a.bytes; signature = a.signature }
+use Rattle.dns_model.specs.Keys.{AcceptedSignatureValue}
 
 -- what a session's verifier lists
 abbrev pub listing : List ℕ → List AcceptedSignatureValue → ListedValue
-listing algorithms accepts = record { algorithms = algorithms; accepted = map listed_signature accepts }
+listing algorithms accepts = record { algorithms = algorithms; accepted = accepts }
 
 -- by what a session's chains are judged: its verifier supports the algorithms and accepts the signatures that it lists, under
 -- algorithm 1 none; its anchors are trusted; and signatures count at its moment

@@ -3,7 +3,7 @@ ghost use Rattle.std.specs.Prelude.{◌≡◌, [], unwrap_or, IfOk, OnOk};
 ghost use Rattle.dns_model.specs.Keys.{anchored};
 ghost use Rattle.dns_handle.specs.Replies.{reply_of};
 ghost use Rattle.dns_handle.specs.Requests.{plain_options};
-ghost use Rattle.dns_anchors.specs.Listing.{answers_of};
+ghost use Rattle.dns_evidence.specs.Listing.{answers_of};
 ghost use Rattle.dns_lookup.specs.Calls.{inner_of, anchors_of, verifier_of};
 ghost use Rattle.dns_lookup.specs.LookupAnswers.{UnlessNoMemory};
 ghost use Rattle.dns_run.specs.Adding.{with_algorithms, with_accepts};
@@ -12,12 +12,14 @@ ghost use Rattle.dns_run.specs.Causes.{AnswersSession};
 ghost use Rattle.dns_run.specs.Soundness.{listing};
 
 use crate::replies::reply_from;
+use dns_evidence::Listed;
+use dns_handle::{DnsRequestOptions, DnsResponse, NetError};
 use dns_lookup::DnssecDnsHandle;
 use dns_name::NoMemory;
-use dns_net::{DnsRequestOptions, DnsResponse, NetError, Recorded};
 use dns_record::Query;
+use dns_recorded::Recorded;
 use dns_session::{AcceptedSignature, Anchor, Session, SessionReply};
-use dns_trust::{Listed, TrustAnchors};
+use dns_trust::TrustAnchors;
 use std::alloc::Global;
 
 /// The lookup that a session asks for: a validator, and what it is asked.

@@ -3,7 +3,7 @@
 //!
 //! A program gives the words after its name, a source and a sink, and ends with the status that [`run`] answers. Other
 //! crates may make of a session its upstream, its verifier, its trusted keys and its options, the lookup of these, or the
-//! whole answer to it.
+//! whole answer to it. What a caller needs to name beside these calls is given here too: sources, sinks, sessions and answers.
 #![tactic(auto)]
 
 mod answering;
@@ -16,4 +16,18 @@ pub use answering::{
     SessionLookup, session_anchors, session_answer, session_lookup, session_options,
     session_upstream, session_verifier,
 };
+pub use dns_evidence::Listed;
+pub use dns_handle::{DnsRequestOptions, DnsResponse, NetError};
+pub use dns_io::{
+    Failed, InputSource, OutputSink, Sink, SinkFault, Source, SureSink, SureSource, TextSink,
+    TextSource, words_of,
+};
+pub use dns_lookup::DnssecDnsHandle;
+pub use dns_name::{NoMemory, Octets};
+pub use dns_recorded::Recorded;
+pub use dns_session::{
+    AcceptedSignature, Anchor, ReplyFault, ReplyKind, Session, SessionReply, SessionStop,
+    read_session,
+};
+pub use dns_trust::TrustAnchors;
 pub use program::run;

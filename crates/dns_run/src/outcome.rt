@@ -7,8 +7,8 @@ ghost use Rattle.dns_run.specs.Causes.{AnswersSession};
 ghost use Rattle.dns_run.specs.Endings.{IsOutcome, IsAnswered};
 
 use crate::answering::session_answer;
+use dns_handle::{DnsResponse, NetError};
 use dns_name::NoMemory;
-use dns_net::{DnsResponse, NetError};
 use dns_report::{Parts, write_fault, write_report};
 use dns_session::{Session, SessionStop, bad_line_text, read_session};
 use std::alloc::Global;

@@ -6,10 +6,11 @@ ghost use Rattle.dns_handle.specs.declared.error.ProtoError.TheVariants.{Decode}
 ghost use Rattle.dns_session.specs.Kinds.{kind_of};
 ghost use Rattle.dns_run.specs.Replies.{answer_from, fault_from, reply_from, response_with};
 
+use dns_evidence::Trail;
+use dns_handle::{DnsError, DnsResponse, IoKind, NetError, ProtoError};
 use dns_message::{DecodeError, Message};
+use dns_model::Denial;
 use dns_name::NoMemory;
-use dns_net::{DnsError, DnsResponse, IoKind, NetError, ProtoError, Trail};
-use dns_record::Denial;
 use dns_session::{ReplyFault, ReplyKind};
 use std::alloc::Global;
 

@@ -1,15 +1,12 @@
-//! A lookup with an upstream and a verifier of one's own. docs/LIBRARY.md shows parts of this file.
+//! A lookup with an upstream and a verifier of one's own. docs/LIBRARY.md shows this file up to the tests, as a program.
 use crate::rows::check_row;
-use dns_chain::DnssecDnsHandle;
-use dns_message::Message;
-use dns_name::{Name, Octets};
+use dns_chain::{DnssecDnsHandle, TrustAnchors, Verifier};
 use dns_net::{
     DnsError, DnsHandle, DnsRequest, DnsRequestOptions, DnsResponse, Link, NetError, Trail,
-    Verifier,
 };
-use dns_record::{DNSClass, Denial, Proof, Query, RecordType};
-use dns_trust::TrustAnchors;
+use dns_wire::{DNSClass, Denial, Message, Name, Octets, Proof, Query, RecordType};
 use std::alloc::Global;
+use std::io;
 
 /// The root's NS set with a signature that is good from 900 to 2000, as a message.
 const SERVERS: &[u8] =
@@ -79,10 +76,10 @@ impl DnsHandle for Upstream {
 struct KeyItself;
 
 impl Verifier for KeyItself {
-    ghost use Rattle.std.specs.Prelude.{◌==◌};
-    ghost use Rattle.dns_model.specs.Keys.{bytes_eq};
+    ghost use Rattle.std.specs.Prelude.{◌==◌, nat_eq};
+    ghost use Rattle.std.specs.Cmp.Lexicographic.{pointwise};
 
-    ghost answers = { λ v. record { supports = λ a. a == 13; accepts = λ a key bytes signature. bytes_eq key signature } };
+    ghost answers = { λ v. record { supports = λ a. a == 13; accepts = λ a key bytes signature. pointwise nat_eq key signature } };
 
     fn supports(&self, algorithm: u8) -> bool {
         algorithm == 13
@@ -126,7 +123,7 @@ fn look_up(alloc: Global, now: u64) -> Result<DnsResponse, NetError> {
     validator.lookup(alloc, query, DnsRequestOptions::default(), now)
 }
 
-/// The first record has this mark.
+/// The first record of the answer has this mark.
 fn has_mark(response: &DnsResponse, proof: Proof) -> bool {
     matches!(response.message.answers.first(), Some(record) if record.proof == proof)
 }
@@ -137,19 +134,30 @@ fn leads_from_anchor(links: &[Link]) -> bool {
         && matches!(links.last(), Some(Link::Signed { .. }))
 }
 
+/// The first record is Secure, and its set's chain is the only one.
 fn is_secure(response: &DnsResponse) -> bool {
     has_mark(response, Proof::Secure)
         && matches!(response.chains.as_slice(), [chain] if leads_from_anchor(chain.links.as_slice()))
 }
 
-fn secure(alloc: Global) -> Result<bool, NetError> {
-    let response = look_up(alloc, 1000)?;
+/// Whether the root's name servers are Secure at a moment.
+fn is_secure_at(alloc: Global, now: u64) -> Result<bool, NetError> {
+    let response = look_up(alloc, now)?;
     Ok(is_secure(&response))
+}
+
+fn main(rt: HostRuntime) -> io::Result<()> {
+    let secure = is_secure_at(rt.alloc(), 1000).unwrap_or(false);
+    println!(rt; "{}", if secure { "secure" } else { "not secure" })
 }
 
 #[test]
 fn a_record_is_secure_by_its_chain_while_its_signature_holds(rt: HostRuntime) {
-    check_row(&rt, "at 1000", Ok(secure(rt.alloc()).unwrap_or(false)));
+    check_row(
+        &rt,
+        "at 1000",
+        Ok(is_secure_at(rt.alloc(), 1000).unwrap_or(false)),
+    );
 }
 
 fn is_bogus(response: &DnsResponse) -> bool {

@@ -1,38 +1,10 @@
-//! Trails of sessions, whole and turned (RFC 4035, 4.3, 5.2 and 5.3).
+//! Trails of sessions, turned in one place (RFC 4035, 4.3, 5.2 and 5.3). `tools/audit_rows` checks whole ones.
 use crate::trail_rows::{Row, check_row};
 use crate::trail_sessions::Given;
 use crate::trail_turns::{EntryTurn, StepTurn, Turn};
+use dns_model::{Denial, Proof};
 use dns_net::{AskRef, MarkOrigin};
-use dns_record::{Denial, Proof, RecordType};
-
-const WHOLE: &[Row] = &[
-    Row("a walk by DS", Given::WalkByDs, Turn::Whole, true),
-    Row(
-        "a wildcard of an Insecure zone",
-        Given::InsecureWildcard,
-        Turn::Whole,
-        true,
-    ),
-    Row("an unsigned set", Given::Unsigned, Turn::Whole, true),
-    Row("an ask that is too deep", Given::TooDeep, Turn::Whole, true),
-    Row("a fault", Given::Fault, Turn::Whole, true),
-    Row(
-        "a search that meets a fault",
-        Given::SearchFault,
-        Turn::Whole,
-        true,
-    ),
-    Row(
-        "two replies to one question",
-        Given::ByTurn,
-        Turn::Whole,
-        true,
-    ),
-];
-
-fn whole() -> &'static [Row] {
-    WHOLE
-}
+use dns_record::RecordType;
 
 const MARKS: &[Row] = &[
     Row(
@@ -336,13 +308,6 @@ const STEPS: &[Row] = &[
 
 fn steps() -> &'static [Row] {
     STEPS
-}
-
-#[test]
-fn the_trail_of_a_lookup_is_a_derivation(rt: HostRuntime) {
-    for row in whole() {
-        check_row(&rt, rt.alloc(), row);
-    }
 }
 
 #[test]

@@ -1,30 +1,9 @@
-//! Trails with steps that NSEC records end, whole and turned (RFC 4035, 5.4).
+//! Trails with steps that NSEC records end, turned in one place (RFC 4035, 5.4).
 use crate::trail_rows::{Row, check_row};
 use crate::trail_sessions::Given;
 use crate::trail_turns::{EntryTurn, StepTurn, Turn};
+use dns_model::{Denial, Proof};
 use dns_net::AskRef;
-use dns_record::{Denial, Proof};
-
-const WHOLE: &[Row] = &[
-    Row(
-        "a delegation without DS",
-        Given::UnsignedCut,
-        Turn::Whole,
-        true,
-    ),
-    Row("a name error", Given::NameError, Turn::Whole, true),
-    Row("an expansion", Given::Expansion, Turn::Whole, true),
-    Row(
-        "no record of an unsigned zone",
-        Given::NothingThere,
-        Turn::Whole,
-        true,
-    ),
-];
-
-fn whole() -> &'static [Row] {
-    WHOLE
-}
 
 const DENIALS: &[Row] = &[
     Row(
@@ -109,13 +88,6 @@ const DENIALS: &[Row] = &[
 
 fn denials() -> &'static [Row] {
     DENIALS
-}
-
-#[test]
-fn a_trail_with_denials_is_a_derivation(rt: HostRuntime) {
-    for row in whole() {
-        check_row(&rt, rt.alloc(), row);
-    }
 }
 
 #[test]

@@ -1,11 +1,12 @@
 //! Trails of sessions, and whether they are derivations.
 use crate::trail_sessions::{Given, text_of};
 use crate::trail_turns::{Turn, turn_steps};
+use dns_evidence::Listed;
 use dns_net::Trail;
 use dns_run::{session_anchors, session_answer, session_verifier};
 use dns_session::{Session, read_session};
 use dns_trail::check_trail;
-use dns_trust::{Limits, Listed, TrustAnchors};
+use dns_trust::{Limits, TrustAnchors};
 use std::alloc::Global;
 use std::process::Abort;
 
@@ -17,7 +18,8 @@ pub(crate) struct Row(
     pub(crate) bool,
 );
 
-fn session_of(alloc: Global, text: &[u8]) -> Option<Session> {
+/// The session that a text is.
+pub(crate) fn session_of(alloc: Global, text: &[u8]) -> Option<Session> {
     if text.len() > 65_535 {
         return None;
     }
@@ -31,13 +33,13 @@ fn trail_of(alloc: Global, text: &[u8]) -> Option<Trail> {
     Some(answer.trail)
 }
 
-// What a session trusts, and by which limits.
+/// What a session trusts, and by which limits.
 #[derive(Drop)]
-struct Trusted {
-    moment: u64,
-    limits: Limits,
-    anchors: TrustAnchors,
-    verifier: Listed,
+pub(crate) struct Trusted {
+    pub(crate) moment: u64,
+    pub(crate) limits: Limits,
+    pub(crate) anchors: TrustAnchors,
+    pub(crate) verifier: Listed,
 }
 
 fn limits_of(depth: Option<u16>) -> Limits {
@@ -48,7 +50,8 @@ fn limits_of(depth: Option<u16>) -> Limits {
     }
 }
 
-fn trusted_of(alloc: Global, session: Session) -> Option<Trusted> {
+/// What a session says of it.
+pub(crate) fn trusted_of(alloc: Global, session: Session) -> Option<Trusted> {
     let Session {
         by_turn: _,
         moment,

@@ -22,10 +22,6 @@ pub(crate) enum Given {
     TooDeep,
     /// An ask that meets a fault.
     Fault,
-    /// A search that meets a fault.
-    SearchFault,
-    /// Two asks of one question that hear different replies.
-    ByTurn,
     UnsignedCut,
     NameError,
     /// A set that was expanded from a wildcard, with an NSEC that shows no closer name.
@@ -35,7 +31,7 @@ pub(crate) enum Given {
 }
 
 /// The session of the row with this name.
-fn session_named(name: &str) -> &'static [u8] {
+pub(crate) fn session_named(name: &str) -> &'static [u8] {
     for number in 1..=PARTS {
         for row in part(number) {
             if row.name == name {
@@ -53,8 +49,6 @@ pub(crate) fn text_of(given: Given) -> &'static [u8] {
         Given::Unsigned => session_named("unsigned-in-an-insecure-zone"),
         Given::TooDeep => session_named("trail-of-an-ask-too-deep"),
         Given::Fault => session_named("trail-of-a-fault"),
-        Given::SearchFault => session_named("search-that-meets-a-fault"),
-        Given::ByTurn => session_named("replies-by-turn"),
         Given::UnsignedCut => UNSIGNED_CUT,
         Given::NameError => NAME_ERROR,
         Given::Expansion => session_named("expansion-with-its-denial"),

@@ -1,6 +1,7 @@
 //! One change in a trail.
+use dns_model::{Denial, Proof};
 use dns_net::{AskRef, Asked, Ending, JudgedSet, MarkOrigin, Reply, Told};
-use dns_record::{DNSClass, Denial, Proof, Query, Record, RecordType};
+use dns_record::{DNSClass, Query, Record, RecordType};
 use std::alloc::AllocError;
 
 /// A change of an entry.
@@ -39,8 +40,6 @@ pub(crate) enum StepTurn {
 
 /// A change of a trail.
 pub(crate) enum Turn {
-    /// None.
-    Whole,
     /// A step goes.
     Drop(usize),
     /// A step stands before the one ahead of it.
@@ -53,7 +52,6 @@ pub(crate) enum Turn {
 /// Changes the steps of a trail.
 pub(crate) fn turn_steps(steps: &mut Vec<Asked>, turn: &Turn) -> Result<(), AllocError> {
     match turn {
-        Turn::Whole => Ok(()),
         Turn::Drop(number) => {
             drop_step(steps, *number);
             Ok(())

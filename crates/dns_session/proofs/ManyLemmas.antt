@@ -13,7 +13,8 @@ same_second a c b d h = ap (λ p. p.1) (same_Some (a, b) (c, d) h)
 abbrev pub with_front : {X : Type 0} → List X → List X × Place → List X × Place
 with_front xs read = (xs ++ read.0, read.1)
 
-more_in : {X : Type 0} (form : List ℕ → Option X) (number : ℕ) (rest : List (List ℕ)) (line : List ℕ) (after : Place) (x : X)
+more_in : {X : Type 0} (form : List ℕ → Option X) (number : ℕ) (rest : List (List ℕ)) (line : List ℕ) (after : Place)
+    (x : X)
     → next_in number rest ≡ Some (line, after) → Some x ≡ form line
     → many_in form number rest ≡ (x ∷ (many form after).0, (many form after).1)
 unfolding many_in
@@ -38,7 +39,8 @@ end_in form number [] h = refl
 end_in form number (a ∷ []) h = refl
 end_in form number (a ∷ b ∷ rest) h = cc
 
-shorter_in : (number : ℕ) (rest : List (List ℕ)) (line : List ℕ) (after : Place) → next_in number rest ≡ Some (line, after) → length after.pieces < length rest
+shorter_in : (number : ℕ) (rest : List (List ℕ)) (line : List ℕ) (after : Place)
+    → next_in number rest ≡ Some (line, after) → length after.pieces < length rest
 shorter_in number [] line after h = cc
 shorter_in number (a ∷ []) line after h = cc
 shorter_in number (a ∷ b ∷ rest) line after h =
@@ -46,7 +48,8 @@ shorter_in number (a ∷ b ∷ rest) line after h =
     rw (← then) (omega arith)
 
 -- one more line of the form
-pub one_more : {X : Type 0} (form : List ℕ → Option X) (front : List X) (at start : Place) (line : List ℕ) (after : Place) (x : X)
+pub one_more : {X : Type 0} (form : List ℕ → Option X) (front : List X) (at start : Place) (line : List ℕ)
+    (after : Place) (x : X)
     → with_front front (many form at) ≡ many form start → next_line at ≡ Some (line, after) → Some x ≡ form line
     → with_front (front ++ x ∷ []) (many form after) ≡ many form start
 one_more form front at start line after x so_far h e =
@@ -57,12 +60,14 @@ one_more form front at start line after x so_far h e =
 pub stops : {X : Type 0} (form : List ℕ → Option X) (front : List X) (at start : Place) (line : List ℕ) (after : Place)
     → with_front front (many form at) ≡ many form start → next_line at ≡ Some (line, after) → None ≡ form line
     → many form start ≡ (front, at)
-stops form front at start line after so_far h e = rw (stop_in form at.number at.pieces line after h e, append-nil) at (sym so_far)
+stops form front at start line after so_far h e =
+    rw (stop_in form at.number at.pieces line after h e, append-nil) at (sym so_far)
 
 -- so does the end of the text
 pub ends : {X : Type 0} (form : List ℕ → Option X) (front : List X) (at start : Place)
     → with_front front (many form at) ≡ many form start → None ≡ next_line at → many form start ≡ (front, at)
 ends form front at start so_far h = rw (end_in form at.number at.pieces h, append-nil) at (sym so_far)
 
-pub shorter : (at : Place) (line : List ℕ) (after : Place) → next_line at ≡ Some (line, after) → length after.pieces < length at.pieces
+pub shorter : (at : Place) (line : List ℕ) (after : Place) → next_line at ≡ Some (line, after)
+    → length after.pieces < length at.pieces
 shorter at line after h = shorter_in at.number at.pieces line after h

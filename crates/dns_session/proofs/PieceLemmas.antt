@@ -20,7 +20,8 @@ split_uncut p (x ∷ xs) h =
           rw (isnt, ih) refl
     ]
 
-position_below : (p : ℕ → Bool) (xs : List ℕ) → position_or_len p xs < length xs → position p xs ≡ Some (position_or_len p xs)
+position_below : (p : ℕ → Bool) (xs : List ℕ) → position_or_len p xs < length xs
+    → position p xs ≡ Some (position_or_len p xs)
 position_below p xs h = rw (lt-ltb _ _ h) refl
 
 position_past : (p : ℕ → Bool) (xs : List ℕ) → length xs ≤ position_or_len p xs → position p xs ≡ None
@@ -36,7 +37,8 @@ cut_none p xs h =
       | inr past ↦ split_uncut p xs past
     ]
 
-pub cut_some : (p : ℕ → Bool) (xs : List ℕ) (at : ℕ) → Some at ≡ position p xs → slice_split p xs ≡ take at xs ∷ slice_split p (drop (at + 1) xs)
+pub cut_some : (p : ℕ → Bool) (xs : List ℕ) (at : ℕ) → Some at ≡ position p xs
+    → slice_split p xs ≡ take at xs ∷ slice_split p (drop (at + 1) xs)
 cut_some p xs at h =
     elim (cases_lt (position_or_len p xs) (length xs)) [
       | inl below ↦
@@ -46,11 +48,13 @@ cut_some p xs at h =
       | inr past ↦ let none = position_past p xs past in cc
     ]
 
-pub cut_parts : (p : ℕ → Bool) (xs : List ℕ) (at : ℕ) → Some at ≡ position p xs → slice_split p xs ≡ take at xs ∷ slice_split p (take (length xs - (at + 1)) (drop (at + 1) xs))
+pub cut_parts : (p : ℕ → Bool) (xs : List ℕ) (at : ℕ) → Some at ≡ position p xs
+    → slice_split p xs ≡ take at xs ∷ slice_split p (take (length xs - (at + 1)) (drop (at + 1) xs))
 cut_parts p xs at h = rw (take_rest xs (at + 1)) (cut_some p xs at h)
 
 -- pieces are never none
-pub pieces_listed : (byte : ℕ) (xs : List ℕ) → (first : List ℕ) × (others : List (List ℕ)) × (pieces byte xs ≡ first ∷ others)
+pub pieces_listed : (byte : ℕ) (xs : List ℕ)
+    → (first : List ℕ) × (others : List (List ℕ)) × (pieces byte xs ≡ first ∷ others)
 pieces_listed byte [] = ([], [], refl)
 pieces_listed byte (x ∷ xs) =
     elim (cases_Bool (x == byte)) [
@@ -69,10 +73,12 @@ nothing_is byte (x ∷ xs) =
       | inr isnt ↦ rw (some, isnt, rest.2) refl
     ]
 
-pub next_some : (number byte : ℕ) (text line rest : List ℕ) → pieces byte text ≡ line ∷ pieces byte rest → next_in number (pieces byte text) ≡ Some (line, place (number + 1) (pieces byte rest))
+pub next_some : (number byte : ℕ) (text line rest : List ℕ) → pieces byte text ≡ line ∷ pieces byte rest
+    → next_in number (pieces byte text) ≡ Some (line, place (number + 1) (pieces byte rest))
 next_some number byte text line rest h = let more = pieces_listed byte rest in rw (h, more.2) refl
 
-pub next_none : (number byte : ℕ) (text : List ℕ) → pieces byte text ≡ text ∷ [] → next_in number (pieces byte text) ≡ None
+pub next_none : (number byte : ℕ) (text : List ℕ) → pieces byte text ≡ text ∷ []
+    → next_in number (pieces byte text) ≡ None
 next_none number byte text h = rw h refl
 
 -- a word with more behind it isn't the only one

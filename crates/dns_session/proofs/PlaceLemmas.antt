@@ -7,13 +7,15 @@ use Rattle.std.proofs.lemmas.List.{take_rest, length-drop}
 use Rattle.std.proofs.lemmas.List.Folds.{list_any-append}
 
 -- no element of the first ones and none of those after them
-pub none_more : (p : ℕ → Bool) (xs : List ℕ) (n m : ℕ) → list_any p (take n xs) ≡ false → list_any p (take (n + m - n) (drop n xs)) ≡ false → list_any p (take (n + m) xs) ≡ false
+pub none_more : (p : ℕ → Bool) (xs : List ℕ) (n m : ℕ) → list_any p (take n xs) ≡ false
+    → list_any p (take (n + m - n) (drop n xs)) ≡ false → list_any p (take (n + m) xs) ≡ false
 none_more p xs n m front more =
     let size : n + m - n ≡ m = omega arith in
     let next : list_any p (take m (drop n xs)) ≡ false = rw size at more in
     rw (take-add n m xs, list_any-append p (take n xs) (take m (drop n xs)), front, next) refl
 
-past : (p : ℕ → Bool) (xs : List ℕ) (n : ℕ) → n ≤ length xs → list_any p (take n xs) ≡ false → position_or_len p xs ≡ n + position_or_len p (drop n xs)
+past : (p : ℕ → Bool) (xs : List ℕ) (n : ℕ) → n ≤ length xs → list_any p (take n xs) ≡ false
+    → position_or_len p xs ≡ n + position_or_len p (drop n xs)
 past p xs zero within none = omega arith
 past p [] (suc n) within none = absurd (omega (arith, within))
 past p (x ∷ xs) (suc n) within none =
@@ -23,7 +25,8 @@ past p (x ∷ xs) (suc n) within none =
     omega (arith, step, more)
 
 -- it stands there as many places later
-pub place_after : (p : ℕ → Bool) (xs : List ℕ) (n at : ℕ) → n ≤ length xs → list_any p (take n xs) ≡ false → Some at ≡ position p (take (length xs - n) (drop n xs)) → Some (n + at) ≡ position p xs
+pub place_after : (p : ℕ → Bool) (xs : List ℕ) (n at : ℕ) → n ≤ length xs → list_any p (take n xs) ≡ false
+    → Some at ≡ position p (take (length xs - n) (drop n xs)) → Some (n + at) ≡ position p xs
 place_after p xs n at within none there =
     let h : Some at ≡ position p (drop n xs) = rw (take_rest xs n) at there in
     let size : length (drop n xs) ≡ length xs - n = length-drop n xs in
@@ -40,7 +43,8 @@ place_after p xs n at within none there =
     some_same : (m n : ℕ) → Some m ≡ Some n → m ≡ n
     some_same m n e = cc
 
-pub none_after : (p : ℕ → Bool) (xs : List ℕ) (n : ℕ) → n ≤ length xs → list_any p (take n xs) ≡ false → None ≡ position p (take (length xs - n) (drop n xs)) → None ≡ position p xs
+pub none_after : (p : ℕ → Bool) (xs : List ℕ) (n : ℕ) → n ≤ length xs → list_any p (take n xs) ≡ false
+    → None ≡ position p (take (length xs - n) (drop n xs)) → None ≡ position p xs
 none_after p xs n within none there =
     let h : None ≡ position p (drop n xs) = rw (take_rest xs n) at there in
     let size : length (drop n xs) ≡ length xs - n = length-drop n xs in

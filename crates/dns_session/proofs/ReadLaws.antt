@@ -5,10 +5,10 @@ use Rattle.std.specs.Option.{option_to_list}
 use Rattle.std.proofs.lemmas.Bool.{cases_Bool}
 use Rattle.std.specs.Cmp.Lexicographic.{bytes_decides}
 use Rattle.std.proofs.lemmas.Option.{none-some}
-use Rattle.dns_model.specs.Keys.{AnchorValue, bytes_eq}
+use Rattle.dns_model.specs.Keys.{AnchorValue, bytes_eq, AcceptedSignatureValue}
 use Rattle.dns_model.specs.Records.{Question}
-use Rattle.dns_words.specs.Words as steps
-use Rattle.dns_session.specs.SessionValue.{SessionValue, AcceptedSignatureValue, ReplyValue}
+use Rattle.dns_model.specs.OptionSteps as steps
+use Rattle.dns_session.specs.SessionValue.{SessionValue, ReplyValue}
 use Rattle.dns_session.specs.LinePlaces.{place, pieces, start_of, one, optional, many_in}
 use Rattle.dns_session.specs.Lines.{Words, words, after, header_line, moment_line, depth_line, algorithms_line, anchor_line, accept_line, query_line, upstream_line}
 use Rattle.dns_session.specs.Grammar.{session_of}
@@ -36,13 +36,15 @@ Others form [] = Unit {0}
 Others form (line ∷ []) = Unit {0}
 Others form (line ∷ next ∷ rest) = form line ≡ None
 
-no_row : {X : Type 0} (form : List ℕ → Option X) (number : ℕ) (rest : List (List ℕ)) → Others form rest → Row form number rest [] rest
+no_row : {X : Type 0} (form : List ℕ → Option X) (number : ℕ) (rest : List (List ℕ)) → Others form rest
+    → Row form number rest [] rest
 unfolding many_in
 no_row form number [] other = record { next = number; reads = refl }
 no_row form number (line ∷ []) other = record { next = number; reads = refl }
 no_row form number (line ∷ next ∷ rest) other = record { next = number; reads = rw other refl }
 
-longer_row : {X : Type 0} (form : List ℕ → Option X) (number : ℕ) (line : List ℕ) (ps : List (List ℕ)) (x : X) (xs : List X) (rest : List (List ℕ))
+longer_row : {X : Type 0} (form : List ℕ → Option X) (number : ℕ) (line : List ℕ) (ps : List (List ℕ)) (x : X)
+    (xs : List X) (rest : List (List ℕ))
     → 0 < length ps → form line ≡ Some x → Row form (number + 1) ps xs rest → Row form number (line ∷ ps) (x ∷ xs) rest
 unfolding many_in
 longer_row form number line [] x xs rest some h row = absurd (omega arith)
@@ -60,7 +62,8 @@ abbrev tail_of : {X : Type 0} → List X → List X
 tail_of [] = []
 tail_of (x ∷ xs) = xs
 
-row_of : {X : Type 0} (form : List ℕ → Option X) (number : ℕ) (lines : List (List ℕ)) (xs : List X) (rest : List (List ℕ))
+row_of : {X : Type 0} (form : List ℕ → Option X) (number : ℕ) (lines : List (List ℕ)) (xs : List X)
+    (rest : List (List ℕ))
     → Say form lines xs → 0 < length rest → Others form rest → Row form number (lines ++ rest) xs rest
 row_of form number [] [] rest say some other = no_row form number rest other
 row_of form number [] (x ∷ xs) rest say some other = cc
@@ -74,8 +77,10 @@ record Maybe {X : Type 0} (form : List ℕ → Option X) (number : ℕ) (ps : Li
   next : ℕ
   reads : optional form (place number ps) ≡ (x, place next rest)
 
-maybe_of : {X : Type 0} (form : List ℕ → Option X) (number : ℕ) (lines : List (List ℕ)) (x : Option X) (line next : List ℕ) (rest : List (List ℕ))
-    → Say form lines (option_to_list x) → form line ≡ None → Maybe form number (lines ++ line ∷ next ∷ rest) x (line ∷ next ∷ rest)
+maybe_of : {X : Type 0} (form : List ℕ → Option X) (number : ℕ) (lines : List (List ℕ)) (x : Option X)
+    (line next : List ℕ) (rest : List (List ℕ))
+    → Say form lines (option_to_list x) → form line ≡ None
+    → Maybe form number (lines ++ line ∷ next ∷ rest) x (line ∷ next ∷ rest)
 unfolding optional
 maybe_of form number [] None line next rest say other = record { next = number; reads = rw other refl }
 maybe_of form number [] (Some x) line next rest say other = cc
@@ -87,7 +92,8 @@ maybe_of form number (l ∷ m ∷ lines) (Some x) line next rest say other = cc
 
 -- ---- forms differ by their first words
 
-after_other : (word other : List ℕ) (ws rest : Words) → bytes_eq word other ≡ false → after word ws ≡ Some rest → after other ws ≡ None
+after_other : (word other : List ℕ) (ws rest : Words) → bytes_eq word other ≡ false → after word ws ≡ Some rest
+    → after other ws ≡ None
 after_other word other [] rest apart h = cc
 after_other word other (first ∷ ws) rest apart h =
     elim (cases_Bool (bytes_eq first word)) [
@@ -116,7 +122,8 @@ algorithms_start : (line : List ℕ) (x : List ℕ) → algorithms_line line ≡
 algorithms_start line x h = starts_by (codes "algorithms") line (after (codes "algorithms") (words line)) _ x refl h
 
 algorithms_no_depth : (line : List ℕ) → Starts (codes "algorithms") line → depth_line line ≡ None
-algorithms_no_depth line s = rw (after_other (codes "algorithms") (codes "depth") (words line) s.rest refl s.begins) refl
+algorithms_no_depth line s =
+    rw (after_other (codes "algorithms") (codes "depth") (words line) s.rest refl s.begins) refl
 
 accept_no_anchor : (line : List ℕ) → Starts (codes "accept") line → anchor_line line ≡ None
 accept_no_anchor line s = rw (after_other (codes "accept") (codes "anchor") (words line) s.rest refl s.begins) refl
@@ -141,49 +148,67 @@ asks_gives : (made : Question → List ReplyValue → SessionValue) (number : �
     → query_line query ≡ Some question → Say upstream_line lines replies
     → asks made (place number (query ∷ (lines ++ codes "end" ∷ [] ∷ []))) ≡ Ok (made question replies)
 asks_gives made number query question lines replies asked say =
-    let row = row_of upstream_line (number + 1) lines replies (codes "end" ∷ [] ∷ []) say (omega arith) end_no_upstream in
-    let first = one_listed query_line number query (lines ++ codes "end" ∷ [] ∷ []) question (listed_after lines _ (omega arith)) asked in
+    let row =
+    row_of upstream_line (number + 1) lines replies (codes "end" ∷ [] ∷ []) say (omega arith) end_no_upstream in
+    let first =
+    one_listed query_line number query (lines ++ codes "end" ∷ [] ∷ []) question
+    (listed_after lines _ (omega arith)) asked in
     rw (first, row.reads) (ends_gives (made question replies) row.next)
 
 -- what stands after the accept lines isn't one of them
-accepts_others : (query : List ℕ) (question : Question) (ps : List (List ℕ)) → query_line query ≡ Some question → Others accept_line (query ∷ ps)
+accepts_others : (query : List ℕ) (question : Question) (ps : List (List ℕ)) → query_line query ≡ Some question
+    → Others accept_line (query ∷ ps)
 accepts_others query question [] asked = tt
 accepts_others query question (p ∷ ps) asked = query_no_accept query (query_starts query question asked)
 
-query_others : (query : List ℕ) (question : Question) (ps : List (List ℕ)) → query_line query ≡ Some question → Others anchor_line (query ∷ ps)
+query_others : (query : List ℕ) (question : Question) (ps : List (List ℕ)) → query_line query ≡ Some question
+    → Others anchor_line (query ∷ ps)
 query_others query question [] asked = tt
 query_others query question (p ∷ ps) asked = query_no_anchor query (query_starts query question asked)
 
-accept_others : (line : List ℕ) (x : AcceptedSignatureValue) (ps : List (List ℕ)) → accept_line line ≡ Some x → Others anchor_line (line ∷ ps)
+accept_others : (line : List ℕ) (x : AcceptedSignatureValue) (ps : List (List ℕ)) → accept_line line ≡ Some x
+    → Others anchor_line (line ∷ ps)
 accept_others line x [] h = tt
 accept_others line x (p ∷ ps) h = accept_no_anchor line (accept_starts line x h)
 
-anchors_others : (lines : List (List ℕ)) (accepts : List AcceptedSignatureValue) (query : List ℕ) (question : Question) (ps : List (List ℕ))
+anchors_others : (lines : List (List ℕ)) (accepts : List AcceptedSignatureValue) (query : List ℕ) (question : Question)
+    (ps : List (List ℕ))
     → Say accept_line lines accepts → query_line query ≡ Some question → Others anchor_line (lines ++ query ∷ ps)
 anchors_others [] accepts query question ps say asked = query_others query question ps asked
 anchors_others (line ∷ lines) [] query question ps say asked = cc
-anchors_others (line ∷ lines) (x ∷ accepts) query question ps say asked = accept_others line x (lines ++ query ∷ ps) (ap (first_or None) say)
+anchors_others (line ∷ lines) (x ∷ accepts) query question ps say asked =
+    accept_others line x (lines ++ query ∷ ps) (ap (first_or None) say)
 
-trusts_gives : (made : List AnchorValue → List AcceptedSignatureValue → Question → List ReplyValue → SessionValue) (number : ℕ)
+trusts_gives : (made : List AnchorValue → List AcceptedSignatureValue → Question → List ReplyValue → SessionValue)
+    (number : ℕ)
     (s : SessionValue) (anchors accepts : List (List ℕ)) (query : List ℕ) (replies : List (List ℕ))
-    → Say anchor_line anchors s.anchors → Say accept_line accepts s.accepts → query_line query ≡ Some s.query → Say upstream_line replies s.replies
+    → Say anchor_line anchors s.anchors → Say accept_line accepts s.accepts → query_line query ≡ Some s.query
+    → Say upstream_line replies s.replies
     → trusts made (place number (anchors ++ (accepts ++ query ∷ (replies ++ codes "end" ∷ [] ∷ [])))) ≡ Ok (made s.anchors s.accepts s.query s.replies)
 trusts_gives made number s anchors accepts query replies keys takes asked tells =
     let body : List (List ℕ) = query ∷ (replies ++ codes "end" ∷ [] ∷ []) in
-    let one = row_of anchor_line number anchors s.anchors (accepts ++ body) keys (listed_after accepts body (omega arith))
+    let one =
+    row_of anchor_line number anchors s.anchors (accepts ++ body) keys (listed_after accepts body (omega arith))
     (anchors_others accepts s.accepts query s.query (replies ++ codes "end" ∷ [] ∷ []) takes asked) in
-    let two = row_of accept_line one.next accepts s.accepts body takes (omega arith) (accepts_others query s.query (replies ++ codes "end" ∷ [] ∷ []) asked) in
-    rw (one.reads, two.reads) (asks_gives (made s.anchors s.accepts) two.next query s.query replies s.replies asked tells)
+    let two =
+    row_of accept_line one.next accepts s.accepts body takes (omega arith)
+    (accepts_others query s.query (replies ++ codes "end" ∷ [] ∷ []) asked) in
+    rw (one.reads, two.reads)
+    (asks_gives (made s.anchors s.accepts) two.next query s.query replies s.replies asked tells)
 
-begins_gives : (s : SessionValue) (head moment : List ℕ) (depth : List (List ℕ)) (algorithms : List ℕ) (ps : List (List ℕ))
-    → header_line head ≡ Some s.by_turn → moment_line moment ≡ Some s.moment → Say depth_line depth (option_to_list s.depth)
+begins_gives : (s : SessionValue) (head moment : List ℕ) (depth : List (List ℕ)) (algorithms : List ℕ)
+    (ps : List (List ℕ))
+    → header_line head ≡ Some s.by_turn → moment_line moment ≡ Some s.moment
+    → Say depth_line depth (option_to_list s.depth)
     → algorithms_line algorithms ≡ Some s.algorithms → 0 < length ps
     → ((number : ℕ) → trusts (session s.by_turn s.moment s.depth s.algorithms) (place number ps) ≡ Ok s)
     → begins (place 1 (head ∷ moment ∷ (depth ++ algorithms ∷ ps))) ≡ Ok s
 begins_gives s head moment depth algorithms [] headed dated deep listed some more = absurd (omega arith)
 begins_gives s head moment depth algorithms (next ∷ ps) headed dated deep listed some more =
     let first = one_line header_line 1 head moment (depth ++ algorithms ∷ next ∷ ps) s.by_turn headed in
-    let second = one_listed moment_line (1 + 1) moment (depth ++ algorithms ∷ next ∷ ps) s.moment (listed_after depth _ (omega arith)) dated in
+    let second =
+    one_listed moment_line (1 + 1) moment (depth ++ algorithms ∷ next ∷ ps) s.moment
+    (listed_after depth _ (omega arith)) dated in
     let third = maybe_of depth_line (1 + 1 + 1) depth s.depth algorithms next ps deep
     (algorithms_no_depth algorithms (algorithms_start algorithms s.algorithms listed)) in
     let fourth = one_line algorithms_line third.next algorithms next ps s.algorithms listed in
@@ -196,9 +221,11 @@ session_read text s sp =
     let body : List (List ℕ) = sp.query ∷ (sp.replies ++ codes "end" ∷ []) in
     let inner : List (List ℕ) = sp.anchors ++ (sp.accepts ++ body) in
     let rest : List (List ℕ) = sp.anchors ++ (sp.accepts ++ sp.query ∷ (sp.replies ++ end)) in
-    let all : List (List ℕ) = session_lines sp.head sp.moment sp.depth sp.algorithms sp.anchors sp.accepts sp.query sp.replies in
+    let all : List (List ℕ) =
+    session_lines sp.head sp.moment sp.depth sp.algorithms sp.anchors sp.accepts sp.query sp.replies in
     let tail : inner ++ [] ∷ [] ≡ rest =
-    append_assoc sp.anchors (sp.accepts ++ body) ([] ∷ []) ∙ ap (λ ps. sp.anchors ++ ps) (append_assoc sp.accepts body ([] ∷ [])
+    append_assoc sp.anchors (sp.accepts ++ body) ([] ∷ [])
+    ∙ ap (λ ps. sp.anchors ++ ps) (append_assoc sp.accepts body ([] ∷ [])
     ∙ ap (λ ps. sp.accepts ++ sp.query ∷ ps) (append_assoc sp.replies (codes "end" ∷ []) ([] ∷ []))) in
     let deep : (sp.depth ++ sp.algorithms ∷ inner) ++ [] ∷ [] ≡ sp.depth ++ sp.algorithms ∷ rest =
     append_assoc sp.depth (sp.algorithms ∷ inner) ([] ∷ []) ∙ ap (λ ps. sp.depth ++ sp.algorithms ∷ ps) tail in

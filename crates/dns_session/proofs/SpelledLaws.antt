@@ -1,22 +1,25 @@
 -- What is read as a session is spelled so.
 use Rattle.std.proofs.Common.{◌≡◌, ℕ, ◌+◌, Bool, true, false, ◌==◌, List, [], ◌∷◌, ◌++◌, map, codes, Option, None, Some, Result, Ok, Err, refl, sym, ap, subst, ◌∙◌, inl, inr, append-nil, append_assoc}
 use Rattle.std.specs.List.{onto_first, join_with_byte, list_any}
-use Rattle.std.specs.Option.{option_to_list}
+use Rattle.std.specs.Option.{option_to_list, option_map, option_map_or}
 use Rattle.std.specs.Result.{result_unwrap_or}
 use Rattle.std.proofs.lemmas.Bool.{cases_Bool, or_parts}
 use Rattle.std.proofs.lemmas.List.Splits.{join_with_byte-slice_split}
 use Rattle.std.specs.Cmp.Lexicographic.{bytes_decides}
-use Rattle.dns_model.specs.Keys.{AnchorValue, bytes_eq}
+use Rattle.dns_model.specs.Keys.{AnchorValue, bytes_eq, AcceptedSignatureValue}
 use Rattle.dns_model.specs.Records.{Question}
-use Rattle.dns_session.specs.SessionValue.{SessionValue, AcceptedSignatureValue, ReplyValue}
-use Rattle.dns_session.specs.LinePlaces.{Place, place, pieces, start_of, one, optional, form_or_none, many, many_in, before_more, is_nothing, or_bad, ◌>>=◌}
+use Rattle.dns_session.specs.SessionValue.{SessionValue, ReplyValue}
+use Rattle.dns_model.specs.ResultSteps.{◌>>=◌}
+use Rattle.dns_session.specs.LinePlaces.{Place, place, pieces, start_of, one, optional, many, many_in, before_more, is_nothing}
 use Rattle.dns_session.specs.Lines.{header_line, moment_line, depth_line, algorithms_line, anchor_line, accept_line, query_line, upstream_line, end_line, fixed}
 use Rattle.dns_session.specs.Grammar.{session_at, session_of, if_ended}
 use Rattle.dns_session.specs.Spelled.{lines_text, Unbroken, Say, session_lines, Spelled}
+use Rattle.dns_model.specs.Gives.{or_error}
 
 -- ---- lines and pieces
 
-split_line : (line rest : List ℕ) → list_any (λ b. b == 10) line ≡ false → pieces 10 (line ++ 10 ∷ rest) ≡ line ∷ pieces 10 rest
+split_line : (line rest : List ℕ) → list_any (λ b. b == 10) line ≡ false
+    → pieces 10 (line ++ 10 ∷ rest) ≡ line ∷ pieces 10 rest
 split_line [] rest whole = refl
 split_line (x ∷ line) rest whole =
     let parts = or_parts (x == 10) (list_any (λ b. b == 10) line) whole in
@@ -28,14 +31,16 @@ pub pieces_lines : (lines : List (List ℕ)) → Unbroken lines → pieces 10 (l
 pieces_lines [] whole = refl
 pieces_lines (line ∷ lines) whole =
     let ih : pieces 10 (lines_text lines) ≡ lines ++ [] ∷ [] = pieces_lines lines whole.1 in
-    let text : lines_text (line ∷ lines) ≡ line ++ 10 ∷ lines_text lines = append_assoc line (10 ∷ []) (lines_text lines) in
+    let text : lines_text (line ∷ lines) ≡ line ++ 10 ∷ lines_text lines =
+    append_assoc line (10 ∷ []) (lines_text lines) in
     ap (pieces 10) text ∙ split_line line (lines_text lines) whole.0 ∙ ap (λ ps. line ∷ ps) ih
 
 join_lines : (lines : List (List ℕ)) → join_with_byte 10 (lines ++ [] ∷ []) ≡ lines_text lines
 join_lines [] = refl
 join_lines (line ∷ []) = sym (append-nil (line ++ 10 ∷ []))
 join_lines (line ∷ next ∷ lines) =
-    ap (λ text. line ++ 10 ∷ text) (join_lines (next ∷ lines)) ∙ sym (append_assoc line (10 ∷ []) (lines_text (next ∷ lines)))
+    ap (λ text. line ++ 10 ∷ text) (join_lines (next ∷ lines))
+    ∙ sym (append_assoc line (10 ∷ []) (lines_text (next ∷ lines)))
 
 onto_unbroken : (x : ℕ) (parts : List (List ℕ)) → (x == 10) ≡ false → Unbroken parts → Unbroken (onto_first x parts)
 onto_unbroken x [] other whole = (rw other refl, tt)
@@ -61,10 +66,15 @@ record OneRead {X : Type 0} (form : List ℕ → Option X) (at : Place) (x : X) 
   says : form line ≡ Some x
   cut : at.pieces ≡ line ∷ after.pieces
 
-ok_pair : {X : Type 0} (x y : X) (p q : Place) → ◌≡◌ {A = Result (X × Place) ℕ} (Ok (x, p)) (Ok (y, q)) → ◌≡◌ {A = X × Place} (x, p) (y, q)
+ok_pair : {X : Type 0} (x y : X) (p q : Place) → ◌≡◌ {A = Result (X × Place) ℕ} (Ok (x, p)) (Ok (y, q))
+    → ◌≡◌ {A = X × Place} (x, p) (y, q)
 ok_pair x y p q h = ap (λ r. result_unwrap_or r (x, p)) h
 
-one_by : {X : Type 0} (form : List ℕ → Option X) (number : ℕ) (line next : List ℕ) (rest : List (List ℕ)) (x : X) (after : Place)
+abbrev or_bad : {X : Type 0} → ℕ → Place → Option X → Result (X × Place) ℕ
+or_bad number after said = or_error number (option_map (λ x. (x, after)) said)
+
+one_by : {X : Type 0} (form : List ℕ → Option X) (number : ℕ) (line next : List ℕ) (rest : List (List ℕ)) (x : X)
+    (after : Place)
     → (said : Option X) → form line ≡ said → or_bad number (place (number + 1) (next ∷ rest)) said ≡ Ok (x, after)
     → OneRead form (place number (line ∷ next ∷ rest)) x after
 one_by form number line next rest x after None e h = cc
@@ -85,7 +95,8 @@ record ManyRead {X : Type 0} (form : List ℕ → Option X) (ps : List (List ℕ
   say : Say form lines xs
   cut : ps ≡ lines ++ after.pieces
 
-many_by : {X : Type 0} (form : List ℕ → Option X) (number : ℕ) (line next : List ℕ) (rest : List (List ℕ)) (said : Option X)
+many_by : {X : Type 0} (form : List ℕ → Option X) (number : ℕ) (line next : List ℕ) (rest : List (List ℕ))
+    (said : Option X)
     (more : List X × Place) → form line ≡ said → ManyRead form (next ∷ rest) more.0 more.1
     → ManyRead form (line ∷ next ∷ rest) (before_more said (place number (line ∷ next ∷ rest)) more).0
     (before_more said (place number (line ∷ next ∷ rest)) more).1
@@ -99,10 +110,16 @@ unfolding many_in
 many_at form number [] = record { lines = []; say = refl; cut = refl }
 many_at form number (line ∷ []) = record { lines = []; say = refl; cut = refl }
 many_at form number (line ∷ next ∷ rest) =
-    many_by form number line next rest (form line) (many_in form (number + 1) (next ∷ rest)) refl (many_at form (number + 1) (next ∷ rest))
+    many_by form number line next rest (form line) (many_in form (number + 1) (next ∷ rest)) refl
+    (many_at form (number + 1) (next ∷ rest))
+
+abbrev form_or_none : {X : Type 0} → Place → Place → Option X → Option X × Place
+form_or_none {X} here after said =
+    option_map_or (λ (x : X × Place). (Some x.0, x.1)) (option_map (λ x. (x, after)) said) (None, here)
 
 -- a line that may be missing was read, or none
-optional_by : {X : Type 0} (form : List ℕ → Option X) (number : ℕ) (line next : List ℕ) (rest : List (List ℕ)) (said : Option X) → form line ≡ said
+optional_by : {X : Type 0} (form : List ℕ → Option X) (number : ℕ) (line next : List ℕ) (rest : List (List ℕ))
+    (said : Option X) → form line ≡ said
     → ManyRead form (line ∷ next ∷ rest)
     (option_to_list (form_or_none (place number (line ∷ next ∷ rest)) (place (number + 1) (next ∷ rest)) said).0)
     (form_or_none (place number (line ∷ next ∷ rest)) (place (number + 1) (next ∷ rest)) said).1
@@ -141,7 +158,8 @@ fixed_line text line h =
 
 -- the parts of the grammar, from a place on, with what is made of what they say
 
-abbrev pub session : Bool → ℕ → Option ℕ → List ℕ → List AnchorValue → List AcceptedSignatureValue → Question → List ReplyValue → SessionValue
+abbrev pub session : Bool → ℕ → Option ℕ → List ℕ → List AnchorValue → List AcceptedSignatureValue → Question
+    → List ReplyValue → SessionValue
 session by_turn moment depth algorithms anchors accepts query replies = record {
   by_turn = by_turn;
   moment = moment;
@@ -157,17 +175,22 @@ abbrev pub ends : SessionValue → Place → Result SessionValue ℕ
 ends s at = one end_line at >>= λ last. if_ended last.1 s
 
 abbrev pub asks : (Question → List ReplyValue → SessionValue) → Place → Result SessionValue ℕ
-asks made at = one query_line at >>= λ query. ends (made query.0 (many upstream_line query.1).0) (many upstream_line query.1).1
+asks made at =
+    one query_line at >>= λ query. ends (made query.0 (many upstream_line query.1).0) (many upstream_line query.1).1
 
-abbrev pub trusts : (List AnchorValue → List AcceptedSignatureValue → Question → List ReplyValue → SessionValue) → Place → Result SessionValue ℕ
+abbrev pub trusts : (List AnchorValue → List AcceptedSignatureValue → Question → List ReplyValue → SessionValue) → Place
+    → Result SessionValue ℕ
 trusts made at =
-    asks (made (many anchor_line at).0 (many accept_line (many anchor_line at).1).0) (many accept_line (many anchor_line at).1).1
+    asks (made (many anchor_line at).0 (many accept_line (many anchor_line at).1).0)
+    (many accept_line (many anchor_line at).1).1
 
-abbrev pub lists : (List ℕ → List AnchorValue → List AcceptedSignatureValue → Question → List ReplyValue → SessionValue) → Place → Result SessionValue ℕ
+abbrev pub lists : (List ℕ → List AnchorValue → List AcceptedSignatureValue → Question → List ReplyValue → SessionValue)
+    → Place → Result SessionValue ℕ
 lists made at = one algorithms_line at >>= λ algorithms. trusts (made algorithms.0) algorithms.1
 
 abbrev pub dates : Bool → Place → Result SessionValue ℕ
-dates by_turn at = one moment_line at >>= λ moment. lists (session by_turn moment.0 (optional depth_line moment.1).0) (optional depth_line moment.1).1
+dates by_turn at =
+    one moment_line at >>= λ moment. lists (session by_turn moment.0 (optional depth_line moment.1).0) (optional depth_line moment.1).1
 
 abbrev pub begins : Place → Result SessionValue ℕ
 begins at = one header_line at >>= λ head. dates head.0 head.1
@@ -183,7 +206,8 @@ record EndRead (s t : SessionValue) (at : Place) : Type 0 where
 end_by : (s t : SessionValue) (at : Place) → (if_ended at s) ≡ Ok t → (s ≡ t) × (at.pieces ≡ [] ∷ [])
 end_by s t at h =
     elim (cases_Bool (is_nothing at.pieces)) [
-      | inl is ↦ (ap (λ r. result_unwrap_or r s) (let same : ◌≡◌ {A = Result SessionValue ℕ} (Ok s) (Ok t) = rw is at h in same), nothing_left at.pieces is)
+      | inl is ↦
+          (ap (λ r. result_unwrap_or r s) (let same : ◌≡◌ {A = Result SessionValue ℕ} (Ok s) (Ok t) = rw is at h in same), nothing_left at.pieces is)
       | inr isnt ↦ let none : ◌≡◌ {A = Result SessionValue ℕ} (Err at.number) (Ok t) = rw isnt at h in cc
     ]
 
@@ -206,9 +230,12 @@ record AskRead (made : Question → List ReplyValue → SessionValue) (s : Sessi
   query_says : query_line query ≡ Some asked
   replies_say : Say upstream_line replies told
 
-ask_read : (made : Question → List ReplyValue → SessionValue) (s : SessionValue) (at : Place) → asks made at ≡ Ok s → AskRead made s at
+ask_read : (made : Question → List ReplyValue → SessionValue) (s : SessionValue) (at : Place) → asks made at ≡ Ok s
+    → AskRead made s at
 ask_read made s at h =
-    let b = bound (one query_line at) (λ query. ends (made query.0 (many upstream_line query.1).0) (many upstream_line query.1).1) s h in
+    let b =
+    bound (one query_line at)
+    (λ query. ends (made query.0 (many upstream_line query.1).0) (many upstream_line query.1).1) s h in
     let line = one_at query_line at.number at.pieces b.value.0 b.value.1 b.was in
     let read = many_at upstream_line b.value.1.number b.value.1.pieces in
     let last = end_read (made b.value.0 (many upstream_line b.value.1).0) s (many upstream_line b.value.1).1 b.gives in
@@ -234,25 +261,32 @@ session_spelled text s h =
     let l2 = one_at moment_line b1.value.1.number b1.value.1.pieces b2.value.0 b2.value.1 b2.was in
     let depth = optional_at depth_line b2.value.1.number b2.value.1.pieces in
     let deep = optional depth_line b2.value.1 in
-    let b3 = bound (one algorithms_line deep.1) (λ algorithms. trusts (session b1.value.0 b2.value.0 deep.0 algorithms.0) algorithms.1) s b2.gives in
+    let b3 =
+    bound (one algorithms_line deep.1)
+    (λ algorithms. trusts (session b1.value.0 b2.value.0 deep.0 algorithms.0) algorithms.1) s b2.gives in
     let l3 = one_at algorithms_line deep.1.number deep.1.pieces b3.value.0 b3.value.1 b3.was in
     let anchors = many_at anchor_line b3.value.1.number b3.value.1.pieces in
     let here = (many anchor_line b3.value.1).1 in
     let accepts = many_at accept_line here.number here.pieces in
-    let asked = ask_read (session b1.value.0 b2.value.0 deep.0 b3.value.0 (many anchor_line b3.value.1).0 (many accept_line here).0) s
+    let asked =
+    ask_read (session b1.value.0 b2.value.0 deep.0 b3.value.0 (many anchor_line b3.value.1).0 (many accept_line here).0) s
     (many accept_line here).1 b3.gives in
     let body : List (List ℕ) = asked.query ∷ (asked.replies ++ codes "end" ∷ []) in
     let inner : List (List ℕ) = anchors.lines ++ (accepts.lines ++ body) in
-    let all : List (List ℕ) = session_lines l1.line l2.line depth.lines l3.line anchors.lines accepts.lines asked.query asked.replies in
+    let all : List (List ℕ) =
+    session_lines l1.line l2.line depth.lines l3.line anchors.lines accepts.lines asked.query asked.replies in
     let tail : (many accept_line here).1.pieces ≡ body ++ [] ∷ [] =
     asked.cut ∙ ap (λ ps. asked.query ∷ ps) (sym (append_assoc asked.replies (codes "end" ∷ []) ([] ∷ []))) in
     let keys : b3.value.1.pieces ≡ inner ++ [] ∷ [] =
-    anchors.cut ∙ ap (λ ps. anchors.lines ++ ps) (accepts.cut ∙ ap (λ ps. accepts.lines ++ ps) tail ∙ sym (append_assoc accepts.lines body ([] ∷ [])))
+    anchors.cut
+    ∙ ap (λ ps. anchors.lines ++ ps)
+    (accepts.cut ∙ ap (λ ps. accepts.lines ++ ps) tail ∙ sym (append_assoc accepts.lines body ([] ∷ [])))
     ∙ sym (append_assoc anchors.lines (accepts.lines ++ body) ([] ∷ [])) in
     let dated : b2.value.1.pieces ≡ (depth.lines ++ l3.line ∷ inner) ++ [] ∷ [] =
     depth.cut ∙ ap (λ ps. depth.lines ++ ps) (l3.cut ∙ ap (λ ps. l3.line ∷ ps) keys)
     ∙ sym (append_assoc depth.lines (l3.line ∷ inner) ([] ∷ [])) in
-    let whole : pieces 10 text ≡ all ++ [] ∷ [] = l1.cut ∙ ap (λ ps. l1.line ∷ ps) (l2.cut ∙ ap (λ ps. l2.line ∷ ps) dated) in
+    let whole : pieces 10 text ≡ all ++ [] ∷ [] =
+    l1.cut ∙ ap (λ ps. l1.line ∷ ps) (l2.cut ∙ ap (λ ps. l2.line ∷ ps) dated) in
     let lines_whole : Unbroken (all ++ [] ∷ []) = subst Unbroken whole (pieces_unbroken text) in
     record {
       head = l1.line;

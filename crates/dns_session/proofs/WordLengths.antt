@@ -4,7 +4,7 @@ use Rattle.std.specs.List.{onto_first}
 use Rattle.std.proofs.lemmas.Bool.{cases_Bool}
 use Rattle.std.proofs.lemmas.Option.{same_Some}
 use Rattle.dns_model.specs.Keys.{bytes_eq}
-use Rattle.dns_words.specs.Words.{◌>>=◌}
+use Rattle.dns_model.specs.OptionSteps.{◌>>=◌}
 use Rattle.dns_session.specs.LinePlaces.{pieces}
 use Rattle.dns_session.specs.Lines.{Words, words, after, triple, three_after}
 

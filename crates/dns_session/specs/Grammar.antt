@@ -1,7 +1,8 @@
 -- The grammar of sessions: lines of these forms in this order, and nothing after the last. Each ends with LF.
 use Rattle.std.specs.Prelude.{ℕ, List, Result, Ok, Err, if◌then◌else◌}
 use Rattle.dns_session.specs.SessionValue.{SessionValue}
-use Rattle.dns_session.specs.LinePlaces.{Place, start_of, one, optional, many, is_ended, ◌>>=◌}
+use Rattle.dns_model.specs.ResultSteps.{◌>>=◌}
+use Rattle.dns_session.specs.LinePlaces.{Place, start_of, one, optional, many, is_ended}
 use Rattle.dns_session.specs.Lines.{header_line, moment_line, depth_line, algorithms_line, anchor_line, accept_line, query_line, upstream_line, end_line}
 
 -- the value, where nothing follows; else the next line is bad

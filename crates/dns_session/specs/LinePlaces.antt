@@ -1,6 +1,9 @@
 -- Texts as lines that end with LF, read from a place on, with the number of the first line that can't stand there.
-use Rattle.std.specs.Prelude.{ℕ, ◌+◌, ◌==◌, Bool, true, false, List, [], ◌∷◌, Option, None, Some, Result, Ok, Err}
+use Rattle.std.specs.Prelude.{ℕ, ◌+◌, ◌==◌, Bool, true, false, List, [], ◌∷◌, Option, None, Some, Result, Ok, Err, option_map}
 use Rattle.std.specs.List.{slice_split}
+use Rattle.dns_model.specs.OptionSteps.{◌>>=◌}
+use Rattle.std.specs.Option.{option_map_or}
+use Rattle.dns_model.specs.Gives.{or_error}
 
 -- what stands between two bytes of this value, before the first and after the last
 abbrev pub pieces : ℕ → List ℕ → List (List ℕ)
@@ -18,44 +21,25 @@ place number rest = record { number = number; pieces = rest }
 abbrev pub start_of : List ℕ → Place
 start_of text = place 1 (pieces 10 text)
 
--- what is read after what was read, or the number of the first bad line
-infixl 10 ◌>>=◌
-abbrev pub ◌>>=◌ : {A B : Type 0} → Result A ℕ → (A → Result B ℕ) → Result B ℕ
-(Ok x) >>= more = more x
-(Err number) >>= more = Err number
-
 abbrev pub next_in : ℕ → List (List ℕ) → Option (List ℕ × Place)
-next_in number [] = None
-next_in number (line ∷ []) = None
 next_in number (line ∷ next ∷ rest) = Some (line, place (number + 1) (next ∷ rest))
+next_in number _ = None
 
 -- the next line, and the place after it
 abbrev pub next_line : Place → Option (List ℕ × Place)
 next_line at = next_in at.number at.pieces
 
-abbrev pub or_bad : {X : Type 0} → ℕ → Place → Option X → Result (X × Place) ℕ
-or_bad number after None = Err number
-or_bad number after (Some x) = Ok (x, after)
-
-abbrev pub form_or_bad : {X : Type 0} → (List ℕ → Option X) → ℕ → Option (List ℕ × Place) → Result (X × Place) ℕ
-form_or_bad form number None = Err number
-form_or_bad form number (Some (line, after)) = or_bad number after (form line)
+-- what a form reads from the next line, and the place after it
+abbrev pub read_next : {X : Type 0} → (List ℕ → Option X) → Place → Option (X × Place)
+read_next form at = next_line at >>= λ line. option_map (λ x. (x, line.1)) (form line.0)
 
 -- one line of a form, and the place after it; a line that is missing or of another form is bad
 unfoldable pub one : {X : Type 0} → (List ℕ → Option X) → Place → Result (X × Place) ℕ
-one form at = form_or_bad form at.number (next_line at)
-
-abbrev pub form_or_none : {X : Type 0} → Place → Place → Option X → Option X × Place
-form_or_none here after None = (None, here)
-form_or_none here after (Some x) = (Some x, after)
-
-abbrev pub line_or_none : {X : Type 0} → (List ℕ → Option X) → Place → Option (List ℕ × Place) → Option X × Place
-line_or_none form here None = (None, here)
-line_or_none form here (Some (line, after)) = form_or_none here after (form line)
+one form at = or_error at.number (read_next form at)
 
 -- a line of a form that may be missing, and the place after it; a line of another form is left
 unfoldable pub optional : {X : Type 0} → (List ℕ → Option X) → Place → Option X × Place
-optional form at = line_or_none form at (next_line at)
+optional form at = option_map_or (λ x. (Some x.0, x.1)) (read_next form at) (None, at)
 
 -- a line that has the form goes before those after it; one that hasn't is left
 abbrev pub before_more : {X : Type 0} → Option X → Place → List X × Place → List X × Place

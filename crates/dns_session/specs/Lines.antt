@@ -1,16 +1,17 @@
 -- The forms of a session's lines: words with one space between each two.
 use Rattle.std.specs.Prelude.{ℕ, Bool, true, false, List, [], ◌∷◌, codes, Option, None, Some, Result, if◌then◌else◌, ◌^◌, ◌-◌}
 use Rattle.std.specs.Option.{option_or}
-use Rattle.dns_model.specs.Keys.{AnchorValue, bytes_eq}
+use Rattle.dns_model.specs.Keys.{AnchorValue, bytes_eq, AcceptedSignatureValue}
 use Rattle.dns_model.specs.Records.{Question, MessageValue}
 use Rattle.dns_model.specs.Types.{class_in}
 use Rattle.dns_message.specs.MessageAt.{message_at}
 use Rattle.dns_message.specs.declared.decode_error.DecodeError.{DecodeError}
-use Rattle.dns_words.specs.Words.{name_word_in, ◌>>=◌, decimal_in, octets_in}
-use Rattle.dns_words.specs.Codes.{type_word_in}
+use Rattle.dns_text.specs.Words.{name_word_in, decimal_in, octets_in}
+use Rattle.dns_text.specs.Codes.{type_word_in}
+use Rattle.dns_model.specs.OptionSteps.{◌>>=◌}
 use Rattle.dns_session.specs.declared.reply.ReplyFault.{ReplyFault}
 use Rattle.dns_session.specs.declared.reply.ReplyFault.TheVariants.{Timeout, Io, Busy}
-use Rattle.dns_session.specs.SessionValue.{AcceptedSignatureValue, Message, Empty, Fault, ReplyValue}
+use Rattle.dns_session.specs.SessionValue.{Message, Empty, Fault, ReplyValue}
 use Rattle.dns_session.specs.LinePlaces.{pieces}
 
 abbrev pub Words : Type 0
@@ -30,9 +31,8 @@ fixed text line = if bytes_eq line text then Some tt else None
 
 -- one word
 abbrev pub single : Words → Option (List ℕ)
-single [] = None
 single (a ∷ []) = Some a
-single (a ∷ b ∷ ws) = None
+single _ = None
 
 -- two words
 abbrev pub double : Words → Option (List ℕ × List ℕ)
@@ -82,36 +82,26 @@ depth_line line = do
 abbrev pub algorithms_line : List ℕ → Option (List ℕ)
 algorithms_line line = after (codes "algorithms") (words line) >>= bytes_in
 
--- an accepted signature, by its words
-abbrev pub accept_in : List ℕ → List ℕ → List ℕ → List ℕ → Option AcceptedSignatureValue
-accept_in number key bytes signature = do
-  algorithm ← decimal_in 255 number
-  key ← octets_in key
-  bytes ← octets_in bytes
-  signature ← octets_in signature
-  Some (record { algorithm = algorithm; key = key; bytes = bytes; signature = signature })
-
 -- `accept ALGORITHM KEY BYTES SIGNATURE`
 abbrev pub accept_line : List ℕ → Option AcceptedSignatureValue
 accept_line line = do
   rest ← after (codes "accept") (words line)
   fields ← quadruple rest
-  accept_in fields.0 fields.1 fields.2 fields.3
-
--- a trusted key, by its words
-abbrev pub anchor_in : List ℕ → List ℕ → List ℕ → Option AnchorValue
-anchor_in name number key = do
-  owner ← name_word_in name
-  algorithm ← decimal_in 255 number
-  key ← octets_in key
-  Some (record { owner = owner; algorithm = algorithm; key = key })
+  algorithm ← decimal_in 255 fields.0
+  key ← octets_in fields.1
+  bytes ← octets_in fields.2
+  signature ← octets_in fields.3
+  Some (record { algorithm = algorithm; key = key; bytes = bytes; signature = signature })
 
 -- `anchor NAME ALGORITHM KEY`
 abbrev pub anchor_line : List ℕ → Option AnchorValue
 anchor_line line = do
   rest ← after (codes "anchor") (words line)
   fields ← triple rest
-  anchor_in fields.0 fields.1 fields.2
+  owner ← name_word_in fields.0
+  algorithm ← decimal_in 255 fields.1
+  key ← octets_in fields.2
+  Some (record { owner = owner; algorithm = algorithm; key = key })
 
 -- `end`
 abbrev pub end_line : List ℕ → Option (Unit {0})

@@ -1,17 +1,10 @@
 -- What a session says: a moment, how deep asks may go, what a verifier accepts, which keys are trusted, a query, and an
 -- upstream's replies with how it serves them.
 use Rattle.std.specs.Prelude.{ℕ, Bool, List, Option, Result}
-use Rattle.dns_model.specs.Keys.{AnchorValue}
+use Rattle.dns_model.specs.Keys.{AnchorValue, AcceptedSignatureValue}
 use Rattle.dns_model.specs.Records.{Question, MessageValue}
 use Rattle.dns_message.specs.declared.decode_error.DecodeError.{DecodeError}
 use Rattle.dns_session.specs.declared.reply.ReplyFault.{ReplyFault}
-
--- a signature that a verifier accepts
-pub record AcceptedSignatureValue : Type 0 where
-  pub algorithm : ℕ
-  pub key : List ℕ
-  pub bytes : List ℕ
-  pub signature : List ℕ
 
 -- what comes in reply. `Message`: this message. `Empty`: what is made of this message, an error where it tells of a failure or that
 -- there are no such records (RFC 2308, 2). `Fault`: no message. Bytes that are none stand with their fault

@@ -16,3 +16,8 @@ ReadsAs view (Err stop) told = StopsAs stop told
 -- `bad line N`
 abbrev pub bad_line_text : ℕ → List ℕ
 bad_line_text number = codes "bad line " ++ decimal number ++ 10 ∷ []
+
+-- the status of a program that works on a session: 0 where bytes are one, and 3 where they are none
+abbrev pub session_status : {X : Type 0} → Result X ℕ → ℕ
+session_status (Ok session) = 0
+session_status (Err number) = 3

@@ -1,12 +1,13 @@
 ghost use Rattle.std.specs.Prelude.{◌≡◌, IfOk, is_some};
 ghost use Rattle.std.specs.Option.{option_map, option_copied};
-ghost use Rattle.dns_session.specs.Lines.{header_line, moment_line, depth_line, algorithms_line, accept_in, accept_line, end_line, words_left, bytes_in};
+ghost use Rattle.dns_session.specs.Lines.{header_line, moment_line, depth_line, algorithms_line, accept_line, end_line, words_left, bytes_in};
+ghost use Rattle.dns_session.specs.LineFields.{accept_in};
 
 use crate::form::LineForm;
 use crate::session::AcceptedSignature;
 use crate::words::{after, next_word, quadruple, single};
 use dns_name::NoMemory;
-use dns_words::{decimal_in, octets_in, u8_in, u16_in};
+use dns_text::{decimal_in, octets_in, u8_in, u16_in};
 use std::alloc::Global;
 
 /// Whether replies are served by turn, as the version in the first line says.

@@ -1,12 +1,13 @@
 ghost use Rattle.std.specs.Prelude.{◌≡◌, IfOk};
-ghost use Rattle.dns_session.specs.Lines.{question_in, anchor_in, anchor_line, query_line};
+ghost use Rattle.dns_session.specs.Lines.{question_in, anchor_line, query_line};
+ghost use Rattle.dns_session.specs.LineFields.{anchor_in};
 
 use crate::form::LineForm;
 use crate::session::Anchor;
 use crate::words::{after, double, triple};
 use dns_name::NoMemory;
 use dns_record::{DNSClass, Query};
-use dns_words::{name_in, octets_in, type_word_in, u8_in};
+use dns_text::{name_word_in, octets_in, type_word_in, u8_in};
 use std::alloc::Global;
 
 /// A question of class IN by its words.
@@ -17,7 +18,7 @@ pub(crate) fn question_of(
 ) -> Result<Option<Query>, NoMemory>
     ensures { IfOk result (λ q. q ≡ question_in name.now record_type.now) }
 {
-    let Some(name) = name_in(alloc, name)? else {
+    let Some(name) = name_word_in(alloc, name)? else {
         return Ok(None);
     };
     let Some(query_type) = type_word_in(record_type) else {
@@ -39,7 +40,7 @@ fn anchor_of(
 ) -> Result<Option<Anchor>, NoMemory>
     ensures { IfOk result (λ a. a ≡ anchor_in name.now algorithm.now key.now) }
 {
-    let Some(owner) = name_in(alloc, name)? else {
+    let Some(owner) = name_word_in(alloc, name)? else {
         return Ok(None);
     };
     let Some(algorithm) = u8_in(algorithm) else {

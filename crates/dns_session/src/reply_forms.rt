@@ -9,7 +9,7 @@ use crate::words::{after, triple};
 use dns_message::{DecodeError, DecodeKind, Message};
 use dns_name::NoMemory;
 use dns_record::Query;
-use dns_words::octets_in;
+use dns_text::octets_in;
 use std::alloc::Global;
 
 /// The three words after the first, where that is this word.

@@ -36,7 +36,7 @@ pub struct AcceptedSignature {
 }
 
 impl Model for AcceptedSignature {
-    ghost use Rattle.dns_session.specs.SessionValue.{AcceptedSignatureValue};
+    ghost use Rattle.dns_model.specs.Keys.{AcceptedSignatureValue};
 
     ghost Value = { AcceptedSignatureValue };
 

@@ -3,7 +3,7 @@ ghost use Rattle.dns_session.specs.Stops.{bad_line_text};
 ghost use Rattle.dns_session.specs.declared.stop.SessionStop.TheVariants.{NoMemory as no_memory};
 
 use dns_name::NoMemory;
-use dns_words::push_decimal;
+use dns_text::push_decimal;
 use std::alloc::Global;
 
 /// Why a session wasn't read.

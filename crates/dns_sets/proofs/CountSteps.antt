@@ -11,20 +11,21 @@ use Rattle.dns_model.specs.declared.section.Section.{Section}
 use Rattle.dns_model.specs.Names.{name_eq}
 use Rattle.dns_model.specs.Views.{RrsigValue, rrsig_in}
 use Rattle.dns_model.specs.Records.{Rr}
-use Rattle.dns_model.specs.Sections.{is_signature, covers, covers_rtype}
-use Rattle.dns_model.specs.SoundAnswers.{section_eq, set_rtype, covered_rtype}
+use Rattle.dns_model.specs.Sections.{is_signature, covers}
+use Rattle.dns_model.specs.SoundAnswers.{section_eq, set_rtype}
 use Rattle.dns_model.proofs.EachLemmas.{each_of, find_known}
 use Rattle.dns_model.proofs.SetLemmas.{name_back, name_trans, number_refl, number_same}
 use Rattle.dns_model.proofs.TestLemmas.{same_test}
-use Rattle.dns_judgement.specs.Judged.{Judged}
-use Rattle.dns_judgement.specs.Marking.{signature_place}
-use Rattle.dns_judgement.specs.MarkParts.{covered, is_place}
-use Rattle.dns_judgement.proofs.DeciderLemmas.{kind_of, covered_parts, place_same}
+use Rattle.dns_rules.specs.MarkedSets.{MarkedSet}
+use Rattle.dns_rules.specs.Marking.{signature_place}
+use Rattle.dns_rules.specs.MarkParts.{covered, is_place}
+use Rattle.dns_rules.proofs.DeciderLemmas.{kind_of, covered_parts, place_same}
 use Rattle.dns_grouping.specs.declared.set_places.SetPlaces.{SetPlaces}
 use Rattle.dns_grouping.specs.SetPlaces.{is_readable, place_of, is_placed, ArePlacedIn}
 use Rattle.dns_sets.specs.Counting.{counted, is_signature_at, AreCounted}
 use Rattle.dns_grouping.proofs.PlaceLemmas.{IsPlace, alike_place}
 use Rattle.dns_grouping.proofs.MarkSteps.{set_at}
+use Rattle.dns_model.proofs.ViewSteps.{covers_rtype, covered_rtype}
 
 -- ---- counts with one more record
 
@@ -61,7 +62,7 @@ pub length-counted : (counts : List ℕ) (x : Rr) (o : Option ℕ) → length (c
 length-counted counts x None = refl
 length-counted counts x (Some m) = length_step counts m (get_or counts m 0 + 1) (is_readable x)
 
-pub counted_more : (p : SetPlaces) (sets : List Judged) (counts : List ℕ) (met : List Rr) (x : Rr) → AreCounted p sets counts met
+pub counted_more : (p : SetPlaces) (sets : List MarkedSet) (counts : List ℕ) (met : List Rr) (x : Rr) → AreCounted p sets counts met
     → AreCounted p sets (counted counts (place_of p x.owner (set_rtype x)) x) (met ++ x ∷ [])
 counted_more p sets counts met x are =
     let o = place_of p x.owner (set_rtype x) in
@@ -79,7 +80,7 @@ record IsAlike (r b : Rr) : Type 0 where
   owner : name_eq r.owner b.owner ≡ true
   rtype : set_rtype r ≡ set_rtype b
 
-alike_from : (section : Section) (r b : Rr) (s : Judged) → is_placed section r.owner (set_rtype r) s ≡ true → is_placed section b.owner (set_rtype b) s ≡ true → IsAlike r b
+alike_from : (section : Section) (r b : Rr) (s : MarkedSet) → is_placed section r.owner (set_rtype r) s ≡ true → is_placed section b.owner (set_rtype b) s ≡ true → IsAlike r b
 alike_from section r b s h k =
     let one = and_parts (section_eq s.section section) (name_eq s.set.owner r.owner && (s.set.rtype == set_rtype r)) h in
     let two = and_parts (name_eq s.set.owner r.owner) (s.set.rtype == set_rtype r) one.1 in
@@ -90,13 +91,13 @@ alike_from section r b s h k =
       rtype = sym (number_same s.set.rtype (set_rtype r) two.1) ∙ number_same s.set.rtype (set_rtype b) four.1;
     }
 
-passes : (test : Judged → Bool) (sets : List Judged) (n : ℕ) (y : Judged) → IsPlace test sets n → get_or sets n y ≡ y → test y ≡ true
+passes : (test : MarkedSet → Bool) (sets : List MarkedSet) (n : ℕ) (y : MarkedSet) → IsPlace test sets n → get_or sets n y ≡ y → test y ≡ true
 passes test sets n y is at =
     (find_known test (λ s. Unit {0}) sets y (each_of (λ s. Unit {0}) (λ s. tt) sets) (is.found y (sym at))).passes
 
-alike_by_cases : (section : Section) (sets : List Judged) (r b : Rr) (n : ℕ) → IsPlace (is_placed section r.owner (set_rtype r)) sets n
+alike_by_cases : (section : Section) (sets : List MarkedSet) (r b : Rr) (n : ℕ) → IsPlace (is_placed section r.owner (set_rtype r)) sets n
     → IsPlace (is_placed section b.owner (set_rtype b)) sets n
-    → (((y : Judged) × (n < length sets) × (slice_get sets n ≡ Some y) × (get_or sets n y ≡ y)) ⊎ ((length sets ≤ n) × (slice_get sets n ≡ None)))
+    → (((y : MarkedSet) × (n < length sets) × (slice_get sets n ≡ Some y) × (get_or sets n y ≡ y)) ⊎ ((length sets ≤ n) × (slice_get sets n ≡ None)))
     → IsAlike r b
 alike_by_cases section sets r b n one two (inl (y, within, is, at)) =
     alike_from section r b y (passes (is_placed section r.owner (set_rtype r)) sets n y one at) (passes (is_placed section b.owner (set_rtype b)) sets n y two at)
@@ -106,7 +107,7 @@ alike_by_cases section sets r b n one two (inr (past, none)) =
     absurd never
 
 -- records whose sets have one place are of one set
-one_place : (p : SetPlaces) (section : Section) (sets : List Judged) (r b : Rr) (n : ℕ) → ArePlacedIn p section sets
+one_place : (p : SetPlaces) (section : Section) (sets : List MarkedSet) (r b : Rr) (n : ℕ) → ArePlacedIn p section sets
     → place_of p r.owner (set_rtype r) ≡ Some n → place_of p b.owner (set_rtype b) ≡ Some n → IsAlike r b
 one_place p section sets r b n are is also =
     alike_by_cases section sets r b n (set_at p section sets r.owner (set_rtype r) n are (sym is)) (set_at p section sets b.owner (set_rtype b) n are (sym also))
@@ -120,7 +121,7 @@ covers_some : (rtype : ℕ) (o : Option RrsigValue) → covers_rtype rtype o ≡
 covers_some rtype None h = cc
 covers_some rtype (Some sig) h = refl
 
-covers_at : (p : SetPlaces) (section : Section) (sets : List Judged) (r : Rr) (n : ℕ) → ArePlacedIn p section sets
+covers_at : (p : SetPlaces) (section : Section) (sets : List MarkedSet) (r : Rr) (n : ℕ) → ArePlacedIn p section sets
     → place_of p r.owner (set_rtype r) ≡ Some n → (b : Rr) → is_signature_at p n b ≡ covers (covered r) b
 covers_at p section sets r n are is b =
     same_test (is_signature_at p n b) (covers (covered r) b)
@@ -143,7 +144,7 @@ covers_at p section sets r n are is b =
     (ap (λ o. is_place o n) same ∙ number_refl n))
 
 -- the count of a record's set is the place of the record among its signatures
-pub count_is : (p : SetPlaces) (section : Section) (sets : List Judged) (counts : List ℕ) (met : List Rr) (r : Rr) (n : ℕ) → ArePlacedIn p section sets
+pub count_is : (p : SetPlaces) (section : Section) (sets : List MarkedSet) (counts : List ℕ) (met : List Rr) (r : Rr) (n : ℕ) → ArePlacedIn p section sets
     → AreCounted p sets counts met → place_of p r.owner (set_rtype r) ≡ Some n → get_or counts n 0 ≡ signature_place met r
 count_is p section sets counts met r n are counts_are is =
     counts_are.each n ((set_at p section sets r.owner (set_rtype r) n are (sym is)).within)

@@ -10,10 +10,10 @@ use Rattle.dns_model.specs.Records.{Rr}
 use Rattle.dns_model.specs.RecordViews.{rrsig_of}
 use Rattle.dns_model.specs.Sections.{is_signature}
 use Rattle.dns_model.specs.SoundAnswers.{is_secure, set_rtype, signed_ttl, ttl_of}
-use Rattle.dns_judgement.specs.Chained.{Chained, bare}
-use Rattle.dns_judgement.specs.Judged.{Judged, decider}
-use Rattle.dns_judgement.specs.MarkParts.{first_record, is_place, marked_by}
-use Rattle.dns_judgement.specs.Marking.{cleared, is_about}
+use Rattle.dns_rules.specs.ChainedSets.{ChainedSet, bare}
+use Rattle.dns_rules.specs.MarkedSets.{MarkedSet, decider}
+use Rattle.dns_rules.specs.MarkParts.{first_record, is_place, marked_by}
+use Rattle.dns_rules.specs.Marking.{cleared, is_about}
 use Rattle.dns_grouping.specs.declared.set_places.SetPlaces.{SetPlaces}
 use Rattle.dns_grouping.specs.SetPlaces.{is_placed, ArePlacedIn}
 use Rattle.dns_grouping.proofs.BareLemmas.{bare_at, bare_more}
@@ -29,14 +29,14 @@ ttl_step true f None t = refl
 ttl_step true f (Some s) t = refl
 ttl_step false f o t = refl
 
-marked_in_time : (now place : ℕ) (r : Rr) (s : Judged) → marked_with (set_ttl now s) place r s ≡ marked_by now place r (Some s)
+marked_in_time : (now place : ℕ) (r : Rr) (s : MarkedSet) → marked_with (set_ttl now s) place r s ≡ marked_by now place r (Some s)
 marked_in_time now place r s =
     let left = λ (g : Rr). min (ttl_of (first_record s.set.records)) (signed_ttl (rrsig_of g) now) in
     ap (λ (t : ℕ). cond (is_signature r && not (is_place s.sig place)) (cleared r) (record r { proof = s.mark; ttl = t }))
     (ttl_step (is_secure s.mark) left (decider s) r.ttl)
 
 -- a record that is marked by the set at a number
-pub marked_here : (now : ℕ) (sets : List Chained) (ttls : List (Option ℕ)) (r new : Rr) (n count : ℕ) (x : Chained) (d : Option ℕ)
+pub marked_here : (now : ℕ) (sets : List ChainedSet) (ttls : List (Option ℕ)) (r new : Rr) (n count : ℕ) (x : ChainedSet) (d : Option ℕ)
     → ttls ≡ set_ttls now (bare sets) → n < length sets → x ≡ get_or sets n x → new ≡ marked_with (get_or ttls n d) count r x.judged
     → new ≡ marked_by now count r (slice_get (bare sets) n)
 marked_here now sets ttls r new n count x d are within read made =
@@ -49,8 +49,8 @@ marked_here now sets ttls r new n count x d are within read made =
 
 -- ---- the set of a record is the one at its place
 
-found_by_cases : (p : SetPlaces) (section : Section) (sets : List Judged) (r : Rr) (n : ℕ) → ArePlacedIn p section sets → place_for p r ≡ Some n
-    → (((y : Judged) × (n < length sets) × (slice_get sets n ≡ Some y) × (get_or sets n y ≡ y)) ⊎ ((length sets ≤ n) × (slice_get sets n ≡ None)))
+found_by_cases : (p : SetPlaces) (section : Section) (sets : List MarkedSet) (r : Rr) (n : ℕ) → ArePlacedIn p section sets → place_for p r ≡ Some n
+    → (((y : MarkedSet) × (n < length sets) × (slice_get sets n ≡ Some y) × (get_or sets n y ≡ y)) ⊎ ((length sets ≤ n) × (slice_get sets n ≡ None)))
     → slice_get sets n ≡ find (is_about section r) sets
 found_by_cases p section sets r n are is (inl (y, within, there, at)) =
     there ∙ sym ((by_place.set_at p section sets r.owner (set_rtype r) n are (sym is)).found y (sym at))
@@ -59,20 +59,20 @@ found_by_cases p section sets r n are is (inr (past, none)) =
     let never : ⊥ = omega (arith, within, past) in
     absurd never
 
-pub found_at : (p : SetPlaces) (section : Section) (sets : List Judged) (r : Rr) (o : Option ℕ) → ArePlacedIn p section sets → place_for p r ≡ o
+pub found_at : (p : SetPlaces) (section : Section) (sets : List MarkedSet) (r : Rr) (o : Option ℕ) → ArePlacedIn p section sets → place_for p r ≡ o
     → set_at sets o ≡ find (is_about section r) sets
 found_at p section sets r None are is =
     sym (is_absent (is_placed section r.owner (set_rtype r)) sets (sym (are.each r.owner (set_rtype r)) ∙ is)).missing
 found_at p section sets r (Some n) are is = found_by_cases p section sets r n are is ((slice_get_cases sets n).1)
 
-pub place_within : (p : SetPlaces) (section : Section) (sets : List Chained) (r : Rr) (n : ℕ) → ArePlacedIn p section (bare sets)
+pub place_within : (p : SetPlaces) (section : Section) (sets : List ChainedSet) (r : Rr) (n : ℕ) → ArePlacedIn p section (bare sets)
     → place_for p r ≡ Some n → n < length sets
 place_within p section sets r n are is =
     subst (λ m. n < m) (length-map sets (λ c. c.judged)) (by_place.set_at p section (bare sets) r.owner (set_rtype r) n are (sym is)).within
 
 -- ---- the ttls of sets
 
-pub ttls_more : (now : ℕ) (sets : List Chained) (ttls after : List (Option ℕ)) (i : ℕ) (x : Chained) (ttl : Option ℕ) → i < length sets
+pub ttls_more : (now : ℕ) (sets : List ChainedSet) (ttls after : List (Option ℕ)) (i : ℕ) (x : ChainedSet) (ttl : Option ℕ) → i < length sets
     → x ≡ get_or sets i x → ttls ≡ set_ttls now (bare (take i sets)) → ttl ≡ set_ttl now x.judged → after ≡ ttls ++ ttl ∷ []
     → after ≡ set_ttls now (bare (take (i + 1) sets))
 ttls_more now sets ttls after i x ttl within read before is made =

@@ -3,8 +3,8 @@ use Rattle.std.specs.Prelude.{◌≡◌, ℕ, ◌+◌, ◌<◌, Bool, ◌&&◌, 
 use Rattle.std.specs.Option.{option_and_then}
 use Rattle.dns_model.specs.Records.{Rr}
 use Rattle.dns_model.specs.SoundAnswers.{set_rtype}
-use Rattle.dns_judgement.specs.Judged.{Judged}
-use Rattle.dns_judgement.specs.MarkParts.{is_place}
+use Rattle.dns_rules.specs.MarkedSets.{MarkedSet}
+use Rattle.dns_rules.specs.MarkParts.{is_place}
 use Rattle.dns_grouping.specs.declared.set_places.SetPlaces.{SetPlaces}
 use Rattle.dns_grouping.specs.SetPlaces.{is_readable, place_of}
 
@@ -18,7 +18,7 @@ count_at counts None = 0
 count_at counts (Some n) = get_or counts n 0
 
 -- the set at a place
-abbrev pub set_at : List Judged → Option ℕ → Option Judged
+abbrev pub set_at : List MarkedSet → Option ℕ → Option MarkedSet
 set_at sets place = option_and_then (slice_get sets) place
 
 -- the counts with one more at a place, where it can be read
@@ -35,6 +35,6 @@ abbrev pub is_signature_at : SetPlaces → ℕ → Rr → Bool
 is_signature_at p n r = is_readable r && is_place (place_for p r) n
 
 -- each set has the count of the signatures of it that were met
-pub record AreCounted (p : SetPlaces) (sets : List Judged) (counts : List ℕ) (met : List Rr) : Type 0 where
+pub record AreCounted (p : SetPlaces) (sets : List MarkedSet) (counts : List ℕ) (met : List Rr) : Type 0 where
   pub long : length counts ≡ length sets
   pub each : (n : ℕ) → n < length sets → get_or counts n 0 ≡ count_by (is_signature_at p n) met

@@ -6,21 +6,21 @@ use Rattle.dns_model.specs.Records.{Rr}
 use Rattle.dns_model.specs.RecordViews.{rrsig_of}
 use Rattle.dns_model.specs.Sections.{is_signature}
 use Rattle.dns_model.specs.SoundAnswers.{is_secure, signed_ttl, ttl_of}
-use Rattle.dns_judgement.specs.Chained.{bare}
-use Rattle.dns_judgement.specs.Judged.{Judged, decider}
-use Rattle.dns_judgement.specs.MarkParts.{first_record, is_place}
-use Rattle.dns_judgement.specs.Marking.{cleared}
+use Rattle.dns_rules.specs.ChainedSets.{bare}
+use Rattle.dns_rules.specs.MarkedSets.{MarkedSet, decider}
+use Rattle.dns_rules.specs.MarkParts.{first_record, is_place}
+use Rattle.dns_rules.specs.Marking.{cleared}
 use Rattle.dns_sets.specs.declared.marking.TimedSets.{TimedSets}
 
 -- under the signature that decided a Secure set the ttl of its first record, bounded by what the signature leaves
-abbrev pub set_ttl : ℕ → Judged → Option ℕ
+abbrev pub set_ttl : ℕ → MarkedSet → Option ℕ
 set_ttl now judged =
     if is_secure judged.mark
     then option_map (λ s. min (ttl_of (first_record judged.set.records)) (signed_ttl (rrsig_of s) now)) (decider judged)
     else None
 
 -- those of sets, in their order
-abbrev pub set_ttls : ℕ → List Judged → List (Option ℕ)
+abbrev pub set_ttls : ℕ → List MarkedSet → List (Option ℕ)
 set_ttls now sets = map (set_ttl now) sets
 
 -- each set has its ttl
@@ -28,7 +28,7 @@ pub record AreTimed (timed : TimedSets) : Type 0 where
   pub each : timed.ttls.now ≡ set_ttls timed.moment (bare timed.sets.now)
 
 -- a record of a set that leaves it this ttl, or its own; of the signatures of the set the one at the place of that which decided
-abbrev pub marked_with : Option ℕ → ℕ → Rr → Judged → Rr
+abbrev pub marked_with : Option ℕ → ℕ → Rr → MarkedSet → Rr
 marked_with ttl place r judged =
     if is_signature r && not (is_place judged.sig place)
     then cleared r

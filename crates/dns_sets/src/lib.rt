@@ -5,7 +5,4 @@
 
 mod marking;
 
-pub use dns_grouping::{clear_marks, placed_sets};
-pub use dns_judged::{ChainedSet, MarkedSet, PlacedSet};
-pub use dns_outcome::{Outcome, foreign_record, outcome_by_zone, outcome_of};
 pub use marking::finished;

@@ -1,18 +1,18 @@
 ghost use Rattle.std.specs.Prelude.{◌≡◌, ℕ, ◌<◌, ◌^◌, IfOk, OnOk, Some, length};
-ghost use Rattle.dns_judgement.specs.Marking.{marked_section};
-ghost use Rattle.dns_judgement.specs.Chained.{bare, chains_of, finished as finished_value};
-ghost use Rattle.dns_judgement.specs.MarkParts.{marked_by, is_place as is_same_place};
+ghost use Rattle.dns_rules.specs.Marking.{marked_section};
+ghost use Rattle.dns_rules.specs.ChainedSets.{bare, chains_of, finished as finished_value};
+ghost use Rattle.dns_rules.specs.MarkParts.{marked_by, is_place as is_same_place};
 ghost use Rattle.dns_sets.specs.Counting.{count_at, counted, counted_if, place_for, set_at};
 ghost use Rattle.dns_sets.specs.Timing.{AreTimed, marked_with, set_ttl as set_ttl_of, set_ttls as set_ttls_of};
 
-use dns_evidence::{Chain, Trail};
+use dns_evidence::{Chain, ChainedSet, MarkedSet, Trail, decider};
 use dns_grouping::{SetPlaces, clear_one, judged_places, set_rtype};
-use dns_judged::{ChainedSet, MarkedSet, decider};
+use dns_handle::DnsResponse;
 use dns_message::Message;
+use dns_model::{Denial, Proof, Section};
 use dns_name::NoMemory;
 use dns_rdata::Rrsig;
-use dns_record::{Denial, Proof, Record, RecordType, Section};
-use dns_response::DnsResponse;
+use dns_record::{Record, RecordType};
 use std::alloc::Global;
 
 /// The answer of a judged step: its message with the marks and ttls that its sets leave to each record, the chains of its

@@ -1,10 +1,11 @@
 //! Steps whose sets are judged, and how they end.
 use crate::rows::check_row;
 use crate::sets_tests::{Met, bare_message, put, query, records_of, set_of};
+use dns_evidence::{ChainedSet, MarkedSet};
 use dns_message::Message;
-use dns_name::NameError;
-use dns_record::{Denial, Proof, Query, Record, RecordSet, RecordType, ResponseCode, Section};
-use dns_sets::*;
+use dns_model::{Denial, NameError, Proof, Section};
+use dns_outcome::{Outcome, outcome_of};
+use dns_record::{Query, Record, RecordSet, RecordType, ResponseCode};
 use std::alloc::Global;
 use std::process::Abort;
 

@@ -1,8 +1,9 @@
 use crate::judged_steps::{
     APEX, BOGUS, BY_EXAMPLE, COVERS_ML, NO_NAME, PLAIN, Row, STANDS, Told, UNSIGNED, check_ends,
 };
-use dns_record::{Denial, Proof, RecordType, ResponseCode, Section};
-use dns_sets::*;
+use dns_model::{Denial, Proof, Section};
+use dns_outcome::Outcome;
+use dns_record::{RecordType, ResponseCode};
 
 /// Signatures by `w.example.`, `b.example.` and `EXAMPLE.`, with two labels.
 const BY_W_EXAMPLE: &[u8] =
@@ -215,7 +216,7 @@ const EXPANSIONS: &[Row] = &[
             mark: Proof::Insecure,
             ..FROM_W
         }],
-        outcome: Outcome::Searched,
+        outcome: Outcome::NeedsZone,
         ..FROM_WILDCARD
     },
     Row {
@@ -227,7 +228,7 @@ const EXPANSIONS: &[Row] = &[
             },
             UNSIGNED,
         ],
-        outcome: Outcome::Searched,
+        outcome: Outcome::NeedsZone,
         ..FROM_WILDCARD
     },
     Row {

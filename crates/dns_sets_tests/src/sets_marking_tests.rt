@@ -1,11 +1,12 @@
 use crate::rows::check_row;
 use crate::sets_tests::{A, Met, OVER_A, OVER_A_TOO, RRSIG, TXT, message, put, rdata, set_of};
-use dns_evidence::{Chain, Link, Trail};
+use dns_evidence::{Chain, ChainedSet, Link, MarkedSet, Trail};
+use dns_handle::DnsResponse;
 use dns_message::Message;
-use dns_name::{Name, NameError};
-use dns_record::{DNSClass, Denial, Proof, Record, RecordSet, Section};
-use dns_response::DnsResponse;
-use dns_sets::*;
+use dns_model::{Denial, NameError, Proof, Section};
+use dns_name::Name;
+use dns_record::{DNSClass, Record, RecordSet};
+use dns_sets::finished;
 use std::alloc::Global;
 
 const ADDRESS: Met = Met {

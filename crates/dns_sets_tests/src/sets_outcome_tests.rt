@@ -4,9 +4,9 @@ use crate::judged_steps::{
 use crate::rows::{check_count, check_row};
 use crate::sets_tests::{A, CNAME, Met, OVER_CNAME, OVER_EXPANDED, RRSIG, TXT, message, query};
 use dns_message::Message;
-use dns_name::NameError;
-use dns_record::{DNSClass, Denial, Proof, Query, Record, RecordType, Section};
-use dns_sets::*;
+use dns_model::{Denial, NameError, Proof, Section};
+use dns_outcome::{Outcome, foreign_record, outcome_by_zone, outcome_of};
+use dns_record::{DNSClass, Query, Record, RecordType};
 use std::alloc::Global;
 
 const OTHER_NAME: Met = Met {
@@ -60,11 +60,11 @@ struct Ended {
 const ENDED: &[Ended] = &[
     Ended {
         records: &[],
-        outcome: Outcome::Searched,
+        outcome: Outcome::NeedsZone,
     },
     Ended {
         records: UNANSWERED,
-        outcome: Outcome::Searched,
+        outcome: Outcome::NeedsZone,
     },
     Ended {
         records: ANSWERED,
@@ -72,7 +72,7 @@ const ENDED: &[Ended] = &[
     },
     Ended {
         records: FROM_WILDCARD,
-        outcome: Outcome::Searched,
+        outcome: Outcome::NeedsZone,
     },
 ];
 
@@ -129,7 +129,7 @@ const OTHERS: &[Row] = &[
     Row {
         shows: "nothing says anything",
         told: &[],
-        outcome: Outcome::Searched,
+        outcome: Outcome::NeedsZone,
         ..ANSWER
     },
     Row {
@@ -144,7 +144,7 @@ const OTHERS: &[Row] = &[
                 ..COVERS_ML
             },
         ],
-        outcome: Outcome::Searched,
+        outcome: Outcome::NeedsZone,
         ..NO_NAME
     },
     Row {
@@ -159,7 +159,7 @@ const OTHERS: &[Row] = &[
                 ..COVERS_ML
             },
         ],
-        outcome: Outcome::Searched,
+        outcome: Outcome::NeedsZone,
         ..NO_NAME
     },
     Row {
@@ -217,7 +217,7 @@ const OTHERS: &[Row] = &[
             owner: "l.example.",
             ..UNSIGNED
         }],
-        outcome: Outcome::Searched,
+        outcome: Outcome::NeedsZone,
         ..NO_NAME
     },
     Row {
@@ -230,7 +230,7 @@ const OTHERS: &[Row] = &[
                 ..UNSIGNED
             },
         ],
-        outcome: Outcome::Searched,
+        outcome: Outcome::NeedsZone,
         ..NO_NAME
     },
     Row {
@@ -240,7 +240,7 @@ const OTHERS: &[Row] = &[
             rdata: BY_EXAMPLE,
             ..UNSIGNED
         }],
-        outcome: Outcome::Searched,
+        outcome: Outcome::NeedsZone,
         ..NO_NAME
     },
     Row {
@@ -255,7 +255,7 @@ const OTHERS: &[Row] = &[
                 ..UNSIGNED
             },
         ],
-        outcome: Outcome::Searched,
+        outcome: Outcome::NeedsZone,
         ..NO_NAME
     },
 ];

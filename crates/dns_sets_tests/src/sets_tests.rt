@@ -1,10 +1,10 @@
 use crate::rows::check_row;
+use dns_evidence::PlacedSet;
+use dns_grouping::{clear_marks, judged_part};
 use dns_message::Message;
-use dns_name::{Name, NameError};
-use dns_record::{
-    DNSClass, OpCode, Proof, Query, Rdata, Record, RecordSet, RecordType, ResponseCode, Section,
-};
-use dns_sets::*;
+use dns_model::{NameError, Proof, Section};
+use dns_name::Name;
+use dns_record::{DNSClass, OpCode, Query, Rdata, Record, RecordSet, RecordType, ResponseCode};
 use std::alloc::Global;
 
 /// A record of class IN and ttl 300, which says that it is Secure, and the section that it stands in.
@@ -262,7 +262,7 @@ fn are_grouped(placed: &[PlacedSet], want: &[Grouped]) -> bool {
 /// The records make these sets at a depth.
 fn makes(alloc: Global, depth: u16, want: &[Grouped]) -> Result<bool, NameError> {
     let message = message(alloc, met_rows())?;
-    Ok(are_grouped(&placed_sets(alloc, depth, &message)?, want))
+    Ok(are_grouped(&judged_part(alloc, depth, &message)?, want))
 }
 
 #[test]

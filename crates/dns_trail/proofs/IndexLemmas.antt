@@ -14,15 +14,15 @@ use Rattle.std.proofs.lemmas.Cmp.{then_total, on_total, nat_cmp_total, nat_list_
 use Rattle.std.proofs.lemmas.List.{append-nil, length-map, length-take-le, map-append, take_more}
 use Rattle.dns_model.specs.Names.{folded, name_eq, wire}
 use Rattle.dns_model.specs.Records.{Rr}
-use Rattle.dns_model.specs.SoundAnswers.{Placed}
+use Rattle.dns_model.specs.SoundAnswers.{PlacedSet}
 use Rattle.dns_model.specs.Trails.{JudgedSetValue}
 use Rattle.dns_model.proofs.NameLemmas.{name_eq-Decides}
 use Rattle.dns_model.proofs.TestLemmas.{tied_equal}
 use Rattle.dns_model.proofs.Lists.{lookup-same}
-use Rattle.dns_judgement.specs.Chained.{Chained, bare}
-use Rattle.dns_judgement.specs.Derivation.{is_repeat, same_record}
-use Rattle.dns_judgement.specs.Judged.{Judged}
-use Rattle.dns_anchors.specs.Finding.{items_or_none, passes_at}
+use Rattle.dns_rules.specs.ChainedSets.{ChainedSet, bare}
+use Rattle.dns_rules.specs.Derivation.{is_repeat, same_record}
+use Rattle.dns_rules.specs.MarkedSets.{MarkedSet}
+use Rattle.dns_evidence.specs.Finding.{items_or_none, passes_at}
 use Rattle.dns_trail.specs.declared.places.SetKey.{SetKey}
 use Rattle.dns_trail.specs.Indexed.{AreIndexed}
 use Rattle.dns_trail.specs.SetKeys.{AddedPlace, trail_key_cmp, trail_key_of, key_of_first, key_of_record, set_places}
@@ -44,35 +44,47 @@ record_alike a b h =
     let types : a.rtype ≡ b.rtype = eqb-true a.rtype b.rtype (and_parts (a.rtype == b.rtype) _ parts.1).0 in
     sym (ap (λ o. with_key (wire o) a.rtype) owners ∙ ap (with_key (wire (folded b.owner))) types)
 
-records_alike : (xs ys : List Rr) → pointwise same_record xs ys ≡ true → key_of_first (slice_get ys 0) ≡ key_of_first (slice_get xs 0)
+records_alike : (xs ys : List Rr) → pointwise same_record xs ys ≡ true
+    → key_of_first (slice_get ys 0) ≡ key_of_first (slice_get xs 0)
 records_alike [] [] h = refl
 records_alike [] (y ∷ ys) h = cc
 records_alike (x ∷ xs) [] h = cc
 records_alike (x ∷ xs) (y ∷ ys) h = record_alike x y (and_parts (same_record x y) _ h).0
 
-repeat_alike : (placed : Placed) (entry : JudgedSetValue) (judged : Judged) → is_repeat placed entry judged ≡ true → trail_key_of judged.set ≡ trail_key_of placed.set
-repeat_alike placed entry judged h = records_alike placed.set.records judged.set.records (and_parts (pointwise same_record placed.set.records judged.set.records) _ h).0
+repeat_alike : (placed : PlacedSet) (entry : JudgedSetValue) (judged : MarkedSet) → is_repeat placed entry judged ≡ true
+    → trail_key_of judged.set ≡ trail_key_of placed.set
+repeat_alike placed entry judged h =
+    records_alike placed.set.records judged.set.records
+    (and_parts (pointwise same_record placed.set.records judged.set.records) _ h).0
 
 -- a set is found among those with its key
-pub repeat_found : {Z : Type 0} (places : BTreeMap SetKey (Vec ℕ Z)) (sets : List Judged) (placed : Placed) (entry : JudgedSetValue) → AreIndexed places sets
-    → list_any (passes_at (is_repeat placed entry) sets) (set_places places (trail_key_of placed.set)) ≡ list_any (is_repeat placed entry) sets
+pub repeat_found : {Z : Type 0} (places : BTreeMap SetKey (Vec ℕ Z)) (sets : List MarkedSet) (placed : PlacedSet)
+    (entry : JudgedSetValue) → AreIndexed places sets
+    → list_any (passes_at (is_repeat placed entry) sets)
+    (set_places places (trail_key_of placed.set)) ≡ list_any (is_repeat placed entry) sets
 repeat_found places sets placed entry indexed =
-    found (λ j. trail_key_of j.set) (is_repeat placed entry) (trail_key_of placed.set) (set_places places) sets (repeat_alike placed entry) indexed
+    found (λ j. trail_key_of j.set) (is_repeat placed entry) (trail_key_of placed.set) (set_places places) sets
+    (repeat_alike placed entry) indexed
 
 -- ---- a place more
 
-get-same : {X : Type 0} (m : BTreeMap SetKey X) (k q : SetKey) → trail_key_cmp k q ≡ Equal → tree.get trail_key_cmp m k ≡ tree.get trail_key_cmp m q
+get-same : {X : Type 0} (m : BTreeMap SetKey X) (k q : SetKey) → trail_key_cmp k q ≡ Equal
+    → tree.get trail_key_cmp m k ≡ tree.get trail_key_cmp m q
 get-same m k q same = lookup-same _ _ (λ x. ap is_eq (key_total.congr k q x same)) m.entries
 
-added_case : {Z : Type 0} (old : BTreeMap SetKey (Vec ℕ Z)) (key k : SetKey) (place : ℕ) (w : Vec ℕ Z) → w.items ≡ set_places old key ++ place ∷ []
-    → (b : Bool) → is_eq (trail_key_cmp key k) ≡ b → items_or_none (cond b (Some w) (tree.get trail_key_cmp old k)) ≡ set_places old k ++ cond b (place ∷ []) []
+added_case : {Z : Type 0} (old : BTreeMap SetKey (Vec ℕ Z)) (key k : SetKey) (place : ℕ) (w : Vec ℕ Z)
+    → w.items ≡ set_places old key ++ place ∷ []
+    → (b : Bool) → is_eq (trail_key_cmp key k) ≡ b
+    → items_or_none (cond b (Some w) (tree.get trail_key_cmp old k)) ≡ set_places old k ++ cond b (place ∷ []) []
 added_case old key k place w items true tied =
     items ∙ ap (λ o. items_or_none o ++ place ∷ []) (get-same old key k (tied_equal (trail_key_cmp key k) tied))
 added_case old key k place w items false tied = sym (append-nil (set_places old k))
 
-pub added : {Z : Type 0} (old new : BTreeMap SetKey (Vec ℕ Z)) (key : SetKey) (place : ℕ) (w : Vec ℕ Z) → w.items ≡ set_places old key ++ place ∷ []
+pub added : {Z : Type 0} (old new : BTreeMap SetKey (Vec ℕ Z)) (key : SetKey) (place : ℕ) (w : Vec ℕ Z)
+    → w.items ≡ set_places old key ++ place ∷ []
     → tree.Updates trail_key_cmp old new key (Some w) → AddedPlace old new key place
-added old new key place w items updates k = ap items_or_none (updates.0 k) ∙ added_case old key k place w items (is_eq (trail_key_cmp key k)) refl
+added old new key place w items updates k =
+    ap items_or_none (updates.0 k) ∙ added_case old key k place w items (is_eq (trail_key_cmp key k)) refl
 
 self_reverse : (o : Ordering) → o ≡ ordering_reverse o → o ≡ Equal
 self_reverse Less h = cc
@@ -80,19 +92,26 @@ self_reverse Equal h = refl
 self_reverse Greater h = cc
 
 own_place : (key : SetKey) (place : ℕ) → cond (is_eq (trail_key_cmp key key)) (place ∷ []) [] ≡ place ∷ []
-own_place key place = ap (λ o. cond (is_eq o) (place ∷ []) []) (self_reverse (trail_key_cmp key key) (key_total.antisymm key key))
+own_place key place =
+    ap (λ o. cond (is_eq o) (place ∷ []) []) (self_reverse (trail_key_cmp key key) (key_total.antisymm key key))
 
-long_front : (sets : List Chained) (i : ℕ) → i < length sets → length (bare (take i sets)) ≡ i
-long_front sets i lt = let one = length-map (take i sets) (λ x. x.judged) in let two : length (take i sets) ≡ i = grind (arith, length-take-le) in one ∙ two
+long_front : (sets : List ChainedSet) (i : ℕ) → i < length sets → length (bare (take i sets)) ≡ i
+long_front sets i lt =
+    let one =
+    length-map (take i sets) (λ x. x.judged) in let two : length (take i sets) ≡ i = grind (arith, length-take-le) in one ∙ two
 
 -- one set more has its place
-pub indexed_more : {Z : Type 0} (old new : BTreeMap SetKey (Vec ℕ Z)) (sets : List Chained) (i : ℕ) (c : Chained) (key : SetKey) → i < length sets
-    → c ≡ get_or sets i c → key ≡ trail_key_of c.judged.set → AreIndexed old (bare (take i sets)) → AddedPlace old new key i
+pub indexed_more : {Z : Type 0} (old new : BTreeMap SetKey (Vec ℕ Z)) (sets : List ChainedSet) (i : ℕ) (c : ChainedSet)
+    (key : SetKey) → i < length sets
+    → c ≡ get_or sets i c → key ≡ trail_key_of c.judged.set → AreIndexed old (bare (take i sets))
+    → AddedPlace old new key i
     → AreIndexed new (bare (take (i + 1) sets))
 indexed_more old new sets i c key lt is own indexed more =
-    let front : take (i + 1) sets ≡ take i sets ++ c ∷ [] = take_more sets i c lt ∙ ap (λ x. take i sets ++ x ∷ []) (sym is) in
-    let whole : bare (take (i + 1) sets) ≡ bare (take i sets) ++ c.judged ∷ [] = ap bare front ∙ map-append (λ x. x.judged) (take i sets) (c ∷ []) in
-    let P : List Judged → Type 0 = λ js. AreIndexed new js in
+    let front : take (i + 1) sets ≡ take i sets ++ c ∷ [] =
+    take_more sets i c lt ∙ ap (λ x. take i sets ++ x ∷ []) (sym is) in
+    let whole : bare (take (i + 1) sets) ≡ bare (take i sets) ++ c.judged ∷ [] =
+    ap bare front ∙ map-append (λ x. x.judged) (take i sets) (c ∷ []) in
+    let P : List MarkedSet → Type 0 = λ js. AreIndexed new js in
     let long : length (bare (take i sets)) ≡ i = long_front sets i lt in
     subst P (sym whole)
     (keeps_more (λ j. trail_key_of j.set) (set_places old) (set_places new) (bare (take i sets)) c.judged (λ k. cond (is_eq (trail_key_cmp key k)) (i ∷ []) []) indexed more

@@ -1,3 +1,7 @@
+pub mod CountLemmas
+pub mod WalkLemmas
+pub mod OnceLemmas
+pub mod OrderedLemmas
 pub mod EarlierLemmas
 pub mod TryLemmas
 pub mod ZoneLemmas

@@ -2,7 +2,7 @@
 use Rattle.std.proofs.Common.{◌≡◌, ◌≢◌, ◌↔◌, IsTrue, Bool, true, false, List, [], ◌∷◌, ◌++◌, map, Option, None, Some, Result, Ok, Err, refl, ap, ◌∙◌}
 use Rattle.std.specs.Option.{option_map}
 use Rattle.std.proofs.lemmas.List.{map-append}
-use Rattle.dns_judgement.specs.Chained.{Chained, bare, bare_verdicts}
+use Rattle.dns_rules.specs.ChainedSets.{ChainedSet, bare, bare_verdicts}
 use Rattle.dns_trust.specs.Verdicts.{verdict_value}
 use Rattle.dns_trust.specs.declared.verdict.Verdict.{Verdict}
 use Rattle.dns_trail.specs.Ended.{some_if}
@@ -19,7 +19,8 @@ named_if true name is named = cc
 named_if false name is named = λ root. let no : false ≡ true = is.1 root in cc
 
 -- what is seen of a value, seen further
-pub seen_further : {V A B : Type 0} (see : V → A) (f : A → B) (o : Option V) (b : Bool) (x : A) → option_map see o ≡ some_if b x
+pub seen_further : {V A B : Type 0} (see : V → A) (f : A → B) (o : Option V) (b : Bool) (x : A)
+    → option_map see o ≡ some_if b x
     → option_map (λ v. f (see v)) o ≡ some_if b (f x)
 seen_further see f None true x h = cc
 seen_further see f None false x h = refl
@@ -30,8 +31,9 @@ seen_further see f (Some v) false x h = cc
 pub bare_more : (vs : List Verdict) (v : Verdict)
     → bare_verdicts (map verdict_value (vs ++ v ∷ [])) ≡ bare_verdicts (map verdict_value vs) ++ (verdict_value v).verdict ∷ []
 bare_more vs v =
-    ap bare_verdicts (map-append verdict_value vs (v ∷ [])) ∙ map-append (λ w. w.verdict) (map verdict_value vs) (verdict_value v ∷ [])
+    ap bare_verdicts (map-append verdict_value vs (v ∷ []))
+    ∙ map-append (λ w. w.verdict) (map verdict_value vs) (verdict_value v ∷ [])
 
 -- a set more
-pub bare_set_more : (cs : List Chained) (c : Chained) → bare (cs ++ c ∷ []) ≡ bare cs ++ c.judged ∷ []
+pub bare_set_more : (cs : List ChainedSet) (c : ChainedSet) → bare (cs ++ c ∷ []) ≡ bare cs ++ c.judged ∷ []
 bare_set_more cs c = map-append (λ x. x.judged) cs (c ∷ [])

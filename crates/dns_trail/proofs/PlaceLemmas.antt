@@ -8,8 +8,8 @@ use Rattle.std.proofs.lemmas.List.{get_or_push, get_or_append_left, length_push}
 use Rattle.std.proofs.lemmas.List.Folds.{list_any-append, Any-from_list_any}
 use Rattle.std.proofs.lemmas.Option.{slice_get-get_or}
 use Rattle.dns_model.proofs.TestLemmas.{same_test}
-use Rattle.dns_anchors.specs.Finding.{passes, passes_at}
-use Rattle.dns_anchors.proofs.Found.{any_place, places_any}
+use Rattle.dns_evidence.specs.Finding.{passes, passes_at}
+use Rattle.dns_evidence.proofs.Found.{any_place, places_any}
 use Rattle.dns_trail.specs.Places.{KeepsPlaces}
 
 -- a test passes at one of the places of a key where it passes in the list
@@ -28,7 +28,8 @@ pub keeps_none : {X K : Type 0} (key : X → K) (places : K → List ℕ) → Ke
 keeps_none key places = record { each = λ i x h is. absurd (omega arith) }
 
 -- one element more, at its place
-pub keeps_more : {X K : Type 0} (key : X → K) (places next : K → List ℕ) (xs : List X) (y : X) (added : K → List ℕ) → KeepsPlaces key places xs
+pub keeps_more : {X K : Type 0} (key : X → K) (places next : K → List ℕ) (xs : List X) (y : X) (added : K → List ℕ)
+    → KeepsPlaces key places xs
     → ((k : K) → next k ≡ places k ++ added k) → added (key y) ≡ length xs ∷ [] → KeepsPlaces key next (xs ++ y ∷ [])
 keeps_more key places next xs y added covers after one = record {
   each = λ i x h is.

@@ -1,18 +1,18 @@
 -- For private functions of this crate only: the judged sets of a step that has ended.
 use Rattle.std.specs.Prelude.{Bool, ◌≡◌, ◌&&◌, List, [], Option, None, Some, map, if◌then◌else◌}
 use Rattle.dns_model.specs.Trails.{AskedValue}
-use Rattle.dns_judgement.specs.Chained.{Chained, bare}
-use Rattle.dns_judgement.specs.Derivation.{if_answered, judged_sets}
-use Rattle.dns_judgement.specs.DerivationParts.{is_bare}
-use Rattle.dns_judgement.specs.Judged.{Judged}
+use Rattle.dns_rules.specs.ChainedSets.{ChainedSet, bare}
+use Rattle.dns_rules.specs.Derivation.{if_answered, judged_sets}
+use Rattle.dns_rules.specs.DerivationParts.{is_bare}
+use Rattle.dns_rules.specs.MarkedSets.{MarkedSet}
 
 -- the judged sets, and those of the answer, if the step has one
 pub record EndedValue : Type 0 where
-  pub answer : Option (List Judged)
-  pub sets : List Judged
+  pub answer : Option (List MarkedSet)
+  pub sets : List MarkedSet
 
 -- of a step that answered, or of one that didn't
-abbrev pub ended_value : Option (List Chained) → List Chained → EndedValue
+abbrev pub ended_value : Option (List ChainedSet) → List ChainedSet → EndedValue
 ended_value None others = record { answer = None; sets = bare others }
 ended_value (Some sets) others = record { answer = Some (bare sets); sets = bare sets }
 
@@ -21,7 +21,7 @@ abbrev pub ended_of : AskedValue → EndedValue
 ended_of step = record { answer = if_answered step.ending (judged_sets step); sets = judged_sets step }
 
 -- what is known of steps is what they came to; an ask without an answer has none
-pub record AreKnown (steps : List AskedValue) (known : List EndedValue) (unanswered : Option (List Chained)) : Type 0 where
+pub record AreKnown (steps : List AskedValue) (known : List EndedValue) (unanswered : Option (List ChainedSet)) : Type 0 where
   pub ended : known ≡ map ended_of steps
   pub missing : unanswered ≡ None
 

@@ -1,16 +1,16 @@
 -- For private functions of this crate only: judged sets that are found by a key.
 use Rattle.std.specs.Prelude.{ℕ, List, Option, None, Some, Vec}
 use Rattle.std.specs.BTreeMap.{BTreeMap}
-use Rattle.dns_judgement.specs.Judged.{Judged}
+use Rattle.dns_rules.specs.MarkedSets.{MarkedSet}
 use Rattle.dns_trail.specs.Places.{KeepsPlaces}
 use Rattle.dns_trail.specs.SetKeys.{trail_key_of, set_places}
 use Rattle.dns_trail.specs.declared.places.SetKey.{SetKey}
 
 -- the place of each set is kept for its key
-abbrev pub AreIndexed : {Z : Type 0} → BTreeMap SetKey (Vec ℕ Z) → List Judged → Type 0
+abbrev pub AreIndexed : {Z : Type 0} → BTreeMap SetKey (Vec ℕ Z) → List MarkedSet → Type 0
 AreIndexed places sets = KeepsPlaces (λ j. trail_key_of j.set) (set_places places) sets
 
 -- where there is an index
-abbrev pub MayBeIndexed : {Z : Type 0} → Option (BTreeMap SetKey (Vec ℕ Z)) → List Judged → Type 0
+abbrev pub MayBeIndexed : {Z : Type 0} → Option (BTreeMap SetKey (Vec ℕ Z)) → List MarkedSet → Type 0
 MayBeIndexed None sets = Unit {0}
 MayBeIndexed (Some places) sets = AreIndexed places sets

@@ -1,8 +1,9 @@
+pub mod Counting
 pub mod Ended
 pub mod Entries
 pub mod Endings
 pub mod Trying
-pub mod Grounds
+pub mod StepContexts
 pub mod Values
 pub mod Places
 pub mod SetKeys

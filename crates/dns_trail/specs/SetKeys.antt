@@ -7,7 +7,7 @@ use Rattle.std.specs.BTreeMap as tree
 use Rattle.std.specs.BTreeMap.{BTreeMap}
 use Rattle.dns_model.specs.Names.{folded, wire}
 use Rattle.dns_model.specs.Records.{Rr, RrSet}
-use Rattle.dns_anchors.specs.Finding.{items_or_none}
+use Rattle.dns_evidence.specs.Finding.{items_or_none}
 use Rattle.dns_trail.specs.declared.places.SetKey.{SetKey}
 
 -- the wire form of the owner with A to Z as a to z (RFC 4343, 3), and the type

@@ -1,7 +1,7 @@
 -- For private functions of this crate only: values of the code as the definitions have them.
 use Rattle.std.specs.Prelude.{List}
 use Rattle.dns_model.specs.declared.trail.AskRef.{AskRef}
-use Rattle.dns_judgement.specs.Marks.{Verdict}
+use Rattle.dns_rules.specs.Marks.{Verdict}
 use Rattle.dns_trust.specs.Verdicts.{verdict_value}
 use Rattle.dns_trail.specs.declared.verdicts.Tried.{Tried}
 

@@ -1,12 +1,12 @@
 ghost use Rattle.std.specs.Prelude.{◌≡◌, IfOk};
 ghost use Rattle.dns_model.specs.Chains.{judge as judge_by};
-ghost use Rattle.dns_judgement.specs.Asking.{depth_limit};
-ghost use Rattle.dns_judgement.specs.Derivation.{derivation};
+ghost use Rattle.dns_rules.specs.Asking.{depth_limit};
+ghost use Rattle.dns_rules.specs.Derivation.{derivation};
 
+use crate::is_in_order;
 use crate::steps::steps_hold;
 use dns_evidence::{Trail, Verifier};
 use dns_name::NoMemory;
-use dns_trail_order::is_in_order;
 use dns_trust::{Judge, Limits, TrustAnchors};
 use std::alloc::Global;
 
@@ -39,5 +39,5 @@ pub fn check_trail<V: Verifier>(
 fn limit_of(limits: &Limits) -> u16
     ensures { result ≡ depth_limit limits.now.depth }
 {
-    dns_trail_order::depth_limit(limits.depth)
+    dns_evidence::depth_limit(limits.depth)
 }

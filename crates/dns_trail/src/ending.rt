@@ -2,45 +2,46 @@
 
 ghost use Rattle.std.specs.Prelude.{◌≡◌, ◌&&◌, IfOk};
 ghost use Rattle.dns_model.specs.SoundAnswers.{told_by};
-ghost use Rattle.dns_judgement.specs.Chained.{bare};
-ghost use Rattle.dns_judgement.specs.Derivation.{ending_eq, ending_by};
-ghost use Rattle.dns_judgement.specs.DerivationParts.{is_failed as is_failure, is_foreign as names_foreign, is_seen as is_sight};
-ghost use Rattle.dns_judgement.specs.Outcome.{outcome_of as told_outcome};
+ghost use Rattle.dns_rules.specs.ChainedSets.{bare};
+ghost use Rattle.dns_rules.specs.Derivation.{ending_eq, ending_by};
+ghost use Rattle.dns_rules.specs.DerivationParts.{is_failed as is_failure, is_foreign as names_foreign, is_seen as is_sight};
+ghost use Rattle.dns_rules.specs.Outcome.{outcome_of as told_outcome};
 ghost use Rattle.dns_model.specs.Trails.{Answered, Denied as Refused};
 ghost use Rattle.dns_evidence.specs.Trail.{ending_value};
 ghost use Rattle.dns_outcome.specs.Outcome.{outcome_value};
 ghost use Rattle.dns_trail.specs.Endings.{ending_fits};
-ghost use Rattle.dns_trail.specs.Grounds.{grounds_by};
+ghost use Rattle.dns_trail.specs.StepContexts.{step_context_by};
 
-use crate::grounds::Grounds;
 use crate::search::search_zone;
-use dns_evidence::{Asked, Ending, Verifier};
+use crate::step_context::StepContext;
+use dns_evidence::{Asked, ChainedSet, Ending, Verifier};
 use dns_message::Message;
+use dns_model::{Denial, Proof};
 use dns_name::NoMemory;
-use dns_record::{Denial, Proof, Record};
-use dns_sets::{ChainedSet, Outcome, outcome_by_zone, outcome_of};
+use dns_outcome::{Outcome, outcome_by_zone, outcome_of};
+use dns_record::Record;
 use dns_trust::question_start;
 
 /// The ending of a step and the asks on which it stands follow from its judged sets.
 pub(crate) fn ending_holds<V: Verifier>(
-    grounds: &Grounds<'_, '_, V>,
+    context: &StepContext<'_, '_, V>,
     message: &Message,
     sets: &[ChainedSet],
     step: &Asked,
 ) -> Result<bool, NoMemory>
-    ensures { IfOk result (λ b. b ≡ ending_fits (grounds_by V.answers grounds.now) (told_by message.now)
-        (told_outcome grounds.now.query.now (told_by message.now) (bare sets.now)) step.now.ending step.now.excuse) }
+    ensures { IfOk result (λ b. b ≡ ending_fits (step_context_by V.answers context.now) (told_by message.now)
+        (told_outcome context.now.query.now (told_by message.now) (bare sets.now)) step.now.ending step.now.excuse) }
 {
-    let query = grounds.query;
+    let query = context.query;
     let ending = &step.ending;
     let excuse = &step.excuse;
-    match outcome_of(grounds.alloc, query, message, sets)? {
+    match outcome_of(context.alloc, query, message, sets)? {
         Outcome::Unjudged => Ok(is_failed(ending) && excuse.is_empty()),
         Outcome::Given(denial) => Ok(is_answered(ending, denial) && excuse.is_empty()),
         Outcome::Denied(proof) => Ok(is_denied(ending, proof) && excuse.is_empty()),
-        Outcome::Searched => {
+        Outcome::NeedsZone => {
             let start = question_start(query)?;
-            match search_zone(grounds, query.query_class, &start, excuse)? {
+            match search_zone(context, query.query_class, &start, excuse)? {
                 Some(mark) => Ok(is_ending(outcome_by_zone(query, message, mark), ending)),
                 None => Ok(false),
             }
@@ -55,7 +56,7 @@ fn is_ending(outcome: Outcome, ending: &Ending) -> bool
     match outcome {
         Outcome::Unjudged => is_failed(ending),
         Outcome::Given(denial) => is_answered(ending, denial),
-        Outcome::Searched => is_failed(ending),
+        Outcome::NeedsZone => is_failed(ending),
         Outcome::Denied(proof) => is_denied(ending, proof),
     }
 }

@@ -2,13 +2,13 @@
 //! a walk.
 
 ghost use Rattle.std.specs.Prelude.{◌≡◌, IfOk, OnOk};
-ghost use Rattle.dns_judgement.specs.Chained.{bare};
+ghost use Rattle.dns_rules.specs.ChainedSets.{bare};
 ghost use Rattle.dns_trail.specs.Indexed.{AreIndexed};
 ghost use Rattle.dns_trail.specs.SetKeys.{AddedPlace, trail_key_of, key_of_record as key_in, set_places};
 
+use dns_evidence::ChainedSet;
 use dns_name::{NoMemory, Octets};
 use dns_record::{Record, RecordSet};
-use dns_sets::ChainedSet;
 use std::alloc::Global;
 use std::collections::BTreeMap;
 

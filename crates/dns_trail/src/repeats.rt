@@ -3,41 +3,41 @@
 ghost use Rattle.std.specs.Prelude.{◌≡◌, ◌&&◌, IfOk, slice_get};
 ghost use Rattle.std.specs.List.{list_any};
 ghost use Rattle.std.specs.Cmp.Lexicographic.{pointwise};
-ghost use Rattle.dns_judgement.specs.Chained.{bare};
-ghost use Rattle.dns_judgement.specs.Derivation.{is_empty, is_repeat as is_repeat_of, same_record as are_same};
+ghost use Rattle.dns_rules.specs.ChainedSets.{bare};
+ghost use Rattle.dns_rules.specs.Derivation.{is_empty, is_repeat as is_repeat_of, same_record as are_same};
 ghost use Rattle.dns_model.specs.Records.{question_eq};
-ghost use Rattle.dns_model.specs.SoundAnswers.{Placed};
-ghost use Rattle.dns_anchors.specs.Finding.{passes_at};
+ghost use Rattle.dns_model.specs.SoundAnswers.{PlacedSet};
+ghost use Rattle.dns_evidence.specs.Finding.{passes_at};
 ghost use Rattle.dns_trail.specs.Entries.{repeats_from};
 
-use crate::grounds::{Ended, Grounds};
 use crate::places::{SetKey, places_of};
-use dns_evidence::{Asked, JudgedSet, MarkOrigin};
+use crate::step_context::{Ended, StepContext};
+use dns_evidence::{Asked, ChainedSet, JudgedSet, MarkedSet, PlacedSet};
+use dns_model::MarkOrigin;
 use dns_name::NoMemory;
 use dns_record::{Query, Record, RecordSet};
-use dns_sets::{ChainedSet, MarkedSet, PlacedSet};
 use std::alloc::Global;
 
 /// The entry asks nothing, and says what the step with a number found of an equal set for the same question.
 pub(crate) fn is_repeated<V>(
-    grounds: &Grounds<'_, '_, V>,
+    context: &StepContext<'_, '_, V>,
     placed: &PlacedSet,
     entry: &JudgedSet,
     number: u32,
 ) -> Result<bool, NoMemory>
     ensures { IfOk result (λ b. b ≡ (is_empty entry.now.asked
-        && repeats_from grounds.now.query.now placed.now entry.now (slice_get grounds.now.earlier number))) }
+        && repeats_from context.now.query.now placed.now entry.now (slice_get context.now.earlier number))) }
 {
-    let Some(step) = grounds.earlier.steps.get(number as usize) else {
+    let Some(step) = context.earlier.steps.get(number as usize) else {
         return Ok(false);
     };
-    let Some(ended) = grounds.earlier.ended.get(number as usize) else {
+    let Some(ended) = context.earlier.ended.get(number as usize) else {
         return Ok(false);
     };
-    if !entry.asked.is_empty() || !asks_same(grounds.query, step) {
+    if !entry.asked.is_empty() || !asks_same(context.query, step) {
         return Ok(false);
     }
-    found_alike(grounds.alloc, ended, placed, entry)
+    found_alike(context.alloc, ended, placed, entry)
 }
 
 fn asks_same(query: &Query, step: &Asked) -> bool
@@ -96,7 +96,7 @@ fn has_repeat(sets: &[ChainedSet], placed: &PlacedSet, entry: &JudgedSet) -> boo
 }
 
 fn is_repeat(set: &RecordSet, entry: &JudgedSet, judged: &MarkedSet) -> bool
-    ensures { (p : Placed) → p.set ≡ set.now → result ≡ is_repeat_of p entry.now judged.now }
+    ensures { (p : PlacedSet) → p.set ≡ set.now → result ≡ is_repeat_of p entry.now judged.now }
 {
     same_records(&set.records, &judged.set.records)
         && same_records(&set.rrsigs, &judged.set.rrsigs)

@@ -2,26 +2,27 @@
 
 ghost use Rattle.std.specs.Prelude.{◌≡◌, [], None, Some, IfOk};
 ghost use Rattle.dns_model.specs.SoundAnswers.{told_by};
-ghost use Rattle.dns_judgement.specs.Derivation.{if_answered, steps_hold as steps_follow, told_in};
-ghost use Rattle.dns_judgement.specs.DerivationParts.{judged_holds, step_holds_by};
-ghost use Rattle.dns_judgement.specs.Chained.{bare};
-ghost use Rattle.dns_judgement.specs.Outcome.{foreign_record as foreign_in};
+ghost use Rattle.dns_rules.specs.Derivation.{if_answered, steps_hold as steps_follow, told_in};
+ghost use Rattle.dns_rules.specs.DerivationParts.{judged_holds, step_holds_by};
+ghost use Rattle.dns_rules.specs.ChainedSets.{bare};
+ghost use Rattle.dns_rules.specs.Outcome.{foreign_record as foreign_in};
 ghost use Rattle.dns_evidence.specs.Trail.{ending_value};
 ghost use Rattle.dns_trail.specs.Ended.{ended_if, nothing_if};
 ghost use Rattle.dns_trail.specs.Indexed.{MayBeIndexed};
-ghost use Rattle.dns_trail.specs.Grounds.{IsOfStep, grounds_by};
-ghost use Rattle.dns_anchors.specs.Judge.{judge_of};
+ghost use Rattle.dns_trail.specs.StepContexts.{IsOfStep, step_context_by};
+ghost use Rattle.dns_trust.specs.Judge.{judge_of};
 
 use crate::ending::{ending_holds, is_failed, is_foreign, is_seen};
 use crate::entries::judged_sets;
-use crate::grounds::{Earlier, Ended, Grounds};
 use crate::places::{PlacesByKey, places_of_sets};
 use crate::repeats::has_repeats;
-use dns_evidence::{Asked, Ending, Reply, Told, Verifier};
+use crate::step_context::{Earlier, Ended, StepContext};
+use dns_evidence::{Asked, ChainedSet, Ending, Reply, Told, Verifier};
+use dns_grouping::judged_part;
 use dns_message::Message;
 use dns_name::NoMemory;
+use dns_outcome::foreign_record;
 use dns_record::{OpCode, clone_records};
-use dns_sets::{ChainedSet, foreign_record, placed_sets};
 use dns_trust::Judge;
 use std::alloc::Global;
 
@@ -45,7 +46,7 @@ pub(crate) fn steps_hold<'a, V: Verifier>(
             ended: ended.as_slice(),
             missing: &missing,
         };
-        let grounds = Grounds {
+        let context = StepContext {
             alloc,
             judge: &*judge,
             limit,
@@ -54,7 +55,7 @@ pub(crate) fn steps_hold<'a, V: Verifier>(
             depth: step.depth,
             repeats,
         };
-        let Some(next) = end_step(&grounds, step)? else {
+        let Some(next) = end_step(&context, step)? else {
             return Ok(false);
         };
         ended.push(next)?;
@@ -65,35 +66,35 @@ pub(crate) fn steps_hold<'a, V: Verifier>(
 
 // What a step comes to; None where its lines don't follow.
 fn end_step<V: Verifier>(
-    grounds: &Grounds<'_, '_, V>,
+    context: &StepContext<'_, '_, V>,
     step: &Asked,
 ) -> Result<Option<Ended>, NoMemory>
-    requires own { IsOfStep grounds.now step.now }
+    requires own { IsOfStep context.now step.now }
     ensures { IfOk result (λ o. o ≡ ended_if
-        (step_holds_by (grounds_by V.answers grounds.now) step.now step.now.reply) step.now) }
+        (step_holds_by (step_context_by V.answers context.now) step.now step.now.reply) step.now) }
 {
     match &step.reply {
-        Reply::Told(told) => end_told(grounds, step, told),
-        Reply::Fault => Ok(end_bare(grounds.alloc, step, is_failed(&step.ending))),
+        Reply::Told(told) => end_told(context, step, told),
+        Reply::Fault => Ok(end_bare(context.alloc, step, is_failed(&step.ending))),
     }
 }
 
 // A step that heard records.
 fn end_told<V: Verifier>(
-    grounds: &Grounds<'_, '_, V>,
+    context: &StepContext<'_, '_, V>,
     step: &Asked,
     told: &Told,
 ) -> Result<Option<Ended>, NoMemory>
-    requires own { IsOfStep grounds.now step.now }
+    requires own { IsOfStep context.now step.now }
     requires told { told_in step.now.reply ≡ Some told.now.0 }
     ensures { IfOk result (λ o. o ≡ ended_if
-        (step_holds_by (grounds_by V.answers grounds.now) step.now step.now.reply) step.now) }
+        (step_holds_by (step_context_by V.answers context.now) step.now step.now.reply) step.now) }
 {
     if !step.judged {
-        return Ok(end_bare(grounds.alloc, step, is_seen(&step.ending)));
+        return Ok(end_bare(context.alloc, step, is_seen(&step.ending)));
     }
-    let message = message_of(grounds.alloc, told)?;
-    end_judged(grounds, step, &message)
+    let message = message_of(context.alloc, told)?;
+    end_judged(context, step, &message)
 }
 
 // A message with the records that a reply told.
@@ -139,28 +140,28 @@ fn end_bare(alloc: Global, step: &Asked, is_so: bool) -> Option<Ended>
 
 // A judged step that heard records.
 fn end_judged<V: Verifier>(
-    grounds: &Grounds<'_, '_, V>,
+    context: &StepContext<'_, '_, V>,
     step: &Asked,
     message: &Message,
 ) -> Result<Option<Ended>, NoMemory>
-    requires own { IsOfStep grounds.now step.now }
+    requires own { IsOfStep context.now step.now }
     requires told { told_in step.now.reply ≡ Some (told_by message.now) }
     ensures { IfOk result (λ o. o ≡ ended_if
-        (judged_holds (grounds_by V.answers grounds.now) step.now (told_by message.now)
+        (judged_holds (step_context_by V.answers context.now) step.now (told_by message.now)
         (foreign_in step.now.query (told_by message.now))) step.now) }
 {
-    if let Some(found) = foreign_record(grounds.query, message) {
-        return Ok(end_bare(grounds.alloc, step, is_foreign(found, &step.ending)));
+    if let Some(found) = foreign_record(context.query, message) {
+        return Ok(end_bare(context.alloc, step, is_foreign(found, &step.ending)));
     }
-    let placed = placed_sets(grounds.alloc, grounds.depth, message)?;
-    let Some(sets) = judged_sets(grounds, placed, &step.sets)? else {
+    let placed = judged_part(context.alloc, context.depth, message)?;
+    let Some(sets) = judged_sets(context, placed, &step.sets)? else {
         return Ok(None);
     };
-    if !ending_holds(grounds, message, &sets, step)? {
+    if !ending_holds(context, message, &sets, step)? {
         return Ok(None);
     }
-    let places = places_if(grounds.alloc, grounds.repeats, &sets)?;
-    Ok(Some(ended_with(grounds.alloc, sets, places, &step.ending)))
+    let places = places_if(context.alloc, context.repeats, &sets)?;
+    Ok(Some(ended_with(context.alloc, sets, places, &step.ending)))
 }
 
 // Where judged sets stand, if they have to be found.

@@ -9,16 +9,16 @@ use Rattle.dns_model.specs.Names.{Labels}
 use Rattle.dns_model.specs.Records.{Rr, RrSet}
 use Rattle.dns_model.specs.Keys.{VerifierAnswers}
 use Rattle.dns_model.specs.Chains.{Judge, LinkValue}
-use Rattle.dns_model.specs.SoundAnswers.{Placed}
+use Rattle.dns_model.specs.SoundAnswers.{PlacedSet}
 use Rattle.dns_model.proofs.EachLemmas.{find-map}
-use Rattle.dns_judgement.specs.Judged.{Judged}
-use Rattle.dns_judgement.specs.ProofErrors.{DsRecordShouldExist, DsResponseInsecure, UnknownKeyAlgorithm}
-use Rattle.dns_judgement.specs.Delegations.{ZoneVerdict, Signed, Insecure, Bogus, is_ds_set_of, is_supported_ds, is_readable_ds, verdict_by_ds, shows_no_ds, is_insecure_above, verdict_without_ds, zone_verdict}
-use Rattle.dns_judgement.specs.Unsigned.{unsigned_mark}
-use Rattle.dns_judgement.specs.KeySets.{needs_ds, keys_outcome, outcome_by_ds, outcome_by_verdict}
-use Rattle.dns_judgement.specs.Chained.{Chained, bare, ds_chain, keys_chained, chained_keys, chained_by_ds}
-use Rattle.dns_judgement.proofs.DsLemmas.{filter-filter}
-use Rattle.dns_judgement.proofs.KeySetLemmas.{needs_ds-outcome}
+use Rattle.dns_rules.specs.MarkedSets.{MarkedSet}
+use Rattle.dns_rules.specs.ProofErrors.{DsRecordShouldExist, DsResponseInsecure, UnknownKeyAlgorithm}
+use Rattle.dns_rules.specs.Delegations.{ZoneVerdict, Signed, Insecure, Bogus, is_ds_set_of, is_supported_ds, is_readable_ds, verdict_by_ds, shows_no_ds, is_insecure_above, verdict_without_ds, zone_verdict}
+use Rattle.dns_rules.specs.Unsigned.{unsigned_mark}
+use Rattle.dns_rules.specs.KeySets.{needs_ds, keys_outcome, outcome_by_ds, outcome_by_verdict}
+use Rattle.dns_rules.specs.ChainedSets.{ChainedSet, bare, ds_chain, keys_chained, chained_keys, chained_by_ds}
+use Rattle.dns_rules.proofs.DsLemmas.{filter-filter}
+use Rattle.dns_rules.proofs.KeySetLemmas.{needs_ds-outcome}
 use Rattle.dns_trust.specs.Unsigned.{unsupported_mark}
 use Rattle.dns_trust.specs.KeysMarks.{MarkedValue, outcome_marked, by_ds_records, marked_by_found, marked_by_zone, chained_with}
 
@@ -26,11 +26,11 @@ use Rattle.dns_trust.specs.KeysMarks.{MarkedValue, outcome_marked, by_ds_records
 abbrev pub unproved : Proof → MarkedValue
 unproved mark = record { mark = mark; sig = None; chain = [] }
 
-pub by_anchors : (j : Judge) (placed : Placed) → chained_with placed (outcome_marked j placed.set [] (keys_outcome j placed.set None)) ≡ chained_keys j placed
+pub by_anchors : (j : Judge) (placed : PlacedSet) → chained_with placed (outcome_marked j placed.set [] (keys_outcome j placed.set None)) ≡ chained_keys j placed
 unfolding chained_keys
 by_anchors j placed = refl
 
-pub by_zone : (j : Judge) (placed : Placed) (answer : Option (List Chained)) → needs_ds j placed.set ≡ true
+pub by_zone : (j : Judge) (placed : PlacedSet) (answer : Option (List ChainedSet)) → needs_ds j placed.set ≡ true
     → chained_with placed (marked_by_zone j placed.set answer) ≡ chained_by_ds j placed answer
 unfolding chained_by_ds
 by_zone j placed answer needed =
@@ -48,31 +48,31 @@ map_or-map g f None d = refl
 map_or-map g f (Some x) d = refl
 
 -- the DS verdict of an answer, by its DS set if it has one
-abbrev pub verdict_found : VerifierAnswers → Labels → List Chained → Option Chained → ZoneVerdict
+abbrev pub verdict_found : VerifierAnswers → Labels → List ChainedSet → Option ChainedSet → ZoneVerdict
 verdict_found verifier zone answer found =
     option_map_or (λ c. verdict_by_ds verifier zone c.judged.mark c.judged.set.records) found (verdict_without_ds zone (bare answer))
 
-pub verdict_of_answer : (verifier : VerifierAnswers) (class : ℕ) (zone : Labels) (answer : List Chained) (found : Option Chained)
+pub verdict_of_answer : (verifier : VerifierAnswers) (class : ℕ) (zone : Labels) (answer : List ChainedSet) (found : Option ChainedSet)
     → find (λ c. is_ds_set_of class zone c.judged) answer ≡ found → zone_verdict verifier class zone (Some (bare answer)) ≡ verdict_found verifier zone answer found
 unfolding zone_verdict
 verdict_of_answer verifier class zone answer found is =
     let test = is_ds_set_of class zone in
-    let verdict = λ (f : Judged). verdict_by_ds verifier zone f.mark f.set.records in
+    let verdict = λ (f : MarkedSet). verdict_by_ds verifier zone f.mark f.set.records in
     let without = verdict_without_ds zone (bare answer) in
     ap (λ o. option_map_or verdict o without) (find-map test (λ c. c.judged) answer)
     ∙ map_or-map verdict (λ c. c.judged) (find (λ c. test c.judged) answer) without ∙ ap (verdict_found verifier zone answer) is
 
 -- the mark by the DS set of an answer, if it has one
-marked_found : (j : Judge) (set : RrSet) (answer : List Chained) (found : Option Chained)
+marked_found : (j : Judge) (set : RrSet) (answer : List ChainedSet) (found : Option ChainedSet)
     → find (λ c. is_ds_set_of set.class set.owner c.judged) answer ≡ found
     → marked_by_zone j set (Some answer)
     ≡ outcome_marked j set (option_map_or (λ c. c.chain) found []) (outcome_by_verdict j set (Some (verdict_found j.answers set.owner answer found)))
 marked_found j set answer found is =
-    let marked = λ (o : Option Chained) (v : ZoneVerdict). outcome_marked j set (option_map_or (λ c. c.chain) o []) (outcome_by_verdict j set (Some v)) in
+    let marked = λ (o : Option ChainedSet) (v : ZoneVerdict). outcome_marked j set (option_map_or (λ c. c.chain) o []) (outcome_by_verdict j set (Some v)) in
     ap (λ o. marked o (zone_verdict j.answers set.class set.owner (Some (bare answer)))) is
     ∙ ap (marked found) (verdict_of_answer j.answers set.class set.owner answer found is)
 
-pub by_found : (j : Judge) (set : RrSet) (answer : List Chained) (found : Chained)
+pub by_found : (j : Judge) (set : RrSet) (answer : List ChainedSet) (found : ChainedSet)
     → find (λ c. is_ds_set_of set.class set.owner c.judged) answer ≡ Some found → marked_by_found j set found ≡ marked_by_zone j set (Some answer)
 by_found j set answer found is = sym (marked_found j set answer (Some found) is)
 
@@ -83,7 +83,7 @@ unproved_if : (j : Judge) (set : RrSet) (b : Bool)
 unproved_if j set true = refl
 unproved_if j set false = refl
 
-pub by_none : (j : Judge) (set : RrSet) (answer : List Chained)
+pub by_none : (j : Judge) (set : RrSet) (answer : List ChainedSet)
     → find (λ c. is_ds_set_of set.class set.owner c.judged) answer ≡ None
     → unproved ((unsigned_mark (verdict_without_ds set.owner (bare answer))).mark) ≡ marked_by_zone j set (Some answer)
 by_none j set answer none =

@@ -6,11 +6,11 @@ use Rattle.dns_model.specs.declared.proof.Proof.TheVariants as proof
 use Rattle.dns_model.specs.Names.{Labels}
 use Rattle.dns_model.specs.Keys.{VerifierAnswers}
 use Rattle.dns_model.proofs.TestLemmas.{or_twice}
-use Rattle.dns_judgement.specs.Judged.{Judged}
-use Rattle.dns_judgement.specs.ProofErrors.{DsRecordShouldExist, DsResponseInsecure}
-use Rattle.dns_judgement.specs.Delegations.{Insecure, Bogus, is_ds_set_of, verdict_by_ds, shows_no_ds, is_insecure_above, verdict_without_ds, zone_verdict}
-use Rattle.dns_judgement.specs.Unsigned.{unsigned_mark}
-use Rattle.dns_judgement.specs.Chained.{Chained, bare}
+use Rattle.dns_rules.specs.MarkedSets.{MarkedSet}
+use Rattle.dns_rules.specs.ProofErrors.{DsRecordShouldExist, DsResponseInsecure}
+use Rattle.dns_rules.specs.Delegations.{Insecure, Bogus, is_ds_set_of, verdict_by_ds, shows_no_ds, is_insecure_above, verdict_without_ds, zone_verdict}
+use Rattle.dns_rules.specs.Unsigned.{unsigned_mark}
+use Rattle.dns_rules.specs.ChainedSets.{ChainedSet, bare}
 use Rattle.dns_trust.proofs.ByDs.{verdict_of_answer}
 
 -- an ask that failed or was refused leaves Bogus
@@ -19,7 +19,7 @@ unfolding zone_verdict
 failed_mark verifier class zone = refl
 
 -- an answer with a DS set of the zone
-pub found_mark : (verifier : VerifierAnswers) (class : ℕ) (zone : Labels) (answer : List Chained) (found : Chained)
+pub found_mark : (verifier : VerifierAnswers) (class : ℕ) (zone : Labels) (answer : List ChainedSet) (found : ChainedSet)
     → find (λ c. is_ds_set_of class zone c.judged) answer ≡ Some found
     → (unsigned_mark (verdict_by_ds verifier zone found.judged.mark found.judged.set.records)).mark
     ≡ (unsigned_mark (zone_verdict verifier class zone (Some (bare answer)))).mark
@@ -27,7 +27,7 @@ found_mark verifier class zone answer found is =
     ap (λ v. (unsigned_mark v).mark) (sym (verdict_of_answer verifier class zone answer (Some found) is))
 
 -- and one without
-pub without_mark : (verifier : VerifierAnswers) (class : ℕ) (zone : Labels) (answer : List Chained)
+pub without_mark : (verifier : VerifierAnswers) (class : ℕ) (zone : Labels) (answer : List ChainedSet)
     → find (λ c. is_ds_set_of class zone c.judged) answer ≡ None
     → (unsigned_mark (verdict_without_ds zone (bare answer))).mark ≡ (unsigned_mark (zone_verdict verifier class zone (Some (bare answer)))).mark
 without_mark verifier class zone answer none =
@@ -35,7 +35,7 @@ without_mark verifier class zone answer none =
 
 -- ---- an answer without a DS set
 
-any_bare : (test : Judged → Bool) (answer : List Chained) → list_any (λ c. test c.judged) answer ≡ list_any test (bare answer)
+any_bare : (test : MarkedSet → Bool) (answer : List ChainedSet) → list_any (λ c. test c.judged) answer ≡ list_any test (bare answer)
 any_bare test [] = refl
 any_bare test (c ∷ cs) = ap (λ b. test c.judged || b) (any_bare test cs)
 
@@ -45,11 +45,11 @@ insecure_if : (zone : Labels) (b : Bool)
 insecure_if zone true = refl
 insecure_if zone false = refl
 
-any_either : (p q : Chained → Bool) (answer : List Chained) → list_any (λ c. p c || q c) answer ≡ (list_any p answer || list_any q answer)
+any_either : (p q : ChainedSet → Bool) (answer : List ChainedSet) → list_any (λ c. p c || q c) answer ≡ (list_any p answer || list_any q answer)
 any_either p q [] = refl
 any_either p q (c ∷ cs) = ap (λ b. (p c || q c) || b) (any_either p q cs) ∙ or_twice (p c) (q c) (list_any p cs) (list_any q cs)
 
-pub mark_without : (zone : Labels) (answer : List Chained) (b : Bool)
+pub mark_without : (zone : Labels) (answer : List ChainedSet) (b : Bool)
     → b ≡ list_any (λ c. shows_no_ds zone c.judged || is_insecure_above zone c.judged) answer
     → (if b then proof.Insecure else proof.Bogus) ≡ (unsigned_mark (verdict_without_ds zone (bare answer))).mark
 mark_without zone answer b is =

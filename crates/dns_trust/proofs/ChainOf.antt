@@ -4,7 +4,7 @@ use Rattle.std.proofs.lemmas.List.{drop_more, map-append, map_more}
 use Rattle.std.specs.Prelude.{map, slice_index_or}
 use Rattle.dns_model.specs.Records.{Rr}
 use Rattle.dns_model.specs.Chains.{LinkValue}
-use Rattle.dns_judgement.specs.Chained.{ChainedVerdict, chain_if_proved, proved_chain, numbers_from}
+use Rattle.dns_rules.specs.ChainedSets.{ChainedVerdict, chain_if_proved, proved_chain, numbers_from}
 
 -- the chain of the first verdict that proves, or another chain
 abbrev pub chain_else : List ChainedVerdict → List LinkValue → List LinkValue

@@ -13,9 +13,9 @@ use Rattle.dns_model.specs.Names.{Labels}
 use Rattle.dns_model.specs.Records.{Rr}
 use Rattle.dns_model.specs.Signing.{key_tag_of}
 use Rattle.dns_model.proofs.SetLemmas.{number_same}
-use Rattle.dns_judgement.specs.Marks.{is_key_of, same_tag, counted_keys, Excused, Failed}
-use Rattle.dns_judgement.specs.MarkParts.{by_insecure_key}
-use Rattle.dns_judgement.proofs.FirstLemmas.{early_after, first_two-after}
+use Rattle.dns_rules.specs.Marks.{is_key_of_zone, same_tag, counted_keys, Insecure, Failed}
+use Rattle.dns_rules.specs.MarkParts.{by_insecure_key}
+use Rattle.dns_rules.proofs.FirstLemmas.{early_after, first_two-after}
 use Rattle.dns_trust.specs.Counting.{count_in, tag_count_after, count_after, is_tried}
 
 nat_at : (k q : ℕ) → is_at (nat_cmp k) q ≡ (k == q)
@@ -29,7 +29,7 @@ count_once m n tag v h is small t = let at = nat_at tag t in grind (arith, nat_t
 
 -- the keys of a zone in a list
 abbrev zone_keys : Labels → List Rr → List Rr
-zone_keys zone keys = filter (is_key_of zone) keys
+zone_keys zone keys = filter (is_key_of_zone zone) keys
 
 -- the keys that are left, after those before
 abbrev left_after : Labels → List Rr → ℕ → List Rr
@@ -60,20 +60,20 @@ next_of earlier key rest = refl
 
 -- the zone's keys, once one record more was met
 readable_more : (zone : Labels) (keys : List Rr) (i : ℕ) (key : Rr) → i < length keys → key ≡ slice_index_or keys i key
-    → zone_keys zone (take (i + 1) keys) ≡ zone_keys zone (take i keys) ++ cond (is_key_of zone key) (key ∷ []) []
+    → zone_keys zone (take (i + 1) keys) ≡ zone_keys zone (take i keys) ++ cond (is_key_of_zone zone key) (key ∷ []) []
 readable_more zone keys i key h is =
-    filter_more (is_key_of zone) keys i key h
-    ∙ ap (λ k. zone_keys zone (take i keys) ++ cond (is_key_of zone k) (k ∷ []) []) (sym is)
+    filter_more (is_key_of_zone zone) keys i key h
+    ∙ ap (λ k. zone_keys zone (take i keys) ++ cond (is_key_of_zone zone k) (k ∷ []) []) (sym is)
 
 -- the zone's keys from a place on
 readable_from : (zone : Labels) (keys : List Rr) (i : ℕ) (key : Rr) → i < length keys → key ≡ slice_index_or keys i key
-    → zone_keys zone (drop i keys) ≡ cond (is_key_of zone key) (key ∷ zone_keys zone (drop (i + 1) keys)) (zone_keys zone (drop (i + 1) keys))
+    → zone_keys zone (drop i keys) ≡ cond (is_key_of_zone zone key) (key ∷ zone_keys zone (drop (i + 1) keys)) (zone_keys zone (drop (i + 1) keys))
 readable_from zone keys i key h is =
     ap (zone_keys zone) (drop_more keys i key h) ∙ ap (λ k. zone_keys zone (k ∷ drop (i + 1) keys)) (sym is)
 
 -- the key at a place comes first where it is one of the first two of its tag
 left_step : (zone : Labels) (keys : List Rr) (i : ℕ) (key : Rr) (can few : Bool) → i < length keys → key ≡ slice_index_or keys i key
-    → can ≡ is_key_of zone key → few ≡ nat_lt (count_by (same_tag key) (zone_keys zone (take i keys))) 2
+    → can ≡ is_key_of_zone zone key → few ≡ nat_lt (count_by (same_tag key) (zone_keys zone (take i keys))) 2
     → left_after zone keys i ≡ cond (can && few) (key ∷ left_after zone keys (i + 1)) (left_after zone keys (i + 1))
 left_step zone keys i key true few h is can tried =
     let here : zone_keys zone (drop i keys) ≡ key ∷ zone_keys zone (drop (i + 1) keys) = readable_from zone keys i key h is ∙ ap (λ b. cond b (key ∷ zone_keys zone (drop (i + 1) keys)) (zone_keys zone (drop (i + 1) keys))) (sym can) in
@@ -93,7 +93,7 @@ left_by : (zone : Labels) (keys : List Rr) (i : ℕ) (m : BTreeMap ℕ ℕ) (key
 left_by zone keys i m key h is counted =
     let few : nat_lt (count_in m (key_tag_of key.rdata)) 2 ≡ nat_lt (count_by (same_tag key) (zone_keys zone (take i keys))) 2 =
     ap (λ n. nat_lt n 2) (counted key) ∙ least_below (count_by (same_tag key) (zone_keys zone (take i keys))) in
-    left_step zone keys i key (is_key_of zone key) (nat_lt (count_in m (key_tag_of key.rdata)) 2) h is refl few
+    left_step zone keys i key (is_key_of_zone zone key) (nat_lt (count_in m (key_tag_of key.rdata)) 2) h is refl few
 
 -- the key at a place is tried, and is the one
 pub tried_here : (p : Rr → Bool) (zone : Labels) (keys : List Rr) (i : ℕ) (m : BTreeMap ℕ ℕ) (key : Rr) → i < length keys → key ≡ slice_index_or keys i key → Tried p zone keys i m
@@ -122,7 +122,7 @@ tag_case false own other all is alike = omega (arith, is)
 tag_case true own other all is alike = let e : own ≡ other = alike refl in grind (arith, nat_tests, e, is)
 
 count_step : (zone : Labels) (keys : List Rr) (i : ℕ) (m : BTreeMap ℕ ℕ) (key r : Rr) (can : Bool) → i < length keys → key ≡ slice_index_or keys i key
-    → can ≡ is_key_of zone key
+    → can ≡ is_key_of_zone zone key
     → count_in m (key_tag_of r.rdata) ≡ min 2 (count_by (same_tag r) (zone_keys zone (take i keys)))
     → cond can (tag_count_after m (key_tag_of key.rdata) (key_tag_of r.rdata)) (count_in m (key_tag_of r.rdata)) ≡ min 2 (count_by (same_tag r) (zone_keys zone (take (i + 1) keys)))
 count_step zone keys i m key r false h is can t =
@@ -138,7 +138,7 @@ count_step zone keys i m key r true h is can t =
 -- the counts, once one key more was met
 count_more : (zone : Labels) (keys : List Rr) (i : ℕ) (m n : BTreeMap ℕ ℕ) (key : Rr) → i < length keys → key ≡ slice_index_or keys i key → AreCounted zone keys i m
     → ((t : ℕ) → count_in n t ≡ count_after zone m key t) → AreCounted zone keys (i + 1) n
-count_more zone keys i m n key h is counted after r = after (key_tag_of r.rdata) ∙ count_step zone keys i m key r (is_key_of zone key) h is refl (counted r)
+count_more zone keys i m n key h is counted after r = after (key_tag_of r.rdata) ∙ count_step zone keys i m key r (is_key_of_zone zone key) h is refl (counted r)
 
 -- a key that isn't tried is passed over
 pub tried_skip : (p : Rr → Bool) (zone : Labels) (keys : List Rr) (i : ℕ) (m n : BTreeMap ℕ ℕ) (key : Rr) → i < length keys → key ≡ slice_index_or keys i key → Tried p zone keys i m
@@ -197,18 +197,18 @@ taken_end zone keys i m taken h t =
     sym (append-nil taken) ∙ sym (ap (λ rest. taken ++ early_after (zone_keys zone (take i keys)) (zone_keys zone rest)) (drop_all i keys h)) ∙ t.joined
 
 any_case : (zone : Labels) (can : Bool) (key : Rr) (keys : List Rr)
-    → by_insecure_key (early_after [] (zone_keys zone keys)) ≡ cond (list_any (is_key_of zone) keys) Excused Failed
-    → by_insecure_key (early_after [] (cond can (key ∷ zone_keys zone keys) (zone_keys zone keys))) ≡ cond (can || list_any (is_key_of zone) keys) Excused Failed
+    → by_insecure_key (early_after [] (zone_keys zone keys)) ≡ cond (list_any (is_key_of_zone zone) keys) Insecure Failed
+    → by_insecure_key (early_after [] (cond can (key ∷ zone_keys zone keys) (zone_keys zone keys))) ≡ cond (can || list_any (is_key_of_zone zone) keys) Insecure Failed
 unfolding early_after
 any_case zone true key keys rest = refl
 any_case zone false key keys rest = rest
 
 any_early : (zone : Labels) (keys : List Rr)
-    → by_insecure_key (early_after [] (zone_keys zone keys)) ≡ cond (list_any (is_key_of zone) keys) Excused Failed
+    → by_insecure_key (early_after [] (zone_keys zone keys)) ≡ cond (list_any (is_key_of_zone zone) keys) Insecure Failed
 unfolding early_after
 any_early zone [] = refl
-any_early zone (key ∷ keys) = any_case zone (is_key_of zone key) key keys (any_early zone keys)
+any_early zone (key ∷ keys) = any_case zone (is_key_of_zone zone key) key keys (any_early zone keys)
 
 -- a key set that is Insecure excuses where it has a key of the zone
-pub any_counted : (zone : Labels) (keys : List Rr) → by_insecure_key (counted_keys zone keys) ≡ cond (list_any (is_key_of zone) keys) Excused Failed
+pub any_counted : (zone : Labels) (keys : List Rr) → by_insecure_key (counted_keys zone keys) ≡ cond (list_any (is_key_of_zone zone) keys) Insecure Failed
 any_counted zone keys = ap by_insecure_key (first_two-after (zone_keys zone keys)) ∙ any_early zone keys

@@ -19,7 +19,7 @@ use Rattle.dns_model.specs.RecordViews.{dnskey_of}
 use Rattle.dns_model.specs.Views.{DnskeyValue}
 use Rattle.dns_model.specs.Signing.{key_tag_of}
 use Rattle.dns_model.specs.Keys.{VerifierAnswers, matches}
-use Rattle.dns_judgement.specs.Delegations.{ds_of, is_digest_type, counted_ds, matching_ds}
+use Rattle.dns_rules.specs.Delegations.{ds_of, is_digest_type, counted_ds, matching_ds}
 use Rattle.dns_rdata.specs.Covers.{digest_type_of}
 use Rattle.dns_trust.specs.Delegating.{KeepsFirstTwo, counted_after, counted_at, is_delegation_at, kept_two, algorithm_and_tag, algorithm_tag_cmp, shown, shown_or_none}
 

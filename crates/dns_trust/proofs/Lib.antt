@@ -1,3 +1,4 @@
+pub mod Alike
 pub mod ByAnswer
 pub mod ChainOf
 pub mod Searches

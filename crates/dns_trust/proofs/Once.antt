@@ -15,7 +15,7 @@ use Rattle.std.proofs.lemmas.Slice.Eq.{bytes_eq-Decides}
 use Rattle.dns_model.specs.Keys.{bytes_eq}
 use Rattle.dns_model.specs.Records.{Rr}
 use Rattle.dns_model.proofs.TestLemmas.{last_step}
-use Rattle.dns_judgement.proofs.FindLemmas.{each_all, each_taken, find-copy, find-more}
+use Rattle.dns_rules.proofs.FindLemmas.{each_all, each_taken, find-copy, find-more}
 use Rattle.dns_trust.specs.Signers.{TellsRdata, AreOnce}
 
 -- by the bytes that references show

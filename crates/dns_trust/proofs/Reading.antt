@@ -9,8 +9,8 @@ use Rattle.dns_model.specs.RecordViews.{rrsig_of, dnskey_of}
 use Rattle.dns_model.specs.Signing.{signed_bytes}
 use Rattle.dns_model.specs.Keys.{usable_key}
 use Rattle.dns_model.specs.Chains.{Judge, rdatas_of}
-use Rattle.dns_judgement.specs.Validity.{validity, is_valid, is_good_by}
-use Rattle.dns_judgement.specs.MarkParts.{sig_validity, is_accepted}
+use Rattle.dns_rules.specs.Validity.{validity, is_valid, is_good_by}
+use Rattle.dns_rules.specs.MarkParts.{sig_validity, is_accepted}
 
 -- by a key, where the signature is read
 pub read_good : (j : Judge) (set : RrSet) (r key : Rr) (sig : RrsigValue) → rrsig_of r ≡ Some sig

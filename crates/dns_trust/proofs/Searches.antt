@@ -5,7 +5,7 @@ use Rattle.std.specs.Prelude.{Option, None, Some, slice_index_or, not}
 use Rattle.std.specs.List.{find, position, prefix_len}
 use Rattle.dns_model.specs.Records.{Rr, RrSet}
 use Rattle.dns_model.specs.Chains.{Judge}
-use Rattle.dns_judgement.proofs.FirstLemmas.{signed_from, signed_or, signed_none, signed_more}
+use Rattle.dns_rules.proofs.FirstLemmas.{signed_from, signed_or, signed_none, signed_more}
 use Rattle.dns_trust.specs.Signers.{signing_key, first_signed_by}
 
 -- the element at the place is the one

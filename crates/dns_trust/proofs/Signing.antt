@@ -5,11 +5,11 @@ use Rattle.std.specs.List.{filter, find, list_all}
 use Rattle.std.proofs.lemmas.Bool.{and_parts}
 use Rattle.dns_model.specs.Records.{Rr, RrSet}
 use Rattle.dns_model.specs.Chains.{Judge}
-use Rattle.dns_judgement.specs.Validity.{is_good_by}
-use Rattle.dns_judgement.specs.Marks.{most_signatures}
-use Rattle.dns_judgement.specs.KeySets.{is_anchored_key, is_matched_key, signed_by, needs_ds}
-use Rattle.dns_judgement.proofs.SignerLemmas.{IsKeyOf, anchored_is_key, matched_is_key, good_alike, signed_among, others_sign}
-use Rattle.dns_judgement.proofs.KeySetLemmas.{needs_ds-unsigned}
+use Rattle.dns_rules.specs.Validity.{is_good_by}
+use Rattle.dns_rules.specs.Marks.{most_signatures}
+use Rattle.dns_rules.specs.KeySets.{is_anchored_key, is_matched_key, signed_by, needs_ds}
+use Rattle.dns_rules.proofs.SignerLemmas.{IsKeyOf, anchored_is_key, matched_is_key, good_alike, signed_among, others_sign}
+use Rattle.dns_rules.proofs.KeySetLemmas.{needs_ds-unsigned}
 use Rattle.dns_trust.specs.Signers.{AreOnce, first_signed_by, is_matched_only}
 use Rattle.dns_trust.proofs.Searches.{first_signed_by-from}
 

@@ -11,7 +11,7 @@ use Rattle.dns_model.specs.Names.{Labels, name_eq}
 use Rattle.dns_model.specs.Records.{Rr}
 use Rattle.dns_model.specs.Views.{DnskeyValue}
 use Rattle.dns_model.specs.Signing.{key_tag_of}
-use Rattle.dns_judgement.specs.Delegations.{ds_of}
+use Rattle.dns_rules.specs.Delegations.{ds_of}
 
 -- DS records, for the keys of an owner
 pub record DsIndexValue : Type 0 where

@@ -1,3 +1,5 @@
+pub mod Judge
+pub mod Anchoring
 pub mod Validities
 pub mod Verdicts
 pub mod KeyFaults

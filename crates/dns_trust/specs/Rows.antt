@@ -3,8 +3,8 @@
 use Rattle.std.specs.Prelude.{List}
 use Rattle.dns_model.specs.declared.proof.Proof.TheVariants as proof
 use Rattle.dns_model.specs.Records.{Rr, RrSet}
-use Rattle.dns_judgement.specs.ProofErrors.{DnskeyNotFound, DsRecordsButNoDnskey}
-use Rattle.dns_judgement.specs.KeySets as keys
+use Rattle.dns_rules.specs.ProofErrors.{DnskeyNotFound, DsRecordsButNoDnskey}
+use Rattle.dns_rules.specs.KeySets as keys
 use Rattle.dns_trust.specs.declared.keys.AnchoredRow.{AnchoredRow}
 use Rattle.dns_trust.specs.declared.keys.AnchoredRow.TheVariants as anchored
 use Rattle.dns_trust.specs.declared.keys.MatchedRow.{MatchedRow}

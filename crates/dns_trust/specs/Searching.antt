@@ -1,10 +1,10 @@
 -- For the crates that search the zone of a name, and for no promise of theirs: what a plain ask comes to.
-use Rattle.dns_judgement.specs.Derivation as derived
-use Rattle.dns_trust.specs.declared.searching.Sight.{Sight}
-use Rattle.dns_trust.specs.declared.searching.Sight.TheVariants.{Cut, Onward, Unseen}
+use Rattle.dns_rules.specs.Probes as probes
+use Rattle.dns_trust.specs.declared.searching.NsProbe.{NsProbe}
+use Rattle.dns_trust.specs.declared.searching.NsProbe.TheVariants.{Found, Absent, Failed}
 
--- a sight, as the definitions have it
-abbrev pub sight_value : Sight → derived.Sight
-sight_value Cut = derived.Cut
-sight_value Onward = derived.Onward
-sight_value Unseen = derived.Unseen
+-- a probe, as the definitions have it
+abbrev pub probe_value : NsProbe → probes.NsProbe
+probe_value Found = probes.Found
+probe_value Absent = probes.Absent
+probe_value Failed = probes.Failed

@@ -5,7 +5,7 @@ use Rattle.dns_model.specs.Records.{Rr}
 use Rattle.dns_model.specs.RecordViews.{rrsig_of}
 use Rattle.dns_model.specs.Signing.{signed_bytes}
 use Rattle.dns_model.specs.Chains.{Judge, rdatas_of}
-use Rattle.dns_judgement.specs.Validity.{is_good_by}
+use Rattle.dns_rules.specs.Validity.{is_good_by}
 use Rattle.dns_trust.specs.declared.set_signature.SetSignature.{SetSignature}
 
 -- the record says what was read of it

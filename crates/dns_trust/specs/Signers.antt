@@ -5,8 +5,8 @@ use Rattle.std.specs.List.{filter_map, find, list_all, enumerate_from}
 use Rattle.std.specs.Option.{option_map}
 use Rattle.dns_model.specs.Records.{Rr, RrSet}
 use Rattle.dns_model.specs.Chains.{Judge}
-use Rattle.dns_judgement.specs.Validity.{is_good_by}
-use Rattle.dns_judgement.specs.KeySets.{SignedKeys, is_anchored_key, is_matched_key}
+use Rattle.dns_rules.specs.Validity.{is_good_by}
+use Rattle.dns_rules.specs.KeySets.{SignedKeys, is_anchored_key, is_matched_key}
 use Rattle.dns_trust.specs.declared.signers.SignedBy.{SignedBy}
 
 abbrev pub signed_value : SignedBy → SignedKeys

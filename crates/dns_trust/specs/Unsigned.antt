@@ -4,7 +4,7 @@ use Rattle.std.specs.List.{list_any}
 use Rattle.dns_model.specs.declared.proof.Proof.{Proof}
 use Rattle.dns_model.specs.declared.proof.Proof.TheVariants.{Insecure, Bogus}
 use Rattle.dns_model.specs.Records.{Rr}
-use Rattle.dns_judgement.specs.Delegations.{is_readable_ds}
+use Rattle.dns_rules.specs.Delegations.{is_readable_ds}
 
 -- where one of them can be read, the zone can't be judged
 abbrev pub unsupported_mark : List Rr → Proof

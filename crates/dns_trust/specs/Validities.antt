@@ -1,5 +1,5 @@
 -- Whether a signature fits, as the definition's value (RFC 4035, 5.3.1).
-use Rattle.dns_judgement.specs.Validity as validity
+use Rattle.dns_rules.specs.Validity as validity
 use Rattle.dns_trust.specs.declared.validity.RrsigValidity.{RrsigValidity}
 use Rattle.dns_trust.specs.declared.validity.RrsigValidity.TheVariants.{ValidRrsig, ExpiredRrsig, WrongDnskey, WrongRrsig}
 

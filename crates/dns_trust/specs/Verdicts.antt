@@ -7,17 +7,17 @@ use Rattle.dns_model.specs.Names.{Labels}
 use Rattle.dns_model.specs.Records.{Rr, RrSet}
 use Rattle.dns_model.specs.Chains.{Judge, LinkValue}
 use Rattle.dns_evidence.specs.Link.{link_value}
-use Rattle.dns_judgement.specs.Marks as marks
-use Rattle.dns_judgement.specs.MarkParts.{by_key_set}
-use Rattle.dns_judgement.specs.Chained.{Chained, ChainedVerdict, with_chain, chain_by_key, chain_by_set}
+use Rattle.dns_rules.specs.Marks as marks
+use Rattle.dns_rules.specs.MarkParts.{by_key_set}
+use Rattle.dns_rules.specs.ChainedSets.{ChainedSet, ChainedVerdict, with_chain, chain_by_key, chain_by_set}
 use Rattle.dns_trust.specs.declared.set_signature.SetSignature.{SetSignature}
 use Rattle.dns_trust.specs.declared.verdict.Verdict.{Verdict}
-use Rattle.dns_trust.specs.declared.verdict.Verdict.TheVariants.{Proved, Excused, Failed}
+use Rattle.dns_trust.specs.declared.verdict.Verdict.TheVariants.{Proved, Insecure, Failed}
 use Rattle.dns_trust.specs.SetSignatures.{is_good_of}
 
 abbrev pub verdict_value : Verdict → ChainedVerdict
 verdict_value (Proved links) = record { verdict = marks.Proved; chain = map link_value links.items }
-verdict_value Excused = record { verdict = marks.Excused; chain = [] }
+verdict_value Insecure = record { verdict = marks.Insecure; chain = [] }
 verdict_value Failed = record { verdict = marks.Failed; chain = [] }
 
 -- the sets of an answer, if there is one
@@ -28,7 +28,7 @@ listed (Some sets) = Some sets.items
 -- for private functions of this crate only
 
 -- the verdict by the key set that was asked for
-abbrev pub chained_by_set : Judge → RrSet → Rr → Labels → Chained → ChainedVerdict
+abbrev pub chained_by_set : Judge → RrSet → Rr → Labels → ChainedSet → ChainedVerdict
 chained_by_set j set r signer keys =
     with_chain (by_key_set j set r signer (Some keys.judged)) (chain_by_set j set r signer (Some keys))
 

@@ -2,8 +2,8 @@ ghost use Rattle.std.specs.Prelude.{◌≡◌, ◌+◌, ◌-◌, ◌++◌, IfOk,
 ghost use Rattle.std.specs.Option.{option_copied, option_map_or};
 ghost use Rattle.dns_model.specs.Chains.{KeySet, Signed, rdatas_of as rdatas_in};
 ghost use Rattle.dns_evidence.specs.Link.{link_value};
-ghost use Rattle.dns_judgement.specs.Chained.{numbers_from, signed_chain as signed_chain_of, self_signed_chain as self_signed_chain_of, whole_chain, anchored_link as anchored_link_of, matched_link as matched_link_of, trusted_link as trusted_link_of};
-ghost use Rattle.dns_anchors.specs.Judge.{judge_of};
+ghost use Rattle.dns_rules.specs.ChainedSets.{numbers_from, signed_chain as signed_chain_of, self_signed_chain as self_signed_chain_of, whole_chain, anchored_link as anchored_link_of, matched_link as matched_link_of, trusted_link as trusted_link_of};
+ghost use Rattle.dns_trust.specs.Judge.{judge_of};
 ghost use Rattle.dns_trust.specs.Signers.{signed_value};
 
 use crate::keys::is_anchored;

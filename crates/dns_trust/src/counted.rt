@@ -1,8 +1,8 @@
 ghost use Rattle.std.specs.Prelude.{◌≡◌, ℕ, IfOk, OnOk, nat_lt};
 ghost use Rattle.std.specs.List.{find, list_any};
 ghost use Rattle.std.specs.Option.{option_copied};
-ghost use Rattle.dns_judgement.specs.Marks.{counted_keys, is_key_of as is_zone_key};
-ghost use Rattle.dns_anchors.specs.Judge.{judge_of};
+ghost use Rattle.dns_rules.specs.Marks.{counted_keys, is_key_of_zone};
+ghost use Rattle.dns_trust.specs.Judge.{judge_of};
 ghost use Rattle.dns_trust.specs.Delegating.{shown};
 ghost use Rattle.dns_trust.specs.SetSignatures.{IsRead, is_good_of};
 ghost use Rattle.dns_trust.specs.Counting.{count_in, tag_count_after, count_after, tag_in, is_tried as is_tried_in};
@@ -79,15 +79,15 @@ fn is_tried(
 fn tag_of(zone: &NameRef<'_>, key: &Record) -> Option<u16>
     ensures { result ≡ tag_in zone.now key.now }
 {
-    if !is_key_of(zone, key) {
+    if !is_key_of_zone(zone, key) {
         return None;
     }
     key_tag(key.rdata.as_slice())
 }
 
 // The record is a key of the zone: owned by it, of type DNSKEY, and readable.
-fn is_key_of(zone: &NameRef<'_>, key: &Record) -> bool
-    ensures { result ≡ is_zone_key zone.now key.now }
+fn is_key_of_zone(zone: &NameRef<'_>, key: &Record) -> bool
+    ensures { result ≡ is_key_of_zone zone.now key.now }
 {
     zone.eq_name(&key.name.borrowed()) && Dnskey::of(key).is_some()
 }
@@ -111,7 +111,7 @@ fn count(counts: &mut BTreeMap<u16, u8>, tag: u16) -> Result<bool, NoMemory>
 
 // Some record is a key of the zone.
 pub(crate) fn has_key_of(zone: &NameRef<'_>, keys: &[Record]) -> bool
-    ensures { result ≡ list_any (is_zone_key zone.now) keys.now }
+    ensures { result ≡ list_any (is_key_of_zone zone.now) keys.now }
 {
-    keys.iter().any(|key| is_key_of(zone, key))
+    keys.iter().any(|key| is_key_of_zone(zone, key))
 }

@@ -4,7 +4,7 @@ ghost use Rattle.std.specs.Option.{option_copied};
 ghost use Rattle.dns_model.specs.Views.{dnskey_in};
 ghost use Rattle.dns_model.specs.RecordViews.{dnskey_of};
 ghost use Rattle.dns_model.specs.Keys.{matches};
-ghost use Rattle.dns_judgement.specs.Delegations.{is_supported_ds as is_supported_record, is_ds_for as is_record_for, matching_ds as matching_record};
+ghost use Rattle.dns_rules.specs.Delegations.{is_supported_ds as is_supported_record, is_ds_for as is_record_for, matching_ds as matching_record};
 ghost use Rattle.dns_trust.specs.Delegating.{shown, counted_at, counted_after, algorithm_and_tag, KeepsFirstTwo, is_delegation_at};
 
 use dns_evidence::Verifier;

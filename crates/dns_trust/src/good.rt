@@ -1,8 +1,8 @@
 ghost use Rattle.std.specs.Prelude.{◌≡◌, IfOk, OnOk, Some};
 ghost use Rattle.dns_model.specs.Serial.{timely};
-ghost use Rattle.dns_judgement.specs.Validity.{is_good_by as is_good_in, is_valid as is_valid_in};
-ghost use Rattle.dns_judgement.specs.MarkParts.{sig_validity};
-ghost use Rattle.dns_anchors.specs.Judge.{judge_of};
+ghost use Rattle.dns_rules.specs.Validity.{is_good_by as is_good_in, is_valid as is_valid_in};
+ghost use Rattle.dns_rules.specs.MarkParts.{sig_validity};
+ghost use Rattle.dns_trust.specs.Judge.{judge_of};
 ghost use Rattle.dns_trust.specs.SetSignatures.{IsRead, bytes_of, IsBuilt, is_good_of};
 
 use crate::{Judge, RrsigValidity, SetSignature, is_usable};
@@ -60,7 +60,7 @@ pub(crate) fn is_good_read<V: Verifier>(
         return Ok(false);
     }
     let bytes = signed_data_once(alloc, signature, built.take())?;
-    let accepted = is_accepted(judge.verifier, signature.read, &dnskey, &bytes);
+    let accepted = accepts_signature(judge.verifier, signature.read, &dnskey, &bytes);
     *built = Some(bytes);
     Ok(accepted)
 }
@@ -74,7 +74,7 @@ pub fn is_valid(signature: &SetSignature<'_>, key: &Record, now: u64) -> bool
 }
 
 /// Whether the verifier accepts a signature over these bytes as a key's (RFC 4035, 5.3.3). It is asked once.
-pub fn is_accepted<V: Verifier>(
+pub fn accepts_signature<V: Verifier>(
     verifier: &V,
     read: &Rrsig<'_>,
     key: &Dnskey<'_>,

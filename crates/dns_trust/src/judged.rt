@@ -1,25 +1,24 @@
 ghost use Rattle.std.specs.Prelude.{◌≡◌, IfOk, map};
 ghost use Rattle.std.specs.List.{position};
 ghost use Rattle.dns_evidence.specs.Link.{link_value};
-ghost use Rattle.dns_judgement.specs.Marks.{is_proved, is_excused};
-ghost use Rattle.dns_judgement.specs.Chained.{bare_verdicts, proved_chain, chained_by};
+ghost use Rattle.dns_rules.specs.Marks.{is_proved, shows_insecure};
+ghost use Rattle.dns_rules.specs.ChainedSets.{bare_verdicts, proved_chain, chained_by};
 ghost use Rattle.dns_trust.specs.Verdicts.{verdict_value};
 
 use crate::Verdict;
-use dns_evidence::Link;
-use dns_judged::{ChainedSet, MarkedSet, PlacedSet};
+use dns_evidence::{ChainedSet, Link, MarkedSet, PlacedSet};
+use dns_model::Proof;
 use dns_name::NoMemory;
-use dns_record::Proof;
 
 /// A set that isn't DNSKEY, judged by the verdicts of its signatures: the first that proves it decides, else the first that
-/// excuses it (RFC 4035, 5.3.3).
-#[tactic(auto, unfolding(dns_judgement::specs::Marks::judged_by))]
-pub fn judged_by(placed: PlacedSet, verdicts: Vec<Verdict>) -> Result<ChainedSet, NoMemory>
+/// shows that no more than Insecure can be expected (RFC 4035, 5.3.3).
+#[tactic(auto, unfolding(dns_rules::specs::Marks::judged_by))]
+pub fn chained_by(placed: PlacedSet, verdicts: Vec<Verdict>) -> Result<ChainedSet, NoMemory>
     ensures { IfOk result (λ j. j ≡ chained_by placed (map verdict_value verdicts.items)) }
 {
     let proved = place_of_proof(&verdicts)?;
-    let excused = place_of_excuse(&verdicts)?;
-    let mark = match (proved, excused) {
+    let insecure = place_of_insecure(&verdicts)?;
+    let mark = match (proved, insecure) {
         (Some(_), _) => Proof::Secure,
         (None, Some(_)) => Proof::Insecure,
         (None, None) => Proof::Bogus,
@@ -29,7 +28,7 @@ pub fn judged_by(placed: PlacedSet, verdicts: Vec<Verdict>) -> Result<ChainedSet
         section,
         set,
         mark,
-        sig: proved.or(excused),
+        sig: proved.or(insecure),
     };
     let chain = chain_of(verdicts);
     Ok(ChainedSet { judged, chain })
@@ -42,11 +41,11 @@ fn place_of_proof(verdicts: &[Verdict]) -> Result<Option<u32>, NoMemory>
     numbered(first_proof(verdicts))
 }
 
-// The place of the first verdict that excuses the set.
-fn place_of_excuse(verdicts: &[Verdict]) -> Result<Option<u32>, NoMemory>
-    ensures { IfOk result (λ p. p ≡ position is_excused (bare_verdicts (map verdict_value verdicts.now))) }
+// The place of the first verdict that is Insecure.
+fn place_of_insecure(verdicts: &[Verdict]) -> Result<Option<u32>, NoMemory>
+    ensures { IfOk result (λ p. p ≡ position shows_insecure (bare_verdicts (map verdict_value verdicts.now))) }
 {
-    numbered(first_excuse(verdicts))
+    numbered(first_insecure(verdicts))
 }
 
 fn first_proof(verdicts: &[Verdict]) -> Option<usize>
@@ -55,10 +54,10 @@ fn first_proof(verdicts: &[Verdict]) -> Option<usize>
     verdicts.iter().position(Verdict::is_proved)
 }
 
-fn first_excuse(verdicts: &[Verdict]) -> Option<usize>
-    ensures { result ≡ position (λ v. is_excused (verdict_value v).verdict) verdicts.now }
+fn first_insecure(verdicts: &[Verdict]) -> Option<usize>
+    ensures { result ≡ position (λ v. shows_insecure (verdict_value v).verdict) verdicts.now }
 {
-    verdicts.iter().position(Verdict::is_excused)
+    verdicts.iter().position(Verdict::shows_insecure)
 }
 
 // A place in fewer bits, where it fits.

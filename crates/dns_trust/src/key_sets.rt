@@ -2,10 +2,10 @@ ghost use Rattle.std.specs.Prelude.{◌≡◌, true, None, Some, IfOk, [], map};
 ghost use Rattle.std.specs.List.{find};
 ghost use Rattle.std.specs.Option.{option_copied};
 ghost use Rattle.dns_evidence.specs.Link.{link_value};
-ghost use Rattle.dns_judgement.specs.Delegations.{ds_question, is_ds_set_of};
-ghost use Rattle.dns_judgement.specs.KeySets.{SignedByMatched, needs_ds, outcome_by_ds};
-ghost use Rattle.dns_judgement.specs.Chained.{chained_by_ds, self_signed_chain as self_signed_chain_of};
-ghost use Rattle.dns_anchors.specs.Judge.{judge_of};
+ghost use Rattle.dns_rules.specs.Delegations.{ds_question, is_ds_set_of};
+ghost use Rattle.dns_rules.specs.KeySets.{SignedByMatched, needs_ds, outcome_by_ds};
+ghost use Rattle.dns_rules.specs.ChainedSets.{chained_by_ds, self_signed_chain as self_signed_chain_of};
+ghost use Rattle.dns_trust.specs.Judge.{judge_of};
 ghost use Rattle.dns_trust.specs.Verdicts.{listed};
 ghost use Rattle.dns_trust.specs.Signers.{signed_value};
 ghost use Rattle.dns_trust.specs.Steps.{IsKeysStep};
@@ -18,10 +18,10 @@ use crate::unsigned::{ds_set_of, mark_by_unsupported, mark_without_ds};
 use crate::{
     AnchoredRow, DsIndex, Judge, MatchedRow, SignedBy, anchored_row, ds_query, matched_row,
 };
-use dns_evidence::{Link, Verifier, clone_links};
-use dns_judged::{ChainedSet, MarkedSet, PlacedSet};
+use dns_evidence::{ChainedSet, Link, MarkedSet, PlacedSet, Verifier, clone_links};
+use dns_model::Proof;
 use dns_name::NoMemory;
-use dns_record::{Proof, Query, Record, RecordSet};
+use dns_record::{Query, Record, RecordSet};
 use std::alloc::Global;
 
 /// How far a DNSKEY set is judged by anchors alone.
@@ -49,7 +49,7 @@ struct ShownDs<'a, 'r> {
 }
 
 /// A DNSKEY set, judged by its anchored keys, as far as these decide (RFC 4035, 5.2).
-pub fn judged_keys<V: Verifier>(
+pub fn keys_step_of<V: Verifier>(
     alloc: Global,
     judge: &Judge<'_, V>,
     placed: PlacedSet,

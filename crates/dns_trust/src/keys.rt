@@ -2,8 +2,8 @@ ghost use Rattle.std.specs.Prelude.{◌≡◌, true, IfOk, None};
 ghost use Rattle.std.specs.List.{filter, list_all};
 ghost use Rattle.std.specs.Option.{option_map};
 ghost use Rattle.dns_model.specs.Keys.{anchored};
-ghost use Rattle.dns_judgement.specs.KeySets.{is_anchored_key, is_matched_key, is_trusted_key, keys_outcome, needs_ds, outcome_by_ds, signed_by};
-ghost use Rattle.dns_anchors.specs.Judge.{judge_of};
+ghost use Rattle.dns_rules.specs.KeySets.{is_anchored_key, is_matched_key, is_trusted_key, keys_outcome, needs_ds, outcome_by_ds, signed_by};
+ghost use Rattle.dns_trust.specs.Judge.{judge_of};
 ghost use Rattle.dns_trust.specs.Delegating.{shown};
 ghost use Rattle.dns_trust.specs.Signers.{signed_value, is_matched_only as is_matched_only_by};
 ghost use Rattle.dns_trust.specs.Rows.{anchored_outcome, matched_outcome};
@@ -41,7 +41,7 @@ pub enum MatchedRow<'a> {
 }
 
 /// The first row of the marks of DNSKEY sets that holds, as far as anchors decide.
-#[tactic(auto, unfolding(dns_judgement::specs::KeySets::keys_outcome))]
+#[tactic(auto, unfolding(dns_rules::specs::KeySets::keys_outcome))]
 pub fn anchored_row<'a, V: Verifier>(
     alloc: Global,
     judge: &Judge<'_, V>,
@@ -204,11 +204,11 @@ pub(crate) fn is_anchored<V: Verifier>(judge: &Judge<'_, V>, set: &RecordSet, ke
 {
     key.record_type == RecordType::DNSKEY
         && set.name == key.name
-        && is_anchor(judge.anchors, &set.name, key.rdata.as_slice())
+        && anchored(judge.anchors, &set.name, key.rdata.as_slice())
 }
 
 /// The rdata is that of a key that can be read, and is an anchor of that owner.
-pub fn is_anchor(anchors: &TrustAnchors, owner: &Name, key: &[u8]) -> bool
+pub fn anchored(anchors: &TrustAnchors, owner: &Name, key: &[u8]) -> bool
     ensures { result ≡ anchored anchors.now owner.now key.now }
 {
     match Dnskey::read(key) {

@@ -1,15 +1,18 @@
-//! Whom to trust: anchors, listed signatures, which signature is good by which key, and the marks that follow. The layer
-//! above may use each call as the definition that its clause names.
+//! Whom to trust: anchors, by what and at which moment is judged, which signature is good by which key, and the marks that
+//! follow. The layer above may use each call as the definition that its clause names.
 #![tactic(auto)]
 
+mod anchors;
 mod chains;
 mod counted;
 mod delegation;
 mod fitting;
 mod good;
+mod judge;
 mod judged;
 mod key_sets;
 mod keys;
+mod limits;
 mod searching;
 mod set_signature;
 mod signers;
@@ -18,20 +21,23 @@ mod usable;
 mod validity;
 mod verdict;
 
+pub use anchors::TrustAnchors;
 pub use counted::counted_keys;
 pub use delegation::{DsIndex, ds_matches, is_supported_ds, matching_ds};
-pub use dns_anchors::{Judge, Limits, Listed, TrustAnchors};
 pub use fitting::{is_never_expanded, is_right_below_signer, is_timely, signer_fits};
-pub use good::{is_accepted, is_good_by, is_valid, signed_data_once};
-pub use judged::judged_by;
-pub use key_sets::{KeysStep, ds_ask_of, judged_by_ds, judged_keys};
-pub use keys::{AnchoredRow, MatchedRow, anchored_row, is_anchor, matched_row};
+pub use good::{accepts_signature, is_good_by, is_valid, signed_data_once};
+pub use judge::Judge;
+pub use judged::chained_by;
+pub use key_sets::{KeysStep, ds_ask_of, judged_by_ds, keys_step_of};
+pub use keys::{AnchoredRow, MatchedRow, anchored, anchored_row, matched_row};
+pub use limits::Limits;
 pub use searching::{
-    Sight, ds_query, has_ns, is_key_set, is_ns_of, is_searched, ns_query, question_start, set_start,
+    NsProbe, ds_query, has_ns_record, is_key_set, is_ns_of, needs_zone, ns_query, question_start,
+    set_start,
 };
 pub use set_signature::SetSignature;
 pub use signers::{SignedBy, first_signatures};
-pub use unsigned::{shows_unsigned_cut, unsigned_by, zone_mark};
+pub use unsigned::{shows_unsigned_cut, unsigned_set, zone_mark};
 pub use usable::{KeyFault, is_usable, key_fault};
 pub use validity::RrsigValidity;
-pub use verdict::{Verdict, ask_of, is_skipped, may_be_signed, verdict_of};
+pub use verdict::{Verdict, chained_verdict, is_skipped_read, key_query, may_be_signed};

@@ -3,21 +3,21 @@
 ghost use Rattle.std.specs.Prelude.{◌≡◌, ◌==◌, ◌++◌, IfOk};
 ghost use Rattle.std.specs.List.{list_any};
 ghost use Rattle.dns_model.specs.Types.{type_dnskey};
-ghost use Rattle.dns_judgement.specs.Delegations.{ds_question};
-ghost use Rattle.dns_judgement.specs.Unsigned.{is_ns_of as is_ns_record, is_searched as needs_search, ns_question, question_start as start_of_question, set_start as start_of_set};
+ghost use Rattle.dns_rules.specs.Delegations.{ds_question};
+ghost use Rattle.dns_rules.specs.Unsigned.{is_ns_of as is_ns_record, needs_zone, ns_question, question_start as start_of_question, set_start as start_of_set};
 
 use dns_name::{Name, NoMemory};
 use dns_record::{DNSClass, Query, Record, RecordSet, RecordType};
 
 /// What a plain ask for the NS records of a name comes to.
 #[derive(Clone, Copy)]
-pub enum Sight {
+pub enum NsProbe {
     /// They are there.
-    Cut,
+    Found,
     /// They aren't, so the name above is asked for them.
-    Onward,
+    Absent,
     /// The ask met a fault or was refused.
-    Unseen,
+    Failed,
 }
 
 /// The set holds a zone's keys.
@@ -28,8 +28,8 @@ pub fn is_key_set(set: &RecordSet) -> bool
 }
 
 /// No signature covers the set, and it isn't DS, so that its zone decides.
-pub fn is_searched(set: &RecordSet) -> bool
-    ensures { result ≡ needs_search set.now }
+pub fn needs_zone(set: &RecordSet) -> bool
+    ensures { result ≡ needs_zone set.now }
 {
     set.rrsigs.is_empty() && set.record_type != RecordType::DS
 }
@@ -76,7 +76,7 @@ pub fn is_ns_of(name: &Name, found: &Record) -> bool
 }
 
 /// Some record of the sections of a reply is an NS record of the name, whatever its section and its class.
-pub fn has_ns(
+pub fn has_ns_record(
     name: &Name,
     answers: &[Record],
     authorities: &[Record],

@@ -1,24 +1,25 @@
 ghost use Rattle.std.specs.Prelude.{◌≡◌, ◌||◌, [], None};
 ghost use Rattle.std.specs.List.{list_any, find};
 ghost use Rattle.std.specs.Option.{option_map, option_copied};
-ghost use Rattle.dns_judgement.specs.Chained.{bare};
-ghost use Rattle.dns_judgement.specs.Delegations.{zone_verdict, verdict_by_ds, verdict_without_ds, is_ds_set_of, shows_no_ds as shows_none, shows_unsigned_cut as shows_cut, is_unsigned_cut as is_cut, is_insecure_above as is_above, is_readable_ds as is_readable, is_supported_ds as is_supported};
+ghost use Rattle.dns_rules.specs.ChainedSets.{bare};
+ghost use Rattle.dns_rules.specs.Delegations.{zone_verdict, verdict_by_ds, verdict_without_ds, is_ds_set_of, shows_no_ds as shows_none, shows_unsigned_cut as shows_cut, is_insecure_above as is_above, is_readable_ds as is_readable, is_supported_ds as is_supported};
+ghost use Rattle.dns_rules.specs.ListedTypes.{is_unsigned_cut as is_cut};
 ghost use Rattle.dns_model.specs.declared.proof.Proof.TheVariants.{Secure};
 ghost use Rattle.dns_model.specs.Names.{Labels};
 ghost use Rattle.dns_trust.specs.Unsigned.{unsupported_mark};
-ghost use Rattle.dns_judgement.specs.Unsigned.{unsigned_mark};
+ghost use Rattle.dns_rules.specs.Unsigned.{unsigned_mark};
 ghost use Rattle.dns_trust.specs.Verdicts.{listed};
 
 use crate::is_supported_ds;
-use dns_evidence::Verifier;
-use dns_judged::{ChainedSet, MarkedSet, PlacedSet};
+use dns_evidence::{ChainedSet, MarkedSet, PlacedSet, Verifier};
+use dns_model::{Proof, Section};
 use dns_name::Name;
 use dns_rdata::{Ds, Nsec};
-use dns_record::{DNSClass, Proof, Record, RecordType, Section};
+use dns_record::{DNSClass, Record, RecordType};
 use std::alloc::Global;
 
 /// An unsigned set with the mark that its zone leaves to it. It has no chain.
-pub fn unsigned_by(alloc: Global, placed: PlacedSet, mark: Proof) -> ChainedSet
+pub fn unsigned_set(alloc: Global, placed: PlacedSet, mark: Proof) -> ChainedSet
     ensures judged { result.judged ≡ record { section = placed.section; set = placed.set; mark = mark; sig = None } }
     ensures chain { result.chain ≡ [] }
 {
@@ -164,7 +165,7 @@ pub fn shows_unsigned_cut(next: &Record) -> bool
 }
 
 fn is_unsigned_cut(nsec: &Nsec<'_>) -> bool
-    ensures { result ≡ is_cut nsec.now }
+    ensures { result ≡ is_cut nsec.now.types }
 {
     let types = &nsec.types;
     types.contains(RecordType::NS)

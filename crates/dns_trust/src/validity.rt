@@ -1,8 +1,8 @@
 ghost use Rattle.std.specs.Prelude.{◌≡◌, Some};
 ghost use Rattle.dns_model.specs.Serial.{timely};
 ghost use Rattle.dns_model.specs.RecordViews.{dnskey_of};
-ghost use Rattle.dns_judgement.specs.Validity.{validity, is_of_set as is_set_signature};
-ghost use Rattle.dns_judgement.specs.MarkParts.{sig_validity, key_validity as key_fits};
+ghost use Rattle.dns_rules.specs.Validity.{validity, is_of_set as is_set_signature};
+ghost use Rattle.dns_rules.specs.MarkParts.{sig_validity, key_validity as key_fits};
 ghost use Rattle.dns_trust.specs.Validities.{validity_of};
 
 use crate::{SetSignature, is_timely};
@@ -25,7 +25,7 @@ pub enum RrsigValidity {
 impl RrsigValidity {
     /// Whether a signature fits a set, a key and a moment in seconds since 1970: the first test that fails, of the signature,
     /// of the moment and of the key (RFC 4035, 5.3.1). A record of another type is no signature and no key, whatever its rdata.
-    #[tactic(auto, unfolding(dns_judgement::specs::Validity::validity))]
+    #[tactic(auto, unfolding(dns_rules::specs::Validity::validity))]
     pub fn check(sig: &Record, set: &RecordSet, key: &Record, now: u64) -> RrsigValidity
         ensures { validity_of result ≡ validity (λ s. timely s now) set.now sig.now key.now }
     {

@@ -2,22 +2,22 @@ ghost use Rattle.std.specs.Prelude.{◌≡◌, IfOk, List, Some, map};
 ghost use Rattle.std.specs.List.{find};
 ghost use Rattle.std.specs.Option.{option_copied};
 ghost use Rattle.dns_model.specs.Chains.{LinkValue};
-ghost use Rattle.dns_judgement.specs.Marks.{counted_keys, key_question, is_key_set_of, may_be_signed as may_be_signed_by, is_proved as is_proof, is_excused as is_excuse};
-ghost use Rattle.dns_judgement.specs.Chained.{with_chain, chained_verdict};
-ghost use Rattle.dns_judgement.specs.MarkParts.{by_insecure_key, is_skipped_read};
+ghost use Rattle.dns_rules.specs.Marks.{counted_keys, key_question, is_key_set_of, may_be_signed as may_be_signed_by, is_proved as is_proof, shows_insecure};
+ghost use Rattle.dns_rules.specs.ChainedSets.{with_chain, chained_verdict};
+ghost use Rattle.dns_rules.specs.MarkParts.{by_insecure_key, is_skipped_read};
 ghost use Rattle.dns_evidence.specs.Link.{link_value};
-ghost use Rattle.dns_anchors.specs.Judge.{judge_of};
+ghost use Rattle.dns_trust.specs.Judge.{judge_of};
 ghost use Rattle.dns_trust.specs.SetSignatures.{IsRead};
 ghost use Rattle.dns_trust.specs.Verdicts.{verdict_value, listed, chained_by_set, chained_by_secure};
 
 use crate::chains::signed_chain;
 use crate::counted::{first_good, has_key_of};
 use crate::{Judge, SetSignature, is_never_expanded, is_right_below_signer, signer_fits};
-use dns_evidence::{Link, Verifier};
-use dns_judged::{ChainedSet, MarkedSet};
+use dns_evidence::{ChainedSet, Link, MarkedSet, Verifier};
+use dns_model::{Proof, Section};
 use dns_name::{NameRef, NoMemory};
 use dns_rdata::Rrsig;
-use dns_record::{DNSClass, Proof, Query, Record, RecordSet, RecordType, Section};
+use dns_record::{DNSClass, Query, Record, RecordSet, RecordType};
 use std::alloc::Global;
 
 /// What one signature does for its set.
@@ -26,7 +26,7 @@ pub enum Verdict {
     /// It makes the set Secure, by these links.
     Proved(Vec<Link>),
     /// It shows that no more than Insecure can be expected.
-    Excused,
+    Insecure,
     /// Neither.
     Failed,
 }
@@ -43,11 +43,11 @@ impl Verdict {
     }
 
     /// Whether it shows that no more than Insecure can be expected.
-    pub fn is_excused(&self) -> bool
-        ensures { result ≡ is_excuse (verdict_value self.now).verdict }
+    pub fn shows_insecure(&self) -> bool
+        ensures { result ≡ shows_insecure (verdict_value self.now).verdict }
     {
         match self {
-            Verdict::Excused => true,
+            Verdict::Insecure => true,
             _ => false,
         }
     }
@@ -55,7 +55,7 @@ impl Verdict {
 
 /// The verdict of a signature of a set that isn't DNSKEY, with the judged sets of the answer to its ask; None where the ask
 /// failed or was refused (RFC 4035, 5.3).
-pub fn verdict_of<V: Verifier>(
+pub fn chained_verdict<V: Verifier>(
     alloc: Global,
     judge: &Judge<'_, V>,
     signature: &SetSignature<'_>,
@@ -131,7 +131,7 @@ fn by_insecure_keys(zone: &NameRef<'_>, keys: &[Record]) -> Verdict
         with_chain (by_insecure_key (counted_keys zone.now keys.now)) chain }
 {
     if has_key_of(zone, keys) {
-        Verdict::Excused
+        Verdict::Insecure
     } else {
         Verdict::Failed
     }
@@ -170,7 +170,7 @@ pub fn may_be_signed(set: &RecordSet, read: &Rrsig<'_>) -> bool
 }
 
 /// Whether a signature that is read isn't asked for: its signer doesn't fit, or it asks what is being asked.
-pub fn is_skipped(asked: &Query, set: &RecordSet, read: &Rrsig<'_>) -> bool
+pub fn is_skipped_read(asked: &Query, set: &RecordSet, read: &Rrsig<'_>) -> bool
     ensures { result ≡ is_skipped_read asked.now set.now (Some read.now) }
 {
     let fits = signer_fits(&set.name, set.record_type, &read.signer);
@@ -181,7 +181,7 @@ pub fn is_skipped(asked: &Query, set: &RecordSet, read: &Rrsig<'_>) -> bool
 }
 
 /// The question for the keys of a signature's signer.
-pub fn ask_of(alloc: Global, set: &RecordSet, read: &Rrsig<'_>) -> Result<Query, NoMemory>
+pub fn key_query(alloc: Global, set: &RecordSet, read: &Rrsig<'_>) -> Result<Query, NoMemory>
     ensures { IfOk result (λ q. q ≡ key_question set.now.class read.now.signer) }
 {
     let name = read.signer.to_name(alloc)?;

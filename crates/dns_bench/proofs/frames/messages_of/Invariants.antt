@@ -1,9 +1,8 @@
-use Rattle.std.proofs.Common.{length}
-use Rattle.dns_bench.specs.Steps.{ReadSoFar}
+use Rattle.std.proofs.Common.{◌<◌, ◌^◌, length}
 use Rattle.dns_bench.proofs.frames.messages_of.Given as goal
 
 abbrev pub invariant-frames : goal.invariant-frames
-invariant-frames l = ReadSoFar l.bytes l.rest l.messages.items
+invariant-frames l = length l.rest < 2 ^ 32
 
 abbrev pub decreases-frames : goal.decreases-frames
 decreases-frames l = length l.rest

@@ -1,6 +1,6 @@
 use Rattle.std.proofs.Common.{[], ◌∷◌, ◌++◌, ap, sym, ◌∙◌}
 use Rattle.dns_evidence.specs.Link.{link_value}
-use Rattle.dns_anchors.specs.Judge.{judge_of}
+use Rattle.dns_trust.specs.Judge.{judge_of}
 use Rattle.dns_chain_check.proofs.Steps.{all_passed, ends, goes_on, taken_more}
 use Rattle.dns_chain_check.proofs.check.all_hold.Goals as goal
 

@@ -1,6 +1,6 @@
 use Rattle.std.proofs.Common.{◌≡◌, map, take}
 use Rattle.dns_evidence.specs.Link.{link_value}
-use Rattle.dns_anchors.specs.Judge.{judge_of}
+use Rattle.dns_trust.specs.Judge.{judge_of}
 use Rattle.dns_chain_check.proofs.Steps.{LeftDecides}
 use Rattle.dns_chain_check.proofs.check.all_hold.Given as goal
 

@@ -1,6 +1,6 @@
 use Rattle.std.proofs.Common.{sym, ap, ◌∙◌}
 use Rattle.dns_model.specs.Views.{rrsig_in}
-use Rattle.dns_anchors.specs.Judge.{judge_of}
+use Rattle.dns_trust.specs.Judge.{judge_of}
 use Rattle.dns_chain_check.proofs.Fitting.{by_key, not_good, unfit}
 use Rattle.dns_chain_check.proofs.signed.is_signed.Goals as goal
 

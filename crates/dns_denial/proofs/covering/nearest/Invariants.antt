@@ -1,5 +1,5 @@
 use Rattle.std.specs.Prelude.{option_map}
-use Rattle.dns_judgement.specs.Covering.{spans}
+use Rattle.dns_rules.specs.Covering.{spans}
 use Rattle.dns_denial.specs.Best.{owned_before}
 use Rattle.dns_denial.proofs.Best.{IsBestOf}
 use Rattle.dns_denial.proofs.covering.nearest.Given as goal

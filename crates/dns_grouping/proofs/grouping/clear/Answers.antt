@@ -1,4 +1,4 @@
-use Rattle.dns_judgement.specs.Marking.{cleared}
+use Rattle.dns_rules.specs.Marking.{cleared}
 use Rattle.dns_grouping.proofs.Positions.{map_over_at}
 use Rattle.dns_grouping.proofs.grouping.clear.Goals as goal
 

@@ -1,5 +1,5 @@
 use Rattle.std.proofs.Common.{◌≡◌, ◌++◌, map, take, drop}
-use Rattle.dns_judgement.specs.Marking.{cleared}
+use Rattle.dns_rules.specs.Marking.{cleared}
 use Rattle.dns_grouping.proofs.grouping.clear.Given as goal
 
 abbrev pub invariant-loop-next : goal.invariant-loop-next

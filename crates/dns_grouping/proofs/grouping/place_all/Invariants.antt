@@ -1,6 +1,6 @@
 use Rattle.std.proofs.Common.{◌≡◌, ◌++◌, map}
 use Rattle.dns_model.specs.SoundAnswers.{in_section}
-use Rattle.dns_judgement.specs.Asking.{judged_at}
+use Rattle.dns_rules.specs.Asking.{judged_at}
 use Rattle.dns_grouping.proofs.grouping.place_all.Given as goal
 
 abbrev pub invariant-loop-set : goal.invariant-loop-set

@@ -1,5 +1,5 @@
 use Rattle.std.proofs.Common.{take}
-use Rattle.dns_judgement.specs.Chained.{bare}
+use Rattle.dns_rules.specs.ChainedSets.{bare}
 use Rattle.dns_grouping.specs.SetPlaces.{ArePlacedIn}
 use Rattle.dns_grouping.proofs.set_places.judged_places.Given as goal
 

@@ -5,4 +5,5 @@ use Rattle.dns_io.proofs.source.read_all.Goals as goal
 
 pub returns-in_err-count-clause-read : goal.returns-in_err-count-clause-read
 returns-in_err-count-clause-read g c =
-    fronts_more _ _ _ _ _ c.loop-all.all.items (simp length-take (omega (arith, c.loop-all.all.ok.0))) c.loop-all.invariant.read c.read_piece.ensures.read
+    fronts_more _ _ _ _ _ c.loop-all.all.items
+    (simp length-take (omega (arith, c.loop-all.all.ok.0))) c.loop-all.invariant.read c.read_piece.ensures.read

@@ -1,6 +1,6 @@
 use Rattle.std.proofs.Common.{length}
-use Rattle.dns_judgement.proofs.SearchLemmas.{SearchDone}
-use Rattle.dns_lookup.specs.Walking.{grounds_at, HasWalked, Walk}
+use Rattle.dns_rules.proofs.SearchLemmas.{SearchDone}
+use Rattle.dns_lookup.specs.Walking.{step_context_at, HasWalked, Walk}
 use Rattle.dns_lookup.proofs.search.find_zone.Given as goal
 
 abbrev pub decreases-names : goal.decreases-names
@@ -11,5 +11,5 @@ invariant-names g l =
     HasWalked g.H.DnsHandle l.context l.initial.handle l.initial.progress l.handle l.progress ×
     Walk g.H.DnsHandle g.V.Verifier.answers l.context l.initial.handle l.initial.progress l.handle
     l.progress l.asked.items ×
-    SearchDone (grounds_at g.V.Verifier.answers l.context l.progress l.step)
+    SearchDone (step_context_at g.V.Verifier.answers l.context l.progress l.step)
     l.class.0 l.start l.start l.asked.items l.name

@@ -2,13 +2,13 @@ use Rattle.std.proofs.Common.{List, ◌∷◌, [], map, ap, refl, subst, sym, �
 use Rattle.std.specs.Option.{option_map}
 use Rattle.std.proofs.lemmas.List.{map-append}
 use Rattle.dns_model.specs.Records.{Question}
-use Rattle.dns_model.specs.SoundAnswers.{Placed}
-use Rattle.dns_judgement.specs.DerivationParts.{asks_of_sets}
-use Rattle.dns_judgement.specs.Delegations.{ds_question}
-use Rattle.dns_judgement.specs.Unsigned.{set_start, is_searched}
+use Rattle.dns_model.specs.SoundAnswers.{PlacedSet}
+use Rattle.dns_rules.specs.DerivationParts.{asks_of_sets}
+use Rattle.dns_rules.specs.Delegations.{ds_question}
+use Rattle.dns_rules.specs.Unsigned.{set_start, needs_zone}
 use Rattle.dns_evidence.specs.Trail.{ending_value}
 use Rattle.dns_trust.specs.Verdicts.{verdict_value}
-use Rattle.dns_lookup.specs.Walking.{asks_in, grounds_at, IsJudgement}
+use Rattle.dns_lookup.specs.Walking.{asks_in, step_context_at, IsJudgement}
 use Rattle.dns_lookup.proofs.AnswerLemmas.{fault_asks, named_by, none_named, foreign_asks, foreign_answer, judged_asks, judged_so}
 use Rattle.dns_lookup.proofs.AskLemmas.{walked_nowhere, walked_then, walked_ended, asks_none, asks_deep, asks_many, asks_then}
 use Rattle.dns_lookup.proofs.ConclusionLemmas.{settled_by, searched_by}
@@ -100,14 +100,14 @@ judge_reply-returns-clause-walked g t c = walked_then _ _ _ _ _ _ _ _ c.judge_se
 
 pub judge_reply-returns-clause-reviewed : goal.judge_reply-returns-clause-reviewed
 judge_reply-returns-clause-reviewed g t c =
-    let Judged : List Placed → Type 0 = λ placed.
-    IsJudgement (grounds_at g.V.Verifier.answers c.args.context.now c.judge_sets.new.progress c.args.step.now) placed
+    let MarkedSet : List PlacedSet → Type 0 = λ placed.
+    IsJudgement (step_context_at g.V.Verifier.answers c.args.context.now c.judge_sets.new.progress c.args.step.now) placed
     c.in_ok-judged.judged.sets.items c.in_ok-judged.judged.entries.items in
     record {
       between = c.judge_sets.new.handle;
       progress = c.judge_sets.new.progress;
       asks = c.in_ok-judged.ensures.asks;
-      judged = subst Judged c.in_ok-placed.ensures c.in_ok-judged.ensures.judged;
+      judged = subst MarkedSet c.in_ok-placed.ensures c.in_ok-judged.ensures.judged;
       further = c.in_ok-concluded.ensures.asks;
       concluded = c.in_ok-concluded.ensures.concluded;
     }
@@ -115,19 +115,19 @@ judge_reply-returns-clause-reviewed g t c =
 pub judge_set-returns-clause-judged : goal.judge_set-returns-clause-judged
 judge_set-returns-clause-judged g t c =
     others_step _ _ _ _ _ _ _ _ _ _ c.set_of-signed.ensures (sym c.is_key_set.ensures ∙ c.if-is_key_set.false)
-    (ap is_searched (sym c.set_of.ensures) ∙ sym c.is_searched.ensures ∙ c.if-is_searched.false) c.in_ok-verdicts.ensures.tried
+    (ap needs_zone (sym c.set_of.ensures) ∙ sym c.needs_zone.ensures ∙ c.if-needs_zone.false) c.in_ok-verdicts.ensures.tried
     refl refl
     c.in_ok-set.ensures c.in_ok-one-3.ensures.set c.in_ok-one-3.ensures.entry
 
 pub judge_unsigned-returns-clause-judged : goal.judge_unsigned-returns-clause-judged
 judge_unsigned-returns-clause-judged g t c =
     unsigned_step _ _ _ _ _ _ _ _ _ _ c.requires.others c.requires.unsigned c.class_of-class.ensures
-    (c.in_ok-start.ensures ∙ ap set_start c.set_of.ensures) c.in_ok-mark.ensures.searched refl c.unsigned_by.ensures.judged
-    c.unsigned_by.ensures.chain c.in_ok-one.ensures.set c.in_ok-one.ensures.entry
+    (c.in_ok-start.ensures ∙ ap set_start c.set_of.ensures) c.in_ok-mark.ensures.searched refl c.unsigned_set.ensures.judged
+    c.unsigned_set.ensures.chain c.in_ok-one.ensures.set c.in_ok-one.ensures.entry
 
 pub search_zone-returns-in_default-clause-searched : goal.search_zone-returns-in_default-clause-searched
 search_zone-returns-in_default-clause-searched g t c =
-    none_searched _ _ _ _ _ c.in_ok-zone.ensures.way c.in_default.is
+    none_searched _ _ _ _ _ c.in_ok-zone.ensures.zone c.in_default.is
 
 pub search_zone-returns-in_err-ask-clause-walked : goal.search_zone-returns-in_err-ask-clause-walked
 search_zone-returns-in_err-ask-clause-walked g t c =
@@ -146,20 +146,20 @@ search_zone-returns-clause-asks g t c =
 
 pub search_zone-returns-clause-searched : goal.search_zone-returns-clause-searched
 search_zone-returns-clause-searched g t c =
-    zone_searched _ _ _ _ _ _ _ _ _ _ _ _ _ c.in_ok-ask.ensures.asks.part.grown c.in_ok-zone.ensures.way c.in-Some.is
+    zone_searched _ _ _ _ _ _ _ _ _ _ _ _ _ c.in_ok-ask.ensures.asks.part.grown c.in_ok-zone.ensures.zone c.in-Some.is
     (c.ds_query-question.ensures ∙ ap (ds_question c.args.class.0) c.in_ok-try_clone.ensures) c.in_ok-ask.ensures.answer
     c.in_ok-push.ensures.items c.zone_mark-mark.ensures
 
-pub conclude-returns-in_ok-mark-in-Searched-clause-concluded : goal.conclude-returns-in_ok-mark-in-Searched-clause-concluded
-conclude-returns-in_ok-mark-in-Searched-clause-concluded g t c =
-    searched_by _ _ _ _ _ _ _ _ _ _ _ c.in_ok-outcome.ensures c.deref.ensures.value c.in-Searched.is (ap (λ (q : Question). q.class) c.query.view_is)
-    c.in_ok-start-in-Searched.ensures c.in_ok-mark-in-Searched.ensures.searched refl c.outcome_by_zone.ensures
+pub conclude-returns-in_ok-mark-in-NeedsZone-clause-concluded : goal.conclude-returns-in_ok-mark-in-NeedsZone-clause-concluded
+conclude-returns-in_ok-mark-in-NeedsZone-clause-concluded g t c =
+    searched_by _ _ _ _ _ _ _ _ _ _ _ c.in_ok-outcome.ensures c.deref.ensures.value c.in-NeedsZone.is (ap (λ (q : Question). q.class) c.query.view_is)
+    c.in_ok-start-in-NeedsZone.ensures c.in_ok-mark-in-NeedsZone.ensures.searched refl c.outcome_by_zone.ensures
 
 pub conclude-returns-in_default : goal.conclude-returns-in_default
 conclude-returns-in_default g t c = record {
   walked = walked_nowhere _ _ _ _ (omega arith);
   asks = asks_none _ _ _ _ _ _ _ c.new.ensures.items;
-  concluded = settled_by _ _ _ _ _ _ _ c.in_ok-outcome.ensures c.deref.ensures.value refl c.in_default.not-Searched c.new.ensures.items;
+  concluded = settled_by _ _ _ _ _ _ _ c.in_ok-outcome.ensures c.deref.ensures.value refl c.in_default.not-NeedsZone c.new.ensures.items;
 }
 
 pub judge_keys-returns-in-Done-clause-asks : goal.judge_keys-returns-in-Done-clause-asks
@@ -200,7 +200,7 @@ judge_sets-loop-next-preserved g t c = (
   walked_then _ _ _ _ _ _ _ _ c.loop-next.invariant.2 c.judge_set.ensures.walked,
   asks_then _ _ _ _ _ _ _ _ _ _ _ _ _ _ _ c.loop-next.invariant.3 c.in_ok-set.ensures.asks
       (asks_of_more _ _ _ _ refl c.in_ok-push-2.ensures.items),
-  judgement_step (grounds_at g.V.Verifier.answers c.args.context.now c.loop-next.progress c.args.step.now)
+  judgement_step (step_context_at g.V.Verifier.answers c.args.context.now c.loop-next.progress c.args.step.now)
       c.judge_set.new.progress.steps.items _ _ _ _ _ _ _ _ _ _ _
       c.in_ok-set.ensures.asks.part.grown c.loop-next.invariant.4 c.in_ok-set.ensures.judged refl refl
       c.in_ok-push.ensures.items c.in_ok-push-2.ensures.items,
@@ -246,7 +246,7 @@ judge_signatures-returns-then-proved-clause-asks g t c =
 
 pub judge_signatures-returns-then-proved-clause-tried : goal.judge_signatures-returns-then-proved-clause-tried
 judge_signatures-returns-then-proved-clause-tried g t c =
-    proved_step (grounds_at g.V.Verifier.answers c.args.context.now c.loop-sig.progress c.args.step.now)
+    proved_step (step_context_at g.V.Verifier.answers c.args.context.now c.loop-sig.progress c.args.step.now)
     c.judge_signature.new.progress.steps.items _ _ _ _ _ _ _ _ _ _ _ _ _
     c.first_signatures-tried.ensures.first c.in_ok-verdict.ensures.asks.part.grown c.loop-sig-test.true c.sig-item.is c.loop-sig.invariant.2 c.in_ok-verdict.ensures.tried
     refl refl (sym c.is_proved-proved.ensures ∙ c.if-proved.true)
@@ -257,7 +257,7 @@ judge_signatures-loop-sig-preserved g t c = (
   walked_then _ _ _ _ _ _ _ _ c.loop-sig.invariant.0 c.judge_signature.ensures.walked,
   asks_then _ _ _ _ _ _ _ _ _ _ _ _ _ _ _ c.loop-sig.invariant.1 c.in_ok-verdict.ensures.asks
       c.in_ok-add_ask.ensures,
-  tried_step (grounds_at g.V.Verifier.answers c.args.context.now c.loop-sig.progress c.args.step.now)
+  tried_step (step_context_at g.V.Verifier.answers c.args.context.now c.loop-sig.progress c.args.step.now)
       c.judge_signature.new.progress.steps.items _ _ _ _ _ _ _ _ _ _ _ _ _
       c.in_ok-verdict.ensures.asks.part.grown c.loop-sig-test.true c.sig-item.is c.loop-sig.invariant.2 c.in_ok-verdict.ensures.tried
       refl refl (sym c.is_proved-proved.ensures ∙ c.if-proved.false)

@@ -1,7 +1,7 @@
 use Rattle.std.proofs.Common.{◌+◌, ◌-◌, ◌*◌, map, take}
-use Rattle.dns_judgement.specs.DerivationParts.{asks_of_sets}
+use Rattle.dns_rules.specs.DerivationParts.{asks_of_sets}
 use Rattle.dns_trust.specs.Verdicts.{verdict_value}
-use Rattle.dns_lookup.specs.Walking.{grounds_at, HasWalked, Walk, IsJudgement}
+use Rattle.dns_lookup.specs.Walking.{step_context_at, HasWalked, Walk, IsJudgement}
 use Rattle.dns_lookup.proofs.TriedLemmas.{TriedDone}
 use Rattle.dns_lookup.proofs.walk.+walk.Given as goal
 
@@ -42,7 +42,7 @@ invariant-judge_sets-loop-next g l =
     HasWalked g.H.DnsHandle l.context l.initial.handle l.initial.progress l.handle l.progress ×
     Walk g.H.DnsHandle g.V.Verifier.answers l.context l.initial.handle l.initial.progress l.handle
     l.progress (asks_of_sets l.entries.items) ×
-    IsJudgement (grounds_at g.V.Verifier.answers l.context l.progress l.step)
+    IsJudgement (step_context_at g.V.Verifier.answers l.context l.progress l.step)
     l.yielded l.sets.items l.entries.items
 
 abbrev pub invariant-judge_signatures-loop-sig : goal.invariant-judge_signatures-loop-sig
@@ -50,5 +50,5 @@ invariant-judge_signatures-loop-sig g l =
     HasWalked g.H.DnsHandle l.context l.initial.handle l.initial.progress l.handle l.progress ×
     Walk g.H.DnsHandle g.V.Verifier.answers l.context l.initial.handle l.initial.progress l.handle
     l.progress l.asked.items ×
-    TriedDone (grounds_at g.V.Verifier.answers l.context l.progress l.step)
+    TriedDone (step_context_at g.V.Verifier.answers l.context l.progress l.step)
     l.set (take l.sig-index l.tried) l.asked.items (map verdict_value l.verdicts.items)

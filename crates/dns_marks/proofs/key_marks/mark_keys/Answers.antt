@@ -2,8 +2,8 @@ use Rattle.std.proofs.Common.{◌≡◌, Ok, Err, inr, arith, sym, ap, subst, �
 use Rattle.std.specs.Option.{option_map}
 use Rattle.dns_model.specs.Gives.{Gives}
 use Rattle.dns_model.specs.Chains.{judge}
-use Rattle.dns_judgement.specs.KeySets.{is_needing_ds, needs_ds, keys_outcome}
-use Rattle.dns_judgement.proofs.KeySetLemmas.{needs_ds-outcome}
+use Rattle.dns_rules.specs.KeySets.{is_needing_ds, needs_ds, keys_outcome}
+use Rattle.dns_rules.proofs.KeySetLemmas.{needs_ds-outcome}
 use Rattle.std.proofs.lemmas.Grind.{common_steps}
 use Rattle.dns_trust.specs.declared.keys.AnchoredRow.TheVariants.{Root}
 use Rattle.dns_marks.specs.declared.key_marks.KeysMark.TheVariants.{Done}

@@ -1,5 +1,5 @@
 use Rattle.dns_model.specs.declared.proof.Proof.TheVariants.{Insecure}
-use Rattle.dns_judgement.specs.Derivation.{proof_eq}
+use Rattle.dns_rules.specs.Derivation.{proof_eq}
 use Rattle.dns_marks.proofs.KeyLemmas.{AllFrom}
 use Rattle.dns_marks.proofs.signature_keys.are_insecure.Given as goal
 

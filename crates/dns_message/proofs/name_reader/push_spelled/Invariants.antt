@@ -1,8 +1,8 @@
 use Rattle.std.proofs.Common.{◌≤◌, length}
 use Rattle.std.specs.Prelude.{IfSome}
-use Rattle.dns_message.specs.NameAt.{steps_left}
 use Rattle.dns_message.proofs.NameReading.{Row}
 use Rattle.dns_message.proofs.name_reader.push_spelled.Given as goal
+use Rattle.dns_message.specs.Pointers.{steps_left}
 
 abbrev pub invariant-steps : goal.invariant-steps
 invariant-steps l = record {

@@ -1,7 +1,8 @@
 use Rattle.std.proofs.Common.{◌≡◌, ◌≤◌, length, map, drop}
-use Rattle.dns_message.specs.RdataAt.{with_bytes, fields_at}
+use Rattle.dns_message.specs.RdataAt.{fields_at}
 use Rattle.dns_rdata.specs.Fields.{field_value}
 use Rattle.dns_message.proofs.rdata.spelled_fields.Given as goal
+use Rattle.dns_message.proofs.RdataReading.{with_bytes}
 
 abbrev pub invariant-loop-field : goal.invariant-loop-field
 invariant-loop-field l = record {

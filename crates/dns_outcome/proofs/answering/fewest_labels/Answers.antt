@@ -1,5 +1,5 @@
 use Rattle.std.proofs.Common.{◌≡◌, take, sym, ap, ◌∙◌}
-use Rattle.dns_judgement.specs.Chained.{bare}
+use Rattle.dns_rules.specs.ChainedSets.{bare}
 use Rattle.dns_outcome.specs.Expansions.{fewer, expanded_labels}
 use Rattle.dns_grouping.proofs.BareLemmas.{bare_more}
 use Rattle.dns_outcome.proofs.ExpansionLemmas.{fewest, fewest-push, fewest_none}

@@ -1,5 +1,5 @@
 use Rattle.std.proofs.Common.{◌≡◌, take}
-use Rattle.dns_judgement.specs.Chained.{bare}
+use Rattle.dns_rules.specs.ChainedSets.{bare}
 use Rattle.dns_outcome.proofs.ExpansionLemmas.{fewest}
 use Rattle.dns_outcome.proofs.answering.fewest_labels.Given as goal
 

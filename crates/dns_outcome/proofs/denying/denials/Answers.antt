@@ -1,6 +1,6 @@
 use Rattle.std.proofs.Common.{◌≡◌, ◌∷◌, [], ◌++◌, take, sym, ap, ◌∙◌}
-use Rattle.dns_judgement.specs.Chained.{bare}
-use Rattle.dns_judgement.specs.Outcome.{denials}
+use Rattle.dns_rules.specs.ChainedSets.{bare}
+use Rattle.dns_rules.specs.Outcome.{denials}
 use Rattle.dns_grouping.proofs.BareLemmas.{bare_more}
 use Rattle.dns_outcome.proofs.DenyingLemmas.{denials-push}
 use Rattle.dns_outcome.proofs.denying.denials.Goals as goal

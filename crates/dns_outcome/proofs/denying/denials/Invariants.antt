@@ -1,6 +1,6 @@
 use Rattle.std.proofs.Common.{◌≡◌, take}
-use Rattle.dns_judgement.specs.Chained.{bare}
-use Rattle.dns_judgement.specs.Outcome.{denials}
+use Rattle.dns_rules.specs.ChainedSets.{bare}
+use Rattle.dns_rules.specs.Outcome.{denials}
 use Rattle.dns_outcome.proofs.denying.denials.Given as goal
 
 abbrev pub invariant-loop-set : goal.invariant-loop-set

@@ -1,6 +1,6 @@
 use Rattle.std.proofs.Common.{◌∷◌, [], ◌++◌, take, sym, ap, append_assoc, ◌∙◌}
 use Rattle.std.specs.List.{filter_map}
-use Rattle.dns_judgement.specs.Outcome.{owned_nsec}
+use Rattle.dns_rules.specs.Outcome.{owned_nsec}
 use Rattle.dns_outcome.proofs.DenyingLemmas.{said_more}
 use Rattle.dns_outcome.proofs.denying.push_nsecs.Goals as goal
 

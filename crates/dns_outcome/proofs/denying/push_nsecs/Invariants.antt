@@ -1,6 +1,6 @@
 use Rattle.std.proofs.Common.{◌≡◌, ◌++◌, take}
 use Rattle.std.specs.List.{filter_map}
-use Rattle.dns_judgement.specs.Outcome.{owned_nsec}
+use Rattle.dns_rules.specs.Outcome.{owned_nsec}
 use Rattle.dns_outcome.proofs.denying.push_nsecs.Given as goal
 
 abbrev pub invariant-loop-found : goal.invariant-loop-found

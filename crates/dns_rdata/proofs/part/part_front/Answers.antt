@@ -1,7 +1,7 @@
 use Rattle.std.proofs.Common.{◌∙◌, sym, ap}
-use Rattle.dns_model.specs.Shapes.{counted_front}
 use Rattle.dns_rdata.proofs.PartLemmas.{counted_plain}
 use Rattle.dns_rdata.proofs.part.part_front.Goals as goal
+use Rattle.dns_model.proofs.ShapeSteps.{counted_front}
 
 pub returns-in_ok-text-in-CharacterString : goal.returns-in_ok-text-in-CharacterString
 returns-in_ok-text-in-CharacterString c =

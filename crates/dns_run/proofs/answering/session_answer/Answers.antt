@@ -1,6 +1,6 @@
 use Rattle.std.proofs.Common.{refl}
 use Rattle.dns_recorded.specs.contracts.recorded.RecordedDnsHandle.TheImpl as upstream
-use Rattle.dns_anchors.specs.contracts.listed.ListedVerifier.TheImpl as tests
+use Rattle.dns_evidence.specs.contracts.listed.ListedVerifier.TheImpl as tests
 use Rattle.dns_run.proofs.LookupLemmas.{reply_ok, all_known, answers_looked}
 use Rattle.dns_run.proofs.answering.session_answer.Goals as goal
 

@@ -1,5 +1,5 @@
 use Rattle.std.proofs.Common.{ap, ◌∙◌, rules}
-use Rattle.dns_anchors.specs.Listing.{answers_of}
+use Rattle.dns_evidence.specs.Listing.{answers_of}
 use Rattle.dns_run.specs.Soundness.{listing}
 use Rattle.dns_run.proofs.answering.session_lookup.Goals as goal
 

@@ -4,7 +4,8 @@ use Rattle.dns_session.proofs.forms.bytes_of.Goals as goal
 
 pub returns-in-None : goal.returns-in-None
 returns-in-None c =
-    no_byte c.loop-left.all.items c.in-Some.text.now c.next_word.result.0.now (option_copied c.next_word.result.1) _ (rw c.in-Some.is at c.loop-left.invariant) c.next_word.ensures.words c.in-None.ensures
+    no_byte c.loop-left.all.items c.in-Some.text.now c.next_word.result.0.now (option_copied c.next_word.result.1) _
+    (rw c.in-Some.is at c.loop-left.invariant) c.next_word.ensures.words c.in-None.ensures
 
 pub loop-left-preserved : goal.loop-left-preserved
 loop-left-preserved c =

@@ -1,6 +1,6 @@
 use Rattle.std.proofs.Common.{rules, ◌≡◌, get_or, None, Some, sym, ap, ◌∙◌}
-use Rattle.dns_judgement.specs.Chained.{bare}
-use Rattle.dns_judgement.specs.MarkParts.{marked_by}
+use Rattle.dns_rules.specs.ChainedSets.{bare}
+use Rattle.dns_rules.specs.MarkParts.{marked_by}
 use Rattle.dns_sets.specs.Counting.{count_at, place_for, set_at}
 use Rattle.dns_sets.specs.Timing.{marked_with}
 use Rattle.dns_sets.proofs.TimeLemmas.{marked_here}

@@ -1,9 +1,9 @@
 use Rattle.std.proofs.Common.{rules, ◌≡◌, ◌<◌, ◌^◌, ◌++◌, length, take, drop, replicate, refl, sym, ap, ◌∙◌}
 use Rattle.std.specs.List.{find}
 use Rattle.std.proofs.lemmas.List.{length-map}
-use Rattle.dns_judgement.specs.Chained.{bare}
-use Rattle.dns_judgement.specs.Marking.{map_after, is_about}
-use Rattle.dns_judgement.specs.MarkParts.{marked_by}
+use Rattle.dns_rules.specs.ChainedSets.{bare}
+use Rattle.dns_rules.specs.Marking.{map_after, is_about}
+use Rattle.dns_rules.specs.MarkParts.{marked_by}
 use Rattle.dns_sets.specs.Counting.{count_at, counted, place_for, set_at}
 use Rattle.dns_sets.proofs.MarkLoop.{next_is, section_more, counts_back, counts_more, none_counted, few}
 use Rattle.dns_sets.proofs.TimeLemmas.{found_at, place_within}

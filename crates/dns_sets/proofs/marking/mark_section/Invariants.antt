@@ -1,6 +1,6 @@
 use Rattle.std.proofs.Common.{◌≡◌, ◌++◌, take, drop}
-use Rattle.dns_judgement.specs.Chained.{bare}
-use Rattle.dns_judgement.specs.Marking.{marked_section}
+use Rattle.dns_rules.specs.ChainedSets.{bare}
+use Rattle.dns_rules.specs.Marking.{marked_section}
 use Rattle.dns_sets.specs.Counting.{AreCounted}
 use Rattle.dns_sets.proofs.marking.mark_section.Given as goal
 

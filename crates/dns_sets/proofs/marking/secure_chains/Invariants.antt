@@ -1,5 +1,5 @@
 use Rattle.std.proofs.Common.{◌≡◌}
-use Rattle.dns_judgement.specs.Chained.{chains_of}
+use Rattle.dns_rules.specs.ChainedSets.{chains_of}
 use Rattle.dns_sets.proofs.marking.secure_chains.Given as goal
 
 abbrev pub invariant-loop-judged : goal.invariant-loop-judged

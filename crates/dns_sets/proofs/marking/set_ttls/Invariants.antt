@@ -1,5 +1,5 @@
 use Rattle.std.proofs.Common.{◌≡◌, take}
-use Rattle.dns_judgement.specs.Chained.{bare}
+use Rattle.dns_rules.specs.ChainedSets.{bare}
 use Rattle.dns_sets.specs.Timing.{set_ttls}
 use Rattle.dns_sets.proofs.marking.set_ttls.Given as goal
 

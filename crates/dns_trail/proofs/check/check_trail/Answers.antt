@@ -1,8 +1,8 @@
 use Rattle.std.proofs.Common.{rules, ◌≡◌, ◌&&◌, true, false, [], sym, ap, ◌∙◌}
 use Rattle.dns_model.specs.Chains.{judge}
-use Rattle.dns_judgement.specs.Asking.{depth_limit}
-use Rattle.dns_judgement.specs.Derivation.{steps_hold, has_order}
-use Rattle.dns_trail_order.proofs.OrderedLemmas.{derivation_by_order}
+use Rattle.dns_rules.specs.Asking.{depth_limit}
+use Rattle.dns_rules.specs.Derivation.{steps_hold, has_order}
+use Rattle.dns_trail.proofs.OrderedLemmas.{derivation_by_order}
 use Rattle.dns_trail.proofs.OkLemmas.{ok_map}
 use Rattle.dns_trail.proofs.check.check_trail.Goals as goal
 

@@ -1,6 +1,6 @@
 use Rattle.std.proofs.Common.{subst, arith}
 use Rattle.std.proofs.lemmas.List.{take_all}
-use Rattle.dns_judgement.specs.Chained.{bare}
+use Rattle.dns_rules.specs.ChainedSets.{bare}
 use Rattle.dns_trail.specs.Indexed.{AreIndexed}
 use Rattle.dns_trail.proofs.IndexLemmas.{indexed_more}
 use Rattle.dns_trail.proofs.PlaceLemmas.{keeps_none}
@@ -15,4 +15,6 @@ each-preserved c =
     c.index-sets-place.is c.in_ok-key.ensures c.each.invariant c.in_ok-add_place.ensures
 
 pub returns : goal.returns
-returns c = subst (λ xs. AreIndexed c.each.places (bare xs)) (take_all c.each.place c.args.sets.now (omega arith)) c.each.invariant
+returns c =
+    subst (λ xs. AreIndexed c.each.places (bare xs))
+    (take_all c.each.place c.args.sets.now (omega arith)) c.each.invariant

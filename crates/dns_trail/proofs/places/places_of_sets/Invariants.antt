@@ -1,5 +1,5 @@
 use Rattle.std.proofs.Common.{◌-◌, length, take}
-use Rattle.dns_judgement.specs.Chained.{bare}
+use Rattle.dns_rules.specs.ChainedSets.{bare}
 use Rattle.dns_trail.specs.Indexed.{AreIndexed}
 use Rattle.dns_trail.proofs.places.places_of_sets.Given as goal
 

@@ -1,6 +1,6 @@
 use Rattle.std.proofs.Common.{◌≡◌, length}
 use Rattle.std.specs.Cmp.Lexicographic.{pointwise}
-use Rattle.dns_judgement.specs.Derivation.{same_record}
+use Rattle.dns_rules.specs.Derivation.{same_record}
 use Rattle.dns_trail.proofs.repeats.same_records.Given as goal
 
 -- what is left decides

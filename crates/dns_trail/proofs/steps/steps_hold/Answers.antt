@@ -1,6 +1,6 @@
 use Rattle.std.proofs.Common.{take, refl, sym, ap, ◌∙◌, arith}
-use Rattle.dns_judgement.specs.DerivationParts.{grounds_of as at_step}
-use Rattle.dns_anchors.specs.Judge.{judge_of}
+use Rattle.dns_rules.specs.DerivationParts.{step_context_of as at_step}
+use Rattle.dns_trust.specs.Judge.{judge_of}
 use Rattle.dns_trail.proofs.StepLemmas.{steps_all, steps_fail, steps_next}
 use Rattle.dns_trail.proofs.steps.steps_hold.Goals as goal
 
@@ -19,7 +19,8 @@ steps-preserved g c =
     let j = judge_of g.V.Verifier.answers c.args.judge.now in
     let own = ap (at_step j c.args.limit (take c.steps.number c.args.steps.now)) c.step.view_is in
     steps_next j c.args.limit c.args.steps.now c.steps.number c.steps.ended.items c.push.new.self.items c.index-steps-number.result _ c.in-Some.next
-    c.steps.invariant c.steps-test.true c.index-steps-number.is own (sym c.in-Some.is ∙ c.in_ok-next.ensures) c.in_ok-push.ensures.items
+    c.steps.invariant c.steps-test.true c.index-steps-number.is own
+    (sym c.in-Some.is ∙ c.in_ok-next.ensures) c.in_ok-push.ensures.items
 
 pub returns : goal.returns
 returns g c = steps_all _ _ _ c.steps.number c.steps.ended.items c.steps.invariant (omega arith)

@@ -1,5 +1,5 @@
 use Rattle.std.proofs.Common.{◌-◌, length}
-use Rattle.dns_anchors.specs.Judge.{judge_of}
+use Rattle.dns_trust.specs.Judge.{judge_of}
 use Rattle.dns_trail.proofs.StepLemmas.{AreSteps}
 use Rattle.dns_trail.proofs.steps.steps_hold.Given as goal
 

@@ -1,6 +1,6 @@
 use Rattle.std.proofs.Common.{rules, ◌≡◌, []}
 use Rattle.dns_evidence.specs.Link.{link_value}
-use Rattle.dns_judgement.specs.Chained.{anchored_link}
+use Rattle.dns_rules.specs.ChainedSets.{anchored_link}
 use Rattle.dns_trust.proofs.ChainOf.{links_more}
 use Rattle.dns_trust.proofs.chains.anchored_links.Goals as goal
 

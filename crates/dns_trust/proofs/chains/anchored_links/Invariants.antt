@@ -1,6 +1,6 @@
 use Rattle.std.proofs.Common.{◌≡◌, take, map}
 use Rattle.dns_evidence.specs.Link.{link_value}
-use Rattle.dns_judgement.specs.Chained.{anchored_link}
+use Rattle.dns_rules.specs.ChainedSets.{anchored_link}
 use Rattle.dns_trust.proofs.chains.anchored_links.Given as goal
 
 -- there is a link for each key so far

@@ -1,5 +1,5 @@
 use Rattle.std.proofs.Common.{◌≡◌, ◌+◌, ◌++◌, drop}
-use Rattle.dns_judgement.specs.Chained.{numbers_from}
+use Rattle.dns_rules.specs.ChainedSets.{numbers_from}
 use Rattle.dns_trust.proofs.chains.numbers.Given as goal
 
 -- the numbers so far, and those of the keys that are left

@@ -1,7 +1,7 @@
 use Rattle.std.proofs.Common.{rules, ◌≡◌}
 use Rattle.dns_evidence.specs.Link.{link_value}
-use Rattle.dns_judgement.specs.Chained.{trusted_link}
-use Rattle.dns_anchors.specs.Judge.{judge_of}
+use Rattle.dns_rules.specs.ChainedSets.{trusted_link}
+use Rattle.dns_trust.specs.Judge.{judge_of}
 use Rattle.dns_trust.proofs.ChainOf.{links_more}
 use Rattle.dns_trust.proofs.chains.trusted_links.Goals as goal
 

@@ -1,7 +1,7 @@
 use Rattle.std.proofs.Common.{◌≡◌, ◌++◌, take, map}
 use Rattle.dns_evidence.specs.Link.{link_value}
-use Rattle.dns_judgement.specs.Chained.{trusted_link}
-use Rattle.dns_anchors.specs.Judge.{judge_of}
+use Rattle.dns_rules.specs.ChainedSets.{trusted_link}
+use Rattle.dns_trust.specs.Judge.{judge_of}
 use Rattle.dns_trust.proofs.chains.trusted_links.Given as goal
 
 -- there is a link for each key so far

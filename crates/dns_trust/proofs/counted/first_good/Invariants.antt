@@ -1,4 +1,4 @@
-use Rattle.dns_anchors.specs.Judge.{judge_of}
+use Rattle.dns_trust.specs.Judge.{judge_of}
 use Rattle.dns_trust.specs.SetSignatures.{IsBuilt, is_good_of}
 use Rattle.dns_trust.proofs.Counts.{Tried}
 use Rattle.dns_trust.proofs.counted.first_good.Given as goal

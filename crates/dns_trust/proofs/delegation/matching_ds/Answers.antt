@@ -1,7 +1,7 @@
 use Rattle.std.proofs.Common.{◌<◌, ◌∙◌, sym, arith}
 use Rattle.dns_model.specs.Records.{Rr}
 use Rattle.dns_model.specs.Keys.{matches}
-use Rattle.dns_judgement.specs.Delegations.{is_ds_for}
+use Rattle.dns_rules.specs.Delegations.{is_ds_for}
 use Rattle.dns_trust.proofs.Delegated.{met_here, met_past, unmet_past}
 use Rattle.dns_trust.proofs.delegation.matching_ds.Goals as goal
 use Rattle.dns_trust.proofs.delegation.matching_ds.Goals.{then-is_ds_for+else-is_match, else-is_ds_for}

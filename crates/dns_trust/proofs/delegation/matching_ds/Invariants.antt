@@ -1,7 +1,7 @@
 use Rattle.std.proofs.Common.{◌≡◌, ◌-◌, ◌≤◌, drop, take}
 use Rattle.std.specs.List.{filter, find}
 use Rattle.dns_model.specs.Keys.{matches}
-use Rattle.dns_judgement.specs.Delegations.{is_ds_for, matching_ds}
+use Rattle.dns_rules.specs.Delegations.{is_ds_for, matching_ds}
 use Rattle.dns_trust.proofs.delegation.matching_ds.Given as goal
 
 -- the search goes on among those that count of the records that are left

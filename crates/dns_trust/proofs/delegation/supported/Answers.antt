@@ -1,5 +1,5 @@
 use Rattle.std.proofs.Common.{◌∙◌, sym, refl}
-use Rattle.dns_judgement.specs.Delegations.{is_supported_ds}
+use Rattle.dns_rules.specs.Delegations.{is_supported_ds}
 use Rattle.dns_trust.proofs.Shown.{passed_more, failed_more}
 use Rattle.dns_trust.proofs.delegation.supported.Goals as goal
 use Rattle.dns_trust.proofs.delegation.supported.Goals.{then-is_supported_ds+in_ok-push, else-is_supported_ds}

@@ -1,6 +1,6 @@
 use Rattle.std.proofs.Common.{◌≡◌, take}
 use Rattle.std.specs.List.{filter}
-use Rattle.dns_judgement.specs.Delegations.{is_supported_ds}
+use Rattle.dns_rules.specs.Delegations.{is_supported_ds}
 use Rattle.dns_trust.specs.Delegating.{shown}
 use Rattle.dns_trust.proofs.delegation.supported.Given as goal
 

@@ -1,5 +1,5 @@
 use Rattle.std.proofs.Common.{◌∙◌, sym}
-use Rattle.dns_anchors.specs.Judge.{judge_of}
+use Rattle.dns_trust.specs.Judge.{judge_of}
 use Rattle.dns_trust.proofs.Reading.{good_no_key, good_invalid, good_unusable, good_accepted}
 use Rattle.dns_trust.proofs.good.is_good_read.Goals as goal
 
@@ -20,6 +20,6 @@ returns-then-not-is_usable-clause-good g c =
 
 pub returns-clause-good : goal.returns-clause-good
 returns-clause-good g c =
-    c.is_accepted-accepted.ensures
+    c.accepts_signature-accepted.ensures
     ∙ good_accepted (judge_of g.V.Verifier.answers c.args.judge.now) c.args.signature.now.set.now c.args.signature.now.sig.now c.args.key.now c.args.signature.now.read.now c.in-Some.dnskey _ c.requires.read
     (sym c.is_valid.ensures ∙ c.if-not-is_valid.false) (sym c.of.ensures ∙ c.in-Some.is) (sym c.is_usable.ensures ∙ c.if-not-is_usable.false) c.in_ok-bytes.ensures

@@ -10,7 +10,7 @@ use Rattle.dns_trust.proofs.judged.chain_of.Goals as goal
 -- a verdict that doesn't prove leaves the chain
 unproved : (v : Verdict) (chain : List LinkValue) → ((links : _) → v ≡ variants.Proved links → ⊥) → chain_else (verdict_value v ∷ []) chain ≡ chain
 unproved (variants.Proved links) chain h = absurd (h links refl)
-unproved variants.Excused chain h = refl
+unproved variants.Insecure chain h = refl
 unproved variants.Failed chain h = refl
 
 pub loop-verdict-init : goal.loop-verdict-init

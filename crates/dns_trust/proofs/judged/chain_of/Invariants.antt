@@ -1,6 +1,6 @@
 use Rattle.std.proofs.Common.{◌≡◌, map, vec_len}
 use Rattle.dns_evidence.specs.Link.{link_value}
-use Rattle.dns_judgement.specs.Chained.{proved_chain}
+use Rattle.dns_rules.specs.ChainedSets.{proved_chain}
 use Rattle.dns_trust.specs.Verdicts.{verdict_value}
 use Rattle.dns_trust.proofs.ChainOf.{chain_else}
 use Rattle.dns_trust.proofs.judged.chain_of.Given as goal

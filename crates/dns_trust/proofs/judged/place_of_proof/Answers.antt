@@ -1,6 +1,6 @@
 use Rattle.std.proofs.Common.{map}
-use Rattle.dns_judgement.specs.Marks.{is_proved}
-use Rattle.dns_judgement.specs.Chained.{ChainedVerdict}
+use Rattle.dns_rules.specs.Marks.{is_proved}
+use Rattle.dns_rules.specs.ChainedSets.{ChainedVerdict}
 use Rattle.dns_trust.specs.Verdicts.{verdict_value}
 use Rattle.dns_trust.proofs.Searches.{position-map}
 use Rattle.dns_trust.proofs.judged.place_of_proof.Goals as goal

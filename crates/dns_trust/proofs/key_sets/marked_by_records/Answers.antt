@@ -1,6 +1,6 @@
 use Rattle.std.proofs.Common.{◌≡◌, true, false, IfOk, map, subst, sym, ap, ◌∙◌}
 use Rattle.dns_evidence.specs.Link.{link_value}
-use Rattle.dns_anchors.specs.Judge.{judge_of}
+use Rattle.dns_trust.specs.Judge.{judge_of}
 use Rattle.dns_trust.specs.KeysMarks.{marked_value}
 use Rattle.dns_trust.proofs.ByDs.{unproved, none_supported, some_supported}
 use Rattle.dns_trust.proofs.key_sets.marked_by_records.Goals as goal

@@ -1,6 +1,6 @@
 use Rattle.std.proofs.Common.{rules, ◌≡◌, ◌∙◌, sym}
-use Rattle.dns_judgement.specs.KeySets.{is_anchored_key}
-use Rattle.dns_anchors.specs.Judge.{judge_of}
+use Rattle.dns_rules.specs.KeySets.{is_anchored_key}
+use Rattle.dns_trust.specs.Judge.{judge_of}
 use Rattle.dns_trust.proofs.Shown.{passed_more, failed_more}
 use Rattle.dns_trust.proofs.keys.anchored_keys.Goals as goal
 use Rattle.dns_trust.proofs.keys.anchored_keys.Goals.{then-is_anchored+in_ok-push, else-is_anchored}

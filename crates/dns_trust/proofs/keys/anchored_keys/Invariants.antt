@@ -1,7 +1,7 @@
 use Rattle.std.proofs.Common.{◌≡◌, take}
 use Rattle.std.specs.List.{filter}
-use Rattle.dns_judgement.specs.KeySets.{is_anchored_key}
-use Rattle.dns_anchors.specs.Judge.{judge_of}
+use Rattle.dns_rules.specs.KeySets.{is_anchored_key}
+use Rattle.dns_trust.specs.Judge.{judge_of}
 use Rattle.dns_trust.specs.Delegating.{shown}
 use Rattle.dns_trust.proofs.keys.anchored_keys.Given as goal
 

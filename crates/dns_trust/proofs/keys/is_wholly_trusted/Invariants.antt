@@ -1,7 +1,7 @@
 use Rattle.std.proofs.Common.{◌≡◌, true, take}
 use Rattle.std.specs.List.{list_all}
-use Rattle.dns_judgement.specs.KeySets.{is_trusted_key}
-use Rattle.dns_anchors.specs.Judge.{judge_of}
+use Rattle.dns_rules.specs.KeySets.{is_trusted_key}
+use Rattle.dns_trust.specs.Judge.{judge_of}
 use Rattle.dns_trust.proofs.keys.is_wholly_trusted.Given as goal
 
 -- the keys so far are trusted

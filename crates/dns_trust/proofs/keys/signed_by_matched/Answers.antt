@@ -1,8 +1,8 @@
 use Rattle.std.proofs.Common.{◌≡◌, IfOk, subst, ap, ◌∙◌}
 use Rattle.std.specs.Option.{option_map}
 use Rattle.std.specs.Prelude.{take}
-use Rattle.dns_judgement.specs.Marks.{most_signatures}
-use Rattle.dns_anchors.specs.Judge.{judge_of}
+use Rattle.dns_rules.specs.Marks.{most_signatures}
+use Rattle.dns_trust.specs.Judge.{judge_of}
 use Rattle.dns_trust.specs.Delegating.{shown}
 use Rattle.dns_trust.specs.Signers.{AreOnce, first_signed_by, signed_value}
 use Rattle.dns_trust.proofs.Signing.{matched_once}

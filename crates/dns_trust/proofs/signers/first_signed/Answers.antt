@@ -1,6 +1,6 @@
 use Rattle.std.proofs.Common.{ap, ◌∙◌, sym}
 use Rattle.std.specs.Option.{option_copied}
-use Rattle.dns_anchors.specs.Judge.{judge_of}
+use Rattle.dns_trust.specs.Judge.{judge_of}
 use Rattle.dns_trust.specs.Delegating.{shown}
 use Rattle.dns_trust.specs.Signers.{signing_key, first_signed_by}
 use Rattle.dns_trust.proofs.Searches.{signed_here, signed_past, signed_end, first_signed_by-from}

@@ -1,6 +1,6 @@
 use Rattle.std.proofs.Common.{◌≡◌, drop}
-use Rattle.dns_judgement.proofs.FirstLemmas.{signed_from}
-use Rattle.dns_anchors.specs.Judge.{judge_of}
+use Rattle.dns_rules.proofs.FirstLemmas.{signed_from}
+use Rattle.dns_trust.specs.Judge.{judge_of}
 use Rattle.dns_trust.specs.Delegating.{shown}
 use Rattle.dns_trust.specs.Signers.{signing_key}
 use Rattle.dns_trust.proofs.signers.first_signed.Given as goal

@@ -1,5 +1,5 @@
 use Rattle.std.proofs.Common.{◌∙◌, sym}
-use Rattle.dns_anchors.specs.Judge.{judge_of}
+use Rattle.dns_trust.specs.Judge.{judge_of}
 use Rattle.dns_trust.specs.Delegating.{shown}
 use Rattle.dns_trust.specs.SetSignatures.{is_good_of}
 use Rattle.dns_trust.proofs.Searches.{find_here, find_past}

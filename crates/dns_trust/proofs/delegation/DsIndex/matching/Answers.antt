@@ -3,7 +3,7 @@ use Rattle.std.specs.List.{find}
 use Rattle.std.specs.Option.{option_copied}
 use Rattle.dns_model.specs.Records.{Rr}
 use Rattle.dns_model.specs.Keys.{matches}
-use Rattle.dns_judgement.specs.Delegations.{matching_ds}
+use Rattle.dns_rules.specs.Delegations.{matching_ds}
 use Rattle.dns_trust.specs.Delegating.{DsIndexValue, shown}
 use Rattle.dns_trust.proofs.Delegated.{match_unread, match_none, match_there}
 use Rattle.dns_trust.proofs.delegation.DsIndex.matching.Goals as goal

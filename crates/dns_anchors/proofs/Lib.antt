@@ -1,4 +1,0 @@
-pub mod ByteSets
-pub mod Found
-pub mod Alike
-pub mod Within

@@ -1,0 +1,73 @@
+ghost use Rattle.std.specs.Prelude.{◌≡◌, ℕ, map, OnOk, OnErr};
+ghost use Rattle.std.specs.Char.{to_ascii_lowercase};
+ghost use Rattle.dns_evidence.specs.Finding.{mixed, mixed_once, places_at, places_after};
+
+use dns_name::NoMemory;
+use std::alloc::Global;
+use std::collections::BTreeMap;
+
+/// Places in a list, by the numbers of their elements.
+pub type PlacesByNumber = BTreeMap<u64, Vec<usize>>;
+
+/// A number mixed with bytes.
+#[tactic(auto, unfolding(crate::specs::Finding::mixed))]
+pub fn mix(seed: u64, bytes: &[u8]) -> u64
+    ensures { result ≡ mixed seed bytes.now }
+{
+    let mut number = seed;
+    for byte in bytes {
+        number = mix_once(number, *byte);
+    }
+    number
+}
+
+/// A number mixed with bytes, A to Z as a to z.
+#[tactic(auto, unfolding(crate::specs::Finding::mixed))]
+pub fn mix_lowered(seed: u64, bytes: &[u8]) -> u64
+    ensures { result ≡ mixed seed (map to_ascii_lowercase bytes.now) }
+{
+    let mut number = seed;
+    for byte in bytes {
+        number = mix_once(number, byte.to_ascii_lowercase());
+    }
+    number
+}
+
+fn mix_once(seed: u64, byte: u8) -> u64
+    ensures { result ≡ mixed_once seed byte }
+{
+    seed.wrapping_mul(1_099_511_628_211)
+        .wrapping_add(u64::from(byte))
+}
+
+/// The places that are kept for a number.
+#[tactic(auto, unfolding(crate::specs::Finding::places_at))]
+pub fn places_of(places: &PlacesByNumber, number: u64) -> &[usize]
+    ensures { result.now ≡ places_at places.now number }
+{
+    match places.get(&number) {
+        Some(there) => there.as_slice(),
+        None => &[],
+    }
+}
+
+/// Adds a place to those of a number. For want of memory all stay as they were.
+#[tactic(auto, unfolding(crate::specs::Finding::places_at))]
+pub fn add_place(
+    alloc: Global,
+    places: &mut PlacesByNumber,
+    number: u64,
+    place: usize,
+) -> Result<(), NoMemory>
+    ensures ok { OnOk result ((n : ℕ) → places_at places.new n ≡ places_after places.old number place n) }
+    ensures err { OnErr result ((n : ℕ) → places_at places.new n ≡ places_at places.old n) }
+{
+    if let Some(there) = places.get_mut(&number) {
+        there.push(place)?;
+        return Ok(());
+    }
+    let mut first = Vec::new(alloc);
+    first.push(place)?;
+    places.insert(number, first)?;
+    Ok(())
+}

@@ -1,0 +1,46 @@
+use dns_evidence::Verifier;
+use std::cell::Cell;
+
+/// A verifier that supports each algorithm but 14, accepts a signature that is the key itself, and counts how often it is
+/// asked.
+#[derive(Drop)]
+pub(crate) struct Counting {
+    questions: Cell<u32>,
+}
+
+impl Counting {
+    /// It wasn't asked yet.
+    pub(crate) fn new() -> Counting {
+        Counting {
+            questions: Cell::new(0),
+        }
+    }
+
+    /// How often it was asked.
+    pub(crate) fn questions(&self) -> u32 {
+        self.questions.get()
+    }
+}
+
+impl Verifier for Counting {
+    ghost use Rattle.std.specs.Prelude.{◌==◌, not};
+    ghost use Rattle.dns_model.specs.Keys.{bytes_eq};
+
+    ghost answers = { λ counting. record {
+      supports = λ algorithm. not (algorithm == 14);
+      accepts = λ algorithm key bytes signature. bytes_eq key signature;
+    } };
+
+    fn supports(&self, algorithm: u8) -> bool {
+        algorithm != 14
+    }
+
+    fn accepts(&self, _algorithm: u8, key: &[u8], _bytes: &[u8], signature: &[u8]) -> bool {
+        self.questions.set(self.questions.get().wrapping_add(1));
+        key == signature
+    }
+
+    fn same(&self, _other: &Counting) -> bool {
+        false
+    }
+}

@@ -1,0 +1,306 @@
+//! Calls over more keys, DS records and records than fit in a byte or in 16 bits: none gives up by their number.
+ghost use Rattle.std.specs.Prelude.{◌≡◌, ◌<◌};
+
+use crate::counting::Counting;
+use crate::mark_parts::{DS, KEY, put_record, record, servers};
+use crate::rows::check_row;
+use dns_evidence::{Listed, Steps, Verifier};
+use dns_marks::{
+    KeyAnswer, ProofError, ProofErrorKind, RrsetProof, ZoneVerdict, verify_dnskey,
+    verify_rrset_with_dnskey, verify_rrsig_with_keys,
+};
+use dns_model::{NameError, Proof};
+use dns_name::{Name, NoMemory, Octets};
+use dns_rdata::{Dnskey, Rrsig};
+use dns_record::{Record, RecordSet, RecordType};
+use dns_trust::{DsIndex, Judge, TrustAnchors, is_good_by};
+use std::alloc::Global;
+use std::marker::Brand;
+use std::sync::ledger::{Blank, Ledger};
+
+/// More than 16 bits count.
+const MANY: usize = 70_000;
+
+/// A key of another tag than that of `KEY`, and a DS of another tag.
+const KEY_BESIDE: &[u8] = b"\x01\x01\x03\x0d\xcc\xdd";
+
+const DS_BESIDE: &[u8] = b"\xae\xc8\x0d\x02\x00";
+
+/// A good signature by `KEY` over the NS set of `example.`, from second 1000 to second 2000.
+const GOOD: &[u8] =
+    b"\0\x02\x0d\x01\0\0\x02\x58\0\0\x07\xd0\0\0\x03\xe8\xae\xc9\x07example\0\xaa\xbb";
+
+/// So many records of one rdata, and one of another behind them.
+fn many_and_one(
+    alloc: Global,
+    record_type: RecordType,
+    rdata: &[u8],
+    last: &[u8],
+) -> Result<Vec<Record>, NameError> {
+    let mut records = Vec::new(alloc);
+    fill(
+        &mut records,
+        &record(alloc, "example.", record_type, rdata, Proof::Secure)?,
+    )?;
+    put_record(
+        alloc,
+        &mut records,
+        "example.",
+        record_type,
+        last,
+        Proof::Secure,
+    )?;
+    Ok(records)
+}
+
+fn fill(records: &mut Vec<Record>, one: &Record) -> Result<(), NameError> {
+    for _ in 0..MANY {
+        records.push(one.try_clone()?)?;
+    }
+    Ok(())
+}
+
+fn is_found(
+    alloc: Global,
+    verifier: &Counting,
+    key: &Record,
+    ds: &[Record],
+) -> Result<bool, NoMemory> {
+    let index = DsIndex::of(alloc, &key.name, ds)?;
+    Ok(index.matching(verifier, key).is_some())
+}
+
+fn is_matched(alloc: Global) -> Result<bool, NameError> {
+    let key = record(
+        alloc,
+        "example.",
+        RecordType::DNSKEY,
+        KEY,
+        Proof::Indeterminate,
+    )?;
+    let ds = many_and_one(alloc, RecordType::DS, DS_BESIDE, DS)?;
+    let verifier = Counting::new();
+    let found = verify_dnskey(alloc, &verifier, &key, &ds);
+    Ok(matches!(found, Ok(Proof::Secure)) && is_found(alloc, &verifier, &key, &ds)?)
+}
+
+#[test]
+fn a_key_is_matched_behind_70_000_ds_records(rt: HostRuntime) {
+    check_row(&rt, "the last DS matches", is_matched(rt.alloc()));
+}
+
+/// A set with one good signature, and what is told of its signer's keys: the last of so many made it.
+#[derive(Drop)]
+struct Large {
+    keys: Vec<Record>,
+    set: RecordSet,
+}
+
+/// The NS set has so many records besides.
+fn make_large(alloc: Global) -> Result<Large, NameError> {
+    let keys = many_and_one(alloc, RecordType::DNSKEY, KEY_BESIDE, KEY)?;
+    let mut set = servers(alloc, "example.", &[GOOD])?;
+    fill(
+        &mut set.records,
+        &record(
+            alloc,
+            "example.",
+            RecordType::NS,
+            b"\x01b\0",
+            Proof::Indeterminate,
+        )?,
+    )?;
+    Ok(Large { keys, set })
+}
+
+fn proof_by_keys<L: Ledger>(
+    alloc: Global,
+    verifier: &Counting,
+    large: &Large,
+    blank: Blank,
+) -> Result<Option<RrsetProof>, NoMemory>
+    requires name { blank.name ≡ L.name }
+    requires parts { blank.parts ≡ L.parts }
+    requires some { 0 < blank.parts }
+{
+    let Large { keys, set } = large;
+    let mut steps = Steps::<L>::new(blank);
+    match set.rrsigs.first() {
+        Some(sig) if set.records.len() != 0 => {
+            verify_rrsig_with_keys(alloc, verifier, keys, sig, set, 1500, &mut steps)
+        }
+        _ => Ok(None),
+    }
+}
+
+fn is_proof(found: &Option<RrsetProof>) -> bool {
+    matches!(found, Some(found) if found.proof == Proof::Secure)
+}
+
+fn is_proved(alloc: Global) -> Result<bool, NameError> {
+    let large = make_large(alloc)?;
+    let verifier = Counting::new();
+    Ok(is_proof(&proof_by_keys::<Brand>(alloc, &verifier, &large, Blank::new(1))?))
+}
+
+/// By a key alone, whose mark counts.
+fn proof_by_key<L: Ledger>(
+    alloc: Global,
+    verifier: &Counting,
+    set: &RecordSet,
+    sig: &Record,
+    key: &Record,
+    blank: Blank,
+) -> bool
+    requires name { blank.name ≡ L.name }
+    requires parts { blank.parts ≡ L.parts }
+    requires some { 0 < blank.parts }
+{
+    if Dnskey::of(key).is_none() || Rrsig::of(sig).is_none() || set.records.len() == 0 {
+        return false;
+    }
+    let mut steps = Steps::<L>::new(blank);
+    verify_rrset_with_dnskey(alloc, verifier, key, sig, set, 1500, &mut steps).is_ok()
+}
+
+/// By a key alone, whatever its mark.
+fn is_good(
+    alloc: Global,
+    verifier: &Counting,
+    set: &RecordSet,
+    sig: &Record,
+    key: &Record,
+) -> Result<bool, NoMemory> {
+    let anchors = TrustAnchors::empty(alloc);
+    let judge = Judge {
+        verifier,
+        anchors: &anchors,
+        moment: 1500,
+    };
+    is_good_by(alloc, &judge, set, sig, key)
+}
+
+fn is_proved_by_key(alloc: Global) -> Result<bool, NameError> {
+    let large = make_large(alloc)?;
+    let verifier = Counting::new();
+    match (large.set.rrsigs.first(), large.keys.last()) {
+        (Some(sig), Some(key)) => Ok(
+            proof_by_key::<Brand>(alloc, &verifier, &large.set, sig, key, Blank::new(1))
+                && is_good(alloc, &verifier, &large.set, sig, key)?,
+        ),
+        _ => Ok(false),
+    }
+}
+
+#[test]
+fn a_set_of_70_000_records_is_proved_by_the_last_of_as_many_keys(rt: HostRuntime) {
+    check_row(&rt, "by its keys", is_proved(rt.alloc()));
+    check_row(&rt, "by that key alone", is_proved_by_key(rt.alloc()));
+}
+
+fn accept_all(listed: &mut Listed) -> Result<(), NameError> {
+    for number in 0..MANY as u32 {
+        listed.accept(13, &number.to_be_bytes(), &[7; 300], &[8; 300])?;
+    }
+    Ok(())
+}
+
+fn holds_all(alloc: Global) -> Result<bool, NameError> {
+    let mut listed = Listed::new(alloc);
+    accept_all(&mut listed)?;
+    let copy = listed.try_clone()?;
+    let last = MANY as u32 - 1;
+    Ok(copy.accepts(13, &last.to_be_bytes(), &[7; 300], &[8; 300]))
+}
+
+#[test]
+fn a_list_holds_70_000_signatures(rt: HostRuntime) {
+    check_row(&rt, "of 300 bytes", holds_all(rt.alloc()));
+}
+
+fn is_answer_copied(alloc: Global) -> Result<bool, NameError> {
+    let keys = many_and_one(alloc, RecordType::DNSKEY, KEY_BESIDE, KEY)?;
+    let answer = KeyAnswer::Keys(keys);
+    let copy = answer.try_clone();
+    drop(answer);
+    let copy = copy?;
+    let held = matches!(&copy, KeyAnswer::Keys(keys) if keys.len() == MANY + 1);
+    drop(copy);
+    Ok(held)
+}
+
+fn is_verdict_copied(alloc: Global) -> Result<bool, NameError> {
+    let verdict = ZoneVerdict::Signed(many_and_one(alloc, RecordType::DS, DS_BESIDE, DS)?);
+    let copy = verdict.try_clone();
+    drop(verdict);
+    let copy = copy?;
+    let held = matches!(&copy, ZoneVerdict::Signed(ds) if ds.len() == MANY + 1);
+    drop(copy);
+    Ok(held)
+}
+
+#[test]
+fn answers_and_verdicts_of_70_000_records_are_copied(rt: HostRuntime) {
+    check_row(&rt, "keys", is_answer_copied(rt.alloc()));
+    check_row(&rt, "DS records", is_verdict_copied(rt.alloc()));
+}
+
+fn trust_all(alloc: Global, anchors: &mut TrustAnchors) -> Result<(), NameError> {
+    for number in 0..MANY as u32 {
+        let key = Octets::from_slice(alloc, &number.to_be_bytes())?;
+        let _ = anchors.insert_with_name(Name::root(alloc)?, 13, key)?;
+    }
+    Ok(())
+}
+
+fn are_anchors_copied(alloc: Global) -> Result<bool, NameError> {
+    let mut anchors = TrustAnchors::empty(alloc);
+    trust_all(alloc, &mut anchors)?;
+    let copy = anchors.try_clone()?;
+    let last = MANY as u32 - 1;
+    Ok(copy.contains_with_name(&Name::root(alloc)?, 13, &last.to_be_bytes()))
+}
+
+#[test]
+fn a_set_of_70_000_anchors_is_copied(rt: HostRuntime) {
+    check_row(&rt, "of the root", are_anchors_copied(rt.alloc()));
+}
+
+/// The longest name: 127 labels.
+fn longest(alloc: Global) -> Result<Name, NameError> {
+    let mut name = Name::root(alloc)?;
+    for _ in 0..127 {
+        name = name.prepend_label(b"a")?;
+    }
+    Ok(name)
+}
+
+fn is_kind_copied(alloc: Global) -> Result<bool, NameError> {
+    let name = longest(alloc)?;
+    let kind = ProofErrorKind::DsResponseInsecure { name };
+    let copy = kind.try_clone();
+    drop(kind);
+    let copy = copy?;
+    let held =
+        matches!(&copy, ProofErrorKind::DsResponseInsecure { name } if name.wire().len() == 255);
+    drop(copy);
+    Ok(held)
+}
+
+fn is_error_copied(alloc: Global) -> Result<bool, NameError> {
+    let name = longest(alloc)?;
+    let error = ProofError::new(Proof::Bogus, ProofErrorKind::DsRecordShouldExist { name });
+    let copy = error.try_clone();
+    drop(error);
+    let copy = copy?;
+    let held =
+        matches!(copy.kind(), ProofErrorKind::DsRecordShouldExist { name } if name.wire().len() == 255);
+    drop(copy);
+    Ok(held)
+}
+
+#[test]
+fn a_cause_with_the_longest_name_is_copied(rt: HostRuntime) {
+    check_row(&rt, "a cause", is_kind_copied(rt.alloc()));
+    check_row(&rt, "an error", is_error_copied(rt.alloc()));
+}

@@ -1,6 +1,0 @@
-use Rattle.std.proofs.Common.{◌≡◌, take}
-use Rattle.dns_response.proofs.response.clone_chains.Given as goal
-
--- the chains so far are in the copy
-abbrev pub invariant-loop-chain : goal.invariant-loop-chain
-invariant-loop-chain l = l.all.items ≡ take l.chain-index l.chains.items

@@ -1,4 +1,0 @@
-pub mod CountLemmas
-pub mod WalkLemmas
-pub mod OnceLemmas
-pub mod OrderedLemmas

@@ -1,0 +1,228 @@
+use crate::parts::*;
+use crate::rows::check_row;
+use crate::trust_mark_tests::key_set;
+use dns_evidence::{ChainedSet, Listed, MarkedSet};
+use dns_model::{NameError, Proof, Section};
+use dns_name::NoMemory;
+use dns_rdata::Rrsig;
+use dns_record::{Record, RecordSet};
+use dns_trust::{Judge, SetSignature, Verdict, chained_verdict};
+use std::alloc::Global;
+use std::process::Abort;
+
+/// The judged key set that an ask for keys was answered with, a moment, and whether the signature over the root's NS set then
+/// does for its set what the test says.
+struct Answered {
+    shows: &'static str,
+    owner: &'static str,
+    section: Section,
+    mark: Proof,
+    letters: &'static str,
+    now: u64,
+    wanted: bool,
+}
+
+const ANSWERED: Answered = Answered {
+    shows: "a Secure key",
+    owner: ".",
+    section: Section::Answer,
+    mark: Proof::Secure,
+    letters: "K",
+    now: 1500,
+    wanted: true,
+};
+
+const UNWANTED: Answered = Answered {
+    wanted: false,
+    ..ANSWERED
+};
+
+const PROVING: &[Answered] = &[
+    ANSWERED,
+    Answered {
+        shows: "the signature has expired",
+        now: 2001,
+        ..UNWANTED
+    },
+    Answered {
+        shows: "keys of another owner",
+        owner: "a.",
+        letters: "A",
+        ..UNWANTED
+    },
+    Answered {
+        shows: "keys of another section",
+        section: Section::Additional,
+        ..UNWANTED
+    },
+    Answered {
+        shows: "Bogus keys",
+        mark: Proof::Bogus,
+        ..UNWANTED
+    },
+    Answered {
+        shows: "Insecure keys",
+        mark: Proof::Insecure,
+        ..UNWANTED
+    },
+];
+
+const EXCUSING: &[Answered] = &[
+    Answered {
+        shows: "Insecure keys",
+        mark: Proof::Insecure,
+        ..ANSWERED
+    },
+    Answered {
+        shows: "Bogus keys",
+        mark: Proof::Bogus,
+        ..UNWANTED
+    },
+    Answered {
+        shows: "Insecure keys of another owner",
+        owner: "a.",
+        letters: "A",
+        mark: Proof::Insecure,
+        ..UNWANTED
+    },
+];
+
+/// The first two keys of the tag count.
+const COUNTED: &[Answered] = &[
+    ANSWERED,
+    Answered {
+        shows: "the second key",
+        letters: "OK",
+        ..ANSWERED
+    },
+    Answered {
+        shows: "the third key",
+        letters: "OHK",
+        ..UNWANTED
+    },
+    Answered {
+        shows: "the key of another zone",
+        letters: "A",
+        ..UNWANTED
+    },
+    Answered {
+        shows: "a record of another type",
+        letters: "T",
+        ..UNWANTED
+    },
+    Answered {
+        shows: "keys of another zone count for nothing",
+        letters: "AAOK",
+        ..ANSWERED
+    },
+    Answered {
+        shows: "records of another type count for nothing",
+        letters: "TTOK",
+        ..ANSWERED
+    },
+    Answered {
+        shows: "the third key behind both",
+        letters: "ATOHK",
+        ..UNWANTED
+    },
+];
+
+fn answer_set(alloc: Global, row: &Answered) -> Result<ChainedSet, NameError> {
+    let judged = MarkedSet {
+        section: row.section,
+        set: key_set(alloc, row.owner, row.letters)?,
+        mark: row.mark,
+        sig: None,
+    };
+    let chain = Vec::new(alloc);
+    Ok(ChainedSet { judged, chain })
+}
+
+fn answer(alloc: Global, row: &Answered) -> Result<Option<Vec<ChainedSet>>, NameError> {
+    let mut sets = Vec::new(alloc);
+    sets.push(answer_set(alloc, row)?)?;
+    Ok(Some(sets))
+}
+
+/// What a signature does for its set.
+fn verdict_on(
+    alloc: Global,
+    judge: &Judge<'_, Listed>,
+    set: &RecordSet,
+    sig: &Record,
+    answer: &Option<Vec<ChainedSet>>,
+) -> Result<Verdict, NoMemory> {
+    match Rrsig::of(sig) {
+        Some(read) => {
+            let signature = SetSignature {
+                set,
+                sig,
+                read: &read,
+            };
+            chained_verdict(alloc, judge, &signature, answer)
+        }
+        None => Err(NoMemory),
+    }
+}
+
+/// What the signature over the root's NS set does for it.
+fn verdict_by(
+    alloc: Global,
+    judge: &Judge<'_, Listed>,
+    answer: &Option<Vec<ChainedSet>>,
+) -> Result<Verdict, NameError> {
+    let set = servers(alloc)?;
+    let sig = root_signature(alloc, OVER_NS)?;
+    Ok(verdict_on(alloc, judge, &set, &sig, answer)?)
+}
+
+fn verdict(
+    alloc: Global,
+    now: u64,
+    answer: &Option<Vec<ChainedSet>>,
+) -> Result<Verdict, NameError> {
+    let trust = trust_in_keys(alloc, ROOT)?;
+    verdict_by(alloc, &judge_at(&trust, now), answer)
+}
+
+fn proves(alloc: Global, row: &Answered) -> Result<bool, NameError> {
+    let answer = answer(alloc, row)?;
+    Ok(verdict(alloc, row.now, &answer)?.is_proved() == row.wanted)
+}
+
+fn excuses(alloc: Global, row: &Answered) -> Result<bool, NameError> {
+    let answer = answer(alloc, row)?;
+    Ok(verdict(alloc, row.now, &answer)?.shows_insecure() == row.wanted)
+}
+
+fn does_nothing(verdict: &Verdict) -> bool {
+    !verdict.is_proved() && !verdict.shows_insecure()
+}
+
+fn fails_without_answer(alloc: Global) -> Result<bool, NameError> {
+    Ok(does_nothing(&verdict(alloc, 1500, &None)?))
+}
+
+fn check_proving(rt: &impl Abort, alloc: Global, rows: &[Answered]) {
+    for row in rows {
+        check_row(rt, row.shows, proves(alloc, row));
+    }
+}
+
+#[test]
+fn signatures_prove_by_the_keys_of_their_signer(rt: HostRuntime) {
+    check_proving(&rt, rt.alloc(), PROVING);
+    check_row(&rt, "no answer", fails_without_answer(rt.alloc()));
+}
+
+#[test]
+fn signatures_excuse_by_insecure_keys(rt: HostRuntime) {
+    for row in EXCUSING {
+        check_row(&rt, row.shows, excuses(rt.alloc(), row));
+    }
+}
+
+#[test]
+fn the_first_two_keys_of_a_tag_count(rt: HostRuntime) {
+    check_proving(&rt, rt.alloc(), COUNTED);
+}

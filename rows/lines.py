@@ -1,0 +1,154 @@
+"""Lines of sessions: which can stand at which place, and the number of the first bad line of a text. `tools/run_rows` runs each on
+the program.
+
+The forms are those of docs/FORMATS.md. A text without a bad line comes to a report or to a fault."""
+
+VERSIONS = ("dns-session 1\n", "dns-session 2\n")
+# what stands before a line and behind it, its number, lines that can stand there, and lines that can't
+PLACES = (
+    # the header
+    ("",
+     "\nmoment 0\nalgorithms\nquery . A\nend\n", 1, (
+        "dns-session 1", "dns-session 2",
+     ), (
+        "", "dns-session 0", "dns-session 3", "dns-session 12", "dns-session 02", "dns-session", "dns-session  1",
+        "dns-session 1 ", " dns-session 1", "dns-session 01", "dns-session 1\r",
+     )),
+    # the moment
+    ("dns-session 1\n",
+     "\nalgorithms\nquery . A\nend\n", 2, (
+        "moment 0", "moment 18446744073709551615",
+     ), (
+        "moment", "moment ", "moment 00", "moment 01", "moment +1", "moment -1", "moment 1 2", "moment  1", "moment 1 ",
+        "moment 18446744073709551616", "moment 36893488147419103232", "moment 340282366920938463463374607431768211457",
+        "algorithms",
+     )),
+    # the algorithms
+    ("dns-session 1\nmoment 0\n",
+     "\nquery . A\nend\n", 3, (
+        "algorithms", "algorithms 0 255 255",
+     ), (
+        "algorithms ", "algorithms 256", "algorithms 013", "algorithms 1  2", "algorithms 1 2 ", "algorithms 1 a",
+        "query . A",
+     )),
+    # an anchor or an accepted signature
+    ("dns-session 1\nmoment 0\nalgorithms\n",
+     "\nquery . A\nend\n", 4, (
+        "anchor . 13 aaBB", "anchor . 13 -", "anchor A\\.b\\009\\\\.C 255 0123456789abcdefABCDEF",
+        "anchor www.example. 0 00", "anchor www.example 0 00", "accept 1 - - -", "accept 255 Aa bB 0C",
+     ), (
+        "anchor . 13", "anchor . 13 ", "anchor . 13 a", "anchor . 13 aabbc", "anchor . 13 ag", "anchor . 13 --",
+        "anchor . 13 aa bb", "anchor . 13  aa", "anchor . 256 aa", "anchor . 013 aa", "anchor .. 13 aa",
+        "anchor a..b 13 aa", "anchor a\\256 13 aa", "accept 13 - -", "accept 13 - - - -", "reply . A -", "empty . A -",
+        "fault . A io", "end",
+     )),
+    # the query
+    ("dns-session 1\nmoment 0\nalgorithms\nanchor . 1 -\n",
+     "\nend\n", 5, (
+        "query . ANY", "query \\065.\\*.b NSEC3PARAM", "query . TYPE0", "query . TYPE65535", "query . TYPE3",
+     ), (
+        "query . TYPE1", "query . TYPE03", "query . TYPE65536", "query . TYPE", "query . a", "query . A IN", "query .",
+        "query  . A",
+     )),
+    # a reply
+    ("dns-session 1\nmoment 0\nalgorithms\nanchor . 1 -\nquery . A\n",
+     "\nend\n", 6, (
+        "reply . A -", "reply . A 00", "reply a. TYPE3 0000840000000000000000FF",
+        "reply a. DNSKEY 000084000000000000000000", "reply \\200. IXFR aA",
+     ), (
+        "query . A", "reply . A", "reply . A 000", "anchor . 13 aa",
+     )),
+    # the depth
+    ("dns-session 1\nmoment 0\n",
+     "\nalgorithms\nquery . A\nend\n", 3, (
+        "depth 0", "depth 65535",
+     ), (
+        "depth", "depth ", "depth  1", "depth 1 ", "depth 1 2", "depth 00", "depth 01", "depth +1", "depth -1", "depth -",
+        "depth 0x1", "depth 65536", "depth 131071", "depth 18446744073709551616", "Depth 1", "depths 1",
+     )),
+)
+# the same behind the query of a session of either version
+REPLIES = (
+    "moment 0\nalgorithms\nquery . A\n",
+    "\nfault . A busy\nreply . A -\nempty . A -\nend\n", 5, (
+        "reply . A -", "empty . A -", "empty . A 00", "empty . NS 000084020000000000000000",
+        "empty a. TYPE3 0000840000000000000000FF", "empty \\200. IXFR aA", "fault . A timeout",
+        "fault www.example DNSKEY io", "fault a\\.b. TYPE3 busy", "fault \\200. ANY io",
+    ), (
+        "reply . A io", "reply . A - -", "Reply . A -", "empty", "empty . A", "empty . A ", "empty . A 000", "empty . A io",
+        "empty . A 00 00", "empty . A  00", "empty . TYPE1 00", "empty .. A 00", "Empty . A 00", "emptyy . A 00", "fault",
+        "fault . A", "fault . A ", "fault . A -", "fault . A 00", "fault . A i", "fault . A iox", "fault . A IO",
+        "fault . A Timeout", "fault . A time", "fault . A timeouts", "fault . A bus", "fault . A no-connections",
+        "fault . A io busy", "fault . A  io", "fault . A io ", "fault  . A io", "fault . TYPE1 io", "fault .. A io",
+        "fault io . A", "faults . A io",
+    ))
+# whole texts, with the number of their first bad line, or 0: whether they are whole and end with LF, and where a depth stands
+TEXTS = (
+    (0, (
+        "dns-session 1\nmoment 1\nalgorithms\nquery . A\nend\n",
+    )),
+    (1, (
+        "", "\n", "dns-session 1", "depth 1\ndns-session 1\nmoment 0\nalgorithms\nquery . A\nend\n",
+    )),
+    (2, (
+        "dns-session 1\n", "dns-session 1\ndepth 1\nmoment 0\nalgorithms\nquery . A\nend\n",
+    )),
+    (3, (
+        "dns-session 1\nmoment 0\ndepth 1",
+    )),
+    (4, (
+        "dns-session 1\nmoment 1\nalgorithms\nquery . A",
+        "dns-session 1\nmoment 0\ndepth 1\ndepth 1\nalgorithms\nquery . A\nend\n",
+        "dns-session 1\nmoment 0\nalgorithms\ndepth 1\nquery . A\nend\n",
+        "dns-session 1\nmoment 0\ndepth 1\nquery . A\nend\n",
+    )),
+    (5, (
+        "dns-session 1\nmoment 1\nalgorithms\nquery . A\n", "dns-session 1\nmoment 1\nalgorithms\nquery . A\nend",
+        "dns-session 1\nmoment 1\nalgorithms\naccept 1 - - -\nanchor . 1 -\nquery . A\nend\n",
+        "dns-session 1\nmoment 0\ndepth 1\nalgorithms\ndepth 1\nquery . A\nend\n",
+        "dns-session 1\nmoment 0\nalgorithms\nanchor . 1 -\ndepth 1\nquery . A\nend\n",
+        "dns-session 2\nmoment 0\nalgorithms\nquery . A\ndepth 1\nend\n",
+    )),
+    (6, (
+        "dns-session 1\nmoment 1\nalgorithms\nquery . A\nend\n\n",
+        "dns-session 1\nmoment 1\nalgorithms\nquery . A\nend\nend\n",
+        "dns-session 1\nmoment 1\nalgorithms\nquery . A\nend\n ",
+        "dns-session 2\nmoment 0\nalgorithms\nquery . A\nend\ndepth 1\n",
+    )),
+)
+# the same of what stands behind the algorithms: replies stand between the query and the end
+TAILS = (
+    (0, (
+        "query . A\nfault . A io\nreply . A -\nempty . A -\nend\n",
+    )),
+    (4, (
+        "fault . A io\nquery . A\nend\n",
+    )),
+    (5, (
+        "query . A\nfault . A io",
+    )),
+    (6, (
+        "query . A\nend\nempty . A -\n", "query . A\nfault . A io\n",
+        "query . A\nempty . A -\nfault . A none\nempty . A 0\nend\n", "query . A\nfault . A busy\nquery . A\nend\n",
+    )),
+    (7, (
+        "query . A\nfault . A io\nend\nfault . A io\n",
+    )),
+)
+
+
+def at(place, version=""):
+    """The texts of a place, each with the number of its first bad line."""
+    before, after, number, good, bad = place
+    yield from ((version + before + line + after, 0) for line in good)
+    yield from ((version + before + line + after, number) for line in bad)
+
+
+def texts():
+    """Each text with the number of its first bad line, 0 where there is none."""
+    for place in PLACES:
+        yield from at(place)
+    for version in VERSIONS:
+        yield from at(REPLIES, version)
+        yield from ((f"{version}moment 1\nalgorithms\n{text}", number) for number, ends in TAILS for text in ends)
+    yield from ((text, number) for number, whole in TEXTS for text in whole)

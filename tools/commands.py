@@ -1,0 +1,72 @@
+"""What `tools/show` and `tools/picture` have in common: their words, what they read and write, and how they end."""
+import argparse
+import os
+import sys
+
+from report_lines import BadLine
+from reports import NoReport, report_in
+
+# the statuses of `dns_check`, as far as they have a meaning here; argparse ends with 2, that of wrong words
+NO_REPORT, BAD_INPUT, NOT_READ, NOT_WRITTEN = 1, 3, 4, 5
+
+
+def seconds(word):
+    """A moment on the command line."""
+    value = int(word)
+    if not 0 <= value < 2**64:
+        raise ValueError(word)
+    return value
+
+
+def words_of(tool, about):
+    """The words that both tools take."""
+    parser = argparse.ArgumentParser(prog=tool, description=about, formatter_class=argparse.RawDescriptionHelpFormatter)
+    parser.add_argument("--moment", type=seconds, metavar="SECONDS", help="the moment of the session, in seconds since 1970")
+    parser.add_argument("report", metavar="REPORT", help="a file, or - for the standard input")
+    return parser
+
+
+def read_input(path):
+    """A file, or the standard input by the word `-`."""
+    if path != "-":
+        with open(path, "rb") as file:
+            return file.read()
+    if sys.stdin is None:
+        raise OSError("the input is closed")
+    return sys.stdin.buffer.read()
+
+
+def write_output(text):
+    if sys.stdout is None:
+        raise OSError("the output is closed")
+    try:
+        sys.stdout.buffer.write(text.encode())
+        sys.stdout.flush()
+    except OSError:
+        # what is left in the buffer isn't written at the end again
+        os.dup2(os.open(os.devnull, os.O_WRONLY), sys.stdout.fileno())
+        raise
+
+
+def run(tool, path, made):
+    """Writes the text that `made` makes of the report at a path, and answers the status."""
+    def said(status, what):
+        if sys.stderr is not None:
+            print(f"{tool}: {what}", file=sys.stderr)
+        return status
+
+    try:
+        octets = read_input(path)
+    except OSError as error:
+        return said(NOT_READ, f"{path} can't be read: {error.strerror or error}")
+    try:
+        text = made(report_in(octets))
+    except BadLine as bad:
+        return said(BAD_INPUT, f"{path} is no report: {bad}")
+    except NoReport as none:
+        return said(NO_REPORT, f"{path} has no report, and says why: {none}")
+    try:
+        write_output(text)
+    except OSError as error:
+        return said(NOT_WRITTEN, f"the output can't be written: {error.strerror or error}")
+    return 0
