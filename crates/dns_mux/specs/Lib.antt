@@ -1,0 +1,9 @@
+pub mod Draws
+pub mod Events
+pub mod History
+pub mod Machine
+pub mod Messages
+pub mod Queues
+pub mod Runs
+pub mod Tables
+pub mod Views
