@@ -264,9 +264,15 @@ fn is_mark(
     want: &Want,
 ) -> Result<bool, NameError> {
     match mark {
-        Ok(KeysMark::NeedDs) => Ok(matches!(want, Want::Nothing)),
-        Ok(KeysMark::Done(found)) => Ok(is_found(&found, want)),
+        Ok(mark) => Ok(is_keys_mark(&mark, want)),
         Err(error) => fails(alloc, error, text_of(want)),
+    }
+}
+
+fn is_keys_mark(mark: &KeysMark, want: &Want) -> bool {
+    match mark {
+        KeysMark::NeedDs => matches!(want, Want::Nothing),
+        KeysMark::Done(found) => is_found(found, want),
     }
 }
 
