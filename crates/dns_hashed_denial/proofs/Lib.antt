@@ -1,0 +1,9 @@
+pub mod FoundMembers
+pub mod ExistingNames
+pub mod TrueRecords
+pub mod BelowEnclosers
+pub mod HashedVerdicts
+pub mod HashedPromises
+pub mod UnsignedDelegations
+pub mod WorkedTruth
+pub mod ExampleHashes

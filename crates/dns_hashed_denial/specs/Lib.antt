@@ -1,0 +1,2 @@
+pub mod HashedZones
+pub mod HashedDenial
