@@ -1,8 +1,9 @@
 //! A delegation to a zone that isn't signed, shown by NSEC3 records (RFC 5155, 8.9).
-ghost use Rattle.std.specs.Prelude.{◌≡◌, Some};
+ghost use Rattle.std.specs.Prelude.{◌≡◌, true, Some};
 ghost use Rattle.std.specs.List.{find};
 ghost use Rattle.dns_rules.specs.Nsec3Covering.{matches as matches_in};
 ghost use Rattle.dns_rules.specs.Nsec3Verdict.{hashed, is_unsigned_at as is_unsigned_at_in, is_unsigned_by as is_unsigned_by_in, is_unsigned_in as is_unsigned_in_zone, may_be_unsigned as may_be_unsigned_in, parameters_of as parameters_of_in, provable_encloser as provable_encloser_in, shows_insecure_delegation};
+ghost use Rattle.dns_hashed_denial.specs.HashedDenial.{IsInsecureByHashes};
 ghost use Rattle.dns_denial.specs.Enclosers.{IsEncloserOf};
 
 use crate::hash_covering::covering;
@@ -17,8 +18,16 @@ use dns_rdata::Nsec3Record;
 /// Whether the NSEC3 records show that a child's zone isn't signed, or that nothing can show that it is (RFC 5155, 8.9): the
 /// child is a delegation without DS, or the next closer name lies in an opt-out span. The zone is that right above the first
 /// record's owner. Limits of iterations aren't looked at.
-#[tactic(auto, unfolding(dns_rules::specs::Nsec3Verdict::shows_insecure_delegation))]
 pub fn verify_nsec3_insecure_delegation(child: &Name, nsec3s: &[Nsec3Record]) -> bool
+    ensures shown { result ≡ shows_insecure_delegation child.now nsec3s.now }
+    ensures insecure { result ≡ true → IsInsecureByHashes child.now nsec3s.now }
+{
+    shows_insecure_delegation(child, nsec3s)
+}
+
+/// By the zone right above the first record's owner.
+#[tactic(auto, unfolding(dns_rules::specs::Nsec3Verdict::shows_insecure_delegation))]
+fn shows_insecure_delegation(child: &Name, nsec3s: &[Nsec3Record]) -> bool
     ensures { result ≡ shows_insecure_delegation child.now nsec3s.now }
 {
     match nsec3s {

@@ -1,10 +1,13 @@
 //! What NSEC3 records prove of a query that a response denies or answers from a wildcard (RFC 5155, 8).
-ghost use Rattle.std.specs.Prelude.{◌≡◌, ◌<◌, ◌+◌, ◌&&◌, length, Some};
+ghost use Rattle.std.specs.Prelude.{◌≡◌, ℕ, ◌<◌, ◌+◌, ◌&&◌, length, Some};
 ghost use Rattle.std.specs.List.{find, list_all, list_any};
 ghost use Rattle.dns_model.specs.Names.{last_labels};
+ghost use Rattle.dns_model.specs.declared.answered.Answered.TheVariants.{No, Expanded};
+ghost use Rattle.dns_model.specs.declared.proof.Proof.TheVariants.{Secure};
 ghost use Rattle.dns_rules.specs.ListedTypes.{wildcard_lacks as wildcard_lacks_in};
 ghost use Rattle.dns_rules.specs.Nsec3Covering.{matches as matches_in};
 ghost use Rattle.dns_rules.specs.Nsec3Verdict.{covering_name, hashed, is_of_zone as is_of_zone_in, name_error as name_error_in, no_closer_name as no_closer_name_in, no_data as no_data_in, next_closer, no_data_below as no_data_below_in, nsec3_verdict, provable_encloser as provable_encloser_in, unmatched_verdict as unmatched_verdict_in, verdict_at_name as verdict_at_name_in, verdict_by as verdict_by_in};
+ghost use Rattle.dns_hashed_denial.specs.HashedDenial.{IsDeniedByHashes, IsExpandedByHashes};
 ghost use Rattle.dns_denial.specs.Enclosers.{IsEncloserOf};
 
 use crate::hash_covering::covering;
@@ -24,7 +27,6 @@ use dns_record::{Query, RecordType, ResponseCode};
 /// the name isn't there. With `Expanded` and `Secure` no closer name is there than the wildcard that the answer was made from.
 /// `Insecure` comes where the iterations are above `soft`, the count to which they are judged, and where a name error rests on
 /// an opt-out span. Anything else is `Bogus`, as are iterations above `hard`. The records are taken as true records of the zone.
-#[tactic(auto, unfolding(dns_rules::specs::Nsec3Verdict::nsec3_verdict))]
 pub fn verify_nsec3(
     query: &Query,
     zone: &Name,
@@ -35,6 +37,25 @@ pub fn verify_nsec3(
     hard: u16,
 ) -> Proof
     ensures verdict { result ≡ nsec3_verdict query.now zone.now code.0 answered nsec3s.now soft hard }
+    ensures denial { result ≡ Secure → answered ≡ No → IsDeniedByHashes query.now zone.now code.0 nsec3s.now }
+    ensures expansion { (labels : ℕ) → result ≡ Secure → answered ≡ Expanded labels
+        → IsExpandedByHashes query.now labels nsec3s.now }
+{
+    nsec3_verdict(query, zone, code, answered, nsec3s, soft, hard)
+}
+
+/// The verdict, row by row.
+#[tactic(auto, unfolding(dns_rules::specs::Nsec3Verdict::nsec3_verdict))]
+fn nsec3_verdict(
+    query: &Query,
+    zone: &Name,
+    code: ResponseCode,
+    answered: Answered,
+    nsec3s: &[Nsec3Record],
+    soft: u16,
+    hard: u16,
+) -> Proof
+    ensures { result ≡ nsec3_verdict query.now zone.now code.0 answered nsec3s.now soft hard }
 {
     if !holds_query(zone, query) {
         return Proof::Bogus;
