@@ -1,5 +1,5 @@
 -- Labels that are hashes: compared as texts as they are as hashes (RFC 4648, 7; RFC 5155, 3).
-use Rattle.std.proofs.Common.{◌≡◌, ℕ, ◌%◌, ◌≤◌, Bool, true, false, ◌&&◌, cond, List, map, length, take, refl, sym, ap, ◌∙◌, arith, None, Some}
+use Rattle.std.proofs.Common.{◌≡◌, ℕ, ◌%◌, Bool, true, false, ◌&&◌, cond, List, map, length, take, refl, sym, ap, ◌∙◌, arith, None, Some}
 use Rattle.std.specs.Prelude.{◌↔◌, IsTrue, nat_eq, nat_le, ◌==◌}
 use Rattle.std.specs.Char.{to_ascii_lowercase}
 use Rattle.std.specs.Cmp.Lexicographic.{pointwise, slice_cmp}

@@ -1,16 +1,14 @@
 -- The closest encloser sought upwards, the next closer name below it, and the wildcard there (RFC 5155, 1.3 and 8.3).
-use Rattle.std.proofs.Common.{◌≡◌, ℕ, ◌+◌, ◌-◌, ◌<◌, ◌≤◌, Bool, true, false, cond, List, [], ◌∷◌, length, drop, Option, None, Some, refl, sym, ap, ◌∙◌, arith, length-drop}
-use Rattle.std.specs.Prelude.{nat_eq}
-use Rattle.std.specs.Cmp.Lexicographic.{pointwise}
+use Rattle.std.proofs.Common.{◌≡◌, ℕ, ◌+◌, ◌-◌, true, false, List, [], ◌∷◌, length, drop, None, Some, refl, sym, ap, ◌∙◌, arith, length-drop}
 use Rattle.std.specs.List.{find}
 use Rattle.std.proofs.lemmas.Slice.Eq.{bytes_eq-Decides}
-use Rattle.dns_model.specs.Names.{Label, Labels, at_or_above, is_name, is_wildcard, asterisk, last_labels, parent, star}
+use Rattle.dns_model.specs.Names.{Label, Labels, at_or_above, is_name, is_wildcard, asterisk, last_labels, parent}
 use Rattle.dns_model.specs.Owned.{OwnedNsec3}
 use Rattle.dns_model.proofs.LabelSteps.{parent-drop, is_name-above}
 use Rattle.dns_model.proofs.WildcardLemmas.{star_fits}
 use Rattle.dns_rules.specs.Nsec3Covering.{matches}
-use Rattle.dns_rules.specs.Nsec3Verdict.{Parameters, hashed, nearest_match, next_closer}
-use Rattle.dns_denial.specs.Enclosers.{EncloserValue, IsEncloserOf}
+use Rattle.dns_rules.specs.Nsec3Verdict.{Parameters, hashed, nearest_match}
+use Rattle.dns_denial.specs.Enclosers.{IsEncloserOf}
 
 -- ---- one name more
 
