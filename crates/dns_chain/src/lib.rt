@@ -7,13 +7,13 @@ pub use dns_evidence::{Chain, Link, LinkSignature, Listed, Steps, Trail, Verifie
 pub use dns_handle::{DnsHandle, DnsRequest, DnsRequestOptions, DnsResponse, NetError};
 pub use dns_lookup::DnssecDnsHandle;
 pub use dns_marks::{
-    DnsAnswer, KeyAnswer, KeysMark, ProofError, ProofErrorKind, RrsetProof, ZoneVerdict,
-    ds_verdict, mark_keys, mark_rrset, verify_dnskey, verify_rrset_with_dnskey,
-    verify_rrsig_with_keys,
+    DnsAnswer, KeyAnswer, KeysMark, ZoneVerdict, ds_verdict, mark_keys, mark_rrset, verify_dnskey,
+    verify_rrset_with_dnskey, verify_rrsig_with_keys,
 };
 pub use dns_message::Message;
 pub use dns_model::{Denial, Proof};
 pub use dns_name::{Name, NoMemory, Octets};
+pub use dns_proof::{ProofError, ProofErrorKind, RrsetProof};
 pub use dns_record::{DNSClass, Query, Record, RecordSet, RecordType};
 pub use dns_trail::{check_trail, is_in_order};
 pub use dns_trust::{Limits, RrsigValidity, TrustAnchors};

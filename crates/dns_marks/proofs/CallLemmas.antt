@@ -15,7 +15,7 @@ use Rattle.dns_model.specs.SoundAnswers.{is_secure, signed_ttl, ttl_of}
 use Rattle.dns_rules.specs.Validity.{Validity, ValidRrsig, ExpiredRrsig, WrongDnskey, WrongRrsig, validity, is_valid, is_of_set, is_by_key, is_good_by}
 use Rattle.dns_rules.specs.MarkParts.{sig_validity}
 use Rattle.dns_rules.specs.ProofErrors.{ProofErrorValue}
-use Rattle.dns_marks.specs.Kinds.{misfit}
+use Rattle.dns_marks.specs.Misfits.{misfit}
 use Rattle.dns_marks.specs.KeySignatures.{validity_at, proof_read, signature_proof, is_put, calls_by_key, calls_unless, calls_read}
 use Rattle.dns_marks.specs.SignatureKeys.{is_proving}
 use Rattle.dns_marks.specs.Proofs.{proved_by, proved_with}

@@ -10,7 +10,7 @@ use Rattle.dns_rules.specs.ProofErrors.{ProofErrorValue, InsecureDnsKey, Algorit
 use Rattle.dns_trust.specs.declared.usable.KeyFault.{KeyFault}
 use Rattle.dns_trust.specs.declared.usable.KeyFault.TheVariants.{Revoked, NotZoneKey}
 use Rattle.dns_trust.specs.KeyFaults.{fault_of}
-use Rattle.dns_marks.specs.Kinds.{because}
+use Rattle.dns_proof.specs.Kinds.{because}
 use Rattle.dns_marks.specs.KeySignatures.{fault_cause, key_failure}
 
 told_case : (secure revoked good : Bool) (fault : KeyFault) (tell : KeyFault → ProofErrorValue) (first rest : Option ProofErrorValue) → secure ≡ true

@@ -16,7 +16,8 @@ use Rattle.dns_rules.specs.Validity.{Validity, validity, is_valid}
 use Rattle.dns_rules.specs.ProofErrors.{ProofErrorKindValue, ProofErrorValue, RrsetProofValue, InsecureDnsKey, DnsKeyRevoked, NotZoneDnsKey, AlgorithmMismatch, Msg, DnsKeyVerifyRrsig}
 use Rattle.dns_trust.specs.declared.usable.KeyFault.{KeyFault}
 use Rattle.dns_trust.specs.declared.usable.KeyFault.TheVariants.{Revoked, NotZoneKey}
-use Rattle.dns_marks.specs.Kinds.{because, misfit}
+use Rattle.dns_proof.specs.Kinds.{because}
+use Rattle.dns_marks.specs.Misfits.{misfit}
 use Rattle.dns_marks.specs.Proofs.{proved_by}
 
 -- whether a signature fits a set and a key at a moment

@@ -1,4 +1,4 @@
-pub mod Kinds
+pub mod Misfits
 pub mod Proofs
 pub mod Dnskeys
 pub mod Tested

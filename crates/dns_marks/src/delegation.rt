@@ -1,12 +1,12 @@
 ghost use Rattle.std.specs.Prelude.{◌≡◌, IfOk};
 ghost use Rattle.dns_model.specs.Gives.{Gives};
-ghost use Rattle.dns_marks.specs.Kinds.{want_of_memory};
+ghost use Rattle.dns_proof.specs.Kinds.{want_of_memory};
 ghost use Rattle.dns_marks.specs.Dnskeys.{key_proof, unmatched as cause_of};
 
-use crate::{ProofError, ProofErrorKind};
 use dns_evidence::Verifier;
 use dns_model::Proof;
 use dns_name::NoMemory;
+use dns_proof::{ProofError, ProofErrorKind};
 use dns_rdata::Dnskey;
 use dns_record::Record;
 use dns_trust::matching_ds;

@@ -6,16 +6,17 @@ ghost use Rattle.dns_model.specs.Gives.{Gives};
 ghost use Rattle.dns_model.specs.Chains.{judge};
 ghost use Rattle.dns_rules.specs.KeySets.{needs_ds, keys_outcome, outcome_by_verdict, outcome_by_ds};
 ghost use Rattle.dns_trust.specs.Judge.{judge_of};
-ghost use Rattle.dns_marks.specs.Kinds.{want_of_memory};
+ghost use Rattle.dns_proof.specs.Kinds.{want_of_memory};
 ghost use Rattle.dns_marks.specs.KeyMarks.{keys_mark};
 ghost use Rattle.dns_marks.specs.Proofs.{proved_by as proved_under};
 ghost use Rattle.dns_marks.specs.ZoneVerdicts.{zone_verdict_value};
 ghost use Rattle.dns_marks.specs.declared.key_marks.KeysMark.TheVariants.{Done};
 
+use crate::ZoneVerdict;
 use crate::rrset_proof::{proved_by, proved_whole};
-use crate::{ProofError, ProofErrorKind, RrsetProof, ZoneVerdict};
 use dns_evidence::Verifier;
 use dns_model::Proof;
+use dns_proof::{ProofError, ProofErrorKind, RrsetProof};
 use dns_record::{Record, RecordSet};
 use dns_trust::{
     AnchoredRow, DsIndex, Judge, MatchedRow, SignedBy, TrustAnchors, anchored_row, matched_row,

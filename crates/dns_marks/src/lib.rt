@@ -4,7 +4,6 @@
 
 mod delegation;
 mod key_marks;
-mod proof_error;
 mod rrset_proof;
 mod set_mark;
 mod signature;
@@ -14,8 +13,6 @@ mod zone_verdict;
 
 pub use delegation::verify_dnskey;
 pub use key_marks::{KeysMark, mark_keys};
-pub use proof_error::{ProofError, ProofErrorKind};
-pub use rrset_proof::RrsetProof;
 pub use set_mark::{KeyAnswer, mark_rrset};
 pub use signature::verify_rrset_with_dnskey;
 pub use signature_keys::verify_rrsig_with_keys;

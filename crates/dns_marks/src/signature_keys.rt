@@ -9,13 +9,13 @@ ghost use Rattle.dns_marks.specs.Tested.{of_tested};
 ghost use Rattle.dns_marks.specs.SignatureKeys.{keys_proof, calls_by_keys, calls_in_turn, is_proving as is_proving_key, are_insecure as are_insecure_keys};
 ghost use Rattle.dns_marks.specs.KeySignatures.{calls_by_key, is_put as is_put_to};
 
-use crate::RrsetProof;
 use crate::rrset_proof::{excused, proved_by_tested};
 use crate::signature::ask_verifier;
 use crate::tested::Tested;
 use dns_evidence::{Steps, Verifier};
 use dns_model::Proof;
 use dns_name::{NoMemory, Octets};
+use dns_proof::RrsetProof;
 use dns_rdata::{Dnskey, Rrsig};
 use dns_record::{Record, RecordSet};
 use dns_trust::{SetSignature, counted_keys, is_usable, is_valid, may_be_signed, signed_data_once};

@@ -10,12 +10,12 @@ ghost use Rattle.dns_rules.specs.Delegations as delegations;
 ghost use Rattle.dns_rules.specs.Delegations.{ds_question as ds_question_of};
 ghost use Rattle.dns_marks.specs.ZoneVerdicts.{zone_verdict_value, answer_verdict, in_class, by_message, by_ds as by_ds_set, by_supported, without_ds as without_ds_set, has_ds_set as has_set_in, are_secure_in_set, authority_shows_no_ds as shows_none, is_insecure_record_above as is_above, shown_by, is_record_of};
 
-use crate::ProofErrorKind;
 use dns_evidence::Verifier;
 use dns_handle::{DnsResponse, NetError};
 use dns_message::Message;
 use dns_model::Proof;
 use dns_name::{Name, NoMemory};
+use dns_proof::ProofErrorKind;
 use dns_rdata::Ds;
 use dns_record::{DNSClass, Record, RecordType, clone_records};
 use dns_trust::{ds_query, is_supported_ds, shows_unsigned_cut};

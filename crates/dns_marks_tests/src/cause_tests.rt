@@ -1,9 +1,9 @@
 use crate::mark_parts::{only, reads, tells};
 use crate::rows::{check_place, check_row};
 use dns_handle::Notice;
-use dns_marks::{ProofError, ProofErrorKind};
 use dns_model::NameError;
 use dns_name::Name;
+use dns_proof::{ProofError, ProofErrorKind};
 use dns_record::{DNSClass, Query, RecordType};
 use std::alloc::Global;
 

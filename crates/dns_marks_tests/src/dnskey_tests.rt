@@ -1,8 +1,9 @@
 use crate::mark_parts::*;
 use crate::rows::check_row;
 use dns_evidence::Listed;
-use dns_marks::{ProofError, verify_dnskey};
+use dns_marks::verify_dnskey;
 use dns_model::{NameError, Proof};
+use dns_proof::ProofError;
 use dns_record::{Record, RecordType};
 use std::alloc::Global;
 

@@ -1,9 +1,10 @@
 use crate::mark_parts::*;
 use crate::rows::check_row;
 use dns_evidence::Verifier;
-use dns_marks::{KeysMark, ProofError, ProofErrorKind, ZoneVerdict, mark_keys};
+use dns_marks::{KeysMark, ZoneVerdict, mark_keys};
 use dns_model::{NameError, Proof};
 use dns_name::{Name, Octets};
+use dns_proof::{ProofError, ProofErrorKind};
 use dns_record::{RecordSet, RecordType};
 use dns_trust::TrustAnchors;
 use std::alloc::Global;

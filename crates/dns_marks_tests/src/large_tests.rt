@@ -6,11 +6,11 @@ use crate::mark_parts::{DS, KEY, put_record, record, servers};
 use crate::rows::check_row;
 use dns_evidence::{Listed, Steps, Verifier};
 use dns_marks::{
-    KeyAnswer, ProofError, ProofErrorKind, RrsetProof, ZoneVerdict, verify_dnskey,
-    verify_rrset_with_dnskey, verify_rrsig_with_keys,
+    KeyAnswer, ZoneVerdict, verify_dnskey, verify_rrset_with_dnskey, verify_rrsig_with_keys,
 };
 use dns_model::{NameError, Proof};
 use dns_name::{Name, NoMemory, Octets};
+use dns_proof::{ProofError, ProofErrorKind, RrsetProof};
 use dns_rdata::{Dnskey, Rrsig};
 use dns_record::{Record, RecordSet, RecordType};
 use dns_trust::{DsIndex, Judge, TrustAnchors, is_good_by};

@@ -1,7 +1,7 @@
 use dns_evidence::Listed;
-use dns_marks::{ProofError, ProofErrorKind, RrsetProof};
 use dns_model::{NameError, Proof};
 use dns_name::Name;
+use dns_proof::{ProofError, ProofErrorKind, RrsetProof};
 use dns_record::{DNSClass, Rdata, Record, RecordSet, RecordType};
 use std::alloc::Global;
 

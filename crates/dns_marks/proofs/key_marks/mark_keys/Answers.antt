@@ -8,7 +8,7 @@ use Rattle.std.proofs.lemmas.Grind.{common_steps}
 use Rattle.dns_trust.specs.declared.keys.AnchoredRow.TheVariants.{Root}
 use Rattle.dns_marks.specs.declared.key_marks.KeysMark.TheVariants.{Done}
 use Rattle.dns_trust.specs.Rows.{anchored_outcome}
-use Rattle.dns_marks.specs.Kinds.{want_of_memory}
+use Rattle.dns_proof.specs.Kinds.{want_of_memory}
 use Rattle.dns_marks.specs.KeyMarks.{keys_mark}
 use Rattle.dns_marks.specs.ZoneVerdicts.{zone_verdict_value}
 use Rattle.dns_marks.proofs.KeyLemmas.{by_row}

@@ -1,5 +1,5 @@
 use Rattle.std.proofs.Common.{◌≡◌, ◌+◌, sym, subst, ◌∙◌}
-use Rattle.dns_marks.specs.Kinds.{want_of_memory}
+use Rattle.dns_proof.specs.Kinds.{want_of_memory}
 use Rattle.dns_marks.specs.KeySignatures.{Unless}
 use Rattle.dns_marks.proofs.CallLemmas.{calls_as_read}
 use Rattle.dns_marks.proofs.signature.verify_rrset_with_dnskey.Goals as goal

@@ -1,7 +1,7 @@
 ghost use Rattle.std.specs.Prelude.{◌≡◌, IfOk};
 ghost use Rattle.dns_model.specs.declared.proof.Proof.TheVariants as proof;
 ghost use Rattle.dns_rules.specs.ProofErrors as cause;
-ghost use Rattle.dns_marks.specs.Kinds.{kind_value, because, want_of_memory};
+ghost use Rattle.dns_proof.specs.Kinds.{kind_value, because, want_of_memory};
 
 use dns_handle::Notice;
 use dns_model::Proof;
@@ -97,7 +97,7 @@ impl fmt::Debug for ProofError {
 
 impl Model for ProofError {
     ghost use Rattle.dns_rules.specs.ProofErrors.{ProofErrorValue};
-    ghost use Rattle.dns_marks.specs.Kinds.{kind_value};
+    ghost use Rattle.dns_proof.specs.Kinds.{kind_value};
 
     ghost Value = { ProofErrorValue };
 

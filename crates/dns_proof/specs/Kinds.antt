@@ -1,13 +1,11 @@
 -- Causes and errors as plain values (RFC 4035, 4.3 and 5.3.1).
-use Rattle.std.specs.Prelude.{ℕ, List, Option, None, Some, codes}
 use Rattle.dns_model.specs.declared.proof.Proof.{Proof}
 use Rattle.dns_model.specs.declared.proof.Proof.TheVariants.{Bogus}
 use Rattle.dns_handle.specs.Notices.{notice_text}
-use Rattle.dns_rules.specs.Validity.{Validity, ValidRrsig, ExpiredRrsig, WrongDnskey, WrongRrsig}
 use Rattle.dns_rules.specs.ProofErrors as cause
 use Rattle.dns_rules.specs.ProofErrors.{ProofErrorKindValue, ProofErrorValue}
-use Rattle.dns_marks.specs.declared.proof_error.ProofErrorKind.{ProofErrorKind}
-use Rattle.dns_marks.specs.declared.proof_error.ProofErrorKind.TheVariants.{RrsigsNotPresent, Net, RrsigsUnverified, DnskeyNotFound, DsRecordsButNoDnskey, DsRecordShouldExist, DsResponseInsecure, UnknownKeyAlgorithm, ErrorComputingKeyTag, UnsupportedKeyAlgorithm, DnsKeyHasNoDs, InsecureDnsKey, DnsKeyRevoked, NotZoneDnsKey, AlgorithmMismatch, Msg, DnsKeyVerifyRrsig, NoMemory}
+use Rattle.dns_proof.specs.declared.proof_error.ProofErrorKind.{ProofErrorKind}
+use Rattle.dns_proof.specs.declared.proof_error.ProofErrorKind.TheVariants.{RrsigsNotPresent, Net, RrsigsUnverified, DnskeyNotFound, DsRecordsButNoDnskey, DsRecordShouldExist, DsResponseInsecure, UnknownKeyAlgorithm, ErrorComputingKeyTag, UnsupportedKeyAlgorithm, DnsKeyHasNoDs, InsecureDnsKey, DnsKeyRevoked, NotZoneDnsKey, AlgorithmMismatch, Msg, DnsKeyVerifyRrsig, NoMemory}
 
 -- a notice as its text, a type as its number
 abbrev pub kind_value : ProofErrorKind → ProofErrorKindValue
@@ -36,10 +34,3 @@ because proof kind = record { proof = proof; kind = kind }
 -- the error of want of memory
 abbrev pub want_of_memory : ProofErrorValue
 want_of_memory = because Bogus cause.NoMemory
-
--- the name of a validity that isn't ValidRrsig
-abbrev pub misfit : Validity → Option (List ℕ)
-misfit ValidRrsig = None
-misfit ExpiredRrsig = Some (codes "ExpiredRrsig")
-misfit WrongDnskey = Some (codes "WrongDnskey")
-misfit WrongRrsig = Some (codes "WrongRrsig")
