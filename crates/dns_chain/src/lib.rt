@@ -2,7 +2,7 @@
 //! finds a key's, a signature's or a set's mark by itself (RFC 4035, 5); and what a caller needs to name beside them.
 #![tactic(auto)]
 
-pub use dns_chain_check::check_chain;
+pub use dns_chain_check::{accepted_chain, check_chain};
 pub use dns_evidence::{Chain, Link, LinkSignature, Listed, Steps, Trail, Verifier};
 pub use dns_handle::{DnsHandle, DnsRequest, DnsRequestOptions, DnsResponse, NetError};
 pub use dns_lookup::DnssecDnsHandle;

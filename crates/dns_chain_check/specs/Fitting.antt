@@ -3,7 +3,7 @@
 use Rattle.std.specs.Prelude.{ℕ, Bool, false, ◌==◌, ◌&&◌, nat_le, List}
 use Rattle.dns_model.specs.Names.{Labels, num_labels}
 use Rattle.dns_model.specs.Views.{RrsigValue}
-use Rattle.dns_model.specs.Chains.{Judge, LinkValue, Anchored, Matched, KeySet, Signed, link_holds, never_expanded, right_below_signer, signer_fits}
+use Rattle.dns_model.specs.Chains.{Judge, LinkValue, Signed, link_holds, never_expanded, right_below_signer, signer_fits}
 
 -- the signature is over the type, and its signer and its Labels fit the owner
 abbrev pub fits_set : Labels → ℕ → RrsigValue → Bool

@@ -5,7 +5,7 @@ use Rattle.std.specs.declared.cmp.Ordering.{Ordering}
 use Rattle.std.specs.Ordering.{nat_cmp}
 use Rattle.std.specs.Cmp.Lexicographic.{slice_cmp}
 use Rattle.std.specs.BTreeSet.{BTreeSet, contains}
-use Rattle.dns_model.specs.Chains.{LinkValue, Anchored, Matched, KeySet, Signed, has_bytes}
+use Rattle.dns_model.specs.Chains.{LinkValue, KeySet, Signed, has_bytes}
 
 -- by the bytes that references show
 abbrev pub by_bytes : Bor (List ℕ) → Bor (List ℕ) → Ordering

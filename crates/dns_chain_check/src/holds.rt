@@ -1,27 +1,28 @@
 ghost use Rattle.std.specs.Prelude.{◌≡◌, IfOk};
 ghost use Rattle.dns_model.specs.Chains.{link_holds};
 ghost use Rattle.dns_evidence.specs.Link.{link_value};
-ghost use Rattle.dns_trust.specs.Judge.{judge_of};
+ghost use Rattle.dns_chain_check.specs.LinkJudges.{link_judge};
 
 use crate::earlier::Earlier;
+use crate::link_judge::LinkJudge;
 use crate::signed::signed_holds;
 use dns_evidence::{Link, Verifier};
 use dns_name::NoMemory;
-use dns_trust::{Judge, anchored, ds_matches};
+use dns_trust::ds_matches;
 use std::alloc::Global;
 
-/// The link holds by the anchors, or by links before it (RFC 4035, 5.2 and 5.3).
+/// The link holds by what a chain may start with, or by links before it (RFC 4035, 5.2 and 5.3).
 #[tactic(auto, unfolding(dns_model::specs::Chains::link_holds))]
 pub(crate) fn holds<V: Verifier>(
     alloc: Global,
-    judge: &Judge<'_, V>,
+    judge: &LinkJudge<'_, V>,
     earlier: &Earlier<'_, '_>,
     link: &Link,
 ) -> Result<bool, NoMemory>
-    ensures { IfOk result (λ b. b ≡ link_holds (judge_of V.answers judge.now) earlier.now (link_value link.now)) }
+    ensures { IfOk result (λ b. b ≡ link_holds (link_judge V.answers judge.now) earlier.now (link_value link.now)) }
 {
     match link {
-        Link::Anchored { owner, key, .. } => { Ok(anchored(judge.anchors, owner, key.as_slice())) }
+        Link::Anchored { owner, key, .. } => Ok(judge.starts_with(owner, key.as_slice())),
         Link::Matched {
             owner,
             class,

@@ -1,11 +1,12 @@
-//! Whether a chain of trust that is handed in is justified (RFC 4035, 5.2 and 5.3), with the laws of such chains. The
-//! layer above may use the call as the definition `justified`.
+//! Whether a chain of trust that is handed in is justified, and whether a verifier accepts it by itself (RFC 4035, 5.2 and 5.3),
+//! with the laws of such chains. The layer above may use the calls as the definitions `justified` and `accepted_alone`.
 #![tactic(auto)]
 
 mod check;
 mod earlier;
 mod holds;
 mod indexed;
+mod link_judge;
 mod signed;
 
-pub use check::check_chain;
+pub use check::{accepted_chain, check_chain};

@@ -3,17 +3,17 @@ ghost use Rattle.dns_model.specs.Views.{dnskey_in, rrsig_in};
 ghost use Rattle.dns_model.specs.Signing.{key_tag_of};
 ghost use Rattle.dns_model.specs.Chains.{is_good as is_good_in, is_signed as is_signed_in, key_comes as key_comes_in};
 ghost use Rattle.dns_evidence.specs.Link.{link_value};
-ghost use Rattle.dns_trust.specs.Judge.{judge_of};
+ghost use Rattle.dns_chain_check.specs.LinkJudges.{link_judge};
 ghost use Rattle.dns_chain_check.specs.Fitting.{fits_set, signed_link_holds};
 
 use crate::earlier::Earlier;
+use crate::link_judge::LinkJudge;
 use dns_evidence::{Link, LinkSignature, Verifier, has_rdata};
 use dns_name::NoMemory;
 use dns_rdata::{Dnskey, RdataSet, Rrsig, key_tag, signed_data_of};
 use dns_record::{Rdata, RecordType};
 use dns_trust::{
-    Judge, accepts_signature, is_never_expanded, is_right_below_signer, is_timely, is_usable,
-    signer_fits,
+    accepts_signature, is_never_expanded, is_right_below_signer, is_usable, signer_fits,
 };
 use std::alloc::Global;
 
@@ -21,12 +21,12 @@ use std::alloc::Global;
 #[tactic(auto, unfolding(dns_model::specs::Chains::link_holds))]
 pub(crate) fn signed_holds<V: Verifier>(
     alloc: Global,
-    judge: &Judge<'_, V>,
+    judge: &LinkJudge<'_, V>,
     earlier: &Earlier<'_, '_>,
     link: &Link,
 ) -> Result<bool, NoMemory>
     ensures { IfOk result (λ b. b
-        ≡ signed_link_holds (judge_of V.answers judge.now) earlier.now (link_value link.now)) }
+        ≡ signed_link_holds (link_judge V.answers judge.now) earlier.now (link_value link.now)) }
 {
     match link {
         Link::Signed {
@@ -61,12 +61,12 @@ pub(crate) fn signed_holds<V: Verifier>(
 // A key that an earlier link shows signed the set, by a signature that fits it.
 fn is_signed<V: Verifier>(
     alloc: Global,
-    judge: &Judge<'_, V>,
+    judge: &LinkJudge<'_, V>,
     earlier: &Earlier<'_, '_>,
     set: &RdataSet<'_>,
     by: &LinkSignature<'_>,
 ) -> Result<bool, NoMemory>
-    ensures { IfOk result (λ b. b ≡ is_signed_in (judge_of V.answers judge.now) earlier.now
+    ensures { IfOk result (λ b. b ≡ is_signed_in (link_judge V.answers judge.now) earlier.now
         set.now.name.now set.now.dns_class.0 set.now.record_type.0 set.now.rdatas.now
         by.now.key_link by.now.key.now (rrsig_in by.now.sig.now)) }
 {
@@ -96,12 +96,12 @@ fn fits(set: &RdataSet<'_>, sig: &Rrsig<'_>) -> bool
 // The signature is timely and the key's, which may sign, and the verifier accepts it (RFC 4035, 5.3.3).
 fn is_good<V: Verifier>(
     alloc: Global,
-    judge: &Judge<'_, V>,
+    judge: &LinkJudge<'_, V>,
     set: &RdataSet<'_>,
     sig: &Rrsig<'_>,
     key: &Rdata,
 ) -> Result<bool, NoMemory>
-    ensures { IfOk result (λ b. b ≡ is_good_in (judge_of V.answers judge.now)
+    ensures { IfOk result (λ b. b ≡ is_good_in (link_judge V.answers judge.now)
         set.now.name.now set.now.dns_class.0 set.now.record_type.0 set.now.rdatas.now
         sig.now key.now (dnskey_in key.now)) }
 {
@@ -114,7 +114,7 @@ fn is_good<V: Verifier>(
     if !is_named(sig, &read, key.as_slice()) {
         return Ok(false);
     }
-    if !is_timely(sig, judge.moment) {
+    if !judge.is_timely(sig) {
         return Ok(false);
     }
     let bytes = signed_data_of(alloc, set, sig)?;

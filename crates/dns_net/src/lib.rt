@@ -1,7 +1,9 @@
 //! Handles under the names that a caller looks for: errors, requests, responses with their chains and trails, handles, and
-//! `Recorded`, a handle that tells its replies; and what a caller needs to name beside them.
+//! `Recorded`, a handle that tells its replies; whether a verifier accepts a chain by itself; and what a caller needs to name
+//! beside them.
 #![tactic(auto)]
 
+pub use dns_chain_check::accepted_chain;
 pub use dns_evidence::{
     Asked, Chain, Ending, JudgedSet, Link, LinkSignature, Reply, Told, Trail, Verifier, all_shown,
     clone_links, clone_rdatas, has_rdata, same_owner, shows_ds, shows_key, shows_member,
