@@ -1,6 +1,7 @@
 pub mod Draws
 pub mod Events
 pub mod History
+pub mod Laws
 pub mod Machine
 pub mod Messages
 pub mod Queues

@@ -5,6 +5,7 @@
 mod arrival;
 mod draws;
 mod item_queue;
+mod laws;
 mod multiplexer;
 mod multiplexer_core;
 mod request_id;
@@ -16,6 +17,7 @@ mod taken;
 
 pub use arrival::Arrival;
 pub use draws::{Draws, ListDraws, RandDraws};
+pub use laws::{calls_are_events, replies_are_what_histories_say, states_are_what_histories_say};
 pub use multiplexer::DnsMultiplexer;
 pub use request_id::RequestId;
 pub use sender::DnsRequestSender;

@@ -2,7 +2,7 @@ use Rattle.std.proofs.Common.{rules, ◌∙◌, ◌+◌, nat_lt}
 use Rattle.std.specs.Ordering.{nat_cmp}
 use Rattle.std.specs.BTreeMap as tree
 use Rattle.std.proofs.lemmas.Map.Made.{filter_same_pairs}
-use Rattle.dns_mux.proofs.TableLemmas.{retained, filtered_still}
+use Rattle.dns_mux.proofs.TableCallLemmas.{retained, filtered_still}
 use Rattle.dns_mux.proofs.request_table.expire.Goals as goal
 
 pub returns : goal.returns

@@ -1,7 +1,8 @@
 use Rattle.std.proofs.lemmas.Bool.{false≢true}
 use Rattle.std.specs.Ordering.{nat_cmp}
 use Rattle.std.specs.BTreeMap as tree
-use Rattle.dns_mux.proofs.TableLemmas.{failing_more, failed_all, removed_at, nothing_in}
+use Rattle.dns_mux.proofs.TableEndLemmas.{failing_more, failed_all}
+use Rattle.dns_mux.proofs.TableCallLemmas.{removed_at, nothing_in}
 use Rattle.dns_mux.proofs.request_table.fail_all.Goals as goal
 
 pub holders-preserved : goal.holders-preserved

@@ -1,6 +1,6 @@
 use Rattle.std.specs.Ordering.{nat_cmp}
 use Rattle.std.specs.BTreeMap as tree
-use Rattle.dns_mux.proofs.TableLemmas.{Failing}
+use Rattle.dns_mux.proofs.TableEndLemmas.{Failing}
 use Rattle.dns_mux.proofs.request_table.fail_all.Given as goal
 
 abbrev pub invariant-holders : goal.invariant-holders

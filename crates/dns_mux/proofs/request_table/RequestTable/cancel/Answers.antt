@@ -4,7 +4,8 @@ use Rattle.std.specs.BTreeMap as tree
 use Rattle.std.specs.Option.{option_map}
 use Rattle.dns_mux.specs.Machine.{changed_at, cancelled}
 use Rattle.dns_mux.specs.Tables.{life_under, request_in, request_at}
-use Rattle.dns_mux.proofs.TableLemmas.{cancelled_table, cancelled_is_table, removed_at, away_dead, cancel_held, away_cancelled}
+use Rattle.dns_mux.proofs.TableEndLemmas.{cancelled_table, cancelled_is_table}
+use Rattle.dns_mux.proofs.TableCallLemmas.{removed_at, away_dead, cancel_held, away_cancelled}
 use Rattle.dns_mux.proofs.request_table.RequestTable.cancel.Goals as goal
 
 pub invariant_of-self : goal.invariant_of-self

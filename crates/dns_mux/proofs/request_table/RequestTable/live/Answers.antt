@@ -2,7 +2,7 @@ use Rattle.std.proofs.Common.{ap, sym, ◌∙◌}
 use Rattle.std.specs.Ordering.{nat_cmp}
 use Rattle.std.specs.BTreeMap as tree
 use Rattle.dns_mux.specs.Machine.{live_count}
-use Rattle.dns_mux.proofs.TableLemmas.{live_in_table}
+use Rattle.dns_mux.proofs.LiveCountLemmas.{live_in_table}
 use Rattle.dns_mux.proofs.request_table.RequestTable.live.Goals as goal
 
 pub returns : goal.returns

@@ -4,7 +4,9 @@ use Rattle.std.specs.BTreeMap as tree
 use Rattle.dns_mux.specs.declared.request_table.Holder.{Holder}
 use Rattle.dns_mux.specs.Machine.{is_taken_id, sent_under}
 use Rattle.dns_mux.specs.Tables.{requests_of}
-use Rattle.dns_mux.proofs.TableLemmas.{length_table, added_table, added_is_table, unadded_is_table}
+use Rattle.dns_mux.proofs.TableLemmas.{length_table}
+use Rattle.dns_mux.proofs.TableEndLemmas.{added_table, added_is_table}
+use Rattle.dns_mux.proofs.TableCallLemmas.{unadded_is_table}
 use Rattle.dns_mux.proofs.request_table.RequestTable.open.Goals as goal
 
 pub invariant_of-self : goal.invariant_of-self

@@ -3,7 +3,8 @@ use Rattle.std.specs.Ordering.{nat_cmp}
 use Rattle.std.specs.BTreeMap as tree
 use Rattle.dns_mux.specs.Machine.{has_id, reply_at, changed_at, with_item}
 use Rattle.dns_mux.specs.Tables.{takes_item, pushed}
-use Rattle.dns_mux.proofs.TableLemmas.{table_changed, pushed_id, pushed_table, stranger_told, arrival_told}
+use Rattle.dns_mux.proofs.TableLemmas.{table_changed, pushed_id, pushed_table}
+use Rattle.dns_mux.proofs.TableCallLemmas.{stranger_told, arrival_told}
 use Rattle.std.specs.List.{position}
 use Rattle.dns_mux.proofs.request_table.RequestTable.receive.Goals as goal
 

@@ -5,7 +5,8 @@ use Rattle.dns_handle.specs.Replies.{reply_of}
 use Rattle.dns_mux.specs.Machine.{changed_at, without_first, taken_from}
 use Rattle.dns_mux.specs.Runs.{life_of}
 use Rattle.dns_mux.specs.Tables.{without_item, request_at}
-use Rattle.dns_mux.proofs.TableLemmas.{life_in_table, table_changed, popped_table, removed_at, takes_first, takes_nothing, forgotten_table, forgotten_is_table}
+use Rattle.dns_mux.proofs.TableLemmas.{life_in_table, table_changed, popped_table}
+use Rattle.dns_mux.proofs.TableCallLemmas.{removed_at, takes_first, takes_nothing, forgotten_table, forgotten_is_table}
 use Rattle.dns_mux.proofs.request_table.RequestTable.take.Goals as goal
 
 pub invariant_of-self : goal.invariant_of-self

@@ -2,7 +2,7 @@ use Rattle.std.proofs.Common.{map, ap, ◌∙◌}
 use Rattle.std.specs.Ordering.{nat_cmp}
 use Rattle.std.specs.BTreeMap as tree
 use Rattle.dns_mux.specs.Machine.{ticked}
-use Rattle.dns_mux.proofs.TableLemmas.{ticked_table, ticked_is_table}
+use Rattle.dns_mux.proofs.TableEndLemmas.{ticked_table, ticked_is_table}
 use Rattle.dns_mux.proofs.request_table.RequestTable.tick.Goals as goal
 
 pub invariant_of-self : goal.invariant_of-self

@@ -1,0 +1,21 @@
+//! Laws of a multiplexer's histories (RFC 1035, 4.1.1; RFC 7766, 6.2.1). Each is the contract of a function that does nothing.
+ghost use Rattle.dns_mux.specs.Laws.{CallsAreEvents, StatesAreTold, RepliesAreTold};
+
+/// A law: a call that is answered as the state after a history says is one event more of that history, and leaves the state
+/// after it. So the calls of a multiplexer, from its first one on, are a history that can be.
+pub fn calls_are_events()
+    ensures { CallsAreEvents }
+{}
+
+/// A law: after each history that can be, the machine's state is what the history says. A request is live exactly where it
+/// was sent and nothing has ended it, what waits for it is what was queued and isn't taken, what is to be sent is what was
+/// put out and isn't popped, and no two live requests have one id.
+pub fn states_are_what_histories_say()
+    ensures { StatesAreTold }
+{}
+
+/// A law: each `take` gives the first item that waits by the history before it, and where none does, whether the request is
+/// live by that history; each message that `pop_outbound` gives is the first that is to be sent by it.
+pub fn replies_are_what_histories_say()
+    ensures { RepliesAreTold }
+{}
