@@ -1,6 +1,6 @@
 //! Handles under the names that a caller looks for: errors, requests, responses with their chains and trails, handles, and
-//! `Recorded`, a handle that tells its replies; whether a verifier accepts a chain by itself; and what a caller needs to name
-//! beside them.
+//! `Recorded`, a handle that tells its replies; `RetryDnsHandle`, which sends again after an error; whether a verifier accepts a
+//! chain by itself; and what a caller needs to name beside them.
 #![tactic(auto)]
 
 pub use dns_chain_check::accepted_chain;
@@ -17,3 +17,4 @@ pub use dns_model::{Answered, AskRef, Denial, MarkOrigin, Proof, Section};
 pub use dns_name::{Name, NoMemory, Octets};
 pub use dns_record::{DNSClass, OpCode, Query, Record, RecordSet, RecordType, ResponseCode};
 pub use dns_recorded::Recorded;
+pub use dns_retry::{RetryDnsHandle, RetrySend};

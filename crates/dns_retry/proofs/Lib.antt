@@ -1,0 +1,3 @@
+pub mod PollLemmas
+pub mod RetryLemmas
+pub mod TellingLemmas

@@ -1,0 +1,4 @@
+pub mod Retries
+pub mod RetryHandles
+pub mod RetrySends
+pub mod Telling
