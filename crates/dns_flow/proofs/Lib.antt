@@ -1,0 +1,9 @@
+pub mod Zones
+pub mod Bare
+pub mod Leading
+pub mod Ends
+pub mod Searches
+pub mod Tries
+pub mod Rows
+pub mod Standing
+pub mod Led
