@@ -4,6 +4,7 @@ pub mod TrueRecords
 pub mod BelowEnclosers
 pub mod HashedVerdicts
 pub mod HashedPromises
+pub mod HashedExpansions
 pub mod UnsignedDelegations
 pub mod WorkedTruth
 pub mod ExampleHashes

@@ -1,4 +1,5 @@
-use Rattle.dns_hashed_denial.proofs.HashedPromises.{denial_of, expansion_of}
+use Rattle.dns_hashed_denial.proofs.HashedPromises.{denial_of}
+use Rattle.dns_hashed_denial.proofs.HashedExpansions.{expansion_of}
 use Rattle.dns_denial.proofs.nsec3_verdict.verify_nsec3.Goals as goal
 
 pub returns-clause-denial : goal.returns-clause-denial

@@ -1,4 +1,4 @@
-use Rattle.dns_hashed_denial.proofs.HashedPromises.{expansion_holds}
+use Rattle.dns_hashed_denial.proofs.HashedExpansions.{expansion_holds}
 use Rattle.dns_hashed_denial.proofs.laws.secure_expansions_hold_in_each_zone.Goals as goal
 
 pub returns : goal.returns
