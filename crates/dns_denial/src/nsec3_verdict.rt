@@ -23,10 +23,13 @@ use dns_record::{Query, RecordType, ResponseCode};
 
 /// What the NSEC3 records of a zone prove of a response to a query (RFC 5155, 8; RFC 6840, 4; RFC 9276, 3.2).
 ///
-/// With `No` and `Secure` the data isn't there, or in an opt-out span no more than an unsigned delegation is; with `NXDomain`
-/// the name isn't there. With `Expanded` and `Secure` no closer name is there than the wildcard that the answer was made from.
-/// `Insecure` comes where the iterations are above `soft`, the count to which they are judged, and where a name error rests on
-/// an opt-out span. Anything else is `Bogus`, as are iterations above `hard`. The records are taken as true records of the zone.
+/// With `No` and `Secure` the data isn't there, or in an opt-out span no more than an unsigned delegation is; of a DS that an
+/// opt-out span alone denies it is only said that there is none. With `NXDomain` the name isn't there. With `Expanded` and
+/// `Secure` no closer name is there than the wildcard that the answer was made from, but for unsigned delegations in an opt-out
+/// span and names above these alone. `Insecure` comes where the iterations are above `soft`, the count to which they are
+/// judged, and where a name error rests on an opt-out span. Anything else is `Bogus`, as are iterations above `hard`. All this
+/// holds of each zone in which the records are true and no two of the names concerned have one hash, for types that zones hold
+/// as data.
 pub fn verify_nsec3(
     query: &Query,
     zone: &Name,

@@ -68,7 +68,7 @@ covered_missing nsec3s zone above name nsec3 inside c below = by (exists_in zone
     by true there =
         let l = c.light (exists_over zone above name inside below there) in
         Light (light_below zone above name l.1 below there)
-        (record { covered = above; below = below; opted_out = c.opted_out l.0 })
+        (record { covered = above; inside = inside; below = below; opted_out = c.opted_out l.0 })
 
 pub missing_has_no_ds : (nsec3s : List OwnedNsec3) (zone : Zone) (name : Labels) → at_or_above zone.apex name ≡ true
     → IsMissing nsec3s zone name
@@ -186,13 +186,13 @@ listed_wildcard nsec3s about wildcard zone by rtype s concerned h =
     ∙ ap (λ b. cond b NoData NxDomain) l.there
 
 light_unanswered : (query : Question) (code : ℕ) (nsec3s : List OwnedNsec3) (zone : Zone) (closer : Labels)
-    → code ≡ code_no_error
+    → code ≡ code_no_error → at_or_above zone.apex closer ≡ true
     → is_opted_out nsec3s closer ≡ true → IsLightAnswer zone query.owner closer query.rtype
     → IsUnanswered query code nsec3s zone
-light_unanswered query code nsec3s zone closer plain opted (NoType is) = WithoutType is
-light_unanswered query code nsec3s zone closer plain opted (NoName is) = WithoutName is
-light_unanswered query code nsec3s zone closer plain opted (Leads cut is unsigned below) =
-    ToUnsigned cut is unsigned (record { covered = closer; below = below; opted_out = opted }) plain
+light_unanswered query code nsec3s zone closer plain inside opted (NoType is) = WithoutType is
+light_unanswered query code nsec3s zone closer plain inside opted (NoName is) = WithoutName is
+light_unanswered query code nsec3s zone closer plain inside opted (Leads cut is unsigned below) =
+    ToUnsigned cut is unsigned (record { covered = closer; inside = inside; below = below; opted_out = opted }) plain
 
 -- the wildcard is there, without the type
 by_wildcard : (by : Parameters) (query : Question) (apex : Labels) (code : ℕ) (nsec3s : List OwnedNsec3)
@@ -238,7 +238,8 @@ by_wildcard by query apex code nsec3s zone encloser nsec3 s holds p c plain row 
         (λ is. true≢false (sym (and_from (query.rtype == type_ds) (is_opt_out nsec3) is l.0) ∙ row)) in
         record {
           holds = holds;
-          answer = λ outside. light_unanswered query code nsec3s zone (p.label ∷ encloser) plain (c.opted_out l.0)
+          answer = λ outside. light_unanswered query code nsec3s zone (p.label ∷ encloser) plain
+              (closer_inside zone query.owner encloser p.label e) (c.opted_out l.0)
               (light_answers zone query.owner encloser p.label query.rtype s.formed e l.1 (ap not other));
           ds = λ is. absurd (true≢false (ap (λ t. t == type_ds) (sym is) ∙ other));
           name = λ is. absurd (named is);

@@ -11,7 +11,7 @@ use Rattle.dns_model.proofs.NameLemmas.{name_equiv}
 use Rattle.dns_model.proofs.AboveLemmas.{above_alike, below_alike, above_itself, strictly_parts, strictly_made}
 use Rattle.dns_model.proofs.SetLemmas.{name_back}
 use Rattle.dns_rules.specs.ListedTypes.{is_unsigned_cut}
-use Rattle.dns_rules.specs.Nsec3Covering.{matches}
+use Rattle.dns_rules.specs.Nsec3Covering.{is_opt_out, matches}
 use Rattle.dns_rules.specs.Nsec3Verdict.{Parameters, parameters_of, is_of_zone, hashed, provable_encloser, next_closer, covering_name, is_covered_opt_out, may_be_unsigned, is_unsigned_at, is_unsigned_by, is_unsigned_in, shows_insecure_delegation}
 use Rattle.dns_rules.specs.Zones.{Zone, has_set, is_delegation, exists_in, is_zone}
 use Rattle.dns_rules.proofs.ZoneLemmas.{has_set_alike}
@@ -63,16 +63,19 @@ matched_child nsec3s child zone types formed holds l h =
 opted_out_child : (by : Parameters) (nsec3s : List OwnedNsec3) (child encloser : Labels) (zone : Zone)
     (nsec3 : OwnedNsec3) → is_zone zone ≡ true
     → strictly_above zone.apex child ≡ true → (p : IsProvedEncloser by zone nsec3s child encloser)
-    → IsCoveredIn nsec3s zone (p.label ∷ encloser) nsec3
+    → IsCoveredIn nsec3s zone (p.label ∷ encloser) nsec3 → is_opt_out nsec3 ≡ true
     → IsUnsignedByHashes nsec3s child zone
-opted_out_child by nsec3s child encloser zone nsec3 formed holds p c =
+opted_out_child by nsec3s child encloser zone nsec3 formed holds p c flag =
     let e = p.enclosed in
     let inside = closer_inside zone child encloser p.label e in
-    let gone = covered_missing nsec3s zone (p.label ∷ encloser) child nsec3 inside c
-    (closer_above zone child encloser p.label e) in
+    let below = closer_above zone child encloser p.label e in
+    let gone = covered_missing nsec3s zone (p.label ∷ encloser) child nsec3 inside c below in
     record {
       holds = holds;
-      shown = inr gone;
+      shown = inr (record {
+        below = record { covered = p.label ∷ encloser; inside = inside; below = below; opted_out = c.opted_out flag };
+        missing = gone;
+      });
       ds = missing_has_no_ds nsec3s zone child (name_inside zone child encloser p.label e) gone;
       cuts = λ cut is above.
           let o = owned zone cut (cut_owner zone cut is) in
@@ -101,7 +104,7 @@ unmatched_child by nsec3s child apex zone (Some encloser) s same holds e h =
     to None is flag = absurd (true≢false (sym flag))
     to (Some nsec3) is flag =
         opted_out_child by nsec3s child encloser zone nsec3 s.formed holds p
-        (covered nsec3s child (p.label ∷ encloser) zone by nsec3 s (ap (covering_name by nsec3s) (sym p.closer) ∙ is))
+        (covered nsec3s child (p.label ∷ encloser) zone by nsec3 s (ap (covering_name by nsec3s) (sym p.closer) ∙ is)) flag
 
 -- ---- each zone
 

@@ -38,16 +38,17 @@ pub record IsShownByHashes (nsec3s : List OwnedNsec3) (name : Labels) (zone : Zo
 abbrev pub is_opted_out : List OwnedNsec3 → Labels → Bool
 is_opted_out nsec3s name = list_any (λ nsec3. is_opt_out nsec3 && spans (hash_of nsec3 name) nsec3) nsec3s
 
--- the name is at or below one that is opted out
-pub record IsBelowOptOut (nsec3s : List OwnedNsec3) (name : Labels) : Type 0 where
+-- the name is at or below one of the zone that is opted out
+pub record IsBelowOptOut (nsec3s : List OwnedNsec3) (zone : Zone) (name : Labels) : Type 0 where
   pub covered : Labels
+  pub inside : at_or_above zone.apex covered ≡ true
   pub below : at_or_above covered name ≡ true
   pub opted_out : is_opted_out nsec3s covered ≡ true
 
 -- the name doesn't exist, or is light where names are opted out
 pub data IsMissing (nsec3s : List OwnedNsec3) (zone : Zone) (name : Labels) : Type 0 where
   Absent : exists_in zone name ≡ false → IsMissing nsec3s zone name
-  Light : is_light zone name ≡ true → IsBelowOptOut nsec3s name → IsMissing nsec3s zone name
+  Light : is_light zone name ≡ true → IsBelowOptOut nsec3s zone name → IsMissing nsec3s zone name
 
 -- ---- no data
 
@@ -56,7 +57,7 @@ pub data IsUnanswered (query : Question) (code : ℕ) (nsec3s : List OwnedNsec3)
   WithoutType : lookup zone query.owner query.rtype ≡ NoData → IsUnanswered query code nsec3s zone
   WithoutName : lookup zone query.owner query.rtype ≡ NxDomain → IsUnanswered query code nsec3s zone
   ToUnsigned : (cut : Labels) → lookup zone query.owner query.rtype ≡ Referral cut
-      → is_unsigned_delegation zone cut ≡ true → IsBelowOptOut nsec3s cut → code ≡ code_no_error
+      → is_unsigned_delegation zone cut ≡ true → IsBelowOptOut nsec3s zone cut → code ≡ code_no_error
       → IsUnanswered query code nsec3s zone
 
 abbrev pub is_by_opt_out_with : Question → Labels → List OwnedNsec3 → Option Parameters → Bool
@@ -88,12 +89,12 @@ IsDeniedByHashes query apex code nsec3s =
 
 -- ---- no closer name
 
--- neither this name nor the wildcard below it is in the zone
+-- neither this name nor the wildcard below it is in the zone, light names aside where names are opted out
 pub record IsMissingWithWildcard (nsec3s : List OwnedNsec3) (zone : Zone) (name : Labels) : Type 0 where
   pub itself : IsMissing nsec3s zone name
   pub wildcard : IsMissing nsec3s zone (star name)
 
--- the name isn't in the zone, and neither is any ancestor of it with more labels
+-- the name isn't in the zone, and neither is any ancestor of it with more labels, but for light ones as above
 pub record HasNoneCloserByHashes (nsec3s : List OwnedNsec3) (name : Labels) (labels : ℕ) (zone : Zone) : Type 0 where
   pub itself : IsMissingWithWildcard nsec3s zone name
   pub ancestors : (ancestor : Labels) → at_or_above ancestor name ≡ true → labels < length ancestor
@@ -107,11 +108,16 @@ IsExpandedByHashes query labels nsec3s =
 
 -- ---- no signed delegation
 
--- the child is an unsigned delegation of the zone; or it doesn't exist there, or is light, where names are opted out.
--- Either way it has no DS, and no delegation at or above it has
+-- the child is at or below a name that is opted out, and doesn't exist or is light
+pub record IsHiddenByOptOut (nsec3s : List OwnedNsec3) (child : Labels) (zone : Zone) : Type 0 where
+  pub below : IsBelowOptOut nsec3s zone child
+  pub missing : IsMissing nsec3s zone child
+
+-- the child is an unsigned delegation of the zone, or opt-out hides it. Either way it has no DS, and no delegation at or
+-- above it has
 pub record IsUnsignedByHashes (nsec3s : List OwnedNsec3) (child : Labels) (zone : Zone) : Type 0 where
   pub holds : strictly_above zone.apex child ≡ true
-  pub shown : (is_unsigned_delegation zone child ≡ true) ⊎ IsMissing nsec3s zone child
+  pub shown : (is_unsigned_delegation zone child ≡ true) ⊎ IsHiddenByOptOut nsec3s child zone
   pub ds : has_set zone child type_ds ≡ false
   pub cuts : (cut : Labels) → is_delegation zone cut ≡ true → at_or_above cut child ≡ true
       → has_set zone cut type_ds ≡ false

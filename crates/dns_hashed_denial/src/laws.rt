@@ -26,8 +26,8 @@ pub fn secure_denials_hold_in_each_zone()
         → nsec3_verdict query apex code No nsec3s soft hard ≡ Secure → IsDeniedByHashes query apex code nsec3s }
 {}
 
-/// A law: where an expansion is Secure, each zone in which the records are true has no name closer than the wildcard's parent
-/// (RFC 5155, 8.8).
+/// A law: where an expansion is Secure, each zone in which the records are true has no name closer than the wildcard's parent,
+/// but for light ones in an opt-out span (RFC 5155, 8.8).
 pub fn secure_expansions_hold_in_each_zone()
     ensures { (query : Question) (apex : Labels) (code labels : ℕ) (nsec3s : List OwnedNsec3) (soft hard : ℕ)
         → nsec3_verdict query apex code (Expanded labels) nsec3s soft hard ≡ Secure
