@@ -35,14 +35,24 @@ struct Row {
     mark: Proof,
 }
 
-const fn names(owner: &'static str, seen: NsProbe) -> Asked {
-    Asked {
-        owner,
-        record_type: RecordType::NS,
-        judged: false,
-        reply: Reply::Seen(seen),
-    }
-}
+/// The NS records of `b.` and of `a.b.` aren't seen.
+const NO_B: Asked = Asked {
+    owner: "b.",
+    record_type: RecordType::NS,
+    judged: false,
+    reply: Reply::Seen(NsProbe::Absent),
+};
+
+const NO_A_B: Asked = Asked {
+    owner: "a.b.",
+    ..NO_B
+};
+
+/// Those of `b.` are.
+const B: Asked = Asked {
+    reply: Reply::Seen(NsProbe::Found),
+    ..NO_B
+};
 
 const DS: Asked = Asked {
     owner: "b.",
@@ -51,9 +61,9 @@ const DS: Asked = Asked {
     reply: Reply::Refused,
 };
 
-const FROM_NAME: &[Asked] = &[names("a.b.", NsProbe::Absent), names("b.", NsProbe::Absent)];
+const FROM_NAME: &[Asked] = &[NO_A_B, NO_B];
 
-const FROM_PARENT: &[Asked] = &[names("b.", NsProbe::Absent)];
+const FROM_PARENT: &[Asked] = &[NO_B];
 
 const UNSIGNED: Row = Row {
     shows: "up to the root no zone is found",
@@ -71,23 +81,22 @@ const ROWS: &[Row] = &[
     UNSIGNED,
     Row {
         shows: "a fault ends the search",
-        asks: &[names("a.b.", NsProbe::Failed)],
+        asks: &[Asked {
+            reply: Reply::Seen(NsProbe::Failed),
+            ..NO_A_B
+        }],
         ..UNSIGNED
     },
     Row {
         shows: "the DS set of the zone is asked for",
-        asks: &[
-            names("a.b.", NsProbe::Absent),
-            names("b.", NsProbe::Found),
-            DS,
-        ],
+        asks: &[NO_A_B, B, DS],
         ..UNSIGNED
     },
     Row {
         shows: "a zone that is Insecure leaves Insecure",
         asks: &[
-            names("a.b.", NsProbe::Absent),
-            names("b.", NsProbe::Found),
+            NO_A_B,
+            B,
             Asked {
                 reply: Reply::Insecure,
                 ..DS
