@@ -1,0 +1,95 @@
+ghost use Rattle.std.specs.Prelude.{◌≡◌, true, IfOk};
+ghost use Rattle.dns_cache.specs.Entries.{is_backed};
+
+use crate::CacheKey;
+use dns_evidence::Chain;
+use dns_name::NoMemory;
+use dns_proof::{ProofError, RrsetProof};
+use std::marker::Model;
+
+/// What a cache keeps of a set. Each entry whose mark is Secure has a result that is Ok, and a chain.
+#[derive(Drop)]
+pub struct Entry {
+    /// By what the cache knows the set.
+    pub key: CacheKey,
+    /// Seconds since 1970: the first moment at which the entry isn't given any more.
+    pub expires: u64,
+    /// What was found, or why the set isn't Secure.
+    pub result: Result<RrsetProof, ProofError>,
+    /// Of a Secure set the chain that ends at it.
+    pub chain: Option<Chain>,
+}
+
+impl Model for Entry {
+    ghost use Rattle.std.specs.Prelude.{◌≡◌, true};
+    ghost use Rattle.dns_cache.specs.Entries.{EntryValue, is_backed};
+
+    ghost Value = { EntryValue };
+
+    ghost view = { λ e. record { key = e.key; expires = e.expires; found = e.result; chain = e.chain } };
+
+    ghost invariant = { λ e. is_backed e.result e.chain ≡ true };
+}
+
+impl Entry {
+    /// An entry of these parts.
+    pub fn new(
+        key: CacheKey,
+        expires: u64,
+        found: Result<RrsetProof, ProofError>,
+        chain: Option<Chain>,
+    ) -> Entry
+        requires { is_backed found chain ≡ true }
+        ensures { result ≡ record { key = key; expires = expires; found = found; chain = chain } }
+    {
+        Entry {
+            key,
+            expires,
+            result: found,
+            chain,
+        }
+    }
+
+    /// An equal value in memory of its own.
+    pub fn try_clone(&self) -> Result<Entry, NoMemory>
+        ensures { IfOk result (λ e. e ≡ self.now) }
+    {
+        let key = self.key.try_clone()?;
+        let found = clone_found(&self.result)?;
+        let chain = clone_chain(&self.chain)?;
+        Ok(Entry {
+            key,
+            expires: self.expires,
+            result: found,
+            chain,
+        })
+    }
+}
+
+/// A copy of what was found, in memory of its own.
+pub(crate) fn clone_found(
+    found: &Result<RrsetProof, ProofError>,
+) -> Result<Result<RrsetProof, ProofError>, NoMemory>
+    ensures { IfOk result (λ f. f ≡ found.now) }
+{
+    match found {
+        Ok(proof) => Ok(Ok(*proof)),
+        Err(error) => {
+            let error = error.try_clone()?;
+            Ok(Err(error))
+        }
+    }
+}
+
+/// A copy of a chain, in memory of its own.
+pub(crate) fn clone_chain(chain: &Option<Chain>) -> Result<Option<Chain>, NoMemory>
+    ensures { IfOk result (λ c. c ≡ chain.now) }
+{
+    match chain {
+        Some(chain) => {
+            let copy = chain.try_clone()?;
+            Ok(Some(copy))
+        }
+        None => Ok(None),
+    }
+}
