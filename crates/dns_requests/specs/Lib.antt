@@ -1,0 +1,4 @@
+pub mod FirstAnswers
+pub mod Receivers
+pub mod RequestQueues
+pub mod Streams
