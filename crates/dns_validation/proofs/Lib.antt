@@ -1,0 +1,12 @@
+pub mod Parts
+pub mod Replies
+pub mod StepLines
+pub mod GotLemmas
+pub mod Judgings
+pub mod Stands
+pub mod Turning
+pub mod HearLemmas
+pub mod RunLemmas
+pub mod Work
+pub mod Settling
+pub mod Innermost

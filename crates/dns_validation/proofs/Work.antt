@@ -1,0 +1,232 @@
+-- How many turns an open step has left, where its asks are refused: each turn leaves fewer.
+use Rattle.std.proofs.Common.{ℕ, suc, zero, ◌+◌, ◌-◌, ◌*◌, ◌≡◌, ◌≤◌, ◌<◌, Bool, true, false, not, ◌&&◌, List, [], ◌∷◌, ◌++◌, length, take, drop, Option, None, Some, slice_get, if◌then◌else◌, refl, sym, ap, subst, ◌∙◌, arith}
+use Rattle.std.specs.Option.{option_and_then}
+use Rattle.std.proofs.lemmas.List.{length_push}
+use Rattle.dns_model.specs.declared.trail.AskRef.{AskRef}
+use Rattle.dns_model.specs.declared.trail.AskRef.TheVariants.{Step}
+use Rattle.dns_model.specs.declared.proof.Proof.{Proof}
+use Rattle.dns_model.specs.Names.{Labels}
+use Rattle.dns_model.specs.Records.{Rr, RrSet, Question}
+use Rattle.dns_model.specs.Chains.{Judge}
+use Rattle.dns_model.specs.SoundAnswers.{Told, PlacedSet, told_by}
+use Rattle.dns_model.specs.Trails.{AskedValue}
+use Rattle.dns_rules.specs.Asking.{ask_of}
+use Rattle.dns_rules.specs.ChainedSets.{ChainedSet, ChainedVerdict, bare, chained_verdict}
+use Rattle.dns_rules.specs.KeySets.{needs_ds}
+use Rattle.dns_rules.specs.MarkedSets.{MarkedSet}
+use Rattle.dns_rules.specs.Marks.{is_proved, is_skipped, most_signatures}
+use Rattle.dns_rules.specs.Outcome.{Outcome, Unjudged, Given, NeedsZone, Denied, outcome_of}
+use Rattle.dns_rules.specs.Unsigned.{question_start}
+use Rattle.dns_handle.specs.Errors.{Reply}
+use Rattle.dns_flow.specs.declared.asks.Ask.{Ask}
+use Rattle.dns_flow.specs.declared.phases.Seeker.{Seeker}
+use Rattle.dns_flow.specs.declared.phases.Seeker.TheVariants.{Set, Ending}
+use Rattle.dns_flow.specs.Leads.{entry_of}
+use Rattle.dns_flow.specs.Phases.{PhaseValue, Marked, NeedsDs, Trying, AtName, AtZone, Concluded, NeedValue, SetEnds, StepEnds, Asks, GotValue, Answer, Probe, found, search_at, first_signatures, unasked, try_from, after_verdict, after_signature, signature_need, start_by, start_ending, turn, after_ds, after}
+use Rattle.dns_validation.specs.Machine.{Terms, SoFar, OpenValue, StateValue, limit_of, first_left, next_phase, next_item, set_ended, answered, give, step_of, none_open, step_ended, nothing_got, refusal, asked_by, turned, turn_in, tick}
+use Rattle.dns_validation.specs.Steps.{given_sets}
+use Rattle.dns_validation.specs.Runs.{is_none, moves}
+
+-- ---- a phase
+
+seeker_work : Seeker → ℕ
+seeker_work (Set placed) = 3
+seeker_work Ending = 1
+
+pub phase_work : PhaseValue → ℕ
+phase_work (Marked c) = 3
+phase_work (NeedsDs placed) = 4
+phase_work (Trying placed vs) = 4 + (length (first_signatures placed.set) - length vs)
+phase_work (AtName seeker class name) = 1 + seeker_work seeker
+phase_work (AtZone seeker class zone) = 1 + seeker_work seeker
+phase_work (Concluded o) = 1
+
+take_short : {X : Type 0} (n : ℕ) (xs : List X) → length (take n xs) ≤ n
+take_short zero xs = omega arith
+take_short (suc n) [] = omega arith
+take_short (suc n) (x ∷ xs) = let h = take_short n xs in omega arith
+
+little_seeker : (seeker : Seeker) → 1 + seeker_work seeker ≤ 12
+unfolding seeker_work
+little_seeker (Set placed) = omega arith
+little_seeker Ending = omega arith
+
+little : (p : PhaseValue) → phase_work p ≤ 12
+unfolding phase_work
+little (Marked c) = omega arith
+little (NeedsDs placed) = omega arith
+little (Trying placed vs) = let short = take_short 8 placed.set.signatures in omega arith
+little (AtName seeker class name) = little_seeker seeker
+little (AtZone seeker class zone) = little_seeker seeker
+little (Concluded o) = omega arith
+
+found_work : (q : Question) (told : Told) (seeker : Seeker) (mark : Proof) → phase_work (found q told seeker mark) < 1 + seeker_work seeker
+unfolding phase_work seeker_work
+found_work q told (Set placed) mark = omega arith
+found_work q told Ending mark = omega arith
+
+-- ---- the ending is the last item
+
+search_work : (q : Question) (told : Told) (class : ℕ) (name : Labels) → phase_work (search_at q told Ending class name) ≤ 2
+unfolding phase_work seeker_work
+search_work q told class [] = omega arith
+search_work q told class (label ∷ name) = omega arith
+
+start_work : (q : Question) (told : Told) (o : Outcome) → phase_work (start_by q told o) ≤ 2
+unfolding phase_work
+start_work q told Unjudged = omega arith
+start_work q told (Given denial) = omega arith
+start_work q told NeedsZone = search_work q told q.class (question_start q)
+start_work q told (Denied p) = omega arith
+
+ending_work : (q : Question) (told : Told) (sets : List MarkedSet) → phase_work (start_ending q told sets) ≤ 2
+unfolding start_ending
+ending_work q told sets = start_work q told (outcome_of q told sets)
+
+set_work : (p : PhaseValue) (c : ChainedSet) → turn p ≡ SetEnds c → 2 < phase_work p
+unfolding turn phase_work
+set_work (Marked d) c ends = omega arith
+set_work (NeedsDs placed) c ends = cc
+set_work (Trying placed vs) c ends = omega arith
+set_work (AtName seeker class name) c ends = cc
+set_work (AtZone seeker class zone) c ends = cc
+set_work (Concluded o) c ends = cc
+
+-- ---- a refused ask
+
+try_work : (q : Question) (placed : PlacedSet) (vs : List ChainedVerdict) (rs : List Rr)
+    → phase_work (try_from q placed vs rs) ≤ 4 + (length (first_signatures placed.set) - length vs)
+unfolding try_from phase_work
+try_work q placed vs [] = omega arith
+try_work q placed vs (r ∷ rs) = either q placed vs rs (is_skipped q placed.set r) (try_work q placed (vs ++ unasked ∷ []) rs)
+  where
+    either : (q : Question) (placed : PlacedSet) (vs : List ChainedVerdict) (rs : List Rr) (b : Bool)
+        → phase_work (try_from q placed (vs ++ unasked ∷ []) rs) ≤ 4 + (length (first_signatures placed.set) - length (vs ++ unasked ∷ []))
+        → phase_work (if b then try_from q placed (vs ++ unasked ∷ []) rs else Trying placed vs) ≤ 4 + (length (first_signatures placed.set) - length vs)
+    either q placed vs rs true h = let one = length_push vs unasked in omega arith
+    either q placed vs rs false h = omega arith
+
+verdict_work : (q : Question) (placed : PlacedSet) (vs : List ChainedVerdict) (v : ChainedVerdict) (b : Bool) (p : PhaseValue)
+    → phase_work p ≤ 4 + (length (first_signatures placed.set) - length (vs ++ v ∷ [])) → length vs < length (first_signatures placed.set)
+    → (c : ChainedSet) → phase_work (if b then Marked c else p) < 4 + (length (first_signatures placed.set) - length vs)
+unfolding phase_work
+verdict_work q placed vs v true p h within c = omega arith
+verdict_work q placed vs v false p h within c = let one = length_push vs v in omega arith
+
+slice_get_within : {X : Type 0} (xs : List X) (n : ℕ) (x : X) → slice_get xs n ≡ Some x → n < length xs
+slice_get_within [] n x h = cc
+slice_get_within (y ∷ xs) zero x h = omega arith
+slice_get_within (y ∷ xs) (suc n) x h = let k = slice_get_within xs n x h in omega arith
+
+signature_work : (j : Judge) (q : Question) (placed : PlacedSet) (vs : List ChainedVerdict) (answer : Option (List ChainedSet)) (o : Option Rr) (ask : Ask)
+    → slice_get (first_signatures placed.set) (length vs) ≡ o → signature_need placed vs (option_and_then (ask_of placed.set) o) ≡ Asks ask
+    → phase_work (after_signature j q placed vs answer o) < 4 + (length (first_signatures placed.set) - length vs)
+signature_work j q placed vs answer None ask is asks = cc
+signature_work j q placed vs answer (Some r) ask is asks =
+    let v = chained_verdict j placed.set r answer in
+    verdict_work q placed vs v (is_proved v.verdict) (try_from q placed (vs ++ v ∷ []) (drop (length vs + 1) (first_signatures placed.set)))
+    (try_work q placed (vs ++ v ∷ []) (drop (length vs + 1) (first_signatures placed.set)))
+    (slice_get_within (first_signatures placed.set) (length vs) r is) _
+
+ds_work : (j : Judge) (placed : PlacedSet) (answer : Option (List ChainedSet)) → phase_work (after_ds j placed answer) < 4
+unfolding phase_work
+ds_work j placed answer = either (needs_ds j placed.set) _ _
+  where
+    either : (b : Bool) (c d : ChainedSet) → phase_work (if b then Marked c else Marked d) < 4
+    either true c d = omega arith
+    either false c d = omega arith
+
+judged_is : (ask : Ask) (b : Bool) (q : Question) → (let a : Ask = record { query = q; judged = b } in a) ≡ ask → nothing_got ask.judged ≡ nothing_got b
+judged_is ask b q is = ap (λ (a : Ask). nothing_got a.judged) (sym is)
+
+asks_same : (a b : Ask) → Asks a ≡ Asks b → a ≡ b
+asks_same a b h = cc
+
+pub refused_work : (j : Judge) (q : Question) (told : Told) (p : PhaseValue) (ask : Ask) → turn p ≡ Asks ask
+    → phase_work (after j q told p (nothing_got ask.judged)) < phase_work p
+unfolding turn after phase_work
+refused_work j q told (Marked c) ask asks = cc
+refused_work j q told (NeedsDs placed) ask asks = ds_work j placed _
+refused_work j q told (Trying placed vs) ask asks =
+    signature_work j q placed vs _ (slice_get (first_signatures placed.set) (length vs)) ask refl asks
+refused_work j q told (AtName seeker class name) ask asks =
+    let no = judged_is ask false _ (asks_same _ ask asks) in
+    subst (λ got. phase_work (after j q told (AtName seeker class name) got) < 1 + seeker_work seeker) (sym no) (found_work q told seeker _)
+refused_work j q told (AtZone seeker class zone) ask asks = found_work q told seeker _
+refused_work j q told (Concluded o) ask asks = cc
+
+-- ---- an open step
+
+pub step_work : OpenValue → ℕ
+step_work f = 13 * (length f.so_far.left + 1) + phase_work f.phase
+
+pub steps_work : List OpenValue → ℕ
+steps_work [] = 0
+steps_work (f ∷ outer) = step_work f + steps_work outer
+
+pub work : StateValue → ℕ
+work s = steps_work s.steps + (if is_none s.pending then 1 else 0)
+
+item_work : (j : Judge) (s : SoFar) (left : List PlacedSet) (p : PhaseValue) (c : ChainedSet) → turn p ≡ SetEnds c
+    → 13 * (length (drop 1 left) + 1) + phase_work (next_phase j s (first_left left)) < 13 * (length left + 1) + phase_work p
+item_work j s [] p c ends = let a = ending_work s.query (told_by s.message) (bare s.sets) in let b = set_work p c ends in omega arith
+item_work j s (placed ∷ left) p c ends = let a = little (next_phase j s (Some placed)) in omega arith
+
+set_less : (j : Judge) (f : OpenValue) (c : ChainedSet) → turn f.phase ≡ SetEnds c → step_work (set_ended j f.so_far f.asked c) < step_work f
+unfolding step_work
+set_less j f c ends =
+    let s : SoFar = record f.so_far { sets = f.so_far.sets ++ c ∷ []; entries = f.so_far.entries ++ entry_of c.judged f.asked ∷ [] } in
+    item_work j s f.so_far.left f.phase c ends
+
+answered_more : (j : Judge) (made : AskRef) (got : GotValue) (f : OpenValue) → step_work (answered j made got f) ≤ step_work f + 12
+unfolding step_work
+answered_more j made got f = let a = little (answered j made got f).phase in omega arith
+
+given_more : (j : Judge) (made : AskRef) (got : GotValue) (steps : List OpenValue) → steps_work (give j made got steps) ≤ steps_work steps + 12
+unfolding steps_work
+given_more j made got [] = omega arith
+given_more j made got (f ∷ outer) = let a = answered_more j made got f in omega arith
+
+some_work : (f : OpenValue) → 13 ≤ step_work f
+unfolding step_work
+some_work f = omega arith
+
+refused_less : (j : Judge) (made : AskRef) (ask : Ask) (f : OpenValue) → turn f.phase ≡ Asks ask
+    → step_work (answered j made (nothing_got ask.judged) f) < step_work f
+unfolding step_work
+refused_less j made ask f asks = let a = refused_work j f.so_far.query (told_by f.so_far.message) f.phase ask asks in omega arith
+
+-- ---- a turn
+
+abbrev resting : List AskedValue → List OpenValue → ℕ → Option Reply → StateValue
+resting closed steps n ended = record { closed = closed; steps = steps; pending = None; sends = n; ended = ended }
+
+ended_less : (t : Terms) (f : OpenValue) (outer : List OpenValue) (closed : List AskedValue) (n : ℕ) (e : Option Reply) (o : Outcome)
+    → work (step_ended t f.so_far f.asked o (resting closed outer n e)) < work (resting closed (f ∷ outer) n e)
+unfolding work steps_work
+ended_less t f [] closed n e o = let a = some_work f in omega arith
+ended_less t f (g ∷ outer) closed n e o =
+    let a = some_work f in
+    let b = answered_more t.judge (Step (length closed)) (Answer (given_sets o f.so_far.sets)) g in omega arith
+
+asked_less : (t : Terms) (f : OpenValue) (outer : List OpenValue) (closed : List AskedValue) (n : ℕ) (e : Option Reply) (o : Option AskRef) (ask : Ask)
+    → turn f.phase ≡ Asks ask → work (asked_by t.judge o ask f (resting closed outer n e)) < work (resting closed (f ∷ outer) n e)
+unfolding work steps_work
+asked_less t f outer closed n e None ask asks = omega arith
+asked_less t f outer closed n e (Some r) ask asks = let a = refused_less t.judge r ask f asks in omega arith
+
+need_less : (t : Terms) (f : OpenValue) (outer : List OpenValue) (closed : List AskedValue) (n : ℕ) (e : Option Reply) (need : NeedValue)
+    → turn f.phase ≡ need → work (turned t f (resting closed outer n e) need) < work (resting closed (f ∷ outer) n e)
+unfolding work steps_work
+need_less t f outer closed n e (SetEnds c) is = let a = set_less t.judge f c is in omega arith
+need_less t f outer closed n e (StepEnds o) is = ended_less t f outer closed n e o
+need_less t f outer closed n e (Asks ask) is = asked_less t f outer closed n e (refusal (limit_of t) n f.so_far.depth ask.judged) ask is
+
+turn_less : (t : Terms) (pending : Option Ask) (steps : List OpenValue) (closed : List AskedValue) (n : ℕ) (e : Option Reply) → (is_none pending && not (none_open steps)) ≡ true
+    → (let s : StateValue = record { closed = closed; steps = steps; pending = pending; sends = n; ended = e } in work (tick t s) < work s)
+turn_less t None [] closed n e on = cc
+turn_less t None (f ∷ outer) closed n e on = need_less t f outer closed n e (turn f.phase) refl
+turn_less t (Some ask) steps closed n e on = cc
+
+pub less_tick : (t : Terms) (s : StateValue) → moves s ≡ true → work (tick t s) < work s
+less_tick t s on = turn_less t s.pending s.steps s.closed s.sends s.ended on

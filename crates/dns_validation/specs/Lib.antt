@@ -1,0 +1,10 @@
+pub mod Received
+pub mod Requests
+pub mod Steps
+pub mod ReceivedParts
+pub mod Machine
+pub mod AnswerParts
+pub mod Terms
+pub mod Validations
+pub mod Runs
+pub mod Comes

@@ -1,0 +1,33 @@
+-- What contracts see of a validation.
+use Rattle.std.specs.Prelude.{ℕ, Bool, Option}
+use Rattle.std.specs.Option.{option_map}
+use Rattle.dns_model.specs.Keys.{VerifierAnswers}
+use Rattle.dns_model.specs.Chains.{Judge}
+use Rattle.dns_model.specs.Records.{Question}
+use Rattle.dns_handle.specs.Requests.{RequestValue}
+use Rattle.dns_handle.specs.declared.request.DnsRequestOptions.{DnsRequestOptions}
+use Rattle.dns_flow.specs.declared.asks.Ask.{Ask}
+use Rattle.dns_validation.specs.Machine.{Terms, StateValue, none_open}
+use Rattle.dns_validation.specs.Runs.{request_at}
+use Rattle.dns_validation.specs.Terms.{terms_of}
+use Rattle.dns_validation.specs.declared.validation.Asking.{Asking}
+use Rattle.dns_validation.specs.declared.validation.Validation.{Validation}
+
+-- by what it judges and asks
+abbrev pub terms_in : {V : Type 0} → (V → VerifierAnswers) → Validation V → Terms
+terms_in answers validation = terms_of answers validation.context
+
+-- how far it has come
+abbrev pub state_of : {V : Type 0} → Validation V → StateValue
+state_of validation = validation.state
+
+-- what it asks: that which waits for its reply, by this request
+abbrev pub asking_at : RequestValue → DnsRequestOptions → Bool → Ask → Asking
+asking_at request options first ask = record { request = request_at request options first ask; judged = ask.judged }
+
+abbrev pub asking_in : Terms → StateValue → Option Asking
+asking_in t s = option_map (asking_at t.request t.options (none_open s.steps)) s.pending
+
+-- the terms on which it begins
+abbrev pub terms_by : Judge → Question → RequestValue → DnsRequestOptions → ℕ → Terms
+terms_by j q request options now = record { judge = j; query = q; request = request; options = options; now = now }

@@ -1,0 +1,232 @@
+ghost use Rattle.std.specs.Prelude.{◌≡◌, ◌⊎◌, false, [], List, None, IfOk, OnOk, IfSome, IsSome};
+ghost use Rattle.dns_handle.specs.Replies.{reply_of};
+ghost use Rattle.dns_handle.specs.Requests.{first_question};
+ghost use Rattle.dns_trust.specs.Judge.{judge_of};
+ghost use Rattle.dns_validation.specs.Machine.{begin as begin_of, none_open as none_open_in};
+ghost use Rattle.dns_validation.specs.Requests.{asking_request, checked_request};
+ghost use Rattle.dns_validation.specs.Comes.{Comes};
+ghost use Rattle.dns_validation.specs.Runs.{Sent, Run, IsOut, HasHeard, GoesOn, moves as moves_on, request_at};
+ghost use Rattle.std.specs.Option.{option_map};
+ghost use Rattle.dns_validation.specs.Terms.{terms_of};
+ghost use Rattle.dns_validation.specs.Validations.{asking_at};
+
+use crate::context::Context;
+use crate::hearing::hear;
+use crate::requests::{checked, request_for};
+use crate::state::{State, none_open, settle};
+use dns_evidence::Verifier;
+use dns_flow::Ask;
+use dns_handle::{DnsRequest, DnsRequestOptions, DnsResponse, NetError};
+use dns_name::NoMemory;
+use dns_record::Query;
+use dns_trust::Judge;
+use std::alloc::Global;
+
+/// The validation of a query (RFC 4035, 5): it says what it asks, is told the reply to that, and goes on, until it has its answer.
+/// It holds no handle.
+#[derive(Drop)]
+pub struct Validation<'a, V> {
+    context: Context<'a, V>,
+    state: State,
+}
+
+/// What a validation asks.
+#[derive(Drop)]
+pub struct Asking {
+    /// The request to send.
+    pub request: DnsRequest,
+    /// The reply is judged; else it is only seen.
+    pub judged: bool,
+}
+
+impl<'a, V: Verifier> Validation<'a, V> {
+    ghost use Rattle.dns_validation.specs.Validations.{terms_in, state_of, terms_by, asking_in as asking_of};
+
+    /// Begins with a query. Its own request is sent for it, as that of each judged ask: with EDNS and DO, AD set and CD clear. The
+    /// only error is want of memory.
+    pub fn new(
+        alloc: Global,
+        judge: Judge<'a, V>,
+        query: Query,
+        options: DnsRequestOptions,
+    ) -> Result<Validation<'a, V>, NoMemory>
+        ensures terms { IfOk result (λ v. terms_in V.answers v
+            ≡ terms_by (judge_of V.answers judge.entry) query (asking_request query options) options judge.entry.moment) }
+        ensures begins { IfOk result (λ v. state_of v ≡ begin_of query) }
+        ensures run { IfOk result (λ v. Run (terms_in V.answers v) [] (state_of v)) }
+    {
+        let request = request_for(alloc, &query, &options, true)?;
+        begin(alloc, judge, query, request, options)
+    }
+
+    /// Begins with a query and the request that is sent for it, with EDNS and DO, AD set and CD clear: else as it is given. The
+    /// other asks are by the options of the request. The only error is want of memory.
+    pub fn by_request(
+        alloc: Global,
+        judge: Judge<'a, V>,
+        query: Query,
+        request: DnsRequest,
+    ) -> Result<Validation<'a, V>, NoMemory>
+        requires asked { first_question request ≡ Some query }
+        ensures terms { IfOk result (λ v. terms_in V.answers v
+            ≡ terms_by (judge_of V.answers judge.entry) query (checked_request request) request.options judge.entry.moment) }
+        ensures begins { IfOk result (λ v. state_of v ≡ begin_of query) }
+        ensures run { IfOk result (λ v. Run (terms_in V.answers v) [] (state_of v)) }
+    {
+        let options = request.options;
+        begin(alloc, judge, query, checked(alloc, request), options)
+    }
+
+    /// What it asks; None where it has come to its end, also where memory runs out for the request. Before the answer, it asks the
+    /// same again.
+    pub fn next(&mut self) -> Option<Asking>
+        ensures terms { terms_in V.answers self.new ≡ terms_in V.answers self.old }
+        ensures asks { IsOut (state_of self.new) ⊎ (result ≡ asking_of (terms_in V.answers self.old) (state_of self.old)) }
+        ensures same { IsOut (state_of self.new) ⊎ (state_of self.new ≡ state_of self.old) }
+    {
+        match next_ask(&self.context, &self.state) {
+            Ok(asked) => asked,
+            Err(_) => {
+                run_out(&self.context, &mut self.state);
+                None
+            }
+        }
+    }
+
+    /// Takes the reply to what it asked, and goes on. Want of memory, also as the reply, ends it.
+    pub fn answer(&mut self, reply: Result<DnsResponse, NetError>)
+        ensures terms { terms_in V.answers self.new ≡ terms_in V.answers self.old }
+        ensures heard { IsOut (state_of self.new)
+            ⊎ HasHeard (terms_in V.answers self.old) (state_of self.old) (reply_of reply) (state_of self.new) }
+        ensures run { IsOut (state_of self.new)
+            ⊎ GoesOn (terms_in V.answers self.old) (state_of self.old) (reply_of reply) (state_of self.new) }
+    {
+        match go_on(&self.context, &mut self.state, reply) {
+            Ok(()) => {}
+            Err(_) => run_out(&self.context, &mut self.state),
+        }
+    }
+
+    /// The answer of a validation that has come to its end, as a lookup gives it: by a trail of exactly the sends of its run. None
+    /// where it still waits for a reply.
+    pub fn into_answer(self) -> Option<Result<DnsResponse, NetError>>
+        ensures answer { option_map reply_of result ≡ (state_of self.entry).ended }
+        ensures comes { IfSome result (λ r. (sends : List Sent)
+            → Run (terms_in V.answers self.entry) sends (state_of self.entry)
+            → Comes (terms_in V.answers self.entry) sends (reply_of r)) }
+        ensures ends { (sends : List Sent) → Run (terms_in V.answers self.entry) sends (state_of self.entry)
+            → (state_of self.entry).pending ≡ None → moves_on (state_of self.entry) ≡ false → IsSome result }
+    {
+        let Validation { context: _, state } = self;
+        answer_in(state)
+    }
+}
+
+// A validation begins.
+fn begin<'a, V: Verifier>(
+    alloc: Global,
+    judge: Judge<'a, V>,
+    query: Query,
+    request: DnsRequest,
+    options: DnsRequestOptions,
+) -> Result<Validation<'a, V>, NoMemory>
+    ensures context { IfOk result (λ v. v.context
+        ≡ record { alloc = alloc; judge = judge.entry; query = query; request = request; options = options }) }
+    ensures begins { IfOk result (λ v. v.state ≡ begin_of query) }
+    ensures run { IfOk result (λ v. Run (terms_of V.answers v.context) [] v.state) }
+{
+    let asked = query.try_clone()?;
+    let state = first_state(alloc, asked);
+    let context = Context {
+        alloc,
+        judge,
+        query,
+        request,
+        options,
+    };
+    Ok(Validation { context, state })
+}
+
+// It asks for its query.
+fn first_state(alloc: Global, query: Query) -> State
+    ensures { result ≡ begin_of query }
+{
+    let ask = Ask {
+        query,
+        judged: true,
+    };
+    State {
+        closed: Vec::new(alloc),
+        steps: Vec::new(alloc),
+        pending: Some(ask),
+        sends: 0,
+        ended: None,
+    }
+}
+
+// What a validation asks.
+fn next_ask<V>(context: &Context<'_, V>, state: &State) -> Result<Option<Asking>, NoMemory>
+    ensures { IfOk result (λ a. a ≡ option_map (asking_at context.now.request context.now.options
+        (none_open_in state.now.steps)) state.now.pending) }
+{
+    let first = none_open(state);
+    let Some(ask) = &state.pending else {
+        return Ok(None);
+    };
+    let request = request_of(context, first, ask)?;
+    Ok(Some(Asking {
+        request,
+        judged: ask.judged,
+    }))
+}
+
+// The request of an ask, the first or another.
+fn request_of<V>(context: &Context<'_, V>, first: bool, ask: &Ask) -> Result<DnsRequest, NoMemory>
+    ensures { IfOk result (λ r. r ≡ request_at context.now.request context.now.options first ask.now) }
+{
+    if first {
+        context.request.try_clone()
+    } else {
+        request_for(context.alloc, &ask.query, &context.options, ask.judged)
+    }
+}
+
+// Hears a reply, and turns as far as it goes.
+fn go_on<V: Verifier>(
+    context: &Context<'_, V>,
+    state: &mut State,
+    reply: Result<DnsResponse, NetError>,
+) -> Result<(), NoMemory>
+    ensures { OnOk result (HasHeard (terms_of V.answers context.now) state.old (reply_of reply) state.new) }
+{
+    hear(context, state, reply)?;
+    settle(context, state)
+}
+
+// Memory ran out.
+fn run_out<V>(context: &Context<'_, V>, state: &mut State)
+    ensures { IsOut state.new }
+{
+    let alloc = context.alloc;
+    *state = State {
+        closed: Vec::new(alloc),
+        steps: Vec::new(alloc),
+        pending: None,
+        sends: state.sends,
+        ended: Some(Err(NetError::NoMemory)),
+    };
+}
+
+// The answer with which a validation has come to its end.
+fn answer_in(state: State) -> Option<Result<DnsResponse, NetError>>
+    ensures { option_map reply_of result ≡ state.ended }
+{
+    let State {
+        closed: _,
+        steps: _,
+        pending: _,
+        sends: _,
+        ended,
+    } = state;
+    ended
+}
