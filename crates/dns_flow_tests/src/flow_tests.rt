@@ -65,6 +65,13 @@ const FROM_NAME: &[Asked] = &[NO_A_B, NO_B];
 
 const FROM_PARENT: &[Asked] = &[NO_B];
 
+const KEYS: Asked = Asked {
+    record_type: RecordType::DNSKEY,
+    ..DS
+};
+
+const EIGHT_TIMES: &[Asked] = &[KEYS, KEYS, KEYS, KEYS, KEYS, KEYS, KEYS, KEYS];
+
 const UNSIGNED: Row = Row {
     shows: "up to the root no zone is found",
     owner: "a.b.",
@@ -128,10 +135,7 @@ const ROWS: &[Row] = &[
     Row {
         shows: "a signature asks for its signer's keys",
         signature: BY_B,
-        asks: &[Asked {
-            record_type: RecordType::DNSKEY,
-            ..DS
-        }],
+        asks: &[KEYS],
         ..UNSIGNED
     },
 ];
@@ -180,16 +184,29 @@ fn set(
         rrsigs: Vec::new(alloc),
     };
     if !signature.is_empty() {
-        set.rrsigs.push(Record {
-            name: Name::from_ascii(alloc, owner)?,
-            record_type: RecordType::RRSIG,
-            dns_class: DNSClass::IN,
-            ttl: 300,
-            rdata: Rdata::from_slice(alloc, &signature[..signature.len().min(65535)])?,
-            proof: Proof::Indeterminate,
-        })?;
+        set.rrsigs.push(signed(alloc, owner, signature)?)?;
     }
     Ok(set)
+}
+
+fn signed(alloc: Global, owner: &str, signature: &[u8]) -> Result<Record, NameError> {
+    Ok(Record {
+        name: Name::from_ascii(alloc, owner)?,
+        record_type: RecordType::RRSIG,
+        dns_class: DNSClass::IN,
+        ttl: 300,
+        rdata: Rdata::from_slice(alloc, &signature[..signature.len().min(65535)])?,
+        proof: Proof::Indeterminate,
+    })
+}
+
+/// So many signatures of a name by `b.`
+fn many(alloc: Global, owner: &str, count: u16) -> Result<Vec<Record>, NameError> {
+    let mut all = Vec::new(alloc);
+    for _ in 0..count {
+        all.push(signed(alloc, owner, BY_B)?)?;
+    }
+    Ok(all)
 }
 
 fn got(alloc: Global, reply: Reply) -> Result<Got, NameError> {
@@ -278,6 +295,31 @@ fn ending_holds(alloc: Global, asked: RecordType, asks: &[Asked]) -> Result<bool
     }
 }
 
+/// A set of four thousand signatures asks for eight, and an ending of as many records searches its zone.
+fn many_hold(alloc: Global, keys: &[Asked], names: &[Asked]) -> Result<bool, NameError> {
+    let anchors = TrustAnchors::empty(alloc);
+    let verifier = Listed::new(alloc);
+    let judge = Judge {
+        verifier: &verifier,
+        anchors: &anchors,
+        moment: 500,
+    };
+    let query = query(alloc, "a.b.", RecordType::A)?;
+    let mut message = message(alloc);
+    message.answers = many(alloc, "c.b.", 4000)?;
+    let mut set = set(alloc, "a.b.", RecordType::A, b"")?;
+    set.rrsigs = many(alloc, "a.b.", 4000)?;
+    let placed = PlacedSet {
+        section: Section::Answer,
+        set,
+    };
+    let begun = start_set(alloc, &judge, &query, &message, placed)?;
+    let set_end = led(alloc, &judge, &query, &message, begun, keys)?;
+    let ending = start_ending(alloc, &query, &message, &[])?;
+    let step_end = led(alloc, &judge, &query, &message, ending, names)?;
+    Ok(matches!(set_end, Some(Need::SetEnds(_))) && matches!(step_end, Some(Need::StepEnds(_))))
+}
+
 fn check_row(rt: &impl Abort, shows: &str, held: Result<bool, NameError>) {
     assert!(rt; matches!(held, Ok(true)), "{shows}");
 }
@@ -307,4 +349,14 @@ fn an_ending_searches_the_zone_of_its_query(rt: HostRuntime) {
     check_row(&rt, "from the name", from_name);
     let from_parent = ending_holds(rt.alloc(), RecordType::DS, asks_from_parent());
     check_row(&rt, "a DS from the parent", from_parent);
+}
+
+fn eight_times() -> &'static [Asked] {
+    EIGHT_TIMES
+}
+
+#[test]
+fn four_thousand_signatures_ask_for_eight(rt: HostRuntime) {
+    let held = many_hold(rt.alloc(), eight_times(), asks_from_name());
+    check_row(&rt, "four thousand signatures", held);
 }
