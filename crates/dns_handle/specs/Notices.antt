@@ -1,7 +1,7 @@
 -- The texts of notices.
 use Rattle.std.specs.Prelude.{ℕ, List, codes}
 use Rattle.dns_handle.specs.declared.notice.Notice.{Notice}
-use Rattle.dns_handle.specs.declared.notice.Notice.TheVariants.{NotJudgedYet, NoQueryInRequest, ExpiredRrsig, WrongDnskey, WrongRrsig, ExceededMaxValidationDepth, ExceededMaxNestedQueries, IdSpaceExhausted, SendQueueFull, PolledAfterCompletion}
+use Rattle.dns_handle.specs.declared.notice.Notice.TheVariants.{NotJudgedYet, NoQueryInRequest, ExpiredRrsig, WrongDnskey, WrongRrsig, ExceededMaxValidationDepth, ExceededMaxNestedQueries, IdSpaceExhausted, SendQueueFull, PolledAfterCompletion, NotAllBytesSent}
 
 abbrev pub notice_text : Notice → List ℕ
 notice_text NotJudgedYet = codes "not judged yet"
@@ -14,3 +14,4 @@ notice_text ExceededMaxNestedQueries = codes "exceeded max nested queries"
 notice_text IdSpaceExhausted = codes "id space exhausted, consider filing an issue"
 notice_text SendQueueFull = codes "send queue full"
 notice_text PolledAfterCompletion = codes "polled after completion"
+notice_text NotAllBytesSent = codes "not all bytes of message sent"

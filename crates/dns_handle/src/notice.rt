@@ -26,6 +26,8 @@ pub enum Notice {
     SendQueueFull,
     /// A future that gave its answer was polled again.
     PolledAfterCompletion,
+    /// A socket took fewer bytes than a datagram has.
+    NotAllBytesSent,
 }
 
 impl Notice {
@@ -44,6 +46,7 @@ impl Notice {
             Notice::IdSpaceExhausted => "id space exhausted, consider filing an issue",
             Notice::SendQueueFull => "send queue full",
             Notice::PolledAfterCompletion => "polled after completion",
+            Notice::NotAllBytesSent => "not all bytes of message sent",
         }
     }
 }

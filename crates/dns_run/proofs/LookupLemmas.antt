@@ -16,7 +16,7 @@ use Rattle.dns_handle.specs.Replies.{reply_of}
 use Rattle.dns_handle.specs.Requests.{plain_options}
 use Rattle.dns_handle.specs.declared.error.NetError.{NetError}
 use Rattle.dns_handle.specs.declared.handle.DnsHandle as handle
-use Rattle.dns_handle.specs.declared.notice.Notice.TheVariants.{NotJudgedYet, NoQueryInRequest, ExpiredRrsig, WrongDnskey, WrongRrsig, ExceededMaxValidationDepth, ExceededMaxNestedQueries, IdSpaceExhausted, SendQueueFull, PolledAfterCompletion}
+use Rattle.dns_handle.specs.declared.notice.Notice.TheVariants.{NotJudgedYet, NoQueryInRequest, ExpiredRrsig, WrongDnskey, WrongRrsig, ExceededMaxValidationDepth, ExceededMaxNestedQueries, IdSpaceExhausted, SendQueueFull, PolledAfterCompletion, NotAllBytesSent}
 use Rattle.dns_lookup.specs.Received.{received_message, received}
 use Rattle.dns_handle.specs.declared.request.DnsRequestOptions.{DnsRequestOptions}
 use Rattle.dns_evidence.specs.declared.verifier.Verifier as verifier
@@ -253,6 +253,8 @@ error_cause meanings s call (Message IdSpaceExhausted) c says answers own =
 error_cause meanings s call (Message SendQueueFull) c says answers own =
     passed_cause meanings s call _ c own (says.caused.passed _ refl refl)
 error_cause meanings s call (Message PolledAfterCompletion) c says answers own =
+    passed_cause meanings s call _ c own (says.caused.passed _ refl refl)
+error_cause meanings s call (Message NotAllBytesSent) c says answers own =
     passed_cause meanings s call _ c own (says.caused.passed _ refl refl)
 error_cause meanings s call (Msg text) c says answers own =
     passed_cause meanings s call _ c own (says.caused.passed _ refl refl)
