@@ -21,32 +21,13 @@ const STAR_W: &str = "r53bq7cc2uvmubfu5ocmm6pers9tk9en";
 
 pub(crate) const X_W: &str = "b4um86eghhds6nea196smvmlo4ors995";
 
-const Y_W: &str = "ji6neoaepv8b5o6k4ev33abha8ht9fgc";
-
-const Z_W: &str = "qlu7gtfaeh0ek0c05ksfhdpbcgglbe03";
-
 const X_Y_W: &str = "2vptu5timamqttgl4luu9kg21e0aor3s";
-
-const XX: &str = "t644ebqk9bibcna874givr6joj62mlhv";
-/// The name whose first label is the hash of `ns1.example`.
-const HASH_OF_NS1: &str = "kohar7mbb8dc2ce8a9qvl8hon4k53uhi";
-
-/// `signed`, and names below it.
-const SIGNED: &str = "2fpkov6jh0c3m4l9qemgl03t4gi99lic";
 
 pub(crate) const DELEG: &str = "g0qg1e59jjdfvtqsb6686pucnumc27tc";
 
 pub(crate) const STAR_SIGNED: &str = "s0dues3c4fhoe5qiqoi9n0837sfdaq1a";
 
-const NS1_SIGNED: &str = "ef0jspjebql5h75v9iqonut2kjiurlv1";
-
-/// Type bitmaps, each with RRSIG but the first: none; A; A and MX; MX; NS and DS; NS; DNAME; A, SOA and DNSKEY; MX, DNSKEY, NS,
-/// SOA and NSEC3PARAM; the same without MX.
-const NONE: &[u8] = b"";
-
 const A_ALONE: &[u8] = b"\0\x06\x40\0\0\0\0\x02";
-
-const A_AND_MX: &[u8] = b"\0\x06\x40\x01\0\0\0\x02";
 
 const MX_ALONE: &[u8] = b"\0\x06\0\x01\0\0\0\x02";
 
@@ -54,13 +35,7 @@ pub(crate) const SIGNED_CUT: &[u8] = b"\0\x06\x20\0\0\0\0\x12";
 
 pub(crate) const CUT: &[u8] = b"\0\x06\x20\0\0\0\0\x02";
 
-const DNAME: &[u8] = b"\0\x06\0\0\0\0\x01\x02";
-
-const A_AND_APEX: &[u8] = b"\0\x07\x42\0\0\0\0\x02\x80";
-
 pub(crate) const APEX: &[u8] = b"\0\x07\x22\x01\0\0\0\x02\x90";
-
-const PLAIN_APEX: &[u8] = b"\0\x07\x22\0\0\0\0\x02\x90";
 
 /// An NSEC3 record: hash algorithm, flags and iterations, its owner's first label, the next hash, and the types at the owner.
 pub(crate) struct Told(
@@ -85,62 +60,11 @@ pub(crate) struct Denied {
 
 pub(crate) const NO_MX_AT_NS1: &[Told] = &[Told(1, 0, 12, NS1, X_Y_W, A_ALONE)];
 
-pub(crate) const MX_AT_NS1: &[Told] = &[Told(1, 0, 12, NS1, X_Y_W, A_AND_MX)];
-
-pub(crate) const OTHER_OWNER: &[Told] = &[Told(1, 0, 12, NS2, X_Y_W, A_ALONE)];
-
-pub(crate) const COVERED_OWNER: &[Told] = &[Told(1, 0, 12, EXAMPLE, A, A_AND_APEX)];
-
-pub(crate) const NOTHING_AT_Y_W: &[Told] = &[Told(1, 0, 12, Y_W, W, NONE)];
-
-pub(crate) const WILDCARD_WITHOUT_DATA: &[Told] = &[
-    Told(1, 0, 12, W, HASH_OF_NS1, NONE),
-    Told(1, 0, 12, NS2, STAR_W, A_ALONE),
-    Told(1, 0, 12, STAR_W, XX, MX_ALONE),
-];
-
-pub(crate) const WILDCARD_IN_OPT_OUT: &[Told] = &[
-    Told(1, 0, 12, W, HASH_OF_NS1, NONE),
-    Told(1, 1, 12, NS2, STAR_W, A_ALONE),
-    Told(1, 0, 12, STAR_W, XX, MX_ALONE),
-];
-
-pub(crate) const WILDCARD_WITHOUT_ENCLOSER: &[Told] = &[
-    Told(1, 0, 12, NS2, STAR_W, A_ALONE),
-    Told(1, 0, 12, STAR_W, XX, MX_ALONE),
-];
-
-pub(crate) const WILDCARD_WITHOUT_CLOSER: &[Told] = &[
-    Told(1, 0, 12, W, HASH_OF_NS1, NONE),
-    Told(1, 0, 12, STAR_W, XX, MX_ALONE),
-];
-
-pub(crate) const ENCLOSER_WITHOUT_WILDCARD: &[Told] = &[
-    Told(1, 0, 12, W, HASH_OF_NS1, NONE),
-    Told(1, 0, 12, NS2, STAR_W, A_ALONE),
-];
-
 pub(crate) const SIGNED_DELEGATION: &[Told] = &[Told(1, 0, 12, DELEG, STAR_SIGNED, SIGNED_CUT)];
 
 pub(crate) const UNSIGNED_DELEGATION: &[Told] = &[Told(1, 0, 12, DELEG, STAR_SIGNED, CUT)];
 
 pub(crate) const EXPANDED: &[Told] = &[Told(1, 0, 12, NS2, STAR_W, A_ALONE)];
-
-pub(crate) const UNCOVERED_CLOSER: &[Told] = &[Told(1, 0, 12, EXAMPLE, A, A_ALONE)];
-
-pub(crate) const MATCHED_CLOSER: &[Told] = &[Told(1, 0, 12, Z_W, A, A_ALONE)];
-
-pub(crate) const NAME_ERROR: &[Told] = &[
-    Told(1, 0, 12, EXAMPLE, NS1, APEX),
-    Told(1, 0, 12, X_W, AI, MX_ALONE),
-    Told(1, 0, 12, A, X_W, SIGNED_CUT),
-];
-
-pub(crate) const NAME_ERROR_IN_OPT_OUT: &[Told] = &[
-    Told(1, 1, 12, EXAMPLE, NS1, APEX),
-    Told(1, 0, 12, X_W, AI, MX_ALONE),
-    Told(1, 0, 12, A, X_W, SIGNED_CUT),
-];
 
 pub(crate) const WILDCARD_IN_A_NAME_ERROR_IN_OPT_OUT: &[Told] = &[
     Told(1, 0, 12, EXAMPLE, NS1, APEX),
@@ -148,36 +72,9 @@ pub(crate) const WILDCARD_IN_A_NAME_ERROR_IN_OPT_OUT: &[Told] = &[
     Told(1, 1, 12, A, X_W, SIGNED_CUT),
 ];
 
-pub(crate) const NAME_ERROR_WITHOUT_WILDCARD: &[Told] = &[
-    Told(1, 0, 12, EXAMPLE, NS1, APEX),
-    Told(1, 0, 12, X_W, AI, MX_ALONE),
-];
-
-pub(crate) const NAME_ERROR_WITHOUT_CLOSER: &[Told] = &[
-    Told(1, 0, 12, X_W, AI, MX_ALONE),
-    Told(1, 0, 12, A, X_W, SIGNED_CUT),
-];
-
-pub(crate) const UNKNOWN_FLAG: &[Told] = &[Told(1, 2, 12, NS1, X_Y_W, A_ALONE)];
-
 pub(crate) const UNKNOWN_ALGORITHM: &[Told] = &[
     Told(2, 0, 101, NS1, X_Y_W, A_ALONE),
     Told(1, 0, 12, NS1, X_Y_W, A_ALONE),
-];
-
-pub(crate) const SEVERAL_COUNTS: &[Told] = &[
-    Told(1, 0, 13, NS1, X_Y_W, A_ALONE),
-    Told(1, 0, 12, NS1, X_Y_W, A_ALONE),
-];
-
-pub(crate) const BELOW_A_DELEGATION: &[Told] = &[
-    Told(1, 0, 12, DELEG, STAR_SIGNED, SIGNED_CUT),
-    Told(1, 0, 12, SIGNED, NS1_SIGNED, PLAIN_APEX),
-];
-
-pub(crate) const BELOW_A_DNAME: &[Told] = &[
-    Told(1, 0, 12, DELEG, STAR_SIGNED, DNAME),
-    Told(1, 0, 12, SIGNED, NS1_SIGNED, PLAIN_APEX),
 ];
 
 pub(crate) const OPT_OUT: &[Told] = &[
@@ -235,6 +132,7 @@ pub(crate) const LIMITED: &[(&str, Limited)] = &[
     ),
 ];
 
+/// `rows/verdicts.txt` has the others.
 const DENIED: &[(&str, Denied)] = &[
     (
         "the record at the name lacks the type",
@@ -246,210 +144,6 @@ const DENIED: &[(&str, Denied)] = &[
             zone: "example.",
             told: NO_MX_AT_NS1,
             verdict: Proof::Secure,
-        },
-    ),
-    (
-        "the record at the name has the type",
-        Denied {
-            name: "ns1.example.",
-            record_type: RecordType::MX,
-            code: ResponseCode::NO_ERROR,
-            answered: Answered::No,
-            zone: "example.",
-            told: MX_AT_NS1,
-            verdict: Proof::Bogus,
-        },
-    ),
-    (
-        "a name whose record lacks the type exists",
-        Denied {
-            name: "ns1.example.",
-            record_type: RecordType::MX,
-            code: ResponseCode::NX_DOMAIN,
-            answered: Answered::No,
-            zone: "example.",
-            told: NO_MX_AT_NS1,
-            verdict: Proof::Bogus,
-        },
-    ),
-    (
-        "the name is in capitals",
-        Denied {
-            name: "NS1.EXAMPLE.",
-            record_type: RecordType::MX,
-            code: ResponseCode::NO_ERROR,
-            answered: Answered::No,
-            zone: "Example.",
-            told: NO_MX_AT_NS1,
-            verdict: Proof::Secure,
-        },
-    ),
-    (
-        "the record is at another name",
-        Denied {
-            name: "ns1.example.",
-            record_type: RecordType::MX,
-            code: ResponseCode::NO_ERROR,
-            answered: Answered::No,
-            zone: "example.",
-            told: OTHER_OWNER,
-            verdict: Proof::Bogus,
-        },
-    ),
-    (
-        "the record covers another name",
-        Denied {
-            name: "ns1.example.",
-            record_type: RecordType::MX,
-            code: ResponseCode::NO_ERROR,
-            answered: Answered::No,
-            zone: "example.",
-            told: COVERED_OWNER,
-            verdict: Proof::Bogus,
-        },
-    ),
-    (
-        "the apex has no record of its own",
-        Denied {
-            name: "example.",
-            record_type: RecordType::MX,
-            code: ResponseCode::NO_ERROR,
-            answered: Answered::No,
-            zone: "example.",
-            told: NO_MX_AT_NS1,
-            verdict: Proof::Bogus,
-        },
-    ),
-    (
-        "an empty non-terminal has no data",
-        Denied {
-            name: "y.w.example.",
-            record_type: RecordType::A,
-            code: ResponseCode::NO_ERROR,
-            answered: Answered::No,
-            zone: "example.",
-            told: NOTHING_AT_Y_W,
-            verdict: Proof::Secure,
-        },
-    ),
-    (
-        "the wildcard lacks the type",
-        Denied {
-            name: "a.z.w.example.",
-            record_type: RecordType::AAAA,
-            code: ResponseCode::NO_ERROR,
-            answered: Answered::No,
-            zone: "example.",
-            told: WILDCARD_WITHOUT_DATA,
-            verdict: Proof::Secure,
-        },
-    ),
-    (
-        "the wildcard has the type",
-        Denied {
-            name: "a.z.w.example.",
-            record_type: RecordType::MX,
-            code: ResponseCode::NO_ERROR,
-            answered: Answered::No,
-            zone: "example.",
-            told: WILDCARD_WITHOUT_DATA,
-            verdict: Proof::Bogus,
-        },
-    ),
-    (
-        "the wildcard lacks the type, and the next closer name lies in an opt-out span",
-        Denied {
-            name: "a.z.w.example.",
-            record_type: RecordType::AAAA,
-            code: ResponseCode::NO_ERROR,
-            answered: Answered::No,
-            zone: "example.",
-            told: WILDCARD_IN_OPT_OUT,
-            verdict: Proof::Secure,
-        },
-    ),
-    (
-        "no record matches the closest encloser",
-        Denied {
-            name: "a.z.w.example.",
-            record_type: RecordType::AAAA,
-            code: ResponseCode::NO_ERROR,
-            answered: Answered::No,
-            zone: "example.",
-            told: WILDCARD_WITHOUT_ENCLOSER,
-            verdict: Proof::Bogus,
-        },
-    ),
-    (
-        "no record covers the next closer name",
-        Denied {
-            name: "a.z.w.example.",
-            record_type: RecordType::AAAA,
-            code: ResponseCode::NO_ERROR,
-            answered: Answered::No,
-            zone: "example.",
-            told: WILDCARD_WITHOUT_CLOSER,
-            verdict: Proof::Bogus,
-        },
-    ),
-    (
-        "no record matches the wildcard",
-        Denied {
-            name: "a.z.w.example.",
-            record_type: RecordType::AAAA,
-            code: ResponseCode::NO_ERROR,
-            answered: Answered::No,
-            zone: "example.",
-            told: ENCLOSER_WITHOUT_WILDCARD,
-            verdict: Proof::Bogus,
-        },
-    ),
-    (
-        "a delegation's record denies no type but DS",
-        Denied {
-            name: "deleg.signed.",
-            record_type: RecordType::AAAA,
-            code: ResponseCode::NO_ERROR,
-            answered: Answered::No,
-            zone: "signed.",
-            told: SIGNED_DELEGATION,
-            verdict: Proof::Bogus,
-        },
-    ),
-    (
-        "a delegation's record denies DS",
-        Denied {
-            name: "deleg.signed.",
-            record_type: RecordType::DS,
-            code: ResponseCode::NO_ERROR,
-            answered: Answered::No,
-            zone: "signed.",
-            told: UNSIGNED_DELEGATION,
-            verdict: Proof::Secure,
-        },
-    ),
-    (
-        "no name closer than the wildcard is there",
-        Denied {
-            name: "a.z.w.example.",
-            record_type: RecordType::MX,
-            code: ResponseCode::NO_ERROR,
-            answered: Answered::Expanded(2),
-            zone: "example.",
-            told: EXPANDED,
-            verdict: Proof::Secure,
-        },
-    ),
-    (
-        "a wildcard above the zone",
-        Denied {
-            name: "a.z.w.example.",
-            record_type: RecordType::MX,
-            code: ResponseCode::NO_ERROR,
-            answered: Answered::Expanded(0),
-            zone: "example.",
-            told: EXPANDED,
-            verdict: Proof::Bogus,
         },
     ),
     (
@@ -465,138 +159,6 @@ const DENIED: &[(&str, Denied)] = &[
         },
     ),
     (
-        "an answer that is no expansion",
-        Denied {
-            name: "a.z.w.example.",
-            record_type: RecordType::MX,
-            code: ResponseCode::NO_ERROR,
-            answered: Answered::Plain,
-            zone: "example.",
-            told: EXPANDED,
-            verdict: Proof::Bogus,
-        },
-    ),
-    (
-        "a name error with an answer",
-        Denied {
-            name: "a.z.w.example.",
-            record_type: RecordType::MX,
-            code: ResponseCode::NX_DOMAIN,
-            answered: Answered::Expanded(2),
-            zone: "example.",
-            told: EXPANDED,
-            verdict: Proof::Bogus,
-        },
-    ),
-    (
-        "a code that denies nothing",
-        Denied {
-            name: "ns1.example.",
-            record_type: RecordType::MX,
-            code: ResponseCode::SERV_FAIL,
-            answered: Answered::No,
-            zone: "example.",
-            told: NO_MX_AT_NS1,
-            verdict: Proof::Bogus,
-        },
-    ),
-    (
-        "the next closer name isn't covered",
-        Denied {
-            name: "a.z.w.example.",
-            record_type: RecordType::MX,
-            code: ResponseCode::NO_ERROR,
-            answered: Answered::Expanded(2),
-            zone: "example.",
-            told: UNCOVERED_CLOSER,
-            verdict: Proof::Bogus,
-        },
-    ),
-    (
-        "the next closer name is there",
-        Denied {
-            name: "a.z.w.example.",
-            record_type: RecordType::MX,
-            code: ResponseCode::NO_ERROR,
-            answered: Answered::Expanded(2),
-            zone: "example.",
-            told: MATCHED_CLOSER,
-            verdict: Proof::Bogus,
-        },
-    ),
-    (
-        "neither the next closer name nor the wildcard is there",
-        Denied {
-            name: "a.c.x.w.example.",
-            record_type: RecordType::A,
-            code: ResponseCode::NX_DOMAIN,
-            answered: Answered::No,
-            zone: "example.",
-            told: NAME_ERROR,
-            verdict: Proof::Secure,
-        },
-    ),
-    (
-        "the same is no denial of data",
-        Denied {
-            name: "a.c.x.w.example.",
-            record_type: RecordType::A,
-            code: ResponseCode::NO_ERROR,
-            answered: Answered::No,
-            zone: "example.",
-            told: NAME_ERROR,
-            verdict: Proof::Bogus,
-        },
-    ),
-    (
-        "the wildcard may be there",
-        Denied {
-            name: "a.c.x.w.example.",
-            record_type: RecordType::A,
-            code: ResponseCode::NX_DOMAIN,
-            answered: Answered::No,
-            zone: "example.",
-            told: NAME_ERROR_WITHOUT_WILDCARD,
-            verdict: Proof::Bogus,
-        },
-    ),
-    (
-        "the next closer name may be there",
-        Denied {
-            name: "a.c.x.w.example.",
-            record_type: RecordType::A,
-            code: ResponseCode::NX_DOMAIN,
-            answered: Answered::No,
-            zone: "example.",
-            told: NAME_ERROR_WITHOUT_CLOSER,
-            verdict: Proof::Bogus,
-        },
-    ),
-    (
-        "the records are of another zone",
-        Denied {
-            name: "a.c.x.w.example.",
-            record_type: RecordType::A,
-            code: ResponseCode::NX_DOMAIN,
-            answered: Answered::No,
-            zone: "x.w.example.",
-            told: NAME_ERROR,
-            verdict: Proof::Bogus,
-        },
-    ),
-    (
-        "the next closer name may be an unsigned delegation",
-        Denied {
-            name: "a.c.x.w.example.",
-            record_type: RecordType::A,
-            code: ResponseCode::NX_DOMAIN,
-            answered: Answered::No,
-            zone: "example.",
-            told: NAME_ERROR_IN_OPT_OUT,
-            verdict: Proof::Insecure,
-        },
-    ),
-    (
         "the wildcard may be an unsigned delegation",
         Denied {
             name: "a.c.x.w.example.",
@@ -609,18 +171,6 @@ const DENIED: &[(&str, Denied)] = &[
         },
     ),
     (
-        "a record with an unknown flag is ignored",
-        Denied {
-            name: "ns1.example.",
-            record_type: RecordType::MX,
-            code: ResponseCode::NO_ERROR,
-            answered: Answered::No,
-            zone: "example.",
-            told: UNKNOWN_FLAG,
-            verdict: Proof::Bogus,
-        },
-    ),
-    (
         "no record at all",
         Denied {
             name: "ns1.example.",
@@ -629,102 +179,6 @@ const DENIED: &[(&str, Denied)] = &[
             answered: Answered::No,
             zone: "example.",
             told: &[],
-            verdict: Proof::Bogus,
-        },
-    ),
-    (
-        "records with two counts of iterations",
-        Denied {
-            name: "ns1.example.",
-            record_type: RecordType::MX,
-            code: ResponseCode::NO_ERROR,
-            answered: Answered::No,
-            zone: "example.",
-            told: SEVERAL_COUNTS,
-            verdict: Proof::Bogus,
-        },
-    ),
-    (
-        "a signed delegation is no closest encloser",
-        Denied {
-            name: "www.deleg.signed.",
-            record_type: RecordType::A,
-            code: ResponseCode::NX_DOMAIN,
-            answered: Answered::No,
-            zone: "signed.",
-            told: BELOW_A_DELEGATION,
-            verdict: Proof::Bogus,
-        },
-    ),
-    (
-        "an owner of DNAME is no closest encloser",
-        Denied {
-            name: "www.deleg.signed.",
-            record_type: RecordType::A,
-            code: ResponseCode::NX_DOMAIN,
-            answered: Answered::No,
-            zone: "signed.",
-            told: BELOW_A_DNAME,
-            verdict: Proof::Bogus,
-        },
-    ),
-    (
-        "no DS in an opt-out span",
-        Denied {
-            name: "c.example.",
-            record_type: RecordType::DS,
-            code: ResponseCode::NO_ERROR,
-            answered: Answered::No,
-            zone: "example.",
-            told: OPT_OUT,
-            verdict: Proof::Secure,
-        },
-    ),
-    (
-        "a DS may be in a span without opt-out",
-        Denied {
-            name: "c.example.",
-            record_type: RecordType::DS,
-            code: ResponseCode::NO_ERROR,
-            answered: Answered::No,
-            zone: "example.",
-            told: NO_OPT_OUT,
-            verdict: Proof::Bogus,
-        },
-    ),
-    (
-        "another type in an opt-out span",
-        Denied {
-            name: "c.example.",
-            record_type: RecordType::A,
-            code: ResponseCode::NO_ERROR,
-            answered: Answered::No,
-            zone: "example.",
-            told: OPT_OUT,
-            verdict: Proof::Bogus,
-        },
-    ),
-    (
-        "the child's record denies no DS",
-        Denied {
-            name: "example.",
-            record_type: RecordType::DS,
-            code: ResponseCode::NO_ERROR,
-            answered: Answered::No,
-            zone: "example.",
-            told: AT_THE_APEX,
-            verdict: Proof::Bogus,
-        },
-    ),
-    (
-        "nor does it as one of the root",
-        Denied {
-            name: "example.",
-            record_type: RecordType::DS,
-            code: ResponseCode::NO_ERROR,
-            answered: Answered::No,
-            zone: ".",
-            told: AT_THE_APEX,
             verdict: Proof::Bogus,
         },
     ),
