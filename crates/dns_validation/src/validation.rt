@@ -83,6 +83,7 @@ impl<'a, V: Verifier> Validation<'a, V> {
         ensures terms { terms_in V.answers self.new ≡ terms_in V.answers self.old }
         ensures asks { IsOut (state_of self.new) ⊎ (result ≡ asking_of (terms_in V.answers self.old) (state_of self.old)) }
         ensures same { IsOut (state_of self.new) ⊎ (state_of self.new ≡ state_of self.old) }
+        ensures out { IsOut (state_of self.new) → result ≡ None }
     {
         match next_ask(&self.context, &self.state) {
             Ok(asked) => asked,
