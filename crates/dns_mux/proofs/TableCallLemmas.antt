@@ -1,5 +1,5 @@
 -- Requests in two maps: what is answered, what is cancelled or forgotten, and what is left where memory ran out.
-use Rattle.std.proofs.Common.{[], inl, inr, zero-add, ◌≡◌, ℕ, ◌+◌, ◌<◌, ◌≤◌, Bool, true, false, cond, List, ◌∷◌, length, Option, None, Some, refl, sym, ap, ◌∙◌, arith, slice_get, if◌then◌else◌, ◌⊎◌}
+use Rattle.std.proofs.Common.{[], inl, inr, zero-add, ◌≡◌, ℕ, ◌+◌, ◌<◌, ◌≤◌, Bool, true, false, cond, List, ◌∷◌, drop, length, Option, None, Some, refl, sym, ap, ◌∙◌, arith, slice_get, if◌then◌else◌, ◌⊎◌}
 use Rattle.std.specs.Prelude.{◌==◌, is_some, nat_lt}
 use Rattle.std.specs.List.{position}
 use Rattle.std.specs.Option.{option_map}
@@ -15,11 +15,12 @@ use Rattle.std.specs.BTreeMap as tree
 use Rattle.std.specs.BTreeMap.{BTreeMap}
 use Rattle.dns_handle.specs.Errors.{Reply}
 use Rattle.dns_mux.specs.declared.request_table.Holder.{Holder}
-use Rattle.dns_mux.specs.Machine.{Life, Request, has_room, changed_at, without_first, has_id, waiting_of, taken_from, first_or_end, reply_at}
+use Rattle.dns_mux.specs.Machine.{Life, Request, has_room, has_id, waiting_of, taken_from, first_or_end, reply_at}
 use Rattle.dns_mux.specs.declared.arrival.Arrival.TheVariants.{Stranger, Full, Queued}
 use Rattle.dns_mux.specs.Events.{TakenValue, Item}
+use Rattle.dns_mux.specs.Runs.{life_of}
 use Rattle.dns_mux.specs.Tables.{ItemQueueValue, life_under, request_in, request_at, requests_of, id_of_queue, IsTable, QueueChanged, takes_item, first_item, without_item, IsUnadded, still_held}
-use Rattle.dns_mux.proofs.ListLemmas.{map-range, changed-map, get-range}
+use Rattle.dns_mux.proofs.ListLemmas.{map-range, get-range}
 use Rattle.dns_mux.proofs.TableLemmas.{Holders, Queues, table_changed, none-id, none-holder, some-id, holder_position, length_table, waiting_in_table}
 use Rattle.dns_mux.proofs.TableEndLemmas.{cancelled_is_table}
 use Rattle.dns_mux.proofs.LiveCountLemmas.{same_id, same_id_is}
@@ -174,48 +175,75 @@ pub nothing-waits : (f : Holders) (n : ℕ) (q : Option ItemQueueValue) → None
 nothing-waits f n None is = refl
 nothing-waits f n (Some q) is = no-items q.items is
 
-pub takes_nothing : (f : Holders) (g : Queues) (count n : ℕ) (b : Bool) → IsTable f g count
-    → None ≡ first_item (g n) → is_some (request_at f g n).life ≡ b
-    → first_or_end b [] ≡ taken_from (slice_get (requests_of f g count) n)
-takes_nothing f g count n b table none lives = sym
-    (taken_in_table f g count n table ∙ rw (lives, nothing-waits f n (g n) none) refl)
+-- nothing waits for a request whose first item was asked for in vain
+pub nothing-left : (f : Holders) (n : ℕ) (q : Option ItemQueueValue) → None ≡ first_item q
+    → (request_in f n (option_map without_item q)).waiting ≡ []
+nothing-left f n None is = refl
+nothing-left f n (Some q) is = ap (drop 1) (no-items q.items is)
 
--- a request that is over is forgotten once nothing waits for it
-pub forgotten-request : (r : Request) (b : Option Life) → r.life ≡ b → is_some b ≡ false
-    → record { life = None; waiting = [] } ≡ without_first (record { life = b; waiting = [] })
-forgotten-request r None is dead = refl
-forgotten-request r (Some life) is dead = cc
+pub left-case : (f : Holders) (n : ℕ) (q : Option ItemQueueValue) → None ≡ first_item q
+    → given_by (request_in f n (option_map without_item q)) ≡ given_by (request_in f n q)
+left-case f n None is = refl
+left-case f n (Some q) is =
+    ap (first_or_end (is_some (life_under q.id n (f q.id))))
+    (ap (drop 1) (no-items q.items is) ∙ sym (no-items q.items is))
 
+module _ (f : Holders) (g h : Queues) (count n : ℕ) (table : IsTable f g count)
+    (changed : QueueChanged g h n without_item) (none : None ≡ first_item (g n)) where
+  left-queue : h n ≡ option_map without_item (g n)
+  left-queue = changed n ∙ cond-true (n == n) (option_map without_item (g n)) (g n) (eq-eqb n n refl)
+
+  left-table : IsTable f h count
+  left-table = table_changed f g h count n without_item (λ q. refl) changed table
+
+  pub nothing_left : waiting_of (slice_get (requests_of f h count) n) ≡ []
+  nothing_left = waiting_in_table f h count n left-table ∙ ap (λ q. (request_in f n q).waiting) left-queue
+      ∙ nothing-left f n (g n) none
+
+  pub left_told : taken_from (slice_get (requests_of f h count) n) ≡ taken_from (slice_get (requests_of f g count) n)
+  left_told = taken_in_table f h count n left-table ∙ ap (λ q. given_by (request_in f n q)) left-queue
+      ∙ left-case f n (g n) none ∙ sym (taken_in_table f g count n table)
+
+-- a request for which nothing waits
+pub ends_as : (request : Option Request) (b : Bool) → is_some (life_of request) ≡ b → waiting_of request ≡ []
+    → first_or_end b [] ≡ taken_from request
+ends_as None true lives none = cc
+ends_as None false lives none = refl
+ends_as (Some request) b lives none = rw (lives, none) refl
+
+-- one that is over is forgotten
 pub life-none : (life : Option Life) → is_some life ≡ false → life ≡ None
 life-none None dead = refl
 life-none (Some life) dead = cc
 
-pub forget-case : (f : Holders) (n : ℕ) (q : Option ItemQueueValue) → is_some (request_in f n q).life ≡ false
-    → None ≡ first_item q → request_in f n None ≡ without_first (request_in f n q)
-forget-case f n q dead none = rw (life-none (request_in f n q).life dead, nothing-waits f n q none) refl
+pub over-parts : (request : Request) (life : Option Life) (waiting : List Reply)
+    → request.life ≡ life → request.waiting ≡ waiting → record { life = life; waiting = waiting } ≡ request
+over-parts request life waiting first second =
+    ap (λ l. record { life = l; waiting = waiting }) (sym first)
+    ∙ ap (λ w. record { life = request.life; waiting = w }) (sym second)
 
-pub forgotten_table : (f : Holders) (g mid_g new_g : Queues) (count number : ℕ)
-    → QueueChanged g mid_g number without_item → ((n : ℕ) → new_g n ≡ (if number == n then None else mid_g n))
-    → is_some (request_at f g number).life ≡ false → None ≡ first_item (g number)
-    → requests_of f new_g count ≡ changed_at number without_first (requests_of f g count)
-forgotten_table f g mid_g new_g count number changed gone dead none =
-    changed-map (request_at f g) (request_at f new_g) without_first number count
-    (λ n below. ap (request_in f n) (gone n) ∙ at-place n (number == n) refl)
+pub forgotten_table : (f : Holders) (g new_g : Queues) (count number : ℕ) → IsTable f g count
+    → ((n : ℕ) → new_g n ≡ (if number == n then None else g n))
+    → is_some (request_at f g number).life ≡ false → (request_at f g number).waiting ≡ []
+    → requests_of f new_g count ≡ requests_of f g count
+forgotten_table f g new_g count number table gone dead none =
+    map-range (request_at f new_g) (request_at f g) 0 count
+    (λ n low high. ap (request_in f n) (gone n) ∙ at-place n (number == n) refl)
   where
     at-place : (n : ℕ) (b : Bool) → (number == n) ≡ b
-        → request_in f n (if b then None else mid_g n) ≡ cond b (without_first (request_at f g n)) (request_at f g n)
+        → request_in f n (if b then None else g n) ≡ request_at f g n
     at-place n true same =
-        forget-case f n (g n) (ap (λ m. is_some (request_at f g m).life) (sym (eqb-true number n same)) ∙ dead)
-        (none ∙ ap (λ m. first_item (g m)) (eqb-true number n same))
-    at-place n false other = ap (request_in f n) (changed n ∙ cond-false (number == n) _ (g n) other)
+        let here : number ≡ n = eqb-true number n same in
+        over-parts (request_at f g n) None []
+        (life-none (request_at f g n).life (ap (λ m. is_some (request_at f g m).life) (sym here) ∙ dead))
+        (ap (λ m. (request_at f g m).waiting) (sym here) ∙ none)
+    at-place n false other = refl
 
-pub forgotten_is_table : (f : Holders) (g mid_g new_g : Queues) (count number : ℕ) → IsTable f g count
-    → QueueChanged g mid_g number without_item
-    → ((n : ℕ) → new_g n ≡ (if number == n then None else mid_g n))
+pub forgotten_is_table : (f : Holders) (g new_g : Queues) (count number : ℕ) → IsTable f g count
+    → ((n : ℕ) → new_g n ≡ (if number == n then None else g n))
     → is_some (request_at f g number).life ≡ false → IsTable f new_g count
-forgotten_is_table f g mid_g new_g count number table changed gone dead =
-    let mid = table_changed f g mid_g count number without_item (λ q. refl) changed table in
-    cancelled_is_table f f mid_g new_g count number (λ i. inl refl) (away_dead f g count number table dead) gone mid
+forgotten_is_table f g new_g count number table gone dead =
+    cancelled_is_table f f g new_g count number (λ i. inl refl) (away_dead f g count number table dead) gone table
 
 -- ---- what a queue has room for
 

@@ -5,7 +5,7 @@ ghost use Rattle.std.specs.BTreeMap as tree;
 ghost use Rattle.dns_model.specs.SoundAnswers.{ResponseValue};
 ghost use Rattle.dns_handle.specs.Replies.{reply_of};
 ghost use Rattle.dns_mux.specs.Views.{taken_of};
-ghost use Rattle.dns_mux.specs.Machine.{Request, is_taken_id, live_count, has_id, reply_at, changed_at, sent_under, with_item, without_first, cancelled, ticked, closed, taken_from};
+ghost use Rattle.dns_mux.specs.Machine.{Request, is_taken_id, live_count, has_id, reply_at, changed_at, sent_under, with_item, without_first, cancelled, ticked, closed, taken_from, waiting_of};
 ghost use Rattle.dns_mux.specs.Runs.{life_of};
 ghost use Rattle.dns_mux.specs.Tables.{QueueChanged, FailsAll, IsAdded, IsUnadded, life_under, still_held, takes_item, pushed, without_item, first_item, after_queued};
 
@@ -208,19 +208,27 @@ impl RequestTable {
         Arrival::Queued(RequestId(holder.number))
     }
 
-    /// Takes the first item that waits for a request. What is over is kept no longer.
+    /// What becomes of a request for which nothing waits. What is over is kept no longer.
+    fn end_of(&mut self, number: u64) -> Taken
+        requires { waiting_of (slice_get self.old number) ≡ [] }
+        ensures taken { taken_of result ≡ taken_from (slice_get self.old number) }
+        ensures kept { self.new ≡ self.old }
+    {
+        if self.is_live(number) {
+            return Taken::Pending;
+        }
+        self.queues.remove(&number);
+        Taken::Ended
+    }
+
+    /// Takes the first item that waits for a request.
     pub(crate) fn take(&mut self, number: u64) -> Taken
         ensures taken { taken_of result ≡ taken_from (slice_get self.old number) }
         ensures after { self.new ≡ changed_at number without_first self.old }
     {
-        let live = self.is_live(number);
         match pop_item(&mut self.queues, number) {
             Some(item) => Taken::Item(item),
-            None if live => Taken::Pending,
-            None => {
-                self.queues.remove(&number);
-                Taken::Ended
-            }
+            None => self.end_of(number),
         }
     }
 
