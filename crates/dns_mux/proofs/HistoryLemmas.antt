@@ -9,16 +9,16 @@ use Rattle.std.proofs.lemmas.Bool.{eqb-true, eq-eqb, ne_eqb, lt-ltb, le-ltb, con
 use Rattle.std.proofs.Math.ListN.{length-map}
 use Rattle.dns_mux.specs.Messages.{SerialMessageValue, answered_by}
 use Rattle.dns_mux.specs.Events.{Event, Send, Arrive, Take, Cancel, Tick, Close, Pop, last_drawn}
-use Rattle.dns_mux.specs.History.{Sending, sending, sending_by, with_later, is_send_of, live, id_in, brought, untaken, queued, is_cancelled, waiting, put_out, all_put_out, is_pop, outbound, most_waiting}
-use Rattle.dns_mux.specs.Machine.{Settings, Request, State, IsAnswered, after, lives_under, waiting_of, ticked, closed, cancelled, without_first, with_item, sent_under, after_arrival, is_taken_id, is_busy, queue_reply, has_id}
+use Rattle.dns_mux.specs.History.{Sending, sending, sending_by, with_later, is_send_of, live, live_id, id_in, brought, untaken, queued, is_cancelled, waiting, put_out, all_put_out, is_pop, outbound, most_waiting}
+use Rattle.dns_mux.specs.Machine.{Settings, Request, State, IsAnswered, after, lives_under, waiting_of, ticked, closed, cancelled, without_first, with_item, sent_under, after_arrival, is_taken_id, is_busy, queue_reply, has_id, with_maximum}
 use Rattle.dns_model.specs.Records.{MessageValue}
 use Rattle.dns_message.specs.declared.decode_error.DecodeError.{DecodeError}
 use Rattle.dns_message.specs.MessageAt.{message_at}
 use Rattle.dns_mux.specs.declared.arrival.Arrival.{Arrival}
 use Rattle.dns_mux.specs.declared.arrival.Arrival.TheVariants.{Undecodable, Stranger, Full, Queued}
-use Rattle.dns_mux.specs.Runs.{replay, IsPlayed, life_of, life_at, IsToldBy}
+use Rattle.dns_mux.specs.Runs.{replay, IsAnsweredThen, IsPlayed, life_of, life_at, id_at, IsToldBy}
 use Rattle.dns_mux.proofs.ListLemmas.{length-changed_at}
-use Rattle.dns_mux.proofs.HistoryWordLemmas.{gained, life_told, Agrees, live_told, one_if, nothing-gained, drop-more, count-step, untaken-more}
+use Rattle.dns_mux.proofs.HistoryWordLemmas.{gained, life_told, Agrees, live_told, id_told, under_id, one_if, nothing-gained, drop-more, count-step, untaken-more}
 use Rattle.dns_mux.proofs.MachineStepLemmas.{is_accepted, slice_get-append, Moved, quiet, gain-none, moved-other, unsent-waits, life-next, waits-next, given-later, given-next, lives-before, taken-next}
 
 -- ---- what is to be sent
@@ -348,21 +348,83 @@ agrees-next settings start before state (Close fault) agrees answered = agrees-o
 agrees-next settings start before state (Pop message) agrees answered = agrees-other settings start before state
     agrees (Pop message) refl answered
 
+-- what a history says doesn't speak of the number of live requests
+pub agrees-anew : (settings : Settings) (start : List SerialMessageValue) (history : List Event) (state : State)
+    (maximum : ℕ)
+    → Agrees settings start history state → Agrees (with_maximum maximum settings) start history state
+agrees-anew settings start history state maximum agrees = record {
+  given = agrees.given;
+  life = agrees.life;
+  waiting = agrees.waiting;
+  taken = agrees.taken;
+  outbound = agrees.outbound;
+  popped = agrees.popped;
+  apart = agrees.apart;
+}
+
+pub agrees-back : (settings : Settings) (start : List SerialMessageValue) (history : List Event) (state : State)
+    (maximum : ℕ)
+    → Agrees (with_maximum maximum settings) start history state → Agrees settings start history state
+agrees-back settings start history state maximum agrees = record {
+  given = agrees.given;
+  life = agrees.life;
+  waiting = agrees.waiting;
+  taken = agrees.taken;
+  outbound = agrees.outbound;
+  popped = agrees.popped;
+  apart = agrees.apart;
+}
+
+-- nor does what an event leaves
+pub after-anew : (settings : Settings) (state : State) (maximum : ℕ) (e : Event)
+    → after (with_maximum maximum settings) state e ≡ after settings state e
+after-anew settings state maximum (Send request moment drawn took reply) = refl
+after-anew settings state maximum (Arrive bytes reply) = refl
+after-anew settings state maximum (Take k reply) = refl
+after-anew settings state maximum (Cancel k) = refl
+after-anew settings state maximum (Tick now) = refl
+after-anew settings state maximum (Close fault) = refl
+after-anew settings state maximum (Pop message) = refl
+
+pub agrees-then : (settings : Settings) (start : List SerialMessageValue) (before : List Event) (state : State)
+    (e : Event)
+    → Agrees settings start before state → IsAnsweredThen settings state e
+    → Agrees settings start (e ∷ before) (after settings state e)
+agrees-then settings start before state e agrees answered =
+    let set = with_maximum answered.maximum settings in
+    let next : Agrees set start (e ∷ before) (after set state e) =
+    agrees-next set start before state e (agrees-anew settings start before state answered.maximum agrees)
+    answered.answered in
+    agrees-back settings start (e ∷ before) (after settings state e) answered.maximum
+    (rw (after-anew settings state answered.maximum e) at next)
+
 pub agrees-always : (settings : Settings) (start : List SerialMessageValue) (history : List Event)
     → IsPlayed settings start history → Agrees settings start history (replay settings start history)
 unfolding replay IsPlayed
 agrees-always settings start [] played = agrees-start settings start
-agrees-always settings start (e ∷ before) played = agrees-next settings start before
+agrees-always settings start (e ∷ before) played = agrees-then settings start before
     (replay settings start before) e (agrees-always settings start before played.0) played.1
+
+-- the id under which a request is live
+module _ (settings : Settings) (start : List SerialMessageValue) (history : List Event) (state : State)
+    (agrees : Agrees settings start history state) where
+  pub told-id : (n : ℕ) → id_at state n ≡ live_id settings.timeout history n
+  told-id n = ap (option_map (λ l. l.id)) (agrees.life n) ∙ id_told settings.timeout n (sending history n)
+
+  pub told-under : (id n : ℕ) → live_id settings.timeout history n ≡ Some id → lives_under id (life_at state n) ≡ true
+  told-under id n lives = under_id id (life_at state n) (told-id n ∙ lives)
 
 -- the law: the state after a history is what the history says
 pub told_by_history : (settings : Settings) (start : List SerialMessageValue) (history : List Event)
     → IsPlayed settings start history → IsToldBy settings start history (replay settings start history)
 told_by_history settings start history played =
+    let state = replay settings start history in
     let agrees = agrees-always settings start history played in
     record {
       live = λ n. ap is_some (agrees.life n) ∙ sym (live_told settings.timeout n (sending history n));
+      id = told-id settings start history state agrees;
       waiting = agrees.waiting;
       outbound = agrees.outbound;
-      apart = agrees.apart;
+      apart = λ id m n first second. agrees.apart id m n (told-under settings start history state agrees id m first)
+          (told-under settings start history state agrees id n second);
     }

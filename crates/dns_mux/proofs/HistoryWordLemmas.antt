@@ -4,7 +4,7 @@ use Rattle.std.proofs.Common.{[], append-nil, drop-drop, add-zero, inl, inr, ◌
 use Rattle.std.specs.Prelude.{◌||◌, ◌&&◌, not, count_by, is_some, nat_lt}
 use Rattle.std.specs.List.{list_any}
 use Rattle.std.specs.Option.{option_map}
-use Rattle.std.proofs.lemmas.Bool.{cond-false, or_right, or_cases}
+use Rattle.std.proofs.lemmas.Bool.{cond-false, or_right, or_cases, eqb-true, eq-eqb}
 use Rattle.std.proofs.lemmas.List.{drop-append-le}
 use Rattle.std.proofs.lemmas.List.Sums.{sum_by-cons}
 use Rattle.dns_mux.specs.Messages.{SerialMessageValue}
@@ -64,6 +64,26 @@ pub live_told : (timeout number : ℕ) (s : Option Sending)
     → is_unended timeout number s ≡ is_some (life_told timeout number s)
 live_told timeout number None = refl
 live_told timeout number (Some s) = live_told-case (list_any (is_ended_by timeout number s.moment) s.later) _
+
+-- its id is that of its life
+pub id_told-case : (a : Bool) (life : Life)
+    → option_map (λ l. l.id) (if a then None else Some life) ≡ (if not a then Some life.id else None)
+id_told-case true life = refl
+id_told-case false life = refl
+
+pub id_told : (timeout number : ℕ) (s : Option Sending)
+    → option_map (λ l. l.id) (life_told timeout number s) ≡ (if is_unended timeout number s then id_in s else None)
+id_told timeout number None = refl
+id_told timeout number (Some s) = id_told-case (list_any (is_ended_by timeout number s.moment) s.later)
+    (record { id = s.id; moment = s.moment })
+
+pub under_id : (id : ℕ) (life : Option Life) → option_map (λ l. l.id) life ≡ Some id → lives_under id life ≡ true
+under_id id None h = cc
+under_id id (Some life) h = let same : life.id ≡ id = cc in eq-eqb life.id id same
+
+pub id_under : (id : ℕ) (life : Option Life) → lives_under id life ≡ true → option_map (λ l. l.id) life ≡ Some id
+id_under id None h = cc
+id_under id (Some life) h = ap Some (eqb-true life.id id h)
 
 -- one that is cancelled has none
 pub cancel_ends : (timeout number moment : ℕ) (e : Event) → is_cancel_of number e ≡ true

@@ -60,6 +60,10 @@ live timeout history number = is_unended timeout number (sending history number)
 abbrev pub id_in : Option Sending → Option ℕ
 id_in sent = option_map (λ s. s.id) sent
 
+-- the id under which a request is live; none where it isn't
+abbrev pub live_id : ℕ → List Event → ℕ → Option ℕ
+live_id timeout history number = if live timeout history number then id_in (sending history number) else None
+
 -- ---- what is queued and what waits
 
 -- the response that bytes are, where they are a message with the id

@@ -4,6 +4,7 @@ pub mod History
 pub mod Laws
 pub mod Machine
 pub mod Messages
+pub mod Multiplexers
 pub mod Queues
 pub mod Runs
 pub mod Tables

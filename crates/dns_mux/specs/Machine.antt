@@ -23,6 +23,10 @@ pub record Settings : Type 0 where
   pub buffer : ℕ
   pub server : SocketAddr
 
+-- the same with another number of live requests, which may be set anew between two calls
+abbrev pub with_maximum : ℕ → Settings → Settings
+with_maximum maximum settings = record settings { maximum = maximum }
+
 -- a live request: its id, and when it was sent
 pub record Life : Type 0 where
   pub id : ℕ

@@ -2,7 +2,8 @@
 ghost use Rattle.dns_mux.specs.Laws.{CallsAreEvents, StatesAreTold, RepliesAreTold};
 
 /// A law: a call that is answered as the state after a history says is one event more of that history, and leaves the state
-/// after it. So the calls of a multiplexer, from its first one on, are a history that can be.
+/// after it. So the calls of a multiplexer, from its first one on, are a history that can be, also where the number of live
+/// requests was set anew between two of them.
 pub fn calls_are_events()
     ensures { CallsAreEvents }
 {}
@@ -14,8 +15,10 @@ pub fn states_are_what_histories_say()
     ensures { StatesAreTold }
 {}
 
-/// A law: each `take` gives the first item that waits by the history before it, and where none does, whether the request is
-/// live by that history; each message that `pop_outbound` gives is the first that is to be sent by it.
+/// A law, by the history before each reply. A message that `arrive` took waits for the request that is live under its id, where
+/// fewer than nine items wait; it is full where nine do, and a stranger where no request is live under the id. Each `take` gives
+/// the first item that waits, and where none does, whether the request is live. Each message that `pop_outbound` gives is the
+/// first that is to be sent.
 pub fn replies_are_what_histories_say()
     ensures { RepliesAreTold }
 {}

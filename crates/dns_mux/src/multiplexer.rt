@@ -1,5 +1,4 @@
-ghost use Rattle.std.specs.Prelude.{◌≡◌, [], false};
-ghost use Rattle.dns_mux.specs.Draws.{Drawn, IsPop};
+ghost use Rattle.std.specs.Prelude.{◌≡◌};
 
 use crate::multiplexer_core::MultiplexerCore;
 use crate::stream_handle::{BufDnsStreamHandle, StreamReceiver};
@@ -22,6 +21,11 @@ pub struct DnsMultiplexer<R: Draws + Drop> {
 }
 
 impl<R: Draws + Drop> DnsMultiplexer<R> {
+    ghost use Rattle.std.specs.Prelude.{[], false};
+    ghost use Rattle.dns_mux.specs.Draws.{IsPop};
+    ghost use Rattle.dns_mux.specs.Machine.{with_maximum};
+    ghost use Rattle.dns_mux.specs.Multiplexers.{machine_of, draws_of};
+
     /// No request yet; requests end after 5,000 milliseconds, and 32 are live at most. What waits in the queue already is
     /// sent first. Messages go to the handle's address; the server is told again.
     pub fn new(
@@ -31,11 +35,11 @@ impl<R: Draws + Drop> DnsMultiplexer<R> {
         queue: StreamReceiver,
         draws: R,
     ) -> DnsMultiplexer<R>
-        ensures settings { result.core.settings
+        ensures settings { (machine_of result).settings
             ≡ record { timeout = 5000; maximum = 32; buffer = handle.buffer; server = handle.addr } }
-        ensures state { result.core.state ≡ record { requests = []; outbound = queue } }
-        ensures open { result.core.is_shutdown ≡ false }
-        ensures draws { result.draws ≡ draws }
+        ensures state { (machine_of result).state ≡ record { requests = []; outbound = queue } }
+        ensures open { (machine_of result).is_shutdown ≡ false }
+        ensures draws { draws_of result ≡ draws }
     {
         DnsMultiplexer {
             core: MultiplexerCore::new(alloc, handle, queue),
@@ -45,10 +49,10 @@ impl<R: Draws + Drop> DnsMultiplexer<R> {
 
     /// Requests end after so many milliseconds.
     pub fn with_timeout(mut self, ms: u64) -> DnsMultiplexer<R>
-        requires { self.core.state.requests ≡ [] }
-        ensures { result ≡ record self {
-          core = record self.core { settings = record self.core.settings { timeout = ms } };
-        } }
+        requires { (machine_of self).state.requests ≡ [] }
+        ensures timeout { machine_of result
+            ≡ record (machine_of self) { settings = record (machine_of self).settings { timeout = ms } } }
+        ensures draws { draws_of result ≡ draws_of self }
     {
         self.core.set_timeout(ms);
         self
@@ -56,9 +60,9 @@ impl<R: Draws + Drop> DnsMultiplexer<R> {
 
     /// So many requests are live at most. With 0 each send is `Busy`.
     pub fn with_max_active_requests(mut self, max: usize) -> DnsMultiplexer<R>
-        ensures { result ≡ record self {
-          core = record self.core { settings = record self.core.settings { maximum = max } };
-        } }
+        ensures maximum { machine_of result
+            ≡ record (machine_of self) { settings = with_maximum max (machine_of self).settings } }
+        ensures draws { draws_of result ≡ draws_of self }
     {
         self.core.set_maximum(max);
         self
@@ -66,17 +70,21 @@ impl<R: Draws + Drop> DnsMultiplexer<R> {
 
     /// Takes the next message that is to be sent out of the queue. None exactly where none waits. It takes no memory.
     pub fn pop_outbound(&mut self) -> Option<SerialMessage>
-        ensures popped { IsPop self.old.core.settings self.old.core.state self.new.core.state result }
-        ensures kept { self.new ≡ record self.old { core = record self.old.core { state = self.new.core.state } } }
+        ensures popped { IsPop (machine_of self.old).settings (machine_of self.old).state (machine_of self.new).state result }
+        ensures kept { machine_of self.new ≡ record (machine_of self.old) { state = (machine_of self.new).state } }
+        ensures draws { draws_of self.new ≡ draws_of self.old }
     {
         self.core.pop_outbound()
     }
 }
 
 impl<R: Draws + Drop> DnsRequestSender for DnsMultiplexer<R> {
-    ghost machine = { λ m. m.core };
+    ghost use Rattle.dns_mux.specs.Draws.{Drawn};
+    ghost use Rattle.dns_mux.specs.Multiplexers.{machine_of, draws_of};
 
-    ghost drew = { λ old ids new. Drawn R.draws_id old.draws ids new.draws };
+    ghost machine = { machine_of };
+
+    ghost drew = { λ old ids new. Drawn R.draws_id (draws_of old) ids (draws_of new) };
 
     fn send_message(
         &mut self,
