@@ -1,5 +1,6 @@
 //! The multiplexer: many requests over one connection, each response to its own (RFC 1035, 4.2; RFC 7766, 6.2.1). The layer
-//! above may use `DnsMultiplexer` as the machine of `specs/Machine.antt`, and of each history what `specs/History.antt` says.
+//! above may use `DnsMultiplexer` as the machine of `specs/Machine.antt`, and of each history what `specs/History.antt` says. It
+//! gives the names of `dns_requests` again: requests that wait, and what comes for them.
 #![tactic(auto)]
 
 mod arrival;
@@ -16,6 +17,10 @@ mod stream_handle;
 mod taken;
 
 pub use arrival::Arrival;
+pub use dns_requests::{
+    BufDnsRequestStreamHandle, DnsResponseReceiver, DnsResponseStream, FirstAnswer,
+    FirstAnswerFuture, OneshotDnsRequest,
+};
 pub use draws::{Draws, ListDraws, RandDraws};
 pub use laws::{calls_are_events, replies_are_what_histories_say, states_are_what_histories_say};
 pub use multiplexer::DnsMultiplexer;
