@@ -3,16 +3,15 @@
 
     python3 bench/mux.py [PROGRAM]
 
-PROGRAM is the built dns_mux_trial. An arrival is a response of 50 bytes that is decoded, waits and is taken. The best of nine runs
-of some passes is taken off the best of nine of twice as many. The status is 1 where an arrival costs more beside its decoding than
-is wanted, or more than twice as much with 1,000 live requests as with 32.
+PROGRAM is the built dns_mux_trial. An arrival is a response of 50 bytes that is decoded, waits and is taken. Processor time
+counts: the best of nine runs of some passes is taken off the best of nine of twice as many. The status is 1 where an arrival
+costs more beside its decoding than is wanted, or more than twice as much with 1,000 live requests as with 32.
 """
 import argparse
 import os
 import sys
 
-import passes
-from passes import TOP, TURNS, Timing
+from passes import TOP, TURNS, Timing, processor_seconds
 
 PROGRAM = os.path.join(TOP, "crates", "dns_mux_trial", "out", "dns_mux_trial")
 LIVE = (1, 32, 1_000)
@@ -28,9 +27,9 @@ def main():
     path = os.path.abspath(words.parse_args().program)
     if not os.access(path, os.X_OK):
         sys.exit(f"no program at {path}: `rt run` in crates/dns_mux_trial builds it")
-    decoding = Timing([path, "decoded"], b"", ("decoded",), 2 * PASSES)
-    sends = {live: Timing([path, "sends", str(live)], b"", ("sent",), PASSES) for live in LIVE}
-    arrivals = {live: Timing([path, "arrivals", str(live)], b"", ("taken",), PASSES) for live in LIVE}
+    decoding = Timing([path, "decoded"], b"", ("decoded",), 2 * PASSES, processor_seconds)
+    sends = {live: Timing([path, "sends", str(live)], b"", ("sent",), PASSES, processor_seconds) for live in LIVE}
+    arrivals = {live: Timing([path, "arrivals", str(live)], b"", ("taken",), PASSES, processor_seconds) for live in LIVE}
     for _ in range(TURNS):
         for timing in (decoding, *sends.values(), *arrivals.values()):
             timing.turn()

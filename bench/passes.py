@@ -1,5 +1,6 @@
 """What the scripts over `dns_bench` share: its runs, what its passes alone take, and frames."""
 import os
+import resource
 import subprocess
 import sys
 import time
@@ -19,11 +20,17 @@ def checked(path):
     return path
 
 
-def counts_of(words, text, names):
-    """Seconds of one run, and the counts that it writes: a line for each of these names."""
-    start = time.perf_counter()
+def processor_seconds():
+    """Processor time of all programs that were run and have ended: a clock that other work doesn't move."""
+    used = resource.getrusage(resource.RUSAGE_CHILDREN)
+    return used.ru_utime + used.ru_stime
+
+
+def counts_of(words, text, names, clock=time.perf_counter):
+    """Seconds of one run by a clock, and the counts that it writes: a line for each of these names."""
+    start = clock()
     ended = subprocess.run(words, input=text, stdout=subprocess.PIPE, check=False)
-    taken = time.perf_counter() - start
+    taken = clock() - start
     lines = [line.split() for line in ended.stdout.decode().splitlines()]
     if ended.returncode != 0 or [line[0] for line in lines] != list(names):
         sys.exit(f"{' '.join(words[1:])}: status {ended.returncode}, {ended.stdout[:200]!r}")
@@ -33,18 +40,19 @@ def counts_of(words, text, names):
 class Timing:
     """The best runs so far of some passes and of twice as many: what the passes alone take is the difference."""
 
-    def __init__(self, words, text, names, passes):
+    def __init__(self, words, text, names, passes, clock=time.perf_counter):
+        self.clock = clock
         self.words = words
         self.text = text
         self.names = names
         self.passes = passes
         self.best = [float("inf"), float("inf")]
-        self.counts = counts_of([*words, "1"], text, names)[1]
+        self.counts = counts_of([*words, "1"], text, names, clock)[1]
 
     def turn(self):
         """One run of each. Its counts must be those of one pass so many times."""
         for place, passes in enumerate((self.passes, 2 * self.passes)):
-            taken, counts = counts_of([*self.words, str(passes)], self.text, self.names)
+            taken, counts = counts_of([*self.words, str(passes)], self.text, self.names, self.clock)
             if counts != tuple(count * passes for count in self.counts):
                 sys.exit(f"wrong counts: {self.counts} of one pass, {counts} of {passes}")
             self.best[place] = min(self.best[place], taken)
