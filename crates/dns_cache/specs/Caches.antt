@@ -9,7 +9,7 @@ use Rattle.dns_cache.specs.CacheKeys.{CacheKeyValue}
 use Rattle.dns_cache.specs.Entries.{EntryValue, mark_of}
 use Rattle.dns_cache.specs.CacheLists.{CacheList, after_get, after_insert, hit, is_hit}
 use Rattle.dns_cache.specs.declared.acceptance.Acceptance.{Acceptance}
-use Rattle.dns_cache.specs.declared.acceptance.Acceptance.TheVariants.{Kept, Other}
+use Rattle.dns_cache.specs.declared.acceptance.Acceptance.TheVariants.{Kept, Unknown, Other}
 
 -- an entry that is given is the key's, and its time isn't up
 abbrev pub GivesHit : {E : Type 0} → CacheKeyValue → ℕ → Result (Option EntryValue) E → Type 0
@@ -56,3 +56,7 @@ KeptIsAccepted answers given = IfOk given (λ found. IfSome found (λ p. p.1 ≡
 -- a cache that tells its entries has no verifier of its own
 abbrev pub TellsNoOther : {E : Type 0} → Option CacheList → Result GivenWith E → Type 0
 TellsNoOther told given = IfSome told (λ list. IfOk given (λ found. IfSome found (λ p. p.1 ≢ Other)))
+
+-- nobody's acceptance is known of any entry that is given
+abbrev pub AreUnknown : {E : Type 0} → Result GivenWith E → Type 0
+AreUnknown given = IfOk given (λ found. IfSome found (λ p. p.1 ≡ Unknown))

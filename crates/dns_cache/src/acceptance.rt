@@ -1,6 +1,6 @@
-ghost use Rattle.std.specs.Prelude.{◌≡◌, IfSome};
+ghost use Rattle.std.specs.Prelude.{◌≡◌, Bool, IfSome, IsTrue, false};
 ghost use Rattle.dns_cache.specs.CacheLists.{IsCacheList};
-ghost use Rattle.dns_cache.specs.Caches.{GivesHit, GivesHitOf, KeptIsAccepted, LeftByGet, TellsNoOther, entry_given, hits_after};
+ghost use Rattle.dns_cache.specs.Caches.{AreUnknown, GivesHit, GivesHitOf, KeptIsAccepted, LeftByGet, TellsNoOther, entry_given, hits_after};
 
 use crate::{CacheKey, Entry, ValidationCache};
 use dns_evidence::Verifier;
@@ -20,6 +20,9 @@ pub enum Acceptance {
 
 /// A cache that says with an entry whose acceptance its chain has.
 pub trait AcceptedBy<V: Verifier>: ValidationCache {
+    /// Whether the cache knows of nobody's acceptance, so that each one is `Unknown`.
+    ghost knows_nobody: { Self → Bool } = { λ _. false };
+
     /// As `get`, with whose acceptance the entry's chain has.
     ///
     /// By itself a cache knows of nobody's.
@@ -38,6 +41,7 @@ pub trait AcceptedBy<V: Verifier>: ValidationCache {
         ensures listed { IfSome (Self.told self.new) IsCacheList }
         ensures accepted { KeptIsAccepted (V.answers _verifier.now) result }
         ensures told { TellsNoOther (Self.told self.old) result }
+        ensures unknown { IsTrue (Self.knows_nobody self.old) → AreUnknown result }
     {
         match self.get(alloc, key, now)? {
             Some(entry) => Ok(Some((entry, Acceptance::Unknown))),

@@ -1,4 +1,4 @@
-ghost use Rattle.std.specs.Prelude.{◌≡◌, ◌∷◌, ◌<◌, [], Some, OnOk, OnErr, length, position, remove, slice_index_or, take};
+ghost use Rattle.std.specs.Prelude.{◌≡◌, ◌∷◌, ◌<◌, [], true, Some, OnOk, OnErr, length, position, remove, slice_index_or, take};
 ghost use Rattle.std.specs.List.{IsDistinct};
 ghost use Rattle.dns_cache.specs.CacheLists.{IsCacheList, has_key, is_hit, without};
 
@@ -70,7 +70,9 @@ impl ValidationCache for ListCache {
     }
 }
 
-impl<V: Verifier> AcceptedBy<V> for ListCache {}
+impl<V: Verifier> AcceptedBy<V> for ListCache {
+    ghost knows_nobody = { λ _. true };
+}
 
 // The place of the entry of this key, if it doesn't expire by the moment.
 fn hit_place(entries: &[Entry], key: &CacheKey, now: u64) -> Option<usize>
