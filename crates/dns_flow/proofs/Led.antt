@@ -23,6 +23,7 @@ use Rattle.dns_rules.proofs.ExtendLemmas.{has_mark_from}
 use Rattle.dns_rules.proofs.StayLemmas.{later_step_context}
 use Rattle.dns_flow.specs.declared.asks.Ask.{Ask}
 use Rattle.dns_flow.specs.declared.phases.Seeker.TheVariants.{Set, Ending}
+use Rattle.dns_flow.specs.Endings.{IsStepEnd, Settled, LeftToZone}
 use Rattle.dns_flow.specs.Phases.{judged_ask, plain_ask, GotValue, Answer, Probe, PhaseValue, NeedValue, SetEnds, StepEnds, Asks, first_signatures, start_set, start_ending, turn, after}
 use Rattle.dns_flow.specs.Leads.{chainless, bare_set, bare_phase, bare_need, bare_got, is_made, got_of, leads, end_of, ends_with_mark, leads_to_mark, entry_of}
 use Rattle.dns_flow.proofs.Bare.{after_bare, turn_bare}
@@ -202,12 +203,6 @@ set_ends g told placed asks phase c way is =
     }
 
 -- ---- the end of a step
-
--- how a step has ended: by its sets, or by the zone of its question
-pub data IsStepEnd (g : StepContext) (told : Told) (sets : List MarkedSet) (o : Outcome) (asks : List AskRef) : Type 0 where
-  Settled : o ≡ outcome_of g.query told sets → o ≢ NeedsZone → asks ≡ [] → IsStepEnd g told sets o asks
-  LeftToZone : (zone : ZoneVerdict) → outcome_of g.query told sets ≡ NeedsZone
-      → search_from g g.query.class (question_start g.query) asks ≡ Some zone → o ≡ outcome_by_zone g.query told zone → IsStepEnd g told sets o asks
 
 step_alone : (n : NeedValue) (o : Outcome) → bare_need n ≡ StepEnds o → n ≡ StepEnds o
 step_alone (SetEnds c) o h = cc

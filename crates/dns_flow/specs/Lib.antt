@@ -1,3 +1,4 @@
 pub mod Phases
 pub mod Leads
+pub mod Endings
 pub mod Values

@@ -6,21 +6,23 @@ use Rattle.std.proofs.lemmas.List.Concat.{flat_map-append}
 use Rattle.dns_model.specs.declared.trail.AskRef.{AskRef}
 use Rattle.dns_model.specs.Records.{Question, MessageValue}
 use Rattle.dns_model.specs.Chains.{Judge}
-use Rattle.dns_model.specs.SoundAnswers.{PlacedSet, told_by}
+use Rattle.dns_model.specs.SoundAnswers.{Told, PlacedSet, told_by}
 use Rattle.dns_model.specs.Trails.{AskedValue, JudgedSetValue}
-use Rattle.dns_model.proofs.EachLemmas.{each_append, each_front}
+use Rattle.dns_model.proofs.EachLemmas.{each_append, each_back}
 use Rattle.dns_model.proofs.SetLemmas.{IsProper}
 use Rattle.dns_rules.specs.Asking.{judged_part}
 use Rattle.dns_rules.specs.ChainedSets.{ChainedSet, bare, stands}
 use Rattle.dns_rules.specs.Derivation.{StepContext, with_entries, entries_hold}
 use Rattle.dns_rules.specs.DerivationParts.{asks_of_sets}
 use Rattle.dns_rules.specs.Outcome.{Outcome, foreign_record}
+use Rattle.dns_rules.proofs.ChainedLemmas.{proper_part}
 use Rattle.dns_rules.proofs.ExtendLemmas.{entries_stay, entries_none, entries_more, entries_as_many, with_entries-append}
 use Rattle.dns_rules.proofs.StayLemmas.{later_step_context}
 use Rattle.dns_flow.specs.declared.asks.Ask.{Ask}
+use Rattle.dns_flow.specs.Endings.{IsStepEnd}
 use Rattle.dns_flow.specs.Leads.{entry_of}
 use Rattle.dns_flow.specs.Phases.{PhaseValue, GotValue, SetEnds, StepEnds, Asks, start_set, start_ending, turn, after}
-use Rattle.dns_flow.proofs.Led.{Led, IsGot, IsSetEnd, IsStepEnd, led_set, led_ending, led_more, led_stays, set_ends, step_ends, set_never, ending_never}
+use Rattle.dns_flow.proofs.Led.{Led, IsGot, IsSetEnd, led_set, led_ending, led_more, led_stays, set_ends, step_ends, set_never, ending_never}
 use Rattle.dns_validation.specs.Machine.{Terms, SoFar, OpenValue, first_left, next_phase, next_item, opened, set_ended, answered}
 use Rattle.dns_validation.specs.Comes.{IsJudgement}
 use Rattle.dns_validation.proofs.GotLemmas.{context_at}
@@ -28,28 +30,29 @@ use Rattle.dns_validation.proofs.GotLemmas.{context_at}
 -- ---- sets that are judged
 
 judgement_none : (g : StepContext) → IsJudgement g [] [] []
-judgement_none g = record { hold = entries_none g; same = refl; stand = λ proper. tt }
+judgement_none g = record { hold = entries_none g; same = refl; stand = tt }
 
 -- what was judged stays when steps are added
 judgement_later : (g : StepContext) (more : List AskedValue) (ps : List PlacedSet) (cs : List ChainedSet) (es : List JudgedSetValue)
     → IsJudgement g ps cs es → IsJudgement (later_step_context g more) ps cs es
 judgement_later g more ps cs es judged = record { hold = entries_stay g more ps es judged.hold; same = judged.same; stand = judged.stand }
 
-all_last : {X : Type 0} (P : X → Type 0) (xs : List X) (y : X) → AllByRecursion P (xs ++ y ∷ []) → P y
-all_last P [] y h = h.0
-all_last P (x ∷ xs) y h = all_last P xs y h.1
+-- a set of a step is a proper one
+proper_set : (depth : ℕ) (told : Told) (done left : List PlacedSet) (p : PlacedSet) → judged_part depth told ≡ done ++ p ∷ left → IsProper p.set
+proper_set depth told done left p part =
+    let IsOwn = λ (x : PlacedSet). IsProper x.set in
+    let behind = each_back IsOwn done (p ∷ left) (subst (λ ps. AllByRecursion IsOwn ps) part (proper_part depth told)) in
+    behind.0
 
--- a set more
+-- a set more, which is proper
 judgement_more : (g : StepContext) (ps : List PlacedSet) (p : PlacedSet) (cs : List ChainedSet) (c : ChainedSet) (es : List JudgedSetValue) (e : JudgedSetValue)
-    → IsJudgement g ps cs es → IsSetEnd g p c e → IsJudgement g (ps ++ p ∷ []) (cs ++ c ∷ []) (es ++ e ∷ [])
-judgement_more g ps p cs c es e judged one = record {
+    → IsJudgement g ps cs es → IsSetEnd g p c e → IsProper p.set → IsJudgement g (ps ++ p ∷ []) (cs ++ c ∷ []) (es ++ e ∷ [])
+judgement_more g ps p cs c es e judged one proper = record {
   hold = entries_more g ps p es e judged.hold one.holds;
   same =
       map-append (λ x. x.judged) cs (c ∷ []) ∙ ap (λ xs. xs ++ c.judged ∷ []) judged.same ∙ ap (λ x. with_entries ps es ++ x ∷ []) one.same
       ∙ sym (with_entries-append ps (p ∷ []) es (e ∷ []) (entries_as_many g ps es judged.hold));
-  stand = λ proper.
-      each_append (λ x. stands g.judge x ≡ true) cs (c ∷ []) (judged.stand (each_front (λ x. IsProper x.set) ps (p ∷ []) proper))
-      (one.stand (all_last (λ x. IsProper x.set) ps p proper), tt);
+  stand = each_append (λ x. stands g.judge x ≡ true) cs (c ∷ []) judged.stand (one.stand proper, tt);
 }
 
 -- ---- an open step
@@ -102,7 +105,7 @@ set_by t closed s done asked phase c own judged (AtSet placed part led) ends =
     let e = entry_of c.judged asked in
     let one = set_ends (context_at t closed s) (told_by s.message) placed asked phase c led ends in
     next_judging t closed (record s { sets = s.sets ++ c ∷ []; entries = s.entries ++ e ∷ [] }) (done ++ placed ∷ []) own
-    (judgement_more (context_at t closed s) done placed s.sets c s.entries e judged one)
+    (judgement_more (context_at t closed s) done placed s.sets c s.entries e judged one (proper_set s.depth (told_by s.message) done s.left placed part))
     (part ∙ sym (append_assoc done (placed ∷ []) s.left))
 
 pub set_judging : (t : Terms) (closed : List AskedValue) (f : OpenValue) (c : ChainedSet) → Judging t closed f → turn f.phase ≡ SetEnds c

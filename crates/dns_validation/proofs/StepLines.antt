@@ -20,7 +20,7 @@ use Rattle.dns_rules.specs.DerivationParts.{step_context_of, is_bare, is_ending,
 use Rattle.dns_rules.specs.Outcome.{Outcome, Unjudged, Given, NeedsZone, Denied, outcome_of, outcome_by_zone, foreign_record}
 use Rattle.dns_rules.proofs.EndingLemmas.{ending_without, ending_by_search}
 use Rattle.dns_rules.proofs.ExtendLemmas.{proof_refl}
-use Rattle.dns_flow.proofs.Led.{IsStepEnd, Settled, LeftToZone}
+use Rattle.dns_flow.specs.Endings.{IsStepEnd, Settled, LeftToZone}
 use Rattle.dns_validation.specs.Steps.{judged_step, plain_step, foreign_ending}
 use Rattle.dns_validation.specs.Comes.{IsJudgement}
 

@@ -11,7 +11,7 @@ use Rattle.dns_rules.specs.Asking.{most_sends, judged_part}
 use Rattle.dns_rules.specs.ChainedSets.{ChainedSet, bare}
 use Rattle.dns_rules.specs.Derivation.{if_answered, judged_sets, with_entries, ending_by, step_holds, asks_of}
 use Rattle.dns_rules.specs.Outcome.{Outcome, Unjudged, Given, NeedsZone, Denied, foreign_record}
-use Rattle.dns_rules.proofs.ChainedLemmas.{AllStand, IsGoodAnswer, proper_part}
+use Rattle.dns_rules.proofs.ChainedLemmas.{AllStand, IsGoodAnswer}
 use Rattle.dns_handle.specs.Errors.{Reply}
 use Rattle.dns_flow.specs.declared.asks.Ask.{Ask}
 use Rattle.dns_flow.specs.Phases.{NeedValue, GotValue, SetEnds, StepEnds, Asks, Answer, judged_ask, turn}
@@ -119,7 +119,7 @@ stand_nested t f g outer below closed n m before after all first o beneath h is 
     let grown = closed ++ step_of s f.asked o ∷ [] in
     let got : IsGot (context_at t grown g.so_far) (judged_ask s.query) (Step (length closed)) (Answer (given_sets o s.sets)) =
     step_answers t closed g.so_far s.query s.depth (Records (told_by s.message) s.empty) s.entries (ending_by o) f.asked (given_sets o s.sets) h.deep (h.awaited.shallow refl)
-    (given_same s.query s.depth s f.asked o done.judged.same) (given_good t.judge s.sets o (done.judged.stand (proper_part s.depth (told_by s.message)))) in
+    (given_same s.query s.depth s f.asked o done.judged.same) (given_good t.judge s.sets o done.judged.stand) in
     Moves (answered t.judge (Step (length closed)) (Answer (given_sets o s.sets)) g) outer grown m all
     (subst (λ xs. Open t (answered t.judge (Step (length closed)) (Answer (given_sets o s.sets)) g ∷ outer) grown m xs) (sym is)
     (open_answered t g outer below grown n m before (first ∷ after) (judged_ask s.query) (Step (length closed)) (Answer (given_sets o s.sets)) beneath

@@ -4,18 +4,16 @@ use Rattle.std.specs.List.{AllByRecursion}
 use Rattle.dns_model.specs.Records.{Rr, MessageValue}
 use Rattle.dns_model.specs.SoundAnswers.{PlacedSet, told_by}
 use Rattle.dns_model.specs.Trails.{AskedValue, JudgedSetValue}
-use Rattle.dns_model.proofs.SetLemmas.{IsProper}
 use Rattle.dns_rules.specs.Asking.{most_sends, judged_part}
-use Rattle.dns_rules.specs.ChainedSets.{ChainedSet, bare}
+use Rattle.dns_rules.specs.ChainedSets.{ChainedSet, bare, stands}
 use Rattle.dns_rules.specs.Derivation.{StepContext, entries_hold, with_entries}
 use Rattle.dns_rules.specs.DerivationParts.{asks_of_sets, steps_at}
 use Rattle.dns_rules.specs.Outcome.{foreign_record}
 use Rattle.dns_rules.specs.Parts.{TrailPart}
-use Rattle.dns_rules.proofs.ChainedLemmas.{AllStand}
 use Rattle.dns_handle.specs.Errors as seen
 use Rattle.dns_handle.specs.Errors.{Reply, ErrorValue}
+use Rattle.dns_flow.specs.Endings.{IsStepEnd}
 use Rattle.dns_flow.specs.Phases.{judged_ask}
-use Rattle.dns_flow.proofs.Led.{IsStepEnd}
 use Rattle.dns_validation.specs.Received.{Message, Failed, received_value, heard_from, is_out_of_memory}
 use Rattle.dns_validation.specs.Requests.{request_for}
 use Rattle.dns_validation.specs.Steps.{Findings, judged_answer}
@@ -53,7 +51,7 @@ StepsOf t (step ∷ steps) (sent ∷ sends) = IsStepOf t step sent × StepsOf t 
 pub record IsJudgement (g : StepContext) (placed : List PlacedSet) (sets : List ChainedSet) (entries : List JudgedSetValue) : Type 0 where
   pub hold : entries_hold g placed entries ≡ true
   pub same : bare sets ≡ with_entries placed entries
-  pub stand : AllByRecursion (λ p. IsProper p.set) placed → AllStand g.judge sets
+  pub stand : AllByRecursion (λ c. stands g.judge c ≡ true) sets
 
 -- by what the sets of the step for the query are judged
 abbrev pub top_context : Terms → List AskedValue → StepContext
