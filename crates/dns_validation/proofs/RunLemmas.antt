@@ -58,6 +58,12 @@ pub or_goes_on : (t : Terms) (old new : StateValue) (reply : Reply) → IsOut ne
 or_goes_on t old new reply (inl out) = inl out
 or_goes_on t old new reply (inr heard) = inr (goes_on t old new reply heard)
 
+-- where no ask waits, no run goes on by a reply
+pub taken_goes_on : (t : Terms) (old new : StateValue) (reply : Reply) (pending : Option Ask) → old.pending ≡ pending
+    → (IsSome pending → IsOut new ⊎ HasHeard t old reply new) → IsOut new ⊎ GoesOn t old reply new
+taken_goes_on t old new reply None is heard = inr (λ sends ask waits run. let no : None ≡ Some ask = sym is ∙ waits in cc)
+taken_goes_on t old new reply (Some ask) is heard = or_goes_on t old new reply (heard refl)
+
 -- it comes to what its run comes to
 pub comes_of : (t : Terms) (s : StateValue) (o : Option (Result ResponseValue NetError)) → option_map reply_of o ≡ s.ended
     → IfSome o (λ r. (sends : List Sent) → Run t sends s → Comes t sends (reply_of r))

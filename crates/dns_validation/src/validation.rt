@@ -94,18 +94,17 @@ impl<'a, V: Verifier> Validation<'a, V> {
         }
     }
 
-    /// Takes the reply to what it asked, and goes on. Want of memory, also as the reply, ends it.
+    /// Takes the reply to what it asked, and goes on. Want of memory, also as the reply, ends it. Where nothing waits for a reply, it
+    /// lets it go.
     pub fn answer(&mut self, reply: Result<DnsResponse, NetError>)
         ensures terms { terms_in V.answers self.new ≡ terms_in V.answers self.old }
-        ensures heard { IsOut (state_of self.new)
+        ensures idle { (state_of self.old).pending ≡ None → state_of self.new ≡ state_of self.old }
+        ensures heard { IsSome (state_of self.old).pending → IsOut (state_of self.new)
             ⊎ HasHeard (terms_in V.answers self.old) (state_of self.old) (reply_of reply) (state_of self.new) }
         ensures run { IsOut (state_of self.new)
             ⊎ GoesOn (terms_in V.answers self.old) (state_of self.old) (reply_of reply) (state_of self.new) }
     {
-        match go_on(&self.context, &mut self.state, reply) {
-            Ok(()) => {}
-            Err(_) => run_out(&self.context, &mut self.state),
-        }
+        take(&self.context, &mut self.state, reply);
     }
 
     /// The answer of a validation that has come to its end, as a lookup gives it: by a trail of exactly the sends of its run. None
@@ -189,6 +188,25 @@ fn request_of<V>(context: &Context<'_, V>, first: bool, ask: &Ask) -> Result<Dns
         context.request.try_clone()
     } else {
         request_for(context.alloc, &ask.query, &context.options, ask.judged)
+    }
+}
+
+// Takes a reply, unless no ask waits for one.
+fn take<V: Verifier>(
+    context: &Context<'_, V>,
+    state: &mut State,
+    reply: Result<DnsResponse, NetError>,
+)
+    ensures idle { state.old.pending ≡ None → state.new ≡ state.old }
+    ensures heard { IsSome state.old.pending → IsOut state.new
+        ⊎ HasHeard (terms_of V.answers context.now) state.old (reply_of reply) state.new }
+{
+    if state.pending.is_none() {
+        return;
+    }
+    match go_on(context, state, reply) {
+        Ok(()) => {}
+        Err(_) => run_out(context, state),
     }
 }
 

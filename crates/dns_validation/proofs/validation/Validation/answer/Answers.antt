@@ -1,6 +1,6 @@
-use Rattle.std.proofs.Common.{inr}
-use Rattle.dns_validation.proofs.RunLemmas.{goes_on}
+use Rattle.std.proofs.Common.{refl}
+use Rattle.dns_validation.proofs.RunLemmas.{taken_goes_on}
 use Rattle.dns_validation.proofs.validation.Validation.answer.Goals as goal
 
-pub returns-in-Ok-clause-run : goal.returns-in-Ok-clause-run
-returns-in-Ok-clause-run g c = inr (goes_on _ _ _ _ c.in-Ok.ensures)
+pub returns-clause-run : goal.returns-clause-run
+returns-clause-run g c = taken_goes_on _ _ _ _ _ refl c.take.ensures.heard
