@@ -8,11 +8,14 @@ import os
 import sys
 
 import texts
+import unsigned
 import walk
 from scene import Scene, ds_of, finds
 from texts import A, DNSKEY, KEY, MX, NS, OPAQUE, Record, Signed
 from walk import EXAMPLE, KEYS, WWW
 
+# the model goes as deep as a lookup does, some frames an ask
+sys.setrecursionlimit(10_000)
 MOST_INPUT = 16_777_216
 MOST_SENDS = 1024
 MOST_MESSAGE = 65_535
@@ -326,7 +329,8 @@ def line_with_a_word_of_300_letters():
 MADE = (forty_keys, sixty_links, two_hundred_sets, hundred_chains, more_sends_than_are_made, name_of_127_labels,
         longest_message, thousand_anchors, longest_input, input_of_a_byte_too_many, line_of_sixteen_mebibytes,
         asks_that_are_refused, searches_past_the_last_send, walk.four_hundred_copies_of_a_key,
-        walk.four_hundred_copies_and_no_other, walk.ds_ask_past_the_last_send, chain_of_three_hundred_links, forty_ds_records,
+        walk.four_hundred_copies_and_no_other, walk.ds_ask_past_the_last_send, walk.deepest_keys_beside_their_own_ds,
+        unsigned.deepest_searches, chain_of_three_hundred_links, forty_ds_records,
         set_of_4500_records, rdata_of_sixty_thousand_bytes, seventy_thousand_lines_of_each_kind, bad_line_behind_seventy_thousand,
         referral_to_two_thousand_servers, long_name_of_another_class, three_hundred_words, word_of_100_000_letters, words_of_more_than_255_bytes, number_of_300_digits,
         algorithm_of_300_digits, type_of_300_letters, fault_of_300_letters, line_with_a_word_of_300_letters)

@@ -9,7 +9,7 @@ that is written.
 import sys
 
 import texts
-from scene import PLAIN, ROOT, TRAIL, Scene, ds_of, main
+from scene import PLAIN, ROOT, TRAIL, Scene, ds_of, finds, main
 from texts import A, DNSKEY, DS, KEY, NS, NSEC, Record
 from walk import ADDRESS, EXAMPLE, GOST, KEYS, OTHER, UNLISTED, WWW, of_nothing
 
@@ -438,6 +438,20 @@ def empty_before_the_query():
 def fault_after_the_last_line():
     """and before the last line"""
     return at(9, "fault . NS busy"), "bad line 9"
+
+
+# ---- a large row, which generate.py gives out
+
+def deepest_searches():
+    """A set without a signature, and one in each reply to the ask for the DS set of its zone, which its own name is: each level asks
+    for the NS records of the name and then for the DS set, one deeper, up to depth 255."""
+    scene = Scene()
+    scene.says(EXAMPLE, A, [Record(EXAMPLE, A, ADDRESS)])
+    with_servers(scene)
+    scene.says(EXAMPLE, DS, authorities=[Record(EXAMPLE, SOA, SOA_RDATA)])
+    session = scene.session(EXAMPLE, A, 255)
+    says = ["answer example. A bogus", "step 255 judged example. DS", "step 255 ns example. NS", "asks 512"]
+    return session, finds(session, says, TRAIL), 0, b"validate\ntrail\n"
 
 
 MADE = (unsigned_in_an_insecure_zone, unsigned_in_a_signed_zone, unsigned_in_a_zone_with_another_ds_beside,

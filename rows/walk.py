@@ -254,16 +254,21 @@ def ds_of_an_unknown_algorithm_alone():
     return session, [DS_IS_SECURE, "set answer example. DNSKEY insecure table - 1", "chains 0"], PLAIN
 
 
-def keys_beside_their_own_ds():
-    """a key set in the reply to the ask for its own DS asks for it again, one deeper, as deep as asks may go"""
+def beside_their_own_ds(depth):
+    """Keys of `example.` in the reply to the ask for its DS set."""
     scene = Scene()
     keys = scene.signed([Record(EXAMPLE, DNSKEY, key) for key in KEYS[:2]], KEYS[0], EXAMPLE)
     scene.says(EXAMPLE, DNSKEY, keys)
     scene.says(EXAMPLE, DS, scene.signed([Record(EXAMPLE, DS, ds_of(EXAMPLE, KEYS[0]))], KEY, ROOT), keys)
     scene.root()
+    return scene.session(EXAMPLE, DNSKEY, depth)
+
+
+def keys_beside_their_own_ds():
+    """a key set in the reply to the ask for its own DS asks for it again, one deeper, as deep as asks may go"""
     says = [bogus_by("deep"), "set answer example. DS bogus table - deep", "step 3 judged example. DS", bogus_by(2),
             "answer example. DNSKEY secure", "asks 6"]
-    return scene.session(EXAMPLE, DNSKEY, depth=3), says, TRAIL
+    return beside_their_own_ds(3), says, TRAIL
 
 
 # ---- asks that aren't made
@@ -402,6 +407,12 @@ def questions_of_a_walk():
 
 
 # ---- large rows, which generate.py gives out
+
+def deepest_keys_beside_their_own_ds():
+    """At depth 255."""
+    session = beside_their_own_ds(255)
+    return session, finds(session, [bogus_by("deep"), "step 255 judged example. DS", "asks 510"], TRAIL), 0, b"validate\ntrail\n"
+
 
 def four_hundred_copies(*beside):
     """400 copies of a key that a DS matches, with eight signatures that aren't accepted."""
