@@ -1,0 +1,3 @@
+pub mod MetLemmas
+mod BindingLemmas
+mod StreamLemmas

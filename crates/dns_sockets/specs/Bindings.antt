@@ -1,0 +1,60 @@
+-- The local address of a socket (RFC 5452, 9.2), and what making one meets.
+use Rattle.std.specs.Prelude.{ℕ, ◌≡◌, ◌<◌, ◌==◌, ◌&&◌, not, Bool, true, false, List, Result, Option, IfOk, IfErr}
+use Rattle.std.specs.Net.Addr.{is_ipv4, MatchIp, IsUnspecifiedV4, IsUnspecifiedV6}
+use Rattle.std.specs.Net.Socket.{socket_ip, socket_port}
+use Rattle.std.specs.BTreeSet.{BTreeSet}
+use Rattle.std.specs.declared.net.socket_addr.SocketAddr.{SocketAddr}
+use Rattle.dns_handle.specs.declared.io_kind.IoKind.{IoKind}
+use Rattle.dns_handle.specs.declared.io_kind.IoKind.TheVariants.{PermissionDenied, AddrInUse}
+use Rattle.dns_link.specs.Counts.{CountsValue}
+use Rattle.dns_link.specs.Moved.{DatagramValue, IsNew}
+use Rattle.dns_mux.specs.Draws.{Drawn}
+use Rattle.dns_datagrams.specs.Ports.{IsNextPort, is_avoided}
+use Rattle.dns_sockets.specs.Met.{DialerView, Meets}
+
+-- where sockets are bound: the local address, the ports that aren't taken, and whether the system chooses the port
+pub record BindingValue : Type 0 where
+  pub local : SocketAddr
+  pub avoid : BTreeSet ℕ
+  pub os_ports : Bool
+
+-- every address of a server's family, and port 0
+pub record IsAnyAddress (server local : SocketAddr) : Type 0 where
+  pub family : is_ipv4 (socket_ip local) ≡ is_ipv4 (socket_ip server)
+  pub unspecified : MatchIp (socket_ip local) IsUnspecifiedV4 IsUnspecifiedV6
+  pub port : socket_port local ≡ 0
+
+-- a port is drawn for each try
+abbrev pub draws_ports : BindingValue → Bool
+draws_ports binding = (socket_port binding.local == 0) && not binding.os_ports
+
+-- the address of the next try: with a port that is drawn, or as it was given
+abbrev pub IsNextLocalBy : {R : Type 0} → Bool → (R → ℕ → R → Type 0) → BindingValue → R → R → ℕ → ℕ → SocketAddr → Type 0
+IsNextLocalBy true draw binding from to before after local =
+    IsNextPort draw (is_avoided binding.avoid) from to before after (socket_port local)
+    × (socket_ip local ≡ socket_ip binding.local)
+IsNextLocalBy false draw binding from to before after local = (local ≡ binding.local) × (to ≡ from) × (after ≡ before)
+
+-- ports were drawn one after another
+pub record DrawsPorts {R : Type 0} (draw : R → ℕ → R → Type 0) (from to : R) : Type 0 where
+  pub ports : List ℕ
+  pub drawn : Drawn draw from ports to
+
+-- another address may be given where this one wasn't
+abbrev pub is_refusal : IoKind → Bool
+is_refusal PermissionDenied = true
+is_refusal AddrInUse = true
+is_refusal _ = false
+
+-- so many faults and nothing else
+abbrev pub only_faults : ℕ → CountsValue
+only_faults n = record { faults = n; ends = 0; gots = 0; quiet = 0 }
+
+-- a socket was made, after so many refusals; or the last refusal is answered
+pub record IsBound {G : Type 0} (counts : G → CountsValue) (given : G → Option (List DatagramValue)) (before now : DialerView)
+    (result : Result G IoKind) : Type 0 where
+  pub refused : ℕ
+  pub met : Meets before.counts now.counts (only_faults refused)
+  pub kept : now.given ≡ before.given
+  pub made : IfOk result (λ socket. IsNew (counts socket) (given socket))
+  pub failed : IfErr result (λ _. 0 < refused)

@@ -1,0 +1,4 @@
+pub mod Met
+pub mod Bindings
+pub mod StreamViews
+pub mod Streams

@@ -1,0 +1,148 @@
+ghost use Rattle.std.specs.Prelude.{◌≡◌, ◌≢◌, ◌≤◌, ◌⊎◌, Err, [], IfErr, IfOk, IfSome, length, replicate};
+ghost use Rattle.dns_handle.specs.declared.error.NetError.TheVariants as errors;
+ghost use Rattle.dns_mux.specs.Queues.{IsPut};
+ghost use Rattle.dns_sockets.specs.Bindings.{DrawsPorts};
+ghost use Rattle.dns_sockets.specs.Met.{dialer_view};
+ghost use Rattle.dns_sockets.specs.StreamViews.{queue_of, socket_of};
+ghost use Rattle.dns_sockets.specs.Streams.{HasReceived, HasSent, IsStreamMade, most_received};
+
+use crate::binding::{Binding, any_address};
+use dns_handle::NetError;
+use dns_link::{Datagrams, Dialer};
+use dns_mux::{BufDnsStreamHandle, DnsStreamHandle, Draws, SerialMessage, StreamReceiver};
+use dns_name::{NoMemory, Octets};
+use std::alloc::Global;
+use std::collections::BTreeSet;
+use std::net::SocketAddr;
+
+/// The most bytes of a datagram that is received.
+pub const MAX_RECEIVE_BUFFER_SIZE: usize = 4096;
+
+/// Datagrams as they are, over one socket (RFC 1035, 4.2.1).
+#[derive(Drop)]
+pub struct UdpStream<G: Drop> {
+    socket: G,
+    queue: StreamReceiver,
+}
+
+/// A buffer of so many bytes for datagrams.
+pub fn receive_buffer(alloc: Global, size: usize) -> Result<Vec<u8>, NoMemory>
+    ensures { IfOk result (λ buf. length buf.items ≡ size) }
+{
+    let mut buf = Vec::new(alloc);
+    buf.resize(size, 0u8)?;
+    Ok(buf)
+}
+
+/// Sends a message; what becomes of it isn't told.
+fn send_one<G: Datagrams>(socket: &mut G, message: &SerialMessage)
+    ensures counts { HasSent (G.counts socket.old) (G.counts socket.new) }
+    ensures given { G.given socket.new ≡ G.given socket.old }
+{
+    let _ = socket.send_to(message.bytes.as_slice(), message.addr);
+}
+
+/// Sends all messages that wait, in order.
+fn send_all<G: Datagrams>(socket: &mut G, queue: &mut StreamReceiver)
+    ensures counts { HasSent (G.counts socket.old) (G.counts socket.new) }
+    ensures given { G.given socket.new ≡ G.given socket.old }
+    ensures queue { queue.new ≡ [] }
+{
+    while let Some(message) = queue.pop() {
+        send_one(socket, &message);
+    }
+}
+
+/// Waits once for a datagram, in the room of `buf`.
+fn receive_one<G: Datagrams>(
+    socket: &mut G,
+    buf: Vec<u8>,
+) -> Result<Option<SerialMessage>, NetError>
+    ensures received { HasReceived (G.counts socket.old) (G.counts socket.new) (G.given socket.old) (G.given socket.new) result }
+    ensures most { IfOk result (λ came. IfSome came (λ m. length m.bytes ≤ length buf.items)) }
+    ensures error { IfErr result (λ e. e ≢ errors.NoMemory) }
+{
+    let mut buf = buf;
+    match socket.recv_from(&mut buf) {
+        Err(kind) => Err(NetError::from(kind)),
+        Ok(None) => Ok(None),
+        Ok(Some((len, from))) => {
+            buf.truncate(len);
+            Ok(Some(SerialMessage {
+                bytes: Octets::from_vec(buf),
+                addr: from,
+            }))
+        }
+    }
+}
+
+impl<G: Datagrams + Drop> UdpStream<G> {
+    /// A stream over a socket that is made for it: at `bind`, else at every address of the server's family and port 0. Where the
+    /// port is 0 and the system isn't to choose it, ports are drawn that aren't avoided. The handle puts datagrams for the
+    /// server into its queue. That a socket can't be made is the only error.
+    pub fn new<D: Dialer<Datagrams = G>, R: Draws>(
+        alloc: Global,
+        dial: &mut D,
+        draws: &mut R,
+        remote: SocketAddr,
+        bind: Option<SocketAddr>,
+        avoid: Option<BTreeSet<u16>>,
+        os_ports: bool,
+    ) -> Result<(UdpStream<G>, BufDnsStreamHandle), NetError>
+        ensures made { IsStreamMade G.counts G.given remote (dialer_view D.counts D.given_datagrams dial.old)
+            (dialer_view D.counts D.given_datagrams dial.new) result }
+        ensures bytes { D.given_bytes dial.new ≡ D.given_bytes dial.old }
+        ensures ports { DrawsPorts R.draws_port draws.old draws.new }
+    {
+        let binding = Binding {
+            local: bind.unwrap_or(any_address(&remote)),
+            avoid: avoid.unwrap_or(BTreeSet::new(alloc)),
+            os_ports,
+        };
+        let socket = binding.bind(dial, draws, 0)?;
+        Ok(UdpStream::with_bound(alloc, socket, remote))
+    }
+
+    /// A stream over a socket that is bound, and a handle that puts datagrams for a server into its queue.
+    pub fn with_bound(
+        alloc: Global,
+        socket: G,
+        remote: SocketAddr,
+    ) -> (UdpStream<G>, BufDnsStreamHandle)
+        ensures socket { socket_of result.0 ≡ socket }
+        ensures queue { queue_of result.0 ≡ [] }
+        ensures handle { result.1 ≡ record { addr = remote; buffer = 32 } }
+    {
+        let (handle, queue) = BufDnsStreamHandle::new(alloc, remote);
+        (UdpStream { socket, queue }, handle)
+    }
+
+    /// Puts a message into the queue, under the handle's address. `SendQueueFull` comes exactly where 33 wait.
+    pub fn enqueue(
+        &mut self,
+        handle: &mut BufDnsStreamHandle,
+        message: SerialMessage,
+    ) -> Result<(), NetError>
+        requires { message.bytes ≢ [] }
+        ensures put { IsPut handle.old.addr handle.old.buffer message (queue_of self.old) (queue_of self.new) result }
+        ensures socket { socket_of self.new ≡ socket_of self.old }
+        ensures handle { handle.new ≡ handle.old }
+    {
+        handle.send(&mut self.queue, message)
+    }
+
+    /// Sends all messages that wait, in order; one whose send fails is let go. Then it waits once for a datagram, of 4,096 bytes
+    /// at most. None comes exactly where none came in time; an error other than want of memory where the socket failed. For want
+    /// of memory nothing is sent.
+    pub fn receive(&mut self, alloc: Global) -> Result<Option<SerialMessage>, NetError>
+        ensures received { (result ≡ Err errors.NoMemory) ⊎ HasReceived (G.counts (socket_of self.old)) (G.counts (socket_of self.new))
+            (G.given (socket_of self.old)) (G.given (socket_of self.new)) result }
+        ensures queue { (result ≡ Err errors.NoMemory) ⊎ (queue_of self.new ≡ []) }
+        ensures memory { result ≡ Err errors.NoMemory → self.new ≡ self.old }
+        ensures most { IfOk result (λ came. IfSome came (λ m. length m.bytes ≤ most_received)) }
+    {
+        let buf = receive_buffer(alloc, MAX_RECEIVE_BUFFER_SIZE)?;
+        send_all(&mut self.socket, &mut self.queue);
+        receive_one(&mut self.socket, buf)
+    }
+}
