@@ -1,0 +1,13 @@
+pub mod Frames
+pub mod Links
+pub mod Streams
+pub mod Feeding
+pub mod Draining
+pub mod StreamViews
+pub mod LinkReads
+pub mod Parts
+pub mod Loading
+pub mod Dialing
+pub mod Rows
+pub mod SureReads
+pub mod Causes
