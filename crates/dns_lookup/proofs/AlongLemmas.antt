@@ -11,9 +11,10 @@ use Rattle.dns_handle.specs.Handles.{Replies, reply_to, left_after, IsLeft, Repl
 use Rattle.dns_handle.specs.Requests.{RequestValue}
 use Rattle.dns_handle.specs.declared.request.DnsRequestOptions.{DnsRequestOptions}
 use Rattle.dns_handle.specs.declared.handle.DnsHandle as handle
-use Rattle.dns_lookup.specs.Received.{received_message, heard_from}
+use Rattle.dns_validation.specs.Received.{received_message, heard_from}
+use Rattle.dns_flow.specs.declared.asks.Ask.{Ask}
+use Rattle.dns_validation.specs.Requests.{request_for}
 use Rattle.dns_lookup.specs.Calls.{Call, IsCaused, Sending, Asking, ask_of_call, first_ask_of_call}
-use Rattle.dns_lookup.specs.AskRequests.{Ask, request_for}
 use Rattle.dns_lookup.specs.Sends.{SendOf, SendsAlong, SendsFrom, heard_fault}
 use Rattle.dns_lookup.specs.LookupParts.{IsFrom, KnownReplies}
 

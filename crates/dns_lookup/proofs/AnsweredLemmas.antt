@@ -25,11 +25,14 @@ use Rattle.dns_handle.specs.Handles.{reply_to}
 use Rattle.dns_handle.specs.Replies.{reply_of}
 use Rattle.dns_handle.specs.declared.error.NetError.{NetError}
 use Rattle.dns_handle.specs.declared.handle.DnsHandle as handle
-use Rattle.dns_lookup.specs.Received.{received_message}
+use Rattle.dns_validation.specs.Received.{received_message}
+use Rattle.dns_validation.specs.Steps.{Findings, answer_by}
+use Rattle.dns_validation.specs.Comes.{top_context}
 use Rattle.dns_lookup.specs.Calls.{Call}
 use Rattle.dns_lookup.specs.LookupAnswers.{UnlessNoMemory}
 use Rattle.dns_lookup.specs.Causes.{has_response, tells_nsec3, AnswersTold}
-use Rattle.dns_lookup.specs.Answering.{Findings, answer_by, top_step_context, Found, AnswersLookup, Passes, Names, Judges}
+use Rattle.dns_lookup.specs.Answering.{Found, AnswersLookup, Passes, Names, Judges}
+use Rattle.dns_lookup.specs.Fronts.{terms_of_call}
 use Rattle.dns_lookup.specs.LookupParts.{KnownReplies, IsReplyTo}
 use Rattle.dns_lookup.proofs.ConclusionLemmas.{still_unjudged, never_searched}
 use Rattle.dns_lookup.proofs.LookupAnswerLemmas.{unless_map}
@@ -98,11 +101,11 @@ responds_by : {H : Type 0} (meanings : handle.Ghosts H) (call : Call H) (found :
 responds_by meanings call found f (Given d) is none = refl
 responds_by meanings call found f (outcome.Denied p) is none = refl
 responds_by meanings call found f NeedsZone is none =
-    absurd (never_searched (top_step_context call found.steps) (told_by found.message) (bare found.sets) found.outcome found.excuse f.concluded is)
+    absurd (never_searched (top_context (terms_of_call call) found.steps) (told_by found.message) (bare found.sets) found.outcome found.excuse f.concluded is)
 responds_by meanings call found f Unjudged is none =
     let told = told_by found.message in
     let sees = unjudged_sees call.query told (bare found.sets)
-    (still_unjudged (top_step_context call found.steps) told (bare found.sets) found.outcome found.excuse f.concluded is) in
+    (still_unjudged (top_context (terms_of_call call) found.steps) told (bare found.sets) found.outcome found.excuse f.concluded is) in
     absurd (true≢false (sym (unjudged_told told (bare found.sets) (found_grouped meanings call found f) sees) ∙ none))
 
 answers_told : {H : Type 0} (meanings : handle.Ghosts H) (call : Call H) {answer : Reply} → AnswersLookup meanings call answer

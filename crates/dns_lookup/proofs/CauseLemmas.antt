@@ -13,12 +13,13 @@ use Rattle.dns_handle.specs.Replies.{reply_of}
 use Rattle.dns_handle.specs.declared.error.NetError.{NetError}
 use Rattle.dns_handle.specs.declared.handle.DnsHandle as handle
 use Rattle.dns_handle.specs.declared.notice.Notice.TheVariants.{NotJudgedYet}
-use Rattle.dns_lookup.specs.Received.{received_message}
+use Rattle.dns_validation.specs.Received.{received_message}
+use Rattle.dns_flow.specs.Phases.{judged_ask}
+use Rattle.dns_validation.specs.Steps.{Findings, answer_by}
 use Rattle.dns_lookup.specs.Calls.{Call, IsCaused, first_ask_of_call}
-use Rattle.dns_lookup.specs.AskRequests.{judged_ask}
 use Rattle.dns_lookup.specs.LookupAnswers.{UnlessNoMemory}
 use Rattle.dns_lookup.specs.Causes.{is_upstreams, PassedOn, PassesOnly, PassesOn}
-use Rattle.dns_lookup.specs.Answering.{Findings, answer_by, AnswersLookup, Passes, Names, Judges}
+use Rattle.dns_lookup.specs.Answering.{AnswersLookup, Passes, Names, Judges}
 use Rattle.dns_lookup.specs.LookupParts.{KnownReplies, IsReplyTo}
 use Rattle.dns_lookup.proofs.AlongLemmas.{told_reply}
 use Rattle.dns_lookup.proofs.LookupAnswerLemmas.{unless_map, or_memory}

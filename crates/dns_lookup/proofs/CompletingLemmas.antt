@@ -24,7 +24,7 @@ use Rattle.dns_handle.specs.Replies.{reply_of}
 use Rattle.dns_handle.specs.declared.error.NetError.{NetError}
 use Rattle.dns_handle.specs.declared.handle.DnsHandle as handle
 use Rattle.dns_handle.specs.declared.notice.Notice.TheVariants.{NotJudgedYet}
-use Rattle.dns_lookup.specs.Received.{received, heard_from, says_none}
+use Rattle.dns_validation.specs.Received.{received, heard_from, says_none}
 use Rattle.dns_lookup.specs.Calls.{Call}
 use Rattle.dns_lookup.specs.Causes.{ends_trail, JudgesTold, PassedOn, IsUnjudged, UnjudgedOnly}
 use Rattle.dns_lookup.specs.Completing.{first_told, AnswersSecurely, Completes}

@@ -16,9 +16,10 @@ use Rattle.dns_handle.specs.Errors.{Reply}
 use Rattle.dns_handle.specs.Replies.{reply_of}
 use Rattle.dns_handle.specs.declared.error.NetError.{NetError}
 use Rattle.dns_handle.specs.declared.handle.DnsHandle as handle
+use Rattle.dns_validation.specs.Steps.{top_of, Findings, trail_of}
 use Rattle.dns_lookup.specs.Calls.{Call}
 use Rattle.dns_lookup.specs.LookupAnswers.{UnlessNoMemory, OfAnswer, IsExplained, ShowsItsDenial}
-use Rattle.dns_lookup.specs.Answering.{top_of, Findings, trail_of, Found, AnswersLookup}
+use Rattle.dns_lookup.specs.Answering.{Found, AnswersLookup}
 use Rattle.dns_lookup.proofs.LookupAnswerLemmas.{of_result}
 use Rattle.dns_lookup.proofs.TopLemmas.{found_trail, found_marks, found_grouped}
 

@@ -11,11 +11,12 @@ use Rattle.dns_handle.specs.Handles.{reply_to}
 use Rattle.dns_handle.specs.Replies.{reply_of}
 use Rattle.dns_handle.specs.declared.error.NetError.{NetError}
 use Rattle.dns_handle.specs.declared.handle.DnsHandle as handle
-use Rattle.dns_lookup.specs.Received.{received_message, received}
+use Rattle.dns_validation.specs.Received.{received_message, received}
+use Rattle.dns_validation.specs.Steps.{Findings, answer_by}
 use Rattle.dns_lookup.specs.Calls.{Call}
 use Rattle.dns_lookup.specs.LookupAnswers.{UnlessNoMemory}
 use Rattle.dns_lookup.specs.Causes.{ForeignOnly, ForeignNamed, ends_trail, JudgesTold}
-use Rattle.dns_lookup.specs.Answering.{Findings, answer_by, AnswersLookup, Passes, Names, Judges}
+use Rattle.dns_lookup.specs.Answering.{AnswersLookup, Passes, Names, Judges}
 use Rattle.dns_lookup.specs.LookupParts.{told_of, KnownReplies, IsReplyTo}
 use Rattle.dns_lookup.proofs.LookupAnswerLemmas.{unless_map, or_memory}
 use Rattle.dns_lookup.proofs.CauseLemmas.{some_same, none_some, memory_some, told_to, error_memory, passed_on, passed_as}

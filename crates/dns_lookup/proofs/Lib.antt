@@ -1,12 +1,8 @@
-pub mod AskLemmas
-pub mod ReceivedLemmas
-pub mod StandingLemmas
-pub mod StepLemmas
-pub mod TriedLemmas
-pub mod JudgementLemmas
-pub mod ZoneLemmas
+pub mod SendLemmas
+pub mod FrontLemmas
+pub mod ComesLemmas
+pub mod LoopLemmas
 pub mod ConclusionLemmas
-pub mod AnswerLemmas
 pub mod AlongLemmas
 pub mod TopLemmas
 pub mod LookupAnswerLemmas
@@ -15,6 +11,5 @@ pub mod ForeignLemmas
 pub mod UnjudgedLemmas
 pub mod AnsweredLemmas
 pub mod DenyingLemmas
-pub mod LookupLemmas
 pub mod SendingLemmas
 pub mod CompletingLemmas

@@ -7,18 +7,20 @@ use Rattle.dns_model.specs.SoundAnswers.{ResponseValue}
 use Rattle.dns_model.proofs.SetLemmas.{number_refl, number_same}
 use Rattle.dns_handle.specs.Errors as seen
 use Rattle.dns_handle.specs.Errors.{Message}
+use Rattle.dns_handle.specs.Handles.{OrUnsent}
 use Rattle.dns_handle.specs.Replies.{reply_of, error_of}
 use Rattle.dns_handle.specs.Requests.{RequestValue, first_question, plain_options, query_message, request_of}
 use Rattle.dns_handle.specs.declared.error.NetError.{NetError}
 use Rattle.dns_handle.specs.declared.handle.DnsHandle as handle
 use Rattle.dns_handle.specs.declared.notice.Notice.TheVariants.{NoQueryInRequest}
 use Rattle.dns_handle.specs.declared.request.DnsRequestOptions.{DnsRequestOptions}
+use Rattle.dns_validation.specs.Requests.{asking_options, asking_request, checked_edns, checked_request}
 use Rattle.dns_lookup.specs.Answering.{AnswersLookup}
-use Rattle.dns_lookup.specs.Calls.{Call, Sending, Asking, Requesting, ask_of_call, first_ask_of_call}
-use Rattle.dns_lookup.specs.AskRequests.{asking_options, asking_request}
+use Rattle.dns_lookup.specs.Calls.{Call, Sending, ask_of_call, first_ask_of_call}
 use Rattle.dns_lookup.specs.LookupAnswers.{UnlessNoMemory}
-use Rattle.dns_lookup.specs.Sending.{checked_edns, checked_request, call_for, IsLookedUp, AnswersRequest, Goes, Refused, LookedUp, Unsent}
+use Rattle.dns_lookup.specs.Sending.{call_for, IsLookedUp, AnswersRequest, Goes, Refused, LookedUp, Unsent}
 use Rattle.dns_lookup.specs.Sends.{SendsBy}
+use Rattle.dns_lookup.specs.Fronts.{terms_of_call, IsFront, SendsOfTerms}
 use Rattle.dns_lookup.proofs.CompletingLemmas.{lookup_completes}
 use Rattle.dns_lookup.proofs.CauseLemmas.{no_both, lookup_passes}
 use Rattle.dns_lookup.proofs.ForeignLemmas.{lookup_names_foreign, lookup_judges}
@@ -56,10 +58,12 @@ unless_seen (Err e) Fact (inr fact) = inr fact
 
 -- all that is promised of a lookup, by how it came to its answer
 pub looked_up : {H : Type 0} (meanings : handle.Ghosts H) (call : Call H) (result : Result ResponseValue NetError)
+    → IsFront meanings (terms_of_call call) call.old call.new (reply_of result)
     → SendsBy (first_ask_of_call meanings call) (ask_of_call meanings call) call.old call.new call.query
     → UnlessNoMemory result (AnswersLookup meanings call (reply_of result)) → IsLookedUp meanings call (reply_of result)
-looked_up meanings call result sends lookup = record {
+looked_up meanings call result front sends lookup = record {
   sends = sends;
+  front = front;
   sound = lookup_sound meanings call result lookup;
   trail = lookup_trail meanings call result lookup;
   explained = lookup_explained meanings call result lookup;
@@ -97,18 +101,20 @@ pub forgets : {H : Type 0} (meanings : handle.Ghosts H) (j : Judge) (request : R
     → AnswersRequest meanings j request now still still (Err seen.NoMemory)
 forgets meanings j request now still query by is some = Unsent (number_same request.message.op_code 0 (sym by ∙ is)) some refl
 
--- a query is looked up by what is sent for it
-pub looks_up : {H : Type 0} (meanings : handle.Ghosts H) (j : Judge) (request sent : RequestValue) (options : DnsRequestOptions) (now : ℕ) (old new : H)
-    (q : Question) (query : Bool) (result : Result ResponseValue NetError)
-    → query ≡ (request.message.op_code == 0) → query ≡ true → first_question request ≡ Some q → sent ≡ checked_request request
-    → options ≡ request.options → SendsBy (Requesting meanings sent now) (Asking meanings options now) old new q
-    → UnlessNoMemory result (AnswersLookup meanings (record (call_for j request q now old new) { request = sent; options = options }) (reply_of result))
+-- a query is looked up by what is sent for it, unless memory ran out before that
+pub looks_up : {H : Type 0} (meanings : handle.Ghosts H) (j : Judge) (request : RequestValue) (now : ℕ) (old new : H) (q : Question) (query : Bool)
+    (result : Result ResponseValue NetError)
+    → query ≡ (request.message.op_code == 0) → query ≡ true → first_question request ≡ Some q
+    → IsFront meanings (terms_of_call (call_for j request q now old new)) old new (reply_of result)
+    → OrUnsent old new result (SendsOfTerms meanings (terms_of_call (call_for j request q now old new)) old new)
+    → UnlessNoMemory result (AnswersLookup meanings (call_for j request q now old new) (reply_of result))
     → AnswersRequest meanings j request now old new (reply_of result)
-looks_up meanings j request sent options now old new q query result by is asks checked same sends lookup =
-    let Sends : RequestValue → DnsRequestOptions → Type 0 = λ r o. SendsBy (Requesting meanings r now) (Asking meanings o now) old new q in
-    let Answered : RequestValue → DnsRequestOptions → Type 0 =
-    λ r o. UnlessNoMemory result (AnswersLookup meanings (record (call_for j request q now old new) { request = r; options = o }) (reply_of result)) in
-    LookedUp (reply_of result) q (number_same request.message.op_code 0 (sym by ∙ is)) asks
-    (looked_up meanings (call_for j request q now old new) result
-    (subst (λ r. Sends r request.options) checked (subst (λ o. Sends sent o) same sends))
-    (subst (λ r. Answered r request.options) checked (subst (λ o. Answered sent o) same lookup)))
+looks_up meanings j request now old new q query (Ok a) by is asks front sends lookup =
+    LookedUp (Ok a) q (number_same request.message.op_code 0 (sym by ∙ is)) asks (looked_up meanings (call_for j request q now old new) (Ok a) front sends lookup)
+looks_up meanings j request now old new q query (Err e) by is asks front (inl sends) lookup =
+    LookedUp (Err (error_of e)) q (number_same request.message.op_code 0 (sym by ∙ is)) asks
+    (looked_up meanings (call_for j request q now old new) (Err e) front sends lookup)
+looks_up meanings j request now old new q query (Err e) by is asks front (inr unsent) lookup =
+    let some : first_question request ≢ None = λ none. cc in
+    subst (λ x. AnswersRequest meanings j request now old new (Err (error_of x))) (sym unsent.0)
+    (Unsent (number_same request.message.op_code 0 (sym by ∙ is)) some unsent.1)

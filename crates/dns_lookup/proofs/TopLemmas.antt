@@ -16,14 +16,16 @@ use Rattle.dns_rules.proofs.SoundLemmas.{sound_of_sets}
 use Rattle.dns_rules.proofs.DerivationLemmas.{top_step_is, top_derivation, top_counts, top_sent}
 use Rattle.dns_rules.proofs.DerivedLemmas.{derivation_depths, derivation_sent}
 use Rattle.dns_handle.specs.declared.handle.DnsHandle as handle
-use Rattle.dns_lookup.specs.Received.{received_message, says_none}
+use Rattle.dns_validation.specs.Received.{received_message, says_none}
+use Rattle.dns_validation.specs.Steps.{top_of, Findings, trail_of}
+use Rattle.dns_validation.specs.Comes.{top_context}
+use Rattle.dns_validation.proofs.StepLines.{judged_step_holds}
 use Rattle.dns_lookup.specs.Calls.{Call, ask_of_call, first_ask_of_call}
 use Rattle.dns_lookup.specs.Sends.{SendOf, SendsAlong, SendsFrom}
 use Rattle.dns_lookup.specs.LookupAnswers.{IsSoundAnswer, IsTrail, HasMarksOfTrail}
-use Rattle.dns_lookup.specs.Answering.{top_of, Findings, trail_of, top_step_context, Found}
+use Rattle.dns_lookup.specs.Answering.{Found}
+use Rattle.dns_lookup.specs.Fronts.{terms_of_call}
 use Rattle.dns_lookup.specs.LookupParts.{told_of, heard_told}
-use Rattle.dns_lookup.proofs.StandingLemmas.{plain_part}
-use Rattle.dns_lookup.proofs.StepLemmas.{judged_step_holds}
 use Rattle.dns_lookup.proofs.AlongLemmas.{first_from, first_rose}
 
 -- ---- the last step
@@ -61,18 +63,17 @@ found_trail meanings call found ending f ends =
     let step = top_of call.query told found.empty found.entries ending found.excuse in
     let trail = found.steps ++ step ∷ [] in
     let d = call.options.max_request_depth in
-    let asks = f.asks in
     let ended : step_holds call.judge (depth_limit d) found.steps (top_of call.query told found.empty found.entries (ending_by found.outcome) found.excuse) ≡ true =
     judged_step_holds call.judge (depth_limit d) found.steps 0 call.query told found.empty found.sets found.entries found.outcome found.excuse f.own f.judged f.concluded in
     let holds : step_holds call.judge (depth_limit d) found.steps step ≡ true =
     ap (λ e. step_holds call.judge (depth_limit d) found.steps (top_of call.query told found.empty found.entries e found.excuse)) ends ∙ ended in
-    let derived = top_derivation call.judge d found.steps step f.sends (record { part = asks.part; holds = holds; top = refl; few = f.few }) in
-    let along : SendsFrom (first_ask_of_call meanings call) (ask_of_call meanings call) call.old (step ∷ steps_at found.steps (Some asks.part.order)) call.new =
-    (f.middle, top_send meanings call found ending f, asks.sends) in
+    let derived = top_derivation call.judge d found.steps step f.sends (record { part = f.part; holds = holds; top = refl; few = f.few }) in
+    let along : SendsFrom (first_ask_of_call meanings call) (ask_of_call meanings call) call.old (step ∷ steps_at found.steps (Some f.part.order)) call.new =
+    (f.middle, top_send meanings call found ending f, f.along) in
     let walked : SendsFrom (first_ask_of_call meanings call) (ask_of_call meanings call) call.old (in_send_order trail) call.new =
     subst (λ steps. SendsFrom (first_ask_of_call meanings call) (ask_of_call meanings call) call.old steps call.new)
-    (sym (top_sent call.judge (depth_limit d) found.steps step f.sends asks.part)) along in
-    let counts = top_counts call.judge (depth_limit d) found.steps step f.sends asks.part in
+    (sym (top_sent call.judge (depth_limit d) found.steps step f.sends f.part)) along in
+    let counts = top_counts call.judge (depth_limit d) found.steps step f.sends f.part in
     record {
       is = record {
         derived = derived;
@@ -119,7 +120,7 @@ pub found_grouped : {H : Type 0} (meanings : handle.Ghosts H) (call : Call H) (f
     → map placed_of (bare found.sets) ≡ placed_sets (told_by found.message)
 found_grouped meanings call found f =
     let told = told_by found.message in
-    ap (map placed_of) f.judged.same ∙ placed_with (top_step_context call found.steps) (judged_part 0 told) found.entries f.judged.hold ∙ judged_part-top told
+    ap (map placed_of) f.judged.same ∙ placed_with (top_context (terms_of_call call) found.steps) (judged_part 0 told) found.entries f.judged.hold ∙ judged_part-top told
 
 -- an answer of what was found is sound for the records of the first reply
 pub found_sound : {H : Type 0} (meanings : handle.Ghosts H) (call : Call H) (found : Findings) (d : Denial) (ending : EndingValue) → Found meanings call found
@@ -129,7 +130,6 @@ found_sound meanings call found d ending f =
     let trail = trail_of call.query found ending in
     let step = top_of call.query told found.empty found.entries ending found.excuse in
     let deep = depth_limit call.options.max_request_depth in
-    let asks = f.asks in
     let Header : MessageValue → Type 0 = λ m. marked_message call.now (bare found.sets) m
     ≡ record f.from {
       answers = (marked_message call.now (bare found.sets) m).answers;
@@ -147,7 +147,7 @@ found_sound meanings call found d ending f =
       header = subst Header (sym f.cleared) refl;
       sound = subst IsSound (sym f.cleared)
           (sound_of_sets call.judge call.now f.from found.sets d trail
-          (subst (λ m. map placed_of (bare found.sets) ≡ placed_sets (told_by m)) f.cleared grouped) (f.judged.stand (plain_part 0 told)));
+          (subst (λ m. map placed_of (bare found.sets) ≡ placed_sets (told_by m)) f.cleared grouped) f.judged.stand);
       rest = subst (λ steps. SendsAlong (ask_of_call meanings call) f.middle (drop 1 steps) call.new)
-          (sym (top_sent call.judge deep found.steps step f.sends asks.part)) asks.sends;
+          (sym (top_sent call.judge deep found.steps step f.sends f.part)) f.along;
     }

@@ -25,10 +25,13 @@ use Rattle.dns_handle.specs.Replies.{reply_of}
 use Rattle.dns_handle.specs.declared.error.NetError.{NetError}
 use Rattle.dns_handle.specs.declared.handle.DnsHandle as handle
 use Rattle.dns_handle.specs.declared.notice.Notice.TheVariants.{NotJudgedYet}
+use Rattle.dns_validation.specs.Steps.{top_of, Findings, trail_of, answer_by}
+use Rattle.dns_validation.specs.Comes.{top_context}
 use Rattle.dns_lookup.specs.Calls.{Call}
 use Rattle.dns_lookup.specs.LookupAnswers.{UnlessNoMemory, OfAnswer}
 use Rattle.dns_lookup.specs.Causes.{sees_nsec3, IsUnjudged, UnjudgedOnly, HasItsCause}
-use Rattle.dns_lookup.specs.Answering.{top_of, Findings, trail_of, answer_by, top_step_context, Found, AnswersLookup, Passes, Names, Judges}
+use Rattle.dns_lookup.specs.Answering.{Found, AnswersLookup, Passes, Names, Judges}
+use Rattle.dns_lookup.specs.Fronts.{terms_of_call}
 use Rattle.dns_lookup.proofs.ConclusionLemmas.{still_unjudged, unjudged_still, never_searched}
 use Rattle.dns_lookup.proofs.TopLemmas.{sets_of_top, found_trail}
 use Rattle.dns_lookup.proofs.LookupAnswerLemmas.{or_memory, of_result}
@@ -96,14 +99,14 @@ unjudged_by : {H : Type 0} (meanings : handle.Ghosts H) (call : Call H) (found :
 unjudged_by meanings call found f (Given d) is unjudged = cc
 unjudged_by meanings call found f (outcome.Denied p) is unjudged = cc
 unjudged_by meanings call found f NeedsZone is unjudged =
-    absurd (never_searched (top_step_context call found.steps) (told_by found.message) (bare found.sets) found.outcome found.excuse f.concluded is)
+    absurd (never_searched (top_context (terms_of_call call) found.steps) (told_by found.message) (bare found.sets) found.outcome found.excuse f.concluded is)
 unjudged_by meanings call found f Unjudged is unjudged = record {
   trail = trail_of call.query found Failed;
   is = (found_trail meanings call found Failed f (sym (ap ending_by is))).is;
   sees =
       trail_sees meanings call found Failed f
       ∙ unjudged_sees call.query (told_by found.message) (bare found.sets)
-      (still_unjudged (top_step_context call found.steps) (told_by found.message) (bare found.sets) found.outcome found.excuse f.concluded is);
+      (still_unjudged (top_context (terms_of_call call) found.steps) (told_by found.message) (bare found.sets) found.outcome found.excuse f.concluded is);
 }
 
 unjudged_only : {H : Type 0} (meanings : handle.Ghosts H) (call : Call H) {answer : Reply} → AnswersLookup meanings call answer → UnjudgedOnly meanings call answer
@@ -129,7 +132,7 @@ judged_by meanings call found ending f ends other =
     trail_sees meanings call found ending f
     ∙ false_from_ne_true (list_any is_unjudged (bare found.sets))
     (λ sees. other (ends ∙ ap ending_by
-    (unjudged_still (top_step_context call found.steps) (told_by found.message) (bare found.sets) found.outcome found.excuse f.concluded
+    (unjudged_still (top_context (terms_of_call call) found.steps) (told_by found.message) (bare found.sets) found.outcome found.excuse f.concluded
     (sees_unjudged call.query (told_by found.message) (bare found.sets) sees))))
 
 -- an answer saw no Secure NSEC3

@@ -12,7 +12,8 @@ use Rattle.dns_handle.specs.Requests.{RequestValue}
 use Rattle.dns_handle.specs.declared.request.DnsRequestOptions.{DnsRequestOptions}
 use Rattle.dns_handle.specs.declared.handle.DnsHandle as handle
 use Rattle.dns_evidence.specs.declared.verifier.Verifier as verifier
-use Rattle.dns_lookup.specs.AskRequests.{Ask, asking_request, request_for}
+use Rattle.dns_flow.specs.declared.asks.Ask.{Ask}
+use Rattle.dns_validation.specs.Requests.{asking_request, request_for}
 use Rattle.dns_lookup.specs.declared.handle.DnssecDnsHandle.{DnssecDnsHandle}
 
 -- the handle that a validator asks

@@ -14,9 +14,9 @@ use Rattle.dns_handle.specs.Errors.{Reply, ErrorValue, Dns, Message, ForeignClas
 use Rattle.dns_handle.specs.Handles.{Replies, reply_to}
 use Rattle.dns_handle.specs.declared.handle.DnsHandle as handle
 use Rattle.dns_handle.specs.declared.notice.Notice.TheVariants.{NotJudgedYet}
-use Rattle.dns_lookup.specs.Received.{received_message, received}
+use Rattle.dns_validation.specs.Received.{received_message, received}
+use Rattle.dns_flow.specs.Phases.{judged_ask}
 use Rattle.dns_lookup.specs.Calls.{Call, first_ask_of_call}
-use Rattle.dns_lookup.specs.AskRequests.{judged_ask}
 use Rattle.dns_lookup.specs.LookupAnswers.{OfAnswer, IsTrail}
 
 -- ---- an error that the upstream answered

@@ -7,7 +7,7 @@ use Rattle.dns_laws.specs.Complete.{shows_secure}
 use Rattle.dns_laws.specs.Valid.{IsValidSession}
 use Rattle.dns_handle.specs.Errors.{Reply}
 use Rattle.dns_handle.specs.Handles.{Replies, reply_to}
-use Rattle.dns_lookup.specs.Received.{received}
+use Rattle.dns_validation.specs.Received.{received}
 use Rattle.dns_lookup.specs.Calls.{Call}
 
 -- the records of an upstream's first reply to a query, before any send

@@ -1,12 +1,9 @@
-pub mod AskRequests
-pub mod Received
 pub mod Calls
 pub mod Sends
+pub mod Fronts
 pub mod LookupParts
 pub mod LookupAnswers
 pub mod Causes
 pub mod Completing
 pub mod Sending
-pub mod Standing
-pub mod Walking
 pub mod Answering

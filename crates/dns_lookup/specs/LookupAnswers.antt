@@ -21,9 +21,9 @@ use Rattle.dns_handle.specs.Replies.{reply_of}
 use Rattle.dns_handle.specs.declared.error.NetError.{NetError}
 use Rattle.dns_handle.specs.declared.error.NetError.TheVariants.{NoMemory}
 use Rattle.dns_handle.specs.declared.handle.DnsHandle as handle
-use Rattle.dns_lookup.specs.Received.{received_message}
+use Rattle.dns_validation.specs.Received.{received_message}
+use Rattle.dns_flow.specs.Phases.{judged_ask}
 use Rattle.dns_lookup.specs.Calls.{Call, inner_of, ask_of_call, first_ask_of_call}
-use Rattle.dns_lookup.specs.AskRequests.{judged_ask}
 use Rattle.dns_lookup.specs.Sends.{SendsAlong, SendsFrom, IsFromReplies, heard_fault}
 use Rattle.dns_lookup.specs.declared.handle.DnssecDnsHandle.{DnssecDnsHandle}
 

@@ -1,41 +1,24 @@
 -- What a validator answers to a whole request (RFC 1035, 4.1.1; RFC 4035, 3.2 and 4.1; RFC 6840, 5.7).
-use Rattle.std.specs.Prelude.{ℕ, ◌≡◌, ◌≢◌, ◌≤◌, true, false, [], Option, None, Some, Err, IfOk}
+use Rattle.std.specs.Prelude.{ℕ, ◌≡◌, ◌≢◌, ◌≤◌, Option, None, Some, Err, IfOk}
 use Rattle.dns_model.specs.Counts.{one_more}
 use Rattle.dns_model.specs.Gives.{Unless}
-use Rattle.dns_model.specs.Records.{Question, EdnsValue}
+use Rattle.dns_model.specs.Records.{Question}
 use Rattle.dns_model.specs.Chains.{Judge, judge}
 use Rattle.dns_handle.specs.Errors as seen
 use Rattle.dns_handle.specs.Errors.{Reply, Message}
 use Rattle.dns_handle.specs.Causes.{faults_after}
-use Rattle.dns_handle.specs.Requests.{RequestValue, plain_options, first_question}
+use Rattle.dns_handle.specs.Requests.{RequestValue, first_question}
 use Rattle.dns_handle.specs.declared.handle.DnsHandle as handle
 use Rattle.dns_handle.specs.declared.notice.Notice.TheVariants.{NoQueryInRequest}
 use Rattle.dns_evidence.specs.declared.verifier.Verifier as verifier
+use Rattle.dns_validation.specs.Requests.{checked_request}
 use Rattle.dns_lookup.specs.Calls.{Call, Sending, inner_of, anchors_of, verifier_of, ask_of_call, first_ask_of_call}
 use Rattle.dns_lookup.specs.Causes.{HasItsCause, PassesOn, ForeignNamed, JudgesTold, AnswersTold}
 use Rattle.dns_lookup.specs.Completing.{Completes}
-use Rattle.dns_lookup.specs.AskRequests.{asking_options}
 use Rattle.dns_lookup.specs.LookupAnswers.{OfAnswer, IsSoundAnswer, IsTrail, IsExplained, ShowsItsDenial, DeniesQuery}
 use Rattle.dns_lookup.specs.Sends.{SendsBy}
+use Rattle.dns_lookup.specs.Fronts.{terms_of_call, IsFront}
 use Rattle.dns_lookup.specs.declared.handle.DnssecDnsHandle.{DnssecDnsHandle}
-
--- ---- the request that is sent
-
--- an OPT record with DO: the request's own, or else one with the default payload, 1,232 bytes
-abbrev pub checked_edns : Option EdnsValue → EdnsValue
-checked_edns None = record { max_payload = plain_options.edns_payload_len; version = 0; dnssec_ok = true; flags = 0; options = [] }
-checked_edns (Some edns) = record edns { dnssec_ok = true }
-
--- the request with EDNS and DO, AD set and CD clear, and with the options of a judged ask; all else stays
-abbrev pub checked_request : RequestValue → RequestValue
-checked_request request = record request {
-  message = record request.message {
-    edns = Some (checked_edns request.message.edns);
-    authentic_data = true;
-    checking_disabled = false;
-  };
-  options = asking_options request.options;
-}
 
 -- ---- a query
 
@@ -52,9 +35,10 @@ call_for j request q now old new = record {
 }
 
 -- all that a lookup promises of its sends and its answer, whichever request it sends first; the last five unless it answers that
--- memory ran out
+-- memory ran out. Whatever it answers, its sends are a front of a run
 pub record IsLookedUp {H : Type 0} (meanings : handle.Ghosts H) (call : Call H) (reply : Reply) : Type 0 where
   pub sends : SendsBy (first_ask_of_call meanings call) (ask_of_call meanings call) call.old call.new call.query
+  pub front : IsFront meanings (terms_of_call call) call.old call.new reply
   pub sound : OfAnswer reply (λ a ending. IsSoundAnswer meanings call a)
   pub trail : OfAnswer reply (λ a ending. IsTrail meanings call a.trail ending)
   pub explained : OfAnswer reply (λ a ending. IsExplained call.judge.answers call.now a)

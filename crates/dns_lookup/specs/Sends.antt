@@ -7,8 +7,9 @@ use Rattle.dns_handle.specs.Errors as seen
 use Rattle.dns_handle.specs.Errors.{Reply}
 use Rattle.dns_handle.specs.Handles.{Replies, reply_to, left_after}
 use Rattle.dns_handle.specs.Walks.{Walked}
-use Rattle.dns_lookup.specs.Received.{heard_from}
-use Rattle.dns_lookup.specs.AskRequests.{Ask, judged_ask}
+use Rattle.dns_validation.specs.Received.{heard_from}
+use Rattle.dns_flow.specs.declared.asks.Ask.{Ask}
+use Rattle.dns_flow.specs.Phases.{judged_ask}
 
 -- the ask of a step
 abbrev pub ask_of_step : AskedValue → Ask

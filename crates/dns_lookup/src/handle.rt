@@ -6,9 +6,9 @@ ghost use Rattle.dns_lookup.specs.Causes.{HasItsCause, PassesOn, ForeignNamed, J
 ghost use Rattle.dns_lookup.specs.Completing.{Completes};
 ghost use Rattle.dns_lookup.specs.LookupAnswers.{UnlessNoMemory, WhereTold, OfAnswer, IsSoundAnswer, IsTrail};
 ghost use Rattle.dns_lookup.specs.LookupAnswers.{IsExplained, ShowsItsDenial, DeniesQuery};
+ghost use Rattle.dns_lookup.specs.Fronts.{terms_of_call, IsFront};
 ghost use Rattle.dns_lookup.specs.Sends.{SendsFor};
 
-use crate::context::{LookupContext, depth_limit_of};
 use crate::lookup::look_up;
 use crate::sending::answer_request;
 use dns_evidence::Verifier;
@@ -102,6 +102,11 @@ impl<H: DnsHandle + Drop, V: Verifier + Drop> DnssecDnsHandle<H, V> {
         ensures sends { OrUnsent (inner_of self.old) (inner_of self.new) result
             (SendsFor (Asking H.DnsHandle options now) (inner_of self.old) (inner_of self.new) query) }
 
+        // And whatever the result, the sends are a front of a run, or that and one send more whose reply was lost to want of memory:
+        // each the first one, or named by its asker's table for what was heard, in the order of sends, with its depth.
+        ensures front { IsFront H.DnsHandle (terms_of_call (call_of V.Verifier self.old self.new query options now))
+            (inner_of self.old) (inner_of self.new) (reply_of result) }
+
         // An answer, an Ok one or that inside a denial, is sound. Its trail says how it came about, and explains its marks,
         // each set that is Insecure, and what each step denies.
         ensures sound { OfAnswer (reply_of result) (λ a ending.
@@ -138,13 +143,7 @@ impl<H: DnsHandle + Drop, V: Verifier + Drop> DnssecDnsHandle<H, V> {
             anchors: &self.anchors,
             moment: now,
         };
-        let context = LookupContext {
-            alloc,
-            judge,
-            options,
-            limit: depth_limit_of(&options),
-        };
-        let reply = look_up(&context, &mut self.handle, query);
+        let reply = look_up(alloc, judge, &mut self.handle, query, options);
         self.sends = self.sends.saturating_add(1);
         self.faults = faults_after(self.faults, &reply);
         reply

@@ -5,8 +5,8 @@ use Rattle.dns_model.specs.Trails.{AskedValue, EndingValue, Answered, Denied}
 use Rattle.dns_model.specs.Trails as trails
 use Rattle.dns_laws.proofs.CompleteLemmas.{HasReply, valid_reply}
 use Rattle.dns_handle.specs.Errors.{ErrorValue}
+use Rattle.dns_validation.specs.Received.{received}
 use Rattle.dns_lookup.specs.Completing.{first_told}
-use Rattle.dns_lookup.specs.Received.{received}
 use Rattle.dns_lookup.proofs.CompletingLemmas.{IsProved, replies_prove, denied_never, failed_never, answer_secure}
 use Rattle.dns_report.specs.declared.parts.Parts.{Parts}
 use Rattle.dns_session.specs.SessionValue.{SessionValue}

@@ -17,7 +17,7 @@ use Rattle.dns_handle.specs.Requests.{plain_options}
 use Rattle.dns_handle.specs.declared.error.NetError.{NetError}
 use Rattle.dns_handle.specs.declared.handle.DnsHandle as handle
 use Rattle.dns_handle.specs.declared.notice.Notice.TheVariants.{NotJudgedYet, NoQueryInRequest, ExpiredRrsig, WrongDnskey, WrongRrsig, ExceededMaxValidationDepth, ExceededMaxNestedQueries, IdSpaceExhausted, SendQueueFull, PolledAfterCompletion, NotAllBytesSent}
-use Rattle.dns_lookup.specs.Received.{received_message, received}
+use Rattle.dns_validation.specs.Received.{received_message, received}
 use Rattle.dns_handle.specs.declared.request.DnsRequestOptions.{DnsRequestOptions}
 use Rattle.dns_evidence.specs.declared.verifier.Verifier as verifier
 use Rattle.dns_recorded.specs.Recording.{RecordedValue, replies_of}

@@ -12,8 +12,8 @@ use Rattle.dns_rules.specs.DerivationParts.{step_context_of, is_foreign, is_bare
 use Rattle.dns_rules.specs.Outcome.{is_unjudged, foreign_record}
 use Rattle.dns_rules.proofs.DerivedLemmas.{Derived, derivation_parts, steps_hold_at, TopFirst, derivation_first}
 use Rattle.dns_handle.specs.Handles.{reply_to}
+use Rattle.dns_validation.specs.Received.{heard_from, says_none}
 use Rattle.dns_lookup.specs.Causes.{sees_nsec3}
-use Rattle.dns_lookup.specs.Received.{heard_from, says_none}
 use Rattle.dns_lookup.specs.LookupParts.{heard_told}
 use Rattle.dns_lookup.specs.Sends.{IsFromReplies}
 use Rattle.dns_session.specs.SessionValue.{SessionValue}

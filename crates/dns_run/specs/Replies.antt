@@ -8,7 +8,7 @@ use Rattle.dns_handle.specs.declared.error.ProtoError.TheVariants.{Decode}
 use Rattle.dns_handle.specs.declared.io_kind.IoKind.TheVariants.{Other}
 use Rattle.dns_handle.specs.Errors.{Reply, ErrorValue, DnsErrorValue, Busy, Dns, Proto, Io, Timeout}
 use Rattle.dns_handle.specs.Responses.{from_response}
-use Rattle.dns_lookup.specs.Received.{received_message, received}
+use Rattle.dns_validation.specs.Received.{received_message, received}
 use Rattle.dns_session.specs.declared.reply.ReplyFault.{ReplyFault}
 use Rattle.dns_session.specs.declared.reply.ReplyFault.TheVariants as lacking
 use Rattle.dns_session.specs.SessionValue.{ReplyValue, ReplyKindValue, Message, Empty, Fault, SessionValue}

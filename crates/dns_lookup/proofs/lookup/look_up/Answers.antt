@@ -1,18 +1,25 @@
 use Rattle.std.proofs.Common.{subst}
+use Rattle.dns_handle.specs.Handles.{OrUnsent}
 use Rattle.dns_handle.specs.Replies.{reply_of}
-use Rattle.dns_handle.specs.Requests.{RequestValue}
 use Rattle.dns_lookup.specs.Answering.{call_by, AnswersLookup}
+use Rattle.dns_lookup.specs.Fronts.{IsFront, SendsOfTerms}
 use Rattle.dns_lookup.specs.LookupAnswers.{UnlessNoMemory}
-use Rattle.dns_lookup.proofs.LookupLemmas.{or_sent, sends_alike}
+use Rattle.dns_lookup.proofs.FrontLemmas.{unsent_front}
 use Rattle.dns_lookup.proofs.lookup.look_up.Goals as goal
 
+pub returns-in_err-validation-clause-front : goal.returns-in_err-validation-clause-front
+returns-in_err-validation-clause-front g c = unsent_front g.H.DnsHandle _ _ _
+
+pub returns-clause-front : goal.returns-clause-front
+returns-clause-front g c =
+    subst (λ t. IsFront g.H.DnsHandle t c.args.handle.now c.drive.new.handle (reply_of c.drive.result)) c.in_ok-validation.ensures.terms c.drive.ensures.front
+
 pub returns-clause-sends : goal.returns-clause-sends
-returns-clause-sends g c = or_sent _ _ _ _ (sends_alike g.H.DnsHandle c.args.context.now.options c.args.context.now.judge.moment _ _ _ _ c.in_ok-request.ensures
-    c.look_up_by_request.ensures.sends)
+returns-clause-sends g c =
+    subst (λ t. OrUnsent c.args.handle.now c.drive.new.handle c.drive.result (SendsOfTerms g.H.DnsHandle t c.args.handle.now c.drive.new.handle))
+    c.in_ok-validation.ensures.terms c.drive.ensures.sends
 
 pub returns-clause-lookup : goal.returns-clause-lookup
 returns-clause-lookup g c =
-    let Answered : RequestValue → Type 0 = λ r.
-    UnlessNoMemory c.look_up_by_request.result
-    (AnswersLookup g.H.DnsHandle (call_by g.V.Verifier.answers c.args.context.now r c.args.query c.args.handle.now c.look_up_by_request.new.handle) (reply_of c.look_up_by_request.result)) in
-    subst Answered c.in_ok-request.ensures c.look_up_by_request.ensures.lookup
+    subst (λ t. UnlessNoMemory c.drive.result (AnswersLookup g.H.DnsHandle (call_by t c.args.handle.now c.drive.new.handle) (reply_of c.drive.result)))
+    c.in_ok-validation.ensures.terms c.drive.ensures.lookup

@@ -1,43 +1,25 @@
-use Rattle.std.proofs.Common.{Err, ap, refl, sym, inl, inr}
-use Rattle.dns_lookup.proofs.LookupAnswerLemmas.{unless_map}
-use Rattle.dns_lookup.proofs.LookupLemmas.{sends_once, sends_more, passes_lookup, names_lookup, judges_lookup}
+use Rattle.std.proofs.Common.{subst}
+use Rattle.dns_handle.specs.Handles.{OrUnsent}
+use Rattle.dns_handle.specs.Replies.{reply_of}
+use Rattle.dns_lookup.specs.Answering.{call_by, AnswersLookup}
+use Rattle.dns_lookup.specs.Fronts.{IsFront, SendsOfTerms}
+use Rattle.dns_lookup.specs.LookupAnswers.{UnlessNoMemory}
+use Rattle.dns_lookup.proofs.FrontLemmas.{unsent_front}
 use Rattle.dns_lookup.proofs.lookup.look_up_by_request.Goals as goal
 
-pub returns-in-Err-clause-sends : goal.returns-in-Err-clause-sends
-returns-in-Err-clause-sends g c = sends_once _ _ _ _ _ _ (c.in-Err.ensures.received _ c.requires.asked).made
+pub returns-in_err-validation-clause-front : goal.returns-in_err-validation-clause-front
+returns-in_err-validation-clause-front g c = unsent_front g.H.DnsHandle _ _ _
 
-pub returns-in-Err-clause-lookup : goal.returns-in-Err-clause-lookup
-returns-in-Err-clause-lookup g c = passes_lookup g.H.DnsHandle _ _ (c.in-Err.ensures.received _ c.requires.asked)
-
-pub returns-in-Some-clause-sends : goal.returns-in-Some-clause-sends
-returns-in-Some-clause-sends g c = sends_once _ _ _ _ _ _ (c.in-Ok.ensures.received _ c.requires.asked).made
-
-pub returns-in-Some-clause-lookup : goal.returns-in-Some-clause-lookup
-returns-in-Some-clause-lookup g c =
-    elim c.foreign_error-error.ensures [
-      | inl memory ↦ inl memory
-      | inr is ↦ inr (names_lookup g.H.DnsHandle _ _ _ _ (c.in-Ok.ensures.received _ c.requires.asked) (sym c.in-Some.ensures) (ap (λ e. Err e) is))
-    ]
-
-pub returns-in-Err-judge_reply-clause-sends : goal.returns-in-Err-judge_reply-clause-sends
-returns-in-Err-judge_reply-clause-sends g c =
-    sends_more _ _ _ _ _ _ _ _ _ _ (c.in-Ok.ensures.received _ c.requires.asked).made refl c.judge_reply.ensures.walked
+pub returns-clause-front : goal.returns-clause-front
+returns-clause-front g c =
+    subst (λ t. IsFront g.H.DnsHandle t c.args.handle.now c.drive.new.handle (reply_of c.drive.result)) c.in_ok-validation.ensures.terms c.drive.ensures.front
 
 pub returns-clause-sends : goal.returns-clause-sends
 returns-clause-sends g c =
-    sends_more _ _ _ _ _ _ _ _ _ _ (c.in-Ok.ensures.received _ c.requires.asked).made refl c.judge_reply.ensures.walked
+    subst (λ t. OrUnsent c.args.handle.now c.drive.new.handle c.drive.result (SendsOfTerms g.H.DnsHandle t c.args.handle.now c.drive.new.handle))
+    c.in_ok-validation.ensures.terms c.drive.ensures.sends
 
 pub returns-clause-lookup : goal.returns-clause-lookup
 returns-clause-lookup g c =
-    let review = c.in-Ok-judge_reply.ensures.reviewed in
-    unless_map c.answer.result
-    (λ is. judges_lookup g.H.DnsHandle _ _ _ _ _ _ _ _ _ _ _ _ _ _ _ _ _ (c.in-Ok.ensures.received _ c.requires.asked) (sym c.in-None.ensures)
-    (record { part = refl; none = c.new.ensures.items; deep = c.requires.limit; one = refl })
-    (record {
-      asks = review.asks;
-      judged = review.judged;
-      further = review.further;
-      concluded = review.concluded;
-      few = c.judge_reply.ensures.walked.few;
-    }) is)
-    c.answer.ensures
+    subst (λ t. UnlessNoMemory c.drive.result (AnswersLookup g.H.DnsHandle (call_by t c.args.handle.now c.drive.new.handle) (reply_of c.drive.result)))
+    c.in_ok-validation.ensures.terms c.drive.ensures.lookup

@@ -1,5 +1,5 @@
 use Rattle.std.proofs.Common.{refl, sym, ◌∙◌}
-use Rattle.dns_lookup.proofs.ReceivedLemmas.{sending_made, caused}
+use Rattle.dns_lookup.proofs.SendLemmas.{sending_made, caused}
 use Rattle.dns_lookup.proofs.SendingLemmas.{goes_on, refuses, forgets, looks_up}
 use Rattle.dns_lookup.proofs.sending.answer_request.Goals as goal
 
@@ -18,6 +18,5 @@ returns-in-None-clause-answers g c =
 
 pub returns-clause-answers : goal.returns-clause-answers
 returns-clause-answers g c =
-    looks_up g.H.DnsHandle _ c.args.request c.checked.result c.options_of-options.result _ _ _ c.in-Some.query _ c.look_up_by_request.result
-    c.is_query.ensures c.if-not-is_query.false (sym c.in-Ok.ensures.first ∙ c.in-Some.is) c.checked.ensures c.options_of-options.ensures
-    c.look_up_by_request.ensures.sends c.look_up_by_request.ensures.lookup
+    looks_up g.H.DnsHandle _ c.args.request _ _ _ c.in-Some.query _ c.look_up_by_request.result c.is_query.ensures c.if-not-is_query.false
+    (sym c.in-Ok.ensures.first ∙ c.in-Some.is) c.look_up_by_request.ensures.front c.look_up_by_request.ensures.sends c.look_up_by_request.ensures.lookup

@@ -1,0 +1,52 @@
+-- Which sends a lookup makes, whatever its result: a front of a run of its validation (RFC 4035, 4.3 and 5).
+use Rattle.std.specs.Prelude.{ℕ, ◌≡◌, ◌⊎◌, List, [], ◌∷◌, Some, Err}
+use Rattle.dns_handle.specs.Errors as seen
+use Rattle.dns_handle.specs.Errors.{Reply}
+use Rattle.dns_handle.specs.declared.handle.DnsHandle as handle
+use Rattle.dns_flow.specs.declared.asks.Ask.{Ask}
+use Rattle.dns_validation.specs.Machine.{Terms, StateValue}
+use Rattle.dns_validation.specs.Runs.{Sent, Run, sent_now}
+use Rattle.dns_lookup.specs.Calls.{Call, Sending, Asking, Requesting}
+use Rattle.dns_lookup.specs.Sends.{SendsBy}
+
+-- by what the validation of a call judges and asks
+abbrev pub terms_of_call : {H : Type 0} → Call H → Terms
+terms_of_call call = record {
+  judge = call.judge;
+  query = call.query;
+  request = call.request;
+  options = call.options;
+  now = call.now;
+}
+
+-- a handle made one send of a run, at this moment
+abbrev pub MakesSend : {H : Type 0} → handle.Ghosts H → ℕ → H → Sent → H → Type 0
+MakesSend meanings now from sent to = Sending meanings sent.request (Some sent.ask.query) now from to sent.reply
+
+-- and all of them, in order
+abbrev pub MakesSends : {H : Type 0} → handle.Ghosts H → ℕ → H → List Sent → H → Type 0
+MakesSends meanings now from [] to = from ≡ to
+MakesSends {H} meanings now from (sent ∷ sends) to =
+    (middle : H) × MakesSend meanings now from sent middle × MakesSends meanings now middle sends to
+
+-- one send more: what the validation asks at this state, and memory ran out
+pub record LosesSend {H : Type 0} (meanings : handle.Ghosts H) (t : Terms) (s : StateValue) (from to : H) (answer : Reply) : Type 0 where
+  pub ask : Ask
+  pub reply : Reply
+  pub waits : s.pending ≡ Some ask
+  pub made : MakesSend meanings t.now from (sent_now t s ask reply) to
+  pub lost : answer ≡ Err seen.NoMemory
+
+-- whatever the answer: the sends are those of a run up to some state, or these and one more, whose reply was lost to want of
+-- memory. A run names each send by what was heard before it, with its request and its depth
+pub record IsFront {H : Type 0} (meanings : handle.Ghosts H) (t : Terms) (old new : H) (answer : Reply) : Type 0 where
+  pub sends : List Sent
+  pub state : StateValue
+  pub run : Run t sends state
+  pub middle : H
+  pub made : MakesSends meanings t.now old sends middle
+  pub rest : (middle ≡ new) ⊎ LosesSend meanings t state middle new answer
+
+-- the first send by the request of the terms, each other one by that of its ask
+abbrev pub SendsOfTerms : {H : Type 0} → handle.Ghosts H → Terms → H → H → Type 0
+SendsOfTerms meanings t old new = SendsBy (Requesting meanings t.request t.now) (Asking meanings t.options t.now) old new t.query
