@@ -176,7 +176,7 @@ fn numbers(alloc: Global, all: &[u32]) -> Result<Vec<u32>, NameError> {
     Ok(numbers)
 }
 
-fn anchored(alloc: Global, row: &Row) -> Result<Link, NameError> {
+pub(crate) fn anchored(alloc: Global, row: &Row) -> Result<Link, NameError> {
     Ok(Link::Anchored {
         owner: Name::from_ascii(alloc, row.owner)?,
         class: DNSClass(row.class),
@@ -246,12 +246,16 @@ fn links(alloc: Global, case: &Case) -> Result<Vec<Link>, NameError> {
     Ok(links)
 }
 
-/// What the call finds of a chain at a moment.
-fn is_justified_by(alloc: Global, trust: &Trust, case: &Case, now: u64) -> Result<bool, NameError> {
-    let chain = Chain {
+pub(crate) fn chain_of(alloc: Global, case: &Case) -> Result<Chain, NameError> {
+    Ok(Chain {
         section: Section::Answer,
         links: links(alloc, case)?,
-    };
+    })
+}
+
+/// What the call finds of a chain at a moment.
+fn is_justified_by(alloc: Global, trust: &Trust, case: &Case, now: u64) -> Result<bool, NameError> {
+    let chain = chain_of(alloc, case)?;
     Ok(check_chain(alloc, &trust.anchors, &trust.verifier, now, &chain)?)
 }
 

@@ -4,6 +4,8 @@
 #![tactic(auto)]
 
 #[cfg(test)]
+mod accepted_chain_tests;
+#[cfg(test)]
 mod chain_rows;
 #[cfg(test)]
 mod chain_tests;

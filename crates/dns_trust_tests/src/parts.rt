@@ -130,7 +130,7 @@ pub(crate) fn accept_all(listed: &mut Listed, rows: &[Accepted]) -> Result<(), N
 }
 
 /// A verifier that supports algorithm 13 and accepts these signatures.
-fn listing(alloc: Global, rows: &[Accepted]) -> Result<Listed, NameError> {
+pub(crate) fn listing(alloc: Global, rows: &[Accepted]) -> Result<Listed, NameError> {
     let mut listed = Listed::new(alloc);
     listed.support(13);
     accept_all(&mut listed, rows)?;
