@@ -18,8 +18,8 @@ const NAME_ERROR: &[u8] =
     b"dns-session 1\nmoment 1000\nalgorithms 13\nanchor example. 13 e1\naccept 13 e1 002f0d0200000e10000007d000000384e50e076578616d706c65000162076578616d706c6500002f000100000e100015036e7331076578616d706c65000006400000000003 c0de\naccept 13 e1 002f0d0100000e10000007d000000384e50e076578616d706c6500076578616d706c6500002f000100000e1000130161076578616d706c65000006220000000003 c0de\nquery ml.example. A\nreply example. DNSKEY 000084000001000100000000076578616d706c650000300001076578616d706c65000030000100000e1000050101030de1\nreply ml.example. A 000084030001000000040000026d6c076578616d706c6500000100010162076578616d706c6500002f000100000e100015036e7331076578616d706c650000064000000000030162076578616d706c6500002e000100000e10001d002f0d0200000e10000007d000000384e50e076578616d706c6500c0de076578616d706c6500002f000100000e1000130161076578616d706c65000006220000000003076578616d706c6500002e000100000e10001d002f0d0100000e10000007d000000384e50e076578616d706c6500c0de\nend\n";
 
 // The session that a text is.
-fn session_of(alloc: Global, text: &[u8]) -> Option<Session> {
-    if text.len() > 65_535 {
+pub(crate) fn session_of(alloc: Global, text: &[u8]) -> Option<Session> {
+    if text.len() > 1_000_000 {
         return None;
     }
     read_session(alloc, text).ok()
@@ -71,7 +71,7 @@ fn report_of(alloc: Global, answer: Result<DnsResponse, NetError>) -> Option<Vec
 }
 
 // The reports by hand and by a lookup are the same.
-fn are_same(alloc: Global, text: &[u8]) -> Option<bool> {
+pub(crate) fn are_same(alloc: Global, text: &[u8]) -> Option<bool> {
     let by_query = report_of(alloc, driven(alloc, session_of(alloc, text)?, false))?;
     let by_request = report_of(alloc, driven(alloc, session_of(alloc, text)?, true))?;
     let looked_up = report_of(alloc, session_answer(alloc, session_of(alloc, text)?))?;

@@ -5,3 +5,7 @@
 
 #[cfg(test)]
 mod driven_tests;
+#[cfg(test)]
+mod large_tests;
+#[cfg(test)]
+mod side_by_side_tests;
