@@ -1,5 +1,5 @@
-//! The validator under the names that a caller looks for: the handle that looks up, the checkers of chains and trails, and what
-//! finds a key's, a signature's or a set's mark by itself (RFC 4035, 5); and what a caller needs to name beside them.
+//! The validator under the names that a caller looks for: the handle that looks up, the validation that asks, the checkers of chains
+//! and trails, and what finds a key's, a signature's or a set's mark by itself (RFC 4035, 5); and what a caller needs to name beside them.
 #![tactic(auto)]
 
 pub use dns_chain_check::{accepted_chain, check_chain};
@@ -16,4 +16,5 @@ pub use dns_name::{Name, NoMemory, Octets};
 pub use dns_proof::{ProofError, ProofErrorKind, RrsetProof};
 pub use dns_record::{DNSClass, Query, Record, RecordSet, RecordType};
 pub use dns_trail::{check_trail, is_in_order};
-pub use dns_trust::{Limits, RrsigValidity, TrustAnchors};
+pub use dns_trust::{Judge, Limits, RrsigValidity, TrustAnchors};
+pub use dns_validation::{Asking, Validation};

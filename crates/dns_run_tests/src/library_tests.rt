@@ -1,6 +1,6 @@
 //! A lookup with an upstream and a verifier of one's own. docs/LIBRARY.md shows this file up to the tests, as a program.
 use crate::rows::check_row;
-use dns_chain::{DnssecDnsHandle, TrustAnchors, Verifier};
+use dns_chain::{DnssecDnsHandle, Judge, TrustAnchors, Validation, Verifier};
 use dns_net::{
     DnsError, DnsHandle, DnsRequest, DnsRequestOptions, DnsResponse, Link, NetError, Trail,
 };
@@ -123,6 +123,32 @@ fn look_up(alloc: Global, now: u64) -> Result<DnsResponse, NetError> {
     validator.lookup(alloc, query, DnsRequestOptions::default(), now)
 }
 
+/// Sends what a validation asks, and tells it the reply, until it asks nothing more.
+fn drive(alloc: Global, validation: &mut Validation<'_, KeyItself>, now: u64) {
+    let mut upstream = Upstream::default();
+    for _ in 0..1024_u32 {
+        let Some(asking) = validation.next() else {
+            return;
+        };
+        validation.answer(upstream.send(alloc, asking.request, now));
+    }
+}
+
+/// Looks the root's name servers up at a moment, by a validation that holds no upstream.
+fn look_up_by_hand(alloc: Global, now: u64) -> Result<DnsResponse, NetError> {
+    let mut anchors = TrustAnchors::empty(alloc);
+    let _ = trust_root(alloc, &mut anchors)?;
+    let judge = Judge {
+        verifier: &KeyItself,
+        anchors: &anchors,
+        moment: now,
+    };
+    let query = query_of(alloc)?;
+    let mut validation = Validation::new(alloc, judge, query, DnsRequestOptions::default())?;
+    drive(alloc, &mut validation, now);
+    validation.into_answer().unwrap_or(Err(NetError::Timeout))
+}
+
 /// The first record of the answer has this mark.
 fn has_mark(response: &DnsResponse, proof: Proof) -> bool {
     matches!(response.message.answers.first(), Some(record) if record.proof == proof)
@@ -146,8 +172,16 @@ fn is_secure_at(alloc: Global, now: u64) -> Result<bool, NetError> {
     Ok(is_secure(&response))
 }
 
+/// The same by hand.
+fn is_secure_by_hand(alloc: Global, now: u64) -> Result<bool, NetError> {
+    let response = look_up_by_hand(alloc, now)?;
+    Ok(is_secure(&response))
+}
+
 fn main(rt: HostRuntime) -> io::Result<()> {
-    let secure = is_secure_at(rt.alloc(), 1000).unwrap_or(false);
+    let alloc = rt.alloc();
+    let secure = is_secure_at(alloc, 1000).unwrap_or(false)
+        && is_secure_by_hand(alloc, 1000).unwrap_or(false);
     println!(rt; "{}", if secure { "secure" } else { "not secure" })
 }
 
@@ -157,6 +191,11 @@ fn a_record_is_secure_by_its_chain_while_its_signature_holds(rt: HostRuntime) {
         &rt,
         "at 1000",
         Ok(is_secure_at(rt.alloc(), 1000).unwrap_or(false)),
+    );
+    check_row(
+        &rt,
+        "by hand",
+        Ok(is_secure_by_hand(rt.alloc(), 1000).unwrap_or(false)),
     );
 }
 
