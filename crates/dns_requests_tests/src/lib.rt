@@ -1,4 +1,5 @@
-//! Tests of the queue of requests, by what `dns_requests` gives.
+//! Tests of the queue of requests, of what is polled for them, and of sends that are made again, by what `dns_requests` and
+//! `dns_retry` give.
 //!
 //! They stand apart, since a crate with tests of its own is proved twice.
 #![tactic(auto)]
@@ -7,3 +8,7 @@
 mod parts;
 #[cfg(test)]
 mod request_queue_tests;
+#[cfg(test)]
+mod retry_tests;
+#[cfg(test)]
+mod stream_tests;
