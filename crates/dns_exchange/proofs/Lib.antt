@@ -1,0 +1,6 @@
+pub mod SightLemmas
+pub mod ReadLemmas
+pub mod ReceiveLemmas
+pub mod OursLemmas
+pub mod WriteLemmas
+pub mod CarryLemmas

@@ -1,0 +1,28 @@
+use Rattle.std.proofs.Common.{refl, sym, ap, ◌∙◌}
+use Rattle.std.proofs.lemmas.Result.{err_from_is_err_and}
+use Rattle.dns_mux.specs.Draws.{CoreValue}
+use Rattle.dns_exchange.specs.Cores.{core_of}
+use Rattle.dns_exchange.specs.Exchanges.{Unconnected}
+use Rattle.dns_exchange.proofs.CarryLemmas.{exchanged_refused, exchanged_sent}
+use Rattle.dns_exchange.proofs.OursLemmas.{cancelled_ends}
+use Rattle.dns_exchange.proofs.carrying.exchange.Goals as goal
+
+pub returns-then-is_shutdown : goal.returns-then-is_shutdown
+returns-then-is_shutdown g c = Unconnected (sym c.is_shutdown.ensures ∙ c.if-is_shutdown.true) refl refl
+
+pub returns-in_err-number : goal.returns-in_err-number
+returns-in_err-number g c =
+    let p = err_from_is_err_and c.from_residual.result c.from_residual.ensures.1 in
+    rw (p.1, p.2) (exchanged_refused _ _ _ _ _ _ _ _ _ (sym c.is_shutdown.ensures ∙ c.if-is_shutdown.false)
+    c.in_err-number.ensures.sent refl refl refl c.in_err-number.ensures.kept refl)
+
+pub returns : goal.returns
+returns g c =
+    let open_ = sym c.is_shutdown.ensures ∙ c.if-is_shutdown.false in
+    exchanged_sent _ _ _ _ _ _ _ _ (core_of c.send_message.new.self) _ _ open_ c.in_ok-number.ensures.sent
+    (ap (λ (core : CoreValue). core.is_shutdown) c.in_ok-number.ensures.kept ∙ open_)
+    (sym c.cancel.ensures.draws ∙ c.carry-reply.ensures.draws)
+    (ap (λ (core : CoreValue). core.is_shutdown) c.cancel.ensures.kept) c.carry-reply.ensures.carried
+    (ap (λ (core : CoreValue). core.settings) c.cancel.ensures.kept ∙ c.carry-reply.ensures.settings
+    ∙ ap (λ (core : CoreValue). core.settings) c.in_ok-number.ensures.kept)
+    (cancelled_ends _ _ _ _ c.cancel.ensures.cancelled)

@@ -1,0 +1,87 @@
+ghost use Rattle.std.specs.Prelude.{◌≡◌, false};
+ghost use Rattle.dns_handle.specs.Replies.{reply_of};
+ghost use Rattle.dns_transport.specs.Links.{link_view};
+ghost use Rattle.dns_transport.specs.StreamViews.{link_of, state_of};
+ghost use Rattle.dns_exchange.specs.Cores.{core_of, draws_of};
+ghost use Rattle.dns_exchange.specs.Steps.{Carries, Receives};
+ghost use Rattle.dns_exchange.specs.Exchanges.{Exchanged};
+
+use crate::messages::next_message;
+use crate::offering::offer;
+use crate::writing::write_out;
+use dns_handle::{DnsRequest, DnsResponse, IoKind, NetError};
+use dns_link::Link;
+use dns_mux::{BufDnsStreamHandle, DnsMultiplexer, DnsRequestSender, Draws, RequestId};
+use dns_transport::TcpStream;
+use std::alloc::Global;
+
+/// So many messages are waited for.
+const MOST_MESSAGES: u32 = 1024;
+
+/// The answer of a request among so many messages.
+fn receive<L: Link + Drop, R: Draws + Drop>(
+    alloc: Global,
+    stream: &mut TcpStream<L>,
+    multiplexer: &mut DnsMultiplexer<R>,
+    number: RequestId,
+    most: u32,
+) -> Result<DnsResponse, NetError>
+    ensures received { Receives (link_view L.counts L.given L.left L.taken) (link_of stream.old) (link_of stream.new)
+        (state_of stream.old) (state_of stream.new) (core_of multiplexer.old) (core_of multiplexer.new)
+        number.0 most (reply_of result) }
+    ensures settings { (core_of multiplexer.new).settings ≡ (core_of multiplexer.old).settings }
+    ensures draws { draws_of multiplexer.new ≡ draws_of multiplexer.old }
+{
+    if most == 0 {
+        return Err(NetError::Timeout);
+    }
+    let Some(message) = next_message(stream)? else {
+        multiplexer.close(IoKind::UnexpectedEof);
+        return Err(NetError::Io(IoKind::UnexpectedEof));
+    };
+    match offer(alloc, multiplexer, number, message.as_slice())? {
+        Some(reply) => reply,
+        None => receive(alloc, stream, multiplexer, number, most - 1),
+    }
+}
+
+/// Writes what is to be sent, and waits for the answer of a request.
+fn carry<L: Link + Drop, R: Draws + Drop>(
+    alloc: Global,
+    stream: &mut TcpStream<L>,
+    handle: &mut BufDnsStreamHandle,
+    multiplexer: &mut DnsMultiplexer<R>,
+    number: RequestId,
+) -> Result<DnsResponse, NetError>
+    ensures carried { Carries (link_view L.counts L.given L.left L.taken) (link_of stream.old) (link_of stream.new)
+        (state_of stream.old) (state_of stream.new) (core_of multiplexer.old) (core_of multiplexer.new)
+        number.0 (reply_of result) }
+    ensures settings { (core_of multiplexer.new).settings ≡ (core_of multiplexer.old).settings }
+    ensures draws { draws_of multiplexer.new ≡ draws_of multiplexer.old }
+{
+    write_out(stream, handle, multiplexer)?;
+    receive(alloc, stream, multiplexer, number, MOST_MESSAGES)
+}
+
+/// Sends a request at a moment, in milliseconds, and waits for its answer. After it the request is live no more.
+pub(crate) fn exchange<L: Link + Drop, R: Draws + Drop>(
+    alloc: Global,
+    stream: &mut TcpStream<L>,
+    handle: &mut BufDnsStreamHandle,
+    multiplexer: &mut DnsMultiplexer<R>,
+    request: &DnsRequest,
+    now_ms: u64,
+) -> Result<DnsResponse, NetError>
+    ensures { Exchanged (link_view L.counts L.given L.left L.taken) R.draws_id
+        (record { link = link_of stream.old; stream = state_of stream.old; core = core_of multiplexer.old; draws = draws_of multiplexer.old })
+        (record { link = link_of stream.new; stream = state_of stream.new; core = core_of multiplexer.new; draws = draws_of multiplexer.new })
+        request.now now_ms (reply_of result) }
+{
+    if multiplexer.is_shutdown() {
+        return Err(NetError::NoConnections);
+    }
+    let number = multiplexer.send_message(alloc, request, now_ms)?;
+    let reply = carry(alloc, stream, handle, multiplexer, number);
+    multiplexer.cancel(number);
+    reply
+}

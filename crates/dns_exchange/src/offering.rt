@@ -1,0 +1,28 @@
+ghost use Rattle.std.specs.Prelude.{◌≡◌, ◌<◌, ◌^◌, IfOk, OnErr, length};
+ghost use Rattle.dns_exchange.specs.Cores.{core_of, draws_of};
+ghost use Rattle.dns_exchange.specs.Steps.{IsGoingOn, Offers};
+
+use dns_handle::{DnsResponse, NetError};
+use dns_mux::{DnsMultiplexer, DnsRequestSender, Draws, RequestId, Taken};
+use dns_name::NoMemory;
+use std::alloc::Global;
+
+/// Hands bytes that came to the multiplexer, and takes what then waits for a request.
+pub(crate) fn offer<R: Draws + Drop>(
+    alloc: Global,
+    multiplexer: &mut DnsMultiplexer<R>,
+    number: RequestId,
+    bytes: &[u8],
+) -> Result<Option<Result<DnsResponse, NetError>>, NoMemory>
+    requires { length bytes.now < 2 ^ 32 }
+    ensures offered { IfOk result (λ item. Offers (core_of multiplexer.old).state.requests (core_of multiplexer.new).state.requests
+        number.0 bytes.now item) }
+    ensures going { IsGoingOn (core_of multiplexer.old) (core_of multiplexer.new) }
+    ensures draws { draws_of multiplexer.new ≡ draws_of multiplexer.old }
+{
+    multiplexer.arrive(alloc, bytes)?;
+    match multiplexer.take(number) {
+        Taken::Item(reply) => Ok(Some(reply)),
+        Taken::Pending | Taken::Ended => Ok(None),
+    }
+}
