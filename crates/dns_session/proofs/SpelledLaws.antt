@@ -12,7 +12,7 @@ use Rattle.dns_session.specs.SessionValue.{SessionValue, ReplyValue}
 use Rattle.dns_model.specs.ResultSteps.{◌>>=◌}
 use Rattle.dns_session.specs.LinePlaces.{Place, place, pieces, start_of, one, optional, many, many_in, before_more, is_nothing}
 use Rattle.dns_session.specs.Lines.{header_line, moment_line, depth_line, algorithms_line, anchor_line, accept_line, query_line, upstream_line, end_line, fixed}
-use Rattle.dns_session.specs.Grammar.{session_at, session_of, if_ended}
+use Rattle.dns_session.specs.Grammar.{session_at, session_front, session_of, if_ended}
 use Rattle.dns_session.specs.Spelled.{lines_text, Unbroken, Say, session_lines, Spelled}
 use Rattle.dns_model.specs.Gives.{or_error}
 
@@ -195,9 +195,20 @@ dates by_turn at =
 abbrev pub begins : Place → Result SessionValue ℕ
 begins at = one header_line at >>= λ head. dates head.0 head.1
 
+-- what is made of a part and then of what that gives
+bind_then : {A B C : Type 0} (r : Result A ℕ) (more : A → Result B ℕ) (then : B → Result C ℕ) (whole : A → Result C ℕ)
+    → ((x : A) → (more x >>= then) ≡ whole x) → ((r >>= more) >>= then) ≡ (r >>= whole)
+bind_then (Ok x) more then whole same = same x
+bind_then (Err number) more then whole same = refl
+
 pub session_begins : (at : Place) → session_at at ≡ begins at
-unfolding session_at
-session_begins at = refl
+unfolding session_at session_front
+session_begins at =
+    bind_then (one header_line at) _ _ _
+    (λ head. bind_then (one moment_line head.1) _ _ _
+    (λ moment. bind_then (one algorithms_line (optional depth_line moment.1).1) _ _ _
+    (λ algorithms. bind_then (one query_line (many accept_line (many anchor_line algorithms.1).1).1) _ _ _
+    (λ query. bind_then (one end_line (many upstream_line query.1).1) _ _ _ (λ last. refl)))))
 
 record EndRead (s t : SessionValue) (at : Place) : Type 0 where
   same : s ≡ t

@@ -9,9 +9,9 @@ use Rattle.dns_session.specs.Lines.{header_line, moment_line, depth_line, algori
 abbrev pub if_ended : {X : Type 0} → Place → X → Result X ℕ
 if_ended at x = if is_ended at then Ok x else Err at.number
 
--- the session from a place on, or the number of the first bad line
-unfoldable pub session_at : Place → Result SessionValue ℕ
-session_at start = do
+-- the session from a place on, and the place after its last line; or the number of the first bad line
+unfoldable pub session_front : Place → Result (SessionValue × Place) ℕ
+session_front start = do
   head ← one header_line start
   moment ← one moment_line head.1
   let depth = optional depth_line moment.1
@@ -21,16 +21,23 @@ session_at start = do
   query ← one query_line accepts.1
   let replies = many upstream_line query.1
   last ← one end_line replies.1
-  if_ended last.1 (record {
-    by_turn = head.0;
-    moment = moment.0;
-    depth = depth.0;
-    algorithms = algorithms.0;
-    anchors = anchors.0;
-    accepts = accepts.0;
-    query = query.0;
-    replies = replies.0;
-  })
+  Ok (
+    record {
+      by_turn = head.0;
+      moment = moment.0;
+      depth = depth.0;
+      algorithms = algorithms.0;
+      anchors = anchors.0;
+      accepts = accepts.0;
+      query = query.0;
+      replies = replies.0;
+    },
+    last.1,
+  )
+
+-- the session from a place on, with which the text ends
+unfoldable pub session_at : Place → Result SessionValue ℕ
+session_at start = session_front start >>= λ read. if_ended read.1 read.0
 
 -- the session that bytes are, or the number of the first line, from 1, that can't stand at its place
 abbrev pub session_of : List ℕ → Result SessionValue ℕ

@@ -65,7 +65,7 @@ pub(crate) fn cut_at(text: &[u8], byte: u8) -> Option<(&[u8], &[u8])>
 
 /// The lines of a text from a place on.
 #[derive(Drop)]
-pub(crate) struct Lines<'a> {
+pub struct Lines<'a> {
     /// The number of the next line, from 1.
     number: u64,
     rest: &'a [u8],
@@ -84,7 +84,7 @@ impl<'a> Model for Lines<'a> {
 
 impl<'a> Lines<'a> {
     /// All lines of a text.
-    pub(crate) fn of(text: &'a [u8]) -> Lines<'a>
+    pub fn of(text: &'a [u8]) -> Lines<'a>
         requires { length text.now < 2 ^ 32 }
         ensures { result ≡ start_of text.now }
     {
@@ -95,14 +95,14 @@ impl<'a> Lines<'a> {
     }
 
     /// The number of the next line.
-    pub(crate) fn number(&self) -> u64
+    pub fn number(&self) -> u64
         ensures { result ≡ self.now.number }
     {
         self.number
     }
 
     /// The next line, and those after it; none where no LF is left.
-    pub(crate) fn next(&self) -> Option<(&'a [u8], Lines<'a>)>
+    pub fn next(&self) -> Option<(&'a [u8], Lines<'a>)>
         ensures next { option_map (λ x. (x.0.now, x.1)) result ≡ next_line self.now }
         ensures short { IfSome result (λ x. length x.0.now < 2 ^ 32) }
     {
@@ -116,7 +116,7 @@ impl<'a> Lines<'a> {
     }
 
     /// No bytes are left.
-    pub(crate) fn is_ended(&self) -> bool
+    pub fn is_ended(&self) -> bool
         ensures { result ≡ is_ended self.now }
     {
         self.rest.is_empty()

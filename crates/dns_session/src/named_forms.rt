@@ -11,7 +11,7 @@ use dns_text::{name_word_in, octets_in, type_word_in, u8_in};
 use std::alloc::Global;
 
 /// A question of class IN by its words.
-pub(crate) fn question_of(
+pub fn question_of(
     alloc: Global,
     name: &[u8],
     record_type: &[u8],

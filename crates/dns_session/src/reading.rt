@@ -1,7 +1,7 @@
 ghost use Rattle.std.specs.Prelude.{◌≡◌, ◌<◌, ◌^◌, length};
 ghost use Rattle.dns_session.specs.LinePlaces.{one, optional, Place};
 ghost use Rattle.dns_session.specs.Lines.{header_line, moment_line, depth_line, algorithms_line, query_line, end_line};
-ghost use Rattle.dns_session.specs.Grammar.{session_of};
+ghost use Rattle.dns_session.specs.Grammar.{session_front, session_of};
 ghost use Rattle.dns_session.specs.Stops.{ReadsAs};
 
 use crate::form::many;
@@ -99,16 +99,14 @@ fn after_end<'a>(lines: Lines<'a>) -> Result<Lines<'a>, SessionStop>
     }
 }
 
-/// The session that bytes are, all of them. Lines end with LF, words are separated by one space.
+/// The session that the next lines are, and the lines after its last. Lines end with LF, words are separated by one space.
 ///
-/// `BadLine` has the number, from 1, of the first line that can't stand at its place, is missing or has no LF; the line
-/// after the last is bad where anything follows.
-#[tactic(auto, unfolding(crate::specs::Grammar::session_at))]
-pub fn read_session(alloc: Global, bytes: &[u8]) -> Result<Session, SessionStop>
-    requires { length bytes.now < 2 ^ 32 }
-    ensures { ReadsAs (λ s. s) result (session_of bytes.now) }
+/// `BadLine` has the number of the first line that can't stand at its place, is missing or has no LF.
+#[tactic(auto, unfolding(crate::specs::Grammar::session_front))]
+pub fn read_front<'a>(alloc: Global, lines: Lines<'a>) -> Result<(Session, Lines<'a>), SessionStop>
+    ensures { ReadsAs (λ x. (x.0, x.1)) result (session_front lines.entry) }
 {
-    let (by_turn, lines) = one_header(Lines::of(bytes))?;
+    let (by_turn, lines) = one_header(lines)?;
     let (moment, lines) = one_moment(lines)?;
     let (depth, lines) = optional_depth(lines);
     let (algorithms, lines) = one_algorithms(alloc, lines)?;
@@ -117,10 +115,7 @@ pub fn read_session(alloc: Global, bytes: &[u8]) -> Result<Session, SessionStop>
     let (query, lines) = one_query(alloc, lines)?;
     let (replies, lines) = many(alloc, lines)?;
     let lines = after_end(lines)?;
-    if !lines.is_ended() {
-        return Err(SessionStop::BadLine(lines.number()));
-    }
-    Ok(Session {
+    let session = Session {
         by_turn,
         moment,
         depth,
@@ -129,5 +124,23 @@ pub fn read_session(alloc: Global, bytes: &[u8]) -> Result<Session, SessionStop>
         accepts,
         query,
         replies,
-    })
+    };
+    Ok((session, lines))
+}
+
+/// The session that bytes are, all of them.
+///
+/// `BadLine` has the number, from 1, of the first line that can't stand at its place, is missing or has no LF; the line
+/// after the last is bad where anything follows.
+#[tactic(auto, unfolding(crate::specs::Grammar::session_at))]
+pub fn read_session(alloc: Global, bytes: &[u8]) -> Result<Session, SessionStop>
+    requires { length bytes.now < 2 ^ 32 }
+    ensures { ReadsAs (λ s. s) result (session_of bytes.now) }
+{
+    let (session, lines) = read_front(alloc, Lines::of(bytes))?;
+    if lines.is_ended() {
+        Ok(session)
+    } else {
+        Err(SessionStop::BadLine(lines.number()))
+    }
 }

@@ -4,9 +4,9 @@ ghost use Rattle.dns_session.specs.declared.stop.SessionStop.TheVariants.{NoMemo
 
 use dns_name::NoMemory;
 use dns_text::push_decimal;
-use std::alloc::Global;
+use std::alloc::{AllocFailed, Global};
 
-/// Why a session wasn't read.
+/// Why a session, or a text that follows one, wasn't read.
 #[derive(Clone, Copy, Debug, PartialEq, Eq, Drop)]
 pub enum SessionStop {
     /// The number, from 1, of the first line that can't stand at its place, is missing or has no LF.
@@ -19,6 +19,14 @@ impl From<NoMemory> for SessionStop {
     ghost from_gives = { λ _ e. e ≡ no_memory };
 
     fn from(_error: NoMemory) -> SessionStop {
+        SessionStop::NoMemory
+    }
+}
+
+impl<T: Drop> From<AllocFailed<T>> for SessionStop {
+    ghost from_gives = { λ _ e. e ≡ no_memory };
+
+    fn from(_failed: AllocFailed<T>) -> SessionStop {
         SessionStop::NoMemory
     }
 }

@@ -5,7 +5,7 @@ ghost use Rattle.dns_session.specs.Lines.{words, words_left, after, single, doub
 use crate::lines::cut_at;
 
 /// The first word of a text, and what is left after the space behind it, if there is one.
-pub(crate) fn next_word(text: &[u8]) -> (&[u8], Option<&[u8]>)
+pub fn next_word(text: &[u8]) -> (&[u8], Option<&[u8]>)
     ensures words { words text.now ≡ result.0.now ∷ words_left (option_copied result.1) }
     ensures shorter { IfSome result.1 (λ rest. length rest.now < length text.now) }
 {
@@ -16,7 +16,7 @@ pub(crate) fn next_word(text: &[u8]) -> (&[u8], Option<&[u8]>)
 }
 
 /// What is left of a line after its first word, where that is this word.
-pub(crate) fn after<'a>(line: &'a [u8], word: &[u8]) -> Option<Option<&'a [u8]>>
+pub fn after<'a>(line: &'a [u8], word: &[u8]) -> Option<Option<&'a [u8]>>
     ensures { option_map (λ rest. words_left (option_copied rest)) result ≡ after word.now (words line.now) }
 {
     let (first, rest) = next_word(line);
@@ -24,7 +24,7 @@ pub(crate) fn after<'a>(line: &'a [u8], word: &[u8]) -> Option<Option<&'a [u8]>>
 }
 
 /// The one word that is left.
-pub(crate) fn single(rest: Option<&[u8]>) -> Option<&[u8]>
+pub fn single(rest: Option<&[u8]>) -> Option<&[u8]>
     ensures { option_copied result ≡ single (words_left (option_copied rest.entry)) }
 {
     match rest {
@@ -40,7 +40,7 @@ pub(crate) fn single(rest: Option<&[u8]>) -> Option<&[u8]>
 }
 
 /// The two words that are left.
-pub(crate) fn double(rest: Option<&[u8]>) -> Option<(&[u8], &[u8])>
+pub fn double(rest: Option<&[u8]>) -> Option<(&[u8], &[u8])>
     ensures { option_map (λ x. (x.0.now, x.1.now)) result ≡ double (words_left (option_copied rest.entry)) }
 {
     match rest {
@@ -56,7 +56,7 @@ pub(crate) fn double(rest: Option<&[u8]>) -> Option<(&[u8], &[u8])>
 }
 
 /// The three words that are left.
-pub(crate) fn triple(rest: Option<&[u8]>) -> Option<(&[u8], &[u8], &[u8])>
+pub fn triple(rest: Option<&[u8]>) -> Option<(&[u8], &[u8], &[u8])>
     ensures { option_map (λ x. (x.0.now, x.1.now, x.2.now)) result ≡ triple (words_left (option_copied rest.entry)) }
 {
     match rest {
@@ -72,7 +72,7 @@ pub(crate) fn triple(rest: Option<&[u8]>) -> Option<(&[u8], &[u8], &[u8])>
 }
 
 /// The four words that are left.
-pub(crate) fn quadruple(rest: Option<&[u8]>) -> Option<(&[u8], &[u8], &[u8], &[u8])>
+pub fn quadruple(rest: Option<&[u8]>) -> Option<(&[u8], &[u8], &[u8], &[u8])>
     ensures { option_map (λ x. (x.0.now, x.1.now, x.2.now, x.3.now)) result
         ≡ quadruple (words_left (option_copied rest.entry)) }
 {
