@@ -1,0 +1,4 @@
+pub mod EachLemmas
+pub mod ShortLines
+pub mod TimesLemmas
+pub mod ChainLemmas

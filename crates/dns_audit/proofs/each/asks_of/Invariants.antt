@@ -1,0 +1,15 @@
+use Rattle.std.proofs.Common.{◌≡◌}
+use Rattle.std.specs.Option.{option_copied}
+use Rattle.dns_session.specs.Lines.{words_left}
+use Rattle.dns_audit.specs.LineParts.{each_in}
+use Rattle.dns_audit.specs.ReportWords.{ask_in}
+use Rattle.dns_audit.proofs.EachLemmas.{with_items, bytes_left}
+use Rattle.dns_audit.proofs.each.asks_of.Given as goal
+
+abbrev pub invariant-loop-left : goal.invariant-loop-left
+invariant-loop-left l =
+    with_items l.all.items (each_in ask_in (words_left (option_copied l.left))) ≡ each_in ask_in
+    (words_left (option_copied l.fn.rest))
+
+abbrev pub decreases-loop-left : goal.decreases-loop-left
+decreases-loop-left l = bytes_left l.left
