@@ -21,17 +21,19 @@ session_front start = do
   query ← one query_line accepts.1
   let replies = many upstream_line query.1
   last ← one end_line replies.1
-  let session = record {
-    by_turn = head.0;
-    moment = moment.0;
-    depth = depth.0;
-    algorithms = algorithms.0;
-    anchors = anchors.0;
-    accepts = accepts.0;
-    query = query.0;
-    replies = replies.0;
-  }
-  Ok (session, last.1)
+  Ok (
+    record {
+      by_turn = head.0;
+      moment = moment.0;
+      depth = depth.0;
+      algorithms = algorithms.0;
+      anchors = anchors.0;
+      accepts = accepts.0;
+      query = query.0;
+      replies = replies.0;
+    },
+    last.1,
+  )
 
 -- the session from a place on, with which the text ends
 unfoldable pub session_at : Place → Result SessionValue ℕ
