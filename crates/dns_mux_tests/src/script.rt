@@ -16,6 +16,8 @@ pub(crate) enum Step {
     Queues(u16, u64),
     /// One comes that waits for none.
     Arrives(u16, Arrival),
+    /// The next message to be sent comes back as it is, and waits for the request with the number.
+    Echoes(u64),
     /// What waits for the request is asked for.
     Takes(u64, Given),
     Cancels(u64),
@@ -114,6 +116,21 @@ fn is_popped(mux: &mut DnsMultiplexer<ListDraws>, id: Option<u16>) -> bool {
     }
 }
 
+fn is_echoed(
+    alloc: Global,
+    mux: &mut DnsMultiplexer<ListDraws>,
+    number: u64,
+) -> Result<bool, NoMemory> {
+    let Some(message) = mux.pop_outbound() else {
+        return Ok(false);
+    };
+    let bytes = message.bytes.as_slice();
+    if bytes.len() > 65535 {
+        return Ok(false);
+    }
+    Ok(mux.arrive(alloc, bytes)? == Arrival::Queued(RequestId(number)))
+}
+
 fn plays(
     alloc: Global,
     mux: &mut DnsMultiplexer<ListDraws>,
@@ -126,6 +143,7 @@ fn plays(
         Step::Queues(id, number) => {
             mux.arrive(alloc, &response_bytes(*id))? == Arrival::Queued(RequestId(*number))
         }
+        Step::Echoes(number) => is_echoed(alloc, mux, *number)?,
         Step::Arrives(id, arrival) => mux.arrive(alloc, &response_bytes(*id))? == *arrival,
         Step::Takes(number, item) => given_by(&mux.take(RequestId(*number))) == *item,
         Step::Cancels(number) => {

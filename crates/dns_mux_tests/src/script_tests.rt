@@ -57,11 +57,16 @@ const SCRIPTS: &[Script] = &[
         ],
     },
     Script {
-        message: "65,535 bytes are sent, and 65,536 are too long",
+        message: "65,535 bytes are sent, and 65,536 are too long; as many bytes are an arrival",
         maximum: 32,
         size: 32,
         ids: &[7, 8],
-        steps: &[Step::Long(65513, false), Step::Long(65512, true)],
+        steps: &[
+            Step::Long(65513, false),
+            Step::Long(65512, true),
+            Step::Echoes(0),
+            Step::Takes(0, Given::Response(8)),
+        ],
     },
     Script {
         message: "a request of 0 lives at 4,999 and has ended at 5,000; what waits stays",
