@@ -21,7 +21,7 @@ def checked(path):
 
 
 def processor_seconds():
-    """Processor time of all programs that were run and have ended: a clock that other work doesn't move."""
+    """Processor time of all programs that were run and have ended: a clock that other work moves less."""
     used = resource.getrusage(resource.RUSAGE_CHILDREN)
     return used.ru_utime + used.ru_stime
 
@@ -40,19 +40,18 @@ def counts_of(words, text, names, clock=time.perf_counter):
 class Timing:
     """The best runs so far of some passes and of twice as many: what the passes alone take is the difference."""
 
-    def __init__(self, words, text, names, passes, clock=time.perf_counter):
-        self.clock = clock
+    def __init__(self, words, text, names, passes):
         self.words = words
         self.text = text
         self.names = names
         self.passes = passes
         self.best = [float("inf"), float("inf")]
-        self.counts = counts_of([*words, "1"], text, names, clock)[1]
+        self.counts = counts_of([*words, "1"], text, names)[1]
 
     def turn(self):
         """One run of each. Its counts must be those of one pass so many times."""
         for place, passes in enumerate((self.passes, 2 * self.passes)):
-            taken, counts = counts_of([*self.words, str(passes)], self.text, self.names, self.clock)
+            taken, counts = counts_of([*self.words, str(passes)], self.text, self.names)
             if counts != tuple(count * passes for count in self.counts):
                 sys.exit(f"wrong counts: {self.counts} of one pass, {counts} of {passes}")
             self.best[place] = min(self.best[place], taken)
