@@ -1,0 +1,9 @@
+//! Lookups with validation over connections of this machine.
+//!
+//! They stand apart, since they stand on both halves of the library.
+#![tactic(auto)]
+
+#[cfg(test)]
+mod lookup_tests;
+#[cfg(test)]
+mod server;
