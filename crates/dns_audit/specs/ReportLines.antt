@@ -127,7 +127,7 @@ numbered_in (number ∷ word ∷ ws) = do
   others ← numbered_in ws
   Some (first.0 ∷ others.0, first.1 ∷ others.1)
 
--- `keyset OWNER CLASS`, and for each key `LINK KEY`
+-- a key set by its owner and class; behind these stand, key by key, the number of a link and the key
 abbrev pub key_set_in : Words → Option LinkValue
 key_set_in ws = do
   fields ← two_of ws
@@ -136,7 +136,7 @@ key_set_in ws = do
   keys ← numbered_in fields.2
   Some (KeySet owner class keys.1 keys.0)
 
--- `signed OWNER CLASS TYPE LINK KEY SIG`, and each rdata
+-- a signed set by owner, class and type; then the link of its key, this key, the signature, and the set's rdatas
 abbrev pub signed_in : Words → Option LinkValue
 signed_in ws = do
   fields ← six_of ws
@@ -278,6 +278,6 @@ ending_in ws = do
   excuse ← each_in ask_in read.1
   Some (record { ending = read.0; excuse = excuse })
 
--- `ending` with `none`, `absent MARK`, `expanded MARK`, `denied MARK`, `foreign OWNER CLASS TYPE`, `failed` or `seen`, and each ask
+-- `ending`, how the step ended in a word or some, and the asks that this rests on
 abbrev pub ending_line : List ℕ → Option StepEnd
 ending_line line = after (codes "ending") (words line) >>= ending_in
