@@ -18,7 +18,7 @@ mod verifier;
 pub use deciding::decider;
 pub use finding::{PlacesByNumber, add_place, mix, mix_lowered, places_of};
 pub use judged_sets::{ChainedSet, MarkedSet, PlacedSet};
-pub use limits::{MOST_SENDS, depth_limit};
+pub use limits::{IterationLimits, Limits, MOST_SENDS, depth_limit, effective};
 pub use link::{Chain, Link, LinkSignature, clone_links, clone_rdatas};
 pub use link_shows::{all_shown, has_rdata, same_owner, shows_ds, shows_key, shows_member};
 pub use listed::Listed;

@@ -8,3 +8,4 @@ pub mod HashedExpansions
 pub mod UnsignedDelegations
 pub mod WorkedTruth
 pub mod ExampleHashes
+pub mod AlikeNames

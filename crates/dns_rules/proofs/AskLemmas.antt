@@ -21,7 +21,7 @@ use Rattle.dns_rules.specs.ProofErrors.{Net, DsRecordShouldExist}
 use Rattle.dns_rules.specs.Delegations.{ZoneVerdict, Bogus, ds_question, zone_verdict}
 use Rattle.dns_rules.specs.Unsigned.{ns_question, set_start, question_start, needs_zone}
 use Rattle.dns_rules.specs.KeySets.{needs_ds, judged_keys}
-use Rattle.dns_rules.specs.Asking.{judged_part, ask_of}
+use Rattle.dns_rules.specs.Asking.{Limits, judged_part, ask_of}
 use Rattle.dns_rules.specs.Outcome.{Outcome, outcome_of, foreign_record}
 use Rattle.dns_rules.specs.Outcome as outcome
 use Rattle.dns_rules.specs.Derivation.{StepContext, with_entries, finished_answer, is_ask, verdicts_after, verdicts_asked, verdicts_by, has_mark_of, is_empty, is_plain_ask, probe_by, zone_asked, search_after, search_by, search_from, keys_hold, unsigned_holds, ending_eq, ending_holds, is_by_origin, entry_holds, entries_hold, step_holds, asks_of}
@@ -34,7 +34,7 @@ use Rattle.dns_rules.proofs.ExtendLemmas.{is_by_zone}
 -- the ask stands for a judged ask one deeper than the step whose grounds these are, or for a plain one as deep as it
 pub record IsAskOf (g : StepContext) (ask : AskRef) : Type 0 where
   pub question : Question
-  pub asks : (is_ask g.limit g.earlier (g.depth + 1) question ask ≡ true) ⊎ (is_plain_ask g.earlier g.depth question ask ≡ true)
+  pub asks : (is_ask g.limits.depth g.earlier (g.depth + 1) question ask ≡ true) ⊎ (is_plain_ask g.earlier g.depth question ask ≡ true)
 
 abbrev pub AreAsksOf : StepContext → List AskRef → Type 0
 AreAsksOf g asks = AllByRecursion (IsAskOf g) asks
@@ -91,7 +91,7 @@ zone_asks : (g : StepContext) (class : ℕ) (name : Labels) (asks : List AskRef)
 zone_asks g class name [] zone h = tt
 zone_asks g class name (ask ∷ asks) zone h =
     let q = ds_question class name in
-    let is = is_ask g.limit g.earlier (g.depth + 1) q ask in
+    let is = is_ask g.limits.depth g.earlier (g.depth + 1) q ask in
     let verdict = zone_verdict g.judge.answers class name (finished_answer g.earlier ask) in
     let parts = and_parts (is_empty asks) is ((if_some (is_empty asks && is) (Some verdict) zone h).0) in
     (record { question = q; asks = inl parts.1 }, no_asks g asks parts.0)
@@ -210,7 +210,6 @@ excuse_found g step told (Some zone) h by = by zone refl
 
 -- the asks on which the ending stands
 ending_asks : (g : StepContext) (step : AskedValue) (told : Told) (o : Outcome) → ending_holds g step told o ≡ true → AreAsksOf g step.excuse
-ending_asks g step told outcome.Unjudged h = no_asks g step.excuse ((and_parts (is_failed step.ending) (is_empty step.excuse) h).1)
 ending_asks g step told (outcome.Given d) h =
     no_asks g step.excuse ((and_parts (ending_eq (Answered d) step.ending) (is_empty step.excuse) h).1)
 ending_asks g step told outcome.NeedsZone h =
@@ -224,7 +223,7 @@ judged_asks : (g : StepContext) (step : AskedValue) (told : Told) (o : Option Rr
 judged_asks g step told (Some r) h = bare_asks g step ((and_parts (is_foreign r step.ending) (is_bare step) h).1)
 judged_asks g step told None h =
     let placed = judged_part step.depth told in
-    let outcome_is = outcome_of step.query told (with_entries placed step.sets) in
+    let outcome_is = outcome_of g.limits step.query told (with_entries placed step.sets) in
     let parts = and_parts (entries_hold g placed step.sets) (ending_holds g step told outcome_is) h in
     each_append (IsAskOf g) (asks_of_sets step.sets) step.excuse (entries_asks g placed step.sets parts.0)
     (ending_asks g step told outcome_is parts.1)
@@ -239,10 +238,10 @@ heard_asks g step Fault h = bare_asks g step ((and_parts (is_failed step.ending)
 heard_asks g step (Records told empty) h = records_asks g step told step.judged h
 
 -- a step that holds asks by the steps before it
-pub step_asks : (j : Judge) (limit : ℕ) (earlier : List AskedValue) (step : AskedValue) → step_holds j limit earlier step ≡ true
-    → AreAsksOf (step_context_of j limit earlier step) (asks_of step)
+pub step_asks : (j : Judge) (limits : Limits) (earlier : List AskedValue) (step : AskedValue) → step_holds j limits earlier step ≡ true
+    → AreAsksOf (step_context_of j limits earlier step) (asks_of step)
 unfolding step_holds
-step_asks j limit earlier step h = heard_asks (step_context_of j limit earlier step) step step.reply h
+step_asks j limits earlier step h = heard_asks (step_context_of j limits earlier step) step step.reply h
 
 -- ---- what is asked
 
@@ -252,16 +251,16 @@ pub record IsMade (g : StepContext) (n : ℕ) : Type 0 where
   pub step : AskedValue
   pub found : slice_get g.earlier n ≡ Some step
   pub depth : step.depth ≡ (if step.judged then g.depth + 1 else g.depth)
-  pub within : g.depth ≤ g.limit → step.depth ≤ g.limit
+  pub within : g.depth ≤ g.limits.depth → step.depth ≤ g.limits.depth
 
-judged_made : (g : StepContext) (n : ℕ) (q : Question) (o : Option AskedValue) → slice_get g.earlier n ≡ o → nat_le (g.depth + 1) g.limit ≡ true
+judged_made : (g : StepContext) (n : ℕ) (q : Question) (o : Option AskedValue) → slice_get g.earlier n ≡ o → nat_le (g.depth + 1) g.limits.depth ≡ true
     → is_judged_ask (g.depth + 1) q o ≡ true → IsMade g n
 judged_made g n q None is fits h = cc
 judged_made g n q (Some step) is fits h =
     let deeper = step.depth == g.depth + 1 in
     let one = and_parts step.judged (deeper && question_eq q step.query) h in
     let depth = number_same step.depth (g.depth + 1) ((and_parts deeper (question_eq q step.query) one.1).0) in
-    let fit = leb-true (g.depth + 1) g.limit fits in
+    let fit = leb-true (g.depth + 1) g.limits.depth fits in
     record {
       step = step;
       found = is;
@@ -283,9 +282,9 @@ plain_made g n q (Some step) is h =
     }
 
 ask_made : (g : StepContext) (n : ℕ) (q : Question)
-    → (is_ask g.limit g.earlier (g.depth + 1) q (Step n) ≡ true) ⊎ (is_plain_ask g.earlier g.depth q (Step n) ≡ true) → IsMade g n
+    → (is_ask g.limits.depth g.earlier (g.depth + 1) q (Step n) ≡ true) ⊎ (is_plain_ask g.earlier g.depth q (Step n) ≡ true) → IsMade g n
 ask_made g n q (inl h) =
-    let parts = and_parts (nat_le (g.depth + 1) g.limit) (is_judged_ask (g.depth + 1) q (slice_get g.earlier n)) h in
+    let parts = and_parts (nat_le (g.depth + 1) g.limits.depth) (is_judged_ask (g.depth + 1) q (slice_get g.earlier n)) h in
     judged_made g n q (slice_get g.earlier n) refl parts.0 parts.1
 ask_made g n q (inr h) = plain_made g n q (slice_get g.earlier n) refl h
 

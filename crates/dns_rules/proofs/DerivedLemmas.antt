@@ -11,7 +11,7 @@ use Rattle.dns_model.specs.Chains.{Judge}
 use Rattle.dns_model.specs.Trails.{AskedValue}
 use Rattle.dns_model.proofs.EachLemmas.{each_more}
 use Rattle.dns_model.proofs.SetLemmas.{number_same}
-use Rattle.dns_rules.specs.Asking.{most_sends, depth_limit}
+use Rattle.dns_rules.specs.Asking.{Limits, most_sends, depth_limit, effective}
 use Rattle.dns_rules.specs.Derivation.{step_holds, steps_hold, asks_of, send_order, end_step, top_step, in_send_order, has_order, derivation}
 use Rattle.dns_rules.specs.DerivationParts.{is_each_met_once, step_context_of, is_top, steps_at}
 use Rattle.dns_rules.proofs.ExtendLemmas.{place_same}
@@ -33,12 +33,12 @@ pub record EachOnce (n : ℕ) (o : Option (List ℕ)) : Type 0 where
   pub found : o ≡ Some order
   pub once : (k : ℕ) → k < n → times k order ≡ 1
 
-pub record Derived (j : Judge) (d : ℕ) (trail : List AskedValue) : Type 0 where
+pub record Derived (j : Judge) (d : Limits) (trail : List AskedValue) : Type 0 where
   pub few : length trail ≤ most_sends
   pub top : TopIs (top_step trail)
   pub sent : EachOnce (length trail) (send_order trail)
   pub ends : end_step (length trail) trail (length trail - 1) 0 ≡ Some (length trail)
-  pub hold : steps_hold j (depth_limit d) [] trail ≡ true
+  pub hold : steps_hold j (effective d) [] trail ≡ true
 
 top_is : (o : Option AskedValue) → is_top o ≡ true → TopIs o
 top_is None h = cc
@@ -54,12 +54,12 @@ each_once n (Some order) h = record {
   once = λ k below. number_same (times k order) 1 (each_in_range (λ i. count_by (λ m. i == m) order == 1) 0 n h k (omega arith) (omega arith));
 }
 
-pub derivation_parts : (j : Judge) (d : ℕ) (trail : List AskedValue) → derivation j d trail ≡ true → Derived j d trail
+pub derivation_parts : (j : Judge) (d : Limits) (trail : List AskedValue) → derivation j d trail ≡ true → Derived j d trail
 unfolding derivation has_order
 derivation_parts j d trail h =
     let once = is_each_met_once (length trail) (send_order trail) in
     let ended = option_eq nat_eq (end_step (length trail) trail (length trail - 1) 0) (Some (length trail)) in
-    let hold = steps_hold j (depth_limit d) [] trail in
+    let hold = steps_hold j (effective d) [] trail in
     let whole = and_parts (has_order trail) hold h in
     let one = and_parts (nat_le (length trail) most_sends) (is_top (top_step trail) && (once && ended)) whole.0 in
     let two = and_parts (is_top (top_step trail)) (once && ended) one.1 in
@@ -75,58 +75,58 @@ derivation_parts j d trail h =
 -- ---- each step by those before it
 
 -- a step holds by the steps before it
-pub steps_hold_at : (j : Judge) (limit : ℕ) (earlier steps : List AskedValue) (n : ℕ) (step : AskedValue) → steps_hold j limit earlier steps ≡ true
-    → slice_get steps n ≡ Some step → step_holds j limit (earlier ++ take n steps) step ≡ true
+pub steps_hold_at : (j : Judge) (limits : Limits) (earlier steps : List AskedValue) (n : ℕ) (step : AskedValue) → steps_hold j limits earlier steps ≡ true
+    → slice_get steps n ≡ Some step → step_holds j limits (earlier ++ take n steps) step ≡ true
 unfolding steps_hold
-steps_hold_at j limit earlier [] n step h is = cc
-steps_hold_at j limit earlier (s ∷ steps) zero step h is =
+steps_hold_at j limits earlier [] n step h is = cc
+steps_hold_at j limits earlier (s ∷ steps) zero step h is =
     let same : s ≡ step = cc in
-    ap (λ t. step_holds j limit t step) (append-nil earlier) ∙ ap (step_holds j limit earlier) (sym same)
-    ∙ (and_parts (step_holds j limit earlier s) (steps_hold j limit (earlier ++ s ∷ []) steps) h).0
-steps_hold_at j limit earlier (s ∷ steps) (suc n) step h is =
-    let rest = (and_parts (step_holds j limit earlier s) (steps_hold j limit (earlier ++ s ∷ []) steps) h).1 in
-    ap (λ t. step_holds j limit t step) (sym (append_assoc earlier (s ∷ []) (take n steps)))
-    ∙ steps_hold_at j limit (earlier ++ s ∷ []) steps n step rest is
+    ap (λ t. step_holds j limits t step) (append-nil earlier) ∙ ap (step_holds j limits earlier) (sym same)
+    ∙ (and_parts (step_holds j limits earlier s) (steps_hold j limits (earlier ++ s ∷ []) steps) h).0
+steps_hold_at j limits earlier (s ∷ steps) (suc n) step h is =
+    let rest = (and_parts (step_holds j limits earlier s) (steps_hold j limits (earlier ++ s ∷ []) steps) h).1 in
+    ap (λ t. step_holds j limits t step) (sym (append_assoc earlier (s ∷ []) (take n steps)))
+    ∙ steps_hold_at j limits (earlier ++ s ∷ []) steps n step rest is
 
 -- the number of a step that isn't too deep
-pub record IsWithin (limit : ℕ) (trail : List AskedValue) (n : ℕ) : Type 0 where
+pub record IsWithin (limits : Limits) (trail : List AskedValue) (n : ℕ) : Type 0 where
   pub step : AskedValue
   pub found : slice_get trail n ≡ Some step
-  pub within : step.depth ≤ limit
+  pub within : step.depth ≤ limits.depth
 
-ask_within : (j : Judge) (limit : ℕ) (trail : List AskedValue) (n : ℕ) (step : AskedValue) (ask : AskRef) → step.depth ≤ limit
-    → IsAskOf (step_context_of j limit (take n trail) step) ask → OfAsk (IsWithin limit trail) ask
-ask_within j limit trail n step TooDeep asker h = tt
-ask_within j limit trail n step TooMany asker h = tt
-ask_within j limit trail n step (Step m) asker h =
-    let made = step_made (step_context_of j limit (take n trail) step) m h in
+ask_within : (j : Judge) (limits : Limits) (trail : List AskedValue) (n : ℕ) (step : AskedValue) (ask : AskRef) → step.depth ≤ limits.depth
+    → IsAskOf (step_context_of j limits (take n trail) step) ask → OfAsk (IsWithin limits trail) ask
+ask_within j limits trail n step TooDeep asker h = tt
+ask_within j limits trail n step TooMany asker h = tt
+ask_within j limits trail n step (Step m) asker h =
+    let made = step_made (step_context_of j limits (take n trail) step) m h in
     record {
       step = made.step;
       found = subst (λ t. slice_get t m ≡ Some made.step) (take-append-drop n trail) (slice_get-stays (take n trail) (drop n trail) m made.step made.found);
       within = made.within asker;
     }
 
-same_within : (limit : ℕ) (trail : List AskedValue) (n : ℕ) (step : AskedValue) (here : IsWithin limit trail n) → slice_get trail n ≡ Some step
-    → step.depth ≤ limit
-same_within limit trail n step here is =
+same_within : (limits : Limits) (trail : List AskedValue) (n : ℕ) (step : AskedValue) (here : IsWithin limits trail n) → slice_get trail n ≡ Some step
+    → step.depth ≤ limits.depth
+same_within limits trail n step here is =
     let same : here.step ≡ step = cc (here.found, is) in
-    subst (λ s. s.depth ≤ limit) same here.within
+    subst (λ s. s.depth ≤ limits.depth) same here.within
 
-hands_on : (j : Judge) (limit : ℕ) (trail : List AskedValue) → steps_hold j limit [] trail ≡ true → HandsOn (IsWithin limit trail) trail
-hands_on j limit trail hold = record {
+hands_on : (j : Judge) (limits : Limits) (trail : List AskedValue) → steps_hold j limits [] trail ≡ true → HandsOn (IsWithin limits trail) trail
+hands_on j limits trail hold = record {
   on = λ n step here is.
-      let g = step_context_of j limit (take n trail) step in
-      each_more (IsAskOf g) (OfAsk (IsWithin limit trail)) (λ ask. ask_within j limit trail n step ask (same_within limit trail n step here is))
-      (asks_of step) (step_asks j limit (take n trail) step (steps_hold_at j limit [] trail n step hold is));
+      let g = step_context_of j limits (take n trail) step in
+      each_more (IsAskOf g) (OfAsk (IsWithin limits trail)) (λ ask. ask_within j limits trail n step ask (same_within limits trail n step here is))
+      (asks_of step) (step_asks j limits (take n trail) step (steps_hold_at j limits [] trail n step hold is));
 }
 
 -- the order of the sends begins with the last step, and holds numbers of steps that aren't too deep
-pub order_begins : (j : Judge) (d : ℕ) (trail : List AskedValue) (g : Derived j d trail)
-    → BeginsWith (IsWithin (depth_limit d) trail) (length trail - 1) g.sent.order
+pub order_begins : (j : Judge) (d : Limits) (trail : List AskedValue) (g : Derived j d trail)
+    → BeginsWith (IsWithin (effective d) trail) (length trail - 1) g.sent.order
 order_begins j d trail g =
-    let top : IsWithin (depth_limit d) trail (length trail - 1) =
+    let top : IsWithin (effective d) trail (length trail - 1) =
     record { step = g.top.step; found = g.top.found; within = omega (arith, g.top.top) } in
-    step_begins (IsWithin (depth_limit d) trail) trail (length trail) (length trail - 1) g.sent.order (hands_on j (depth_limit d) trail g.hold) top g.sent.found
+    step_begins (IsWithin (effective d) trail) trail (length trail) (length trail - 1) g.sent.order (hands_on j (effective d) trail g.hold) top g.sent.found
 
 -- ---- how deep
 
@@ -141,39 +141,39 @@ of_each Q [] each k h = absurd (omega arith)
 of_each Q (x ∷ xs) each k h = stands_once Q k x xs (k == x) refl h each.0 (λ rest. of_each Q xs each.1 k rest)
 
 -- each step of a derivation is at most as deep as asks go
-pub derivation_depths : (j : Judge) (d : ℕ) (trail : List AskedValue) → derivation j d trail ≡ true → All (λ step. step.depth ≤ depth_limit d) trail
+pub derivation_depths : (j : Judge) (d : Limits) (trail : List AskedValue) → derivation j d trail ≡ true → All (λ step. step.depth ≤ depth_limit d.depth) trail
 derivation_depths j d trail h = λ k other below.
     let g = derivation_parts j d trail h in
-    let here = of_each (IsWithin (depth_limit d) trail) g.sent.order ((order_begins j d trail g).each) k (g.sent.once k below) in
-    subst (λ s. s.depth ≤ depth_limit d) (sym (get_or_from_slice_get trail k here.step other here.found)) here.within
+    let here = of_each (IsWithin (effective d) trail) g.sent.order ((order_begins j d trail g).each) k (g.sent.once k below) in
+    subst (λ s. s.depth ≤ depth_limit d.depth) (sym (get_or_from_slice_get trail k here.step other here.found)) here.within
 
 -- ---- how many
 
-below_each : (limit : ℕ) (trail : List AskedValue) (order : List ℕ) → AllByRecursion (IsWithin limit trail) order → AreBelow (length trail) order
-below_each limit trail order each =
-    each_more (IsWithin limit trail) (λ i. i < length trail) (λ i h. slice_get_within trail i h.step h.found) order each
+below_each : (limits : Limits) (trail : List AskedValue) (order : List ℕ) → AllByRecursion (IsWithin limits trail) order → AreBelow (length trail) order
+below_each limits trail order each =
+    each_more (IsWithin limits trail) (λ i. i < length trail) (λ i h. slice_get_within trail i h.step h.found) order each
 
 -- the order of the sends has as many numbers as there are steps
-pub derivation_counts : (j : Judge) (d : ℕ) (trail : List AskedValue) (order : List ℕ) → derivation j d trail ≡ true → send_order trail ≡ Some order
+pub derivation_counts : (j : Judge) (d : Limits) (trail : List AskedValue) (order : List ℕ) → derivation j d trail ≡ true → send_order trail ≡ Some order
     → length order ≡ length trail
 derivation_counts j d trail order h is =
     let g = derivation_parts j d trail h in
     let same : order ≡ g.sent.order = cc (is, g.sent.found) in
     ap length same
-    ∙ as_many (length trail) g.sent.order (below_each (depth_limit d) trail g.sent.order ((order_begins j d trail g).each)) g.sent.once
+    ∙ as_many (length trail) g.sent.order (below_each (effective d) trail g.sent.order ((order_begins j d trail g).each)) g.sent.once
 
-numbered_as_many : (limit : ℕ) (trail : List AskedValue) (order : List ℕ) → AllByRecursion (IsWithin limit trail) order
+numbered_as_many : (limits : Limits) (trail : List AskedValue) (order : List ℕ) → AllByRecursion (IsWithin limits trail) order
     → length (numbered trail order) ≡ length order
-numbered_as_many limit trail [] each = refl
-numbered_as_many limit trail (x ∷ xs) each =
-    ap (λ o. length (cons_option o (numbered trail xs))) each.0.found ∙ ap suc (numbered_as_many limit trail xs each.1)
+numbered_as_many limits trail [] each = refl
+numbered_as_many limits trail (x ∷ xs) each =
+    ap (λ o. length (cons_option o (numbered trail xs))) each.0.found ∙ ap suc (numbered_as_many limits trail xs each.1)
 
 -- as many steps were sent as the trail has
-pub derivation_sent : (j : Judge) (d : ℕ) (trail : List AskedValue) → derivation j d trail ≡ true → length (in_send_order trail) ≡ length trail
+pub derivation_sent : (j : Judge) (d : Limits) (trail : List AskedValue) → derivation j d trail ≡ true → length (in_send_order trail) ≡ length trail
 derivation_sent j d trail h =
     let g = derivation_parts j d trail h in
     ap (λ o. length (steps_at trail o)) g.sent.found
-    ∙ numbered_as_many (depth_limit d) trail g.sent.order ((order_begins j d trail g).each) ∙ derivation_counts j d trail g.sent.order h g.sent.found
+    ∙ numbered_as_many (effective d) trail g.sent.order ((order_begins j d trail g).each) ∙ derivation_counts j d trail g.sent.order h g.sent.found
 
 -- ---- the top step first
 
@@ -186,7 +186,7 @@ pub record TopFirst (trail : List AskedValue) : Type 0 where
   pub depth : top.depth ≡ 0
   pub first : in_send_order trail ≡ top ∷ others
 
-pub derivation_first : (j : Judge) (d : ℕ) (trail : List AskedValue) → derivation j d trail ≡ true → TopFirst trail
+pub derivation_first : (j : Judge) (d : Limits) (trail : List AskedValue) → derivation j d trail ≡ true → TopFirst trail
 derivation_first j d trail h =
     let g = derivation_parts j d trail h in
     let begins = order_begins j d trail g in

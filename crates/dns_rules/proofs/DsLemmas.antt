@@ -17,7 +17,7 @@ use Rattle.dns_model.proofs.EachLemmas.{each_filter, each_more, find-map, find_k
 use Rattle.dns_model.proofs.SetLemmas.{number_same}
 use Rattle.dns_model.proofs.ChainLemmas.{each_member, member_shown, anchor_shown}
 use Rattle.dns_rules.specs.MarkedSets.{MarkedSet}
-use Rattle.dns_rules.specs.Delegations.{ZoneVerdict, counted_ds, is_ds_for, matching_ds, is_supported_ds, is_readable_ds, is_ds_set_of, shows_no_ds, is_insecure_above, verdict_by_ds, verdict_without_ds, zone_verdict}
+use Rattle.dns_rules.specs.Delegations.{ZoneVerdict, counted_ds, is_ds_for, matching_ds, is_supported_ds, is_readable_ds, is_ds_set_of, shows_no_ds, shows_no_ds_by_hash, is_insecure_above, verdict_by_ds, verdict_without_ds, zone_verdict}
 use Rattle.dns_rules.specs.Delegations as zone
 use Rattle.dns_rules.specs.ProofErrors.{DsRecordShouldExist, DsResponseInsecure, UnknownKeyAlgorithm}
 use Rattle.dns_rules.specs.KeySets.{is_anchored_key, is_matched_key, is_trusted_key}
@@ -188,7 +188,7 @@ unsigned_step name true ds h = cc
 unsigned_step name false ds h = cc
 
 none_signed : (name : Labels) (answer : List MarkedSet) (ds : List Rr) → verdict_without_ds name answer ≡ zone.Signed ds → ⊥
-none_signed name answer ds h = unsigned_step name (list_any (shows_no_ds name) answer || list_any (is_insecure_above name) answer) ds h
+none_signed name answer ds h = unsigned_step name (list_any (shows_no_ds name) answer || (shows_no_ds_by_hash name answer || list_any (is_insecure_above name) answer)) ds h
 
 abbrev verdict_found : VerifierAnswers → Labels → ZoneVerdict → Option MarkedSet → ZoneVerdict
 verdict_found answers name without found = option_map_or (λ s. verdict_by_ds answers name s.mark s.set.records) found without

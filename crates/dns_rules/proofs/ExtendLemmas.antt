@@ -249,7 +249,7 @@ entry_of_keys g placed entry is keys needs asked origin mark =
 -- the entry of a key set that asks for the DS set of its owner
 pub entry_by_ds : (g : StepContext) (placed : PlacedSet) (entry : JudgedSetValue) (ask : AskRef) (zone : ZoneVerdict) → IsEntryOf placed entry
     → (placed.set.rtype == type_dnskey) ≡ true → needs_ds g.judge placed.set ≡ true → entry.asked ≡ ask ∷ [] → entry.origin ≡ Table
-    → is_ask g.limit g.earlier (g.depth + 1) (ds_question placed.set.class placed.set.owner) ask ≡ true
+    → is_ask g.limits.depth g.earlier (g.depth + 1) (ds_question placed.set.class placed.set.owner) ask ≡ true
     → zone ≡ zone_verdict g.judge.answers placed.set.class placed.set.owner (finished_answer g.earlier ask)
     → has_mark_of (judged_keys g.judge placed (Some zone)) entry ≡ true → entry_holds g placed entry ≡ true
 entry_by_ds g placed entry ask zone is keys needs asked origin asks by mark =

@@ -20,6 +20,7 @@ pub mod KeyLinkLemmas
 pub mod DsLemmas
 pub mod SignerLemmas
 pub mod KeySetLemmas
+pub mod BareLemmas
 pub mod ChainedLemmas
 pub mod MarkedLemmas
 pub mod DeciderLemmas

@@ -22,7 +22,7 @@ use Rattle.dns_rules.proofs.StayLemmas.{slice_get-stays, later_step_context, ask
 -- ---- the ask for a DS set
 
 -- the DS verdict that an ask leads to
-pub zone_from : (g : StepContext) (class : ℕ) (name : Labels) (ask : AskRef) → is_ask g.limit g.earlier (g.depth + 1) (ds_question class name) ask ≡ true
+pub zone_from : (g : StepContext) (class : ℕ) (name : Labels) (ask : AskRef) → is_ask g.limits.depth g.earlier (g.depth + 1) (ds_question class name) ask ≡ true
     → zone_asked g class name (ask ∷ []) ≡ Some (zone_verdict g.judge.answers class name (finished_answer g.earlier ask))
 zone_from g class name ask asks = ap (λ b. if b then Some (zone_verdict g.judge.answers class name (finished_answer g.earlier ask)) else None) asks
 
@@ -33,11 +33,11 @@ zone_stays g more class name [] zone h = cc
 zone_stays g more class name (ask ∷ asks) zone h =
     let q = ds_question class name in
     let by = λ (answer : Option (List MarkedSet)). Some (zone_verdict g.judge.answers class name answer) in
-    let some = if_some (is_empty asks && is_ask g.limit g.earlier (g.depth + 1) q ask) (by (finished_answer g.earlier ask)) zone h in
-    let parts = and_parts (is_empty asks) (is_ask g.limit g.earlier (g.depth + 1) q ask) some.0 in
-    let stays = ask_stays g.limit g.earlier more (g.depth + 1) q ask parts.1 in
+    let some = if_some (is_empty asks && is_ask g.limits.depth g.earlier (g.depth + 1) q ask) (by (finished_answer g.earlier ask)) zone h in
+    let parts = and_parts (is_empty asks) (is_ask g.limits.depth g.earlier (g.depth + 1) q ask) some.0 in
+    let stays = ask_stays g.limits.depth g.earlier more (g.depth + 1) q ask parts.1 in
     ap (λ b. if b then by (finished_answer (g.earlier ++ more) ask) else None)
-    (and_from (is_empty asks) (is_ask g.limit (g.earlier ++ more) (g.depth + 1) q ask) parts.0 stays.asks)
+    (and_from (is_empty asks) (is_ask g.limits.depth (g.earlier ++ more) (g.depth + 1) q ask) parts.0 stays.asks)
     ∙ ap by stays.answer ∙ some.1
 
 -- ---- a plain ask

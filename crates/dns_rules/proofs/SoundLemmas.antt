@@ -181,13 +181,13 @@ kept j now m cs section judged =
 -- ---- the marks of sets
 
 -- a record as it is marked where nothing stands before it
-abbrev marked_first : ℕ → List MarkedSet → Section → Rr → Rr
+abbrev pub marked_first : ℕ → List MarkedSet → Section → Rr → Rr
 marked_first now ss section = marked now ss section []
 
 plain_change : (now : ℕ) (ss : List MarkedSet) (section : Section) → IsPlainChange (marked now ss section)
 plain_change now ss section = record { keeps = marked-keeps now ss section; plain = marked-plain now ss section }
 
-own_marks : (now : ℕ) (told : Told) (ss : List MarkedSet) (s : MarkedSet) → IsKnown told ss s
+pub own_marks : (now : ℕ) (told : Told) (ss : List MarkedSet) (s : MarkedSet) → IsKnown told ss s
     → AllByRecursion (λ r. marked_first now ss s.section r ≡ record r { proof = s.mark; ttl = adjusted_ttl now s r }) s.set.records
 own_marks now told ss s known =
     each_more (λ r. is_of s.set r ≡ true) (λ r. marked_first now ss s.section r ≡ record r { proof = s.mark; ttl = adjusted_ttl now s r })
@@ -207,7 +207,7 @@ set_has_one now told ss s known =
     (own_marks now told ss s known))
 
 -- the sets of a marked section, signatures aside, are those of the section with their records marked
-sets_of-marked : (now : ℕ) (ss : List MarkedSet) (section : Section) (records : List Rr)
+pub sets_of-marked : (now : ℕ) (ss : List MarkedSet) (section : Section) (records : List Rr)
     → map unsigned (sets_of (marked_section now ss section records)) ≡ map unsigned (map (on_set (marked_first now ss section)) (sets_of records))
 sets_of-marked now ss section records =
     unsigned_sets (marked now ss section) (plain_change now ss section) records
@@ -263,7 +263,7 @@ placed_marked now ss m =
     ∙ ap (λ xs. map f one ++ map f two ++ xs) (placed_part now ss Additional m.additionals)
     ∙ ap (λ xs. xs ++ map f three) (sym (map-append f one two)) ∙ sym (map-append f (one ++ two) three)
 
-first_marked : (f : Rr → Rr) (mark : Proof) (records : List Rr) → is_nonempty (rdatas_of records) ≡ true → AllByRecursion (λ r. (f r).proof ≡ mark) records
+pub first_marked : (f : Rr → Rr) (mark : Proof) (records : List Rr) → is_nonempty (rdatas_of records) ≡ true → AllByRecursion (λ r. (f r).proof ≡ mark) records
     → first_mark (map f records) ≡ mark
 first_marked f mark [] listed h = cc
 first_marked f mark (x ∷ xs) listed h = h.0

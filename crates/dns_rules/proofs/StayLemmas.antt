@@ -50,7 +50,7 @@ pub record AskForStays (g : StepContext) (more : List AskedValue) (o : Option Qu
 pub ask_for_stays : (g : StepContext) (more : List AskedValue) (o : Option Question) (ask : AskRef) → is_ask_for g o ask ≡ true → AskForStays g more o ask
 ask_for_stays g more None ask h = cc
 ask_for_stays g more (Some q) ask h =
-    let stays = ask_stays g.limit g.earlier more (g.depth + 1) q ask h in
+    let stays = ask_stays g.limits.depth g.earlier more (g.depth + 1) q ask h in
     record { asks = stays.asks; answer = stays.answer }
 
 -- ---- the verdicts of signatures

@@ -12,6 +12,7 @@ use Rattle.dns_model.specs.Chains.{Judge, judge}
 use Rattle.dns_model.specs.Names.{Labels}
 use Rattle.dns_model.specs.Records.{Rr, Question}
 use Rattle.dns_model.specs.Trails.{AskedValue, JudgedSetValue, HeardValue, EndingValue, Records, Fault, Answered, Denied, Failed}
+use Rattle.dns_rules.specs.Asking.{Limits}
 use Rattle.dns_model.proofs.Worked.{key, signature, signed, name_a, anchors}
 
 -- ---- records, questions and replies
@@ -47,7 +48,10 @@ abbrev pub address_records : List Rr
 address_records =
     record_of ((97 ∷ []) ∷ []) 1 (192 ∷ 0 ∷ 2 ∷ 1 ∷ []) ∷ record_of ((97 ∷ []) ∷ []) 46 address_signature ∷ []
 
--- ---- the judge
+-- ---- the judge, and how far it goes
+
+abbrev pub within : ℕ → Limits
+within depth = record { depth = depth; soft = 100; hard = 500 }
 
 -- supports algorithm 13, and accepts the two signatures by the root's key
 abbrev pub verifier : VerifierAnswers

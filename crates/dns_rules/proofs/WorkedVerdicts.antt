@@ -13,6 +13,7 @@ use Rattle.dns_model.proofs.Worked.{letter_a}
 use Rattle.dns_model.proofs.Delegation.{trusting, ds_of_key}
 use Rattle.dns_rules.specs.MarkedSets.{MarkedSet}
 use Rattle.dns_rules.specs.ProofErrors.{Net, DsRecordShouldExist, DsResponseInsecure, UnknownKeyAlgorithm}
+use Rattle.dns_rules.specs.Nsec3Verdict.{shows_insecure_delegation}
 use Rattle.dns_rules.specs.Delegations.{ZoneVerdict, Signed, Insecure as Unsigned, Bogus as Unshown, ds_question, zone_verdict}
 use Rattle.dns_rules.proofs.WorkedTrailValues.{record_of}
 use Rattle.dns_rules.proofs.WorkedDelegations.{zone, other_algorithm}
@@ -28,7 +29,7 @@ set_of_one section owner rtype rdata mark = record {
 }
 
 unfoldable pub verdict_computed : Option (List MarkedSet) → ZoneVerdict
-unfolding zone_verdict ds_in nsec_in name_in labels_in label_in is_bitmap bitmap_has windows_in window_in
+unfolding zone_verdict shows_insecure_delegation ds_in nsec_in name_in labels_in label_in is_bitmap bitmap_has windows_in window_in
 verdict_computed answer = zone_verdict trusting 1 zone answer
 
 -- an NSEC with a bitmap of types, whose next name is `a.`

@@ -12,9 +12,20 @@ use Rattle.dns_rules.specs.Marks.{key_question}
 abbrev pub most_sends : ℕ
 most_sends = 1024
 
+-- how far a lookup goes: how deep its asks go, up to how many iterations of the hash NSEC3 records are judged, and above how many they
+-- prove nothing at all (RFC 9276, 3.2)
+pub record Limits : Type 0 where
+  pub depth : ℕ
+  pub soft : ℕ
+  pub hard : ℕ
+
 -- how deep nested asks go, where they may go so deep
 abbrev pub depth_limit : ℕ → ℕ
 depth_limit depth = min depth 255
+
+-- the same, with asks that go as deep as that
+abbrev pub effective : Limits → Limits
+effective limits = record limits { depth = depth_limit limits.depth }
 
 -- the types whose sets are judged at a depth: all at the top, below it those by which others are judged
 abbrev pub is_judged_at : ℕ → ℕ → Bool

@@ -1,4 +1,4 @@
--- The DS sets of zones, and the keys that they match (RFC 4034, 5; RFC 4035, 5.2).
+-- The DS sets of zones, and the keys that they match (RFC 4034, 5; RFC 4035, 5.2; RFC 5155, 8.9).
 use Rattle.std.specs.Prelude.{ℕ, Bool, true, false, not, ◌==◌, ◌&&◌, ◌||◌, List, take, Option, None, Some, is_some, if◌then◌else◌}
 use Rattle.std.specs.Option.{option_map_or}
 use Rattle.std.specs.List.{filter, find, list_any}
@@ -16,6 +16,8 @@ use Rattle.dns_model.specs.Keys.{VerifierAnswers, matches}
 use Rattle.dns_model.specs.SoundAnswers.{section_eq, is_secure}
 use Rattle.dns_rules.specs.MarkedSets.{MarkedSet}
 use Rattle.dns_rules.specs.ListedTypes.{is_unsigned_cut}
+use Rattle.dns_rules.specs.Denying.{hashed_denials}
+use Rattle.dns_rules.specs.Nsec3Verdict.{shows_insecure_delegation}
 use Rattle.dns_rules.specs.ProofErrors.{ProofErrorKindValue, Net, DsRecordShouldExist, DsResponseInsecure, UnknownKeyAlgorithm}
 
 -- a record as a DS (RFC 4034, 5.1)
@@ -88,6 +90,10 @@ shows_no_ds zone judged =
     section_eq Authority judged.section && (is_secure judged.mark && (name_eq zone judged.set.owner && ((judged.set.rtype == type_nsec)
     && list_any shows_unsigned_cut judged.set.records)))
 
+-- or Secure NSEC3 records of that section do, or show that an unsigned zone may be there (RFC 5155, 8.9)
+abbrev pub shows_no_ds_by_hash : Labels → List MarkedSet → Bool
+shows_no_ds_by_hash zone answer = shows_insecure_delegation zone (hashed_denials answer)
+
 abbrev pub is_insecure : Proof → Bool
 is_insecure proof.Insecure = true
 is_insecure _ = false
@@ -99,7 +105,7 @@ is_insecure_above zone judged = is_insecure judged.mark && at_or_above judged.se
 -- an answer without a DS set: by what it shows of the delegation
 abbrev pub verdict_without_ds : Labels → List MarkedSet → ZoneVerdict
 verdict_without_ds zone answer =
-    if list_any (shows_no_ds zone) answer || list_any (is_insecure_above zone) answer
+    if list_any (shows_no_ds zone) answer || (shows_no_ds_by_hash zone answer || list_any (is_insecure_above zone) answer)
     then Insecure (DsResponseInsecure zone)
     else Bogus (DsRecordShouldExist zone)
 

@@ -28,7 +28,7 @@ use Rattle.dns_rules.specs.Unsigned.{ns_question, has_ns, set_start, question_st
 use Rattle.dns_rules.specs.KeySets.{needs_ds, judged_keys}
 use Rattle.dns_rules.specs.Outcome.{Outcome, outcome_of, outcome_by_zone, foreign_record}
 use Rattle.dns_rules.specs.Outcome as outcome
-use Rattle.dns_rules.specs.Asking.{most_sends, depth_limit, judged_part, ask_of}
+use Rattle.dns_rules.specs.Asking.{Limits, most_sends, effective, judged_part, ask_of}
 use Rattle.dns_rules.specs.Probes.{NsProbe}
 use Rattle.dns_rules.specs.Probes as probes
 
@@ -60,10 +60,10 @@ finished_answer earlier _ = None
 
 -- ---- asks
 
--- by what the sets of a step are judged: the judge, how deep asks go, the steps before it, its question and its depth
+-- by what the sets of a step are judged: the judge, how far the lookup goes, the steps before it, its question and its depth
 pub record StepContext : Type 0 where
   pub judge : Judge
-  pub limit : ℕ
+  pub limits : Limits
   pub earlier : List AskedValue
   pub query : Question
   pub depth : ℕ
@@ -86,7 +86,7 @@ verdicts_after v asks rest =
 abbrev pub verdicts_asked : StepContext → RrSet → Rr → List AskRef → (List AskRef → Option (List Verdict)) → Option (List Verdict)
 verdicts_asked g set r [] rest = None
 verdicts_asked g set r (ask ∷ asks) rest =
-    if option_map_or (λ q. is_ask g.limit g.earlier (g.depth + 1) q ask) (ask_of set r) false
+    if option_map_or (λ q. is_ask g.limits.depth g.earlier (g.depth + 1) q ask) (ask_of set r) false
     then verdicts_after (verdict_of g.judge set r (finished_answer g.earlier ask)) asks rest
     else None
 
@@ -124,7 +124,7 @@ probe_by earlier name TooMany = probes.Failed
 abbrev pub zone_asked : StepContext → ℕ → Labels → List AskRef → Option ZoneVerdict
 zone_asked g class zone [] = None
 zone_asked g class zone (ask ∷ asks) =
-    if is_empty asks && is_ask g.limit g.earlier (g.depth + 1) (ds_question class zone) ask
+    if is_empty asks && is_ask g.limits.depth g.earlier (g.depth + 1) (ds_question class zone) ask
     then Some (zone_verdict g.judge.answers class zone (finished_answer g.earlier ask))
     else None
 
@@ -228,9 +228,8 @@ ending_eq Failed Failed = true
 ending_eq Seen Seen = true
 ending_eq _ _ = false
 
--- the ending of an outcome; what isn't judged yet fails, and a search has the outcome that it leads to
+-- the ending of an outcome; a search has the outcome that it leads to
 abbrev pub ending_by : Outcome → EndingValue
-ending_by outcome.Unjudged = Failed
 ending_by outcome.NeedsZone = Failed
 ending_by (outcome.Given d) = Answered d
 ending_by (outcome.Denied proof) = Denied proof
@@ -244,7 +243,6 @@ ends_bare ending step = ending_eq ending step.ending && (is_empty step.sets && i
 -- the ending follows from the outcome, and names the asks on which it stands: those of the search for the query's zone, where that
 -- decides
 abbrev pub ending_holds : StepContext → AskedValue → Told → Outcome → Bool
-ending_holds g step told outcome.Unjudged = ending_eq Failed step.ending && is_empty step.excuse
 ending_holds g step told (outcome.Given d) = ending_eq (Answered d) step.ending && is_empty step.excuse
 ending_holds g step told (outcome.Denied proof) = ending_eq (Denied proof) step.ending && is_empty step.excuse
 ending_holds g step told outcome.NeedsZone =
@@ -258,19 +256,19 @@ heard_holds g step told =
     if step.judged
     then option_map_or (λ r. ends_bare (Foreign r.owner r.class r.rtype) step) (foreign_record step.query told)
     (entries_hold g (judged_part step.depth told) step.sets
-    && ending_holds g step told (outcome_of step.query told (with_entries (judged_part step.depth told) step.sets)))
+    && ending_holds g step told (outcome_of g.limits step.query told (with_entries (judged_part step.depth told) step.sets)))
     else ends_bare Seen step
 
 -- the lines of a step follow from what it heard, which may be a fault, and from the steps before it
-unfoldable pub step_holds : Judge → ℕ → List AskedValue → AskedValue → Bool
-step_holds j limit earlier step =
-    option_map_or (heard_holds (record { judge = j; limit = limit; earlier = earlier; query = step.query; depth = step.depth }) step)
+unfoldable pub step_holds : Judge → Limits → List AskedValue → AskedValue → Bool
+step_holds j limits earlier step =
+    option_map_or (heard_holds (record { judge = j; limits = limits; earlier = earlier; query = step.query; depth = step.depth }) step)
     (told_in step.reply) (ends_bare Failed step)
 
 -- and those of each step
-unfoldable pub steps_hold : Judge → ℕ → List AskedValue → List AskedValue → Bool
-steps_hold j limit earlier [] = true
-steps_hold j limit earlier (step ∷ steps) = step_holds j limit earlier step && steps_hold j limit (earlier ++ step ∷ []) steps
+unfoldable pub steps_hold : Judge → Limits → List AskedValue → List AskedValue → Bool
+steps_hold j limits earlier [] = true
+steps_hold j limits earlier (step ∷ steps) = step_holds j limits earlier step && steps_hold j limits (earlier ++ step ∷ []) steps
 
 -- ---- the order of the sends: a step comes before what it asks, and what it asks in the order of its sets and of its excuse
 
@@ -333,5 +331,5 @@ has_order trail =
     && option_eq nat_eq (end_step (length trail) trail (length trail - 1) 0) (Some (length trail))))
 
 -- a trail in order whose every step follows
-unfoldable pub derivation : Judge → ℕ → List AskedValue → Bool
-derivation j depth trail = has_order trail && steps_hold j (depth_limit depth) [] trail
+unfoldable pub derivation : Judge → Limits → List AskedValue → Bool
+derivation j limits trail = has_order trail && steps_hold j (effective limits) [] trail

@@ -8,7 +8,7 @@ use Rattle.dns_model.specs.Records.{Rr, Question, question_eq}
 use Rattle.dns_model.specs.Chains.{Judge}
 use Rattle.dns_model.specs.Trails.{AskedValue, JudgedSetValue, HeardValue, EndingValue, Foreign, Failed, Seen}
 use Rattle.dns_model.specs.SoundAnswers.{Told, PlacedSet}
-use Rattle.dns_rules.specs.Asking.{judged_part}
+use Rattle.dns_rules.specs.Asking.{Limits, judged_part}
 use Rattle.dns_rules.specs.MarkedSets.{MarkedSet}
 use Rattle.dns_rules.specs.Marks.{Verdict, judged_by}
 use Rattle.dns_rules.specs.Delegations.{ZoneVerdict}
@@ -30,7 +30,7 @@ is_judged_ask depth q step = option_map_or (λ s. s.judged && ((s.depth == depth
 
 -- the ask of a signature is one deeper than its step
 abbrev pub is_ask_for : StepContext → Option Question → AskRef → Bool
-is_ask_for g question ask = option_map_or (λ q. is_ask g.limit g.earlier (g.depth + 1) q ask) question false
+is_ask_for g question ask = option_map_or (λ q. is_ask g.limits.depth g.earlier (g.depth + 1) q ask) question false
 
 abbrev pub after_verdict : Verdict → Option (List Verdict) → Option (List Verdict)
 after_verdict v rest = option_map (λ vs. v ∷ vs) rest
@@ -64,8 +64,8 @@ is_ending o ending = ending_eq (ending_by o) ending
 abbrev pub is_bare : AskedValue → Bool
 is_bare step = is_empty step.sets && is_empty step.excuse
 
-abbrev pub step_context_of : Judge → ℕ → List AskedValue → AskedValue → StepContext
-step_context_of j limit earlier step = record { judge = j; limit = limit; earlier = earlier; query = step.query; depth = step.depth }
+abbrev pub step_context_of : Judge → Limits → List AskedValue → AskedValue → StepContext
+step_context_of j limits earlier step = record { judge = j; limits = limits; earlier = earlier; query = step.query; depth = step.depth }
 
 abbrev pub asks_of_sets : List JudgedSetValue → List AskRef
 asks_of_sets sets = flat_map (λ set. set.asked) sets
@@ -91,7 +91,7 @@ abbrev pub judged_holds : StepContext → AskedValue → Told → Option Rr → 
 judged_holds g step told foreign =
     option_map_or (λ r. ends_bare (Foreign r.owner r.class r.rtype) step) foreign
     (entries_hold g (judged_part step.depth told) step.sets
-    && ending_holds g step told (outcome_of step.query told (with_entries (judged_part step.depth told) step.sets)))
+    && ending_holds g step told (outcome_of g.limits step.query told (with_entries (judged_part step.depth told) step.sets)))
 
 abbrev pub step_holds_by : StepContext → AskedValue → HeardValue → Bool
 step_holds_by g step heard = option_map_or (heard_holds g step) (told_in heard) (ends_bare Failed step)

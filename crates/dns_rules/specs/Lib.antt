@@ -9,6 +9,7 @@ pub mod Validity
 pub mod MarkedSets
 pub mod Marks
 pub mod ProofErrors
+pub mod Denying
 pub mod Delegations
 pub mod KeySets
 pub mod Unsigned

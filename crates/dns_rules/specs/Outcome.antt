@@ -1,23 +1,25 @@
--- What a judged step answers (RFC 4035, 5.3.4 and 5.4).
+-- What a judged step answers (RFC 4035, 5.3.4 and 5.4; RFC 5155, 8).
 use Rattle.std.specs.Prelude.{ℕ, Bool, false, not, ◌==◌, ◌&&◌, ◌||◌, min, nat_lt, List, [], ◌∷◌, ◌++◌, Option, None, Some, if◌then◌else◌}
 use Rattle.std.specs.Option.{option_map, option_map_or, option_and_then}
-use Rattle.std.specs.List.{filter, filter_map, flat_map, list_any, list_all, find}
+use Rattle.std.specs.List.{filter, filter_map, list_any, list_all, find}
 use Rattle.dns_model.specs.declared.proof.Proof.{Proof}
 use Rattle.dns_model.specs.declared.proof.Proof.TheVariants.{Secure, Insecure, Bogus}
 use Rattle.dns_model.specs.declared.section.Section.TheVariants.{Answer, Authority}
 use Rattle.dns_model.specs.declared.denial.Denial as denial
 use Rattle.dns_model.specs.declared.denial.Denial.TheVariants as denied
 use Rattle.dns_model.specs.Names.{Labels, name_eq, at_or_above, num_labels}
-use Rattle.dns_model.specs.Types.{type_cname, type_nsec, type_nsec3}
+use Rattle.dns_model.specs.Types.{type_cname}
 use Rattle.dns_model.specs.Records.{Rr, Question}
-use Rattle.dns_model.specs.RecordViews.{rrsig_of, read_as}
-use Rattle.dns_model.specs.Views.{nsec_in}
-use Rattle.dns_model.specs.Owned.{OwnedNsec}
+use Rattle.dns_model.specs.RecordViews.{rrsig_of}
+use Rattle.dns_model.specs.Owned.{OwnedNsec, OwnedNsec3}
 use Rattle.dns_model.specs.Sections.{is_signature}
 use Rattle.dns_model.specs.SoundAnswers.{Told, section_eq, is_secure}
 use Rattle.dns_model.specs.declared.answered.Answered.{Answered}
 use Rattle.dns_model.specs.declared.answered.Answered.TheVariants.{No, Plain, Expanded}
+use Rattle.dns_rules.specs.Asking.{Limits}
 use Rattle.dns_rules.specs.NsecVerdict.{nsec_verdict}
+use Rattle.dns_rules.specs.Nsec3Verdict.{nsec3_verdict}
+pub use Rattle.dns_rules.specs.Denying.{is_denying, denying, owned_nsec, denials, is_hash_denying, hash_denying, owned_nsec3, hashed_denials}
 use Rattle.dns_rules.specs.MarkedSets.{MarkedSet, decider}
 use Rattle.dns_rules.specs.Marking.{is_about}
 use Rattle.dns_rules.specs.Delegations as delegation
@@ -25,7 +27,6 @@ use Rattle.dns_rules.specs.Delegations.{ZoneVerdict, Signed, is_insecure}
 
 -- how a judged step ends; where neither its sets nor their signatures decide, the zone of its query is searched
 pub data Outcome : Type 0 where
-  Unjudged : Outcome
   Given : denial.Denial → Outcome
   NeedsZone : Outcome
   Denied : Proof → Outcome
@@ -74,26 +75,7 @@ unfoldable pub answered : Question → Told → List MarkedSet → Answered
 answered q told sets =
     if has_answer q told then answered_from (least (filter_map decider_labels (filter (is_expanded_for q) sets))) else No
 
--- ---- what denies existence
-
--- a Secure NSEC3 set, in any section, isn't judged yet (RFC 5155)
-abbrev pub is_unjudged : MarkedSet → Bool
-is_unjudged judged = is_secure judged.mark && (judged.set.rtype == type_nsec3)
-
--- a Secure NSEC set of the authority section (RFC 4035, 3.1.3)
-abbrev pub is_denying : MarkedSet → Bool
-is_denying judged = section_eq Authority judged.section && (is_secure judged.mark && (judged.set.rtype == type_nsec))
-
-abbrev pub denying : List MarkedSet → List MarkedSet
-denying sets = filter is_denying sets
-
--- a record as an NSEC, with its owner
-abbrev pub owned_nsec : Rr → Option OwnedNsec
-owned_nsec r = option_map (λ text. record { owner = r.owner; fields = text }) (read_as type_nsec nsec_in r)
-
--- what the Secure NSEC records of the authority section say; those that can't be read say nothing
-abbrev pub denials : List MarkedSet → List OwnedNsec
-denials sets = flat_map (λ judged. filter_map owned_nsec judged.set.records) (denying sets)
+-- ---- who denies existence
 
 -- the zone that made the signature that decided
 abbrev pub signer_of : MarkedSet → Option Labels
@@ -102,7 +84,7 @@ signer_of judged = option_map (λ sig. sig.signer) (option_and_then rrsig_of (de
 abbrev pub is_made_by : Labels → MarkedSet → Bool
 is_made_by zone judged = option_map_or (name_eq zone) (signer_of judged) false
 
--- the zone that made them all: NSEC records of two zones prove nothing together (RFC 4035, 5.4)
+-- the zone that made them all: records of two zones prove nothing together (RFC 4035, 5.4)
 abbrev pub one_signer : List MarkedSet → Option Labels
 one_signer [] = None
 one_signer (judged ∷ rest) =
@@ -124,6 +106,12 @@ abbrev pub outcome_by_denials : Question → ℕ → Answered → List OwnedNsec
 outcome_by_denials q code how nsecs None = Denied Bogus
 outcome_by_denials q code how nsecs (Some zone) = outcome_by_nsec_verdict how (nsec_verdict q zone code how nsecs)
 
+-- the same of NSEC3 records; more iterations than the limits allow prove less (RFC 9276, 3.2)
+abbrev pub outcome_by_hashed_denials : Limits → Question → ℕ → Answered → List OwnedNsec3 → Option Labels → Outcome
+outcome_by_hashed_denials limits q code how nsec3s None = Denied Bogus
+outcome_by_hashed_denials limits q code how nsec3s (Some zone) =
+    outcome_by_nsec_verdict how (nsec3_verdict q zone code how nsec3s limits.soft limits.hard)
+
 -- ---- where no more than Insecure can be expected
 
 -- a record of the authority section is Insecure, with an owner at or above the name that is asked
@@ -144,11 +132,15 @@ insecure_answer q told = Given (if has_answer q told then denied.None else denie
 -- ---- the outcome
 
 -- the first case that holds decides
-unfoldable pub outcome_of : Question → Told → List MarkedSet → Outcome
-outcome_of q told sets =
-    if list_any is_unjudged sets then Unjudged
+unfoldable pub outcome_of : Limits → Question → Told → List MarkedSet → Outcome
+outcome_of limits q told sets =
     -- the zone above the name is Insecure, and nothing is said to come from a wildcard (RFC 4035, 4.3)
-    else if is_insecure_authority q told sets && not (has_wildcard_signature told) then insecure_answer q told
+    if is_insecure_authority q told sets && not (has_wildcard_signature told) then insecure_answer q told
+    -- a zone has NSEC records or NSEC3 records, never both (RFC 5155, 7.1 and 10.4)
+    else if list_any is_denying sets && list_any is_hash_denying sets then Denied Bogus
+    -- what is denied by hashes has to follow from the denials of one zone (RFC 5155, 8)
+    else if list_any is_hash_denying sets
+    then outcome_by_hashed_denials limits q told.code (answered q told sets) (hashed_denials sets) (one_signer (hash_denying sets))
     -- what is denied has to follow from the denials of one zone (RFC 4035, 5.4)
     else if list_any is_denying sets
     then outcome_by_denials q told.code (answered q told sets) (denials sets) (one_signer (denying sets))
