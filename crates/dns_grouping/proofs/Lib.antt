@@ -5,5 +5,4 @@ pub mod Joining
 pub mod Signing
 pub mod JoinSteps
 pub mod DepthLemmas
-pub mod BareLemmas
 pub mod MarkSteps

@@ -12,7 +12,7 @@ use Rattle.dns_rules.specs.Marking.{cleared, is_about}
 use Rattle.dns_rules.specs.MarkParts.{marked_by}
 use Rattle.dns_grouping.specs.declared.set_places.SetPlaces.{SetPlaces}
 use Rattle.dns_grouping.specs.SetPlaces.{place_of, or_place, with_judged, place_in, is_placed, ArePlacedIn}
-use Rattle.dns_grouping.proofs.BareLemmas.{bare_more}
+use Rattle.dns_rules.proofs.BareLemmas.{bare_more}
 use Rattle.dns_grouping.proofs.PlaceLemmas.{IsPlace, is_place, is_absent, place-push}
 
 pub set_at : (p : SetPlaces) (section : Section) (sets : List MarkedSet) (owner : Labels) (rtype n : ℕ) → ArePlacedIn p section sets → Some n ≡ place_of p owner rtype

@@ -149,8 +149,9 @@ fn covered_place(places: &SetPlaces, met: &Record) -> Option<usize>
     places.get(&met.name, sig.type_covered)
 }
 
-// The RRsets of a section. Signatures come second, since one may stand before its set.
-fn sets_in(alloc: Global, section: &[Record]) -> Result<Vec<RecordSet>, NoMemory>
+/// The RRsets of a section, in order of first appearance, with their signatures (RFC 2181, 5). The only error is want of memory.
+// Signatures come second, since one may stand before its set.
+pub fn sets_in(alloc: Global, section: &[Record]) -> Result<Vec<RecordSet>, NoMemory>
     ensures { IfOk result (λ v. v.items ≡ sets_of section.now) }
 {
     let mut sets = Vec::new(alloc);

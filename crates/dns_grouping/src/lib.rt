@@ -6,5 +6,5 @@ mod grouping;
 mod set_key;
 mod set_places;
 
-pub use grouping::{clear_marks, clear_one, judged_part};
+pub use grouping::{clear_marks, clear_one, judged_part, sets_in};
 pub use set_places::{SetPlaces, judged_places, set_rtype};

@@ -14,7 +14,7 @@ use Rattle.dns_rules.specs.Marking.{is_about}
 use Rattle.dns_grouping.specs.declared.set_places.SetPlaces.{SetPlaces}
 use Rattle.dns_grouping.specs.SetPlaces.{place_of, is_placed, ArePlacedIn}
 use Rattle.dns_grouping.proofs.PlaceLemmas.{is_absent}
-use Rattle.dns_grouping.proofs.BareLemmas.{bare_at}
+use Rattle.dns_rules.proofs.BareLemmas.{bare_at}
 use Rattle.dns_grouping.proofs.MarkSteps.{set_at}
 
 pub place_within : (p : SetPlaces) (section : Section) (sets : List ChainedSet) (owner : Labels) (rtype n : ℕ) → ArePlacedIn p section (bare sets)

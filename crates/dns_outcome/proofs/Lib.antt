@@ -1,4 +1,3 @@
 pub mod ExpansionLemmas
-pub mod DenyingLemmas
 pub mod AuthorityLemmas
 pub mod OutcomeLemmas

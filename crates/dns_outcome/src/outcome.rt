@@ -1,17 +1,17 @@
 ghost use Rattle.std.specs.Prelude.{◌≡◌, IfOk};
-ghost use Rattle.std.specs.List.{list_any};
 ghost use Rattle.std.specs.Option.{option_copied};
 ghost use Rattle.dns_model.specs.SoundAnswers.{told_by};
 ghost use Rattle.dns_rules.specs.ChainedSets.{bare};
 ghost use Rattle.dns_rules.specs.Delegations.{ZoneVerdict, is_insecure};
 ghost use Rattle.dns_rules.specs.Unsigned.{unsigned_mark};
-ghost use Rattle.dns_rules.specs.Outcome.{outcome_of as told_outcome, outcome_by_zone as told_by_zone, insecure_answer as told_insecure, foreign_record as foreign_in, is_unjudged as is_unjudged_set};
+ghost use Rattle.dns_rules.specs.Outcome.{outcome_of as told_outcome, outcome_by_zone as told_by_zone, insecure_answer as told_insecure, foreign_record as foreign_in};
 ghost use Rattle.dns_outcome.specs.Outcome.{outcome_value};
 
 use crate::answering::{has_answer, has_expanded_answer, has_wildcard_signature};
-use crate::denying::{has_denying, outcome_by_denials};
+use crate::denying::{outcome_by_denials, outcome_by_hashed_denials};
 use crate::insecure_authority::is_insecure_authority;
-use dns_evidence::ChainedSet;
+use dns_denying::has_denying;
+use dns_evidence::{ChainedSet, Limits};
 use dns_message::Message;
 use dns_model::{Denial, Proof};
 use dns_name::NoMemory;
@@ -21,8 +21,6 @@ use std::alloc::Global;
 /// How a judged step ends.
 #[derive(Clone, Copy, Debug, PartialEq, Eq)]
 pub enum Outcome {
-    /// It can't be judged yet, since NSEC3 isn't.
-    Unjudged,
     /// Its response is an answer.
     Given(Denial),
     /// The zone of its query decides, and has to be searched.
@@ -31,27 +29,35 @@ pub enum Outcome {
     Denied(Proof),
 }
 
-/// How a step ends whose sets are judged: the first case that holds decides (RFC 4035, 5.3.4 and 5.4).
+/// How a step ends whose sets are judged: the first case that holds decides (RFC 4035, 5.3.4 and 5.4; RFC 5155, 8). NSEC3 records
+/// are judged up to the soft limit of iterations.
 #[tactic(auto, using(dns_grouping::proofs::Joining::any_map), unfolding(dns_rules::specs::Outcome::outcome_of))]
 pub fn outcome_of(
     alloc: Global,
+    limits: &Limits,
     query: &Query,
     message: &Message,
     sets: &[ChainedSet],
 ) -> Result<Outcome, NoMemory>
-    ensures { IfOk result (λ o. outcome_value o ≡ told_outcome query.now (told_by message.now) (bare sets.now)) }
+    ensures { IfOk result (λ o. outcome_value o ≡ told_outcome limits.now query.now (told_by message.now) (bare sets.now)) }
 {
-    if has_unjudged(sets) {
-        return Ok(Outcome::Unjudged);
-    }
     let from_wildcard = has_wildcard_signature(&message.answers);
     // the zone above the name is Insecure, and nothing is said to come from a wildcard (RFC 4035, 4.3)
     if !from_wildcard && is_insecure_authority(alloc, query, message, sets)? {
         return Ok(insecure_answer(query, message));
     }
-    // what is denied has to follow from the denials of one zone (RFC 4035, 5.4)
-    if has_denying(sets) {
+    let by_hash = has_denying(RecordType::NSEC3, sets);
+    // a zone has NSEC records or NSEC3 records, never both (RFC 5155, 7.1 and 10.4)
+    if has_denying(RecordType::NSEC, sets) {
+        if by_hash {
+            return Ok(Outcome::Denied(Proof::Bogus));
+        }
+        // what is denied has to follow from the denials of one zone (RFC 4035, 5.4)
         return outcome_by_denials(alloc, query, message, sets);
+    }
+    // and so has what is denied by hashes (RFC 5155, 8)
+    if by_hash {
+        return outcome_by_hashed_denials(alloc, limits, query, message, sets);
     }
     // an expansion without a denial of closer names (RFC 4035, 5.3.4)
     if has_expanded_answer(sets) {
@@ -100,17 +106,4 @@ pub fn foreign_record<'a>(query: &Query, message: &'a Message) -> Option<&'a Rec
         .chain(message.authorities.iter())
         .chain(message.additionals.iter())
         .find(|found| found.dns_class != class)
-}
-
-fn has_unjudged(sets: &[ChainedSet]) -> bool
-    ensures { result ≡ list_any (λ c. is_unjudged_set c.judged) sets.now }
-{
-    sets.iter().any(is_unjudged)
-}
-
-// Whether a set is of NSEC3 records and Secure (RFC 5155).
-fn is_unjudged(set: &ChainedSet) -> bool
-    ensures { result ≡ is_unjudged_set set.now.judged }
-{
-    set.judged.mark == Proof::Secure && set.judged.set.record_type == RecordType::NSEC3
 }

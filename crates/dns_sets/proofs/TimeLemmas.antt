@@ -16,7 +16,7 @@ use Rattle.dns_rules.specs.MarkParts.{first_record, is_place, marked_by}
 use Rattle.dns_rules.specs.Marking.{cleared, is_about}
 use Rattle.dns_grouping.specs.declared.set_places.SetPlaces.{SetPlaces}
 use Rattle.dns_grouping.specs.SetPlaces.{is_placed, ArePlacedIn}
-use Rattle.dns_grouping.proofs.BareLemmas.{bare_at, bare_more}
+use Rattle.dns_rules.proofs.BareLemmas.{bare_at, bare_more}
 use Rattle.dns_grouping.proofs.MarkSteps as by_place
 use Rattle.dns_grouping.proofs.PlaceLemmas.{is_absent}
 use Rattle.dns_sets.specs.Counting.{place_for, set_at}

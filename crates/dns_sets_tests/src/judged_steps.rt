@@ -1,13 +1,20 @@
 //! Steps whose sets are judged, and how they end.
 use crate::rows::check_row;
 use crate::sets_tests::{Met, bare_message, put, query, records_of, set_of};
-use dns_evidence::{ChainedSet, MarkedSet};
+use dns_evidence::{ChainedSet, Limits, MarkedSet};
 use dns_message::Message;
 use dns_model::{Denial, NameError, Proof, Section};
 use dns_outcome::{Outcome, outcome_of};
 use dns_record::{Query, Record, RecordSet, RecordType, ResponseCode};
 use std::alloc::Global;
 use std::process::Abort;
+
+/// How far a lookup goes, if nothing else is said.
+pub(crate) const LIMITS: Limits = Limits {
+    depth: 26,
+    soft: 100,
+    hard: 500,
+};
 
 /// A set of one record in its section, with its mark, its signatures, and the place of the one that decided.
 pub(crate) struct Told {
@@ -177,7 +184,13 @@ fn outcome_to(
     row: &Row,
     sets: &[ChainedSet],
 ) -> Result<Outcome, NameError> {
-    Ok(outcome_of(alloc, query, &response(alloc, row)?, sets)?)
+    Ok(outcome_of(
+        alloc,
+        &LIMITS,
+        query,
+        &response(alloc, row)?,
+        sets,
+    )?)
 }
 
 /// How a step of these sets ends.

@@ -1,5 +1,5 @@
 use crate::judged_steps::{
-    ANSWER, APEX, BOGUS, BY_EXAMPLE, COVERS_ML, NO_NAME, PLAIN, Row, Told, UNSIGNED, check_ends,
+    ANSWER, APEX, BOGUS, BY_EXAMPLE, COVERS_ML, LIMITS, NO_NAME, PLAIN, Row, Told, UNSIGNED, check_ends,
 };
 use crate::rows::{check_count, check_row};
 use crate::sets_tests::{A, CNAME, Met, OVER_CNAME, OVER_EXPANDED, RRSIG, TXT, message, query};
@@ -77,7 +77,13 @@ const ENDED: &[Ended] = &[
 ];
 
 fn outcome_to(alloc: Global, query: &Query, records: &[Met]) -> Result<Outcome, NameError> {
-    Ok(outcome_of(alloc, query, &message(alloc, records)?, &[])?)
+    Ok(outcome_of(
+        alloc,
+        &LIMITS,
+        query,
+        &message(alloc, records)?,
+        &[],
+    )?)
 }
 
 fn ends(alloc: Global, row: &Ended) -> Result<bool, NameError> {
@@ -97,7 +103,7 @@ fn a_step_ends_by_its_records(rt: HostRuntime) {
 }
 
 const NSEC3: Told = Told {
-    section: Section::Additional,
+    section: Section::Authority,
     owner: "c.example.",
     record_type: RecordType::NSEC3,
     rdata: b"\x01",
@@ -105,6 +111,35 @@ const NSEC3: Told = Told {
     signatures: &[BY_EXAMPLE],
     decider: Some(0),
 };
+
+/// At `ns1.example.`, with A and RRSIG, salt AABBCCDD, 12 iterations (RFC 5155, appendix A).
+const AT_NS1: Told = Told {
+    owner: "2t7b4g4vsa5smi47k61mv5bv1a22bojr.example.",
+    rdata: AT_NS1_RDATA,
+    ..NSEC3
+};
+
+const AT_NS1_RDATA: &[u8] =
+    b"\x01\x00\x00\x0c\x04\xaa\xbb\xcc\xdd\x14\x17\xf3\xdf\x17\xb2\xb2\xad\xae\xf6\x15\x25\x7d\xe4\xd2\x02\x0b\x80\xac\x6c\x7c\x00\x06\x40\x00\x00\x00\x00\x02";
+
+/// The same with 100 iterations.
+const ITERATED_100: &[u8] =
+    b"\x01\x00\x00\x64\x04\xaa\xbb\xcc\xdd\x14\x17\xf3\xdf\x17\xb2\xb2\xad\xae\xf6\x15\x25\x7d\xe4\xd2\x02\x0b\x80\xac\x6c\x7c\x00\x06\x40\x00\x00\x00\x00\x02";
+
+/// The same with 101 iterations.
+const ITERATED_101: &[u8] =
+    b"\x01\x00\x00\x65\x04\xaa\xbb\xcc\xdd\x14\x17\xf3\xdf\x17\xb2\xb2\xad\xae\xf6\x15\x25\x7d\xe4\xd2\x02\x0b\x80\xac\x6c\x7c\x00\x06\x40\x00\x00\x00\x00\x02";
+
+/// The same with 500 iterations.
+const ITERATED_500: &[u8] =
+    b"\x01\x00\x01\xf4\x04\xaa\xbb\xcc\xdd\x14\x17\xf3\xdf\x17\xb2\xb2\xad\xae\xf6\x15\x25\x7d\xe4\xd2\x02\x0b\x80\xac\x6c\x7c\x00\x06\x40\x00\x00\x00\x00\x02";
+
+/// The same with 501 iterations.
+const ITERATED_501: &[u8] =
+    b"\x01\x00\x01\xf5\x04\xaa\xbb\xcc\xdd\x14\x17\xf3\xdf\x17\xb2\xb2\xad\xae\xf6\x15\x25\x7d\xe4\xd2\x02\x0b\x80\xac\x6c\x7c\x00\x06\x40\x00\x00\x00\x00\x02";
+
+/// A signature of the root's.
+const BY_ROOT: &[u8] = b"\0\x32\x08\x02\0\0\0\xc8\0\0\x03\xe8\0\0\0\0\0\x01\0\x01";
 
 const ABSENT_INSECURE: Outcome = Outcome::Given(Denial::Absent(Proof::Insecure));
 
@@ -163,13 +198,19 @@ const OTHERS: &[Row] = &[
         ..NO_NAME
     },
     Row {
-        shows: "Secure NSEC3 records aren't judged",
+        shows: "Secure NSEC3 records stand beside Secure NSEC records",
         told: &[PLAIN, APEX, NSEC3],
-        outcome: Outcome::Unjudged,
+        outcome: BOGUS,
         ..ANSWER
     },
     Row {
-        shows: "wherever they stand",
+        shows: "they stand beside a plain answer",
+        told: &[PLAIN, NSEC3],
+        outcome: BOGUS,
+        ..ANSWER
+    },
+    Row {
+        shows: "those of the answer section deny nothing",
         told: &[
             PLAIN,
             Told {
@@ -177,17 +218,98 @@ const OTHERS: &[Row] = &[
                 ..NSEC3
             },
         ],
-        outcome: Outcome::Unjudged,
         ..ANSWER
     },
     Row {
-        shows: "in the authority section too",
-        told: &[Told {
-            section: Section::Authority,
-            ..NSEC3
-        }],
-        outcome: Outcome::Unjudged,
+        shows: "nor do those of the additional section",
+        told: &[
+            PLAIN,
+            Told {
+                section: Section::Additional,
+                ..NSEC3
+            },
+        ],
+        ..ANSWER
+    },
+    Row {
+        shows: "one that can't be read proves nothing",
+        told: &[NSEC3],
+        outcome: BOGUS,
         ..NO_NAME
+    },
+    Row {
+        shows: "one at the name lacks the type",
+        name: "ns1.example.",
+        record_type: RecordType::MX,
+        told: &[AT_NS1],
+        outcome: Outcome::Given(Denial::Absent(Proof::Secure)),
+        ..ANSWER
+    },
+    Row {
+        shows: "it has the type",
+        name: "ns1.example.",
+        told: &[AT_NS1],
+        outcome: BOGUS,
+        ..ANSWER
+    },
+    Row {
+        shows: "another zone made the second one",
+        name: "ns1.example.",
+        record_type: RecordType::MX,
+        told: &[
+            AT_NS1,
+            Told {
+                signatures: &[BY_ROOT],
+                ..NSEC3
+            },
+        ],
+        outcome: BOGUS,
+        ..ANSWER
+    },
+    Row {
+        shows: "it has as many iterations as are judged",
+        name: "ns1.example.",
+        record_type: RecordType::MX,
+        told: &[Told {
+            rdata: ITERATED_100,
+            ..AT_NS1
+        }],
+        // the hash of the name is another with 100 iterations, and nothing matches it
+        outcome: BOGUS,
+        ..ANSWER
+    },
+    Row {
+        shows: "it has more",
+        name: "ns1.example.",
+        record_type: RecordType::MX,
+        told: &[Told {
+            rdata: ITERATED_101,
+            ..AT_NS1
+        }],
+        outcome: Outcome::Denied(Proof::Insecure),
+        ..ANSWER
+    },
+    Row {
+        shows: "it has as many as count at all",
+        name: "ns1.example.",
+        record_type: RecordType::MX,
+        told: &[Told {
+            rdata: ITERATED_500,
+            ..AT_NS1
+        }],
+        outcome: Outcome::Denied(Proof::Insecure),
+        ..ANSWER
+    },
+    Row {
+        shows: "it has more than these",
+        name: "ns1.example.",
+        record_type: RecordType::MX,
+        told: &[Told {
+            rdata: ITERATED_501,
+            ..AT_NS1
+        }],
+        outcome: BOGUS,
+        ..ANSWER
     },
     Row {
         shows: "others say nothing",

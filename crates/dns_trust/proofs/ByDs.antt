@@ -13,7 +13,7 @@ use Rattle.dns_model.specs.SoundAnswers.{PlacedSet}
 use Rattle.dns_model.proofs.EachLemmas.{find-map}
 use Rattle.dns_rules.specs.MarkedSets.{MarkedSet}
 use Rattle.dns_rules.specs.ProofErrors.{DsRecordShouldExist, DsResponseInsecure, UnknownKeyAlgorithm}
-use Rattle.dns_rules.specs.Delegations.{ZoneVerdict, Signed, Insecure, Bogus, is_ds_set_of, is_supported_ds, is_readable_ds, verdict_by_ds, shows_no_ds, is_insecure_above, verdict_without_ds, zone_verdict}
+use Rattle.dns_rules.specs.Delegations.{ZoneVerdict, Signed, Insecure, Bogus, is_ds_set_of, is_supported_ds, is_readable_ds, verdict_by_ds, shows_no_ds, shows_no_ds_by_hash, is_insecure_above, verdict_without_ds, zone_verdict}
 use Rattle.dns_rules.specs.Unsigned.{unsigned_mark}
 use Rattle.dns_rules.specs.KeySets.{needs_ds, keys_outcome, outcome_by_ds, outcome_by_verdict}
 use Rattle.dns_rules.specs.ChainedSets.{ChainedSet, bare, ds_chain, keys_chained, chained_keys, chained_by_ds}
@@ -87,7 +87,9 @@ pub by_none : (j : Judge) (set : RrSet) (answer : List ChainedSet)
     → find (λ c. is_ds_set_of set.class set.owner c.judged) answer ≡ None
     → unproved ((unsigned_mark (verdict_without_ds set.owner (bare answer))).mark) ≡ marked_by_zone j set (Some answer)
 by_none j set answer none =
-    unproved_if j set (list_any (shows_no_ds set.owner) (bare answer) || list_any (is_insecure_above set.owner) (bare answer))
+    unproved_if j set
+    (list_any (shows_no_ds set.owner) (bare answer)
+    || (shows_no_ds_by_hash set.owner (bare answer) || list_any (is_insecure_above set.owner) (bare answer)))
     ∙ sym (marked_found j set answer None none)
 
 -- ---- its records

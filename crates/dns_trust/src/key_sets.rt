@@ -179,7 +179,10 @@ fn marked_by_answer<V: Verifier>(
     };
     match ds_set_of(set.dns_class, &set.name, sets) {
         Some(found) => marked_by_set(alloc, judge, set, found),
-        None => Ok(refused(alloc, mark_without_ds(&set.name, sets))),
+        None => {
+            let mark = mark_without_ds(alloc, &set.name, sets)?;
+            Ok(refused(alloc, mark))
+        }
     }
 }
 

@@ -12,7 +12,6 @@ mod judge;
 mod judged;
 mod key_sets;
 mod keys;
-mod limits;
 mod searching;
 mod set_signature;
 mod signers;
@@ -30,7 +29,6 @@ pub use judge::Judge;
 pub use judged::chained_by;
 pub use key_sets::{KeysStep, ds_ask_of, judged_by_ds, keys_step_of};
 pub use keys::{AnchoredRow, MatchedRow, anchored, anchored_row, matched_row};
-pub use limits::Limits;
 pub use searching::{
     NsProbe, ds_query, has_ns_record, is_key_set, is_ns_of, needs_zone, ns_query, question_start,
     set_start,

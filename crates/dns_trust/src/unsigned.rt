@@ -1,19 +1,21 @@
-ghost use Rattle.std.specs.Prelude.{◌≡◌, ◌||◌, [], None};
+ghost use Rattle.std.specs.Prelude.{◌≡◌, ◌||◌, [], None, IfOk, if◌then◌else◌};
 ghost use Rattle.std.specs.List.{list_any, find};
 ghost use Rattle.std.specs.Option.{option_map, option_copied};
 ghost use Rattle.dns_rules.specs.ChainedSets.{bare};
-ghost use Rattle.dns_rules.specs.Delegations.{zone_verdict, verdict_by_ds, verdict_without_ds, is_ds_set_of, shows_no_ds as shows_none, shows_unsigned_cut as shows_cut, is_insecure_above as is_above, is_readable_ds as is_readable, is_supported_ds as is_supported};
+ghost use Rattle.dns_rules.specs.Delegations.{zone_verdict, verdict_by_ds, verdict_without_ds, is_ds_set_of, shows_no_ds as shows_none, shows_no_ds_by_hash, shows_unsigned_cut as shows_cut, is_insecure_above as is_above, is_readable_ds as is_readable, is_supported_ds as is_supported};
 ghost use Rattle.dns_rules.specs.ListedTypes.{is_unsigned_cut as is_cut};
-ghost use Rattle.dns_model.specs.declared.proof.Proof.TheVariants.{Secure};
+ghost use Rattle.dns_model.specs.declared.proof.Proof.TheVariants.{Secure, Insecure, Bogus};
 ghost use Rattle.dns_model.specs.Names.{Labels};
 ghost use Rattle.dns_trust.specs.Unsigned.{unsupported_mark};
 ghost use Rattle.dns_rules.specs.Unsigned.{unsigned_mark};
 ghost use Rattle.dns_trust.specs.Verdicts.{listed};
 
 use crate::is_supported_ds;
+use dns_denial::verify_nsec3_insecure_delegation;
+use dns_denying::nsec3_denials;
 use dns_evidence::{ChainedSet, MarkedSet, PlacedSet, Verifier};
 use dns_model::{Proof, Section};
-use dns_name::Name;
+use dns_name::{Name, NoMemory};
 use dns_rdata::{Ds, Nsec};
 use dns_record::{DNSClass, Record, RecordType};
 use std::alloc::Global;
@@ -37,22 +39,23 @@ pub fn unsigned_set(alloc: Global, placed: PlacedSet, mark: Proof) -> ChainedSet
 }
 
 /// What a zone leaves to the sets in it that are unsigned, by the judged sets of the answer to the ask for its DS set; None where
-/// the ask failed or was refused: Insecure where no more can be expected, and else Bogus (RFC 4035, 4.3 and 5.2).
+/// the ask failed or was refused: Insecure where no more can be expected, and else Bogus (RFC 4035, 4.3 and 5.2; RFC 5155, 8.9).
 pub fn zone_mark<V: Verifier>(
+    alloc: Global,
     verifier: &V,
     class: DNSClass,
     zone: &Name,
     answer: &Option<Vec<ChainedSet>>,
-) -> Proof
-    ensures { result ≡ (unsigned_mark (zone_verdict (V.answers verifier.now) class.0 zone.now
-        (option_map bare (listed answer.now)))).mark }
+) -> Result<Proof, NoMemory>
+    ensures { IfOk result (λ mark. mark ≡ (unsigned_mark (zone_verdict (V.answers verifier.now) class.0 zone.now
+        (option_map bare (listed answer.now)))).mark) }
 {
     let Some(sets) = answer else {
-        return Proof::Bogus;
+        return Ok(Proof::Bogus);
     };
     match ds_set_of(class, zone, sets) {
-        Some(found) => mark_by_set(verifier, zone, found),
-        None => mark_without_ds(zone, sets),
+        Some(found) => Ok(mark_by_set(verifier, zone, found)),
+        None => mark_without_ds(alloc, zone, sets),
     }
 }
 
@@ -93,13 +96,29 @@ pub(crate) fn mark_by_unsupported(records: &[Record]) -> Proof
 }
 
 /// What an answer without a DS set of the zone leaves to its unsigned sets.
-pub(crate) fn mark_without_ds(zone: &Name, sets: &[ChainedSet]) -> Proof
-    ensures { result ≡ (unsigned_mark (verdict_without_ds zone.now (bare sets.now))).mark }
+pub(crate) fn mark_without_ds(
+    alloc: Global,
+    zone: &Name,
+    sets: &[ChainedSet],
+) -> Result<Proof, NoMemory>
+    ensures { IfOk result (λ mark. mark ≡ (unsigned_mark (verdict_without_ds zone.now (bare sets.now))).mark) }
 {
     if is_insecure_without_ds(zone, sets) {
-        Proof::Insecure
+        return Ok(Proof::Insecure);
+    }
+    mark_by_hashes(alloc, zone, sets)
+}
+
+// What its Secure NSEC3 records leave to them (RFC 5155, 8.9).
+fn mark_by_hashes(alloc: Global, zone: &Name, sets: &[ChainedSet]) -> Result<Proof, NoMemory>
+    ensures { IfOk result
+        (λ mark. mark ≡ (if shows_no_ds_by_hash zone.now (bare sets.now) then Insecure else Bogus)) }
+{
+    let nsec3s = nsec3_denials(alloc, sets)?;
+    if verify_nsec3_insecure_delegation(zone, &nsec3s) {
+        Ok(Proof::Insecure)
     } else {
-        Proof::Bogus
+        Ok(Proof::Bogus)
     }
 }
 

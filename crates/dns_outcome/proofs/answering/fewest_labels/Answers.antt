@@ -1,7 +1,7 @@
 use Rattle.std.proofs.Common.{◌≡◌, take, sym, ap, ◌∙◌}
 use Rattle.dns_rules.specs.ChainedSets.{bare}
 use Rattle.dns_outcome.specs.Expansions.{fewer, expanded_labels}
-use Rattle.dns_grouping.proofs.BareLemmas.{bare_more}
+use Rattle.dns_rules.proofs.BareLemmas.{bare_more}
 use Rattle.dns_outcome.proofs.ExpansionLemmas.{fewest, fewest-push, fewest_none}
 use Rattle.dns_outcome.proofs.answering.fewest_labels.Goals as goal
 

@@ -25,12 +25,12 @@ returns-in-Some-ds_set_of g c =
     ∙ ap (λ o. marked_by_zone j c.args.set.now (listed o)) (sym c.in-Some.is))
     c.marked_by_set.ensures
 
-pub returns-in-None : goal.returns-in-None
-returns-in-None g c =
+pub returns-in_ok-mark-in-None : goal.returns-in_ok-mark-in-None
+returns-in_ok-mark-in-None g c =
     let j = judge_of g.V.Verifier.answers c.args.judge.now in
     let none : find (λ (s : ChainedSet). is_ds_set_of c.args.set.now.class c.args.set.now.owner s.judged) c.in-Some.sets.items ≡ None = search rules in
     c.refused-in-None.ensures
-    ∙ ap unproved (c.mark_without_ds.ensures
+    ∙ ap unproved (c.in_ok-mark.ensures
     ∙ ap (λ (x : RrSet). (unsigned_mark (verdict_without_ds x.owner (bare c.deref-in-None.result.now))).mark) c.set.view_is
     ∙ ap (λ xs. (unsigned_mark (verdict_without_ds c.args.set.now.owner (bare xs))).mark) c.deref-in-None.ensures.value)
     ∙ by_none j c.args.set.now c.in-Some.sets.items none

@@ -1,4 +1,4 @@
-use Rattle.std.proofs.Common.{rules, ◌≡◌, None, Some, sym, ap, ◌∙◌}
+use Rattle.std.proofs.Common.{rules, ◌≡◌, None, Some, IfOk, subst, sym, ap, ◌∙◌}
 use Rattle.std.specs.List.{find}
 use Rattle.std.specs.Option.{option_map}
 use Rattle.dns_rules.specs.Delegations.{is_ds_set_of, verdict_without_ds, zone_verdict}
@@ -26,7 +26,8 @@ pub returns-in-None : goal.returns-in-None
 returns-in-None g c =
     let v = g.V.Verifier.answers c.args.verifier.now in
     let none : find (λ (s : ChainedSet). is_ds_set_of c.args.class.0 c.args.zone.now s.judged) c.in-Some.sets.items ≡ None = search rules in
-    c.mark_without_ds.ensures
-    ∙ ap (λ xs. (unsigned_mark (verdict_without_ds c.args.zone.now (bare xs))).mark) c.deref-in-None.ensures.value
+    subst (λ w. IfOk c.mark_without_ds.result (λ mark. mark ≡ w))
+    (ap (λ xs. (unsigned_mark (verdict_without_ds c.args.zone.now (bare xs))).mark) c.deref-in-None.ensures.value
     ∙ without_mark v c.args.class.0 c.args.zone.now c.in-Some.sets.items none
-    ∙ ap (λ o. (unsigned_mark (zone_verdict v c.args.class.0 c.args.zone.now (option_map bare (listed o)))).mark) (sym c.in-Some.is)
+    ∙ ap (λ o. (unsigned_mark (zone_verdict v c.args.class.0 c.args.zone.now (option_map bare (listed o)))).mark) (sym c.in-Some.is))
+    c.mark_without_ds.ensures

@@ -1,0 +1,2 @@
+pub mod DenyingLemmas
+pub mod SaidLemmas
