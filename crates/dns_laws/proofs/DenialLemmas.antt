@@ -9,8 +9,8 @@ use Rattle.dns_model.specs.declared.denial.Denial.TheVariants as denied
 use Rattle.dns_model.specs.Records.{Rr, Question}
 use Rattle.dns_model.specs.Chains.{Judge}
 use Rattle.dns_model.specs.SoundAnswers.{Told}
-use Rattle.dns_model.specs.Trails.{AskedValue, Answered, Denied, Foreign, Failed}
-use Rattle.dns_rules.specs.Asking.{depth_limit, judged_part}
+use Rattle.dns_model.specs.Trails.{AskedValue, Answered, Denied, Foreign}
+use Rattle.dns_rules.specs.Asking.{Limits, effective, judged_part}
 use Rattle.dns_rules.specs.Delegations as delegation
 use Rattle.dns_rules.specs.Delegations.{ZoneVerdict}
 use Rattle.dns_rules.specs.Unsigned.{question_start, is_empty}
@@ -39,7 +39,8 @@ denial_same (denied.Expanded a) (denied.Absent b) h = cc
 denial_same (denied.Expanded a) (denied.Expanded b) h = ap denied.Expanded (proof_same a b h)
 
 -- a search shows no Secure denial
-zone_step : (q : Question) (told : Told) (found : ZoneVerdict) (d : Denial) → ending_eq (ending_by (outcome_by_zone q told found)) (Answered d) ≡ true
+zone_step : (q : Question) (told : Told) (found : ZoneVerdict) (d : Denial)
+    → ending_eq (ending_by (outcome_by_zone q told found)) (Answered d) ≡ true
     → IsPlain (has_answer q told) d
 zone_step q told (delegation.Signed ds) d h = cc
 zone_step q told (delegation.Insecure kind) d h =
@@ -47,16 +48,16 @@ zone_step q told (delegation.Insecure kind) d h =
     subst (IsPlain (has_answer q told)) (denial_same answer d h) (insecure_is_plain (has_answer q told))
 zone_step q told (delegation.Bogus kind) d h = cc
 
-search_step : (step : AskedValue) (told : Told) (d : Denial) (found : Option ZoneVerdict) → ends_by_search step told found ≡ true → step.ending ≡ Answered d
+search_step : (step : AskedValue) (told : Told) (d : Denial) (found : Option ZoneVerdict)
+    → ends_by_search step told found ≡ true → step.ending ≡ Answered d
     → IsPlain (has_answer step.query told) d
 search_step step told d None h ends = cc
 search_step step told d (Some found) h ends =
     zone_step step.query told found d (ap (λ e. ending_eq (ending_by (outcome_by_zone step.query told found)) e) (sym ends) ∙ h)
 
-ending_leads : (g : StepContext) (step : AskedValue) (told : Told) (d : Denial) (o : Outcome) → ending_holds g step told o ≡ true → step.ending ≡ Answered d
+ending_leads : (g : StepContext) (step : AskedValue) (told : Told) (d : Denial) (o : Outcome)
+    → ending_holds g step told o ≡ true → step.ending ≡ Answered d
     → LeadsTo (has_answer step.query told) o d
-ending_leads g step told d outcome.Unjudged h ends =
-    let other = ap (ending_eq Failed) (sym ends) ∙ (and_parts (ending_eq Failed step.ending) (is_empty step.excuse) h).0 in cc
 ending_leads g step told d (outcome.Given c) h ends =
     let same = ap (ending_eq (Answered c)) (sym ends) ∙ (and_parts (ending_eq (Answered c) step.ending) (is_empty step.excuse) h).0 in
     inl (ap outcome.Given (denial_same c d same))
@@ -68,34 +69,38 @@ ending_leads g step told d (outcome.Denied proof) h ends =
 -- ---- a step
 
 -- where no record is of another class, its ending is that of its outcome
-class_leads : (g : StepContext) (step : AskedValue) (told : Told) (d : Denial) (o : Option Rr) → judged_holds g step told o ≡ true → step.ending ≡ Answered d
-    → LeadsTo (has_answer step.query told) (outcome_of step.query told (with_entries (judged_part step.depth told) step.sets)) d
+class_leads : (g : StepContext) (step : AskedValue) (told : Told) (d : Denial) (o : Option Rr)
+    → judged_holds g step told o ≡ true → step.ending ≡ Answered d
+    → LeadsTo (has_answer step.query told) (outcome_of g.limits step.query told (with_entries (judged_part step.depth told) step.sets)) d
 class_leads g step told d (Some r) h ends =
     let foreign = Foreign r.owner r.class r.rtype in
     let other = ap (ending_eq foreign) (sym ends) ∙ (and_parts (ending_eq foreign step.ending) (is_bare step) h).0 in cc
 class_leads g step told d None h ends =
     let sets = with_entries (judged_part step.depth told) step.sets in
-    let holds = ending_holds g step told (outcome_of step.query told sets) in
-    ending_leads g step told d (outcome_of step.query told sets)
+    let holds = ending_holds g step told (outcome_of g.limits step.query told sets) in
+    ending_leads g step told d (outcome_of g.limits step.query told sets)
     ((and_parts (entries_hold g (judged_part step.depth told) step.sets) holds h).1) ends
 
-step_denies : (j : Judge) (limit : ℕ) (earlier : List AskedValue) (step : AskedValue) → step_holds j limit earlier step ≡ true → StepDenies step
-step_denies j limit earlier step h = λ told d judged heard ends.
-    let g = step_context_of j limit earlier step in
+step_denies : (j : Judge) (limits : Limits) (earlier : List AskedValue) (step : AskedValue)
+    → step_holds j limits earlier step ≡ true → StepDenies step
+step_denies j limits earlier step h = λ told d judged heard ends.
+    let g = step_context_of j limits earlier step in
     let sets = with_entries (judged_part step.depth told) step.sets in
     let same : judged_sets step ≡ sets = ap (λ o. option_map_or (λ t. with_entries (judged_part step.depth t) step.sets) o []) heard in
-    let leads = class_leads g step told d (foreign_record step.query told) (judged_step j limit earlier step told h judged heard) ends in
-    subst (λ s. ShowsDenial step.query told s d) (sym same) (outcome_shows step.query told sets d (judged_told step.depth told step.sets) leads)
+    let leads = class_leads g step told d (foreign_record step.query told) (judged_step j limits earlier step told h judged heard) ends in
+    subst (λ s. ShowsDenial step.query told s d) (sym same) (outcome_shows limits step.query told sets d (judged_told step.depth told step.sets) leads)
 
 -- ---- a trail
 
-steps_deny : (j : Judge) (limit : ℕ) (earlier steps : List AskedValue) → steps_hold j limit earlier steps ≡ true → AllByRecursion StepDenies steps
+steps_deny : (j : Judge) (limits : Limits) (earlier steps : List AskedValue)
+    → steps_hold j limits earlier steps ≡ true → AllByRecursion StepDenies steps
 unfolding steps_hold
-steps_deny j limit earlier [] h = tt
-steps_deny j limit earlier (step ∷ steps) h =
-    let parts = and_parts (step_holds j limit earlier step) (steps_hold j limit (earlier ++ step ∷ []) steps) h in
-    (step_denies j limit earlier step parts.0, steps_deny j limit (earlier ++ step ∷ []) steps parts.1)
+steps_deny j limits earlier [] h = tt
+steps_deny j limits earlier (step ∷ steps) h =
+    let parts = and_parts (step_holds j limits earlier step) (steps_hold j limits (earlier ++ step ∷ []) steps) h in
+    (step_denies j limits earlier step parts.0, steps_deny j limits (earlier ++ step ∷ []) steps parts.1)
 
 -- each judged step of a derivation that ends with an answer shows what it denies
-pub denials_hold : (j : Judge) (depth : ℕ) (trail : List AskedValue) → derivation j depth trail ≡ true → HasDenials trail
-denials_hold j depth trail h = steps_deny j (depth_limit depth) [] trail (derivation_parts j depth trail h).hold
+pub denials_hold : (j : Judge) (limits : Limits) (trail : List AskedValue) → derivation j limits trail ≡ true
+    → HasDenials trail
+denials_hold j limits trail h = steps_deny j (effective limits) [] trail (derivation_parts j limits trail h).hold

@@ -19,7 +19,9 @@ use Rattle.dns_model.proofs.AboveLemmas.{above_trans, above_alike, above_itself}
 use Rattle.dns_model.proofs.EachLemmas.{find_known, any_agree}
 use Rattle.dns_model.proofs.SetLemmas.{IsProper, name_left, name_back, number_same}
 use Rattle.dns_rules.specs.MarkedSets.{MarkedSet}
-use Rattle.dns_rules.specs.Delegations.{ZoneVerdict, ds_question, is_readable_ds, is_supported_ds, is_ds_set_of, shows_unsigned_cut, shows_no_ds, is_insecure, is_insecure_above, verdict_by_ds, verdict_without_ds, zone_verdict}
+use Rattle.dns_rules.specs.Denying.{hashed_denials}
+use Rattle.dns_hashed_denial.proofs.AlikeNames.{delegation_alike}
+use Rattle.dns_rules.specs.Delegations.{ZoneVerdict, ds_question, is_readable_ds, is_supported_ds, is_ds_set_of, shows_unsigned_cut, shows_no_ds, shows_no_ds_by_hash, is_insecure, is_insecure_above, verdict_by_ds, verdict_without_ds, zone_verdict}
 use Rattle.dns_rules.specs.Delegations as delegation
 use Rattle.dns_rules.specs.ProofErrors.{DsRecordShouldExist, DsResponseInsecure, UnknownKeyAlgorithm}
 use Rattle.dns_rules.specs.KeySets.{is_root}
@@ -54,7 +56,8 @@ pub record IsGroundOf (verifier : VerifierAnswers) (name : Labels) (step : Asked
   pub above : at_or_above step.query.owner name ≡ true
   pub shows : option_map_or (shows_unsigned verifier step.query.class step.query.owner) (if_answered step.ending (judged_sets step)) false ≡ true
 
-ground_parts : (verifier : VerifierAnswers) (name : Labels) (step : AskedValue) → is_ground verifier name step ≡ true → IsGroundOf verifier name step
+ground_parts : (verifier : VerifierAnswers) (name : Labels) (step : AskedValue) → is_ground verifier name step ≡ true
+    → IsGroundOf verifier name step
 ground_parts verifier name step h =
     let rtype = step.query.rtype == type_ds in
     let below = not (is_root step.query.owner) in
@@ -66,7 +69,8 @@ ground_parts verifier name step h =
     let four = and_parts above shows three.1 in
     record { judged = one.0; rtype = two.0; below_root = three.0; above = four.0; shows = four.1 }
 
-ground_made : (verifier : VerifierAnswers) (name : Labels) (step : AskedValue) → IsGroundOf verifier name step → is_ground verifier name step ≡ true
+ground_made : (verifier : VerifierAnswers) (name : Labels) (step : AskedValue) → IsGroundOf verifier name step
+    → is_ground verifier name step ≡ true
 ground_made verifier name step i =
     let rtype = step.query.rtype == type_ds in
     let below = not (is_root step.query.owner) in
@@ -76,7 +80,8 @@ ground_made verifier name step i =
     (and_from rtype (below && (above && shows)) i.rtype (and_from below (above && shows) i.below_root (and_from above shows i.above i.shows)))
 
 -- a ground of a name is one of each name below it
-pub grounded_below : (verifier : VerifierAnswers) (earlier : List AskedValue) (above name : Labels) → at_or_above above name ≡ true
+pub grounded_below : (verifier : VerifierAnswers) (earlier : List AskedValue) (above name : Labels)
+    → at_or_above above name ≡ true
     → Grounded verifier earlier above → Grounded verifier earlier name
 grounded_below verifier earlier above name below h =
     any_more (is_ground verifier above) (is_ground verifier name)
@@ -90,7 +95,8 @@ grounded_below verifier earlier above name below h =
     }))
     earlier h
 
-pub grounded_alike : (verifier : VerifierAnswers) (earlier : List AskedValue) (one two : Labels) → name_eq one two ≡ true
+pub grounded_alike : (verifier : VerifierAnswers) (earlier : List AskedValue) (one two : Labels)
+    → name_eq one two ≡ true
     → Grounded verifier earlier one → Grounded verifier earlier two
 grounded_alike verifier earlier one two same h =
     grounded_below verifier earlier one two (above_alike two one two (name_back one two same) (above_itself two)) h
@@ -111,7 +117,8 @@ supported_step name ds false false h = cc
 
 -- a DS set by which it is so is Secure, and none of its records is supported
 by_ds : (verifier : VerifierAnswers) (name : Labels) (mark : Proof) (records : List Rr)
-    → is_insecure_zone (verdict_by_ds verifier name mark records) ≡ true → (is_secure mark && none_supported verifier records) ≡ true
+    → is_insecure_zone (verdict_by_ds verifier name mark records) ≡ true
+    → (is_secure mark && none_supported verifier records) ≡ true
 by_ds verifier name Secure records h =
     supported_step name (filter (is_supported_ds verifier) records) (list_any (is_supported_ds verifier) records) (list_any is_readable_ds records) h
 by_ds verifier name Insecure records h = cc
@@ -128,29 +135,38 @@ verdict_found verifier name answer found =
     option_map_or (λ s. verdict_by_ds verifier name s.mark s.set.records) found (verdict_without_ds name answer)
 
 -- it shows that the zone is unsigned, or has an Insecure set at the zone or above it
-answer_shows : (verifier : VerifierAnswers) (earlier : List AskedValue) (class : ℕ) (name : Labels) (answer : List MarkedSet) (o : Option MarkedSet)
-    → AreSettled verifier earlier answer → find (is_ds_set_of class name) answer ≡ o → is_insecure_zone (verdict_found verifier name answer o) ≡ true
+answer_shows : (verifier : VerifierAnswers) (earlier : List AskedValue) (class : ℕ) (name : Labels)
+    (answer : List MarkedSet) (o : Option MarkedSet)
+    → AreSettled verifier earlier answer → find (is_ds_set_of class name) answer ≡ o
+    → is_insecure_zone (verdict_found verifier name answer o) ≡ true
     → (shows_unsigned verifier class name answer ≡ true) ⊎ Grounded verifier earlier name
 answer_shows verifier earlier class name answer (Some s) settled is h =
     let found = find_known (is_ds_set_of class name) (IsSettled verifier earlier) answer s settled is in
     let unsupported : shows_unsupported_ds verifier class name s ≡ true =
     and_from (is_ds_set_of class name s) (is_secure s.mark && none_supported verifier s.set.records) found.passes
     (by_ds verifier name s.mark s.set.records h) in
-    inl (ap (λ b. b || (not (list_any (is_ds_set_of class name) answer) && list_any (shows_no_ds name) answer))
+    inl (ap (λ b. b || (not (list_any (is_ds_set_of class name) answer) && (list_any (shows_no_ds name) answer || shows_no_ds_by_hash name answer)))
     (found_any (is_ds_set_of class name) (shows_unsupported_ds verifier class name) answer s is unsupported))
 answer_shows verifier earlier class name answer None settled is h =
+    let unsupported = list_any (shows_unsupported_ds verifier class name) answer in
+    let some = list_any (is_ds_set_of class name) answer in
+    let cut = list_any (shows_no_ds name) answer in
+    let hashed = shows_no_ds_by_hash name answer in
+    let above = list_any (is_insecure_above name) answer in
+    let shown : (cut || hashed) ≡ true → (unsupported || (not some && (cut || hashed))) ≡ true =
+    λ e. or_second unsupported (not some && (cut || hashed))
+    (and_from (not some) (cut || hashed) (ap not (none_any (is_ds_set_of class name) answer is)) e) in
     ⊎_elim
-    (λ (e : list_any (shows_no_ds name) answer ≡ true).
-    inl (or_second (list_any (shows_unsupported_ds verifier class name) answer)
-    (not (list_any (is_ds_set_of class name) answer) && list_any (shows_no_ds name) answer)
-    (and_from (not (list_any (is_ds_set_of class name) answer)) (list_any (shows_no_ds name) answer)
-    (ap not (none_any (is_ds_set_of class name) answer is)) e)))
-    (λ (e : list_any (is_insecure_above name) answer ≡ true).
-    let p = picked_known (is_insecure_above name) (IsSettled verifier earlier) answer settled e in
+    (λ (e : cut ≡ true). inl (shown (ap (λ b. b || hashed) e)))
+    (λ (e : (hashed || above) ≡ true).
+    ⊎_elim
+    (λ (k : hashed ≡ true). inl (shown (or_second cut hashed k)))
+    (λ (k : above ≡ true).
+    let p = picked_known (is_insecure_above name) (IsSettled verifier earlier) answer settled k in
     let parts = and_parts (is_insecure p.it.mark) (at_or_above p.it.set.owner name) p.passes in
     inr (grounded_below verifier earlier p.it.set.owner name parts.1 (p.known.grounded parts.0)))
-    (or_cases (list_any (shows_no_ds name) answer) (list_any (is_insecure_above name) answer)
-    (without_step name (list_any (shows_no_ds name) answer || list_any (is_insecure_above name) answer) h))
+    (or_cases hashed above e))
+    (or_cases cut (hashed || above) (without_step name (cut || (hashed || above)) h))
   where
     or_second : (a b : Bool) → b ≡ true → (a || b) ≡ true
     or_second true b e = refl
@@ -159,7 +175,8 @@ answer_shows verifier earlier class name answer None settled is h =
 -- ---- the question that was asked
 
 -- an answer shows the same of a zone by equal names
-shows_alike : (verifier : VerifierAnswers) (class : ℕ) (one two : Labels) (answer : List MarkedSet) → name_eq one two ≡ true
+shows_alike : (verifier : VerifierAnswers) (class : ℕ) (one two : Labels) (answer : List MarkedSet)
+    → name_eq one two ≡ true
     → shows_unsigned verifier class one answer ≡ shows_unsigned verifier class two answer
 shows_alike verifier class one two answer same =
     let ds = λ (s : MarkedSet).
@@ -170,9 +187,14 @@ shows_alike verifier class one two answer same =
     let cut = any_agree (shows_no_ds one) (shows_no_ds two)
     (λ s. ap (λ b. section_eq Authority s.section && (is_secure s.mark && (b && ((s.set.rtype == type_nsec) && list_any shows_unsigned_cut s.set.records))))
     (name_left one two s.set.owner same)) answer in
-    ap (λ b. b || (not (list_any (is_ds_set_of class one) answer) && list_any (shows_no_ds one) answer)) unsupported
-    ∙ ap (λ b. list_any (shows_unsupported_ds verifier class two) answer || (not b && list_any (shows_no_ds one) answer)) none
-    ∙ ap (λ b. list_any (shows_unsupported_ds verifier class two) answer || (not (list_any (is_ds_set_of class two) answer) && b)) cut
+    let hashed = delegation_alike one two (hashed_denials answer) same in
+    let shown = λ (name : Labels). list_any (shows_no_ds name) answer || shows_no_ds_by_hash name answer in
+    ap (λ b. b || (not (list_any (is_ds_set_of class one) answer) && shown one)) unsupported
+    ∙ ap (λ b. list_any (shows_unsupported_ds verifier class two) answer || (not b && shown one)) none
+    ∙ ap (λ b. list_any (shows_unsupported_ds verifier class two) answer || (not (list_any (is_ds_set_of class two) answer)
+    && (b || shows_no_ds_by_hash one answer))) cut
+    ∙ ap (λ b. list_any (shows_unsupported_ds verifier class two) answer || (not (list_any (is_ds_set_of class two) answer)
+    && (list_any (shows_no_ds two) answer || b))) hashed
 
 root_alike : (one two : Labels) → name_eq one two ≡ true → is_root one ≡ false → not (is_root two) ≡ true
 root_alike [] two same h = cc
@@ -180,7 +202,8 @@ root_alike (label ∷ one) [] same h = cc
 root_alike (label ∷ one) (other ∷ two) same h = refl
 
 -- the sets of an answer
-pub answered_sets : (ending : EndingValue) (sets answer : List MarkedSet) → if_answered ending sets ≡ Some answer → sets ≡ answer
+pub answered_sets : (ending : EndingValue) (sets answer : List MarkedSet) → if_answered ending sets ≡ Some answer
+    → sets ≡ answer
 answered_sets (Answered d) sets answer h = cc
 answered_sets (Denied proof) sets answer h = cc
 answered_sets (Foreign owner class rtype) sets answer h = cc
@@ -188,8 +211,10 @@ answered_sets Failed sets answer h = cc
 answered_sets Seen sets answer h = cc
 
 -- an earlier step asked for the DS set of a zone, and its answer makes the zone Insecure
-by_answer : (verifier : VerifierAnswers) (earlier : List AskedValue) (n class : ℕ) (name : Labels) (step : AskedValue) (o : Option (List MarkedSet))
-    → StepsSettled verifier earlier earlier → is_root name ≡ false → slice_get earlier n ≡ Some step → step.judged ≡ true
+by_answer : (verifier : VerifierAnswers) (earlier : List AskedValue) (n class : ℕ) (name : Labels) (step : AskedValue)
+    (o : Option (List MarkedSet))
+    → StepsSettled verifier earlier earlier → is_root name ≡ false → slice_get earlier n ≡ Some step
+    → step.judged ≡ true
     → question_eq (ds_question class name) step.query ≡ true → if_answered step.ending (judged_sets step) ≡ o
     → is_insecure_zone (zone_verdict verifier class name o) ≡ true → Grounded verifier earlier name
 unfolding zone_verdict
@@ -214,8 +239,10 @@ by_answer verifier earlier n class name step (Some answer) settled below is judg
     (λ (e : Grounded verifier earlier name). e)
     (answer_shows verifier earlier class name answer (find (is_ds_set_of class name) answer) each refl h)
 
-by_step : (verifier : VerifierAnswers) (earlier : List AskedValue) (n depth class : ℕ) (name : Labels) (o : Option AskedValue)
-    → StepsSettled verifier earlier earlier → is_root name ≡ false → slice_get earlier n ≡ o → is_judged_ask depth (ds_question class name) o ≡ true
+by_step : (verifier : VerifierAnswers) (earlier : List AskedValue) (n depth class : ℕ) (name : Labels)
+    (o : Option AskedValue)
+    → StepsSettled verifier earlier earlier → is_root name ≡ false → slice_get earlier n ≡ o
+    → is_judged_ask depth (ds_question class name) o ≡ true
     → is_insecure_zone (zone_verdict verifier class name (answer_of o)) ≡ true → Grounded verifier earlier name
 by_step verifier earlier n depth class name None settled below is asks h = cc
 by_step verifier earlier n depth class name (Some step) settled below is asks h =
@@ -226,9 +253,12 @@ by_step verifier earlier n depth class name (Some step) settled below is asks h 
     ((and_parts fits asked one.1).1) refl h
 
 -- an ask for the DS set of a zone by whose answer the zone is Insecure
-pub zone_grounded : (verifier : VerifierAnswers) (limit : ℕ) (earlier : List AskedValue) (depth class : ℕ) (name : Labels) (ask : AskRef)
-    → StepsSettled verifier earlier earlier → is_root name ≡ false → is_ask limit earlier depth (ds_question class name) ask ≡ true
-    → is_insecure_zone (zone_verdict verifier class name (finished_answer earlier ask)) ≡ true → Grounded verifier earlier name
+pub zone_grounded : (verifier : VerifierAnswers) (limit : ℕ) (earlier : List AskedValue) (depth class : ℕ)
+    (name : Labels) (ask : AskRef)
+    → StepsSettled verifier earlier earlier → is_root name ≡ false
+    → is_ask limit earlier depth (ds_question class name) ask ≡ true
+    → is_insecure_zone (zone_verdict verifier class name (finished_answer earlier ask)) ≡ true
+    → Grounded verifier earlier name
 unfolding zone_verdict
 zone_grounded verifier limit earlier depth class name (Step n) settled below asks h =
     by_step verifier earlier n depth class name (slice_get earlier n) settled below refl
@@ -238,15 +268,18 @@ zone_grounded verifier limit earlier depth class name TooMany settled below asks
 
 -- ---- the sets of any finished ask
 
-settled_by : (verifier : VerifierAnswers) (earlier : List AskedValue) (n : ℕ) (o : Option AskedValue) (answer : List MarkedSet)
-    → StepsSettled verifier earlier earlier → slice_get earlier n ≡ o → answer_of o ≡ Some answer → AreSettled verifier earlier answer
+settled_by : (verifier : VerifierAnswers) (earlier : List AskedValue) (n : ℕ) (o : Option AskedValue)
+    (answer : List MarkedSet)
+    → StepsSettled verifier earlier earlier → slice_get earlier n ≡ o → answer_of o ≡ Some answer
+    → AreSettled verifier earlier answer
 settled_by verifier earlier n None answer settled is h = cc
 settled_by verifier earlier n (Some step) answer settled is h =
     subst (AreSettled verifier earlier) (answered_sets step.ending (judged_sets step) answer h)
     (each_at (λ s. AreSettled verifier earlier (judged_sets s)) earlier n step settled is)
 
 pub answer_settled : (verifier : VerifierAnswers) (earlier : List AskedValue) (ask : AskRef) (answer : List MarkedSet)
-    → StepsSettled verifier earlier earlier → finished_answer earlier ask ≡ Some answer → AreSettled verifier earlier answer
+    → StepsSettled verifier earlier earlier → finished_answer earlier ask ≡ Some answer
+    → AreSettled verifier earlier answer
 answer_settled verifier earlier (Step n) answer settled h = settled_by verifier earlier n (slice_get earlier n) answer settled refl h
 answer_settled verifier earlier TooDeep answer settled h = cc
 answer_settled verifier earlier TooMany answer settled h = cc

@@ -18,7 +18,7 @@ use Rattle.dns_model.proofs.EachLemmas.{each_more, each_append, each_filter}
 use Rattle.dns_model.proofs.SetLemmas.{IsProper, is_of, name_back, name_trans, proper_placed}
 use Rattle.dns_rules.specs.MarkedSets.{MarkedSet}
 use Rattle.dns_rules.specs.Delegations.{is_insecure}
-use Rattle.dns_rules.specs.Asking.{depth_limit, judged_part}
+use Rattle.dns_rules.specs.Asking.{Limits, effective, judged_part}
 use Rattle.dns_rules.specs.Outcome.{outcome_of, foreign_record}
 use Rattle.dns_rules.specs.Derivation.{StepContext, told_in, with_entries, judged_sets, same_record, has_mark_of, is_by_origin, is_repeat, is_empty, entry_holds, entries_hold, ending_holds, step_holds, steps_hold, has_order, derivation}
 use Rattle.dns_rules.specs.DerivationParts.{step_context_of, repeats_step, is_foreign, is_failed, is_seen, is_bare, judged_holds, step_holds_by}
@@ -33,8 +33,10 @@ use Rattle.dns_laws.proofs.GroundMarks.{EarlierSettled, GroundedIn, mark_of_entr
 -- ---- a set that an earlier step has, too
 
 -- sets with a record each, whose first records are the same, have one owner
-same_owner : (one two : RrSet) (xs ys : List Rr) → is_nonempty (rdatas_of xs) ≡ true → AllByRecursion (λ r. is_of one r ≡ true) xs
-    → AllByRecursion (λ r. is_of two r ≡ true) ys → pointwise same_record xs ys ≡ true → name_eq two.owner one.owner ≡ true
+same_owner : (one two : RrSet) (xs ys : List Rr) → is_nonempty (rdatas_of xs) ≡ true
+    → AllByRecursion (λ r. is_of one r ≡ true) xs
+    → AllByRecursion (λ r. is_of two r ≡ true) ys → pointwise same_record xs ys ≡ true
+    → name_eq two.owner one.owner ≡ true
 same_owner one two [] ys some of_one of_two same = cc
 same_owner one two (x ∷ xs) [] some of_one of_two same = cc
 same_owner one two (x ∷ xs) (y ∷ ys) some of_one of_two same =
@@ -45,8 +47,10 @@ same_owner one two (x ∷ xs) (y ∷ ys) some of_one of_two same =
     name_trans two.owner y.owner one.owner second
     (name_back one.owner y.owner (name_trans one.owner x.owner y.owner first alike))
 
-repeat_grounded : (g : StepContext) (placed : PlacedSet) (entry : JudgedSetValue) (n : ℕ) (o : Option AskedValue) → EarlierSettled g → IsProper placed.set
-    → is_insecure entry.mark ≡ true → slice_get g.earlier n ≡ o → repeats_step g placed entry o ≡ true → GroundedIn g placed.set.owner
+repeat_grounded : (g : StepContext) (placed : PlacedSet) (entry : JudgedSetValue) (n : ℕ) (o : Option AskedValue)
+    → EarlierSettled g → IsProper placed.set
+    → is_insecure entry.mark ≡ true → slice_get g.earlier n ≡ o → repeats_step g placed entry o ≡ true
+    → GroundedIn g placed.set.owner
 repeat_grounded g placed entry n None settled proper insecure is h = cc
 repeat_grounded g placed entry n (Some step) settled proper insecure is h =
     let V = g.judge.answers in
@@ -65,7 +69,8 @@ repeat_grounded g placed entry n (Some step) settled proper insecure is h =
 
 -- ---- the entries of a step
 
-origin_grounded : (g : StepContext) (placed : PlacedSet) (entry : JudgedSetValue) (origin : MarkOrigin) → EarlierSettled g → IsProper placed.set
+origin_grounded : (g : StepContext) (placed : PlacedSet) (entry : JudgedSetValue) (origin : MarkOrigin)
+    → EarlierSettled g → IsProper placed.set
     → is_insecure entry.mark ≡ true → is_by_origin g placed entry origin ≡ true → GroundedIn g placed.set.owner
 origin_grounded g placed entry Table settled proper insecure h = rules_grounded g placed entry settled insecure h
 origin_grounded g placed entry (Repeat n) settled proper insecure h =
@@ -78,7 +83,8 @@ record EntryGrounded (g : StepContext) (placed : PlacedSet) (entry : JudgedSetVa
   of_set : is_insecure entry.mark ≡ true → GroundedIn g placed.set.owner
   of_entry : is_insecure entry.mark ≡ true → GroundedIn g entry.owner
 
-entry_grounded : (g : StepContext) (placed : PlacedSet) (entry : JudgedSetValue) → EarlierSettled g → IsProper placed.set → entry_holds g placed entry ≡ true
+entry_grounded : (g : StepContext) (placed : PlacedSet) (entry : JudgedSetValue) → EarlierSettled g
+    → IsProper placed.set → entry_holds g placed entry ≡ true
     → EntryGrounded g placed entry
 unfolding entry_holds
 entry_grounded g placed entry settled proper h =
@@ -104,7 +110,8 @@ record StepGrounded (g : StepContext) (sets : List MarkedSet) (entries : List Ju
   settled : AreSettled g.judge.answers g.earlier sets
   grounded : EntriesGrounded g entries
 
-entries_grounded : (g : StepContext) (ps : List PlacedSet) (es : List JudgedSetValue) → EarlierSettled g → AllByRecursion (λ p. IsProper p.set) ps
+entries_grounded : (g : StepContext) (ps : List PlacedSet) (es : List JudgedSetValue) → EarlierSettled g
+    → AllByRecursion (λ p. IsProper p.set) ps
     → entries_hold g ps es ≡ true → StepGrounded g (with_entries ps es) es
 unfolding entries_hold
 entries_grounded g [] [] settled proper h = record { settled = tt; grounded = tt }
@@ -121,14 +128,16 @@ entries_grounded g (p ∷ ps) (e ∷ es) settled proper h =
 
 -- ---- a step
 
-none_grounded : (g : StepContext) (ps : List PlacedSet) (es : List JudgedSetValue) → is_empty es ≡ true → StepGrounded g (with_entries ps es) es
+none_grounded : (g : StepContext) (ps : List PlacedSet) (es : List JudgedSetValue) → is_empty es ≡ true
+    → StepGrounded g (with_entries ps es) es
 none_grounded g ps [] h = record { settled = subst (AreSettled g.judge.answers g.earlier) (sym (without_entries ps)) tt; grounded = tt }
 none_grounded g ps (e ∷ es) h = cc
 
 judged_proper : (depth : ℕ) (told : Told) → AllByRecursion (λ p. IsProper p.set) (judged_part depth told)
 judged_proper depth told = each_filter (λ p. IsProper p.set) _ (placed_sets told) (proper_placed told)
 
-class_grounded : (g : StepContext) (step : AskedValue) (told : Told) (o : Option Rr) → EarlierSettled g → judged_holds g step told o ≡ true
+class_grounded : (g : StepContext) (step : AskedValue) (told : Told) (o : Option Rr) → EarlierSettled g
+    → judged_holds g step told o ≡ true
     → StepGrounded g (with_entries (judged_part step.depth told) step.sets) step.sets
 class_grounded g step told (Some r) settled h =
     none_grounded g (judged_part step.depth told) step.sets
@@ -150,21 +159,25 @@ records_grounded g step told false settled h =
 abbrev sets_heard : AskedValue → HeardValue → List MarkedSet
 sets_heard step heard = option_map_or (λ told. with_entries (judged_part step.depth told) step.sets) (told_in heard) []
 
-heard_grounded : (g : StepContext) (step : AskedValue) (heard : HeardValue) → EarlierSettled g → step_holds_by g step heard ≡ true
+heard_grounded : (g : StepContext) (step : AskedValue) (heard : HeardValue) → EarlierSettled g
+    → step_holds_by g step heard ≡ true
     → StepGrounded g (sets_heard step heard) step.sets
 heard_grounded g step Fault settled h =
     let none = (and_parts (is_empty step.sets) (is_empty step.excuse) ((and_parts (is_failed step.ending) (is_bare step) h).1)).0 in
     record { settled = tt; grounded = (none_grounded g [] step.sets none).grounded }
 heard_grounded g step (Records told empty) settled h = records_grounded g step told step.judged settled h
 
-step_grounded : (j : Judge) (limit : ℕ) (earlier : List AskedValue) (step : AskedValue) → StepsSettled j.answers earlier earlier
-    → step_holds j limit earlier step ≡ true → StepGrounded (step_context_of j limit earlier step) (judged_sets step) step.sets
+step_grounded : (j : Judge) (limits : Limits) (earlier : List AskedValue) (step : AskedValue)
+    → StepsSettled j.answers earlier earlier
+    → step_holds j limits earlier step ≡ true
+    → StepGrounded (step_context_of j limits earlier step) (judged_sets step) step.sets
 unfolding step_holds
-step_grounded j limit earlier step settled h = heard_grounded (step_context_of j limit earlier step) step step.reply settled h
+step_grounded j limits earlier step settled h = heard_grounded (step_context_of j limits earlier step) step step.reply settled h
 
 -- ---- one step after another
 
-settled_later : (verifier : VerifierAnswers) (earlier more : List AskedValue) (sets : List MarkedSet) → AreSettled verifier earlier sets
+settled_later : (verifier : VerifierAnswers) (earlier more : List AskedValue) (sets : List MarkedSet)
+    → AreSettled verifier earlier sets
     → AreSettled verifier (earlier ++ more) sets
 settled_later verifier earlier more sets h =
     each_more (IsSettled verifier earlier) (IsSettled verifier (earlier ++ more)) (λ s i. record {
@@ -172,7 +185,8 @@ settled_later verifier earlier more sets h =
       grounded = λ insecure. any_front (is_ground verifier s.set.owner) earlier more (i.grounded insecure);
     }) sets h
 
-steps_settled_later : (verifier : VerifierAnswers) (earlier more steps : List AskedValue) → StepsSettled verifier earlier steps
+steps_settled_later : (verifier : VerifierAnswers) (earlier more steps : List AskedValue)
+    → StepsSettled verifier earlier steps
     → StepsSettled verifier (earlier ++ more) steps
 steps_settled_later verifier earlier more steps h =
     each_more (λ step. AreSettled verifier earlier (judged_sets step)) (λ step. AreSettled verifier (earlier ++ more) (judged_sets step))
@@ -180,7 +194,8 @@ steps_settled_later verifier earlier more steps h =
 
 -- the sets of the step behind these have their grounds among these
 entry_numbered : (verifier : VerifierAnswers) (earlier more : List AskedValue) (insecure : Bool) (owner : Labels)
-    → (insecure ≡ true → Grounded verifier earlier owner) → (not insecure || has_ground verifier (earlier ++ more) (length earlier) owner) ≡ true
+    → (insecure ≡ true → Grounded verifier earlier owner)
+    → (not insecure || has_ground verifier (earlier ++ more) (length earlier) owner) ≡ true
 entry_numbered verifier earlier more true owner h = ap (λ steps. list_any (is_ground verifier owner) steps) (take-front earlier more) ∙ h refl
 entry_numbered verifier earlier more false owner h = refl
 
@@ -196,19 +211,21 @@ entries_numbered verifier earlier more (e ∷ es) h =
 abbrev grounded_from : VerifierAnswers → List AskedValue → ℕ → List AskedValue → Bool
 grounded_from verifier trail number steps = list_all (λ step. list_all (is_grounded verifier trail step.0) step.1.sets) (enumerate_from number steps)
 
-steps_grounded : (j : Judge) (limit : ℕ) (earlier steps : List AskedValue) → StepsSettled j.answers earlier earlier
-    → steps_hold j limit earlier steps ≡ true → grounded_from j.answers (earlier ++ steps) (length earlier) steps ≡ true
+steps_grounded : (j : Judge) (limits : Limits) (earlier steps : List AskedValue)
+    → StepsSettled j.answers earlier earlier
+    → steps_hold j limits earlier steps ≡ true
+    → grounded_from j.answers (earlier ++ steps) (length earlier) steps ≡ true
 unfolding steps_hold
-steps_grounded j limit earlier [] settled h = refl
-steps_grounded j limit earlier (step ∷ steps) settled h =
+steps_grounded j limits earlier [] settled h = refl
+steps_grounded j limits earlier (step ∷ steps) settled h =
     let V = j.answers in
-    let parts = and_parts (step_holds j limit earlier step) (steps_hold j limit (earlier ++ step ∷ []) steps) h in
-    let one = step_grounded j limit earlier step settled parts.0 in
+    let parts = and_parts (step_holds j limits earlier step) (steps_hold j limits (earlier ++ step ∷ []) steps) h in
+    let one = step_grounded j limits earlier step settled parts.0 in
     let trail = earlier ++ step ∷ steps in
     let next : StepsSettled V (earlier ++ step ∷ []) (earlier ++ step ∷ []) =
     each_append (λ s. AreSettled V (earlier ++ step ∷ []) (judged_sets s)) earlier (step ∷ []) (steps_settled_later V earlier (step ∷ []) earlier settled)
     (settled_later V earlier (step ∷ []) (judged_sets step) one.settled, tt) in
-    let rest = steps_grounded j limit (earlier ++ step ∷ []) steps next parts.1 in
+    let rest = steps_grounded j limits (earlier ++ step ∷ []) steps next parts.1 in
     let later : grounded_from V trail (length earlier + 1) steps ≡ true =
     subst (λ n. grounded_from V trail n steps ≡ true) (length_push earlier step)
     (subst (λ t. grounded_from V t (length (earlier ++ step ∷ [])) steps ≡ true) (append_assoc earlier (step ∷ []) steps) rest) in
@@ -216,10 +233,11 @@ steps_grounded j limit earlier (step ∷ steps) settled h =
     (entries_numbered V earlier (step ∷ steps) step.sets one.grounded) later
 
 -- the law needs no more of a derivation than that its steps follow
-pub insecure_is_grounded : (j : Judge) (depth : ℕ) (trail : List AskedValue) → derivation j depth trail ≡ true → HasGrounds j.answers trail
+pub insecure_is_grounded : (j : Judge) (limits : Limits) (trail : List AskedValue) → derivation j limits trail ≡ true
+    → HasGrounds j.answers trail
 unfolding derivation
-insecure_is_grounded j depth trail h =
-    steps_grounded j (depth_limit depth) [] trail tt ((and_parts (has_order trail) (steps_hold j (depth_limit depth) [] trail) h).1)
+insecure_is_grounded j limits trail h =
+    steps_grounded j (effective limits) [] trail tt ((and_parts (has_order trail) (steps_hold j (effective limits) [] trail) h).1)
 
 -- ---- the law, set by set
 
@@ -250,11 +268,12 @@ step_by_step verifier trail (s ∷ steps) first (suc number) step h is =
     ap (λ n. list_all (is_grounded verifier trail n) step.sets) here ∙ step_by_step verifier trail steps (first + 1) number step one.1 is
 
 -- in a derivation each set that the step with a number marks Insecure has a ground in the steps before it
-pub ground_of_insecure : (j : Judge) (depth : ℕ) (trail : List AskedValue) (number : ℕ) (step : AskedValue) → derivation j depth trail ≡ true
+pub ground_of_insecure : (j : Judge) (limits : Limits) (trail : List AskedValue) (number : ℕ) (step : AskedValue)
+    → derivation j limits trail ≡ true
     → slice_get trail number ≡ Some step
     → AllByRecursion (λ set. is_insecure set.mark ≡ true → has_ground j.answers trail number set.owner ≡ true) step.sets
-ground_of_insecure j depth trail number step h is =
+ground_of_insecure j limits trail number step h is =
     let here : 0 + number ≡ number = omega arith in
     set_by_set j.answers trail number step.sets
     (subst (λ n. list_all (is_grounded j.answers trail n) step.sets ≡ true) here
-    (step_by_step j.answers trail trail 0 number step (insecure_is_grounded j depth trail h) is))
+    (step_by_step j.answers trail trail 0 number step (insecure_is_grounded j limits trail h) is))

@@ -173,10 +173,10 @@ asked_zone : (g : StepContext) (class : ℕ) (name : Labels) (asks : List AskRef
     → zone_asked g class name asks ≡ Some zone → is_insecure_zone zone ≡ true → GroundedIn g name
 asked_zone g class name [] zone settled below is h = cc
 asked_zone g class name (ask ∷ asks) zone settled below is h =
-    let asked = is_ask g.limit g.earlier (g.depth + 1) (ds_question class name) ask in
+    let asked = is_ask g.limits.depth g.earlier (g.depth + 1) (ds_question class name) ask in
     let some = if_some (is_empty asks && asked) (Some (verdict_asked g class name ask)) zone is in
     let same : verdict_asked g class name ask ≡ zone = cc in
-    zone_grounded g.judge.answers g.limit g.earlier (g.depth + 1) class name ask settled below ((and_parts (is_empty asks) asked some.0).1)
+    zone_grounded g.judge.answers g.limits.depth g.earlier (g.depth + 1) class name ask settled below ((and_parts (is_empty asks) asked some.0).1)
     (ap is_insecure_zone same ∙ h)
 
 -- ---- a key set

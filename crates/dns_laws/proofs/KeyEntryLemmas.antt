@@ -160,7 +160,7 @@ unsettled j set zone one h root =
 pub record IsByDs (g : StepContext) (set : RrSet) (entry : JudgedSetValue) : Type 0 where
   pub ask : AskRef
   pub alone : entry.asked ≡ ask ∷ []
-  pub asks : is_ask g.limit g.earlier (g.depth + 1) (ds_question set.class set.owner) ask ≡ true
+  pub asks : is_ask g.limits.depth g.earlier (g.depth + 1) (ds_question set.class set.owner) ask ≡ true
   pub marked : has_mark_of (judged_keys g.judge (in_section Answer set)
       (Some (zone_verdict g.judge.answers set.class set.owner (finished_answer g.earlier ask)))) entry ≡ true
 
@@ -169,7 +169,7 @@ by_zone_asked : (g : StepContext) (set : RrSet) (entry : JudgedSetValue) (asks :
     → has_mark_of (judged_keys g.judge (in_section Answer set) (Some zone)) entry ≡ true → IsByDs g set entry
 by_zone_asked g set entry [] zone is h marked = cc
 by_zone_asked g set entry (ask ∷ asks) zone is h marked =
-    let asked = is_ask g.limit g.earlier (g.depth + 1) (ds_question set.class set.owner) ask in
+    let asked = is_ask g.limits.depth g.earlier (g.depth + 1) (ds_question set.class set.owner) ask in
     let verdict = zone_verdict g.judge.answers set.class set.owner (finished_answer g.earlier ask) in
     let parts = if_some (is_empty asks && asked) (Some verdict) zone h in
     let tests = and_parts (is_empty asks) asked parts.0 in

@@ -19,6 +19,7 @@ pub mod RankLemmas
 pub mod PathLemmas
 pub mod SecureRecordLemmas
 pub mod RecordDenials
+pub mod HashedRecords
 pub mod DecidingRecords
 pub mod SomeSignatures
 pub mod SignatureDenials

@@ -20,7 +20,7 @@ use Rattle.dns_model.specs.Trails.{AskedValue, JudgedSetValue, Answered}
 use Rattle.dns_model.proofs.SetLemmas.{number_same}
 use Rattle.dns_model.proofs.QuestionLemmas.{question_back, question_trans}
 use Rattle.dns_model.proofs.Lists.{empty_is}
-use Rattle.dns_rules.specs.Asking.{most_sends, is_judged_at, judged_part}
+use Rattle.dns_rules.specs.Asking.{Limits, most_sends, is_judged_at, judged_part}
 use Rattle.dns_rules.specs.MarkedSets.{MarkedSet}
 use Rattle.dns_rules.specs.Unsigned.{is_empty}
 use Rattle.dns_rules.specs.Derivation.{told_in, with_entries, judged_sets, finished_answer, is_ask, is_by_rules, is_by_origin, steps_hold, asks_of, order_step, end_step}
@@ -42,11 +42,11 @@ use Rattle.dns_laws.proofs.RankLemmas.{rank, same_rank}
 pub record Walk (R : Type 0) : Type 0 where
   pub up : Upstream R
   pub judge : Judge
-  pub limit : ℕ
+  pub limits : Limits
   pub trail : List AskedValue
   pub order : List ℕ
   pub tells : Question → Option Told
-  pub hold : steps_hold judge limit [] trail ≡ true
+  pub hold : steps_hold judge limits [] trail ≡ true
 
 -- the step with this number asks the first of these queries, after those that were met, and more follow
 pub record IsAt {R : Type 0} (w : Walk R) (q : Question) (rest : List Question) (r : R) (n : ℕ) (step : AskedValue) (met more : List ℕ) : Type 0 where
@@ -56,7 +56,7 @@ pub record IsAt {R : Type 0} (w : Walk R) (q : Question) (rest : List Question) 
   pub judged : step.judged ≡ true
   pub same : question_eq q step.query ≡ true
   pub kept : is_judged_at step.depth q.rtype ≡ true
-  pub deep : step.depth + length rest ≤ w.limit
+  pub deep : step.depth + length rest ≤ w.limits.depth
   pub few : length met + length rest < most_sends
   pub above : ℕ
   pub ordered : order_step above w.trail n met ≡ Some w.order
@@ -76,7 +76,7 @@ pub record IsHere {R : Type 0} (w : Walk R) (q : Question) (r : R) (n : ℕ) (st
   pub on : GoesOn w.trail n step met w.order
   pub next : more ≡ n ∷ on.more
   pub later : HeardAlong w.up (w.up.left r step.query) (numbered w.trail on.more)
-  pub straight : IsStraightStep (step_context_of w.judge w.limit (take n w.trail) step) set step
+  pub straight : IsStraightStep (step_context_of w.judge w.limits (take n w.trail) step) set step
   pub asks : asks_of step ≡ straight.entry.asked
   pub ends : EndsAs w.trail n (n + 1) step
 
@@ -99,7 +99,7 @@ here w q rest r n step met more set at is =
     let reply = answered w.judge w.tells q set at.other is in
     let told : told_in step.reply ≡ Some reply.told = heard.0 ∙ sym (w.up.alike r q step.query at.same) ∙ at.agree q (omega arith) ∙ reply.heard in
     let straight =
-    straight_step w.judge w.limit (take n w.trail) step q reply.told set (steps_hold_at w.judge w.limit [] w.trail n step w.hold at.found) at.judged told at.same reply.is
+    straight_step w.judge w.limits (take n w.trail) step q reply.told set (steps_hold_at w.judge w.limits [] w.trail n step w.hold at.found) at.judged told at.same reply.is
     (ap (is_judged_at step.depth) reply.is.rtype ∙ at.kept) (ap needs_no_denial reply.is.rtype ∙ at.plain) in
     record {
       told = reply.told;
@@ -117,9 +117,9 @@ here w q rest r n step met more set at is =
 
 -- an entry that repeats another asks nothing; then its step is the first, and there is no other
 first_repeats : {R : Type 0} (w : Walk R) (q : Question) (r : R) (n k : ℕ) (step : AskedValue) (met more : List ℕ) (set : RrSet)
-    (h : IsHere w q r n step met more set) → is_by_origin (step_context_of w.judge w.limit (take n w.trail) step) (in_section Answer set) h.straight.entry (Repeat k) ≡ true → ⊥
+    (h : IsHere w q r n step met more set) → is_by_origin (step_context_of w.judge w.limits (take n w.trail) step) (in_section Answer set) h.straight.entry (Repeat k) ≡ true → ⊥
 first_repeats w q r n k step met more set h is =
-    let g = step_context_of w.judge w.limit (take n w.trail) step in
+    let g = step_context_of w.judge w.limits (take n w.trail) step in
     let placed = in_section Answer set in
     let parts = and_parts (is_empty h.straight.entry.asked) (repeats_step g placed h.straight.entry (slice_get g.earlier k)) is in
     let first = none_ends w.trail n (n + 1) step h.ends (h.asks ∙ empty_is h.straight.entry.asked parts.0) in
@@ -128,15 +128,15 @@ first_repeats w q r n k step met more set h is =
 
 origin_rules : {R : Type 0} (w : Walk R) (q : Question) (r : R) (n : ℕ) (step : AskedValue) (met more : List ℕ) (set : RrSet)
     (h : IsHere w q r n step met more set) (origin : MarkOrigin)
-    → is_by_origin (step_context_of w.judge w.limit (take n w.trail) step) (in_section Answer set) h.straight.entry origin ≡ true
-    → is_by_rules (step_context_of w.judge w.limit (take n w.trail) step) (in_section Answer set) h.straight.entry ≡ true
+    → is_by_origin (step_context_of w.judge w.limits (take n w.trail) step) (in_section Answer set) h.straight.entry origin ≡ true
+    → is_by_rules (step_context_of w.judge w.limits (take n w.trail) step) (in_section Answer set) h.straight.entry ≡ true
 origin_rules w q r n step met more set h Table is = is
 origin_rules w q r n step met more set h (Repeat k) is = absurd (first_repeats w q r n k step met more set h is)
 origin_rules w q r n step met more set h Cache is = cc
 
 pub rules : {R : Type 0} (w : Walk R) (q : Question) (r : R) (n : ℕ) (step : AskedValue) (met more : List ℕ) (set : RrSet)
     (h : IsHere w q r n step met more set)
-    → is_by_rules (step_context_of w.judge w.limit (take n w.trail) step) (in_section Answer set) h.straight.entry ≡ true
+    → is_by_rules (step_context_of w.judge w.limits (take n w.trail) step) (in_section Answer set) h.straight.entry ≡ true
 rules w q r n step met more set h = origin_rules w q r n step met more set h h.straight.entry.origin h.straight.origin
 
 -- ---- what a step comes to
@@ -248,14 +248,14 @@ judged_step w q question next rest r n m step met more set (Some asked) at h alo
 
 pub asked_next : {R : Type 0} (w : Walk R) (q question next : Question) (rest : List Question) (r : R) (n : ℕ) (step : AskedValue) (met more : List ℕ) (set : RrSet)
     (ask : AskRef) (at : IsAt w q (next ∷ rest) r n step met more) (h : IsHere w q r n step met more set)
-    → h.straight.entry.asked ≡ ask ∷ [] → is_ask w.limit (take n w.trail) (step.depth + 1) question ask ≡ true
+    → h.straight.entry.asked ≡ ask ∷ [] → is_ask w.limits.depth (take n w.trail) (step.depth + 1) question ask ≡ true
     → question_eq question next ≡ true → IsLower q next → IsAsked w next rest r n step met h.on.more ask
 asked_next w q question next rest r n step met more set (Step m) at h alone asks same lower =
-    let parts = and_parts (nat_le (step.depth + 1) w.limit) (is_judged_ask (step.depth + 1) question (slice_get (take n w.trail) m)) asks in
+    let parts = and_parts (nat_le (step.depth + 1) w.limits.depth) (is_judged_ask (step.depth + 1) question (slice_get (take n w.trail) m)) asks in
     judged_step w q question next rest r n m step met more set (slice_get (take n w.trail) m) at h alone refl parts.1 same lower
 asked_next w q question next rest r n step met more set TooDeep at h alone asks same lower =
     let deep = at.deep in
-    let past : w.limit < step.depth + 1 = grind (arith, nat_tests, asks) in
+    let past : w.limits.depth < step.depth + 1 = grind (arith, nat_tests, asks) in
     absurd (omega arith)
 asked_next w q question next rest r n step met more set TooMany at h alone asks same lower =
     let few = at.few in

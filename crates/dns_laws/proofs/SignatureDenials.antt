@@ -8,7 +8,7 @@ use Rattle.dns_model.specs.declared.denial.Denial.{Denial}
 use Rattle.dns_model.specs.declared.section.Section.{Section}
 use Rattle.dns_model.specs.declared.section.Section.TheVariants.{Answer, Authority}
 use Rattle.dns_model.specs.Names.{Labels, name_eq}
-use Rattle.dns_model.specs.Types.{type_cname, type_nsec}
+use Rattle.dns_model.specs.Types.{type_cname, type_nsec, type_nsec3}
 use Rattle.dns_model.specs.Views.{RrsigValue}
 use Rattle.dns_model.specs.Records.{Rr, Question}
 use Rattle.dns_model.specs.RecordViews.{rrsig_of}
@@ -21,16 +21,21 @@ use Rattle.dns_rules.specs.DenialInZones.{IsShownBy}
 use Rattle.dns_rules.specs.Zones.{Zone, IsTrueNsec}
 use Rattle.dns_rules.specs.MarkedSets.{MarkedSet, placed_of, decider}
 use Rattle.dns_rules.specs.Marking.{is_about, marked, marked_section, marked_told}
-use Rattle.dns_rules.specs.Outcome.{answers_query, has_answer, is_wildcard_signature, is_expanded_answer, is_expanded_for, decider_labels, least, answered, is_denying, denying, denials, is_made_by}
+use Rattle.dns_rules.specs.Denying.{is_denying_as, denying_as, denials}
+use Rattle.dns_hashed_denial.specs.HashedDenial.{IsDeniedByHashes, IsExpandedByHashes}
+use Rattle.dns_rules.specs.Outcome.{answers_query, has_answer, is_wildcard_signature, is_expanded_answer, is_expanded_for, decider_labels, least, answered, is_made_by}
 use Rattle.dns_rules.proofs.DeciderLemmas.{decider_is}
 use Rattle.dns_rules.proofs.FindLemmas.{each_all}
 use Rattle.dns_rules.proofs.Members.{picked_known}
 use Rattle.dns_rules.proofs.MarkedLemmas.{marked-keeps, IsAbout, about_parts, IsKnown, each_known, made_secure}
 use Rattle.dns_rules.proofs.AfterLemmas.{each_after}
-use Rattle.dns_laws.specs.Denials.{IsDenier, ShowsDenial}
+use Rattle.dns_laws.specs.Denials.{IsDenierAs, IsDeniedFor, IsExpandedFor, ShowsDenial}
+use Rattle.dns_laws.specs.Denials as shown
 use Rattle.dns_laws.proofs.GroundParts.{found_any}
-use Rattle.dns_laws.specs.OwnDenials.{secure_nsecs, IsDenyingZone, signs_nsec, has_signer, is_expansion, has_labels_from, DeniesByRecords}
+use Rattle.dns_laws.specs.OwnDenials.{secure_nsecs, IsDenyingZone, IsDeniedByRecords, IsExpandedByRecords, signs_as, has_signer, is_expansion, has_labels_from, DeniesByRecords}
+use Rattle.dns_laws.specs.OwnDenials as own
 use Rattle.dns_laws.proofs.RecordDenials.{each_given, each_denial, some_denial}
+use Rattle.dns_laws.proofs.HashedRecords.{same_denials}
 use Rattle.dns_laws.proofs.SomeSignatures.{each_kept, signed_by, signed_by_zone, labels_are, some_labels}
 use Rattle.dns_laws.proofs.SecureRecordLemmas.{any_after}
 
@@ -58,7 +63,8 @@ wildcard_kept f k r = rw (k.owner r, k.rtype r, k.rdata r) refl
 answers_kept : (f : Rr → Rr) → KeepsKey f → (q : Question) (r : Rr) → answers_query q (f r) ≡ answers_query q r
 answers_kept f k q r = rw (k.owner r, k.rtype r) refl
 
-same_answer : (now : ℕ) (q : Question) (told : Told) (sets : List MarkedSet) → has_answer q (marked_told now sets told) ≡ has_answer q told
+same_answer : (now : ℕ) (q : Question) (told : Told) (sets : List MarkedSet)
+    → has_answer q (marked_told now sets told) ≡ has_answer q told
 same_answer now q told sets =
     any_after (answers_query q) (marked now sets Answer) (λ before r. answers_kept (marked now sets Answer before) (marked-keeps now sets Answer before) q r)
     [] told.answers
@@ -72,7 +78,8 @@ record IsDecider (sets : List MarkedSet) (section : Section) (r : Rr) : Type 0 w
   secure : is_secure set.mark ≡ true
   decides : decider set ≡ Some r
 
-decided : (now : ℕ) (told : Told) (sets : List MarkedSet) (section : Section) (before rest : List Rr) (r : Rr) → map placed_of sets ≡ placed_sets told
+decided : (now : ℕ) (told : Told) (sets : List MarkedSet) (section : Section) (before rest : List Rr) (r : Rr)
+    → map placed_of sets ≡ placed_sets told
     → before ++ r ∷ rest ≡ section_of told section → is_secure ((marked now sets section before r).proof) ≡ true
     → is_signature (marked now sets section before r) ≡ true → IsDecider sets section r
 decided now told sets section before rest r grouped split secure signs =
@@ -91,34 +98,38 @@ decided now told sets section before rest r grouped split secure signs =
 
 -- ---- the zone that made the denials
 
-made_step : (now : ℕ) (told : Told) (sets : List MarkedSet) (apex : Labels) (before rest : List Rr) (r : Rr) → map placed_of sets ≡ placed_sets told
-    → AllByRecursion (λ s. is_denying s ≡ true → is_made_by apex s ≡ true) sets → before ++ r ∷ rest ≡ told.authorities
-    → signs_nsec (marked now sets Authority before r) ≡ true → has_signer apex (marked now sets Authority before r) ≡ true
-made_step now told sets apex before rest r grouped made split signs =
+made_step : (rtype now : ℕ) (told : Told) (sets : List MarkedSet) (apex : Labels) (before rest : List Rr) (r : Rr)
+    → map placed_of sets ≡ placed_sets told
+    → AllByRecursion (λ s. is_denying_as rtype s ≡ true → is_made_by apex s ≡ true) sets
+    → before ++ r ∷ rest ≡ told.authorities
+    → signs_as rtype (marked now sets Authority before r) ≡ true
+    → has_signer apex (marked now sets Authority before r) ≡ true
+made_step rtype now told sets apex before rest r grouped made split signs =
     let f = marked now sets Authority before in
     let k = marked-keeps now sets Authority before in
-    let one = and_parts (is_secure (f r).proof) (is_signature (f r) && (set_rtype (f r) == type_nsec)) signs in
-    let two = and_parts (is_signature (f r)) (set_rtype (f r) == type_nsec) one.1 in
+    let one = and_parts (is_secure (f r).proof) (is_signature (f r) && (set_rtype (f r) == rtype)) signs in
+    let two = and_parts (is_signature (f r)) (set_rtype (f r) == rtype) one.1 in
     let d = decided now told sets Authority before rest r grouped split one.0 two.0 in
-    let rtype : (d.set.set.rtype == type_nsec) ≡ true = ap (λ t. t == type_nsec) (d.about.rtype ∙ sym (rtype_kept f k r)) ∙ two.1 in
-    let denies : is_denying d.set ≡ true =
-    and_from (section_eq Authority d.set.section) (is_secure d.set.mark && (d.set.set.rtype == type_nsec)) (ap (section_eq Authority) d.about.section_is)
-    (and_from (is_secure d.set.mark) (d.set.set.rtype == type_nsec) d.secure rtype) in
-    let known = find_known (is_about Authority r) (λ s. is_denying s ≡ true → is_made_by apex s ≡ true) sets d.set made d.found in
+    let same : (d.set.set.rtype == rtype) ≡ true = ap (λ t. t == rtype) (d.about.rtype ∙ sym (rtype_kept f k r)) ∙ two.1 in
+    let denies : is_denying_as rtype d.set ≡ true =
+    and_from (section_eq Authority d.set.section) (is_secure d.set.mark && (d.set.set.rtype == rtype)) (ap (section_eq Authority) d.about.section_is)
+    (and_from (is_secure d.set.mark) (d.set.set.rtype == rtype) d.secure same) in
+    let known = find_known (is_about Authority r) (λ s. is_denying_as rtype s ≡ true → is_made_by apex s ≡ true) sets d.set made d.found in
     ap (λ o. option_map_or (λ sig. name_eq apex sig.signer) o false) (read_kept f k r)
     ∙ sym (signed_by apex d.set r d.decides) ∙ known.known denies
 
-made_by_zone : (now : ℕ) (told : Told) (sets : List MarkedSet) (apex : Labels) → map placed_of sets ≡ placed_sets told
-    → list_all (is_made_by apex) (denying sets) ≡ true
-    → list_all (λ r. not (signs_nsec r) || has_signer apex r) (marked_section now sets Authority told.authorities) ≡ true
-made_by_zone now told sets apex grouped made =
-    let test = λ (r : Rr). not (signs_nsec r) || has_signer apex r in
-    let each = each_kept (λ s. is_made_by apex s ≡ true) is_denying sets (each_all (is_made_by apex) (λ s. is_made_by apex s ≡ true) (λ s is. is) (denying sets) made) in
+made_by_zone : (rtype now : ℕ) (told : Told) (sets : List MarkedSet) (apex : Labels)
+    → map placed_of sets ≡ placed_sets told
+    → list_all (is_made_by apex) (denying_as rtype sets) ≡ true
+    → list_all (λ r. not (signs_as rtype r) || has_signer apex r) (marked_section now sets Authority told.authorities) ≡ true
+made_by_zone rtype now told sets apex grouped made =
+    let test = λ (r : Rr). not (signs_as rtype r) || has_signer apex r in
+    let each = each_kept (λ s. is_made_by apex s ≡ true) (is_denying_as rtype) sets (each_all (is_made_by apex) (λ s. is_made_by apex s ≡ true) (λ s is. is) (denying_as rtype sets) made) in
     all_from test (marked_section now sets Authority told.authorities)
     (each_after (λ r. test r ≡ true) (marked now sets Authority) told.authorities [] told.authorities refl
     (λ before rest r split.
-    if_then (signs_nsec (marked now sets Authority before r)) (has_signer apex (marked now sets Authority before r))
-    (made_step now told sets apex before rest r grouped each split)))
+    if_then (signs_as rtype (marked now sets Authority before r)) (has_signer apex (marked now sets Authority before r))
+    (made_step rtype now told sets apex before rest r grouped each split)))
 
 -- ---- an answer from a wildcard
 
@@ -130,8 +141,10 @@ record IsExpandedBy (q : Question) (sets : List MarkedSet) (r : Rr) : Type 0 whe
   decides : decider set ≡ Some r
   wild : is_wildcard_signature r ≡ true
 
-expanded_by : (now : ℕ) (q : Question) (told : Told) (sets : List MarkedSet) (before rest : List Rr) (r : Rr) → map placed_of sets ≡ placed_sets told
-    → before ++ r ∷ rest ≡ told.answers → is_expansion q (marked now sets Answer before r) ≡ true → IsExpandedBy q sets r
+expanded_by : (now : ℕ) (q : Question) (told : Told) (sets : List MarkedSet) (before rest : List Rr) (r : Rr)
+    → map placed_of sets ≡ placed_sets told
+    → before ++ r ∷ rest ≡ told.answers → is_expansion q (marked now sets Answer before r) ≡ true
+    → IsExpandedBy q sets r
 expanded_by now q told sets before rest r grouped split h =
     let f = marked now sets Answer before in
     let k = marked-keeps now sets Answer before in
@@ -162,7 +175,8 @@ expanded_by now q told sets before rest r grouped split h =
 
 -- such a signature stands only where a set was expanded so
 any_expansion : (now : ℕ) (q : Question) (told : Told) (sets : List MarkedSet) → map placed_of sets ≡ placed_sets told
-    → list_any (is_expansion q) (marked_section now sets Answer told.answers) ≡ true → list_any (is_expanded_for q) sets ≡ true
+    → list_any (is_expansion q) (marked_section now sets Answer told.answers) ≡ true
+    → list_any (is_expanded_for q) sets ≡ true
 any_expansion now q told sets grouped h =
     let Shows = λ (m : Rr). is_expansion q m ≡ true → list_any (is_expanded_for q) sets ≡ true in
     let each = each_after Shows (marked now sets Answer) told.answers [] told.answers refl
@@ -188,8 +202,10 @@ from_both n k m h = grind (arith, nat_tests)
 from_itself : (n : ℕ) → nat_le n n ≡ true
 from_itself n = grind (arith, nat_tests)
 
-least_step : (n : ℕ) (ns : List ℕ) (labels : ℕ) (o : Option ℕ) → least ns ≡ o → Some (option_map_or (min n) o n) ≡ Some labels
-    → ((k : ℕ) → o ≡ Some k → AllByRecursion (λ m. nat_le k m ≡ true) ns) → AllByRecursion (λ m. nat_le labels m ≡ true) (n ∷ ns)
+least_step : (n : ℕ) (ns : List ℕ) (labels : ℕ) (o : Option ℕ) → least ns ≡ o
+    → Some (option_map_or (min n) o n) ≡ Some labels
+    → ((k : ℕ) → o ≡ Some k → AllByRecursion (λ m. nat_le k m ≡ true) ns)
+    → AllByRecursion (λ m. nat_le labels m ≡ true) (n ∷ ns)
 least_step n ns labels None is h later =
     let same : n ≡ labels = cc in
     subst (λ l. AllByRecursion (λ m. nat_le l m ≡ true) (n ∷ ns)) same
@@ -217,11 +233,13 @@ each_labels q told sets labels h =
     (least_each numbers labels (labels_are (has_answer q told) (least numbers) labels h)))
 
 labels_step : (labels : ℕ) (wild : RrsigValue → Bool) (o : Option RrsigValue) → option_map_or wild o false ≡ true
-    → IfSome (option_map (λ sig. sig.labels) o) (λ m. nat_le labels m ≡ true) → option_map_or (λ sig. nat_le labels sig.labels) o false ≡ true
+    → IfSome (option_map (λ sig. sig.labels) o) (λ m. nat_le labels m ≡ true)
+    → option_map_or (λ sig. nat_le labels sig.labels) o false ≡ true
 labels_step labels wild None h from = cc
 labels_step labels wild (Some sig) h from = from
 
-fewest_step : (now : ℕ) (q : Question) (told : Told) (sets : List MarkedSet) (labels : ℕ) (before rest : List Rr) (r : Rr)
+fewest_step : (now : ℕ) (q : Question) (told : Told) (sets : List MarkedSet) (labels : ℕ) (before rest : List Rr)
+    (r : Rr)
     → map placed_of sets ≡ placed_sets told
     → AllByRecursion (λ s. is_expanded_for q s ≡ true → IfSome (decider_labels s) (λ m. nat_le labels m ≡ true)) sets
     → before ++ r ∷ rest ≡ told.answers → is_expansion q (marked now sets Answer before r) ≡ true
@@ -235,7 +253,8 @@ fewest_step now q told sets labels before rest r grouped each split h =
     let from = subst (λ o. IfSome (option_map (λ sig. sig.labels) (option_and_then rrsig_of o)) (λ m. nat_le labels m ≡ true)) e.decides (known.known e.expanded) in
     ap (λ o. option_map_or (λ sig. nat_le labels sig.labels) o false) (read_kept f k r) ∙ labels_step labels _ (rrsig_of r) e.wild from
 
-fewest_labels : (now : ℕ) (q : Question) (told : Told) (sets : List MarkedSet) (labels : ℕ) → map placed_of sets ≡ placed_sets told
+fewest_labels : (now : ℕ) (q : Question) (told : Told) (sets : List MarkedSet) (labels : ℕ)
+    → map placed_of sets ≡ placed_sets told
     → answered q told sets ≡ Expanded labels
     → list_all (λ r. not (is_expansion q r) || has_labels_from labels r) (marked_section now sets Answer told.answers) ≡ true
 fewest_labels now q told sets labels grouped is =
@@ -248,25 +267,49 @@ fewest_labels now q told sets labels grouped is =
 
 -- ---- what is denied
 
-zone_denies : (now : ℕ) (q : Question) (told : Told) (sets : List MarkedSet) (apex : Labels) → map placed_of sets ≡ placed_sets told → IsDenier q sets apex
-    → IsDenyingZone q (marked_section now sets Authority told.authorities) apex
-zone_denies now q told sets apex grouped denier = record {
+zone_denies : (rtype now : ℕ) (q : Question) (told : Told) (sets : List MarkedSet) (apex : Labels)
+    → map placed_of sets ≡ placed_sets told
+    → IsDenierAs rtype q sets apex → IsDenyingZone rtype q (marked_section now sets Authority told.authorities) apex
+zone_denies rtype now q told sets apex grouped denier = record {
   holds = denier.holds;
-  some = some_denial now told sets grouped denier.some;
-  signed = signed_by_zone now told sets apex grouped denier.some denier.made;
-  made = made_by_zone now told sets apex grouped denier.made;
+  some = some_denial rtype now told sets grouped denier.some;
+  signed = signed_by_zone rtype now told sets apex grouped denier.some denier.made;
+  made = made_by_zone rtype now told sets apex grouped denier.made;
 }
 
-shown_too : (now : ℕ) (told : Told) (sets : List MarkedSet) (apex : Labels) (zone : Zone) → map placed_of sets ≡ placed_sets told
-    → IsShownBy (secure_nsecs (marked_section now sets Authority told.authorities)) apex zone → IsShownBy (denials sets) apex zone
-shown_too now told sets apex zone grouped shown = record {
-  formed = shown.formed;
-  apex_is = shown.apex_is;
-  each_true = each_denial (IsTrueNsec zone) now told sets grouped shown.each_true;
+shown_too : (now : ℕ) (told : Told) (sets : List MarkedSet) (apex : Labels) (zone : Zone)
+    → map placed_of sets ≡ placed_sets told
+    → IsShownBy (secure_nsecs (marked_section now sets Authority told.authorities)) apex zone
+    → IsShownBy (denials sets) apex zone
+shown_too now told sets apex zone grouped is_shown = record {
+  formed = is_shown.formed;
+  apex_is = is_shown.apex_is;
+  each_true = each_denial (IsTrueNsec zone) now told sets grouped is_shown.each_true;
 }
+
+denied_by_records : (now : ℕ) (q : Question) (told : Told) (sets : List MarkedSet) (apex : Labels)
+    → map placed_of sets ≡ placed_sets told
+    → IsDeniedFor q told.code sets apex → IsDeniedByRecords q (marked_told now sets told) apex
+denied_by_records now q told sets apex grouped (shown.AbsentByNsec denier holds) =
+    own.AbsentByNsec (zone_denies type_nsec now q told sets apex grouped denier)
+    (λ data_type zone is_shown. holds data_type zone (shown_too now told sets apex zone grouped is_shown))
+denied_by_records now q told sets apex grouped (shown.AbsentByNsec3 denier holds) =
+    own.AbsentByNsec3 (zone_denies type_nsec3 now q told sets apex grouped denier)
+    (subst (IsDeniedByHashes q apex told.code) (same_denials now told sets grouped) holds)
+
+expanded_by_records : (now : ℕ) (q : Question) (labels : ℕ) (told : Told) (sets : List MarkedSet) (apex : Labels)
+    → map placed_of sets ≡ placed_sets told
+    → IsExpandedFor q labels sets apex → IsExpandedByRecords q labels (marked_told now sets told) apex
+expanded_by_records now q labels told sets apex grouped (shown.ExpandedByNsec denier holds) =
+    own.ExpandedByNsec (zone_denies type_nsec now q told sets apex grouped denier)
+    (λ data_type zone is_shown. holds data_type zone (shown_too now told sets apex zone grouped is_shown))
+expanded_by_records now q labels told sets apex grouped (shown.ExpandedByNsec3 denier holds) =
+    own.ExpandedByNsec3 (zone_denies type_nsec3 now q told sets apex grouped denier)
+    (subst (IsExpandedByHashes q labels) (same_denials now told sets grouped) holds)
 
 -- what the sets of a message show is shown by its records, as the sets leave them
-pub denies_by_records : (now : ℕ) (q : Question) (told : Told) (sets : List MarkedSet) (d : Denial) → map placed_of sets ≡ placed_sets told
+pub denies_by_records : (now : ℕ) (q : Question) (told : Told) (sets : List MarkedSet) (d : Denial)
+    → map placed_of sets ≡ placed_sets told
     → ShowsDenial q told sets d → DeniesByRecords q (marked_told now sets told) d
 denies_by_records now q told sets d grouped shows = record {
   unanswered = λ mark e. same_answer now q told sets ∙ shows.unanswered mark e;
@@ -275,8 +318,7 @@ denies_by_records now q told sets d grouped shows = record {
       record {
         unanswered = same_answer now q told sets ∙ s.unanswered;
         apex = s.apex;
-        zone = zone_denies now q told sets s.apex grouped s.denier;
-        holds = λ data_type zone shown. s.holds data_type zone (shown_too now told sets s.apex zone grouped shown);
+        denied = denied_by_records now q told sets s.apex grouped s.denied;
       };
   expanded = λ e.
       let s = shows.expanded e in
@@ -285,8 +327,7 @@ denies_by_records now q told sets d grouped shows = record {
         some = some_labels now q told sets s.labels grouped s.expanded;
         fewest = fewest_labels now q told sets s.labels grouped s.expanded;
         apex = s.apex;
-        zone = zone_denies now q told sets s.apex grouped s.denier;
-        holds = λ data_type zone shown. s.holds data_type zone (shown_too now told sets s.apex zone grouped shown);
+        denied = expanded_by_records now q s.labels told sets s.apex grouped s.denied;
       };
   denied = λ any. shows.denied (any_expansion now q told sets grouped any);
 }

@@ -81,7 +81,7 @@ not_skipped j set next asked keys r ask other =
 pub record IsByOneAsk (g : StepContext) (placed : PlacedSet) (r : Rr) (q : Question) (entry : JudgedSetValue) : Type 0 where
   pub ask : AskRef
   pub alone : entry.asked ≡ ask ∷ []
-  pub asks : is_ask g.limit g.earlier (g.depth + 1) q ask ≡ true
+  pub asks : is_ask g.limits.depth g.earlier (g.depth + 1) q ask ≡ true
   pub marked : has_mark_of (judged_by placed (verdict_of g.judge placed.set r (finished_answer g.earlier ask) ∷ [])) entry ≡ true
 
 -- the verdicts of one signature whose ask came first
@@ -100,7 +100,7 @@ last_ask false v (ask ∷ asks) vs h = cc
 record IsFirstAsk (g : StepContext) (set : RrSet) (r : Rr) (q : Question) (asks : List AskRef) (vs : List Verdict) : Type 0 where
   ask : AskRef
   alone : asks ≡ ask ∷ []
-  asks_for : is_ask g.limit g.earlier (g.depth + 1) q ask ≡ true
+  asks_for : is_ask g.limits.depth g.earlier (g.depth + 1) q ask ≡ true
   verdicts : vs ≡ verdict_of g.judge set r (finished_answer g.earlier ask) ∷ []
 
 first_ask : (g : StepContext) (set : RrSet) (r : Rr) (q : Question) (asks : List AskRef) (vs : List Verdict) → ask_of set r ≡ Some q

@@ -21,9 +21,10 @@ use Rattle.dns_model.specs.Trails.{AskedValue, JudgedSetValue, EndingValue, Answ
 use Rattle.dns_model.proofs.EachLemmas.{each_more, each_append}
 use Rattle.dns_model.proofs.SetLemmas.{name_back, name_trans, number_same, number_refl}
 use Rattle.dns_model.proofs.Lists.{empty_is}
-use Rattle.dns_rules.specs.Asking.{is_judged_at, judged_part}
+use Rattle.dns_rules.specs.Asking.{Limits, is_judged_at, judged_part}
 use Rattle.dns_rules.specs.MarkedSets.{MarkedSet, decider}
-use Rattle.dns_rules.specs.Outcome.{Outcome, outcome_of, outcome_by_denials, answers_query, has_answer, answered, is_wildcard_signature, has_wildcard_signature, is_unjudged, is_denying, is_expanded_answer, denying, denials, one_signer, is_insecure_authority, insecure_answer, foreign_record}
+use Rattle.dns_rules.specs.Denying.{is_denying_as, is_denying, denying, denials, is_hash_denying, hash_denying, hashed_denials}
+use Rattle.dns_rules.specs.Outcome.{Outcome, outcome_of, outcome_by_denials, outcome_by_hashed_denials, answers_query, has_answer, answered, is_wildcard_signature, has_wildcard_signature, is_expanded_answer, one_signer, is_insecure_authority, insecure_answer, foreign_record}
 use Rattle.dns_rules.specs.Outcome as outcome
 use Rattle.dns_rules.specs.Unsigned.{is_empty}
 use Rattle.dns_rules.specs.Derivation.{StepContext, told_in, with_entries, is_by_origin, entry_holds, entries_hold, denial_eq, ending_eq, ends_bare, ending_holds, heard_holds, step_holds}
@@ -34,14 +35,16 @@ use Rattle.dns_laws.proofs.StraightLemmas.{IsQueried, IsPlain, OfReply, IsOneSet
 
 -- ---- its sets
 
-one_placed : (j : Judge) (q : Question) (told : Told) (set : RrSet) → IsOneSet j q told set → placed_sets told ≡ in_section Answer set ∷ []
+one_placed : (j : Judge) (q : Question) (told : Told) (set : RrSet) → IsOneSet j q told set
+    → placed_sets told ≡ in_section Answer set ∷ []
 unfolding sets_of leaders
 one_placed j q told set one =
     ap (λ sets. map (in_section Answer) sets ++ map (in_section Authority) (sets_of told.authorities) ++ map (in_section Additional) (sets_of told.additionals)) one.sets
     ∙ ap (λ rs. (in_section Answer set ∷ []) ++ map (in_section Authority) (sets_of rs) ++ map (in_section Additional) (sets_of told.additionals)) one.authorities
     ∙ ap (λ rs. (in_section Answer set ∷ []) ++ map (in_section Additional) (sets_of rs)) one.additionals
 
-pub one_judged : (j : Judge) (q : Question) (told : Told) (set : RrSet) (depth : ℕ) → IsOneSet j q told set → is_judged_at depth set.rtype ≡ true
+pub one_judged : (j : Judge) (q : Question) (told : Told) (set : RrSet) (depth : ℕ) → IsOneSet j q told set
+    → is_judged_at depth set.rtype ≡ true
     → judged_part depth told ≡ in_section Answer set ∷ []
 one_judged j q told set depth one kept =
     let test = λ (p : PlacedSet). is_judged_at depth p.set.rtype in
@@ -57,7 +60,8 @@ class_same q asked h =
 class_of : (q : Question) (r : Rr) → OfReply q r → r.class ≡ q.class
 class_of q r of = ⊎_elim (λ (queried : IsQueried q r). queried.class) (λ (plain : IsPlain q r). plain.class) of
 
-pub none_foreign : (j : Judge) (q asked : Question) (told : Told) (set : RrSet) → IsOneSet j q told set → question_eq q asked ≡ true
+pub none_foreign : (j : Judge) (q asked : Question) (told : Told) (set : RrSet) → IsOneSet j q told set
+    → question_eq q asked ≡ true
     → foreign_record asked told ≡ None
 none_foreign j q asked told set one same =
     let test = λ (r : Rr). not (r.class == asked.class) in
@@ -71,13 +75,15 @@ none_foreign j q asked told set one same =
 
 -- ---- what it comes to
 
-any_more : (p q : Rr → Bool) (xs : List Rr) → ((x : Rr) → p x ≡ true → q x ≡ true) → list_any p xs ≡ true → list_any q xs ≡ true
+any_more : (p q : Rr → Bool) (xs : List Rr) → ((x : Rr) → p x ≡ true → q x ≡ true) → list_any p xs ≡ true
+    → list_any q xs ≡ true
 any_more p q [] more h = cc
 any_more p q (x ∷ xs) more h =
     ⊎_elim (λ here. or_left (q x) (list_any q xs) (more x here)) (λ later. or_right (q x) (list_any q xs) (any_more p q xs more later))
     (or_cases (p x) (list_any p xs) h)
 
-queried_answers : (q asked : Question) (r : Rr) → question_eq q asked ≡ true → is_queried q r ≡ true → answers_query asked r ≡ true
+queried_answers : (q asked : Question) (r : Rr) → question_eq q asked ≡ true → is_queried q r ≡ true
+    → answers_query asked r ≡ true
 queried_answers q asked r same h =
     let one = and_parts (name_eq q.owner asked.owner) ((q.rtype == asked.rtype) && (q.class == asked.class)) same in
     let rtype = number_same q.rtype asked.rtype ((and_parts (q.rtype == asked.rtype) (q.class == asked.class) one.1).0) in
@@ -101,7 +107,8 @@ queried_is_no_wildcard q r of = ap (λ b. option_map_or (λ sig. nat_lt sig.labe
 no_wildcard : (q : Question) (r : Rr) → OfReply q r → is_wildcard_signature r ≡ false
 no_wildcard q r of = ⊎_elim (queried_is_no_wildcard q r) (plain_is_no_wildcard q r) of
 
-none_at : (test : Rr → Bool) (rs : List Rr) (n : ℕ) → AllByRecursion (λ r. test r ≡ false) rs → option_map_or test (slice_get rs n) false ≡ false
+none_at : (test : Rr → Bool) (rs : List Rr) (n : ℕ) → AllByRecursion (λ r. test r ≡ false) rs
+    → option_map_or test (slice_get rs n) false ≡ false
 none_at test [] n h = refl
 none_at test (r ∷ rs) zero h = h.0
 none_at test (r ∷ rs) (suc n) h = none_at test rs n h.1
@@ -122,7 +129,8 @@ record IsPlainSet (judged : MarkedSet) : Type 0 where
   nsec3 : (judged.set.rtype == type_nsec3) ≡ false
   unexpanded : option_map_or is_wildcard_signature (decider judged) false ≡ false
 
-plain_set : (q : Question) (set : RrSet) (judged : MarkedSet) → AllByRecursion (IsPlain q) set.signatures → judged.section ≡ Answer → judged.set ≡ set
+plain_set : (q : Question) (set : RrSet) (judged : MarkedSet) → AllByRecursion (IsPlain q) set.signatures
+    → judged.section ≡ Answer → judged.set ≡ set
     → needs_no_denial set.rtype ≡ true → IsPlainSet judged
 plain_set q set judged each section same plain =
     let types = or_parts (set.rtype == type_nsec) (set.rtype == type_nsec3) (not-true ((set.rtype == type_nsec) || (set.rtype == type_nsec3)) plain) in
@@ -136,43 +144,42 @@ plain_set q set judged each section same plain =
           ∙ none_placed is_wildcard_signature set.signatures judged.sig plainly;
     }
 
-judged_already : (judged : MarkedSet) → IsPlainSet judged → is_unjudged judged ≡ false
-judged_already judged i = and_right (is_secure judged.mark) (judged.set.rtype == type_nsec3) i.nsec3
-
-denies_nothing : (judged : MarkedSet) → IsPlainSet judged → is_denying judged ≡ false
-denies_nothing judged i =
-    ap (λ s. section_eq Authority s && (is_secure judged.mark && (judged.set.rtype == type_nsec))) i.section
+denies_nothing : (rtype : ℕ) (judged : MarkedSet) → IsPlainSet judged → is_denying_as rtype judged ≡ false
+denies_nothing rtype judged i = ap (λ s. section_eq Authority s && (is_secure judged.mark && (judged.set.rtype == rtype))) i.section
 
 not_expanded : (judged : MarkedSet) → IsPlainSet judged → is_expanded_answer judged ≡ false
 not_expanded judged i =
     let wild = option_map_or is_wildcard_signature (decider judged) false in
     and_right (section_eq Answer judged.section) (is_secure judged.mark && wild) (and_right (is_secure judged.mark) wild i.unexpanded)
 
-decided : (unjudged insecure wild denying expanded answer : Bool) (x y : Outcome) → unjudged ≡ false → insecure ≡ false → wild ≡ false
-    → denying ≡ false → expanded ≡ false → answer ≡ true
-    → (if unjudged then outcome.Unjudged
-    else if insecure && not wild then x
-    else if denying then y
+decided : (insecure wild denying hashing expanded answer : Bool) (x y z : Outcome) → insecure ≡ false → wild ≡ false
+    → denying ≡ false → hashing ≡ false → expanded ≡ false → answer ≡ true
+    → (if insecure && not wild then x
+    else if denying && hashing then outcome.Denied Bogus
+    else if hashing then y
+    else if denying then z
     else if expanded then outcome.Denied Bogus
     else if answer && not wild then outcome.Given denial.None
     else outcome.NeedsZone) ≡ outcome.Given denial.None
-decided unjudged insecure wild denying expanded answer x y a b c d e f = rw (a, b, c, d, e, f) refl
+decided insecure wild denying hashing expanded answer x y z a b c d e f = rw (a, b, c, d, e, f) refl
 
-is_accepted : (j : Judge) (q asked : Question) (told : Told) (set : RrSet) (judged : MarkedSet) → IsOneSet j q told set → question_eq q asked ≡ true
+is_accepted : (j : Judge) (limits : Limits) (q asked : Question) (told : Told) (set : RrSet) (judged : MarkedSet)
+    → IsOneSet j q told set → question_eq q asked ≡ true
     → judged.section ≡ Answer → judged.set ≡ set → needs_no_denial set.rtype ≡ true
-    → outcome_of asked told (judged ∷ []) ≡ outcome.Given denial.None
+    → outcome_of limits asked told (judged ∷ []) ≡ outcome.Given denial.None
 unfolding outcome_of
-is_accepted j q asked told set judged one same section is plain =
+is_accepted j limits q asked told set judged one same section is plain =
     let sets : List MarkedSet = judged ∷ [] in
     let each : AllByRecursion (IsPlain q) set.signatures = subst (AllByRecursion (IsPlain q)) (sym one.signatures) (each_signature q told.answers one.each) in
     let i = plain_set q set judged each section is plain in
-    decided (list_any is_unjudged sets) (is_insecure_authority asked told sets) (has_wildcard_signature told) (list_any is_denying sets)
+    decided (is_insecure_authority asked told sets) (has_wildcard_signature told) (list_any is_denying sets) (list_any is_hash_denying sets)
     (list_any is_expanded_answer sets) (has_answer asked told) (insecure_answer asked told)
+    (outcome_by_hashed_denials limits asked told.code (answered asked told sets) (hashed_denials sets) (one_signer (hash_denying sets)))
     (outcome_by_denials asked told.code (answered asked told sets) (denials sets) (one_signer (denying sets)))
-    (none_any is_unjudged sets (judged_already judged i, tt))
     (subst (λ rs. is_insecure_authority asked (record told { authorities = rs }) sets ≡ false) (sym one.authorities) refl)
     (none_any is_wildcard_signature told.answers (each_more (OfReply q) (λ r. is_wildcard_signature r ≡ false) (no_wildcard q) told.answers one.each))
-    (none_any is_denying sets (denies_nothing judged i, tt)) (none_any is_expanded_answer sets (not_expanded judged i, tt))
+    (none_any is_denying sets (denies_nothing type_nsec judged i, tt)) (none_any is_hash_denying sets (denies_nothing type_nsec3 judged i, tt))
+    (none_any is_expanded_answer sets (not_expanded judged i, tt))
     (any_more (is_queried q) (answers_query asked) told.answers (λ r h. queried_answers q asked r same h) one.any)
 
 -- ---- the step
@@ -182,13 +189,15 @@ record OneEntry (g : StepContext) (placed : PlacedSet) (entries : List JudgedSet
   is : entries ≡ entry ∷ []
   holds : entry_holds g placed entry ≡ true
 
-one_entry : (g : StepContext) (placed : PlacedSet) (entries : List JudgedSetValue) → entries_hold g (placed ∷ []) entries ≡ true → OneEntry g placed entries
+one_entry : (g : StepContext) (placed : PlacedSet) (entries : List JudgedSetValue)
+    → entries_hold g (placed ∷ []) entries ≡ true → OneEntry g placed entries
 unfolding entries_hold
 one_entry g placed [] h = cc
 one_entry g placed (entry ∷ []) h = record { entry = entry; is = refl; holds = (and_parts (entry_holds g placed entry) true h).0 }
 one_entry g placed (entry ∷ other ∷ rest) h = cc ((and_parts (entry_holds g placed entry) false h).1)
 
-origin_of : (g : StepContext) (placed : PlacedSet) (entry : JudgedSetValue) → entry_holds g placed entry ≡ true → is_by_origin g placed entry entry.origin ≡ true
+origin_of : (g : StepContext) (placed : PlacedSet) (entry : JudgedSetValue) → entry_holds g placed entry ≡ true
+    → is_by_origin g placed entry entry.origin ≡ true
 unfolding entry_holds
 origin_of g placed entry h =
     let section = section_eq placed.section entry.section in
@@ -212,12 +221,13 @@ answered_same Failed h = cc
 answered_same Seen h = cc
 
 -- a judged step that heard records holds by the first of another class
-pub judged_step : (j : Judge) (limit : ℕ) (earlier : List AskedValue) (step : AskedValue) (told : Told) → step_holds j limit earlier step ≡ true
+pub judged_step : (j : Judge) (limits : Limits) (earlier : List AskedValue) (step : AskedValue) (told : Told)
+    → step_holds j limits earlier step ≡ true
     → step.judged ≡ true → told_in step.reply ≡ Some told
-    → judged_holds (step_context_of j limit earlier step) step told (foreign_record step.query told) ≡ true
+    → judged_holds (step_context_of j limits earlier step) step told (foreign_record step.query told) ≡ true
 unfolding step_holds
-judged_step j limit earlier step told h judged heard =
-    let g = step_context_of j limit earlier step in
+judged_step j limits earlier step told h judged heard =
+    let g = step_context_of j limits earlier step in
     ap (λ b. if b then judged_holds g step told (foreign_record step.query told) else ends_bare Seen step) (sym judged)
     ∙ ap (λ o. option_map_or (heard_holds g step) o (ends_bare Failed step)) (sym heard) ∙ h
 
@@ -229,21 +239,23 @@ pub record IsStraightStep (g : StepContext) (set : RrSet) (step : AskedValue) : 
   pub ending : step.ending ≡ Answered denial.None
   pub excuse : step.excuse ≡ []
 
-pub straight_step : (j : Judge) (limit : ℕ) (earlier : List AskedValue) (step : AskedValue) (q : Question) (told : Told) (set : RrSet)
-    → step_holds j limit earlier step ≡ true → step.judged ≡ true → told_in step.reply ≡ Some told → question_eq q step.query ≡ true
+pub straight_step : (j : Judge) (limits : Limits) (earlier : List AskedValue) (step : AskedValue) (q : Question)
+    (told : Told) (set : RrSet)
+    → step_holds j limits earlier step ≡ true → step.judged ≡ true → told_in step.reply ≡ Some told
+    → question_eq q step.query ≡ true
     → IsOneSet j q told set → is_judged_at step.depth set.rtype ≡ true → needs_no_denial set.rtype ≡ true
-    → IsStraightStep (step_context_of j limit earlier step) set step
-straight_step j limit earlier step q told set h judged heard same one kept plain =
-    let g = step_context_of j limit earlier step in
+    → IsStraightStep (step_context_of j limits earlier step) set step
+straight_step j limits earlier step q told set h judged heard same one kept plain =
+    let g = step_context_of j limits earlier step in
     let placed = judged_part step.depth told in
-    let parts = and_parts (entries_hold g placed step.sets) (ending_holds g step told (outcome_of step.query told (with_entries placed step.sets)))
-    (ap (judged_holds g step told) (sym (none_foreign j q step.query told set one same)) ∙ judged_step j limit earlier step told h judged heard) in
+    let parts = and_parts (entries_hold g placed step.sets) (ending_holds g step told (outcome_of limits step.query told (with_entries placed step.sets)))
+    (ap (judged_holds g step told) (sym (none_foreign j q step.query told set one same)) ∙ judged_step j limits earlier step told h judged heard) in
     let alone = one_judged j q told set step.depth one kept in
     let entry = one_entry g (in_section Answer set) step.sets (ap (λ ps. entries_hold g ps step.sets) (sym alone) ∙ parts.0) in
     let sets : with_entries placed step.sets ≡ with_entry (in_section Answer set, entry.entry) ∷ [] =
     ap (λ ps. with_entries ps step.sets) alone ∙ ap (with_entries (in_section Answer set ∷ [])) entry.is in
-    let outcome_is : outcome_of step.query told (with_entries placed step.sets) ≡ outcome.Given denial.None =
-    ap (outcome_of step.query told) sets ∙ is_accepted j q step.query told set (with_entry (in_section Answer set, entry.entry)) one same refl refl plain in
+    let outcome_is : outcome_of limits step.query told (with_entries placed step.sets) ≡ outcome.Given denial.None =
+    ap (outcome_of limits step.query told) sets ∙ is_accepted j limits q step.query told set (with_entry (in_section Answer set, entry.entry)) one same refl refl plain in
     let ends = and_parts (ending_eq (Answered denial.None) step.ending) (is_empty step.excuse) (ap (ending_holds g step told) (sym outcome_is) ∙ parts.1) in
     record {
       entry = entry.entry;

@@ -10,7 +10,7 @@ use Rattle.dns_model.specs.declared.trail.AskRef.TheVariants.{Step}
 use Rattle.dns_model.specs.declared.trail.MarkOrigin.TheVariants.{Repeat}
 use Rattle.dns_model.specs.Names.{Labels}
 use Rattle.dns_model.specs.Records.{Rr}
-use Rattle.dns_model.specs.Views.{rrsig_in, ds_in, nsec_in}
+use Rattle.dns_model.specs.Views.{rrsig_in, ds_in, nsec_in, nsec3_in}
 use Rattle.dns_model.specs.Shapes.{is_bitmap, bitmap_has, windows_in, window_in}
 use Rattle.dns_model.specs.NameForm.{label_in, labels_in, name_in}
 use Rattle.dns_model.specs.Sections.{leaders, sets_of}
@@ -18,9 +18,10 @@ use Rattle.dns_model.specs.Trails.{AskedValue, JudgedSetValue, Records, Answered
 use Rattle.dns_model.proofs.Worked.{letter_a}
 use Rattle.dns_model.proofs.Delegation.{trusting, ds_of_key}
 use Rattle.dns_rules.specs.Marks.{key_question}
+use Rattle.dns_rules.specs.Nsec3Verdict.{shows_insecure_delegation}
 use Rattle.dns_rules.specs.Delegations.{ds_question}
 use Rattle.dns_rules.specs.Derivation.{derivation, steps_hold}
-use Rattle.dns_rules.proofs.WorkedTrailValues.{record_of}
+use Rattle.dns_rules.proofs.WorkedTrailValues.{record_of, within}
 use Rattle.dns_rules.proofs.WorkedTrails.{computed}
 use Rattle.dns_rules.proofs.WorkedDelegations.{zone, by_root, step_of, zone_entry, root_keys, ds_found, ds_by_root, other_algorithm, other_digest}
 use Rattle.dns_rules.proofs.WorkedSearches.{host, host_seen, zone_seen, ds_unsupported, unsigned_step, searched, whole_search, below_an_alias}
@@ -31,11 +32,11 @@ use Rattle.dns_laws.specs.Ground.{is_ground, insecure_has_ground}
 -- ---- what the examples compute with
 
 unfoldable pub ground_computed : Labels → AskedValue → Bool
-unfolding sets_of leaders rrsig_in ds_in nsec_in name_in labels_in label_in is_bitmap bitmap_has windows_in window_in
+unfolding sets_of leaders shows_insecure_delegation rrsig_in ds_in nsec_in nsec3_in name_in labels_in label_in is_bitmap bitmap_has windows_in window_in
 ground_computed name step = is_ground trusting name step
 
 unfoldable pub grounds_computed : List AskedValue → Bool
-unfolding sets_of leaders rrsig_in ds_in nsec_in name_in labels_in label_in is_bitmap bitmap_has windows_in window_in
+unfolding sets_of leaders shows_insecure_delegation rrsig_in ds_in nsec_in nsec3_in name_in labels_in label_in is_bitmap bitmap_has windows_in window_in
 grounds_computed trail = insecure_has_ground trusting trail
 
 -- ---- a DS set of which no record is supported
@@ -185,7 +186,7 @@ abbrev pub keys_again : List AskedValue
 keys_again =
     asked_by_the_signature ++ record keys_insecure { sets = record (zone_entry 48 Insecure None []) { origin = Repeat 2 } ∷ [] } ∷ []
 
-pub again_as_found : steps_hold by_root 26 [] keys_again ≡ true
+pub again_as_found : steps_hold by_root (within 26) [] keys_again ≡ true
 unfolding computed
 again_as_found = refl
 
@@ -217,11 +218,11 @@ none_without_a_search = refl
 abbrev pub signed_zone : Proof → List AskedValue
 signed_zone mark = host_seen ∷ zone_seen ∷ root_keys ∷ record ds_found { sets = zone_entry 43 Secure (Some 0) (Step 2 ∷ []) ∷ [] } ∷ unsigned_step mark whole_search ∷ []
 
-pub bogus_in_a_signed_zone : derivation by_root 26 (signed_zone Bogus) ≡ true
+pub bogus_in_a_signed_zone : derivation by_root (within 26) (signed_zone Bogus) ≡ true
 unfolding computed
 bogus_in_a_signed_zone = refl
 
-pub insecure_in_a_signed_zone : derivation by_root 26 (signed_zone Insecure) ≡ false
+pub insecure_in_a_signed_zone : derivation by_root (within 26) (signed_zone Insecure) ≡ false
 unfolding computed
 insecure_in_a_signed_zone = refl
 

@@ -6,6 +6,7 @@ use Rattle.dns_model.specs.declared.denial.Denial.TheVariants as denial
 use Rattle.dns_model.specs.Names.{Labels}
 use Rattle.dns_model.specs.Views.{rrsig_in}
 use Rattle.dns_model.specs.NameForm.{label_in, labels_in, name_in}
+use Rattle.dns_model.specs.Types.{type_nsec}
 use Rattle.dns_model.specs.Records.{Rr}
 use Rattle.dns_model.specs.Sections.{leaders, sets_of, unsigned_part}
 use Rattle.dns_model.specs.Trails.{Answered}
@@ -13,9 +14,10 @@ use Rattle.dns_model.proofs.SetLemmas.{number_same}
 use Rattle.dns_model.proofs.TestLemmas.{or_false}
 use Rattle.dns_rules.specs.Marking.{marked_told}
 use Rattle.dns_rules.specs.Derivation.{judged_sets}
+use Rattle.dns_rules.proofs.WorkedTrailValues.{within}
 use Rattle.dns_rules.proofs.WorkedDelegations.{zone, by_root}
 use Rattle.dns_rules.proofs.WorkedDenials.{missing, expanded, nsec_of_a, query_of, told_of, both_covered, name_error, by_both_covered, no_such_name, expansion, by_expansion, nothing_closer}
-use Rattle.dns_laws.specs.OwnDenials.{IsDenyingZone, DeniesAnswer, DeniesCloser, DeniesByRecords}
+use Rattle.dns_laws.specs.OwnDenials.{IsDenyingZone, IsDeniedByRecords, AbsentByNsec, AbsentByNsec3, DeniesAnswer, DeniesCloser, DeniesByRecords}
 use Rattle.dns_laws.proofs.DenialLemmas.{denials_hold}
 use Rattle.dns_laws.proofs.SignatureDenials.{denies_by_records}
 
@@ -28,15 +30,15 @@ secure records = map (λ (r : Rr). record r { proof = Secure }) records
 abbrev pub of_the_root : List Rr
 of_the_root = secure nsec_of_a
 
-pub made_by_the_root : IsDenyingZone (query_of missing 1) of_the_root []
+pub made_by_the_root : IsDenyingZone type_nsec (query_of missing 1) of_the_root []
 unfolding rrsig_in name_in labels_in label_in
 made_by_the_root = record { holds = refl; some = refl; signed = refl; made = refl }
 
-pub not_made_by_another : IsDenyingZone (query_of missing 1) of_the_root missing → ⊥
+pub not_made_by_another : IsDenyingZone type_nsec (query_of missing 1) of_the_root missing → ⊥
 unfolding rrsig_in name_in labels_in label_in
 not_made_by_another zone = let never : false ≡ true = zone.signed in cc
 
-pub made_by_none_without_a_signature : (apex : Labels) → IsDenyingZone (query_of missing 1) (unsigned_part of_the_root) apex → ⊥
+pub made_by_none_without_a_signature : (apex : Labels) → IsDenyingZone type_nsec (query_of missing 1) (unsigned_part of_the_root) apex → ⊥
 unfolding rrsig_in name_in labels_in label_in
 made_by_none_without_a_signature apex zone = let never : false ≡ true = zone.signed in cc
 
@@ -44,7 +46,7 @@ made_by_none_without_a_signature apex zone = let never : false ≡ true = zone.s
 abbrev pub half_secure : List Rr
 half_secure = secure (unsigned_part nsec_of_a) ++ nsec_of_a
 
-pub made_by_none_without_a_secure_signature : (apex : Labels) → IsDenyingZone (query_of missing 1) half_secure apex → ⊥
+pub made_by_none_without_a_secure_signature : (apex : Labels) → IsDenyingZone type_nsec (query_of missing 1) half_secure apex → ⊥
 unfolding rrsig_in name_in labels_in label_in
 made_by_none_without_a_secure_signature apex zone = let never : false ≡ true = zone.signed in cc
 
@@ -54,12 +56,16 @@ pub name_is_denied :
     DeniesAnswer (query_of missing 1) (marked_told 1000 (judged_sets (name_error (Answered (denial.Absent Secure)))) both_covered)
 unfolding sets_of leaders rrsig_in name_in labels_in label_in
 name_is_denied =
-    let each = denials_hold by_root 26 (by_both_covered (Answered (denial.Absent Secure))) no_such_name in
+    let each = denials_hold by_root (within 26) (by_both_covered (Answered (denial.Absent Secure))) no_such_name in
     (denies_by_records 1000 (query_of missing 1) both_covered (judged_sets (name_error (Answered (denial.Absent Secure)))) (denial.Absent Secure) refl
     (each.1.1.0 both_covered (denial.Absent Secure) refl refl refl)).absent refl
 
 pub nothing_is_denied_without_a_signature : DeniesAnswer (query_of missing 1) (told_of 3 [] (unsigned_part of_the_root)) → ⊥
-nothing_is_denied_without_a_signature denies = made_by_none_without_a_signature denies.apex denies.zone
+nothing_is_denied_without_a_signature denies = never_denied denies.apex denies.denied
+  where
+    never_denied : (apex : Labels) → IsDeniedByRecords (query_of missing 1) (told_of 3 [] (unsigned_part of_the_root)) apex → ⊥
+    never_denied apex (AbsentByNsec zone holds) = made_by_none_without_a_signature apex zone
+    never_denied apex (AbsentByNsec3 zone holds) = let never : false ≡ true = zone.some in cc
 
 -- a record that answers stands beside no denial that says there is none, whatever its mark
 pub nothing_is_absent_beside_an_answer : DeniesByRecords (query_of missing 1) (told_of 0 expanded []) (denial.Absent Insecure) → ⊥
@@ -73,7 +79,7 @@ pub closer_names_are_denied :
 unfolding sets_of leaders rrsig_in name_in labels_in label_in
 closer_names_are_denied =
     let told = told_of 0 expanded nsec_of_a in
-    let each = denials_hold by_root 26 (by_expansion (Answered (denial.Expanded Secure))) nothing_closer in
+    let each = denials_hold by_root (within 26) (by_expansion (Answered (denial.Expanded Secure))) nothing_closer in
     (denies_by_records 1000 (query_of missing 1) told (judged_sets (expansion (Answered (denial.Expanded Secure)))) (denial.Expanded Secure) refl
     (each.1.1.0 told (denial.Expanded Secure) refl refl refl)).expanded refl
 

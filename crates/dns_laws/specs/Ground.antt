@@ -1,4 +1,5 @@
--- The ground of a mark Insecure: what shows that no more can be expected of a name (RFC 4035, 4.3 and 5.2; RFC 6840, 4.4).
+-- The ground of a mark Insecure: what shows that no more can be expected of a name (RFC 4035, 4.3 and 5.2; RFC 5155, 8.9;
+-- RFC 6840, 4.4).
 use Rattle.std.specs.Prelude.{ℕ, ◌≡◌, Bool, true, false, not, ◌==◌, ◌&&◌, ◌||◌, List, take}
 use Rattle.std.specs.Option.{option_map_or}
 use Rattle.std.specs.List.{list_any, list_all, enumerate_from}
@@ -9,7 +10,7 @@ use Rattle.dns_model.specs.Keys.{VerifierAnswers}
 use Rattle.dns_model.specs.SoundAnswers.{is_secure}
 use Rattle.dns_model.specs.Trails.{AskedValue, JudgedSetValue}
 use Rattle.dns_rules.specs.MarkedSets.{MarkedSet}
-use Rattle.dns_rules.specs.Delegations.{is_readable_ds, is_supported_ds, is_ds_set_of, shows_no_ds, is_insecure}
+use Rattle.dns_rules.specs.Delegations.{is_readable_ds, is_supported_ds, is_ds_set_of, shows_no_ds, shows_no_ds_by_hash, is_insecure}
 use Rattle.dns_rules.specs.KeySets.{is_root}
 use Rattle.dns_rules.specs.Derivation.{if_answered, judged_sets}
 
@@ -25,12 +26,12 @@ shows_unsupported_ds verifier class zone judged =
     is_ds_set_of class zone judged && (is_secure judged.mark && none_supported verifier judged.set.records)
 
 -- the answer to the question for a zone's DS set shows that the zone can't be judged: by such a DS set, or, where the answer section
--- has no DS set of the zone, by a Secure NSEC of the zone with NS and without DS and SOA. An NSEC3 that says the same shows nothing
--- yet, since NSEC3 isn't judged (RFC 5155, 8.9)
+-- has no DS set of the zone, by a Secure NSEC of the zone with NS and without DS and SOA, or by Secure NSEC3 records that say the
+-- same, or that opt-out may hide such a delegation (RFC 5155, 8.9)
 abbrev pub shows_unsigned : VerifierAnswers → ℕ → Labels → List MarkedSet → Bool
 shows_unsigned verifier class zone answer =
     list_any (shows_unsupported_ds verifier class zone) answer
-    || (not (list_any (is_ds_set_of class zone) answer) && list_any (shows_no_ds zone) answer)
+    || (not (list_any (is_ds_set_of class zone) answer) && (list_any (shows_no_ds zone) answer || shows_no_ds_by_hash zone answer))
 
 -- ---- what a trail shows of a name
 
