@@ -40,12 +40,12 @@ leads_more g told (first ∷ asks) p r ask made h is fits =
 -- ---- further steps
 
 stays_if : (g : StepContext) (more : List AskedValue) (q : Question) (judged : Bool) (made : AskRef)
-    → (if judged then is_ask g.limit g.earlier (g.depth + 1) q made else is_plain_ask g.earlier g.depth q made) ≡ true
-    → ((if judged then is_ask g.limit (g.earlier ++ more) (g.depth + 1) q made else is_plain_ask (g.earlier ++ more) g.depth q made) ≡ true)
+    → (if judged then is_ask g.limits.depth g.earlier (g.depth + 1) q made else is_plain_ask g.earlier g.depth q made) ≡ true
+    → ((if judged then is_ask g.limits.depth (g.earlier ++ more) (g.depth + 1) q made else is_plain_ask (g.earlier ++ more) g.depth q made) ≡ true)
     × ((if judged then Answer (option_map (map chainless) (finished_answer (g.earlier ++ more) made)) else Probe (probe_by (g.earlier ++ more) q.owner made))
     ≡ (if judged then Answer (option_map (map chainless) (finished_answer g.earlier made)) else Probe (probe_by g.earlier q.owner made)))
 stays_if g more q true made h =
-    let stays = ask_stays g.limit g.earlier more (g.depth + 1) q made h in
+    let stays = ask_stays g.limits.depth g.earlier more (g.depth + 1) q made h in
     (stays.asks, ap (λ o. Answer (option_map (map chainless) o)) stays.answer)
 stays_if g more q false made h =
     let stays = plain_stays g.earlier more g.depth q q.owner made h in

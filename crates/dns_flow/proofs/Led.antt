@@ -15,7 +15,7 @@ use Rattle.dns_rules.specs.Derivation.{StepContext, is_ask, is_plain_ask, finish
 use Rattle.dns_rules.specs.DerivationParts.{with_entry}
 use Rattle.dns_rules.specs.KeySets.{needs_ds}
 use Rattle.dns_rules.specs.MarkedSets.{MarkedSet, placed_of}
-use Rattle.dns_rules.specs.Outcome.{Outcome, Unjudged, Given, NeedsZone, Denied, outcome_of, outcome_by_zone}
+use Rattle.dns_rules.specs.Outcome.{Outcome, Given, NeedsZone, Denied, outcome_of, outcome_by_zone}
 use Rattle.dns_rules.specs.Probes.{NsProbe}
 use Rattle.dns_rules.specs.Unsigned.{set_start, question_start, needs_zone}
 use Rattle.dns_rules.proofs.ChainedLemmas.{IsGoodAnswer, placed_of-judged_keys, placed_of-judged_by}
@@ -47,13 +47,16 @@ as_chainless : (cs : List ChainedSet) → map bare_set cs ≡ map chainless (bar
 as_chainless [] = refl
 as_chainless (c ∷ cs) = ap (λ xs. bare_set c ∷ xs) (as_chainless cs)
 
-answer_chainless : (answer : Option (List ChainedSet)) → option_map (map bare_set) answer ≡ option_map (map chainless) (option_map bare answer)
+answer_chainless : (answer : Option (List ChainedSet))
+    → option_map (map bare_set) answer ≡ option_map (map chainless) (option_map bare answer)
 answer_chainless None = refl
 answer_chainless (Some cs) = ap Some (as_chainless cs)
 
 -- an ask whose reply was to be judged
-pub got_answer : (g : StepContext) (q : Question) (made : AskRef) (answer : Option (List ChainedSet)) → is_ask g.limit g.earlier (g.depth + 1) q made ≡ true
-    → option_map bare answer ≡ finished_answer g.earlier made → IsGoodAnswer g.judge answer → IsGot g (judged_ask q) made (Answer answer)
+pub got_answer : (g : StepContext) (q : Question) (made : AskRef) (answer : Option (List ChainedSet))
+    → is_ask g.limits.depth g.earlier (g.depth + 1) q made ≡ true
+    → option_map bare answer ≡ finished_answer g.earlier made → IsGoodAnswer g.judge answer
+    → IsGot g (judged_ask q) made (Answer answer)
 got_answer g q made answer fits same good = record {
   fits = fits;
   same = ap Answer (answer_chainless answer ∙ ap (option_map (map chainless)) same);
@@ -61,7 +64,8 @@ got_answer g q made answer fits same good = record {
 }
 
 -- a plain one
-pub got_probe : (g : StepContext) (q : Question) (made : AskRef) (seen : NsProbe) → is_plain_ask g.earlier g.depth q made ≡ true
+pub got_probe : (g : StepContext) (q : Question) (made : AskRef) (seen : NsProbe)
+    → is_plain_ask g.earlier g.depth q made ≡ true
     → probe_by g.earlier q.owner made ≡ seen → IsGot g (plain_ask q) made (Probe seen)
 got_probe g q made seen fits same = record { fits = fits; same = ap Probe (sym same); stand = tt }
 
@@ -72,7 +76,8 @@ pub record Led (g : StepContext) (told : Told) (begin : PhaseValue) (asks : List
   pub path : leads g told asks (bare_phase begin) ≡ Some (bare_phase phase)
   pub stand : Stands g.judge g.query phase
 
-led_nowhere : (g : StepContext) (told : Told) (phase : PhaseValue) → Stands g.judge g.query phase → Led g told phase [] phase
+led_nowhere : (g : StepContext) (told : Told) (phase : PhaseValue) → Stands g.judge g.query phase
+    → Led g told phase [] phase
 unfolding leads
 led_nowhere g told phase stand = record { path = refl; stand = stand }
 
@@ -82,8 +87,9 @@ pub led_set : (g : StepContext) (told : Told) (placed : PlacedSet)
 led_set g told placed = led_nowhere g told (start_set g.judge g.query told placed) (set_stands g.judge g.query told placed)
 
 -- an ending that begins
-pub led_ending : (g : StepContext) (told : Told) (sets : List MarkedSet) → Led g told (start_ending g.query told sets) [] (start_ending g.query told sets)
-led_ending g told sets = led_nowhere g told (start_ending g.query told sets) (ending_stands g.judge g.query told sets)
+pub led_ending : (g : StepContext) (told : Told) (sets : List MarkedSet)
+    → Led g told (start_ending g.limits g.query told sets) [] (start_ending g.limits g.query told sets)
+led_ending g told sets = led_nowhere g told (start_ending g.limits g.query told sets) (ending_stands g.judge g.limits g.query told sets)
 
 asks_alone : (n : NeedValue) (ask : Ask) → bare_need n ≡ Asks ask → n ≡ Asks ask
 asks_alone (SetEnds c) ask h = cc
@@ -91,7 +97,8 @@ asks_alone (StepEnds o) ask h = cc
 asks_alone (Asks a) ask h = h
 
 -- an ask more
-pub led_more : (g : StepContext) (told : Told) (begin : PhaseValue) (asks : List AskRef) (phase : PhaseValue) (ask : Ask) (made : AskRef) (got : GotValue)
+pub led_more : (g : StepContext) (told : Told) (begin : PhaseValue) (asks : List AskRef) (phase : PhaseValue)
+    (ask : Ask) (made : AskRef) (got : GotValue)
     → Led g told begin asks phase → turn phase ≡ Asks ask → IsGot g ask made got
     → Led g told begin (asks ++ made ∷ []) (after g.judge g.query told phase got)
 led_more g told begin asks phase ask made got way is one =
@@ -105,7 +112,8 @@ led_more g told begin asks phase ask made got way is one =
     }
 
 -- further steps
-pub led_stays : (g : StepContext) (more : List AskedValue) (told : Told) (begin : PhaseValue) (asks : List AskRef) (phase : PhaseValue)
+pub led_stays : (g : StepContext) (more : List AskedValue) (told : Told) (begin : PhaseValue) (asks : List AskRef)
+    (phase : PhaseValue)
     → Led g told begin asks phase → Led (later_step_context g more) told begin asks phase
 led_stays g more told begin asks phase way =
     record { path = leads_stay g more told asks (bare_phase begin) (bare_phase phase) way.path; stand = way.stand }
@@ -128,7 +136,8 @@ ends_as (SetEnds d) c h = record { set = d; is = refl; same = ap (judged_in c.ju
 ends_as (StepEnds o) c h = cc
 ends_as (Asks ask) c h = cc
 
-of_map : {X : Type 0} (P : NeedValue → Type 0) (end : X → NeedValue) (o : Option X) (n : NeedValue) → ((x : X) → P (end x)) → option_map end o ≡ Some n → P n
+of_map : {X : Type 0} (P : NeedValue → Type 0) (end : X → NeedValue) (o : Option X) (n : NeedValue)
+    → ((x : X) → P (end x)) → option_map end o ≡ Some n → P n
 of_map P end None n each h = cc
 of_map P end (Some x) n each h = let same : end x ≡ n = cc in subst P same (each x)
 
@@ -136,7 +145,8 @@ of_last : (P : NeedValue → Type 0) (asks : List AskRef) (m n : NeedValue) → 
 of_last P [] m n one h = let same : m ≡ n = cc in subst P same one
 of_last P (made ∷ asks) m n one h = cc
 
-of_if : (P : NeedValue → Type 0) (b : Bool) (x y : Option NeedValue) (n : NeedValue) → (x ≡ Some n → P n) → (y ≡ Some n → P n)
+of_if : (P : NeedValue → Type 0) (b : Bool) (x y : Option NeedValue) (n : NeedValue) → (x ≡ Some n → P n)
+    → (y ≡ Some n → P n)
     → (if b then x else y) ≡ Some n → P n
 of_if P true x y n first second h = first h
 of_if P false x y n first second h = second h
@@ -147,7 +157,8 @@ IsOf placed (SetEnds c) = placed_of c.judged ≡ placed
 IsOf placed (StepEnds o) = ⊥
 IsOf placed (Asks ask) = ⊥
 
-row_of : (g : StepContext) (told : Told) (placed : PlacedSet) (asks : List AskRef) (n : NeedValue) → set_row g told placed asks ≡ Some n → IsOf placed n
+row_of : (g : StepContext) (told : Told) (placed : PlacedSet) (asks : List AskRef) (n : NeedValue)
+    → set_row g told placed asks ≡ Some n → IsOf placed n
 row_of g told placed asks n =
     let P = IsOf placed in
     let by_ds = option_map (λ zone. keys_end g placed (Some zone)) (zone_asked g placed.set.class placed.set.owner asks) in
@@ -182,8 +193,10 @@ pub record IsSetEnd (g : StepContext) (placed : PlacedSet) (c : ChainedSet) (ent
   pub same : c.judged ≡ with_entry (placed, entry)
   pub stand : IsProper placed.set → stands g.judge c ≡ true
 
-pub set_ends : (g : StepContext) (told : Told) (placed : PlacedSet) (asks : List AskRef) (phase : PhaseValue) (c : ChainedSet)
-    → Led g told (start_set g.judge g.query told placed) asks phase → turn phase ≡ SetEnds c → IsSetEnd g placed c (entry_of c.judged asks)
+pub set_ends : (g : StepContext) (told : Told) (placed : PlacedSet) (asks : List AskRef) (phase : PhaseValue)
+    (c : ChainedSet)
+    → Led g told (start_set g.judge g.query told placed) asks phase → turn phase ≡ SetEnds c
+    → IsSetEnd g placed c (entry_of c.judged asks)
 unfolding leads_to_mark
 set_ends g told placed asks phase c way is =
     let entry = entry_of c.judged asks in
@@ -209,7 +222,8 @@ step_alone (SetEnds c) o h = cc
 step_alone (StepEnds p) o h = h
 step_alone (Asks ask) o h = cc
 
-settled_end : (g : StepContext) (told : Told) (sets : List MarkedSet) (asks : List AskRef) (w o : Outcome) → outcome_of g.query told sets ≡ w → w ≢ NeedsZone
+settled_end : (g : StepContext) (told : Told) (sets : List MarkedSet) (asks : List AskRef) (w o : Outcome)
+    → outcome_of g.limits g.query told sets ≡ w → w ≢ NeedsZone
     → last_if asks (StepEnds w) ≡ Some (StepEnds o) → IsStepEnd g told sets o asks
 settled_end g told sets [] w o by other h =
     let same : w ≡ o = cc in
@@ -221,8 +235,10 @@ outcome_in other (SetEnds c) = other
 outcome_in other (StepEnds o) = o
 outcome_in other (Asks ask) = other
 
-zone_ends : (g : StepContext) (told : Told) (sets : List MarkedSet) (asks : List AskRef) (found : Option ZoneVerdict) (o : Outcome)
-    → outcome_of g.query told sets ≡ NeedsZone → search_from g g.query.class (question_start g.query) asks ≡ found
+zone_ends : (g : StepContext) (told : Told) (sets : List MarkedSet) (asks : List AskRef) (found : Option ZoneVerdict)
+    (o : Outcome)
+    → outcome_of g.limits g.query told sets ≡ NeedsZone
+    → search_from g g.query.class (question_start g.query) asks ≡ found
     → option_map (zone_end g.query told Ending) found ≡ Some (StepEnds o) → IsStepEnd g told sets o asks
 unfolding outcome_in
 zone_ends g told sets asks None o left by h = cc
@@ -230,25 +246,28 @@ zone_ends g told sets asks (Some zone) o left by h =
     let ends : zone_end g.query told Ending zone ≡ StepEnds o = cc in
     LeftToZone zone left by (ap (outcome_in o) (sym ends) ∙ zone_outcome g.query told zone)
 
-row_ends : (g : StepContext) (told : Told) (sets : List MarkedSet) (asks : List AskRef) (w o : Outcome) → outcome_of g.query told sets ≡ w
+row_ends : (g : StepContext) (told : Told) (sets : List MarkedSet) (asks : List AskRef) (w o : Outcome)
+    → outcome_of g.limits g.query told sets ≡ w
     → ending_row g told asks w ≡ Some (StepEnds o) → IsStepEnd g told sets o asks
-row_ends g told sets asks Unjudged o by h = settled_end g told sets asks Unjudged o by (λ no. cc) h
 row_ends g told sets asks (Given denial) o by h = settled_end g told sets asks (Given denial) o by (λ no. cc) h
 row_ends g told sets asks NeedsZone o by h = zone_ends g told sets asks (search_from g g.query.class (question_start g.query) asks) o by refl h
 row_ends g told sets asks (Denied p) o by h = settled_end g told sets asks (Denied p) o by (λ no. cc) h
 
-pub step_ends : (g : StepContext) (told : Told) (sets : List MarkedSet) (asks : List AskRef) (phase : PhaseValue) (o : Outcome)
-    → Led g told (start_ending g.query told sets) asks phase → turn phase ≡ StepEnds o → IsStepEnd g told sets o asks
+pub step_ends : (g : StepContext) (told : Told) (sets : List MarkedSet) (asks : List AskRef) (phase : PhaseValue)
+    (o : Outcome)
+    → Led g told (start_ending g.limits g.query told sets) asks phase → turn phase ≡ StepEnds o
+    → IsStepEnd g told sets o asks
 step_ends g told sets asks phase o way is =
     let end : turn (bare_phase phase) ≡ StepEnds o = step_alone (turn (bare_phase phase)) o (turn_bare phase ∙ ap bare_need is) in
-    let to : led g told asks (bare_phase (start_ending g.query told sets)) ≡ Some (StepEnds o) =
+    let to : led g told asks (bare_phase (start_ending g.limits g.query told sets)) ≡ Some (StepEnds o) =
     ap (option_and_then (λ x. end_of (turn x))) way.path ∙ ap end_of end in
-    row_ends g told sets asks (outcome_of g.query told sets) o refl (sym (ending_led g told sets asks) ∙ to)
+    row_ends g told sets asks (outcome_of g.limits g.query told sets) o refl (sym (ending_led g told sets asks) ∙ to)
 
 -- ---- which ends there are
 
 -- a set never ends a step
-pub set_never : (g : StepContext) (told : Told) (placed : PlacedSet) (asks : List AskRef) (phase : PhaseValue) (o : Outcome)
+pub set_never : (g : StepContext) (told : Told) (placed : PlacedSet) (asks : List AskRef) (phase : PhaseValue)
+    (o : Outcome)
     → Led g told (start_set g.judge g.query told placed) asks phase → turn phase ≡ StepEnds o → ⊥
 set_never g told placed asks phase o way is =
     let end : turn (bare_phase phase) ≡ StepEnds o = step_alone (turn (bare_phase phase)) o (turn_bare phase ∙ ap bare_need is) in
@@ -261,18 +280,19 @@ IsOfStep (SetEnds c) = ⊥
 IsOfStep (StepEnds o) = Unit {0}
 IsOfStep (Asks ask) = Unit {0}
 
-row_of_step : (g : StepContext) (told : Told) (asks : List AskRef) (w : Outcome) (n : NeedValue) → ending_row g told asks w ≡ Some n → IsOfStep n
-row_of_step g told asks Unjudged n h = of_last IsOfStep asks (StepEnds Unjudged) n tt h
+row_of_step : (g : StepContext) (told : Told) (asks : List AskRef) (w : Outcome) (n : NeedValue)
+    → ending_row g told asks w ≡ Some n → IsOfStep n
 row_of_step g told asks (Given denial) n h = of_last IsOfStep asks (StepEnds (Given denial)) n tt h
 row_of_step g told asks NeedsZone n h =
     of_map IsOfStep (zone_end g.query told Ending) (search_from g g.query.class (question_start g.query) asks) n (λ zone. tt) h
 row_of_step g told asks (Denied p) n h = of_last IsOfStep asks (StepEnds (Denied p)) n tt h
 
 -- and an ending never ends a set
-pub ending_never : (g : StepContext) (told : Told) (sets : List MarkedSet) (asks : List AskRef) (phase : PhaseValue) (c : ChainedSet)
-    → Led g told (start_ending g.query told sets) asks phase → turn phase ≡ SetEnds c → ⊥
+pub ending_never : (g : StepContext) (told : Told) (sets : List MarkedSet) (asks : List AskRef) (phase : PhaseValue)
+    (c : ChainedSet)
+    → Led g told (start_ending g.limits g.query told sets) asks phase → turn phase ≡ SetEnds c → ⊥
 ending_never g told sets asks phase c way is =
     let end = ends_as (turn (bare_phase phase)) c (turn_bare phase ∙ ap bare_need is) in
-    let to : led g told asks (bare_phase (start_ending g.query told sets)) ≡ Some (SetEnds end.set) =
+    let to : led g told asks (bare_phase (start_ending g.limits g.query told sets)) ≡ Some (SetEnds end.set) =
     ap (option_and_then (λ x. end_of (turn x))) way.path ∙ ap end_of end.is in
-    row_of_step g told asks (outcome_of g.query told sets) (SetEnds end.set) (sym (ending_led g told sets asks) ∙ to)
+    row_of_step g told asks (outcome_of g.limits g.query told sets) (SetEnds end.set) (sym (ending_led g told sets asks) ∙ to)

@@ -13,7 +13,7 @@ use Rattle.dns_rules.specs.Derivation.{StepContext, finished_answer, is_ask, zon
 use Rattle.dns_rules.specs.KeySets.{needs_ds, judged_keys}
 use Rattle.dns_rules.specs.MarkedSets.{MarkedSet}
 use Rattle.dns_rules.specs.Marks.{judged_by}
-use Rattle.dns_rules.specs.Outcome.{Outcome, Unjudged, Given, NeedsZone, Denied, outcome_of, outcome_by_zone}
+use Rattle.dns_rules.specs.Outcome.{Outcome, Given, NeedsZone, Denied, outcome_of, outcome_by_zone}
 use Rattle.dns_rules.specs.Unsigned.{set_start, question_start, needs_zone, unsigned_by}
 use Rattle.dns_rules.proofs.ChainedLemmas.{chained_keys-bare, chained_by_ds-bare}
 use Rattle.dns_flow.specs.declared.phases.Seeker.TheVariants.{Set, Ending}
@@ -41,7 +41,7 @@ ds_led g told placed [] needs =
     unasked_end g told (NeedsDs placed) (judged_ask (ds_question placed.set.class placed.set.owner)) refl
 ds_led g told placed (made ∷ asks) needs =
     let question = ds_question placed.set.class placed.set.owner in
-    let is_one = is_ask g.limit g.earlier (g.depth + 1) question made in
+    let is_one = is_ask g.limits.depth g.earlier (g.depth + 1) question made in
     let by = λ (o : Option (List MarkedSet)). zone_verdict g.judge.answers placed.set.class placed.set.owner o in
     let told_answer = finished_answer g.earlier made in
     let answer = option_map (map chainless) told_answer in
@@ -168,26 +168,23 @@ end_last ending (made ∷ asks) o = sym (and_false (ending_eq (ending_by o) endi
 
 -- the row of an ending, by the outcome of its sets
 abbrev pub ending_row : StepContext → Told → List AskRef → Outcome → Option NeedValue
-ending_row g told asks Unjudged = last_if asks (StepEnds Unjudged)
 ending_row g told asks (Given denial) = last_if asks (StepEnds (Given denial))
 ending_row g told asks NeedsZone = option_map (zone_end g.query told Ending) (search_from g g.query.class (question_start g.query) asks)
 ending_row g told asks (Denied p) = last_if asks (StepEnds (Denied p))
 
 pub outcome_led : (g : StepContext) (told : Told) (asks : List AskRef) (o : Outcome) → led g told asks (bare_phase (start_by g.query told o)) ≡ ending_row g told asks o
-outcome_led g told asks Unjudged = concluded g told asks Unjudged
 outcome_led g told asks (Given denial) = concluded g told asks (Given denial)
 outcome_led g told asks NeedsZone = searched g told Ending g.query.class (question_start g.query) asks (question_start g.query)
 outcome_led g told asks (Denied p) = concluded g told asks (Denied p)
 
 -- where asks lead the ending of a step
 pub ending_led : (g : StepContext) (told : Told) (sets : List MarkedSet) (asks : List AskRef)
-    → led g told asks (bare_phase (start_ending g.query told sets)) ≡ ending_row g told asks (outcome_of g.query told sets)
+    → led g told asks (bare_phase (start_ending g.limits g.query told sets)) ≡ ending_row g told asks (outcome_of g.limits g.query told sets)
 unfolding start_ending
-ending_led g told sets asks = outcome_led g told asks (outcome_of g.query told sets)
+ending_led g told sets asks = outcome_led g told asks (outcome_of g.limits g.query told sets)
 
 row_holds : (g : StepContext) (told : Told) (step : AskedValue) (o : Outcome) → step.query ≡ g.query
     → ending_holds g step told o ≡ option_map_or (ends_with step.ending) (ending_row g told step.excuse o) false
-row_holds g told step Unjudged same = sym (end_last step.ending step.excuse Unjudged)
 row_holds g told step (Given denial) same = sym (end_last step.ending step.excuse (Given denial))
 row_holds g told step (Denied p) same = sym (end_last step.ending step.excuse (Denied p))
 row_holds g told step NeedsZone same =
@@ -198,8 +195,8 @@ row_holds g told step NeedsZone same =
 
 -- the rules lead the judged sets of a step to its ending exactly where the ending follows from the table of answers
 pub ending_rows : (g : StepContext) (told : Told) (sets : List MarkedSet) (step : AskedValue) → step.query ≡ g.query
-    → ending_holds g step told (outcome_of g.query told sets) ≡ leads_to_ending g told sets step
+    → ending_holds g step told (outcome_of g.limits g.query told sets) ≡ leads_to_ending g told sets step
 unfolding leads_to_ending
 ending_rows g told sets step same =
-    row_holds g told step (outcome_of g.query told sets) same
+    row_holds g told step (outcome_of g.limits g.query told sets) same
     ∙ sym (ap (λ o. option_map_or (ends_with step.ending) o false) (ending_led g told sets step.excuse))

@@ -29,7 +29,7 @@ zone_led : (g : StepContext) (told : Told) (seeker : Seeker) (class : ℕ) (zone
 unfolding turn after
 zone_led g told seeker class zone [] = unasked_end g told (AtZone seeker class zone) (judged_ask (ds_question class zone)) refl
 zone_led g told seeker class zone (made ∷ asks) =
-    let is_one = is_ask g.limit g.earlier (g.depth + 1) (ds_question class zone) made in
+    let is_one = is_ask g.limits.depth g.earlier (g.depth + 1) (ds_question class zone) made in
     let by = λ (o : Option (List MarkedSet)). zone_verdict g.judge.answers class zone o in
     let answer = finished_answer g.earlier made in
     asked g told made asks (AtZone seeker class zone) (judged_ask (ds_question class zone)) refl

@@ -16,7 +16,8 @@ use Rattle.dns_rules.specs.Delegations.{ZoneVerdict, Signed, Insecure, Bogus, zo
 use Rattle.dns_rules.specs.KeySets.{needs_ds}
 use Rattle.dns_rules.specs.MarkedSets.{MarkedSet}
 use Rattle.dns_rules.specs.Marks.{is_proved, is_skipped, judged_by, most_signatures}
-use Rattle.dns_rules.specs.Outcome.{Outcome, Unjudged, Given, NeedsZone, Denied, outcome_of}
+use Rattle.dns_rules.specs.Asking.{Limits}
+use Rattle.dns_rules.specs.Outcome.{Outcome, Given, NeedsZone, Denied, outcome_of}
 use Rattle.dns_rules.specs.Probes.{NsProbe}
 use Rattle.dns_rules.specs.Probes as probes
 use Rattle.dns_rules.specs.Unsigned.{set_start, question_start, needs_zone, unsigned_mark}
@@ -174,15 +175,14 @@ set_stands j q told placed =
     (λ no. try_stands j q placed [] (first_signatures placed.set) refl other (λ proper. tt)))
 
 outcome_stands : (j : Judge) (q : Question) (told : Told) (o : Outcome) → Stands j q (start_by q told o)
-outcome_stands j q told Unjudged = tt
 outcome_stands j q told (Given denial) = tt
 outcome_stands j q told NeedsZone = search_stands j q told Ending q.class (question_start q)
 outcome_stands j q told (Denied p) = tt
 
 -- how an ending begins
-pub ending_stands : (j : Judge) (q : Question) (told : Told) (sets : List MarkedSet) → Stands j q (start_ending q told sets)
+pub ending_stands : (j : Judge) (limits : Limits) (q : Question) (told : Told) (sets : List MarkedSet) → Stands j q (start_ending limits q told sets)
 unfolding start_ending
-ending_stands j q told sets = outcome_stands j q told (outcome_of q told sets)
+ending_stands j limits q told sets = outcome_stands j q told (outcome_of limits q told sets)
 
 signature_end : (j : Judge) (q : Question) (placed : PlacedSet) (vs : List ChainedVerdict) (o : Option Question) (c : ChainedSet) → TriesStand j q placed vs
     → signature_need placed vs o ≡ SetEnds c → IsProper c.judged.set → stands j c ≡ true

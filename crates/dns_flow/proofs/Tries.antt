@@ -173,7 +173,7 @@ ask_led g told placed (made ∷ asks) front r rs left asking go =
     let answer = option_map (map chainless) (finished_answer g.earlier made) in
     let v = chained_verdict g.judge placed.set r answer in
     let w = verdict_of g.judge placed.set r (finished_answer g.earlier made) in
-    let is_one = is_ask g.limit g.earlier (g.depth + 1) asking.question made in
+    let is_one = is_ask g.limits.depth g.earlier (g.depth + 1) asking.question made in
     let more = verdicts_by g placed.set rs asks in
     let left_here : drop (length vs) all ≡ r ∷ rs = ap (λ n. drop n all) count ∙ left in
     let left_more : drop (length (vs ++ v ∷ [])) all ≡ rs = next_drop all vs v r rs left_here in
@@ -185,7 +185,7 @@ ask_led g told placed (made ∷ asks) front r rs left asking go =
     ∙ ap (λ x. if is_one then x else None) (verdict_led g told placed asks vs v w more (trail_verdict g placed.set r made) on)
     ∙ ap (λ xs. if is_one then option_map (λ ws. tried_end placed (xs ++ ws)) (verdicts_after w asks (λ x. more)) else None) (verdicts_bare front)
     ∙ ask_if is_one (tried_with placed front) (verdicts_after w asks (λ x. more))
-    ∙ ap (λ o. option_map (tried_with placed front) (if option_map_or (λ q. is_ask g.limit g.earlier (g.depth + 1) q made) o false then verdicts_after w asks (λ x. more) else None))
+    ∙ ap (λ o. option_map (tried_with placed front) (if option_map_or (λ q. is_ask g.limits.depth g.earlier (g.depth + 1) q made) o false then verdicts_after w asks (λ x. more) else None))
     (sym asking.asks)
 
 -- from the signatures that are left on

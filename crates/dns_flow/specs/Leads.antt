@@ -45,7 +45,7 @@ bare_got (Probe probe) = Probe probe
 abbrev pub is_made : StepContext → Ask → AskRef → Bool
 is_made g ask made =
     if ask.judged
-    then is_ask g.limit g.earlier (g.depth + 1) ask.query made
+    then is_ask g.limits.depth g.earlier (g.depth + 1) ask.query made
     else is_plain_ask g.earlier g.depth ask.query made
 
 -- what an ask came to, by the steps of a trail
@@ -113,4 +113,4 @@ ends_with ending (Asks ask) = false
 -- the asks that a step names for its ending lead its judged sets to this ending
 unfoldable pub leads_to_ending : StepContext → Told → List MarkedSet → AskedValue → Bool
 leads_to_ending g told sets step =
-    option_map_or (ends_with step.ending) (led_to g told step.excuse (start_ending g.query told sets)) false
+    option_map_or (ends_with step.ending) (led_to g told step.excuse (start_ending g.limits g.query told sets)) false

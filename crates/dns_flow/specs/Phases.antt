@@ -9,14 +9,14 @@ use Rattle.dns_model.specs.Types.{type_dnskey}
 use Rattle.dns_model.specs.Records.{Rr, RrSet, Question}
 use Rattle.dns_model.specs.Chains.{Judge}
 use Rattle.dns_model.specs.SoundAnswers.{Told, PlacedSet}
-use Rattle.dns_rules.specs.Asking.{ask_of}
+use Rattle.dns_rules.specs.Asking.{Limits, ask_of}
 use Rattle.dns_rules.specs.ChainedSets.{ChainedSet, ChainedVerdict, bare, chained_verdict, chained_by, chained_keys, chained_by_ds}
 use Rattle.dns_rules.specs.Delegations.{ds_question, zone_verdict, is_insecure}
 use Rattle.dns_rules.specs.KeySets.{needs_ds}
 use Rattle.dns_rules.specs.MarkedSets.{MarkedSet}
 use Rattle.dns_rules.specs.Marks.{is_proved, is_skipped, most_signatures}
 use Rattle.dns_rules.specs.Marks as marks
-use Rattle.dns_rules.specs.Outcome.{Outcome, Unjudged, Given, NeedsZone, Denied, outcome_of, insecure_answer}
+use Rattle.dns_rules.specs.Outcome.{Outcome, Given, NeedsZone, Denied, outcome_of, insecure_answer}
 use Rattle.dns_rules.specs.Probes.{NsProbe}
 use Rattle.dns_rules.specs.Probes as probes
 use Rattle.dns_rules.specs.Unsigned.{ns_question, set_start, question_start, needs_zone, unsigned_mark}
@@ -145,14 +145,13 @@ start_set j q told placed =
     else try_from q placed [] (first_signatures placed.set)
 
 abbrev pub start_by : Question → Told → Outcome → PhaseValue
-start_by q told Unjudged = Concluded Unjudged
 start_by q told (Given denial) = Concluded (Given denial)
 start_by q told NeedsZone = search_at q told Ending q.class (question_start q)
 start_by q told (Denied p) = Concluded (Denied p)
 
 -- how the ending of a step begins, once all its sets are judged: they decide, or leave it to the zone of the question
-unfoldable pub start_ending : Question → Told → List MarkedSet → PhaseValue
-start_ending q told sets = start_by q told (outcome_of q told sets)
+unfoldable pub start_ending : Limits → Question → Told → List MarkedSet → PhaseValue
+start_ending limits q told sets = start_by q told (outcome_of limits q told sets)
 
 -- what a phase needs
 unfoldable pub turn : PhaseValue → NeedValue

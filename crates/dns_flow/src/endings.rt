@@ -10,7 +10,7 @@ ghost use Rattle.dns_flow.specs.Values.{phase_value};
 
 use crate::phases::{Phase, Seeker};
 use crate::searching::search_at;
-use dns_evidence::ChainedSet;
+use dns_evidence::{ChainedSet, Limits};
 use dns_message::Message;
 use dns_name::NoMemory;
 use dns_outcome::{Outcome, outcome_of};
@@ -24,16 +24,17 @@ use std::alloc::Global;
 #[tactic(auto, using(crate::proofs::Rows::ending_rows), unfolding(crate::specs::Phases::start_ending))]
 pub fn start_ending(
     alloc: Global,
+    limits: &Limits,
     query: &Query,
     message: &Message,
     sets: &[ChainedSet],
 ) -> Result<Phase, NoMemory>
-    ensures begins { IfOk result (λ p. phase_value p ≡ ending_begins query.now (told_by message.now) (bare sets.now)) }
+    ensures begins { IfOk result (λ p. phase_value p ≡ ending_begins limits.now query.now (told_by message.now) (bare sets.now)) }
     ensures rows { (g : StepContext) (told : Told) (step : AskedValue) → step.query ≡ g.query
-        → ending_holds g step told (outcome_by g.query told (bare sets.now))
+        → ending_holds g step told (outcome_by g.limits g.query told (bare sets.now))
         ≡ leads_to_ending g told (bare sets.now) step }
 {
-    match outcome_of(alloc, query, message, sets)? {
+    match outcome_of(alloc, limits, query, message, sets)? {
         Outcome::NeedsZone => {
             let start = question_start(query)?;
             Ok(search_at(

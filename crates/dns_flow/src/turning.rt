@@ -71,7 +71,7 @@ pub fn after<V: Verifier>(
         }
         Phase::AtZone(seeker, class, zone) => {
             let answer = answer_of(got);
-            let mark = zone_mark(judge.verifier, class, &zone, &answer);
+            let mark = zone_mark(alloc, judge.verifier, class, &zone, &answer)?;
             Ok(found(alloc, query, message, seeker, mark))
         }
         Phase::Concluded(outcome) => Ok(Phase::Concluded(outcome)),

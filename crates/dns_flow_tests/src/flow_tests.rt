@@ -1,4 +1,4 @@
-use dns_evidence::{ChainedSet, Listed, MarkedSet, PlacedSet};
+use dns_evidence::{ChainedSet, Limits, Listed, MarkedSet, PlacedSet};
 use dns_flow::{Ask, Got, Need, Phase, after, start_ending, start_set, turn};
 use dns_message::Message;
 use dns_model::{NameError, Proof, Section};
@@ -279,7 +279,12 @@ fn ending_holds(alloc: Global, asked: RecordType, asks: &[Asked]) -> Result<bool
     };
     let query = query(alloc, "a.b.", asked)?;
     let message = message(alloc);
-    let phase = start_ending(alloc, &query, &message, &[])?;
+    let limits = Limits {
+        depth: 26,
+        soft: 100,
+        hard: 500,
+    };
+    let phase = start_ending(alloc, &limits, &query, &message, &[])?;
     match led(alloc, &judge, &query, &message, phase, asks)? {
         Some(Need::StepEnds(outcome)) => Ok(outcome == Outcome::Denied(Proof::Bogus)),
         _ => Ok(false),

@@ -12,7 +12,7 @@ use Rattle.dns_model.specs.SoundAnswers.{is_secure}
 use Rattle.dns_handle.specs.Responses.{all_records}
 use Rattle.dns_rules.specs.ProofErrors.{DsRecordShouldExist, DsResponseInsecure}
 use Rattle.dns_rules.specs.Delegations.{Insecure, Bogus, is_supported_ds, is_readable_ds, shows_unsigned_cut, zone_verdict}
-use Rattle.dns_marks.specs.ZoneVerdicts.{shown_by, of_class, in_class, is_record_of, are_secure_in_set, has_ds_set, by_supported, by_ds, authority_shows_no_ds, is_insecure_record_above, without_ds, by_message}
+use Rattle.dns_marks.specs.ZoneVerdicts.{shown_by, of_class, in_class, is_record_of, are_secure_in_set, has_ds_set, by_supported, by_ds, authority_shows_no_ds, hashes_show_no_ds, is_insecure_record_above, without_ds, by_message}
 use Rattle.dns_marks.proofs.OwnRecords.{is_own_record, has_own_ds, by_own_ds, own_shows_no_ds, is_insecure_own, without_own_ds, by_own_message}
 use Rattle.dns_marks.proofs.OwnLemmas.{filter_any}
 use Rattle.dns_marks.proofs.ZoneLemmas.{zone_verdict_by}
@@ -101,10 +101,10 @@ insecure_in_class class name m =
 
 without_in_class : (class : ℕ) (name : Labels) (m : MessageValue) → without_own_ds name (in_class class m) ≡ without_ds class name m
 without_in_class class name m =
-    ap (λ b. if b || list_any (is_insecure_own name) (all_records (in_class class m)) then Insecure (DsResponseInsecure name) else Bogus (DsRecordShouldExist name))
-    (nsec_in_class class name m.authorities)
-    ∙ ap (λ b. if authority_shows_no_ds class name m.authorities || b then Insecure (DsResponseInsecure name) else Bogus (DsRecordShouldExist name))
-    (insecure_in_class class name m)
+    let hashed = hashes_show_no_ds class name m.authorities in
+    let by = λ (b : Bool). if b then Insecure (DsResponseInsecure name) else Bogus (DsRecordShouldExist name) in
+    ap (λ b. by (b || (hashed || list_any (is_insecure_own name) (all_records (in_class class m))))) (nsec_in_class class name m.authorities)
+    ∙ ap (λ b. by (authority_shows_no_ds class name m.authorities || (hashed || b))) (insecure_in_class class name m)
 
 -- ---- the verdict
 

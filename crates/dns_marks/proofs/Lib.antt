@@ -8,3 +8,4 @@ pub mod VerdictLemmas
 pub mod CountLemmas
 pub mod SetLemmas
 pub mod FaultLemmas
+pub mod HashedLemmas

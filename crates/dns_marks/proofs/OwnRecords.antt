@@ -2,6 +2,7 @@
 use Rattle.std.specs.Prelude.{ℕ, Bool, false, not, ◌==◌, ◌&&◌, ◌||◌, List, if◌then◌else◌}
 use Rattle.std.specs.Option.{option_map_or}
 use Rattle.std.specs.List.{list_all, list_any, find, filter}
+use Rattle.dns_model.specs.declared.section.Section.TheVariants.{Authority}
 use Rattle.dns_model.specs.Names.{Labels, name_eq, at_or_above}
 use Rattle.dns_model.specs.Types.{type_ds, type_nsec}
 use Rattle.dns_model.specs.Records.{Rr, MessageValue}
@@ -10,7 +11,7 @@ use Rattle.dns_model.specs.Keys.{VerifierAnswers}
 use Rattle.dns_handle.specs.Responses.{all_records}
 use Rattle.dns_rules.specs.ProofErrors.{DsRecordShouldExist, DsResponseInsecure}
 use Rattle.dns_rules.specs.Delegations as zone
-use Rattle.dns_marks.specs.ZoneVerdicts.{by_supported}
+use Rattle.dns_marks.specs.ZoneVerdicts.{marked_sets, by_supported}
 
 -- a record of the set of a name and a type
 abbrev pub is_own_record : Labels → ℕ → Rr → Bool
@@ -41,7 +42,8 @@ is_insecure_own name r = zone.is_insecure r.proof && at_or_above r.owner name
 
 abbrev pub without_own_ds : Labels → MessageValue → zone.ZoneVerdict
 without_own_ds name message =
-    if own_shows_no_ds name message.authorities || list_any (is_insecure_own name) (all_records message)
+    if own_shows_no_ds name message.authorities
+    || (zone.shows_no_ds_by_hash name (marked_sets Authority message.authorities) || list_any (is_insecure_own name) (all_records message))
     then zone.Insecure (DsResponseInsecure name)
     else zone.Bogus (DsRecordShouldExist name)
 

@@ -1,8 +1,9 @@
 -- The DS verdict of a zone by the records of a message.
-use Rattle.std.proofs.Common.{◌≡◌, ℕ, Bool, true, false, ◌==◌, ◌&&◌, ◌||◌, cond, List, [], ◌∷◌, ◌++◌, map, Option, None, Some, refl, sym, ap, ◌∙◌}
+use Rattle.std.proofs.Common.{◌≡◌, ℕ, Bool, true, false, ◌==◌, ◌&&◌, ◌||◌, cond, List, [], ◌∷◌, ◌++◌, map, Option, None, Some, append-nil, refl, sym, ap, ◌∙◌}
 use Rattle.std.specs.Prelude.{if◌then◌else◌, is_some}
 use Rattle.std.specs.Option.{option_map, option_map_or, option_or}
-use Rattle.std.specs.List.{filter, find, list_any}
+use Rattle.std.specs.List.{filter, filter_map, flat_map, find, list_any}
+use Rattle.std.proofs.lemmas.List.Elements.{filter-append}
 use Rattle.std.proofs.lemmas.Bool.{and_right}
 use Rattle.std.proofs.lemmas.List.Folds.{find-append, list_any-append}
 use Rattle.dns_model.specs.declared.proof.Proof.TheVariants as proof
@@ -17,6 +18,8 @@ use Rattle.dns_model.proofs.TestLemmas.{or_false}
 use Rattle.dns_handle.specs.Responses.{all_records}
 use Rattle.dns_rules.specs.MarkedSets.{MarkedSet}
 use Rattle.dns_rules.specs.ProofErrors.{DsRecordShouldExist, DsResponseInsecure, UnknownKeyAlgorithm}
+use Rattle.dns_rules.specs.Nsec3Verdict.{shows_insecure_delegation}
+use Rattle.dns_rules.specs.Denying.{is_hash_denying, hash_denying, owned_nsec3}
 use Rattle.dns_rules.specs.Delegations as zone
 use Rattle.dns_rules.specs.Delegations.{ZoneVerdict, Signed, Insecure, Bogus, is_supported_ds, is_readable_ds, is_ds_set_of, shows_unsigned_cut, is_insecure, verdict_by_ds, verdict_without_ds, zone_verdict}
 use Rattle.dns_marks.specs.ZoneVerdicts.{are_secure, marked_set, marked_sets, lone_record, shown_by, by_supported}
@@ -217,13 +220,35 @@ shown_insecure name m =
     (no_any test (marked_set Authority) (λ set. set_case (are_secure set.records) _) (sets_of m.authorities))
     ∙ any_map test lone_record (all_records m)
 
+-- ---- what NSEC3 sets say
+
+no_kept : {X : Type 0} (test : MarkedSet → Bool) (f : X → MarkedSet) → ((x : X) → test (f x) ≡ false) → (xs : List X) → filter test (map f xs) ≡ []
+no_kept test f none [] = refl
+no_kept test f none (x ∷ xs) = ap (λ b. cond b (f x ∷ filter test (map f xs)) (filter test (map f xs))) (none x) ∙ no_kept test f none xs
+
+-- they are sets of the authority section
+shown_hashes : (m : MessageValue) → hash_denying (shown_by m) ≡ hash_denying (marked_sets Authority m.authorities)
+shown_hashes m =
+    let test = is_hash_denying in
+    let two = marked_sets Authority m.authorities in
+    let three = map lone_record (all_records m) in
+    filter-append test (marked_sets Answer m.answers) (two ++ three)
+    ∙ ap (λ xs. xs ++ filter test (two ++ three)) (no_kept test (marked_set Answer) (λ set. refl) (sets_of m.answers))
+    ∙ filter-append test two three
+    ∙ ap (λ xs. filter test two ++ xs) (no_kept test lone_record (λ r. refl) (all_records m)) ∙ append-nil (filter test two)
+
 -- ---- the verdict
 
 shown_without : (name : Labels) (m : MessageValue) → verdict_without_ds name (shown_by m) ≡ without_own_ds name m
 shown_without name m =
-    ap (λ b. if b || list_any (zone.is_insecure_above name) (shown_by m) then Insecure (DsResponseInsecure name) else Bogus (DsRecordShouldExist name))
-    (shown_nsec name m)
-    ∙ ap (λ b. if own_shows_no_ds name m.authorities || b then Insecure (DsResponseInsecure name) else Bogus (DsRecordShouldExist name)) (shown_insecure name m)
+    let hashed = zone.shows_no_ds_by_hash name (shown_by m) in
+    let above = list_any (zone.is_insecure_above name) (shown_by m) in
+    let own_hashed = zone.shows_no_ds_by_hash name (marked_sets Authority m.authorities) in
+    let by = λ (b : Bool). if b then Insecure (DsResponseInsecure name) else Bogus (DsRecordShouldExist name) in
+    ap (λ b. by (b || (hashed || above))) (shown_nsec name m)
+    ∙ ap (λ sets. by (own_shows_no_ds name m.authorities
+    || (shows_insecure_delegation name (flat_map (λ judged. filter_map owned_nsec3 judged.set.records) sets) || above))) (shown_hashes m)
+    ∙ ap (λ b. by (own_shows_no_ds name m.authorities || (own_hashed || b))) (shown_insecure name m)
 
 -- the DS verdict of a zone by the records of a message
 pub zone_verdict_by : (verifier : VerifierAnswers) (class : ℕ) (name : Labels) (m : MessageValue)

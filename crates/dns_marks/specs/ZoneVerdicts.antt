@@ -114,6 +114,10 @@ authority_shows_no_ds class name authorities =
     are_secure_in_set class name type_nsec authorities
     && list_any (λ r. is_record_of class name type_nsec r && zone.shows_unsigned_cut r) authorities
 
+-- its Secure NSEC3 sets show the same, or that an unsigned zone may be there (RFC 5155, 8.9)
+abbrev pub hashes_show_no_ds : ℕ → Labels → List Rr → Bool
+hashes_show_no_ds class name authorities = zone.shows_no_ds_by_hash name (marked_sets Authority (of_class class authorities))
+
 -- a record that is Insecure, at the zone or above it
 abbrev pub is_insecure_record_above : ℕ → Labels → Rr → Bool
 is_insecure_record_above class name r = (class == r.class) && (zone.is_insecure r.proof && at_or_above r.owner name)
@@ -121,7 +125,8 @@ is_insecure_record_above class name r = (class == r.class) && (zone.is_insecure 
 -- where there is no DS set
 abbrev pub without_ds : ℕ → Labels → MessageValue → zone.ZoneVerdict
 without_ds class name message =
-    if authority_shows_no_ds class name message.authorities || list_any (is_insecure_record_above class name) (all_records message)
+    if authority_shows_no_ds class name message.authorities
+    || (hashes_show_no_ds class name message.authorities || list_any (is_insecure_record_above class name) (all_records message))
     then zone.Insecure (DsResponseInsecure name)
     else zone.Bogus (DsRecordShouldExist name)
 

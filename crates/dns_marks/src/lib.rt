@@ -3,6 +3,7 @@
 #![tactic(auto)]
 
 mod delegation;
+mod hashed;
 mod key_marks;
 mod rrset_proof;
 mod set_mark;

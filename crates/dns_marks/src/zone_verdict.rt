@@ -8,8 +8,9 @@ ghost use Rattle.dns_handle.specs.Responses.{all_records};
 ghost use Rattle.dns_rules.specs.ProofErrors as cause;
 ghost use Rattle.dns_rules.specs.Delegations as delegations;
 ghost use Rattle.dns_rules.specs.Delegations.{ds_question as ds_question_of};
-ghost use Rattle.dns_marks.specs.ZoneVerdicts.{zone_verdict_value, answer_verdict, in_class, by_message, by_ds as by_ds_set, by_supported, without_ds as without_ds_set, has_ds_set as has_set_in, are_secure_in_set, authority_shows_no_ds as shows_none, is_insecure_record_above as is_above, shown_by, is_record_of};
+ghost use Rattle.dns_marks.specs.ZoneVerdicts.{zone_verdict_value, answer_verdict, in_class, by_message, by_ds as by_ds_set, by_supported, without_ds as without_ds_set, has_ds_set as has_set_in, are_secure_in_set, authority_shows_no_ds as shows_none, hashes_show_no_ds as shows_none_by_hash, is_insecure_record_above as is_above, shown_by, is_record_of};
 
+use crate::hashed::hashes_show_no_ds;
 use dns_evidence::Verifier;
 use dns_handle::{DnsResponse, NetError};
 use dns_message::Message;
@@ -106,7 +107,7 @@ fn verdict_by<V: Verifier>(
     if has_ds_set(zone, class, &message.answers) {
         by_ds(alloc, verifier, zone, class, &message.answers)
     } else {
-        without_ds(zone, class, message)
+        without_ds(alloc, zone, class, message)
     }
 }
 
@@ -150,10 +151,15 @@ fn unshown(zone: &Name) -> Result<ZoneVerdict, NoMemory>
 }
 
 // The verdict where the answer section has no DS set of the zone.
-fn without_ds(zone: &Name, class: DNSClass, message: &Message) -> Result<ZoneVerdict, NoMemory>
+fn without_ds(
+    alloc: Global,
+    zone: &Name,
+    class: DNSClass,
+    message: &Message,
+) -> Result<ZoneVerdict, NoMemory>
     ensures { IfOk result (λ v. zone_verdict_value v ≡ without_ds_set class.0 zone.now message.now) }
 {
-    if !is_insecure(zone, class, message) {
+    if !is_insecure(alloc, zone, class, message)? {
         return unshown(zone);
     }
     let name = zone.try_clone()?;
@@ -161,11 +167,21 @@ fn without_ds(zone: &Name, class: DNSClass, message: &Message) -> Result<ZoneVer
 }
 
 // The delegation is shown to have no DS, or a record of the zone or above it is Insecure.
-fn is_insecure(zone: &Name, class: DNSClass, message: &Message) -> bool
-    ensures { result ≡ (shows_none class.0 zone.now message.now.authorities
-        || list_any (is_above class.0 zone.now) (all_records message.now)) }
+fn is_insecure(
+    alloc: Global,
+    zone: &Name,
+    class: DNSClass,
+    message: &Message,
+) -> Result<bool, NoMemory>
+    ensures { IfOk result (λ b. b ≡ (shows_none class.0 zone.now message.now.authorities
+        || (shows_none_by_hash class.0 zone.now message.now.authorities
+        || list_any (is_above class.0 zone.now) (all_records message.now)))) }
 {
-    shows_no_ds(zone, class, &message.authorities) || has_insecure(zone, class, message)
+    let hashed = hashes_show_no_ds(alloc, zone, class, &message.authorities)?;
+    Ok(
+        shows_no_ds(zone, class, &message.authorities)
+            || (hashed || has_insecure(zone, class, message)),
+    )
 }
 
 // A Secure NSEC set of the zone shows that its delegation has no DS.

@@ -8,7 +8,7 @@ use Rattle.dns_model.specs.SoundAnswers.{Told}
 use Rattle.dns_model.specs.Trails.{AskedValue, EndingValue}
 use Rattle.dns_rules.specs.Delegations.{ZoneVerdict, is_insecure}
 use Rattle.dns_rules.specs.Derivation.{StepContext, ending_by, ending_eq, ending_holds, search_from}
-use Rattle.dns_rules.specs.Outcome.{Outcome, Unjudged, Given, NeedsZone, outcome_by_zone}
+use Rattle.dns_rules.specs.Outcome.{Outcome, Given, NeedsZone, outcome_by_zone}
 use Rattle.dns_rules.specs.Outcome as outcome
 use Rattle.dns_rules.specs.Unsigned.{question_start}
 use Rattle.dns_trail.specs.Endings.{ending_fits}
@@ -50,7 +50,6 @@ unsearched g told o ending excuse is lost =
 -- the ending of a step by its parts
 pub by_parts : (g : StepContext) (step : AskedValue) (told : Told) (o : Outcome) → g.query ≡ step.query
     → ending_fits g told o step.ending step.excuse ≡ ending_holds g step told o
-by_parts g step told Unjudged own = refl
 by_parts g step told (Given d) own = refl
 by_parts g step told (outcome.Denied proof) own = refl
 by_parts g step told NeedsZone own =

@@ -100,7 +100,7 @@ pub ds_given : (g : StepContext) (placed : PlacedSet) (c : ChainedSet) (entry : 
     → needs_ds g.judge placed.set ≡ true → c ≡ chained_by_ds g.judge placed answer
     → option_map bare answer ≡ finished_answer g.earlier ask
     → entry.asked ≡ ask ∷ left
-    → (is_empty left && is_ask g.limit g.earlier (g.depth + 1) (ds_question placed.set.class placed.set.owner) ask) ≡ true
+    → (is_empty left && is_ask g.limits.depth g.earlier (g.depth + 1) (ds_question placed.set.class placed.set.owner) ask) ≡ true
     → some_if (has_mark_of c.judged entry) c.judged ≡ some_if (keys_hold g placed entry) (with_entry (placed, entry))
 ds_given g placed c entry answer ask left needs is same asked fits =
     let verdict : Option (List MarkedSet) → ZoneVerdict =
@@ -128,7 +128,7 @@ ds_unasked g placed entry needs none =
 pub ds_refused : (g : StepContext) (placed : PlacedSet) (entry : JudgedSetValue) (ask : AskRef) (left : List AskRef)
     → needs_ds g.judge placed.set ≡ true
     → entry.asked ≡ ask ∷ left
-    → (is_empty left && is_ask g.limit g.earlier (g.depth + 1) (ds_question placed.set.class placed.set.owner) ask) ≡ false
+    → (is_empty left && is_ask g.limits.depth g.earlier (g.depth + 1) (ds_question placed.set.class placed.set.owner) ask) ≡ false
     → None ≡ some_if (keys_hold g placed entry) (with_entry (placed, entry))
 ds_refused g placed entry ask left needs asked fails =
     let by : Option ZoneVerdict → Bool =

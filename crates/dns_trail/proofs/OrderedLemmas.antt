@@ -5,7 +5,7 @@ use Rattle.std.proofs.lemmas.Bool.{and_from, le-leb, and_right}
 use Rattle.std.proofs.lemmas.Bool.Decides.{nat_tests}
 use Rattle.dns_model.specs.Chains.{Judge}
 use Rattle.dns_model.specs.Trails.{AskedValue}
-use Rattle.dns_rules.specs.Asking.{most_sends, depth_limit}
+use Rattle.dns_rules.specs.Asking.{Limits, most_sends, effective}
 use Rattle.dns_rules.specs.Derivation.{steps_hold, send_order, end_step, top_step, has_order, derivation}
 use Rattle.dns_rules.specs.DerivationParts.{is_top, is_each_once, is_each_met_once}
 use Rattle.dns_rules.specs.Parts.{once_between}
@@ -84,7 +84,7 @@ no_step_ends trail none = sym (ap (λ n. ends_with n (count_step n trail (n - 1)
 -- ---- a derivation
 
 -- a trail is a derivation exactly where it is in order and each step follows
-pub derivation_by_order : (j : Judge) (depth : ℕ) (trail : List AskedValue)
-    → derivation j depth trail ≡ (has_order trail && steps_hold j (depth_limit depth) [] trail)
+pub derivation_by_order : (j : Judge) (limits : Limits) (trail : List AskedValue)
+    → derivation j limits trail ≡ (has_order trail && steps_hold j (effective limits) [] trail)
 unfolding derivation
-derivation_by_order j depth trail = refl
+derivation_by_order j limits trail = refl

@@ -10,7 +10,7 @@ use Rattle.dns_trail.specs.declared.step_context.StepContext.{StepContext}
 abbrev pub step_context_by : {V : Type 0} → (V → VerifierAnswers) → StepContext V → derived.StepContext
 step_context_by answers g = record {
   judge = judge_of answers g.judge.now;
-  limit = g.limit;
+  limits = g.limits;
   earlier = g.earlier;
   query = g.query.now;
   depth = g.depth;

@@ -1,13 +1,12 @@
 ghost use Rattle.std.specs.Prelude.{◌≡◌, IfOk};
 ghost use Rattle.dns_model.specs.Chains.{judge as judge_by};
-ghost use Rattle.dns_rules.specs.Asking.{depth_limit};
 ghost use Rattle.dns_rules.specs.Derivation.{derivation};
 
 use crate::is_in_order;
 use crate::steps::steps_hold;
-use dns_evidence::{Trail, Verifier};
+use dns_evidence::{Limits, Trail, Verifier, effective};
 use dns_name::NoMemory;
-use dns_trust::{Judge, Limits, TrustAnchors};
+use dns_trust::{Judge, TrustAnchors};
 use std::alloc::Global;
 
 /// Whether a trail is a derivation by these anchors and this verifier at a moment, in seconds since 1970: its asks make
@@ -22,7 +21,7 @@ pub fn check_trail<V: Verifier>(
     trail: &Trail,
 ) -> Result<bool, NoMemory>
     ensures { IfOk result (λ b. b
-        ≡ derivation (judge_by (V.answers verifier.now) anchors.now now) limits.now.depth trail.now) }
+        ≡ derivation (judge_by (V.answers verifier.now) anchors.now now) limits.now trail.now) }
 {
     if !is_in_order(&trail.steps) {
         return Ok(false);
@@ -32,12 +31,5 @@ pub fn check_trail<V: Verifier>(
         anchors,
         moment: now,
     };
-    steps_hold(alloc, &judge, limit_of(limits), &trail.steps)
-}
-
-// How deep asks go.
-fn limit_of(limits: &Limits) -> u16
-    ensures { result ≡ depth_limit limits.now.depth }
-{
-    dns_evidence::depth_limit(limits.depth)
+    steps_hold(alloc, &judge, effective(limits), &trail.steps)
 }

@@ -30,13 +30,12 @@ pub(crate) fn ending_holds<V: Verifier>(
     step: &Asked,
 ) -> Result<bool, NoMemory>
     ensures { IfOk result (λ b. b ≡ ending_fits (step_context_by V.answers context.now) (told_by message.now)
-        (told_outcome context.now.query.now (told_by message.now) (bare sets.now)) step.now.ending step.now.excuse) }
+        (told_outcome context.now.limits context.now.query.now (told_by message.now) (bare sets.now)) step.now.ending step.now.excuse) }
 {
     let query = context.query;
     let ending = &step.ending;
     let excuse = &step.excuse;
-    match outcome_of(context.alloc, query, message, sets)? {
-        Outcome::Unjudged => Ok(is_failed(ending) && excuse.is_empty()),
+    match outcome_of(context.alloc, &context.limits, query, message, sets)? {
         Outcome::Given(denial) => Ok(is_answered(ending, denial) && excuse.is_empty()),
         Outcome::Denied(proof) => Ok(is_denied(ending, proof) && excuse.is_empty()),
         Outcome::NeedsZone => {
@@ -49,12 +48,11 @@ pub(crate) fn ending_holds<V: Verifier>(
     }
 }
 
-// The ending is that of an outcome. What isn't judged yet fails; no step ends with a search.
+// The ending is that of an outcome; no step ends with a search.
 fn is_ending(outcome: Outcome, ending: &Ending) -> bool
     ensures { result ≡ ending_eq (ending_by (outcome_value outcome)) (ending_value ending.now) }
 {
     match outcome {
-        Outcome::Unjudged => is_failed(ending),
         Outcome::Given(denial) => is_answered(ending, denial),
         Outcome::NeedsZone => is_failed(ending),
         Outcome::Denied(proof) => is_denied(ending, proof),

@@ -77,7 +77,8 @@ fn ask_zone<V: Verifier>(
         return Ok(None);
     }
     let answer = answer_of(&context.earlier, *ask);
-    Ok(Some(zone_mark(context.judge.verifier, class, zone, answer)))
+    let mark = zone_mark(context.alloc, context.judge.verifier, class, zone, answer)?;
+    Ok(Some(mark))
 }
 
 // What a plain ask for the NS records of a name came to.

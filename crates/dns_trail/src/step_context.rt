@@ -8,7 +8,7 @@ ghost use Rattle.dns_rules.specs.DerivationParts.{is_judged_ask, is_plain_step a
 ghost use Rattle.dns_trust.specs.Verdicts.{listed};
 
 use crate::places::PlacesByKey;
-use dns_evidence::{Asked, ChainedSet};
+use dns_evidence::{Asked, ChainedSet, Limits};
 use dns_model::AskRef;
 use dns_record::Query;
 use dns_trust::Judge;
@@ -20,8 +20,8 @@ use std::marker::Model;
 pub(crate) struct StepContext<'a, 'j, V> {
     pub(crate) alloc: Global,
     pub(crate) judge: &'a Judge<'j, V>,
-    /// How deep asks go.
-    pub(crate) limit: u16,
+    /// How far the lookup went.
+    pub(crate) limits: Limits,
     /// The steps before it.
     pub(crate) earlier: Earlier<'a>,
     pub(crate) query: &'a Query,
@@ -97,9 +97,9 @@ impl Ended {
 
 /// The ask stands for a judged ask for this question, one deeper than the step.
 pub(crate) fn is_ask<V>(context: &StepContext<'_, '_, V>, query: &Query, ask: AskRef) -> bool
-    ensures { result ≡ is_ask_in context.now.limit context.now.earlier (context.now.depth + 1) query.now ask }
+    ensures { result ≡ is_ask_in context.now.limits.depth context.now.earlier (context.now.depth + 1) query.now ask }
 {
-    let may_ask = context.depth < context.limit;
+    let may_ask = context.depth < context.limits.depth;
     match ask {
         AskRef::Step(number) => { may_ask && is_judged_step(context, query, number) }
         AskRef::TooDeep => !may_ask,

@@ -17,7 +17,7 @@ use crate::entries::judged_sets;
 use crate::places::{PlacesByKey, places_of_sets};
 use crate::repeats::has_repeats;
 use crate::step_context::{Earlier, Ended, StepContext};
-use dns_evidence::{Asked, ChainedSet, Ending, Reply, Told, Verifier};
+use dns_evidence::{Asked, ChainedSet, Ending, Limits, Reply, Told, Verifier};
 use dns_grouping::judged_part;
 use dns_message::Message;
 use dns_name::NoMemory;
@@ -30,10 +30,10 @@ use std::alloc::Global;
 pub(crate) fn steps_hold<'a, V: Verifier>(
     alloc: Global,
     judge: &'a Judge<'_, V>,
-    limit: u16,
+    limits: Limits,
     steps: &'a [Asked],
 ) -> Result<bool, NoMemory>
-    ensures { IfOk result (λ b. b ≡ steps_follow (judge_of V.answers judge.now) limit [] steps.now) }
+    ensures { IfOk result (λ b. b ≡ steps_follow (judge_of V.answers judge.now) limits [] steps.now) }
 {
     let repeats = has_repeats(steps);
     let mut ended = Vec::new(alloc);
@@ -49,7 +49,7 @@ pub(crate) fn steps_hold<'a, V: Verifier>(
         let context = StepContext {
             alloc,
             judge: &*judge,
-            limit,
+            limits,
             earlier,
             query: &step.query,
             depth: step.depth,

@@ -20,12 +20,12 @@ use Rattle.dns_rules.proofs.SearchLemmas.{plain_asked, plain_sees}
 use Rattle.dns_flow.specs.Phases.{Answer, Probe, judged_ask, plain_ask}
 use Rattle.dns_flow.proofs.Led.{IsGot, got_answer, got_probe}
 use Rattle.dns_validation.specs.Steps.{judged_step, plain_step}
-use Rattle.dns_validation.specs.Machine.{Terms, limit_of, SoFar, nothing_got, refusal}
+use Rattle.dns_validation.specs.Machine.{Terms, limit_of, SoFar, nothing_got, refusal, limits_of}
 use Rattle.dns_validation.proofs.Parts.{Part, too_deep, too_many}
 
 -- by what the sets of an open step are judged, once these steps have ended
 abbrev pub context_at : Terms → List AskedValue → SoFar → StepContext
-context_at t closed s = record { judge = t.judge; limit = limit_of t; earlier = closed; query = s.query; depth = s.depth }
+context_at t closed s = record { judge = t.judge; limits = limits_of t; earlier = closed; query = s.query; depth = s.depth }
 
 -- ---- a step that has ended
 

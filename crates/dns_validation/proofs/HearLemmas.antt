@@ -16,7 +16,7 @@ use Rattle.dns_flow.specs.Phases.{GotValue, Answer, Probe, judged_ask, plain_ask
 use Rattle.dns_flow.proofs.Led.{IsGot}
 use Rattle.dns_validation.specs.Received.{ReceivedValue, Message, Failed as Unheard, received_value, heard_from, is_out_of_memory}
 use Rattle.dns_validation.specs.Steps.{judged_step, plain_step, foreign_ending}
-use Rattle.dns_validation.specs.Machine.{Terms, OpenValue, StateValue, limit_of, opened, answered, heard_first, heard_own, heard_judged, heard_nested, heard_plain, heard_by, depth_below, heard}
+use Rattle.dns_validation.specs.Machine.{Terms, OpenValue, StateValue, opened, answered, heard_first, heard_own, heard_judged, heard_nested, heard_plain, heard_by, depth_below, heard, limits_of}
 use Rattle.dns_validation.specs.Runs.{Sent, request_in, depth_in, sent_now}
 use Rattle.dns_validation.specs.Comes.{IsFirst, IsStepOf, Passes, Names}
 use Rattle.dns_validation.proofs.Parts.{Part, none_more, step_more}
@@ -39,10 +39,10 @@ sent_judged t steps q reply =
 stand_opened : (t : Terms) (steps : List OpenValue) (closed : List AskedValue) (n depth : ℕ) (sends : List Sent) (q : Question) (reply : Reply) (m : MessageValue) (empty : Bool)
     → Open t steps closed n sends → n < most_sends → Awaits t steps (judged_ask q) → is_out_of_memory reply ≡ false → depth ≡ depth_in steps true
     → received_value reply ≡ Message m empty → foreign_record q (told_by m) ≡ None
-    → Stand t None (opened t.judge q depth m empty ∷ steps) closed (n + 1) (sends ++ sent_judged t steps q reply ∷ []) None
+    → Stand t None (opened t q depth m empty ∷ steps) closed (n + 1) (sends ++ sent_judged t steps q reply ∷ []) None
 stand_opened t steps closed n depth sends q reply m empty beneath few awaits kept deep received own =
-    Moves (opened t.judge q depth m empty) steps closed (n + 1) (sends ++ sent_judged t steps q reply ∷ [])
-    (Above (opened t.judge q depth m empty) steps closed closed n (n + 1) sends [] (sends ++ sent_judged t steps q reply ∷ []) (sent_judged t steps q reply) beneath
+    Moves (opened t q depth m empty) steps closed (n + 1) (sends ++ sent_judged t steps q reply ∷ [])
+    (Above (opened t q depth m empty) steps closed closed n (n + 1) sends [] (sends ++ sent_judged t steps q reply ∷ []) (sent_judged t steps q reply) beneath
     (record {
       part = none_more t closed (n + 1);
       few = few;
@@ -65,7 +65,7 @@ first_of t q reply same kept = record { ask = same; request = refl; depth = refl
 stand_own : (t : Terms) (closed : List AskedValue) (n : ℕ) (sends : List Sent) (q : Question) (reply : Reply) (m : MessageValue) (empty : Bool) (o : Option Rr)
     → Open t [] closed n sends → n < most_sends → judged_ask q ≡ judged_ask t.query → is_out_of_memory reply ≡ false
     → received_value reply ≡ Message m empty → foreign_record q (told_by m) ≡ o
-    → Stands t (heard_own t.judge (rested closed [] (n + 1)) q m empty o) (sends ++ sent_judged t [] q reply ∷ [])
+    → Stands t (heard_own t (rested closed [] (n + 1)) q m empty o) (sends ++ sent_judged t [] q reply ∷ [])
 stand_own t closed n sends q reply m empty None beneath few same kept received own =
     stand_opened t [] closed n 0 sends q reply m empty beneath few same kept refl received own
 stand_own t closed n sends q reply m empty (Some r) beneath few same kept received found =
@@ -78,7 +78,7 @@ stand_own t closed n sends q reply m empty (Some r) beneath few same kept receiv
 
 stand_first : (t : Terms) (closed : List AskedValue) (n : ℕ) (sends : List Sent) (q : Question) (reply : Reply) (received : ReceivedValue)
     → Open t [] closed n sends → n < most_sends → judged_ask q ≡ judged_ask t.query → is_out_of_memory reply ≡ false → received_value reply ≡ received
-    → Stands t (heard_first t.judge (rested closed [] (n + 1)) q received) (sends ++ sent_judged t [] q reply ∷ [])
+    → Stands t (heard_first t (rested closed [] (n + 1)) q received) (sends ++ sent_judged t [] q reply ∷ [])
 stand_first t closed n sends q reply (Unheard error) beneath few same kept is =
     let sent = sent_judged t [] q reply in
     let one : sends ++ sent ∷ [] ≡ sent ∷ [] = ap (λ xs. xs ++ sent ∷ []) (none_open t closed n sends beneath) in
@@ -90,7 +90,7 @@ stand_first t closed n sends q reply (Message m empty) beneath few same kept is 
 
 stand_bare : (t : Terms) (f : OpenValue) (outer : List OpenValue) (closed : List AskedValue) (n : ℕ) (sends : List Sent) (ask : Ask) (sent : Sent) (step : AskedValue) (got : GotValue)
     → Open t (f ∷ outer) closed n sends → n < most_sends → Awaited t f ask → IsStepOf t step sent → asks_of step ≡ []
-    → step_holds t.judge (limit_of t) closed step ≡ true → IsGot (context_at t (closed ++ step ∷ []) f.so_far) ask (Step (length closed)) got
+    → step_holds t.judge (limits_of t) closed step ≡ true → IsGot (context_at t (closed ++ step ∷ []) f.so_far) ask (Step (length closed)) got
     → Stand t None (answered t.judge (Step (length closed)) got f ∷ outer) (closed ++ step ∷ []) (n + 1) (sends ++ sent ∷ []) None
 stand_bare t f outer closed n sends ask sent step got beneath few awaited of none holds is =
     let nothing : Part t closed closed (asks_of step) (n + 1) (n + 1) [] =
@@ -102,7 +102,7 @@ stand_bare t f outer closed n sends ask sent step got beneath few awaited of non
 stand_nested : (t : Terms) (f : OpenValue) (outer : List OpenValue) (closed : List AskedValue) (n : ℕ) (sends : List Sent) (q : Question) (reply : Reply) (m : MessageValue)
     (empty : Bool) (o : Option Rr) → Open t (f ∷ outer) closed n sends → n < most_sends → Awaited t f (judged_ask q) → is_out_of_memory reply ≡ false
     → received_value reply ≡ Message m empty → foreign_record q (told_by m) ≡ o
-    → Stands t (heard_nested t.judge (rested closed (f ∷ outer) (n + 1)) q (f.so_far.depth + 1) m empty o) (sends ++ sent_judged t (f ∷ outer) q reply ∷ [])
+    → Stands t (heard_nested t (rested closed (f ∷ outer) (n + 1)) q (f.so_far.depth + 1) m empty o) (sends ++ sent_judged t (f ∷ outer) q reply ∷ [])
 stand_nested t f outer closed n sends q reply m empty None beneath few awaited kept received own =
     stand_opened t (f ∷ outer) closed n (f.so_far.depth + 1) sends q reply m empty beneath few awaited kept refl received own
 stand_nested t f outer closed n sends q reply m empty (Some r) beneath few awaited kept received found =
@@ -110,18 +110,18 @@ stand_nested t f outer closed n sends q reply m empty (Some r) beneath few await
     let step = judged_step depth q (Records (told_by m) empty) [] (foreign_ending r) [] in
     stand_bare t f outer closed n sends (judged_ask q) (sent_judged t (f ∷ outer) q reply) step (Answer None) beneath few awaited
     (record { query = refl; judged = refl; request = refl; depth = refl; heard = sym (heard_message reply m empty received); kept = kept }) refl
-    (foreign_holds t.judge (limit_of t) closed depth q (told_by m) empty r found)
+    (foreign_holds t.judge (limits_of t) closed depth q (told_by m) empty r found)
     (step_answers t closed f.so_far q depth (Records (told_by m) empty) [] (foreign_ending r) [] None refl (awaited.shallow refl) refl tt)
 
 stand_judged : (t : Terms) (f : OpenValue) (outer : List OpenValue) (closed : List AskedValue) (n : ℕ) (sends : List Sent) (q : Question) (reply : Reply) (received : ReceivedValue)
     → Open t (f ∷ outer) closed n sends → n < most_sends → Awaited t f (judged_ask q) → is_out_of_memory reply ≡ false → received_value reply ≡ received
-    → Stands t (heard_judged t.judge (rested closed (f ∷ outer) (n + 1)) q (f.so_far.depth + 1) received) (sends ++ sent_judged t (f ∷ outer) q reply ∷ [])
+    → Stands t (heard_judged t (rested closed (f ∷ outer) (n + 1)) q (f.so_far.depth + 1) received) (sends ++ sent_judged t (f ∷ outer) q reply ∷ [])
 stand_judged t f outer closed n sends q reply (Unheard error) beneath few awaited kept is =
     let depth = f.so_far.depth + 1 in
     let step = judged_step depth q Fault [] Failed [] in
     stand_bare t f outer closed n sends (judged_ask q) (sent_judged t (f ∷ outer) q reply) step (Answer None) beneath few awaited
     (record { query = refl; judged = refl; request = refl; depth = refl; heard = sym (heard_fault reply error is); kept = kept }) refl
-    (fault_holds t.judge (limit_of t) closed depth q)
+    (fault_holds t.judge (limits_of t) closed depth q)
     (step_answers t closed f.so_far q depth Fault [] Failed [] None refl (awaited.shallow refl) refl tt)
 stand_judged t f outer closed n sends q reply (Message m empty) beneath few awaited kept is =
     stand_nested t f outer closed n sends q reply m empty (foreign_record q (told_by m)) beneath few awaited kept is refl
@@ -139,12 +139,12 @@ stand_plain t f outer closed n sends q reply (Unheard error) beneath few awaited
     let step = plain_step f.so_far.depth q Fault Failed in
     stand_bare t f outer closed n sends (plain_ask q) (sent_plain t f outer q reply) step (Probe probes.Failed) beneath few awaited
     (record { query = refl; judged = refl; request = refl; depth = refl; heard = sym (heard_fault reply error is); kept = kept }) refl
-    (plain_fault_holds t.judge (limit_of t) closed f.so_far.depth q) (step_shows t closed f.so_far q Fault Failed)
+    (plain_fault_holds t.judge (limits_of t) closed f.so_far.depth q) (step_shows t closed f.so_far q Fault Failed)
 stand_plain t f outer closed n sends q reply (Message m empty) beneath few awaited kept is =
     let step = plain_step f.so_far.depth q (Records (told_by m) empty) Seen in
     stand_bare t f outer closed n sends (plain_ask q) (sent_plain t f outer q reply) step (Probe (probe_of q.owner (Records (told_by m) empty))) beneath few awaited
     (record { query = refl; judged = refl; request = refl; depth = refl; heard = sym (heard_message reply m empty is); kept = kept }) refl
-    (plain_holds t.judge (limit_of t) closed f.so_far.depth q (told_by m) empty) (step_shows t closed f.so_far q (Records (told_by m) empty) Seen)
+    (plain_holds t.judge (limits_of t) closed f.so_far.depth q (told_by m) empty) (step_shows t closed f.so_far q (Records (told_by m) empty) Seen)
 
 -- ---- a reply
 
@@ -153,7 +153,7 @@ waiting closed steps ask n = record { closed = closed; steps = steps; pending = 
 
 stand_reply : (t : Terms) (steps : List OpenValue) (closed : List AskedValue) (n : ℕ) (sends : List Sent) (q : Question) (judged : Bool) (reply : Reply)
     → Open t steps closed n sends → n < most_sends → Awaits t steps (record { query = q; judged = judged }) → is_out_of_memory reply ≡ false
-    → Stands t (heard t.judge (waiting closed steps (record { query = q; judged = judged }) n) reply)
+    → Stands t (heard t (waiting closed steps (record { query = q; judged = judged }) n) reply)
     (sends ++ sent_now t (waiting closed steps (record { query = q; judged = judged }) n) (record { query = q; judged = judged }) reply ∷ [])
 stand_reply t [] closed n sends q true reply beneath few awaits kept = stand_first t closed n sends q reply (received_value reply) beneath few awaits kept refl
 stand_reply t [] closed n sends q false reply beneath few awaits kept = let no : false ≡ true = ap (λ (a : Ask). a.judged) awaits in cc
@@ -165,14 +165,14 @@ stand_reply t (f ∷ outer) closed n sends q false reply beneath few awaits kept
 stand_waiting : (t : Terms) (pending : Option Ask) (steps : List OpenValue) (closed : List AskedValue) (n : ℕ) (sends : List Sent) (ended : Option Reply) (ask : Ask) (reply : Reply)
     → Stand t pending steps closed n sends ended → pending ≡ Some ask → is_out_of_memory reply ≡ false
     → (let s : StateValue = record { closed = closed; steps = steps; pending = pending; sends = n; ended = ended } in
-    Stands t (heard t.judge s reply) (sends ++ sent_now t s ask reply ∷ []))
+    Stands t (heard t s reply) (sends ++ sent_now t s ask reply ∷ []))
 stand_waiting t _ _ _ _ _ _ ask reply (Waits q steps closed n sends beneath few awaits) is kept =
     let same : q ≡ ask = cc in
-    subst (λ a. Stands t (heard t.judge (waiting closed steps q n) reply) (sends ++ sent_now t (waiting closed steps q n) a reply ∷ [])) same
+    subst (λ a. Stands t (heard t (waiting closed steps q n) reply) (sends ++ sent_now t (waiting closed steps q n) a reply ∷ [])) same
     (stand_reply t steps closed n sends q.query q.judged reply beneath few awaits kept)
 stand_waiting t _ _ _ _ _ _ ask reply (Moves f outer closed n sends beneath) is kept = cc
 stand_waiting t _ _ _ _ _ _ ask reply (Done closed n sends answer comes) is kept = cc
 
 pub stand_heard : (t : Terms) (s : StateValue) (sends : List Sent) (ask : Ask) (reply : Reply) → Stands t s sends → s.pending ≡ Some ask
-    → is_out_of_memory reply ≡ false → Stands t (heard t.judge s reply) (sends ++ sent_now t s ask reply ∷ [])
+    → is_out_of_memory reply ≡ false → Stands t (heard t s reply) (sends ++ sent_now t s ask reply ∷ [])
 stand_heard t s sends ask reply h is kept = stand_waiting t s.pending s.steps s.closed s.sends sends s.ended ask reply h is kept

@@ -23,7 +23,7 @@ use Rattle.dns_flow.specs.Endings.{IsStepEnd}
 use Rattle.dns_flow.specs.Leads.{entry_of}
 use Rattle.dns_flow.specs.Phases.{PhaseValue, GotValue, SetEnds, StepEnds, Asks, start_set, start_ending, turn, after}
 use Rattle.dns_flow.proofs.Led.{Led, IsGot, IsSetEnd, led_set, led_ending, led_more, led_stays, set_ends, step_ends, set_never, ending_never}
-use Rattle.dns_validation.specs.Machine.{Terms, SoFar, OpenValue, first_left, next_phase, next_item, opened, set_ended, answered}
+use Rattle.dns_validation.specs.Machine.{Terms, SoFar, OpenValue, first_left, next_phase, next_item, opened, set_ended, answered, limits_of}
 use Rattle.dns_validation.specs.Comes.{IsJudgement}
 use Rattle.dns_validation.proofs.GotLemmas.{context_at}
 
@@ -63,7 +63,7 @@ pub data Item (t : Terms) (closed : List AskedValue) (s : SoFar) (done : List Pl
       → Led (context_at t closed s) (told_by s.message) (start_set t.judge s.query (told_by s.message) placed) asked phase
       → Item t closed s done asked phase
   AtEnding : judged_part s.depth (told_by s.message) ≡ done
-      → Led (context_at t closed s) (told_by s.message) (start_ending s.query (told_by s.message) (bare s.sets)) asked phase
+      → Led (context_at t closed s) (told_by s.message) (start_ending (limits_of t) s.query (told_by s.message) (bare s.sets)) asked phase
       → Item t closed s done asked phase
 
 pub record Judging (t : Terms) (closed : List AskedValue) (f : OpenValue) : Type 0 where
@@ -79,18 +79,18 @@ asks_so_far f = asks_of_sets f.so_far.entries ++ f.asked
 -- ---- the next set begins, or the ending
 
 item_by : (t : Terms) (closed : List AskedValue) (s : SoFar) (done left : List PlacedSet) → judged_part s.depth (told_by s.message) ≡ done ++ left
-    → Item t closed (record s { left = drop 1 left }) done [] (next_phase t.judge s (first_left left))
+    → Item t closed (record s { left = drop 1 left }) done [] (next_phase t s (first_left left))
 item_by t closed s done [] part = AtEnding (part ∙ append-nil done) (led_ending (context_at t closed s) (told_by s.message) (bare s.sets))
 item_by t closed s done (placed ∷ left) part = AtSet placed part (led_set (context_at t closed s) (told_by s.message) placed)
 
 next_judging : (t : Terms) (closed : List AskedValue) (s : SoFar) (done : List PlacedSet) → foreign_record s.query (told_by s.message) ≡ None
     → IsJudgement (context_at t closed s) done s.sets s.entries → judged_part s.depth (told_by s.message) ≡ done ++ s.left
-    → Judging t closed (next_item t.judge s)
+    → Judging t closed (next_item t s)
 next_judging t closed s done own judged part = record { own = own; done = done; judged = judged; item = item_by t closed s done s.left part }
 
 -- it opens
 pub judging_opened : (t : Terms) (closed : List AskedValue) (q : Question) (depth : ℕ) (m : MessageValue) (empty : Bool) → foreign_record q (told_by m) ≡ None
-    → Judging t closed (opened t.judge q depth m empty)
+    → Judging t closed (opened t q depth m empty)
 judging_opened t closed q depth m empty own =
     let s : SoFar = record { query = q; depth = depth; message = m; empty = empty; left = judged_part depth (told_by m); sets = []; entries = [] } in
     next_judging t closed s [] own (judgement_none (context_at t closed s)) refl
@@ -99,7 +99,7 @@ judging_opened t closed q depth m empty own =
 
 set_by : (t : Terms) (closed : List AskedValue) (s : SoFar) (done : List PlacedSet) (asked : List AskRef) (phase : PhaseValue) (c : ChainedSet)
     → foreign_record s.query (told_by s.message) ≡ None → IsJudgement (context_at t closed s) done s.sets s.entries
-    → Item t closed s done asked phase → turn phase ≡ SetEnds c → Judging t closed (set_ended t.judge s asked c)
+    → Item t closed s done asked phase → turn phase ≡ SetEnds c → Judging t closed (set_ended t s asked c)
 set_by t closed s done asked phase c own judged (AtEnding part led) ends = absurd (ending_never _ _ _ _ _ _ led ends)
 set_by t closed s done asked phase c own judged (AtSet placed part led) ends =
     let e = entry_of c.judged asked in
@@ -109,10 +109,10 @@ set_by t closed s done asked phase c own judged (AtSet placed part led) ends =
     (part ∙ sym (append_assoc done (placed ∷ []) s.left))
 
 pub set_judging : (t : Terms) (closed : List AskedValue) (f : OpenValue) (c : ChainedSet) → Judging t closed f → turn f.phase ≡ SetEnds c
-    → Judging t closed (set_ended t.judge f.so_far f.asked c)
+    → Judging t closed (set_ended t f.so_far f.asked c)
 set_judging t closed f c h ends = set_by t closed f.so_far h.done f.asked f.phase c h.own h.judged h.item ends
 
-pub asks_of_set : (t : Terms) (f : OpenValue) (c : ChainedSet) → asks_so_far (set_ended t.judge f.so_far f.asked c) ≡ asks_so_far f
+pub asks_of_set : (t : Terms) (f : OpenValue) (c : ChainedSet) → asks_so_far (set_ended t f.so_far f.asked c) ≡ asks_so_far f
 asks_of_set t f c =
     let e = entry_of c.judged f.asked in
     append-nil (asks_of_sets (f.so_far.entries ++ e ∷ []))
@@ -128,8 +128,8 @@ item_answered t closed more s done asked phase ask made got (AtSet placed part l
     AtSet placed part (led_more (context_at t (closed ++ more) s) (told_by s.message) (start_set t.judge s.query (told_by s.message) placed) asked phase ask made got
     (led_stays (context_at t closed s) more (told_by s.message) (start_set t.judge s.query (told_by s.message) placed) asked phase led) asks is)
 item_answered t closed more s done asked phase ask made got (AtEnding part led) asks is =
-    AtEnding part (led_more (context_at t (closed ++ more) s) (told_by s.message) (start_ending s.query (told_by s.message) (bare s.sets)) asked phase ask made got
-    (led_stays (context_at t closed s) more (told_by s.message) (start_ending s.query (told_by s.message) (bare s.sets)) asked phase led) asks is)
+    AtEnding part (led_more (context_at t (closed ++ more) s) (told_by s.message) (start_ending (limits_of t) s.query (told_by s.message) (bare s.sets)) asked phase ask made got
+    (led_stays (context_at t closed s) more (told_by s.message) (start_ending (limits_of t) s.query (told_by s.message) (bare s.sets)) asked phase led) asks is)
 
 pub answered_judging : (t : Terms) (closed more : List AskedValue) (f : OpenValue) (ask : Ask) (made : AskRef) (got : GotValue) → Judging t closed f
     → turn f.phase ≡ Asks ask → IsGot (context_at t (closed ++ more) f.so_far) ask made got → Judging t (closed ++ more) (answered t.judge made got f)

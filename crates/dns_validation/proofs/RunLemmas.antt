@@ -35,7 +35,7 @@ run_turns t sends _ _ run (Onward s m u turns on is) = Ticked sends m u (run_tur
 pub goes_on : (t : Terms) (old new : StateValue) (reply : Reply) → HasHeard t old reply new → GoesOn t old reply new
 goes_on t old new reply h = λ sends ask waits run.
     let all = sends ++ sent_now t old ask reply ∷ [] in
-    run_turns t all (heard t.judge old reply) new (Heard sends all old (heard t.judge old reply) ask reply run waits h.kept refl refl) h.turns
+    run_turns t all (heard t old reply) new (Heard sends all old (heard t old reply) ask reply run waits h.kept refl refl) h.turns
 
 -- ---- a run comes to its end
 

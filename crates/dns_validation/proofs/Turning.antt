@@ -10,7 +10,7 @@ use Rattle.dns_model.specs.Trails.{AskedValue, JudgedSetValue, EndingValue, Hear
 use Rattle.dns_rules.specs.Asking.{most_sends, judged_part}
 use Rattle.dns_rules.specs.ChainedSets.{ChainedSet, bare}
 use Rattle.dns_rules.specs.Derivation.{if_answered, judged_sets, with_entries, ending_by, step_holds, asks_of}
-use Rattle.dns_rules.specs.Outcome.{Outcome, Unjudged, Given, NeedsZone, Denied, foreign_record}
+use Rattle.dns_rules.specs.Outcome.{Outcome, Given, NeedsZone, Denied, foreign_record}
 use Rattle.dns_rules.proofs.ChainedLemmas.{AllStand, IsGoodAnswer}
 use Rattle.dns_handle.specs.Errors.{Reply}
 use Rattle.dns_flow.specs.declared.asks.Ask.{Ask}
@@ -19,7 +19,7 @@ use Rattle.dns_flow.proofs.Led.{IsGot}
 use Rattle.dns_validation.specs.Received.{received_value, heard_from, Message}
 use Rattle.dns_validation.specs.Requests.{request_for}
 use Rattle.dns_validation.specs.Steps.{judged_step, given_sets, judged_answer}
-use Rattle.dns_validation.specs.Machine.{Terms, SoFar, OpenValue, StateValue, limit_of, set_ended, answered, step_of, none_open, step_ended, findings, asked_by, nothing_got, refusal, turned, turn_in, tick}
+use Rattle.dns_validation.specs.Machine.{Terms, SoFar, OpenValue, StateValue, limit_of, set_ended, answered, step_of, none_open, step_ended, findings, asked_by, nothing_got, refusal, turned, turn_in, tick, limits_of}
 use Rattle.dns_validation.specs.Runs.{Sent, request_in, is_none, moves}
 use Rattle.dns_validation.specs.Comes.{IsFirst, IsStepOf, FoundBy, Comes, Judges, top_context}
 use Rattle.dns_validation.proofs.Parts.{Part, step_more}
@@ -41,10 +41,10 @@ open_few t f outer closed n sends (Above _ _ _ _ _ _ _ _ _ _ _ h _) = h.most
 
 stand_set : (t : Terms) (f : OpenValue) (outer : List OpenValue) (closed : List AskedValue) (n : ℕ) (sends : List Sent) (c : ChainedSet)
     → Open t (f ∷ outer) closed n sends → turn f.phase ≡ SetEnds c
-    → Stand t None (set_ended t.judge f.so_far f.asked c ∷ outer) closed n sends None
+    → Stand t None (set_ended t f.so_far f.asked c ∷ outer) closed n sends None
 stand_set t f outer closed n sends c (Above _ _ below _ k _ before after _ first rest h all) ends =
-    Moves (set_ended t.judge f.so_far f.asked c) outer closed n sends
-    (Above (set_ended t.judge f.so_far f.asked c) outer below closed k n before after sends first rest
+    Moves (set_ended t f.so_far f.asked c) outer closed n sends
+    (Above (set_ended t f.so_far f.asked c) outer below closed k n before after sends first rest
     (record {
       part = subst (λ xs. Part t below closed xs (k + 1) n after) (sym (asks_of_set t f c)) h.part;
       few = h.few;
@@ -78,13 +78,11 @@ stand_asked t f outer closed n sends q judged (Some r) beneath asks is =
 given_same : (q : Question) (depth : ℕ) (s : SoFar) (excuse : List AskRef) (o : Outcome) → bare s.sets ≡ with_entries (judged_part depth (told_by s.message)) s.entries
     → option_map bare (given_sets o s.sets)
     ≡ if_answered (ending_by o) (judged_sets (judged_step depth q (Records (told_by s.message) s.empty) s.entries (ending_by o) excuse))
-given_same q depth s excuse Unjudged same = refl
 given_same q depth s excuse (Given d) same = ap Some same
 given_same q depth s excuse NeedsZone same = refl
 given_same q depth s excuse (Denied p) same = refl
 
 given_good : (j : Judge) (sets : List ChainedSet) (o : Outcome) → AllStand j sets → IsGoodAnswer j (given_sets o sets)
-given_good j sets Unjudged stand = tt
 given_good j sets (Given d) stand = stand
 given_good j sets NeedsZone stand = tt
 given_good j sets (Denied p) stand = tt
@@ -107,7 +105,7 @@ step_part : (t : Terms) (f g : OpenValue) (outer : List OpenValue) (below closed
 step_part t f g outer below closed n m first after o h done =
     let s = f.so_far in
     step_more t below closed (step_of s f.asked o) n m first after (step_sent t s f.asked o first h.heard h.request) h.part h.few
-    (judged_step_holds t.judge (limit_of t) closed s.depth s.query (told_by s.message) s.empty s.sets s.entries o f.asked h.judging.own done.judged done.concluded)
+    (judged_step_holds t.judge (limits_of t) closed s.depth s.query (told_by s.message) s.empty s.sets s.entries o f.asked h.judging.own done.judged done.concluded)
 
 -- it answers the step beneath it
 stand_nested : (t : Terms) (f g : OpenValue) (outer : List OpenValue) (below closed : List AskedValue) (n m : ℕ) (before after all : List Sent) (first : Sent) (o : Outcome)

@@ -10,12 +10,12 @@ use Rattle.dns_model.specs.Records.{Rr, RrSet, Question}
 use Rattle.dns_model.specs.Chains.{Judge}
 use Rattle.dns_model.specs.SoundAnswers.{Told, PlacedSet, told_by}
 use Rattle.dns_model.specs.Trails.{AskedValue}
-use Rattle.dns_rules.specs.Asking.{ask_of}
+use Rattle.dns_rules.specs.Asking.{Limits, ask_of}
 use Rattle.dns_rules.specs.ChainedSets.{ChainedSet, ChainedVerdict, bare, chained_verdict}
 use Rattle.dns_rules.specs.KeySets.{needs_ds}
 use Rattle.dns_rules.specs.MarkedSets.{MarkedSet}
 use Rattle.dns_rules.specs.Marks.{is_proved, is_skipped, most_signatures}
-use Rattle.dns_rules.specs.Outcome.{Outcome, Unjudged, Given, NeedsZone, Denied, outcome_of}
+use Rattle.dns_rules.specs.Outcome.{Outcome, Given, NeedsZone, Denied, outcome_of}
 use Rattle.dns_rules.specs.Unsigned.{question_start}
 use Rattle.dns_handle.specs.Errors.{Reply}
 use Rattle.dns_flow.specs.declared.asks.Ask.{Ask}
@@ -23,7 +23,7 @@ use Rattle.dns_flow.specs.declared.phases.Seeker.{Seeker}
 use Rattle.dns_flow.specs.declared.phases.Seeker.TheVariants.{Set, Ending}
 use Rattle.dns_flow.specs.Leads.{entry_of}
 use Rattle.dns_flow.specs.Phases.{PhaseValue, Marked, NeedsDs, Trying, AtName, AtZone, Concluded, NeedValue, SetEnds, StepEnds, Asks, GotValue, Answer, Probe, found, search_at, first_signatures, unasked, try_from, after_verdict, after_signature, signature_need, start_by, start_ending, turn, after_ds, after}
-use Rattle.dns_validation.specs.Machine.{Terms, SoFar, OpenValue, StateValue, limit_of, first_left, next_phase, next_item, set_ended, answered, give, step_of, none_open, step_ended, nothing_got, refusal, asked_by, turned, turn_in, tick}
+use Rattle.dns_validation.specs.Machine.{Terms, SoFar, OpenValue, StateValue, limit_of, limits_of, first_left, next_phase, next_item, set_ended, answered, give, step_of, none_open, step_ended, nothing_got, refusal, asked_by, turned, turn_in, tick}
 use Rattle.dns_validation.specs.Steps.{given_sets}
 use Rattle.dns_validation.specs.Runs.{is_none, moves}
 
@@ -74,14 +74,13 @@ search_work q told class (label ∷ name) = omega arith
 
 start_work : (q : Question) (told : Told) (o : Outcome) → phase_work (start_by q told o) ≤ 2
 unfolding phase_work
-start_work q told Unjudged = omega arith
 start_work q told (Given denial) = omega arith
 start_work q told NeedsZone = search_work q told q.class (question_start q)
 start_work q told (Denied p) = omega arith
 
-ending_work : (q : Question) (told : Told) (sets : List MarkedSet) → phase_work (start_ending q told sets) ≤ 2
+ending_work : (limits : Limits) (q : Question) (told : Told) (sets : List MarkedSet) → phase_work (start_ending limits q told sets) ≤ 2
 unfolding start_ending
-ending_work q told sets = start_work q told (outcome_of q told sets)
+ending_work limits q told sets = start_work q told (outcome_of limits q told sets)
 
 set_work : (p : PhaseValue) (c : ChainedSet) → turn p ≡ SetEnds c → 2 < phase_work p
 unfolding turn phase_work
@@ -167,16 +166,16 @@ steps_work (f ∷ outer) = step_work f + steps_work outer
 pub work : StateValue → ℕ
 work s = steps_work s.steps + (if is_none s.pending then 1 else 0)
 
-item_work : (j : Judge) (s : SoFar) (left : List PlacedSet) (p : PhaseValue) (c : ChainedSet) → turn p ≡ SetEnds c
-    → 13 * (length (drop 1 left) + 1) + phase_work (next_phase j s (first_left left)) < 13 * (length left + 1) + phase_work p
-item_work j s [] p c ends = let a = ending_work s.query (told_by s.message) (bare s.sets) in let b = set_work p c ends in omega arith
-item_work j s (placed ∷ left) p c ends = let a = little (next_phase j s (Some placed)) in omega arith
+item_work : (t : Terms) (s : SoFar) (left : List PlacedSet) (p : PhaseValue) (c : ChainedSet) → turn p ≡ SetEnds c
+    → 13 * (length (drop 1 left) + 1) + phase_work (next_phase t s (first_left left)) < 13 * (length left + 1) + phase_work p
+item_work t s [] p c ends = let a = ending_work (limits_of t) s.query (told_by s.message) (bare s.sets) in let b = set_work p c ends in omega arith
+item_work t s (placed ∷ left) p c ends = let a = little (next_phase t s (Some placed)) in omega arith
 
-set_less : (j : Judge) (f : OpenValue) (c : ChainedSet) → turn f.phase ≡ SetEnds c → step_work (set_ended j f.so_far f.asked c) < step_work f
+set_less : (t : Terms) (f : OpenValue) (c : ChainedSet) → turn f.phase ≡ SetEnds c → step_work (set_ended t f.so_far f.asked c) < step_work f
 unfolding step_work
-set_less j f c ends =
+set_less t f c ends =
     let s : SoFar = record f.so_far { sets = f.so_far.sets ++ c ∷ []; entries = f.so_far.entries ++ entry_of c.judged f.asked ∷ [] } in
-    item_work j s f.so_far.left f.phase c ends
+    item_work t s f.so_far.left f.phase c ends
 
 answered_more : (j : Judge) (made : AskRef) (got : GotValue) (f : OpenValue) → step_work (answered j made got f) ≤ step_work f + 12
 unfolding step_work
@@ -218,7 +217,7 @@ asked_less t f outer closed n e (Some r) ask asks = let a = refused_less t.judge
 need_less : (t : Terms) (f : OpenValue) (outer : List OpenValue) (closed : List AskedValue) (n : ℕ) (e : Option Reply) (need : NeedValue)
     → turn f.phase ≡ need → work (turned t f (resting closed outer n e) need) < work (resting closed (f ∷ outer) n e)
 unfolding work steps_work
-need_less t f outer closed n e (SetEnds c) is = let a = set_less t.judge f c is in omega arith
+need_less t f outer closed n e (SetEnds c) is = let a = set_less t f c is in omega arith
 need_less t f outer closed n e (StepEnds o) is = ended_less t f outer closed n e o
 need_less t f outer closed n e (Asks ask) is = asked_less t f outer closed n e (refusal (limit_of t) n f.so_far.depth ask.judged) ask is
 

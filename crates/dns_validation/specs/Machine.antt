@@ -7,7 +7,7 @@ use Rattle.dns_model.specs.Records.{Rr, Question, MessageValue}
 use Rattle.dns_model.specs.Chains.{Judge}
 use Rattle.dns_model.specs.SoundAnswers.{PlacedSet, told_by}
 use Rattle.dns_model.specs.Trails.{AskedValue, JudgedSetValue, Records, Fault, Failed, Seen}
-use Rattle.dns_rules.specs.Asking.{most_sends, depth_limit, judged_part}
+use Rattle.dns_rules.specs.Asking.{Limits, most_sends, depth_limit, judged_part}
 use Rattle.dns_rules.specs.ChainedSets.{ChainedSet, bare}
 use Rattle.dns_rules.specs.Derivation.{probe_of, ending_by}
 use Rattle.dns_rules.specs.Outcome.{Outcome, foreign_record}
@@ -16,6 +16,7 @@ use Rattle.dns_handle.specs.Errors as seen
 use Rattle.dns_handle.specs.Errors.{Reply}
 use Rattle.dns_handle.specs.Requests.{RequestValue}
 use Rattle.dns_handle.specs.declared.request.DnsRequestOptions.{DnsRequestOptions}
+use Rattle.dns_evidence.specs.declared.limits.IterationLimits.{IterationLimits}
 use Rattle.dns_flow.specs.declared.asks.Ask.{Ask}
 use Rattle.dns_flow.specs.Leads.{entry_of}
 use Rattle.dns_flow.specs.Phases.{PhaseValue, NeedValue, SetEnds, StepEnds, Asks, GotValue, Answer, Probe, judged_ask, start_set, start_ending, turn, after}
@@ -25,17 +26,23 @@ use Rattle.dns_validation.specs.Steps.{judged_step, plain_step, foreign_ending, 
 
 -- ---- what a validation is
 
--- by what it judges and asks: the judge, its query, the request that it sends for that, its options and its moment in seconds
+-- by what it judges and asks: the judge, its query, the request that it sends for that, its options, how many iterations of a hash it
+-- counts, and its moment in seconds
 pub record Terms : Type 0 where
   pub judge : Judge
   pub query : Question
   pub request : RequestValue
   pub options : DnsRequestOptions
+  pub iterations : IterationLimits
   pub now : ℕ
 
 -- how deep its asks go
 abbrev pub limit_of : Terms → ℕ
 limit_of t = depth_limit t.options.max_request_depth
+
+-- and how far it goes
+abbrev pub limits_of : Terms → Limits
+limits_of t = record { depth = limit_of t; soft = t.iterations.soft; hard = t.iterations.hard }
 
 -- a step so far: its question and depth, the message that it heard and whether that said that there are no records, the sets that
 -- aren't judged yet, and those that are, with their entries
@@ -70,20 +77,20 @@ begin q = record { closed = []; steps = []; pending = Some (judged_ask q); sends
 -- ---- an open step
 
 -- the phase in which the next of a step's sets begins, or its ending
-abbrev pub next_phase : Judge → SoFar → Option PlacedSet → PhaseValue
-next_phase j s None = start_ending s.query (told_by s.message) (bare s.sets)
-next_phase j s (Some placed) = start_set j s.query (told_by s.message) placed
+abbrev pub next_phase : Terms → SoFar → Option PlacedSet → PhaseValue
+next_phase t s None = start_ending (limits_of t) s.query (told_by s.message) (bare s.sets)
+next_phase t s (Some placed) = start_set t.judge s.query (told_by s.message) placed
 
 abbrev pub first_left : List PlacedSet → Option PlacedSet
 first_left [] = None
 first_left (placed ∷ left) = Some placed
 
-abbrev pub next_item : Judge → SoFar → OpenValue
-next_item j s = record { so_far = record s { left = drop 1 s.left }; asked = []; phase = next_phase j s (first_left s.left) }
+abbrev pub next_item : Terms → SoFar → OpenValue
+next_item t s = record { so_far = record s { left = drop 1 s.left }; asked = []; phase = next_phase t s (first_left s.left) }
 
 -- a step opens
-abbrev pub opened : Judge → Question → ℕ → MessageValue → Bool → OpenValue
-opened j q depth message empty = next_item j (record {
+abbrev pub opened : Terms → Question → ℕ → MessageValue → Bool → OpenValue
+opened t q depth message empty = next_item t (record {
   query = q;
   depth = depth;
   message = message;
@@ -94,8 +101,8 @@ opened j q depth message empty = next_item j (record {
 })
 
 -- its set is judged
-abbrev pub set_ended : Judge → SoFar → List AskRef → ChainedSet → OpenValue
-set_ended j s asked c = next_item j (record s { sets = s.sets ++ c ∷ []; entries = s.entries ++ entry_of c.judged asked ∷ [] })
+abbrev pub set_ended : Terms → SoFar → List AskRef → ChainedSet → OpenValue
+set_ended t s asked c = next_item t (record s { sets = s.sets ++ c ∷ []; entries = s.entries ++ entry_of c.judged asked ∷ [] })
 
 -- its ask got an answer
 abbrev pub answered : Judge → AskRef → GotValue → OpenValue → OpenValue
@@ -172,7 +179,7 @@ asked_by j (Some refused) ask f s = on_top (answered j refused (nothing_got ask.
 -- ---- one turn
 
 abbrev pub turned : Terms → OpenValue → StateValue → NeedValue → StateValue
-turned t f s (SetEnds c) = on_top (set_ended t.judge f.so_far f.asked c) s
+turned t f s (SetEnds c) = on_top (set_ended t f.so_far f.asked c) s
 turned t f s (StepEnds o) = step_ended t f.so_far f.asked o s
 turned t f s (Asks ask) = asked_by t.judge (refusal (limit_of t) s.sends f.so_far.depth ask.judged) ask f s
 
@@ -187,25 +194,25 @@ tick t s = turn_in t s s.steps
 -- ---- one reply
 
 -- its records are of the query's class, or the first that isn't is named
-abbrev pub heard_own : Judge → StateValue → Question → MessageValue → Bool → Option Rr → StateValue
-heard_own j s q m empty None = on_top (opened j q 0 m empty) s
-heard_own j s q m empty (Some r) = record s { ended = Some (Err (seen.ForeignClassRecord r.owner r.class r.rtype)) }
+abbrev pub heard_own : Terms → StateValue → Question → MessageValue → Bool → Option Rr → StateValue
+heard_own t s q m empty None = on_top (opened t q 0 m empty) s
+heard_own t s q m empty (Some r) = record s { ended = Some (Err (seen.ForeignClassRecord r.owner r.class r.rtype)) }
 
 -- the reply to the first ask
-abbrev pub heard_first : Judge → StateValue → Question → ReceivedValue → StateValue
-heard_first j s q (Unheard error) = record s { ended = Some (Err error) }
-heard_first j s q (Message m empty) = heard_own j s q m empty (foreign_record q (told_by m))
+abbrev pub heard_first : Terms → StateValue → Question → ReceivedValue → StateValue
+heard_first t s q (Unheard error) = record s { ended = Some (Err error) }
+heard_first t s q (Message m empty) = heard_own t s q m empty (foreign_record q (told_by m))
 
 -- a judged ask of a step got a message
-abbrev pub heard_nested : Judge → StateValue → Question → ℕ → MessageValue → Bool → Option Rr → StateValue
-heard_nested j s q depth m empty None = on_top (opened j q depth m empty) s
-heard_nested j s q depth m empty (Some r) =
-    with_step j (judged_step depth q (Records (told_by m) empty) [] (foreign_ending r) []) (Answer None) s
+abbrev pub heard_nested : Terms → StateValue → Question → ℕ → MessageValue → Bool → Option Rr → StateValue
+heard_nested t s q depth m empty None = on_top (opened t q depth m empty) s
+heard_nested t s q depth m empty (Some r) =
+    with_step t.judge (judged_step depth q (Records (told_by m) empty) [] (foreign_ending r) []) (Answer None) s
 
 -- the reply to a judged ask of a step
-abbrev pub heard_judged : Judge → StateValue → Question → ℕ → ReceivedValue → StateValue
-heard_judged j s q depth (Unheard error) = with_step j (judged_step depth q Fault [] Failed []) (Answer None) s
-heard_judged j s q depth (Message m empty) = heard_nested j s q depth m empty (foreign_record q (told_by m))
+abbrev pub heard_judged : Terms → StateValue → Question → ℕ → ReceivedValue → StateValue
+heard_judged t s q depth (Unheard error) = with_step t.judge (judged_step depth q Fault [] Failed []) (Answer None) s
+heard_judged t s q depth (Message m empty) = heard_nested t s q depth m empty (foreign_record q (told_by m))
 
 -- the reply to a plain ask
 abbrev pub heard_plain : Judge → StateValue → Question → ℕ → ReceivedValue → StateValue
@@ -218,11 +225,11 @@ abbrev pub depth_below : List OpenValue → Option ℕ
 depth_below [] = None
 depth_below (f ∷ outer) = Some f.so_far.depth
 
-abbrev pub heard_by : Judge → StateValue → Question → Bool → Option ℕ → ReceivedValue → StateValue
-heard_by j s q true None received = heard_first j s q received
-heard_by j s q true (Some depth) received = heard_judged j s q (depth + 1) received
-heard_by j s q false None received = s
-heard_by j s q false (Some depth) received = heard_plain j s q depth received
+abbrev pub heard_by : Terms → StateValue → Question → Bool → Option ℕ → ReceivedValue → StateValue
+heard_by t s q true None received = heard_first t s q received
+heard_by t s q true (Some depth) received = heard_judged t s q (depth + 1) received
+heard_by t s q false None received = s
+heard_by t s q false (Some depth) received = heard_plain t.judge s q depth received
 
 -- the ask doesn't wait any more, and its send is counted
 abbrev pub no_more_waiting : StateValue → StateValue
@@ -233,9 +240,9 @@ taken s None = s
 taken s (Some ask) = no_more_waiting s
 
 -- the reply to the ask that waits for it; one that waits for none lets it go
-abbrev pub heard_in : Judge → StateValue → ReceivedValue → Option Ask → StateValue
-heard_in j s received None = s
-heard_in j s received (Some ask) = heard_by j (no_more_waiting s) ask.query ask.judged (depth_below s.steps) received
+abbrev pub heard_in : Terms → StateValue → ReceivedValue → Option Ask → StateValue
+heard_in t s received None = s
+heard_in t s received (Some ask) = heard_by t (no_more_waiting s) ask.query ask.judged (depth_below s.steps) received
 
-abbrev pub heard : Judge → StateValue → Reply → StateValue
-heard j s reply = heard_in j s (received_value reply) s.pending
+abbrev pub heard : Terms → StateValue → Reply → StateValue
+heard t s reply = heard_in t s (received_value reply) s.pending

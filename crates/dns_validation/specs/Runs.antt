@@ -45,7 +45,7 @@ pub data Run (t : Terms) : List Sent → StateValue → Type 0 where
   Begun : (s : StateValue) → s ≡ begin t.query → Run t [] s
   Ticked : (sends : List Sent) (s u : StateValue) → Run t sends s → moves s ≡ true → u ≡ tick t s → Run t sends u
   Heard : (sends all : List Sent) (s u : StateValue) (ask : Ask) (reply : Reply) → Run t sends s → s.pending ≡ Some ask
-      → is_out_of_memory reply ≡ false → all ≡ sends ++ sent_now t s ask reply ∷ [] → u ≡ heard t.judge s reply → Run t all u
+      → is_out_of_memory reply ≡ false → all ≡ sends ++ sent_now t s ask reply ∷ [] → u ≡ heard t s reply → Run t all u
 
 -- turns alone
 pub data Turns (t : Terms) : StateValue → StateValue → Type 0 where
@@ -63,7 +63,7 @@ pub record IsOut (s : StateValue) : Type 0 where
 -- it heard a reply, and turned as far as it goes
 pub record HasHeard (t : Terms) (old : StateValue) (reply : Reply) (new : StateValue) : Type 0 where
   pub kept : is_out_of_memory reply ≡ false
-  pub turns : Turns t (heard t.judge old reply) new
+  pub turns : Turns t (heard t old reply) new
   pub settled : moves new ≡ false
 
 -- whatever it has heard so far, it now has heard this reply too

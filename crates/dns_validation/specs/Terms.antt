@@ -10,5 +10,6 @@ terms_of answers context = record {
   query = context.query;
   request = context.request;
   options = context.options;
+  iterations = context.iterations;
   now = context.judge.moment;
 }

@@ -6,6 +6,7 @@ use Rattle.dns_model.specs.Chains.{Judge}
 use Rattle.dns_model.specs.Records.{Question}
 use Rattle.dns_handle.specs.Requests.{RequestValue}
 use Rattle.dns_handle.specs.declared.request.DnsRequestOptions.{DnsRequestOptions}
+use Rattle.dns_evidence.specs.declared.limits.IterationLimits.{IterationLimits}
 use Rattle.dns_flow.specs.declared.asks.Ask.{Ask}
 use Rattle.dns_validation.specs.Machine.{Terms, StateValue, none_open}
 use Rattle.dns_validation.specs.Runs.{request_at}
@@ -29,5 +30,6 @@ abbrev pub asking_in : Terms → StateValue → Option Asking
 asking_in t s = option_map (asking_at t.request t.options (none_open s.steps)) s.pending
 
 -- the terms on which it begins
-abbrev pub terms_by : Judge → Question → RequestValue → DnsRequestOptions → ℕ → Terms
-terms_by j q request options now = record { judge = j; query = q; request = request; options = options; now = now }
+abbrev pub terms_by : Judge → Question → RequestValue → DnsRequestOptions → IterationLimits → ℕ → Terms
+terms_by j q request options iterations now =
+    record { judge = j; query = q; request = request; options = options; iterations = iterations; now = now }

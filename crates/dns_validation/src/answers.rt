@@ -1,6 +1,6 @@
 //! The answer of a validation.
 
-ghost use Rattle.std.specs.Prelude.{◌≡◌, ◌++◌, ◌∷◌, [], Err, IfOk};
+ghost use Rattle.std.specs.Prelude.{◌≡◌, ◌++◌, ◌∷◌, [], IfOk};
 ghost use Rattle.dns_model.specs.SoundAnswers.{told_by};
 ghost use Rattle.dns_rules.specs.ChainedSets.{finished as finished_value};
 ghost use Rattle.dns_handle.specs.Errors as seen;
@@ -8,12 +8,12 @@ ghost use Rattle.dns_handle.specs.Replies.{reply_of, error_of};
 ghost use Rattle.dns_evidence.specs.Trail.{ending_value};
 ghost use Rattle.dns_outcome.specs.Outcome.{outcome_value};
 ghost use Rattle.dns_validation.specs.AnswerParts.{found_by};
-ghost use Rattle.dns_validation.specs.Steps.{judged_answer, trail_of as steps_with_top};
+ghost use Rattle.dns_validation.specs.Steps.{judged_answer, denied_by, trail_of as steps_with_top};
 
 use crate::receiving::ReceivedMessage;
 use crate::steps::{StepEnd, ended};
 use dns_evidence::{Asked, ChainedSet, Ending, JudgedSet, Reply, Told, Trail};
-use dns_handle::{DnsError, DnsResponse, NetError, Notice};
+use dns_handle::{DnsError, DnsResponse, NetError};
 use dns_message::Message;
 use dns_model::{AskRef, Denial, Proof};
 use dns_name::NoMemory;
@@ -43,18 +43,11 @@ pub(crate) fn answer_of(
     ensures { IfOk result (λ a. reply_of a ≡ judged_answer now reply.query (found_by reply (outcome_value outcome))) }
 {
     match outcome {
-        Outcome::Unjudged => Ok(not_judged_yet()),
-        Outcome::NeedsZone => Ok(not_judged_yet()),
         Outcome::Given(denial) => given_answer(alloc, now, reply, denial),
+        // a search never is what a step comes to
+        Outcome::NeedsZone => denied_answer(alloc, now, reply, Proof::Bogus),
         Outcome::Denied(proof) => denied_answer(alloc, now, reply, proof),
     }
-}
-
-// The error that there is no answer yet.
-fn not_judged_yet() -> Result<DnsResponse, NetError>
-    ensures { reply_of result ≡ Err (seen.Message Notice.NotJudgedYet) }
-{
-    Err(NetError::Message(Notice::NotJudgedYet))
 }
 
 // The answer that is given, with what it denies.
@@ -79,7 +72,7 @@ fn denied_answer(
     proof: Proof,
 ) -> Result<Result<DnsResponse, NetError>, NoMemory>
     ensures { IfOk result (λ a. reply_of a
-        ≡ judged_answer now reply.query (found_by reply (outcome_value (Outcome.Denied proof)))) }
+        ≡ denied_by now reply.query (found_by reply (outcome_value (Outcome.Denied proof))) proof) }
 {
     let query = reply.query.try_clone()?;
     let response = response_of(alloc, now, reply, Ending::Denied(proof), Denial::None)?;
@@ -96,7 +89,7 @@ fn response_of(
     denial: Denial,
 ) -> Result<DnsResponse, NoMemory>
     ensures { IfOk result (λ r. r ≡ finished_value now reply.sets.items reply.received.message denial
-        (steps_with_top reply.query (found_by reply (outcome_value Outcome.Unjudged)) (ending_value ending))) }
+        (steps_with_top reply.query (found_by reply (outcome_value Outcome.NeedsZone)) (ending_value ending))) }
 {
     let JudgedReply {
         query,

@@ -72,7 +72,6 @@ fn given(outcome: Outcome, sets: Vec<ChainedSet>) -> Option<Vec<ChainedSet>>
     ensures { listed result ≡ given_sets (outcome_value outcome) sets.items }
 {
     match outcome {
-        Outcome::Unjudged => None,
         Outcome::Given(_) => Some(sets),
         Outcome::NeedsZone => None,
         Outcome::Denied(_) => None,

@@ -1,6 +1,7 @@
 ghost use Rattle.std.specs.Prelude.{◌≡◌};
 ghost use Rattle.dns_rules.specs.Asking.{depth_limit};
 
+use dns_evidence::{IterationLimits, Limits};
 use dns_handle::{DnsRequest, DnsRequestOptions};
 use dns_record::Query;
 use dns_trust::Judge;
@@ -16,6 +17,8 @@ pub(crate) struct Context<'a, V> {
     /// What is sent for the query.
     pub(crate) request: DnsRequest,
     pub(crate) options: DnsRequestOptions,
+    /// How many iterations of the hash of NSEC3 records count.
+    pub(crate) iterations: IterationLimits,
 }
 
 /// How deep the asks go: at most as deep as the options say, and never deeper than 255.
@@ -23,4 +26,19 @@ pub(crate) fn limit_of<V>(context: &Context<'_, V>) -> u16
     ensures { result ≡ depth_limit context.now.options.max_request_depth }
 {
     dns_evidence::depth_limit(context.options.max_request_depth)
+}
+
+/// How far it goes.
+pub(crate) fn limits_of<V>(context: &Context<'_, V>) -> Limits
+    ensures { result ≡ record {
+      depth = depth_limit context.now.options.max_request_depth;
+      soft = context.now.iterations.soft;
+      hard = context.now.iterations.hard;
+    } }
+{
+    Limits {
+        depth: limit_of(context),
+        soft: context.iterations.soft,
+        hard: context.iterations.hard,
+    }
 }

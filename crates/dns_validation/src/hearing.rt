@@ -9,6 +9,7 @@ ghost use Rattle.dns_handle.specs.Replies.{reply_of};
 ghost use Rattle.dns_evidence.specs.Trail.{heard_value, ending_value};
 ghost use Rattle.dns_flow.specs.Phases.{Answer, Probe};
 ghost use Rattle.dns_trust.specs.Judge.{judge_of};
+ghost use Rattle.dns_validation.specs.Terms.{terms_of};
 ghost use Rattle.dns_validation.specs.Received.{is_out_of_memory};
 ghost use Rattle.dns_validation.specs.ReceivedParts.{as_received};
 ghost use Rattle.dns_validation.specs.Machine.{heard as heard_of, heard_by, heard_first, heard_own, heard_judged, heard_nested, heard_plain, with_step, depth_below, taken};
@@ -34,7 +35,7 @@ pub(crate) fn hear<V: Verifier>(
     state: &mut State,
     reply: Result<DnsResponse, NetError>,
 ) -> Result<(), NoMemory>
-    ensures heard { OnOk result (state.new ≡ heard_of (judge_of V.answers context.now.judge) state.old (reply_of reply)) }
+    ensures heard { OnOk result (state.new ≡ heard_of (terms_of V.answers context.now) state.old (reply_of reply)) }
     ensures kept { OnOk result (is_out_of_memory (reply_of reply) ≡ false) }
 {
     let received = receive(context.alloc, reply)?;
@@ -83,7 +84,7 @@ fn hear_for<V: Verifier>(
     ask: Ask,
     received: Received,
 ) -> Result<(), NoMemory>
-    ensures { OnOk result (state.new ≡ heard_by (judge_of V.answers context.now.judge) state.old ask.query ask.judged
+    ensures { OnOk result (state.new ≡ heard_by (terms_of V.answers context.now) state.old ask.query ask.judged
         (depth_below state.old.steps) (as_received received)) }
 {
     let Ask { query, judged } = ask;
@@ -113,7 +114,7 @@ fn hear_first<V: Verifier>(
     query: Query,
     received: Received,
 ) -> Result<(), NoMemory>
-    ensures { OnOk result (state.new ≡ heard_first (judge_of V.answers context.now.judge) state.old query (as_received received)) }
+    ensures { OnOk result (state.new ≡ heard_first (terms_of V.answers context.now) state.old query (as_received received)) }
 {
     match received {
         Received::Failed(error) => {
@@ -131,7 +132,7 @@ fn hear_own<V: Verifier>(
     query: Query,
     received: ReceivedMessage,
 ) -> Result<(), NoMemory>
-    ensures { OnOk result (state.new ≡ heard_own (judge_of V.answers context.now.judge) state.old query
+    ensures { OnOk result (state.new ≡ heard_own (terms_of V.answers context.now) state.old query
         received.message received.empty (foreign_in query (told_by received.message))) }
 {
     if let Some(record) = foreign_record(&query, &received.message) {
@@ -151,7 +152,7 @@ fn hear_judged<V: Verifier>(
     depth: u16,
     received: Received,
 ) -> Result<(), NoMemory>
-    ensures { OnOk result (state.new ≡ heard_judged (judge_of V.answers context.now.judge) state.old query depth
+    ensures { OnOk result (state.new ≡ heard_judged (terms_of V.answers context.now) state.old query depth
         (as_received received)) }
 {
     match received {
@@ -174,7 +175,7 @@ fn hear_nested<V: Verifier>(
     depth: u16,
     received: ReceivedMessage,
 ) -> Result<(), NoMemory>
-    ensures { OnOk result (state.new ≡ heard_nested (judge_of V.answers context.now.judge) state.old query depth
+    ensures { OnOk result (state.new ≡ heard_nested (terms_of V.answers context.now) state.old query depth
         received.message received.empty (foreign_in query (told_by received.message))) }
 {
     match foreign_of(&query, &received.message)? {

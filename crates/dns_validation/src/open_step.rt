@@ -5,10 +5,11 @@ ghost use Rattle.dns_model.specs.SoundAnswers.{told_by};
 ghost use Rattle.dns_flow.specs.Phases.{after as after_of};
 ghost use Rattle.dns_flow.specs.Values.{got_value, phase_value};
 ghost use Rattle.dns_trust.specs.Judge.{judge_of};
+ghost use Rattle.dns_validation.specs.Terms.{terms_of};
 ghost use Rattle.dns_flow.specs.Leads.{entry_of};
 ghost use Rattle.dns_validation.specs.Machine.{first_left, next_phase, next_item as next_item_of, opened, set_ended as set_ended_of, answered as answered_by};
 
-use crate::context::Context;
+use crate::context::{Context, limits_of};
 use crate::receiving::ReceivedMessage;
 use crate::steps::entry_for;
 use dns_evidence::{ChainedSet, JudgedSet, PlacedSet, Verifier};
@@ -73,7 +74,7 @@ pub(crate) fn open_step<V: Verifier>(
     depth: u16,
     received: ReceivedMessage,
 ) -> Result<OpenStep, NoMemory>
-    ensures { IfOk result (λ s. s ≡ opened (judge_of V.answers context.now.judge) query depth received.message
+    ensures { IfOk result (λ s. s ≡ opened (terms_of V.answers context.now) query depth received.message
         received.empty) }
 {
     let alloc = context.alloc;
@@ -92,7 +93,7 @@ pub(crate) fn open_step<V: Verifier>(
 
 // The next set of a step begins, or its ending.
 fn next_item<V: Verifier>(context: &Context<'_, V>, so_far: StepSoFar) -> Result<OpenStep, NoMemory>
-    ensures { IfOk result (λ s. s ≡ next_item_of (judge_of V.answers context.now.judge) so_far) }
+    ensures { IfOk result (λ s. s ≡ next_item_of (terms_of V.answers context.now) so_far) }
 {
     let mut so_far = so_far;
     let next = next_set(&mut so_far);
@@ -118,7 +119,7 @@ fn phase_of<V: Verifier>(
     so_far: &StepSoFar,
     next: Option<PlacedSet>,
 ) -> Result<Phase, NoMemory>
-    ensures { IfOk result (λ p. phase_value p ≡ next_phase (judge_of V.answers context.now.judge) so_far.now next) }
+    ensures { IfOk result (λ p. phase_value p ≡ next_phase (terms_of V.answers context.now) so_far.now next) }
 {
     let StepSoFar {
         query,
@@ -134,7 +135,13 @@ fn phase_of<V: Verifier>(
             &received.message,
             placed,
         ),
-        None => start_ending(context.alloc, query, &received.message, sets),
+        None => start_ending(
+            context.alloc,
+            &limits_of(context),
+            query,
+            &received.message,
+            sets,
+        ),
     }
 }
 
@@ -145,7 +152,7 @@ pub(crate) fn set_ended<V: Verifier>(
     asked: Vec<AskRef>,
     set: ChainedSet,
 ) -> Result<OpenStep, NoMemory>
-    ensures { IfOk result (λ s. s ≡ set_ended_of (judge_of V.answers context.now.judge) so_far asked.items set) }
+    ensures { IfOk result (λ s. s ≡ set_ended_of (terms_of V.answers context.now) so_far asked.items set) }
 {
     let mut so_far = so_far;
     add_set(&mut so_far, asked, set)?;

@@ -96,12 +96,11 @@ pub(crate) fn entry_for(set: &MarkedSet, asked: Vec<AskRef>) -> Result<JudgedSet
     })
 }
 
-/// The ending of a step by what its judged sets come to. What can't be judged yet fails; no step ends with a search.
+/// The ending of a step by what its judged sets come to; no step ends with a search.
 pub(crate) fn ending_of(outcome: Outcome) -> Ending
     ensures { ending_value result ≡ ending_by (outcome_value outcome) }
 {
     match outcome {
-        Outcome::Unjudged => Ending::Failed,
         Outcome::Given(denial) => Ending::Answered(denial),
         Outcome::NeedsZone => Ending::Failed,
         Outcome::Denied(proof) => Ending::Denied(proof),

@@ -14,7 +14,7 @@ use crate::context::Context;
 use crate::hearing::hear;
 use crate::requests::{checked, request_for};
 use crate::state::{State, none_open, settle};
-use dns_evidence::Verifier;
+use dns_evidence::{IterationLimits, Verifier};
 use dns_flow::Ask;
 use dns_handle::{DnsRequest, DnsRequestOptions, DnsResponse, NetError};
 use dns_name::NoMemory;
@@ -43,20 +43,22 @@ impl<'a, V: Verifier> Validation<'a, V> {
     ghost use Rattle.dns_validation.specs.Validations.{terms_in, state_of, terms_by, asking_in as asking_of};
 
     /// Begins with a query. Its own request is sent for it, as that of each judged ask: with EDNS and DO, AD set and CD clear. The
-    /// only error is want of memory.
+    /// only error is want of memory. NSEC3 records prove something up to so many iterations of their hash.
     pub fn new(
         alloc: Global,
         judge: Judge<'a, V>,
         query: Query,
         options: DnsRequestOptions,
+        iterations: IterationLimits,
     ) -> Result<Validation<'a, V>, NoMemory>
         ensures terms { IfOk result (λ v. terms_in V.answers v
-            ≡ terms_by (judge_of V.answers judge.entry) query (asking_request query options) options judge.entry.moment) }
+            ≡ terms_by (judge_of V.answers judge.entry) query (asking_request query options) options iterations
+            judge.entry.moment) }
         ensures begins { IfOk result (λ v. state_of v ≡ begin_of query) }
         ensures run { IfOk result (λ v. Run (terms_in V.answers v) [] (state_of v)) }
     {
         let request = request_for(alloc, &query, &options, true)?;
-        begin(alloc, judge, query, request, options)
+        begin(alloc, judge, query, request, options, iterations)
     }
 
     /// Begins with a query and the request that is sent for it, with EDNS and DO, AD set and CD clear: else as it is given. The
@@ -66,15 +68,18 @@ impl<'a, V: Verifier> Validation<'a, V> {
         judge: Judge<'a, V>,
         query: Query,
         request: DnsRequest,
+        iterations: IterationLimits,
     ) -> Result<Validation<'a, V>, NoMemory>
         requires asked { first_question request ≡ Some query }
         ensures terms { IfOk result (λ v. terms_in V.answers v
-            ≡ terms_by (judge_of V.answers judge.entry) query (checked_request request) request.options judge.entry.moment) }
+            ≡ terms_by (judge_of V.answers judge.entry) query (checked_request request) request.options iterations
+            judge.entry.moment) }
         ensures begins { IfOk result (λ v. state_of v ≡ begin_of query) }
         ensures run { IfOk result (λ v. Run (terms_in V.answers v) [] (state_of v)) }
     {
         let options = request.options;
-        begin(alloc, judge, query, checked(alloc, request), options)
+        let request = checked(alloc, request);
+        begin(alloc, judge, query, request, options, iterations)
     }
 
     /// What it asks; None where it has come to its end, also where memory runs out for the request. Before the answer, it asks the
@@ -129,9 +134,11 @@ fn begin<'a, V: Verifier>(
     query: Query,
     request: DnsRequest,
     options: DnsRequestOptions,
+    iterations: IterationLimits,
 ) -> Result<Validation<'a, V>, NoMemory>
     ensures context { IfOk result (λ v. v.context
-        ≡ record { alloc = alloc; judge = judge.entry; query = query; request = request; options = options }) }
+        ≡ record { alloc = alloc; judge = judge.entry; query = query; request = request; options = options;
+          iterations = iterations }) }
     ensures begins { IfOk result (λ v. v.state ≡ begin_of query) }
     ensures run { IfOk result (λ v. Run (terms_of V.answers v.context) [] v.state) }
 {
@@ -143,6 +150,7 @@ fn begin<'a, V: Verifier>(
         query,
         request,
         options,
+        iterations,
     };
     Ok(Validation { context, state })
 }

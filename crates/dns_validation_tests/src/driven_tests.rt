@@ -1,4 +1,5 @@
 //! A validation that is driven by hand gives what a lookup gives: the same answer, with the same trail.
+use dns_evidence::IterationLimits;
 use dns_handle::{DnsHandle, DnsResponse, NetError};
 use dns_report::{Parts, write_report};
 use dns_run::{
@@ -48,9 +49,9 @@ fn driven(alloc: Global, session: Session, whole: bool) -> Result<DnsResponse, N
     let options = session_options(depth);
     let mut validation = if whole {
         let request = request_for(alloc, &query, &options, true)?;
-        Validation::by_request(alloc, judge, query, request)?
+        Validation::by_request(alloc, judge, query, request, IterationLimits::DEFAULT)?
     } else {
-        Validation::new(alloc, judge, query, options)?
+        Validation::new(alloc, judge, query, options, IterationLimits::DEFAULT)?
     };
     for _ in 0..1025_u32 {
         let Some(ask) = validation.next() else {

@@ -1,6 +1,6 @@
 //! Validations side by side, which one upstream answers in any order: each gives what a lookup gives.
 use crate::driven_tests::session_of;
-use dns_evidence::Listed;
+use dns_evidence::{IterationLimits, Listed};
 use dns_handle::{DnsError, DnsHandle, DnsRequestOptions, DnsResponse, NetError};
 use dns_name::NoMemory;
 use dns_recorded::Recorded;
@@ -100,7 +100,14 @@ fn world_of(alloc: Global, session: Session) -> Result<(World, Recorded), NoMemo
 /// A validation of what a session asks.
 fn begun<'a>(alloc: Global, world: &'a World, question: &str) -> Option<Validation<'a, Listed>> {
     let session = session_asking(alloc, question)?;
-    Validation::new(alloc, judge_of(world), session.query, world.options).ok()
+    Validation::new(
+        alloc,
+        judge_of(world),
+        session.query,
+        world.options,
+        IterationLimits::DEFAULT,
+    )
+    .ok()
 }
 
 /// As many validations and some more, of one question after another.

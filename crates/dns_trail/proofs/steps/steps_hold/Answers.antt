@@ -10,15 +10,15 @@ invariant_of-earlier g c = record { ended = c.as_slice.ensures.value ∙ c.steps
 pub returns-in_default : goal.returns-in_default
 returns-in_default g c =
     let j = judge_of g.V.Verifier.answers c.args.judge.now in
-    let own = ap (at_step j c.args.limit (take c.steps.number c.args.steps.now)) c.step.view_is in
-    steps_fail j c.args.limit c.args.steps.now c.steps.number c.steps.ended.items c.index-steps-number.result _ c.steps.invariant c.steps-test.true
+    let own = ap (at_step j c.args.limits (take c.steps.number c.args.steps.now)) c.step.view_is in
+    steps_fail j c.args.limits c.args.steps.now c.steps.number c.steps.ended.items c.index-steps-number.result _ c.steps.invariant c.steps-test.true
     c.index-steps-number.is own (sym c.in_default.is ∙ c.in_ok-next.ensures)
 
 pub steps-preserved : goal.steps-preserved
 steps-preserved g c =
     let j = judge_of g.V.Verifier.answers c.args.judge.now in
-    let own = ap (at_step j c.args.limit (take c.steps.number c.args.steps.now)) c.step.view_is in
-    steps_next j c.args.limit c.args.steps.now c.steps.number c.steps.ended.items c.push.new.self.items c.index-steps-number.result _ c.in-Some.next
+    let own = ap (at_step j c.args.limits (take c.steps.number c.args.steps.now)) c.step.view_is in
+    steps_next j c.args.limits c.args.steps.now c.steps.number c.steps.ended.items c.push.new.self.items c.index-steps-number.result _ c.in-Some.next
     c.steps.invariant c.steps-test.true c.index-steps-number.is own
     (sym c.in-Some.is ∙ c.in_ok-next.ensures) c.in_ok-push.ensures.items
 
