@@ -2,12 +2,13 @@
 ghost use Rattle.std.specs.Prelude.{◌≡◌, IfOk};
 
 use dns_chain_check::check_chain;
+use dns_evidence::{IterationLimits, Limits};
 use dns_name::NoMemory;
 use dns_net::{Chain, DnsError, DnsResponse, NetError, Verifier};
 use dns_run::{session_anchors, session_answer, session_options, session_verifier};
 use dns_session::Session;
 use dns_trail::check_trail;
-use dns_trust::{Judge, Limits};
+use dns_trust::Judge;
 use std::alloc::Global;
 
 /// What the checks say of a response. A count stops at the greatest `u64`.
@@ -57,8 +58,8 @@ fn checked<V: Verifier>(
 ) -> Result<Audited, NoMemory> {
     let limits = Limits {
         depth,
-        soft: 0,
-        hard: 0,
+        soft: IterationLimits::DEFAULT.soft,
+        hard: IterationLimits::DEFAULT.hard,
     };
     let justified = count_justified(alloc, judge, &response.chains)?;
     let is_derived = check_trail(

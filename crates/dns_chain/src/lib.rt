@@ -3,7 +3,9 @@
 #![tactic(auto)]
 
 pub use dns_chain_check::{accepted_chain, check_chain};
-pub use dns_evidence::{Chain, Link, LinkSignature, Listed, Steps, Trail, Verifier};
+pub use dns_evidence::{
+    Chain, IterationLimits, Limits, Link, LinkSignature, Listed, Steps, Trail, Verifier,
+};
 pub use dns_handle::{DnsHandle, DnsRequest, DnsRequestOptions, DnsResponse, NetError};
 pub use dns_lookup::DnssecDnsHandle;
 pub use dns_marks::{
@@ -16,5 +18,5 @@ pub use dns_name::{Name, NoMemory, Octets};
 pub use dns_proof::{ProofError, ProofErrorKind, RrsetProof};
 pub use dns_record::{DNSClass, Query, Record, RecordSet, RecordType};
 pub use dns_trail::{check_trail, is_in_order};
-pub use dns_trust::{Judge, Limits, RrsigValidity, TrustAnchors};
+pub use dns_trust::{Judge, RrsigValidity, TrustAnchors};
 pub use dns_validation::{Asking, Validation};

@@ -1,9 +1,10 @@
 -- Why a lookup gives each answer that has no response, out of how it went.
 use Rattle.std.proofs.Common.{ℕ, ◌≡◌, ◌≢◌, ◌∙◌, Bool, true, false, Option, None, Some, Result, Ok, Err, refl, sym, ap, subst, inl, inr}
 use Rattle.dns_model.specs.Counts.{Rose}
+use Rattle.dns_model.specs.declared.proof.Proof.TheVariants.{Bogus}
 use Rattle.dns_model.specs.Records.{Question, MessageValue}
 use Rattle.dns_model.specs.SoundAnswers.{ResponseValue}
-use Rattle.dns_rules.specs.Outcome.{Outcome, Unjudged, Given, NeedsZone}
+use Rattle.dns_rules.specs.Outcome.{Outcome, Given, NeedsZone}
 use Rattle.dns_rules.specs.Outcome as outcome
 use Rattle.dns_handle.specs.Errors as seen
 use Rattle.dns_handle.specs.Errors.{Reply, ErrorValue, Dns, Message, ForeignClassRecord, Nsec}
@@ -12,7 +13,6 @@ use Rattle.dns_handle.specs.Handles.{reply_to, ReplyIsTold}
 use Rattle.dns_handle.specs.Replies.{reply_of}
 use Rattle.dns_handle.specs.declared.error.NetError.{NetError}
 use Rattle.dns_handle.specs.declared.handle.DnsHandle as handle
-use Rattle.dns_handle.specs.declared.notice.Notice.TheVariants.{NotJudgedYet}
 use Rattle.dns_validation.specs.Received.{received_message}
 use Rattle.dns_flow.specs.Phases.{judged_ask}
 use Rattle.dns_validation.specs.Steps.{Findings, answer_by}
@@ -95,8 +95,8 @@ passed_as meanings call e error passed is = subst (λ x. PassedOn meanings call 
 
 not_by : (now : ℕ) (q : Question) (found : Findings) (o : Outcome) (error : ErrorValue) → answer_by now q found o ≡ Err error
     → is_upstreams error ≡ true → ⊥
-not_by now q found Unjudged error is up = no_both (is_upstreams error) up (ap is_upstreams (err_same (Err error) error (Message NotJudgedYet) refl (sym is)))
-not_by now q found NeedsZone error is up = no_both (is_upstreams error) up (ap is_upstreams (err_same (Err error) error (Message NotJudgedYet) refl (sym is)))
+not_by now q found NeedsZone error is up =
+    no_both (is_upstreams error) up (ap is_upstreams (err_same (Err error) error (Dns (Nsec q _ Bogus)) refl (sym is)))
 not_by now q found (Given d) error is up = cc
 not_by now q found (outcome.Denied p) error is up =
     no_both (is_upstreams error) up (ap is_upstreams (err_same (Err error) error (Dns (Nsec q _ p)) refl (sym is)))

@@ -11,30 +11,28 @@ use Rattle.dns_model.specs.declared.section.Section.TheVariants.{Answer}
 use Rattle.dns_model.specs.Records.{Question, question_eq}
 use Rattle.dns_model.specs.Chains.{Judge}
 use Rattle.dns_model.specs.SoundAnswers.{Told, ResponseValue}
-use Rattle.dns_model.specs.Trails.{AskedValue, Records, Fault, EndingValue, Answered, Denied, Failed}
+use Rattle.dns_model.specs.Trails.{AskedValue, Records, Fault, EndingValue, Answered, Denied}
 use Rattle.dns_model.proofs.QuestionLemmas.{question_refl, question_back, question_trans, question_right}
+use Rattle.dns_rules.specs.Asking.{Limits}
 use Rattle.dns_rules.specs.Derivation.{told_in, judged_sets, top_step, in_send_order, derivation}
 use Rattle.dns_rules.specs.Marking.{marked_section}
 use Rattle.dns_laws.specs.Complete.{Upstream, HeardAlong, shows_secure, ProvesQuery}
 use Rattle.dns_laws.specs.Valid.{IsValidSession}
 use Rattle.dns_laws.proofs.CompleteLemmas.{valid_reply, valid_session_is_proved}
-use Rattle.dns_handle.specs.Errors.{Reply, Dns, Message, Nsec}
-use Rattle.dns_handle.specs.Handles.{Replies, reply_to, after_turn, left_after, ReplyIsTold}
+use Rattle.dns_handle.specs.Errors.{Reply, Dns, Nsec}
+use Rattle.dns_handle.specs.Handles.{Replies, reply_to, after_turn, left_after}
 use Rattle.dns_handle.specs.Replies.{reply_of}
 use Rattle.dns_handle.specs.declared.error.NetError.{NetError}
 use Rattle.dns_handle.specs.declared.handle.DnsHandle as handle
-use Rattle.dns_handle.specs.declared.notice.Notice.TheVariants.{NotJudgedYet}
 use Rattle.dns_validation.specs.Received.{received, heard_from, says_none}
-use Rattle.dns_lookup.specs.Calls.{Call}
-use Rattle.dns_lookup.specs.Causes.{ends_trail, JudgesTold, PassedOn, IsUnjudged, UnjudgedOnly}
+use Rattle.dns_lookup.specs.Calls.{Call, limits_of_call}
+use Rattle.dns_lookup.specs.Causes.{has_response, AnswersTold}
 use Rattle.dns_lookup.specs.Completing.{first_told, AnswersSecurely, Completes}
 use Rattle.dns_lookup.specs.LookupAnswers.{UnlessNoMemory, OfAnswer, IsTrail, HasMarksOfTrail}
 use Rattle.dns_lookup.specs.Sends.{IsFromReplies}
-use Rattle.dns_lookup.proofs.AlongLemmas.{told_reply}
 use Rattle.dns_lookup.specs.Answering.{AnswersLookup}
-use Rattle.dns_lookup.proofs.ForeignLemmas.{lookup_judges}
+use Rattle.dns_lookup.proofs.AnsweredLemmas.{lookup_answers}
 use Rattle.dns_lookup.proofs.LookupAnswerLemmas.{unless_map, lookup_trail, lookup_marks}
-use Rattle.dns_lookup.proofs.UnjudgedLemmas.{lookup_unjudged}
 
 -- ---- what a send leaves
 
@@ -120,12 +118,12 @@ pub record IsProved (j : Judge) (replies : Replies) (q : Question) (trail : List
   pub ends : ending ≡ Answered denial.None
 
 -- a derivation with the query and this ending, whose steps heard the replies of a valid session
-pub replies_prove : (j : Judge) (replies : Replies) (depth : ℕ) (q : Question) (trail : List AskedValue) (top : AskedValue) (ending : EndingValue)
-    → derivation j depth trail ≡ true → top_step trail ≡ Some top → top.query ≡ q → top.ending ≡ ending → IsFromReplies replies (in_send_order trail)
-    → IsValidSession j (first_told replies) depth q → IsProved j replies q trail ending
-replies_prove j replies depth q trail top ending derived last query ends from valid =
+pub replies_prove : (j : Judge) (replies : Replies) (limits : Limits) (q : Question) (trail : List AskedValue) (top : AskedValue) (ending : EndingValue)
+    → derivation j limits trail ≡ true → top_step trail ≡ Some top → top.query ≡ q → top.ending ≡ ending → IsFromReplies replies (in_send_order trail)
+    → IsValidSession j (first_told replies) limits.depth q → IsProved j replies q trail ending
+replies_prove j replies limits q trail top ending derived last query ends from valid =
     let asked = ap (question_eq q) query ∙ question_refl q in
-    let proved = valid_session_is_proved replying replies j depth q trail top derived last asked (received_replies replies (in_send_order trail) from) valid in
+    let proved = valid_session_is_proved replying replies j limits q trail top derived last asked (received_replies replies (in_send_order trail) from) valid in
     let same = same_Some proved.top top (sym proved.last ∙ last) in
     record { queries = valid.queries; proved = proved; ends = sym ends ∙ ap (λ step. step.ending) (sym same) ∙ proved.ending }
 
@@ -137,7 +135,7 @@ trail_proved : {H : Type 0} (meanings : handle.Ghosts H) (call : Call H) (replie
     → meanings.told call.old ≡ Some replies → IsValidCall call replies → IsTrail meanings call trail ending
     → IsProved call.judge replies call.query trail ending
 trail_proved meanings call replies trail ending told valid is =
-    replies_prove call.judge replies call.options.max_request_depth call.query trail is.top ending is.derived is.last is.query is.ends
+    replies_prove call.judge replies (limits_of_call call) call.query trail is.top ending is.derived is.last is.query is.ends
     (of_some (λ known. IsFromReplies known (in_send_order trail)) (meanings.told call.old) replies told is.from) valid
 
 -- ---- the answer
@@ -147,9 +145,6 @@ answered_denial d h = cc
 
 pub denied_never : (proof : Proof) → Denied proof ≡ Answered denial.None → ⊥
 denied_never proof h = cc
-
-pub failed_never : (let e : EndingValue = Failed in e) ≡ Answered denial.None → ⊥
-failed_never h = cc
 
 -- the records of a response with the marks of a trail that proves the query
 response_secure : (j : Judge) (replies : Replies) (q : Question) (now : ℕ) (response : ResponseValue) (ending : EndingValue)
@@ -168,53 +163,32 @@ pub answer_secure : (j : Judge) (replies : Replies) (q : Question) (now : ℕ) (
 answer_secure j replies q now response is marks =
     (answered_denial response.denial is.ends, response_secure j replies q now response (Answered response.denial) is marks)
 
-none_never : (told : Told) → (let o : Option Told = None in o) ≡ Some told → ⊥
-none_never told h = cc
-
--- an upstream that itself answers `not judged yet` tells no records
-passed_never : {H : Type 0} (meanings : handle.Ghosts H) (call : Call H) (replies : Replies) → meanings.told call.old ≡ Some replies
-    → IsValidCall call replies → PassedOn meanings call (Message NotJudgedYet) → ⊥
-passed_never meanings call replies told valid passed =
-    let reply = valid_reply call.judge (first_told replies) call.options.max_request_depth call.query valid in
-    let is = told_reply replies call.query (Err (Message NotJudgedYet)) (λ memory. cc)
-    (subst (λ tells. ReplyIsTold tells (Some call.query) (Err (Message NotJudgedYet))) told passed.made.told) in
-    none_never reply.told (ap received is ∙ reply.heard)
-
-unjudged_never : {H : Type 0} (meanings : handle.Ghosts H) (call : Call H) (replies : Replies) → meanings.told call.old ≡ Some replies
-    → IsValidCall call replies → PassedOn meanings call (Message NotJudgedYet) ⊎ IsUnjudged meanings call → ⊥
-unjudged_never meanings call replies told valid (inl passed) = passed_never meanings call replies told valid passed
-unjudged_never meanings call replies told valid (inr unjudged) =
-    failed_never ((trail_proved meanings call replies unjudged.trail Failed told valid unjudged.is).ends)
-
 -- what a lookup promises of its answer makes it secure, where the session is valid
 secure_answer : {H : Type 0} (meanings : handle.Ghosts H) (call : Call H) (replies : Replies) (answer : Reply) → meanings.told call.old ≡ Some replies
     → IsValidCall call replies → OfAnswer answer (λ a ending. IsTrail meanings call a.trail ending) → OfAnswer answer (λ a ending. HasMarksOfTrail call.now a)
-    → ends_trail answer ≡ true → UnjudgedOnly meanings call answer → AnswersSecurely call.query answer
-secure_answer meanings call replies (Ok response) told valid trail marks ends unjudged =
+    → has_response answer ≡ true → AnswersSecurely call.query answer
+secure_answer meanings call replies (Ok response) told valid trail marks ends =
     answer_secure call.judge replies call.query call.now response
     (trail_proved meanings call replies response.trail (Answered response.denial) told valid trail) marks
-secure_answer meanings call replies (Err (Dns (Nsec asked response proof))) told valid trail marks ends unjudged =
+secure_answer meanings call replies (Err (Dns (Nsec asked response proof))) told valid trail marks ends =
     denied_never proof ((trail_proved meanings call replies response.trail (Denied proof) told valid trail).ends)
-secure_answer meanings call replies (Err (Message NotJudgedYet)) told valid trail marks ends unjudged =
-    unjudged_never meanings call replies told valid (unjudged refl)
-secure_answer meanings call replies (Err error) told valid trail marks ends unjudged = absurd (true≢false (sym ends))
+secure_answer meanings call replies (Err error) told valid trail marks ends = absurd (true≢false (sym ends))
 
--- the answer of a call that promises a trail, its marks, and that sets of the query's class are judged
+-- the answer of a call that promises a trail, its marks, and that records of the query's class are answered
 pub completes : {H : Type 0} (meanings : handle.Ghosts H) (call : Call H) (answer : Reply) → OfAnswer answer (λ a ending. IsTrail meanings call a.trail ending)
-    → OfAnswer answer (λ a ending. HasMarksOfTrail call.now a) → JudgesTold (meanings.told call.old) call.query answer → UnjudgedOnly meanings call answer
+    → OfAnswer answer (λ a ending. HasMarksOfTrail call.now a) → AnswersTold (meanings.told call.old) call.query answer
     → Completes (meanings.told call.old) call answer
-completes meanings call answer trail marks judges unjudged = by_told (meanings.told call.old) refl judges
+completes meanings call answer trail marks answers = by_told (meanings.told call.old) refl answers
   where
-    by_told : (tells : Option Replies) → meanings.told call.old ≡ tells → JudgesTold tells call.query answer → Completes tells call answer
-    by_told None is judges = tt
-    by_told (Some replies) is judges = λ valid.
+    by_told : (tells : Option Replies) → meanings.told call.old ≡ tells → AnswersTold tells call.query answer → Completes tells call answer
+    by_told None is answers = tt
+    by_told (Some replies) is answers = λ valid.
         let reply = valid_reply call.judge (first_told replies) call.options.max_request_depth call.query valid in
-        secure_answer meanings call replies answer is valid trail marks (judges reply.told reply.heard reply.own) unjudged
+        secure_answer meanings call replies answer is valid trail marks (answers reply.told reply.heard reply.own)
 
 pub lookup_completes : {H : Type 0} (meanings : handle.Ghosts H) (call : Call H) (result : Result ResponseValue NetError)
     → UnlessNoMemory result (AnswersLookup meanings call (reply_of result)) → UnlessNoMemory result (Completes (meanings.told call.old) call (reply_of result))
 lookup_completes meanings call result lookup =
     let trail = lookup_trail meanings call result lookup in
     let marks = lookup_marks meanings call result lookup in
-    let unjudged = lookup_unjudged meanings call result lookup in
-    unless_map result (λ judges. completes meanings call (reply_of result) trail marks judges unjudged) (lookup_judges meanings call result lookup)
+    unless_map result (λ answers. completes meanings call (reply_of result) trail marks answers) (lookup_answers meanings call result lookup)

@@ -17,7 +17,7 @@ use Rattle.dns_handle.specs.Replies.{reply_of}
 use Rattle.dns_handle.specs.declared.error.NetError.{NetError}
 use Rattle.dns_handle.specs.declared.handle.DnsHandle as handle
 use Rattle.dns_validation.specs.Steps.{top_of, Findings, trail_of}
-use Rattle.dns_lookup.specs.Calls.{Call}
+use Rattle.dns_lookup.specs.Calls.{Call, limits_of_call}
 use Rattle.dns_lookup.specs.LookupAnswers.{UnlessNoMemory, OfAnswer, IsExplained, ShowsItsDenial}
 use Rattle.dns_lookup.specs.Answering.{Found, AnswersLookup}
 use Rattle.dns_lookup.proofs.LookupAnswerLemmas.{of_result}
@@ -28,7 +28,7 @@ found_denials : {H : Type 0} (meanings : handle.Ghosts H) (call : Call H) (found
     → ending ≡ ending_by found.outcome → HasDenials (trail_of call.query found ending)
 found_denials meanings call found ending f ends =
     let trail = (found_trail meanings call found ending f ends).is in
-    denials_hold call.judge call.options.max_request_depth (trail_of call.query found ending) trail.derived
+    denials_hold call.judge (limits_of_call call) (trail_of call.query found ending) trail.derived
 
 -- its trail explains the answer
 found_explained : {H : Type 0} (meanings : handle.Ghosts H) (call : Call H) (found : Findings) (d : Denial) (ending : EndingValue) → Found meanings call found
@@ -38,7 +38,7 @@ found_explained meanings call found d ending f ends =
     let trail = (found_trail meanings call found ending f ends).is in
     record {
       marks = found_marks meanings call found d ending f;
-      grounds = insecure_is_grounded call.judge call.options.max_request_depth (trail_of call.query found ending) trail.derived;
+      grounds = insecure_is_grounded call.judge (limits_of_call call) (trail_of call.query found ending) trail.derived;
       denials = found_denials meanings call found ending f ends;
     }
 
@@ -47,7 +47,7 @@ pub lookup_explained : {H : Type 0} (meanings : handle.Ghosts H) (call : Call H)
     → OfAnswer (reply_of result) (λ a ending. IsExplained call.judge.answers call.now a)
 lookup_explained meanings call result lookup =
     of_result meanings call (λ a ending. IsExplained call.judge.answers call.now a) result
-    (record { each = λ found d ending f ends other. found_explained meanings call found d ending f ends }) lookup
+    (record { each = λ found d ending f ends. found_explained meanings call found d ending f ends }) lookup
 
 -- the last step shows what it denies, and its denial is the answer's
 found_denies : {H : Type 0} (meanings : handle.Ghosts H) (call : Call H) (found : Findings) (d : Denial) (ending : EndingValue) → Found meanings call found
@@ -77,7 +77,7 @@ pub lookup_denies : {H : Type 0} (meanings : handle.Ghosts H) (call : Call H) (r
 lookup_denies meanings call result lookup =
     ok_answer (reply_of result) (ShowsItsDenial call.now call.query)
     (of_result meanings call (λ a ending. ending ≡ Answered a.denial → ShowsItsDenial call.now call.query a) result
-    (record { each = λ found d ending f ends other. found_denies meanings call found d ending f ends }) lookup)
+    (record { each = λ found d ending f ends. found_denies meanings call found d ending f ends }) lookup)
 
 ok_result : (result : Result ResponseValue NetError) (Fact : ResponseValue → Type 0) → IfOk (reply_of result) Fact → IfOk result Fact
 ok_result (Ok a) Fact of = of

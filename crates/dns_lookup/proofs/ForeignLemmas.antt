@@ -1,10 +1,10 @@
--- A record of another class than the query's is named, and nothing else is complained of so.
-use Rattle.std.proofs.Common.{ℕ, ◌≡◌, ◌∙◌, true, None, Some, Result, Err, refl, sym, ap, inl, inr}
+-- A record of another class than the query's is named, and nothing else is complained of so; so each answer has its cause.
+use Rattle.std.proofs.Common.{ℕ, ◌≡◌, ◌∙◌, None, Some, Result, Err, refl, sym, ap, inl, inr}
 use Rattle.dns_model.specs.Names.{Labels}
 use Rattle.dns_model.specs.Records.{Rr, Question, MessageValue}
 use Rattle.dns_model.specs.SoundAnswers.{Told, told_by, ResponseValue}
 use Rattle.dns_rules.specs.Marking.{cleared_message}
-use Rattle.dns_rules.specs.Outcome.{Outcome, Unjudged, Given, NeedsZone, foreign_record}
+use Rattle.dns_rules.specs.Outcome.{Outcome, Given, NeedsZone, foreign_record}
 use Rattle.dns_rules.specs.Outcome as outcome
 use Rattle.dns_handle.specs.Errors.{Reply, ErrorValue, ForeignClassRecord}
 use Rattle.dns_handle.specs.Handles.{reply_to}
@@ -15,11 +15,11 @@ use Rattle.dns_validation.specs.Received.{received_message, received}
 use Rattle.dns_validation.specs.Steps.{Findings, answer_by}
 use Rattle.dns_lookup.specs.Calls.{Call}
 use Rattle.dns_lookup.specs.LookupAnswers.{UnlessNoMemory}
-use Rattle.dns_lookup.specs.Causes.{ForeignOnly, ForeignNamed, ends_trail, JudgesTold}
+use Rattle.dns_lookup.specs.Causes.{ForeignOnly, ForeignNamed, HasItsCause}
 use Rattle.dns_lookup.specs.Answering.{AnswersLookup, Passes, Names, Judges}
 use Rattle.dns_lookup.specs.LookupParts.{told_of, KnownReplies, IsReplyTo}
 use Rattle.dns_lookup.proofs.LookupAnswerLemmas.{unless_map, or_memory}
-use Rattle.dns_lookup.proofs.CauseLemmas.{some_same, none_some, memory_some, told_to, error_memory, passed_on, passed_as}
+use Rattle.dns_lookup.proofs.CauseLemmas.{some_same, none_some, memory_some, told_to, error_memory, passed_on, passed_as, lookup_passed}
 
 -- ---- a record of another class
 
@@ -40,7 +40,6 @@ names_foreign meanings call (Judges answer found f is) = λ owner class rtype na
   where
     not_foreign : (now : ℕ) (q : Question) (fs : Findings) (o : Outcome) (owner : Labels) (class rtype : ℕ)
         → answer_by now q fs o ≡ Err (ForeignClassRecord owner class rtype) → ⊥
-    not_foreign now q fs Unjudged owner class rtype h = cc
     not_foreign now q fs (Given d) owner class rtype h = cc
     not_foreign now q fs NeedsZone owner class rtype h = cc
     not_foreign now q fs (outcome.Denied p) owner class rtype h = cc
@@ -99,40 +98,9 @@ pub lookup_names_foreign : {H : Type 0} (meanings : handle.Ghosts H) (call : Cal
     → UnlessNoMemory result (AnswersLookup meanings call (reply_of result)) → UnlessNoMemory result (ForeignNamed (meanings.told call.old) call.query (reply_of result))
 lookup_names_foreign meanings call result lookup = unless_map result (λ l. foreign_named meanings call l) lookup
 
--- ---- records of the query's class alone are judged
+-- ---- all causes
 
-judges_silent : (tells : KnownReplies) (q : Question) (e : ErrorValue) → IsReplyTo tells q (Err e) → received_message (Err e) ≡ None → JudgesTold tells q (Err e)
-judges_silent None q e told silent = tt
-judges_silent (Some replies) q e told silent = λ records is own. absurd (silent_told (reply_to replies.list q) e records told silent is)
-
-judges_foreign : (tells : KnownReplies) (q : Question) (reply answer : Reply) (m : MessageValue) (r : Rr) → IsReplyTo tells q reply → received_message reply ≡ Some m
-    → foreign_record q (told_by (cleared_message m)) ≡ Some r → JudgesTold tells q answer
-judges_foreign None q reply answer m r told hears foreign = tt
-judges_foreign (Some replies) q reply answer m r told hears foreign = λ records is own.
-    let same = told_records reply (reply_to replies.list q) m records told hears is in
-    absurd (none_some (foreign_record q records) r own (ap (foreign_record q) (sym same) ∙ foreign))
-
-ends_by : (now : ℕ) (q : Question) (found : Findings) (o : Outcome) → ends_trail (answer_by now q found o) ≡ true
-ends_by now q found Unjudged = refl
-ends_by now q found (Given d) = refl
-ends_by now q found NeedsZone = refl
-ends_by now q found (outcome.Denied p) = refl
-
-judges_ended : (tells : KnownReplies) (q : Question) (answer : Reply) → ends_trail answer ≡ true → JudgesTold tells q answer
-judges_ended None q answer ended = tt
-judges_ended (Some replies) q answer ended = λ records is own. ended
-
-judges_told : {H : Type 0} (meanings : handle.Ghosts H) (call : Call H) {answer : Reply} → AnswersLookup meanings call answer
-    → JudgesTold (meanings.told call.old) call.query answer
-judges_told meanings call (Passes e made silent remembered) =
-    judges_silent (meanings.told call.old) call.query e (told_to (meanings.told call.old) call.query (Err e) (error_memory e remembered) made.told) silent
-judges_told meanings call (Names reply answer from r made hears foreign is) =
-    judges_foreign (meanings.told call.old) call.query reply answer from r
-    (told_to (meanings.told call.old) call.query reply (memory_some reply from hears) made.told) hears foreign
-judges_told meanings call (Judges answer found f is) =
-    judges_ended (meanings.told call.old) call.query answer
-    (ap ends_trail is ∙ ends_by call.now call.query found found.outcome)
-
-pub lookup_judges : {H : Type 0} (meanings : handle.Ghosts H) (call : Call H) (result : Result ResponseValue NetError)
-    → UnlessNoMemory result (AnswersLookup meanings call (reply_of result)) → UnlessNoMemory result (JudgesTold (meanings.told call.old) call.query (reply_of result))
-lookup_judges meanings call result lookup = unless_map result (λ l. judges_told meanings call l) lookup
+pub lookup_caused : {H : Type 0} (meanings : handle.Ghosts H) (call : Call H) (result : Result ResponseValue NetError)
+    → UnlessNoMemory result (AnswersLookup meanings call (reply_of result)) → HasItsCause meanings call (reply_of result)
+lookup_caused meanings call result lookup =
+    record { passed = lookup_passed meanings call result lookup; foreign = lookup_foreign meanings call result lookup }

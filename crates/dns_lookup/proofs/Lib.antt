@@ -8,7 +8,6 @@ pub mod TopLemmas
 pub mod LookupAnswerLemmas
 pub mod CauseLemmas
 pub mod ForeignLemmas
-pub mod UnjudgedLemmas
 pub mod AnsweredLemmas
 pub mod DenyingLemmas
 pub mod SendingLemmas

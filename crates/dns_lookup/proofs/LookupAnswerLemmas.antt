@@ -1,14 +1,15 @@
 -- What a lookup's answer is, out of why it was given: its soundness, its trail and its marks.
-use Rattle.std.proofs.Common.{ℕ, ◌≡◌, ◌≢◌, ◌∙◌, ◌⊎◌, Option, None, Some, Result, Ok, Err, refl, sym, ap, subst, inl, inr}
+use Rattle.std.proofs.Common.{ℕ, ◌≡◌, ◌∙◌, ◌⊎◌, Option, None, Some, Result, Ok, Err, refl, sym, ap, subst, inl, inr}
 use Rattle.dns_model.specs.declared.proof.Proof.{Proof}
+use Rattle.dns_model.specs.declared.proof.Proof.TheVariants.{Bogus}
 use Rattle.dns_model.specs.declared.denial.Denial.{Denial}
 use Rattle.dns_model.specs.declared.denial.Denial.TheVariants as denial
 use Rattle.dns_model.specs.Records.{Question, MessageValue}
-use Rattle.dns_model.specs.SoundAnswers.{ResponseValue}
-use Rattle.dns_model.specs.Trails.{EndingValue, Answered, Denied, Failed}
-use Rattle.dns_rules.specs.ChainedSets.{finished}
+use Rattle.dns_model.specs.SoundAnswers.{told_by, ResponseValue}
+use Rattle.dns_model.specs.Trails.{EndingValue, Answered, Denied}
+use Rattle.dns_rules.specs.ChainedSets.{bare, finished}
 use Rattle.dns_rules.specs.Derivation.{ending_by}
-use Rattle.dns_rules.specs.Outcome.{Outcome, Unjudged, Given, NeedsZone}
+use Rattle.dns_rules.specs.Outcome.{Outcome, Given, NeedsZone}
 use Rattle.dns_rules.specs.Outcome as outcome
 use Rattle.dns_handle.specs.Errors as seen
 use Rattle.dns_handle.specs.Errors.{Reply, ErrorValue, Busy, Dns, Message, Msg, NoConnections, Proto, Io, Timeout, QueryCaseMismatch, ForeignClassRecord, Truncated, ResponseCode, NoRecordsFound, Nsec, DnssecBogus}
@@ -20,6 +21,9 @@ use Rattle.dns_validation.specs.Steps.{Findings, trail_of, answer_by}
 use Rattle.dns_lookup.specs.Calls.{Call}
 use Rattle.dns_lookup.specs.LookupAnswers.{UnlessNoMemory, OfAnswer, IsSoundAnswer, IsTrail, HasMarksOfTrail, DeniesQuery}
 use Rattle.dns_lookup.specs.Answering.{Found, AnswersLookup, Passes, Names, Judges}
+use Rattle.dns_validation.specs.Comes.{top_context}
+use Rattle.dns_lookup.specs.Fronts.{terms_of_call}
+use Rattle.dns_lookup.proofs.ConclusionLemmas.{never_searched}
 use Rattle.dns_lookup.proofs.TopLemmas.{found_trail, found_marks, found_sound}
 
 -- ---- results and replies
@@ -44,7 +48,7 @@ silent_message m h = cc
 -- a fact of the answer that was found, with the ending by its outcome
 pub record OfFound {H : Type 0} (meanings : handle.Ghosts H) (call : Call H) (Fact : ResponseValue → EndingValue → Type 0) : Type 0 where
   pub each : (found : Findings) (d : Denial) (ending : EndingValue) → Found meanings call found
-      → ending ≡ ending_by found.outcome → ending ≢ Failed
+      → ending ≡ ending_by found.outcome
       → Fact (finished call.now found.sets found.message d (trail_of call.query found ending)) ending
 
 -- an error without a message has no answer inside
@@ -68,10 +72,10 @@ silent_error Fact seen.NoMemory silent = tt
 by_outcome : {H : Type 0} (meanings : handle.Ghosts H) (call : Call H) (Fact : ResponseValue → EndingValue → Type 0) (found : Findings)
     → OfFound meanings call Fact → Found meanings call found → (o : Outcome) → found.outcome ≡ o
     → OfAnswer (answer_by call.now call.query found o) Fact
-by_outcome meanings call Fact found all f Unjudged is = tt
-by_outcome meanings call Fact found all f (Given d) is = all.each found d (Answered d) f (sym (ap ending_by is)) (λ h. cc)
-by_outcome meanings call Fact found all f NeedsZone is = tt
-by_outcome meanings call Fact found all f (outcome.Denied p) is = all.each found denial.None (Denied p) f (sym (ap ending_by is)) (λ h. cc)
+by_outcome meanings call Fact found all f (Given d) is = all.each found d (Answered d) f (sym (ap ending_by is))
+by_outcome meanings call Fact found all f NeedsZone is =
+    absurd (never_searched (top_context (terms_of_call call) found.steps) (told_by found.message) (bare found.sets) found.outcome found.excuse f.concluded is)
+by_outcome meanings call Fact found all f (outcome.Denied p) is = all.each found denial.None (Denied p) f (sym (ap ending_by is))
 
 of_lookup : {H : Type 0} (meanings : handle.Ghosts H) (call : Call H) (Fact : ResponseValue → EndingValue → Type 0) {answer : Reply}
     → OfFound meanings call Fact → AnswersLookup meanings call answer → OfAnswer answer Fact
@@ -96,27 +100,28 @@ pub lookup_sound : {H : Type 0} (meanings : handle.Ghosts H) (call : Call H) (re
     → UnlessNoMemory result (AnswersLookup meanings call (reply_of result)) → OfAnswer (reply_of result) (λ a ending. IsSoundAnswer meanings call a)
 lookup_sound meanings call result lookup =
     of_result meanings call (λ a ending. IsSoundAnswer meanings call a) result
-    (record { each = λ found d ending f ends other. found_sound meanings call found d ending f }) lookup
+    (record { each = λ found d ending f ends. found_sound meanings call found d ending f }) lookup
 
 pub lookup_trail : {H : Type 0} (meanings : handle.Ghosts H) (call : Call H) (result : Result ResponseValue NetError)
     → UnlessNoMemory result (AnswersLookup meanings call (reply_of result)) → OfAnswer (reply_of result) (λ a ending. IsTrail meanings call a.trail ending)
 lookup_trail meanings call result lookup =
     of_result meanings call (λ a ending. IsTrail meanings call a.trail ending) result
-    (record { each = λ found d ending f ends other. (found_trail meanings call found ending f ends).is }) lookup
+    (record { each = λ found d ending f ends. (found_trail meanings call found ending f ends).is }) lookup
 
 pub lookup_marks : {H : Type 0} (meanings : handle.Ghosts H) (call : Call H) (result : Result ResponseValue NetError)
     → UnlessNoMemory result (AnswersLookup meanings call (reply_of result)) → OfAnswer (reply_of result) (λ a ending. HasMarksOfTrail call.now a)
 lookup_marks meanings call result lookup =
     of_result meanings call (λ a ending. HasMarksOfTrail call.now a) result
-    (record { each = λ found d ending f ends other. found_marks meanings call found d ending f }) lookup
+    (record { each = λ found d ending f ends. found_marks meanings call found d ending f }) lookup
 
 -- ---- a denial
 
 denied_by : (now : ℕ) (q : Question) (found : Findings) (o : Outcome) (asked : Question) (response : ResponseValue) (proof : Proof)
     → answer_by now q found o ≡ Err (Dns (Nsec asked response proof)) → (asked ≡ q) × (response.denial ≡ denial.None)
-denied_by now q found Unjudged asked response proof is = cc
 denied_by now q found (Given d) asked response proof is = cc
-denied_by now q found NeedsZone asked response proof is = cc
+denied_by now q found NeedsZone asked response proof is =
+    let same : finished now found.sets found.message denial.None (trail_of q found (Denied Bogus)) ≡ response = cc in
+    (cc, sym (ap (λ a. a.denial) same))
 denied_by now q found (outcome.Denied p) asked response proof is =
     let same : finished now found.sets found.message denial.None (trail_of q found (Denied p)) ≡ response = cc in
     (cc, sym (ap (λ a. a.denial) same))

@@ -58,33 +58,33 @@ turns_sends : (t : Terms) (s u : StateValue) → Turns t s u → u.sends ≡ s.s
 turns_sends t _ _ (Here s u is) = ap (λ (x : StateValue). x.sends) is
 turns_sends t _ _ (Onward s m u turns on is) = ap (λ (x : StateValue). x.sends) is ∙ turn_sends t m m.steps ∙ turns_sends t s m turns
 
-own_sends : (j : Judge) (s : StateValue) (q : Question) (m : MessageValue) (empty : Bool) (o : Option Rr) → (heard_own j s q m empty o).sends ≡ s.sends
-own_sends j s q m empty None = refl
-own_sends j s q m empty (Some r) = refl
+own_sends : (t : Terms) (s : StateValue) (q : Question) (m : MessageValue) (empty : Bool) (o : Option Rr) → (heard_own t s q m empty o).sends ≡ s.sends
+own_sends t s q m empty None = refl
+own_sends t s q m empty (Some r) = refl
 
-nested_sends : (j : Judge) (s : StateValue) (q : Question) (depth : ℕ) (m : MessageValue) (empty : Bool) (o : Option Rr)
-    → (heard_nested j s q depth m empty o).sends ≡ s.sends
-nested_sends j s q depth m empty None = refl
-nested_sends j s q depth m empty (Some r) = refl
+nested_sends : (t : Terms) (s : StateValue) (q : Question) (depth : ℕ) (m : MessageValue) (empty : Bool) (o : Option Rr)
+    → (heard_nested t s q depth m empty o).sends ≡ s.sends
+nested_sends t s q depth m empty None = refl
+nested_sends t s q depth m empty (Some r) = refl
 
-reply_sends : (j : Judge) (s : StateValue) (q : Question) (judged : Bool) (o : Option ℕ) (received : ReceivedValue)
-    → (heard_by j s q judged o received).sends ≡ s.sends
-reply_sends j s q true None (Failed error) = refl
-reply_sends j s q true None (Message m empty) = own_sends j s q m empty (foreign_record q (told_by m))
-reply_sends j s q true (Some depth) (Failed error) = refl
-reply_sends j s q true (Some depth) (Message m empty) = nested_sends j s q (depth + 1) m empty (foreign_record q (told_by m))
-reply_sends j s q false None received = refl
-reply_sends j s q false (Some depth) (Failed error) = refl
-reply_sends j s q false (Some depth) (Message m empty) = refl
+reply_sends : (t : Terms) (s : StateValue) (q : Question) (judged : Bool) (o : Option ℕ) (received : ReceivedValue)
+    → (heard_by t s q judged o received).sends ≡ s.sends
+reply_sends t s q true None (Failed error) = refl
+reply_sends t s q true None (Message m empty) = own_sends t s q m empty (foreign_record q (told_by m))
+reply_sends t s q true (Some depth) (Failed error) = refl
+reply_sends t s q true (Some depth) (Message m empty) = nested_sends t s q (depth + 1) m empty (foreign_record q (told_by m))
+reply_sends t s q false None received = refl
+reply_sends t s q false (Some depth) (Failed error) = refl
+reply_sends t s q false (Some depth) (Message m empty) = refl
 
-waiting_sends : (j : Judge) (s : StateValue) (o : Option Ask) (ask : Ask) (received : ReceivedValue) → o ≡ Some ask
-    → (heard_in j s received o).sends ≡ s.sends + 1
-waiting_sends j s None ask received is = cc
-waiting_sends j s (Some q) ask received is = reply_sends j (no_more_waiting s) q.query q.judged (depth_below s.steps) received
+waiting_sends : (t : Terms) (s : StateValue) (o : Option Ask) (ask : Ask) (received : ReceivedValue) → o ≡ Some ask
+    → (heard_in t s received o).sends ≡ s.sends + 1
+waiting_sends t s None ask received is = cc
+waiting_sends t s (Some q) ask received is = reply_sends t (no_more_waiting s) q.query q.judged (depth_below s.steps) received
 
 heard_sends : (t : Terms) (s u : StateValue) (ask : Ask) (reply : Reply) → s.pending ≡ Some ask → HasHeard t s reply u → u.sends ≡ s.sends + 1
 heard_sends t s u ask reply is h =
-    turns_sends t (heard t.judge s reply) u h.turns ∙ waiting_sends t.judge s s.pending ask (received_value reply) is
+    turns_sends t (heard t s reply) u h.turns ∙ waiting_sends t s s.pending ask (received_value reply) is
 
 -- ---- a lookup so far
 

@@ -14,6 +14,7 @@ use Rattle.dns_handle.specs.declared.error.NetError.{NetError}
 use Rattle.dns_handle.specs.declared.handle.DnsHandle as handle
 use Rattle.dns_handle.specs.declared.notice.Notice.TheVariants.{NoQueryInRequest}
 use Rattle.dns_handle.specs.declared.request.DnsRequestOptions.{DnsRequestOptions}
+use Rattle.dns_evidence.specs.declared.limits.IterationLimits.{IterationLimits}
 use Rattle.dns_validation.specs.Requests.{asking_options, asking_request, checked_edns, checked_request}
 use Rattle.dns_lookup.specs.Answering.{AnswersLookup}
 use Rattle.dns_lookup.specs.Calls.{Call, Sending, ask_of_call, first_ask_of_call}
@@ -23,11 +24,10 @@ use Rattle.dns_lookup.specs.Sends.{SendsBy}
 use Rattle.dns_lookup.specs.Fronts.{terms_of_call, IsFront, SendsOfTerms}
 use Rattle.dns_lookup.proofs.CompletingLemmas.{lookup_completes}
 use Rattle.dns_lookup.proofs.CauseLemmas.{no_both, lookup_passes}
-use Rattle.dns_lookup.proofs.ForeignLemmas.{lookup_names_foreign, lookup_judges}
+use Rattle.dns_lookup.proofs.ForeignLemmas.{lookup_names_foreign, lookup_caused}
 use Rattle.dns_lookup.proofs.LookupAnswerLemmas.{lookup_sound, lookup_trail, lookup_denied}
 use Rattle.dns_lookup.proofs.AnsweredLemmas.{lookup_answers}
 use Rattle.dns_lookup.proofs.DenyingLemmas.{lookup_explained, lookup_denies}
-use Rattle.dns_lookup.proofs.UnjudgedLemmas.{lookup_caused}
 
 -- ---- the request
 
@@ -72,7 +72,6 @@ looked_up meanings call result front sends lookup = record {
   caused = lookup_caused meanings call result lookup;
   passes = unless_seen result _ (lookup_passes meanings call result lookup);
   names_foreign = unless_seen result _ (lookup_names_foreign meanings call result lookup);
-  judges = unless_seen result _ (lookup_judges meanings call result lookup);
   answers = unless_seen result _ (lookup_answers meanings call result lookup);
   completes = unless_seen result _ (lookup_completes meanings call result lookup);
 }
@@ -83,38 +82,38 @@ other_code : (code : ℕ) (query : Bool) → query ≡ (code == 0) → query ≡
 other_code code query by other zero = no_both query (by ∙ ap (λ n. n == 0) zero ∙ number_refl 0) other
 
 -- a request that isn't a query goes on
-pub goes_on : {H : Type 0} (meanings : handle.Ghosts H) (j : Judge) (request : RequestValue) (now : ℕ) (old new : H) (query : Bool)
+pub goes_on : {H : Type 0} (meanings : handle.Ghosts H) (j : Judge) (request : RequestValue) (iterations : IterationLimits) (now : ℕ) (old new : H) (query : Bool)
     (result : Result ResponseValue NetError) → query ≡ (request.message.op_code == 0) → query ≡ false
-    → Sending meanings request (first_question request) now old new (reply_of result) → AnswersRequest meanings j request now old new (reply_of result)
-goes_on meanings j request now old new query result by other sent =
+    → Sending meanings request (first_question request) now old new (reply_of result) → AnswersRequest meanings j request iterations now old new (reply_of result)
+goes_on meanings j request iterations now old new query result by other sent =
     Goes (reply_of result) (other_code request.message.op_code query by other) sent
 
 -- a query without a question is refused
-pub refuses : {H : Type 0} (meanings : handle.Ghosts H) (j : Judge) (request : RequestValue) (now : ℕ) (still : H) (query : Bool)
+pub refuses : {H : Type 0} (meanings : handle.Ghosts H) (j : Judge) (request : RequestValue) (iterations : IterationLimits) (now : ℕ) (still : H) (query : Bool)
     → query ≡ (request.message.op_code == 0) → query ≡ true → first_question request ≡ None
-    → AnswersRequest meanings j request now still still (Err (Message NoQueryInRequest))
-refuses meanings j request now still query by is none = Refused (number_same request.message.op_code 0 (sym by ∙ is)) none refl
+    → AnswersRequest meanings j request iterations now still still (Err (Message NoQueryInRequest))
+refuses meanings j request iterations now still query by is none = Refused (number_same request.message.op_code 0 (sym by ∙ is)) none refl
 
 -- memory ran out before a query was sent
-pub forgets : {H : Type 0} (meanings : handle.Ghosts H) (j : Judge) (request : RequestValue) (now : ℕ) (still : H) (query : Bool)
+pub forgets : {H : Type 0} (meanings : handle.Ghosts H) (j : Judge) (request : RequestValue) (iterations : IterationLimits) (now : ℕ) (still : H) (query : Bool)
     → query ≡ (request.message.op_code == 0) → query ≡ true → first_question request ≢ None
-    → AnswersRequest meanings j request now still still (Err seen.NoMemory)
-forgets meanings j request now still query by is some = Unsent (number_same request.message.op_code 0 (sym by ∙ is)) some refl
+    → AnswersRequest meanings j request iterations now still still (Err seen.NoMemory)
+forgets meanings j request iterations now still query by is some = Unsent (number_same request.message.op_code 0 (sym by ∙ is)) some refl
 
 -- a query is looked up by what is sent for it, unless memory ran out before that
-pub looks_up : {H : Type 0} (meanings : handle.Ghosts H) (j : Judge) (request : RequestValue) (now : ℕ) (old new : H) (q : Question) (query : Bool)
+pub looks_up : {H : Type 0} (meanings : handle.Ghosts H) (j : Judge) (request : RequestValue) (iterations : IterationLimits) (now : ℕ) (old new : H) (q : Question) (query : Bool)
     (result : Result ResponseValue NetError)
     → query ≡ (request.message.op_code == 0) → query ≡ true → first_question request ≡ Some q
-    → IsFront meanings (terms_of_call (call_for j request q now old new)) old new (reply_of result)
-    → OrUnsent old new result (SendsOfTerms meanings (terms_of_call (call_for j request q now old new)) old new)
-    → UnlessNoMemory result (AnswersLookup meanings (call_for j request q now old new) (reply_of result))
-    → AnswersRequest meanings j request now old new (reply_of result)
-looks_up meanings j request now old new q query (Ok a) by is asks front sends lookup =
-    LookedUp (Ok a) q (number_same request.message.op_code 0 (sym by ∙ is)) asks (looked_up meanings (call_for j request q now old new) (Ok a) front sends lookup)
-looks_up meanings j request now old new q query (Err e) by is asks front (inl sends) lookup =
+    → IsFront meanings (terms_of_call (call_for j request q iterations now old new)) old new (reply_of result)
+    → OrUnsent old new result (SendsOfTerms meanings (terms_of_call (call_for j request q iterations now old new)) old new)
+    → UnlessNoMemory result (AnswersLookup meanings (call_for j request q iterations now old new) (reply_of result))
+    → AnswersRequest meanings j request iterations now old new (reply_of result)
+looks_up meanings j request iterations now old new q query (Ok a) by is asks front sends lookup =
+    LookedUp (Ok a) q (number_same request.message.op_code 0 (sym by ∙ is)) asks (looked_up meanings (call_for j request q iterations now old new) (Ok a) front sends lookup)
+looks_up meanings j request iterations now old new q query (Err e) by is asks front (inl sends) lookup =
     LookedUp (Err (error_of e)) q (number_same request.message.op_code 0 (sym by ∙ is)) asks
-    (looked_up meanings (call_for j request q now old new) (Err e) front sends lookup)
-looks_up meanings j request now old new q query (Err e) by is asks front (inr unsent) lookup =
+    (looked_up meanings (call_for j request q iterations now old new) (Err e) front sends lookup)
+looks_up meanings j request iterations now old new q query (Err e) by is asks front (inr unsent) lookup =
     let some : first_question request ≢ None = λ none. cc in
-    subst (λ x. AnswersRequest meanings j request now old new (Err (error_of x))) (sym unsent.0)
+    subst (λ x. AnswersRequest meanings j request iterations now old new (Err (error_of x))) (sym unsent.0)
     (Unsent (number_same request.message.op_code 0 (sym by ∙ is)) some unsent.1)

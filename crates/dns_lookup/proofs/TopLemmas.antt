@@ -5,7 +5,7 @@ use Rattle.dns_model.specs.declared.denial.Denial.{Denial}
 use Rattle.dns_model.specs.Records.{MessageValue}
 use Rattle.dns_model.specs.SoundAnswers.{PlacedSet, told_by, placed_sets, Sound}
 use Rattle.dns_model.specs.Trails.{JudgedSetValue, EndingValue, Records}
-use Rattle.dns_rules.specs.Asking.{depth_limit, judged_part}
+use Rattle.dns_rules.specs.Asking.{effective, judged_part}
 use Rattle.dns_rules.specs.ChainedSets.{bare, finished}
 use Rattle.dns_rules.specs.Derivation.{StepContext, with_entries, judged_sets, ending_by, step_holds, entries_hold, in_send_order}
 use Rattle.dns_rules.specs.DerivationParts.{steps_at}
@@ -20,7 +20,7 @@ use Rattle.dns_validation.specs.Received.{received_message, says_none}
 use Rattle.dns_validation.specs.Steps.{top_of, Findings, trail_of}
 use Rattle.dns_validation.specs.Comes.{top_context}
 use Rattle.dns_validation.proofs.StepLines.{judged_step_holds}
-use Rattle.dns_lookup.specs.Calls.{Call, ask_of_call, first_ask_of_call}
+use Rattle.dns_lookup.specs.Calls.{Call, limits_of_call, ask_of_call, first_ask_of_call}
 use Rattle.dns_lookup.specs.Sends.{SendOf, SendsAlong, SendsFrom}
 use Rattle.dns_lookup.specs.LookupAnswers.{IsSoundAnswer, IsTrail, HasMarksOfTrail}
 use Rattle.dns_lookup.specs.Answering.{Found}
@@ -51,29 +51,24 @@ pub record TrailOf {H : Type 0} (meanings : handle.Ghosts H) (call : Call H) (fo
   pub is : IsTrail meanings call (trail_of call.query found ending) ending
   pub top : is.top ≡ top_of call.query (told_by found.message) found.empty found.entries ending found.excuse
 
--- the sets of the last step are those that were judged
-pub sets_of_top : {H : Type 0} (meanings : handle.Ghosts H) (call : Call H) (found : Findings) (ending : EndingValue) → Found meanings call found
-    → judged_sets (top_of call.query (told_by found.message) found.empty found.entries ending found.excuse) ≡ bare found.sets
-sets_of_top meanings call found ending f = sym f.judged.same
-
 pub found_trail : {H : Type 0} (meanings : handle.Ghosts H) (call : Call H) (found : Findings) (ending : EndingValue) → Found meanings call found
     → ending ≡ ending_by found.outcome → TrailOf meanings call found ending
 found_trail meanings call found ending f ends =
     let told = told_by found.message in
     let step = top_of call.query told found.empty found.entries ending found.excuse in
     let trail = found.steps ++ step ∷ [] in
-    let d = call.options.max_request_depth in
-    let ended : step_holds call.judge (depth_limit d) found.steps (top_of call.query told found.empty found.entries (ending_by found.outcome) found.excuse) ≡ true =
-    judged_step_holds call.judge (depth_limit d) found.steps 0 call.query told found.empty found.sets found.entries found.outcome found.excuse f.own f.judged f.concluded in
-    let holds : step_holds call.judge (depth_limit d) found.steps step ≡ true =
-    ap (λ e. step_holds call.judge (depth_limit d) found.steps (top_of call.query told found.empty found.entries e found.excuse)) ends ∙ ended in
-    let derived = top_derivation call.judge d found.steps step f.sends (record { part = f.part; holds = holds; top = refl; few = f.few }) in
+    let limits = limits_of_call call in
+    let ended : step_holds call.judge (effective limits) found.steps (top_of call.query told found.empty found.entries (ending_by found.outcome) found.excuse) ≡ true =
+    judged_step_holds call.judge (effective limits) found.steps 0 call.query told found.empty found.sets found.entries found.outcome found.excuse f.own f.judged f.concluded in
+    let holds : step_holds call.judge (effective limits) found.steps step ≡ true =
+    ap (λ e. step_holds call.judge (effective limits) found.steps (top_of call.query told found.empty found.entries e found.excuse)) ends ∙ ended in
+    let derived = top_derivation call.judge limits found.steps step f.sends (record { part = f.part; holds = holds; top = refl; few = f.few }) in
     let along : SendsFrom (first_ask_of_call meanings call) (ask_of_call meanings call) call.old (step ∷ steps_at found.steps (Some f.part.order)) call.new =
     (f.middle, top_send meanings call found ending f, f.along) in
     let walked : SendsFrom (first_ask_of_call meanings call) (ask_of_call meanings call) call.old (in_send_order trail) call.new =
     subst (λ steps. SendsFrom (first_ask_of_call meanings call) (ask_of_call meanings call) call.old steps call.new)
-    (sym (top_sent call.judge (depth_limit d) found.steps step f.sends f.part)) along in
-    let counts = top_counts call.judge (depth_limit d) found.steps step f.sends f.part in
+    (sym (top_sent call.judge (effective limits) found.steps step f.sends f.part)) along in
+    let counts = top_counts call.judge (effective limits) found.steps step f.sends f.part in
     record {
       is = record {
         derived = derived;
@@ -82,8 +77,8 @@ found_trail meanings call found ending f ends =
         query = refl;
         ends = refl;
         few = omega (arith, counts, f.few);
-        shallow = derivation_depths call.judge d trail derived;
-        each = derivation_sent call.judge d trail derived;
+        shallow = derivation_depths call.judge limits trail derived;
+        each = derivation_sent call.judge limits trail derived;
         walked = walked;
         from = first_from meanings call call.old (in_send_order trail) walked;
         faults = first_rose meanings call call.old (in_send_order trail) walked;
@@ -129,7 +124,7 @@ found_sound meanings call found d ending f =
     let told = told_by found.message in
     let trail = trail_of call.query found ending in
     let step = top_of call.query told found.empty found.entries ending found.excuse in
-    let deep = depth_limit call.options.max_request_depth in
+    let deep = effective (limits_of_call call) in
     let Header : MessageValue → Type 0 = λ m. marked_message call.now (bare found.sets) m
     ≡ record f.from {
       answers = (marked_message call.now (bare found.sets) m).answers;

@@ -2,7 +2,7 @@
 use Rattle.std.specs.Prelude.{ℕ, ◌≡◌, ◌≢◌, ◌≤◌, [], ◌++◌, None, Some, Err}
 use Rattle.dns_model.specs.Records.{Rr, MessageValue}
 use Rattle.dns_model.specs.SoundAnswers.{told_by}
-use Rattle.dns_rules.specs.Asking.{most_sends, depth_limit, judged_part}
+use Rattle.dns_rules.specs.Asking.{most_sends, effective, judged_part}
 use Rattle.dns_rules.specs.ChainedSets.{bare}
 use Rattle.dns_rules.specs.DerivationParts.{asks_of_sets, steps_at}
 use Rattle.dns_rules.specs.Marking.{cleared_message}
@@ -17,7 +17,7 @@ use Rattle.dns_validation.specs.Received.{received_message, says_none}
 use Rattle.dns_validation.specs.Steps.{Findings, judged_answer}
 use Rattle.dns_validation.specs.Machine.{Terms}
 use Rattle.dns_validation.specs.Comes.{IsJudgement, top_context}
-use Rattle.dns_lookup.specs.Calls.{Call, ask_of_call, first_ask_of_call}
+use Rattle.dns_lookup.specs.Calls.{Call, limits_of_call, ask_of_call, first_ask_of_call}
 use Rattle.dns_lookup.specs.Sends.{SendsAlong}
 use Rattle.dns_lookup.specs.Fronts.{terms_of_call}
 
@@ -28,6 +28,7 @@ call_by t old new = record {
   query = t.query;
   request = t.request;
   options = t.options;
+  iterations = t.iterations;
   now = t.now;
   old = old;
   new = new;
@@ -44,7 +45,7 @@ pub record Found {H : Type 0} (meanings : handle.Ghosts H) (call : Call H) (foun
   pub cleared : found.message ≡ cleared_message from
   pub empty : found.empty ≡ says_none reply
   pub own : foreign_record call.query (told_by found.message) ≡ None
-  pub part : TrailPart call.judge (depth_limit call.options.max_request_depth) [] found.steps
+  pub part : TrailPart call.judge (effective (limits_of_call call)) [] found.steps
       (asks_of_sets found.entries ++ found.excuse) 1 sends
   pub along : SendsAlong (ask_of_call meanings call) middle (steps_at found.steps (Some part.order)) call.new
   pub judged : IsJudgement (top_context (terms_of_call call) found.steps) (judged_part 0 (told_by found.message))

@@ -4,6 +4,7 @@ use Rattle.dns_model.specs.Counts.{Rose}
 use Rattle.dns_model.specs.Records.{Question}
 use Rattle.dns_model.specs.Keys.{AnchorValue}
 use Rattle.dns_model.specs.Chains.{Judge, judge}
+use Rattle.dns_rules.specs.Asking.{Limits}
 use Rattle.dns_handle.specs.Errors as seen
 use Rattle.dns_handle.specs.Errors.{Reply}
 use Rattle.dns_handle.specs.ErrorKinds.{is_no_records_found}
@@ -11,6 +12,7 @@ use Rattle.dns_handle.specs.Handles.{ReplyIsTold, IsLeft}
 use Rattle.dns_handle.specs.Requests.{RequestValue}
 use Rattle.dns_handle.specs.declared.request.DnsRequestOptions.{DnsRequestOptions}
 use Rattle.dns_handle.specs.declared.handle.DnsHandle as handle
+use Rattle.dns_evidence.specs.declared.limits.IterationLimits.{IterationLimits}
 use Rattle.dns_evidence.specs.declared.verifier.Verifier as verifier
 use Rattle.dns_flow.specs.declared.asks.Ask.{Ask}
 use Rattle.dns_validation.specs.Requests.{asking_request, request_for}
@@ -28,16 +30,29 @@ anchors_of validator = validator.anchors
 abbrev pub verifier_of : {H V : Type 0} → DnssecDnsHandle H V → V
 verifier_of validator = validator.verifier
 
--- a lookup: by what it judges, its query, the request that it sends for that, its options and its moment in seconds, and the
--- handle before it and after it
+-- how many iterations of the hash of NSEC3 records it counts
+abbrev pub iterations_of : {H V : Type 0} → DnssecDnsHandle H V → IterationLimits
+iterations_of validator = validator.iterations
+
+-- a lookup: by what it judges, its query, the request that it sends for that, its options, how many iterations of a hash it
+-- counts and its moment in seconds, and the handle before it and after it
 pub record Call (H : Type 0) : Type 0 where
   pub judge : Judge
   pub query : Question
   pub request : RequestValue
   pub options : DnsRequestOptions
+  pub iterations : IterationLimits
   pub now : ℕ
   pub old : H
   pub new : H
+
+-- how far it goes
+abbrev pub limits_of_call : {H : Type 0} → Call H → Limits
+limits_of_call call = record {
+  depth = call.options.max_request_depth;
+  soft = call.iterations.soft;
+  hard = call.iterations.hard;
+}
 
 -- a call of a validator: it sends its query's own request
 abbrev pub call_of : {H V : Type 0} → verifier.Ghosts V → DnssecDnsHandle H V → DnssecDnsHandle H V
@@ -47,6 +62,7 @@ call_of tests old new q options now = record {
   query = q;
   request = asking_request q options;
   options = options;
+  iterations = iterations_of old;
   now = now;
   old = inner_of old;
   new = inner_of new;

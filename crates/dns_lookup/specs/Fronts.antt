@@ -16,6 +16,7 @@ terms_of_call call = record {
   query = call.query;
   request = call.request;
   options = call.options;
+  iterations = call.iterations;
   now = call.now;
 }
 

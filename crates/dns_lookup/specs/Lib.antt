@@ -1,9 +1,10 @@
+pub mod Answering
 pub mod Calls
-pub mod Sends
-pub mod Fronts
-pub mod LookupParts
-pub mod LookupAnswers
 pub mod Causes
 pub mod Completing
+pub mod Fronts
+pub mod Limiting
+pub mod LookupAnswers
+pub mod LookupParts
 pub mod Sending
-pub mod Answering
+pub mod Sends

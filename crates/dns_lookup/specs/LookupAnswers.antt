@@ -23,7 +23,7 @@ use Rattle.dns_handle.specs.declared.error.NetError.TheVariants.{NoMemory}
 use Rattle.dns_handle.specs.declared.handle.DnsHandle as handle
 use Rattle.dns_validation.specs.Received.{received_message}
 use Rattle.dns_flow.specs.Phases.{judged_ask}
-use Rattle.dns_lookup.specs.Calls.{Call, inner_of, ask_of_call, first_ask_of_call}
+use Rattle.dns_lookup.specs.Calls.{Call, inner_of, limits_of_call, ask_of_call, first_ask_of_call}
 use Rattle.dns_lookup.specs.Sends.{SendsAlong, SendsFrom, IsFromReplies, heard_fault}
 use Rattle.dns_lookup.specs.declared.handle.DnssecDnsHandle.{DnssecDnsHandle}
 
@@ -60,7 +60,7 @@ pub record IsSoundAnswer {H : Type 0} (meanings : handle.Ghosts H) (call : Call 
 -- handle met
 pub record IsTrail {H : Type 0} (meanings : handle.Ghosts H) (call : Call H) (trail : List AskedValue) (ending : EndingValue)
     : Type 0 where
-  pub derived : derivation call.judge call.options.max_request_depth trail ≡ true
+  pub derived : derivation call.judge (limits_of_call call) trail ≡ true
   pub top : AskedValue
   pub last : top_step trail ≡ Some top
   pub query : top.query ≡ call.query

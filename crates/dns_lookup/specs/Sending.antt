@@ -10,10 +10,11 @@ use Rattle.dns_handle.specs.Causes.{faults_after}
 use Rattle.dns_handle.specs.Requests.{RequestValue, first_question}
 use Rattle.dns_handle.specs.declared.handle.DnsHandle as handle
 use Rattle.dns_handle.specs.declared.notice.Notice.TheVariants.{NoQueryInRequest}
+use Rattle.dns_evidence.specs.declared.limits.IterationLimits.{IterationLimits}
 use Rattle.dns_evidence.specs.declared.verifier.Verifier as verifier
 use Rattle.dns_validation.specs.Requests.{checked_request}
-use Rattle.dns_lookup.specs.Calls.{Call, Sending, inner_of, anchors_of, verifier_of, ask_of_call, first_ask_of_call}
-use Rattle.dns_lookup.specs.Causes.{HasItsCause, PassesOn, ForeignNamed, JudgesTold, AnswersTold}
+use Rattle.dns_lookup.specs.Calls.{Call, Sending, inner_of, anchors_of, verifier_of, iterations_of, ask_of_call, first_ask_of_call}
+use Rattle.dns_lookup.specs.Causes.{HasItsCause, PassesOn, ForeignNamed, AnswersTold}
 use Rattle.dns_lookup.specs.Completing.{Completes}
 use Rattle.dns_lookup.specs.LookupAnswers.{OfAnswer, IsSoundAnswer, IsTrail, IsExplained, ShowsItsDenial, DeniesQuery}
 use Rattle.dns_lookup.specs.Sends.{SendsBy}
@@ -23,18 +24,19 @@ use Rattle.dns_lookup.specs.declared.handle.DnssecDnsHandle.{DnssecDnsHandle}
 -- ---- a query
 
 -- the lookup of a request's first question by the request's options, whose first send is this request
-abbrev pub call_for : {H : Type 0} → Judge → RequestValue → Question → ℕ → H → H → Call H
-call_for j request q now old new = record {
+abbrev pub call_for : {H : Type 0} → Judge → RequestValue → Question → IterationLimits → ℕ → H → H → Call H
+call_for j request q iterations now old new = record {
   judge = j;
   query = q;
   request = checked_request request;
   options = request.options;
+  iterations = iterations;
   now = now;
   old = old;
   new = new;
 }
 
--- all that a lookup promises of its sends and its answer, whichever request it sends first; the last five unless it answers that
+-- all that a lookup promises of its sends and its answer, whichever request it sends first; the last four unless it answers that
 -- memory ran out. Whatever it answers, its sends are a front of a run
 pub record IsLookedUp {H : Type 0} (meanings : handle.Ghosts H) (call : Call H) (reply : Reply) : Type 0 where
   pub sends : SendsBy (first_ask_of_call meanings call) (ask_of_call meanings call) call.old call.new call.query
@@ -47,27 +49,27 @@ pub record IsLookedUp {H : Type 0} (meanings : handle.Ghosts H) (call : Call H) 
   pub caused : HasItsCause meanings call reply
   pub passes : Unless seen.NoMemory reply (PassesOn (meanings.told call.old) call.query reply)
   pub names_foreign : Unless seen.NoMemory reply (ForeignNamed (meanings.told call.old) call.query reply)
-  pub judges : Unless seen.NoMemory reply (JudgesTold (meanings.told call.old) call.query reply)
   pub answers : Unless seen.NoMemory reply (AnswersTold (meanings.told call.old) call.query reply)
   pub completes : Unless seen.NoMemory reply (Completes (meanings.told call.old) call reply)
 
 -- ---- any request
 
 -- the answer to a request, by a handle that was asked for it and by what its replies are judged
-pub data AnswersRequest {H : Type 0} (meanings : handle.Ghosts H) (j : Judge) (request : RequestValue) (now : ℕ) (old new : H)
-    : Reply → Type 0 where
+pub data AnswersRequest {H : Type 0} (meanings : handle.Ghosts H) (j : Judge) (request : RequestValue)
+    (iterations : IterationLimits) (now : ℕ) (old new : H) : Reply → Type 0 where
   -- a request of another opcode than Query goes on as it is, and its reply is the answer
   Goes : (reply : Reply) → request.message.op_code ≢ 0 → Sending meanings request (first_question request) now old new reply
-      → AnswersRequest meanings j request now old new reply
+      → AnswersRequest meanings j request iterations now old new reply
   -- a query without a question is refused, and nothing is sent
   Refused : request.message.op_code ≡ 0 → first_question request ≡ None → new ≡ old
-      → AnswersRequest meanings j request now old new (Err (Message NoQueryInRequest))
+      → AnswersRequest meanings j request iterations now old new (Err (Message NoQueryInRequest))
   -- another query is looked up
   LookedUp : (reply : Reply) (q : Question) → request.message.op_code ≡ 0 → first_question request ≡ Some q
-      → IsLookedUp meanings (call_for j request q now old new) reply → AnswersRequest meanings j request now old new reply
+      → IsLookedUp meanings (call_for j request q iterations now old new) reply
+      → AnswersRequest meanings j request iterations now old new reply
   -- or memory runs out before anything is sent for it
   Unsent : request.message.op_code ≡ 0 → first_question request ≢ None → new ≡ old
-      → AnswersRequest meanings j request now old new (Err seen.NoMemory)
+      → AnswersRequest meanings j request iterations now old new (Err seen.NoMemory)
 
 -- ---- the validator
 
@@ -79,10 +81,12 @@ sends_of validator = validator.sends
 abbrev pub faults_of : {H V : Type 0} → DnssecDnsHandle H V → ℕ
 faults_of validator = validator.faults
 
--- it trusts the same keys and tests by the same verifier, and has counted one send and the fault that the reply may be
+-- it trusts the same keys, tests by the same verifier and counts as many iterations, and has counted one send and the fault that
+-- the reply may be
 pub record CountsSend {H V : Type 0} (old new : DnssecDnsHandle H V) (reply : Reply) : Type 0 where
   pub anchors : anchors_of new ≡ anchors_of old
   pub verifier : verifier_of new ≡ verifier_of old
+  pub iterations : iterations_of new ≡ iterations_of old
   pub sends : sends_of new ≡ one_more (sends_of old)
   pub faults : faults_of new ≡ faults_after (faults_of old) reply
 
@@ -91,7 +95,7 @@ pub record ValidatesRequest {H V : Type 0} (meanings : handle.Ghosts H) (tests :
     (old : DnssecDnsHandle H V) (request : RequestValue) (now : ℕ) (new : DnssecDnsHandle H V) (reply : Reply) : Type 0 where
   pub counted : CountsSend old new reply
   pub later : meanings.faults (inner_of old) ≤ meanings.faults (inner_of new)
-  pub answers : AnswersRequest meanings (judge (tests.answers (verifier_of old)) (anchors_of old) now) request now
+  pub answers : AnswersRequest meanings (judge (tests.answers (verifier_of old)) (anchors_of old) now) request (iterations_of old) now
       (inner_of old) (inner_of new) reply
 
 -- a validator answers some request with this first question, at some moment

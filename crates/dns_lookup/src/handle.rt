@@ -2,7 +2,7 @@ ghost use Rattle.std.specs.Prelude.{◌≡◌, ◌≤◌, IsOk, IfOk, true};
 ghost use Rattle.dns_handle.specs.Replies.{reply_of};
 ghost use Rattle.dns_handle.specs.Handles.{OrUnsent};
 ghost use Rattle.dns_lookup.specs.Calls.{Asking};
-ghost use Rattle.dns_lookup.specs.Causes.{HasItsCause, PassesOn, ForeignNamed, JudgesTold, AnswersTold};
+ghost use Rattle.dns_lookup.specs.Causes.{HasItsCause, PassesOn, ForeignNamed, AnswersTold};
 ghost use Rattle.dns_lookup.specs.Completing.{Completes};
 ghost use Rattle.dns_lookup.specs.LookupAnswers.{UnlessNoMemory, WhereTold, OfAnswer, IsSoundAnswer, IsTrail};
 ghost use Rattle.dns_lookup.specs.LookupAnswers.{IsExplained, ShowsItsDenial, DeniesQuery};
@@ -11,7 +11,7 @@ ghost use Rattle.dns_lookup.specs.Sends.{SendsFor};
 
 use crate::lookup::look_up;
 use crate::sending::answer_request;
-use dns_evidence::Verifier;
+use dns_evidence::{IterationLimits, Verifier};
 use dns_handle::{DnsHandle, DnsRequest, DnsRequestOptions, DnsResponse, NetError, faults_after};
 use dns_name::NoMemory;
 use dns_record::Query;
@@ -24,12 +24,14 @@ pub struct DnssecDnsHandle<H: Drop, V: Drop> {
     handle: H,
     anchors: TrustAnchors,
     verifier: V,
+    iterations: IterationLimits,
     sends: u64,
     faults: u64,
 }
 
 impl<H: DnsHandle + Drop, V: Verifier + Drop> DnssecDnsHandle<H, V> {
-    ghost use Rattle.dns_lookup.specs.Calls.{inner_of, anchors_of, verifier_of, call_of};
+    ghost use Rattle.dns_lookup.specs.Calls.{inner_of, anchors_of, verifier_of, iterations_of, call_of};
+    ghost use Rattle.dns_lookup.specs.Limiting.{default_iterations, limited};
     ghost use Rattle.dns_lookup.specs.Sending.{sends_of, faults_of, CountsSend};
 
     /// A validator that trusts these anchors and tests signatures by this verifier.
@@ -39,12 +41,14 @@ impl<H: DnsHandle + Drop, V: Verifier + Drop> DnssecDnsHandle<H, V> {
         ensures anchors { IfOk result (λ h. anchors_of h ≡ anchors) }
         ensures verifier { IfOk result (λ h. verifier_of h ≡ verifier) }
         ensures sends { IfOk result (λ h. sends_of h ≡ 0) }
+        ensures iterations { IfOk result (λ h. iterations_of h ≡ default_iterations) }
         ensures faults { IfOk result (λ h. faults_of h ≡ 0) }
     {
         Ok(DnssecDnsHandle {
             handle,
             anchors,
             verifier,
+            iterations: IterationLimits::DEFAULT,
             sends: 0,
             faults: 0,
         })
@@ -61,9 +65,24 @@ impl<H: DnsHandle + Drop, V: Verifier + Drop> DnssecDnsHandle<H, V> {
         ensures anchors { IfOk result (λ h. anchors_of h ≡ anchors) }
         ensures verifier { IfOk result (λ h. verifier_of h ≡ verifier) }
         ensures sends { IfOk result (λ h. sends_of h ≡ 0) }
+        ensures iterations { IfOk result (λ h. iterations_of h ≡ default_iterations) }
         ensures faults { IfOk result (λ h. faults_of h ≡ 0) }
     {
         DnssecDnsHandle::new(handle, anchors, verifier)
+    }
+
+    /// The same validator, with the limits of the iterations of a hash that are given, 100 and 500 before (RFC 9276, 3.2): above the
+    /// soft one NSEC3 records leave a denial Insecure, above the hard one Bogus.
+    pub fn nsec3_iteration_limits(self, soft: Option<u16>, hard: Option<u16>) -> Self
+        ensures { result ≡ limited self soft hard }
+    {
+        let before = self.iterations;
+        let mut validator = self;
+        validator.iterations = IterationLimits {
+            soft: soft.unwrap_or(before.soft),
+            hard: hard.unwrap_or(before.hard),
+        };
+        validator
     }
 
     /// Its answers are validated.
@@ -80,13 +99,13 @@ impl<H: DnsHandle + Drop, V: Verifier + Drop> DnssecDnsHandle<H, V> {
     /// heard and judged for them. Its anchors and verifier stay as they are. The call is counted as a `send` is.
     ///
     /// The denial of an answer says what its records prove beside (RFC 4035, 5.3.4 and 5.4): `Absent(Secure)`, that no zone in
-    /// which its Secure NSEC records are true has an answer; `Expanded(Secure)`, that the answer comes from the right wildcard;
-    /// `Absent(Insecure)`, that nothing is there where no more than Insecure can be expected. A Secure denial promises nothing
-    /// where the query is for ANY, RRSIG, NSEC, NSEC3, OPT or a type from 128 to 255.
+    /// which its Secure NSEC or NSEC3 records are true has an answer, but for what opt-out leaves open; `Expanded(Secure)`, that the
+    /// answer comes from the right wildcard; `Absent(Insecure)`, that nothing is there where no more than Insecure can be expected. A
+    /// Secure denial promises nothing where the query is for ANY, RRSIG, NSEC, NSEC3, OPT or a type from 128 to 255.
     ///
     /// Errors: one of the handle's own send for the query; `ForeignClassRecord` for a record of another class than the
     /// query's; `Dns(Nsec)`, with the answer inside, exactly where its records lack a denial that they need, or have one that
-    /// doesn't hold; `Message("not judged yet")` exactly where a Secure NSEC3 stands in the reply, in any section; `NoMemory`.
+    /// doesn't hold; `NoMemory`.
     pub fn lookup(
         &mut self,
         alloc: Global,
@@ -116,21 +135,20 @@ impl<H: DnsHandle + Drop, V: Verifier + Drop> DnssecDnsHandle<H, V> {
         ensures explained { OfAnswer (reply_of result) (λ a ending.
             IsExplained (V.answers (verifier_of self.old)) now a) }
 
-        // What an Ok answer denies follows from its Secure NSEC records, in each zone in which they are true. A denial
+        // What an Ok answer denies follows from its Secure NSEC or NSEC3 records, in each zone in which they are true. A denial
         // names the query.
         ensures denies { IfOk result (λ a. ShowsItsDenial now query a) }
         ensures denied { DeniesQuery query (reply_of result) }
 
         // An error without an answer inside, want of memory aside, is the handle's own, or names a record of another class than
-        // the query's, or says that a Secure NSEC3 was seen, which is never so where there is an answer.
+        // the query's.
         ensures caused { HasItsCause H.DnsHandle
             (call_of V.Verifier self.old self.new query options now) (reply_of result) }
 
         // Where the upstream tells its replies, its error is passed on; else the first record of another class is named;
-        // else the sets are judged; and where no NSEC3 is told, there is an answer or a denial.
+        // else there is an answer or a denial.
         ensures passes { WhereTold H.DnsHandle self.old query result PassesOn }
         ensures names_foreign { WhereTold H.DnsHandle self.old query result ForeignNamed }
-        ensures judges { WhereTold H.DnsHandle self.old query result JudgesTold }
         ensures answers { WhereTold H.DnsHandle self.old query result AnswersTold }
 
         // Where the upstream's replies make a session that is valid for the query, it is answered, and what was queried is
@@ -143,7 +161,8 @@ impl<H: DnsHandle + Drop, V: Verifier + Drop> DnssecDnsHandle<H, V> {
             anchors: &self.anchors,
             moment: now,
         };
-        let reply = look_up(alloc, judge, &mut self.handle, query, options);
+        let iterations = self.iterations;
+        let reply = look_up(alloc, judge, &mut self.handle, query, options, iterations);
         self.sends = self.sends.saturating_add(1);
         self.faults = faults_after(self.faults, &reply);
         reply
@@ -191,7 +210,8 @@ impl<H: DnsHandle + Drop, V: Verifier + Drop> DnsHandle for DnssecDnsHandle<H, V
             anchors: &self.anchors,
             moment: now,
         };
-        let reply = answer_request(alloc, judge, &mut self.handle, request);
+        let iterations = self.iterations;
+        let reply = answer_request(alloc, judge, &mut self.handle, request, iterations);
         self.sends = self.sends.saturating_add(1);
         self.faults = faults_after(self.faults, &reply);
         reply

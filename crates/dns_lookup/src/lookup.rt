@@ -12,7 +12,7 @@ ghost use Rattle.dns_lookup.specs.Answering.{AnswersLookup, call_by};
 ghost use Rattle.dns_lookup.specs.Fronts.{IsFront, SendsOfTerms};
 ghost use Rattle.dns_lookup.specs.LookupAnswers.{UnlessNoMemory};
 
-use dns_evidence::Verifier;
+use dns_evidence::{IterationLimits, Verifier};
 use dns_handle::{DnsHandle, DnsRequest, DnsRequestOptions, DnsResponse, NetError};
 use dns_record::Query;
 use dns_trust::Judge;
@@ -27,20 +27,24 @@ pub(crate) fn look_up<H: DnsHandle, V: Verifier>(
     handle: &mut H,
     query: Query,
     options: DnsRequestOptions,
+    iterations: IterationLimits,
 ) -> Result<DnsResponse, NetError>
     ensures later { H.faults handle.old ≤ H.faults handle.new }
     ensures front { IsFront H.DnsHandle
-        (terms_by (judge_of V.answers judge.entry) query (asking_request query options) options judge.entry.moment)
+        (terms_by (judge_of V.answers judge.entry) query (asking_request query options) options iterations
+        judge.entry.moment)
         handle.old handle.new (reply_of result) }
     ensures sends { OrUnsent handle.old handle.new result (SendsOfTerms H.DnsHandle
-        (terms_by (judge_of V.answers judge.entry) query (asking_request query options) options judge.entry.moment)
+        (terms_by (judge_of V.answers judge.entry) query (asking_request query options) options iterations
+        judge.entry.moment)
         handle.old handle.new) }
     ensures lookup { UnlessNoMemory result (AnswersLookup H.DnsHandle (call_by
-        (terms_by (judge_of V.answers judge.entry) query (asking_request query options) options judge.entry.moment)
+        (terms_by (judge_of V.answers judge.entry) query (asking_request query options) options iterations
+        judge.entry.moment)
         handle.old handle.new) (reply_of result)) }
 {
     let now = judge.moment;
-    let validation = Validation::new(alloc, judge, query, options)?;
+    let validation = Validation::new(alloc, judge, query, options, iterations)?;
     drive(alloc, handle, validation, now)
 }
 
@@ -51,21 +55,25 @@ pub(crate) fn look_up_by_request<H: DnsHandle, V: Verifier>(
     handle: &mut H,
     query: Query,
     request: DnsRequest,
+    iterations: IterationLimits,
 ) -> Result<DnsResponse, NetError>
     requires asked { first_question request ≡ Some query }
     ensures later { H.faults handle.old ≤ H.faults handle.new }
     ensures front { IsFront H.DnsHandle
-        (terms_by (judge_of V.answers judge.entry) query (checked_request request) request.options judge.entry.moment)
+        (terms_by (judge_of V.answers judge.entry) query (checked_request request) request.options iterations
+        judge.entry.moment)
         handle.old handle.new (reply_of result) }
     ensures sends { OrUnsent handle.old handle.new result (SendsOfTerms H.DnsHandle
-        (terms_by (judge_of V.answers judge.entry) query (checked_request request) request.options judge.entry.moment)
+        (terms_by (judge_of V.answers judge.entry) query (checked_request request) request.options iterations
+        judge.entry.moment)
         handle.old handle.new) }
     ensures lookup { UnlessNoMemory result (AnswersLookup H.DnsHandle (call_by
-        (terms_by (judge_of V.answers judge.entry) query (checked_request request) request.options judge.entry.moment)
+        (terms_by (judge_of V.answers judge.entry) query (checked_request request) request.options iterations
+        judge.entry.moment)
         handle.old handle.new) (reply_of result)) }
 {
     let now = judge.moment;
-    let validation = Validation::by_request(alloc, judge, query, request)?;
+    let validation = Validation::by_request(alloc, judge, query, request, iterations)?;
     drive(alloc, handle, validation, now)
 }
 

@@ -7,7 +7,7 @@ ghost use Rattle.dns_trust.specs.Judge.{judge_of};
 ghost use Rattle.dns_lookup.specs.Sending.{AnswersRequest};
 
 use crate::lookup::look_up_by_request;
-use dns_evidence::Verifier;
+use dns_evidence::{IterationLimits, Verifier};
 use dns_handle::{DnsHandle, DnsRequest, DnsResponse, NetError, Notice};
 use dns_name::NoMemory;
 use dns_record::{OpCode, Query};
@@ -20,9 +20,10 @@ pub(crate) fn answer_request<H: DnsHandle, V: Verifier>(
     judge: Judge<'_, V>,
     handle: &mut H,
     request: DnsRequest,
+    iterations: IterationLimits,
 ) -> Result<DnsResponse, NetError>
     ensures later { H.faults handle.old ≤ H.faults handle.new }
-    ensures answers { AnswersRequest H.DnsHandle (judge_of V.answers judge.entry) request judge.entry.moment
+    ensures answers { AnswersRequest H.DnsHandle (judge_of V.answers judge.entry) request iterations judge.entry.moment
         handle.old handle.new (reply_of result) }
 {
     if !is_query(&request) {
@@ -42,7 +43,7 @@ pub(crate) fn answer_request<H: DnsHandle, V: Verifier>(
         }
         Some(query) => query,
     };
-    look_up_by_request(alloc, judge, handle, query, request)
+    look_up_by_request(alloc, judge, handle, query, request, iterations)
 }
 
 // A query, and no notify, update or other operation.

@@ -2,17 +2,16 @@
 use Rattle.std.proofs.Common.{ℕ, ◌≡◌, ◌∙◌, List, Option, None, Some, Ok, sym, ap, subst}
 use Rattle.dns_model.specs.SoundAnswers.{Told}
 use Rattle.dns_model.specs.Trails.{AskedValue, EndingValue, Answered, Denied}
-use Rattle.dns_model.specs.Trails as trails
 use Rattle.dns_laws.proofs.CompleteLemmas.{HasReply, valid_reply}
 use Rattle.dns_handle.specs.Errors.{ErrorValue}
 use Rattle.dns_validation.specs.Received.{received}
 use Rattle.dns_lookup.specs.Completing.{first_told}
-use Rattle.dns_lookup.proofs.CompletingLemmas.{IsProved, replies_prove, denied_never, failed_never, answer_secure}
+use Rattle.dns_lookup.proofs.CompletingLemmas.{IsProved, replies_prove, denied_never, answer_secure}
 use Rattle.dns_report.specs.declared.parts.Parts.{Parts}
 use Rattle.dns_session.specs.SessionValue.{SessionValue}
 use Rattle.dns_session.specs.Grammar.{session_of}
-use Rattle.dns_run.specs.Answering.{session_replies, session_depth, IsSessionTrail}
-use Rattle.dns_run.specs.Causes.{FaultCause, NoMessage, OtherClass, NotJudged, NotDenied}
+use Rattle.dns_run.specs.Answering.{session_replies, session_depth, session_limits, IsSessionTrail}
+use Rattle.dns_run.specs.Causes.{FaultCause, NoMessage, OtherClass, NotDenied}
 use Rattle.dns_run.specs.Completing.{IsValid, EndsSecurely, Shown, Stopped}
 use Rattle.dns_run.specs.Outcomes.{IsTrailReport, IsFault}
 use Rattle.dns_run.specs.declared.form.Form.{Form}
@@ -29,7 +28,7 @@ session_proved : (s : SessionValue) (trail : List AskedValue) (ending : EndingVa
     → IsProved (session_judge s) (session_replies s) s.query trail ending
 session_proved s trail ending valid is =
     replies_prove (session_judge s) (session_replies s)
-    (session_depth s) s.query trail is.top ending is.derived is.last is.query is.ends is.from valid
+    (session_limits s) s.query trail is.top ending is.derived is.last is.query is.ends is.from valid
 
 -- the records that a valid session replies to its query
 session_reply_of : (s : SessionValue) → IsValid s → HasReply (first_told (session_replies s)) s.query
@@ -48,7 +47,6 @@ no_fault s error valid (NoMessage h) =
 no_fault s error valid (OtherClass g) =
     let reply = session_reply_of s valid in
     own_class s reply.told error (records_of s reply.told reply.heard) reply.own g
-no_fault s error valid (NotJudged u is) = failed_never ((session_proved s u.trail trails.Failed valid u.is).ends)
 no_fault s error valid (NotDenied response proof given is) =
     denied_never proof ((session_proved s response.trail (Denied proof) valid given.trail).ends)
 

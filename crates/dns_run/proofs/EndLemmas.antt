@@ -2,13 +2,12 @@
 use Rattle.std.proofs.Common.{ℕ, ◌≡◌, ◌≢◌, ◌≤◌, ◌∙◌, Bool, true, false, zero, suc, List, Option, None, Some, Result, Ok, Err, refl, sym, ap, subst, arith}
 use Rattle.std.specs.Io.KnownBytes.{Appends}
 use Rattle.dns_model.specs.SoundAnswers.{Told, ResponseValue}
-use Rattle.dns_model.specs.Trails as trails
 use Rattle.dns_model.specs.Trails.{Answered, Denied}
 use Rattle.dns_rules.specs.DerivationParts.{is_foreign}
 use Rattle.dns_rules.specs.Outcome.{foreign_record}
-use Rattle.dns_handle.specs.Errors.{Reply, ErrorValue, ForeignClassRecord}
+use Rattle.dns_handle.specs.Errors.{ErrorValue, ForeignClassRecord}
 use Rattle.dns_lookup.specs.LookupParts.{told_of}
-use Rattle.dns_lookup.specs.Causes.{ends_trail, has_response, tells_nsec3}
+use Rattle.dns_lookup.specs.Causes.{has_response}
 use Rattle.dns_report.specs.declared.parts.Parts.{Parts}
 use Rattle.dns_report.specs.Faults.{fault_text}
 use Rattle.dns_session.specs.SessionValue.{SessionValue}
@@ -18,9 +17,9 @@ use Rattle.dns_run.specs.declared.form.Form.{Form}
 use Rattle.dns_run.specs.Soundness.{IsSound}
 use Rattle.dns_run.specs.Replies.{session_told, session_message, session_records}
 use Rattle.dns_run.specs.Answering.{IsSessionAnswer}
-use Rattle.dns_run.specs.Causes.{HasNoMessage, HasForeign, FaultCause, NoMessage, OtherClass, NotJudged, NotDenied}
+use Rattle.dns_run.specs.Causes.{HasNoMessage, HasForeign, FaultCause, NoMessage, OtherClass, NotDenied}
 use Rattle.dns_run.specs.Outcomes.{IsTrailReport, IsFault, Derives, Fails, Refuses, Wrote, Leaves}
-use Rattle.dns_run.specs.Runs.{EndsWith, Ended, Stopped, EndsAsJudged, EndsAsSession, EndsByGrammar, EndsByWords, IfSession, IfBadLine}
+use Rattle.dns_run.specs.Runs.{EndsWith, Ended, Stopped, EndsAsAnswered, EndsAsSession, EndsByGrammar, EndsByWords, IfSession, IfBadLine}
 use Rattle.dns_run.specs.Runs as runs
 use Rattle.dns_run.proofs.ReplyLemmas.{err_same}
 use Rattle.dns_run.proofs.TopLemmas.{some_same, trail_foreign}
@@ -123,7 +122,6 @@ no_message_only : (s : SessionValue) (error x : ErrorValue) → HasNoMessage s e
 no_message_only s error x h (NoMessage other) =
     err_same (session_told s) x error other.told h.told
 no_message_only s error x h (OtherClass f) = absurd (no_records s f.records f.told h.silent)
-no_message_only s error x h (NotJudged u is) = absurd (no_records s u.records u.told h.silent)
 no_message_only s error x h (NotDenied response proof given is) =
     absurd (sound_message s response given.sound h.silent)
 
@@ -141,11 +139,6 @@ foreign_only s error x f (OtherClass g) =
     let first : g.first ≡ f.first =
     some_same _ g.first f.first (ap (foreign_record s.query) (sym records) ∙ g.found) f.found in
     g.named ∙ ap (λ r. ForeignClassRecord r.owner r.class r.rtype) first ∙ sym f.named
-foreign_only s error x f (NotJudged u is) =
-    absurd (not_true (trail_foreign s u.trail trails.Failed f.records f.first u.is f.told f.found))
-  where
-    not_true : is_foreign f.first trails.Failed ≡ true → ⊥
-    not_true h = cc
 foreign_only s error x f (NotDenied response proof given is) =
     absurd (not_true (trail_foreign s response.trail (Denied proof) f.records f.first given.trail f.told f.found))
   where
@@ -173,35 +166,19 @@ own_class s records x told own g =
     clash h = cc
 
 -- with records of the query's class alone
-denial_caused : (s : SessionValue) (records : Told) (x : ErrorValue) → session_records s ≡ Some records
-    → foreign_record s.query records ≡ None
-    → FaultCause s x → ends_trail (Err x) ≡ true
-denial_caused s records x told own (NoMessage other) = absurd (no_records s records told other.silent)
-denial_caused s records x told own (OtherClass g) = absurd (own_class s records x told own g)
-denial_caused s records x told own (NotJudged u is) = ap (λ y. ends_trail (Err y)) is
-denial_caused s records x told own (NotDenied response proof given is) = ap (λ y. ends_trail (Err y)) is
-
--- and without an NSEC3 among them
 response_caused : (s : SessionValue) (records : Told) (x : ErrorValue) → session_records s ≡ Some records
     → foreign_record s.query records ≡ None
-    → tells_nsec3 records ≡ false → FaultCause s x → has_response (Err x) ≡ true
-response_caused s records x told own none (NoMessage other) = absurd (no_records s records told other.silent)
-response_caused s records x told own none (OtherClass g) = absurd (own_class s records x told own g)
-response_caused s records x told own none (NotJudged u is) =
-    absurd (clash (sym none ∙ ap tells_nsec3 (some_same _ records u.records told u.told) ∙ u.has))
-  where
-    clash : false ≡ true → ⊥
-    clash h = cc
-response_caused s records x told own none (NotDenied response proof given is) = ap (λ y. has_response (Err y)) is
+    → FaultCause s x → has_response (Err x) ≡ true
+response_caused s records x told own (NoMessage other) = absurd (no_records s records told other.silent)
+response_caused s records x told own (OtherClass g) = absurd (own_class s records x told own g)
+response_caused s records x told own (NotDenied response proof given is) = ap (λ y. has_response (Err y)) is
 
--- errors are of a kind in which each cause of a session is
-ends_judged : (s : SessionValue) (is_kind : Reply → Bool) (status : ℕ) (before now : Option (List ℕ))
-    → Session s status before now
-    → ((x : ErrorValue) → FaultCause s x → is_kind (Err x) ≡ true) → EndsAsJudged is_kind status before now
-ends_judged s is_kind status before now (GivesReport answer given is) kind = runs.Reported is
-ends_judged s is_kind status before now (GivesFault x cause is written) kind =
-    runs.Refused x (kind x cause) (Ended is written)
-ends_judged s is_kind status before now (GivesLater late) kind = runs.Late late
+ends_answered : (s : SessionValue) (status : ℕ) (before now : Option (List ℕ)) → Session s status before now
+    → ((x : ErrorValue) → FaultCause s x → has_response (Err x) ≡ true) → EndsAsAnswered status before now
+ends_answered s status before now (GivesReport answer given is) caused = runs.Reported is
+ends_answered s status before now (GivesFault x cause is written) caused =
+    runs.Refused x (caused x cause) (Ended is written)
+ends_answered s status before now (GivesLater late) caused = runs.Late late
 
 -- what a run over a session ends with
 ends_session : (s : SessionValue) (status : ℕ) (before now : Option (List ℕ)) → Session s status before now
@@ -209,9 +186,8 @@ ends_session : (s : SessionValue) (status : ℕ) (before now : Option (List ℕ)
 ends_session s status before now ended = record {
   no_message = λ error none. ends_fault s status before now error (only_no_message s error none) ended;
   other_class = λ error foreign. ends_fault s status before now error (only_foreign s error foreign) ended;
-  judged = λ records told own. ends_judged s ends_trail status before now ended (λ x cause. denial_caused s records x told own cause);
-  answered = λ records told own none.
-      ends_judged s has_response status before now ended (λ x cause. response_caused s records x told own none cause);
+  answered = λ records told own.
+      ends_answered s status before now ended (λ x cause. response_caused s records x told own cause);
 }
 
 pub ends_as_session : (shows : Parts) (status : ℕ) (told before now : Option (List ℕ))

@@ -4,9 +4,9 @@ use Rattle.dns_model.specs.Keys.{anchored}
 use Rattle.dns_model.specs.Records.{Rr, Question}
 use Rattle.dns_model.specs.SoundAnswers.{Told, told_by, Sound, ResponseValue}
 use Rattle.dns_model.specs.Chains.{judge}
-use Rattle.dns_model.specs.Trails.{AskedValue, EndingValue, Answered, Failed, Denied}
+use Rattle.dns_model.specs.Trails.{AskedValue, EndingValue, Answered, Denied}
+use Rattle.dns_rules.specs.Asking.{Limits}
 use Rattle.dns_rules.specs.Derivation.{derivation, in_send_order}
-use Rattle.dns_rules.specs.DerivationParts.{is_foreign}
 use Rattle.dns_rules.specs.Outcome.{foreign_record}
 use Rattle.dns_laws.specs.Ground.{HasGrounds}
 use Rattle.dns_handle.specs.Errors as seen
@@ -19,28 +19,33 @@ use Rattle.dns_handle.specs.declared.handle.DnsHandle as handle
 use Rattle.dns_handle.specs.declared.notice.Notice.TheVariants.{NotJudgedYet, NoQueryInRequest, ExpiredRrsig, WrongDnskey, WrongRrsig, ExceededMaxValidationDepth, ExceededMaxNestedQueries, IdSpaceExhausted, SendQueueFull, PolledAfterCompletion, NotAllBytesSent}
 use Rattle.dns_validation.specs.Received.{received_message, received}
 use Rattle.dns_handle.specs.declared.request.DnsRequestOptions.{DnsRequestOptions}
+use Rattle.dns_evidence.specs.declared.limits.IterationLimits.{IterationLimits}
 use Rattle.dns_evidence.specs.declared.verifier.Verifier as verifier
 use Rattle.dns_recorded.specs.Recording.{RecordedValue, replies_of}
 use Rattle.dns_evidence.specs.Listing.{ListedValue, answers_of}
 use Rattle.dns_lookup.specs.declared.handle.DnssecDnsHandle.{DnssecDnsHandle}
-use Rattle.dns_lookup.specs.Calls.{Call, inner_of, anchors_of, verifier_of, call_of}
+use Rattle.dns_lookup.specs.Calls.{Call, inner_of, anchors_of, verifier_of, iterations_of, limits_of_call, call_of}
+use Rattle.dns_lookup.specs.Limiting.{default_iterations}
 use Rattle.dns_lookup.specs.Sends.{IsFromReplies}
-use Rattle.dns_lookup.specs.Causes.{sees_nsec3, tells_nsec3, has_response, PassedOn, PassesOn, NamesForeign, ForeignNamed, IsUnjudged, HasItsCause, JudgesTold, AnswersTold}
+use Rattle.dns_lookup.specs.Causes.{PassedOn, PassesOn, NamesForeign, ForeignNamed, HasItsCause, AnswersTold}
 use Rattle.dns_lookup.specs.LookupAnswers.{UnlessNoMemory, OfAnswer, IsSoundAnswer, IsTrail, HasMarksOfTrail, IsExplained, ShowsItsDenial, DeniesQuery}
 use Rattle.dns_session.specs.SessionValue.{SessionValue}
 use Rattle.dns_run.specs.Replies.{recorded, session_told, session_records}
 use Rattle.dns_run.specs.Soundness.{listing, session_judge, IsSound}
-use Rattle.dns_run.specs.Answering.{recorded_by, session_replies, session_depth, IsSessionTrail, IsSessionAnswer}
-use Rattle.dns_run.specs.Causes.{HasNoMessage, HasUnjudged, FaultCause, NoMessage, OtherClass, NotJudged, NotDenied, AnswersSession}
+use Rattle.dns_run.specs.Answering.{recorded_by, session_replies, session_depth, session_limits, IsSessionTrail, IsSessionAnswer}
+use Rattle.dns_run.specs.Causes.{HasNoMessage, FaultCause, NoMessage, OtherClass, NotDenied, AnswersSession}
 use Rattle.dns_run.proofs.JudgeLemmas.{judge_plain}
 use Rattle.dns_run.proofs.ReplyLemmas.{err_same, session_replied}
-use Rattle.dns_run.proofs.TopLemmas.{trail_foreign, trail_seen}
+
+-- how far asks of this depth go that count so many iterations
+abbrev limits_by : ℕ → IterationLimits → Limits
+limits_by depth iterations = record { depth = depth; soft = iterations.soft; hard = iterations.hard }
 
 -- the lookup that a session asks for
 pub record IsSessionCall {H : Type 0} (meanings : handle.Ghosts H) (s : SessionValue) (call : Call H) : Type 0 where
   pub judge : call.judge ≡ session_judge s
   pub query : call.query ≡ s.query
-  pub depth : call.options.max_request_depth ≡ session_depth s
+  pub limits : limits_of_call call ≡ session_limits s
   pub moment : call.now ≡ s.moment
   pub told : meanings.told call.old ≡ Some (session_replies s)
 
@@ -51,8 +56,8 @@ pub session_trail : {H : Type 0} (meanings : handle.Ghosts H) (s : SessionValue)
     → IsSessionCall meanings s call → IsTrail meanings call trail ending → IsSessionTrail s trail ending
 session_trail meanings s call trail ending c is = record {
   derived =
-      ap (λ j. derivation j (session_depth s) trail) (sym c.judge)
-      ∙ ap (λ d. derivation call.judge d trail) (sym c.depth) ∙ is.derived;
+      ap (λ j. derivation j (session_limits s) trail) (sym c.judge)
+      ∙ ap (λ limits. derivation call.judge limits trail) (sym c.limits) ∙ is.derived;
   top = is.top;
   last = is.last;
   query = is.query ∙ c.query;
@@ -110,12 +115,11 @@ pub record SaysOf {H : Type 0} (meanings : handle.Ghosts H) (call : Call H) (ans
 session_response : {H : Type 0} (meanings : handle.Ghosts H) (s : SessionValue) (call : Call H) (a : ResponseValue)
     (ending : EndingValue)
     → IsSessionCall meanings s call → IsSoundAnswer meanings call a → IsTrail meanings call a.trail ending
-    → IsExplained call.judge.answers call.now a → sees_nsec3 a.trail ≡ false → IsSessionAnswer s a ending
-session_response meanings s call a ending c sound trail explained judged = record {
+    → IsExplained call.judge.answers call.now a → IsSessionAnswer s a ending
+session_response meanings s call a ending c sound trail explained = record {
   sound = session_sound meanings s call a c sound;
   trail = session_trail meanings s call a.trail ending c trail;
   marks = subst (λ now. HasMarksOfTrail now a) c.moment explained.marks;
-  judged = judged;
   grounds = subst (λ j. HasGrounds j.answers a.trail) c.judge explained.grounds;
   denials = explained.denials;
 }
@@ -123,12 +127,12 @@ session_response meanings s call a ending c sound trail explained judged = recor
 session_answered : {H : Type 0} (meanings : handle.Ghosts H) (s : SessionValue) (call : Call H) (answer : Reply)
     → IsSessionCall meanings s call → SaysOf meanings call answer → OfAnswer answer (IsSessionAnswer s)
 session_answered meanings s call (Ok a) c says =
-    session_response meanings s call a (Answered a.denial) c says.sound says.trail says.explained says.caused.judged
+    session_response meanings s call a (Answered a.denial) c says.sound says.trail says.explained
 session_answered meanings s call (Err Busy) c says = tt
 session_answered meanings s call (Err (Dns (ResponseCode code))) c says = tt
 session_answered meanings s call (Err (Dns (NoRecordsFound missing))) c says = tt
 session_answered meanings s call (Err (Dns (Nsec asked response proof))) c says =
-    session_response meanings s call response (Denied proof) c says.sound says.trail says.explained says.caused.judged
+    session_response meanings s call response (Denied proof) c says.sound says.trail says.explained
 session_answered meanings s call (Err (Dns DnssecBogus)) c says = tt
 session_answered meanings s call (Err (Message notice)) c says = tt
 session_answered meanings s call (Err (Msg text)) c says = tt
@@ -175,45 +179,6 @@ foreign_cause meanings s call e c names =
       named = names.named;
     })
 
--- what a session's reply must be answered with, where it isn't judged yet
-abbrev Unanswered : SessionValue → Type 0
-Unanswered s = AnswersTold (Some (session_replies s)) s.query (Err (Message NotJudgedYet))
-
--- the records of a session that isn't judged yet have an NSEC3 among them
-nsec3_told : (s : SessionValue) (trail : List AskedValue) → IsSessionTrail s trail Failed → Unanswered s
-    → (records : Told)
-    → session_records s ≡ Some records → (foreign : Option Rr) → foreign_record s.query records ≡ foreign
-    → (has : Bool) → tells_nsec3 records ≡ has → tells_nsec3 records ≡ true
-nsec3_told s trail is answers records told (Some r) found has tells =
-    absurd (not_true (trail_foreign s trail Failed records r is told found))
-  where
-    not_true : is_foreign r Failed ≡ true → ⊥
-    not_true h = cc
-nsec3_told s trail is answers records told None own true tells = tells
-nsec3_told s trail is answers records told None own false tells =
-    absurd (not_true (answers records (ap received (session_replied s) ∙ told) own tells))
-  where
-    not_true : has_response (Err (Message NotJudgedYet)) ≡ true → ⊥
-    not_true h = cc
-
-unjudged_by : (s : SessionValue) (trail : List AskedValue) → IsSessionTrail s trail Failed → sees_nsec3 trail ≡ true
-    → Unanswered s
-    → (o : Option Told) → session_records s ≡ o → HasUnjudged s
-unjudged_by s trail is sees answers None none = absurd (trail_seen s trail Failed is sees none)
-unjudged_by s trail is sees answers (Some records) told = record {
-  trail = trail;
-  is = is;
-  sees = sees;
-  records = records;
-  told = told;
-  has = nsec3_told s trail is answers records told (foreign_record s.query records) refl (tells_nsec3 records) refl;
-}
-
-unjudged_cause : {H : Type 0} (meanings : handle.Ghosts H) (s : SessionValue) (call : Call H)
-    → IsSessionCall meanings s call → Unanswered s → IsUnjudged meanings call → HasUnjudged s
-unjudged_cause meanings s call c answers u =
-    unjudged_by s u.trail (session_trail meanings s call u.trail Failed c u.is) u.sees answers (session_records s) refl
-
 dns_cause : {H : Type 0} (meanings : handle.Ghosts H) (s : SessionValue) (call : Call H) (e : DnsErrorValue)
     → IsSessionCall meanings s call → SaysOf meanings call (Err (Dns e)) → Dns e ≢ seen.NoMemory → FaultCause s (Dns e)
 dns_cause meanings s call (ResponseCode code) c says own =
@@ -227,62 +192,56 @@ dns_cause meanings s call DnssecBogus c says own = passed_cause meanings s call 
 
 error_cause : {H : Type 0} (meanings : handle.Ghosts H) (s : SessionValue) (call : Call H) (e : ErrorValue)
     → IsSessionCall meanings s call → SaysOf meanings call (Err e)
-    → AnswersTold (Some (session_replies s)) s.query (Err e)
     → e ≢ seen.NoMemory → FaultCause s e
-error_cause meanings s call Busy c says answers own =
+error_cause meanings s call Busy c says own =
     passed_cause meanings s call _ c own (says.caused.passed _ refl refl)
-error_cause meanings s call (Dns error) c says answers own = dns_cause meanings s call error c says own
-error_cause meanings s call (Message NotJudgedYet) c says answers own = elim (says.caused.unjudged refl) [
-  | inl p ↦ passed_cause meanings s call _ c own p
-  | inr u ↦ NotJudged (unjudged_cause meanings s call c answers u) refl
-]
-error_cause meanings s call (Message NoQueryInRequest) c says answers own =
+error_cause meanings s call (Dns error) c says own = dns_cause meanings s call error c says own
+error_cause meanings s call (Message NotJudgedYet) c says own =
     passed_cause meanings s call _ c own (says.caused.passed _ refl refl)
-error_cause meanings s call (Message ExpiredRrsig) c says answers own =
+error_cause meanings s call (Message NoQueryInRequest) c says own =
     passed_cause meanings s call _ c own (says.caused.passed _ refl refl)
-error_cause meanings s call (Message WrongDnskey) c says answers own =
+error_cause meanings s call (Message ExpiredRrsig) c says own =
     passed_cause meanings s call _ c own (says.caused.passed _ refl refl)
-error_cause meanings s call (Message WrongRrsig) c says answers own =
+error_cause meanings s call (Message WrongDnskey) c says own =
     passed_cause meanings s call _ c own (says.caused.passed _ refl refl)
-error_cause meanings s call (Message ExceededMaxValidationDepth) c says answers own =
+error_cause meanings s call (Message WrongRrsig) c says own =
     passed_cause meanings s call _ c own (says.caused.passed _ refl refl)
-error_cause meanings s call (Message ExceededMaxNestedQueries) c says answers own =
+error_cause meanings s call (Message ExceededMaxValidationDepth) c says own =
     passed_cause meanings s call _ c own (says.caused.passed _ refl refl)
-error_cause meanings s call (Message IdSpaceExhausted) c says answers own =
+error_cause meanings s call (Message ExceededMaxNestedQueries) c says own =
     passed_cause meanings s call _ c own (says.caused.passed _ refl refl)
-error_cause meanings s call (Message SendQueueFull) c says answers own =
+error_cause meanings s call (Message IdSpaceExhausted) c says own =
     passed_cause meanings s call _ c own (says.caused.passed _ refl refl)
-error_cause meanings s call (Message PolledAfterCompletion) c says answers own =
+error_cause meanings s call (Message SendQueueFull) c says own =
     passed_cause meanings s call _ c own (says.caused.passed _ refl refl)
-error_cause meanings s call (Message NotAllBytesSent) c says answers own =
+error_cause meanings s call (Message PolledAfterCompletion) c says own =
     passed_cause meanings s call _ c own (says.caused.passed _ refl refl)
-error_cause meanings s call (Msg text) c says answers own =
+error_cause meanings s call (Message NotAllBytesSent) c says own =
     passed_cause meanings s call _ c own (says.caused.passed _ refl refl)
-error_cause meanings s call NoConnections c says answers own =
+error_cause meanings s call (Msg text) c says own =
     passed_cause meanings s call _ c own (says.caused.passed _ refl refl)
-error_cause meanings s call (Proto error) c says answers own =
+error_cause meanings s call NoConnections c says own =
     passed_cause meanings s call _ c own (says.caused.passed _ refl refl)
-error_cause meanings s call (Io kind) c says answers own =
+error_cause meanings s call (Proto error) c says own =
     passed_cause meanings s call _ c own (says.caused.passed _ refl refl)
-error_cause meanings s call Timeout c says answers own =
+error_cause meanings s call (Io kind) c says own =
     passed_cause meanings s call _ c own (says.caused.passed _ refl refl)
-error_cause meanings s call QueryCaseMismatch c says answers own =
+error_cause meanings s call Timeout c says own =
     passed_cause meanings s call _ c own (says.caused.passed _ refl refl)
-error_cause meanings s call (ForeignClassRecord owner class rtype) c says answers own = elim (says.caused.foreign owner class rtype refl) [
+error_cause meanings s call QueryCaseMismatch c says own =
+    passed_cause meanings s call _ c own (says.caused.passed _ refl refl)
+error_cause meanings s call (ForeignClassRecord owner class rtype) c says own = elim (says.caused.foreign owner class rtype refl) [
   | inl p ↦ passed_cause meanings s call _ c own p
   | inr names ↦ foreign_cause meanings s call _ c names
 ]
-error_cause meanings s call Truncated c says answers own =
+error_cause meanings s call Truncated c says own =
     passed_cause meanings s call _ c own (says.caused.passed _ refl refl)
-error_cause meanings s call seen.NoMemory c says answers own = absurd (own refl)
+error_cause meanings s call seen.NoMemory c says own = absurd (own refl)
 
 session_caused : {H : Type 0} (meanings : handle.Ghosts H) (s : SessionValue) (call : Call H) (answer : Reply)
-    → IsSessionCall meanings s call → SaysOf meanings call answer
-    → AnswersTold (Some (session_replies s)) s.query answer
-    → (e : ErrorValue) → answer ≡ Err e → e ≢ seen.NoMemory → FaultCause s e
-session_caused meanings s call answer c says answers e is own =
-    error_cause meanings s call e c (subst (λ x. SaysOf meanings call x) is says)
-    (subst (λ x. AnswersTold (Some (session_replies s)) s.query x) is answers) own
+    → IsSessionCall meanings s call → SaysOf meanings call answer → (e : ErrorValue) → answer ≡ Err e → e ≢ seen.NoMemory → FaultCause s e
+session_caused meanings s call answer c says e is own =
+    error_cause meanings s call e c (subst (λ x. SaysOf meanings call x) is says) own
 
 -- ---- the whole
 
@@ -296,22 +255,18 @@ reply_ok (Err e) Fact fact = tt
 pub record Known (told : Option Replies) (q : Question) (answer : Reply) : Type 0 where
   pub passes : PassesOn told q answer
   pub foreign : ForeignNamed told q answer
-  pub judges : JudgesTold told q answer
   pub answers : AnswersTold told q answer
 
 pub all_known : (told : Option Replies) (q : Question) (result : Result ResponseValue NetError)
     → UnlessNoMemory result (PassesOn told q (reply_of result))
     → UnlessNoMemory result (ForeignNamed told q (reply_of result))
-    → UnlessNoMemory result (JudgesTold told q (reply_of result))
     → UnlessNoMemory result (AnswersTold told q (reply_of result))
     → UnlessNoMemory result (Known told q (reply_of result))
-all_known told q (Ok x) p f j a = record { passes = p; foreign = f; judges = j; answers = a }
-all_known told q (Err e) (inl memory) f j a = inl memory
-all_known told q (Err e) (inr p) (inl memory) j a = inl memory
-all_known told q (Err e) (inr p) (inr f) (inl memory) a = inl memory
-all_known told q (Err e) (inr p) (inr f) (inr j) (inl memory) = inl memory
-all_known told q (Err e) (inr p) (inr f) (inr j) (inr a) =
-    inr (record { passes = p; foreign = f; judges = j; answers = a })
+all_known told q (Ok x) p f a = record { passes = p; foreign = f; answers = a }
+all_known told q (Err e) (inl memory) f a = inl memory
+all_known told q (Err e) (inr p) (inl memory) a = inl memory
+all_known told q (Err e) (inr p) (inr f) (inl memory) = inl memory
+all_known told q (Err e) (inr p) (inr f) (inr a) = inr (record { passes = p; foreign = f; answers = a })
 
 session_known : {H : Type 0} (meanings : handle.Ghosts H) (s : SessionValue) (call : Call H) (answer : Reply)
     → IsSessionCall meanings s call → SaysOf meanings call answer → Known (meanings.told call.old) call.query answer
@@ -322,10 +277,9 @@ session_known meanings s call answer c says given =
     record {
       answered = session_answered meanings s call answer c says;
       denies = session_denies meanings s call answer c says;
-      caused = session_caused meanings s call answer c says known.answers;
+      caused = session_caused meanings s call answer c says;
       passes = known.passes;
       foreign = known.foreign;
-      judges = known.judges;
       answers = known.answers;
     }
 
@@ -348,17 +302,18 @@ pub answers_looked : (meanings : handle.Ghosts RecordedValue) (tests : verifier.
     → tests.answers (verifier_of old) ≡ answers_of (verifier_of old)
     → inner_of old ≡ recorded_by s.by_turn s.replies → anchored (anchors_of old) ≡ anchored s.anchors
     → answers_of (verifier_of old) ≡ answers_of (listing s.algorithms s.accepts) → q ≡ s.query
-    → options ≡ record plain_options { max_request_depth = session_depth s } → now ≡ s.moment
+    → iterations_of old ≡ default_iterations → options ≡ record plain_options { max_request_depth = session_depth s } → now ≡ s.moment
     → SaysOf meanings (call_of tests old new q options now) (reply_of result)
     → UnlessNoMemory result (Known (meanings.told (inner_of old)) q (reply_of result))
     → UnlessNoMemory result (AnswersSession s (reply_of result))
-answers_looked meanings tests s old new q options now result told tested over by listed asked deep timed says known =
+answers_looked meanings tests s old new q options now result told tested over by listed asked counted deep timed says known =
     answers_session meanings s (call_of tests old new q options now) result
     (record {
       judge = ap (λ n. judge (tests.answers (verifier_of old)) (anchors_of old) n) timed
           ∙ judge_plain s (tests.answers (verifier_of old)) (anchors_of old) (tested ∙ listed) by;
       query = asked;
-      depth = ap (λ o. o.max_request_depth) deep;
+      limits = ap (λ (o : DnsRequestOptions). limits_by o.max_request_depth (iterations_of old)) deep
+          ∙ ap (limits_by (session_depth s)) counted;
       moment = timed;
       told = told ∙ ap (λ u. Some (replies_of u)) over;
     })

@@ -1,25 +1,22 @@
 -- How the last step of a session's trail ends: by what the session replies to its query.
-use Rattle.std.proofs.Common.{◌≡◌, ◌∙◌, ◌-◌, ◌++◌, Bool, true, false, List, [], map, length, take, Option, None, Some, sym, ap, subst}
-use Rattle.std.specs.List.{list_any}
-use Rattle.std.specs.Option.{option_map_or}
+use Rattle.std.proofs.Common.{◌≡◌, ◌∙◌, ◌-◌, ◌++◌, Bool, true, List, [], map, length, take, Option, None, Some, sym, ap, subst}
 use Rattle.std.proofs.lemmas.Bool.{and_parts}
 use Rattle.dns_model.specs.Records.{Rr}
 use Rattle.dns_model.specs.SoundAnswers.{Told}
-use Rattle.dns_model.specs.Trails.{AskedValue, HeardValue, Records, Fault, EndingValue}
-use Rattle.dns_rules.specs.Asking.{depth_limit, judged_part}
-use Rattle.dns_rules.specs.Derivation.{StepContext, with_entries, judged_sets, told_in, step_holds}
+use Rattle.dns_model.specs.Trails.{AskedValue, Records, EndingValue}
+use Rattle.dns_rules.specs.Asking.{effective}
+use Rattle.dns_rules.specs.Derivation.{StepContext, step_holds}
 use Rattle.dns_rules.specs.DerivationParts.{step_context_of, is_foreign, is_bare, judged_holds, step_holds_by}
-use Rattle.dns_rules.specs.Outcome.{is_unjudged, foreign_record}
+use Rattle.dns_rules.specs.Outcome.{foreign_record}
 use Rattle.dns_rules.proofs.DerivedLemmas.{Derived, derivation_parts, steps_hold_at, TopFirst, derivation_first}
 use Rattle.dns_handle.specs.Handles.{reply_to}
 use Rattle.dns_validation.specs.Received.{heard_from, says_none}
-use Rattle.dns_lookup.specs.Causes.{sees_nsec3}
 use Rattle.dns_lookup.specs.LookupParts.{heard_told}
 use Rattle.dns_lookup.specs.Sends.{IsFromReplies}
 use Rattle.dns_session.specs.SessionValue.{SessionValue}
 use Rattle.dns_run.specs.Replies.{recorded, session_told, session_records}
 use Rattle.dns_run.specs.Soundness.{session_judge}
-use Rattle.dns_run.specs.Answering.{session_replies, session_depth, IsSessionTrail}
+use Rattle.dns_run.specs.Answering.{session_replies, session_limits, IsSessionTrail}
 use Rattle.dns_run.proofs.ReplyLemmas.{session_replied}
 
 pub some_same : {X : Type 0} (o : Option X) (a b : X) → o ≡ Some a → o ≡ Some b → a ≡ b
@@ -49,18 +46,18 @@ is_top : (s : SessionValue) (trail : List AskedValue) (ending : EndingValue) →
     → IsTop s trail ending
 unfolding step_holds
 is_top s trail ending is =
-    let f : TopFirst trail = derivation_first (session_judge s) (session_depth s) trail is.derived in
-    let d : Derived (session_judge s) (session_depth s) trail =
-    derivation_parts (session_judge s) (session_depth s) trail is.derived in
-    let limit = depth_limit (session_depth s) in
+    let f : TopFirst trail = derivation_first (session_judge s) (session_limits s) trail is.derived in
+    let d : Derived (session_judge s) (session_limits s) trail =
+    derivation_parts (session_judge s) (session_limits s) trail is.derived in
+    let limits = effective (session_limits s) in
     record {
       step = is.top;
-      before = step_context_of (session_judge s) limit ([] ++ take (length trail - 1) trail) is.top;
+      before = step_context_of (session_judge s) limits ([] ++ take (length trail - 1) trail) is.top;
       query = is.query;
       ends = is.ends;
       judged = ap (λ step. step.judged) (some_same _ is.top f.top is.last f.last) ∙ f.judged;
       heard = top_heard s trail ending is f;
-      holds = steps_hold_at (session_judge s) limit [] trail (length trail - 1) is.top d.hold is.last;
+      holds = steps_hold_at (session_judge s) limits [] trail (length trail - 1) is.top d.hold is.last;
     }
 
 -- a judged step with records is judged by them
@@ -88,22 +85,3 @@ trail_foreign s trail ending records r is told found =
     ∙ foreign_ends t.before t.step records (foreign_record t.step.query records) r
     (ap (λ q. foreign_record q records) t.query ∙ found)
     (records_judged t.before t.step (says_none (session_told s)) (session_records s) records t.judged t.heard told t.holds)
-
--- a trail whose last step saw a Secure NSEC3 is of a session that has records
-pub trail_seen : (s : SessionValue) (trail : List AskedValue) (ending : EndingValue)
-    (is : IsSessionTrail s trail ending)
-    → sees_nsec3 trail ≡ true → session_records s ≡ None → ⊥
-trail_seen s trail ending is sees none =
-    let f : TopFirst trail = derivation_first (session_judge s) (session_depth s) trail is.derived in
-    let silent : is.top.reply ≡ Fault =
-    top_heard s trail ending is f ∙ ap (heard_told (says_none (session_told s))) none in
-    clash (sym (ap (sees_in is.top) silent) ∙ ap (λ o. option_map_or (λ top. list_any is_unjudged (judged_sets top)) o false) (sym is.last) ∙ sees)
-  where
-    -- what a step sees where it hears this
-    sees_in : AskedValue → HeardValue → Bool
-    sees_in step reply =
-        list_any is_unjudged
-        (option_map_or (λ told. with_entries (judged_part step.depth told) step.sets) (told_in reply) [])
-
-    clash : false ≡ true → ⊥
-    clash h = cc

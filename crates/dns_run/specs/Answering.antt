@@ -1,7 +1,8 @@
 -- The lookup that a session asks for: over its replies, with its keys and signatures, at its moment.
-use Rattle.std.specs.Prelude.{ℕ, ◌≡◌, Bool, true, false, List, map, unwrap_or, Some}
+use Rattle.std.specs.Prelude.{ℕ, ◌≡◌, Bool, true, List, map, unwrap_or, Some}
 use Rattle.dns_model.specs.SoundAnswers.{ResponseValue}
 use Rattle.dns_model.specs.Trails.{AskedValue, EndingValue}
+use Rattle.dns_rules.specs.Asking.{Limits}
 use Rattle.dns_rules.specs.Derivation.{derivation, top_step, in_send_order}
 use Rattle.dns_laws.specs.Ground.{HasGrounds}
 use Rattle.dns_laws.specs.Denials.{HasDenials}
@@ -9,7 +10,6 @@ use Rattle.dns_handle.specs.Handles.{Replies}
 use Rattle.dns_handle.specs.Requests.{plain_options}
 use Rattle.dns_recorded.specs.Recording.{RecordedValue}
 use Rattle.dns_lookup.specs.Sends.{IsFromReplies}
-use Rattle.dns_lookup.specs.Causes.{sees_nsec3}
 use Rattle.dns_lookup.specs.LookupAnswers.{HasMarksOfTrail}
 use Rattle.dns_session.specs.SessionValue.{ReplyValue, SessionValue}
 use Rattle.dns_run.specs.Replies.{recorded}
@@ -27,22 +27,25 @@ recorded_by by_turn replies = record { sends = 0; faults = 0; replies = map reco
 abbrev pub session_depth : SessionValue → ℕ
 session_depth s = unwrap_or s.depth plain_options.max_request_depth
 
+-- and how far validation goes: by 100 and 500 iterations of the hash of NSEC3 records
+abbrev pub session_limits : SessionValue → Limits
+session_limits s = record { depth = session_depth s; soft = 100; hard = 500 }
+
 -- a trail with this ending: a derivation by the session's keys, algorithms and accepted signatures at its moment, whose last
 -- step has the session's query, and whose steps heard what the session replies, in the order of the sends
 pub record IsSessionTrail (s : SessionValue) (trail : List AskedValue) (ending : EndingValue) : Type 0 where
-  pub derived : derivation (session_judge s) (session_depth s) trail ≡ true
+  pub derived : derivation (session_judge s) (session_limits s) trail ≡ true
   pub top : AskedValue
   pub last : top_step trail ≡ Some top
   pub query : top.query ≡ s.query
   pub ends : top.ending ≡ ending
   pub from : IsFromReplies (session_replies s) (in_send_order trail)
 
--- a sound answer with such a trail, whose last step has the answer's marks and saw no Secure NSEC3. In the trail what is Insecure
--- has its ground, and each step that ends with an answer shows what it denies
+-- a sound answer with such a trail, whose last step has the answer's marks. In the trail what is Insecure has its ground, and each
+-- step that ends with an answer shows what it denies
 pub record IsSessionAnswer (s : SessionValue) (answer : ResponseValue) (ending : EndingValue) : Type 0 where
   pub sound : IsSound s answer
   pub trail : IsSessionTrail s answer.trail ending
   pub marks : HasMarksOfTrail s.moment answer
-  pub judged : sees_nsec3 answer.trail ≡ false
   pub grounds : HasGrounds (session_judge s).answers answer.trail
   pub denials : HasDenials answer.trail

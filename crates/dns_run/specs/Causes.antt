@@ -1,17 +1,16 @@
 -- Why a session is answered with an error (RFC 4035, 4.3 and 5.4), and what its replies must be answered with.
-use Rattle.std.specs.Prelude.{◌≡◌, ◌≢◌, true, List, None, Some, Err, IfOk}
+use Rattle.std.specs.Prelude.{◌≡◌, ◌≢◌, None, Some, Err, IfOk}
 use Rattle.dns_model.specs.declared.proof.Proof.{Proof}
 use Rattle.dns_model.specs.Records.{Rr}
 use Rattle.dns_model.specs.SoundAnswers.{Told, ResponseValue}
-use Rattle.dns_model.specs.Trails.{AskedValue, Denied, Failed}
+use Rattle.dns_model.specs.Trails.{Denied}
 use Rattle.dns_rules.specs.Outcome.{foreign_record}
-use Rattle.dns_handle.specs.declared.notice.Notice.TheVariants.{NotJudgedYet}
-use Rattle.dns_handle.specs.Errors.{Reply, ErrorValue, Dns, Message, ForeignClassRecord, Nsec, NoMemory}
+use Rattle.dns_handle.specs.Errors.{Reply, ErrorValue, Dns, ForeignClassRecord, Nsec, NoMemory}
 use Rattle.dns_lookup.specs.LookupAnswers.{OfAnswer, ShowsItsDenial}
-use Rattle.dns_lookup.specs.Causes.{sees_nsec3, tells_nsec3, PassesOn, ForeignNamed, JudgesTold, AnswersTold}
+use Rattle.dns_lookup.specs.Causes.{PassesOn, ForeignNamed, AnswersTold}
 use Rattle.dns_session.specs.SessionValue.{SessionValue}
 use Rattle.dns_run.specs.Replies.{session_told, session_message, session_records}
-use Rattle.dns_run.specs.Answering.{session_replies, IsSessionTrail, IsSessionAnswer}
+use Rattle.dns_run.specs.Answering.{session_replies, IsSessionAnswer}
 
 -- the session's upstream answers this error to its query, which has no message: nothing came in time, the bytes are none, a
 -- server failed, or there was a fault
@@ -27,22 +26,10 @@ pub record HasForeign (s : SessionValue) (error : ErrorValue) : Type 0 where
   pub found : foreign_record s.query records ≡ Some first
   pub named : error ≡ ForeignClassRecord first.owner first.class first.rtype
 
--- there is a trail whose last step fails, since it saw a Secure NSEC3: what such records deny isn't judged yet (RFC 5155, 8). The
--- reply to the query has the record
-pub record HasUnjudged (s : SessionValue) : Type 0 where
-  pub trail : List AskedValue
-  pub is : IsSessionTrail s trail Failed
-  pub sees : sees_nsec3 trail ≡ true
-  pub records : Told
-  pub told : session_records s ≡ Some records
-  pub has : tells_nsec3 records ≡ true
-
 -- why a session is answered with an error
 pub data FaultCause (s : SessionValue) (error : ErrorValue) : Type 0 where
   NoMessage : HasNoMessage s error → FaultCause s error
   OtherClass : HasForeign s error → FaultCause s error
-  -- denial by NSEC3 would have to be judged
-  NotJudged : HasUnjudged s → error ≡ Message NotJudgedYet → FaultCause s error
   -- an answer is refused, with this proof, by a trail that ends so
   NotDenied : (response : ResponseValue) (proof : Proof) → IsSessionAnswer s response (Denied proof)
       → error ≡ Dns (Nsec s.query response proof) → FaultCause s error
@@ -55,5 +42,4 @@ pub record AnswersSession (s : SessionValue) (answer : Reply) : Type 0 where
   pub caused : (error : ErrorValue) → answer ≡ Err error → error ≢ NoMemory → FaultCause s error
   pub passes : PassesOn (Some (session_replies s)) s.query answer
   pub foreign : ForeignNamed (Some (session_replies s)) s.query answer
-  pub judges : JudgesTold (Some (session_replies s)) s.query answer
   pub answers : AnswersTold (Some (session_replies s)) s.query answer

@@ -1,10 +1,10 @@
 -- How a run ends: by its words, over a session (RFC 4035, 4.3 and 5.4), and over bytes that are none.
-use Rattle.std.specs.Prelude.{ℕ, ◌≡◌, ◌≢◌, ◌<◌, ◌≤◌, Bool, true, false, List, length, Option, None, Some, IfSome, Ok, Err}
+use Rattle.std.specs.Prelude.{ℕ, ◌≡◌, ◌≢◌, ◌<◌, ◌≤◌, true, List, length, Option, None, Some, IfSome, Ok, Err}
 use Rattle.std.specs.Io.KnownBytes.{Appends}
 use Rattle.dns_model.specs.SoundAnswers.{Told}
 use Rattle.dns_rules.specs.Outcome.{foreign_record}
-use Rattle.dns_handle.specs.Errors.{Reply, ErrorValue}
-use Rattle.dns_lookup.specs.Causes.{ends_trail, has_response, tells_nsec3}
+use Rattle.dns_handle.specs.Errors.{ErrorValue}
+use Rattle.dns_lookup.specs.Causes.{has_response}
 use Rattle.dns_report.specs.Faults.{fault_text}
 use Rattle.dns_session.specs.SessionValue.{SessionValue}
 use Rattle.dns_session.specs.Grammar.{session_of}
@@ -34,23 +34,20 @@ pub data EndsWith (status expected : ℕ) (before now : Option (List ℕ)) (text
   Ended : status ≡ expected → Appends before now text → EndsWith status expected before now text
   Stopped : 4 ≤ status → EndsWith status expected before now text
 
--- what is judged ends with its report, or with the line of an error of this kind; or with 4 or more
-pub data EndsAsJudged (is_kind : Reply → Bool) (status : ℕ) (before now : Option (List ℕ)) : Type 0 where
-  Reported : status ≡ 0 → EndsAsJudged is_kind status before now
-  Refused : (error : ErrorValue) → is_kind (Err error) ≡ true → EndsWith status 1 before now (fault_text error)
-      → EndsAsJudged is_kind status before now
-  Late : 4 ≤ status → EndsAsJudged is_kind status before now
+-- records are answered with a report, or with the line of a refused answer; or with 4 or more
+pub data EndsAsAnswered (status : ℕ) (before now : Option (List ℕ)) : Type 0 where
+  Reported : status ≡ 0 → EndsAsAnswered status before now
+  Refused : (error : ErrorValue) → has_response (Err error) ≡ true → EndsWith status 1 before now (fault_text error)
+      → EndsAsAnswered status before now
+  Late : 4 ≤ status → EndsAsAnswered status before now
 
 -- what a session must end with: without a message in reply to its query with that error's line, with a record of another class
--- with the line that names the first, and else as it is judged: with its report, the line of a refused answer, or that it isn't
--- judged yet, whatever nested asks meet; and where no NSEC3 record is in the reply, with one of the first two
+-- with the line that names the first, and else with its report or the line of a refused answer, whatever nested asks meet
 pub record EndsAsSession (s : SessionValue) (status : ℕ) (before now : Option (List ℕ)) : Type 0 where
   pub no_message : (error : ErrorValue) → HasNoMessage s error → EndsWith status 1 before now (fault_text error)
   pub other_class : (error : ErrorValue) → HasForeign s error → EndsWith status 1 before now (fault_text error)
-  pub judged : (records : Told) → session_records s ≡ Some records → foreign_record s.query records ≡ None
-      → EndsAsJudged ends_trail status before now
   pub answered : (records : Told) → session_records s ≡ Some records → foreign_record s.query records ≡ None
-      → tells_nsec3 records ≡ false → EndsAsJudged has_response status before now
+      → EndsAsAnswered status before now
 
 -- a fact of the session that told bytes are
 abbrev pub IfSession : Option (List ℕ) → (SessionValue → Type 0) → Type 0

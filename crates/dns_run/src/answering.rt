@@ -4,7 +4,8 @@ ghost use Rattle.dns_model.specs.Keys.{anchored};
 ghost use Rattle.dns_handle.specs.Replies.{reply_of};
 ghost use Rattle.dns_handle.specs.Requests.{plain_options};
 ghost use Rattle.dns_evidence.specs.Listing.{answers_of};
-ghost use Rattle.dns_lookup.specs.Calls.{inner_of, anchors_of, verifier_of};
+ghost use Rattle.dns_lookup.specs.Calls.{inner_of, anchors_of, verifier_of, iterations_of};
+ghost use Rattle.dns_lookup.specs.Limiting.{default_iterations};
 ghost use Rattle.dns_lookup.specs.LookupAnswers.{UnlessNoMemory};
 ghost use Rattle.dns_run.specs.Adding.{with_algorithms, with_accepts};
 ghost use Rattle.dns_run.specs.Answering.{recorded_by, session_depth};
@@ -57,6 +58,7 @@ pub fn session_lookup(alloc: Global, session: Session) -> Result<SessionLookup, 
     ensures anchors { IfOk result (λ l. anchored (anchors_of l.validator) ≡ anchored session.anchors) }
     ensures verifier { IfOk result (λ l. answers_of (verifier_of l.validator)
         ≡ answers_of (listing session.algorithms session.accepts)) }
+    ensures iterations { IfOk result (λ l. iterations_of l.validator ≡ default_iterations) }
     ensures query { IfOk result (λ l. l.query ≡ session.query) }
     ensures options { IfOk result (λ l. l.options
         ≡ record plain_options { max_request_depth = session_depth session }) }

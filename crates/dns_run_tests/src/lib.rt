@@ -1,10 +1,12 @@
 //! Tests of `run`, over some of the repository's rows and over an outside that fails, and the code of docs/LIBRARY.md. Tests of
 //! `check_trail`: trails that lookups of sessions left are derivations, and are none any more once they are turned in one place.
-//! And tests of how often a lookup and those checks ask the verifier.
+//! And tests of how often a lookup and those checks ask the verifier, and of the iterations that they count.
 //!
 //! They stand apart, since a crate with tests of its own is proved twice.
 #![tactic(auto)]
 
+#[cfg(test)]
+mod iteration_tests;
 #[cfg(test)]
 mod library_tests;
 #[cfg(test)]

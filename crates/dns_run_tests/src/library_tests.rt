@@ -1,6 +1,6 @@
 //! A lookup with an upstream and a verifier of one's own. docs/LIBRARY.md shows this file up to the tests, as a program.
 use crate::rows::check_row;
-use dns_chain::{DnssecDnsHandle, Judge, TrustAnchors, Validation, Verifier};
+use dns_chain::{DnssecDnsHandle, IterationLimits, Judge, TrustAnchors, Validation, Verifier};
 use dns_net::{
     DnsError, DnsHandle, DnsRequest, DnsRequestOptions, DnsResponse, Link, NetError, Trail,
 };
@@ -144,7 +144,9 @@ fn look_up_by_hand(alloc: Global, now: u64) -> Result<DnsResponse, NetError> {
         moment: now,
     };
     let query = query_of(alloc)?;
-    let mut validation = Validation::new(alloc, judge, query, DnsRequestOptions::default())?;
+    let options = DnsRequestOptions::default();
+    let limits = IterationLimits::DEFAULT;
+    let mut validation = Validation::new(alloc, judge, query, options, limits)?;
     drive(alloc, &mut validation, now);
     validation.into_answer().unwrap_or(Err(NetError::Timeout))
 }

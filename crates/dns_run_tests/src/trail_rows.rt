@@ -1,12 +1,12 @@
 //! Trails of sessions, and whether they are derivations.
 use crate::trail_sessions::{Given, text_of};
 use crate::trail_turns::{Turn, turn_steps};
-use dns_evidence::Listed;
+use dns_evidence::{IterationLimits, Limits, Listed};
 use dns_net::Trail;
 use dns_run::{session_anchors, session_answer, session_verifier};
 use dns_session::{Session, read_session};
 use dns_trail::check_trail;
-use dns_trust::{Limits, TrustAnchors};
+use dns_trust::TrustAnchors;
 use std::alloc::Global;
 use std::process::Abort;
 
@@ -45,8 +45,8 @@ pub(crate) struct Trusted {
 fn limits_of(depth: Option<u16>) -> Limits {
     Limits {
         depth: depth.unwrap_or(26),
-        soft: 0,
-        hard: 0,
+        soft: IterationLimits::DEFAULT.soft,
+        hard: IterationLimits::DEFAULT.hard,
     }
 }
 

@@ -9,7 +9,7 @@ returns c =
     let made = c.in_ok-made.made in
     let is = c.in_ok-made.ensures in
     answers_looked upstream.ghosts tests.ghosts c.args.session made.validator c.lookup-answer.new.self made.query made.options made.moment
-    c.lookup-answer.result refl refl is.upstream is.anchors is.verifier is.query is.options is.moment
+    c.lookup-answer.result refl refl is.upstream is.anchors is.verifier is.query is.iterations is.options is.moment
     (record {
       sound = c.lookup-answer.ensures.sound;
       trail = c.lookup-answer.ensures.trail;
@@ -18,5 +18,5 @@ returns c =
       denied = c.lookup-answer.ensures.denied;
       caused = c.lookup-answer.ensures.caused;
     })
-    (all_known _ _ c.lookup-answer.result c.lookup-answer.ensures.passes c.lookup-answer.ensures.names_foreign c.lookup-answer.ensures.judges
+    (all_known _ _ c.lookup-answer.result c.lookup-answer.ensures.passes c.lookup-answer.ensures.names_foreign
     c.lookup-answer.ensures.answers)

@@ -1,9 +1,8 @@
 use Rattle.dns_lookup.proofs.LookupAnswerLemmas.{lookup_sound, lookup_trail, lookup_denied}
 use Rattle.dns_lookup.proofs.CauseLemmas.{lookup_passes}
-use Rattle.dns_lookup.proofs.ForeignLemmas.{lookup_names_foreign, lookup_judges}
+use Rattle.dns_lookup.proofs.ForeignLemmas.{lookup_names_foreign, lookup_caused}
 use Rattle.dns_lookup.proofs.AnsweredLemmas.{lookup_answers}
 use Rattle.dns_lookup.proofs.DenyingLemmas.{lookup_explained, lookup_shows}
-use Rattle.dns_lookup.proofs.UnjudgedLemmas.{lookup_caused}
 use Rattle.dns_lookup.proofs.CompletingLemmas.{lookup_completes}
 use Rattle.dns_lookup.proofs.FrontLemmas.{unsent_alike}
 use Rattle.dns_lookup.proofs.handle.DnssecDnsHandle.lookup.Goals as goal
@@ -34,9 +33,6 @@ returns-clause-passes g c = lookup_passes g.H.DnsHandle _ _ c.look_up-reply.ensu
 
 pub returns-clause-names_foreign : goal.returns-clause-names_foreign
 returns-clause-names_foreign g c = lookup_names_foreign g.H.DnsHandle _ _ c.look_up-reply.ensures.lookup
-
-pub returns-clause-judges : goal.returns-clause-judges
-returns-clause-judges g c = lookup_judges g.H.DnsHandle _ _ c.look_up-reply.ensures.lookup
 
 pub returns-clause-answers : goal.returns-clause-answers
 returns-clause-answers g c = lookup_answers g.H.DnsHandle _ _ c.look_up-reply.ensures.lookup
