@@ -1,7 +1,8 @@
-"""How a judged step ends, for `model.py`: the table of answers (RFC 4035, 3.1.3, 5.3.4 and 5.4).
+"""How a judged step ends, for `model.py`: the table of answers (RFC 4035, 3.1.3, 5.3.4 and 5.4; RFC 5155, 8).
 
 An answer is a record at the name that is asked, of the type or a CNAME."""
 import denial
+import hashes
 from reading import folded, is_above, num_labels, rrsig_of
 from report import INSECURE, SIGNED
 
@@ -10,14 +11,17 @@ CNAME, DS, RRSIG, NSEC, NSEC3 = 5, 43, 46, 47, 50
 
 def ending(step, is_insecure):
     """The first row that holds. `is_insecure` searches for the zone of a name, and says whether it is Insecure."""
-    if any(rrset.kind == NSEC3 and rrset.mark == SIGNED for rrset in step.sets):
-        return "failed"
     answered = answered_by(step)
     is_plain = not any(is_wildcard_signature(record) for record in step.message.sections[0])
     excused = "absent insecure" if answered == denial.NO else "none"
     if is_plain and is_insecure_above(step):
         return excused
-    signers = {folded(decider_of(rrset).signer) for rrset in secure_denials(step)}
+    signers = signers_of(secure_denials(step))
+    hashing = signers_of(secure_denials(step, NSEC3))
+    if hashing:
+        proof = hashes.BOGUS if signers or len(hashing) > 1 else hashes.verdict(
+            step.name, step.kind, hashing.pop(), step.message.code, answered, secure_nsec3s(step))
+        return denied(answered) if proof == hashes.SECURE else f"denied {proof}"
     if signers:
         is_denied = len(signers) == 1 and denial.is_denied(
             step.name, step.kind, signers.pop(), step.message.code, answered, secure_nsecs(step))
@@ -69,13 +73,22 @@ def is_insecure_above(step):
     return bool(records) and sum(len(one.records) for one in sets if is_above(one.owner, step.name)) == len(records)
 
 
-def secure_denials(step):
-    return [one for one in step.sets if one.section == "authority" and one.kind == NSEC and one.mark == SIGNED]
+def secure_denials(step, kind=NSEC):
+    return [one for one in step.sets if one.section == "authority" and one.kind == kind and one.mark == SIGNED]
+
+
+def signers_of(sets):
+    return {folded(decider_of(rrset).signer) for rrset in sets}
 
 
 def secure_nsecs(step):
     """The Secure NSEC records of the authority section that can be read."""
     return [nsec for one in secure_denials(step) for nsec in map(denial.nsec_of, one.records) if nsec]
+
+
+def secure_nsec3s(step):
+    """The same of NSEC3 records."""
+    return [nsec3 for one in secure_denials(step, NSEC3) for nsec3 in map(hashes.nsec3_of, one.records) if nsec3]
 
 
 def is_unsigned_cut(nsec, zone):

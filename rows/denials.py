@@ -11,7 +11,7 @@ import sys
 import texts
 from scene import TRAIL, Scene, main
 from texts import A, DNSKEY, DS, MX, NS, NSEC, RRSIG, Record, Signed, number
-from unsigned import CHILD, CNAME, NSEC3, SOA, SOA_RDATA, ns_of
+from unsigned import CHILD, CNAME, SOA, SOA_RDATA, ns_of
 from walk import ADDRESS, EXAMPLE, KEYS, WWW
 
 NAME_ERROR, TXT = 3, 16
@@ -38,10 +38,6 @@ def bitmap(*types):
 
 def nsec(owner, following, *types):
     return Record(name(owner), NSEC, texts.wire(name(following)) + bitmap(*types, RRSIG, NSEC))
-
-
-# a record of the hash of some name
-HASHED = Record([b"0p9mhaveqvm6t7vbl5lop2u3t2rp3tom", *EXAMPLE], NSEC3, bytes.fromhex("0100000000") + b"\x14" + bytes(20) + bitmap(A))
 
 
 def signed_zone(*further):
@@ -136,19 +132,6 @@ def expansion_past_a_closer_name():
 
 
 # ---- which records count, and for which zone
-
-def denials_of_both_kinds():
-    """a secure NSEC3 record beside secure NSEC records isn't judged yet"""
-    denials = nsec("b.example", "ns1.example", A), nsec("example", "a.example", SOA, NS)
-    return asked(A, *denials, HASHED, code=NAME_ERROR), "fault message not judged yet"
-
-
-def hashed_denial_beside_an_answer():
-    """nor is one in another section, beside whatever answer"""
-    scene = signed_zone()
-    scene.says(WWW, A, by_example(scene, Record(WWW, A, ADDRESS)), additionals=by_example(scene, HASHED))
-    return scene.session(WWW, A), "fault message not judged yet"
-
 
 def denial_elsewhere(section):
     """The record that denies the type stands in this section of the reply, and not among the authorities."""
@@ -245,7 +228,7 @@ def no_record_at_all_of_an_unsigned_zone():
 
 MADE = (name_error_by_two_records, name_error_of_a_name_with_another_below, type_that_a_name_lacks, denial_that_cannot_be_read,
         address_at_an_apex, expansion_with_its_denial, expansion_without_a_denial, expansion_past_a_closer_name,
-        denials_of_both_kinds, hashed_denial_beside_an_answer, denial_in_the_answer_section, denial_in_the_additional_section,
+        denial_in_the_answer_section, denial_in_the_additional_section,
         expanded_denial_beside_an_answer, denials_of_two_zones, denial_by_its_second_signature, ds_denied_by_its_own_zone,
         denial_of_the_target_of_a_cname, unsigned_soa_above_the_name, unsigned_soa_beside_the_name,
         no_record_at_all_of_an_unsigned_zone)

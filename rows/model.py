@@ -3,9 +3,7 @@
 
     python3 rows/model.py SESSION          the report or the fault line
     python3 rows/model.py SESSION trail    with the trail
-    python3 rows/model.py                  compares the rows and the examples that are looked up, and names those that differ
-
-It keeps to what the crates judge so far: denial by NSEC3 is not judged yet."""
+    python3 rows/model.py                  compares the rows and the examples that are looked up, and names those that differ"""
 import glob
 import hashlib
 import os
@@ -13,6 +11,7 @@ import sys
 from collections import namedtuple
 
 import answers
+import hashes
 import reading
 import report
 from answers import is_set, secure_nsecs
@@ -269,14 +268,15 @@ class Lookup:
 
     def zone(self, step, asks, name):
         """By a Secure DS set of the zone, in the answer section, it is signed, or Insecure where no readable record is supported. An
-        answer without a DS set tells of an Insecure zone by a Secure NSEC of the delegation, and by a set that is Insecure at the
-        zone or above it."""
+        answer without a DS set tells of an Insecure zone by a Secure NSEC of the delegation, by Secure NSEC3 records, and by a set that
+        is Insecure at the zone or above it."""
         asked = self.nested(step, asks, name, DS)
         if not asked:
             return Zone(BOGUS)
         ds_set = next((one for one in asked.sets if is_set(one, name, DS)), None)
         if not ds_set:
             is_cut = any(answers.is_unsigned_cut(nsec, name) for nsec in secure_nsecs(asked))
+            is_cut = is_cut or hashes.is_unsigned(name, answers.secure_nsec3s(asked))
             is_excused = any(one.mark == INSECURE and is_above(one.owner, name) for one in asked.sets)
             return Zone(INSECURE if is_cut or is_excused else BOGUS)
         readable = list(filter(ds_of, ds_set.records))

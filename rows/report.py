@@ -72,8 +72,6 @@ def fault_line(step):
         return f"fault {step.fault}"
     if step.ending.startswith("foreign"):
         return "fault class" + step.ending.removeprefix("foreign")
-    if step.ending == "failed":
-        return "fault message not judged yet"
     return f"fault nsec {step.ending.removeprefix('denied ')}" if step.ending.startswith("denied") else None
 
 
