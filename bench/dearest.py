@@ -18,8 +18,9 @@ from sessions import DNSKEY, END, HEAD, MOST_INPUT, MOST_MESSAGE, NS, PROGRAM, R
 sys.path.insert(0, os.path.join(TOP, "rows"))
 import model  # noqa: E402
 import reading  # noqa: E402
+from hashes import hash_of, in_digits  # noqa: E402
 
-A, OPAQUE, RUNS = 1, 65_280, 3
+A, DS, NSEC3, OPAQUE, RUNS = 1, 43, 50, 65_280, 3
 ADDRESS = bytes.fromhex("c0000201")
 ROOT = sessions.name()
 KEY = bytes.fromhex("0101030daabb")
@@ -94,7 +95,32 @@ def signatures():
     return asking_for_keys(octets, [f"accept 13 {KEY[4:].hex()} {front}{rising.hex()} d007\n"])
 
 
-KINDS = (searches, owners, signatures)
+def hashed():
+    """342 sets of a name of 127 labels, none of them signed. Each asks for the name's NS records, which are there, and then for its DS
+    set; that answer has 1,200 NSEC3 records of one owner, a hundred iterations and a salt of 12 bytes, of the root alone and with
+    opt-out; and their signature asks for the root's keys. The denial is judged by hashes of 129 names, and then the delegation."""
+    salt, types = b"s" * 12, bytes.fromhex("000122")
+    digest = hash_of((), salt, 100)
+    owner = sessions.name(in_digits(digest))
+    nexts = [(int.from_bytes(digest, "big") - number).to_bytes(20, "big") for number in range(1, 1_201)]
+    rdatas = sorted(bytes([1, 1]) + (100).to_bytes(2, "big") + b"\x0c" + salt + b"\x14" + one + types for one in nexts)
+    signed = signature(NSEC3, 1, 0)
+    asked = sessions.question(sessions.name(*DEEP), DS)
+    pointer = (0xC000 | 12 + len(asked)).to_bytes(2, "big")
+    denials = [sessions.record(owner if number == 0 else pointer, NSEC3, rdata) for number, rdata in enumerate(rdatas)]
+    denial = sessions.message(asked, [], [*denials, sessions.record(pointer, RRSIG, signed)])
+    front = signed.removesuffix(bytes([0xD0, 0])).hex()
+    accept = f"accept 13 {KEY[4:].hex()} {front}{b''.join(sessions.record(owner, NSEC3, rdata) for rdata in rdatas).hex()} d000\n"
+    pointed = (0xC000 | 12).to_bytes(2, "big")
+    sets = [sessions.record(pointed, kind, ADDRESS) for kind in (A, *range(OPAQUE, OPAQUE + 254), *range(1_000, 1_087))]
+    own = sessions.question(sessions.name(*DEEP), NS)
+    keys = sessions.message(sessions.question(ROOT, DNSKEY), [sessions.record(ROOT, DNSKEY, KEY)])
+    lines = (reply(DEEP, A, sessions.message(sessions.question(sessions.name(*DEEP), A), sets)),
+             reply(DEEP, NS, sessions.message(own, [sessions.record(pointed, NS, ROOT)])), reply(DEEP, DS, denial), reply([], DNSKEY, keys))
+    return "".join((HEAD, accept, f"query {'a.' * len(DEEP)} A\n", *lines, END)).encode()
+
+
+KINDS = (searches, owners, signatures, hashed)
 
 
 def seconds(path, text):
