@@ -30,7 +30,7 @@ returns-in_ok-mark-in-None g c =
     let j = judge_of g.V.Verifier.answers c.args.judge.now in
     let none : find (λ (s : ChainedSet). is_ds_set_of c.args.set.now.class c.args.set.now.owner s.judged) c.in-Some.sets.items ≡ None = search rules in
     c.refused-in-None.ensures
-    ∙ ap unproved (c.in_ok-mark.ensures
+    ∙ ap unproved (c.in_ok-mark-in-None.ensures
     ∙ ap (λ (x : RrSet). (unsigned_mark (verdict_without_ds x.owner (bare c.deref-in-None.result.now))).mark) c.set.view_is
     ∙ ap (λ xs. (unsigned_mark (verdict_without_ds c.args.set.now.owner (bare xs))).mark) c.deref-in-None.ensures.value)
     ∙ by_none j c.args.set.now c.in-Some.sets.items none
