@@ -6,8 +6,6 @@ use std::fmt;
 /// A fixed text that an error carries.
 #[derive(Clone, Copy, Debug, PartialEq, Eq, Hash)]
 pub enum Notice {
-    /// What the reply holds is not judged by this version.
-    NotJudgedYet,
     /// A request has no question where one is needed.
     NoQueryInRequest,
     /// The moment isn't in a signature's validity.
@@ -36,7 +34,6 @@ impl Notice {
         ensures { result.now ≡ notice_text self }
     {
         match self {
-            Notice::NotJudgedYet => "not judged yet",
             Notice::NoQueryInRequest => "no query in request",
             Notice::ExpiredRrsig => "ExpiredRrsig",
             Notice::WrongDnskey => "WrongDnskey",
