@@ -78,15 +78,15 @@ looked_up meanings call result front sends lookup = record {
 
 -- ---- each case of a request
 
-other_code : (code : ℕ) (query : Bool) → query ≡ (code == 0) → query ≡ false → code ≢ 0
+pub other_code : (code : ℕ) (query : Bool) → query ≡ (code == 0) → query ≡ false → code ≢ 0
 other_code code query by other zero = no_both query (by ∙ ap (λ n. n == 0) zero ∙ number_refl 0) other
 
 -- a request that isn't a query goes on
-pub goes_on : {H : Type 0} (meanings : handle.Ghosts H) (j : Judge) (request : RequestValue) (iterations : IterationLimits) (now : ℕ) (old new : H) (query : Bool)
-    (result : Result ResponseValue NetError) → query ≡ (request.message.op_code == 0) → query ≡ false
-    → Sending meanings request (first_question request) now old new (reply_of result) → AnswersRequest meanings j request iterations now old new (reply_of result)
-goes_on meanings j request iterations now old new query result by other sent =
-    Goes (reply_of result) (other_code request.message.op_code query by other) sent
+pub goes_on : {H : Type 0} (meanings : handle.Ghosts H) (j : Judge) (request : RequestValue) (iterations : IterationLimits)
+    (now : ℕ) (old new : H) (result : Result ResponseValue NetError) → request.message.op_code ≢ 0
+    → Sending meanings request (first_question request) now old new (reply_of result)
+    → AnswersRequest meanings j request iterations now old new (reply_of result)
+goes_on meanings j request iterations now old new result other sent = Goes (reply_of result) other sent
 
 -- a query without a question is refused
 pub refuses : {H : Type 0} (meanings : handle.Ghosts H) (j : Judge) (request : RequestValue) (iterations : IterationLimits) (now : ℕ) (still : H) (query : Bool)

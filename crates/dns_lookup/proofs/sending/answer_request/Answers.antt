@@ -1,11 +1,11 @@
 use Rattle.std.proofs.Common.{refl, sym, ◌∙◌}
 use Rattle.dns_lookup.proofs.SendLemmas.{sending_made, caused}
-use Rattle.dns_lookup.proofs.SendingLemmas.{goes_on, refuses, forgets, looks_up}
+use Rattle.dns_lookup.proofs.SendingLemmas.{other_code, goes_on, refuses, forgets, looks_up}
 use Rattle.dns_lookup.proofs.sending.answer_request.Goals as goal
 
 pub returns-then-not-is_query-clause-answers : goal.returns-then-not-is_query-clause-answers
 returns-then-not-is_query-clause-answers g c =
-    goes_on g.H.DnsHandle _ _ _ _ _ _ _ c.send.result c.is_query.ensures c.if-not-is_query.true
+    goes_on g.H.DnsHandle _ _ _ _ _ _ c.send.result (other_code _ _ c.is_query.ensures c.if-not-is_query.true)
     (sending_made g.H.DnsHandle _ _ _ _ _ _ refl c.send.ensures.sent c.send.ensures.requested c.send.ensures.reply c.send.ensures.told
     c.send.ensures.later (caused _ _ c.send.result c.send.ensures.cause))
 
