@@ -406,6 +406,19 @@ def questions_of_a_walk():
     return scene.session(WWW, A), says, TRAIL
 
 
+def questions_of_an_anchored_key_beside():
+    """an anchored key that didn't sign its key set is asked for once, before the DS set comes"""
+    scene = Scene((ROOT, KEY), (EXAMPLE, KEYS[1]))
+    keys = [Record(EXAMPLE, DNSKEY, key) for key in KEYS[:2]]
+    by_other = Signed(keys, KEYS[0], signer=EXAMPLE)
+    scene.says(EXAMPLE, DNSKEY, keys, [Signed(keys, KEYS[1], b"\xd0", EXAMPLE).rrsig(), by_other.rrsig()])
+    scene.delegates(EXAMPLE, [ds_of(EXAMPLE, KEYS[0])])
+    scene.root()
+    scene.accepts.append(by_other.accept())
+    # 1 for the anchored key, whose signature is refused, 1 for the DS set and 1 for the key that it matches
+    return scene.session(EXAMPLE, DNSKEY), ["answer example. DNSKEY secure", "asks 3", "questions 3"], TRAIL
+
+
 # ---- large rows, which generate.py gives out
 
 def deepest_keys_beside_their_own_ds():
@@ -466,7 +479,7 @@ MADE = (walk_by_ds, trail_of_a_walk_by_ds, keys_matched_by_each_digest, keys_anc
         unknown_digests_before_a_good_one, ds_of_another_tag_and_algorithm, ds_of_an_unknown_algorithm_alone,
         keys_beside_their_own_ds, keys_and_what_they_sign, set_signed_by_a_zone_beside, third_zone_with_depth_five,
         third_zone_with_depth_six, revoked_key_that_a_ds_matches, revoked_key_that_is_anchored, key_of_no_octets_beside,
-        questions_of_one_zone, questions_of_a_walk)
+        questions_of_one_zone, questions_of_a_walk, questions_of_an_anchored_key_beside)
 
 
 if __name__ == "__main__":

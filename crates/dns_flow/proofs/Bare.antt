@@ -6,14 +6,14 @@ use Rattle.dns_model.specs.Records.{Rr, Question}
 use Rattle.dns_model.specs.Chains.{Judge}
 use Rattle.dns_model.specs.SoundAnswers.{Told, PlacedSet}
 use Rattle.dns_rules.specs.Asking.{ask_of}
-use Rattle.dns_rules.specs.ChainedSets.{ChainedSet, ChainedVerdict, bare, bare_verdicts, chained_verdict, chained_by, chained_keys, chained_by_ds}
+use Rattle.dns_rules.specs.ChainedSets.{ChainedSet, ChainedVerdict, bare, bare_verdicts, chained_verdict, chained_by}
 use Rattle.dns_rules.specs.Delegations.{zone_verdict}
-use Rattle.dns_rules.specs.KeySets.{judged_keys, needs_ds}
+use Rattle.dns_rules.specs.KeySets.{keys_judged}
 use Rattle.dns_rules.specs.MarkedSets.{MarkedSet}
 use Rattle.dns_rules.specs.Marks.{Verdict, is_proved, is_skipped, judged_by, verdict_of}
 use Rattle.dns_rules.specs.Unsigned.{unsigned_mark}
-use Rattle.dns_rules.proofs.ChainedLemmas.{chained_verdict-bare, chained_by_ds-bare}
-use Rattle.dns_flow.specs.Phases.{GotValue, Answer, Probe, answer_in, probe_in, PhaseValue, Marked, NeedsDs, Trying, AtName, AtZone, Concluded, SetEnds, found, after_probe, first_signatures, unasked, try_from, after_verdict, after_signature, signature_need, after_ds, turn, after}
+use Rattle.dns_rules.proofs.ChainedLemmas.{chained_verdict-bare}
+use Rattle.dns_flow.specs.Phases.{GotValue, Answer, Probe, answer_in, probe_in, PhaseValue, Marked, NeedsDs, Trying, AtName, AtZone, Concluded, SetEnds, found, after_probe, first_signatures, unasked, try_from, after_verdict, after_signature, signature_need, turn, after}
 use Rattle.dns_flow.specs.Leads.{chainless, bare_set, bare_verdict, bare_phase, bare_need, bare_got}
 
 -- ---- what was found before
@@ -112,12 +112,12 @@ signature_bare j q placed vs ws a b (Some r) same answers =
     (chained_verdict-bare j placed.set r a ∙ ap (verdict_of j placed.set r) answers ∙ sym (chained_verdict-bare j placed.set r b))
 
 ds_bare : (j : Judge) (placed : PlacedSet) (a b : Option (List ChainedSet)) → option_map bare a ≡ option_map bare b
-    → bare_phase (after_ds j placed a) ≡ bare_phase (after_ds j placed b)
+    → bare_phase (Marked (chained_beside j placed a)) ≡ bare_phase (Marked (chained_beside j placed b))
+unfolding chained_beside
 ds_bare j placed a b same =
-    let by = λ (o : Option (List MarkedSet)). judged_keys j placed (Some (zone_verdict j.answers placed.set.class placed.set.owner o)) in
-    both_if (needs_ds j placed.set) (Marked (chained_by_ds j placed a)) (Marked (chained_by_ds j placed b)) (Marked (chained_keys j placed))
-    (Marked (chained_keys j placed))
-    (ap (λ m. Marked (chainless m)) (chained_by_ds-bare j placed a ∙ ap by same ∙ sym (chained_by_ds-bare j placed b))) refl
+    let by = λ (o : Option (List MarkedSet)).
+    keys_judged placed (outcome_beside j placed.set (Some (zone_verdict j.answers placed.set.class placed.set.owner o))) in
+    ap (λ o. Marked (chainless (by o))) same
 
 -- ---- the rules
 

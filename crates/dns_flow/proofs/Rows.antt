@@ -16,6 +16,7 @@ use Rattle.dns_rules.specs.Marks.{judged_by}
 use Rattle.dns_rules.specs.Outcome.{Outcome, Given, NeedsZone, Denied, outcome_of, outcome_by_zone}
 use Rattle.dns_rules.specs.Unsigned.{set_start, question_start, needs_zone, unsigned_by}
 use Rattle.dns_rules.proofs.ChainedLemmas.{chained_keys-bare, chained_by_ds-bare}
+use Rattle.dns_trust.proofs.Beside.{beside_known}
 use Rattle.dns_flow.specs.declared.phases.Seeker.TheVariants.{Set, Ending}
 use Rattle.dns_flow.specs.Phases.{judged_ask, NeedsDs, Marked, NeedValue, SetEnds, StepEnds, first_signatures, search_at, try_from, start_keys, start_set, start_by, start_ending, turn, after}
 use Rattle.dns_flow.specs.Leads.{chainless, bare_phase, ends_with_mark, ends_with, leads_to_mark, leads_to_ending}
@@ -46,7 +47,7 @@ ds_led g told placed (made ∷ asks) needs =
     let told_answer = finished_answer g.earlier made in
     let answer = option_map (map chainless) told_answer in
     asked g told made asks (NeedsDs placed) (judged_ask question) refl
-    ∙ ap (λ b. if is_one then led g told asks (bare_phase (if b then Marked (chained_by_ds g.judge placed answer) else Marked (chained_keys g.judge placed))) else None) needs
+    ∙ ap (λ c. if is_one then led g told asks (bare_phase (Marked c)) else None) (beside_known g.judge placed answer needs)
     ∙ ap (λ x. if is_one then x else None)
     (marked g told asks (chained_by_ds g.judge placed answer)
     ∙ ap (λ m. last_if asks (SetEnds (chainless m))) (chained_by_ds-bare g.judge placed answer)

@@ -24,9 +24,11 @@ use Rattle.dns_rules.specs.Unsigned.{set_start, question_start, needs_zone, unsi
 use Rattle.dns_rules.proofs.ChainedLemmas.{IsGoodAnswer, failed_verdict, good_verdict}
 use Rattle.dns_rules.proofs.KeySetLemmas.{chained_keys-stands, chained_by_ds-stands}
 use Rattle.dns_rules.proofs.StandLemmas.{IsGoodVerdict, AreGood, chained_by-stands}
+use Rattle.dns_trust.specs.Beside.{chained_beside}
+use Rattle.dns_trust.proofs.Beside.{beside_known}
 use Rattle.dns_flow.specs.declared.phases.Seeker.{Seeker}
 use Rattle.dns_flow.specs.declared.phases.Seeker.TheVariants.{Set, Ending}
-use Rattle.dns_flow.specs.Phases.{GotValue, Answer, Probe, answer_in, probe_in, PhaseValue, Marked, NeedsDs, Trying, AtName, AtZone, Concluded, SetEnds, unsigned_with, found, search_at, after_probe, first_signatures, unasked, try_from, after_signature, signature_need, start_keys, start_set, start_by, start_ending, after_ds, turn, after}
+use Rattle.dns_flow.specs.Phases.{GotValue, Answer, Probe, answer_in, probe_in, PhaseValue, Marked, NeedsDs, Trying, AtName, AtZone, Concluded, SetEnds, unsigned_with, found, search_at, after_probe, first_signatures, unasked, try_from, after_signature, signature_need, start_keys, start_set, start_by, start_ending, turn, after}
 use Rattle.dns_flow.proofs.Tries.{is_next, next_drop}
 
 -- the sets of an answer stand
@@ -40,10 +42,15 @@ pub record TriesStand (j : Judge) (q : Question) (placed : PlacedSet) (vs : List
   pub good : IsProper placed.set → AreGood j placed.set (first_signatures placed.set) vs
   pub kept : (r : Rr) → slice_get (first_signatures placed.set) (length vs) ≡ Some r → is_skipped q placed.set r ≡ false
 
+-- it is a key set that no anchor decides
+pub record NeedsStand (j : Judge) (placed : PlacedSet) : Type 0 where
+  pub keys : (placed.set.rtype == type_dnskey) ≡ true
+  pub needed : needs_ds j placed.set ≡ true
+
 -- what a phase has found stands, in a step with this question
 abbrev pub Stands : Judge → Question → PhaseValue → Type 0
 Stands j q (Marked c) = IsProper c.judged.set → stands j c ≡ true
-Stands j q (NeedsDs placed) = (placed.set.rtype == type_dnskey) ≡ true
+Stands j q (NeedsDs placed) = NeedsStand j placed
 Stands j q (Trying placed vs) = TriesStand j q placed vs
 Stands j q (AtName seeker class name) = Unit {0}
 Stands j q (AtZone seeker class zone) = Unit {0}
@@ -137,12 +144,12 @@ probe_stands j q told seeker class name probes.Failed = found_stands j q told se
 
 -- ---- the rules
 
-ds_stands : (j : Judge) (q : Question) (placed : PlacedSet) (answer : Option (List ChainedSet)) → (placed.set.rtype == type_dnskey) ≡ true
-    → IsGoodAnswer j answer → Stands j q (after_ds j placed answer)
-unfolding chained_by_ds chained_keys
-ds_stands j q placed answer keys good =
-    stands_if j q (needs_ds j placed.set) (Marked (chained_by_ds j placed answer)) (Marked (chained_keys j placed))
-    (λ yes proper. chained_by_ds-stands j placed answer proper keys good) (λ no proper. chained_keys-stands j placed proper keys)
+ds_stands : (j : Judge) (q : Question) (placed : PlacedSet) (answer : Option (List ChainedSet)) → NeedsStand j placed
+    → IsGoodAnswer j answer → Stands j q (Marked (chained_beside j placed answer))
+unfolding chained_by_ds
+ds_stands j q placed answer h good =
+    subst (λ c. Stands j q (Marked c)) (sym (beside_known j placed answer h.needed))
+    (λ proper. chained_by_ds-stands j placed answer proper h.keys good)
 
 -- where an ask leads
 pub after_stands : (j : Judge) (q : Question) (told : Told) (phase : PhaseValue) (got : GotValue) → Stands j q phase → GotStands j got
@@ -161,7 +168,7 @@ after_stands j q told (Concluded o) got stand good = tt
 keys_stand : (j : Judge) (q : Question) (placed : PlacedSet) → (placed.set.rtype == type_dnskey) ≡ true → Stands j q (start_keys j placed)
 unfolding chained_keys
 keys_stand j q placed keys =
-    stands_if j q (needs_ds j placed.set) (NeedsDs placed) (Marked (chained_keys j placed)) (λ yes. keys)
+    stands_if j q (needs_ds j placed.set) (NeedsDs placed) (Marked (chained_keys j placed)) (λ yes. record { keys = keys; needed = yes })
     (λ no proper. chained_keys-stands j placed proper keys)
 
 -- how a set begins

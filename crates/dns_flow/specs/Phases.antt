@@ -10,7 +10,7 @@ use Rattle.dns_model.specs.Records.{Rr, RrSet, Question}
 use Rattle.dns_model.specs.Chains.{Judge}
 use Rattle.dns_model.specs.SoundAnswers.{Told, PlacedSet}
 use Rattle.dns_rules.specs.Asking.{Limits, ask_of}
-use Rattle.dns_rules.specs.ChainedSets.{ChainedSet, ChainedVerdict, bare, chained_verdict, chained_by, chained_keys, chained_by_ds}
+use Rattle.dns_rules.specs.ChainedSets.{ChainedSet, ChainedVerdict, bare, chained_verdict, chained_by, chained_keys}
 use Rattle.dns_rules.specs.Delegations.{ds_question, zone_verdict, is_insecure}
 use Rattle.dns_rules.specs.KeySets.{needs_ds}
 use Rattle.dns_rules.specs.MarkedSets.{MarkedSet}
@@ -20,6 +20,7 @@ use Rattle.dns_rules.specs.Outcome.{Outcome, Given, NeedsZone, Denied, outcome_o
 use Rattle.dns_rules.specs.Probes.{NsProbe}
 use Rattle.dns_rules.specs.Probes as probes
 use Rattle.dns_rules.specs.Unsigned.{ns_question, set_start, question_start, needs_zone, unsigned_mark}
+use Rattle.dns_trust.specs.Beside.{chained_beside}
 use Rattle.dns_flow.specs.declared.asks.Ask.{Ask}
 use Rattle.dns_flow.specs.declared.phases.Seeker.{Seeker}
 use Rattle.dns_flow.specs.declared.phases.Seeker.TheVariants.{Set, Ending}
@@ -163,14 +164,10 @@ turn (AtName seeker class name) = Asks (plain_ask (ns_question class name))
 turn (AtZone seeker class zone) = Asks (judged_ask (ds_question class zone))
 turn (Concluded o) = StepEnds o
 
--- from the ask for the DS set of a key set's owner
-abbrev pub after_ds : Judge → PlacedSet → Option (List ChainedSet) → PhaseValue
-after_ds j placed answer = if needs_ds j placed.set then Marked (chained_by_ds j placed answer) else Marked (chained_keys j placed)
-
 -- the phase to which what an ask came to leads
 unfoldable pub after : Judge → Question → Told → PhaseValue → GotValue → PhaseValue
 after j q told (Marked c) got = Marked c
-after j q told (NeedsDs placed) got = after_ds j placed (answer_in got)
+after j q told (NeedsDs placed) got = Marked (chained_beside j placed (answer_in got))
 after j q told (Trying placed vs) got =
     after_signature j q placed vs (answer_in got) (slice_get (first_signatures placed.set) (length vs))
 after j q told (AtName seeker class name) got = after_probe q told seeker class name (probe_in got)

@@ -3,10 +3,11 @@ ghost use Rattle.dns_model.specs.SoundAnswers.{Told, told_by};
 ghost use Rattle.dns_model.specs.Trails.{JudgedSetValue};
 ghost use Rattle.dns_rules.specs.Derivation.{StepContext, is_by_rules};
 ghost use Rattle.dns_rules.specs.Unsigned.{set_start as start_of};
+ghost use Rattle.dns_trust.specs.Beside.{chained_beside};
 ghost use Rattle.dns_trust.specs.Judge.{judge_of};
 ghost use Rattle.dns_trust.specs.Verdicts.{listed};
 ghost use Rattle.dns_flow.specs.Leads.{leads_to_mark};
-ghost use Rattle.dns_flow.specs.Phases.{start_set as set_begins, start_keys as keys_begin, after_ds as ds_leads, search_at as search_from};
+ghost use Rattle.dns_flow.specs.Phases.{Marked, start_set as set_begins, start_keys as keys_begin, search_at as search_from};
 ghost use Rattle.dns_flow.specs.Values.{phase_value};
 
 use crate::phases::{Phase, Seeker, set_of};
@@ -16,7 +17,7 @@ use dns_evidence::{ChainedSet, PlacedSet, Verifier};
 use dns_message::Message;
 use dns_name::NoMemory;
 use dns_record::{DNSClass, Query};
-use dns_trust::{Judge, KeysStep, is_key_set, judged_by_ds, keys_step_of, needs_zone, set_start};
+use dns_trust::{Judge, KeysStep, is_key_set, judged_beside, keys_step_of, needs_zone, set_start};
 use std::alloc::Global;
 
 /// How a set of the reply to a query begins: a key set by anchors, an unsigned set by the search for its zone, and another by its
@@ -57,22 +58,18 @@ fn start_keys<V: Verifier>(
     }
 }
 
-/// Where the answer to the ask for the DS set of a key set's owner leads the key set. A set that anchors decide doesn't look at it.
+/// Where the answer to the ask for the DS set of a key set's owner leads the key set. Its anchors were tried before.
 pub(crate) fn after_ds<V: Verifier>(
     alloc: Global,
     judge: &Judge<'_, V>,
     placed: PlacedSet,
     answer: &Option<Vec<ChainedSet>>,
 ) -> Result<Phase, NoMemory>
-    ensures { IfOk result (λ p. phase_value p ≡ ds_leads (judge_of V.answers judge.now) placed (listed answer.now)) }
+    ensures { IfOk result (λ p. phase_value p
+        ≡ Marked (chained_beside (judge_of V.answers judge.now) placed (listed answer.now))) }
 {
-    match keys_step_of(alloc, judge, placed)? {
-        KeysStep::Done(set) => Ok(Phase::Marked(set)),
-        KeysStep::NeedsDs(placed) => {
-            let set = judged_by_ds(alloc, judge, placed, answer)?;
-            Ok(Phase::Marked(set))
-        }
-    }
+    let set = judged_beside(alloc, judge, placed, answer)?;
+    Ok(Phase::Marked(set))
 }
 
 // An unsigned set, whose zone is searched.

@@ -46,6 +46,8 @@ const ROWS: &[Row] = &[
     Row("questions-of-one-zone", 41, 2),
     // each of 2 asks for the keys takes 1 for their DS set and 3 for theirs; the signatures of the address take 2 and 1
     Row("questions-of-a-walk", 11, 3),
+    // 1 for an anchored key that didn't sign the key set, 1 for the DS set and 1 for the key that it matches
+    Row("questions-of-an-anchored-key-beside", 3, 2),
 ];
 
 /// The answer to a session by a verifier that counts.

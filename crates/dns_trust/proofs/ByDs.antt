@@ -15,10 +15,10 @@ use Rattle.dns_rules.specs.MarkedSets.{MarkedSet}
 use Rattle.dns_rules.specs.ProofErrors.{DsRecordShouldExist, DsResponseInsecure, UnknownKeyAlgorithm}
 use Rattle.dns_rules.specs.Delegations.{ZoneVerdict, Signed, Insecure, Bogus, is_ds_set_of, is_supported_ds, is_readable_ds, verdict_by_ds, shows_no_ds, shows_no_ds_by_hash, is_insecure_above, verdict_without_ds, zone_verdict}
 use Rattle.dns_rules.specs.Unsigned.{unsigned_mark}
-use Rattle.dns_rules.specs.KeySets.{needs_ds, keys_outcome, outcome_by_ds, outcome_by_verdict}
-use Rattle.dns_rules.specs.ChainedSets.{ChainedSet, bare, ds_chain, keys_chained, chained_keys, chained_by_ds}
+use Rattle.dns_rules.specs.KeySets.{keys_outcome}
+use Rattle.dns_rules.specs.ChainedSets.{ChainedSet, bare, ds_chain, keys_chained, chained_keys}
 use Rattle.dns_rules.proofs.DsLemmas.{filter-filter}
-use Rattle.dns_rules.proofs.KeySetLemmas.{needs_ds-outcome}
+use Rattle.dns_trust.specs.Beside.{outcome_beside_ds, outcome_beside, chained_beside}
 use Rattle.dns_trust.specs.Unsigned.{unsupported_mark}
 use Rattle.dns_trust.specs.KeysMarks.{MarkedValue, outcome_marked, by_ds_records, marked_by_found, marked_by_zone, chained_with}
 
@@ -30,12 +30,10 @@ pub by_anchors : (j : Judge) (placed : PlacedSet) → chained_with placed (outco
 unfolding chained_keys
 by_anchors j placed = refl
 
-pub by_zone : (j : Judge) (placed : PlacedSet) (answer : Option (List ChainedSet)) → needs_ds j placed.set ≡ true
-    → chained_with placed (marked_by_zone j placed.set answer) ≡ chained_by_ds j placed answer
-unfolding chained_by_ds
-by_zone j placed answer needed =
-    ap (keys_chained j placed (ds_chain placed.set.class placed.set.owner answer))
-    (sym (needs_ds-outcome j placed.set (zone_verdict j.answers placed.set.class placed.set.owner (option_map bare answer)) needed))
+pub by_zone : (j : Judge) (placed : PlacedSet) (answer : Option (List ChainedSet))
+    → chained_with placed (marked_by_zone j placed.set answer) ≡ chained_beside j placed answer
+unfolding chained_beside
+by_zone j placed answer = refl
 
 -- ---- the DS set in an answer
 
@@ -66,9 +64,9 @@ verdict_of_answer verifier class zone answer found is =
 marked_found : (j : Judge) (set : RrSet) (answer : List ChainedSet) (found : Option ChainedSet)
     → find (λ c. is_ds_set_of set.class set.owner c.judged) answer ≡ found
     → marked_by_zone j set (Some answer)
-    ≡ outcome_marked j set (option_map_or (λ c. c.chain) found []) (outcome_by_verdict j set (Some (verdict_found j.answers set.owner answer found)))
+    ≡ outcome_marked j set (option_map_or (λ c. c.chain) found []) (outcome_beside j set (Some (verdict_found j.answers set.owner answer found)))
 marked_found j set answer found is =
-    let marked = λ (o : Option ChainedSet) (v : ZoneVerdict). outcome_marked j set (option_map_or (λ c. c.chain) o []) (outcome_by_verdict j set (Some v)) in
+    let marked = λ (o : Option ChainedSet) (v : ZoneVerdict). outcome_marked j set (option_map_or (λ c. c.chain) o []) (outcome_beside j set (Some v)) in
     ap (λ o. marked o (zone_verdict j.answers set.class set.owner (Some (bare answer)))) is
     ∙ ap (marked found) (verdict_of_answer j.answers set.class set.owner answer found is)
 
@@ -79,7 +77,7 @@ by_found j set answer found is = sym (marked_found j set answer (Some found) is)
 -- what an answer without a DS set of the owner leaves
 unproved_if : (j : Judge) (set : RrSet) (b : Bool)
     → unproved ((unsigned_mark (if b then Insecure (DsResponseInsecure set.owner) else Bogus (DsRecordShouldExist set.owner))).mark)
-    ≡ outcome_marked j set [] (outcome_by_verdict j set (Some (if b then Insecure (DsResponseInsecure set.owner) else Bogus (DsRecordShouldExist set.owner))))
+    ≡ outcome_marked j set [] (outcome_beside j set (Some (if b then Insecure (DsResponseInsecure set.owner) else Bogus (DsRecordShouldExist set.owner))))
 unproved_if j set true = refl
 unproved_if j set false = refl
 
@@ -112,7 +110,7 @@ one_if (r ∷ rs) h = refl
 
 abbrev by_test : Judge → RrSet → List LinkValue → List Rr → Bool → Bool → MarkedValue
 by_test j set front kept readable any =
-    outcome_marked j set front (outcome_by_verdict j set (Some
+    outcome_marked j set front (outcome_beside j set (Some
     (if any then Signed kept else if readable then Insecure UnknownKeyAlgorithm else Bogus (DsRecordShouldExist set.owner))))
 
 by_unsupported : (j : Judge) (set : RrSet) (front : List LinkValue) (kept : List Rr) (readable : Bool)
@@ -129,8 +127,8 @@ none_supported j set front records none =
     ∙ sym (ap (by_test j set front (filter test records) readable) (any_kept test records ∙ ap has_one none))
 
 pub some_supported : (j : Judge) (set : RrSet) (front : List LinkValue) (records kept : List Rr) → kept ≡ filter (is_supported_ds j.answers) records
-    → (kept ≡ [] → ⊥) → outcome_marked j set front (outcome_by_ds j set kept) ≡ by_ds_records j set front records
+    → (kept ≡ [] → ⊥) → outcome_marked j set front (outcome_beside_ds j set kept) ≡ by_ds_records j set front records
 some_supported j set front records kept is some =
     let test = is_supported_ds j.answers in
-    ap (λ rs. outcome_marked j set front (outcome_by_ds j set rs)) (is ∙ sym (filter-filter test records))
+    ap (λ rs. outcome_marked j set front (outcome_beside_ds j set rs)) (is ∙ sym (filter-filter test records))
     ∙ sym (ap (by_test j set front (filter test records) (list_any is_readable_ds records)) (any_kept test records ∙ sym (ap has_one is) ∙ one_if kept some))

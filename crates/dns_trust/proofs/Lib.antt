@@ -7,6 +7,7 @@ pub mod Counts
 pub mod Once
 pub mod Signing
 pub mod Delegated
+pub mod Beside
 pub mod ByDs
 pub mod ByZone
 pub mod Shown

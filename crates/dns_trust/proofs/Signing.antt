@@ -7,10 +7,10 @@ use Rattle.dns_model.specs.Records.{Rr, RrSet}
 use Rattle.dns_model.specs.Chains.{Judge}
 use Rattle.dns_rules.specs.Validity.{is_good_by}
 use Rattle.dns_rules.specs.Marks.{most_signatures}
-use Rattle.dns_rules.specs.KeySets.{is_anchored_key, is_matched_key, signed_by, needs_ds}
-use Rattle.dns_rules.proofs.SignerLemmas.{IsKeyOf, anchored_is_key, matched_is_key, good_alike, signed_among, others_sign}
-use Rattle.dns_rules.proofs.KeySetLemmas.{needs_ds-unsigned}
-use Rattle.dns_trust.specs.Signers.{AreOnce, first_signed_by, is_matched_only}
+use Rattle.dns_rules.specs.KeySets.{is_anchored_key, is_matched_key, signed_by}
+use Rattle.dns_rules.proofs.SignerLemmas.{IsKeyOf, anchored_is_key, matched_is_key, good_alike, signed_among}
+use Rattle.dns_trust.specs.Beside.{is_matched_only}
+use Rattle.dns_trust.specs.Signers.{AreOnce, first_signed_by}
 use Rattle.dns_trust.proofs.Searches.{first_signed_by-from}
 
 all_step : (may : Rr → Bool) (b : Bool) (r : Rr) (kept : List Rr) → may r ≡ b → list_all may kept ≡ true → list_all may (cond b (r ∷ kept) kept) ≡ true
@@ -35,10 +35,8 @@ pub anchored_once : (j : Judge) (set : RrSet) (once keys : List Rr) → keys ≡
     → first_signed_by j set once (take most_signatures set.signatures) ≡ signed_by (is_anchored_key j set) j set
 anchored_once j set once keys = signed_once (is_anchored_key j set) j set once keys (anchored_is_key j set)
 
-pub matched_once : (j : Judge) (set : RrSet) (ds once keys : List Rr) → needs_ds j set ≡ true
-    → keys ≡ filter (is_matched_only j set ds) set.records → AreOnce once keys
-    → first_signed_by j set once (take most_signatures set.signatures) ≡ signed_by (is_matched_key j set ds) j set
-matched_once j set ds once keys needed is copies =
+pub matched_once : (j : Judge) (set : RrSet) (ds once keys : List Rr) → keys ≡ filter (is_matched_only j set ds) set.records → AreOnce once keys
+    → first_signed_by j set once (take most_signatures set.signatures) ≡ signed_by (is_matched_only j set ds) j set
+matched_once j set ds once keys =
     signed_once (is_matched_only j set ds) j set once keys
-    (λ key h. matched_is_key j set ds key (and_parts (not (is_anchored_key j set key)) (is_matched_key j set ds key) h).1) is copies
-    ∙ others_sign (is_matched_key j set ds) (is_anchored_key j set) j set (needs_ds-unsigned j set needed)
+    (λ key h. matched_is_key j set ds key (and_parts (not (is_anchored_key j set key)) (is_matched_key j set ds key) h).1)

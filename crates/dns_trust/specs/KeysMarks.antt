@@ -8,8 +8,9 @@ use Rattle.dns_model.specs.Chains.{Judge, LinkValue}
 use Rattle.dns_model.specs.SoundAnswers.{PlacedSet}
 use Rattle.dns_evidence.specs.Link.{link_value}
 use Rattle.dns_rules.specs.Delegations.{verdict_by_ds, zone_verdict}
-use Rattle.dns_rules.specs.KeySets.{KeysOutcome, keys_outcome, outcome_by_verdict, outcome_mark, needs_ds}
+use Rattle.dns_rules.specs.KeySets.{KeysOutcome, keys_outcome, outcome_mark, needs_ds}
 use Rattle.dns_rules.specs.ChainedSets.{ChainedSet, bare, ds_chain, outcome_chain}
+use Rattle.dns_trust.specs.Beside.{outcome_beside}
 use Rattle.dns_trust.specs.declared.key_sets.KeysMarked.{KeysMarked}
 
 -- a mark, the place of the signature that decided, and a chain
@@ -32,19 +33,19 @@ outcome_marked j set front outcome = record {
 -- those that the records of the owner's DS set give, which is Secure by a chain
 abbrev pub by_ds_records : Judge → RrSet → List LinkValue → List Rr → MarkedValue
 by_ds_records j set front records =
-    outcome_marked j set front (outcome_by_verdict j set (Some (verdict_by_ds j.answers set.owner proof.Secure records)))
+    outcome_marked j set front (outcome_beside j set (Some (verdict_by_ds j.answers set.owner proof.Secure records)))
 
 -- those that the answer to the ask for the owner's DS set gives
 abbrev pub marked_by_zone : Judge → RrSet → Option (List ChainedSet) → MarkedValue
 marked_by_zone j set answer =
     outcome_marked j set (ds_chain set.class set.owner answer)
-    (outcome_by_verdict j set (Some (zone_verdict j.answers set.class set.owner (option_map bare answer))))
+    (outcome_beside j set (Some (zone_verdict j.answers set.class set.owner (option_map bare answer))))
 
 -- those that the owner's DS set gives
 abbrev pub marked_by_found : Judge → RrSet → ChainedSet → MarkedValue
 marked_by_found j set found =
     outcome_marked j set found.chain
-    (outcome_by_verdict j set (Some (verdict_by_ds j.answers set.owner found.judged.mark found.judged.set.records)))
+    (outcome_beside j set (Some (verdict_by_ds j.answers set.owner found.judged.mark found.judged.set.records)))
 
 -- a placed set with them
 abbrev pub chained_with : PlacedSet → MarkedValue → ChainedSet

@@ -6,6 +6,7 @@ pub mod KeyFaults
 pub mod SetSignatures
 pub mod Counting
 pub mod Delegating
+pub mod Beside
 pub mod Signers
 pub mod Rows
 pub mod Steps

@@ -1,12 +1,12 @@
 -- For the calls of this crate, and for no promise of a check or a lookup: which signature of a key set is good by one
 -- of some keys of it, as the plain definitions (RFC 4035, 5.2 and 5.3).
-use Rattle.std.specs.Prelude.{◌≡◌, Bool, true, not, ◌&&◌, List, Option, slice_get}
+use Rattle.std.specs.Prelude.{◌≡◌, Bool, true, List, Option, slice_get}
 use Rattle.std.specs.List.{filter_map, find, list_all, enumerate_from}
 use Rattle.std.specs.Option.{option_map}
 use Rattle.dns_model.specs.Records.{Rr, RrSet}
 use Rattle.dns_model.specs.Chains.{Judge}
 use Rattle.dns_rules.specs.Validity.{is_good_by}
-use Rattle.dns_rules.specs.KeySets.{SignedKeys, is_anchored_key, is_matched_key}
+use Rattle.dns_rules.specs.KeySets.{SignedKeys}
 use Rattle.dns_trust.specs.declared.signers.SignedBy.{SignedBy}
 
 abbrev pub signed_value : SignedBy → SignedKeys
@@ -17,10 +17,6 @@ signed_value by = record { place = by.place; signature = by.signature.now; key =
 -- the first of some keys by which a signature of a set is good
 abbrev pub signing_key : Judge → RrSet → List Rr → Rr → Option Rr
 signing_key j set keys r = find (is_good_by j set r) keys
-
--- a key of the set that is no anchor, and that one of these DS records matches
-abbrev pub is_matched_only : Judge → RrSet → List Rr → Rr → Bool
-is_matched_only j set ds key = not (is_anchored_key j set key) && is_matched_key j set ds key
 
 -- a test that tells keys that pass another one by their rdata alone
 abbrev pub TellsRdata : (Rr → Bool) → (Rr → Bool) → Type 0

@@ -3,8 +3,9 @@ ghost use Rattle.std.specs.List.{find};
 ghost use Rattle.std.specs.Option.{option_copied};
 ghost use Rattle.dns_evidence.specs.Link.{link_value};
 ghost use Rattle.dns_rules.specs.Delegations.{ds_question, is_ds_set_of};
-ghost use Rattle.dns_rules.specs.KeySets.{SignedByMatched, needs_ds, outcome_by_ds};
+ghost use Rattle.dns_rules.specs.KeySets.{SignedByMatched, needs_ds};
 ghost use Rattle.dns_rules.specs.ChainedSets.{chained_by_ds, self_signed_chain as self_signed_chain_of};
+ghost use Rattle.dns_trust.specs.Beside.{chained_beside, outcome_beside_ds};
 ghost use Rattle.dns_trust.specs.Judge.{judge_of};
 ghost use Rattle.dns_trust.specs.Verdicts.{listed};
 ghost use Rattle.dns_trust.specs.Signers.{signed_value};
@@ -14,10 +15,9 @@ ghost use Rattle.dns_trust.specs.KeysMarks.{marked_value, outcome_marked, by_ds_
 use crate::chains::{
     anchored_chain, anchored_link, last_number, link_by_found, self_signed_chain, trusted_chain,
 };
+use crate::keys::matched_beside;
 use crate::unsigned::{ds_set_of, mark_by_unsupported, mark_without_ds};
-use crate::{
-    AnchoredRow, DsIndex, Judge, MatchedRow, SignedBy, anchored_row, ds_query, matched_row,
-};
+use crate::{AnchoredRow, DsIndex, Judge, MatchedRow, SignedBy, anchored_row, ds_query};
 use dns_evidence::{ChainedSet, Link, MarkedSet, PlacedSet, Verifier, clone_links};
 use dns_model::Proof;
 use dns_name::NoMemory;
@@ -64,6 +64,7 @@ pub fn keys_step_of<V: Verifier>(
 
 /// A DNSKEY set that no anchor decides, judged with the judged sets of the answer to the ask for its owner's DS set; None
 /// where the ask failed or was refused (RFC 4035, 5.2).
+#[tactic(auto, using(crate::proofs::Beside::beside_known))]
 pub fn judged_by_ds<V: Verifier>(
     alloc: Global,
     judge: &Judge<'_, V>,
@@ -72,6 +73,18 @@ pub fn judged_by_ds<V: Verifier>(
 ) -> Result<ChainedSet, NoMemory>
     requires { needs_ds (judge_of V.answers judge.now) placed.set ≡ true }
     ensures { IfOk result (λ c. c ≡ chained_by_ds (judge_of V.answers judge.now) placed (listed answer.now)) }
+{
+    judged_beside(alloc, judge, placed, answer)
+}
+
+/// The same without that condition: its anchors were tried before, and aren't tried again.
+pub fn judged_beside<V: Verifier>(
+    alloc: Global,
+    judge: &Judge<'_, V>,
+    placed: PlacedSet,
+    answer: &Option<Vec<ChainedSet>>,
+) -> Result<ChainedSet, NoMemory>
+    ensures { IfOk result (λ c. c ≡ chained_beside (judge_of V.answers judge.now) placed (listed answer.now)) }
 {
     let marked = marked_by_answer(alloc, judge, &placed.set, answer)?;
     Ok(with_mark(placed, marked))
@@ -170,7 +183,6 @@ fn marked_by_answer<V: Verifier>(
     set: &RecordSet,
     answer: &Option<Vec<ChainedSet>>,
 ) -> Result<KeysMarked, NoMemory>
-    requires { needs_ds (judge_of V.answers judge.now) set.now ≡ true }
     ensures { IfOk result (λ m. marked_value m
         ≡ marked_by_zone (judge_of V.answers judge.now) set.now (listed answer.now)) }
 {
@@ -193,7 +205,6 @@ fn marked_by_set<V: Verifier>(
     set: &RecordSet,
     found: &ChainedSet,
 ) -> Result<KeysMarked, NoMemory>
-    requires { needs_ds (judge_of V.answers judge.now) set.now ≡ true }
     ensures { IfOk result (λ m. marked_value m ≡ marked_by_found (judge_of V.answers judge.now) set.now found.now) }
 {
     match found.judged.mark {
@@ -215,7 +226,6 @@ fn marked_by_records<V: Verifier>(
     front: &Vec<Link>,
     records: &[Record],
 ) -> Result<KeysMarked, NoMemory>
-    requires { needs_ds (judge_of V.answers judge.now) set.now ≡ true }
     ensures { IfOk result (λ m. marked_value m ≡
         by_ds_records (judge_of V.answers judge.now) set.now (map link_value front.now.items) records.now) }
 {
@@ -237,13 +247,12 @@ fn marked_by_ds<V: Verifier>(
     set: &RecordSet,
     shown: &ShownDs<'_, '_>,
 ) -> Result<KeysMarked, NoMemory>
-    requires owner { shown.now.index.now.owner ≡ set.now.owner }
-    requires needed { needs_ds (judge_of V.answers judge.now) set.now ≡ true }
+    requires { shown.now.index.now.owner ≡ set.now.owner }
     ensures { IfOk result (λ m. marked_value m ≡
         outcome_marked (judge_of V.answers judge.now) set.now (map link_value shown.now.chain.now.items)
-        (outcome_by_ds (judge_of V.answers judge.now) set.now shown.now.index.now.records)) }
+        (outcome_beside_ds (judge_of V.answers judge.now) set.now shown.now.index.now.records)) }
 {
-    match matched_row(alloc, judge, set, shown.index)? {
+    match matched_beside(alloc, judge, set, shown.index)? {
         MatchedRow::Signed(by) => signed_by_ds(alloc, judge, set, shown, &by),
         MatchedRow::Whole => {
             let chain = trusted_chain(alloc, judge, set, shown.chain, shown.index)?;

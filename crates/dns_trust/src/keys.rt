@@ -3,9 +3,10 @@ ghost use Rattle.std.specs.List.{filter, list_all};
 ghost use Rattle.std.specs.Option.{option_map};
 ghost use Rattle.dns_model.specs.Keys.{anchored};
 ghost use Rattle.dns_rules.specs.KeySets.{is_anchored_key, is_matched_key, is_trusted_key, keys_outcome, needs_ds, outcome_by_ds, signed_by};
+ghost use Rattle.dns_trust.specs.Beside.{is_matched_only as is_matched_only_by, outcome_beside_ds};
 ghost use Rattle.dns_trust.specs.Judge.{judge_of};
 ghost use Rattle.dns_trust.specs.Delegating.{shown};
-ghost use Rattle.dns_trust.specs.Signers.{signed_value, is_matched_only as is_matched_only_by};
+ghost use Rattle.dns_trust.specs.Signers.{signed_value};
 ghost use Rattle.dns_trust.specs.Rows.{anchored_outcome, matched_outcome};
 
 use crate::signers::{each_once, first_signed};
@@ -62,6 +63,7 @@ pub fn anchored_row<'a, V: Verifier>(
 }
 
 /// The first row of the marks of DNSKEY sets that holds, as DS records of its owner decide that are Secure, where anchors don't.
+#[tactic(auto, using(crate::proofs::Beside::beside_ds))]
 pub fn matched_row<'a, V: Verifier>(
     alloc: Global,
     judge: &Judge<'_, V>,
@@ -72,6 +74,20 @@ pub fn matched_row<'a, V: Verifier>(
     requires needed { needs_ds (judge_of V.answers judge.now) set.now ≡ true }
     ensures { IfOk result (λ r. matched_outcome set.now ds.now.records r ≡
         outcome_by_ds (judge_of V.answers judge.now) set.now ds.now.records) }
+{
+    matched_beside(alloc, judge, set, ds)
+}
+
+/// The same, whatever anchors decide: keys that are anchors don't sign.
+pub(crate) fn matched_beside<'a, V: Verifier>(
+    alloc: Global,
+    judge: &Judge<'_, V>,
+    set: &'a RecordSet,
+    ds: &DsIndex<'_>,
+) -> Result<MatchedRow<'a>, NoMemory>
+    requires { ds.now.owner ≡ set.now.owner }
+    ensures { IfOk result (λ r. matched_outcome set.now ds.now.records r ≡
+        outcome_beside_ds (judge_of V.answers judge.now) set.now ds.now.records) }
 {
     if let Some(by) = signed_by_matched(alloc, judge, set, ds)? {
         return Ok(MatchedRow::Signed(by));
@@ -96,17 +112,16 @@ fn signed_by_anchored<'a, V: Verifier>(
     first_signed(alloc, judge, set, &keys)
 }
 
-// The same by a key that one of some DS records matches.
+// The same by a key that one of some DS records matches, and that is no anchor.
 fn signed_by_matched<'a, V: Verifier>(
     alloc: Global,
     judge: &Judge<'_, V>,
     set: &'a RecordSet,
     ds: &DsIndex<'_>,
 ) -> Result<Option<SignedBy<'a>>, NoMemory>
-    requires owner { ds.now.owner ≡ set.now.owner }
-    requires needed { needs_ds (judge_of V.answers judge.now) set.now ≡ true }
+    requires { ds.now.owner ≡ set.now.owner }
     ensures { IfOk result (λ s. option_map signed_value s ≡
-        signed_by (is_matched_key (judge_of V.answers judge.now) set.now ds.now.records)
+        signed_by (is_matched_only_by (judge_of V.answers judge.now) set.now ds.now.records)
         (judge_of V.answers judge.now) set.now) }
 {
     let matched = matched_keys(alloc, judge, set, ds)?;

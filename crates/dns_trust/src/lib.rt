@@ -27,7 +27,7 @@ pub use fitting::{is_never_expanded, is_right_below_signer, is_timely, signer_fi
 pub use good::{accepts_signature, is_good_by, is_valid, signed_data_once};
 pub use judge::Judge;
 pub use judged::chained_by;
-pub use key_sets::{KeysStep, ds_ask_of, judged_by_ds, keys_step_of};
+pub use key_sets::{KeysStep, ds_ask_of, judged_beside, judged_by_ds, keys_step_of};
 pub use keys::{AnchoredRow, MatchedRow, anchored, anchored_row, matched_row};
 pub use searching::{
     NsProbe, ds_query, has_ns_record, is_key_set, is_ns_of, needs_zone, ns_query, question_start,

@@ -22,7 +22,7 @@ use Rattle.dns_flow.specs.declared.asks.Ask.{Ask}
 use Rattle.dns_flow.specs.declared.phases.Seeker.{Seeker}
 use Rattle.dns_flow.specs.declared.phases.Seeker.TheVariants.{Set, Ending}
 use Rattle.dns_flow.specs.Leads.{entry_of}
-use Rattle.dns_flow.specs.Phases.{PhaseValue, Marked, NeedsDs, Trying, AtName, AtZone, Concluded, NeedValue, SetEnds, StepEnds, Asks, GotValue, Answer, Probe, found, search_at, first_signatures, unasked, try_from, after_verdict, after_signature, signature_need, start_by, start_ending, turn, after_ds, after}
+use Rattle.dns_flow.specs.Phases.{PhaseValue, Marked, NeedsDs, Trying, AtName, AtZone, Concluded, NeedValue, SetEnds, StepEnds, Asks, GotValue, Answer, Probe, found, search_at, first_signatures, unasked, try_from, after_verdict, after_signature, signature_need, start_by, start_ending, turn, after}
 use Rattle.dns_validation.specs.Machine.{Terms, SoFar, OpenValue, StateValue, limit_of, limits_of, first_left, next_phase, next_item, set_ended, answered, give, step_of, none_open, step_ended, nothing_got, refusal, asked_by, turned, turn_in, tick}
 use Rattle.dns_validation.specs.Steps.{given_sets}
 use Rattle.dns_validation.specs.Runs.{is_none, moves}
@@ -127,13 +127,9 @@ signature_work j q placed vs answer (Some r) ask is asks =
     (try_work q placed (vs ++ v ∷ []) (drop (length vs + 1) (first_signatures placed.set)))
     (slice_get_within (first_signatures placed.set) (length vs) r is) _
 
-ds_work : (j : Judge) (placed : PlacedSet) (answer : Option (List ChainedSet)) → phase_work (after_ds j placed answer) < 4
+marked_work : (c : ChainedSet) → phase_work (Marked c) < 4
 unfolding phase_work
-ds_work j placed answer = either (needs_ds j placed.set) _ _
-  where
-    either : (b : Bool) (c d : ChainedSet) → phase_work (if b then Marked c else Marked d) < 4
-    either true c d = omega arith
-    either false c d = omega arith
+marked_work c = omega arith
 
 judged_is : (ask : Ask) (b : Bool) (q : Question) → (let a : Ask = record { query = q; judged = b } in a) ≡ ask → nothing_got ask.judged ≡ nothing_got b
 judged_is ask b q is = ap (λ (a : Ask). nothing_got a.judged) (sym is)
@@ -145,7 +141,7 @@ pub refused_work : (j : Judge) (q : Question) (told : Told) (p : PhaseValue) (as
     → phase_work (after j q told p (nothing_got ask.judged)) < phase_work p
 unfolding turn after phase_work
 refused_work j q told (Marked c) ask asks = cc
-refused_work j q told (NeedsDs placed) ask asks = ds_work j placed _
+refused_work j q told (NeedsDs placed) ask asks = marked_work _
 refused_work j q told (Trying placed vs) ask asks =
     signature_work j q placed vs _ (slice_get (first_signatures placed.set) (length vs)) ask refl asks
 refused_work j q told (AtName seeker class name) ask asks =

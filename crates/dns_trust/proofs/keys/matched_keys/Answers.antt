@@ -1,5 +1,5 @@
 use Rattle.std.proofs.Common.{rules, ◌≡◌, ◌∙◌, sym}
-use Rattle.dns_trust.specs.Signers.{is_matched_only}
+use Rattle.dns_trust.specs.Beside.{is_matched_only}
 use Rattle.dns_trust.specs.Judge.{judge_of}
 use Rattle.dns_trust.proofs.Shown.{passed_more, failed_more}
 use Rattle.dns_trust.proofs.keys.matched_keys.Goals as goal

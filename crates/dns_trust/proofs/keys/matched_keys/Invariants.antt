@@ -2,7 +2,7 @@ use Rattle.std.proofs.Common.{◌≡◌, take}
 use Rattle.std.specs.List.{filter}
 use Rattle.dns_trust.specs.Judge.{judge_of}
 use Rattle.dns_trust.specs.Delegating.{shown}
-use Rattle.dns_trust.specs.Signers.{is_matched_only}
+use Rattle.dns_trust.specs.Beside.{is_matched_only}
 use Rattle.dns_trust.proofs.keys.matched_keys.Given as goal
 
 -- the matched keys so far are shown
