@@ -53,8 +53,7 @@ fn are_made_by(record_type: RecordType, zone: &NameRef<'_>, sets: &[ChainedSet])
     ensures { result ≡ list_all
         (λ c. not (is_denying_as record_type.0 c.judged) || is_made_by_zone zone.now c.judged) sets.now }
 {
-    sets.iter()
-        .all(|set| !is_denying(record_type, &set.judged) || is_made_by(zone, &set.judged))
+    sets.iter().all(|set| !is_denying(record_type, &set.judged) || is_made_by(zone, &set.judged))
 }
 
 // Whether a zone made the signature that decided.

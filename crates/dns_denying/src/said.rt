@@ -100,11 +100,7 @@ fn push_nsec3s(
 }
 
 // Adds what a record says, if it can be read as an NSEC3 record.
-fn push_nsec3(
-    alloc: Global,
-    nsec3s: &mut Vec<Nsec3Record>,
-    found: &Record,
-) -> Result<(), NoMemory>
+fn push_nsec3(alloc: Global, nsec3s: &mut Vec<Nsec3Record>, found: &Record) -> Result<(), NoMemory>
     ensures { OnOk result (nsec3s.new.items ≡ nsec3s.old.items ++ filter_map owned_nsec3 (found.now ∷ [])) }
 {
     if let Some(nsec3) = Nsec3Record::of(alloc, found)? {

@@ -84,6 +84,14 @@ fn is_derivation(alloc: Global, soft: u16, hard: u16) -> Option<bool> {
 #[test]
 fn a_trail_holds_by_limits_that_count_its_records(rt: HostRuntime) {
     let alloc = rt.alloc();
-    check_row(&rt, "by its own limits", Ok(is_derivation(alloc, 100, 500) == Some(true)));
-    check_row(&rt, "by less", Ok(is_derivation(alloc, 99, 500) == Some(false)));
+    check_row(
+        &rt,
+        "by its own limits",
+        Ok(is_derivation(alloc, 100, 500) == Some(true)),
+    );
+    check_row(
+        &rt,
+        "by less",
+        Ok(is_derivation(alloc, 99, 500) == Some(false)),
+    );
 }

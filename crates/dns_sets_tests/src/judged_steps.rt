@@ -184,13 +184,7 @@ fn outcome_to(
     row: &Row,
     sets: &[ChainedSet],
 ) -> Result<Outcome, NameError> {
-    Ok(outcome_of(
-        alloc,
-        &LIMITS,
-        query,
-        &response(alloc, row)?,
-        sets,
-    )?)
+    Ok(outcome_of(alloc, &LIMITS, query, &response(alloc, row)?, sets)?)
 }
 
 /// How a step of these sets ends.

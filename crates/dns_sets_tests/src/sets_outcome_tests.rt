@@ -1,5 +1,6 @@
 use crate::judged_steps::{
-    ANSWER, APEX, BOGUS, BY_EXAMPLE, COVERS_ML, LIMITS, NO_NAME, PLAIN, Row, Told, UNSIGNED, check_ends,
+    ANSWER, APEX, BOGUS, BY_EXAMPLE, COVERS_ML, LIMITS, NO_NAME, PLAIN, Row, Told, UNSIGNED,
+    check_ends,
 };
 use crate::rows::{check_count, check_row};
 use crate::sets_tests::{A, CNAME, Met, OVER_CNAME, OVER_EXPANDED, RRSIG, TXT, message, query};
@@ -77,13 +78,7 @@ const ENDED: &[Ended] = &[
 ];
 
 fn outcome_to(alloc: Global, query: &Query, records: &[Met]) -> Result<Outcome, NameError> {
-    Ok(outcome_of(
-        alloc,
-        &LIMITS,
-        query,
-        &message(alloc, records)?,
-        &[],
-    )?)
+    Ok(outcome_of(alloc, &LIMITS, query, &message(alloc, records)?, &[])?)
 }
 
 fn ends(alloc: Global, row: &Ended) -> Result<bool, NameError> {

@@ -137,8 +137,14 @@ fn begin<'a, V: Verifier>(
     iterations: IterationLimits,
 ) -> Result<Validation<'a, V>, NoMemory>
     ensures context { IfOk result (λ v. v.context
-        ≡ record { alloc = alloc; judge = judge.entry; query = query; request = request; options = options;
-          iterations = iterations }) }
+        ≡ record {
+          alloc = alloc;
+          judge = judge.entry;
+          query = query;
+          request = request;
+          options = options;
+          iterations = iterations;
+        }) }
     ensures begins { IfOk result (λ v. v.state ≡ begin_of query) }
     ensures run { IfOk result (λ v. Run (terms_of V.answers v.context) [] v.state) }
 {
