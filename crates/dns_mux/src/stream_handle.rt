@@ -1,4 +1,4 @@
-ghost use Rattle.std.specs.Prelude.{◌≡◌, ◌≢◌, ◌∷◌, ◌++◌, ℕ, List, [], length, drop, slice_get, option_copied, OnOk, OnErr, IfErr};
+ghost use Rattle.std.specs.Prelude.{◌≡◌, ◌≢◌, ◌∷◌, ◌++◌, ℕ, List, [], length, drop, slice_get, nat_le, option_copied, OnOk, OnErr, IfErr};
 ghost use Rattle.dns_handle.specs.declared.error.NetError.TheVariants.{NoMemory};
 ghost use Rattle.std.specs.declared.net.socket_addr.SocketAddr.{SocketAddr};
 ghost use Rattle.dns_mux.specs.Messages.{SerialMessageValue};
@@ -142,6 +142,13 @@ impl BufDnsStreamHandle {
             addr: remote,
             size: self.size,
         }
+    }
+
+    /// Whether the queue takes one message more. `false` exactly where `send` would answer that it is full.
+    pub fn has_room(&self, queue: &StreamReceiver) -> bool
+        ensures { result ≡ nat_le (length queue.now) self.now.buffer }
+    {
+        queue.len() <= self.size
     }
 }
 
