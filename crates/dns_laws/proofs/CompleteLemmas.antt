@@ -17,7 +17,7 @@ use Rattle.dns_model.specs.SoundAnswers.{Told}
 use Rattle.dns_model.specs.Trails.{AskedValue}
 use Rattle.dns_model.proofs.SetLemmas.{number_same, number_back}
 use Rattle.dns_model.proofs.QuestionLemmas.{same_parts, question_refl}
-use Rattle.dns_rules.specs.Asking.{Limits, depth_limit, effective, is_judged_at}
+use Rattle.dns_rules.specs.Asking.{Limits, effective, is_judged_at}
 use Rattle.dns_rules.specs.MarkedSets.{MarkedSet}
 use Rattle.dns_rules.specs.KeySets.{is_anchored_key}
 use Rattle.dns_rules.specs.Outcome.{foreign_record}

@@ -144,7 +144,7 @@ class_grounded g step told (Some r) settled h =
     ((and_parts (is_empty step.sets) (is_empty step.excuse) ((and_parts (is_foreign r step.ending) (is_bare step) h).1)).0)
 class_grounded g step told None settled h =
     let placed = judged_part step.depth told in
-    let ends = ending_holds g step told (outcome_of step.query told (with_entries placed step.sets)) in
+    let ends = ending_holds g step told (outcome_of g.limits step.query told (with_entries placed step.sets)) in
     entries_grounded g placed step.sets settled (judged_proper step.depth told) ((and_parts (entries_hold g placed step.sets) ends h).0)
 
 records_grounded : (g : StepContext) (step : AskedValue) (told : Told) (b : Bool) → EarlierSettled g

@@ -1,5 +1,5 @@
 -- What the Secure NSEC3 sets of an answer say is what they say as the answer's own records have them.
-use Rattle.std.proofs.Common.{◌≡◌, ℕ, Bool, true, false, ◌==◌, ◌&&◌, cond, List, [], ◌∷◌, ◌++◌, map, refl, sym, ap, ◌∙◌, subst, append-nil}
+use Rattle.std.proofs.Common.{◌≡◌, ℕ, Bool, true, false, ◌==◌, ◌&&◌, cond, List, [], ◌∷◌, ◌++◌, map, refl, sym, ap, ◌∙◌, append-nil}
 use Rattle.std.specs.List.{filter, filter_map, flat_map, cons_option, AllByRecursion}
 use Rattle.std.proofs.lemmas.List.Concat.{flat_map-append}
 use Rattle.dns_model.specs.declared.section.Section.{Section}
@@ -13,7 +13,7 @@ use Rattle.dns_model.proofs.EachLemmas.{each_more}
 use Rattle.dns_model.proofs.SetLemmas.{KeepsKey, on_set}
 use Rattle.dns_rules.specs.MarkedSets.{MarkedSet, placed_of}
 use Rattle.dns_rules.specs.Marking.{adjusted_ttl, marked_section}
-use Rattle.dns_rules.specs.Denying.{is_hash_denying, hash_denying, owned_nsec3, hashed_denials}
+use Rattle.dns_rules.specs.Denying.{is_hash_denying, owned_nsec3, hashed_denials}
 use Rattle.dns_rules.proofs.AfterLemmas.{unsigned}
 use Rattle.dns_rules.proofs.MarkedLemmas.{marked-keeps, IsKnown, each_known}
 use Rattle.dns_rules.proofs.SoundLemmas.{marked_first, own_marks, sets_of-marked, first_marked}
@@ -45,7 +45,7 @@ flat_map-alike f g (x ∷ xs) h = ap (λ one. one ++ flat_map f xs) h.0 ∙ ap (
 abbrev nothing : {X Y : Type 0} → X → List Y
 nothing x = []
 
-flat_map-none : {X Y : Type 0} (xs : List X) → flat_map (nothing {X} {Y}) xs ≡ []
+flat_map-none : {X Y : Type 0} (xs : List X) → flat_map (nothing {X = X} {Y = Y}) xs ≡ []
 flat_map-none [] = refl
 flat_map-none (x ∷ xs) = flat_map-none xs
 
