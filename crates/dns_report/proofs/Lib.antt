@@ -1,14 +1,14 @@
-mod LineLaws
-mod SpacedWords
-mod LineBlocks
-mod NameShapes
-mod MarkWords
-mod FieldWords
-mod TrailWords
-mod StepLines
-mod StepLaws
-mod ReportLines
-mod RecordLaws
-mod LinkLaws
-mod ReportLaw
-mod ChainLaw
+pub mod LineLaws
+pub mod SpacedWords
+pub mod LineBlocks
+pub mod NameShapes
+pub mod MarkWords
+pub mod FieldWords
+pub mod TrailWords
+pub mod StepLines
+pub mod StepLaws
+pub mod ReportLines
+pub mod RecordLaws
+pub mod LinkLaws
+pub mod ReportLaw
+pub mod ChainLaw

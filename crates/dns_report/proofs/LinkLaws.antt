@@ -21,26 +21,26 @@ use Rattle.dns_report.proofs.LineBlocks.{Tells, Same, blocks, one_line, starts, 
 use Rattle.dns_report.proofs.ReportLines.{link_of, front_of, chain_lines}
 
 -- what a fitting link's fields are
-record FitsAnchored (owner : Labels) (class : ℕ) (key : List ℕ) : Type 0 where
-  named : fitting_name owner ≡ true
-  classed : is_u16 class ≡ true
-  keyed : is_bytes key ≡ true
+pub record FitsAnchored (owner : Labels) (class : ℕ) (key : List ℕ) : Type 0 where
+  pub named : fitting_name owner ≡ true
+  pub classed : is_u16 class ≡ true
+  pub keyed : is_bytes key ≡ true
 
-fits_anchored : (owner : Labels) (class : ℕ) (key : List ℕ) → fitting_link (Anchored owner class key) ≡ true
+pub fits_anchored : (owner : Labels) (class : ℕ) (key : List ℕ) → fitting_link (Anchored owner class key) ≡ true
     → FitsAnchored owner class key
 fits_anchored owner class key h =
     let a = and_parts (fitting_name owner) (is_u16 class && is_bytes key) h in
     let b = and_parts (is_u16 class) (is_bytes key) a.1 in
     record { named = a.0; classed = b.0; keyed = b.1 }
 
-record FitsMatched (owner : Labels) (class : ℕ) (key : List ℕ) (ds_link : ℕ) (ds : List ℕ) : Type 0 where
-  named : fitting_name owner ≡ true
-  classed : is_u16 class ≡ true
-  keyed : is_bytes key ≡ true
-  linked : is_u32 ds_link ≡ true
-  shown : is_bytes ds ≡ true
+pub record FitsMatched (owner : Labels) (class : ℕ) (key : List ℕ) (ds_link : ℕ) (ds : List ℕ) : Type 0 where
+  pub named : fitting_name owner ≡ true
+  pub classed : is_u16 class ≡ true
+  pub keyed : is_bytes key ≡ true
+  pub linked : is_u32 ds_link ≡ true
+  pub shown : is_bytes ds ≡ true
 
-fits_matched : (owner : Labels) (class : ℕ) (key : List ℕ) (ds_link : ℕ) (ds : List ℕ)
+pub fits_matched : (owner : Labels) (class : ℕ) (key : List ℕ) (ds_link : ℕ) (ds : List ℕ)
     → fitting_link (Matched owner class key ds_link ds) ≡ true
     → FitsMatched owner class key ds_link ds
 fits_matched owner class key ds_link ds h =
@@ -50,28 +50,28 @@ fits_matched owner class key ds_link ds h =
     let d = and_parts (is_u32 ds_link) (is_bytes ds) c.1 in
     record { named = a.0; classed = b.0; keyed = c.0; linked = d.0; shown = d.1 }
 
-record FitsKeySet (owner : Labels) (class : ℕ) (keys : List Numbered) : Type 0 where
-  named : fitting_name owner ≡ true
-  classed : is_u16 class ≡ true
-  keyed : list_all fitting_key keys ≡ true
+pub record FitsKeySet (owner : Labels) (class : ℕ) (keys : List Numbered) : Type 0 where
+  pub named : fitting_name owner ≡ true
+  pub classed : is_u16 class ≡ true
+  pub keyed : list_all fitting_key keys ≡ true
 
-fits_key_set : (owner : Labels) (class : ℕ) (keys : List Numbered) → fitting_link (KeySet owner class keys) ≡ true
+pub fits_key_set : (owner : Labels) (class : ℕ) (keys : List Numbered) → fitting_link (KeySet owner class keys) ≡ true
     → FitsKeySet owner class keys
 fits_key_set owner class keys h =
     let a = and_parts (fitting_name owner) (is_u16 class && list_all fitting_key keys) h in
     let b = and_parts (is_u16 class) (list_all fitting_key keys) a.1 in
     record { named = a.0; classed = b.0; keyed = b.1 }
 
-record FitsSigned (owner : Labels) (class rtype : ℕ) (rdatas : List (List ℕ)) (sig : List ℕ) (key_link : ℕ) (key : List ℕ) : Type 0 where
-  named : fitting_name owner ≡ true
-  classed : is_u16 class ≡ true
-  typed : is_u16 rtype ≡ true
-  linked : is_u32 key_link ≡ true
-  keyed : is_bytes key ≡ true
-  signed : is_bytes sig ≡ true
-  listed : list_all is_bytes rdatas ≡ true
+pub record FitsSigned (owner : Labels) (class rtype : ℕ) (rdatas : List (List ℕ)) (sig : List ℕ) (key_link : ℕ) (key : List ℕ) : Type 0 where
+  pub named : fitting_name owner ≡ true
+  pub classed : is_u16 class ≡ true
+  pub typed : is_u16 rtype ≡ true
+  pub linked : is_u32 key_link ≡ true
+  pub keyed : is_bytes key ≡ true
+  pub signed : is_bytes sig ≡ true
+  pub listed : list_all is_bytes rdatas ≡ true
 
-fits_signed : (owner : Labels) (class rtype : ℕ) (rdatas : List (List ℕ)) (sig : List ℕ) (key_link : ℕ) (key : List ℕ)
+pub fits_signed : (owner : Labels) (class rtype : ℕ) (rdatas : List (List ℕ)) (sig : List ℕ) (key_link : ℕ) (key : List ℕ)
     → fitting_link (Signed owner class rtype rdatas sig key_link key) ≡ true
     → FitsSigned owner class rtype rdatas sig key_link key
 fits_signed owner class rtype rdatas sig key_link key h =
@@ -86,7 +86,7 @@ fits_signed owner class rtype rdatas sig key_link key h =
     let f = and_parts (is_bytes sig) (list_all is_bytes rdatas) e.1 in
     record { named = a.0; classed = b.0; typed = c.0; linked = d.0; keyed = e.0; signed = f.0; listed = f.1 }
 
-link_good : (l : Shown) → fitting_link l ≡ true → is_line (link_of l) ≡ true
+pub link_good : (l : Shown) → fitting_link l ≡ true → is_line (link_of l) ≡ true
 link_good (Anchored owner class key) h =
     let f =
     fits_anchored owner class key h in rw
@@ -174,11 +174,11 @@ link_tells (Signed o c t r x m k) (Signed p d u s y n l) first second h =
 
 -- ---- chains
 
-record FitsChain (chain : ChainView) : Type 0 where
-  count : length chain.links < 2 ^ 64
-  links : list_all fitting_link chain.links ≡ true
+pub record FitsChain (chain : ChainView) : Type 0 where
+  pub count : length chain.links < 2 ^ 64
+  pub links : list_all fitting_link chain.links ≡ true
 
-fits_chain : (chain : ChainView) → fitting_chain chain ≡ true → FitsChain chain
+pub fits_chain : (chain : ChainView) → fitting_chain chain ≡ true → FitsChain chain
 fits_chain chain h =
     let parts = and_parts (nat_lt (length chain.links) (2 ^ 64)) (list_all fitting_link chain.links) h in
     record { count = ltb-true _ _ parts.0; links = parts.1 }
@@ -208,7 +208,7 @@ pub chains_tell : (cs ds : List ChainView) (x y : List Line) → list_all fittin
     → blocks chain_lines cs x ≡ blocks chain_lines ds y → Same cs ds x y
 chains_tell = blocks_tell chain_lines fitting_chain (named (codes "chain")) chain_tells (λ c x. refl)
 
-chain_good : (c : ChainView) (more : List Line) → fitting_chain c ≡ true → list_all is_line more ≡ true
+pub chain_good : (c : ChainView) (more : List Line) → fitting_chain c ≡ true → list_all is_line more ≡ true
     → list_all is_line (chain_lines c more) ≡ true
 chain_good c more h rest =
     let f = fits_chain c h in

@@ -24,14 +24,14 @@ use Rattle.dns_report.proofs.LineBlocks.{Same, one_line, starts, named, one_line
 use Rattle.dns_report.proofs.ReportLines.{record_of, section_lines}
 
 -- what a fitting record's fields are
-record Fields (r : Rr) : Type 0 where
-  owner : fitting_name r.owner ≡ true
-  class : is_u16 r.class ≡ true
-  rtype : is_u16 r.rtype ≡ true
-  ttl : is_u32 r.ttl ≡ true
-  rdata : is_bytes r.rdata ≡ true
+pub record Fields (r : Rr) : Type 0 where
+  pub owner : fitting_name r.owner ≡ true
+  pub class : is_u16 r.class ≡ true
+  pub rtype : is_u16 r.rtype ≡ true
+  pub ttl : is_u32 r.ttl ≡ true
+  pub rdata : is_bytes r.rdata ≡ true
 
-fields_of : (r : Rr) → fitting_record r ≡ true → Fields r
+pub fields_of : (r : Rr) → fitting_record r ≡ true → Fields r
 fields_of r h =
     let a =
     and_parts (fitting_name r.owner) (is_u16 r.class && (is_u16 r.rtype && (is_u32 r.ttl && is_bytes r.rdata))) h in
@@ -40,7 +40,7 @@ fields_of r h =
     let d = and_parts (is_u32 r.ttl) (is_bytes r.rdata) c.1 in
     record { owner = a.0; class = b.0; rtype = c.0; ttl = d.0; rdata = d.1 }
 
-record_good : (section : Section) (r : Rr) → fitting_record r ≡ true → is_line (record_of section r) ≡ true
+pub record_good : (section : Section) (r : Rr) → fitting_record r ≡ true → is_line (record_of section r) ≡ true
 record_good section r h =
     let f = fields_of r h in
     rw (

@@ -22,15 +22,15 @@ use Rattle.dns_report.proofs.StepLines.{trail_lines}
 use Rattle.dns_report.proofs.StepLaws.{trail_tells, trail_good}
 use Rattle.dns_report.proofs.ReportLines.{record_of, section_lines, chain_lines, last, later_lines, lines_of, text_is_lines}
 
-record Fitting (v : View) : Type 0 where
-  code : is_u16 v.code ≡ true
-  answers : list_all fitting_record v.answers ≡ true
-  authorities : list_all fitting_record v.authorities ≡ true
-  additionals : list_all fitting_record v.additionals ≡ true
-  chains : list_all fitting_chain v.chains ≡ true
-  trail : fitting_trail v.trail ≡ true
+pub record Fitting (v : View) : Type 0 where
+  pub code : is_u16 v.code ≡ true
+  pub answers : list_all fitting_record v.answers ≡ true
+  pub authorities : list_all fitting_record v.authorities ≡ true
+  pub additionals : list_all fitting_record v.additionals ≡ true
+  pub chains : list_all fitting_chain v.chains ≡ true
+  pub trail : fitting_trail v.trail ≡ true
 
-fitting : (v : View) → fitting_view v ≡ true → Fitting v
+pub fitting : (v : View) → fitting_view v ≡ true → Fitting v
 fitting v h =
     let later = list_all fitting_chain v.chains && fitting_trail v.trail in
     let a =
@@ -46,7 +46,7 @@ fitting v h =
 
 -- ---- which line comes next
 
-trail_begins : (section : Section) (trail : Option (List StepView))
+pub trail_begins : (section : Section) (trail : Option (List StepView))
     → starts (named (section_word section)) (trail_lines trail last) ≡ false
 trail_begins Answer None = refl
 trail_begins Answer (Some steps) = refl
@@ -55,7 +55,7 @@ trail_begins Authority (Some steps) = refl
 trail_begins Additional None = refl
 trail_begins Additional (Some steps) = refl
 
-trail_no_chain : (trail : Option (List StepView)) → starts (named (codes "chain")) (trail_lines trail last) ≡ false
+pub trail_no_chain : (trail : Option (List StepView)) → starts (named (codes "chain")) (trail_lines trail last) ≡ false
 trail_no_chain None = refl
 trail_no_chain (Some steps) = refl
 
@@ -65,18 +65,18 @@ chain_begins Answer c more = refl
 chain_begins Authority c more = refl
 chain_begins Additional c more = refl
 
-later_begins : (section : Section) (v : View) → starts (named (section_word section)) (later_lines v) ≡ false
+pub later_begins : (section : Section) (v : View) → starts (named (section_word section)) (later_lines v) ≡ false
 later_begins section v =
     blocks_start chain_lines (named (section_word section)) (chain_begins section) v.chains (trail_lines v.trail last)
     (trail_begins section v.trail)
 
-additionals_begin : (v : View)
+pub additionals_begin : (v : View)
     → starts (named (section_word Authority)) (section_lines Additional v.additionals (later_lines v)) ≡ false
 additionals_begin v =
     blocks_start (one_line (record_of Additional)) (named (section_word Authority)) (λ r x. refl) v.additionals
     (later_lines v) (later_begins Authority v)
 
-others_begin : (v : View)
+pub others_begin : (v : View)
     → starts (named (section_word Answer))
     (section_lines Authority v.authorities (section_lines Additional v.additionals (later_lines v))) ≡ false
 others_begin v =
@@ -128,7 +128,7 @@ lines_tell v w first second h =
     (denial_injective v.denial w.denial denial) answers.value authorities.value additionals.value
     chains.value (trail_tells v.trail w.trail last last f.trail g.trail refl refl chains.rest)
 
-lines_good : (v : View) → fitting_view v ≡ true → list_all is_line (lines_of v) ≡ true
+pub lines_good : (v : View) → fitting_view v ≡ true → list_all is_line (lines_of v) ≡ true
 lines_good v h =
     let f = fitting v h in
     let later = chains_good v.chains (trail_lines v.trail last) f.chains (trail_good v.trail last f.trail refl) in

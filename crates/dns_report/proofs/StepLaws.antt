@@ -33,14 +33,14 @@ use Rattle.dns_report.proofs.StepLines.{step_of, got_of, told_of, told_in, told_
 
 -- ---- records as they were told
 
-record FitsTold (r : ToldRecord) : Type 0 where
-  owner : fitting_name r.owner ≡ true
-  class : is_u16 r.class ≡ true
-  rtype : is_u16 r.rtype ≡ true
-  ttl : is_u32 r.ttl ≡ true
-  rdata : is_bytes r.rdata ≡ true
+pub record FitsTold (r : ToldRecord) : Type 0 where
+  pub owner : fitting_name r.owner ≡ true
+  pub class : is_u16 r.class ≡ true
+  pub rtype : is_u16 r.rtype ≡ true
+  pub ttl : is_u32 r.ttl ≡ true
+  pub rdata : is_bytes r.rdata ≡ true
 
-fits_told : (r : ToldRecord) → fitting_told r ≡ true → FitsTold r
+pub fits_told : (r : ToldRecord) → fitting_told r ≡ true → FitsTold r
 fits_told r h =
     let a =
     and_parts (fitting_name r.owner) (is_u16 r.class && (is_u16 r.rtype && (is_u32 r.ttl && is_bytes r.rdata))) h in
@@ -49,7 +49,7 @@ fits_told r h =
     let d = and_parts (is_u32 r.ttl) (is_bytes r.rdata) c.1 in
     record { owner = a.0; class = b.0; rtype = c.0; ttl = d.0; rdata = d.1 }
 
-told_good : (section : Section) (r : ToldRecord) → fitting_told r ≡ true → is_line (told_of section r) ≡ true
+pub told_good : (section : Section) (r : ToldRecord) → fitting_told r ≡ true → is_line (told_of section r) ≡ true
 told_good section r h =
     let f = fits_told r h in
     rw (section_is_word section, printed_word r.owner, class_good r.class f.class, type_good r.rtype f.rtype, number_good r.ttl f.ttl, octets_is_word r.rdata f.rdata) refl
@@ -81,7 +81,7 @@ told_tells section r q first second h =
     (octets_injective r.rdata q.rdata f.rdata g.rdata rdata)
 
 -- the line of a record that was told in this section
-abbrev is_told : Section → Line → Bool
+abbrev pub is_told : Section → Line → Bool
 is_told section l = bytes_eq l.0 (codes "told") && bytes_eq (get_or l.1 0 []) (section_word section)
 
 told_shows : (section : Section) (r : ToldRecord) (x : List Line)
@@ -104,17 +104,17 @@ told_in_good section =
     (one_line_good (told_of section) fitting_told (told_good section))
 
 -- no told line follows
-record Untold (x : List Line) : Type 0 where
-  answers : starts (is_told Answer) x ≡ false
-  authorities : starts (is_told Authority) x ≡ false
-  additionals : starts (is_told Additional) x ≡ false
+pub record Untold (x : List Line) : Type 0 where
+  pub answers : starts (is_told Answer) x ≡ false
+  pub authorities : starts (is_told Authority) x ≡ false
+  pub additionals : starts (is_told Additional) x ≡ false
 
-additionals_start : (rs : List ToldRecord) (x : List Line) → Untold x
+pub additionals_start : (rs : List ToldRecord) (x : List Line) → Untold x
     → starts (is_told Authority) (told_in Additional rs x) ≡ false
 additionals_start rs x after =
     blocks_start (one_line (told_of Additional)) (is_told Authority) (λ r x. refl) rs x after.authorities
 
-others_start : (qs rs : List ToldRecord) (x : List Line) → Untold x
+pub others_start : (qs rs : List ToldRecord) (x : List Line) → Untold x
     → starts (is_told Answer) (told_in Authority qs (told_in Additional rs x)) ≡ false
 others_start qs rs x after =
     blocks_start (one_line (told_of Authority)) (is_told Answer) (λ r x. refl) qs (told_in Additional rs x)
@@ -122,13 +122,13 @@ others_start qs rs x after =
 
 -- ---- what was heard
 
-record FitsRecords (code : ℕ) (answers authorities additionals : List ToldRecord) : Type 0 where
-  coded : is_u16 code ≡ true
-  first : list_all fitting_told answers ≡ true
-  second : list_all fitting_told authorities ≡ true
-  third : list_all fitting_told additionals ≡ true
+pub record FitsRecords (code : ℕ) (answers authorities additionals : List ToldRecord) : Type 0 where
+  pub coded : is_u16 code ≡ true
+  pub first : list_all fitting_told answers ≡ true
+  pub second : list_all fitting_told authorities ≡ true
+  pub third : list_all fitting_told additionals ≡ true
 
-fits_records : (code : ℕ) (empty : Bool) (a u n : List ToldRecord) → fitting_heard (Records code empty a u n) ≡ true
+pub fits_records : (code : ℕ) (empty : Bool) (a u n : List ToldRecord) → fitting_heard (Records code empty a u n) ≡ true
     → FitsRecords code a u n
 fits_records code empty a u n h =
     let p =
@@ -173,11 +173,11 @@ heard_tells Fault (Records d f b v m) x y first second before after got h =
     no_number d (codes "fault") (omega (arith, le)) refl (sym code)
 heard_tells Fault Fault x y first second before after got h = record { value = refl; rest = h }
 
-got_good : (reply : HeardView) → fitting_heard reply ≡ true → is_line (got_of reply) ≡ true
+pub got_good : (reply : HeardView) → fitting_heard reply ≡ true → is_line (got_of reply) ≡ true
 got_good (Records c e a u n) h = rw (small_good c (fits_records c e a u n h).coded, empty_good e) refl
 got_good Fault h = refl
 
-heard_good : (reply : HeardView) (more : List Line) → fitting_heard reply ≡ true → list_all is_line more ≡ true
+pub heard_good : (reply : HeardView) (more : List Line) → fitting_heard reply ≡ true → list_all is_line more ≡ true
     → list_all is_line (told_lines reply more) ≡ true
 heard_good (Records c e a u n) more h rest =
     let f = fits_records c e a u n h in
@@ -187,14 +187,14 @@ heard_good Fault more h rest = rest
 
 -- ---- sets and endings
 
-record FitsSet (s : JudgedSetValue) : Type 0 where
-  owner : fitting_name s.owner ≡ true
-  rtype : is_u16 s.rtype ≡ true
-  origin : fitting_origin s.origin ≡ true
-  place : fitting_place s.sig ≡ true
-  asked : list_all fitting_ask s.asked ≡ true
+pub record FitsSet (s : JudgedSetValue) : Type 0 where
+  pub owner : fitting_name s.owner ≡ true
+  pub rtype : is_u16 s.rtype ≡ true
+  pub origin : fitting_origin s.origin ≡ true
+  pub place : fitting_place s.sig ≡ true
+  pub asked : list_all fitting_ask s.asked ≡ true
 
-fits_set : (s : JudgedSetValue) → fitting_set s ≡ true → FitsSet s
+pub fits_set : (s : JudgedSetValue) → fitting_set s ≡ true → FitsSet s
 fits_set s h =
     let a =
     and_parts (fitting_name s.owner)
@@ -205,7 +205,7 @@ fits_set s h =
     let d = and_parts (fitting_place s.sig) (list_all fitting_ask s.asked) c.1 in
     record { owner = a.0; rtype = b.0; origin = c.0; place = d.0; asked = d.1 }
 
-set_good : (s : JudgedSetValue) → fitting_set s ≡ true → is_line (set_of s) ≡ true
+pub set_good : (s : JudgedSetValue) → fitting_set s ≡ true → is_line (set_of s) ≡ true
 set_good s h =
     let f = fits_set s h in
     rw (
@@ -255,7 +255,7 @@ sets_tell : (ss ts : List JudgedSetValue) (x y : List Line) → list_all fitting
     → blocks (one_line set_of) ss x ≡ blocks (one_line set_of) ts y → Same ss ts x y
 sets_tell = blocks_tell (one_line set_of) fitting_set (named (codes "set")) (one_line_tells set_of fitting_set set_tells) (λ s x. refl)
 
-ending_line_good : (e : EndingValue) (asks : List AskRef) → fitting_ending e ≡ true → list_all fitting_ask asks ≡ true
+pub ending_line_good : (e : EndingValue) (asks : List AskRef) → fitting_ending e ≡ true → list_all fitting_ask asks ≡ true
     → is_line (ending_of e asks) ≡ true
 ending_line_good e asks h asked =
     rw (list_all-append is_word (ending_words e) (map ask_word asks), ending_good e h, each_good ask_word fitting_ask ask_good asks asked) refl
@@ -266,7 +266,7 @@ judged_start : (is_one : Line → Bool) (s : StepView) (more : List Line)
 judged_start is_one s more set ending =
     blocks_start (one_line set_of) is_one (λ t x. set t) s.sets (ending_of s.ending s.excuse ∷ more) ending
 
-judged_untold : (s : StepView) (more : List Line) → Untold (judged_lines s more)
+pub judged_untold : (s : StepView) (more : List Line) → Untold (judged_lines s more)
 judged_untold s more = record {
   answers = judged_start (is_told Answer) s more (λ t. refl) refl;
   authorities = judged_start (is_told Authority) s more (λ t. refl) refl;
@@ -275,16 +275,16 @@ judged_untold s more = record {
 
 -- ---- steps
 
-record FitsStep (s : StepView) : Type 0 where
-  depth : is_u16 s.depth ≡ true
-  owner : fitting_name s.owner ≡ true
-  rtype : is_u16 s.rtype ≡ true
-  reply : fitting_heard s.reply ≡ true
-  sets : list_all fitting_set s.sets ≡ true
-  ending : fitting_ending s.ending ≡ true
-  excuse : list_all fitting_ask s.excuse ≡ true
+pub record FitsStep (s : StepView) : Type 0 where
+  pub depth : is_u16 s.depth ≡ true
+  pub owner : fitting_name s.owner ≡ true
+  pub rtype : is_u16 s.rtype ≡ true
+  pub reply : fitting_heard s.reply ≡ true
+  pub sets : list_all fitting_set s.sets ≡ true
+  pub ending : fitting_ending s.ending ≡ true
+  pub excuse : list_all fitting_ask s.excuse ≡ true
 
-fits_step : (s : StepView) → fitting_step s ≡ true → FitsStep s
+pub fits_step : (s : StepView) → fitting_step s ≡ true → FitsStep s
 fits_step s h =
     let last = fitting_ending s.ending && list_all fitting_ask s.excuse in
     let a =
@@ -298,11 +298,11 @@ fits_step s h =
     let f = and_parts (fitting_ending s.ending) (list_all fitting_ask s.excuse) e.1 in
     record { depth = a.0; owner = b.0; rtype = c.0; reply = d.0; sets = e.0; ending = f.0; excuse = f.1 }
 
-step_line_good : (s : StepView) → FitsStep s → is_line (step_of s) ≡ true
+pub step_line_good : (s : StepView) → FitsStep s → is_line (step_of s) ≡ true
 step_line_good s f =
     rw (small_good s.depth f.depth, purpose_good s.judged, printed_word s.owner, type_good s.rtype f.rtype) refl
 
-step_good : (s : StepView) (more : List Line) → fitting_step s ≡ true → list_all is_line more ≡ true
+pub step_good : (s : StepView) (more : List Line) → fitting_step s ≡ true → list_all is_line more ≡ true
     → list_all is_line (step_lines s more) ≡ true
 step_good s more h rest =
     let f = fits_step s h in
@@ -360,11 +360,11 @@ step_tells s t x y first second h =
 
 -- ---- the trail
 
-record FitsTrail (steps : List StepView) : Type 0 where
-  count : length steps < 2 ^ 64
-  each : list_all fitting_step steps ≡ true
+pub record FitsTrail (steps : List StepView) : Type 0 where
+  pub count : length steps < 2 ^ 64
+  pub each : list_all fitting_step steps ≡ true
 
-fits_trail : (steps : List StepView) → fitting_trail (Some steps) ≡ true → FitsTrail steps
+pub fits_trail : (steps : List StepView) → fitting_trail (Some steps) ≡ true → FitsTrail steps
 fits_trail steps h =
     let parts = and_parts (nat_lt (length steps) (2 ^ 64)) (list_all fitting_step steps) h in
     record { count = ltb-true _ _ parts.0; each = parts.1 }

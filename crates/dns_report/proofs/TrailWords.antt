@@ -132,13 +132,13 @@ place_good (Some n) h = number_good n h
 
 -- ---- endings
 
-record FitsForeign (owner : Labels) (class rtype : ℕ) : Type 0 where
-  named : is_name owner ≡ true
-  spelled : list_all is_bytes owner ≡ true
-  classed : is_u16 class ≡ true
-  typed : is_u16 rtype ≡ true
+pub record FitsForeign (owner : Labels) (class rtype : ℕ) : Type 0 where
+  pub named : is_name owner ≡ true
+  pub spelled : list_all is_bytes owner ≡ true
+  pub classed : is_u16 class ≡ true
+  pub typed : is_u16 rtype ≡ true
 
-fits_foreign : (owner : Labels) (class rtype : ℕ) → fitting_ending (Foreign owner class rtype) ≡ true
+pub fits_foreign : (owner : Labels) (class rtype : ℕ) → fitting_ending (Foreign owner class rtype) ≡ true
     → FitsForeign owner class rtype
 fits_foreign owner class rtype h =
     let a = and_parts (fitting_name owner) (is_u16 class && is_u16 rtype) h in
