@@ -81,7 +81,7 @@ fn end<'a>(lines: Lines<'a>) -> Result<(), SessionStop>
 /// The report that the next lines are, with which the text ends. Lines end with LF, words are separated by one space.
 ///
 /// `BadLine` has the number of the first line that can't stand at its place, is missing or has no LF; the line after the last is bad
-/// where anything follows. No memory is taken for more links or steps than there are lines.
+/// where anything follows.
 #[tactic(auto, unfolding(crate::specs::ReportGrammar::report_at))]
 pub fn read_report<'a>(alloc: Global, lines: Lines<'a>) -> Result<Report, SessionStop>
     ensures { ReadsAs (λ r. r) result (report_at lines.entry) }
