@@ -13,6 +13,7 @@ use Rattle.dns_rules.specs.MarkedSets.{MarkedSet}
 use Rattle.dns_rules.specs.Marks.{Verdict, is_proved, is_skipped, judged_by, verdict_of}
 use Rattle.dns_rules.specs.Unsigned.{unsigned_mark}
 use Rattle.dns_rules.proofs.ChainedLemmas.{chained_verdict-bare}
+use Rattle.dns_trust.specs.Beside.{outcome_beside, chained_beside}
 use Rattle.dns_flow.specs.Phases.{GotValue, Answer, Probe, answer_in, probe_in, PhaseValue, Marked, NeedsDs, Trying, AtName, AtZone, Concluded, SetEnds, found, after_probe, first_signatures, unasked, try_from, after_verdict, after_signature, signature_need, turn, after}
 use Rattle.dns_flow.specs.Leads.{chainless, bare_set, bare_verdict, bare_phase, bare_need, bare_got}
 
