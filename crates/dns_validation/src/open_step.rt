@@ -52,7 +52,8 @@ impl Model for StepSoFar {
 /// A step, and how far its next set has come, or its ending.
 #[derive(Drop)]
 pub(crate) struct OpenStep {
-    pub(crate) so_far: StepSoFar,
+    /// In a box, since each turn moves the step.
+    pub(crate) so_far: Box<StepSoFar>,
     /// What the set, or the ending, asked.
     pub(crate) asked: Vec<AskRef>,
     pub(crate) phase: Phase,
@@ -64,7 +65,7 @@ impl Model for OpenStep {
 
     ghost Value = { OpenValue };
 
-    ghost view = { λ s. record { so_far = s.so_far; asked = s.asked.items; phase = phase_value s.phase } };
+    ghost view = { λ s. record { so_far = s.so_far.value; asked = s.asked.items; phase = phase_value s.phase } };
 }
 
 /// A step opens.
@@ -88,12 +89,16 @@ pub(crate) fn open_step<V: Verifier>(
         sets: Vec::new(alloc),
         entries: Vec::new(alloc),
     };
+    let so_far = Box::new(alloc, so_far)?;
     next_item(context, so_far)
 }
 
 // The next set of a step begins, or its ending.
-fn next_item<V: Verifier>(context: &Context<'_, V>, so_far: StepSoFar) -> Result<OpenStep, NoMemory>
-    ensures { IfOk result (λ s. s ≡ next_item_of (terms_of V.answers context.now) so_far) }
+fn next_item<V: Verifier>(
+    context: &Context<'_, V>,
+    so_far: Box<StepSoFar>,
+) -> Result<OpenStep, NoMemory>
+    ensures { IfOk result (λ s. s ≡ next_item_of (terms_of V.answers context.now) so_far.value) }
 {
     let mut so_far = so_far;
     let next = next_set(&mut so_far);
@@ -148,11 +153,11 @@ fn phase_of<V: Verifier>(
 /// The set of a step is judged.
 pub(crate) fn set_ended<V: Verifier>(
     context: &Context<'_, V>,
-    so_far: StepSoFar,
+    so_far: Box<StepSoFar>,
     asked: Vec<AskRef>,
     set: ChainedSet,
 ) -> Result<OpenStep, NoMemory>
-    ensures { IfOk result (λ s. s ≡ set_ended_of (terms_of V.answers context.now) so_far asked.items set) }
+    ensures { IfOk result (λ s. s ≡ set_ended_of (terms_of V.answers context.now) so_far.value asked.items set) }
 {
     let mut so_far = so_far;
     add_set(&mut so_far, asked, set)?;

@@ -185,7 +185,10 @@ fn turn_step<V: Verifier>(
             let step = set_ended(context, so_far, asked, set)?;
             put(state, step)
         }
-        Need::StepEnds(outcome) => end_step(context, state, so_far, asked, outcome),
+        Need::StepEnds(outcome) => {
+            let so_far = Box::into_inner(so_far);
+            end_step(context, state, so_far, asked, outcome)
+        }
         Need::Asks(ask, phase) => {
             let step = OpenStep {
                 so_far,
