@@ -20,8 +20,8 @@ use crate::context::Context;
 use crate::open_step::open_step;
 use crate::receiving::{Received, ReceivedMessage, receive};
 use crate::state::{State, add_step, put};
-use crate::steps::{StepEnd, ended, foreign_of, only_seen, records_of};
-use dns_evidence::{Ending, Reply, Verifier};
+use crate::steps::{StepEnd, by_fault, ended, foreign_of, only_seen, records_of};
+use dns_evidence::{Ending, Verifier};
 use dns_flow::{Ask, Got, probe_of as probe_in};
 use dns_handle::{DnsResponse, NetError};
 use dns_name::NoMemory;
@@ -156,13 +156,7 @@ fn hear_judged<V: Verifier>(
         (as_received received)) }
 {
     match received {
-        Received::Failed(_) => {
-            let end = StepEnd {
-                reply: Reply::Fault,
-                ending: Ending::Failed,
-            };
-            end_bare(context, state, query, depth, end)
-        }
+        Received::Failed(_) => end_bare(context, state, query, depth, by_fault()),
         Received::Message(received) => hear_nested(context, state, query, depth, received),
     }
 }
@@ -219,11 +213,7 @@ fn hear_plain<V: Verifier>(
 {
     match received {
         Received::Failed(_) => {
-            let end = StepEnd {
-                reply: Reply::Fault,
-                ending: Ending::Failed,
-            };
-            let step = only_seen(context.alloc, query, depth, end);
+            let step = only_seen(context.alloc, query, depth, by_fault());
             add_step(context, state, step, Got::Probe(NsProbe::Failed))
         }
         Received::Message(received) => see(context, state, query, depth, received),

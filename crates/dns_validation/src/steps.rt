@@ -3,7 +3,7 @@
 ghost use Rattle.std.specs.Prelude.{◌≡◌, ◌+◌, IfOk, length};
 ghost use Rattle.std.specs.Option.{option_map};
 ghost use Rattle.dns_model.specs.SoundAnswers.{told_by};
-ghost use Rattle.dns_model.specs.Trails.{Records};
+ghost use Rattle.dns_model.specs.Trails.{Failed, Fault, Records};
 ghost use Rattle.dns_rules.specs.Derivation.{ending_by};
 ghost use Rattle.dns_rules.specs.Outcome.{foreign_record as foreign_in};
 ghost use Rattle.dns_evidence.specs.Trail.{heard_value, ending_value};
@@ -25,6 +25,17 @@ use std::alloc::Global;
 pub(crate) struct StepEnd {
     pub(crate) reply: Reply,
     pub(crate) ending: Ending,
+}
+
+/// A step that heard a fault failed.
+pub(crate) fn by_fault() -> StepEnd
+    ensures reply { heard_value result.reply ≡ Fault }
+    ensures ending { ending_value result.ending ≡ Failed }
+{
+    StepEnd {
+        reply: Reply::Fault,
+        ending: Ending::Failed,
+    }
 }
 
 /// A step of a query whose sets are judged, by how it ends and by the asks on which that stands.
