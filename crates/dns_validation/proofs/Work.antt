@@ -1,20 +1,19 @@
 -- How many turns an open step has left, where its asks are refused: each turn leaves fewer.
-use Rattle.std.proofs.Common.{ℕ, suc, zero, ◌+◌, ◌-◌, ◌*◌, ◌≡◌, ◌≤◌, ◌<◌, Bool, true, false, not, ◌&&◌, List, [], ◌∷◌, ◌++◌, length, take, drop, Option, None, Some, slice_get, if◌then◌else◌, refl, sym, ap, subst, ◌∙◌, arith}
+use Rattle.std.proofs.Common.{ℕ, suc, zero, ◌+◌, ◌-◌, ◌*◌, ◌≡◌, ◌≤◌, ◌<◌, Bool, true, false, not, ◌&&◌, List, [], ◌∷◌, ◌++◌, length, take, drop, Option, None, Some, slice_get, if◌then◌else◌, refl, sym, ap, subst, arith}
 use Rattle.std.specs.Option.{option_and_then}
 use Rattle.std.proofs.lemmas.List.{length_push}
 use Rattle.dns_model.specs.declared.trail.AskRef.{AskRef}
 use Rattle.dns_model.specs.declared.trail.AskRef.TheVariants.{Step}
 use Rattle.dns_model.specs.declared.proof.Proof.{Proof}
 use Rattle.dns_model.specs.Names.{Labels}
-use Rattle.dns_model.specs.Records.{Rr, RrSet, Question}
+use Rattle.dns_model.specs.Records.{Rr, Question}
 use Rattle.dns_model.specs.Chains.{Judge}
 use Rattle.dns_model.specs.SoundAnswers.{Told, PlacedSet, told_by}
 use Rattle.dns_model.specs.Trails.{AskedValue}
 use Rattle.dns_rules.specs.Asking.{Limits, ask_of}
 use Rattle.dns_rules.specs.ChainedSets.{ChainedSet, ChainedVerdict, bare, chained_verdict}
-use Rattle.dns_rules.specs.KeySets.{needs_ds}
 use Rattle.dns_rules.specs.MarkedSets.{MarkedSet}
-use Rattle.dns_rules.specs.Marks.{is_proved, is_skipped, most_signatures}
+use Rattle.dns_rules.specs.Marks.{is_proved, is_skipped}
 use Rattle.dns_rules.specs.Outcome.{Outcome, Given, NeedsZone, Denied, outcome_of}
 use Rattle.dns_rules.specs.Unsigned.{question_start}
 use Rattle.dns_handle.specs.Errors.{Reply}
@@ -22,8 +21,8 @@ use Rattle.dns_flow.specs.declared.asks.Ask.{Ask}
 use Rattle.dns_flow.specs.declared.phases.Seeker.{Seeker}
 use Rattle.dns_flow.specs.declared.phases.Seeker.TheVariants.{Set, Ending}
 use Rattle.dns_flow.specs.Leads.{entry_of}
-use Rattle.dns_flow.specs.Phases.{PhaseValue, Marked, NeedsDs, Trying, AtName, AtZone, Concluded, NeedValue, SetEnds, StepEnds, Asks, GotValue, Answer, Probe, found, search_at, first_signatures, unasked, try_from, after_verdict, after_signature, signature_need, start_by, start_ending, turn, after}
-use Rattle.dns_validation.specs.Machine.{Terms, SoFar, OpenValue, StateValue, limit_of, limits_of, first_left, next_phase, next_item, set_ended, answered, give, step_of, none_open, step_ended, nothing_got, refusal, asked_by, turned, turn_in, tick}
+use Rattle.dns_flow.specs.Phases.{PhaseValue, Marked, NeedsDs, Trying, AtName, AtZone, Concluded, NeedValue, SetEnds, StepEnds, Asks, GotValue, Answer, found, search_at, first_signatures, unasked, try_from, after_signature, signature_need, start_by, start_ending, turn, after}
+use Rattle.dns_validation.specs.Machine.{Terms, SoFar, OpenValue, StateValue, limit_of, limits_of, first_left, next_phase, set_ended, answered, give, none_open, step_ended, nothing_got, refusal, asked_by, turned, tick}
 use Rattle.dns_validation.specs.Steps.{given_sets}
 use Rattle.dns_validation.specs.Runs.{is_none, moves}
 
@@ -127,10 +126,6 @@ signature_work j q placed vs answer (Some r) ask is asks =
     (try_work q placed (vs ++ v ∷ []) (drop (length vs + 1) (first_signatures placed.set)))
     (slice_get_within (first_signatures placed.set) (length vs) r is) _
 
-marked_work : (c : ChainedSet) → phase_work (Marked c) < 4
-unfolding phase_work
-marked_work c = omega arith
-
 judged_is : (ask : Ask) (b : Bool) (q : Question) → (let a : Ask = record { query = q; judged = b } in a) ≡ ask → nothing_got ask.judged ≡ nothing_got b
 judged_is ask b q is = ap (λ (a : Ask). nothing_got a.judged) (sym is)
 
@@ -141,7 +136,7 @@ pub refused_work : (j : Judge) (q : Question) (told : Told) (p : PhaseValue) (as
     → phase_work (after j q told p (nothing_got ask.judged)) < phase_work p
 unfolding turn after phase_work
 refused_work j q told (Marked c) ask asks = cc
-refused_work j q told (NeedsDs placed) ask asks = marked_work _
+refused_work j q told (NeedsDs placed) ask asks = omega arith
 refused_work j q told (Trying placed vs) ask asks =
     signature_work j q placed vs _ (slice_get (first_signatures placed.set) (length vs)) ask refl asks
 refused_work j q told (AtName seeker class name) ask asks =
