@@ -1,5 +1,5 @@
--- Records of a class, and sets with their marks, as a loop meets one more.
-use Rattle.std.proofs.Common.{◌≡◌, ℕ, ◌+◌, ◌==◌, ◌<◌, List, [], ◌∷◌, ◌++◌, length, map, take, get_or, sym, ap, ◌∙◌}
+-- Records of a class, and sets with their marks, as a loop meets one more. And what decides before the hashes.
+use Rattle.std.proofs.Common.{◌≡◌, ℕ, Bool, true, false, ◌+◌, ◌==◌, ◌<◌, ◌||◌, List, [], ◌∷◌, ◌++◌, length, map, take, get_or, refl, sym, ap, ◌∙◌}
 use Rattle.std.specs.List.{filter}
 use Rattle.std.proofs.lemmas.List.{map-append, take_more}
 use Rattle.std.proofs.lemmas.List.Elements.{filter-append}
@@ -19,3 +19,15 @@ pub sets_more : (sets : List ChainedSet) (met : List RrSet) (c : ChainedSet) (se
 sets_more sets met c set so_far one =
     map-append (λ (x : ChainedSet). x.judged) sets (c ∷ []) ∙ ap (λ xs. xs ++ c.judged ∷ []) so_far
     ∙ ap (λ j. map (marked_set Authority) met ++ j ∷ []) one ∙ sym (map-append (marked_set Authority) met (set ∷ []))
+
+-- ---- what stands in the middle is looked at last
+
+pub first_decides : (a h b : Bool) → true ≡ (a || b) → true ≡ (a || (h || b))
+first_decides true h b is = refl
+first_decides false true b is = refl
+first_decides false false b is = is
+
+pub last_decides : (a h b : Bool) → false ≡ (a || b) → h ≡ (a || (h || b))
+last_decides true h b is = cc
+last_decides false true b is = refl
+last_decides false false b is = is

@@ -1,4 +1,4 @@
--- DS verdicts of zones, from the answers to the asks for their DS sets (RFC 4035, 5.2).
+-- DS verdicts of zones, from the answers to the asks for their DS sets (RFC 4035, 5.2; RFC 5155, 8.9).
 use Rattle.std.specs.Prelude.{ℕ, Bool, false, not, ◌==◌, ◌&&◌, ◌||◌, List, [], ◌∷◌, ◌++◌, map, Option, None, Some, Result, Ok, Err, if◌then◌else◌}
 use Rattle.std.specs.List.{list_all, list_any, filter}
 use Rattle.dns_model.specs.declared.proof.Proof.TheVariants as proof
@@ -26,7 +26,7 @@ zone_verdict_value (Signed ds) = zone.Signed ds.items
 zone_verdict_value (Insecure kind) = zone.Insecure (kind_value kind)
 zone_verdict_value (Bogus kind) = zone.Bogus (kind_value kind)
 
--- ---- what a response shows. Of the DS set and of the NSEC set the rows of the verdict speak as sets: one is Secure
+-- ---- what a response shows. Of DS, NSEC and NSEC3 records the rows of the verdict speak as sets: one is Secure
 -- where all its records are. Of what is Insecure they speak as a record: one is enough, whatever the others of its set
 -- are, since none is Insecure unless no more can be expected of a zone at or above it (RFC 4035, 4.3)
 

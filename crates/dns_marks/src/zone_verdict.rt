@@ -58,8 +58,8 @@ impl ZoneVerdict {
     }
 }
 
-/// The DS verdict of a zone, by the answer to the ask for its DS set (RFC 4035, 5.2). Records of another class say
-/// nothing of it. A set counts as Secure where all its records are; one record of any section that is Insecure, at the
+/// The DS verdict of a zone, by the answer to the ask for its DS set (RFC 4035, 5.2; RFC 5155, 8.9). Records of another class
+/// say nothing of it. A set counts as Secure where all its records are; one record of any section that is Insecure, at the
 /// zone or above it, is enough where there is no DS set. Want of memory in the ask is want of memory; any other error
 /// is a failed ask.
 #[tactic(auto, unfolding(dns_rules::specs::Delegations::zone_verdict))]
@@ -166,7 +166,8 @@ fn without_ds(
     Ok(ZoneVerdict::Insecure(ProofErrorKind::DsResponseInsecure { name }))
 }
 
-// The delegation is shown to have no DS, or a record of the zone or above it is Insecure.
+// The delegation is shown to have no DS, or a record of the zone or above it is Insecure. Hashes are dear, so they come last.
+#[tactic(auto, using(crate::proofs::HashedLemmas::first_decides, crate::proofs::HashedLemmas::last_decides))]
 fn is_insecure(
     alloc: Global,
     zone: &Name,
@@ -177,11 +178,18 @@ fn is_insecure(
         || (shows_none_by_hash class.0 zone.now message.now.authorities
         || list_any (is_above class.0 zone.now) (all_records message.now)))) }
 {
-    let hashed = hashes_show_no_ds(alloc, zone, class, &message.authorities)?;
-    Ok(
-        shows_no_ds(zone, class, &message.authorities)
-            || (hashed || has_insecure(zone, class, message)),
-    )
+    if is_insecure_unhashed(zone, class, message) {
+        return Ok(true);
+    }
+    hashes_show_no_ds(alloc, zone, class, &message.authorities)
+}
+
+// No hash is needed to see it.
+fn is_insecure_unhashed(zone: &Name, class: DNSClass, message: &Message) -> bool
+    ensures { result ≡ (shows_none class.0 zone.now message.now.authorities
+        || list_any (is_above class.0 zone.now) (all_records message.now)) }
+{
+    shows_no_ds(zone, class, &message.authorities) || has_insecure(zone, class, message)
 }
 
 // A Secure NSEC set of the zone shows that its delegation has no DS.

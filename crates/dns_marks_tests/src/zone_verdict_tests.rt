@@ -49,6 +49,31 @@ const APEX: &[u8] = b"\0\0\x06\x22\0\0\0\0\x03";
 
 const HOST: &[u8] = b"\0\0\x06\x40\0\0\0\0\x03";
 
+/// Owners of NSEC3 records of the root zone: the hashes of `example.` and of the root, without salt and further iterations.
+const HASH: &str = "3msev9usmd4br9s97v51r2tdvmr9iqo1.";
+
+const ROOT_HASH: &str = "bekjp7dgpvsjukll47bk43i3urmq4u2f.";
+
+/// NSEC3 records of `HASH`, the next hash of which is that of the root: of NS; of NS and DS; of NS and SOA; of A.
+const HASHED_CUT: &[u8] =
+    b"\x01\0\0\0\0\x14\x5b\xa9\x3c\x9d\xb0\xcf\xf9\x3f\x52\xb5\x21\xd7\x42\x0e\x43\xf6\xed\xa2\x78\x4f\0\x01\x20";
+
+const SIGNED_HASHED_CUT: &[u8] =
+    b"\x01\0\0\0\0\x14\x5b\xa9\x3c\x9d\xb0\xcf\xf9\x3f\x52\xb5\x21\xd7\x42\x0e\x43\xf6\xed\xa2\x78\x4f\0\x06\x20\0\0\0\0\x10";
+
+const HASHED_APEX: &[u8] =
+    b"\x01\0\0\0\0\x14\x5b\xa9\x3c\x9d\xb0\xcf\xf9\x3f\x52\xb5\x21\xd7\x42\x0e\x43\xf6\xed\xa2\x78\x4f\0\x01\x22";
+
+const HASHED_HOST: &[u8] =
+    b"\x01\0\0\0\0\x14\x5b\xa9\x3c\x9d\xb0\xcf\xf9\x3f\x52\xb5\x21\xd7\x42\x0e\x43\xf6\xed\xa2\x78\x4f\0\x01\x40";
+
+/// The one NSEC3 record of a root zone, so that its span has every other hash: with opt-out, and without.
+const OPT_OUT: &[u8] =
+    b"\x01\x01\0\0\0\x14\x5b\xa9\x3c\x9d\xb0\xcf\xf9\x3f\x52\xb5\x21\xd7\x42\x0e\x43\xf6\xed\xa2\x78\x4f\0\x01\x22";
+
+const NO_OPT_OUT: &[u8] =
+    b"\x01\0\0\0\0\x14\x5b\xa9\x3c\x9d\xb0\xcf\xf9\x3f\x52\xb5\x21\xd7\x42\x0e\x43\xf6\xed\xa2\x78\x4f\0\x01\x22";
+
 const ROWS: &[Row] = &[
     Row {
         shows: "a Secure DS",
@@ -185,6 +210,86 @@ const ROWS: &[Row] = &[
         told: &[
             Told(Answer, "example.", RecordType::DS, DS, Bogus),
             Told(Authority, "example.", RecordType::NSEC, CUT, Secure),
+        ],
+        class: DNSClass::IN,
+        want: SHOULD_EXIST,
+    },
+    Row {
+        shows: "an NSEC3 of a delegation without DS",
+        told: &[Told(Authority, HASH, RecordType::NSEC3, HASHED_CUT, Secure)],
+        class: DNSClass::IN,
+        want: NO_DS,
+    },
+    Row {
+        shows: "an NSEC3 that lists DS",
+        told: &[Told(Authority, HASH, RecordType::NSEC3, SIGNED_HASHED_CUT, Secure)],
+        class: DNSClass::IN,
+        want: SHOULD_EXIST,
+    },
+    Row {
+        shows: "one that lists SOA, so the zone itself made it",
+        told: &[Told(Authority, HASH, RecordType::NSEC3, HASHED_APEX, Secure)],
+        class: DNSClass::IN,
+        want: SHOULD_EXIST,
+    },
+    Row {
+        shows: "one that lists no NS",
+        told: &[Told(Authority, HASH, RecordType::NSEC3, HASHED_HOST, Secure)],
+        class: DNSClass::IN,
+        want: SHOULD_EXIST,
+    },
+    Row {
+        shows: "an NSEC3 that isn't Secure",
+        told: &[Told(Authority, HASH, RecordType::NSEC3, HASHED_CUT, Bogus)],
+        class: DNSClass::IN,
+        want: SHOULD_EXIST,
+    },
+    Row {
+        shows: "one record of an NSEC3 set is not",
+        told: &[
+            Told(Authority, HASH, RecordType::NSEC3, HASHED_CUT, Secure),
+            Told(Authority, HASH, RecordType::NSEC3, HASHED_HOST, Bogus),
+        ],
+        class: DNSClass::IN,
+        want: SHOULD_EXIST,
+    },
+    Row {
+        shows: "a set that isn't Secure beside a Secure one",
+        told: &[
+            Told(Authority, HASH, RecordType::NSEC3, HASHED_CUT, Secure),
+            Told(Authority, ROOT_HASH, RecordType::NSEC3, NO_OPT_OUT, Bogus),
+        ],
+        class: DNSClass::IN,
+        want: NO_DS,
+    },
+    Row {
+        shows: "an NSEC3 of the answer section",
+        told: &[Told(Answer, HASH, RecordType::NSEC3, HASHED_CUT, Secure)],
+        class: DNSClass::IN,
+        want: SHOULD_EXIST,
+    },
+    Row {
+        shows: "an NSEC3 of the hash of another name",
+        told: &[Told(Authority, ROOT_HASH, RecordType::NSEC3, HASHED_CUT, Secure)],
+        class: DNSClass::IN,
+        want: SHOULD_EXIST,
+    },
+    Row {
+        shows: "a span with opt-out over the zone",
+        told: &[Told(Authority, ROOT_HASH, RecordType::NSEC3, OPT_OUT, Secure)],
+        class: DNSClass::IN,
+        want: NO_DS,
+    },
+    Row {
+        shows: "one without opt-out",
+        told: &[Told(Authority, ROOT_HASH, RecordType::NSEC3, NO_OPT_OUT, Secure)],
+        class: DNSClass::IN,
+        want: SHOULD_EXIST,
+    },
+    Row {
+        shows: "an NSEC3 of the zone itself",
+        told: &[
+            Told(Authority, "3msev9usmd4br9s97v51r2tdvmr9iqo1.example.", RecordType::NSEC3, HASHED_CUT, Secure),
         ],
         class: DNSClass::IN,
         want: SHOULD_EXIST,
@@ -438,6 +543,28 @@ const MIXED: &[Mixed] = &[
             (
                 DNSClass::IN,
                 Told(Authority, "example.", RecordType::NSEC, CUT, Secure),
+            ),
+        ],
+        want: NO_DS,
+    },
+    Mixed {
+        shows: "an NSEC3 of another class",
+        told: &[(
+            DNSClass::CH,
+            Told(Authority, HASH, RecordType::NSEC3, HASHED_CUT, Secure),
+        )],
+        want: SHOULD_EXIST,
+    },
+    Mixed {
+        shows: "one that isn't Secure beside an NSEC3 of this class",
+        told: &[
+            (
+                DNSClass::CH,
+                Told(Authority, HASH, RecordType::NSEC3, HASHED_HOST, Bogus),
+            ),
+            (
+                DNSClass::IN,
+                Told(Authority, HASH, RecordType::NSEC3, HASHED_CUT, Secure),
             ),
         ],
         want: NO_DS,
