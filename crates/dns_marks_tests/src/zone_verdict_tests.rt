@@ -222,7 +222,13 @@ const ROWS: &[Row] = &[
     },
     Row {
         shows: "an NSEC3 that lists DS",
-        told: &[Told(Authority, HASH, RecordType::NSEC3, SIGNED_HASHED_CUT, Secure)],
+        told: &[Told(
+            Authority,
+            HASH,
+            RecordType::NSEC3,
+            SIGNED_HASHED_CUT,
+            Secure,
+        )],
         class: DNSClass::IN,
         want: SHOULD_EXIST,
     },
@@ -288,9 +294,13 @@ const ROWS: &[Row] = &[
     },
     Row {
         shows: "an NSEC3 of the zone itself",
-        told: &[
-            Told(Authority, "3msev9usmd4br9s97v51r2tdvmr9iqo1.example.", RecordType::NSEC3, HASHED_CUT, Secure),
-        ],
+        told: &[Told(
+            Authority,
+            "3msev9usmd4br9s97v51r2tdvmr9iqo1.example.",
+            RecordType::NSEC3,
+            HASHED_CUT,
+            Secure,
+        )],
         class: DNSClass::IN,
         want: SHOULD_EXIST,
     },
