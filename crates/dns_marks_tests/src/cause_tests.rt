@@ -1,4 +1,4 @@
-use crate::mark_parts::{only, reads, tells};
+use crate::mark_parts::{reads, tells};
 use crate::rows::{check_place, check_row};
 use dns_handle::Notice;
 use dns_model::NameError;
@@ -82,11 +82,10 @@ fn cause(alloc: Global, number: usize) -> Result<ProofErrorKind, NameError> {
 }
 
 fn copy_reads(alloc: Global, kind: &ProofErrorKind, want: &str) -> Result<bool, NameError> {
-    let copies = only(alloc, kind.try_clone()?)?;
-    match copies.first() {
-        Some(copy) => reads(alloc, copy, want),
-        None => Ok(false),
-    }
+    let copy = kind.try_clone()?;
+    let held = reads(alloc, &copy, want);
+    drop(copy);
+    held
 }
 
 fn both_read(alloc: Global, kind: &ProofErrorKind, want: &str) -> Result<bool, NameError> {
@@ -94,11 +93,10 @@ fn both_read(alloc: Global, kind: &ProofErrorKind, want: &str) -> Result<bool, N
 }
 
 fn is_read_so(alloc: Global, number: usize, want: &str) -> Result<bool, NameError> {
-    let causes = only(alloc, cause(alloc, number)?)?;
-    match causes.first() {
-        Some(kind) => both_read(alloc, kind, want),
-        None => Ok(false),
-    }
+    let kind = cause(alloc, number)?;
+    let held = both_read(alloc, &kind, want);
+    drop(kind);
+    held
 }
 
 /// The cause with this number reads as the table says, and so does a copy of it.
@@ -132,16 +130,15 @@ fn tells_both(
 }
 
 fn is_told(alloc: Global) -> Result<bool, NameError> {
-    let errors = only(alloc, ds_should_exist(alloc)?)?;
-    match errors.first() {
-        Some(error) => tells_both(
-            alloc,
-            error,
-            "Bogus: ds record should exist: example.",
-            "ds record should exist: example.",
-        ),
-        None => Ok(false),
-    }
+    let error = ds_should_exist(alloc)?;
+    let held = tells_both(
+        alloc,
+        &error,
+        "Bogus: ds record should exist: example.",
+        "ds record should exist: example.",
+    );
+    drop(error);
+    held
 }
 
 #[test]

@@ -3,7 +3,7 @@ use crate::key_mark_tests::*;
 use crate::mark_parts::*;
 use crate::rows::check_row;
 use dns_model::{NameError, Proof};
-use dns_record::{Record, RecordType};
+use dns_record::{Record, RecordSet, RecordType};
 use std::alloc::Global;
 
 /// How often `KEY` stands in a set.
@@ -51,15 +51,21 @@ fn add_copies(alloc: Global, keys: &mut Vec<Record>) -> Result<(), NameError> {
     Ok(())
 }
 
-fn copied(alloc: Global, row: &Row) -> Result<Parts, NameError> {
-    let mut parts = parts_of(alloc, row)?;
-    add_copies(alloc, &mut parts.set.records)?;
-    Ok(parts)
+fn refuses(
+    alloc: Global,
+    verifier: &Counting,
+    set: &mut RecordSet,
+    row: &Row,
+) -> Result<bool, NameError> {
+    add_copies(alloc, &mut set.records)?;
+    is_marked(alloc, verifier, set, row)
 }
 
 fn is_refused(alloc: Global, verifier: &Counting, row: &Row) -> Result<bool, NameError> {
-    let parts = copied(alloc, row)?;
-    is_marked(alloc, verifier, &parts, &row.want)
+    let mut set = key_set(alloc, row)?;
+    let held = refuses(alloc, verifier, &mut set, row);
+    drop(set);
+    held
 }
 
 /// The verifier is asked once for each of the eight signatures before the set is Bogus.

@@ -139,10 +139,10 @@ fn records_of(alloc: Global, ds: &[Delegation]) -> Result<Vec<Record>, NameError
 }
 
 /// What is found of a key is Secure, or it fails so.
-fn is_key(alloc: Global, found: Result<Proof, ProofError>, want: &str) -> Result<bool, NameError> {
+fn is_key(alloc: Global, found: &Result<Proof, ProofError>, want: &str) -> Result<bool, NameError> {
     match found {
-        Ok(proof) => Ok(proof == Proof::Secure && want == "Secure"),
-        Err(error) => fails(alloc, error, want),
+        Ok(proof) => Ok(*proof == Proof::Secure && want == "Secure"),
+        Err(error) => both_tell(alloc, error, want),
     }
 }
 
@@ -153,7 +153,10 @@ fn finds(
     ds: &[Record],
     want: &str,
 ) -> Result<bool, NameError> {
-    is_key(alloc, verify_dnskey(alloc, verifier, key, ds), want)
+    let found = verify_dnskey(alloc, verifier, key, ds);
+    let held = is_key(alloc, &found, want);
+    drop(found);
+    held
 }
 
 /// What is found of a row's key is what it names.
@@ -166,13 +169,17 @@ fn is_proved(alloc: Global, verifier: &Listed, row: &Row) -> Result<bool, NameEr
         row.key,
         Proof::Indeterminate,
     )?;
-    finds(alloc, verifier, &key, &ds, row.want)
+    let held = finds(alloc, verifier, &key, &ds, row.want);
+    drop(key);
+    held
 }
 
 /// The same by the verifier of these tests.
 fn is_shown(alloc: Global, row: &Row) -> Result<bool, NameError> {
     let verifier = verifier(alloc)?;
-    is_proved(alloc, &verifier, row)
+    let held = is_proved(alloc, &verifier, row);
+    drop(verifier);
+    held
 }
 
 #[test]

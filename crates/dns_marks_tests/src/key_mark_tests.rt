@@ -225,48 +225,39 @@ fn anchors_of(alloc: Global, row: &Row) -> Result<TrustAnchors, NameError> {
     Ok(anchors)
 }
 
-/// A key set, anchors and a DS verdict or none.
-#[derive(Drop)]
-pub(crate) struct Parts {
-    pub(crate) set: RecordSet,
-    anchors: TrustAnchors,
-    zone: Vec<ZoneVerdict>,
-}
-
-pub(crate) fn parts_of(alloc: Global, row: &Row) -> Result<Parts, NameError> {
-    let zone = verdict_of(alloc, &row.zone)?;
-    let anchors = anchors_of(alloc, row)?;
-    let set = set_of(
+/// The key set of a row.
+pub(crate) fn key_set(alloc: Global, row: &Row) -> Result<RecordSet, NameError> {
+    set_of(
         alloc,
         row.owner,
         RecordType::DNSKEY,
         row.keys,
         row.signatures,
-    )?;
-    Ok(Parts { set, anchors, zone })
+    )
 }
 
 fn mark_of<V: Verifier>(
     alloc: Global,
     verifier: &V,
-    parts: &Parts,
+    set: &RecordSet,
+    anchors: &TrustAnchors,
+    zone: Option<&ZoneVerdict>,
 ) -> Result<KeysMark, ProofError> {
-    let Parts { set, anchors, zone } = parts;
     if set.records.len() == 0 {
         return Err(ProofError::new(Proof::Bogus, ProofErrorKind::NoMemory));
     }
-    mark_keys(alloc, verifier, anchors, set, zone.first(), 1500)
+    mark_keys(alloc, verifier, anchors, set, zone, 1500)
 }
 
 /// A mark, or why there is none, is the one that is wanted.
 fn is_mark(
     alloc: Global,
-    mark: Result<KeysMark, ProofError>,
+    mark: &Result<KeysMark, ProofError>,
     want: &Want,
 ) -> Result<bool, NameError> {
     match mark {
-        Ok(mark) => Ok(is_keys_mark(&mark, want)),
-        Err(error) => fails(alloc, error, text_of(want)),
+        Ok(mark) => Ok(is_keys_mark(mark, want)),
+        Err(error) => both_tell(alloc, error, text_of(want)),
     }
 }
 
@@ -277,21 +268,47 @@ fn is_keys_mark(mark: &KeysMark, want: &Want) -> bool {
     }
 }
 
-/// A key set is marked so.
+/// A key set is marked so with these anchors, by the one DS verdict or by none.
+fn is_marked_by<V: Verifier>(
+    alloc: Global,
+    verifier: &V,
+    set: &RecordSet,
+    anchors: &TrustAnchors,
+    row: &Row,
+) -> Result<bool, NameError> {
+    let zone = verdict_of(alloc, &row.zone)?;
+    let mark = mark_of(alloc, verifier, set, anchors, zone.first());
+    let held = is_mark(alloc, &mark, &row.want);
+    drop(mark);
+    held
+}
+
+/// A key set is marked as a row says.
 pub(crate) fn is_marked<V: Verifier>(
     alloc: Global,
     verifier: &V,
-    parts: &Parts,
-    want: &Want,
+    set: &RecordSet,
+    row: &Row,
 ) -> Result<bool, NameError> {
-    is_mark(alloc, mark_of(alloc, verifier, parts), want)
+    let anchors = anchors_of(alloc, row)?;
+    let held = is_marked_by(alloc, verifier, set, &anchors, row);
+    drop(anchors);
+    held
+}
+
+fn is_listed(alloc: Global, set: &RecordSet, row: &Row) -> Result<bool, NameError> {
+    let verifier = verifier(alloc)?;
+    let held = is_marked(alloc, &verifier, set, row);
+    drop(verifier);
+    held
 }
 
 /// The mark of a row's key set is the one that it names.
 fn is_shown(alloc: Global, row: &Row) -> Result<bool, NameError> {
-    let verifier = verifier(alloc)?;
-    let parts = parts_of(alloc, row)?;
-    is_marked(alloc, &verifier, &parts, &row.want)
+    let set = key_set(alloc, row)?;
+    let held = is_listed(alloc, &set, row);
+    drop(set);
+    held
 }
 
 #[test]

@@ -2,7 +2,7 @@
 ghost use Rattle.std.specs.Prelude.{◌≡◌, ◌<◌};
 
 use crate::counting::Counting;
-use crate::mark_parts::{DS, KEY, put_record, record, servers};
+use crate::mark_parts::{DS, KEY, put_record, record, records_of, set_named};
 use crate::rows::check_row;
 use dns_evidence::{Listed, Steps, Verifier};
 use dns_marks::{
@@ -38,10 +38,7 @@ fn many_and_one(
     last: &[u8],
 ) -> Result<Vec<Record>, NameError> {
     let mut records = Vec::new(alloc);
-    fill(
-        &mut records,
-        &record(alloc, "example.", record_type, rdata, Proof::Secure)?,
-    )?;
+    fill(alloc, &mut records, record_type, rdata)?;
     put_record(
         alloc,
         &mut records,
@@ -53,7 +50,20 @@ fn many_and_one(
     Ok(records)
 }
 
-fn fill(records: &mut Vec<Record>, one: &Record) -> Result<(), NameError> {
+/// So many records more, each of this rdata.
+fn fill(
+    alloc: Global,
+    records: &mut Vec<Record>,
+    record_type: RecordType,
+    rdata: &[u8],
+) -> Result<(), NameError> {
+    let one = record(alloc, "example.", record_type, rdata, Proof::Secure)?;
+    let filled = fill_with(records, &one);
+    drop(one);
+    filled
+}
+
+fn fill_with(records: &mut Vec<Record>, one: &Record) -> Result<(), NameError> {
     for _ in 0..MANY {
         records.push(one.try_clone()?)?;
     }
@@ -70,6 +80,19 @@ fn is_found(
     Ok(index.matching(verifier, key).is_some())
 }
 
+fn is_verified(alloc: Global, verifier: &Counting, key: &Record, ds: &[Record]) -> bool {
+    let found = verify_dnskey(alloc, verifier, key, ds);
+    let held = matches!(found, Ok(Proof::Secure));
+    drop(found);
+    held
+}
+
+fn is_matched_among(alloc: Global, key: &Record) -> Result<bool, NameError> {
+    let ds = many_and_one(alloc, RecordType::DS, DS_BESIDE, DS)?;
+    let verifier = Counting::new();
+    Ok(is_verified(alloc, &verifier, key, &ds) && is_found(alloc, &verifier, key, &ds)?)
+}
+
 fn is_matched(alloc: Global) -> Result<bool, NameError> {
     let key = record(
         alloc,
@@ -78,10 +101,9 @@ fn is_matched(alloc: Global) -> Result<bool, NameError> {
         KEY,
         Proof::Indeterminate,
     )?;
-    let ds = many_and_one(alloc, RecordType::DS, DS_BESIDE, DS)?;
-    let verifier = Counting::new();
-    let found = verify_dnskey(alloc, &verifier, &key, &ds);
-    Ok(matches!(found, Ok(Proof::Secure)) && is_found(alloc, &verifier, &key, &ds)?)
+    let held = is_matched_among(alloc, &key);
+    drop(key);
+    held
 }
 
 #[test]
@@ -96,20 +118,17 @@ struct Large {
     set: RecordSet,
 }
 
-/// The NS set has so many records besides.
+/// An NS set of so many records and one.
+fn large_set(alloc: Global) -> Result<RecordSet, NameError> {
+    let records = many_and_one(alloc, RecordType::NS, b"\x01b\0", b"\x01a\0")?;
+    let proof = Proof::Indeterminate;
+    let rrsigs = records_of(alloc, "example.", RecordType::RRSIG, &[GOOD], proof)?;
+    set_named(alloc, "example.", RecordType::NS, records, rrsigs)
+}
+
 fn make_large(alloc: Global) -> Result<Large, NameError> {
     let keys = many_and_one(alloc, RecordType::DNSKEY, KEY_BESIDE, KEY)?;
-    let mut set = servers(alloc, "example.", &[GOOD])?;
-    fill(
-        &mut set.records,
-        &record(
-            alloc,
-            "example.",
-            RecordType::NS,
-            b"\x01b\0",
-            Proof::Indeterminate,
-        )?,
-    )?;
+    let set = large_set(alloc)?;
     Ok(Large { keys, set })
 }
 
@@ -140,7 +159,9 @@ fn is_proof(found: &Option<RrsetProof>) -> bool {
 fn is_proved(alloc: Global) -> Result<bool, NameError> {
     let large = make_large(alloc)?;
     let verifier = Counting::new();
-    Ok(is_proof(&proof_by_keys::<Brand>(alloc, &verifier, &large, Blank::new(1))?))
+    let found = proof_by_keys::<Brand>(alloc, &verifier, &large, Blank::new(1));
+    drop(large);
+    Ok(is_proof(&found?))
 }
 
 /// By a key alone, whose mark counts.
@@ -160,7 +181,10 @@ fn proof_by_key<L: Ledger>(
         return false;
     }
     let mut steps = Steps::<L>::new(blank);
-    verify_rrset_with_dnskey(alloc, verifier, key, sig, set, 1500, &mut steps).is_ok()
+    let found = verify_rrset_with_dnskey(alloc, verifier, key, sig, set, 1500, &mut steps);
+    let held = found.is_ok();
+    drop(found);
+    held
 }
 
 /// By a key alone, whatever its mark.
@@ -177,19 +201,28 @@ fn is_good(
         anchors: &anchors,
         moment: 1500,
     };
-    is_good_by(alloc, &judge, set, sig, key)
+    let good = is_good_by(alloc, &judge, set, sig, key);
+    drop(anchors);
+    good
+}
+
+fn is_large_proved(alloc: Global, large: &Large) -> Result<bool, NameError> {
+    let Large { keys, set } = large;
+    let verifier = Counting::new();
+    match (set.rrsigs.first(), keys.last()) {
+        (Some(sig), Some(key)) => Ok(
+            proof_by_key::<Brand>(alloc, &verifier, set, sig, key, Blank::new(1))
+                && is_good(alloc, &verifier, set, sig, key)?,
+        ),
+        _ => Ok(false),
+    }
 }
 
 fn is_proved_by_key(alloc: Global) -> Result<bool, NameError> {
     let large = make_large(alloc)?;
-    let verifier = Counting::new();
-    match (large.set.rrsigs.first(), large.keys.last()) {
-        (Some(sig), Some(key)) => Ok(
-            proof_by_key::<Brand>(alloc, &verifier, &large.set, sig, key, Blank::new(1))
-                && is_good(alloc, &verifier, &large.set, sig, key)?,
-        ),
-        _ => Ok(false),
-    }
+    let held = is_large_proved(alloc, &large);
+    drop(large);
+    held
 }
 
 #[test]
@@ -205,12 +238,20 @@ fn accept_all(listed: &mut Listed) -> Result<(), NameError> {
     Ok(())
 }
 
-fn holds_all(alloc: Global) -> Result<bool, NameError> {
-    let mut listed = Listed::new(alloc);
-    accept_all(&mut listed)?;
+fn copy_holds_all(listed: &mut Listed) -> Result<bool, NameError> {
+    accept_all(listed)?;
     let copy = listed.try_clone()?;
     let last = MANY as u32 - 1;
-    Ok(copy.accepts(13, &last.to_be_bytes(), &[7; 300], &[8; 300]))
+    let held = copy.accepts(13, &last.to_be_bytes(), &[7; 300], &[8; 300]);
+    drop(copy);
+    Ok(held)
+}
+
+fn holds_all(alloc: Global) -> Result<bool, NameError> {
+    let mut listed = Listed::new(alloc);
+    let held = copy_holds_all(&mut listed);
+    drop(listed);
+    held
 }
 
 #[test]
@@ -253,12 +294,24 @@ fn trust_all(alloc: Global, anchors: &mut TrustAnchors) -> Result<(), NameError>
     Ok(())
 }
 
+fn has_last(alloc: Global, anchors: &TrustAnchors) -> Result<bool, NameError> {
+    let last = MANY as u32 - 1;
+    Ok(anchors.contains_with_name(&Name::root(alloc)?, 13, &last.to_be_bytes()))
+}
+
+fn copy_trusts_all(alloc: Global, anchors: &mut TrustAnchors) -> Result<bool, NameError> {
+    trust_all(alloc, anchors)?;
+    let copy = anchors.try_clone()?;
+    let held = has_last(alloc, &copy);
+    drop(copy);
+    held
+}
+
 fn are_anchors_copied(alloc: Global) -> Result<bool, NameError> {
     let mut anchors = TrustAnchors::empty(alloc);
-    trust_all(alloc, &mut anchors)?;
-    let copy = anchors.try_clone()?;
-    let last = MANY as u32 - 1;
-    Ok(copy.contains_with_name(&Name::root(alloc)?, 13, &last.to_be_bytes()))
+    let held = copy_trusts_all(alloc, &mut anchors);
+    drop(anchors);
+    held
 }
 
 #[test]

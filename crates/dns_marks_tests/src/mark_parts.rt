@@ -110,18 +110,8 @@ pub(crate) fn keys_of(
     Ok(records)
 }
 
-/// A signature with no mark.
-pub(crate) fn signature(alloc: Global, rdata: &[u8]) -> Result<Record, NameError> {
-    record(
-        alloc,
-        "example.",
-        RecordType::RRSIG,
-        rdata,
-        Proof::Indeterminate,
-    )
-}
-
-fn set_named(
+/// A set of class IN.
+pub(crate) fn set_named(
     alloc: Global,
     owner: &str,
     record_type: RecordType,
@@ -181,21 +171,16 @@ pub(crate) fn tells(alloc: Global, error: &ProofError, want: &str) -> Result<boo
     Ok(text.as_str() == want)
 }
 
-/// The same of an error that isn't needed any more, and of a copy of it.
-pub(crate) fn fails(alloc: Global, error: ProofError, want: &str) -> Result<bool, NameError> {
-    let errors = only(alloc, error)?;
-    match errors.first() {
-        Some(error) => Ok(tells(alloc, error, want)? && copy_tells(alloc, error, want)?),
-        None => Ok(false),
-    }
+fn copy_tells(alloc: Global, error: &ProofError, want: &str) -> Result<bool, NameError> {
+    let copy = error.try_clone()?;
+    let held = tells(alloc, &copy, want);
+    drop(copy);
+    held
 }
 
-fn copy_tells(alloc: Global, error: &ProofError, want: &str) -> Result<bool, NameError> {
-    let copies = only(alloc, error.try_clone()?)?;
-    match copies.first() {
-        Some(copy) => tells(alloc, copy, want),
-        None => Ok(false),
-    }
+/// The same of an error and of a copy of it.
+pub(crate) fn both_tell(alloc: Global, error: &ProofError, want: &str) -> Result<bool, NameError> {
+    Ok(tells(alloc, error, want)? && copy_tells(alloc, error, want)?)
 }
 
 /// A cause reads so.
@@ -228,8 +213,18 @@ pub(crate) fn is_wanted(
     mark: Result<RrsetProof, ProofError>,
     want: &Want,
 ) -> Result<bool, NameError> {
+    let held = is_mark(alloc, &mark, want);
+    drop(mark);
+    held
+}
+
+fn is_mark(
+    alloc: Global,
+    mark: &Result<RrsetProof, ProofError>,
+    want: &Want,
+) -> Result<bool, NameError> {
     match mark {
-        Ok(found) => Ok(is_found(&found, want)),
-        Err(error) => fails(alloc, error, text_of(want)),
+        Ok(found) => Ok(is_found(found, want)),
+        Err(error) => both_tell(alloc, error, text_of(want)),
     }
 }

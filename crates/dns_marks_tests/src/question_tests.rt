@@ -12,7 +12,7 @@ use dns_marks::{verify_rrset_with_dnskey, verify_rrsig_with_keys};
 use dns_model::{NameError, Proof};
 use dns_name::NoMemory;
 use dns_rdata::{Dnskey, Rrsig};
-use dns_record::{Record, RecordType};
+use dns_record::{Record, RecordSet, RecordType};
 use dns_trust::{Judge, TrustAnchors, is_good_by};
 use std::alloc::Global;
 use std::marker::Brand;
@@ -248,20 +248,23 @@ fn try_keys<L: Ledger>(
     requires parts { blank.parts ≡ L.parts }
     requires some { 0 < blank.parts }
 {
-    let Parts { keys, sig, set } = parts;
-    if set.records.len() == 0 {
-        return Err(NoMemory);
+    let Parts { keys, set } = parts;
+    match set.rrsigs.as_slice() {
+        [sig] if set.records.len() != 0 => {
+            let mut steps = Steps::<L>::new(blank);
+            let _ = verify_rrsig_with_keys(alloc, verifier, keys, sig, set, now, &mut steps)?;
+            Ok(())
+        }
+        _ => Err(NoMemory),
     }
-    let mut steps = Steps::<L>::new(blank);
-    let _ = verify_rrsig_with_keys(alloc, verifier, keys, sig, set, now, &mut steps)?;
-    Ok(())
 }
 
 /// By a key whose mark counts, where both can be read.
 fn try_key<L: Ledger>(
     alloc: Global,
     verifier: &Counting,
-    parts: &Parts,
+    set: &RecordSet,
+    sig: &Record,
     key: &Record,
     now: u64,
     blank: Blank,
@@ -270,7 +273,6 @@ fn try_key<L: Ledger>(
     requires parts { blank.parts ≡ L.parts }
     requires some { 0 < blank.parts }
 {
-    let Parts { keys: _, sig, set } = parts;
     if Dnskey::of(key).is_some() && Rrsig::of(sig).is_some() && set.records.len() != 0 {
         let mut steps = Steps::<L>::new(blank);
         let _ = verify_rrset_with_dnskey(alloc, verifier, key, sig, set, now, &mut steps);
@@ -281,18 +283,20 @@ fn try_key<L: Ledger>(
 fn try_plain_key(
     alloc: Global,
     verifier: &Counting,
-    parts: &Parts,
+    set: &RecordSet,
+    sig: &Record,
     key: &Record,
     now: u64,
-) -> Result<(), NoMemory> {
+) -> Result<bool, NoMemory> {
     let anchors = TrustAnchors::empty(alloc);
     let judge = Judge {
         verifier,
         anchors: &anchors,
         moment: now,
     };
-    let _ = is_good_by(alloc, &judge, &parts.set, &parts.sig, key)?;
-    Ok(())
+    let good = is_good_by(alloc, &judge, set, sig, key);
+    drop(anchors);
+    good
 }
 
 /// By its keys as often as the row says.
@@ -303,29 +307,31 @@ fn is_asked_by_keys(alloc: Global, parts: &Parts, row: &Row) -> Result<bool, Nam
 }
 
 /// By one key as often.
-fn is_asked_by_key(alloc: Global, parts: &Parts, row: &Row, key: &Record) -> bool {
+fn is_asked_by_key(alloc: Global, set: &RecordSet, sig: &Record, key: &Record, row: &Row) -> bool {
     let verifier = Counting::new();
-    try_key::<Brand>(alloc, &verifier, parts, key, row.now, Blank::new(1));
+    try_key::<Brand>(alloc, &verifier, set, sig, key, row.now, Blank::new(1));
     verifier.questions() == row.questions
 }
 
 /// By one key whose mark doesn't count as often.
 fn is_asked_by_plain_key(
     alloc: Global,
-    parts: &Parts,
-    row: &Row,
+    set: &RecordSet,
+    sig: &Record,
     key: &Record,
+    row: &Row,
 ) -> Result<bool, NameError> {
     let verifier = Counting::new();
-    try_plain_key(alloc, &verifier, parts, key, row.now)?;
+    try_plain_key(alloc, &verifier, set, sig, key, row.now)?;
     Ok(verifier.questions() == row.questions)
 }
 
 fn is_asked_by_one(alloc: Global, parts: &Parts, row: &Row) -> Result<bool, NameError> {
-    match parts.keys.as_slice() {
-        [key] => Ok(
-            is_asked_by_key(alloc, parts, row, key)
-                && is_asked_by_plain_key(alloc, parts, row, key)?,
+    let Parts { keys, set } = parts;
+    match (keys.as_slice(), set.rrsigs.as_slice()) {
+        ([key], [sig]) => Ok(
+            is_asked_by_key(alloc, set, sig, key, row)
+                && is_asked_by_plain_key(alloc, set, sig, key, row)?,
         ),
         _ => Ok(false),
     }
@@ -333,12 +339,20 @@ fn is_asked_by_one(alloc: Global, parts: &Parts, row: &Row) -> Result<bool, Name
 
 fn asks_by_keys(alloc: Global, row: &Row) -> Result<bool, NameError> {
     let parts = parts_of(alloc, row.keys, row.sig, RecordType::NS)?;
-    is_asked_by_keys(alloc, &parts, row)
+    let held = is_asked_by_keys(alloc, &parts, row);
+    drop(parts);
+    held
+}
+
+fn is_asked_by_each(alloc: Global, parts: &Parts, row: &Row) -> Result<bool, NameError> {
+    Ok(is_asked_by_keys(alloc, parts, row)? && is_asked_by_one(alloc, parts, row)?)
 }
 
 fn asks_by_one(alloc: Global, row: &Row) -> Result<bool, NameError> {
     let parts = parts_of(alloc, row.keys, row.sig, RecordType::NS)?;
-    Ok(is_asked_by_keys(alloc, &parts, row)? && is_asked_by_one(alloc, &parts, row)?)
+    let held = is_asked_by_each(alloc, &parts, row);
+    drop(parts);
+    held
 }
 
 #[test]

@@ -96,6 +96,7 @@ fn rows() -> &'static [Asking] {
 fn is_marked(alloc: Global, verifier: &Counting, row: &Row) -> Result<bool, NameError> {
     let parts = parts_of(alloc, row)?;
     let mark = found::<Counting, Brand>(alloc, verifier, &parts, Blank::new(1));
+    drop(parts);
     is_wanted(alloc, mark, &row.want)
 }
 

@@ -200,8 +200,7 @@ fn copies_of(alloc: Global, answers: &[KeyAnswer]) -> Result<Vec<KeyAnswer>, Nam
 
 /// The answers are copies of those that the row names.
 pub(crate) fn parts_of(alloc: Global, row: &Row) -> Result<Parts, NameError> {
-    let told = answers_of(alloc, row)?;
-    let answers = copies_of(alloc, &told)?;
+    let answers = copies_of(alloc, &answers_of(alloc, row)?)?;
     let set = servers(alloc, row.owner, row.signatures)?;
     Ok(Parts { set, answers })
 }
@@ -229,21 +228,19 @@ pub(crate) fn found<V: Verifier, L: Ledger>(
 }
 
 /// A set is marked so.
-fn is_marked(
-    alloc: Global,
-    verifier: &Listed,
-    parts: &Parts,
-    want: &Want,
-) -> Result<bool, NameError> {
-    let mark = found::<Listed, Brand>(alloc, verifier, parts, Blank::new(1));
+fn is_marked(alloc: Global, parts: &Parts, want: &Want) -> Result<bool, NameError> {
+    let verifier = verifier(alloc)?;
+    let mark = found::<Listed, Brand>(alloc, &verifier, parts, Blank::new(1));
+    drop(verifier);
     is_wanted(alloc, mark, want)
 }
 
 /// The mark of a row's set is the one that it names.
 fn is_shown(alloc: Global, row: &Row) -> Result<bool, NameError> {
-    let verifier = verifier(alloc)?;
     let parts = parts_of(alloc, row)?;
-    is_marked(alloc, &verifier, &parts, &row.want)
+    let held = is_marked(alloc, &parts, &row.want);
+    drop(parts);
+    held
 }
 
 #[test]

@@ -117,32 +117,32 @@ fn found<L: Ledger>(
     requires parts { blank.parts ≡ L.parts }
     requires some { 0 < blank.parts }
 {
-    let Parts { keys, sig, set } = parts;
-    if set.records.len() == 0 {
-        return Err(NoMemory);
+    let Parts { keys, set } = parts;
+    match set.rrsigs.as_slice() {
+        [sig] if set.records.len() != 0 => {
+            let mut steps = Steps::<L>::new(blank);
+            verify_rrsig_with_keys(alloc, verifier, keys, sig, set, 1500, &mut steps)
+        }
+        _ => Err(NoMemory),
     }
-    let mut steps = Steps::<L>::new(blank);
-    verify_rrsig_with_keys(alloc, verifier, keys, sig, set, 1500, &mut steps)
 }
 
 /// What a row's signature proves is what it names.
-fn is_proved(
-    alloc: Global,
-    verifier: &Listed,
-    parts: &Parts,
-    want: &Want,
-) -> Result<bool, NameError> {
-    match found::<Brand>(alloc, verifier, parts, Blank::new(1))? {
+fn is_proved(alloc: Global, parts: &Parts, want: &Want) -> Result<bool, NameError> {
+    let verifier = verifier(alloc)?;
+    let found = found::<Brand>(alloc, &verifier, parts, Blank::new(1));
+    drop(verifier);
+    match found? {
         Some(found) => Ok(is_found(&found, want)),
         None => Ok(matches!(want, Want::Nothing)),
     }
 }
 
-/// The same by the verifier of these tests.
 fn is_shown(alloc: Global, row: &Row) -> Result<bool, NameError> {
-    let verifier = verifier(alloc)?;
     let parts = parts_of(alloc, row.keys, row.sig, row.record_type)?;
-    is_proved(alloc, &verifier, &parts, &row.want)
+    let held = is_proved(alloc, &parts, &row.want);
+    drop(parts);
+    held
 }
 
 #[test]

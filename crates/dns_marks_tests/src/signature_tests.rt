@@ -122,11 +122,10 @@ fn rows() -> &'static [Row] {
     ROWS
 }
 
-/// Keys, a signature and a set.
+/// Keys, and a set with one signature.
 #[derive(Drop)]
 pub(crate) struct Parts {
     pub(crate) keys: Vec<Record>,
-    pub(crate) sig: Record,
     pub(crate) set: RecordSet,
 }
 
@@ -138,10 +137,9 @@ pub(crate) fn parts_of(
     record_type: RecordType,
 ) -> Result<Parts, NameError> {
     let keys = keys_of(alloc, "example.", keys)?;
-    let sig = signature(alloc, sig)?;
-    let mut set = servers(alloc, "example.", &[])?;
+    let mut set = servers(alloc, "example.", &[sig])?;
     set.record_type = record_type;
-    Ok(Parts { keys, sig, set })
+    Ok(Parts { keys, set })
 }
 
 fn found<L: Ledger>(
@@ -155,33 +153,30 @@ fn found<L: Ledger>(
     requires parts { blank.parts ≡ L.parts }
     requires some { 0 < blank.parts }
 {
-    let Parts { keys, sig, set } = parts;
-    match keys.as_slice() {
-        [key] if Dnskey::of(key).is_some() && Rrsig::of(sig).is_some() && set.records.len() != 0 =>
-            {
-                let mut steps = Steps::<L>::new(blank);
-                verify_rrset_with_dnskey(alloc, verifier, key, sig, set, now, &mut steps)
-            }
+    let Parts { keys, set } = parts;
+    match (keys.as_slice(), set.rrsigs.as_slice()) {
+        ([key], [sig])
+            if Dnskey::of(key).is_some() && Rrsig::of(sig).is_some() && set.records.len() != 0 => {
+            let mut steps = Steps::<L>::new(blank);
+            verify_rrset_with_dnskey(alloc, verifier, key, sig, set, now, &mut steps)
+        }
         _ => Err(ProofError::new(Proof::Bogus, ProofErrorKind::NoMemory)),
     }
 }
 
 /// What a row's signature proves is what it names.
-fn is_proved(
-    alloc: Global,
-    verifier: &Listed,
-    parts: &Parts,
-    row: &Row,
-) -> Result<bool, NameError> {
-    let mark = found::<Brand>(alloc, verifier, parts, row.now, Blank::new(1));
+fn is_proved(alloc: Global, parts: &Parts, row: &Row) -> Result<bool, NameError> {
+    let verifier = verifier(alloc)?;
+    let mark = found::<Brand>(alloc, &verifier, parts, row.now, Blank::new(1));
+    drop(verifier);
     is_wanted(alloc, mark, &row.want)
 }
 
-/// The same by the verifier of these tests.
 fn is_shown(alloc: Global, row: &Row) -> Result<bool, NameError> {
-    let verifier = verifier(alloc)?;
     let parts = parts_of(alloc, &[(row.key, row.proof)], row.sig, RecordType::NS)?;
-    is_proved(alloc, &verifier, &parts, row)
+    let held = is_proved(alloc, &parts, row);
+    drop(parts);
+    held
 }
 
 #[test]

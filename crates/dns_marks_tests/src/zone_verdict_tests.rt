@@ -1,14 +1,14 @@
 use crate::mark_parts::{DS, MISS, OVER_NS, UNSUPPORTED, only, reads, record, verifier};
 use crate::rows::check_row;
 use dns_evidence::Trail;
-use dns_handle::{DnsError, DnsRequest, DnsRequestOptions, DnsResponse, NetError, NoRecords};
+use dns_handle::{DnsResponse, NetError, NoRecords};
 use dns_marks::{DnsAnswer, ZoneVerdict, ds_verdict};
 use dns_message::Message;
 use dns_model::Proof::{Bogus, Insecure, Secure};
 use dns_model::Section::{Additional, Answer, Authority};
 use dns_model::{Denial, NameError, Proof, Section};
 use dns_name::{Name, NoMemory};
-use dns_record::{DNSClass, Query, Record, RecordType, ResponseCode};
+use dns_record::{DNSClass, OpCode, Query, Record, RecordType, ResponseCode};
 use std::alloc::Global;
 
 /// A record of a response: its section, owner, type, rdata and mark.
@@ -361,16 +361,39 @@ fn question(alloc: Global) -> Result<Query, NameError> {
     })
 }
 
+fn empty_message(alloc: Global) -> Message {
+    Message {
+        id: 0,
+        response: true,
+        op_code: OpCode(0),
+        authoritative: false,
+        truncated: false,
+        recursion_desired: false,
+        recursion_available: false,
+        authentic_data: false,
+        checking_disabled: false,
+        response_code: ResponseCode(0),
+        queries: Vec::new(alloc),
+        answers: Vec::new(alloc),
+        authorities: Vec::new(alloc),
+        additionals: Vec::new(alloc),
+        edns: None,
+    }
+}
+
 /// A response without records.
-fn empty_response(alloc: Global) -> Result<DnsResponse, NameError> {
-    let query = question(alloc)?;
-    let request = DnsRequest::from_query(alloc, query, DnsRequestOptions::default())?;
-    Ok(DnsResponse {
-        message: request.message,
+fn empty_response(alloc: Global) -> DnsResponse {
+    DnsResponse {
+        message: empty_message(alloc),
         chains: Vec::new(alloc),
         denial: Denial::None,
         trail: Trail::new(alloc),
-    })
+    }
+}
+
+/// It as an answer, by itself in a list.
+fn empty_answer(alloc: Global) -> Result<Vec<DnsAnswer>, NameError> {
+    only(alloc, Ok(empty_response(alloc)))
 }
 
 fn section_of(message: &mut Message, section: Section) -> &mut Vec<Record> {
@@ -381,6 +404,13 @@ fn section_of(message: &mut Message, section: Section) -> &mut Vec<Record> {
     }
 }
 
+fn told_record(alloc: Global, class: DNSClass, told: &Told) -> Result<Record, NameError> {
+    let Told(_, owner, record_type, rdata, proof) = told;
+    let mut next = record(alloc, owner, *record_type, rdata, *proof)?;
+    next.dns_class = class;
+    Ok(next)
+}
+
 /// A record more, of a class.
 fn put(
     alloc: Global,
@@ -388,20 +418,31 @@ fn put(
     class: DNSClass,
     told: &Told,
 ) -> Result<(), NameError> {
-    let Told(section, owner, record_type, rdata, proof) = told;
-    let mut next = record(alloc, owner, *record_type, rdata, *proof)?;
-    next.dns_class = class;
-    section_of(message, *section).push(next)?;
+    let next = told_record(alloc, class, told)?;
+    section_of(message, told.0).push(next)?;
     Ok(())
 }
 
-/// An answer, by itself in a list.
-fn answer_of(alloc: Global, told: &[Told]) -> Result<Vec<DnsAnswer>, NameError> {
-    let mut response = empty_response(alloc)?;
-    for one in told {
-        put(alloc, &mut response.message, DNSClass::IN, one)?;
+/// The same in the answer that a list has.
+fn put_in(
+    alloc: Global,
+    answers: &mut [DnsAnswer],
+    class: DNSClass,
+    told: &Told,
+) -> Result<(), NameError> {
+    match answers.first_mut() {
+        Some(Ok(response)) => put(alloc, &mut response.message, class, told),
+        _ => Ok(()),
     }
-    only(alloc, Ok(response))
+}
+
+/// An answer with these records, by itself in a list.
+fn answer_of(alloc: Global, told: &[Told]) -> Result<Vec<DnsAnswer>, NameError> {
+    let mut answers = empty_answer(alloc)?;
+    for one in told {
+        put_in(alloc, &mut answers, DNSClass::IN, one)?;
+    }
+    Ok(answers)
 }
 
 /// These DS records are so many, all of class IN.
@@ -421,29 +462,37 @@ fn is_verdict(alloc: Global, verdict: &ZoneVerdict, want: &Want) -> Result<bool,
 
 /// A copy of a verdict is this one.
 fn copy_is(alloc: Global, verdict: &ZoneVerdict, want: &Want) -> Result<bool, NameError> {
-    let copies = only(alloc, verdict.try_clone()?)?;
-    match copies.first() {
-        Some(copy) => is_verdict(alloc, copy, want),
-        None => Ok(false),
-    }
+    let copy = verdict.try_clone()?;
+    let held = is_verdict(alloc, &copy, want);
+    drop(copy);
+    held
 }
 
 fn is_wanted(
     alloc: Global,
-    verdict: Result<ZoneVerdict, NoMemory>,
+    verdict: &Result<ZoneVerdict, NoMemory>,
     want: &Want,
 ) -> Result<bool, NameError> {
-    let verdicts = only(alloc, verdict)?;
-    match verdicts.first() {
-        Some(Ok(verdict)) => {
-            Ok(is_verdict(alloc, verdict, want)? && copy_is(alloc, verdict, want)?)
-        }
-        Some(Err(_)) => Ok(matches!(want, Want::NoMemory)),
-        None => Ok(false),
+    match verdict {
+        Ok(verdict) => Ok(is_verdict(alloc, verdict, want)? && copy_is(alloc, verdict, want)?),
+        Err(_) => Ok(matches!(want, Want::NoMemory)),
     }
 }
 
-/// The DS verdict on a zone by an answer is this one.
+/// The DS verdict on a zone by an answer.
+fn verdict_by(
+    alloc: Global,
+    zone: &Name,
+    class: DNSClass,
+    answer: &DnsAnswer,
+) -> Result<Result<ZoneVerdict, NoMemory>, NameError> {
+    let verifier = verifier(alloc)?;
+    let verdict = ds_verdict(alloc, &verifier, zone, class, answer);
+    drop(verifier);
+    Ok(verdict)
+}
+
+/// It is this one.
 fn gives(
     alloc: Global,
     zone: &Name,
@@ -451,12 +500,27 @@ fn gives(
     answer: &DnsAnswer,
     want: &Want,
 ) -> Result<bool, NameError> {
-    let verifier = verifier(alloc)?;
-    let verdict = ds_verdict(alloc, &verifier, zone, class, answer);
-    is_wanted(alloc, verdict, want)
+    let verdict = verdict_by(alloc, zone, class, answer)?;
+    let held = is_wanted(alloc, &verdict, want);
+    drop(verdict);
+    held
 }
 
-/// The same of a zone by its text, and the answer that a list has.
+/// The same of the answer that a list has.
+fn gives_first(
+    alloc: Global,
+    zone: &Name,
+    class: DNSClass,
+    answers: &[DnsAnswer],
+    want: &Want,
+) -> Result<bool, NameError> {
+    match answers.first() {
+        Some(answer) => gives(alloc, zone, class, answer, want),
+        None => Ok(false),
+    }
+}
+
+/// The same of a zone by its text.
 fn gives_at(
     alloc: Global,
     zone: &str,
@@ -465,10 +529,9 @@ fn gives_at(
     want: &Want,
 ) -> Result<bool, NameError> {
     let zone = Name::from_ascii(alloc, zone)?;
-    match answers.first() {
-        Some(answer) => gives(alloc, &zone, class, answer, want),
-        None => Ok(false),
-    }
+    let held = gives_first(alloc, &zone, class, answers, want);
+    drop(zone);
+    held
 }
 
 /// The DS verdict of a row is the one that it names.
@@ -596,11 +659,11 @@ fn mixed_rows() -> &'static [Mixed] {
 
 /// An answer with records of several classes, by itself in a list.
 fn mixed_answer(alloc: Global, told: &[(DNSClass, Told)]) -> Result<Vec<DnsAnswer>, NameError> {
-    let mut response = empty_response(alloc)?;
+    let mut answers = empty_answer(alloc)?;
     for one in told {
-        put(alloc, &mut response.message, one.0, &one.1)?;
+        put_in(alloc, &mut answers, one.0, &one.1)?;
     }
-    only(alloc, Ok(response))
+    Ok(answers)
 }
 
 /// The DS verdict of such a row is the one that it names.
@@ -651,8 +714,10 @@ const FAILURES: &[FailedAsk] = &[
 
 fn no_records(alloc: Global) -> Result<Vec<DnsAnswer>, NameError> {
     let query = question(alloc)?;
-    let none = NoRecords::new(alloc, query, ResponseCode(0));
-    only(alloc, Err(NetError::Dns(DnsError::NoRecordsFound(none))))
+    only(
+        alloc,
+        Err(NetError::from(NoRecords::new(alloc, query, ResponseCode(0)))),
+    )
 }
 
 fn failed(alloc: Global, failure: &Failure) -> Result<Vec<DnsAnswer>, NameError> {
@@ -678,18 +743,27 @@ fn zones_are_bogus_where_the_ask_failed(rt: HostRuntime) {
 /// So many DS records.
 const MANY: usize = 70_000;
 
-fn fill(alloc: Global, message: &mut Message) -> Result<(), NameError> {
-    let one = record(alloc, "example.", RecordType::DS, DS, Proof::Secure)?;
+fn fill(records: &mut Vec<Record>, one: &Record) -> Result<(), NameError> {
     for _ in 0..MANY {
-        message.answers.push(one.try_clone()?)?;
+        records.push(one.try_clone()?)?;
     }
     Ok(())
 }
 
+fn fill_in(answers: &mut [DnsAnswer], one: &Record) -> Result<(), NameError> {
+    match answers.first_mut() {
+        Some(Ok(response)) => fill(&mut response.message.answers, one),
+        _ => Ok(()),
+    }
+}
+
 fn large_answer(alloc: Global) -> Result<Vec<DnsAnswer>, NameError> {
-    let mut response = empty_response(alloc)?;
-    fill(alloc, &mut response.message)?;
-    only(alloc, Ok(response))
+    let mut answers = empty_answer(alloc)?;
+    let one = record(alloc, "example.", RecordType::DS, DS, Proof::Secure)?;
+    let filled = fill_in(&mut answers, &one);
+    drop(one);
+    filled?;
+    Ok(answers)
 }
 
 fn signs_all(alloc: Global) -> Result<bool, NameError> {
