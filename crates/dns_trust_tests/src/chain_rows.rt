@@ -256,7 +256,9 @@ pub(crate) fn chain_of(alloc: Global, case: &Case) -> Result<Chain, NameError> {
 /// What the call finds of a chain at a moment.
 fn is_justified_by(alloc: Global, trust: &Trust, case: &Case, now: u64) -> Result<bool, NameError> {
     let chain = chain_of(alloc, case)?;
-    Ok(check_chain(alloc, &trust.anchors, &trust.verifier, now, &chain)?)
+    let justified = check_chain(alloc, &trust.anchors, &trust.verifier, now, &chain);
+    drop(chain);
+    Ok(justified?)
 }
 
 /// The same where these keys are trusted.
@@ -267,7 +269,9 @@ fn is_justified(
     now: u64,
 ) -> Result<bool, NameError> {
     let trust = trust_in(alloc, trusted, ACCEPTED)?;
-    is_justified_by(alloc, &trust, case, now)
+    let justified = is_justified_by(alloc, &trust, case, now);
+    drop(trust);
+    justified
 }
 
 /// What the call finds is what is wanted.

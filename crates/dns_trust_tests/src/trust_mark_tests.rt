@@ -27,15 +27,25 @@ fn keys_by_letters(alloc: Global, letters: &str) -> Result<Vec<Record>, NameErro
     Ok(keys)
 }
 
-/// An owner's key set of these keys.
-pub(crate) fn key_set(alloc: Global, owner: &str, letters: &str) -> Result<RecordSet, NameError> {
+fn signed_key_set(
+    alloc: Global,
+    owner: &str,
+    letters: &str,
+    rrsigs: Vec<Record>,
+) -> Result<RecordSet, NameError> {
+    let records = keys_by_letters(alloc, letters)?;
     Ok(RecordSet {
         name: Name::from_ascii(alloc, owner)?,
         record_type: RecordType::DNSKEY,
         dns_class: DNSClass::IN,
-        records: keys_by_letters(alloc, letters)?,
-        rrsigs: Vec::new(alloc),
+        records,
+        rrsigs,
     })
+}
+
+/// An owner's key set of these keys.
+pub(crate) fn key_set(alloc: Global, owner: &str, letters: &str) -> Result<RecordSet, NameError> {
+    signed_key_set(alloc, owner, letters, Vec::new(alloc))
 }
 
 /// The root's key set, with whether the signature by K stands beside it and which keys are trusted; and its mark, the place of
@@ -90,11 +100,11 @@ const KEYS: &[Keys] = &[
 ];
 
 fn root_keys(alloc: Global, row: &Keys) -> Result<RecordSet, NameError> {
-    let mut set = key_set(alloc, ".", row.letters)?;
+    let mut rrsigs = Vec::new(alloc);
     if row.is_signed {
-        set.rrsigs.push(root_signature(alloc, OVER_KEYS)?)?;
+        rrsigs.push(root_signature(alloc, OVER_KEYS)?)?;
     }
-    Ok(set)
+    signed_key_set(alloc, ".", row.letters, rrsigs)
 }
 
 fn keys_step_by(
@@ -112,7 +122,9 @@ fn keys_step_by(
 /// How far the key set is judged at second 1500.
 fn keys_step(alloc: Global, row: &Keys) -> Result<KeysStep, NameError> {
     let trust = trust_in_keys(alloc, row.trusted)?;
-    keys_step_by(alloc, &judge_at(&trust, 1500), row)
+    let step = keys_step_by(alloc, &judge_at(&trust, 1500), row);
+    drop(trust);
+    step
 }
 
 fn has_mark(found: &ChainedSet, mark: Proof, sig: Option<u32>) -> bool {
@@ -129,7 +141,10 @@ fn is_marked_as(step: &KeysStep, row: &Keys) -> bool {
 }
 
 fn is_marked(alloc: Global, row: &Keys) -> Result<bool, NameError> {
-    Ok(is_marked_as(&keys_step(alloc, row)?, row))
+    let step = keys_step(alloc, row)?;
+    let held = is_marked_as(&step, row);
+    drop(step);
+    Ok(held)
 }
 
 #[test]
@@ -160,7 +175,10 @@ const KEY_BESIDE_TXT: &Keys = &Keys {
 };
 
 fn mark(alloc: Global, row: &Keys) -> Result<Option<Proof>, NameError> {
-    Ok(mark_of(&keys_step(alloc, row)?))
+    let step = keys_step(alloc, row)?;
+    let mark = mark_of(&step);
+    drop(step);
+    Ok(mark)
 }
 
 #[test]
@@ -231,7 +249,10 @@ fn judged_by_letters(alloc: Global, letters: &str) -> Result<ChainedSet, NameErr
 }
 
 fn is_decided(alloc: Global, row: &Decided) -> Result<bool, NameError> {
-    Ok(has_mark(&judged_by_letters(alloc, row.verdicts)?, row.mark, row.sig))
+    let judged = judged_by_letters(alloc, row.verdicts)?;
+    let held = has_mark(&judged, row.mark, row.sig);
+    drop(judged);
+    Ok(held)
 }
 
 #[test]

@@ -256,15 +256,24 @@ fn validity(
     key: &Record,
     now: u64,
 ) -> Result<RrsigValidity, NameError> {
-    Ok(RrsigValidity::check(sig, &servers(alloc)?, key, now))
+    let set = servers(alloc)?;
+    let found = RrsigValidity::check(sig, &set, key, now);
+    drop(set);
+    Ok(found)
 }
 
 fn validity_of(alloc: Global, sig: &Record, row: &Fitting) -> Result<RrsigValidity, NameError> {
-    validity(alloc, sig, &record_of(alloc, &row.key)?, row.now)
+    let key = record_of(alloc, &row.key)?;
+    let found = validity(alloc, sig, &key, row.now);
+    drop(key);
+    found
 }
 
 fn fits(alloc: Global, row: &Fitting) -> Result<bool, NameError> {
-    Ok(validity_of(alloc, &record_of(alloc, &row.sig)?, row)? == row.want)
+    let sig = record_of(alloc, &row.sig)?;
+    let found = validity_of(alloc, &sig, row);
+    drop(sig);
+    Ok(found? == row.want)
 }
 
 fn check_fitting(rt: &impl Abort, alloc: Global, rows: &[Fitting]) {
@@ -331,18 +340,36 @@ fn is_good_by_key(
     key: &Record,
 ) -> Result<bool, NameError> {
     let set = servers(alloc)?;
-    Ok(is_good_by(alloc, judge, &set, sig, key)?)
+    let good = is_good_by(alloc, judge, &set, sig, key);
+    drop(set);
+    Ok(good?)
+}
+
+fn is_good_with(
+    alloc: Global,
+    judge: &Judge<'_, Listed>,
+    sig: &Record,
+    row: &Good,
+) -> Result<bool, NameError> {
+    let key = root_key(alloc, row.key)?;
+    let good = is_good_by_key(alloc, judge, sig, &key);
+    drop(key);
+    good
 }
 
 fn is_good_to(alloc: Global, judge: &Judge<'_, Listed>, row: &Good) -> Result<bool, NameError> {
     let sig = root_signature(alloc, row.sig)?;
-    is_good_by_key(alloc, judge, &sig, &root_key(alloc, row.key)?)
+    let good = is_good_with(alloc, judge, &sig, row);
+    drop(sig);
+    good
 }
 
 /// No key is an anchor here.
 fn is_good(alloc: Global, row: &Good) -> Result<bool, NameError> {
     let trust = trust_in_keys(alloc, &[])?;
-    Ok(is_good_to(alloc, &judge_at(&trust, row.now), row)? == row.is_good)
+    let good = is_good_to(alloc, &judge_at(&trust, row.now), row);
+    drop(trust);
+    Ok(good? == row.is_good)
 }
 
 #[test]
@@ -361,7 +388,9 @@ fn is_skipped_for(
 ) -> Result<bool, NameError> {
     let mut query = key_query(alloc, set, read)?;
     query.query_type = record_type;
-    Ok(is_skipped_read(&query, set, read))
+    let skipped = is_skipped_read(&query, set, read);
+    drop(query);
+    Ok(skipped)
 }
 
 fn is_skipped_in(
@@ -376,10 +405,23 @@ fn is_skipped_in(
     }
 }
 
+fn is_skipped_over(
+    alloc: Global,
+    set: &RecordSet,
+    record_type: RecordType,
+) -> Result<bool, NameError> {
+    let sig = root_signature(alloc, OVER_NS)?;
+    let skipped = is_skipped_in(alloc, set, &sig, record_type);
+    drop(sig);
+    skipped
+}
+
 /// A signature over the root's NS set asks for the root's keys, unless they are what is asked for.
 fn is_skipped_at(alloc: Global, record_type: RecordType) -> Result<bool, NameError> {
     let set = servers(alloc)?;
-    is_skipped_in(alloc, &set, &root_signature(alloc, OVER_NS)?, record_type)
+    let skipped = is_skipped_over(alloc, &set, record_type);
+    drop(set);
+    skipped
 }
 
 #[test]

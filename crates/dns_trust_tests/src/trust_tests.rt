@@ -46,19 +46,30 @@ fn answers(listed: &Listed, row: &Asked) -> bool {
 /// What is listed answers so, and a copy of it too.
 fn both_answer(listed: &Listed, row: &Asked) -> Result<bool, NameError> {
     let copy = listed.try_clone()?;
-    Ok(answers(listed, row) && answers(&copy, row))
+    let held = answers(&copy, row);
+    drop(copy);
+    Ok(held && answers(listed, row))
 }
 
 fn is_as_listed(alloc: Global, row: &Asked) -> Result<bool, NameError> {
-    both_answer(&verifier(alloc)?, row)
+    let listed = verifier(alloc)?;
+    let held = both_answer(&listed, row);
+    drop(listed);
+    held
 }
 
-/// Algorithm 1 is neither supported nor accepted, also where it was listed.
-fn lists_algorithm_1(alloc: Global) -> Result<bool, NameError> {
-    let mut listed = Listed::new(alloc);
+fn keeps_algorithm_1(listed: &mut Listed) -> Result<bool, NameError> {
     listed.support(1);
     listed.accept(1, PUBLIC_KEY, NS_BYTES, b"\xcc")?;
     Ok(listed.supports(1) || listed.accepts(1, PUBLIC_KEY, NS_BYTES, b"\xcc"))
+}
+
+/// Algorithm 1 is neither supported nor accepted, also where it was listed.
+fn lists_no_algorithm_1(alloc: Global) -> Result<bool, NameError> {
+    let mut listed = Listed::new(alloc);
+    let kept = keeps_algorithm_1(&mut listed);
+    drop(listed);
+    Ok(!kept?)
 }
 
 /// What the verifier of these tests accepts, in another order, and once more.
@@ -77,18 +88,23 @@ fn becomes_same(listed: &Listed, other: &mut Listed) -> bool {
     !before && listed.same(other) && other.same(listed)
 }
 
-fn is_same_in_another_order(alloc: Global, listed: &Listed) -> Result<bool, NameError> {
-    let mut other = Listed::new(alloc);
-    accept_all(&mut other, IN_ANOTHER_ORDER)?;
-    Ok(becomes_same(listed, &mut other))
+fn accepts_same(listed: &Listed, other: &mut Listed) -> Result<bool, NameError> {
+    accept_all(other, IN_ANOTHER_ORDER)?;
+    Ok(becomes_same(listed, other))
 }
 
-fn lists_no_algorithm_1(alloc: Global) -> Result<bool, NameError> {
-    Ok(!lists_algorithm_1(alloc)?)
+fn is_same_in_another_order(alloc: Global, listed: &Listed) -> Result<bool, NameError> {
+    let mut other = Listed::new(alloc);
+    let held = accepts_same(listed, &mut other);
+    drop(other);
+    held
 }
 
 fn is_same(alloc: Global) -> Result<bool, NameError> {
-    is_same_in_another_order(alloc, &verifier(alloc)?)
+    let listed = verifier(alloc)?;
+    let held = is_same_in_another_order(alloc, &listed);
+    drop(listed);
+    held
 }
 
 #[test]
@@ -164,25 +180,38 @@ const CONTAINED: &[Contained] = &[
 
 fn is_inserted(alloc: Global, row: &Inserted) -> Result<bool, NameError> {
     let mut anchors = trusting(alloc, row.before)?;
-    Ok(insert(&mut anchors, alloc, &row.next)? == row.is_new)
+    let inserted = insert(&mut anchors, alloc, &row.next);
+    drop(anchors);
+    Ok(inserted? == row.is_new)
 }
 
 fn is_held(alloc: Global, anchors: &TrustAnchors, row: &Contained) -> Result<bool, NameError> {
     let owner = Name::from_ascii(alloc, row.owner)?;
-    Ok(anchors.contains_with_name(&owner, row.algorithm, PUBLIC_KEY) == row.is_contained)
+    let held = anchors.contains_with_name(&owner, row.algorithm, PUBLIC_KEY);
+    drop(owner);
+    Ok(held == row.is_contained)
 }
 
 /// A copy of all, which outlives them.
 fn copy_of_all(alloc: Global) -> Result<TrustAnchors, NameError> {
-    Ok(trusting(alloc, ALL)?.try_clone()?)
+    let anchors = trusting(alloc, ALL)?;
+    let copy = anchors.try_clone();
+    drop(anchors);
+    Ok(copy?)
 }
 
 fn is_held_of_all(alloc: Global, row: &Contained) -> Result<bool, NameError> {
-    is_held(alloc, &copy_of_all(alloc)?, row)
+    let anchors = copy_of_all(alloc)?;
+    let held = is_held(alloc, &anchors, row);
+    drop(anchors);
+    held
 }
 
 fn are_two(alloc: Global) -> Result<bool, NameError> {
-    Ok(copy_of_all(alloc)?.len() == 2)
+    let anchors = copy_of_all(alloc)?;
+    let held = anchors.len() == 2;
+    drop(anchors);
+    Ok(held)
 }
 
 #[test]

@@ -166,14 +166,27 @@ fn verdict_on(
 }
 
 /// What the signature over the root's NS set does for it.
+fn verdict_of(
+    alloc: Global,
+    judge: &Judge<'_, Listed>,
+    set: &RecordSet,
+    answer: &Option<Vec<ChainedSet>>,
+) -> Result<Verdict, NameError> {
+    let sig = root_signature(alloc, OVER_NS)?;
+    let verdict = verdict_on(alloc, judge, set, &sig, answer);
+    drop(sig);
+    Ok(verdict?)
+}
+
 fn verdict_by(
     alloc: Global,
     judge: &Judge<'_, Listed>,
     answer: &Option<Vec<ChainedSet>>,
 ) -> Result<Verdict, NameError> {
     let set = servers(alloc)?;
-    let sig = root_signature(alloc, OVER_NS)?;
-    Ok(verdict_on(alloc, judge, &set, &sig, answer)?)
+    let verdict = verdict_of(alloc, judge, &set, answer);
+    drop(set);
+    verdict
 }
 
 fn verdict(
@@ -182,25 +195,46 @@ fn verdict(
     answer: &Option<Vec<ChainedSet>>,
 ) -> Result<Verdict, NameError> {
     let trust = trust_in_keys(alloc, ROOT)?;
-    verdict_by(alloc, &judge_at(&trust, now), answer)
+    let verdict = verdict_by(alloc, &judge_at(&trust, now), answer);
+    drop(trust);
+    verdict
+}
+
+/// What a signature does: it proves, or shows that its zone is Insecure.
+#[derive(Clone, Copy, PartialEq)]
+struct Does {
+    proves: bool,
+    excuses: bool,
+}
+
+fn does(alloc: Global, now: u64, answer: &Option<Vec<ChainedSet>>) -> Result<Does, NameError> {
+    let verdict = verdict(alloc, now, answer)?;
+    let does = Does {
+        proves: verdict.is_proved(),
+        excuses: verdict.shows_insecure(),
+    };
+    drop(verdict);
+    Ok(does)
+}
+
+fn does_by(alloc: Global, row: &Answered) -> Result<Does, NameError> {
+    let answer = answer(alloc, row)?;
+    let does = does(alloc, row.now, &answer);
+    drop(answer);
+    does
 }
 
 fn proves(alloc: Global, row: &Answered) -> Result<bool, NameError> {
-    let answer = answer(alloc, row)?;
-    Ok(verdict(alloc, row.now, &answer)?.is_proved() == row.wanted)
+    Ok(does_by(alloc, row)?.proves == row.wanted)
 }
 
 fn excuses(alloc: Global, row: &Answered) -> Result<bool, NameError> {
-    let answer = answer(alloc, row)?;
-    Ok(verdict(alloc, row.now, &answer)?.shows_insecure() == row.wanted)
-}
-
-fn does_nothing(verdict: &Verdict) -> bool {
-    !verdict.is_proved() && !verdict.shows_insecure()
+    Ok(does_by(alloc, row)?.excuses == row.wanted)
 }
 
 fn fails_without_answer(alloc: Global) -> Result<bool, NameError> {
-    Ok(does_nothing(&verdict(alloc, 1500, &None)?))
+    let does = does(alloc, 1500, &None)?;
+    Ok(!does.proves && !does.excuses)
 }
 
 fn check_proving(rt: &impl Abort, alloc: Global, rows: &[Answered]) {
