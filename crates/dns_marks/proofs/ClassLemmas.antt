@@ -13,7 +13,7 @@ use Rattle.dns_handle.specs.Responses.{all_records}
 use Rattle.dns_rules.specs.ProofErrors.{DsRecordShouldExist, DsResponseInsecure}
 use Rattle.dns_rules.specs.Delegations.{Insecure, Bogus, is_supported_ds, is_readable_ds, shows_unsigned_cut, zone_verdict}
 use Rattle.dns_marks.specs.ZoneVerdicts.{shown_by, of_class, in_class, is_record_of, are_secure_in_set, has_ds_set, by_supported, by_ds, authority_shows_no_ds, hashes_show_no_ds, is_insecure_record_above, without_ds, by_message}
-use Rattle.dns_marks.proofs.OwnRecords.{is_own_record, has_own_ds, by_own_ds, own_shows_no_ds, is_insecure_own, without_own_ds, by_own_message}
+use Rattle.dns_marks.proofs.OwnRecords.{is_own_record, by_own_ds, own_shows_no_ds, is_insecure_own, without_own_ds, by_own_message}
 use Rattle.dns_marks.proofs.OwnLemmas.{filter_any}
 use Rattle.dns_marks.proofs.ZoneLemmas.{zone_verdict_by}
 
