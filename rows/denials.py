@@ -9,7 +9,7 @@ that is written.
 import sys
 
 import texts
-from scene import TRAIL, Scene, main
+from scene import TRAIL, Scene, finds, main
 from texts import A, DNSKEY, DS, MX, NS, NSEC, RRSIG, Record, Signed, number
 from unsigned import CHILD, CNAME, SOA, SOA_RDATA, ns_of
 from walk import ADDRESS, EXAMPLE, KEYS, WWW
@@ -82,6 +82,20 @@ def name_error_by_two_records():
 def name_error_of_a_name_with_another_below():
     """a record whose next name lies below the name: the name exists, so there is no name error"""
     return name_error("a.ml.example"), IS_BOGUS
+
+
+def signed_together(scene, records):
+    """One set, which `example.` signed. A message of a thousand of them is packed."""
+    scene.is_packed = True
+    return scene.signed(records, KEYS[0], EXAMPLE)
+
+
+def denial_by_a_thousand_records():
+    """Of as many records of the name the first decides."""
+    scene = signed_zone()
+    scene.says(ML, A, authorities=signed_together(scene, [nsec("ml.example", f"n{k}.example", TXT) for k in range(1_000)]))
+    session = scene.session(ML, A)
+    return session, finds(session, ["denial absent secure", "chains 1", "asks 2"]), 0
 
 
 def type_that_a_name_lacks():

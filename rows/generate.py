@@ -7,6 +7,8 @@ writes each as FOLDER/NAME.session, NAME.words, NAME.out and NAME.status. `tools
 import os
 import sys
 
+import denials
+import hashed
 import texts
 import unsigned
 import walk
@@ -330,7 +332,8 @@ MADE = (forty_keys, sixty_links, two_hundred_sets, hundred_chains, more_sends_th
         longest_message, thousand_anchors, longest_input, input_of_a_byte_too_many, line_of_sixteen_mebibytes,
         asks_that_are_refused, searches_past_the_last_send, walk.four_hundred_copies_of_a_key,
         walk.four_hundred_copies_and_no_other, walk.ds_ask_past_the_last_send, walk.deepest_keys_beside_their_own_ds,
-        unsigned.deepest_searches, chain_of_three_hundred_links, forty_ds_records,
+        unsigned.deepest_searches, denials.denial_by_a_thousand_records, hashed.hashed_denial_by_a_thousand_records,
+        hashed.unsigned_by_a_thousand_records, chain_of_three_hundred_links, forty_ds_records,
         set_of_4500_records, rdata_of_sixty_thousand_bytes, seventy_thousand_lines_of_each_kind, bad_line_behind_seventy_thousand,
         referral_to_two_thousand_servers, long_name_of_another_class, three_hundred_words, word_of_100_000_letters, words_of_more_than_255_bytes, number_of_300_digits,
         algorithm_of_300_digits, type_of_300_letters, fault_of_300_letters, line_with_a_word_of_300_letters)

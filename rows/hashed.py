@@ -10,8 +10,9 @@ import sys
 
 import hashes
 import texts
-from denials import (IS_BOGUS, KEY_OF_W, ML, NAME_ERROR, TXT, W, WWW, X, asked, bitmap, by_example, expanded, name, nsec, signed_zone)
-from scene import TRAIL, main
+from denials import (IS_BOGUS, KEY_OF_W, ML, NAME_ERROR, TXT, W, WWW, X, asked, bitmap, by_example, expanded, name, nsec, signed_together,
+                     signed_zone)
+from scene import TRAIL, finds, main
 from texts import A, DS, MX, NS, RRSIG, Record, number
 from unsigned import CHILD, NSEC3, SOA, ns_of
 from walk import ADDRESS, EXAMPLE
@@ -175,12 +176,17 @@ def expansion_past_a_closer_name_by_hashes():
 
 # ---- zones that aren't signed
 
-def unsigned_child(*denials, code=0):
-    """An unsigned address below `child.example.`, a zone; the answer to the ask for its DS set has these records."""
-    scene = signed_zone()
+def child_asked_for(scene):
+    """An unsigned address below `child.example.`, a zone whose DS set is asked for."""
     scene.says(BELOW, A, [Record(BELOW, A, ADDRESS)])
     scene.says(BELOW, NS)
     scene.says(CHILD, NS, [ns_of(CHILD)])
+    return scene
+
+
+def unsigned_child(*denials, code=0):
+    """The answer to that ask has these records."""
+    scene = child_asked_for(signed_zone())
     scene.says(CHILD, DS, authorities=by_example(scene, *denials), code=code)
     return scene.session(BELOW, A)
 
@@ -233,6 +239,28 @@ def signed_delegation_by_hash():
 def no_delegation_by_hash():
     """without NS there is no DS, and no delegation either"""
     return unsigned_child(of_the_child(A, RRSIG)), [BOGUS_BELOW, "ending absent secure", "last ending none"], TRAIL
+
+
+# ---- a thousand records
+
+def thousand_records(owner, kind):
+    return [nsec3(owner, f"n{k}.example", kind) for k in range(1_000)]
+
+
+def hashed_denial_by_a_thousand_records():
+    """Of as many records of the name the first decides."""
+    scene = signed_zone()
+    scene.says(ML, A, authorities=signed_together(scene, thousand_records("ml.example", TXT)))
+    session = scene.session(ML, A)
+    return session, finds(session, ["denial absent secure", "chains 1", "asks 2"]), 0
+
+
+def unsigned_by_a_thousand_records():
+    """As many records of a delegation say that it has no DS."""
+    scene = child_asked_for(signed_zone())
+    scene.says(CHILD, DS, authorities=signed_together(scene, thousand_records("child.example", NS)))
+    session = scene.session(BELOW, A)
+    return session, finds(session, [INSECURE_BELOW, "ending absent secure", "asks 5"]), 0
 
 
 MADE = (hashed_name_error, hashed_name_error_by_opt_out, hashed_name_error_without_the_wildcard, hashed_a_hundred_times, hashed_once_more,
