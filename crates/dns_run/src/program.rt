@@ -72,7 +72,7 @@ pub fn run<S: Source, W: Sink>(
         → Leaves (Reports shows) (S.left input.old) (W.taken output.old) (W.taken output.new)) }
 
     // That answer has a trail for the session, a derivation from the session's replies, in which what is Insecure has its ground.
-    // And what it denies holds in each zone in which the Secure NSEC records of the reply are true.
+    // And what it denies holds in each zone in which the Secure NSEC or NSEC3 records of the reply are true.
     ensures derived { IfValidates words.now (λ shows. result ≡ 0
         → Leaves (Derives shows) (S.left input.old) (W.taken output.old) (W.taken output.new)) }
 
