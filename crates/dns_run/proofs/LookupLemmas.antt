@@ -16,7 +16,6 @@ use Rattle.dns_handle.specs.Replies.{reply_of}
 use Rattle.dns_handle.specs.Requests.{plain_options}
 use Rattle.dns_handle.specs.declared.error.NetError.{NetError}
 use Rattle.dns_handle.specs.declared.handle.DnsHandle as handle
-use Rattle.dns_handle.specs.declared.notice.Notice.TheVariants.{NoQueryInRequest, ExpiredRrsig, WrongDnskey, WrongRrsig, ExceededMaxValidationDepth, ExceededMaxNestedQueries, IdSpaceExhausted, SendQueueFull, PolledAfterCompletion, NotAllBytesSent}
 use Rattle.dns_validation.specs.Received.{received_message, received}
 use Rattle.dns_handle.specs.declared.request.DnsRequestOptions.{DnsRequestOptions}
 use Rattle.dns_evidence.specs.declared.limits.IterationLimits.{IterationLimits}
@@ -196,25 +195,7 @@ error_cause : {H : Type 0} (meanings : handle.Ghosts H) (s : SessionValue) (call
 error_cause meanings s call Busy c says own =
     passed_cause meanings s call _ c own (says.caused.passed _ refl refl)
 error_cause meanings s call (Dns error) c says own = dns_cause meanings s call error c says own
-error_cause meanings s call (Message NoQueryInRequest) c says own =
-    passed_cause meanings s call _ c own (says.caused.passed _ refl refl)
-error_cause meanings s call (Message ExpiredRrsig) c says own =
-    passed_cause meanings s call _ c own (says.caused.passed _ refl refl)
-error_cause meanings s call (Message WrongDnskey) c says own =
-    passed_cause meanings s call _ c own (says.caused.passed _ refl refl)
-error_cause meanings s call (Message WrongRrsig) c says own =
-    passed_cause meanings s call _ c own (says.caused.passed _ refl refl)
-error_cause meanings s call (Message ExceededMaxValidationDepth) c says own =
-    passed_cause meanings s call _ c own (says.caused.passed _ refl refl)
-error_cause meanings s call (Message ExceededMaxNestedQueries) c says own =
-    passed_cause meanings s call _ c own (says.caused.passed _ refl refl)
-error_cause meanings s call (Message IdSpaceExhausted) c says own =
-    passed_cause meanings s call _ c own (says.caused.passed _ refl refl)
-error_cause meanings s call (Message SendQueueFull) c says own =
-    passed_cause meanings s call _ c own (says.caused.passed _ refl refl)
-error_cause meanings s call (Message PolledAfterCompletion) c says own =
-    passed_cause meanings s call _ c own (says.caused.passed _ refl refl)
-error_cause meanings s call (Message NotAllBytesSent) c says own =
+error_cause meanings s call (Message notice) c says own =
     passed_cause meanings s call _ c own (says.caused.passed _ refl refl)
 error_cause meanings s call (Msg text) c says own =
     passed_cause meanings s call _ c own (says.caused.passed _ refl refl)
