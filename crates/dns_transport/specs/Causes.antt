@@ -17,12 +17,12 @@ use Rattle.dns_transport.specs.Frames.{frames, most_framed}
 use Rattle.dns_transport.specs.Links.{LinkView}
 use Rattle.dns_transport.specs.Streams.{StreamValue}
 
--- a fault of the link is passed on
+-- the reply is what a fault of a link is answered, of some kind
 pub record IsLinkFault {X : Type 0} (reply : Result X NetError) : Type 0 where
   pub kind : IoKind
   pub told : reply ≡ Err (outside_failed kind)
 
--- no count has fallen
+-- none of these counts has fallen
 pub record IsLater (met now : CountsValue) : Type 0 where
   pub faults : RoseBy 0 met.faults now.faults
   pub ends : RoseBy 0 met.ends now.ends

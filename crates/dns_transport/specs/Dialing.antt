@@ -5,7 +5,7 @@ use Rattle.dns_handle.specs.declared.error.NetError.{NetError}
 use Rattle.dns_handle.specs.declared.io_kind.IoKind.{IoKind}
 use Rattle.dns_link.specs.Counts.{CountsValue, with_fault}
 
--- a dialer that made a link counted nothing; an error is the one that it answered, and counted
+-- a dialer that made a link counted nothing; a refusal is counted, and is what a fault of some kind is answered
 abbrev pub IsDialed : {D X : Type 0} → (D → CountsValue) → D → D → Result X NetError → Type 0
 IsDialed counts old new (Ok made) = counts new ≡ counts old
 IsDialed counts old new (Err error) = (counts new ≡ with_fault (counts old)) × (kind : IoKind) × (error ≡ outside_failed kind)

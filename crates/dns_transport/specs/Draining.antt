@@ -18,7 +18,8 @@ is_nil (x ∷ xs) = false
 abbrev pub is_drained : StreamValue → Bool
 is_drained stream = is_nil stream.unsent && is_nil stream.queue
 
--- the stream with bytes to be written: the rest of a frame, or the next message's
+-- the stream with bytes to be written: the rest of a frame, or the next message's. A queue holds no message without a byte, since
+-- what puts one there has that condition; its frame would be a length of 0, which a reader takes for a fault
 pub data IsLoaded (old loaded : StreamValue) : Type 0 where
   Begun : old.unsent ≢ [] → loaded ≡ old → IsLoaded old loaded
   Next : (message : SerialMessageValue) (rest : List SerialMessageValue) → old.unsent ≡ [] → old.queue ≡ message ∷ rest

@@ -1,4 +1,4 @@
-ghost use Rattle.std.specs.Prelude.{◌≡◌, ◌↔◌, ◌≢◌, ◌<◌, ◌≤◌, ◌++◌, [], false, IsTrue, OnOk, length};
+ghost use Rattle.std.specs.Prelude.{◌≡◌, ◌↔◌, ◌≢◌, ◌<◌, ◌≤◌, ◌++◌, [], false, IsTrue, OnOk, length, nat_le};
 ghost use Rattle.dns_mux.specs.Queues.{IsPut};
 ghost use Rattle.dns_transport.specs.Draining.{Drains, drain_reply, is_drained, sent};
 ghost use Rattle.dns_transport.specs.Feeding.{Feeds, GivesFrame, IsFramed, after_feed_reply, frame_given, frame_reply, message_reply, unused};
@@ -168,11 +168,11 @@ impl StreamState {
         handle.send(&mut self.queue, message)
     }
 
-    /// How many messages wait.
-    pub(crate) fn waiting(&self) -> usize
-        ensures { result ≡ length self.now.queue }
+    /// Whether one message more may wait.
+    pub(crate) fn has_room(&self, handle: &BufDnsStreamHandle) -> bool
+        ensures { result ≡ nat_le (length self.now.queue) handle.now.buffer }
     {
-        self.queue.len()
+        handle.has_room(&self.queue)
     }
 
     /// Counts a fault, after which nothing goes on.

@@ -1,4 +1,4 @@
-ghost use Rattle.std.specs.Prelude.{◌≡◌, ◌≢◌, ◌<◌, ◌≤◌, [], false, IfOk, OnOk, length};
+ghost use Rattle.std.specs.Prelude.{◌≡◌, ◌≢◌, ◌<◌, ◌≤◌, [], false, IfOk, OnOk, length, nat_le};
 ghost use Rattle.std.specs.declared.net.socket_addr.SocketAddr.{SocketAddr};
 ghost use Rattle.dns_link.specs.Moved.{IsNew};
 ghost use Rattle.dns_mux.specs.Queues.{IsPut};
@@ -46,6 +46,8 @@ impl<L: Link + Drop> TcpClientStream<L> {
         timeout_ms: u64,
     ) -> Result<(TcpClientStream<L>, BufDnsStreamHandle), NetError>
         ensures dialed { IsDialed D.counts dial.old dial.new result }
+        ensures bytes { D.given_bytes dial.new ≡ D.given_bytes dial.old }
+        ensures datagrams { D.given_datagrams dial.new ≡ D.given_datagrams dial.old }
         ensures link { IfOk result (λ made.
             IsNew (L.counts (link_of (stream_of made.0))) (L.given (link_of (stream_of made.0)))) }
         ensures state { IfOk result (λ made. state_of (stream_of made.0) ≡ new_stream peer []) }
@@ -78,6 +80,13 @@ impl<L: Link + Drop> TcpClientStream<L> {
         ensures handle { handle.new ≡ handle.old }
     {
         self.stream.enqueue(handle, message)
+    }
+
+    /// As [`TcpStream::has_room`].
+    pub fn has_room(&self, handle: &BufDnsStreamHandle) -> bool
+        ensures { result ≡ nat_le (length (state_of (stream_of self.now)).queue) handle.now.buffer }
+    {
+        self.stream.has_room(handle)
     }
 
     /// As [`TcpStream::feed`].

@@ -1,4 +1,4 @@
-ghost use Rattle.std.specs.Prelude.{◌≡◌, ◌≢◌, ◌<◌, ◌≤◌, [], false, IfOk, OnOk, length};
+ghost use Rattle.std.specs.Prelude.{◌≡◌, ◌≢◌, ◌<◌, ◌≤◌, [], false, IfOk, OnOk, length, nat_le};
 ghost use Rattle.dns_link.specs.Moved.{IsNew};
 ghost use Rattle.dns_mux.specs.Queues.{IsPut};
 ghost use Rattle.dns_transport.specs.Causes.{DrainAnswer, FeedAnswer, IsWritten};
@@ -90,6 +90,8 @@ impl<L: Link + Drop> TcpStream<L> {
         timeout_ms: u64,
     ) -> Result<(TcpStream<L>, BufDnsStreamHandle), NetError>
         ensures dialed { IsDialed D.counts dial.old dial.new result }
+        ensures bytes { D.given_bytes dial.new ≡ D.given_bytes dial.old }
+        ensures datagrams { D.given_datagrams dial.new ≡ D.given_datagrams dial.old }
         ensures link { IfOk result (λ made. IsNew (L.counts (link_of made.0)) (L.given (link_of made.0))) }
         ensures state { IfOk result (λ made. state_of made.0 ≡ new_stream peer []) }
         ensures handle { IfOk result (λ made. made.1 ≡ record { addr = peer; buffer = 32 }) }
@@ -136,6 +138,13 @@ impl<L: Link + Drop> TcpStream<L> {
         self.state.enqueue(handle, message)
     }
 
+    /// Whether `enqueue` by this handle finds room: `false` exactly where it would answer that the queue is full.
+    pub fn has_room(&self, handle: &BufDnsStreamHandle) -> bool
+        ensures { result ≡ nat_le (length (state_of self.now).queue) handle.now.buffer }
+    {
+        self.state.has_room(handle)
+    }
+
     /// Reads once, at most the bytes that the length or the frame still lacks, and gives a message with its last byte. `Closed`
     /// where the link ended between two frames. `Io(BrokenPipe)` comes where it ended inside one, and where a length is 0.
     pub fn feed(&mut self) -> Result<Feed, NetError>
@@ -160,7 +169,7 @@ impl<L: Link + Drop> TcpStream<L> {
 
     /// Writes once of what waits, a message and its length together. `true` where nothing is left. `Io(InvalidData)` comes where
     /// the next message goes to another address than the peer's, `Io(RequestTooLong)` where it has more than 65,535 bytes, and
-    /// `Io(Other)` where the link takes nothing.
+    /// `Io(Other)` where the link takes nothing. No message without a byte waits: whatever puts one into a queue has that condition.
     pub fn drain(&mut self) -> Result<bool, NetError>
         ensures drained { Drains (link_view L.counts L.given L.left L.taken) (link_of self.old) (link_of self.new)
             (state_of self.old) (state_of self.new) result }
