@@ -2,8 +2,12 @@ use dns_evidence::Trail;
 use dns_handle::{DnsError, DnsRequest, DnsRequestOptions, DnsResponse, IoKind, NetError, Notice};
 use dns_message::Message;
 use dns_model::Denial;
+use dns_name::NoMemory;
 use futures::task::Poll;
-use std::alloc::Global;
+use futures::test::MockTask;
+use std::alloc::{AllocGlobal, Global};
+use std::process::Abort;
+use std::random::RandomSource;
 
 /// A reply, as far as tests tell one from another.
 #[derive(Clone, Copy, PartialEq, Eq)]
@@ -79,4 +83,14 @@ pub(crate) fn said_in(poll: &Poll<Result<DnsResponse, NetError>>) -> Option<Said
         Poll::Ready(reply) => Some(said_by(reply)),
         Poll::Pending => None,
     }
+}
+
+/// A task in which polls are made by hand, unless memory lacks for it.
+pub(crate) fn task<R: RandomSource + AllocGlobal>(rt: &R) -> Option<MockTask> {
+    MockTask::new(rt).ok()
+}
+
+/// What was tried on a row held; the message names the row.
+pub(crate) fn check_row(rt: &impl Abort, row: &str, held: Result<bool, NoMemory>) {
+    assert!(rt; matches!(held, Ok(true)), "{row}");
 }

@@ -3,27 +3,28 @@ use dns_handle::NetError;
 use dns_requests::{BufDnsRequestStreamHandle, DnsResponseReceiver, OneshotDnsRequest};
 use std::alloc::Global;
 
-/// The slot that a request got.
-fn slot_in(sent: &Result<DnsResponseReceiver, NetError>) -> Option<u64> {
+/// What a queue tells whoever sends a request.
+#[derive(Clone, Copy, PartialEq, Eq)]
+enum Told {
+    Slot(u64),
+    Busy,
+    Other,
+}
+
+fn told_by(sent: &Result<DnsResponseReceiver, NetError>) -> Told {
     match sent {
-        Ok(DnsResponseReceiver::Receiver(slot)) => Some(*slot),
-        _ => None,
+        Ok(DnsResponseReceiver::Receiver(slot)) => Told::Slot(*slot),
+        Err(NetError::Busy) => Told::Busy,
+        _ => Told::Other,
     }
 }
 
-/// Whether a request gets this slot.
-fn is_in_slot(alloc: Global, queue: &mut BufDnsRequestStreamHandle, slot: u64) -> bool {
-    slot_in(&queue.send(request(alloc))) == Some(slot)
-}
-
-/// Whether a request was refused since the queue is busy.
-fn is_refused(sent: &Result<DnsResponseReceiver, NetError>) -> bool {
-    matches!(sent, Err(NetError::Busy))
-}
-
-/// Whether the queue is busy.
-fn is_busy(alloc: Global, queue: &mut BufDnsRequestStreamHandle) -> bool {
-    is_refused(&queue.send(request(alloc)))
+/// What the queue tells of one request more.
+fn send(alloc: Global, queue: &mut BufDnsRequestStreamHandle) -> Told {
+    let sent = queue.send(request(alloc));
+    let told = told_by(&sent);
+    drop(sent);
+    told
 }
 
 /// The slot of a request that waited.
@@ -34,19 +35,36 @@ fn slot_of(waiting: &Option<OneshotDnsRequest>) -> Option<u64> {
     }
 }
 
-/// Whether the request that waited longest has this slot.
-fn is_first(queue: &mut BufDnsRequestStreamHandle, slot: u64) -> bool {
-    slot_of(&queue.pop()) == Some(slot)
+/// The slot of the request that waited longest, which leaves the queue.
+fn first_slot(queue: &mut BufDnsRequestStreamHandle) -> Option<u64> {
+    let waiting = queue.pop();
+    let slot = slot_of(&waiting);
+    drop(waiting);
+    slot
+}
+
+/// Whether so many requests get the first slots.
+fn fills(alloc: Global, queue: &mut BufDnsRequestStreamHandle, requests: u64) -> bool {
+    for slot in 0..requests {
+        if send(alloc, queue) != Told::Slot(slot) {
+            return false;
+        }
+    }
+    true
+}
+
+/// Whether a queue that is full is busy, until the first request has left it.
+fn is_full(alloc: Global, queue: &mut BufDnsRequestStreamHandle, next: u64) -> bool {
+    send(alloc, queue) == Told::Busy
+        && first_slot(queue) == Some(0)
+        && send(alloc, queue) == Told::Slot(next)
 }
 
 fn takes_33(alloc: Global) -> bool {
     let mut queue = BufDnsRequestStreamHandle::new(alloc);
-    for slot in 0..33u64 {
-        if !is_in_slot(alloc, &mut queue, slot) {
-            return false;
-        }
-    }
-    is_busy(alloc, &mut queue) && is_first(&mut queue, 0) && is_in_slot(alloc, &mut queue, 33)
+    let held = fills(alloc, &mut queue, 33) && is_full(alloc, &mut queue, 33);
+    drop(queue);
+    held
 }
 
 #[test]

@@ -1,4 +1,4 @@
-use crate::parts::{Said, reply, said_by, said_in};
+use crate::parts::{Said, check_row, reply, said_by, said_in, task};
 use dns_handle::{DnsHandle, DnsRequest, DnsRequestOptions};
 use dns_name::{Name, NoMemory};
 use dns_record::{DNSClass, Query, RecordType};
@@ -6,7 +6,6 @@ use dns_recorded::Recorded;
 use dns_retry::{RetryDnsHandle, RetrySend};
 use futures::Future;
 use futures::task::Context;
-use futures::test::MockTask;
 use std::alloc::Global;
 
 /// So many attempts of a client that is busy so often, and then gives these replies: each of them is asked for, and the last
@@ -114,14 +113,38 @@ fn question(alloc: Global) -> Result<DnsRequest, NoMemory> {
     DnsRequest::from_query(alloc, query(alloc)?, DnsRequestOptions::default())
 }
 
+/// What a send answers.
+fn send(alloc: Global, retry: &mut RetryDnsHandle<Recorded>, request: DnsRequest) -> Said {
+    let reply = retry.send(alloc, request, 0);
+    let said = said_by(&reply);
+    drop(reply);
+    said
+}
+
 /// Whether a send answers the row's last reply.
 fn sends_last(
     alloc: Global,
     retry: &mut RetryDnsHandle<Recorded>,
     row: &Row,
 ) -> Result<bool, NoMemory> {
-    let said = said_by(&retry.send(alloc, question(alloc)?, 0));
+    let said = send(alloc, retry, question(alloc)?);
     Ok(row.replies.last() == Some(&said))
+}
+
+fn sending(
+    alloc: Global,
+    retry: RetryDnsHandle<Recorded>,
+) -> Result<RetrySend<Recorded>, NoMemory> {
+    let request = question(alloc)?;
+    Ok(retry.send_polled(alloc, request, 0))
+}
+
+/// What a poll answers, if it does.
+fn poll_once(sending: &mut RetrySend<Recorded>, cx: &mut Context<'_>) -> Option<Said> {
+    let poll = sending.poll(cx);
+    let said = said_in(&poll);
+    drop(poll);
+    said
 }
 
 /// Whether the next send of the client comes behind all replies of the row.
@@ -130,8 +153,10 @@ fn sends_next(
     retry: RetryDnsHandle<Recorded>,
     cx: &mut Context<'_>,
 ) -> Result<bool, NoMemory> {
-    let mut sending = retry.send_polled(alloc, question(alloc)?, 0);
-    Ok(said_in(&sending.poll(cx)) == Some(NEXT))
+    let mut sending = sending(alloc, retry)?;
+    let said = poll_once(&mut sending, cx);
+    drop(sending);
+    Ok(said == Some(NEXT))
 }
 
 fn is_sent(alloc: Global, row: &Row, cx: &mut Context<'_>) -> Result<bool, NoMemory> {
@@ -143,22 +168,19 @@ fn is_sent(alloc: Global, row: &Row, cx: &mut Context<'_>) -> Result<bool, NoMem
 #[test]
 fn a_request_is_sent_again_while_attempts_are_left(rt: HostRuntime) {
     let alloc = rt.alloc();
-    let Ok(task) = MockTask::new(&rt) else {
+    let Some(task) = task(&rt) else {
         return;
     };
     for row in rows() {
-        assert!(rt;
-            matches!(task.enter(|cx| is_sent(alloc, row, cx)), Ok(true)),
-            "{}",
-            row.message
-        );
+        check_row(&rt, row.message, task.enter(|cx| is_sent(alloc, row, cx)));
     }
+    drop(task);
 }
 
 /// The answer of the polled form, and how often it was pending before.
 fn polled(sending: &mut RetrySend<Recorded>, cx: &mut Context<'_>) -> (Option<Said>, usize) {
     for pending in 0..100usize {
-        let said = said_in(&sending.poll(cx));
+        let said = poll_once(sending, cx);
         if said.is_some() {
             return (said, pending);
         }
@@ -175,21 +197,20 @@ fn is_polled(sending: &mut RetrySend<Recorded>, row: &Row, cx: &mut Context<'_>)
 }
 
 fn polls(alloc: Global, row: &Row, cx: &mut Context<'_>) -> Result<bool, NoMemory> {
-    let mut sending = retrying(alloc, row)?.send_polled(alloc, question(alloc)?, 0);
-    Ok(is_polled(&mut sending, row, cx))
+    let mut sending = sending(alloc, retrying(alloc, row)?)?;
+    let held = is_polled(&mut sending, row, cx);
+    drop(sending);
+    Ok(held)
 }
 
 #[test]
 fn a_poll_sends_once(rt: HostRuntime) {
     let alloc = rt.alloc();
-    let Ok(task) = MockTask::new(&rt) else {
+    let Some(task) = task(&rt) else {
         return;
     };
     for row in rows() {
-        assert!(rt;
-            matches!(task.enter(|cx| polls(alloc, row, cx)), Ok(true)),
-            "{}",
-            row.message
-        );
+        check_row(&rt, row.message, task.enter(|cx| polls(alloc, row, cx)));
     }
+    drop(task);
 }

@@ -1,9 +1,8 @@
-use crate::parts::{Said, reply, said_by, said_in};
+use crate::parts::{Said, check_row, reply, said_by, said_in, task};
 use dns_handle::{DnsResponse, NetError};
 use dns_name::NoMemory;
 use dns_requests::{DnsResponseReceiver, DnsResponseStream, FirstAnswer};
 use futures::task::{Context, Poll};
-use futures::test::MockTask;
 use futures::{Future, Stream};
 use std::alloc::Global;
 
@@ -80,10 +79,17 @@ fn stream(alloc: Global, items: &[Said]) -> Result<DnsResponseStream, NoMemory> 
     Ok(DnsResponseStream::from_items(all))
 }
 
+fn poll_once(receiver: &mut DnsResponseReceiver, cx: &mut Context<'_>) -> Given {
+    let poll = receiver.poll_next(cx);
+    let given = came(&poll);
+    drop(poll);
+    given
+}
+
 /// Whether polls of a receiver give these.
 fn gives(receiver: &mut DnsResponseReceiver, polls: &[Given], cx: &mut Context<'_>) -> bool {
     for wanted in polls {
-        if came(&receiver.poll_next(cx)) != *wanted {
+        if poll_once(receiver, cx) != *wanted {
             return false;
         }
     }
@@ -96,22 +102,25 @@ fn is_streamed(alloc: Global, row: &Row, cx: &mut Context<'_>) -> Result<bool, N
     let mut receiver = DnsResponseReceiver::Receiver(0);
     let waits = gives(&mut receiver, &[Given::Pending, Given::Pending], cx);
     receiver.settle(Ok(settled));
-    Ok(waits && gives(&mut receiver, row.polls, cx))
+    let held = waits && gives(&mut receiver, row.polls, cx);
+    drop(receiver);
+    Ok(held)
 }
 
 #[test]
 fn streams_end_at_a_time_out(rt: HostRuntime) {
     let alloc = rt.alloc();
-    let Ok(task) = MockTask::new(&rt) else {
+    let Some(task) = task(&rt) else {
         return;
     };
     for row in rows() {
-        assert!(rt;
-            matches!(task.enter(|cx| is_streamed(alloc, row, cx)), Ok(true)),
-            "{}",
-            row.message
+        check_row(
+            &rt,
+            row.message,
+            task.enter(|cx| is_streamed(alloc, row, cx)),
         );
     }
+    drop(task);
 }
 
 /// Whether a receiver that was refused gives the error once, whatever it is told later.
@@ -121,42 +130,64 @@ fn is_refused(alloc: Global, cx: &mut Context<'_>) -> bool {
     receiver.settle(Err(NetError::Timeout));
     let once = gives(&mut receiver, &[Given::Item(Said::Busy), Given::End], cx);
     receiver.settle(Err(NetError::Timeout));
-    once && gives(&mut receiver, &[Given::End], cx)
+    let held = once && gives(&mut receiver, &[Given::End], cx);
+    drop(receiver);
+    held
 }
 
 #[test]
 fn a_refusal_is_given_once(rt: HostRuntime) {
     let alloc = rt.alloc();
-    let Ok(task) = MockTask::new(&rt) else {
+    let Some(task) = task(&rt) else {
         return;
     };
-    assert!(rt; task.enter(|cx| is_refused(alloc, cx)));
+    let held = task.enter(|cx| is_refused(alloc, cx));
+    drop(task);
+    check_row(&rt, "a refused receiver", Ok(held));
 }
 
 fn single_gives(alloc: Global, item: Said, polls: &[Given], cx: &mut Context<'_>) -> bool {
     let stream = DnsResponseStream::from_result(alloc, reply(alloc, item));
-    gives(&mut DnsResponseReceiver::Received(stream), polls, cx)
+    let mut receiver = DnsResponseReceiver::Received(stream);
+    let held = gives(&mut receiver, polls, cx);
+    drop(receiver);
+    held
+}
+
+/// Whether a single response is given, and a single time-out is the end.
+fn singles_give(alloc: Global, cx: &mut Context<'_>) -> bool {
+    let item = Said::Response(7);
+    single_gives(alloc, item, &[Given::Item(item), Given::End], cx)
+        && single_gives(alloc, Said::TimedOut, &[Given::End], cx)
 }
 
 #[test]
 fn a_single_item_is_given_once(rt: HostRuntime) {
     let alloc = rt.alloc();
-    let Ok(task) = MockTask::new(&rt) else {
+    let Some(task) = task(&rt) else {
         return;
     };
-    let item = Said::Response(7);
-    assert!(rt; task.enter(|cx| single_gives(alloc, item, &[Given::Item(item), Given::End], cx)));
-    assert!(rt; task.enter(|cx| single_gives(alloc, Said::TimedOut, &[Given::End], cx)));
+    let held = task.enter(|cx| singles_give(alloc, cx));
+    drop(task);
+    check_row(&rt, "a single item", Ok(held));
 }
 
 /// What the first answer of a stream says, and what a poll after it says.
 fn first_twice(stream: DnsResponseStream, cx: &mut Context<'_>) -> [Option<Said>; 2] {
     let mut first = stream.first_answer();
     let once = first.poll(cx);
-    match &once {
-        Poll::Ready(answer) => [Some(said_by(answer)), said_in(&first.poll(cx))],
+    let said = match &once {
+        Poll::Ready(answer) => {
+            let again = first.poll(cx);
+            let said = [Some(said_by(answer)), said_in(&again)];
+            drop(again);
+            said
+        }
         Poll::Pending => [None, None],
-    }
+    };
+    drop(once);
+    drop(first);
+    said
 }
 
 fn is_answered(alloc: Global, row: &Row, cx: &mut Context<'_>) -> Result<bool, NoMemory> {
@@ -167,14 +198,15 @@ fn is_answered(alloc: Global, row: &Row, cx: &mut Context<'_>) -> Result<bool, N
 #[test]
 fn a_first_answer_comes_once(rt: HostRuntime) {
     let alloc = rt.alloc();
-    let Ok(task) = MockTask::new(&rt) else {
+    let Some(task) = task(&rt) else {
         return;
     };
     for row in rows() {
-        assert!(rt;
-            matches!(task.enter(|cx| is_answered(alloc, row, cx)), Ok(true)),
-            "{}",
-            row.message
+        check_row(
+            &rt,
+            row.message,
+            task.enter(|cx| is_answered(alloc, row, cx)),
         );
     }
+    drop(task);
 }
