@@ -212,11 +212,14 @@ def wrong(zone, case, verdict):
 
 # ---- messages
 
-def denials(zone, case):
-    """The records of a case, as they stand in a message (RFC 5155, 3.2)."""
+def told(zone, case):
+    """The records of a case: owner, type and rdata (RFC 5155, 3.2)."""
     salt = zone.hashing.salt
-    texts = []
     for one in case.records:
         head = bytes([one.algorithm, one.flags]) + zone.hashing.iterations.to_bytes(2, "big") + bytes([len(salt)]) + salt
-        texts.append(record((one.label,) + zone.apex, NSEC3, head + bytes([len(one.following)]) + one.following + bitmap(one.types)))
-    return texts
+        yield (one.label,) + zone.apex, NSEC3, head + bytes([len(one.following)]) + one.following + bitmap(one.types)
+
+
+def denials(zone, case):
+    """The same, as they stand in a message."""
+    return [record(*one) for one in told(zone, case)]

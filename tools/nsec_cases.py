@@ -112,6 +112,12 @@ def wrong(zone, case, verdict):
     return f"Bogus with all records: {due}" if due else None
 
 
-def denials(_zone, case):
-    """The records of a case, as they stand in a message."""
-    return [record(owner, NSEC, wire(following) + bitmap(types | {RRSIG, NSEC})) for owner, following, types in case.records]
+def told(_zone, case):
+    """The records of a case: owner, type and rdata (RFC 4034, 4.1)."""
+    for owner, following, types in case.records:
+        yield owner, NSEC, wire(following) + bitmap(types | {RRSIG, NSEC})
+
+
+def denials(zone, case):
+    """The same, as they stand in a message."""
+    return [record(*one) for one in told(zone, case)]
