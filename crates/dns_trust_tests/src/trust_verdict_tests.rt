@@ -202,39 +202,43 @@ fn verdict(
 
 /// What a signature does: it proves, or shows that its zone is Insecure.
 #[derive(Clone, Copy, PartialEq)]
-struct Does {
+struct Effect {
     proves: bool,
     excuses: bool,
 }
 
-fn does(alloc: Global, now: u64, answer: &Option<Vec<ChainedSet>>) -> Result<Does, NameError> {
+fn effect_of(
+    alloc: Global,
+    now: u64,
+    answer: &Option<Vec<ChainedSet>>,
+) -> Result<Effect, NameError> {
     let verdict = verdict(alloc, now, answer)?;
-    let does = Does {
+    let effect = Effect {
         proves: verdict.is_proved(),
         excuses: verdict.shows_insecure(),
     };
     drop(verdict);
-    Ok(does)
+    Ok(effect)
 }
 
-fn does_by(alloc: Global, row: &Answered) -> Result<Does, NameError> {
+fn effect_by(alloc: Global, row: &Answered) -> Result<Effect, NameError> {
     let answer = answer(alloc, row)?;
-    let does = does(alloc, row.now, &answer);
+    let effect = effect_of(alloc, row.now, &answer);
     drop(answer);
-    does
+    effect
 }
 
 fn proves(alloc: Global, row: &Answered) -> Result<bool, NameError> {
-    Ok(does_by(alloc, row)?.proves == row.wanted)
+    Ok(effect_by(alloc, row)?.proves == row.wanted)
 }
 
 fn excuses(alloc: Global, row: &Answered) -> Result<bool, NameError> {
-    Ok(does_by(alloc, row)?.excuses == row.wanted)
+    Ok(effect_by(alloc, row)?.excuses == row.wanted)
 }
 
 fn fails_without_answer(alloc: Global) -> Result<bool, NameError> {
-    let does = does(alloc, 1500, &None)?;
-    Ok(!does.proves && !does.excuses)
+    let effect = effect_of(alloc, 1500, &None)?;
+    Ok(!effect.proves && !effect.excuses)
 }
 
 fn check_proving(rt: &impl Abort, alloc: Global, rows: &[Answered]) {
