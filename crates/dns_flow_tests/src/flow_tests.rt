@@ -1,10 +1,10 @@
-use dns_evidence::{ChainedSet, Limits, Listed, MarkedSet, PlacedSet};
+use crate::parts::{message, only_insecure, query, set};
+use dns_evidence::{Limits, Listed, PlacedSet};
 use dns_flow::{Ask, Got, Need, Phase, after, start_ending, start_set, turn};
 use dns_message::Message;
 use dns_model::{NameError, Proof, Section};
-use dns_name::Name;
 use dns_outcome::Outcome;
-use dns_record::{DNSClass, OpCode, Query, Rdata, Record, RecordSet, RecordType, ResponseCode};
+use dns_record::{Query, RecordType};
 use dns_trust::{Judge, NsProbe, TrustAnchors};
 use std::alloc::Global;
 use std::process::Abort;
@@ -136,140 +136,170 @@ const ROWS: &[Row] = &[
     },
 ];
 
-fn query(alloc: Global, owner: &str, record_type: RecordType) -> Result<Query, NameError> {
-    let name = Name::from_ascii(alloc, owner)?;
-    Ok(Query {
-        name,
-        query_type: record_type,
-        query_class: DNSClass::IN,
-    })
-}
-
-/// A message without records.
-fn message(alloc: Global) -> Message {
-    Message {
-        id: 0,
-        response: true,
-        op_code: OpCode::QUERY,
-        authoritative: false,
-        truncated: false,
-        recursion_desired: false,
-        recursion_available: false,
-        authentic_data: false,
-        checking_disabled: false,
-        response_code: ResponseCode::NO_ERROR,
-        queries: Vec::new(alloc),
-        answers: Vec::new(alloc),
-        authorities: Vec::new(alloc),
-        additionals: Vec::new(alloc),
-        edns: None,
-    }
-}
-
-fn set(
-    alloc: Global,
-    owner: &str,
-    record_type: RecordType,
-    signature: &[u8],
-) -> Result<RecordSet, NameError> {
-    let mut set = RecordSet {
-        name: Name::from_ascii(alloc, owner)?,
-        record_type,
-        dns_class: DNSClass::IN,
-        records: Vec::new(alloc),
-        rrsigs: Vec::new(alloc),
-    };
-    set.records.push(Record {
-        name: Name::from_ascii(alloc, owner)?,
-        record_type,
-        dns_class: DNSClass::IN,
-        ttl: 300,
-        rdata: Rdata::from_slice(alloc, b"")?,
-        proof: Proof::Indeterminate,
-    })?;
-    if !signature.is_empty() {
-        set.rrsigs.push(Record {
-            name: Name::from_ascii(alloc, owner)?,
-            record_type: RecordType::RRSIG,
-            dns_class: DNSClass::IN,
-            ttl: 300,
-            rdata: Rdata::from_slice(alloc, &signature[..signature.len().min(65535)])?,
-            proof: Proof::Indeterminate,
-        })?;
-    }
-    Ok(set)
-}
-
 fn got(alloc: Global, reply: Reply) -> Result<Got, NameError> {
     match reply {
         Reply::Seen(probe) => Ok(Got::Probe(probe)),
         Reply::Refused => Ok(Got::Answer(None)),
-        Reply::Insecure => {
-            let insecure = ChainedSet {
-                judged: MarkedSet {
-                    section: Section::Authority,
-                    set: set(alloc, "b.", RecordType::SOA, b"")?,
-                    mark: Proof::Insecure,
-                    sig: None,
-                },
-                chain: Vec::new(alloc),
-            };
-            let mut sets = Vec::new(alloc);
-            sets.push(insecure)?;
-            Ok(Got::Answer(Some(sets)))
-        }
+        Reply::Insecure => Ok(Got::Answer(Some(only_insecure(alloc)?))),
     }
 }
 
-fn is_asked(alloc: Global, asked: &Asked, ask: &Ask) -> Result<bool, NameError> {
+fn is_query(alloc: Global, asked: &Asked, ask: &Ask) -> Result<bool, NameError> {
     let expected = query(alloc, asked.owner, asked.record_type)?;
-    Ok(ask.query == expected && ask.judged == asked.judged)
+    let same = ask.query == expected;
+    drop(expected);
+    Ok(same)
+}
+
+/// Whether a need is this ask.
+fn is_asked(alloc: Global, asked: &Asked, need: &Need) -> bool {
+    match need {
+        Need::Asks(ask, _) => {
+            ask.judged == asked.judged && matches!(is_query(alloc, asked, ask), Ok(true))
+        }
+        _ => false,
+    }
+}
+
+/// The phase that an ask gives back.
+fn phase_of(need: Need) -> Option<Phase> {
+    match need {
+        Need::Asks(_, phase) => Some(phase),
+        _ => None,
+    }
+}
+
+/// The phase that needs this ask, given back; None where it needs another.
+fn asking(alloc: Global, asked: &Asked, phase: Phase) -> Result<Option<Phase>, NameError> {
+    let need = turn(alloc, phase)?;
+    if is_asked(alloc, asked, &need) {
+        Ok(phase_of(need))
+    } else {
+        drop(need);
+        Ok(None)
+    }
+}
+
+/// By what is judged, and the query of the step with the message that it got.
+#[derive(Clone, Copy)]
+struct Step<'a> {
+    judge: &'a Judge<'a, Listed>,
+    query: &'a Query,
+    message: &'a Message,
+}
+
+/// The phase to which this ask leads; None where another is made.
+fn next(
+    alloc: Global,
+    step: &Step<'_>,
+    asked: &Asked,
+    phase: Phase,
+) -> Result<Option<Phase>, NameError> {
+    match asking(alloc, asked, phase)? {
+        Some(same) => {
+            let got = got(alloc, asked.reply)?;
+            let phase = after(alloc, step.judge, step.query, step.message, same, got)?;
+            Ok(Some(phase))
+        }
+        None => Ok(None),
+    }
 }
 
 /// What a phase needs after these asks; None where it makes others.
 fn led(
     alloc: Global,
-    judge: &Judge<'_, Listed>,
-    query: &Query,
-    message: &Message,
+    step: &Step<'_>,
     phase: Phase,
     asks: &[Asked],
 ) -> Result<Option<Need>, NameError> {
     let mut phase = phase;
     for asked in asks {
-        let Need::Asks(ask, same) = turn(alloc, phase)? else {
+        let Some(led) = next(alloc, step, asked, phase)? else {
             return Ok(None);
         };
-        if !is_asked(alloc, asked, &ask)? {
-            return Ok(None);
-        }
-        phase = after(alloc, judge, query, message, same, got(alloc, asked.reply)?)?;
+        phase = led;
     }
     Ok(Some(turn(alloc, phase)?))
 }
 
-fn row_holds(alloc: Global, row: &Row) -> Result<bool, NameError> {
-    let anchors = TrustAnchors::empty(alloc);
-    let verifier = Listed::new(alloc);
-    let judge = Judge {
-        verifier: &verifier,
-        anchors: &anchors,
-        moment: 500,
-    };
-    let query = query(alloc, "a.b.", RecordType::A)?;
-    let message = message(alloc);
-    let placed = PlacedSet {
-        section: Section::Answer,
-        set: set(alloc, row.owner, row.record_type, row.signature)?,
-    };
-    let phase = start_set(alloc, &judge, &query, &message, placed)?;
-    match led(alloc, &judge, &query, &message, phase, row.asks)? {
-        Some(Need::SetEnds(ended)) => Ok(ended.judged.mark == row.mark),
-        _ => Ok(false),
+/// Whether a set has ended with this mark.
+fn is_marked(need: &Option<Need>, mark: Proof) -> bool {
+    match need {
+        Some(Need::SetEnds(ended)) => ended.judged.mark == mark,
+        _ => false,
     }
 }
 
-fn ending_holds(alloc: Global, asked: RecordType, asks: &[Asked]) -> Result<bool, NameError> {
+fn placed(alloc: Global, row: &Row) -> Result<PlacedSet, NameError> {
+    let set = set(alloc, row.owner, row.record_type, row.signature)?;
+    Ok(PlacedSet {
+        section: Section::Answer,
+        set,
+    })
+}
+
+fn set_holds(alloc: Global, step: &Step<'_>, row: &Row) -> Result<bool, NameError> {
+    let placed = placed(alloc, row)?;
+    let phase = start_set(alloc, step.judge, step.query, step.message, placed)?;
+    let need = led(alloc, step, phase, row.asks)?;
+    let held = is_marked(&need, row.mark);
+    drop(need);
+    Ok(held)
+}
+
+/// Whether a step has ended with a denial that is Bogus.
+fn is_refused(need: &Option<Need>) -> bool {
+    match need {
+        Some(Need::StepEnds(outcome)) => *outcome == Outcome::Denied(Proof::Bogus),
+        _ => false,
+    }
+}
+
+const LIMITS: Limits = Limits {
+    depth: 26,
+    soft: 100,
+    hard: 500,
+};
+
+fn ending_holds(alloc: Global, step: &Step<'_>, asks: &[Asked]) -> Result<bool, NameError> {
+    let phase = start_ending(alloc, &LIMITS, step.query, step.message, &[])?;
+    let need = led(alloc, step, phase, asks)?;
+    let held = is_refused(&need);
+    drop(need);
+    Ok(held)
+}
+
+/// What is tried in a step: a row, or an ending by these asks.
+#[derive(Clone, Copy)]
+enum Tried<'a> {
+    Set(&'a Row),
+    Ending(&'a [Asked]),
+}
+
+/// Whether it holds in a step without anchors that asks for `a.b.`
+fn holds_by(
+    alloc: Global,
+    judge: &Judge<'_, Listed>,
+    asked: RecordType,
+    tried: &Tried<'_>,
+) -> Result<bool, NameError> {
+    let query = query(alloc, "a.b.", asked)?;
+    let message = message(alloc);
+    let step = Step {
+        judge,
+        query: &query,
+        message: &message,
+    };
+    let held = match tried {
+        Tried::Set(row) => set_holds(alloc, &step, row),
+        Tried::Ending(asks) => ending_holds(alloc, &step, asks),
+    };
+    drop(message);
+    drop(query);
+    held
+}
+
+fn holds(alloc: Global, asked: RecordType, tried: &Tried<'_>) -> Result<bool, NameError> {
     let anchors = TrustAnchors::empty(alloc);
     let verifier = Listed::new(alloc);
     let judge = Judge {
@@ -277,18 +307,7 @@ fn ending_holds(alloc: Global, asked: RecordType, asks: &[Asked]) -> Result<bool
         anchors: &anchors,
         moment: 500,
     };
-    let query = query(alloc, "a.b.", asked)?;
-    let message = message(alloc);
-    let limits = Limits {
-        depth: 26,
-        soft: 100,
-        hard: 500,
-    };
-    let phase = start_ending(alloc, &limits, &query, &message, &[])?;
-    match led(alloc, &judge, &query, &message, phase, asks)? {
-        Some(Need::StepEnds(outcome)) => Ok(outcome == Outcome::Denied(Proof::Bogus)),
-        _ => Ok(false),
-    }
+    holds_by(alloc, &judge, asked, tried)
 }
 
 fn check_row(rt: &impl Abort, shows: &str, held: Result<bool, NameError>) {
@@ -302,7 +321,8 @@ fn rows() -> &'static [Row] {
 #[test]
 fn a_set_asks_by_its_row(rt: HostRuntime) {
     for row in rows() {
-        check_row(&rt, row.shows, row_holds(rt.alloc(), row));
+        let held = holds(rt.alloc(), RecordType::A, &Tried::Set(row));
+        check_row(&rt, row.shows, held);
     }
 }
 
@@ -316,8 +336,12 @@ fn asks_from_name() -> &'static [Asked] {
 
 #[test]
 fn an_ending_searches_the_zone_of_its_query(rt: HostRuntime) {
-    let from_name = ending_holds(rt.alloc(), RecordType::A, asks_from_name());
+    let from_name = holds(rt.alloc(), RecordType::A, &Tried::Ending(asks_from_name()));
     check_row(&rt, "from the name", from_name);
-    let from_parent = ending_holds(rt.alloc(), RecordType::DS, asks_from_parent());
+    let from_parent = holds(
+        rt.alloc(),
+        RecordType::DS,
+        &Tried::Ending(asks_from_parent()),
+    );
     check_row(&rt, "a DS from the parent", from_parent);
 }

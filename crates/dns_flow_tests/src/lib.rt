@@ -5,3 +5,5 @@
 
 #[cfg(test)]
 mod flow_tests;
+#[cfg(test)]
+mod parts;
