@@ -1,5 +1,5 @@
 -- Sockets that are made after some refusals, and the ports that were drawn for them.
-use Rattle.std.proofs.Common.{◌≡◌, ℕ, ◌+◌, ◌<◌, ◌≤◌, ◌⊎◌, inl, inr, Bool, true, false, List, [], ◌∷◌, ◌++◌, Option, Result, Ok, Err, IfErr, refl, sym, ◌∙◌, subst, arith}
+use Rattle.std.proofs.Common.{◌≡◌, ℕ, suc, ◌+◌, ◌<◌, ◌≤◌, ◌⊎◌, inl, inr, Bool, true, false, List, [], ◌∷◌, ◌++◌, length, Option, Result, Ok, Err, IfErr, refl, sym, ap, ◌∙◌, subst, arith}
 use Rattle.std.specs.declared.net.socket_addr.SocketAddr.{SocketAddr}
 use Rattle.std.specs.Net.Socket.{socket_ip, socket_port}
 use Rattle.dns_handle.specs.declared.io_kind.IoKind.{IoKind}
@@ -8,7 +8,7 @@ use Rattle.dns_link.specs.Moved.{DatagramValue, IsNew}
 use Rattle.dns_mux.specs.Draws.{Drawn}
 use Rattle.dns_datagrams.specs.Ports.{IsNextPort, is_avoided}
 use Rattle.dns_sockets.specs.Met.{DialerView, Meets}
-use Rattle.dns_sockets.specs.Bindings.{BindingValue, DrawsPorts, IsBound, IsNextLocalBy, draws_ports, only_faults}
+use Rattle.dns_sockets.specs.Bindings.{AreTried, BindingValue, DrawsPorts, IsMadeAfter, IsNextLocalBy, all_refused, draws_ports, is_tried_again, only_faults}
 use Rattle.dns_sockets.proofs.MetLemmas.{meets_fault, meets_none, meets_then}
 
 module _ {R : Type 0} (draw : R → ℕ → R → Type 0) where
@@ -58,11 +58,53 @@ module _ {R : Type 0} (draw : R → ℕ → R → Type 0) where
       → IsNextLocalBy (draws_ports binding) draw binding from to before after local
   drawn_local binding from to before after local h next ip = rw h (next, ip)
 
+-- ---- binds, one after another
+
+module _ {R G : Type 0} (draw : R → ℕ → R → Type 0) (binding : BindingValue) where
+  -- the last bind: it makes the socket, or its refusal is answered
+  pub tried_last : (from to : R) (before after : ℕ) (address : SocketAddr) (result : Result G IoKind)
+      → IsNextLocalBy (draws_ports binding) draw binding from to before after address
+      → IfErr result (λ kind. is_tried_again after kind ≡ false)
+      → AreTried draw binding from to before after (all_refused result 0) result
+  tried_last from to before after address result next none = record {
+    again = [];
+    mid = from;
+    attempted = before;
+    refusals = (refl, refl);
+    local = address;
+    last = next;
+    few = omega arith;
+    count = refl;
+    ended = none;
+  }
+
+  one_more_refused : (result : Result G IoKind) (n : ℕ) → all_refused result (suc n) ≡ 1 + all_refused result n
+  one_more_refused (Ok socket) n = omega arith
+  one_more_refused (Err kind) n = omega arith
+
+  -- a bind before these was refused, and is tried again
+  pub tried_after : (from middle to : R) (before n after : ℕ) (refusal : SocketAddr × IoKind) (refused : ℕ)
+      (result : Result G IoKind)
+      → IsNextLocalBy (draws_ports binding) draw binding from middle before n refusal.0
+      → is_tried_again n refusal.1 ≡ true → n < 11 → before ≤ n
+      → AreTried draw binding middle to (n + 1) after refused result
+      → AreTried draw binding from to before after (1 + refused) result
+  tried_after from middle to before n after refusal refused result next tried left rises later = record {
+    again = refusal ∷ later.again;
+    mid = later.mid;
+    attempted = later.attempted;
+    refusals = (middle, n, next, tried, later.refusals);
+    local = later.local;
+    last = later.last;
+    few = let few = later.few in omega arith;
+    count = ap (λ (k : ℕ). 1 + k) later.count ∙ sym (one_more_refused result (length later.again));
+    ended = later.ended;
+  }
+
 module _ {G : Type 0} (counts : G → CountsValue) (given : G → Option (List DatagramValue)) where
-  pub bound_at_once : (before now : DialerView) (socket : G) → now.counts ≡ before.counts → now.given ≡ before.given
-      → IsNew (counts socket) (given socket) → IsBound counts given before now (Ok socket)
-  bound_at_once before now socket same kept new = record {
-    refused = 0;
+  pub made_at_once : (before now : DialerView) (socket : G) → now.counts ≡ before.counts → now.given ≡ before.given
+      → IsNew (counts socket) (given socket) → IsMadeAfter counts given before now 0 (Ok socket)
+  made_at_once before now socket same kept new = record {
     met = rw same (meets_none before.counts);
     kept = kept;
     made = new;
@@ -71,9 +113,8 @@ module _ {G : Type 0} (counts : G → CountsValue) (given : G → Option (List D
 
   pub refused_at_last : (before now : DialerView) (kind : IoKind) → now.counts ≡ with_fault before.counts
       → now.given ≡ before.given
-      → IsBound counts given before now (Err kind)
+      → IsMadeAfter counts given before now 1 (Err kind)
   refused_at_last before now kind fault kept = record {
-    refused = 1;
     met = rw fault (meets_fault before.counts);
     kept = kept;
     made = tt;
@@ -84,15 +125,14 @@ module _ {G : Type 0} (counts : G → CountsValue) (given : G → Option (List D
   still_failed n (Ok socket) = tt
   still_failed n (Err kind) = omega arith
 
-  pub bound_after : (before mid now : DialerView) (result : Result G IoKind) → mid.counts ≡ with_fault before.counts
-      → mid.given ≡ before.given
-      → IsBound counts given mid now result → IsBound counts given before now result
-  bound_after before mid now result fault kept bound = record {
-    refused = 1 + bound.refused;
+  pub made_after : (before mid now : DialerView) (refused : ℕ) (result : Result G IoKind)
+      → mid.counts ≡ with_fault before.counts → mid.given ≡ before.given
+      → IsMadeAfter counts given mid now refused result → IsMadeAfter counts given before now (1 + refused) result
+  made_after before mid now refused result fault kept made = record {
     met =
         let first : Meets before.counts mid.counts (only_faults 1) = rw fault (meets_fault before.counts) in
-        meets_then before.counts mid.counts now.counts (only_faults 1) (only_faults bound.refused) first bound.met;
-    kept = bound.kept ∙ kept;
-    made = bound.made;
-    failed = still_failed bound.refused result;
+        meets_then before.counts mid.counts now.counts (only_faults 1) (only_faults refused) first made.met;
+    kept = made.kept ∙ kept;
+    made = made.made;
+    failed = still_failed refused result;
   }

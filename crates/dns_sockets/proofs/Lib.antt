@@ -1,3 +1,3 @@
 pub mod MetLemmas
-mod BindingLemmas
+pub mod BindingLemmas
 mod StreamLemmas

@@ -1,15 +1,16 @@
 -- Datagrams as they are, over one socket (RFC 1035, 4.2.1).
-use Rattle.std.specs.Prelude.{ℕ, ◌≡◌, ◌<◌, List, [], ◌∷◌, Option, None, Some, Result, Ok, Err}
+use Rattle.std.specs.Prelude.{ℕ, ◌≡◌, Bool, List, [], ◌∷◌, length, Option, None, Some, Result, Ok, Err, unwrap_or}
+use Rattle.std.specs.BTreeSet.{BTreeSet}
 use Rattle.std.specs.declared.net.socket_addr.SocketAddr.{SocketAddr}
 use Rattle.dns_handle.specs.declared.io_kind.IoKind.{IoKind}
 use Rattle.dns_handle.specs.Conversions.{outside_failed}
 use Rattle.dns_handle.specs.declared.error.NetError.{NetError}
-use Rattle.dns_link.specs.Counts.{CountsValue}
-use Rattle.dns_link.specs.Moved.{DatagramValue, IsNew, and_then}
+use Rattle.dns_link.specs.Counts.{CountsValue, after_send, with_fault, with_got, with_quiet}
+use Rattle.dns_link.specs.Moved.{DatagramValue, and_then}
 use Rattle.dns_mux.specs.Messages.{SerialMessageValue}
 use Rattle.dns_mux.specs.Queues.{StreamHandleValue}
-use Rattle.dns_sockets.specs.Bindings.{only_faults}
-use Rattle.dns_sockets.specs.Met.{DialerView, Meets}
+use Rattle.dns_sockets.specs.Bindings.{BindingValue, IsBound, IsBoundAt}
+use Rattle.dns_sockets.specs.Met.{DialerView}
 use Rattle.dns_sockets.specs.StreamViews.{socket_of, queue_of}
 use Rattle.dns_sockets.specs.declared.udp_stream.UdpStream.{UdpStream}
 
@@ -17,48 +18,55 @@ use Rattle.dns_sockets.specs.declared.udp_stream.UdpStream.{UdpStream}
 abbrev pub most_received : ℕ
 most_received = 4096
 
--- a new socket with nothing to be sent, and a handle for its server
-abbrev pub IsFresh : {G : Type 0} → (G → CountsValue) → (G → Option (List DatagramValue)) → SocketAddr
-    → UdpStream G × StreamHandleValue → Type 0
-IsFresh counts given remote made =
-    IsNew (counts (socket_of made.0)) (given (socket_of made.0)) × (queue_of made.0 ≡ [])
-    × (made.1 ≡ record { addr = remote; buffer = 32 })
+-- where a stream's socket is bound: at the address that was chosen or every address of the server's family, and no port is
+-- avoided unless some are named
+pub record IsBindingFor (server : SocketAddr) (bind : Option SocketAddr) (avoid : Option (BTreeSet ℕ)) (os_ports : Bool)
+    (binding : BindingValue) : Type 0 where
+  pub local : IsBoundAt server bind binding.local
+  pub avoided : binding.avoid ≡ unwrap_or avoid (record { keys = [] })
+  pub by_system : binding.os_ports ≡ os_ports
 
--- a fault of the outside, which was counted
-abbrev pub IsOutsideFault : NetError → CountsValue → Type 0
-IsOutsideFault error met = (kind : IoKind) × (error ≡ outside_failed kind) × (0 < met.faults)
+-- a stream over the socket, with nothing to be sent, and a handle for its server; or the fault by which no socket was made
+abbrev pub IsStreamOver : {G : Type 0} → SocketAddr → Result G IoKind → Result (UdpStream G × StreamHandleValue) NetError → Type 0
+IsStreamOver remote (Ok socket) (Ok made) =
+    (socket_of made.0 ≡ socket) × (queue_of made.0 ≡ []) × (made.1 ≡ record { addr = remote; buffer = 32 })
+IsStreamOver remote (Err kind) (Err error) = error ≡ outside_failed kind
+IsStreamOver remote _ _ = ⊥
 
-abbrev pub IsMadeOr : {G : Type 0} → (G → CountsValue) → (G → Option (List DatagramValue)) → SocketAddr → CountsValue
-    → Result (UdpStream G × StreamHandleValue) NetError → Type 0
-IsMadeOr counts given remote met (Ok made) = IsFresh counts given remote made
-IsMadeOr counts given remote met (Err error) = IsOutsideFault error met
-
--- a stream over a socket that the dialer made, after so many refusals; or the last refusal is answered
-pub record IsStreamMade {G : Type 0} (counts : G → CountsValue) (given : G → Option (List DatagramValue)) (remote : SocketAddr)
+-- a stream over a socket that is bound by the binding that was asked for
+pub record IsStreamMade {R G : Type 0} (draw : R → ℕ → R → Type 0) (IsBinding : BindingValue → Type 0) (from to : R)
+    (counts : G → CountsValue) (given : G → Option (List DatagramValue)) (remote : SocketAddr)
     (before now : DialerView) (result : Result (UdpStream G × StreamHandleValue) NetError) : Type 0 where
-  pub refused : ℕ
-  pub met : Meets before.counts now.counts (only_faults refused)
-  pub kept : now.given ≡ before.given
-  pub made : IsMadeOr counts given remote (only_faults refused) result
+  pub binding : BindingValue
+  pub chosen : IsBinding binding
+  pub attempted : ℕ
+  pub socket : Result G IoKind
+  pub bound : IsBound draw binding from to 0 attempted counts given before now socket
+  pub over : IsStreamOver remote socket result
 
--- messages were sent: some of them failed or were cut, and nothing came
-pub record HasSent (before now : CountsValue) : Type 0 where
-  pub met : CountsValue
-  pub counts : Meets before now met
-  pub gots : met.gots ≡ 0
-  pub quiet : met.quiet ≡ 0
+-- a message was sent once, and something came of it
+pub record IsSentOnce (message : SerialMessageValue) (before now : CountsValue) : Type 0 where
+  pub outcome : Result ℕ IoKind
+  pub counts : now ≡ after_send (length message.bytes) outcome before
 
--- what a wait came to, with the socket's datagrams before and after
-abbrev pub HasCome : Option (List DatagramValue) → Option (List DatagramValue) → CountsValue → Result (Option SerialMessageValue) NetError → Type 0
-HasCome before now met (Ok None) = (met.quiet ≡ 1) × (met.gots ≡ 0) × (now ≡ before)
-HasCome before now met (Ok (Some message)) =
-    (met.quiet ≡ 0) × (met.gots ≡ 1) × (now ≡ and_then before ((message.bytes, message.addr) ∷ []))
-HasCome before now met (Err error) =
-    IsOutsideFault error met × (met.quiet ≡ 0) × (met.gots ≡ 0) × (now ≡ before)
+-- each of the messages was sent once, one after another
+abbrev pub AreSentOnce : List SerialMessageValue → CountsValue → CountsValue → Type 0
+AreSentOnce [] before now = now ≡ before
+AreSentOnce (message ∷ messages) before now =
+    (mid : CountsValue) × IsSentOnce message before mid × AreSentOnce messages mid now
 
--- all that waited was sent, and then one datagram was waited for
-pub record HasReceived (before now : CountsValue) (given_before given_now : Option (List DatagramValue))
+-- what one wait came to, with the socket's counts and datagrams before and after
+abbrev pub HasCome : CountsValue → CountsValue → Option (List DatagramValue) → Option (List DatagramValue)
+    → Result (Option SerialMessageValue) NetError → Type 0
+HasCome before now given_before given_now (Ok None) = (now ≡ with_quiet before) × (given_now ≡ given_before)
+HasCome before now given_before given_now (Ok (Some message)) =
+    (now ≡ with_got before) × (given_now ≡ and_then given_before ((message.bytes, message.addr) ∷ []))
+HasCome before now given_before given_now (Err error) =
+    (kind : IoKind) × (error ≡ outside_failed kind) × (now ≡ with_fault before) × (given_now ≡ given_before)
+
+-- each message that waited was sent once, and then one datagram was waited for
+pub record HasReceived (waiting : List SerialMessageValue) (before now : CountsValue) (given_before given_now : Option (List DatagramValue))
     (result : Result (Option SerialMessageValue) NetError) : Type 0 where
-  pub met : CountsValue
-  pub counts : Meets before now met
-  pub come : HasCome given_before given_now met result
+  pub mid : CountsValue
+  pub sent : AreSentOnce waiting before mid
+  pub come : HasCome mid now given_before given_now result

@@ -1,6 +1,6 @@
-ghost use Rattle.std.specs.Prelude.{◌≡◌, ◌≤◌};
+ghost use Rattle.std.specs.Prelude.{◌≡◌, ◌<◌, ◌≤◌, true};
 ghost use Rattle.dns_datagrams.specs.Ports.{is_avoided};
-ghost use Rattle.dns_sockets.specs.Bindings.{DrawsPorts, IsAnyAddress, IsBound, IsNextLocalBy, draws_ports, is_refusal};
+ghost use Rattle.dns_sockets.specs.Bindings.{DrawsPorts, IsAnyAddress, IsBound, IsNextLocalBy, draws_ports, is_refusal, is_tried_again};
 ghost use Rattle.dns_sockets.specs.Met.{dialer_view};
 
 use dns_datagrams::next_port;
@@ -50,6 +50,14 @@ fn is_refusal(kind: IoKind) -> bool
     matches!(kind, IoKind::PermissionDenied | IoKind::AddrInUse)
 }
 
+/// Whether another bind is tried after a refusal.
+fn is_tried_again(attempted: u8, kind: IoKind) -> bool
+    ensures again { result ≡ is_tried_again attempted kind }
+    ensures few { result ≡ true → attempted < 11 }
+{
+    attempted < MOST_REFUSED && is_refusal(kind)
+}
+
 impl Binding {
     /// Whether a port is drawn for each try.
     fn draws_ports(&self) -> bool
@@ -73,25 +81,28 @@ impl Binding {
         local
     }
 
-    /// Makes a socket. A refusal with `PermissionDenied` or `AddrInUse` is tried again while there were less than eleven attempts.
+    /// Makes a socket. A refusal with `PermissionDenied` or `AddrInUse` is tried again while there were less than eleven attempts,
+    /// and is one attempt more, as a port is that was drawn and is avoided. So there are twelve binds at most, and none after
+    /// ten attempts draws a port. `attempted` is 0 for a socket of its own.
     pub fn bind<D: Dialer, R: Draws>(
         &self,
         dial: &mut D,
         draws: &mut R,
-        attempted: u8,
+        attempted: &mut u8,
     ) -> Result<D::Datagrams, IoKind>
-        ensures bound { IsBound D.Datagrams.counts D.Datagrams.given (dialer_view D.counts D.given_datagrams dial.old)
-            (dialer_view D.counts D.given_datagrams dial.new) result }
+        ensures bound { IsBound R.draws_port self.now draws.old draws.new attempted.old attempted.new D.Datagrams.counts
+            D.Datagrams.given (dialer_view D.counts D.given_datagrams dial.old) (dialer_view D.counts D.given_datagrams dial.new)
+            result }
         ensures bytes { D.given_bytes dial.new ≡ D.given_bytes dial.old }
         ensures ports { DrawsPorts R.draws_port draws.old draws.new }
     {
-        let mut attempted = attempted;
-        let local = self.next_local(draws, &mut attempted);
+        let local = self.next_local(draws, attempted);
         match dial.bind(local) {
             Ok(socket) => Ok(socket),
             Err(kind) => {
-                if attempted < MOST_REFUSED && is_refusal(kind) {
-                    return self.bind(dial, draws, attempted + 1);
+                if is_tried_again(*attempted, kind) {
+                    *attempted += 1;
+                    return self.bind(dial, draws, attempted);
                 }
                 Err(kind)
             }

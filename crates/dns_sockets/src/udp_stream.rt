@@ -4,7 +4,7 @@ ghost use Rattle.dns_mux.specs.Queues.{IsPut};
 ghost use Rattle.dns_sockets.specs.Bindings.{DrawsPorts};
 ghost use Rattle.dns_sockets.specs.Met.{dialer_view};
 ghost use Rattle.dns_sockets.specs.StreamViews.{queue_of, socket_of};
-ghost use Rattle.dns_sockets.specs.Streams.{HasReceived, HasSent, IsStreamMade, most_received};
+ghost use Rattle.dns_sockets.specs.Streams.{AreSentOnce, HasCome, HasReceived, IsBindingFor, IsSentOnce, IsStreamMade, most_received};
 
 use crate::binding::{Binding, any_address};
 use dns_handle::NetError;
@@ -34,9 +34,26 @@ pub fn receive_buffer(alloc: Global, size: usize) -> Result<Vec<u8>, NoMemory>
     Ok(buf)
 }
 
-/// Sends a message; what becomes of it isn't told.
+/// Where the socket of a stream is bound.
+fn binding_for(
+    alloc: Global,
+    server: &SocketAddr,
+    bind: Option<SocketAddr>,
+    avoid: Option<BTreeSet<u16>>,
+    os_ports: bool,
+) -> Binding
+    ensures { IsBindingFor server.now bind avoid os_ports result }
+{
+    Binding {
+        local: bind.unwrap_or(any_address(server)),
+        avoid: avoid.unwrap_or(BTreeSet::new(alloc)),
+        os_ports,
+    }
+}
+
+/// Sends a message once; what becomes of it isn't told.
 fn send_one<G: Datagrams>(socket: &mut G, message: &SerialMessage)
-    ensures counts { HasSent (G.counts socket.old) (G.counts socket.new) }
+    ensures counts { IsSentOnce message.now (G.counts socket.old) (G.counts socket.new) }
     ensures given { G.given socket.new ≡ G.given socket.old }
 {
     let _ = socket.send_to(message.bytes.as_slice(), message.addr);
@@ -44,7 +61,7 @@ fn send_one<G: Datagrams>(socket: &mut G, message: &SerialMessage)
 
 /// Sends all messages that wait, in order.
 fn send_all<G: Datagrams>(socket: &mut G, queue: &mut StreamReceiver)
-    ensures counts { HasSent (G.counts socket.old) (G.counts socket.new) }
+    ensures counts { AreSentOnce queue.old (G.counts socket.old) (G.counts socket.new) }
     ensures given { G.given socket.new ≡ G.given socket.old }
     ensures queue { queue.new ≡ [] }
 {
@@ -58,7 +75,7 @@ fn receive_one<G: Datagrams>(
     socket: &mut G,
     buf: Vec<u8>,
 ) -> Result<Option<SerialMessage>, NetError>
-    ensures received { HasReceived (G.counts socket.old) (G.counts socket.new) (G.given socket.old) (G.given socket.new) result }
+    ensures come { HasCome (G.counts socket.old) (G.counts socket.new) (G.given socket.old) (G.given socket.new) result }
     ensures most { IfOk result (λ came. IfSome came (λ m. length m.bytes ≤ length buf.items)) }
     ensures error { IfErr result (λ e. e ≢ errors.NoMemory) }
 {
@@ -77,9 +94,9 @@ fn receive_one<G: Datagrams>(
 }
 
 impl<G: Datagrams + Drop> UdpStream<G> {
-    /// A stream over a socket that is made for it: at `bind`, else at every address of the server's family and port 0. Where the
-    /// port is 0 and the system isn't to choose it, ports are drawn that aren't avoided. The handle puts datagrams for the
-    /// server into its queue. That a socket can't be made is the only error.
+    /// A stream over a socket that is made for it by [`Binding::bind`]: at `bind`, else at every address of the server's family
+    /// and port 0. Where the port is 0 and the system isn't to choose it, ports are drawn that aren't avoided. The handle puts
+    /// datagrams for the server into its queue. The last refusal is the only error.
     pub fn new<D: Dialer<Datagrams = G>, R: Draws>(
         alloc: Global,
         dial: &mut D,
@@ -89,18 +106,17 @@ impl<G: Datagrams + Drop> UdpStream<G> {
         avoid: Option<BTreeSet<u16>>,
         os_ports: bool,
     ) -> Result<(UdpStream<G>, BufDnsStreamHandle), NetError>
-        ensures made { IsStreamMade G.counts G.given remote (dialer_view D.counts D.given_datagrams dial.old)
-            (dialer_view D.counts D.given_datagrams dial.new) result }
+        ensures made { IsStreamMade R.draws_port (IsBindingFor remote bind avoid os_ports) draws.old draws.new G.counts G.given
+            remote (dialer_view D.counts D.given_datagrams dial.old) (dialer_view D.counts D.given_datagrams dial.new) result }
         ensures bytes { D.given_bytes dial.new ≡ D.given_bytes dial.old }
         ensures ports { DrawsPorts R.draws_port draws.old draws.new }
     {
-        let binding = Binding {
-            local: bind.unwrap_or(any_address(&remote)),
-            avoid: avoid.unwrap_or(BTreeSet::new(alloc)),
-            os_ports,
-        };
-        let socket = binding.bind(dial, draws, 0)?;
-        Ok(UdpStream::with_bound(alloc, socket, remote))
+        let binding = binding_for(alloc, &remote, bind, avoid, os_ports);
+        let mut attempted = 0;
+        match binding.bind(dial, draws, &mut attempted) {
+            Ok(socket) => Ok(UdpStream::with_bound(alloc, socket, remote)),
+            Err(kind) => Err(NetError::from(kind)),
+        }
     }
 
     /// A stream over a socket that is bound, and a handle that puts datagrams for a server into its queue.
@@ -117,7 +133,9 @@ impl<G: Datagrams + Drop> UdpStream<G> {
         (UdpStream { socket, queue }, handle)
     }
 
-    /// Puts a message into the queue, under the handle's address. `SendQueueFull` comes exactly where 33 wait.
+    /// Puts a message into the queue, under the handle's address. `SendQueueFull` comes only where one more waits than the
+    /// handle's buffer holds, which is 33 messages for the handle that `new` and `with_bound` give; for want of memory, and where
+    /// the queue is full, nothing changes.
     pub fn enqueue(
         &mut self,
         handle: &mut BufDnsStreamHandle,
@@ -131,12 +149,12 @@ impl<G: Datagrams + Drop> UdpStream<G> {
         handle.send(&mut self.queue, message)
     }
 
-    /// Sends all messages that wait, in order; one whose send fails is let go. Then it waits once for a datagram, of 4,096 bytes
-    /// at most. None comes exactly where none came in time; an error other than want of memory where the socket failed. For want
-    /// of memory nothing is sent.
+    /// Sends all messages that wait, each once and in order; one whose send fails is let go. Then it waits once for a datagram,
+    /// of 4,096 bytes at most. None comes exactly where none came in time; an error other than want of memory where the wait
+    /// failed. For want of memory nothing is sent.
     pub fn receive(&mut self, alloc: Global) -> Result<Option<SerialMessage>, NetError>
-        ensures received { (result ≡ Err errors.NoMemory) ⊎ HasReceived (G.counts (socket_of self.old)) (G.counts (socket_of self.new))
-            (G.given (socket_of self.old)) (G.given (socket_of self.new)) result }
+        ensures received { (result ≡ Err errors.NoMemory) ⊎ HasReceived (queue_of self.old) (G.counts (socket_of self.old))
+            (G.counts (socket_of self.new)) (G.given (socket_of self.old)) (G.given (socket_of self.new)) result }
         ensures queue { (result ≡ Err errors.NoMemory) ⊎ (queue_of self.new ≡ []) }
         ensures memory { result ≡ Err errors.NoMemory → self.new ≡ self.old }
         ensures most { IfOk result (λ came. IfSome came (λ m. length m.bytes ≤ most_received)) }

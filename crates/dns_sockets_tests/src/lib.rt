@@ -4,6 +4,8 @@
 #![tactic(auto)]
 
 #[cfg(test)]
-mod stream_tests;
+mod binding_tests;
 #[cfg(test)]
-mod watching;
+mod echo;
+#[cfg(test)]
+mod stream_tests;

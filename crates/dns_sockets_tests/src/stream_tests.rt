@@ -1,9 +1,9 @@
-use crate::watching::Watching;
+use crate::echo::Echo;
 use dns_handle::NetError;
-use dns_link::{Dialer, ListDatagrams};
-use dns_mux::{ListDraws, SerialMessage};
+use dns_link::{Datagrams, ListDatagrams};
+use dns_mux::{BufDnsStreamHandle, SerialMessage};
 use dns_name::{NoMemory, Octets};
-use dns_sockets::{MAX_RECEIVE_BUFFER_SIZE, UdpSocket, UdpStream};
+use dns_sockets::{MAX_RECEIVE_BUFFER_SIZE, UdpStream};
 use std::alloc::Global;
 use std::net::{IpAddr, Ipv4Addr, SocketAddr};
 
@@ -12,43 +12,25 @@ fn server() -> SocketAddr {
     SocketAddr::new(IpAddr::V4(Ipv4Addr::new(127, 0, 0, 1)), 53)
 }
 
-/// Every address of version 4, with a port.
-fn any(port: u16) -> SocketAddr {
-    SocketAddr::new(IpAddr::V4(Ipv4Addr::UNSPECIFIED), port)
-}
-
-/// Where a stream without a local address is bound, whose only drawn port is 2000.
-fn stream_bound(alloc: Global, os_ports: bool) -> Result<Option<SocketAddr>, NoMemory> {
-    let mut dial = Watching::new(alloc);
-    let ports = Vec::from_slice(alloc, &[2000u16])?;
-    let mut draws = ListDraws::new(Vec::new(alloc), ports);
-    drop(UdpStream::new(alloc, &mut dial, &mut draws, server(), None, None, os_ports));
-    Ok(dial.bound.first().copied())
-}
-
-#[test]
-fn a_stream_is_bound_at_a_drawn_port(rt: HostRuntime) {
-    assert!(rt; matches!(stream_bound(rt.alloc(), false), Ok(Some(addr)) if addr == any(2000)));
-    assert!(rt; matches!(stream_bound(rt.alloc(), true), Ok(Some(addr)) if addr == any(0)));
-}
-
-/// Where a socket for the server is bound.
-fn socket_bound(alloc: Global, local: Option<SocketAddr>) -> Option<SocketAddr> {
-    let mut dial = Watching::new(alloc);
-    let made = match local {
-        None => UdpSocket::connect(&mut dial, server()),
-        Some(local) => UdpSocket::connect_with_bind(&mut dial, server(), local),
+/// Puts a message of two bytes, the first of them 0, into a stream's queue.
+fn put<G: Datagrams + Drop>(
+    alloc: Global,
+    stream: &mut UdpStream<G>,
+    handle: &mut BufDnsStreamHandle,
+    last: u8,
+) -> Result<(), NetError> {
+    let bytes = Octets::from_slice(alloc, &[0, last])?;
+    let message = SerialMessage {
+        bytes,
+        addr: server(),
     };
-    if let Ok(socket) = made {
-        dial.retire_datagrams(socket);
-    }
-    dial.bound.first().copied()
+    stream.enqueue(handle, message)
 }
 
-#[test]
-fn a_socket_is_bound_once(rt: HostRuntime) {
-    assert!(rt; socket_bound(rt.alloc(), None) == Some(any(0)));
-    assert!(rt; socket_bound(rt.alloc(), Some(any(7))) == Some(any(7)));
+/// The length of what came, and its last byte.
+fn came(message: &Option<SerialMessage>) -> Option<(usize, u8)> {
+    let bytes = message.as_ref()?.bytes.as_slice();
+    Some((bytes.len(), *bytes.last()?))
 }
 
 /// A socket to which one datagram of 5,000 bytes comes.
@@ -60,17 +42,12 @@ fn long_socket(alloc: Global) -> Result<ListDatagrams, NoMemory> {
     Ok(ListDatagrams::new(incoming, Vec::new(alloc)))
 }
 
-/// How many of 40 messages are taken to be sent, and how many bytes come then and after that.
-fn carried(alloc: Global) -> Result<(u32, Option<usize>, Option<usize>), NetError> {
+/// How many of 40 messages are taken to be sent, and what comes then and after that.
+fn carried(alloc: Global) -> Result<(u32, Option<(usize, u8)>, Option<(usize, u8)>), NetError> {
     let (mut stream, mut handle) = UdpStream::with_bound(alloc, long_socket(alloc)?, server());
     let mut taken: u32 = 0;
     for _ in 0..40u32 {
-        let bytes = Octets::from_slice(alloc, b"\x00\x01")?;
-        let message = SerialMessage {
-            bytes,
-            addr: server(),
-        };
-        if stream.enqueue(&mut handle, message).is_ok() {
+        if put(alloc, &mut stream, &mut handle, 1).is_ok() {
             taken = taken.saturating_add(1);
         }
     }
@@ -79,16 +56,25 @@ fn carried(alloc: Global) -> Result<(u32, Option<usize>, Option<usize>), NetErro
     Ok((taken, first, second))
 }
 
-/// The length of what came.
-fn came(message: &Option<SerialMessage>) -> Option<usize> {
-    match message {
-        Some(message) => Some(message.bytes.len()),
-        None => None,
-    }
+#[test]
+fn a_stream_takes_33_messages_and_receives(rt: HostRuntime) {
+    let expected = (33, Some((MAX_RECEIVE_BUFFER_SIZE, 7)), None);
+    assert!(rt; matches!(carried(rt.alloc()), Ok(all) if all == expected));
+}
+
+/// What comes in three waits over a socket to which comes what was sent, where two messages wait at first.
+fn echoed(alloc: Global) -> Result<[Option<(usize, u8)>; 3], NetError> {
+    let (mut stream, mut handle) = UdpStream::with_bound(alloc, Echo::new(alloc), server());
+    put(alloc, &mut stream, &mut handle, 1)?;
+    put(alloc, &mut stream, &mut handle, 2)?;
+    let first = came(&stream.receive(alloc)?);
+    let second = came(&stream.receive(alloc)?);
+    let third = came(&stream.receive(alloc)?);
+    Ok([first, second, third])
 }
 
 #[test]
-fn a_stream_sends_what_waits_and_receives(rt: HostRuntime) {
-    let expected = (33, Some(MAX_RECEIVE_BUFFER_SIZE), None);
-    assert!(rt; matches!(carried(rt.alloc()), Ok(all) if all == expected));
+fn what_waits_is_sent_once_and_in_order(rt: HostRuntime) {
+    let expected = [Some((2, 1)), Some((2, 2)), None];
+    assert!(rt; matches!(echoed(rt.alloc()), Ok(all) if all == expected));
 }

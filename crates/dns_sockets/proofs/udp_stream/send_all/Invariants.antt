@@ -1,10 +1,13 @@
 use Rattle.std.proofs.Common.{◌≡◌, length}
-use Rattle.dns_sockets.specs.Streams.{HasSent}
+use Rattle.dns_link.specs.Counts.{CountsValue}
+use Rattle.dns_sockets.specs.Streams.{AreSentOnce}
 use Rattle.dns_sockets.proofs.udp_stream.send_all.Given as goal
 
+-- once those are sent that still wait, all are
 abbrev pub invariant-loop-message : goal.invariant-loop-message
 invariant-loop-message g l =
-    HasSent (g.G.Datagrams.counts l.fn.socket) (g.G.Datagrams.counts l.socket)
+    ((last : CountsValue) → AreSentOnce l.queue (g.G.Datagrams.counts l.socket) last
+    → AreSentOnce l.fn.queue (g.G.Datagrams.counts l.fn.socket) last)
     × (g.G.Datagrams.given l.socket ≡ g.G.Datagrams.given l.fn.socket)
 
 abbrev pub decreases-loop-message : goal.decreases-loop-message

@@ -10,7 +10,7 @@ use std::net::SocketAddr;
 
 /// A link that always fails; none is made.
 #[derive(Drop)]
-pub(crate) struct NoLink {
+pub struct NoLink {
     counts: Counts,
 }
 
@@ -38,7 +38,7 @@ impl Link for NoLink {
 
 /// A socket in memory that keeps what is sent.
 #[derive(Drop)]
-pub(crate) struct Watched {
+pub struct Watched {
     inner: ListDatagrams,
     sent: Vec<u8>,
     counts: Counts,
@@ -70,22 +70,22 @@ impl Datagrams for Watched {
 
 /// A dialer in memory that keeps where sockets were bound and what was sent on each.
 #[derive(Drop)]
-pub(crate) struct Watching {
+pub struct Watching {
     alloc: Global,
     /// What comes to the sockets, one after another; nothing to any more.
-    pub(crate) incoming: VecDeque<Vec<(Octets, SocketAddr)>>,
+    pub incoming: VecDeque<Vec<(Octets, SocketAddr)>>,
     /// So many binds are refused first.
-    pub(crate) refusals: u32,
+    pub refusals: u32,
     /// Sends take a byte less.
-    pub(crate) is_short: bool,
-    pub(crate) bound: Vec<SocketAddr>,
-    pub(crate) sent: Vec<Octets>,
+    pub is_short: bool,
+    pub bound: Vec<SocketAddr>,
+    pub sent: Vec<Octets>,
     counts: Counts,
 }
 
 impl Watching {
     /// A dialer to whose sockets nothing comes.
-    pub(crate) fn new(alloc: Global) -> Watching {
+    pub fn new(alloc: Global) -> Watching {
         Watching {
             alloc,
             incoming: VecDeque::new(alloc),
