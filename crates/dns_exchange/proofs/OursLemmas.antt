@@ -1,5 +1,5 @@
 -- A request with a number, through arrivals and takes: its own response is handed to it, and no other.
-use Rattle.std.proofs.Common.{◌≡◌, ℕ, ◌==◌, inl, inr, ◌⊎◌, true, false, Bool, cond, List, [], ◌∷◌, ◌++◌, length, Option, None, Some, Result, Ok, Err, refl, sym, ap, ◌∙◌, slice_get, if◌then◌else◌, arith}
+use Rattle.std.proofs.Common.{◌≡◌, ℕ, ◌==◌, inl, inr, ◌⊎◌, true, false, Bool, List, [], ◌∷◌, ◌++◌, length, Option, None, Some, Result, Ok, Err, refl, sym, ap, ◌∙◌, slice_get, if◌then◌else◌, arith}
 use Rattle.std.specs.List.{position_from}
 use Rattle.std.specs.Option.{option_map}
 use Rattle.std.proofs.lemmas.Bool.{cases_eq, eqb-true, eqb-false, ne_eqb}
@@ -17,16 +17,17 @@ use Rattle.dns_mux.specs.declared.arrival.Arrival.TheVariants.{Full, Queued}
 use Rattle.dns_mux.specs.declared.taken.Taken.{Taken}
 use Rattle.dns_mux.specs.declared.taken.Taken.TheVariants as rust
 use Rattle.dns_mux.specs.Draws.{IsSend, Plays}
-use Rattle.dns_mux.specs.Events.{TakenValue, Item, Pending, Ended, Send, Arrive, Take, Cancel, last_drawn}
-use Rattle.dns_mux.specs.Machine.{Settings, Request, State, after_arrival, arrival_reply, cancelled, changed_at, has_id, has_room, is_busy, is_taken_id, lives_under, reply_at, sent_under, taken_from, waiting_of, with_item, without_first}
+use Rattle.dns_mux.specs.Events.{TakenValue, Item, Pending, Ended, Send, Arrive, Take, last_drawn}
+use Rattle.dns_mux.specs.Machine.{Settings, Request, State, after_arrival, arrival_reply, changed_at, has_id, has_room, is_busy, is_taken_id, lives_under, reply_at, sent_under, taken_from, waiting_of, with_item, without_first}
 use Rattle.dns_mux.specs.Messages.{SerialMessageValue, answered_by}
-use Rattle.dns_mux.specs.Runs.{life_at, life_of}
+use Rattle.dns_mux.specs.Runs.{life_of}
 use Rattle.dns_mux.specs.Views.{taken_of}
 use Rattle.dns_mux.proofs.HistoryLemmas.{accepted-case, untaken-id}
 use Rattle.dns_mux.proofs.ListLemmas.{choose_here, choose_other, get-changed_at, position_is}
 use Rattle.dns_mux.proofs.MachineStepLemmas.{found_at, slice_get-append, unfound}
 use Rattle.dns_exchange.specs.Exchanges.{answers, has_message_id}
 use Rattle.dns_exchange.specs.Steps.{IsOurs, Offered}
+use Rattle.dns_exchange.proofs.LiveLemmas.{life_kept}
 
 -- ---- an accepted send
 
@@ -80,34 +81,6 @@ pub sent_ours : (draws : List ℕ → Type 0) (settings : Settings) (old new : S
     → IsOurs new.requests number (last_drawn send.drawn) moment
 sent_ours draws settings old new request moment number send =
     sent_by settings old new request moment number send.drawn send.played
-
--- ---- changes of one request
-
-life_case : (b : Bool) (change : Request → Request) → ((r : Request) → (change r).life ≡ r.life) → (o : Option Request)
-    → life_of (cond b (option_map change o) o) ≡ life_of o
-life_case true change same None = refl
-life_case true change same (Some r) = same r
-life_case false change same o = refl
-
-life_kept : (k other : ℕ) (change : Request → Request) → ((r : Request) → (change r).life ≡ r.life)
-    → (rs : List Request)
-    → life_of (slice_get (changed_at k change rs) other) ≡ life_of (slice_get rs other)
-life_kept k other change same rs =
-    ap life_of (get-changed_at k other change rs) ∙ life_case (k == other) change same (slice_get rs other)
-
-ended_case : (o : Option Request) → life_of (option_map cancelled o) ≡ None
-ended_case None = refl
-ended_case (Some r) = refl
-
--- a request that was cancelled isn't live
-pub cancelled_ends : (settings : Settings) (old new : State) (number : ℕ) → Plays settings old new (Cancel number)
-    → life_at new number ≡ None
-cancelled_ends settings old new number p =
-    let same = get-changed_at number number cancelled old.requests
-    ∙ choose_here number number (option_map cancelled (slice_get old.requests number))
-    (slice_get old.requests number) refl in
-    ap (λ (s : State). life_of (slice_get s.requests number)) p.moved ∙ ap life_of same
-    ∙ ended_case (slice_get old.requests number)
 
 -- ---- an arrival
 

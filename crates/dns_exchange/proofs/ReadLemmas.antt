@@ -1,6 +1,7 @@
 -- Reads of a stream that bring a part of a message, or its last byte.
 use Rattle.std.proofs.Common.{◌≡◌, ℕ, ◌+◌, ◌<◌, ◌≤◌, ◌==◌, true, false, Bool, List, [], ◌∷◌, ◌++◌, length, drop, Result, Ok, Err, refl, sym, ap, ◌∙◌, append_assoc, append-nil, if◌then◌else◌, arith}
 use Rattle.std.proofs.lemmas.List.{length-append, length-drop}
+use Rattle.std.proofs.lemmas.List.Elements.{All-cons, All-nil}
 use Rattle.std.specs.declared.net.socket_addr.SocketAddr.{SocketAddr}
 use Rattle.dns_model.specs.Bytes.{u16_bytes}
 use Rattle.dns_model.specs.Counts.{RoseBy}
@@ -11,29 +12,32 @@ use Rattle.dns_link.specs.Moved.{and_then}
 use Rattle.dns_mux.specs.Messages.{SerialMessageValue}
 use Rattle.dns_transport.specs.declared.feed.Feed.{Feed}
 use Rattle.dns_transport.specs.declared.feed.Feed.TheVariants.{More, Message}
-use Rattle.dns_transport.specs.Causes.{IsLater}
-use Rattle.dns_transport.specs.Feeding.{Feeds, NoRoom, HadFailed, Read, IsFramed, after_feed, end_reply, feed_reply, message_reply, part_after, unused}
-use Rattle.dns_transport.specs.Frames.{frame, lacking}
+use Rattle.dns_transport.specs.Feeding.{Feeds, NoRoom, HadFailed, Read, IsFramed, after_feed, after_feed_reply, end_reply, feed_reply, message_reply, part_after, unused}
+use Rattle.dns_transport.specs.Frames.{HasFrame, frame, lacking}
 use Rattle.dns_transport.specs.Links.{LinkView, ReadsOnce}
 use Rattle.dns_transport.specs.Streams.{StreamValue}
 use Rattle.dns_transport.proofs.CauseLemmas.{gave_count}
 use Rattle.dns_transport.proofs.FeedLemmas.{part_kept}
 use Rattle.dns_exchange.specs.Reads.{HasFed, HasRead, Sight, reads_for, sight}
 use Rattle.dns_exchange.specs.Steps.{IsReading}
-use Rattle.dns_exchange.proofs.SightLemmas.{and_then-both, and_then-none, later_refl}
+use Rattle.dns_exchange.proofs.SightLemmas.{and_then-both, and_then-none, part_on, part_only}
 
 -- ---- one read
 
 -- what a read left of a part, and that only it was counted
-pub record IsMoreRead (met now : CountsValue) (old new : List ℕ) : Type 0 where
-  pub longer : length old < length new
-  pub got : now ≡ with_got met
+pub record IsMoreRead {L : Type 0} (seen : LinkView L) (old_link new_link : L) (old new : StreamValue) : Type 0 where
+  pub longer : length old.part < length new.part
+  pub got : seen.counts new_link ≡ with_got (seen.counts old_link)
+  pub taken : seen.taken new_link ≡ seen.taken old_link
+  pub kept : new ≡ record old { part = new.part }
 
-pub record IsLastRead (met now : CountsValue) (old new message : List ℕ) : Type 0 where
-  pub fresh : length old < length (frame message)
-  pub known : 2 ≤ length old
-  pub used : new ≡ []
-  pub got : now ≡ with_got met
+pub record IsLastRead {L : Type 0} (seen : LinkView L) (old_link new_link : L) (old new : StreamValue) (message : List ℕ) : Type 0 where
+  pub fresh : length old.part < length (frame message)
+  pub known : 2 ≤ length old.part
+  pub used : new.part ≡ []
+  pub got : seen.counts new_link ≡ with_got (seen.counts old_link)
+  pub taken : seen.taken new_link ≡ seen.taken old_link
+  pub kept : new ≡ record old { part = new.part }
 
 end_no_more : (part : List ℕ) → Ok More ≡ end_reply part → ⊥
 end_no_more [] e = cc
@@ -85,6 +89,12 @@ unfolding frame
 frame_size message = omega (arith, length-append (u16_bytes (length message)) message)
 
 module _ {L : Type 0} (seen : LinkView L) (old_link new_link : L) (old new : StreamValue) where
+  -- of the stream only the part has changed, whatever message was given
+  answered_kept : (outcome : Result (List ℕ) IoKind) (reply : Result Feed NetError) → reply ≡ feed_reply old.peer old.part outcome
+      → new ≡ after_feed outcome old → new ≡ after_feed_reply reply (record old { part = part_after old.part outcome })
+  answered_kept outcome reply e n =
+      n ∙ ap (λ (r : Result Feed NetError). after_feed_reply r (record old { part = part_after old.part outcome })) (sym e)
+
   part_left : (outcome : Result (List ℕ) IoKind) → new ≡ after_feed outcome old → new.part ≡ part_after old.part outcome
   part_left outcome n =
       ap (λ (s : StreamValue). s.part) n
@@ -92,7 +102,7 @@ module _ {L : Type 0} (seen : LinkView L) (old_link new_link : L) (old new : Str
 
   more_by : (outcome : Result (List ℕ) IoKind) → ReadsOnce seen (lacking old.part) old_link new_link outcome
       → Ok More ≡ feed_reply old.peer old.part outcome → new ≡ after_feed outcome old
-      → IsMoreRead (seen.counts old_link) (seen.counts new_link) old.part new.part
+      → IsMoreRead seen old_link new_link old new
   more_by (Ok []) once e n = absurd (end_no_more old.part e)
   more_by (Ok (b ∷ bs)) once e n =
       let left : new.part ≡ unused (old.part ++ b ∷ bs) = part_left (Ok (b ∷ bs)) n in
@@ -103,12 +113,14 @@ module _ {L : Type 0} (seen : LinkView L) (old_link new_link : L) (old new : Str
       record {
         longer = omega (arith, size, parts, some);
         got = once.counts ∙ gave_count once.room (length (b ∷ bs)) (seen.counts old_link) some;
+        taken = once.taken;
+        kept = part_only old new (part_after old.part (Ok (b ∷ bs))) (answered_kept (Ok (b ∷ bs)) (Ok More) e n);
       }
   more_by (Err kind) once e n = cc
 
   -- a read that completes no message
   pub more_read : Feeds seen old_link new_link old new (Ok More)
-      → IsMoreRead (seen.counts old_link) (seen.counts new_link) old.part new.part
+      → IsMoreRead seen old_link new_link old new
   more_read (NoRoom f e n l) = cc
   more_read (HadFailed f e n l) = cc
   more_read (Read outcome f once e n) = more_by outcome once e n
@@ -116,7 +128,7 @@ module _ {L : Type 0} (seen : LinkView L) (old_link new_link : L) (old new : Str
   last_by : (m : SerialMessageValue) (outcome : Result (List ℕ) IoKind)
       → ReadsOnce seen (lacking old.part) old_link new_link outcome
       → Ok (Message m) ≡ feed_reply old.peer old.part outcome → new ≡ after_feed outcome old
-      → IsLastRead (seen.counts old_link) (seen.counts new_link) old.part new.part m.bytes
+      → IsLastRead seen old_link new_link old new m.bytes
   last_by m (Ok []) once e n = absurd (end_no_message old.part m e)
   last_by m (Ok (b ∷ bs)) once e n =
       let bytes = old.part ++ b ∷ bs in
@@ -134,12 +146,14 @@ module _ {L : Type 0} (seen : LinkView L) (old_link new_link : L) (old new : Str
         known = known_length old.part (b ∷ bs) once.room once.fits once.within long;
         used = left ∙ w.used;
         got = once.counts ∙ gave_count once.room (length (b ∷ bs)) (seen.counts old_link) some;
+        taken = once.taken;
+        kept = part_only old new (part_after old.part (Ok (b ∷ bs))) (answered_kept (Ok (b ∷ bs)) (Ok (Message m)) e n);
       }
   last_by m (Err kind) once e n = cc
 
   -- a read that completes a message
   pub last_read : (m : SerialMessageValue) → Feeds seen old_link new_link old new (Ok (Message m))
-      → IsLastRead (seen.counts old_link) (seen.counts new_link) old.part new.part m.bytes
+      → IsLastRead seen old_link new_link old new m.bytes
   last_read m (NoRoom f e n l) = cc
   last_read m (HadFailed f e n l) = cc
   last_read m (Read outcome f once e n) = last_by m outcome once e n
@@ -159,82 +173,97 @@ one_read (high ∷ low ∷ body) h = refl
 got_count : (met now : CountsValue) → now ≡ with_got met → RoseBy 1 met.gots now.gots
 got_count met now e = let same = ap (λ (c : CountsValue). c.gots) e in omega (arith, same)
 
-pub reading_none : (s : Sight) (part : List ℕ) → IsReading s s part part
-reading_none s part = record {
+pub reading_none : (s : Sight) (stream : StreamValue) → IsReading s s stream stream
+reading_none s stream = record {
   read = [];
   given = and_then-none s.given;
-  used = append-nil part;
+  taken = refl;
+  used = append-nil stream.part;
   longer = omega arith;
   gots = omega arith;
   faults = refl;
   ends = refl;
+  kept = refl;
 }
 
-module _ {L : Type 0} (seen : LinkView L) (s : Sight) (old_link new_link : L) (first part new : List ℕ) where
+module _ {L : Type 0} (seen : LinkView L) (s : Sight) (old_link new_link : L) (first old new : StreamValue) where
   -- one read more
-  pub reading_more : IsReading s (sight seen old_link) first part
-      → IsFramed seen old_link new_link part new (Ok More)
-      → IsMoreRead (seen.counts old_link) (seen.counts new_link) part new
+  pub reading_more : IsReading s (sight seen old_link) first old
+      → IsFramed seen old_link new_link old.part new.part (Ok More)
+      → IsMoreRead seen old_link new_link old new
       → IsReading s (sight seen new_link) first new
   reading_more h f m =
       let before = h.gots in
       let got = got_count (seen.counts old_link) (seen.counts new_link) m.got in
-      let a = reads_some first in
-      let b = reads_some part in
-      let c = reads_some new in
+      let a = reads_some first.part in
+      let b = reads_some old.part in
+      let c = reads_some new.part in
       let longer = h.longer in
       let more = m.longer in
       record {
         read = h.read ++ f.read;
         given = f.given ∙ ap (λ g. and_then g f.read) h.given ∙ and_then-both s.given h.read f.read;
-        used = sym (append_assoc first h.read f.read) ∙ ap (λ (l : List ℕ). l ++ f.read) h.used ∙ f.used;
+        taken = m.taken ∙ h.taken;
+        used = sym (append_assoc first.part h.read f.read) ∙ ap (λ (l : List ℕ). l ++ f.read) h.used ∙ f.used;
         longer = omega (arith, longer, more);
         gots = omega (arith, before, got, a.0, a.1, b.0, b.1, c.0, c.1);
         faults = ap (λ (c : CountsValue). c.faults) m.got ∙ h.faults;
         ends = ap (λ (c : CountsValue). c.ends) m.got ∙ h.ends;
+        kept = part_on first old new h.kept m.kept;
       }
 
   -- the last read of a message
-  pub reading_last : (m : SerialMessageValue) → IsReading s (sight seen old_link) first part
-      → IsFramed seen old_link new_link part new (Ok (Message m))
-      → IsLastRead (seen.counts old_link) (seen.counts new_link) part new m.bytes
+  pub reading_last : (m : SerialMessageValue) → IsReading s (sight seen old_link) first old
+      → IsFramed seen old_link new_link old.part new.part (Ok (Message m)) → HasFrame m.bytes
+      → IsLastRead seen old_link new_link old new m.bytes
       → HasRead s (sight seen new_link) first new (m.bytes ∷ [])
-  reading_last m h f w =
+  reading_last m h f framed w =
       let before = h.gots in
       let got = got_count (seen.counts old_link) (seen.counts new_link) w.got in
-      let a = reads_some first in
-      let one = one_read part w.known in
+      let a = reads_some first.part in
+      let one = one_read old.part w.known in
       let longer = h.longer in
       let fresh = w.fresh in
       record {
         read = h.read ++ f.read;
         given = f.given ∙ ap (λ g. and_then g f.read) h.given ∙ and_then-both s.given h.read f.read;
-        used = sym (append_assoc first h.read f.read) ∙ ap (λ (l : List ℕ). l ++ f.read) h.used ∙ f.used
-            ∙ ap (λ (l : List ℕ). l ++ new) (sym (append-nil (frame m.bytes)));
+        taken = w.taken ∙ h.taken;
+        used = sym (append_assoc first.part h.read f.read) ∙ ap (λ (l : List ℕ). l ++ f.read) h.used ∙ f.used
+            ∙ ap (λ (l : List ℕ). l ++ new.part) (sym (append-nil (frame m.bytes)));
+        framed = All-cons HasFrame m.bytes [] framed (All-nil HasFrame);
         fresh = omega (arith, longer, fresh);
         gots = omega (arith, before, got, a.0, a.1, one);
         faults = ap (λ (c : CountsValue). c.faults) w.got ∙ h.faults;
         ends = ap (λ (c : CountsValue). c.ends) w.got ∙ h.ends;
+        kept = part_on first old new h.kept w.kept;
       }
 
-reading_later : (a b : Sight) (first part : List ℕ) → IsReading a b first part → IsLater a.counts b.counts
-reading_later a b first part h =
-    let faults = h.faults in
-    let ends = h.ends in
+-- bytes of a message that isn't whole are no message
+as_read : (a b : Sight) (first old : StreamValue) → IsReading a b first old → HasRead a b first old []
+as_read a b first old h =
     let gots = h.gots in
-    record { faults = omega (arith, faults); ends = omega (arith, ends); gots = omega (arith, gots) }
+    record {
+      read = h.read;
+      given = h.given;
+      taken = h.taken;
+      used = h.used;
+      framed = All-nil HasFrame;
+      fresh = tt;
+      gots = omega (arith, gots);
+      faults = h.faults;
+      ends = h.ends;
+      kept = h.kept;
+    }
 
 -- a read that was answered so
-pub fed_at : {L : Type 0} (seen : LinkView L) (s : Sight) (old_link new_link : L) (first : List ℕ)
-    (old new : StreamValue)
-    (reply : Result Feed NetError) → IsReading s (sight seen old_link) first old.part
-    → Feeds seen old_link new_link old new reply → HasFed seen s.counts (seen.counts new_link) reply
+pub fed_at : {L : Type 0} (seen : LinkView L) (s : Sight) (old_link new_link : L) (first old new : StreamValue)
+    (reply : Result Feed NetError) → IsReading s (sight seen old_link) first old
+    → Feeds seen old_link new_link old new reply → HasFed seen s (sight seen new_link) first new [] reply
 fed_at seen s old_link new_link first old new reply h f = record {
-  old_link = old_link;
+  link = old_link;
   new_link = new_link;
-  old_stream = old;
-  new_stream = new;
+  stream = old;
+  before = as_read s (sight seen old_link) first old h;
   fed = f;
-  since = reading_later s (sight seen old_link) first old.part h;
-  until = later_refl (seen.counts new_link);
+  until = refl;
 }

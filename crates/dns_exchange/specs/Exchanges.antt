@@ -12,12 +12,13 @@ use Rattle.dns_handle.specs.Requests.{RequestValue, first_question}
 use Rattle.dns_mux.specs.Draws.{CoreValue, Drawn, IsSend, request_bytes}
 use Rattle.dns_mux.specs.Events.{last_drawn}
 use Rattle.dns_mux.specs.Machine.{State}
-use Rattle.dns_mux.specs.Messages.{answered_by}
+use Rattle.dns_mux.specs.Messages.{SerialMessageValue, answered_by}
 use Rattle.dns_mux.specs.Runs.{life_at}
 use Rattle.dns_transport.specs.declared.feed.Feed.TheVariants.{Closed}
 use Rattle.dns_transport.specs.Links.{LinkView}
 use Rattle.dns_transport.specs.Streams.{StreamValue}
-use Rattle.dns_exchange.specs.Reads.{HasDrained, HasFed, HasRead, Sight, sight}
+use Rattle.dns_exchange.specs.Reads.{HasFed, HasRead, Sight, sight}
+use Rattle.dns_exchange.specs.Writes.{HasDrained, HasWrittenAll, messages_to}
 
 -- so many messages are waited for
 abbrev pub most_messages : ℕ
@@ -42,39 +43,61 @@ pub record Parts (L R : Type 0) : Type 0 where
   pub core : CoreValue
   pub draws : R
 
+-- of the requests of a multiplexer none is live that wasn't
+abbrev pub NoneRevived : State → State → Type 0
+NoneRevived old new = (number : ℕ) → life_at old number ≡ None → life_at new number ≡ None
+
+-- no message that was read is the answer, and fewer were read than are waited for
+pub record IsUnanswered (id most : ℕ) (messages : List (List ℕ)) : Type 0 where
+  pub fewer : length messages < most
+  pub others : list_any (answers id) messages ≡ false
+
 -- how a request that was sent under an id is answered, and whether the multiplexer is shut down then, where so many messages
--- are waited for
-pub data Received {L : Type 0} (seen : LinkView L) (old new : Sight) (old_part new_part : List ℕ) (id most : ℕ)
+-- are waited for; and what is left of the stream
+pub data Received {L : Type 0} (seen : LinkView L) (old new : Sight) (old_stream new_stream : StreamValue) (id most : ℕ)
     (is_shutdown : Bool) (reply : Reply) : Type 0 where
   -- by the first message with the id
   Answered : (before : List (List ℕ)) (bytes : List ℕ) (message : MessageValue)
-      → HasRead old new old_part new_part (before ++ bytes ∷ []) → length before < most → list_any (answers id) before ≡ false
+      → HasRead old new old_stream new_stream (before ++ bytes ∷ []) → IsUnanswered id most before
       → message_at bytes ≡ Ok message → message.id ≡ id → is_shutdown ≡ false → reply ≡ answered_by message
-      → Received seen old new old_part new_part id most is_shutdown reply
+      → Received seen old new old_stream new_stream id most is_shutdown reply
   -- no message that came has the id
-  Unanswered : (messages : List (List ℕ)) → HasRead old new old_part new_part messages → length messages ≡ most
+  Unanswered : (messages : List (List ℕ)) → HasRead old new old_stream new_stream messages → length messages ≡ most
       → list_any (answers id) messages ≡ false → is_shutdown ≡ false → reply ≡ Err Timeout
-      → Received seen old new old_part new_part id most is_shutdown reply
+      → Received seen old new old_stream new_stream id most is_shutdown reply
   -- the link ended between two messages
-  WasClosed : HasFed seen old.counts new.counts (Ok Closed) → is_shutdown ≡ true → reply ≡ Err (Io UnexpectedEof)
-      → Received seen old new old_part new_part id most is_shutdown reply
+  WasClosed : (messages : List (List ℕ)) → HasFed seen old new old_stream new_stream messages (Ok Closed)
+      → IsUnanswered id most messages → is_shutdown ≡ true → reply ≡ Err (Io UnexpectedEof)
+      → Received seen old new old_stream new_stream id most is_shutdown reply
   -- reading failed
-  FeedFailed : (error : NetError) → HasFed seen old.counts new.counts (Err error) → is_shutdown ≡ false
-      → reply ≡ Err (error_of error) → Received seen old new old_part new_part id most is_shutdown reply
+  FeedFailed : (messages : List (List ℕ)) (error : NetError)
+      → HasFed seen old new old_stream new_stream messages (Err error)
+      → IsUnanswered id most messages → is_shutdown ≡ false → reply ≡ Err (error_of error)
+      → Received seen old new old_stream new_stream id most is_shutdown reply
   -- there was no room for a message that came
-  NoRoom : is_shutdown ≡ false → reply ≡ Err NoMemory → Received seen old new old_part new_part id most is_shutdown reply
+  NoRoom : (before : List (List ℕ)) (bytes : List ℕ) → HasRead old new old_stream new_stream (before ++ bytes ∷ [])
+      → IsUnanswered id most before → is_shutdown ≡ false → reply ≡ Err NoMemory
+      → Received seen old new old_stream new_stream id most is_shutdown reply
 
--- how a request that was put out under an id is answered
-pub data Carried {L : Type 0} (seen : LinkView L) (old new : Sight) (old_part new_part : List ℕ) (id : ℕ)
-    (is_shutdown : Bool) (reply : Reply) : Type 0 where
-  -- all was written, and then messages were read
-  WasWritten : Received seen old new old_part new_part id most_messages is_shutdown reply
-      → Carried seen old new old_part new_part id is_shutdown reply
+-- how a request that was put out under an id is answered, where these messages are to be sent, and those are left; and what is left
+-- of the stream
+pub data Carried {L : Type 0} (seen : LinkView L) (old new : Sight) (old_stream new_stream : StreamValue)
+    (outbound left : List SerialMessageValue) (id : ℕ) (is_shutdown : Bool) (reply : Reply) : Type 0 where
+  -- all was written, what waited in the stream first, and then messages were read
+  WasWritten : (mid : Sight) (mid_stream : StreamValue)
+      → HasWrittenAll old mid old_stream mid_stream (messages_to old_stream.peer outbound) → left ≡ []
+      → Received seen mid new mid_stream new_stream id most_messages is_shutdown reply
+      → Carried seen old new old_stream new_stream outbound left id is_shutdown reply
   -- writing failed
-  DrainFailed : (error : NetError) → HasDrained seen old.counts new.counts error → is_shutdown ≡ false
-      → reply ≡ Err (error_of error) → Carried seen old new old_part new_part id is_shutdown reply
-  -- there was no room for a message that was to be written
-  NoRoomToWrite : is_shutdown ≡ false → reply ≡ Err NoMemory → Carried seen old new old_part new_part id is_shutdown reply
+  DrainFailed : (moved : List SerialMessageValue) (error : NetError) → outbound ≡ moved ++ left
+      → HasDrained seen old new old_stream new_stream (messages_to old_stream.peer moved) error
+      → is_shutdown ≡ false → reply ≡ Err (error_of error)
+      → Carried seen old new old_stream new_stream outbound left id is_shutdown reply
+  -- there was no room for a message that was to be written, which is lost
+  NoRoomToWrite : (moved : List SerialMessageValue) (lost : SerialMessageValue) → outbound ≡ moved ++ lost ∷ left
+      → HasWrittenAll old new old_stream new_stream (messages_to old_stream.peer moved)
+      → is_shutdown ≡ false → reply ≡ Err NoMemory
+      → Carried seen old new old_stream new_stream outbound left id is_shutdown reply
 
 -- a send of a request at a moment, in milliseconds
 pub data Exchanged {L R : Type 0} (seen : LinkView L) (draw : R → ℕ → R → Type 0) (old new : Parts L R)
@@ -88,13 +111,14 @@ pub data Exchanged {L R : Type 0} (seen : LinkView L) (draw : R → ℕ → R �
       (request_bytes request) moment (Err error)
       → new.link ≡ old.link → new.stream ≡ old.stream → new.core ≡ record old.core { state = new.core.state }
       → reply ≡ Err error → Exchanged seen draw old new request moment reply
-  -- it was sent under the id that was drawn last, and is no longer live
+  -- it was sent under the id that was drawn last, and is no longer live; nor is any other that wasn't before
   Sent : (number : ℕ) (sent : State) → old.core.is_shutdown ≡ false
       → (send : IsSend (λ ids. Drawn draw old.draws ids new.draws) old.core.settings old.core.state sent
       (request_bytes request) moment (Ok number))
-      → Carried seen (sight seen old.link) (sight seen new.link) old.stream.part new.stream.part (last_drawn send.drawn)
-      new.core.is_shutdown reply
+      → Carried seen (sight seen old.link) (sight seen new.link) old.stream new.stream sent.outbound
+      new.core.state.outbound (last_drawn send.drawn) new.core.is_shutdown reply
       → new.core.settings ≡ old.core.settings → life_at new.core.state number ≡ None
+      → NoneRevived old.core.state new.core.state
       → Exchanged seen draw old new request moment reply
 
 -- the same of some request with a first question, at some moment

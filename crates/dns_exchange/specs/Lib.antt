@@ -1,6 +1,6 @@
 pub mod Reads
+pub mod Writes
 pub mod Exchanges
-pub mod Cores
 pub mod Making
 pub mod Parts
 pub mod Steps

@@ -2,14 +2,14 @@
 use Rattle.std.specs.Prelude.{ℕ}
 use Rattle.dns_transport.specs.StreamViews.{link_of, state_of}
 use Rattle.dns_exchange.specs.declared.tcp_exchange.TcpExchange.{TcpExchange}
-use Rattle.dns_exchange.specs.Cores.{core_of, draws_of}
+use Rattle.dns_mux.specs.Multiplexers.{machine_of, draws_of}
 use Rattle.dns_exchange.specs.Exchanges.{Parts}
 
 abbrev pub parts_of : {L R : Type 0} → TcpExchange L R → Parts L R
 parts_of exchange = record {
   link = link_of exchange.stream;
   stream = state_of exchange.stream;
-  core = core_of exchange.multiplexer;
+  core = machine_of exchange.multiplexer;
   draws = draws_of exchange.multiplexer;
 }
 

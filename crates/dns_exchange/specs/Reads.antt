@@ -1,24 +1,23 @@
--- What was read of a connection during a call: whole messages one behind the other (RFC 1035, 4.2.2), and by how many reads.
-use Rattle.std.specs.Prelude.{ℕ, ◌≡◌, ◌+◌, ◌*◌, ◌<◌, ⊤, List, [], ◌∷◌, ◌++◌, length, Option, Result, Err}
+-- What was read of a connection during a call: messages one behind the other (RFC 1035, 4.2.2), and by how many reads at least.
+use Rattle.std.specs.Prelude.{ℕ, ◌≡◌, ◌+◌, ◌*◌, ◌<◌, ⊤, All, List, [], ◌∷◌, ◌++◌, length, Option, Result}
 use Rattle.dns_model.specs.Counts.{RoseBy}
 use Rattle.dns_handle.specs.declared.error.NetError.{NetError}
 use Rattle.dns_link.specs.Counts.{CountsValue}
 use Rattle.dns_link.specs.Moved.{and_then}
 use Rattle.dns_transport.specs.declared.feed.Feed.{Feed}
-use Rattle.dns_transport.specs.Causes.{IsLater}
-use Rattle.dns_transport.specs.Draining.{Drains}
 use Rattle.dns_transport.specs.Feeding.{Feeds}
-use Rattle.dns_transport.specs.Frames.{frame, frames}
+use Rattle.dns_transport.specs.Frames.{HasFrame, frame, frames}
 use Rattle.dns_transport.specs.Links.{LinkView}
 use Rattle.dns_transport.specs.Streams.{StreamValue}
 
--- what is told of a link at a moment: the bytes that it gave, and what it counted
+-- what is told of a link at a moment: the bytes that it gave, those that it took, and what it counted
 pub record Sight : Type 0 where
   pub given : Option (List ℕ)
+  pub taken : Option (List ℕ)
   pub counts : CountsValue
 
 abbrev pub sight : {L : Type 0} → LinkView L → L → Sight
-sight seen link = record { given = seen.given link; counts = seen.counts link }
+sight seen link = record { given = seen.given link; taken = seen.taken link; counts = seen.counts link }
 
 -- so many reads at least complete a message of which a part was read: one for the length, where it isn't there, and one more
 abbrev pub reads_for : List ℕ → ℕ
@@ -36,32 +35,26 @@ abbrev pub IsFresh : List ℕ → List (List ℕ) → Type 0
 IsFresh part [] = ⊤
 IsFresh part (m ∷ ms) = length part < length (frame m)
 
--- behind the bytes of a part others were read, which together are the messages' frames and a new part; the link met nothing else
-pub record HasRead (old new : Sight) (old_part new_part : List ℕ) (messages : List (List ℕ)) : Type 0 where
+-- behind the part that a stream had of a frame other bytes were read, which together with it are the messages' frames and the part
+-- that it has now. The link met no fault and no end, and took nothing; of the stream nothing else has changed
+pub record HasRead (old new : Sight) (old_stream new_stream : StreamValue) (messages : List (List ℕ)) : Type 0 where
   pub read : List ℕ
   pub given : new.given ≡ and_then old.given read
-  pub used : old_part ++ read ≡ frames messages ++ new_part
-  pub fresh : IsFresh old_part messages
-  pub gots : RoseBy (reads_for_all old_part messages) old.counts.gots new.counts.gots
+  pub taken : new.taken ≡ old.taken
+  pub used : old_stream.part ++ read ≡ frames messages ++ new_stream.part
+  pub framed : All HasFrame messages
+  pub fresh : IsFresh old_stream.part messages
+  pub gots : RoseBy (reads_for_all old_stream.part messages) old.counts.gots new.counts.gots
   pub faults : new.counts.faults ≡ old.counts.faults
   pub ends : new.counts.ends ≡ old.counts.ends
+  pub kept : new_stream ≡ record old_stream { part = new_stream.part }
 
--- a call of `feed` in the meantime was answered so
-pub record HasFed {L : Type 0} (seen : LinkView L) (met now : CountsValue) (reply : Result Feed NetError) : Type 0 where
-  pub old_link : L
+-- these messages were read, and then a call of `feed` was answered so
+pub record HasFed {L : Type 0} (seen : LinkView L) (old new : Sight) (old_stream new_stream : StreamValue)
+    (messages : List (List ℕ)) (reply : Result Feed NetError) : Type 0 where
+  pub link : L
   pub new_link : L
-  pub old_stream : StreamValue
-  pub new_stream : StreamValue
-  pub fed : Feeds seen old_link new_link old_stream new_stream reply
-  pub since : IsLater met (seen.counts old_link)
-  pub until : IsLater (seen.counts new_link) now
-
--- a call of `drain` in the meantime was answered by an error
-pub record HasDrained {L : Type 0} (seen : LinkView L) (met now : CountsValue) (error : NetError) : Type 0 where
-  pub old_link : L
-  pub new_link : L
-  pub old_stream : StreamValue
-  pub new_stream : StreamValue
-  pub drained : Drains seen old_link new_link old_stream new_stream (Err error)
-  pub since : IsLater met (seen.counts old_link)
-  pub until : IsLater (seen.counts new_link) now
+  pub stream : StreamValue
+  pub before : HasRead old (sight seen link) old_stream stream messages
+  pub fed : Feeds seen link new_link stream new_stream reply
+  pub until : new ≡ sight seen new_link

@@ -10,48 +10,76 @@ use Rattle.dns_handle.specs.Replies.{reply_of}
 use Rattle.dns_link.specs.Moved.{and_then}
 use Rattle.dns_mux.specs.Draws.{CoreValue}
 use Rattle.dns_mux.specs.Machine.{Request, lives_under, sent_under}
-use Rattle.dns_mux.specs.Messages.{answered_by}
+use Rattle.dns_mux.specs.Messages.{SerialMessageValue, answered_by}
 use Rattle.dns_mux.specs.Runs.{life_of}
 use Rattle.dns_model.specs.SoundAnswers.{ResponseValue}
 use Rattle.dns_transport.specs.declared.feed.Feed.TheVariants.{Closed}
-use Rattle.dns_transport.specs.Frames.{HasFrame}
 use Rattle.dns_transport.specs.Links.{LinkView}
 use Rattle.dns_transport.specs.Streams.{StreamValue}
-use Rattle.dns_exchange.specs.Exchanges.{Carried, Received, answers}
-use Rattle.dns_exchange.specs.Reads.{HasDrained, HasFed, HasRead, Sight, reads_for, sight}
+use Rattle.dns_exchange.specs.Exchanges.{Carried, NoneRevived, Received, answers}
+use Rattle.dns_exchange.specs.Reads.{HasFed, HasRead, Sight, reads_for, sight}
+use Rattle.dns_exchange.specs.Writes.{HasDrained, HasWrittenAll, message_to, messages_to}
 
 -- ---- reading
 
--- bytes of a message were read behind those of a part
-pub record IsReading (old new : Sight) (old_part new_part : List ℕ) : Type 0 where
+-- bytes of a message were read behind those of a part, and of the stream nothing else has changed
+pub record IsReading (old new : Sight) (old_stream new_stream : StreamValue) : Type 0 where
   pub read : List ℕ
   pub given : new.given ≡ and_then old.given read
-  pub used : old_part ++ read ≡ new_part
-  pub longer : length old_part ≤ length new_part
-  pub gots : RoseBy (reads_for old_part - reads_for new_part) old.counts.gots new.counts.gots
+  pub taken : new.taken ≡ old.taken
+  pub used : old_stream.part ++ read ≡ new_stream.part
+  pub longer : length old_stream.part ≤ length new_stream.part
+  pub gots : RoseBy (reads_for old_stream.part - reads_for new_stream.part) old.counts.gots new.counts.gots
   pub faults : new.counts.faults ≡ old.counts.faults
   pub ends : new.counts.ends ≡ old.counts.ends
+  pub kept : new_stream ≡ record old_stream { part = new_stream.part }
 
 -- the next message was read, the link has ended, or reading failed
 abbrev pub IsNextRead : {L : Type 0} → LinkView L → L → L → StreamValue → StreamValue → Result (Option (List ℕ)) NetError → Type 0
 IsNextRead seen old_link new_link old new (Ok (Some message)) =
-    HasRead (sight seen old_link) (sight seen new_link) old.part new.part (message ∷ []) × HasFrame message × (new.part ≡ [])
-IsNextRead seen old_link new_link old new (Ok None) = HasFed seen (seen.counts old_link) (seen.counts new_link) (Ok Closed)
-IsNextRead seen old_link new_link old new (Err error) = HasFed seen (seen.counts old_link) (seen.counts new_link) (Err error)
+    HasRead (sight seen old_link) (sight seen new_link) old new (message ∷ []) × (new.part ≡ [])
+IsNextRead seen old_link new_link old new (Ok None) =
+    HasFed seen (sight seen old_link) (sight seen new_link) old new [] (Ok Closed)
+IsNextRead seen old_link new_link old new (Err error) =
+    HasFed seen (sight seen old_link) (sight seen new_link) old new [] (Err error)
 
 -- ---- writing
 
--- nothing was read, and all was written
-pub record IsWrittenOut (old new : Sight) (old_stream new_stream : StreamValue) : Type 0 where
-  pub sight : new ≡ old
-  pub part : new_stream.part ≡ old_stream.part
-  pub queue : new_stream.queue ≡ []
+-- all that waited was written, or writing failed
+abbrev pub DrainsAll : {L : Type 0} → LinkView L → L → L → StreamValue → StreamValue → Result Unit NetError → Type 0
+DrainsAll seen old_link new_link old new (Ok done) = HasWrittenAll (sight seen old_link) (sight seen new_link) old new []
+DrainsAll seen old_link new_link old new (Err error) = HasDrained seen (sight seen old_link) (sight seen new_link) old new [] error
 
--- all was written; or there was no room for a message, or writing failed
-abbrev pub Writes : {L : Type 0} → LinkView L → L → L → StreamValue → StreamValue → Result Unit NetError → Type 0
-Writes seen old_link new_link old new (Ok done) = IsWrittenOut (sight seen old_link) (sight seen new_link) old new
-Writes seen old_link new_link old new (Err error) =
-    (error ≡ errors.NoMemory) ⊎ HasDrained seen (seen.counts old_link) (seen.counts new_link) error
+-- a message of these bytes was written; or there was no room for it, and nothing has changed; or writing failed
+abbrev pub WritesMessage : {L : Type 0} → LinkView L → L → L → StreamValue → StreamValue → List ℕ → Result Unit NetError → Type 0
+WritesMessage seen old_link new_link old new bytes (Ok done) =
+    HasWrittenAll (sight seen old_link) (sight seen new_link) old new (message_to old.peer bytes)
+WritesMessage seen old_link new_link old new bytes (Err error) =
+    ((error ≡ errors.NoMemory) × (new_link ≡ old_link) × (new ≡ old))
+    ⊎ HasDrained seen (sight seen old_link) (sight seen new_link) old new (message_to old.peer bytes) error
+
+-- what was to be sent, and there was no room for a message
+pub record HasNoRoom (old new : Sight) (old_stream new_stream : StreamValue) (outbound left : List SerialMessageValue) : Type 0 where
+  pub moved : List SerialMessageValue
+  pub lost : SerialMessageValue
+  pub parted : outbound ≡ moved ++ lost ∷ left
+  pub done : HasWrittenAll old new old_stream new_stream (messages_to old_stream.peer moved)
+
+-- writing failed
+pub record HasFailed {L : Type 0} (seen : LinkView L) (old new : Sight) (old_stream new_stream : StreamValue)
+    (outbound left : List SerialMessageValue) (error : NetError) : Type 0 where
+  pub moved : List SerialMessageValue
+  pub parted : outbound ≡ moved ++ left
+  pub drained : HasDrained seen old new old_stream new_stream (messages_to old_stream.peer moved) error
+
+-- what was to be sent is written and nothing of it is left; or there was no room for a message, or writing failed
+abbrev pub WritesOut : {L : Type 0} → LinkView L → L → L → StreamValue → StreamValue → List SerialMessageValue
+    → List SerialMessageValue → Result Unit NetError → Type 0
+WritesOut seen old_link new_link old new outbound left (Ok done) =
+    HasWrittenAll (sight seen old_link) (sight seen new_link) old new (messages_to old.peer outbound) × (left ≡ [])
+WritesOut seen old_link new_link old new outbound left (Err error) =
+    ((error ≡ errors.NoMemory) × HasNoRoom (sight seen old_link) (sight seen new_link) old new outbound left)
+    ⊎ HasFailed seen (sight seen old_link) (sight seen new_link) old new outbound left error
 
 -- nothing has changed of a multiplexer but what waits to be sent
 pub record IsPopped (old new : CoreValue) : Type 0 where
@@ -76,19 +104,21 @@ Offered new number id moment bytes (Some reply) =
 abbrev pub Offers : List Request → List Request → ℕ → List ℕ → Option (Result ResponseValue NetError) → Type 0
 Offers old new number bytes item = (id moment : ℕ) → IsOurs old number id moment → Offered new number id moment bytes item
 
--- a multiplexer after an arrival, a take, a cancel or a close
+-- a multiplexer after arrivals and takes, or a close: nothing more is to be sent, and no request lives that didn't
 pub record IsGoingOn (old new : CoreValue) : Type 0 where
   pub settings : new.settings ≡ old.settings
-  pub is_shutdown : new.is_shutdown ≡ old.is_shutdown
+  pub outbound : new.state.outbound ≡ old.state.outbound
+  pub lives : NoneRevived old.state new.state
 
 -- what is received for each request that has the number
 abbrev pub Receives : {L : Type 0} → LinkView L → L → L → StreamValue → StreamValue → CoreValue → CoreValue → ℕ → ℕ
     → Reply → Type 0
 Receives seen old_link new_link old new old_core new_core number most reply =
     (id moment : ℕ) → old_core.is_shutdown ≡ false → IsOurs old_core.state.requests number id moment
-    → Received seen (sight seen old_link) (sight seen new_link) old.part new.part id most new_core.is_shutdown reply
+    → Received seen (sight seen old_link) (sight seen new_link) old new id most new_core.is_shutdown reply
 
 abbrev pub Carries : {L : Type 0} → LinkView L → L → L → StreamValue → StreamValue → CoreValue → CoreValue → ℕ → Reply → Type 0
 Carries seen old_link new_link old new old_core new_core number reply =
     (id moment : ℕ) → old_core.is_shutdown ≡ false → IsOurs old_core.state.requests number id moment
-    → Carried seen (sight seen old_link) (sight seen new_link) old.part new.part id new_core.is_shutdown reply
+    → Carried seen (sight seen old_link) (sight seen new_link) old new old_core.state.outbound new_core.state.outbound id
+    new_core.is_shutdown reply

@@ -1,17 +1,17 @@
-ghost use Rattle.std.specs.Prelude.{◌≡◌, false};
+ghost use Rattle.std.specs.Prelude.{◌≡◌};
 ghost use Rattle.dns_handle.specs.Replies.{reply_of};
 ghost use Rattle.dns_transport.specs.Links.{link_view};
 ghost use Rattle.dns_transport.specs.StreamViews.{link_of, state_of};
-ghost use Rattle.dns_exchange.specs.Cores.{core_of, draws_of};
-ghost use Rattle.dns_exchange.specs.Steps.{Carries, Receives};
-ghost use Rattle.dns_exchange.specs.Exchanges.{Exchanged};
+ghost use Rattle.dns_mux.specs.Multiplexers.{machine_of, draws_of};
+ghost use Rattle.dns_exchange.specs.Steps.{Carries, IsGoingOn, Receives};
+ghost use Rattle.dns_exchange.specs.Exchanges.{Exchanged, NoneRevived};
 
 use crate::messages::next_message;
 use crate::offering::offer;
 use crate::writing::write_out;
 use dns_handle::{DnsRequest, DnsResponse, IoKind, NetError};
 use dns_link::Link;
-use dns_mux::{BufDnsStreamHandle, DnsMultiplexer, DnsRequestSender, Draws, RequestId};
+use dns_mux::{DnsMultiplexer, DnsRequestSender, Draws, RequestId};
 use dns_transport::TcpStream;
 use std::alloc::Global;
 
@@ -27,9 +27,9 @@ fn receive<L: Link + Drop, R: Draws + Drop>(
     most: u32,
 ) -> Result<DnsResponse, NetError>
     ensures received { Receives (link_view L.counts L.given L.left L.taken) (link_of stream.old) (link_of stream.new)
-        (state_of stream.old) (state_of stream.new) (core_of multiplexer.old) (core_of multiplexer.new)
+        (state_of stream.old) (state_of stream.new) (machine_of multiplexer.old) (machine_of multiplexer.new)
         number.0 most (reply_of result) }
-    ensures settings { (core_of multiplexer.new).settings ≡ (core_of multiplexer.old).settings }
+    ensures going { IsGoingOn (machine_of multiplexer.old) (machine_of multiplexer.new) }
     ensures draws { draws_of multiplexer.new ≡ draws_of multiplexer.old }
 {
     if most == 0 {
@@ -49,17 +49,17 @@ fn receive<L: Link + Drop, R: Draws + Drop>(
 fn carry<L: Link + Drop, R: Draws + Drop>(
     alloc: Global,
     stream: &mut TcpStream<L>,
-    handle: &mut BufDnsStreamHandle,
     multiplexer: &mut DnsMultiplexer<R>,
     number: RequestId,
 ) -> Result<DnsResponse, NetError>
     ensures carried { Carries (link_view L.counts L.given L.left L.taken) (link_of stream.old) (link_of stream.new)
-        (state_of stream.old) (state_of stream.new) (core_of multiplexer.old) (core_of multiplexer.new)
+        (state_of stream.old) (state_of stream.new) (machine_of multiplexer.old) (machine_of multiplexer.new)
         number.0 (reply_of result) }
-    ensures settings { (core_of multiplexer.new).settings ≡ (core_of multiplexer.old).settings }
+    ensures settings { (machine_of multiplexer.new).settings ≡ (machine_of multiplexer.old).settings }
+    ensures lives { NoneRevived (machine_of multiplexer.old).state (machine_of multiplexer.new).state }
     ensures draws { draws_of multiplexer.new ≡ draws_of multiplexer.old }
 {
-    write_out(stream, handle, multiplexer)?;
+    write_out(alloc, stream, multiplexer)?;
     receive(alloc, stream, multiplexer, number, MOST_MESSAGES)
 }
 
@@ -67,21 +67,20 @@ fn carry<L: Link + Drop, R: Draws + Drop>(
 pub(crate) fn exchange<L: Link + Drop, R: Draws + Drop>(
     alloc: Global,
     stream: &mut TcpStream<L>,
-    handle: &mut BufDnsStreamHandle,
     multiplexer: &mut DnsMultiplexer<R>,
     request: &DnsRequest,
     now_ms: u64,
 ) -> Result<DnsResponse, NetError>
     ensures { Exchanged (link_view L.counts L.given L.left L.taken) R.draws_id
-        (record { link = link_of stream.old; stream = state_of stream.old; core = core_of multiplexer.old; draws = draws_of multiplexer.old })
-        (record { link = link_of stream.new; stream = state_of stream.new; core = core_of multiplexer.new; draws = draws_of multiplexer.new })
+        (record { link = link_of stream.old; stream = state_of stream.old; core = machine_of multiplexer.old; draws = draws_of multiplexer.old })
+        (record { link = link_of stream.new; stream = state_of stream.new; core = machine_of multiplexer.new; draws = draws_of multiplexer.new })
         request.now now_ms (reply_of result) }
 {
     if multiplexer.is_shutdown() {
         return Err(NetError::NoConnections);
     }
     let number = multiplexer.send_message(alloc, request, now_ms)?;
-    let reply = carry(alloc, stream, handle, multiplexer, number);
+    let reply = carry(alloc, stream, multiplexer, number);
     multiplexer.cancel(number);
     reply
 }

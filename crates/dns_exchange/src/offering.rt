@@ -1,5 +1,5 @@
 ghost use Rattle.std.specs.Prelude.{◌≡◌, ◌<◌, ◌^◌, IfOk, OnErr, length};
-ghost use Rattle.dns_exchange.specs.Cores.{core_of, draws_of};
+ghost use Rattle.dns_mux.specs.Multiplexers.{machine_of, draws_of};
 ghost use Rattle.dns_exchange.specs.Steps.{IsGoingOn, Offers};
 
 use dns_handle::{DnsResponse, NetError};
@@ -15,9 +15,10 @@ pub(crate) fn offer<R: Draws + Drop>(
     bytes: &[u8],
 ) -> Result<Option<Result<DnsResponse, NetError>>, NoMemory>
     requires { length bytes.now < 2 ^ 32 }
-    ensures offered { IfOk result (λ item. Offers (core_of multiplexer.old).state.requests (core_of multiplexer.new).state.requests
+    ensures offered { IfOk result (λ item. Offers (machine_of multiplexer.old).state.requests (machine_of multiplexer.new).state.requests
         number.0 bytes.now item) }
-    ensures going { IsGoingOn (core_of multiplexer.old) (core_of multiplexer.new) }
+    ensures going { IsGoingOn (machine_of multiplexer.old) (machine_of multiplexer.new) }
+    ensures shutdown { (machine_of multiplexer.new).is_shutdown ≡ (machine_of multiplexer.old).is_shutdown }
     ensures draws { draws_of multiplexer.new ≡ draws_of multiplexer.old }
 {
     multiplexer.arrive(alloc, bytes)?;

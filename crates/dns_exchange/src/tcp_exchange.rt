@@ -15,13 +15,12 @@ use std::net::SocketAddr;
 
 /// A handle that sends its requests over one connection, one at a time (RFC 1035, 4.2.2; RFC 7766, 6).
 ///
-/// A send writes all that waits, and then reads messages until one has the request's id; others are passed over. It answers
-/// `Timeout` after 1,024 of them, and `Io(UnexpectedEof)` where the link ended between two; then each later send is
+/// A send writes all that waits, the request last, and then reads messages until one has the request's id; others are passed over.
+/// It answers `Timeout` after 1,024 of them, and `Io(UnexpectedEof)` where the link ended between two; then each later send is
 /// `NoConnections`. How long a read or a write waits is the link's. Each error that it answers is a fault, but for want of memory.
 #[derive(Drop)]
 pub struct TcpExchange<L: Link + Drop, R: Draws + Drop> {
     stream: TcpStream<L>,
-    handle: BufDnsStreamHandle,
     multiplexer: DnsMultiplexer<R>,
     sends: u64,
     faults: u64,
@@ -56,14 +55,12 @@ impl<L: Link + Drop, R: Draws + Drop> TcpExchange<L, R> {
         ensures faults { IfOk result (λ made. faults_of made ≡ 0) }
     {
         let server = stream.peer_addr();
-        let (handle, _) = BufDnsStreamHandle::new(alloc, server);
         let (sender, queue) = BufDnsStreamHandle::new(alloc, server);
         let multiplexer = DnsMultiplexer::new(alloc, server, sender, queue, draws)
             .with_timeout(timeout_ms)
             .with_max_active_requests(most_requests(max));
         Ok(TcpExchange {
             stream,
-            handle,
             multiplexer,
             sends: 0,
             faults: 0,
@@ -82,6 +79,8 @@ impl<L: Link + Drop, R: Draws + Drop> TcpExchange<L, R> {
         draws: R,
     ) -> Result<TcpExchange<L, R>, NetError>
         ensures dialed { IsDialed D.counts dial.old dial.new result }
+        ensures bytes { D.given_bytes dial.new ≡ D.given_bytes dial.old }
+        ensures datagrams { D.given_datagrams dial.new ≡ D.given_datagrams dial.old }
         ensures link { IfOk result (λ made. IsNew (L.counts (parts_of made).link) (L.given (parts_of made).link)) }
         ensures made { IfOk result (λ made.
             parts_of made ≡ new_parts (parts_of made).link (new_stream server []) draws timeout_ms max) }
@@ -136,7 +135,6 @@ impl<L: Link + Drop, R: Draws + Drop> DnsHandle for TcpExchange<L, R> {
         let reply = exchange(
             alloc,
             &mut self.stream,
-            &mut self.handle,
             &mut self.multiplexer,
             &request,
             milliseconds(now),

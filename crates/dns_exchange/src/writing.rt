@@ -1,17 +1,19 @@
-ghost use Rattle.std.specs.Prelude.{◌≡◌, []};
+ghost use Rattle.std.specs.Prelude.{◌≡◌};
+ghost use Rattle.dns_mux.specs.Multiplexers.{machine_of, draws_of};
 ghost use Rattle.dns_transport.specs.Links.{link_view};
 ghost use Rattle.dns_transport.specs.StreamViews.{link_of, state_of};
-ghost use Rattle.dns_exchange.specs.Cores.{core_of, draws_of};
-ghost use Rattle.dns_exchange.specs.Steps.{IsPopped, Writes};
+ghost use Rattle.dns_exchange.specs.Steps.{DrainsAll, IsPopped, WritesMessage, WritesOut};
+ghost use Rattle.dns_exchange.specs.Writes.{IsIdle};
 
 use dns_handle::NetError;
 use dns_link::Link;
 use dns_mux::{BufDnsStreamHandle, DnsMultiplexer, Draws, SerialMessage};
 use dns_transport::TcpStream;
+use std::alloc::Global;
 
 /// Writes all that waits in a stream's queue.
 fn drain_all<L: Link + Drop>(stream: &mut TcpStream<L>) -> Result<(), NetError>
-    ensures { Writes (link_view L.counts L.given L.left L.taken) (link_of stream.old) (link_of stream.new)
+    ensures { DrainsAll (link_view L.counts L.given L.left L.taken) (link_of stream.old) (link_of stream.new)
         (state_of stream.old) (state_of stream.new) result }
 {
     'write: loop {
@@ -21,15 +23,16 @@ fn drain_all<L: Link + Drop>(stream: &mut TcpStream<L>) -> Result<(), NetError>
     }
 }
 
-/// Writes a message; one without a byte is none.
+/// Writes a message to the other side; one without a byte is none.
 fn write_message<L: Link + Drop>(
     stream: &mut TcpStream<L>,
     handle: &mut BufDnsStreamHandle,
     message: SerialMessage,
 ) -> Result<(), NetError>
-    requires { (state_of stream.old).queue ≡ [] }
-    ensures written { Writes (link_view L.counts L.given L.left L.taken) (link_of stream.old) (link_of stream.new)
-        (state_of stream.old) (state_of stream.new) result }
+    requires idle { IsIdle (state_of stream.old) }
+    requires peer { handle.old.addr ≡ (state_of stream.old).peer }
+    ensures written { WritesMessage (link_view L.counts L.given L.left L.taken) (link_of stream.old) (link_of stream.new)
+        (state_of stream.old) (state_of stream.new) message.bytes result }
     ensures handle { handle.new ≡ handle.old }
 {
     if message.bytes.is_empty() {
@@ -41,19 +44,20 @@ fn write_message<L: Link + Drop>(
 
 /// Writes all that waits in a stream's queue, and then what the multiplexer has to send, a message at a time.
 pub(crate) fn write_out<L: Link + Drop, R: Draws + Drop>(
+    alloc: Global,
     stream: &mut TcpStream<L>,
-    handle: &mut BufDnsStreamHandle,
     multiplexer: &mut DnsMultiplexer<R>,
 ) -> Result<(), NetError>
-    ensures written { Writes (link_view L.counts L.given L.left L.taken) (link_of stream.old) (link_of stream.new)
-        (state_of stream.old) (state_of stream.new) result }
-    ensures handle { handle.new ≡ handle.old }
-    ensures popped { IsPopped (core_of multiplexer.old) (core_of multiplexer.new) }
+    ensures written { WritesOut (link_view L.counts L.given L.left L.taken) (link_of stream.old) (link_of stream.new)
+        (state_of stream.old) (state_of stream.new)
+        (machine_of multiplexer.old).state.outbound (machine_of multiplexer.new).state.outbound result }
+    ensures popped { IsPopped (machine_of multiplexer.old) (machine_of multiplexer.new) }
     ensures draws { draws_of multiplexer.new ≡ draws_of multiplexer.old }
 {
     drain_all(stream)?;
+    let (mut handle, _) = BufDnsStreamHandle::new(alloc, stream.peer_addr());
     'message: while let Some(message) = multiplexer.pop_outbound() {
-        write_message(stream, handle, message)?;
+        write_message(stream, &mut handle, message)?;
     }
     Ok(())
 }

@@ -1,10 +1,8 @@
-use Rattle.std.proofs.Common.{refl, sym, ap, ◌∙◌}
+use Rattle.std.proofs.Common.{refl, sym, ◌∙◌}
 use Rattle.std.proofs.lemmas.Result.{err_from_is_err_and}
-use Rattle.dns_mux.specs.Draws.{CoreValue}
-use Rattle.dns_exchange.specs.Cores.{core_of}
+use Rattle.dns_mux.specs.Multiplexers.{machine_of}
 use Rattle.dns_exchange.specs.Exchanges.{Unconnected}
 use Rattle.dns_exchange.proofs.CarryLemmas.{exchanged_refused, exchanged_sent}
-use Rattle.dns_exchange.proofs.OursLemmas.{cancelled_ends}
 use Rattle.dns_exchange.proofs.carrying.exchange.Goals as goal
 
 pub returns-then-is_shutdown : goal.returns-then-is_shutdown
@@ -18,11 +16,7 @@ returns-in_err-number g c =
 
 pub returns : goal.returns
 returns g c =
-    let open_ = sym c.is_shutdown.ensures ∙ c.if-is_shutdown.false in
-    exchanged_sent _ _ _ _ _ _ _ _ (core_of c.send_message.new.self) _ _ open_ c.in_ok-number.ensures.sent
-    (ap (λ (core : CoreValue). core.is_shutdown) c.in_ok-number.ensures.kept ∙ open_)
-    (sym c.cancel.ensures.draws ∙ c.carry-reply.ensures.draws)
-    (ap (λ (core : CoreValue). core.is_shutdown) c.cancel.ensures.kept) c.carry-reply.ensures.carried
-    (ap (λ (core : CoreValue). core.settings) c.cancel.ensures.kept ∙ c.carry-reply.ensures.settings
-    ∙ ap (λ (core : CoreValue). core.settings) c.in_ok-number.ensures.kept)
-    (cancelled_ends _ _ _ _ c.cancel.ensures.cancelled)
+    exchanged_sent _ _ _ _ _ _ _ _ (machine_of c.send_message.new.self) (machine_of c.carry-reply.new.multiplexer) _
+    (sym c.is_shutdown.ensures ∙ c.if-is_shutdown.false) c.in_ok-number.ensures.sent c.in_ok-number.ensures.kept
+    (sym c.cancel.ensures.draws ∙ c.carry-reply.ensures.draws) c.carry-reply.ensures.carried
+    c.carry-reply.ensures.settings c.carry-reply.ensures.lives c.cancel.ensures.cancelled c.cancel.ensures.kept

@@ -21,8 +21,8 @@ returns-in-Message g c =
     let bytes = ap (λ (m : SerialMessageValue). m.bytes) c.message.view_is in
     let last = last_read _ _ _ _ _ _ (rw c.in-Message.is at c.in_ok-feed.ensures.fed) in
     rw bytes (
-      reading_last _ _ _ _ _ _ _ _ c.frame.invariant (rw c.in-Message.is at c.in_ok-feed.ensures.framed) last,
-      rw c.in-Message.is at c.in_ok-feed.ensures.fits,
+      reading_last _ _ _ _ _ _ _ _ c.frame.invariant (rw c.in-Message.is at c.in_ok-feed.ensures.framed)
+          (rw c.in-Message.is at c.in_ok-feed.ensures.fits) last,
       last.used,
     )
 

@@ -10,7 +10,7 @@ abbrev pub invariant-frame : goal.invariant-frame
 invariant-frame g l =
     IsReading (sight (link_view g.L.Link.counts g.L.Link.given g.L.Link.left g.L.Link.taken) (link_of l.fn.stream))
     (sight (link_view g.L.Link.counts g.L.Link.given g.L.Link.left g.L.Link.taken) (link_of l.stream))
-    (state_of l.fn.stream).part (state_of l.stream).part
+    (state_of l.fn.stream) (state_of l.stream)
 
 -- a part is shorter than a frame and a byte
 abbrev pub decreases-frame : goal.decreases-frame
