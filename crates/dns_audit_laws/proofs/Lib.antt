@@ -1,0 +1,5 @@
+mod WrittenLines
+mod WrittenWords
+mod WrittenForms
+mod WrittenParts
+mod WrittenLaw

@@ -1,0 +1,13 @@
+//! The law of reports that are written and read again. It is the contract of a function that does nothing.
+ghost use Rattle.std.specs.Prelude.{◌≡◌, IsTrue, Ok};
+ghost use Rattle.dns_report.specs.View.{View, fitting_view};
+ghost use Rattle.dns_report.specs.Report.{view_text};
+ghost use Rattle.dns_audit.specs.ReportGrammar.{report_of};
+ghost use Rattle.dns_audit_laws.specs.Written.{report_shown, short_view};
+
+/// A law: what is written is read back. The report of a view is read as all that the view shows, where the view's fields have
+/// their widths, no rdata has more than 65,535 bytes, and no chain and no trail more than 4,294,967,295 parts.
+pub fn what_is_written_is_read_back()
+    ensures { (v : View) → IsTrue (fitting_view v) → IsTrue (short_view v)
+        → report_of (view_text v) ≡ Ok (report_shown v) }
+{}
