@@ -1,0 +1,3 @@
+pub mod OnceLemmas
+pub mod QuestionLemmas
+pub mod AskingLemmas
