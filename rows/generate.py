@@ -93,6 +93,20 @@ def hundred_chains():
     return by_one_key(signed), texts.report(lines, chains), 0
 
 
+def audit_of_a_hundred_chains():
+    """A hundred chains behind their session."""
+    session, report, _ = hundred_chains()
+    return session + report, b"".join(b"chain %d yes\n" % place for place in range(report.count(b"\nchain "))), 0, b"audit\n"
+
+
+def asked_of_a_hundred_sets():
+    """The questions of as many signed sets, in their order."""
+    session, _, _ = hundred_chains()
+    lines = [line for line in session.splitlines(True) if line.startswith(b"accept ")]
+    bare = b"".join(line for line in session.splitlines(True) if not line.startswith(b"accept "))
+    return bare, b"dns-questions 1\n" + b"".join(lines) + b"end\n", 0, b"questions\n"
+
+
 def more_sends_than_are_made():
     """Each set of the answer asks for the root's keys, and no ask is made past the 1,024th send."""
     signed = signed_addresses(1_050)
@@ -328,7 +342,7 @@ def line_with_a_word_of_300_letters():
     return with_bad_line("r" * 300 + " . A -", ["moment 1", "algorithms", "query . A"])
 
 
-MADE = (forty_keys, sixty_links, two_hundred_sets, hundred_chains, more_sends_than_are_made, name_of_127_labels,
+MADE = (forty_keys, sixty_links, two_hundred_sets, hundred_chains, audit_of_a_hundred_chains, asked_of_a_hundred_sets, more_sends_than_are_made, name_of_127_labels,
         longest_message, thousand_anchors, longest_input, input_of_a_byte_too_many, line_of_sixteen_mebibytes,
         asks_that_are_refused, searches_past_the_last_send, walk.four_hundred_copies_of_a_key,
         walk.four_hundred_copies_and_no_other, walk.ds_ask_past_the_last_send, walk.deepest_keys_beside_their_own_ds,

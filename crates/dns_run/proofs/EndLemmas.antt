@@ -1,5 +1,5 @@
 -- What a session must end with, out of how a run ended.
-use Rattle.std.proofs.Common.{ℕ, ◌≡◌, ◌≢◌, ◌≤◌, ◌∙◌, Bool, true, false, zero, suc, List, Option, None, Some, Result, Ok, Err, refl, sym, ap, subst, arith}
+use Rattle.std.proofs.Common.{ℕ, ◌≡◌, ◌≢◌, ◌≤◌, ◌∙◌, true, zero, suc, List, Option, None, Some, Result, Ok, Err, refl, sym, ap, subst, arith}
 use Rattle.std.specs.Io.KnownBytes.{Appends}
 use Rattle.dns_model.specs.SoundAnswers.{Told, ResponseValue}
 use Rattle.dns_model.specs.Trails.{Answered, Denied}
@@ -147,7 +147,8 @@ foreign_only s error x f (NotDenied response proof given is) =
 
 only_foreign : (s : SessionValue) (error : ErrorValue) → HasForeign s error → OnlyFault s error
 only_foreign s error f = record {
-  no_answer = λ answer given. not_true answer (trail_foreign s answer.trail (Answered answer.denial) f.records f.first given.trail f.told f.found);
+  no_answer = λ answer given. not_true answer
+      (trail_foreign s answer.trail (Answered answer.denial) f.records f.first given.trail f.told f.found);
   only = λ x cause. foreign_only s error x f cause;
 }
   where
@@ -221,7 +222,8 @@ ends_bad_line shows status (Some bytes) before now says = λ number read.
 
 pub ends_by_grammar : (shows : Parts) (status : ℕ) (told before now : Option (List ℕ))
     → Says shows status told before now → EndsByGrammar status told before now
-ends_by_grammar shows status told before now says = record { only = says.grammar; always = ends_bad_line shows status told before now says }
+ends_by_grammar shows status told before now says =
+    record { only = says.grammar; always = ends_bad_line shows status told before now says }
 
 -- ---- by the words
 

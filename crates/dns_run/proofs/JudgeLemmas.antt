@@ -1,5 +1,6 @@
--- A session's judge is that of its plain lists: that a key is added once, an algorithm once and algorithm 1 never changes no answer.
-use Rattle.std.proofs.Common.{ℕ, ◌≡◌, ◌⊎◌, ◌∙◌, Bool, true, false, cond, ◌&&◌, ◌||◌, List, [], ◌∷◌, ◌++◌, map, Option, None, Some, refl, sym, ap, ap₂, inl, inr, append_assoc, append-nil}
+-- A session's judge is that of its plain lists: that a key is added once, an algorithm once and algorithm 1 never changes no
+-- answer.
+use Rattle.std.proofs.Common.{ℕ, ◌≡◌, ◌⊎◌, ◌∙◌, Bool, true, false, cond, ◌&&◌, ◌||◌, List, [], ◌∷◌, ◌++◌, Option, None, Some, refl, sym, ap, ap₂, inl, inr, append_assoc, append-nil}
 use Rattle.std.specs.Prelude.{not, ◌==◌, nat_eq}
 use Rattle.std.specs.List.{list_any}
 use Rattle.std.specs.Cmp.Lexicographic.{pointwise}

@@ -6,3 +6,4 @@ pub mod CauseLemmas
 pub mod TopLemmas
 pub mod EndLemmas
 pub mod CompletingLemmas
+pub mod TaskLemmas

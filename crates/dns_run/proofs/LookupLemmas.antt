@@ -1,8 +1,8 @@
 -- What a lookup of a session's query answers: out of the clauses of a lookup.
-use Rattle.std.proofs.Common.{ℕ, ◌≡◌, ◌≢◌, ◌⊎◌, ◌∙◌, Bool, true, false, List, map, Option, None, Some, IfSome, IfOk, Result, Ok, Err, refl, sym, ap, subst, inl, inr}
+use Rattle.std.proofs.Common.{ℕ, ◌≡◌, ◌≢◌, ◌⊎◌, ◌∙◌, List, map, Option, None, Some, IfSome, IfOk, Result, Ok, Err, refl, sym, ap, subst, inl, inr}
 use Rattle.dns_model.specs.Keys.{anchored}
-use Rattle.dns_model.specs.Records.{Rr, Question}
-use Rattle.dns_model.specs.SoundAnswers.{Told, told_by, Sound, ResponseValue}
+use Rattle.dns_model.specs.Records.{Question}
+use Rattle.dns_model.specs.SoundAnswers.{told_by, Sound, ResponseValue}
 use Rattle.dns_model.specs.Chains.{judge}
 use Rattle.dns_model.specs.Trails.{AskedValue, EndingValue, Answered, Denied}
 use Rattle.dns_rules.specs.Asking.{Limits}
@@ -29,7 +29,7 @@ use Rattle.dns_lookup.specs.Sends.{IsFromReplies}
 use Rattle.dns_lookup.specs.Causes.{PassedOn, PassesOn, NamesForeign, ForeignNamed, HasItsCause, AnswersTold}
 use Rattle.dns_lookup.specs.LookupAnswers.{UnlessNoMemory, OfAnswer, IsSoundAnswer, IsTrail, HasMarksOfTrail, IsExplained, ShowsItsDenial, DeniesQuery}
 use Rattle.dns_session.specs.SessionValue.{SessionValue}
-use Rattle.dns_run.specs.Replies.{recorded, session_told, session_records}
+use Rattle.dns_run.specs.Replies.{recorded, session_told}
 use Rattle.dns_run.specs.Soundness.{listing, session_judge, IsSound}
 use Rattle.dns_run.specs.Answering.{recorded_by, session_replies, session_depth, session_limits, IsSessionTrail, IsSessionAnswer}
 use Rattle.dns_run.specs.Causes.{HasNoMessage, FaultCause, NoMessage, OtherClass, NotDenied, AnswersSession}
@@ -218,7 +218,8 @@ error_cause meanings s call Truncated c says own =
 error_cause meanings s call seen.NoMemory c says own = absurd (own refl)
 
 session_caused : {H : Type 0} (meanings : handle.Ghosts H) (s : SessionValue) (call : Call H) (answer : Reply)
-    → IsSessionCall meanings s call → SaysOf meanings call answer → (e : ErrorValue) → answer ≡ Err e → e ≢ seen.NoMemory → FaultCause s e
+    → IsSessionCall meanings s call → SaysOf meanings call answer → (e : ErrorValue) → answer ≡ Err e → e ≢ seen.NoMemory
+    → FaultCause s e
 session_caused meanings s call answer c says e is own =
     error_cause meanings s call e c (subst (λ x. SaysOf meanings call x) is says) own
 
@@ -281,7 +282,8 @@ pub answers_looked : (meanings : handle.Ghosts RecordedValue) (tests : verifier.
     → tests.answers (verifier_of old) ≡ answers_of (verifier_of old)
     → inner_of old ≡ recorded_by s.by_turn s.replies → anchored (anchors_of old) ≡ anchored s.anchors
     → answers_of (verifier_of old) ≡ answers_of (listing s.algorithms s.accepts) → q ≡ s.query
-    → iterations_of old ≡ default_iterations → options ≡ record plain_options { max_request_depth = session_depth s } → now ≡ s.moment
+    → iterations_of old ≡ default_iterations → options ≡ record plain_options { max_request_depth = session_depth s }
+    → now ≡ s.moment
     → SaysOf meanings (call_of tests old new q options now) (reply_of result)
     → UnlessNoMemory result (Known (meanings.told (inner_of old)) q (reply_of result))
     → UnlessNoMemory result (AnswersSession s (reply_of result))

@@ -11,11 +11,16 @@ report_derived : (shows : Parts) (before now : Option (List ℕ)) (bytes : List 
     → Wrote before now (Derives shows bytes) → Wrote before now (Reports shows bytes)
 report_derived shows before now bytes wrote =
     let l : Derives shows bytes wrote.text = wrote.fact in
-    record { text = wrote.text; fact = record { session = l.session; read = l.read; report = l.report.report }; written = wrote.written }
+    record {
+      text = wrote.text;
+      fact = record { session = l.session; read = l.read; report = l.report.report };
+      written = wrote.written;
+    }
 
 pub leaves_reports : (shows : Parts) (told before now : Option (List ℕ)) → Leaves (Derives shows) told before now
     → Leaves (Reports shows) told before now
-leaves_reports shows None before now some = record { bytes = some.bytes; fact = report_derived shows before now some.bytes some.fact }
+leaves_reports shows None before now some =
+    record { bytes = some.bytes; fact = report_derived shows before now some.bytes some.fact }
 leaves_reports shows (Some bytes) before now wrote = report_derived shows before now bytes wrote
 
 -- nothing was written

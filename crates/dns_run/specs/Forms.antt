@@ -1,16 +1,20 @@
 -- The words that the program takes, and its fixed texts.
-use Rattle.std.specs.Prelude.{ℕ, ◌≡◌, ◌≢◌, List, [], ◌∷◌, ◌&&◌, map, codes, Vec, Option, None, Some, if◌then◌else◌}
+use Rattle.std.specs.Prelude.{ℕ, ◌≡◌, List, [], ◌∷◌, ◌&&◌, map, codes, Vec, Option, None, Some, if◌then◌else◌}
 use Rattle.dns_model.specs.Keys.{bytes_eq}
 use Rattle.dns_report.specs.declared.parts.Parts.{Parts}
 use Rattle.dns_report.specs.declared.parts.Parts.TheVariants.{Answer, WithTrail}
 use Rattle.dns_run.specs.declared.form.Form.{Form}
-use Rattle.dns_run.specs.declared.form.Form.TheVariants.{Validate, Help, Version}
+use Rattle.dns_run.specs.declared.form.Form.TheVariants.{Validate, Task, Help, Version}
+use Rattle.dns_run.specs.declared.task.Task.{Task as TaskKind}
+use Rattle.dns_run.specs.declared.task.Task.TheVariants.{Audit, Questions}
 use Rattle.dns_io.specs.Runs.{Asked, AnInput, FixedText}
 
 -- what one word asks for
 abbrev pub form_named : List ℕ → Option Form
 form_named word =
     if bytes_eq word (codes "validate") then Some (Validate Answer)
+    else if bytes_eq word (codes "audit") then Some (Task Audit)
+    else if bytes_eq word (codes "questions") then Some (Task Questions)
     else if bytes_eq word (codes "--help") then Some Help
     else if bytes_eq word (codes "--version") then Some Version
     else None
@@ -34,9 +38,14 @@ asked_form words = form_in (map (λ w. w.items) words)
 abbrev pub IfValidates : {Z : Type 0} → List (Vec ℕ Z) → (Parts → Type 0) → Type 0
 IfValidates words Fact = (shows : Parts) → asked_form words ≡ Some (Validate shows) → Fact shows
 
--- a session to answer, or else a text that is always the same
+-- a fact of the task, where the words ask for one
+abbrev pub IfTask : {Z : Type 0} → List (Vec ℕ Z) → (TaskKind → Type 0) → Type 0
+IfTask words Fact = (task : TaskKind) → asked_form words ≡ Some (Task task) → Fact task
+
+-- an input to work on, or else a text that is always the same
 abbrev pub form_asks : Option Form → Asked
 form_asks (Some (Validate shows)) = AnInput
+form_asks (Some (Task task)) = AnInput
 form_asks _ = FixedText
 
 abbrev pub words_ask : {Z : Type 0} → List (Vec ℕ Z) → Asked
@@ -44,7 +53,7 @@ words_ask words = form_asks (asked_form words)
 
 abbrev pub help_text : List ℕ
 help_text =
-    codes "dns_check validate        reads a session and writes the report of its lookup\ndns_check validate trail  the same, and how the lookup came about, step by step\ndns_check --help          writes these lines\ndns_check --version       writes the name and the version\n"
+    codes "dns_check validate        reads a session and writes the report of its lookup\ndns_check validate trail  the same, and how the lookup came about, step by step\ndns_check audit           reads a session and a report behind it, and writes which of its parts hold\ndns_check questions       reads a session and writes which signatures a verifier must be asked for\ndns_check --help          writes these lines\ndns_check --version       writes the name and the version\n"
 
 abbrev pub version_text : List ℕ
 version_text = codes "dns_check 0.1.0\n"

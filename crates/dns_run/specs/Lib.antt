@@ -8,3 +8,4 @@ pub mod Outcomes
 pub mod Endings
 pub mod Runs
 pub mod Completing
+pub mod Tasks

@@ -1,5 +1,5 @@
 -- What a session's upstream replies (RFC 1035, 4.1.1; RFC 2308, 2).
-use Rattle.std.specs.Prelude.{[], Option, None, Some, Result, Ok, Err}
+use Rattle.std.specs.Prelude.{[], Option, Result, Ok, Err}
 use Rattle.std.specs.List.{find}
 use Rattle.dns_model.specs.declared.denial.Denial.TheVariants as denied
 use Rattle.dns_model.specs.Records.{Question, MessageValue, question_eq}

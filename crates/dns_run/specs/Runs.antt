@@ -1,5 +1,5 @@
 -- How a run ends: by its words, over a session (RFC 4035, 4.3 and 5.4), and over bytes that are none.
-use Rattle.std.specs.Prelude.{ℕ, ◌≡◌, ◌≢◌, ◌<◌, ◌≤◌, true, List, length, Option, None, Some, IfSome, Ok, Err}
+use Rattle.std.specs.Prelude.{ℕ, ◌≡◌, ◌≢◌, ◌≤◌, true, List, Option, None, Some, Ok, Err}
 use Rattle.std.specs.Io.KnownBytes.{Appends}
 use Rattle.dns_model.specs.SoundAnswers.{Told}
 use Rattle.dns_rules.specs.Outcome.{foreign_record}
@@ -9,10 +9,9 @@ use Rattle.dns_report.specs.Faults.{fault_text}
 use Rattle.dns_session.specs.SessionValue.{SessionValue}
 use Rattle.dns_session.specs.Grammar.{session_of}
 use Rattle.dns_session.specs.Stops.{bad_line_text}
-use Rattle.dns_io.specs.Reading.{input_limit, too_long_text}
 use Rattle.dns_io.specs.Writing.{bad_words_text, WritesText}
 use Rattle.dns_run.specs.declared.form.Form.{Form}
-use Rattle.dns_run.specs.declared.form.Form.TheVariants.{Validate, Help, Version}
+use Rattle.dns_run.specs.declared.form.Form.TheVariants.{Validate, Task, Help, Version}
 use Rattle.dns_run.specs.Forms.{help_text, version_text}
 use Rattle.dns_run.specs.Replies.{session_records}
 use Rattle.dns_run.specs.Causes.{HasNoMessage, HasForeign}
@@ -23,6 +22,7 @@ use Rattle.dns_run.specs.Outcomes.{Leaves, Refuses}
 -- how words end that ask for a text, or for nothing; status 2 is for the latter alone
 abbrev pub EndsByWords : Option Form → ℕ → Option (List ℕ) → Option (List ℕ) → Type 0
 EndsByWords (Some (Validate shows)) status before now = status ≢ 2
+EndsByWords (Some (Task task)) status before now = status ≢ 2
 EndsByWords (Some Help) status before now = WritesText status 0 before now help_text
 EndsByWords (Some Version) status before now = WritesText status 0 before now version_text
 EndsByWords None status before now = WritesText status 2 before now bad_words_text

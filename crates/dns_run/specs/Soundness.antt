@@ -1,5 +1,5 @@
 -- What the answer to a session is worth (RFC 4035, 5): by what it is judged, and for which records.
-use Rattle.std.specs.Prelude.{ℕ, ◌≡◌, List, map, Some}
+use Rattle.std.specs.Prelude.{ℕ, ◌≡◌, List, Some}
 use Rattle.dns_model.specs.Records.{MessageValue}
 use Rattle.dns_model.specs.Chains.{Judge, judge}
 use Rattle.dns_model.specs.SoundAnswers.{told_by, Sound, ResponseValue}

@@ -2,6 +2,7 @@
 ghost use Rattle.std.specs.Prelude.{◌≡◌};
 ghost use Rattle.dns_run.specs.Forms.{asked_form, form_named, form_of_two, help_text, version_text};
 
+use crate::task::Task;
 use dns_report::Parts;
 
 /// What the program is asked for.
@@ -9,6 +10,8 @@ use dns_report::Parts;
 pub enum Form {
     /// To answer a session, by a report that shows so much.
     Validate(Parts),
+    /// To do another task on an input.
+    Task(Task),
     /// To tell its forms.
     Help,
     /// To tell its version.
@@ -21,6 +24,12 @@ fn form_named(word: &[u8]) -> Option<Form>
 {
     if word == b"validate".as_slice() {
         return Some(Form::Validate(Parts::Answer));
+    }
+    if word == b"audit".as_slice() {
+        return Some(Form::Task(Task::Audit));
+    }
+    if word == b"questions".as_slice() {
+        return Some(Form::Task(Task::Questions));
     }
     if word == b"--help".as_slice() {
         return Some(Form::Help);
@@ -56,7 +65,7 @@ pub(crate) fn form_of(words: &[Vec<u8>]) -> Option<Form>
 pub(crate) fn help_text() -> &'static [u8]
     ensures { result.now ≡ help_text }
 {
-    b"dns_check validate        reads a session and writes the report of its lookup\ndns_check validate trail  the same, and how the lookup came about, step by step\ndns_check --help          writes these lines\ndns_check --version       writes the name and the version\n"
+    b"dns_check validate        reads a session and writes the report of its lookup\ndns_check validate trail  the same, and how the lookup came about, step by step\ndns_check audit           reads a session and a report behind it, and writes which of its parts hold\ndns_check questions       reads a session and writes which signatures a verifier must be asked for\ndns_check --help          writes these lines\ndns_check --version       writes the name and the version\n"
 }
 
 /// The program's name and version.

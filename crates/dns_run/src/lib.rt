@@ -7,10 +7,13 @@
 #![tactic(auto)]
 
 mod answering;
+mod audit;
 mod form;
 mod outcome;
 mod program;
+mod questions;
 mod replies;
+mod task;
 
 pub use answering::{
     SessionLookup, session_anchors, session_answer, session_lookup, session_options,

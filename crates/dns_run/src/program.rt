@@ -3,12 +3,14 @@ ghost use Rattle.std.specs.Prelude.{◌≡◌, ◌≢◌, ◌≤◌, length};
 ghost use Rattle.dns_io.specs.Reading.{input_limit};
 ghost use Rattle.dns_io.specs.Runs.{outside, AnInput, KeepsOutside, KeepsSink};
 ghost use Rattle.dns_run.specs.Completing.{IsValid, EndsSecurely};
-ghost use Rattle.dns_run.specs.Forms.{asked_form, words_ask, IfValidates};
+ghost use Rattle.dns_run.specs.Forms.{asked_form, words_ask, IfTask, IfValidates};
 ghost use Rattle.dns_run.specs.Outcomes.{Leaves, LeavesPrefix, Wrote, WrotePrefix, ComesTo, Reports, Derives, Fails, Refuses};
 ghost use Rattle.dns_run.specs.Runs.{EndsAsSession, EndsByGrammar, EndsByWords, IfSession};
+ghost use Rattle.dns_run.specs.Tasks.{EndsTask};
 
 use crate::form::{Form, form_of, help_text, version_text};
 use crate::outcome::{InputEnding, session_ending};
+use crate::task::do_task;
 use dns_io::status::{self, read_status, refuse_long, refuse_words, write_text};
 use dns_io::{ReadStop, Sink, Source, read_all};
 use dns_name::NoMemory;
@@ -92,6 +94,12 @@ pub fn run<S: Source, W: Sink>(
     ensures grammar { IfValidates words.now (λ shows.
         EndsByGrammar result (S.left input.old) (W.taken output.old) (W.taken output.new)) }
 
+    // What a task must end with: 0 with the answers of the checks to the report behind a session, or with the questions of the
+    // session's trail; and 3, and an input that is outside the grammar. An audit never ends with 1, questions only for an error
+    // without a trail.
+    ensures task { IfTask words.now (λ task.
+        EndsTask task result (S.left input.old) (W.taken output.old) (W.taken output.new)) }
+
     // Words that ask for a text, or for nothing: 2 is for the latter alone.
     ensures words { EndsByWords (asked_form words.now) result (W.taken output.old) (W.taken output.new) }
 
@@ -105,6 +113,7 @@ pub fn run<S: Source, W: Sink>(
 {
     match form_of(words) {
         Some(Form::Validate(shows)) => validate(alloc, shows, input, output),
+        Some(Form::Task(task)) => do_task(alloc, task, input, output),
         Some(Form::Help) => write_text(status::DONE, help_text(), output),
         Some(Form::Version) => write_text(status::DONE, version_text(), output),
         None => refuse_words(output),

@@ -36,7 +36,7 @@ const ROWS_1: [Row; 9] = [
         words: &["--help"],
         session: b"",
         status: 0,
-        text: b"dns_check validate        reads a session and writes the report of its lookup\ndns_check validate trail  the same, and how the lookup came about, step by step\ndns_check --help          writes these lines\ndns_check --version       writes the name and the version\n",
+        text: b"dns_check validate        reads a session and writes the report of its lookup\ndns_check validate trail  the same, and how the lookup came about, step by step\ndns_check audit           reads a session and a report behind it, and writes which of its parts hold\ndns_check questions       reads a session and writes which signatures a verifier must be asked for\ndns_check --help          writes these lines\ndns_check --version       writes the name and the version\n",
     },
     Row {
         name: "no-bytes",

@@ -1,0 +1,240 @@
+-- What a run over an input leaves that does a task, out of what bytes come to.
+use Rattle.std.proofs.Common.{◌≡◌, ◌<◌, ◌≤◌, ◌⊎◌, ◌∙◌, Bool, false, ℕ, List, [], Option, None, Some, IfSome, Result, Ok, Err, length, refl, sym, ap, subst, arith, inl, inr}
+use Rattle.std.specs.Io.KnownBytes.{Appends}
+use Rattle.dns_model.specs.Chains.{judge}
+use Rattle.dns_model.specs.Records.{Question}
+use Rattle.dns_model.specs.SoundAnswers.{ResponseValue}
+use Rattle.dns_model.specs.Trails.{AskedValue, Answered, Denied}
+use Rattle.dns_model.specs.declared.proof.Proof.{Proof}
+use Rattle.dns_evidence.specs.Listing.{ListedValue, answers_of}
+use Rattle.dns_handle.specs.ErrorKinds.{is_no_memory}
+use Rattle.dns_handle.specs.Errors as seen
+use Rattle.dns_handle.specs.Errors.{ErrorValue, Dns, Nsec}
+use Rattle.dns_handle.specs.Replies.{error_of}
+use Rattle.dns_handle.specs.declared.error.NetError.{NetError}
+use Rattle.dns_handle.specs.declared.error.NetError.TheVariants.{NoMemory}
+use Rattle.dns_handle.proofs.ErrorLemmas.{untold_no_memory}
+use Rattle.dns_audit.specs.ReportValue.{ReportValue}
+use Rattle.dns_audit.specs.ReportGrammar.{audit_of}
+use Rattle.dns_io.specs.Reading.{input_limit, too_long_text, OfInput}
+use Rattle.dns_io.specs.Writing.{TakesPrefix}
+use Rattle.dns_io.proofs.Leaving.{of_read, of_any, of_long, nothing_taken}
+use Rattle.dns_questions.specs.Questions.{questions}
+use Rattle.dns_questions.specs.QuestionsText.{questions_text}
+use Rattle.dns_report.specs.Faults.{fault_text}
+use Rattle.dns_session.specs.SessionValue.{SessionValue}
+use Rattle.dns_session.specs.Grammar.{session_of}
+use Rattle.dns_run.specs.declared.task.Task.{Task}
+use Rattle.dns_run.specs.declared.task.Task.TheVariants.{Audit, Questions}
+use Rattle.dns_run.specs.Causes.{AnswersSession}
+use Rattle.dns_run.specs.Outcomes.{Fails, Leaves, Wrote, WrotePrefix}
+use Rattle.dns_run.specs.Soundness.{listing}
+use Rattle.dns_run.specs.Tasks.{AuditEnds, QuestionsEnd, AnswersQuestions, Listed, Failed, question_judge, denied_trail, TaskEnds, TaskTells, Ended, TooLong, Nothing, EndsTask}
+
+-- ---- what bytes come to, written
+
+pub ended_wrote : (task : Task) (bytes text : List ℕ) (expected status : ℕ) (before now : Option (List ℕ))
+    → TaskEnds task bytes expected text → status ≡ expected → Appends before now text
+    → Wrote before now (TaskEnds task bytes status)
+ended_wrote task bytes text expected status before now ends same written = record {
+  text = text;
+  fact = subst (λ n. TaskEnds task bytes n text) (sym same) ends;
+  written = written;
+}
+
+pub ended_prefix : (task : Task) (bytes text : List ℕ) (status : ℕ) (before now : Option (List ℕ))
+    → TaskEnds task bytes status text → TakesPrefix before now text
+    → WrotePrefix before now (TaskTells task bytes)
+ended_prefix task bytes text status before now ends taken =
+    record { text = text; fact = Ended status ends; written = taken }
+
+-- nothing was written
+pub nothing_ended : (task : Task) (bytes : List ℕ) (before : Option (List ℕ))
+    → WrotePrefix before before (TaskTells task bytes)
+nothing_ended task bytes before = record { text = []; fact = Nothing refl; written = nothing_taken before [] }
+
+-- ---- over the input that the source told
+
+pub read_ends : (task : Task) (told : Option (List ℕ)) (bytes : List ℕ) (status : ℕ) (before now : Option (List ℕ))
+    → IfSome told (λ left. bytes ≡ left) → (status < 4 → Wrote before now (TaskEnds task bytes status))
+    → WrotePrefix before now (TaskTells task bytes) → EndsTask task status told before now
+read_ends task told bytes status before now same wrote prefix = record {
+  ends = λ low. of_read (λ bs. Wrote before now (TaskEnds task bs status)) told bytes same (wrote low);
+  prefix = of_read (λ bs. WrotePrefix before now (TaskTells task bs)) told bytes same prefix;
+}
+
+pub long_ends : (task : Task) (told : Option (List ℕ)) (status : ℕ) (before now : Option (List ℕ)) → 5 ≤ status
+    → IfSome told (λ left. input_limit < length left) → TakesPrefix before now too_long_text
+    → EndsTask task status told before now
+long_ends task told status before now least long taken = record {
+  ends = λ low. absurd (omega arith);
+  prefix = of_long (λ bs. WrotePrefix before now (TaskTells task bs)) told long
+      (λ bytes more. record { text = too_long_text; fact = TooLong more refl; written = taken });
+}
+
+pub stopped_ends : (task : Task) (told : Option (List ℕ)) (status : ℕ) (before : Option (List ℕ)) → 4 ≤ status
+    → EndsTask task status told before before
+stopped_ends task told status before least = record {
+  ends = λ low. absurd (omega arith);
+  prefix = of_any (λ bs. WrotePrefix before before (TaskTells task bs)) told (λ bytes. nothing_ended task bytes before);
+}
+
+-- ---- what follows for single statuses
+
+less_differs : (m n : ℕ) → m < n → m ≡ n → ⊥
+less_differs m n less same = omega (arith, less, same)
+
+audit_fault : (read : Result (SessionValue × ReportValue) ℕ) (text : List ℕ) → AuditEnds read 1 text → ⊥
+audit_fault (Ok read) text ends = less_differs 0 1 (omega arith) (sym ends.done)
+audit_fault (Err number) text ends = less_differs 1 3 (omega arith) ends.refused
+
+audit_form : (read : Result (SessionValue × ReportValue) ℕ) (text : List ℕ) → AuditEnds read 2 text → ⊥
+audit_form (Ok read) text ends = less_differs 0 2 (omega arith) (sym ends.done)
+audit_form (Err number) text ends = less_differs 2 3 (omega arith) ends.refused
+
+questions_fault : (bytes : List ℕ) (read : Result SessionValue ℕ) (text : List ℕ) → session_of bytes ≡ read
+    → QuestionsEnd read 1 text → Fails bytes text
+questions_fault bytes (Ok s) text is (Listed done lists) = absurd (less_differs 0 1 (omega arith) (sym done))
+questions_fault bytes (Ok s) text is (Failed done bare) = record { session = s; read = is; fault = bare.fault }
+questions_fault bytes (Err number) text is ends = absurd (less_differs 1 3 (omega arith) ends.refused)
+
+questions_form : (read : Result SessionValue ℕ) (text : List ℕ) → QuestionsEnd read 2 text → ⊥
+questions_form (Ok s) text (Listed done lists) = less_differs 0 2 (omega arith) (sym done)
+questions_form (Ok s) text (Failed done bare) = less_differs 1 2 (omega arith) (sym done)
+questions_form (Err number) text ends = less_differs 2 3 (omega arith) ends.refused
+
+ends_fault : (task : Task) (bytes text : List ℕ) → TaskEnds task bytes 1 text → Fails bytes text
+ends_fault Audit bytes text ends = absurd (audit_fault (audit_of bytes) text ends)
+ends_fault Questions bytes text ends = questions_fault bytes (session_of bytes) text refl ends
+
+ends_form : (task : Task) (bytes text : List ℕ) → TaskEnds task bytes 2 text → ⊥
+ends_form Audit bytes text ends = audit_form (audit_of bytes) text ends
+ends_form Questions bytes text ends = questions_form (session_of bytes) text ends
+
+wrote_fault : (task : Task) (bytes : List ℕ) (before now : Option (List ℕ)) → Wrote before now (TaskEnds task bytes 1)
+    → Wrote before now (Fails bytes)
+wrote_fault task bytes before now wrote =
+    record { text = wrote.text; fact = ends_fault task bytes wrote.text wrote.fact; written = wrote.written }
+
+leaves_fault : (task : Task) (told before now : Option (List ℕ))
+    → OfInput told (λ bytes. Wrote before now (TaskEnds task bytes 1)) → Leaves Fails told before now
+leaves_fault task None before now some =
+    record { bytes = some.bytes; fact = wrote_fault task some.bytes before now some.fact }
+leaves_fault task (Some bytes) before now wrote = wrote_fault task bytes before now wrote
+
+leaves_form : (task : Task) (told before now : Option (List ℕ))
+    → OfInput told (λ bytes. Wrote before now (TaskEnds task bytes 2)) → ⊥
+leaves_form task None before now some = ends_form task some.bytes some.fact.text some.fact.fact
+leaves_form task (Some bytes) before now wrote = ends_form task bytes wrote.text wrote.fact
+
+-- 1 is answered only with the line of a session's error
+pub task_faults : (task : Task) (status : ℕ) (told before now : Option (List ℕ)) → EndsTask task status told before now
+    → status ≡ 1 → Leaves Fails told before now
+task_faults task status told before now ends is =
+    leaves_fault task told before now
+    (subst (λ n. OfInput told (λ bytes. Wrote before now (TaskEnds task bytes n))) is (ends.ends (omega (arith, is))))
+
+-- and 2 never
+pub task_forms : (task : Task) (status : ℕ) (told before now : Option (List ℕ)) → EndsTask task status told before now
+    → status ≡ 2 → ⊥
+task_forms task status told before now ends is =
+    leaves_form task told before now
+    (subst (λ n. OfInput told (λ bytes. Wrote before now (TaskEnds task bytes n))) is (ends.ends (omega (arith, is))))
+
+-- ---- the questions of an answer
+
+judged_alike : (s : SessionValue) (listed : ListedValue) (moment : ℕ) (trail : List AskedValue)
+    → answers_of listed ≡ answers_of (listing s.algorithms []) → moment ≡ s.moment
+    → questions_text (questions (judge (answers_of listed) [] moment) trail)
+    ≡ questions_text (questions (question_judge s) trail)
+judged_alike s listed moment trail lists at =
+    ap (λ answers. questions_text (questions (judge answers [] moment) trail)) lists
+    ∙ ap (λ n. questions_text (questions (judge (answers_of (listing s.algorithms [])) [] n) trail)) at
+
+pub answer_listed : (s : SessionValue) (answer : ResponseValue) (listed : ListedValue) (moment : ℕ) (text : List ℕ)
+    → AnswersSession s (Ok answer) → answers_of listed ≡ answers_of (listing s.algorithms []) → moment ≡ s.moment
+    → text ≡ questions_text (questions (judge (answers_of listed) [] moment) answer.trail) → AnswersQuestions s 0 text
+answer_listed s answer listed moment text given lists at is =
+    Listed refl (record {
+      trail = answer.trail;
+      ending = Answered answer.denial;
+      shown = refl;
+      is = given.answered.trail;
+      spelled = is ∙ judged_alike s listed moment answer.trail lists at;
+    })
+
+-- an error with a trail is a denial
+record IsDenial (error : ErrorValue) (trail : List AskedValue) : Type 0 where
+  asked : Question
+  response : ResponseValue
+  proof : Proof
+  is : error ≡ Dns (Nsec asked response proof)
+  its : response.trail ≡ trail
+
+denial_of : (error : ErrorValue) (trail : List AskedValue) → denied_trail error ≡ Some trail → IsDenial error trail
+denial_of seen.Busy trail h = cc
+denial_of (Dns (seen.ResponseCode code)) trail h = cc
+denial_of (Dns (seen.NoRecordsFound missing)) trail h = cc
+denial_of (Dns (Nsec asked response proof)) trail h =
+    record { asked = asked; response = response; proof = proof; is = refl; its = cc }
+denial_of (Dns seen.DnssecBogus) trail h = cc
+denial_of (seen.Message notice) trail h = cc
+denial_of (seen.Msg text) trail h = cc
+denial_of seen.NoConnections trail h = cc
+denial_of (seen.Proto error) trail h = cc
+denial_of (seen.Io kind) trail h = cc
+denial_of seen.Timeout trail h = cc
+denial_of seen.QueryCaseMismatch trail h = cc
+denial_of (seen.ForeignClassRecord owner class rtype) trail h = cc
+denial_of seen.Truncated trail h = cc
+denial_of seen.NoMemory trail h = cc
+
+denial_given : (s : SessionValue) (error : ErrorValue) (trail : List AskedValue) (listed : ListedValue) (moment : ℕ)
+    (text : List ℕ)
+    → IsDenial error trail → AnswersSession s (Err error) → answers_of listed ≡ answers_of (listing s.algorithms [])
+    → moment ≡ s.moment → text ≡ questions_text (questions (judge (answers_of listed) [] moment) trail)
+    → AnswersQuestions s 0 text
+denial_given s error trail listed moment text d given lists at is =
+    let own : AnswersSession s (Err (Dns (Nsec d.asked d.response d.proof))) =
+    subst (λ e. AnswersSession s (Err e)) d.is given in
+    Listed refl (record {
+      trail = d.response.trail;
+      ending = Denied d.proof;
+      shown = refl;
+      is = own.answered.trail;
+      spelled = is ∙ ap (λ t. questions_text (questions (judge (answers_of listed) [] moment) t)) (sym d.its)
+          ∙ judged_alike s listed moment d.response.trail lists at;
+    })
+
+no_trail : (error : ErrorValue) (trail : List AskedValue) → error ≡ seen.NoMemory → denied_trail error ≡ Some trail → ⊥
+no_trail error trail is has = let none : denied_trail seen.NoMemory ≡ Some trail = ap denied_trail (sym is) ∙ has in cc
+
+-- the questions of a denial
+pub denial_listed : (s : SessionValue) (error : NetError) (trail : List AskedValue) (listed : ListedValue) (moment : ℕ)
+    (text : List ℕ)
+    → denied_trail (error_of error) ≡ Some trail → (error ≡ NoMemory) ⊎ AnswersSession s (Err (error_of error))
+    → answers_of listed ≡ answers_of (listing s.algorithms []) → moment ≡ s.moment
+    → text ≡ questions_text (questions (judge (answers_of listed) [] moment) trail) → AnswersQuestions s 0 text
+denial_listed s error trail listed moment text has (inl memory) lists at is =
+    absurd (no_trail (error_of error) trail (ap error_of memory) has)
+denial_listed s error trail listed moment text has (inr given) lists at is =
+    denial_given s (error_of error) trail listed moment text (denial_of (error_of error) trail has) given lists at is
+
+-- the line of another error
+pub bare_fault : (s : SessionValue) (error : NetError) (told : Bool) (text : List ℕ)
+    → told ≡ is_no_memory (error_of error) → told ≡ false → denied_trail (error_of error) ≡ None
+    → (error ≡ NoMemory) ⊎ AnswersSession s (Err (error_of error)) → text ≡ fault_text (error_of error)
+    → AnswersQuestions s 1 text
+bare_fault s error told text tests untold none (inl memory) is =
+    absurd (untold_no_memory error told tests untold (ap error_of memory))
+bare_fault s error told text tests untold none (inr given) is =
+    let own = untold_no_memory error told tests untold in
+    Failed refl (record {
+      fault = record {
+        error = error_of error;
+        own = own;
+        cause = given.caused (error_of error) refl own;
+        spelled = is;
+      };
+      bare = none;
+    })
