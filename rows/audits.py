@@ -58,6 +58,8 @@ def keyed(line, keys):
 
 SECOND_KEY, = accepts(text_of("second-of-three-keys-of-one-tag.session"))
 NINTH, = accepts(text_of("ninth-of-nine-signatures.session"))
+OWN_KEY, BY_DS = accepts(text_of("third-key-of-one-tag-signs-its-set.session"))
+WALKED = accepts(text_of("walk-by-ds.session"))
 DENIED = text_of("expansion-without-a-denial.session")
 EMPTY_PARTS = HEAD + "chain answer 3\nanchored . IN 0101030daabb\nkeyset . IN\nsigned . IN NS 1 0101030daabb c0de\ntrail 0\nend\n"
 
@@ -78,6 +80,8 @@ ROWS = {
     "asked-before-any-is-accepted": ("questions", unaccepted("stored-session"), 0, listed(accepts(STORED))),
     "asked-once": ("questions", unaccepted("one-owner-in-two-sections"), 0, listed(accepts(TWICE))),
     "asked-of-two-keys-of-one-tag": ("questions", unaccepted("third-of-three-keys-of-one-tag"), 0, listed(keyed(SECOND_KEY, ["aabb", "a9bb01"]))),
+    "asked-of-a-key-set": ("questions", unaccepted("third-key-of-one-tag-signs-its-set"), 0, listed([BY_DS, *keyed(OWN_KEY, ["e1e2", "e0e201", "dfe202"])])),
+    "asked-along-a-walk": ("questions", unaccepted("walk-by-ds"), 0, listed(reversed(WALKED))),
     "asked-of-eight-signatures": ("questions", unaccepted("ninth-of-nine-signatures"), 0, listed(ends_of(NINTH, [f"c00{n}" for n in range(1, 9)]))),
     "asked-of-a-denial": ("questions", unaccepted("expansion-without-a-denial"), 0, listed(accepts(DENIED))),
     "asked-where-nothing-comes": ("questions", "".join(line + "\n" for line in STORED.split("\n")[:-1] if not line.startswith("reply ")), 1, "fault timeout\n"),
