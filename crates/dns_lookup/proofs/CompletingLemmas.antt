@@ -69,13 +69,13 @@ turn_stays [] q other apart = refl
 turn_stays (told ∷ rest) q other apart =
     turned_stays told rest q other (question_eq told.0 q) (list_any (λ later. question_eq later.0 q) rest) refl apart (turn_stays rest q other apart)
 
-left_stays : (by_turn : Bool) (list : List (Question × Reply)) (q other : Question) → question_eq q other ≡ false
+pub left_stays : (by_turn : Bool) (list : List (Question × Reply)) (q other : Question) → question_eq q other ≡ false
     → reply_to (if by_turn then after_turn list q else list) other ≡ reply_to list other
 left_stays true list q other apart = turn_stays list q other apart
 left_stays false list q other apart = refl
 
 -- the same reply to the same question
-reply_alike : (list : List (Question × Reply)) (q other : Question) → question_eq q other ≡ true → reply_to list q ≡ reply_to list other
+pub reply_alike : (list : List (Question × Reply)) (q other : Question) → question_eq q other ≡ true → reply_to list q ≡ reply_to list other
 unfolding reply_to
 reply_alike [] q other same = refl
 reply_alike (told ∷ rest) q other same =
@@ -83,7 +83,7 @@ reply_alike (told ∷ rest) q other same =
     ∙ ap (λ reply. if question_eq told.0 other then told.1 else reply) (reply_alike rest q other same)
 
 -- an upstream that tells its replies, by turn or not
-abbrev replying : Upstream Replies
+abbrev pub replying : Upstream Replies
 replying = record {
   tells = first_told;
   left = left_after;
@@ -100,12 +100,12 @@ told_value (Some told) empty = refl
 told_of_reply : (reply : Reply) → told_in (heard_from reply) ≡ received reply
 told_of_reply reply = told_value (received reply) (says_none reply)
 
-received_replies : (replies : Replies) (steps : List AskedValue) → IsFromReplies replies steps → HeardAlong replying replies steps
+pub received_replies : (replies : Replies) (steps : List AskedValue) → IsFromReplies replies steps → HeardAlong replying replies steps
 received_replies replies [] from = tt
 received_replies replies (step ∷ steps) from =
     (ap told_in from.0 ∙ told_of_reply (reply_to replies.list step.query), received_replies (left_after replies step.query) steps from.1)
 
-of_some : {X : Type 0} (P : X → Type 0) (o : Option X) (x : X) → o ≡ Some x → IfSome o P → P x
+pub of_some : {X : Type 0} (P : X → Type 0) (o : Option X) (x : X) → o ≡ Some x → IfSome o P → P x
 of_some P None x is h = cc
 of_some P (Some y) x is h = let same : y ≡ x = cc in subst P same h
 

@@ -174,6 +174,21 @@ impl<H: DnsHandle + Drop, V: Verifier + Drop> DnssecDnsHandle<H, V> {
     {
         &self.handle
     }
+
+    /// The handle that was asked, handed back.
+    pub fn into_inner(self) -> H
+        ensures { result ≡ inner_of self }
+    {
+        let DnssecDnsHandle {
+            handle,
+            anchors: _,
+            verifier: _,
+            iterations: _,
+            sends: _,
+            faults: _,
+        } = self;
+        handle
+    }
 }
 
 /// A validator is itself a handle. `send` looks a query up as `DnssecDnsHandle::lookup` does, for the request's first question

@@ -1,4 +1,5 @@
-//! Tests of lookups: what a lookup and a whole request send and refuse, and replies by turn; and of the texts beside them,
+//! Tests of lookups: what a lookup and a whole request send and refuse, replies by turn, and lookups below
+//! nested zones; and of the texts beside them,
 //! sessions and reports.
 #![tactic(auto)]
 
@@ -6,6 +7,8 @@
 mod answer_rows;
 #[cfg(test)]
 mod lookup_tests;
+#[cfg(test)]
+mod nested_zone_tests;
 #[cfg(test)]
 mod report_tests;
 #[cfg(test)]

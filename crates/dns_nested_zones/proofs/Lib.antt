@@ -1,0 +1,5 @@
+mod NameLemmas
+mod ListLemmas
+mod EndLemmas
+mod StraightLemmas
+mod DenialLemmas

@@ -1,0 +1,3 @@
+pub mod NestedZones
+pub mod Benches
+pub mod Parts

@@ -1,0 +1,70 @@
+//! By what nested zones are judged: the root's key is trusted, and the signatures that were made are accepted.
+ghost use Rattle.std.specs.Prelude.{◌≡◌, IfOk, OnOk};
+ghost use Rattle.dns_evidence.specs.Listing.{with_accepted};
+ghost use Rattle.dns_nested_zones.specs.NestedZones.{accepted_by, anchors, verifier};
+
+use crate::ZoneCount;
+use crate::records::{ALGORITHM, ds_record, host_record, signature_by, signature_octets};
+use crate::zone::Zone;
+use dns_evidence::Listed;
+use dns_name::{Name, NoMemory, Octets};
+use dns_rdata::{RdataSet, signed_data_of};
+use dns_record::Record;
+use dns_trust::TrustAnchors;
+use std::alloc::Global;
+
+/// The root's key is trusted.
+pub(crate) fn root_anchor(alloc: Global) -> Result<TrustAnchors, NoMemory>
+    ensures { IfOk result (λ a. a ≡ anchors) }
+{
+    let mut trusted = TrustAnchors::empty(alloc);
+    let owner = Name::root(alloc)?;
+    let key = Octets::from_slice(alloc, &[0, 0])?;
+    trusted.insert_with_name(owner, ALGORITHM, key)?;
+    Ok(trusted)
+}
+
+/// Accepts a zone's signature of a record.
+fn accept(alloc: Global, verifier: &mut Listed, zone: &Zone, signed: Record) -> Result<(), NoMemory>
+    ensures { OnOk result (verifier.new ≡ with_accepted verifier.old (accepted_by zone.now signed)) }
+{
+    let sig = signature_by(zone, &signed);
+    let Record {
+        name,
+        record_type,
+        dns_class,
+        ttl: _,
+        rdata,
+        proof: _,
+    } = signed;
+    let rdatas = [rdata];
+    let set = RdataSet {
+        name: &name,
+        record_type,
+        dns_class,
+        rdatas: &rdatas,
+    };
+    let bytes = signed_data_of(alloc, &set, &sig)?;
+    let key = Octets::from_slice(alloc, &zone.key()[4..])?;
+    let signature = Octets::from_slice(alloc, signature_octets())?;
+    verifier.accept_octets(ALGORITHM, key, bytes, signature)
+}
+
+/// Accepts the signatures of so many zones, and no other.
+#[tactic(auto, unfolding(crate::specs::NestedZones::accepted_to))]
+pub(crate) fn zones_verifier(alloc: Global, zones: ZoneCount) -> Result<Listed, NoMemory>
+    ensures { IfOk result (λ v. v ≡ verifier zones) }
+{
+    let mut verifier = Listed::new(alloc);
+    verifier.support(ALGORITHM);
+    let mut zone = Zone::root(alloc)?;
+    'zones: while zone.number() < zones.number() {
+        let child = zone.child(alloc)?;
+        let ds = ds_record(alloc, &child)?;
+        accept(alloc, &mut verifier, &zone, ds)?;
+        zone = child;
+    }
+    let host = host_record(alloc, &zone)?;
+    accept(alloc, &mut verifier, &zone, host)?;
+    Ok(verifier)
+}
