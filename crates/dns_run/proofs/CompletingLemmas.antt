@@ -15,7 +15,7 @@ use Rattle.dns_run.specs.Causes.{FaultCause, NoMessage, OtherClass, NotDenied}
 use Rattle.dns_run.specs.Completing.{IsValid, EndsSecurely, Shown, Stopped}
 use Rattle.dns_run.specs.Outcomes.{IsTrailReport, IsFault}
 use Rattle.dns_run.specs.declared.form.Form.{Form}
-use Rattle.dns_run.specs.declared.form.Form.TheVariants.{Validate, Task, Help, Version}
+use Rattle.dns_run.specs.declared.form.Form.TheVariants.{Validate, Task, Bench, Help, Version}
 use Rattle.dns_run.specs.Replies.{session_records}
 use Rattle.dns_run.specs.Runs.{IfSession}
 use Rattle.dns_run.specs.Soundness.{session_judge}
@@ -81,6 +81,7 @@ abbrev parts_asked : Option Form → Parts → Parts
 parts_asked None other = other
 parts_asked (Some (Validate shows)) other = shows
 parts_asked (Some (Task task)) other = other
+parts_asked (Some (Bench n)) other = other
 parts_asked (Some Help) other = other
 parts_asked (Some Version) other = other
 

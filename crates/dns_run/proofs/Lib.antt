@@ -7,3 +7,4 @@ pub mod TopLemmas
 pub mod EndLemmas
 pub mod CompletingLemmas
 pub mod TaskLemmas
+pub mod BenchLemmas

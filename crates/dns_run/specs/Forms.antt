@@ -1,13 +1,15 @@
 -- The words that the program takes, and its fixed texts.
-use Rattle.std.specs.Prelude.{ℕ, ◌≡◌, List, [], ◌∷◌, ◌&&◌, map, codes, Vec, Option, None, Some, if◌then◌else◌}
+use Rattle.std.specs.Prelude.{ℕ, ◌≡◌, ◌≤◌, List, [], ◌∷◌, ◌&&◌, nat_le, map, codes, Vec, Option, None, Some, if◌then◌else◌}
+use Rattle.std.specs.Option.{option_map, option_and_then}
 use Rattle.dns_model.specs.Keys.{bytes_eq}
+use Rattle.dns_text.specs.Words.{decimal_in}
 use Rattle.dns_report.specs.declared.parts.Parts.{Parts}
 use Rattle.dns_report.specs.declared.parts.Parts.TheVariants.{Answer, WithTrail}
 use Rattle.dns_run.specs.declared.form.Form.{Form}
-use Rattle.dns_run.specs.declared.form.Form.TheVariants.{Validate, Task, Help, Version}
+use Rattle.dns_run.specs.declared.form.Form.TheVariants.{Validate, Task, Bench, Help, Version}
 use Rattle.dns_run.specs.declared.task.Task.{Task as TaskKind}
 use Rattle.dns_run.specs.declared.task.Task.TheVariants.{Audit, Questions}
-use Rattle.dns_io.specs.Runs.{Asked, AnInput, FixedText}
+use Rattle.dns_io.specs.Runs.{Asked, AnInput, NoInput, FixedText}
 
 -- what one word asks for
 abbrev pub form_named : List ℕ → Option Form
@@ -19,16 +21,29 @@ form_named word =
     else if bytes_eq word (codes "--version") then Some Version
     else None
 
+-- how many nested zones a word says: from 1 to 100, in digits without a zero before others
+abbrev pub zones_in : List ℕ → Option ℕ
+zones_in word = option_and_then (λ n. if nat_le 1 n && nat_le n 100 then Some n else None) (decimal_in 255 word)
+
+abbrev pub bench_form : Option ℕ → Option Form
+bench_form zones = option_map (λ n. Bench n) zones
+
 -- what two words ask for
 abbrev pub form_of_two : List ℕ → List ℕ → Option Form
 form_of_two word next =
-    if bytes_eq word (codes "validate") && bytes_eq next (codes "trail") then Some (Validate WithTrail) else None
+    if bytes_eq word (codes "bench") then bench_form (zones_in next)
+    else if bytes_eq word (codes "validate") && bytes_eq next (codes "trail") then Some (Validate WithTrail) else None
 
 -- what words ask for
 abbrev pub form_in : List (List ℕ) → Option Form
 form_in (word ∷ []) = form_named word
 form_in (word ∷ next ∷ []) = form_of_two word next
 form_in _ = None
+
+-- nested zones are asked for by a number from 1 to 100
+abbrev pub IsWithin : Option Form → Type 0
+IsWithin (Some (Bench n)) = (1 ≤ n) × (n ≤ 100)
+IsWithin _ = Unit {0}
 
 -- what the words of a call ask for
 abbrev pub asked_form : {Z : Type 0} → List (Vec ℕ Z) → Option Form
@@ -42,10 +57,15 @@ IfValidates words Fact = (shows : Parts) → asked_form words ≡ Some (Validate
 abbrev pub IfTask : {Z : Type 0} → List (Vec ℕ Z) → (TaskKind → Type 0) → Type 0
 IfTask words Fact = (task : TaskKind) → asked_form words ≡ Some (Task task) → Fact task
 
--- an input to work on, or else a text that is always the same
+-- a fact of how many zones are nested, where the words ask for a lookup below them
+abbrev pub IfBench : {Z : Type 0} → List (Vec ℕ Z) → (ℕ → Type 0) → Type 0
+IfBench words Fact = (n : ℕ) → asked_form words ≡ Some (Bench n) → Fact n
+
+-- an input to work on, work without one, or else a text that is always the same
 abbrev pub form_asks : Option Form → Asked
 form_asks (Some (Validate shows)) = AnInput
 form_asks (Some (Task task)) = AnInput
+form_asks (Some (Bench n)) = NoInput
 form_asks _ = FixedText
 
 abbrev pub words_ask : {Z : Type 0} → List (Vec ℕ Z) → Asked
@@ -53,7 +73,7 @@ words_ask words = form_asks (asked_form words)
 
 abbrev pub help_text : List ℕ
 help_text =
-    codes "dns_check validate        reads a session and writes the report of its lookup\ndns_check validate trail  the same, and how the lookup came about, step by step\ndns_check audit           reads a session and a report behind it, and writes which of its parts hold\ndns_check questions       reads a session and writes which signatures a verifier must be asked for\ndns_check --help          writes these lines\ndns_check --version       writes the name and the version\n"
+    codes "dns_check validate        reads a session and writes the report of its lookup\ndns_check validate trail  the same, and how the lookup came about, step by step\ndns_check audit           reads a session and a report behind it, and writes which of its parts hold\ndns_check questions       reads a session and writes which signatures a verifier must be asked for\ndns_check bench N         looks a host up below N nested zones, 1 to 100, and writes what that took\ndns_check --help          writes these lines\ndns_check --version       writes the name and the version\n"
 
 abbrev pub version_text : List ℕ
 version_text = codes "dns_check 0.1.0\n"

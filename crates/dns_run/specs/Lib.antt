@@ -9,3 +9,4 @@ pub mod Endings
 pub mod Runs
 pub mod Completing
 pub mod Tasks
+pub mod Benches

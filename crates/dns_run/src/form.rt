@@ -1,9 +1,11 @@
 //! The words that the program takes, and its fixed texts.
-ghost use Rattle.std.specs.Prelude.{◌≡◌};
-ghost use Rattle.dns_run.specs.Forms.{asked_form, form_named, form_of_two, help_text, version_text};
+ghost use Rattle.std.specs.Prelude.{◌≡◌, ◌≤◌, IfSome};
+ghost use Rattle.dns_run.specs.Forms.{IsWithin, asked_form, form_named, form_of_two, bench_form, zones_in, help_text, version_text};
 
 use crate::task::Task;
+use dns_nested_zones::ZoneCount;
 use dns_report::Parts;
+use dns_text::u8_in;
 
 /// What the program is asked for.
 #[derive(Clone, Copy)]
@@ -12,6 +14,8 @@ pub enum Form {
     Validate(Parts),
     /// To do another task on an input.
     Task(Task),
+    /// To look the host of so many nested zones up, from 1 to 100.
+    Bench(u8),
     /// To tell its forms.
     Help,
     /// To tell its version.
@@ -20,7 +24,8 @@ pub enum Form {
 
 /// What one word asks for.
 fn form_named(word: &[u8]) -> Option<Form>
-    ensures { result ≡ form_named word.now }
+    ensures value { result ≡ form_named word.now }
+    ensures within { IsWithin result }
 {
     if word == b"validate".as_slice() {
         return Some(Form::Validate(Parts::Answer));
@@ -40,10 +45,33 @@ fn form_named(word: &[u8]) -> Option<Form>
     None
 }
 
+/// How many nested zones a word says.
+fn zones_in(word: &[u8]) -> Option<u8>
+    ensures value { result ≡ zones_in word.now }
+    ensures within { IfSome result (λ n. (1 ≤ n) × (n ≤ 100)) }
+{
+    let number = u8_in(word)?;
+    let zones = ZoneCount::new(number)?;
+    Some(zones.number())
+}
+
+/// To look the host of as many nested zones up as a word says.
+fn bench_form(zones: &[u8]) -> Option<Form>
+    ensures value { result ≡ bench_form (zones_in zones.now) }
+    ensures within { IsWithin result }
+{
+    let zones = zones_in(zones)?;
+    Some(Form::Bench(zones))
+}
+
 /// What two words ask for.
 fn form_of_two(word: &[u8], next: &[u8]) -> Option<Form>
-    ensures { result ≡ form_of_two word.now next.now }
+    ensures value { result ≡ form_of_two word.now next.now }
+    ensures within { IsWithin result }
 {
+    if word == b"bench".as_slice() {
+        return bench_form(next);
+    }
     if word == b"validate".as_slice() && next == b"trail".as_slice() {
         return Some(Form::Validate(Parts::WithTrail));
     }
@@ -52,7 +80,8 @@ fn form_of_two(word: &[u8], next: &[u8]) -> Option<Form>
 
 /// What words ask for.
 pub(crate) fn form_of(words: &[Vec<u8>]) -> Option<Form>
-    ensures { result ≡ asked_form words.now }
+    ensures value { result ≡ asked_form words.now }
+    ensures within { IsWithin result }
 {
     match words {
         [word] => form_named(word),
@@ -65,7 +94,7 @@ pub(crate) fn form_of(words: &[Vec<u8>]) -> Option<Form>
 pub(crate) fn help_text() -> &'static [u8]
     ensures { result.now ≡ help_text }
 {
-    b"dns_check validate        reads a session and writes the report of its lookup\ndns_check validate trail  the same, and how the lookup came about, step by step\ndns_check audit           reads a session and a report behind it, and writes which of its parts hold\ndns_check questions       reads a session and writes which signatures a verifier must be asked for\ndns_check --help          writes these lines\ndns_check --version       writes the name and the version\n"
+    b"dns_check validate        reads a session and writes the report of its lookup\ndns_check validate trail  the same, and how the lookup came about, step by step\ndns_check audit           reads a session and a report behind it, and writes which of its parts hold\ndns_check questions       reads a session and writes which signatures a verifier must be asked for\ndns_check bench N         looks a host up below N nested zones, 1 to 100, and writes what that took\ndns_check --help          writes these lines\ndns_check --version       writes the name and the version\n"
 }
 
 /// The program's name and version.

@@ -8,6 +8,7 @@
 
 mod answering;
 mod audit;
+mod bench;
 mod form;
 mod outcome;
 mod program;

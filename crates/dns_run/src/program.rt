@@ -8,6 +8,7 @@ ghost use Rattle.dns_run.specs.Outcomes.{Leaves, LeavesPrefix, Wrote, WrotePrefi
 ghost use Rattle.dns_run.specs.Runs.{EndsAsSession, EndsByGrammar, EndsByWords, IfSession};
 ghost use Rattle.dns_run.specs.Tasks.{EndsTask};
 
+use crate::bench::write_bench;
 use crate::form::{Form, form_of, help_text, version_text};
 use crate::outcome::{InputEnding, session_ending};
 use crate::task::do_task;
@@ -100,7 +101,8 @@ pub fn run<S: Source, W: Sink>(
     ensures task { IfTask words.now (λ task.
         EndsTask task result (S.left input.old) (W.taken output.old) (W.taken output.new)) }
 
-    // Words that ask for a text, or for nothing: 2 is for the latter alone.
+    // Words that ask for a text, for a lookup below nested zones, or for nothing: 2 is for the latter alone. A lookup below nested
+    // zones ends with 0, or with 5 or 6.
     ensures words { EndsByWords (asked_form words.now) result (W.taken output.old) (W.taken output.new) }
 
     // Whatever the status, a prefix of a text that the input comes to was written.
@@ -114,6 +116,7 @@ pub fn run<S: Source, W: Sink>(
     match form_of(words) {
         Some(Form::Validate(shows)) => validate(alloc, shows, input, output),
         Some(Form::Task(task)) => do_task(alloc, task, input, output),
+        Some(Form::Bench(number)) => write_bench(alloc, number, output),
         Some(Form::Help) => write_text(status::DONE, help_text(), output),
         Some(Form::Version) => write_text(status::DONE, version_text(), output),
         None => refuse_words(output),

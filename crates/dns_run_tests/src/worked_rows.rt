@@ -9,7 +9,7 @@ pub(crate) struct Row {
     pub(crate) text: &'static [u8],
 }
 
-const ROWS_1: [Row; 9] = [
+const ROWS_1: [Row; 8] = [
     Row {
         name: "busy-in-place-of-the-first-reply",
         words: &["validate"],
@@ -36,7 +36,7 @@ const ROWS_1: [Row; 9] = [
         words: &["--help"],
         session: b"",
         status: 0,
-        text: b"dns_check validate        reads a session and writes the report of its lookup\ndns_check validate trail  the same, and how the lookup came about, step by step\ndns_check audit           reads a session and a report behind it, and writes which of its parts hold\ndns_check questions       reads a session and writes which signatures a verifier must be asked for\ndns_check --help          writes these lines\ndns_check --version       writes the name and the version\n",
+        text: b"dns_check validate        reads a session and writes the report of its lookup\ndns_check validate trail  the same, and how the lookup came about, step by step\ndns_check audit           reads a session and a report behind it, and writes which of its parts hold\ndns_check questions       reads a session and writes which signatures a verifier must be asked for\ndns_check bench N         looks a host up below N nested zones, 1 to 100, and writes what that took\ndns_check --help          writes these lines\ndns_check --version       writes the name and the version\n",
     },
     Row {
         name: "no-bytes",
@@ -66,6 +66,13 @@ const ROWS_1: [Row; 9] = [
         status: 2,
         text: b"bad words\n",
     },
+];
+
+fn part_1() -> &'static [Row] {
+    &ROWS_1
+}
+
+const ROWS_2: [Row; 2] = [
     Row {
         name: "questions-of-a-walk",
         words: &["validate", "trail"],
@@ -73,13 +80,6 @@ const ROWS_1: [Row; 9] = [
         status: 0,
         text: b"dns-report 1\ncode 0\ndenial none\nanswer www.example. IN A 1000 secure c0000201\nanswer www.example. IN RRSIG 3600 indeterminate 00010d0200000e10000007d000000384e5f0076578616d706c6500d0\nanswer www.example. IN RRSIG 1000 secure 00010d0200000e10000007d000000384e5f0076578616d706c6500c0de\nchain answer 6\nanchored . IN 0101030daabb\nkeyset . IN 0 0101030daabb\nsigned example. IN DS 1 0101030daabb 002b0d0100000e10000007d000000384aec900c0de e5f00d02085e5fdd3342054efad4d72ece7be0272a1618efb7293cfe0a0409e3b1a5d1b3 e5f00d02415fa7c604cd26ec6776285c90902710b4d3c2ec3482c01905f15f1f942d1372\nmatched example. IN 0101030de1e2 2 e5f00d02085e5fdd3342054efad4d72ece7be0272a1618efb7293cfe0a0409e3b1a5d1b3\nsigned example. IN DNSKEY 3 0101030de1e2 00300d0100000e10000007d000000384e5f0076578616d706c6500c0de 0101030de1e2 0101030de1e2 0101030de0e201\nsigned www.example. IN A 4 0101030de1e2 00010d0200000e10000007d000000384e5f0076578616d706c6500c0de c0000201\ntrail 7\nstep 3 judged . DNSKEY\ngot 0\ntold answer . IN DNSKEY 3600 0101030daabb\nset answer . DNSKEY secure table -\nending none\nstep 2 judged example. DS\ngot 0\ntold answer example. IN DS 3600 e5f00d02085e5fdd3342054efad4d72ece7be0272a1618efb7293cfe0a0409e3b1a5d1b3\ntold answer example. IN DS 3600 e5f00d02415fa7c604cd26ec6776285c90902710b4d3c2ec3482c01905f15f1f942d1372\ntold answer example. IN RRSIG 3600 002b0d0100000e10000007d000000384aec900c0de\nset answer example. DS secure table 0 0\nending none\nstep 1 judged example. DNSKEY\ngot 0\ntold answer example. IN DNSKEY 3600 0101030de1e2\ntold answer example. IN DNSKEY 3600 0101030de1e2\ntold answer example. IN DNSKEY 3600 0101030de0e201\ntold answer example. IN RRSIG 3600 00300d0100000e10000007d000000384e5f0076578616d706c6500d0\ntold answer example. IN RRSIG 3600 00300d0100000e10000007d000000384e5f0076578616d706c6500c0de\nset answer example. DNSKEY secure table 1 1\nending none\nstep 3 judged . DNSKEY\ngot 0\ntold answer . IN DNSKEY 3600 0101030daabb\nset answer . DNSKEY secure table -\nending none\nstep 2 judged example. DS\ngot 0\ntold answer example. IN DS 3600 e5f00d02085e5fdd3342054efad4d72ece7be0272a1618efb7293cfe0a0409e3b1a5d1b3\ntold answer example. IN DS 3600 e5f00d02415fa7c604cd26ec6776285c90902710b4d3c2ec3482c01905f15f1f942d1372\ntold answer example. IN RRSIG 3600 002b0d0100000e10000007d000000384aec900c0de\nset answer example. DS secure table 0 3\nending none\nstep 1 judged example. DNSKEY\ngot 0\ntold answer example. IN DNSKEY 3600 0101030de1e2\ntold answer example. IN DNSKEY 3600 0101030de1e2\ntold answer example. IN DNSKEY 3600 0101030de0e201\ntold answer example. IN RRSIG 3600 00300d0100000e10000007d000000384e5f0076578616d706c6500d0\ntold answer example. IN RRSIG 3600 00300d0100000e10000007d000000384e5f0076578616d706c6500c0de\nset answer example. DNSKEY secure table 1 4\nending none\nstep 0 judged www.example. A\ngot 0\ntold answer www.example. IN A 3600 c0000201\ntold answer www.example. IN RRSIG 3600 00010d0200000e10000007d000000384e5f0076578616d706c6500d0\ntold answer www.example. IN RRSIG 3600 00010d0200000e10000007d000000384e5f0076578616d706c6500c0de\nset answer www.example. A secure table 1 2 5\nending none\nend\n",
     },
-];
-
-fn part_1() -> &'static [Row] {
-    &ROWS_1
-}
-
-const ROWS_2: [Row; 3] = [
     Row {
         name: "questions-of-an-anchored-key-beside",
         words: &["validate", "trail"],
@@ -87,6 +87,13 @@ const ROWS_2: [Row; 3] = [
         status: 0,
         text: b"dns-report 1\ncode 0\ndenial none\nanswer example. IN DNSKEY 1000 secure 0101030de1\nanswer example. IN DNSKEY 1000 secure 0101030de2\nanswer example. IN RRSIG 3600 indeterminate 00300d0100000e10000007d000000384e60e076578616d706c6500d0\nanswer example. IN RRSIG 1000 secure 00300d0100000e10000007d000000384e50e076578616d706c6500c0de\nchain answer 5\nanchored . IN 0101030daabb\nkeyset . IN 0 0101030daabb\nsigned example. IN DS 1 0101030daabb 002b0d0100000e10000007d000000384aec900c0de e50e0d026691c87f523df73948a4cc0b62ebd65a708505e054a2fbf3143cec487ad142d8\nmatched example. IN 0101030de1 2 e50e0d026691c87f523df73948a4cc0b62ebd65a708505e054a2fbf3143cec487ad142d8\nsigned example. IN DNSKEY 3 0101030de1 00300d0100000e10000007d000000384e50e076578616d706c6500c0de 0101030de1 0101030de2\ntrail 3\nstep 2 judged . DNSKEY\ngot 0\ntold answer . IN DNSKEY 3600 0101030daabb\nset answer . DNSKEY secure table -\nending none\nstep 1 judged example. DS\ngot 0\ntold answer example. IN DS 3600 e50e0d026691c87f523df73948a4cc0b62ebd65a708505e054a2fbf3143cec487ad142d8\ntold answer example. IN RRSIG 3600 002b0d0100000e10000007d000000384aec900c0de\nset answer example. DS secure table 0 0\nending none\nstep 0 judged example. DNSKEY\ngot 0\ntold answer example. IN DNSKEY 3600 0101030de1\ntold answer example. IN DNSKEY 3600 0101030de2\ntold answer example. IN RRSIG 3600 00300d0100000e10000007d000000384e60e076578616d706c6500d0\ntold answer example. IN RRSIG 3600 00300d0100000e10000007d000000384e50e076578616d706c6500c0de\nset answer example. DNSKEY secure table 1 1\nending none\nend\n",
     },
+];
+
+fn part_2() -> &'static [Row] {
+    &ROWS_2
+}
+
+const ROWS_3: [Row; 3] = [
     Row {
         name: "questions-of-one-zone",
         words: &["validate", "trail"],
@@ -101,13 +108,6 @@ const ROWS_2: [Row; 3] = [
         status: 0,
         text: b"dns-report 1\ncode 0\ndenial none\nanswer . IN NS 1000 secure 016100\nanswer . IN RRSIG 1000 secure 00020d0000000e10000007d000000384aec900c0de\nchain answer 3\nanchored . IN 0101030daabb\nkeyset . IN 0 0101030daabb\nsigned . IN NS 1 0101030daabb 00020d0000000e10000007d000000384aec900c0de 016100\nend\n",
     },
-];
-
-fn part_2() -> &'static [Row] {
-    &ROWS_2
-}
-
-const ROWS_3: [Row; 7] = [
     Row {
         name: "trail-of-a-fault",
         words: &["validate", "trail"],
@@ -115,6 +115,13 @@ const ROWS_3: [Row; 7] = [
         status: 0,
         text: b"dns-report 1\ncode 0\ndenial none\nanswer . IN NS 3600 bogus 016100\nanswer . IN RRSIG 3600 indeterminate 00020d0000000e10000007d000000384aec900c0de\ntrail 2\nstep 1 judged . DNSKEY\ngot fault\nending failed\nstep 0 judged . NS\ngot 0\ntold answer . IN NS 3600 016100\ntold answer . IN RRSIG 3600 00020d0000000e10000007d000000384aec900c0de\nset answer . NS bogus table - 0\nending none\nend\n",
     },
+];
+
+fn part_3() -> &'static [Row] {
+    &ROWS_3
+}
+
+const ROWS_4: [Row; 6] = [
     Row {
         name: "trail-of-a-walk-by-ds",
         words: &["validate", "trail"],
@@ -159,12 +166,12 @@ const ROWS_3: [Row; 7] = [
     },
 ];
 
-fn part_3() -> &'static [Row] {
-    &ROWS_3
+fn part_4() -> &'static [Row] {
+    &ROWS_4
 }
 
 /// How many parts there are.
-pub(crate) const PARTS: usize = 3;
+pub(crate) const PARTS: usize = 4;
 
 /// The rows of a part, by its number from 1.
 pub(crate) fn part(number: usize) -> &'static [Row] {
@@ -172,6 +179,7 @@ pub(crate) fn part(number: usize) -> &'static [Row] {
         1 => part_1(),
         2 => part_2(),
         3 => part_3(),
+        4 => part_4(),
         _ => &[],
     }
 }

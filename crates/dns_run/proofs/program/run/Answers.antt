@@ -24,7 +24,7 @@ returns-in-Some-Validate-clause-grammar g c = λ shows form.
 pub returns-in-Some-Validate-clause-completes : goal.returns-in-Some-Validate-clause-completes
 returns-in-Some-Validate-clause-completes g c = λ shows form.
     ends_securely_as _ _ shows _ _ _ _
-    (sym c.form_of.ensures ∙ c.in-Some-Validate.is ∙ ap Some c.in-Some-Validate.field-0-is) form (record {
+    (sym c.form_of.ensures.value ∙ c.in-Some-Validate.is ∙ ap Some c.in-Some-Validate.field-0-is) form (record {
       report = c.validate.ensures.derived;
       fault = c.validate.ensures.fault;
       form = c.validate.ensures.form;
