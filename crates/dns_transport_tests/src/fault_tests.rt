@@ -1,12 +1,14 @@
-use crate::parts::{next_of, pieces_of, put, server, write_all};
+use crate::heard::{Heard, drain, heard_error, read_next, write_all};
+use crate::parts::{put, server, single_bytes, stream_over};
 use crate::slow_link::SlowLink;
 use dns_handle::{IoKind, NetError};
 use dns_link::{ListDialer, PairLink};
+use dns_name::NoMemory;
 use dns_transport::{TcpClientStream, TcpStream};
 use std::alloc::Global;
 
 /// All kinds of faults.
-const KINDS: [IoKind; 13] = [
+const KINDS: &[IoKind] = &[
     IoKind::PermissionDenied,
     IoKind::ConnectionRefused,
     IoKind::ConnectionReset,
@@ -22,57 +24,57 @@ const KINDS: [IoKind; 13] = [
     IoKind::Other,
 ];
 
-/// Whether an error is a fault of a kind; what timed out is `Timeout`.
-fn is_of(error: &NetError, kind: IoKind) -> bool {
-    match error {
-        NetError::Timeout => kind == IoKind::TimedOut,
-        NetError::Io(other) => *other == kind,
-        _ => false,
+fn kinds() -> &'static [IoKind] {
+    KINDS
+}
+
+/// How a fault of a kind is heard; what timed out is `Timeout`.
+fn heard_as(kind: IoKind) -> Heard {
+    if kind == IoKind::TimedOut {
+        Heard::Timeout
+    } else {
+        Heard::Fault(kind)
     }
 }
 
-/// A stream over a link that gives two messages byte by byte, and of whose calls one fails.
-fn failing(alloc: Global, at: u64, kind: IoKind) -> Result<TcpStream<SlowLink>, NetError> {
-    let message: &[u8] = &[0, 2, 1, 2, 0, 1, 3];
-    let mut parts = Vec::new(alloc);
-    for byte in message.chunks(1) {
-        parts.push(byte)?;
+/// A link that gives two messages byte by byte, and of whose calls one fails.
+fn failing(alloc: Global, at: u64, kind: IoKind) -> Result<SlowLink, NoMemory> {
+    let pieces = single_bytes(alloc, &[0, 2, 1, 2, 0, 1, 3])?;
+    let link = PairLink::new(alloc, pieces, 100, Vec::new(alloc))?;
+    Ok(SlowLink::new(link, at, kind))
+}
+
+/// Writes a message of twelve bytes, which takes fourteen calls, and reads two, which takes seven: the first fault that is heard.
+fn exchange(alloc: Global, stream: &mut TcpStream<SlowLink>) -> Heard {
+    let mut read = Vec::new(alloc);
+    let mut heard = write_all(stream);
+    if heard == Heard::Written {
+        heard = read_next(stream, &mut read);
     }
-    let link = PairLink::new(alloc, pieces_of(alloc, &parts)?, 100, Vec::new(alloc))?;
-    let slow = SlowLink::new(link, at, kind);
-    let (mut stream, mut handle) = TcpStream::from_stream(alloc, slow, server());
-    put(
-        alloc,
-        &mut stream,
-        &mut handle,
-        &[1, 2, 3, 4, 5, 6, 7, 8, 9, 10, 11, 12],
-    )?;
-    Ok(stream)
+    if heard == Heard::Message {
+        heard = read_next(stream, &mut read);
+    }
+    heard
 }
 
-/// Writes a message of twelve bytes, which takes fourteen calls, and reads two, which takes seven.
-fn exchange(stream: &mut TcpStream<SlowLink>) -> Result<(), NetError> {
-    write_all(stream)?;
-    next_of(stream)?;
-    next_of(stream)?;
-    Ok(())
+/// Whether a fault of a kind is answered, once, and then that there is no connection.
+fn is_told(alloc: Global, stream: &mut TcpStream<SlowLink>, kind: IoKind) -> bool {
+    let is_put = put(alloc, stream, &[1, 2, 3, 4, 5, 6, 7, 8, 9, 10, 11, 12]);
+    let told = exchange(alloc, stream) == heard_as(kind);
+    let after = drain(stream) == Heard::Fault(IoKind::NotConnected);
+    is_put && told && after && stream.failures() == 2
 }
 
-/// Whether a fault of the call with this number is answered, once, and then that there is no connection.
-fn is_told(alloc: Global, at: u64, kind: IoKind) -> Result<bool, NetError> {
-    let mut stream = failing(alloc, at, kind)?;
-    let told = match exchange(&mut stream) {
-        Ok(()) => false,
-        Err(error) => is_of(&error, kind),
-    };
-    let after = matches!(stream.drain(), Err(NetError::Io(IoKind::NotConnected)));
-    Ok(told && after && stream.failures() == 2)
+/// The same of the call with this number.
+fn is_told_at(alloc: Global, at: u64, kind: IoKind) -> Result<bool, NoMemory> {
+    let mut stream = stream_over(alloc, failing(alloc, at, kind)?);
+    Ok(is_told(alloc, &mut stream, kind))
 }
 
 /// Whether faults of a kind are told, whichever of the first twenty calls has it.
 fn are_told(alloc: Global, kind: IoKind) -> bool {
     for at in 0..20u64 {
-        if !matches!(is_told(alloc, at, kind), Ok(true)) {
+        if !matches!(is_told_at(alloc, at, kind), Ok(true)) {
             return false;
         }
     }
@@ -81,8 +83,8 @@ fn are_told(alloc: Global, kind: IoKind) -> bool {
 
 #[test]
 fn a_fault_of_each_kind_is_told_at_each_call(rt: HostRuntime) {
-    for kind in KINDS {
-        assert!(rt; are_told(rt.alloc(), kind));
+    for kind in kinds() {
+        assert!(rt; are_told(rt.alloc(), *kind));
     }
 }
 
@@ -90,24 +92,39 @@ fn a_fault_of_each_kind_is_told_at_each_call(rt: HostRuntime) {
 fn is_fault<X>(reply: &Result<X, NetError>, kind: IoKind) -> bool {
     match reply {
         Ok(_) => false,
-        Err(error) => is_of(error, kind),
+        Err(error) => heard_error(error) == Heard::Fault(kind),
     }
 }
 
-/// What dialing answers, first a link's refusal and then that there is none.
-fn dialed(alloc: Global) -> Result<(bool, bool), NetError> {
+/// A dialer of one link, which is refused.
+fn refusing(alloc: Global) -> Result<ListDialer, NoMemory> {
     let mut links = Vec::new(alloc);
     links.push(Err(IoKind::ConnectionRefused))?;
-    let mut dial = ListDialer::new(links, Vec::new(alloc));
-    let first = TcpStream::with_future(alloc, &mut dial, server(), 5000);
-    let second = TcpClientStream::new(alloc, &mut dial, server(), None, 5000);
-    Ok((
-        is_fault(&first, IoKind::ConnectionRefused),
-        is_fault(&second, IoKind::AddrNotAvailable),
-    ))
+    Ok(ListDialer::new(links, Vec::new(alloc)))
+}
+
+/// Whether dialing a stream answers a fault of a kind.
+fn is_refused(alloc: Global, dial: &mut ListDialer, kind: IoKind) -> bool {
+    is_fault(&TcpStream::with_future(alloc, dial, server(), 5000), kind)
+}
+
+/// Whether dialing a client's stream does.
+fn is_refused_to_client(alloc: Global, dial: &mut ListDialer, kind: IoKind) -> bool {
+    is_fault(
+        &TcpClientStream::new(alloc, dial, server(), None, 5000),
+        kind,
+    )
+}
+
+/// Whether dialing answers first a link's refusal and then that there is none.
+fn is_dialed(alloc: Global) -> Result<bool, NoMemory> {
+    let mut dial = refusing(alloc)?;
+    let first = is_refused(alloc, &mut dial, IoKind::ConnectionRefused);
+    let second = is_refused_to_client(alloc, &mut dial, IoKind::AddrNotAvailable);
+    Ok(first && second)
 }
 
 #[test]
 fn a_refusal_of_the_dialer_is_passed_on(rt: HostRuntime) {
-    assert!(rt; matches!(dialed(rt.alloc()), Ok((true, true))));
+    assert!(rt; matches!(is_dialed(rt.alloc()), Ok(true)));
 }

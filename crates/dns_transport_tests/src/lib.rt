@@ -8,6 +8,8 @@ mod cut_tests;
 #[cfg(test)]
 mod fault_tests;
 #[cfg(test)]
+mod heard;
+#[cfg(test)]
 mod long_tests;
 #[cfg(test)]
 mod loopback_tests;

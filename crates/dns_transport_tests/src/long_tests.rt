@@ -1,23 +1,19 @@
-ghost use Rattle.std.specs.Prelude.{◌≡◌, Ok, All, IfOk, vec_len};
+ghost use Rattle.std.specs.Prelude.{Ok, All, IfOk};
 ghost use Rattle.dns_link.specs.Listed.{IsNewLink};
 
-use crate::parts::{is_message, next_of, pieces_of, put, server, write_all};
-use dns_handle::{IoKind, NetError};
+use crate::heard::{Heard, heard_drain, heard_feed, read_next, write_all};
+use crate::parts::{behind, pieces_of, put, server};
+use dns_handle::IoKind;
 use dns_link::{ListDialer, PairLink};
-use dns_mux::SerialMessage;
+use dns_mux::{BufDnsStreamHandle, SerialMessage};
 use dns_name::{NoMemory, Octets};
-use dns_transport::{Feed, TcpClientStream, TcpStream};
+use dns_transport::{TcpClientStream, TcpStream};
 use std::alloc::Global;
 
-/// The bytes of the longest frame.
-const LONGEST: usize = 65_537;
-
-/// The frame of the longest message, of which there are so many bytes.
-fn longest_frame(alloc: Global, len: usize) -> Result<Vec<u8>, NoMemory>
-    ensures { IfOk result (λ v. vec_len v ≡ len) }
-{
+/// The frame of the longest message.
+fn longest_frame(alloc: Global) -> Result<Vec<u8>, NoMemory> {
     let mut bytes = Vec::from_slice(alloc, &[255u8, 255])?;
-    bytes.resize(len, 7)?;
+    bytes.resize(65_537, 7)?;
     Ok(bytes)
 }
 
@@ -31,62 +27,108 @@ fn only(alloc: Global, link: PairLink) -> Result<Vec<Result<PairLink, IoKind>>, 
     Ok(links)
 }
 
-/// A dialer of one link, which gives the longest message and takes it.
-fn dialer(alloc: Global) -> Result<ListDialer, NoMemory> {
-    let frame = longest_frame(alloc, LONGEST)?;
-    let pieces = pieces_of(alloc, &[&frame])?;
+/// A dialer of one link, which gives a frame and takes as much.
+fn dialer(alloc: Global, frame: &[u8]) -> Result<ListDialer, NoMemory> {
+    let pieces = pieces_of(alloc, &[frame])?;
     let link = PairLink::new(alloc, pieces, 70_000, Vec::new(alloc))?;
     Ok(ListDialer::new(only(alloc, link)?, Vec::new(alloc)))
 }
 
-/// Whether the longest message is written and read by a stream.
-fn is_carried(alloc: Global) -> Result<bool, NetError> {
-    let mut dial = dialer(alloc)?;
-    let (mut stream, mut handle) = TcpStream::with_future(alloc, &mut dial, server(), 5000)?;
-    let frame = longest_frame(alloc, LONGEST)?;
-    put(alloc, &mut stream, &mut handle, &frame[2..])?;
-    write_all(&mut stream)?;
-    let read = next_of(&mut stream)?;
-    let message = is_message(&read, &frame[2..]);
+/// Whether a stream writes the message of a frame, and reads it.
+fn carries(alloc: Global, stream: &mut TcpStream<PairLink>, frame: &[u8]) -> bool {
+    let mut read = Vec::new(alloc);
+    put(alloc, stream, behind(frame))
+        && write_all(stream) == Heard::Written
+        && read_next(stream, &mut read) == Heard::Message
+        && *read.as_slice() == *behind(frame)
+}
+
+/// The same, and the link took the frame.
+fn is_carried(alloc: Global, mut stream: TcpStream<PairLink>, frame: &[u8]) -> bool {
+    let carried = carries(alloc, &mut stream, frame);
     let link = stream.into_link();
-    Ok(message && *link.taken() == *frame.as_slice())
+    carried && *link.taken() == *frame
+}
+
+/// A stream over the dialer's link.
+fn stream_by(alloc: Global, dial: &mut ListDialer) -> Option<TcpStream<PairLink>> {
+    let (stream, _) = TcpStream::with_future(alloc, dial, server(), 5000).ok()?;
+    Some(stream)
+}
+
+/// Whether the longest message is written and read by a stream.
+fn is_longest_carried(alloc: Global) -> Option<bool> {
+    let frame = longest_frame(alloc).ok()?;
+    let mut dial = dialer(alloc, &frame).ok()?;
+    let stream = stream_by(alloc, &mut dial)?;
+    Some(is_carried(alloc, stream, &frame))
 }
 
 #[test]
 fn the_longest_message_is_carried(rt: HostRuntime) {
-    assert!(rt; matches!(is_carried(rt.alloc()), Ok(true)));
+    assert!(rt; matches!(is_longest_carried(rt.alloc()), Some(true)));
 }
 
-/// The next message of a client's stream, or none at the end.
-fn next_message(stream: &mut TcpClientStream<PairLink>) -> Result<Option<Octets>, NetError> {
+/// Puts a message of these bytes into the queue of a client's stream, and tells whether it took it.
+fn put_for_client(
+    alloc: Global,
+    stream: &mut TcpClientStream<PairLink>,
+    handle: &mut BufDnsStreamHandle,
+    bytes: &[u8],
+) -> bool {
+    let Ok(bytes) = Octets::from_slice(alloc, bytes) else {
+        return false;
+    };
+    let message = SerialMessage {
+        bytes,
+        addr: server(),
+    };
+    if message.bytes.is_empty() || !stream.has_room(handle) {
+        return false;
+    }
+    stream.enqueue(handle, message).is_ok()
+}
+
+/// Reads until something else than a part of a message comes for a client.
+fn next_for_client(stream: &mut TcpClientStream<PairLink>, read: &mut Vec<u8>) -> Heard {
     for _ in 0..200_000u32 {
-        match stream.feed()? {
-            Feed::More => (),
-            Feed::Message(message) => return Ok(Some(message.bytes)),
-            Feed::Closed => return Ok(None),
+        let heard = heard_feed(&stream.feed(), read);
+        if heard != Heard::More {
+            return heard;
         }
     }
-    Err(NetError::Timeout)
+    Heard::Other
+}
+
+/// Whether a client's stream writes the message of a frame, and reads it.
+fn carries_for_client(
+    alloc: Global,
+    stream: &mut TcpClientStream<PairLink>,
+    handle: &mut BufDnsStreamHandle,
+    frame: &[u8],
+) -> bool {
+    let mut read = Vec::new(alloc);
+    put_for_client(alloc, stream, handle, behind(frame))
+        && heard_drain(&stream.drain()) == Heard::Written
+        && next_for_client(stream, &mut read) == Heard::Message
+        && *read.as_slice() == *behind(frame)
+}
+
+/// The same over the dialer's link.
+fn is_carried_by(alloc: Global, dial: &mut ListDialer, frame: &[u8]) -> Option<bool> {
+    let made = TcpClientStream::new(alloc, dial, server(), None, 5000);
+    let (mut stream, mut handle) = made.ok()?;
+    Some(carries_for_client(alloc, &mut stream, &mut handle, frame))
 }
 
 /// Whether the longest message is written and read by a client's stream.
-fn is_carried_by_client(alloc: Global) -> Result<bool, NetError> {
-    let mut dial = dialer(alloc)?;
-    let (mut stream, mut handle) = TcpClientStream::new(alloc, &mut dial, server(), None, 5000)?;
-    let frame = longest_frame(alloc, LONGEST)?;
-    let message = SerialMessage {
-        bytes: Octets::from_slice(alloc, &frame[2..])?,
-        addr: server(),
-    };
-    if !message.bytes.is_empty() {
-        stream.enqueue(&mut handle, message)?;
-    }
-    let written = stream.drain()?;
-    let read = next_message(&mut stream)?;
-    Ok(written && is_message(&read, &frame[2..]))
+fn is_longest_carried_by_client(alloc: Global) -> Option<bool> {
+    let frame = longest_frame(alloc).ok()?;
+    let mut dial = dialer(alloc, &frame).ok()?;
+    is_carried_by(alloc, &mut dial, &frame)
 }
 
 #[test]
 fn the_longest_message_is_carried_for_a_client(rt: HostRuntime) {
-    assert!(rt; matches!(is_carried_by_client(rt.alloc()), Ok(true)));
+    assert!(rt; matches!(is_longest_carried_by_client(rt.alloc()), Some(true)));
 }

@@ -1,16 +1,27 @@
-ghost use Rattle.std.specs.Prelude.{◌≡◌, ◌≢◌, [], All, IfOk};
+ghost use Rattle.std.specs.Prelude.{◌≢◌, [], All, IfOk};
 
-use dns_handle::NetError;
 use dns_link::{Link, PairLink};
 use dns_mux::{BufDnsStreamHandle, SerialMessage};
 use dns_name::{NoMemory, Octets};
-use dns_transport::{Feed, TcpStream};
+use dns_transport::TcpStream;
 use std::alloc::Global;
 use std::net::{IpAddr, Ipv4Addr, SocketAddr};
 
-/// The other side of all tests.
+/// The other side of the tests in memory.
 pub(crate) fn server() -> SocketAddr {
     SocketAddr::new(IpAddr::V4(Ipv4Addr::new(192, 0, 2, 1)), 53)
+}
+
+/// Puts bytes behind other pieces as one of their own, if there are any.
+fn push_piece(alloc: Global, pieces: &mut Vec<Octets>, bytes: &[u8]) -> Result<(), NoMemory>
+    requires { All (λ piece. piece ≢ []) pieces.old.items }
+    ensures { All (λ piece. piece ≢ []) pieces.new.items }
+{
+    let piece = Octets::from_slice(alloc, bytes)?;
+    if !piece.is_empty() {
+        pieces.push(piece)?;
+    }
+    Ok(())
 }
 
 /// Bytes as pieces; those without a byte are left out.
@@ -19,68 +30,75 @@ pub(crate) fn pieces_of(alloc: Global, parts: &[&[u8]]) -> Result<Vec<Octets>, N
 {
     let mut pieces = Vec::new(alloc);
     for part in parts {
-        if !part.is_empty() {
-            pieces.push(Octets::from_slice(alloc, part)?)?;
-        }
+        push_piece(alloc, &mut pieces, part)?;
     }
     Ok(pieces)
 }
 
-/// A stream over a link in memory that gives these pieces.
-pub(crate) fn stream_of(
-    alloc: Global,
-    parts: &[&[u8]],
-) -> Result<(TcpStream<PairLink>, BufDnsStreamHandle), NoMemory> {
-    let pieces = pieces_of(alloc, parts)?;
-    let link = PairLink::new(alloc, pieces, 100, Vec::new(alloc))?;
-    Ok(TcpStream::from_stream(alloc, link, server()))
+/// Bytes as pieces of one byte each.
+pub(crate) fn single_bytes(alloc: Global, bytes: &[u8]) -> Result<Vec<Octets>, NoMemory>
+    ensures { IfOk result (λ pieces. All (λ piece. piece ≢ []) pieces.items) }
+{
+    let mut pieces = Vec::new(alloc);
+    for byte in bytes {
+        push_piece(alloc, &mut pieces, &[*byte])?;
+    }
+    Ok(pieces)
 }
 
-/// Puts a message of these bytes into a stream's queue; one without a byte isn't put.
-pub(crate) fn put<L: Link + Drop>(
+/// A link in memory that gives these pieces and takes a hundred bytes.
+pub(crate) fn link_of(alloc: Global, parts: &[&[u8]]) -> Result<PairLink, NoMemory> {
+    let pieces = pieces_of(alloc, parts)?;
+    PairLink::new(alloc, pieces, 100, Vec::new(alloc))
+}
+
+/// A stream over a link to the server.
+pub(crate) fn stream_over<L: Link + Drop>(alloc: Global, link: L) -> TcpStream<L> {
+    let (stream, _) = TcpStream::from_stream(alloc, link, server());
+    stream
+}
+
+/// Puts a message of these bytes into a stream's queue by a handle, and tells whether it took it. One without a byte isn't put.
+pub(crate) fn put_by<L: Link + Drop>(
     alloc: Global,
     stream: &mut TcpStream<L>,
     handle: &mut BufDnsStreamHandle,
     bytes: &[u8],
-) -> Result<(), NetError> {
+) -> bool {
+    let Ok(bytes) = Octets::from_slice(alloc, bytes) else {
+        return false;
+    };
     let message = SerialMessage {
-        bytes: Octets::from_slice(alloc, bytes)?,
+        bytes,
         addr: server(),
     };
     if message.bytes.is_empty() {
-        return Ok(());
+        return false;
     }
-    stream.enqueue(handle, message)
+    stream.enqueue(handle, message).is_ok()
 }
 
-/// Writes all that waits.
-pub(crate) fn write_all<L: Link + Drop>(stream: &mut TcpStream<L>) -> Result<(), NetError> {
-    for _ in 0..200_000u32 {
-        if stream.drain()? {
-            return Ok(());
-        }
-    }
-    Err(NetError::Timeout)
-}
-
-/// The next message, or none at the end.
-pub(crate) fn next_of<L: Link + Drop>(
+/// The same by a handle of the usual size to an address.
+pub(crate) fn put_to<L: Link + Drop>(
+    alloc: Global,
     stream: &mut TcpStream<L>,
-) -> Result<Option<Octets>, NetError> {
-    for _ in 0..200_000u32 {
-        match stream.feed()? {
-            Feed::More => (),
-            Feed::Message(message) => return Ok(Some(message.bytes)),
-            Feed::Closed => return Ok(None),
-        }
-    }
-    Err(NetError::Timeout)
+    addr: SocketAddr,
+    bytes: &[u8],
+) -> bool {
+    let (mut handle, _) = BufDnsStreamHandle::new(alloc, addr);
+    put_by(alloc, stream, &mut handle, bytes)
 }
 
-/// Whether a message of these bytes was read.
-pub(crate) fn is_message(read: &Option<Octets>, bytes: &[u8]) -> bool {
-    match read {
-        Some(message) => message.as_slice() == bytes,
-        None => false,
+/// The same to the other side.
+pub(crate) fn put<L: Link + Drop>(alloc: Global, stream: &mut TcpStream<L>, bytes: &[u8]) -> bool {
+    let addr = stream.peer_addr();
+    put_to(alloc, stream, addr, bytes)
+}
+
+/// What stands behind the length in a frame.
+pub(crate) fn behind(frame: &[u8]) -> &[u8] {
+    match frame {
+        [_, _, message @ ..] => message,
+        _ => frame,
     }
 }

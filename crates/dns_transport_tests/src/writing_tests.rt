@@ -1,76 +1,95 @@
-use crate::parts::{put, server, stream_of, write_all};
+use crate::heard::{Heard, drain, feed, write_all};
+use crate::parts::{link_of, put, put_by, put_to, server, stream_over};
 use crate::slow_link::SlowLink;
-use dns_handle::{IoKind, NetError};
+use dns_handle::IoKind;
 use dns_link::PairLink;
+use dns_mux::BufDnsStreamHandle;
+use dns_name::NoMemory;
 use dns_transport::TcpStream;
 use std::alloc::Global;
 use std::net::{IpAddr, Ipv4Addr, SocketAddr};
 
-/// Another address than the server's.
-fn elsewhere() -> SocketAddr {
-    SocketAddr::new(IpAddr::V4(Ipv4Addr::new(192, 0, 2, 2)), 53)
+/// An address, by its last byte; the server's is 1.
+fn address(last: u8) -> SocketAddr {
+    SocketAddr::new(IpAddr::V4(Ipv4Addr::new(192, 0, 2, last)), 53)
 }
 
-/// The fault of writing a message of so many bytes to an address, if it is one, and that of the next call.
-fn faults_of(
-    alloc: Global,
+/// A message of so many bytes to an address that can't be written, and the fault.
+struct Refusal {
     len: usize,
-    addr: SocketAddr,
-) -> Result<(Option<IoKind>, Option<IoKind>), NetError> {
-    let (mut stream, handle) = stream_of(alloc, &[])?;
-    let mut handle = handle.with_remote_addr(addr);
+    last: u8,
+    kind: IoKind,
+}
+
+const REFUSALS: &[Refusal] = &[
+    Refusal {
+        len: 65_536,
+        last: 1,
+        kind: IoKind::RequestTooLong,
+    },
+    Refusal {
+        len: 1,
+        last: 2,
+        kind: IoKind::InvalidData,
+    },
+    // The address is looked at first.
+    Refusal {
+        len: 65_536,
+        last: 2,
+        kind: IoKind::InvalidData,
+    },
+];
+
+fn refusals() -> &'static [Refusal] {
+    REFUSALS
+}
+
+/// Whether writing bytes to an address is answered by a fault of a kind, and then there is no connection.
+fn is_refused(
+    alloc: Global,
+    stream: &mut TcpStream<PairLink>,
+    bytes: &[u8],
+    refusal: &Refusal,
+) -> bool {
+    let mut read = Vec::new(alloc);
+    put_to(alloc, stream, address(refusal.last), bytes)
+        && drain(stream) == Heard::Fault(refusal.kind)
+        && feed(stream, &mut read) == Heard::Fault(IoKind::NotConnected)
+}
+
+/// The same over a link that gives nothing.
+fn ends(alloc: Global, refusal: &Refusal) -> Result<bool, NoMemory> {
     let mut bytes = Vec::new(alloc);
-    bytes.resize(len.clamp(1, 70_000), 7u8)?;
-    put(alloc, &mut stream, &mut handle, &bytes)?;
-    let first = kind_of(&stream.drain());
-    let second = kind_of(&stream.feed());
-    Ok((first, second))
-}
-
-/// The kind of a fault.
-fn kind_of<X>(reply: &Result<X, NetError>) -> Option<IoKind> {
-    match reply {
-        Err(NetError::Io(kind)) => Some(*kind),
-        _ => None,
-    }
-}
-
-/// Messages that can't be written, and the fault of each.
-fn refusals() -> [(usize, SocketAddr, IoKind); 3] {
-    [
-        (65536, server(), IoKind::RequestTooLong),
-        (1, elsewhere(), IoKind::InvalidData),
-        // The address is looked at first.
-        (65536, elsewhere(), IoKind::InvalidData),
-    ]
+    bytes.resize(refusal.len.min(70_000), 7u8)?;
+    let mut stream = stream_over(alloc, link_of(alloc, &[])?);
+    Ok(is_refused(alloc, &mut stream, &bytes, refusal))
 }
 
 #[test]
 fn messages_that_cannot_be_written_end_the_stream(rt: HostRuntime) {
-    let alloc = rt.alloc();
-    for (len, addr, kind) in refusals() {
-        let faults = faults_of(alloc, len, addr);
-        assert!(rt;
-            matches!(faults, Ok((Some(first), Some(IoKind::NotConnected))) if first == kind)
-        );
+    for refusal in refusals() {
+        assert!(rt; matches!(ends(rt.alloc(), refusal), Ok(true)));
     }
 }
 
 /// The frames of three messages.
-const FRAMES: [u8; 12] = [0, 1, 7, 0, 2, 8, 9, 0, 3, 1, 2, 3];
+const FRAMES: &[u8] = &[0, 1, 7, 0, 2, 8, 9, 0, 3, 1, 2, 3];
+
+/// Writes three messages, two of them together.
+fn write_three(alloc: Global, stream: &mut TcpStream<SlowLink>) -> bool {
+    let two = put(alloc, stream, &[7]) && put(alloc, stream, &[8, 9]);
+    let written = write_all(stream) == Heard::Written;
+    let third = put(alloc, stream, &[1, 2, 3]);
+    two && written && third && write_all(stream) == Heard::Written
+}
 
 /// Whether a link takes the frames of three messages, byte by byte.
-fn are_written(alloc: Global) -> Result<bool, NetError> {
-    let link = PairLink::new(alloc, Vec::new(alloc), 100, Vec::new(alloc))?;
-    let slow = SlowLink::new(link, u64::MAX, IoKind::Other);
-    let (mut stream, mut handle) = TcpStream::from_stream(alloc, slow, server());
-    put(alloc, &mut stream, &mut handle, &[7])?;
-    put(alloc, &mut stream, &mut handle, &[8, 9])?;
-    write_all(&mut stream)?;
-    put(alloc, &mut stream, &mut handle, &[1, 2, 3])?;
-    write_all(&mut stream)?;
+fn are_written(alloc: Global) -> Result<bool, NoMemory> {
+    let slow = SlowLink::new(link_of(alloc, &[])?, u64::MAX, IoKind::Other);
+    let mut stream = stream_over(alloc, slow);
+    let written = write_three(alloc, &mut stream);
     let link = stream.into_link();
-    Ok(*link.taken() == *FRAMES.as_slice())
+    Ok(written && *link.taken() == *FRAMES)
 }
 
 #[test]
@@ -78,41 +97,54 @@ fn frames_are_written_to_a_link_that_takes_a_byte_at_a_time(rt: HostRuntime) {
     assert!(rt; matches!(are_written(rt.alloc()), Ok(true)));
 }
 
-/// The fault of writing more than a link takes, and how many failures a stream has then.
-fn filled(alloc: Global) -> Result<(Option<IoKind>, u64), NetError> {
-    let (mut stream, mut handle) = stream_of(alloc, &[])?;
-    put(alloc, &mut stream, &mut handle, &[7; 98])?;
-    put(alloc, &mut stream, &mut handle, &[8])?;
-    stream.drain()?;
-    let kind = kind_of(&stream.drain());
-    let _ = stream.drain();
-    Ok((kind, stream.failures()))
+/// Whether writing more than a link takes is a fault, and the next call finds no connection.
+fn is_filled(alloc: Global, stream: &mut TcpStream<PairLink>) -> bool {
+    let is_put = put(alloc, stream, &[7; 98]) && put(alloc, stream, &[8]);
+    let first = drain(stream) == Heard::Waiting;
+    let full = drain(stream) == Heard::Fault(IoKind::Other);
+    let after = drain(stream) == Heard::Fault(IoKind::NotConnected);
+    is_put && first && full && after && stream.failures() == 2
+}
+
+/// The same over a link that takes a hundred bytes.
+fn fills(alloc: Global) -> Result<bool, NoMemory> {
+    let mut stream = stream_over(alloc, link_of(alloc, &[])?);
+    Ok(is_filled(alloc, &mut stream))
 }
 
 #[test]
 fn a_link_that_takes_nothing_is_a_fault(rt: HostRuntime) {
-    assert!(rt; matches!(filled(rt.alloc()), Ok((Some(IoKind::Other), 2))));
+    assert!(rt; matches!(fills(rt.alloc()), Ok(true)));
 }
 
-/// How many messages of one byte a queue takes.
-fn taken(alloc: Global, size: usize) -> Result<usize, NetError> {
-    let link = PairLink::new(alloc, Vec::new(alloc), 0, Vec::new(alloc))?;
+/// How many messages of one byte a queue takes of fifty by a handle, as it tells before each; 0 where it tells otherwise.
+fn taken(alloc: Global, stream: &mut TcpStream<PairLink>, handle: &mut BufDnsStreamHandle) -> u32 {
+    let mut count: u32 = 0;
+    for _ in 0..50u32 {
+        let has_room = stream.has_room(handle);
+        if put_by(alloc, stream, handle, &[7]) != has_room {
+            return 0;
+        }
+        if has_room {
+            count = count.saturating_add(1);
+        }
+    }
+    count
+}
+
+/// How many the queue of a stream takes by its own handle, of size 3.
+fn taken_of_three(alloc: Global) -> Result<u32, NoMemory> {
+    let link = link_of(alloc, &[])?;
     let (mut stream, mut handle) = TcpStream::from_stream_with_buffer_size(
         alloc,
         link,
         server(),
-        size,
+        3,
     );
-    let mut count: usize = 0;
-    for _ in 0..50u32 {
-        if put(alloc, &mut stream, &mut handle, &[7]).is_ok() {
-            count = count.saturating_add(1);
-        }
-    }
-    Ok(count)
+    Ok(taken(alloc, &mut stream, &mut handle))
 }
 
 #[test]
 fn a_queue_takes_one_more_than_its_size(rt: HostRuntime) {
-    assert!(rt; matches!(taken(rt.alloc(), 3), Ok(4)));
+    assert!(rt; matches!(taken_of_three(rt.alloc()), Ok(4)));
 }
