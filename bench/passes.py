@@ -38,9 +38,10 @@ def counts_of(words, text, names, clock=time.perf_counter):
 
 
 class Timing:
-    """The best runs so far of some passes and of twice as many: what the passes alone take is the difference."""
+    """The best runs so far of some passes and of twice as many, by a clock: what the passes alone take is the difference."""
 
-    def __init__(self, words, text, names, passes):
+    def __init__(self, words, text, names, passes, clock=time.perf_counter):
+        self.clock = clock
         self.words = words
         self.text = text
         self.names = names
@@ -51,7 +52,7 @@ class Timing:
     def turn(self):
         """One run of each. Its counts must be those of one pass so many times."""
         for place, passes in enumerate((self.passes, 2 * self.passes)):
-            taken, counts = counts_of([*self.words, str(passes)], self.text, self.names)
+            taken, counts = counts_of([*self.words, str(passes)], self.text, self.names, self.clock)
             if counts != tuple(count * passes for count in self.counts):
                 sys.exit(f"wrong counts: {self.counts} of one pass, {counts} of {passes}")
             self.best[place] = min(self.best[place], taken)
