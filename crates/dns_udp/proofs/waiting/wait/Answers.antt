@@ -1,0 +1,72 @@
+use Rattle.std.proofs.Common.{[], sym, ◌∙◌, arith}
+use Rattle.dns_link.specs.Counts.{no_counts}
+use Rattle.dns_sockets.specs.Met.{dialer_view}
+use Rattle.dns_udp.specs.Sendings.{asked_by}
+use Rattle.dns_udp.proofs.HoldLemmas.{holds_none}
+use Rattle.dns_udp.proofs.WaitLemmas.{first_failed, first_opened, going_parts, over_in_vain, over_parts}
+use Rattle.dns_udp.proofs.waiting.wait.Goals as goal
+
+pub returns-in-Err : goal.returns-in-Err
+returns-in-Err g c =
+    first_failed g.D.Datagrams.Datagrams.counts g.D.Datagrams.Datagrams.given g.R.Draws.draws_port
+    (asked_by c.args.sending.now)
+    (dialer_view g.D.Dialer.counts g.D.Dialer.given_datagrams c.args.dial.now)
+    (dialer_view g.D.Dialer.counts g.D.Dialer.given_datagrams c.open_more.new.dial)
+    c.args.draws.now c.open_more.new.draws c.open_more.new.sockets.items c.in-Err.error c.open_more.ensures.ports
+    (c.in-Err.ensures.opens (dialer_view g.D.Dialer.counts g.D.Dialer.given_datagrams c.args.dial.now) [] no_counts
+    (rw c.requires.none
+    (holds_none g.D.Datagrams.Datagrams.counts g.D.Datagrams.Datagrams.given
+    (dialer_view g.D.Dialer.counts g.D.Dialer.given_datagrams c.args.dial.now))))
+
+pub turns-init : goal.turns-init
+turns-init g c = (
+  first_opened g.D.Datagrams.Datagrams.counts g.D.Datagrams.Datagrams.given g.R.Draws.draws_port
+      (asked_by c.args.sending.now)
+      (dialer_view g.D.Dialer.counts g.D.Dialer.given_datagrams c.args.dial.now)
+      (dialer_view g.D.Dialer.counts g.D.Dialer.given_datagrams c.open_more.new.dial)
+      c.args.draws.now c.open_more.new.draws c.open_more.new.sockets.items c.open_more.ensures.ports
+      (c.in-Ok.ensures.opens (dialer_view g.D.Dialer.counts g.D.Dialer.given_datagrams c.args.dial.now) [] no_counts
+      (rw c.requires.none
+      (holds_none g.D.Datagrams.Datagrams.counts g.D.Datagrams.Datagrams.given
+      (dialer_view g.D.Dialer.counts g.D.Dialer.given_datagrams c.args.dial.now)))),
+  c.in-Ok.ensures.some,
+  omega arith,
+)
+
+pub take_turn-requires-clause-turn : goal.take_turn-requires-clause-turn
+take_turn-requires-clause-turn g c = c.turns.invariant.1
+
+pub turns-smaller : goal.turns-smaller
+turns-smaller g c = c.in-None.ensures.less
+
+pub turns-preserved : goal.turns-preserved
+turns-preserved g c = (
+  c.in-None.ensures.ends (dialer_view g.D.Dialer.counts g.D.Dialer.given_datagrams c.args.dial.now) c.args.draws.now
+      c.turns.invariant.0,
+  c.in-None.ensures.turn,
+  c.in-None.ensures.most,
+)
+
+pub returns-in-Some : goal.returns-in-Some
+returns-in-Some g c =
+    c.in-Some.ensures.ends (dialer_view g.D.Dialer.counts g.D.Dialer.given_datagrams c.args.dial.now) c.args.draws.now
+    c.turns.invariant.0
+
+pub take_turn-requires-clause-time : goal.take_turn-requires-clause-time
+take_turn-requires-clause-time g c = (going_parts _ _ _ (sym c.goes_on.ensures.going ∙ c.turns-test.true)).0
+
+pub take_turn-requires-clause-few : goal.take_turn-requires-clause-few
+take_turn-requires-clause-few g c = (going_parts _ _ _ (sym c.goes_on.ensures.going ∙ c.turns-test.true)).1
+
+pub returns : goal.returns
+returns g c =
+    over_in_vain g.D.Datagrams.Datagrams.counts g.D.Datagrams.Datagrams.given g.R.Draws.draws_port
+    (asked_by c.args.sending.now)
+    (dialer_view g.D.Dialer.counts g.D.Dialer.given_datagrams c.args.dial.now)
+    (dialer_view g.D.Dialer.counts g.D.Dialer.given_datagrams c.turns.dial)
+    c.args.draws.now c.turns.draws c.turns.sockets.items c.turns.progress.elapsed
+    c.turns.progress.ignored c.turns.invariant.0 c.turns.invariant.2
+    (over_parts _ _ _ (sym c.goes_on.ensures.going ∙ c.turns-test.false))
+
+pub take_turn-requires-clause-range : goal.take_turn-requires-clause-range
+take_turn-requires-clause-range g c = c.goes_on.ensures.range
