@@ -1,8 +1,10 @@
-//! Lookups with validation over connections of this machine.
+//! Lookups with validation over connections and datagrams of this machine.
 //!
 //! They stand apart, since they stand on both halves of the library.
 #![tactic(auto)]
 
+#[cfg(test)]
+mod datagram_tests;
 #[cfg(test)]
 mod lookup_tests;
 #[cfg(test)]

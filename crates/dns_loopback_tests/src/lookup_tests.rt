@@ -36,7 +36,10 @@ fn verifier(alloc: Global) -> Result<Listed, NoMemory> {
 }
 
 /// What a validator over a handle answers to a query for the root's name servers.
-fn looked_up<H: DnsHandle + Drop>(alloc: Global, handle: H) -> Result<DnsResponse, NetError> {
+pub(crate) fn looked_up<H: DnsHandle + Drop>(
+    alloc: Global,
+    handle: H,
+) -> Result<DnsResponse, NetError> {
     let query = Query {
         name: Name::root(alloc)?,
         query_type: RecordType::NS,
@@ -47,7 +50,7 @@ fn looked_up<H: DnsHandle + Drop>(alloc: Global, handle: H) -> Result<DnsRespons
 }
 
 /// Whether the first answer is a Secure set of name servers.
-fn is_secure(answer: &Result<DnsResponse, NetError>) -> bool {
+pub(crate) fn is_secure(answer: &Result<DnsResponse, NetError>) -> bool {
     match answer {
         Ok(response) => match response.message.answers.first() {
             Some(record) => {

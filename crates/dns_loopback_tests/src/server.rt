@@ -5,7 +5,9 @@ use dns_mux::{BufDnsStreamHandle, SerialMessage};
 use dns_name::Octets;
 use dns_transport::{Feed, TcpStream};
 use std::alloc::Global;
-use std::net::{SocketAddr, TcpListener};
+use std::io;
+use std::net::{SocketAddr, TcpListener, UdpSocket};
+use std::time::Duration;
 
 /// The root's name servers with their signature, behind the id.
 const SERVERS: &[u8] = b"\x84\0\0\x01\0\x02\0\0\0\0\0\0\x02\0\x01\
@@ -26,6 +28,14 @@ pub(crate) fn listener(rt: &HostRuntime) -> Result<(TcpListener, SocketAddr), Ne
         Ok(addr) => Ok((listener, addr)),
         Err(error) => Err(NetError::from(kind_of(&error))),
     }
+}
+
+/// A socket of this machine, which waits five seconds for a datagram, and its address.
+pub(crate) fn bound(rt: &HostRuntime) -> io::Result<(UdpSocket, SocketAddr)> {
+    let socket = UdpSocket::bind(rt, "127.0.0.1:0")?;
+    socket.set_read_timeout(Some(Duration::from_secs(5)))?;
+    let addr = socket.local_addr()?;
+    Ok((socket, addr))
 }
 
 /// The response to a request for something of the root.
@@ -107,4 +117,30 @@ pub(crate) fn serve(alloc: Global, listener: &TcpListener) -> Result<u32, NetErr
         }
         Err(error) => Err(NetError::from(kind_of(&error))),
     }
+}
+
+/// Answers the next request that comes in a datagram.
+fn serve_datagram(alloc: Global, socket: &UdpSocket) -> Result<(), NetError> {
+    let mut buf = [0u8; 512];
+    let (len, from) = match socket.recv_from(&mut buf) {
+        Ok(came) => came,
+        Err(error) => return Err(NetError::from(kind_of(&error))),
+    };
+    let response = response_to(alloc, &buf[..len])?;
+    match socket.send_to(response.as_slice(), from) {
+        Ok(_) => Ok(()),
+        Err(error) => Err(NetError::from(kind_of(&error))),
+    }
+}
+
+/// Answers so many requests that come in datagrams.
+pub(crate) fn serve_datagrams(
+    alloc: Global,
+    socket: &UdpSocket,
+    requests: u32,
+) -> Result<(), NetError> {
+    for _ in 0..requests {
+        serve_datagram(alloc, socket)?;
+    }
+    Ok(())
 }
