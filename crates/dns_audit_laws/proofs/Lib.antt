@@ -3,3 +3,5 @@ mod WrittenWords
 mod WrittenForms
 mod WrittenParts
 mod WrittenLaw
+mod OnwardPlaces
+mod BehindLaw

@@ -70,10 +70,11 @@ last_read : (number : ℕ) → end_at (place number (left_of last)) ≡ Ok tt
 unfolding one
 last_read number = refl
 
-lines_read : (v : View) → fitting_view v ≡ true → short_view v ≡ true
-    → report_at (place 1 (left_of (lines_of v))) ≡ Ok (report_shown v)
+-- a report's lines are read as what it shows, whatever the number of the first
+lines_read : (v : View) → fitting_view v ≡ true → short_view v ≡ true → (number : ℕ)
+    → report_at (place number (left_of (lines_of v))) ≡ Ok (report_shown v)
 unfolding report_at
-lines_read v h small =
+lines_read v h small number =
     let f = fitting v h in
     let s = short v small in
     let later = later_lines v in
@@ -83,12 +84,12 @@ lines_read v h small =
     let good_later = later_first v.chains v.trail f.chains s.trail in
     let good_third = blocks_first (record_of Additional) fitting_record (record_good Additional) v.additionals later f.additionals good_later in
     let good_second = blocks_first (record_of Authority) fitting_record (record_good Authority) v.authorities third f.authorities good_third in
-    let head = one_line_read report_header 1 (codes "dns-report", codes "1" ∷ [])
+    let head = one_line_read report_header number (codes "dns-report", codes "1" ∷ [])
     ((codes "code", decimal v.code ∷ []) ∷ (codes "denial", denial_words v.denial) ∷ first) tt refl in
-    let code = one_line_read code_line (1 + 1) (codes "code", decimal v.code ∷ []) ((codes "denial", denial_words v.denial) ∷ first)
+    let code = one_line_read code_line (number + 1) (codes "code", decimal v.code ∷ []) ((codes "denial", denial_words v.denial) ∷ first)
     v.code (code_reads v.code f.code) in
-    let denial = one_line_read denial_line (1 + 1 + 1) (codes "denial", denial_words v.denial) first v.denial (denial_reads v.denial) in
-    let answers = records_read Answer v.answers second f.answers s.answers good_second (others_begin v) (1 + 1 + 1 + 1) in
+    let denial = one_line_read denial_line (number + 1 + 1) (codes "denial", denial_words v.denial) first v.denial (denial_reads v.denial) in
+    let answers = records_read Answer v.answers second f.answers s.answers good_second (others_begin v) (number + 1 + 1 + 1) in
     let authorities = records_read Authority v.authorities third f.authorities s.authorities good_third (additionals_begin v) answers.next in
     let additionals = records_read Additional v.additionals later f.additionals s.additionals good_later
     (later_begins Additional v) authorities.next in
@@ -111,7 +112,11 @@ lines_read v h small =
       map_same v.additionals,
     ) refl
 
+pub report_read : (v : View) → fitting_view v ≡ true → short_view v ≡ true → (number : ℕ)
+    → report_at (place number (pieces 10 (view_text v))) ≡ Ok (report_shown v)
+report_read v h small number =
+    ap (λ ps. report_at (place number ps)) (ap (pieces 10) (sym (text_is_lines v)) ∙ text_pieces (lines_of v) (lines_good v h))
+    ∙ lines_read v h small number
+
 pub written_is_read : (v : View) → fitting_view v ≡ true → short_view v ≡ true → report_of (view_text v) ≡ Ok (report_shown v)
-written_is_read v h small =
-    ap (λ ps. report_at (place 1 ps)) (ap (pieces 10) (sym (text_is_lines v)) ∙ text_pieces (lines_of v) (lines_good v h))
-    ∙ lines_read v h small
+written_is_read v h small = report_read v h small 1

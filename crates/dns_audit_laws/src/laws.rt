@@ -1,8 +1,10 @@
-//! The law of reports that are written and read again. It is the contract of a function that does nothing.
-ghost use Rattle.std.specs.Prelude.{◌≡◌, IsTrue, Ok};
+//! The laws of reports that are written and read again. Each is the contract of a function that does nothing.
+ghost use Rattle.std.specs.Prelude.{◌≡◌, ◌++◌, ℕ, List, IsTrue, Ok};
 ghost use Rattle.dns_report.specs.View.{View, fitting_view};
 ghost use Rattle.dns_report.specs.Report.{view_text};
-ghost use Rattle.dns_audit.specs.ReportGrammar.{report_of};
+ghost use Rattle.dns_session.specs.SessionValue.{SessionValue};
+ghost use Rattle.dns_session.specs.Grammar.{session_of};
+ghost use Rattle.dns_audit.specs.ReportGrammar.{report_of, audit_of};
 ghost use Rattle.dns_audit_laws.specs.Written.{report_shown, short_view};
 
 /// A law: what is written is read back. The report of a view is read as all that the view shows, where the view's fields have
@@ -10,4 +12,12 @@ ghost use Rattle.dns_audit_laws.specs.Written.{report_shown, short_view};
 pub fn what_is_written_is_read_back()
     ensures { (v : View) → IsTrue (fitting_view v) → IsTrue (short_view v)
         → report_of (view_text v) ≡ Ok (report_shown v) }
+{}
+
+/// A law: an audit reads a session and the report behind it as what they are alone. Where bytes are a session, they and the report
+/// of a view behind them are read as that session and all that the view shows.
+pub fn a_report_is_read_behind_its_session()
+    ensures { (bytes : List ℕ) → (s : SessionValue) → (v : View) → session_of bytes ≡ Ok s
+        → IsTrue (fitting_view v) → IsTrue (short_view v)
+        → audit_of (bytes ++ view_text v) ≡ Ok (s, report_shown v) }
 {}

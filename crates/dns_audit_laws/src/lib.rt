@@ -1,6 +1,6 @@
-//! What `dns_report` writes, `dns_audit` reads back: a law over all views that reports show.
+//! What `dns_report` writes, `dns_audit` reads back, also behind a session: laws over all views that reports show.
 #![tactic(auto)]
 
 mod laws;
 
-pub use laws::what_is_written_is_read_back;
+pub use laws::{a_report_is_read_behind_its_session, what_is_written_is_read_back};
