@@ -1,35 +1,21 @@
 -- What stands behind a session is read from its first line on.
-use Rattle.std.proofs.Common.{◌≡◌, ℕ, ◌+◌, Bool, true, false, ◌==◌, List, [], ◌∷◌, ◌++◌, length, Option, None, Some, Result, Ok, Err, if◌then◌else◌, refl, sym, ap, ◌∙◌, inl, inr, append_assoc}
+use Rattle.std.proofs.Common.{◌≡◌, ℕ, true, false, ◌==◌, List, [], ◌∷◌, ◌++◌, Result, Ok, Err, if◌then◌else◌, refl, sym, ap, ◌∙◌, inl, inr, append_assoc}
 use Rattle.std.specs.List.{list_any}
-use Rattle.std.specs.Result.{result_unwrap_or}
 use Rattle.std.proofs.lemmas.Bool.{cases_Bool, or_parts}
-use Rattle.dns_model.specs.ResultSteps.{◌>>=◌}
 use Rattle.dns_session.specs.LinePlaces.{Place, place, pieces, start_of, one, optional, many, is_ended, is_nothing}
 use Rattle.dns_session.specs.Lines.{header_line, moment_line, depth_line, algorithms_line, anchor_line, accept_line, query_line, upstream_line, end_line}
 use Rattle.dns_session.specs.Grammar.{session_at, session_front, session_of}
 use Rattle.dns_session.specs.SessionValue.{SessionValue}
-use Rattle.dns_session.specs.Spelled.{lines_text, Unbroken, Spelled, session_lines}
+use Rattle.dns_session.specs.Spelled.{lines_text, Unbroken, session_lines}
 use Rattle.dns_session.proofs.PieceLemmas.{pieces_listed}
 use Rattle.dns_session.proofs.SpelledLaws.{pieces_lines, session_spelled}
 use Rattle.dns_report.specs.View.{View, fitting_view}
 use Rattle.dns_report.specs.Report.{view_text}
 use Rattle.dns_audit.specs.ReportGrammar.{audit_of}
 use Rattle.dns_audit_laws.specs.Written.{report_shown, short_view}
+use Rattle.dns_audit_laws.proofs.FromSteps.{given, same_ok, nothing_left}
 use Rattle.dns_audit_laws.proofs.OnwardPlaces.{onward, going_on, onward_lines, one_on, many_on, optional_on, one_has, many_has}
 use Rattle.dns_audit_laws.proofs.WrittenLaw.{report_read}
-
--- what a value was, from which more was made
-record Bound {A B : Type 0} (r : Result A ℕ) (more : A → Result B ℕ) (y : B) : Type 0 where
-  value : A
-  was : r ≡ Ok value
-  gives : more value ≡ Ok y
-
-bound : {A B : Type 0} (r : Result A ℕ) (more : A → Result B ℕ) (y : B) → (r >>= more) ≡ Ok y → Bound r more y
-bound (Ok x) more y h = record { value = x; was = refl; gives = h }
-bound (Err number) more y h = cc
-
-same_ok : {A : Type 0} (x y : A) → ◌≡◌ {A = Result A ℕ} (Ok x) (Ok y) → x ≡ y
-same_ok x y h = ap (λ r. result_unwrap_or r x) h
 
 abbrev front_as : SessionValue → Place → Result (SessionValue × Place) ℕ
 front_as s at = Ok (s, at)
@@ -43,19 +29,20 @@ front_on : (m : List ℕ) (more : List (List ℕ)) (start : Place) (s : SessionV
     → session_front (going_on (m ∷ more) start) ≡ Ok (s, going_on (m ∷ more) after)
 unfolding session_front
 front_on m more start s after h =
-    let head = bound (one header_line start) _ (s, after) h in
-    let moment = bound (one moment_line head.value.1) _ (s, after) head.gives in
+    let head = given (one header_line start) _ (s, after) h in
+    let moment = given (one moment_line head.value.1) _ (s, after) head.gives in
     let depth = optional depth_line moment.value.1 in
-    let algorithms = bound (one algorithms_line depth.1) _ (s, after) moment.gives in
+    let algorithms = given (one algorithms_line depth.1) _ (s, after) moment.gives in
     let anchors = many anchor_line algorithms.value.1 in
     let accepts = many accept_line anchors.1 in
-    let query = bound (one query_line accepts.1) _ (s, after) algorithms.gives in
+    let query = given (one query_line accepts.1) _ (s, after) algorithms.gives in
     let replies = many upstream_line query.value.1 in
-    let last = bound (one end_line replies.1) _ (s, after) query.gives in
+    let last = given (one end_line replies.1) _ (s, after) query.gives in
     let last_has = one_has end_line replies.1.number replies.1.pieces last.value.0 last.value.1 last.was in
     let query_has = one_has query_line accepts.1.number accepts.1.pieces query.value.0 query.value.1 query.was in
     let anchors_has = many_has accept_line anchors.1.number anchors.1.pieces query_has in
-    let depth_has = one_has algorithms_line depth.1.number depth.1.pieces algorithms.value.0 algorithms.value.1 algorithms.was in
+    let depth_has =
+    one_has algorithms_line depth.1.number depth.1.pieces algorithms.value.0 algorithms.value.1 algorithms.was in
     rw (
       one_on header_line m more start.number start.pieces head.value.0 head.value.1 head.was,
       one_on moment_line m more head.value.1.number head.value.1.pieces moment.value.0 moment.value.1 moment.was,
@@ -77,10 +64,13 @@ split_line (x ∷ line) rest whole =
     rw (parts.0, ih) refl
 
 -- what follows lines begins a line
-lines_before : (lines : List (List ℕ)) (text : List ℕ) → Unbroken lines → pieces 10 (lines_text lines ++ text) ≡ lines ++ pieces 10 text
+lines_before : (lines : List (List ℕ)) (text : List ℕ) → Unbroken lines
+    → pieces 10 (lines_text lines ++ text) ≡ lines ++ pieces 10 text
 lines_before [] text whole = refl
 lines_before (line ∷ lines) text whole =
-    ap (pieces 10) (append_assoc (line ++ 10 ∷ []) (lines_text lines) text ∙ append_assoc line (10 ∷ []) (lines_text lines ++ text))
+    ap (pieces 10)
+    (append_assoc (line ++ 10 ∷ []) (lines_text lines) text
+    ∙ append_assoc line (10 ∷ []) (lines_text lines ++ text))
     ∙ split_line line (lines_text lines ++ text) whole.0
     ∙ ap (λ ps. line ∷ ps) (lines_before lines text whole.1)
 
@@ -95,13 +85,6 @@ pieces_behind bytes text s read =
     ∙ sym (onward_lines (pieces 10 text) lines)
     ∙ ap (onward (pieces 10 text)) (sym (ap (pieces 10) sp.spelled ∙ pieces_lines lines sp.unbroken))
 
-nothing_left : (ps : List (List ℕ)) → is_nothing ps ≡ true → ps ≡ [] ∷ []
-nothing_left [] h = cc
-nothing_left ([] ∷ []) h = refl
-nothing_left ((c ∷ cs) ∷ []) h = cc
-nothing_left ([] ∷ line ∷ ps) h = cc
-nothing_left ((c ∷ cs) ∷ line ∷ ps) h = cc
-
 -- a session alone: its front, with which the text ends
 record Alone (start : Place) (s : SessionValue) : Type 0 where
   after : Place
@@ -114,14 +97,19 @@ alone_by start after t s front h =
     elim (cases_Bool (is_nothing after.pieces)) [
       | inl is ↦
           let same : t ≡ s = same_ok t s (rw is at h) in
-          record { after = after; front = front ∙ ap (λ t. front_as t after) same; ended = nothing_left after.pieces is }
+          record {
+            after = after;
+            front = front
+                ∙ ap (λ t. front_as t after) same;
+            ended = nothing_left after.pieces is;
+          }
       | inr isnt ↦ let none : ◌≡◌ {A = Result SessionValue ℕ} (Err after.number) (Ok s) = rw isnt at h in cc
     ]
 
 session_alone : (start : Place) (s : SessionValue) → session_at start ≡ Ok s → Alone start s
 unfolding session_at
 session_alone start s h =
-    let b = bound (session_front start) _ s h in alone_by start b.value.1 b.value.0 s b.was b.gives
+    let b = given (session_front start) _ s h in alone_by start b.value.1 b.value.0 s b.was b.gives
 
 -- the front of bytes that are a session, with a text behind them
 front_behind : (bytes text : List ℕ) (s : SessionValue) → session_of bytes ≡ Ok s
@@ -132,7 +120,8 @@ front_behind bytes text s read =
     let left : onward (cut.0 ∷ cut.1) alone.after.pieces ≡ pieces 10 text =
     ap (onward (cut.0 ∷ cut.1)) alone.ended ∙ sym cut.2 in (
       alone.after.number,
-      ap (λ ps. session_front (place 1 ps)) (pieces_behind bytes text s read ∙ ap (λ ps. onward ps (pieces 10 bytes)) cut.2)
+      ap (λ ps. session_front (place 1 ps))
+          (pieces_behind bytes text s read ∙ ap (λ ps. onward ps (pieces 10 bytes)) cut.2)
           ∙ front_on cut.0 cut.1 (start_of bytes) s alone.after alone.front
           ∙ ap (λ ps. front_as s (place alone.after.number ps)) left,
     )

@@ -5,3 +5,11 @@ mod WrittenParts
 mod WrittenLaw
 mod OnwardPlaces
 mod BehindLaw
+mod FromSteps
+mod ReadFields
+mod ReadWords
+mod WordCounts
+mod ReadLines
+mod ReadTrailLines
+mod ReadParts
+mod RespelledLaw

@@ -1,9 +1,9 @@
 -- A text that goes on after its last line is read as before, up to there.
-use Rattle.std.proofs.Common.{◌≡◌, ℕ, ◌+◌, ◌<◌, List, [], ◌∷◌, ◌++◌, length, Option, None, Some, Result, Ok, Err, refl, ap, ◌∙◌, arith}
+use Rattle.std.proofs.Common.{◌≡◌, ℕ, ◌+◌, ◌<◌, List, [], ◌∷◌, ◌++◌, length, Option, None, Some, Result, Ok, refl, ap, ◌∙◌, arith}
 use Rattle.std.specs.Option.{option_map, option_map_or}
-use Rattle.std.specs.Result.{result_unwrap_or}
 use Rattle.dns_model.specs.Gives.{or_error}
-use Rattle.dns_session.specs.LinePlaces.{Place, place, next_in, one, optional, many, many_in, before_more}
+use Rattle.dns_audit_laws.proofs.FromSteps.{same_ok}
+use Rattle.dns_session.specs.LinePlaces.{Place, place, next_in, one, optional, many_in, before_more}
 
 -- these pieces with others in place of the last
 abbrev pub onward : List (List ℕ) → List (List ℕ) → List (List ℕ)
@@ -33,18 +33,15 @@ next_on m more number l k (j ∷ rest) = refl
 abbrev or_bad : {X : Type 0} → ℕ → Place → Option X → Result (X × Place) ℕ
 or_bad number after said = or_error number (option_map (λ x. (x, after)) said)
 
-ok_pair : {X : Type 0} (x y : X) (p q : Place) → ◌≡◌ {A = Result (X × Place) ℕ} (Ok (x, p)) (Ok (y, q))
-    → ◌≡◌ {A = X × Place} (x, p) (y, q)
-ok_pair x y p q h = ap (λ r. result_unwrap_or r (x, p)) h
-
 one_by : {X : Type 0} (more : List (List ℕ)) (number : ℕ) (here : Place) (said : Option X) (x : X) (after : Place)
     → or_bad number here said ≡ Ok (x, after)
     → or_bad number (going_on more here) said ≡ Ok (x, going_on more after)
 one_by more number here None x after h = cc
 one_by more number here (Some y) x after h =
-    ap (λ r. Ok (read_on more r)) (ok_pair y x here after h)
+    ap (λ r. Ok (read_on more r)) (same_ok (y, here) (x, after) h)
 
-pub one_on : {X : Type 0} (form : List ℕ → Option X) (m : List ℕ) (more : List (List ℕ)) (number : ℕ) (ps : List (List ℕ))
+pub one_on : {X : Type 0} (form : List ℕ → Option X) (m : List ℕ) (more : List (List ℕ)) (number : ℕ)
+    (ps : List (List ℕ))
     (x : X) (after : Place) → one form (place number ps) ≡ Ok (x, after)
     → one form (place number (onward (m ∷ more) ps)) ≡ Ok (x, going_on (m ∷ more) after)
 unfolding one
@@ -61,21 +58,21 @@ HasLine ps = 1 < length ps
 many_step : {X : Type 0} (form : List ℕ → Option X) (m : List ℕ) (more : List (List ℕ)) (number : ℕ) (l k : List ℕ)
     (rest : List (List ℕ))
     → many_in form number (l ∷ onward (m ∷ more) (k ∷ rest))
-    ≡ before_more (form l) (place number (l ∷ onward (m ∷ more) (k ∷ rest))) (many_in form (number + 1) (onward (m ∷ more) (k ∷ rest)))
+    ≡ before_more (form l) (place number (l ∷ onward (m ∷ more) (k ∷ rest)))
+    (many_in form (number + 1) (onward (m ∷ more) (k ∷ rest)))
 unfolding many_in
 many_step form m more number l k [] = refl
 many_step form m more number l k (j ∷ rest) = refl
 
-many_by : {X : Type 0} (m : List ℕ) (more : List (List ℕ)) (number : ℕ) (l k : List ℕ) (rest : List (List ℕ)) (said : Option X)
-    (others more_read : List X × Place)
-    → (HasLine others.1.pieces → more_read ≡ read_on (m ∷ more) others)
-    → HasLine (before_more said (place number (l ∷ k ∷ rest)) others).1.pieces
-    → before_more said (place number (l ∷ onward (m ∷ more) (k ∷ rest))) more_read
-    ≡ read_on (m ∷ more) (before_more said (place number (l ∷ k ∷ rest)) others)
-many_by m more number l k rest None others more_read same some = refl
-many_by m more number l k rest (Some x) others more_read same some = rw (same some) refl
+many_by : {X : Type 0} (more : List (List ℕ)) (here : Place) (said : Option X) (others more_read : List X × Place)
+    → (HasLine others.1.pieces → more_read ≡ read_on more others)
+    → HasLine (before_more said here others).1.pieces
+    → before_more said (going_on more here) more_read ≡ read_on more (before_more said here others)
+many_by more here None others more_read same some = refl
+many_by more here (Some x) others more_read same some = rw (same some) refl
 
-pub many_on : {X : Type 0} (form : List ℕ → Option X) (m : List ℕ) (more : List (List ℕ)) (number : ℕ) (ps : List (List ℕ))
+pub many_on : {X : Type 0} (form : List ℕ → Option X) (m : List ℕ) (more : List (List ℕ)) (number : ℕ)
+    (ps : List (List ℕ))
     → HasLine (many_in form number ps).1.pieces
     → many_in form number (onward (m ∷ more) ps) ≡ read_on (m ∷ more) (many_in form number ps)
 unfolding many_in
@@ -83,7 +80,7 @@ many_on form m more number [] some = absurd (omega (arith, some))
 many_on form m more number (l ∷ []) some = absurd (omega (arith, some))
 many_on form m more number (l ∷ k ∷ rest) some =
     many_step form m more number l k rest
-    ∙ many_by m more number l k rest (form l) (many_in form (number + 1) (k ∷ rest))
+    ∙ many_by (m ∷ more) (place number (l ∷ k ∷ rest)) (form l) (many_in form (number + 1) (k ∷ rest))
     (many_in form (number + 1) (onward (m ∷ more) (k ∷ rest))) (many_on form m more (number + 1) (k ∷ rest)) some
 
 abbrev form_or_none : {X : Type 0} → Place → Place → Option X → Option X × Place
@@ -95,7 +92,8 @@ optional_by : {X : Type 0} (more : List (List ℕ)) (here after : Place) (said :
 optional_by more here after None = refl
 optional_by more here after (Some x) = refl
 
-pub optional_on : {X : Type 0} (form : List ℕ → Option X) (m : List ℕ) (more : List (List ℕ)) (number : ℕ) (ps : List (List ℕ))
+pub optional_on : {X : Type 0} (form : List ℕ → Option X) (m : List ℕ) (more : List (List ℕ)) (number : ℕ)
+    (ps : List (List ℕ))
     → HasLine (optional form (place number ps)).1.pieces
     → optional form (place number (onward (m ∷ more) ps)) ≡ read_on (m ∷ more) (optional form (place number ps))
 unfolding optional

@@ -1,5 +1,5 @@
 -- A line that is written is read as what it was written for.
-use Rattle.std.proofs.Common.{◌≡◌, ℕ, ◌^◌, ◌<◌, Bool, true, false, ◌&&◌, List, [], ◌∷◌, ◌++◌, length, map, codes, Option, None, Some, refl, sym, ap, ◌∙◌, arith}
+use Rattle.std.proofs.Common.{◌≡◌, ℕ, ◌^◌, ◌<◌, true, false, ◌&&◌, List, [], ◌∷◌, ◌++◌, length, map, codes, Option, Some, refl, ap, ◌∙◌, arith}
 use Rattle.std.specs.Fmt.{decimal}
 use Rattle.std.specs.List.{list_all}
 use Rattle.std.proofs.lemmas.Bool.{and_parts}
@@ -23,10 +23,10 @@ use Rattle.dns_report.specs.LineWords.{section_word, denial_words}
 use Rattle.dns_report.specs.Fields.{fitting_name, is_u16, is_u32}
 use Rattle.dns_report.specs.View.{Numbered, Shown, Anchored, Matched, KeySet, Signed, ChainView, fitting_record, fitting_key, fitting_link}
 use Rattle.dns_report.specs.Report.{key_words}
-use Rattle.dns_report.specs.TrailView.{ToldRecord, HeardView, Records, Fault, StepView, fitting_told, fitting_heard, fitting_set, fitting_ending, fitting_ask, fitting_step}
+use Rattle.dns_report.specs.TrailView.{ToldRecord, HeardView, Records, Fault, StepView, fitting_told, fitting_heard, fitting_set, fitting_ending, fitting_ask}
 use Rattle.dns_report.specs.TrailLines.{ask_word, ending_words}
-use Rattle.dns_report.proofs.LineLaws.{Line, is_line}
-use Rattle.dns_report.proofs.MarkWords.{denial_is_words, section_is_word}
+use Rattle.dns_report.proofs.LineLaws.{is_line}
+use Rattle.dns_report.proofs.MarkWords.{denial_is_words}
 use Rattle.dns_report.proofs.FieldWords.{small_good, number_good, below_u16}
 use Rattle.dns_report.proofs.TrailWords.{fits_foreign, no_number}
 use Rattle.dns_report.proofs.ReportLines.{record_of, link_of, front_of}
@@ -44,17 +44,17 @@ use Rattle.dns_audit_laws.proofs.WrittenWords.{mark_read, section_read, purpose_
 
 -- ---- the forms of lines, by their words
 
-abbrev code_by : Words → Option ℕ
+abbrev pub code_by : Words → Option ℕ
 code_by ws = after (codes "code") ws >>= λ rest. single rest >>= u16_in
 
-abbrev denial_words_by : Words → Option Denial
+abbrev pub denial_words_by : Words → Option Denial
 denial_words_by ws =
     after (codes "denial") ws >>= λ rest. first_of rest >>= λ front. denial_by front.0 front.1 >>= λ read. whole read.0 read.1
 
 abbrev pub record_then : Words → Option Rr
 record_then rest = sextuple rest >>= λ fields. record_in fields.0 fields.1 fields.2 fields.3 fields.4 fields.5
 
-abbrev record_by : Section → Words → Option Rr
+abbrev pub record_by : Section → Words → Option Rr
 record_by section ws = after (section_word section) ws >>= record_then
 
 abbrev made_head : Section → ℕ → ChainHead
@@ -64,20 +64,20 @@ abbrev pub chain_then : Words → Option ChainHead
 chain_then rest =
     double rest >>= λ fields. section_in fields.0 >>= λ section. u32_in fields.1 >>= λ count. Some (made_head section count)
 
-abbrev chain_by : Words → Option ChainHead
+abbrev pub chain_by : Words → Option ChainHead
 chain_by ws = after (codes "chain") ws >>= chain_then
 
-abbrev link_words : Words → Option LinkValue
+abbrev pub link_words : Words → Option LinkValue
 link_words ws = first_of ws >>= λ front. link_by front.0 front.1
 
-abbrev trail_by : Words → Option ℕ
+abbrev pub trail_by : Words → Option ℕ
 trail_by ws = after (codes "trail") ws >>= λ rest. single rest >>= u32_in
 
-abbrev step_by : Words → Option StepHead
+abbrev pub step_by : Words → Option StepHead
 step_by ws =
     after (codes "step") ws >>= λ rest. quadruple rest >>= λ fields. step_in fields.0 fields.1 fields.2 fields.3
 
-abbrev got_words_in : Words → Option GotValue
+abbrev pub got_words_in : Words → Option GotValue
 got_words_in ws = after (codes "got") ws >>= got_in
 
 abbrev pub told_by : Section → Words → Option Rr
@@ -85,10 +85,10 @@ told_by section ws =
     after (codes "told") ws >>= after (section_word section)
     >>= λ rest. quintuple rest >>= λ fields. unmarked_in fields.0 fields.1 fields.2 fields.3 fields.4
 
-abbrev set_by : Words → Option JudgedSetValue
+abbrev pub set_by : Words → Option JudgedSetValue
 set_by ws = after (codes "set") ws >>= set_in
 
-abbrev ending_words_in : Words → Option StepEnd
+abbrev pub ending_words_in : Words → Option StepEnd
 ending_words_in ws = after (codes "ending") ws >>= ending_in
 
 section_after : (section : Section) (ws : Words) → after (section_word section) (section_word section ∷ ws) ≡ Some ws

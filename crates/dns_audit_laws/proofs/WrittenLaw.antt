@@ -1,28 +1,28 @@
 -- A report that is written is read as what it shows.
-use Rattle.std.proofs.Common.{◌≡◌, ℕ, ◌+◌, ◌≤◌, Bool, true, false, ◌&&◌, List, [], ◌∷◌, length, map, codes, Option, None, Some, Ok, refl, sym, ap, ◌∙◌}
+use Rattle.std.proofs.Common.{◌≡◌, ℕ, ◌+◌, true, false, ◌&&◌, List, [], ◌∷◌, length, map, codes, Option, None, Some, Ok, refl, sym, ap, ◌∙◌}
 use Rattle.std.specs.Fmt.{decimal}
-use Rattle.std.specs.List.{list_all, flat_map}
+use Rattle.std.specs.List.{list_all}
 use Rattle.std.proofs.lemmas.Bool.{and_parts}
 use Rattle.dns_model.specs.Records.{Rr}
 use Rattle.dns_model.specs.declared.section.Section.{Section}
 use Rattle.dns_model.specs.declared.section.Section.TheVariants.{Answer, Authority, Additional}
-use Rattle.dns_session.specs.LinePlaces.{place, pieces, start_of, one}
+use Rattle.dns_session.specs.LinePlaces.{place, pieces, one}
 use Rattle.dns_report.specs.LineWords.{section_word, denial_words}
-use Rattle.dns_report.specs.TrailView.{StepView, fitting_trail}
+use Rattle.dns_report.specs.TrailView.{StepView}
 use Rattle.dns_report.specs.View.{ChainView, View, fitting_record, fitting_chain, fitting_view}
 use Rattle.dns_report.specs.Report.{view_text}
-use Rattle.dns_report.proofs.LineLaws.{Line, is_line, text_of}
-use Rattle.dns_report.proofs.LineBlocks.{blocks, one_line, starts, named}
+use Rattle.dns_report.proofs.LineLaws.{Line}
+use Rattle.dns_report.proofs.LineBlocks.{blocks, starts, named}
 use Rattle.dns_report.proofs.FieldWords.{number_good}
 use Rattle.dns_report.proofs.RecordLaws.{record_good}
 use Rattle.dns_report.proofs.ReportLines.{record_of, section_lines, chain_lines, last, later_lines, lines_of, text_is_lines}
 use Rattle.dns_report.proofs.ReportLaw.{fitting, trail_no_chain, later_begins, additionals_begin, others_begin, lines_good}
-use Rattle.dns_report.proofs.StepLines.{trail_lines, count_of}
+use Rattle.dns_report.proofs.StepLines.{trail_lines}
 use Rattle.dns_report.specs.Fields.{is_u32}
-use Rattle.dns_audit.specs.ReportLines.{report_header, code_line, denial_line, record_line, chain_line}
+use Rattle.dns_audit.specs.ReportLines.{report_header, code_line, denial_line, record_line}
 use Rattle.dns_audit.specs.ReportGrammar.{end_at, report_at, report_of}
 use Rattle.dns_audit_laws.specs.Written.{report_shown, short_view, short_record, short_chain, short_trail, short_step}
-use Rattle.dns_audit_laws.proofs.WrittenLines.{joined, left_of, text_pieces, one_line_read, Stops}
+use Rattle.dns_audit_laws.proofs.WrittenLines.{left_of, text_pieces, one_line_read}
 use Rattle.dns_audit_laws.proofs.WrittenForms.{record_then, chain_then, code_reads, denial_reads, record_reads}
 use Rattle.dns_audit_laws.proofs.WrittenParts.{Many, many_reads, all_say, FirstGood, blocks_first, named_stops, front_good, longer_chains, chains_read, map_same, trail_reads}
 

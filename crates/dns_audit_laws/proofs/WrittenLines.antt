@@ -1,15 +1,13 @@
 -- Lines as they are written: what stands between LF bytes, and the words of each.
-use Rattle.std.proofs.Common.{◌≡◌, ℕ, ◌+◌, ◌<◌, Bool, true, false, ◌==◌, ◌&&◌, nat_lt, List, [], ◌∷◌, ◌++◌, map, length, codes, Option, None, Some, Result, Ok, Err, refl, sym, ap, ◌∙◌, arith, append_assoc, append-nil}
+use Rattle.std.proofs.Common.{◌≡◌, ℕ, ◌+◌, ◌<◌, true, false, ◌==◌, nat_lt, List, [], ◌∷◌, ◌++◌, map, Option, None, Some, Ok, refl, sym, ap, ◌∙◌, arith, append_assoc, append-nil}
 use Rattle.std.specs.List.{list_all, list_any, flat_map}
 use Rattle.std.proofs.lemmas.Bool.{and_parts}
 use Rattle.std.proofs.lemmas.Bool.Decides.{nat_tests}
 use Rattle.std.proofs.lemmas.List.Folds.{list_any-append}
-use Rattle.dns_model.specs.Keys.{bytes_eq}
 use Rattle.dns_report.specs.LineWords.{Words, line_rest, spaced}
 use Rattle.dns_report.proofs.LineLaws.{Line, text_of, is_line}
-use Rattle.dns_report.proofs.LineBlocks.{starts, named}
 use Rattle.dns_text.proofs.WordShapes.{is_word}
-use Rattle.dns_session.specs.LinePlaces.{Place, place, pieces, next_line, read_next, one, optional, many_in}
+use Rattle.dns_session.specs.LinePlaces.{place, pieces, read_next, one, many_in}
 use Rattle.dns_session.specs.Lines.{words}
 use Rattle.dns_session.specs.Spelled.{lines_text, Unbroken}
 use Rattle.dns_session.proofs.SpelledLaws.{pieces_lines}

@@ -1,5 +1,5 @@
 -- Parts of a report that are written are read as what they were written for.
-use Rattle.std.proofs.Common.{◌≡◌, ℕ, zero, suc, ◌+◌, ◌≤◌, Bool, true, false, ◌&&◌, List, [], ◌∷◌, length, map, get_or, codes, Option, None, Some, Result, Ok, Err, refl, ap, ◌∙◌, arith, inl, inr}
+use Rattle.std.proofs.Common.{◌≡◌, ℕ, zero, suc, ◌+◌, ◌≤◌, Bool, true, false, ◌&&◌, List, [], ◌∷◌, length, map, get_or, codes, Option, None, Some, Result, Ok, refl, ap, ◌∙◌, arith, inl, inr}
 use Rattle.std.specs.List.{list_all}
 use Rattle.std.specs.Option.{option_map}
 use Rattle.std.proofs.lemmas.Bool.{and_parts, cases_Bool}
@@ -8,20 +8,20 @@ use Rattle.dns_model.specs.OptionSteps as steps
 use Rattle.dns_model.specs.Trails.{JudgedSetValue}
 use Rattle.dns_model.specs.declared.section.Section.{Section}
 use Rattle.dns_model.specs.declared.section.Section.TheVariants.{Answer, Authority, Additional}
-use Rattle.dns_session.specs.LinePlaces.{Place, place, read_next, one, optional, many_in}
+use Rattle.dns_session.specs.LinePlaces.{Place, place, one, optional, many_in}
 use Rattle.dns_session.specs.Lines.{Words, after, words}
 use Rattle.dns_report.specs.LineWords.{section_word}
 use Rattle.dns_report.specs.Fields.{is_u32}
 use Rattle.dns_report.specs.View.{Shown, ChainView, fitting_link, fitting_chain}
-use Rattle.dns_report.specs.TrailView.{ToldRecord, HeardView, Records, Fault, StepView, fitting_told, fitting_heard, fitting_set, fitting_step, fitting_trail}
+use Rattle.dns_report.specs.TrailView.{HeardView, Records, Fault, StepView, fitting_told, fitting_heard, fitting_set, fitting_step, fitting_trail}
 use Rattle.dns_report.proofs.LineLaws.{Line, is_line}
-use Rattle.dns_report.proofs.LineBlocks.{Block, blocks, one_line, starts, named, blocks_start}
+use Rattle.dns_report.proofs.LineBlocks.{Block, blocks, one_line, starts, named}
 use Rattle.dns_report.proofs.ReportLines.{link_of, front_of, chain_lines, last}
 use Rattle.dns_report.proofs.LinkLaws.{fits_chain, chain_good}
 use Rattle.dns_report.proofs.StepLines.{step_of, got_of, told_of, told_in, told_lines, set_of, ending_of, judged_lines, step_lines, count_of, trail_lines}
-use Rattle.dns_report.proofs.StepLaws.{is_told, told_good, Untold, additionals_start, others_start, fits_records, set_good, ending_line_good, judged_untold, FitsStep, fits_step, fits_trail}
+use Rattle.dns_report.proofs.StepLaws.{is_told, told_good, Untold, additionals_start, others_start, fits_records, set_good, ending_line_good, judged_untold, fits_step, fits_trail}
 use Rattle.dns_audit.specs.ReportLines.{chain_line, link_line, trail_line, step_line, got_line, told_line, set_in, set_line, ending_line}
-use Rattle.dns_audit.specs.ReportGrammar.{times, chain_after, chains_in, chains_at, told_at, step_at, trail_at}
+use Rattle.dns_audit.specs.ReportGrammar.{times, chain_after, chains_in, told_at, step_at, trail_at}
 use Rattle.dns_audit_laws.specs.Written.{link_shown, chain_shown, told_shown, heard_shown, step_shown, short_link, short_chain, short_told, short_heard, short_step, short_trail}
 use Rattle.dns_audit_laws.proofs.WrittenLines.{joined, left_of, line_words, read_line, one_line_read, Stops, none_read, stop_many, more_many}
 use Rattle.dns_audit_laws.proofs.WrittenForms.{told_by, front_reads, link_reads, count_reads, step_reads, got_shown, got_reads, told_reads, set_reads, ending_reads}

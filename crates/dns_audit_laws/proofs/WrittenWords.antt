@@ -1,19 +1,16 @@
 -- A word that is written is read as what it was written for.
-use Rattle.std.proofs.Common.{◌≡◌, ℕ, zero, suc, ◌^◌, ◌-◌, ◌/◌, ◌%◌, ◌<◌, ◌≤◌, Bool, true, false, not, ◌==◌, ◌&&◌, nat_lt, nat_le, List, [], ◌∷◌, ◌++◌, length, map, slice_index, codes, Option, None, Some, refl, sym, ap, ◌∙◌, arith, inl, inr}
+use Rattle.std.proofs.Common.{◌≡◌, ℕ, zero, suc, ◌^◌, ◌-◌, ◌/◌, ◌%◌, ◌<◌, ◌≤◌, Bool, true, false, not, nat_lt, List, [], ◌∷◌, length, map, slice_index, codes, Option, None, Some, refl, ap, arith, inl, inr}
 use Rattle.std.specs.Fmt.{decimal}
 use Rattle.std.specs.Char.{is_ascii_uppercase}
 use Rattle.std.specs.List.{list_all, list_any}
-use Rattle.std.specs.Option.{option_map, option_map_or}
 use Rattle.std.specs.Result.{result_ok}
 use Rattle.std.specs.Cmp.Lexicographic.{bytes_decides}
-use Rattle.std.proofs.lemmas.Bool.{and_parts, cases_Bool, ltb-true, leb-true}
-use Rattle.std.proofs.lemmas.Bool.Decides.{nat_tests}
+use Rattle.std.proofs.lemmas.Bool.{and_parts, cases_Bool, ltb-true}
 use Rattle.hex.specs.Hex.{encode_with, encode_lower, lower_digits, IsBytes}
 use Rattle.dns_model.specs.Bytes.{is_bytes}
 use Rattle.dns_model.specs.Keys.{bytes_eq}
 use Rattle.dns_model.specs.Names.{Labels, is_name}
 use Rattle.dns_model.specs.NameText.{printed}
-use Rattle.dns_model.specs.OptionSteps.{◌>>=◌}
 use Rattle.dns_model.specs.declared.proof.Proof.{Proof}
 use Rattle.dns_model.specs.declared.proof.Proof.TheVariants.{Secure, Insecure, Bogus, Indeterminate}
 use Rattle.dns_model.specs.declared.section.Section.{Section}
@@ -28,7 +25,7 @@ use Rattle.dns_text.specs.Words.{name_word_in, octets_word, octets_in}
 use Rattle.dns_text.specs.Codes.{type_word_in, class_word_in}
 use Rattle.dns_text.proofs.WordLaws.{decimal_back, type_back, class_back}
 use Rattle.dns_text.proofs.OctetLaws.{octets_back}
-use Rattle.dns_report.specs.LineWords.{Words, mark_word, section_word}
+use Rattle.dns_report.specs.LineWords.{mark_word, section_word}
 use Rattle.dns_report.specs.Fields.{fitting_name, is_u16, is_u32}
 use Rattle.dns_report.specs.TrailView.{fitting_ask, fitting_origin}
 use Rattle.dns_report.specs.TrailLines.{purpose_word, ask_word, origin_word, place_word}
@@ -93,7 +90,7 @@ index_passes p (x ∷ xs) (suc n) h below =
     index_passes p xs n (and_parts (p x) (list_all p xs) h).1 (omega (arith, below))
 
 -- none of the digits by which bytes are written is in upper case
-lower_digit : (n : ℕ) → n < 16 → is_ascii_uppercase (slice_index lower_digits n) ≡ false
+pub lower_digit : (n : ℕ) → n < 16 → is_ascii_uppercase (slice_index lower_digits n) ≡ false
 lower_digit n h =
     let size : length lower_digits ≡ 16 = refl in
     let all : list_all is_other lower_digits ≡ true = refl in

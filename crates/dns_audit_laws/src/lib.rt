@@ -3,4 +3,7 @@
 
 mod laws;
 
-pub use laws::{a_report_is_read_behind_its_session, what_is_written_is_read_back};
+pub use laws::{
+    a_report_is_read_behind_its_session, what_is_read_is_what_would_be_written,
+    what_is_written_is_read_back,
+};
