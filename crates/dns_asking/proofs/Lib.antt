@@ -1,0 +1,5 @@
+pub mod CountLemmas
+pub mod AnswerLemmas
+pub mod RequestLemmas
+pub mod DatagramLemmas
+pub mod ConnectionLemmas

@@ -1,0 +1,4 @@
+pub mod Addresses
+pub mod Lookups
+pub mod Servers
+pub mod Causes

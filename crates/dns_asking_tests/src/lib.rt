@@ -1,0 +1,11 @@
+//! Tests of lookups over one server in memory, and of words that are addresses.
+//!
+//! They stand apart, since a crate with tests of its own is proved twice.
+#![tactic(auto)]
+
+#[cfg(test)]
+mod address_tests;
+#[cfg(test)]
+mod asking_tests;
+#[cfg(test)]
+mod replying;

@@ -1,0 +1,157 @@
+//! A server of the root in memory: each request over its link gets the reply to it, up to a call that fails.
+ghost use Rattle.std.specs.Prelude.{None};
+ghost use Rattle.std.specs.Io.{ReadsAtMost, WritesAtMost};
+
+use dns_handle::IoKind;
+use dns_link::{Counts, Dialer, Link, ListDatagrams};
+use std::alloc::Global;
+use std::net::SocketAddr;
+
+/// The root's name servers with their signature, behind length and id.
+const SERVERS: &[u8] = b"\x84\0\0\x01\0\x02\0\0\0\0\0\0\x02\0\x01\
+    \0\0\x02\0\x01\0\0\x0e\x10\0\x03\x01a\0\
+    \0\0\x2e\0\x01\0\0\x0e\x10\0\x15\0\x02\x0d\0\0\0\x0e\x10\0\0\x07\xd0\0\0\x03\x84\xae\xc9\0\xc0\xde";
+
+/// The root's key, behind length and id.
+const KEY: &[u8] = b"\x84\0\0\x01\0\x01\0\0\0\0\0\0\x30\0\x01\
+    \0\0\x30\0\x01\0\0\x0e\x10\0\x06\x01\x01\x03\x0d\xaa\xbb";
+
+/// A link that takes all that is written, and gives all that a read asks for of the reply.
+#[derive(Drop)]
+pub(crate) struct ReplyLink {
+    reply: Vec<u8>,
+    /// So many bytes of the reply were read.
+    read: usize,
+    calls: u64,
+    /// The number, from 1, of the call that fails.
+    fails: u64,
+    counts: Counts,
+}
+
+impl ReplyLink {
+    /// Whether the next call fails, which is now made.
+    fn is_reset(&mut self) -> bool {
+        self.calls = self.calls.saturating_add(1);
+        self.calls == self.fails
+    }
+
+    /// Puts the reply to a request in the place of the last one.
+    fn answer(&mut self, request: &[u8]) {
+        let rest = if request.get(16) == Some(&48) {
+            KEY
+        } else {
+            SERVERS
+        };
+        self.reply.clear();
+        self.read = 0;
+        let _ = self.reply.extend_from_slice(&[0, (rest.len() + 2) as u8]);
+        let _ = self
+            .reply
+            .extend_from_slice(request.get(2..4).unwrap_or_default());
+        let _ = self.reply.extend_from_slice(rest);
+    }
+
+    /// Reads, unless the call is the one that fails.
+    fn try_read(&mut self, buf: &mut [u8]) -> Result<usize, IoKind>
+        ensures { ReadsAtMost result buf.new }
+    {
+        if self.is_reset() {
+            return Err(IoKind::ConnectionReset);
+        }
+        let left = self.reply.get(self.read..).unwrap_or_default();
+        let count = left.len().min(buf.len());
+        buf[..count].copy_from_slice(&left[..count]);
+        self.read = self.read.saturating_add(count);
+        Ok(count)
+    }
+
+    /// Writes, unless the call is the one that fails.
+    fn try_write(&mut self, bytes: &[u8]) -> Result<usize, IoKind>
+        ensures { WritesAtMost result bytes.now }
+    {
+        if self.is_reset() {
+            return Err(IoKind::ConnectionReset);
+        }
+        self.answer(bytes);
+        Ok(bytes.len())
+    }
+}
+
+impl Link for ReplyLink {
+    ghost counts = { λ l. l.counts };
+
+    ghost given = { λ _. None };
+
+    ghost left = { λ _. None };
+
+    ghost taken = { λ _. None };
+
+    fn read(&mut self, buf: &mut [u8]) -> Result<usize, IoKind> {
+        let result = self.try_read(buf);
+        self.counts.count_read(buf.len(), &result);
+        result
+    }
+
+    fn write(&mut self, bytes: &[u8]) -> Result<usize, IoKind> {
+        let result = self.try_write(bytes);
+        self.counts.count_write(bytes.len(), &result);
+        result
+    }
+}
+
+/// A dialer whose links fail at the call with a number, from 1.
+#[derive(Drop)]
+pub(crate) struct Replying {
+    alloc: Global,
+    fails: u64,
+    counts: Counts,
+}
+
+impl Replying {
+    pub(crate) fn new(alloc: Global, fails: u64) -> Replying {
+        Replying {
+            alloc,
+            fails,
+            counts: Counts::new(),
+        }
+    }
+}
+
+impl Dialer for Replying {
+    type Link = ReplyLink;
+
+    type Datagrams = ListDatagrams;
+
+    ghost counts = { λ d. d.counts };
+
+    ghost given_bytes = { λ _. None };
+
+    ghost given_datagrams = { λ _. None };
+
+    fn connect(
+        &mut self,
+        _peer: SocketAddr,
+        _bind: Option<SocketAddr>,
+        _timeout_ms: u64,
+    ) -> Result<ReplyLink, IoKind> {
+        Ok(ReplyLink {
+            reply: Vec::new(self.alloc),
+            read: 0,
+            calls: 0,
+            fails: self.fails,
+            counts: Counts::new(),
+        })
+    }
+
+    fn bind(&mut self, _local: SocketAddr) -> Result<ListDatagrams, IoKind> {
+        let result = Err(IoKind::AddrNotAvailable);
+        self.counts.count_dial(&result);
+        result
+    }
+
+    fn retire(&mut self, link: ReplyLink) {
+        self.counts.add(&link.counts);
+    }
+
+    fn retire_datagrams(&mut self, _socket: ListDatagrams) {}
+}
