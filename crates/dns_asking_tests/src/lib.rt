@@ -1,4 +1,4 @@
-//! Tests of lookups over one server in memory, and of words that are addresses.
+//! Tests of lookups over one server in memory, by the library and by `run`, and of words that are addresses.
 //!
 //! They stand apart, since a crate with tests of its own is proved twice.
 #![tactic(auto)]
@@ -9,3 +9,9 @@ mod address_tests;
 mod asking_tests;
 #[cfg(test)]
 mod replying;
+#[cfg(test)]
+mod run_tests;
+#[cfg(test)]
+mod runs;
+#[cfg(test)]
+mod word_tests;

@@ -1,9 +1,9 @@
 //! A server of the root in memory: each request over its link gets the reply to it, up to a call that fails.
-ghost use Rattle.std.specs.Prelude.{None};
+ghost use Rattle.std.specs.Prelude.{◌≡◌, None};
 ghost use Rattle.std.specs.Io.{ReadsAtMost, WritesAtMost};
 
 use dns_handle::IoKind;
-use dns_link::{Counts, Dialer, Link, ListDatagrams};
+use dns_link::{Counts, Datagrams, Dialer, Link};
 use std::alloc::Global;
 use std::net::SocketAddr;
 
@@ -30,13 +30,17 @@ pub(crate) struct ReplyLink {
 
 impl ReplyLink {
     /// Whether the next call fails, which is now made.
-    fn is_reset(&mut self) -> bool {
+    fn is_reset(&mut self) -> bool
+        ensures { self.new.counts ≡ self.old.counts }
+    {
         self.calls = self.calls.saturating_add(1);
         self.calls == self.fails
     }
 
     /// Puts the reply to a request in the place of the last one.
-    fn answer(&mut self, request: &[u8]) {
+    fn answer(&mut self, request: &[u8])
+        ensures { self.new.counts ≡ self.old.counts }
+    {
         let rest = if request.get(16) == Some(&48) {
             KEY
         } else {
@@ -53,7 +57,8 @@ impl ReplyLink {
 
     /// Reads, unless the call is the one that fails.
     fn try_read(&mut self, buf: &mut [u8]) -> Result<usize, IoKind>
-        ensures { ReadsAtMost result buf.new }
+        ensures bound { ReadsAtMost result buf.new }
+        ensures counts { self.new.counts ≡ self.old.counts }
     {
         if self.is_reset() {
             return Err(IoKind::ConnectionReset);
@@ -67,7 +72,8 @@ impl ReplyLink {
 
     /// Writes, unless the call is the one that fails.
     fn try_write(&mut self, bytes: &[u8]) -> Result<usize, IoKind>
-        ensures { WritesAtMost result bytes.now }
+        ensures bound { WritesAtMost result bytes.now }
+        ensures counts { self.new.counts ≡ self.old.counts }
     {
         if self.is_reset() {
             return Err(IoKind::ConnectionReset);
@@ -99,7 +105,31 @@ impl Link for ReplyLink {
     }
 }
 
-/// A dialer whose links fail at the call with a number, from 1.
+/// A socket that takes datagrams and never gives one.
+#[derive(Drop)]
+pub(crate) struct Quiet {
+    counts: Counts,
+}
+
+impl Datagrams for Quiet {
+    ghost counts = { λ s. s.counts };
+
+    ghost given = { λ _. None };
+
+    fn send_to(&mut self, bytes: &[u8], _to: SocketAddr) -> Result<usize, IoKind> {
+        let result = Ok(bytes.len());
+        self.counts.count_send(bytes.len(), &result);
+        result
+    }
+
+    fn recv_from(&mut self, _buf: &mut [u8]) -> Result<Option<(usize, SocketAddr)>, IoKind> {
+        let result = Ok(None);
+        self.counts.count_receive(&result);
+        result
+    }
+}
+
+/// A dialer whose links fail at the call with a number, from 1, and whose sockets are quiet.
 #[derive(Drop)]
 pub(crate) struct Replying {
     alloc: Global,
@@ -120,7 +150,7 @@ impl Replying {
 impl Dialer for Replying {
     type Link = ReplyLink;
 
-    type Datagrams = ListDatagrams;
+    type Datagrams = Quiet;
 
     ghost counts = { λ d. d.counts };
 
@@ -143,15 +173,17 @@ impl Dialer for Replying {
         })
     }
 
-    fn bind(&mut self, _local: SocketAddr) -> Result<ListDatagrams, IoKind> {
-        let result = Err(IoKind::AddrNotAvailable);
-        self.counts.count_dial(&result);
-        result
+    fn bind(&mut self, _local: SocketAddr) -> Result<Quiet, IoKind> {
+        Ok(Quiet {
+            counts: Counts::new(),
+        })
     }
 
     fn retire(&mut self, link: ReplyLink) {
         self.counts.add(&link.counts);
     }
 
-    fn retire_datagrams(&mut self, _socket: ListDatagrams) {}
+    fn retire_datagrams(&mut self, socket: Quiet) {
+        self.counts.add(&socket.counts);
+    }
 }

@@ -15,7 +15,7 @@ use Rattle.dns_run.specs.Causes.{FaultCause, NoMessage, OtherClass, NotDenied}
 use Rattle.dns_run.specs.Completing.{IsValid, EndsSecurely, Shown, Stopped}
 use Rattle.dns_run.specs.Outcomes.{IsTrailReport, IsFault}
 use Rattle.dns_run.specs.declared.form.Form.{Form}
-use Rattle.dns_run.specs.declared.form.Form.TheVariants.{Validate, Task, Bench, Help, Version}
+use Rattle.dns_run.specs.declared.form.Form.TheVariants.{Validate, Task, Bench, Ask, Help, Version}
 use Rattle.dns_run.specs.Replies.{session_records}
 use Rattle.dns_run.specs.Runs.{IfSession}
 use Rattle.dns_run.specs.Soundness.{session_judge}
@@ -82,6 +82,7 @@ parts_asked None other = other
 parts_asked (Some (Validate shows)) other = shows
 parts_asked (Some (Task task)) other = other
 parts_asked (Some (Bench n)) other = other
+parts_asked (Some (Ask protocol server)) other = other
 parts_asked (Some Help) other = other
 parts_asked (Some Version) other = other
 

@@ -8,3 +8,4 @@ pub mod EndLemmas
 pub mod CompletingLemmas
 pub mod TaskLemmas
 pub mod BenchLemmas
+pub mod AskLemmas

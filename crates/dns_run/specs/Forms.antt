@@ -1,12 +1,17 @@
 -- The words that the program takes, and its fixed texts.
-use Rattle.std.specs.Prelude.{ℕ, ◌≡◌, ◌≤◌, List, [], ◌∷◌, ◌&&◌, nat_le, map, codes, Vec, Option, None, Some, if◌then◌else◌}
+use Rattle.std.specs.Prelude.{ℕ, ◌≡◌, ◌≤◌, Bool, true, false, List, [], ◌∷◌, ◌&&◌, nat_le, map, codes, Vec, Option, None, Some, if◌then◌else◌}
 use Rattle.std.specs.Option.{option_map, option_and_then}
 use Rattle.dns_model.specs.Keys.{bytes_eq}
+use Rattle.dns_model.specs.OptionSteps.{◌>>=◌}
+use Rattle.dns_handle.specs.declared.protocol.Protocol.{Protocol}
+use Rattle.dns_handle.specs.declared.protocol.Protocol.TheVariants.{Udp, Tcp}
+use Rattle.dns_asking.specs.Addresses.{address_in}
+use Rattle.dns_asking.specs.declared.address.ServerAddress.{ServerAddress}
 use Rattle.dns_text.specs.Words.{decimal_in}
 use Rattle.dns_report.specs.declared.parts.Parts.{Parts}
 use Rattle.dns_report.specs.declared.parts.Parts.TheVariants.{Answer, WithTrail}
 use Rattle.dns_run.specs.declared.form.Form.{Form}
-use Rattle.dns_run.specs.declared.form.Form.TheVariants.{Validate, Task, Bench, Help, Version}
+use Rattle.dns_run.specs.declared.form.Form.TheVariants.{Validate, Task, Bench, Ask, Help, Version}
 use Rattle.dns_run.specs.declared.task.Task.{Task as TaskKind}
 use Rattle.dns_run.specs.declared.task.Task.TheVariants.{Audit, Questions}
 use Rattle.dns_io.specs.Runs.{Asked, AnInput, NoInput, FixedText}
@@ -34,10 +39,27 @@ form_of_two word next =
     if bytes_eq word (codes "bench") then bench_form (zones_in next)
     else if bytes_eq word (codes "validate") && bytes_eq next (codes "trail") then Some (Validate WithTrail) else None
 
+-- what carries messages to a server
+abbrev pub protocol_in : List ℕ → Option Protocol
+protocol_in word =
+    if bytes_eq word (codes "udp") then Some Udp else if bytes_eq word (codes "tcp") then Some Tcp else None
+
+-- to ask a server at an address
+abbrev pub ask_form : List ℕ → List ℕ → Option Form
+ask_form how address = do
+  protocol ← protocol_in how
+  server ← address_in address
+  Some (Ask protocol server)
+
+-- what three words ask for
+abbrev pub form_of_three : List ℕ → List ℕ → List ℕ → Option Form
+form_of_three word how address = if bytes_eq word (codes "ask") then ask_form how address else None
+
 -- what words ask for
 abbrev pub form_in : List (List ℕ) → Option Form
 form_in (word ∷ []) = form_named word
 form_in (word ∷ next ∷ []) = form_of_two word next
+form_in (word ∷ how ∷ address ∷ []) = form_of_three word how address
 form_in _ = None
 
 -- nested zones are asked for by a number from 1 to 100
@@ -61,11 +83,25 @@ IfTask words Fact = (task : TaskKind) → asked_form words ≡ Some (Task task) 
 abbrev pub IfBench : {Z : Type 0} → List (Vec ℕ Z) → (ℕ → Type 0) → Type 0
 IfBench words Fact = (n : ℕ) → asked_form words ≡ Some (Bench n) → Fact n
 
+-- a fact of the server, and of what carries messages to it, where the words ask it
+abbrev pub IfAsks : {Z : Type 0} → List (Vec ℕ Z) → (Protocol → ServerAddress → Type 0) → Type 0
+IfAsks words Fact =
+    (protocol : Protocol) (server : ServerAddress) → asked_form words ≡ Some (Ask protocol server) → Fact protocol server
+
+abbrev pub asks_server : Option Form → Bool
+asks_server (Some (Ask protocol server)) = true
+asks_server _ = false
+
+-- a fact, where the words ask no server
+abbrev pub IfAsksNone : {Z : Type 0} → List (Vec ℕ Z) → Type 0 → Type 0
+IfAsksNone words Fact = asks_server (asked_form words) ≡ false → Fact
+
 -- an input to work on, work without one, or else a text that is always the same
 abbrev pub form_asks : Option Form → Asked
 form_asks (Some (Validate shows)) = AnInput
 form_asks (Some (Task task)) = AnInput
 form_asks (Some (Bench n)) = NoInput
+form_asks (Some (Ask protocol server)) = AnInput
 form_asks _ = FixedText
 
 abbrev pub words_ask : {Z : Type 0} → List (Vec ℕ Z) → Asked
@@ -73,7 +109,7 @@ words_ask words = form_asks (asked_form words)
 
 abbrev pub help_text : List ℕ
 help_text =
-    codes "dns_check validate        reads a session and writes the report of its lookup\ndns_check validate trail  the same, and how the lookup came about, step by step\ndns_check audit           reads a session and a report behind it, and writes which of its parts hold\ndns_check questions       reads a session and writes which signatures a verifier must be asked for\ndns_check bench N         looks a host up below N nested zones, 1 to 100, and writes what that took\ndns_check --help          writes these lines\ndns_check --version       writes the name and the version\n"
+    codes "dns_check validate        reads a session and writes the report of its lookup\ndns_check validate trail  the same, and how the lookup came about, step by step\ndns_check audit           reads a session and a report behind it, and writes which of its parts hold\ndns_check questions       reads a session and writes which signatures a verifier must be asked for\ndns_check bench N         looks a host up below N nested zones, 1 to 100, and writes what that took\ndns_check ask udp ADDRESS reads a session and writes the report of its lookup over a server, as 192.0.2.1:53\ndns_check ask tcp ADDRESS the same over a connection\ndns_check --help          writes these lines\ndns_check --version       writes the name and the version\n"
 
 abbrev pub version_text : List ℕ
 version_text = codes "dns_check 0.1.0\n"

@@ -10,3 +10,4 @@ pub mod Runs
 pub mod Completing
 pub mod Tasks
 pub mod Benches
+pub mod Asks

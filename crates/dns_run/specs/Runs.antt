@@ -11,7 +11,7 @@ use Rattle.dns_session.specs.Grammar.{session_of}
 use Rattle.dns_session.specs.Stops.{bad_line_text}
 use Rattle.dns_io.specs.Writing.{bad_words_text, WritesText}
 use Rattle.dns_run.specs.declared.form.Form.{Form}
-use Rattle.dns_run.specs.declared.form.Form.TheVariants.{Validate, Task, Bench, Help, Version}
+use Rattle.dns_run.specs.declared.form.Form.TheVariants.{Validate, Task, Bench, Ask, Help, Version}
 use Rattle.dns_run.specs.Forms.{help_text, version_text}
 use Rattle.dns_run.specs.Replies.{session_records}
 use Rattle.dns_run.specs.Causes.{HasNoMessage, HasForeign}
@@ -25,6 +25,7 @@ abbrev pub EndsByWords : Option Form → ℕ → Option (List ℕ) → Option (L
 EndsByWords (Some (Validate shows)) status before now = status ≢ 2
 EndsByWords (Some (Task task)) status before now = status ≢ 2
 EndsByWords (Some (Bench n)) status before now = WritesBench n status before now
+EndsByWords (Some (Ask protocol server)) status before now = status ≢ 2
 EndsByWords (Some Help) status before now = WritesText status 0 before now help_text
 EndsByWords (Some Version) status before now = WritesText status 0 before now version_text
 EndsByWords None status before now = WritesText status 2 before now bad_words_text

@@ -1,8 +1,10 @@
 //! The words that the program takes, and its fixed texts.
 ghost use Rattle.std.specs.Prelude.{◌≡◌, ◌≤◌, IfSome};
-ghost use Rattle.dns_run.specs.Forms.{IsWithin, asked_form, form_named, form_of_two, bench_form, zones_in, help_text, version_text};
+ghost use Rattle.dns_run.specs.Forms.{IsWithin, ask_form, asked_form, form_named, form_of_three, form_of_two, bench_form, protocol_in, zones_in, help_text, version_text};
 
 use crate::task::Task;
+use dns_asking::ServerAddress;
+use dns_handle::Protocol;
 use dns_nested_zones::ZoneCount;
 use dns_report::Parts;
 use dns_text::u8_in;
@@ -16,6 +18,8 @@ pub enum Form {
     Task(Task),
     /// To look the host of so many nested zones up, from 1 to 100.
     Bench(u8),
+    /// To answer a session over a server, at an address.
+    Ask(Protocol, ServerAddress),
     /// To tell its forms.
     Help,
     /// To tell its version.
@@ -78,6 +82,40 @@ fn form_of_two(word: &[u8], next: &[u8]) -> Option<Form>
     None
 }
 
+/// What carries messages to a server.
+fn protocol_in(word: &[u8]) -> Option<Protocol>
+    ensures { result ≡ protocol_in word.now }
+{
+    if word == b"udp".as_slice() {
+        return Some(Protocol::Udp);
+    }
+    if word == b"tcp".as_slice() {
+        return Some(Protocol::Tcp);
+    }
+    None
+}
+
+/// To ask a server at an address.
+fn ask_form(how: &[u8], address: &[u8]) -> Option<Form>
+    ensures value { result ≡ ask_form how.now address.now }
+    ensures within { IsWithin result }
+{
+    let protocol = protocol_in(how)?;
+    let server = ServerAddress::read(address)?;
+    Some(Form::Ask(protocol, server))
+}
+
+/// What three words ask for.
+fn form_of_three(word: &[u8], how: &[u8], address: &[u8]) -> Option<Form>
+    ensures value { result ≡ form_of_three word.now how.now address.now }
+    ensures within { IsWithin result }
+{
+    if word == b"ask".as_slice() {
+        return ask_form(how, address);
+    }
+    None
+}
+
 /// What words ask for.
 pub(crate) fn form_of(words: &[Vec<u8>]) -> Option<Form>
     ensures value { result ≡ asked_form words.now }
@@ -86,6 +124,7 @@ pub(crate) fn form_of(words: &[Vec<u8>]) -> Option<Form>
     match words {
         [word] => form_named(word),
         [word, next] => form_of_two(word, next),
+        [word, how, address] => form_of_three(word, how, address),
         _ => None,
     }
 }
@@ -94,7 +133,7 @@ pub(crate) fn form_of(words: &[Vec<u8>]) -> Option<Form>
 pub(crate) fn help_text() -> &'static [u8]
     ensures { result.now ≡ help_text }
 {
-    b"dns_check validate        reads a session and writes the report of its lookup\ndns_check validate trail  the same, and how the lookup came about, step by step\ndns_check audit           reads a session and a report behind it, and writes which of its parts hold\ndns_check questions       reads a session and writes which signatures a verifier must be asked for\ndns_check bench N         looks a host up below N nested zones, 1 to 100, and writes what that took\ndns_check --help          writes these lines\ndns_check --version       writes the name and the version\n"
+    b"dns_check validate        reads a session and writes the report of its lookup\ndns_check validate trail  the same, and how the lookup came about, step by step\ndns_check audit           reads a session and a report behind it, and writes which of its parts hold\ndns_check questions       reads a session and writes which signatures a verifier must be asked for\ndns_check bench N         looks a host up below N nested zones, 1 to 100, and writes what that took\ndns_check ask udp ADDRESS reads a session and writes the report of its lookup over a server, as 192.0.2.1:53\ndns_check ask tcp ADDRESS the same over a connection\ndns_check --help          writes these lines\ndns_check --version       writes the name and the version\n"
 }
 
 /// The program's name and version.

@@ -10,10 +10,12 @@ mod answering;
 mod audit;
 mod bench;
 mod form;
+mod offline;
 mod outcome;
 mod program;
 mod questions;
 mod replies;
+mod server;
 mod task;
 
 pub use answering::{
@@ -26,6 +28,7 @@ pub use dns_io::{
     Failed, InputSource, OutputSink, Sink, SinkFault, Source, SureSink, SureSource, TextSink,
     TextSource, words_of,
 };
+pub use dns_link::{Clock, Dialer, FixedClock, ListDialer, SocketDialer, SystemClock};
 pub use dns_lookup::DnssecDnsHandle;
 pub use dns_name::{NoMemory, Octets};
 pub use dns_recorded::Recorded;
@@ -34,4 +37,4 @@ pub use dns_session::{
     read_session,
 };
 pub use dns_trust::TrustAnchors;
-pub use program::run;
+pub use program::{RunEnd, run, run_seeded};

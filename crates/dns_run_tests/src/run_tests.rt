@@ -1,7 +1,8 @@
 //! `run` over sources and sinks in memory, for a row.
 use crate::rows::check_row;
 use crate::worked_rows::{PARTS, Row, part};
-use dns_io::{Sink, SinkFault, SureSink, SureSource, TextSink, TextSource};
+use dns_io::{Sink, SinkFault, Source, SureSink, SureSource, TextSink, TextSource};
+use dns_link::{FixedClock, ListDialer};
 use dns_name::{NoMemory, Octets};
 use dns_run::run;
 use std::alloc::Global;
@@ -44,6 +45,18 @@ fn words_of(alloc: Global, words: &[&str]) -> Result<Vec<Vec<u8>>, NoMemory> {
     Ok(all)
 }
 
+// The status of a run that has no server to ask.
+fn status_of<S: Source, W: Sink>(
+    alloc: Global,
+    words: &[Vec<u8>],
+    source: &mut S,
+    sink: &mut W,
+) -> u8 {
+    let dial = ListDialer::new(Vec::new(alloc), Vec::new(alloc));
+    let mut clock = FixedClock::new(1000);
+    run(alloc, words, source, sink, dial, &mut clock).status
+}
+
 // Over a source and a sink that may fail the words end with this status and this text.
 fn told_ends(
     alloc: Global,
@@ -53,7 +66,7 @@ fn told_ends(
     text: &[u8],
 ) -> bool {
     let mut sink = TextSink::new(alloc, Vec::new(alloc));
-    run(alloc, words, source, &mut sink) == status && *sink.taken() == *text
+    status_of(alloc, words, source, &mut sink) == status && *sink.taken() == *text
 }
 
 // The same, for a source whose numbered reads fail.
@@ -74,7 +87,7 @@ fn failing_ends(
 fn sure_ends(alloc: Global, words: &[Vec<u8>], row: &Row) -> Result<bool, NoMemory> {
     let mut source = SureSource::new(Octets::from_slice(alloc, row.session)?);
     let mut sink = SureSink::new(alloc);
-    let status = run(alloc, words, &mut source, &mut sink);
+    let status = status_of(alloc, words, &mut source, &mut sink);
     Ok(status == row.status && *sink.taken() == *row.text)
 }
 
@@ -85,7 +98,7 @@ fn slow_ends(alloc: Global, words: &[Vec<u8>], row: &Row) -> Result<bool, NoMemo
         taken: Vec::new(alloc),
         faults: 0,
     };
-    let status = run(alloc, words, &mut source, &mut sink);
+    let status = status_of(alloc, words, &mut source, &mut sink);
     Ok(status == 5 && *sink.taken.as_slice() == *row.text.get(..1).unwrap_or_default())
 }
 

@@ -36,7 +36,7 @@ const ROWS_1: [Row; 8] = [
         words: &["--help"],
         session: b"",
         status: 0,
-        text: b"dns_check validate        reads a session and writes the report of its lookup\ndns_check validate trail  the same, and how the lookup came about, step by step\ndns_check audit           reads a session and a report behind it, and writes which of its parts hold\ndns_check questions       reads a session and writes which signatures a verifier must be asked for\ndns_check bench N         looks a host up below N nested zones, 1 to 100, and writes what that took\ndns_check --help          writes these lines\ndns_check --version       writes the name and the version\n",
+        text: b"dns_check validate        reads a session and writes the report of its lookup\ndns_check validate trail  the same, and how the lookup came about, step by step\ndns_check audit           reads a session and a report behind it, and writes which of its parts hold\ndns_check questions       reads a session and writes which signatures a verifier must be asked for\ndns_check bench N         looks a host up below N nested zones, 1 to 100, and writes what that took\ndns_check ask udp ADDRESS reads a session and writes the report of its lookup over a server, as 192.0.2.1:53\ndns_check ask tcp ADDRESS the same over a connection\ndns_check --help          writes these lines\ndns_check --version       writes the name and the version\n",
     },
     Row {
         name: "no-bytes",

@@ -1,7 +1,7 @@
 use Rattle.std.proofs.Common.{◌∙◌, Some, ap, sym}
 use Rattle.dns_run.proofs.CompletingLemmas.{ends_securely_as}
 use Rattle.dns_run.proofs.EndLemmas.{ends_as_session, ends_by_grammar}
-use Rattle.dns_run.proofs.program.run.Goals as goal
+use Rattle.dns_run.proofs.offline.run_offline.Goals as goal
 
 pub returns-in-Some-Validate-clause-session : goal.returns-in-Some-Validate-clause-session
 returns-in-Some-Validate-clause-session g c = λ shows form.
