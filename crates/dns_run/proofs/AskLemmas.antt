@@ -64,7 +64,7 @@ module _ {D L R : Type 0} (network : Network D L R) (server : ServerAddress) (s 
       (text : List ℕ) → IsInquiryOf s now inquiry
       → AsksServer network listed.ghosts server inquiry draws old new reply protocol
       → AnswerCause protocol (dialer_view network.counts network.came old)
-          (dialer_view network.counts network.came new) reply
+      (dialer_view network.counts network.came new) reply
       → IsReplyText reply status text → AnswersOver network protocol server s now old new status text
   answered_over protocol inquiry draws (Ok a) status text is asks caused (done, spelled, fits, tells) =
       Reported done (record {
@@ -88,7 +88,7 @@ module _ {D L R : Type 0} (network : Network D L R) (server : ServerAddress) (s 
       (status : X → ℕ) (text : X → List ℕ) (ending : Result X Z) → IsInquiryOf s now inquiry
       → AsksServer network listed.ghosts server inquiry draws old new reply protocol
       → AnswerCause protocol (dialer_view network.counts network.came old)
-          (dialer_view network.counts network.came new) reply
+      (dialer_view network.counts network.came new) reply
       → IfOk ending (λ x. IsReplyText reply (status x) (text x))
       → IfOk ending (λ x. AnswersOver network protocol server s now old new (status x) (text x))
   all_answered protocol inquiry draws reply status text ending is asks caused texts =

@@ -1,5 +1,6 @@
 -- How a run over a valid session ends, out of what it says of its statuses.
 use Rattle.std.proofs.Common.{ℕ, ◌≡◌, ◌∙◌, List, Option, None, Some, Ok, sym, ap, subst}
+use Rattle.std.specs.Option.{option_map_or}
 use Rattle.dns_model.specs.SoundAnswers.{Told}
 use Rattle.dns_model.specs.Trails.{AskedValue, EndingValue, Answered, Denied}
 use Rattle.dns_laws.proofs.CompleteLemmas.{HasReply, valid_reply}
@@ -14,6 +15,7 @@ use Rattle.dns_run.specs.Answering.{session_replies, session_depth, session_limi
 use Rattle.dns_run.specs.Causes.{FaultCause, NoMessage, OtherClass, NotDenied}
 use Rattle.dns_run.specs.Completing.{IsValid, EndsSecurely, Shown, Stopped}
 use Rattle.dns_run.specs.Outcomes.{IsTrailReport, IsFault}
+use Rattle.dns_run.specs.Forms.{form_in, other_form, shown_by}
 use Rattle.dns_run.specs.declared.form.Form.{Form}
 use Rattle.dns_run.specs.declared.form.Form.TheVariants.{Validate, Task, Bench, Ask, Help, Version}
 use Rattle.dns_run.specs.Replies.{session_records}
@@ -87,11 +89,13 @@ parts_asked (Some Help) other = other
 parts_asked (Some Version) other = other
 
 -- the same where the words were read to ask for these parts
-pub ends_securely_as : (asked : Option Form) (read shows : Parts) (status : ℕ) (told before now : Option (List ℕ))
-    → asked ≡ Some (Validate read)
-    → asked ≡ Some (Validate shows) → Says read status told before now
+pub ends_securely_as : (words : List (List ℕ)) (read shows : Parts) (status : ℕ) (told before now : Option (List ℕ))
+    → form_in words ≡ Some (Validate read)
+    → shown_by words ≡ Some shows → Says read status told before now
     → IfSession told (λ s. IsValid s → EndsSecurely shows s status before now)
-ends_securely_as asked read shows status told before now one two says =
+ends_securely_as words read shows status told before now one two says =
+    let asked : form_in words ≡ Some (Validate shows) =
+    ap (λ o. option_map_or (λ parts. Some (Validate parts)) o (other_form words)) two in
     subst (λ p. IfSession told (λ s. IsValid s → EndsSecurely p s status before now))
-    (ap (λ o. parts_asked o read) (sym one ∙ two))
+    (ap (λ o. parts_asked o read) (sym one ∙ asked))
     (ends_securely read status told before now says)

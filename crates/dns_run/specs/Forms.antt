@@ -1,6 +1,6 @@
 -- The words that the program takes, and its fixed texts.
 use Rattle.std.specs.Prelude.{ℕ, ◌≡◌, ◌≤◌, Bool, true, false, List, [], ◌∷◌, ◌&&◌, nat_le, map, codes, Vec, Option, None, Some, if◌then◌else◌}
-use Rattle.std.specs.Option.{option_map, option_and_then}
+use Rattle.std.specs.Option.{option_map, option_map_or, option_and_then}
 use Rattle.dns_model.specs.Keys.{bytes_eq}
 use Rattle.dns_model.specs.OptionSteps.{◌>>=◌}
 use Rattle.dns_handle.specs.declared.protocol.Protocol.{Protocol}
@@ -16,11 +16,17 @@ use Rattle.dns_run.specs.declared.task.Task.{Task as TaskKind}
 use Rattle.dns_run.specs.declared.task.Task.TheVariants.{Audit, Questions}
 use Rattle.dns_io.specs.Runs.{Asked, AnInput, NoInput, FixedText}
 
--- what one word asks for
+-- how much the report shows, where words ask to answer a session
+abbrev pub shown_by : List (List ℕ) → Option Parts
+shown_by (word ∷ []) = if bytes_eq word (codes "validate") then Some Answer else None
+shown_by (word ∷ next ∷ []) =
+    if bytes_eq word (codes "validate") && bytes_eq next (codes "trail") then Some WithTrail else None
+shown_by _ = None
+
+-- what else one word asks for
 abbrev pub form_named : List ℕ → Option Form
 form_named word =
-    if bytes_eq word (codes "validate") then Some (Validate Answer)
-    else if bytes_eq word (codes "audit") then Some (Task Audit)
+    if bytes_eq word (codes "audit") then Some (Task Audit)
     else if bytes_eq word (codes "questions") then Some (Task Questions)
     else if bytes_eq word (codes "--help") then Some Help
     else if bytes_eq word (codes "--version") then Some Version
@@ -33,11 +39,9 @@ zones_in word = option_and_then (λ n. if nat_le 1 n && nat_le n 100 then Some n
 abbrev pub bench_form : Option ℕ → Option Form
 bench_form zones = option_map (λ n. Bench n) zones
 
--- what two words ask for
+-- what else two words ask for
 abbrev pub form_of_two : List ℕ → List ℕ → Option Form
-form_of_two word next =
-    if bytes_eq word (codes "bench") then bench_form (zones_in next)
-    else if bytes_eq word (codes "validate") && bytes_eq next (codes "trail") then Some (Validate WithTrail) else None
+form_of_two word next = if bytes_eq word (codes "bench") then bench_form (zones_in next) else None
 
 -- what carries messages to a server
 abbrev pub protocol_in : List ℕ → Option Protocol
@@ -55,12 +59,16 @@ ask_form how address = do
 abbrev pub form_of_three : List ℕ → List ℕ → List ℕ → Option Form
 form_of_three word how address = if bytes_eq word (codes "ask") then ask_form how address else None
 
+-- what words ask for besides the answer to a session
+abbrev pub other_form : List (List ℕ) → Option Form
+other_form (word ∷ []) = form_named word
+other_form (word ∷ next ∷ []) = form_of_two word next
+other_form (word ∷ how ∷ address ∷ []) = form_of_three word how address
+other_form _ = None
+
 -- what words ask for
 abbrev pub form_in : List (List ℕ) → Option Form
-form_in (word ∷ []) = form_named word
-form_in (word ∷ next ∷ []) = form_of_two word next
-form_in (word ∷ how ∷ address ∷ []) = form_of_three word how address
-form_in _ = None
+form_in words = option_map_or (λ shows. Some (Validate shows)) (shown_by words) (other_form words)
 
 -- nested zones are asked for by a number from 1 to 100
 abbrev pub IsWithin : Option Form → Type 0
@@ -73,7 +81,7 @@ asked_form words = form_in (map (λ w. w.items) words)
 
 -- a fact of how much the report shows, where the words ask to answer a session
 abbrev pub IfValidates : {Z : Type 0} → List (Vec ℕ Z) → (Parts → Type 0) → Type 0
-IfValidates words Fact = (shows : Parts) → asked_form words ≡ Some (Validate shows) → Fact shows
+IfValidates words Fact = (shows : Parts) → shown_by (map (λ w. w.items) words) ≡ Some shows → Fact shows
 
 -- a fact of the task, where the words ask for one
 abbrev pub IfTask : {Z : Type 0} → List (Vec ℕ Z) → (TaskKind → Type 0) → Type 0

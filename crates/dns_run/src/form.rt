@@ -1,6 +1,6 @@
 //! The words that the program takes, and its fixed texts.
-ghost use Rattle.std.specs.Prelude.{◌≡◌, ◌≤◌, IfSome};
-ghost use Rattle.dns_run.specs.Forms.{IsWithin, ask_form, asked_form, form_named, form_of_three, form_of_two, bench_form, protocol_in, zones_in, help_text, version_text};
+ghost use Rattle.std.specs.Prelude.{◌≡◌, ◌≤◌, map, IfSome};
+ghost use Rattle.dns_run.specs.Forms.{IsWithin, ask_form, asked_form, form_named, form_of_three, form_of_two, bench_form, protocol_in, shown_by, zones_in, help_text, version_text};
 
 use crate::task::Task;
 use dns_asking::ServerAddress;
@@ -26,14 +26,24 @@ pub enum Form {
     Version,
 }
 
-/// What one word asks for.
+/// How much a report shows, where words ask to answer a session.
+fn shown_by(words: &[Vec<u8>]) -> Option<Parts>
+    ensures { result ≡ shown_by (map (λ w. w.items) words.now) }
+{
+    match words {
+        [word] if word.as_slice() == b"validate".as_slice() => Some(Parts::Answer),
+        [word, next]
+            if word.as_slice() == b"validate".as_slice()
+                && next.as_slice() == b"trail".as_slice() => Some(Parts::WithTrail),
+        _ => None,
+    }
+}
+
+/// What else one word asks for.
 fn form_named(word: &[u8]) -> Option<Form>
     ensures value { result ≡ form_named word.now }
     ensures within { IsWithin result }
 {
-    if word == b"validate".as_slice() {
-        return Some(Form::Validate(Parts::Answer));
-    }
     if word == b"audit".as_slice() {
         return Some(Form::Task(Task::Audit));
     }
@@ -68,16 +78,13 @@ fn bench_form(zones: &[u8]) -> Option<Form>
     Some(Form::Bench(zones))
 }
 
-/// What two words ask for.
+/// What else two words ask for.
 fn form_of_two(word: &[u8], next: &[u8]) -> Option<Form>
     ensures value { result ≡ form_of_two word.now next.now }
     ensures within { IsWithin result }
 {
     if word == b"bench".as_slice() {
         return bench_form(next);
-    }
-    if word == b"validate".as_slice() && next == b"trail".as_slice() {
-        return Some(Form::Validate(Parts::WithTrail));
     }
     None
 }
@@ -121,6 +128,9 @@ pub(crate) fn form_of(words: &[Vec<u8>]) -> Option<Form>
     ensures value { result ≡ asked_form words.now }
     ensures within { IsWithin result }
 {
+    if let Some(shows) = shown_by(words) {
+        return Some(Form::Validate(shows));
+    }
     match words {
         [word] => form_named(word),
         [word, next] => form_of_two(word, next),
