@@ -29,7 +29,8 @@ use Rattle.dns_audit_laws.proofs.WrittenForms.{told_by, front_reads, link_reads,
 -- ---- what a part reads
 
 -- a part reads a value from lines, and leaves those after them
-pub record Reads {X : Type 0} (part : Place → Result (X × Place) ℕ) (number : ℕ) (ls more : List Line) (x : X) : Type 0 where
+pub record Reads {X : Type 0} (part : Place → Result (X × Place) ℕ) (number : ℕ) (ls more : List Line)
+    (x : X) : Type 0 where
   pub next : ℕ
   pub reads : part (place number (left_of ls)) ≡ Ok (x, place next (left_of more))
 
@@ -55,10 +56,12 @@ all_say form line_of value fits short one (v ∷ vs) h s =
 abbrev with_first : {X : Type 0} → X → List X × Place → List X × Place
 with_first x read = (x ∷ read.0, read.1)
 
-pub many_reads : {A X : Type 0} (form : List ℕ → Option X) (line_of : A → Line) (value : A → X) (vs : List A) (more : List Line)
+pub many_reads : {A X : Type 0} (form : List ℕ → Option X) (line_of : A → Line) (value : A → X) (vs : List A)
+    (more : List Line)
     → AllSay form line_of value vs → Stops form more → (number : ℕ)
     → Many form number (blocks (one_line line_of) vs more) more (map value vs)
-many_reads form line_of value [] more say stops number = record { next = number; reads = stop_many form number more stops }
+many_reads form line_of value [] more say stops number = record
+    { next = number; reads = stop_many form number more stops }
 many_reads form line_of value (v ∷ vs) more say stops number =
     let rest = many_reads form line_of value vs more say.1 stops (number + 1) in
     record {
@@ -73,8 +76,10 @@ AllRead part block value [] = Unit {0}
 AllRead part block value (v ∷ vs) =
     ((more : List Line) (number : ℕ) → Reads part number (block v more) more (value v)) × AllRead part block value vs
 
-pub all_read : {A X : Type 0} (part : Place → Result (X × Place) ℕ) (block : Block A) (value : A → X) (fits short : A → Bool)
-    → ((v : A) → fits v ≡ true → short v ≡ true → (more : List Line) (number : ℕ) → Reads part number (block v more) more (value v))
+pub all_read : {A X : Type 0} (part : Place → Result (X × Place) ℕ) (block : Block A) (value : A → X)
+    (fits short : A → Bool)
+    → ((v : A) → fits v ≡ true → short v ≡ true → (more : List Line) (number : ℕ)
+    → Reads part number (block v more) more (value v))
     → (vs : List A) → list_all fits vs ≡ true → list_all short vs ≡ true → AllRead part block value vs
 all_read part block value fits short one [] h s = tt
 all_read part block value fits short one (v ∷ vs) h s =
@@ -100,8 +105,10 @@ abbrev pub FirstGood : List Line → Type 0
 FirstGood [] = Unit {0}
 FirstGood (l ∷ ls) = is_line l ≡ true
 
-pub blocks_first : {A : Type 0} (line_of : A → Line) (fits : A → Bool) → ((v : A) → fits v ≡ true → is_line (line_of v) ≡ true)
-    → (vs : List A) (more : List Line) → list_all fits vs ≡ true → FirstGood more → FirstGood (blocks (one_line line_of) vs more)
+pub blocks_first : {A : Type 0} (line_of : A → Line) (fits : A → Bool)
+    → ((v : A) → fits v ≡ true → is_line (line_of v) ≡ true)
+    → (vs : List A) (more : List Line) → list_all fits vs ≡ true → FirstGood more
+    → FirstGood (blocks (one_line line_of) vs more)
 blocks_first line_of fits one [] more h good = good
 blocks_first line_of fits one (v ∷ vs) more h good = one v (and_parts (fits v) (list_all fits vs) h).0
 
@@ -144,10 +151,15 @@ told_stops section (l ∷ ls) good other =
 link_part : (l : Shown) → fitting_link l ≡ true → short_link l ≡ true → (more : List Line) (number : ℕ)
     → Reads (one link_line) number (one_line link_of l more) more (link_shown l)
 link_part l h short more number =
-    record { next = number + 1; reads = one_line_read link_line number (link_of l) more (link_shown l) (link_reads l h short) }
+    record {
+      next = number + 1;
+      reads = one_line_read link_line number (link_of l) more (link_shown l)
+          (link_reads l h short);
+    }
 
 pub front_good : (c : ChainView) → fitting_chain c ≡ true → is_line (front_of c) ≡ true
-front_good c h = (and_parts (is_line (front_of c)) (list_all is_line (blocks (one_line link_of) c.links [])) (chain_good c [] h refl)).0
+front_good c h = (and_parts (is_line (front_of c)) (list_all is_line (blocks (one_line link_of) c.links []))
+    (chain_good c [] h refl)).0
 
 longer_links : (ls : List Shown) (more : List Line)
     → length (left_of more) ≤ length (left_of (blocks (one_line link_of) ls more))
@@ -162,7 +174,8 @@ longer_chains (c ∷ cs) more =
     let links = longer_links c.links (blocks chain_lines cs more) in
     omega (arith, rest, links)
 
-pub chains_read : (cs : List ChainView) (more : List Line) → list_all fitting_chain cs ≡ true → list_all short_chain cs ≡ true
+pub chains_read : (cs : List ChainView) (more : List Line) → list_all fitting_chain cs ≡ true
+    → list_all short_chain cs ≡ true
     → Stops chain_line more → (n : ℕ) → length cs ≤ n → (number : ℕ)
     → Reads (chains_in n) number (blocks chain_lines cs more) more (map chain_shown cs)
 unfolding chains_in chain_after
@@ -179,7 +192,8 @@ chains_read (c ∷ cs) more h short stops (suc n) most number =
     let head = read_line chain_line number (front_of c) (blocks (one_line link_of) c.links rest)
     (record { section = c.section; count = length c.links }) (front_reads c size.0 (front_good c parts.0)) in
     let links = times_reads (one link_line) (one_line link_of) link_shown c.links rest
-    (all_read (one link_line) (one_line link_of) link_shown fitting_link short_link link_part c.links f.links size.1) (number + 1) in
+    (all_read (one link_line) (one_line link_of) link_shown fitting_link short_link link_part c.links f.links size.1)
+    (number + 1) in
     let others = chains_read cs more parts.1 sizes.1 stops n (omega (arith, most)) links.next in
     record { next = others.next; reads = rw (head, links.reads, others.reads) refl }
 
@@ -187,7 +201,8 @@ chains_read (c ∷ cs) more h short stops (suc n) most number =
 
 told_part : (reply : HeardView) (more : List Line) → fitting_heard reply ≡ true → short_heard reply ≡ true → Untold more
     → FirstGood more → (number : ℕ)
-    → (next : ℕ) × (told_at (got_shown reply) (place number (left_of (told_lines reply more))) ≡ (heard_shown reply, place next (left_of more)))
+    → (next : ℕ) × (told_at (got_shown reply) (place number (left_of (told_lines reply more)))
+    ≡ (heard_shown reply, place next (left_of more)))
 told_part Fault more h short untold good number = (number, refl)
 told_part (Records code empty a u n) more h short untold good number =
     let f = fits_records code empty a u n h in
@@ -201,10 +216,12 @@ told_part (Records code empty a u n) more h short untold good number =
     (all_say (told_line Answer) (told_of Answer) told_shown fitting_told short_told (told_reads Answer) a f.first s.0)
     (told_stops Answer second good_second (others_start u n more untold)) number in
     let authorities = many_reads (told_line Authority) (told_of Authority) told_shown u third
-    (all_say (told_line Authority) (told_of Authority) told_shown fitting_told short_told (told_reads Authority) u f.second t.0)
+    (all_say (told_line Authority) (told_of Authority) told_shown fitting_told short_told (told_reads Authority) u
+    f.second t.0)
     (told_stops Authority third good_third (additionals_start n more untold)) answers.next in
     let additionals = many_reads (told_line Additional) (told_of Additional) told_shown n more
-    (all_say (told_line Additional) (told_of Additional) told_shown fitting_told short_told (told_reads Additional) n f.third t.1)
+    (all_say (told_line Additional) (told_of Additional) told_shown fitting_told short_told (told_reads Additional) n
+    f.third t.1)
     (told_stops Additional more good untold.additionals) authorities.next in
     (additionals.next, rw (answers.reads, authorities.reads, additionals.reads) refl)
 
@@ -217,7 +234,8 @@ all_always [] = refl
 all_always (s ∷ ss) = all_always ss
 
 sets_say : (ss : List JudgedSetValue) → list_all fitting_set ss ≡ true → AllSay set_line set_of (λ s. s) ss
-sets_say ss h = all_say set_line set_of (λ s. s) fitting_set always (λ s fits yes. set_reads s fits) ss h (all_always ss)
+sets_say ss h = all_say set_line set_of (λ s. s) fitting_set always (λ s fits yes. set_reads s fits) ss h
+    (all_always ss)
 
 pub map_same : {X : Type 0} (xs : List X) → map (λ x. x) xs ≡ xs
 map_same [] = refl
@@ -232,7 +250,8 @@ step_part s h short more number =
     let ends : is_line end ≡ true = ending_line_good s.ending s.excuse f.ending f.excuse in
     let judged = judged_lines s more in
     let good = blocks_first set_of fitting_set set_good s.sets (end ∷ more) f.sets ends in
-    let head = one_line_read step_line number (step_of s) (got_of s.reply ∷ told_lines s.reply judged) _ (step_reads s f) in
+    let head = one_line_read step_line number (step_of s) (got_of s.reply ∷ told_lines s.reply judged) _
+    (step_reads s f) in
     let got = one_line_read got_line (number + 1) (got_of s.reply) (told_lines s.reply judged) (got_shown s.reply)
     (got_reads s.reply f.reply) in
     let told = told_part s.reply judged f.reply short (judged_untold s more) good (number + 1 + 1) in
@@ -241,7 +260,8 @@ step_part s h short more number =
     let last = one_line_read ending_line sets.next end more _ (ending_reads s.ending s.excuse f.ending f.excuse) in
     record { next = sets.next + 1; reads = rw (head, got, told.1, sets.reads, map_same s.sets, last) refl }
 
-pub trail_reads : (trail : Option (List StepView)) → fitting_trail trail ≡ true → short_trail trail ≡ true → (number : ℕ)
+pub trail_reads : (trail : Option (List StepView)) → fitting_trail trail ≡ true → short_trail trail ≡ true
+    → (number : ℕ)
     → Reads trail_at number (trail_lines trail last) last (option_map (λ steps. map step_shown steps) trail)
 unfolding optional
 trail_reads None h short number =
@@ -249,7 +269,8 @@ trail_reads None h short number =
 trail_reads (Some steps) h short number =
     let f = fits_trail steps h in
     let size = and_parts (is_u32 (length steps)) (list_all short_step steps) short in
-    let head = read_line trail_line number (count_of steps) (blocks step_lines steps last) (length steps) (count_reads steps size.0) in
+    let head = read_line trail_line number (count_of steps) (blocks step_lines steps last) (length steps)
+    (count_reads steps size.0) in
     let read = times_reads step_at step_lines step_shown steps last
     (all_read step_at step_lines step_shown fitting_step short_step step_part steps f.each size.1) (number + 1) in
     record { next = read.next; reads = rw (head, read.reads) refl }
