@@ -26,7 +26,7 @@ chain_answers j number (chain ∷ chains) = chain_answer number (justified j cha
 -- `trail yes` or `trail no`, where there is a trail; it is judged with no entry of a cache from before, within these limits
 abbrev pub trail_answer : Judge → Limits → Option (List AskedValue) → List ℕ
 trail_answer j limits None = []
-trail_answer j limits (Some trail) = codes "trail " ++ (answer_word (derivation j limits trail) ++ 10 ∷ [])
+trail_answer j limits (Some trail) = codes "trail " ++ (answer_word (derivation j limits [] trail) ++ 10 ∷ [])
 
 -- all lines; none for a report without chains and without a trail
 unfoldable pub audit_text : Judge → Limits → ReportValue → List ℕ

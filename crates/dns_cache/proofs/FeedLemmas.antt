@@ -5,7 +5,7 @@ use Rattle.std.specs.List.{flat_map}
 use Rattle.std.proofs.lemmas.Grind.{fold-append}
 use Rattle.std.proofs.lemmas.List.{drop_all, drop_more}
 use Rattle.dns_model.specs.Records.{Rr}
-use Rattle.dns_cache.specs.CacheKeys.{bytes_of}
+use Rattle.dns_rules.specs.CacheKeys.{bytes_of}
 use Rattle.dns_cache.specs.KeyOrder.{record_input}
 
 -- a hasher that is fed some records from a state on

@@ -8,9 +8,9 @@ use Rattle.std.proofs.lemmas.List.Edits.{length-remove}
 use Rattle.std.proofs.lemmas.List.Folds.{find_at}
 use Rattle.std.proofs.lemmas.List.Quantifiers.{position-Some}
 use Rattle.std.proofs.lemmas.Option.{slice_get_read}
-use Rattle.dns_cache.specs.CacheKeys.{CacheKeyValue, key_eq}
+use Rattle.dns_rules.specs.CacheKeys.{CacheKeyValue, key_eq}
 use Rattle.dns_cache.specs.KeyLaws.{key_eq-Decides}
-use Rattle.dns_cache.specs.Entries.{EntryValue}
+use Rattle.dns_rules.specs.CacheEntries.{EntryValue}
 use Rattle.dns_cache.specs.CacheLists.{CacheList, IsCacheList, after_get, after_insert, has_key, hit, is_hit, without}
 
 abbrev pub keys : List EntryValue → List CacheKeyValue

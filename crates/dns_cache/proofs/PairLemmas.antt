@@ -6,9 +6,9 @@ use Rattle.std.specs.List.{IsDistinct, find}
 use Rattle.std.specs.Map.{keys_of, lookup, lookup_entry, remove_entry}
 use Rattle.std.proofs.lemmas.List.{take_all, take-map}
 use Rattle.lru.specs.LruCache.{LruCache, lru_cache, promoted, put_entries}
-use Rattle.dns_cache.specs.CacheKeys.{CacheKeyValue, key_eq}
+use Rattle.dns_rules.specs.CacheKeys.{CacheKeyValue, key_eq}
 use Rattle.dns_cache.specs.KeyLaws.{key_eq-Decides}
-use Rattle.dns_cache.specs.Entries.{EntryValue}
+use Rattle.dns_rules.specs.CacheEntries.{EntryValue}
 use Rattle.dns_cache.specs.CacheLists.{IsCacheList, after_get, after_insert, has_key, is_hit, without}
 use Rattle.dns_cache.specs.KeptEntries.{KeptValue, KeptPair, entry_of, entries_of, listed, IsKept}
 use Rattle.dns_cache.proofs.ListLemmas.{apart, find_passes, hit_found, is_list-got, is_list-inserted, keys, length-found, none_found, none_hit, none_left_out, none_lives, rest_distinct}

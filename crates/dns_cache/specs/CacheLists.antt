@@ -2,8 +2,8 @@
 use Rattle.std.specs.Prelude.{ℕ, ◌≤◌, Bool, not, ◌&&◌, nat_lt, List, ◌∷◌, map, length, take, Option}
 use Rattle.std.specs.List.{find, filter, IsDistinct}
 use Rattle.std.specs.Option.{option_map_or}
-use Rattle.dns_cache.specs.CacheKeys.{CacheKeyValue, key_eq}
-use Rattle.dns_cache.specs.Entries.{EntryValue}
+use Rattle.dns_rules.specs.CacheKeys.{CacheKeyValue, key_eq}
+use Rattle.dns_rules.specs.CacheEntries.{EntryValue}
 
 pub record CacheList : Type 0 where
   pub entries : List EntryValue

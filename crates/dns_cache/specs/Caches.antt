@@ -5,8 +5,8 @@ use Rattle.dns_model.specs.Counts.{one_more}
 use Rattle.dns_model.specs.Keys.{VerifierAnswers}
 use Rattle.dns_model.specs.Chains.{accepted_alone}
 use Rattle.dns_model.specs.SoundAnswers.{is_secure}
-use Rattle.dns_cache.specs.CacheKeys.{CacheKeyValue}
-use Rattle.dns_cache.specs.Entries.{EntryValue, mark_of}
+use Rattle.dns_rules.specs.CacheKeys.{CacheKeyValue}
+use Rattle.dns_rules.specs.CacheEntries.{EntryValue, mark_of}
 use Rattle.dns_cache.specs.CacheLists.{CacheList, after_get, after_insert, hit, is_hit}
 use Rattle.dns_cache.specs.declared.acceptance.Acceptance.{Acceptance}
 use Rattle.dns_cache.specs.declared.acceptance.Acceptance.TheVariants.{Kept, Unknown, Other}

@@ -4,7 +4,7 @@ use Rattle.dns_model.specs.Views.{rrsig_in}
 use Rattle.dns_model.specs.Chains.{LinkValue, Signed}
 use Rattle.dns_model.specs.Records.{RrSet}
 use Rattle.dns_model.specs.SoundAnswers.{ChainValue, is_secure, signed_ttl, ttl_of}
-use Rattle.dns_cache.specs.Entries.{Found}
+use Rattle.dns_rules.specs.CacheEntries.{Found}
 
 -- for at least and for at most so many seconds
 pub record TtlRangeValue : Type 0 where

@@ -1,8 +1,8 @@
 -- For private functions of this crate only: the entries of a map from keys to what is kept for them, as a list of entries.
 use Rattle.std.specs.Prelude.{ℕ, ◌≡◌, ◌<◌, List, map, Option}
 use Rattle.dns_model.specs.SoundAnswers.{ChainValue}
-use Rattle.dns_cache.specs.CacheKeys.{CacheKeyValue}
-use Rattle.dns_cache.specs.Entries.{EntryValue, Found}
+use Rattle.dns_rules.specs.CacheKeys.{CacheKeyValue}
+use Rattle.dns_rules.specs.CacheEntries.{EntryValue, Found}
 use Rattle.dns_cache.specs.CacheLists.{CacheList, IsCacheList}
 use Rattle.lru.specs.LruCache.{LruCache}
 

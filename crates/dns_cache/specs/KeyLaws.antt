@@ -8,7 +8,7 @@ use Rattle.std.proofs.lemmas.Bool.Decides.{same_from_decides}
 use Rattle.std.proofs.lemmas.List.{reverse-reverse}
 use Rattle.dns_model.specs.Keys.{bytes_eq}
 use Rattle.dns_model.specs.Records.{Question}
-use Rattle.dns_cache.specs.CacheKeys.{RecordBytes, CacheKeyValue, query_eq, record_eq, key_eq}
+use Rattle.dns_rules.specs.CacheKeys.{RecordBytes, CacheKeyValue, query_eq, record_eq, key_eq}
 use Rattle.dns_cache.specs.KeyOrder.{query_cmp, record_cmp, key_cmp}
 
 -- ---- equality is an equivalence

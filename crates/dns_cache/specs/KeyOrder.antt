@@ -8,7 +8,7 @@ use Rattle.std.specs.Hash as fed
 use Rattle.std.specs.Hash.{HashWrites}
 use Rattle.dns_model.specs.Names.{wire}
 use Rattle.dns_model.specs.Records.{Question}
-use Rattle.dns_cache.specs.CacheKeys.{RecordBytes, CacheKeyValue}
+use Rattle.dns_rules.specs.CacheKeys.{RecordBytes, CacheKeyValue}
 
 -- by name from the root, by type, by class
 abbrev pub query_cmp : Question → Question → Ordering

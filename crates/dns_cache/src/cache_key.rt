@@ -1,5 +1,5 @@
 ghost use Rattle.std.specs.Prelude.{◌≡◌, IfOk};
-ghost use Rattle.dns_cache.specs.CacheKeys.{key_of};
+ghost use Rattle.dns_rules.specs.CacheKeys.{key_of};
 
 use dns_name::NoMemory;
 use dns_record::{Query, RecordSet};
@@ -18,7 +18,7 @@ pub struct CacheKey {
 }
 
 impl Model for CacheKey {
-    ghost use Rattle.dns_cache.specs.CacheKeys.{CacheKeyValue, key_of};
+    ghost use Rattle.dns_rules.specs.CacheKeys.{CacheKeyValue, key_of};
 
     ghost Value = { CacheKeyValue };
 

@@ -1,5 +1,5 @@
 ghost use Rattle.std.specs.Prelude.{◌≡◌, true, IfOk};
-ghost use Rattle.dns_cache.specs.Entries.{is_backed};
+ghost use Rattle.dns_rules.specs.CacheEntries.{is_backed};
 
 use crate::CacheKey;
 use dns_evidence::Chain;
@@ -22,7 +22,7 @@ pub struct Entry {
 
 impl Model for Entry {
     ghost use Rattle.std.specs.Prelude.{◌≡◌, true};
-    ghost use Rattle.dns_cache.specs.Entries.{EntryValue, is_backed};
+    ghost use Rattle.dns_rules.specs.CacheEntries.{EntryValue, is_backed};
 
     ghost Value = { EntryValue };
 

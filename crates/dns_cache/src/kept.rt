@@ -18,7 +18,7 @@ pub(crate) struct Kept {
 
 impl Model for Kept {
     ghost use Rattle.std.specs.Prelude.{◌≡◌, true};
-    ghost use Rattle.dns_cache.specs.Entries.{is_backed};
+    ghost use Rattle.dns_rules.specs.CacheEntries.{is_backed};
     ghost use Rattle.dns_cache.specs.KeptEntries.{KeptValue};
 
     ghost Value = { KeptValue };

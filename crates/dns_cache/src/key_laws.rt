@@ -2,7 +2,7 @@
 ghost use Rattle.std.specs.Prelude.{◌≡◌, ◌↔◌, IsTrue};
 ghost use Rattle.std.specs.Ordering.{ordering_reverse};
 ghost use Rattle.std.specs.declared.cmp.Ordering.TheVariants.{Less, Equal};
-ghost use Rattle.dns_cache.specs.CacheKeys.{key_eq};
+ghost use Rattle.dns_rules.specs.CacheKeys.{key_eq};
 ghost use Rattle.dns_cache.specs.KeyOrder.{key_cmp};
 
 use crate::CacheKey;

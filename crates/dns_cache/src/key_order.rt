@@ -6,7 +6,7 @@ ghost use Rattle.std.specs.Hash as fed;
 ghost use Rattle.std.specs.Hash.{same_Alike};
 ghost use Rattle.std.specs.Ordering.{as_partial_cmp};
 ghost use Rattle.std.proofs.Common.{refl};
-ghost use Rattle.dns_cache.specs.CacheKeys.{bytes_of, key_eq};
+ghost use Rattle.dns_rules.specs.CacheKeys.{bytes_of, key_eq};
 ghost use Rattle.dns_cache.specs.KeyOrder.{bytes_input, key_cmp, key_input, record_cmp as record_order, record_input};
 ghost use Rattle.dns_cache.specs.KeyLaws.{key_eq-Decides, key_equiv, key_ties, key_total};
 

@@ -1,7 +1,7 @@
 ghost use Rattle.std.specs.Prelude.{◌≡◌, [], true, None, Some, IfOk, find, nat_lt, if◌then◌else◌};
 ghost use Rattle.std.specs.List.{IsDistinct};
 ghost use Rattle.std.specs.Map.{keys_of};
-ghost use Rattle.dns_cache.specs.CacheKeys.{key_eq};
+ghost use Rattle.dns_rules.specs.CacheKeys.{key_eq};
 ghost use Rattle.dns_cache.specs.CacheLists.{is_hit};
 ghost use Rattle.dns_cache.specs.KeptEntries.{entries_of, entry_of};
 

@@ -94,7 +94,7 @@ shown_last : {R : Type 0} (w : Walk R) (q : Question) (r : R) (n : ℕ) (step : 
     → IsAt w q [] r n step met more → straight_set w.judge w.tells q ≡ Some set → IsHere w q r n step met more set
     → (set.rtype == type_dnskey) ≡ true → is_anchored_set w.judge set ≡ true → IsShown w q [] n step more
 shown_last w q r n step met more set at is h keys anchored =
-    let g = step_context_of w.judge w.limits (take n w.trail) step in
+    let g = step_context_of w.judge w.limits [] (take n w.trail) step in
     let one = one_or_none w.judge q set (signed_or_anchored w.judge q h.told set h.one) in
     let entry = anchored_entry g set h.straight.entry one keys anchored (rules w q r n step met more set h) in
     let none = h.asks ∙ entry.none in
@@ -138,7 +138,7 @@ shown_signed : {R : Type 0} (w : Walk R) (q next : Question) (rest : List Questi
     → (h : IsHere w q r n step met more set) → (set.rtype == type_dnskey) ≡ false
     → list_any (is_proved_by_keys w.judge set next above) set.signatures ≡ true → ShowsNext w next rest → IsShown w q (next ∷ rest) n step more
 shown_signed w q next rest r n step met more set above at is found h other proved later =
-    let g = step_context_of w.judge w.limits (take n w.trail) step in
+    let g = step_context_of w.judge w.limits [] (take n w.trail) step in
     let entry = h.straight.entry in
     let signed = has_signature w.judge q set (signed_or_anchored w.judge q h.told set h.one) other in
     let ask = keys_ask w.judge set next above signed.signature (only_one (is_proved_by_keys w.judge set next above) set.signatures signed.signature signed.alone proved) in
@@ -161,7 +161,7 @@ shown_keys : {R : Type 0} (w : Walk R) (q next : Question) (rest : List Question
     → (h : IsHere w q r n step met more set) → (set.rtype == type_dnskey) ≡ true
     → (not (is_anchored_set w.judge set) && is_proved_by_ds w.judge set next above) ≡ true → ShowsNext w next rest → IsShown w q (next ∷ rest) n step more
 shown_keys w q next rest r n step met more set above at is found h keys proved later =
-    let g = step_context_of w.judge w.limits (take n w.trail) step in
+    let g = step_context_of w.judge w.limits [] (take n w.trail) step in
     let entry = h.straight.entry in
     let one = one_or_none w.judge q set (signed_or_anchored w.judge q h.told set h.one) in
     let parts = and_parts (not (is_anchored_set w.judge set)) (is_proved_by_ds w.judge set next above) proved in
@@ -236,10 +236,10 @@ records_by w q rest n step more other is now =
 
 -- a derivation whose last step asks a query, and whose steps heard a session that is valid for it, proves it
 pub valid_session_is_proved : {R : Type 0} (up : Upstream R) (r : R) (j : Judge) (limits : Limits) (q : Question) (trail : List AskedValue) (top : AskedValue)
-    → derivation j limits trail ≡ true → top_step trail ≡ Some top → question_eq q top.query ≡ true → HeardAlong up r (in_send_order trail)
+    → derivation j limits [] trail ≡ true → top_step trail ≡ Some top → question_eq q top.query ≡ true → HeardAlong up r (in_send_order trail)
     → (valid : IsValidSession j (up.tells r) limits.depth q) → ProvesQuery j (up.tells r) q valid.queries trail
 valid_session_is_proved {R = R} up r j limits q trail top derived last same heard valid =
-    let g = derivation_parts j limits trail derived in
+    let g = derivation_parts j limits [] trail derived in
     let top_is = same_top trail g.top.step top g.top.found last in
     let depth_is : top.depth ≡ 0 = ap (λ s. s.depth) (sym top_is) ∙ g.top.top in
     let within = slice_get_within trail (length trail - 1) top last in

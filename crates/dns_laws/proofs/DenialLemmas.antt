@@ -16,6 +16,7 @@ use Rattle.dns_rules.specs.Delegations.{ZoneVerdict}
 use Rattle.dns_rules.specs.Unsigned.{question_start, is_empty}
 use Rattle.dns_rules.specs.Outcome as outcome
 use Rattle.dns_rules.specs.Outcome.{Outcome, outcome_of, outcome_by_zone, has_answer, foreign_record}
+use Rattle.dns_rules.specs.CacheEntries.{EntryValue}
 use Rattle.dns_rules.specs.Derivation.{StepContext, search_from, denial_eq, ending_eq, ending_by, ending_holds, entries_hold, with_entries, judged_sets, step_holds, steps_hold, derivation}
 use Rattle.dns_rules.specs.DerivationParts.{step_context_of, is_bare, judged_holds, ends_by_search}
 use Rattle.dns_rules.proofs.DerivedLemmas.{derivation_parts}
@@ -81,26 +82,26 @@ class_leads g step told d None h ends =
     ending_leads g step told d (outcome_of g.limits step.query told sets)
     ((and_parts (entries_hold g (judged_part step.depth told) step.sets) holds h).1) ends
 
-step_denies : (j : Judge) (limits : Limits) (earlier : List AskedValue) (step : AskedValue)
-    → step_holds j limits earlier step ≡ true → StepDenies step
-step_denies j limits earlier step h = λ told d judged heard ends.
-    let g = step_context_of j limits earlier step in
+step_denies : (j : Judge) (limits : Limits) (cached : List EntryValue) (earlier : List AskedValue) (step : AskedValue)
+    → step_holds j limits cached earlier step ≡ true → StepDenies step
+step_denies j limits cached earlier step h = λ told d judged heard ends.
+    let g = step_context_of j limits cached earlier step in
     let sets = with_entries (judged_part step.depth told) step.sets in
     let same : judged_sets step ≡ sets = ap (λ o. option_map_or (λ t. with_entries (judged_part step.depth t) step.sets) o []) heard in
-    let leads = class_leads g step told d (foreign_record step.query told) (judged_step j limits earlier step told h judged heard) ends in
+    let leads = class_leads g step told d (foreign_record step.query told) (judged_step j limits cached earlier step told h judged heard) ends in
     subst (λ s. ShowsDenial step.query told s d) (sym same) (outcome_shows limits step.query told sets d (judged_told step.depth told step.sets) leads)
 
 -- ---- a trail
 
-steps_deny : (j : Judge) (limits : Limits) (earlier steps : List AskedValue)
-    → steps_hold j limits earlier steps ≡ true → AllByRecursion StepDenies steps
+steps_deny : (j : Judge) (limits : Limits) (cached : List EntryValue) (earlier steps : List AskedValue)
+    → steps_hold j limits cached earlier steps ≡ true → AllByRecursion StepDenies steps
 unfolding steps_hold
-steps_deny j limits earlier [] h = tt
-steps_deny j limits earlier (step ∷ steps) h =
-    let parts = and_parts (step_holds j limits earlier step) (steps_hold j limits (earlier ++ step ∷ []) steps) h in
-    (step_denies j limits earlier step parts.0, steps_deny j limits (earlier ++ step ∷ []) steps parts.1)
+steps_deny j limits cached earlier [] h = tt
+steps_deny j limits cached earlier (step ∷ steps) h =
+    let parts = and_parts (step_holds j limits cached earlier step) (steps_hold j limits cached (earlier ++ step ∷ []) steps) h in
+    (step_denies j limits cached earlier step parts.0, steps_deny j limits cached (earlier ++ step ∷ []) steps parts.1)
 
 -- each judged step of a derivation that ends with an answer shows what it denies
-pub denials_hold : (j : Judge) (limits : Limits) (trail : List AskedValue) → derivation j limits trail ≡ true
+pub denials_hold : (j : Judge) (limits : Limits) (cached : List EntryValue) (trail : List AskedValue) → derivation j limits cached trail ≡ true
     → HasDenials trail
-denials_hold j limits trail h = steps_deny j (effective limits) [] trail (derivation_parts j limits trail h).hold
+denials_hold j limits cached trail h = steps_deny j (effective limits) cached [] trail (derivation_parts j limits cached trail h).hold

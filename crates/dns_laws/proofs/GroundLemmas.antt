@@ -9,22 +9,25 @@ use Rattle.dns_model.specs.declared.trail.MarkOrigin.{MarkOrigin}
 use Rattle.dns_model.specs.declared.trail.MarkOrigin.TheVariants.{Table, Repeat, Cache}
 use Rattle.dns_model.specs.Names.{Labels, name_eq}
 use Rattle.dns_model.specs.Records.{Rr, RrSet, question_eq}
-use Rattle.dns_model.specs.Keys.{VerifierAnswers, bytes_eq}
+use Rattle.dns_model.specs.Keys.{VerifierAnswers}
 use Rattle.dns_model.specs.Chains.{Judge, is_nonempty, rdatas_of}
 use Rattle.dns_model.specs.SoundAnswers.{Told, PlacedSet, section_eq, placed_sets}
 use Rattle.dns_model.specs.Trails.{AskedValue, JudgedSetValue, HeardValue, Records, Fault}
 use Rattle.dns_model.proofs.Lists.{take-front}
 use Rattle.dns_model.proofs.EachLemmas.{each_more, each_append, each_filter}
-use Rattle.dns_model.proofs.SetLemmas.{IsProper, is_of, name_back, name_trans, proper_placed}
+use Rattle.dns_model.proofs.SetLemmas.{IsProper, is_of, name_back, name_refl, name_trans, proper_placed}
 use Rattle.dns_rules.specs.MarkedSets.{MarkedSet}
 use Rattle.dns_rules.specs.Delegations.{is_insecure}
 use Rattle.dns_rules.specs.Asking.{Limits, effective, judged_part}
 use Rattle.dns_rules.specs.Outcome.{outcome_of, foreign_record}
-use Rattle.dns_rules.specs.Derivation.{StepContext, told_in, with_entries, judged_sets, same_record, has_mark_of, is_by_origin, is_repeat, is_empty, entry_holds, entries_hold, ending_holds, step_holds, steps_hold, has_order, derivation}
+use Rattle.dns_rules.specs.CacheKeys.{same_bytes}
+use Rattle.dns_rules.specs.CacheEntries.{EntryValue}
+use Rattle.dns_rules.specs.Derivation.{StepContext, told_in, with_entries, judged_sets, has_mark_of, is_by_origin, is_repeat, is_served_by, is_empty, entry_holds, entries_hold, ending_holds, step_holds, steps_hold, has_order, derivation}
 use Rattle.dns_rules.specs.DerivationParts.{step_context_of, repeats_step, is_foreign, is_failed, is_seen, is_bare, judged_holds, step_holds_by}
 use Rattle.dns_rules.proofs.Members.{picked_known}
 use Rattle.dns_rules.proofs.FindLemmas.{each_all}
 use Rattle.dns_rules.proofs.ExtendLemmas.{without_entries}
+use Rattle.dns_rules.proofs.KeyLemmas.{owner_same}
 use Rattle.dns_laws.specs.Ground.{is_ground, has_ground, is_grounded, HasGrounds}
 use Rattle.dns_laws.proofs.GroundParts.{any_front, each_at}
 use Rattle.dns_laws.proofs.GroundAnswers.{Grounded, IsSettled, AreSettled, StepsSettled, grounded_alike}
@@ -35,13 +38,13 @@ use Rattle.dns_laws.proofs.GroundMarks.{EarlierSettled, GroundedIn, mark_of_entr
 -- sets with a record each, whose first records are the same, have one owner
 same_owner : (one two : RrSet) (xs ys : List Rr) → is_nonempty (rdatas_of xs) ≡ true
     → AllByRecursion (λ r. is_of one r ≡ true) xs
-    → AllByRecursion (λ r. is_of two r ≡ true) ys → pointwise same_record xs ys ≡ true
+    → AllByRecursion (λ r. is_of two r ≡ true) ys → pointwise same_bytes xs ys ≡ true
     → name_eq two.owner one.owner ≡ true
 same_owner one two [] ys some of_one of_two same = cc
 same_owner one two (x ∷ xs) [] some of_one of_two same = cc
 same_owner one two (x ∷ xs) (y ∷ ys) some of_one of_two same =
-    let rest = (x.rtype == y.rtype) && ((x.class == y.class) && bytes_eq x.rdata y.rdata) in
-    let alike = (and_parts (name_eq x.owner y.owner) rest ((and_parts (same_record x y) (pointwise same_record xs ys) same).0)).0 in
+    let alike : name_eq x.owner y.owner ≡ true =
+    ap (name_eq x.owner) (sym (owner_same x y ((and_parts (same_bytes x y) (pointwise same_bytes xs ys) same).0))) ∙ name_refl x.owner in
     let first = (and_parts (name_eq one.owner x.owner) (one.rtype == x.rtype) of_one.0).0 in
     let second = (and_parts (name_eq two.owner y.owner) (two.rtype == y.rtype) of_two.0).0 in
     name_trans two.owner y.owner one.owner second
@@ -59,8 +62,8 @@ repeat_grounded g placed entry n (Some step) settled proper insecure is h =
     let p = picked_known (is_repeat placed entry) (IsSettled V g.earlier) sets each
     ((and_parts (question_eq g.query step.query) (list_any (is_repeat placed entry) sets) h).1) in
     let set = p.it.set in
-    let records = pointwise same_record placed.set.records set.records in
-    let signatures = pointwise same_record placed.set.signatures set.signatures in
+    let records = pointwise same_bytes placed.set.records set.records in
+    let signatures = pointwise same_bytes placed.set.signatures set.signatures in
     let one = and_parts records (signatures && has_mark_of p.it entry) p.passes in
     let two = and_parts signatures (has_mark_of p.it entry) one.1 in
     grounded_alike V g.earlier set.owner placed.set.owner
@@ -69,21 +72,28 @@ repeat_grounded g placed entry n (Some step) settled proper insecure is h =
 
 -- ---- the entries of a step
 
+-- the sets of the steps before are settled, and nothing was kept before them
+abbrev FromNothing : StepContext → Type 0
+FromNothing g = EarlierSettled g × (g.cached ≡ [])
+
 origin_grounded : (g : StepContext) (placed : PlacedSet) (entry : JudgedSetValue) (origin : MarkOrigin)
-    → EarlierSettled g → IsProper placed.set
+    → FromNothing g → IsProper placed.set
     → is_insecure entry.mark ≡ true → is_by_origin g placed entry origin ≡ true → GroundedIn g placed.set.owner
-origin_grounded g placed entry Table settled proper insecure h = rules_grounded g placed entry settled insecure h
+origin_grounded g placed entry Table settled proper insecure h = rules_grounded g placed entry settled.0 insecure h
 origin_grounded g placed entry (Repeat n) settled proper insecure h =
-    repeat_grounded g placed entry n (slice_get g.earlier n) settled proper insecure refl
+    repeat_grounded g placed entry n (slice_get g.earlier n) settled.0 proper insecure refl
     ((and_parts (is_empty entry.asked) (repeats_step g placed entry (slice_get g.earlier n)) h).1)
-origin_grounded g placed entry Cache settled proper insecure h = cc
+origin_grounded g placed entry Cache settled proper insecure h =
+    let kept = λ (entries : List EntryValue). list_any (is_served_by g.judge g.query placed entry) entries in
+    let none : false ≡ true = ap kept (sym settled.1) ∙ (and_parts (is_empty entry.asked) (kept g.cached) h).1 in
+    cc
 
 -- an entry of a set: where it is Insecure, the set's owner and the entry's have a ground
 record EntryGrounded (g : StepContext) (placed : PlacedSet) (entry : JudgedSetValue) : Type 0 where
   of_set : is_insecure entry.mark ≡ true → GroundedIn g placed.set.owner
   of_entry : is_insecure entry.mark ≡ true → GroundedIn g entry.owner
 
-entry_grounded : (g : StepContext) (placed : PlacedSet) (entry : JudgedSetValue) → EarlierSettled g
+entry_grounded : (g : StepContext) (placed : PlacedSet) (entry : JudgedSetValue) → FromNothing g
     → IsProper placed.set → entry_holds g placed entry ≡ true
     → EntryGrounded g placed entry
 unfolding entry_holds
@@ -110,7 +120,7 @@ record StepGrounded (g : StepContext) (sets : List MarkedSet) (entries : List Ju
   settled : AreSettled g.judge.answers g.earlier sets
   grounded : EntriesGrounded g entries
 
-entries_grounded : (g : StepContext) (ps : List PlacedSet) (es : List JudgedSetValue) → EarlierSettled g
+entries_grounded : (g : StepContext) (ps : List PlacedSet) (es : List JudgedSetValue) → FromNothing g
     → AllByRecursion (λ p. IsProper p.set) ps
     → entries_hold g ps es ≡ true → StepGrounded g (with_entries ps es) es
 unfolding entries_hold
@@ -136,7 +146,7 @@ none_grounded g ps (e ∷ es) h = cc
 judged_proper : (depth : ℕ) (told : Told) → AllByRecursion (λ p. IsProper p.set) (judged_part depth told)
 judged_proper depth told = each_filter (λ p. IsProper p.set) _ (placed_sets told) (proper_placed told)
 
-class_grounded : (g : StepContext) (step : AskedValue) (told : Told) (o : Option Rr) → EarlierSettled g
+class_grounded : (g : StepContext) (step : AskedValue) (told : Told) (o : Option Rr) → FromNothing g
     → judged_holds g step told o ≡ true
     → StepGrounded g (with_entries (judged_part step.depth told) step.sets) step.sets
 class_grounded g step told (Some r) settled h =
@@ -147,7 +157,7 @@ class_grounded g step told None settled h =
     let ends = ending_holds g step told (outcome_of g.limits step.query told (with_entries placed step.sets)) in
     entries_grounded g placed step.sets settled (judged_proper step.depth told) ((and_parts (entries_hold g placed step.sets) ends h).0)
 
-records_grounded : (g : StepContext) (step : AskedValue) (told : Told) (b : Bool) → EarlierSettled g
+records_grounded : (g : StepContext) (step : AskedValue) (told : Told) (b : Bool) → FromNothing g
     → (if b then judged_holds g step told (foreign_record step.query told) else is_seen step.ending && is_bare step) ≡ true
     → StepGrounded g (with_entries (judged_part step.depth told) step.sets) step.sets
 records_grounded g step told true settled h = class_grounded g step told (foreign_record step.query told) settled h
@@ -159,7 +169,7 @@ records_grounded g step told false settled h =
 abbrev sets_heard : AskedValue → HeardValue → List MarkedSet
 sets_heard step heard = option_map_or (λ told. with_entries (judged_part step.depth told) step.sets) (told_in heard) []
 
-heard_grounded : (g : StepContext) (step : AskedValue) (heard : HeardValue) → EarlierSettled g
+heard_grounded : (g : StepContext) (step : AskedValue) (heard : HeardValue) → FromNothing g
     → step_holds_by g step heard ≡ true
     → StepGrounded g (sets_heard step heard) step.sets
 heard_grounded g step Fault settled h =
@@ -169,10 +179,10 @@ heard_grounded g step (Records told empty) settled h = records_grounded g step t
 
 step_grounded : (j : Judge) (limits : Limits) (earlier : List AskedValue) (step : AskedValue)
     → StepsSettled j.answers earlier earlier
-    → step_holds j limits earlier step ≡ true
-    → StepGrounded (step_context_of j limits earlier step) (judged_sets step) step.sets
+    → step_holds j limits [] earlier step ≡ true
+    → StepGrounded (step_context_of j limits [] earlier step) (judged_sets step) step.sets
 unfolding step_holds
-step_grounded j limits earlier step settled h = heard_grounded (step_context_of j limits earlier step) step step.reply settled h
+step_grounded j limits earlier step settled h = heard_grounded (step_context_of j limits [] earlier step) step step.reply (settled, refl) h
 
 -- ---- one step after another
 
@@ -213,13 +223,13 @@ grounded_from verifier trail number steps = list_all (λ step. list_all (is_grou
 
 steps_grounded : (j : Judge) (limits : Limits) (earlier steps : List AskedValue)
     → StepsSettled j.answers earlier earlier
-    → steps_hold j limits earlier steps ≡ true
+    → steps_hold j limits [] earlier steps ≡ true
     → grounded_from j.answers (earlier ++ steps) (length earlier) steps ≡ true
 unfolding steps_hold
 steps_grounded j limits earlier [] settled h = refl
 steps_grounded j limits earlier (step ∷ steps) settled h =
     let V = j.answers in
-    let parts = and_parts (step_holds j limits earlier step) (steps_hold j limits (earlier ++ step ∷ []) steps) h in
+    let parts = and_parts (step_holds j limits [] earlier step) (steps_hold j limits [] (earlier ++ step ∷ []) steps) h in
     let one = step_grounded j limits earlier step settled parts.0 in
     let trail = earlier ++ step ∷ steps in
     let next : StepsSettled V (earlier ++ step ∷ []) (earlier ++ step ∷ []) =
@@ -232,12 +242,12 @@ steps_grounded j limits earlier (step ∷ steps) settled h =
     and_from (list_all (is_grounded V trail (length earlier)) step.sets) (grounded_from V trail (length earlier + 1) steps)
     (entries_numbered V earlier (step ∷ steps) step.sets one.grounded) later
 
--- the law needs no more of a derivation than that its steps follow
-pub insecure_is_grounded : (j : Judge) (limits : Limits) (trail : List AskedValue) → derivation j limits trail ≡ true
+-- the law needs no more of a derivation than that its steps follow, and that nothing was kept before it
+pub insecure_is_grounded : (j : Judge) (limits : Limits) (trail : List AskedValue) → derivation j limits [] trail ≡ true
     → HasGrounds j.answers trail
 unfolding derivation
 insecure_is_grounded j limits trail h =
-    steps_grounded j (effective limits) [] trail tt ((and_parts (has_order trail) (steps_hold j (effective limits) [] trail) h).1)
+    steps_grounded j (effective limits) [] trail tt ((and_parts (has_order trail) (steps_hold j (effective limits) [] [] trail) h).1)
 
 -- ---- the law, set by set
 
@@ -269,7 +279,7 @@ step_by_step verifier trail (s ∷ steps) first (suc number) step h is =
 
 -- in a derivation each set that the step with a number marks Insecure has a ground in the steps before it
 pub ground_of_insecure : (j : Judge) (limits : Limits) (trail : List AskedValue) (number : ℕ) (step : AskedValue)
-    → derivation j limits trail ≡ true
+    → derivation j limits [] trail ≡ true
     → slice_get trail number ≡ Some step
     → AllByRecursion (λ set. is_insecure set.mark ≡ true → has_ground j.answers trail number set.owner ≡ true) step.sets
 ground_of_insecure j limits trail number step h is =

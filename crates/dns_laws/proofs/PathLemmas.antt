@@ -38,7 +38,7 @@ use Rattle.dns_laws.proofs.RankLemmas.{rank, same_rank}
 
 -- ---- where a walk stands
 
--- a trail whose steps hold, with the numbers of its steps in the order of the sends, and what its upstream told at the start
+-- a trail whose steps hold, with nothing kept before them, the numbers of its steps in the order of the sends, and what its upstream told at the start
 pub record Walk (R : Type 0) : Type 0 where
   pub up : Upstream R
   pub judge : Judge
@@ -46,7 +46,7 @@ pub record Walk (R : Type 0) : Type 0 where
   pub trail : List AskedValue
   pub order : List ℕ
   pub tells : Question → Option Told
-  pub hold : steps_hold judge limits [] trail ≡ true
+  pub hold : steps_hold judge limits [] [] trail ≡ true
 
 -- the step with this number asks the first of these queries, after those that were met, and more follow
 pub record IsAt {R : Type 0} (w : Walk R) (q : Question) (rest : List Question) (r : R) (n : ℕ) (step : AskedValue) (met more : List ℕ) : Type 0 where
@@ -76,7 +76,7 @@ pub record IsHere {R : Type 0} (w : Walk R) (q : Question) (r : R) (n : ℕ) (st
   pub on : GoesOn w.trail n step met w.order
   pub next : more ≡ n ∷ on.more
   pub later : HeardAlong w.up (w.up.left r step.query) (numbered w.trail on.more)
-  pub straight : IsStraightStep (step_context_of w.judge w.limits (take n w.trail) step) set step
+  pub straight : IsStraightStep (step_context_of w.judge w.limits [] (take n w.trail) step) set step
   pub asks : asks_of step ≡ straight.entry.asked
   pub ends : EndsAs w.trail n (n + 1) step
 
@@ -99,7 +99,7 @@ here w q rest r n step met more set at is =
     let reply = answered w.judge w.tells q set at.other is in
     let told : told_in step.reply ≡ Some reply.told = heard.0 ∙ sym (w.up.alike r q step.query at.same) ∙ at.agree q (omega arith) ∙ reply.heard in
     let straight =
-    straight_step w.judge w.limits (take n w.trail) step q reply.told set (steps_hold_at w.judge w.limits [] w.trail n step w.hold at.found) at.judged told at.same reply.is
+    straight_step w.judge w.limits [] (take n w.trail) step q reply.told set (steps_hold_at w.judge w.limits [] [] w.trail n step w.hold at.found) at.judged told at.same reply.is
     (ap (is_judged_at step.depth) reply.is.rtype ∙ at.kept) (ap needs_no_denial reply.is.rtype ∙ at.plain) in
     record {
       told = reply.told;
@@ -117,9 +117,9 @@ here w q rest r n step met more set at is =
 
 -- an entry that repeats another asks nothing; then its step is the first, and there is no other
 first_repeats : {R : Type 0} (w : Walk R) (q : Question) (r : R) (n k : ℕ) (step : AskedValue) (met more : List ℕ) (set : RrSet)
-    (h : IsHere w q r n step met more set) → is_by_origin (step_context_of w.judge w.limits (take n w.trail) step) (in_section Answer set) h.straight.entry (Repeat k) ≡ true → ⊥
+    (h : IsHere w q r n step met more set) → is_by_origin (step_context_of w.judge w.limits [] (take n w.trail) step) (in_section Answer set) h.straight.entry (Repeat k) ≡ true → ⊥
 first_repeats w q r n k step met more set h is =
-    let g = step_context_of w.judge w.limits (take n w.trail) step in
+    let g = step_context_of w.judge w.limits [] (take n w.trail) step in
     let placed = in_section Answer set in
     let parts = and_parts (is_empty h.straight.entry.asked) (repeats_step g placed h.straight.entry (slice_get g.earlier k)) is in
     let first = none_ends w.trail n (n + 1) step h.ends (h.asks ∙ empty_is h.straight.entry.asked parts.0) in
@@ -128,15 +128,15 @@ first_repeats w q r n k step met more set h is =
 
 origin_rules : {R : Type 0} (w : Walk R) (q : Question) (r : R) (n : ℕ) (step : AskedValue) (met more : List ℕ) (set : RrSet)
     (h : IsHere w q r n step met more set) (origin : MarkOrigin)
-    → is_by_origin (step_context_of w.judge w.limits (take n w.trail) step) (in_section Answer set) h.straight.entry origin ≡ true
-    → is_by_rules (step_context_of w.judge w.limits (take n w.trail) step) (in_section Answer set) h.straight.entry ≡ true
+    → is_by_origin (step_context_of w.judge w.limits [] (take n w.trail) step) (in_section Answer set) h.straight.entry origin ≡ true
+    → is_by_rules (step_context_of w.judge w.limits [] (take n w.trail) step) (in_section Answer set) h.straight.entry ≡ true
 origin_rules w q r n step met more set h Table is = is
 origin_rules w q r n step met more set h (Repeat k) is = absurd (first_repeats w q r n k step met more set h is)
-origin_rules w q r n step met more set h Cache is = cc
+origin_rules w q r n step met more set h Cache is = cc ((and_parts (is_empty h.straight.entry.asked) false is).1)
 
 pub rules : {R : Type 0} (w : Walk R) (q : Question) (r : R) (n : ℕ) (step : AskedValue) (met more : List ℕ) (set : RrSet)
     (h : IsHere w q r n step met more set)
-    → is_by_rules (step_context_of w.judge w.limits (take n w.trail) step) (in_section Answer set) h.straight.entry ≡ true
+    → is_by_rules (step_context_of w.judge w.limits [] (take n w.trail) step) (in_section Answer set) h.straight.entry ≡ true
 rules w q r n step met more set h = origin_rules w q r n step met more set h h.straight.entry.origin h.straight.origin
 
 -- ---- what a step comes to

@@ -27,6 +27,7 @@ use Rattle.dns_rules.specs.Denying.{is_denying_as, is_denying, denying, denials,
 use Rattle.dns_rules.specs.Outcome.{Outcome, outcome_of, outcome_by_denials, outcome_by_hashed_denials, answers_query, has_answer, answered, is_wildcard_signature, has_wildcard_signature, is_expanded_answer, one_signer, is_insecure_authority, insecure_answer, foreign_record}
 use Rattle.dns_rules.specs.Outcome as outcome
 use Rattle.dns_rules.specs.Unsigned.{is_empty}
+use Rattle.dns_rules.specs.CacheEntries.{EntryValue}
 use Rattle.dns_rules.specs.Derivation.{StepContext, told_in, with_entries, is_by_origin, entry_holds, entries_hold, denial_eq, ending_eq, ends_bare, ending_holds, heard_holds, step_holds}
 use Rattle.dns_rules.specs.DerivationParts.{with_entry, step_context_of, judged_holds}
 use Rattle.dns_laws.specs.Straight.{is_queried}
@@ -221,13 +222,13 @@ answered_same Failed h = cc
 answered_same Seen h = cc
 
 -- a judged step that heard records holds by the first of another class
-pub judged_step : (j : Judge) (limits : Limits) (earlier : List AskedValue) (step : AskedValue) (told : Told)
-    → step_holds j limits earlier step ≡ true
+pub judged_step : (j : Judge) (limits : Limits) (cached : List EntryValue) (earlier : List AskedValue) (step : AskedValue) (told : Told)
+    → step_holds j limits cached earlier step ≡ true
     → step.judged ≡ true → told_in step.reply ≡ Some told
-    → judged_holds (step_context_of j limits earlier step) step told (foreign_record step.query told) ≡ true
+    → judged_holds (step_context_of j limits cached earlier step) step told (foreign_record step.query told) ≡ true
 unfolding step_holds
-judged_step j limits earlier step told h judged heard =
-    let g = step_context_of j limits earlier step in
+judged_step j limits cached earlier step told h judged heard =
+    let g = step_context_of j limits cached earlier step in
     ap (λ b. if b then judged_holds g step told (foreign_record step.query told) else ends_bare Seen step) (sym judged)
     ∙ ap (λ o. option_map_or (heard_holds g step) o (ends_bare Failed step)) (sym heard) ∙ h
 
@@ -239,17 +240,17 @@ pub record IsStraightStep (g : StepContext) (set : RrSet) (step : AskedValue) : 
   pub ending : step.ending ≡ Answered denial.None
   pub excuse : step.excuse ≡ []
 
-pub straight_step : (j : Judge) (limits : Limits) (earlier : List AskedValue) (step : AskedValue) (q : Question)
+pub straight_step : (j : Judge) (limits : Limits) (cached : List EntryValue) (earlier : List AskedValue) (step : AskedValue) (q : Question)
     (told : Told) (set : RrSet)
-    → step_holds j limits earlier step ≡ true → step.judged ≡ true → told_in step.reply ≡ Some told
+    → step_holds j limits cached earlier step ≡ true → step.judged ≡ true → told_in step.reply ≡ Some told
     → question_eq q step.query ≡ true
     → IsOneSet j q told set → is_judged_at step.depth set.rtype ≡ true → needs_no_denial set.rtype ≡ true
-    → IsStraightStep (step_context_of j limits earlier step) set step
-straight_step j limits earlier step q told set h judged heard same one kept plain =
-    let g = step_context_of j limits earlier step in
+    → IsStraightStep (step_context_of j limits cached earlier step) set step
+straight_step j limits cached earlier step q told set h judged heard same one kept plain =
+    let g = step_context_of j limits cached earlier step in
     let placed = judged_part step.depth told in
     let parts = and_parts (entries_hold g placed step.sets) (ending_holds g step told (outcome_of limits step.query told (with_entries placed step.sets)))
-    (ap (judged_holds g step told) (sym (none_foreign j q step.query told set one same)) ∙ judged_step j limits earlier step told h judged heard) in
+    (ap (judged_holds g step told) (sym (none_foreign j q step.query told set one same)) ∙ judged_step j limits cached earlier step told h judged heard) in
     let alone = one_judged j q told set step.depth one kept in
     let entry = one_entry g (in_section Answer set) step.sets (ap (λ ps. entries_hold g ps step.sets) (sym alone) ∙ parts.0) in
     let sets : with_entries placed step.sets ≡ with_entry (in_section Answer set, entry.entry) ∷ [] =

@@ -186,7 +186,7 @@ abbrev pub keys_again : List AskedValue
 keys_again =
     asked_by_the_signature ++ record keys_insecure { sets = record (zone_entry 48 Insecure None []) { origin = Repeat 2 } ∷ [] } ∷ []
 
-pub again_as_found : steps_hold by_root (within 26) [] keys_again ≡ true
+pub again_as_found : steps_hold by_root (within 26) [] [] keys_again ≡ true
 unfolding computed
 again_as_found = refl
 
@@ -218,11 +218,11 @@ none_without_a_search = refl
 abbrev pub signed_zone : Proof → List AskedValue
 signed_zone mark = host_seen ∷ zone_seen ∷ root_keys ∷ record ds_found { sets = zone_entry 43 Secure (Some 0) (Step 2 ∷ []) ∷ [] } ∷ unsigned_step mark whole_search ∷ []
 
-pub bogus_in_a_signed_zone : derivation by_root (within 26) (signed_zone Bogus) ≡ true
+pub bogus_in_a_signed_zone : derivation by_root (within 26) [] (signed_zone Bogus) ≡ true
 unfolding computed
 bogus_in_a_signed_zone = refl
 
-pub insecure_in_a_signed_zone : derivation by_root (within 26) (signed_zone Insecure) ≡ false
+pub insecure_in_a_signed_zone : derivation by_root (within 26) [] (signed_zone Insecure) ≡ false
 unfolding computed
 insecure_in_a_signed_zone = refl
 

@@ -56,7 +56,7 @@ pub name_is_denied :
     DeniesAnswer (query_of missing 1) (marked_told 1000 (judged_sets (name_error (Answered (denial.Absent Secure)))) both_covered)
 unfolding sets_of leaders rrsig_in name_in labels_in label_in
 name_is_denied =
-    let each = denials_hold by_root (within 26) (by_both_covered (Answered (denial.Absent Secure))) no_such_name in
+    let each = denials_hold by_root (within 26) [] (by_both_covered (Answered (denial.Absent Secure))) no_such_name in
     (denies_by_records 1000 (query_of missing 1) both_covered (judged_sets (name_error (Answered (denial.Absent Secure)))) (denial.Absent Secure) refl
     (each.1.1.0 both_covered (denial.Absent Secure) refl refl refl)).absent refl
 
@@ -79,7 +79,7 @@ pub closer_names_are_denied :
 unfolding sets_of leaders rrsig_in name_in labels_in label_in
 closer_names_are_denied =
     let told = told_of 0 expanded nsec_of_a in
-    let each = denials_hold by_root (within 26) (by_expansion (Answered (denial.Expanded Secure))) nothing_closer in
+    let each = denials_hold by_root (within 26) [] (by_expansion (Answered (denial.Expanded Secure))) nothing_closer in
     (denies_by_records 1000 (query_of missing 1) told (judged_sets (expansion (Answered (denial.Expanded Secure)))) (denial.Expanded Secure) refl
     (each.1.1.0 told (denial.Expanded Secure) refl refl refl)).expanded refl
 

@@ -119,7 +119,7 @@ pub record IsProved (j : Judge) (replies : Replies) (q : Question) (trail : List
 
 -- a derivation with the query and this ending, whose steps heard the replies of a valid session
 pub replies_prove : (j : Judge) (replies : Replies) (limits : Limits) (q : Question) (trail : List AskedValue) (top : AskedValue) (ending : EndingValue)
-    → derivation j limits trail ≡ true → top_step trail ≡ Some top → top.query ≡ q → top.ending ≡ ending → IsFromReplies replies (in_send_order trail)
+    → derivation j limits [] trail ≡ true → top_step trail ≡ Some top → top.query ≡ q → top.ending ≡ ending → IsFromReplies replies (in_send_order trail)
     → IsValidSession j (first_told replies) limits.depth q → IsProved j replies q trail ending
 replies_prove j replies limits q trail top ending derived last query ends from valid =
     let asked = ap (question_eq q) query ∙ question_refl q in

@@ -28,7 +28,7 @@ found_denials : {H : Type 0} (meanings : handle.Ghosts H) (call : Call H) (found
     → ending ≡ ending_by found.outcome → HasDenials (trail_of call.query found ending)
 found_denials meanings call found ending f ends =
     let trail = (found_trail meanings call found ending f ends).is in
-    denials_hold call.judge (limits_of_call call) (trail_of call.query found ending) trail.derived
+    denials_hold call.judge (limits_of_call call) [] (trail_of call.query found ending) trail.derived
 
 -- its trail explains the answer
 found_explained : {H : Type 0} (meanings : handle.Ghosts H) (call : Call H) (found : Findings) (d : Denial) (ending : EndingValue) → Found meanings call found

@@ -58,17 +58,17 @@ found_trail meanings call found ending f ends =
     let step = top_of call.query told found.empty found.entries ending found.excuse in
     let trail = found.steps ++ step ∷ [] in
     let limits = limits_of_call call in
-    let ended : step_holds call.judge (effective limits) found.steps (top_of call.query told found.empty found.entries (ending_by found.outcome) found.excuse) ≡ true =
-    judged_step_holds call.judge (effective limits) found.steps 0 call.query told found.empty found.sets found.entries found.outcome found.excuse f.own f.judged f.concluded in
-    let holds : step_holds call.judge (effective limits) found.steps step ≡ true =
-    ap (λ e. step_holds call.judge (effective limits) found.steps (top_of call.query told found.empty found.entries e found.excuse)) ends ∙ ended in
-    let derived = top_derivation call.judge limits found.steps step f.sends (record { part = f.part; holds = holds; top = refl; few = f.few }) in
+    let ended : step_holds call.judge (effective limits) [] found.steps (top_of call.query told found.empty found.entries (ending_by found.outcome) found.excuse) ≡ true =
+    judged_step_holds call.judge (effective limits) [] found.steps 0 call.query told found.empty found.sets found.entries found.outcome found.excuse f.own f.judged f.concluded in
+    let holds : step_holds call.judge (effective limits) [] found.steps step ≡ true =
+    ap (λ e. step_holds call.judge (effective limits) [] found.steps (top_of call.query told found.empty found.entries e found.excuse)) ends ∙ ended in
+    let derived = top_derivation call.judge limits [] found.steps step f.sends (record { part = f.part; holds = holds; top = refl; few = f.few }) in
     let along : SendsFrom (first_ask_of_call meanings call) (ask_of_call meanings call) call.old (step ∷ steps_at found.steps (Some f.part.order)) call.new =
     (f.middle, top_send meanings call found ending f, f.along) in
     let walked : SendsFrom (first_ask_of_call meanings call) (ask_of_call meanings call) call.old (in_send_order trail) call.new =
     subst (λ steps. SendsFrom (first_ask_of_call meanings call) (ask_of_call meanings call) call.old steps call.new)
-    (sym (top_sent call.judge (effective limits) found.steps step f.sends f.part)) along in
-    let counts = top_counts call.judge (effective limits) found.steps step f.sends f.part in
+    (sym (top_sent call.judge (effective limits) [] found.steps step f.sends f.part)) along in
+    let counts = top_counts call.judge (effective limits) [] found.steps step f.sends f.part in
     record {
       is = record {
         derived = derived;
@@ -77,8 +77,8 @@ found_trail meanings call found ending f ends =
         query = refl;
         ends = refl;
         few = omega (arith, counts, f.few);
-        shallow = derivation_depths call.judge limits trail derived;
-        each = derivation_sent call.judge limits trail derived;
+        shallow = derivation_depths call.judge limits [] trail derived;
+        each = derivation_sent call.judge limits [] trail derived;
         walked = walked;
         from = first_from meanings call call.old (in_send_order trail) walked;
         faults = first_rose meanings call call.old (in_send_order trail) walked;
@@ -144,5 +144,5 @@ found_sound meanings call found d ending f =
           (sound_of_sets call.judge call.now f.from found.sets d trail
           (subst (λ m. map placed_of (bare found.sets) ≡ placed_sets (told_by m)) f.cleared grouped) f.judged.stand);
       rest = subst (λ steps. SendsAlong (ask_of_call meanings call) f.middle (drop 1 steps) call.new)
-          (sym (top_sent call.judge deep found.steps step f.sends f.part)) f.along;
+          (sym (top_sent call.judge deep [] found.steps step f.sends f.part)) f.along;
     }

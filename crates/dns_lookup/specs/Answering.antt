@@ -45,7 +45,7 @@ pub record Found {H : Type 0} (meanings : handle.Ghosts H) (call : Call H) (foun
   pub cleared : found.message ≡ cleared_message from
   pub empty : found.empty ≡ says_none reply
   pub own : foreign_record call.query (told_by found.message) ≡ None
-  pub part : TrailPart call.judge (effective (limits_of_call call)) [] found.steps
+  pub part : TrailPart call.judge (effective (limits_of_call call)) [] [] found.steps
       (asks_of_sets found.entries ++ found.excuse) 1 sends
   pub along : SendsAlong (ask_of_call meanings call) middle (steps_at found.steps (Some part.order)) call.new
   pub judged : IsJudgement (top_context (terms_of_call call) found.steps) (judged_part 0 (told_by found.message))

@@ -1,5 +1,5 @@
 -- What a lookup answers: a sound answer with the trail that led to it (RFC 4035, 4.3 and 5).
-use Rattle.std.specs.Prelude.{ℕ, ◌≡◌, ◌≤◌, Bool, true, List, length, Option, Some, Result, Ok, Err, IfSome, drop}
+use Rattle.std.specs.Prelude.{ℕ, ◌≡◌, ◌≤◌, Bool, true, List, length, Option, Some, Result, Ok, Err, IfSome, drop, []}
 use Rattle.std.specs.List.{All, count_by}
 use Rattle.dns_model.specs.declared.denial.Denial.TheVariants as denial
 use Rattle.dns_model.specs.Counts.{RoseBy}
@@ -60,7 +60,7 @@ pub record IsSoundAnswer {H : Type 0} (meanings : handle.Ghosts H) (call : Call 
 -- handle met
 pub record IsTrail {H : Type 0} (meanings : handle.Ghosts H) (call : Call H) (trail : List AskedValue) (ending : EndingValue)
     : Type 0 where
-  pub derived : derivation call.judge (limits_of_call call) trail ≡ true
+  pub derived : derivation call.judge (limits_of_call call) [] trail ≡ true
   pub top : AskedValue
   pub last : top_step trail ≡ Some top
   pub query : top.query ≡ call.query

@@ -44,12 +44,12 @@ use Rattle.dns_nested_zones.proofs.StraightLemmas.{answered, host_records, host_
 -- a derivation whose first reply is straight ends with an answer that denies nothing
 pub straight_answered : (j : Judge) (replies : Replies) (limits : Limits) (q : Question) (set : RrSet)
     (trail : List AskedValue) (top : AskedValue)
-    → derivation j limits trail ≡ true → top_step trail ≡ Some top → top.query ≡ q
+    → derivation j limits [] trail ≡ true → top_step trail ≡ Some top → top.query ≡ q
     → IsFromReplies replies (in_send_order trail)
     → needs_no_denial q.rtype ≡ true → is_other q ≡ false → straight_set j (first_told replies) q ≡ Some set
     → top.ending ≡ Answered denial.None
 straight_answered j replies limits q set trail top derived last query from plain other straight =
-    let g = derivation_parts j limits trail derived in
+    let g = derivation_parts j limits [] trail derived in
     let top_is : g.top.step ≡ top = same_Some g.top.step top (sym g.top.found ∙ last) in
     let depth_is : top.depth ≡ 0 = ap (λ s. s.depth) (sym top_is) ∙ g.top.top in
     let within = slice_get_within trail (length trail - 1) top last in

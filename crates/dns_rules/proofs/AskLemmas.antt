@@ -1,6 +1,6 @@
 -- What a step that holds asks: judged asks one deeper than it and plain ones as deep, each made by a step before it or refused.
 use Rattle.std.proofs.Common.{◌≡◌, ◌⊎◌, inl, inr, ℕ, ◌+◌, ◌≤◌, Bool, true, false, not, ◌==◌, ◌&&◌, List, [], ◌∷◌, take, Option, None, Some, slice_get, nat_le, if◌then◌else◌, refl, sym, ap, ◌∙◌, arith}
-use Rattle.std.specs.List.{AllByRecursion}
+use Rattle.std.specs.List.{AllByRecursion, list_any}
 use Rattle.std.proofs.lemmas.Bool.{and_parts, not-true, leb-true}
 use Rattle.dns_model.specs.declared.trail.AskRef.{AskRef}
 use Rattle.dns_model.specs.declared.trail.AskRef.TheVariants.{Step}
@@ -24,7 +24,8 @@ use Rattle.dns_rules.specs.KeySets.{needs_ds, judged_keys}
 use Rattle.dns_rules.specs.Asking.{Limits, judged_part, ask_of}
 use Rattle.dns_rules.specs.Outcome.{Outcome, outcome_of, foreign_record}
 use Rattle.dns_rules.specs.Outcome as outcome
-use Rattle.dns_rules.specs.Derivation.{StepContext, with_entries, finished_answer, is_ask, verdicts_after, verdicts_asked, verdicts_by, has_mark_of, is_empty, is_plain_ask, probe_by, zone_asked, search_after, search_by, search_from, keys_hold, unsigned_holds, ending_eq, ending_holds, is_by_origin, entry_holds, entries_hold, step_holds, asks_of}
+use Rattle.dns_rules.specs.CacheEntries.{EntryValue}
+use Rattle.dns_rules.specs.Derivation.{StepContext, with_entries, finished_answer, is_ask, verdicts_after, verdicts_asked, verdicts_by, has_mark_of, is_empty, is_plain_ask, probe_by, zone_asked, search_after, search_by, search_from, keys_hold, unsigned_holds, ending_eq, ending_holds, is_served_by, is_by_origin, entry_holds, entries_hold, step_holds, asks_of}
 use Rattle.dns_rules.specs.DerivationParts.{is_ask_for, is_judged_ask, after_verdict, if_last, is_by_verdicts, repeats_step, is_foreign, is_failed, is_seen, is_bare, step_context_of, asks_of_sets, judged_holds, step_holds_by, is_plain_step, is_by_search, ends_by_search}
 use Rattle.dns_rules.specs.Probes.{NsProbe}
 use Rattle.dns_rules.specs.Probes as probes
@@ -170,7 +171,8 @@ origin_asks g placed entry Table h =
     (λ vs k. verdicts_asks g placed.set signatures entry.asked vs k)
 origin_asks g placed entry (Repeat n) h =
     no_asks g entry.asked ((and_parts (is_empty entry.asked) (repeats_step g placed entry (slice_get g.earlier n)) h).0)
-origin_asks g placed entry Cache h = cc
+origin_asks g placed entry Cache h =
+    no_asks g entry.asked ((and_parts (is_empty entry.asked) (list_any (is_served_by g.judge g.query placed entry) g.cached) h).0)
 
 pub entry_asks : (g : StepContext) (placed : PlacedSet) (entry : JudgedSetValue) → entry_holds g placed entry ≡ true → AreAsksOf g entry.asked
 unfolding entry_holds
@@ -238,10 +240,10 @@ heard_asks g step Fault h = bare_asks g step ((and_parts (is_failed step.ending)
 heard_asks g step (Records told empty) h = records_asks g step told step.judged h
 
 -- a step that holds asks by the steps before it
-pub step_asks : (j : Judge) (limits : Limits) (earlier : List AskedValue) (step : AskedValue) → step_holds j limits earlier step ≡ true
-    → AreAsksOf (step_context_of j limits earlier step) (asks_of step)
+pub step_asks : (j : Judge) (limits : Limits) (cached : List EntryValue) (earlier : List AskedValue) (step : AskedValue) → step_holds j limits cached earlier step ≡ true
+    → AreAsksOf (step_context_of j limits cached earlier step) (asks_of step)
 unfolding step_holds
-step_asks j limits earlier step h = heard_asks (step_context_of j limits earlier step) step step.reply h
+step_asks j limits cached earlier step h = heard_asks (step_context_of j limits cached earlier step) step step.reply h
 
 -- ---- what is asked
 

@@ -7,6 +7,7 @@ pub mod Promises
 pub mod ExampleRecords
 pub mod WorkedTrailValues
 pub mod WorkedTrails
+pub mod WorkedServing
 pub mod WorkedDelegations
 pub mod WorkedSearches
 pub mod WorkedExcuses
@@ -28,6 +29,7 @@ pub mod AfterLemmas
 pub mod OneDeciderLemmas
 pub mod SoundLemmas
 pub mod OrderLemmas
+pub mod KeyLemmas
 pub mod StayLemmas
 pub mod SearchLemmas
 pub mod ExtendLemmas

@@ -10,6 +10,7 @@ use Rattle.dns_model.specs.Trails.{AskedValue}
 use Rattle.dns_model.proofs.SetLemmas.{number_refl}
 use Rattle.dns_model.proofs.Lists.{slice_get_appended}
 use Rattle.dns_rules.specs.Asking.{Limits, most_sends}
+use Rattle.dns_rules.specs.CacheEntries.{EntryValue}
 use Rattle.dns_rules.specs.Derivation.{step_holds, asks_of}
 use Rattle.dns_rules.specs.DerivationParts.{steps_at}
 use Rattle.dns_rules.specs.Parts.{once_between, TrailPart}
@@ -53,9 +54,9 @@ past_between : (a b i : ℕ) → b ≤ i → once_between a b i ≡ 0
 past_between a b i past = grind (arith, nat_tests)
 
 -- the numbers of a part are those of its steps
-pub part_below : (j : Judge) (limits : Limits) (before after : List AskedValue) (asks : List AskRef) (n m : ℕ) (p : TrailPart j limits before after asks n m)
+pub part_below : (j : Judge) (limits : Limits) (cached : List EntryValue) (before after : List AskedValue) (asks : List AskRef) (n m : ℕ) (p : TrailPart j limits cached before after asks n m)
     → AreBelow (length after) p.order
-part_below j limits before after asks n m p =
+part_below j limits cached before after asks n m p =
     are_below (length after) p.order (λ i past. p.once i ∙ past_between (length before) (length after) i past)
 
 -- ---- the steps with these numbers
@@ -78,35 +79,35 @@ numbered_stay trail later (x ∷ xs) below =
     ∙ ap (cons_option (slice_get trail x)) (numbered_stay trail later xs below.1)
 
 -- the steps that a part sent, in order
-abbrev pub part_sent : {j : Judge} {limits : Limits} {before after : List AskedValue} {asks : List AskRef} {n m : ℕ}
-    → TrailPart j limits before after asks n m → List AskedValue
+abbrev pub part_sent : {j : Judge} {limits : Limits} {cached : List EntryValue} {before after : List AskedValue} {asks : List AskRef} {n m : ℕ}
+    → TrailPart j limits cached before after asks n m → List AskedValue
 part_sent {after = after} p = steps_at after (Some p.order)
 
-pub sent_stays : (j : Judge) (limits : Limits) (before after : List AskedValue) (asks : List AskRef) (n m : ℕ) (p : TrailPart j limits before after asks n m)
+pub sent_stays : (j : Judge) (limits : Limits) (cached : List EntryValue) (before after : List AskedValue) (asks : List AskRef) (n m : ℕ) (p : TrailPart j limits cached before after asks n m)
     (later : List AskedValue) → steps_at (after ++ later) (Some p.order) ≡ steps_at after (Some p.order)
-sent_stays j limits before after asks n m p later = numbered_stay after later p.order (part_below j limits before after asks n m p)
+sent_stays j limits cached before after asks n m p later = numbered_stay after later p.order (part_below j limits cached before after asks n m p)
 
-pub sent_of_none : (j : Judge) (limits : Limits) (b : List AskedValue) (n : ℕ) → part_sent (part_none j limits b n) ≡ []
-sent_of_none j limits b n = ap (numbered b) (order_of_none j limits b n)
+pub sent_of_none : (j : Judge) (limits : Limits) (cached : List EntryValue) (b : List AskedValue) (n : ℕ) → part_sent (part_none j limits cached b n) ≡ []
+sent_of_none j limits cached b n = ap (numbered b) (order_of_none j limits cached b n)
 
-pub sent_of_deep : (j : Judge) (limits : Limits) (b : List AskedValue) (n : ℕ) → part_sent (part_deep j limits b n) ≡ []
-sent_of_deep j limits b n = ap (numbered b) (order_of_deep j limits b n)
+pub sent_of_deep : (j : Judge) (limits : Limits) (cached : List EntryValue) (b : List AskedValue) (n : ℕ) → part_sent (part_deep j limits cached b n) ≡ []
+sent_of_deep j limits cached b n = ap (numbered b) (order_of_deep j limits cached b n)
 
-pub sent_of_many : (j : Judge) (limits : Limits) (b : List AskedValue) (n : ℕ) (many : most_sends ≤ n) → part_sent (part_many j limits b n many) ≡ []
-sent_of_many j limits b n many = ap (numbered b) (order_of_many j limits b n many)
+pub sent_of_many : (j : Judge) (limits : Limits) (cached : List EntryValue) (b : List AskedValue) (n : ℕ) (many : most_sends ≤ n) → part_sent (part_many j limits cached b n many) ≡ []
+sent_of_many j limits cached b n many = ap (numbered b) (order_of_many j limits cached b n many)
 
-pub sent_of_then : (j : Judge) (limits : Limits) (a b c : List AskedValue) (xs ys : List AskRef) (n k m : ℕ)
-    (first : TrailPart j limits a b xs n k) (second : TrailPart j limits b c ys k m)
-    → part_sent (part_then j limits a b c xs ys n k m first second) ≡ part_sent first ++ part_sent second
-sent_of_then j limits a b c xs ys n k m first second =
-    ap (numbered c) (order_of_then j limits a b c xs ys n k m first second) ∙ filter_map-append (slice_get c) first.order second.order
+pub sent_of_then : (j : Judge) (limits : Limits) (cached : List EntryValue) (a b c : List AskedValue) (xs ys : List AskRef) (n k m : ℕ)
+    (first : TrailPart j limits cached a b xs n k) (second : TrailPart j limits cached b c ys k m)
+    → part_sent (part_then j limits cached a b c xs ys n k m first second) ≡ part_sent first ++ part_sent second
+sent_of_then j limits cached a b c xs ys n k m first second =
+    ap (numbered c) (order_of_then j limits cached a b c xs ys n k m first second) ∙ filter_map-append (slice_get c) first.order second.order
     ∙ ap (λ t. numbered t first.order ++ numbered c second.order) second.grown
-    ∙ ap (λ t. t ++ numbered c second.order) (sent_stays j limits a b xs n k first second.more)
+    ∙ ap (λ t. t ++ numbered c second.order) (sent_stays j limits cached a b xs n k first second.more)
 
-pub sent_of_step : (j : Judge) (limits : Limits) (a b : List AskedValue) (step : AskedValue) (n m : ℕ) (p : TrailPart j limits a b (asks_of step) (n + 1) m)
-    (few : n < most_sends) (holds : step_holds j limits b step ≡ true)
-    → part_sent (part_step j limits a b step n m p few holds) ≡ step ∷ part_sent p
-sent_of_step j limits a b step n m p few holds =
-    ap (numbered (b ++ step ∷ [])) (order_of_step j limits a b step n m p few holds)
+pub sent_of_step : (j : Judge) (limits : Limits) (cached : List EntryValue) (a b : List AskedValue) (step : AskedValue) (n m : ℕ) (p : TrailPart j limits cached a b (asks_of step) (n + 1) m)
+    (few : n < most_sends) (holds : step_holds j limits cached b step ≡ true)
+    → part_sent (part_step j limits cached a b step n m p few holds) ≡ step ∷ part_sent p
+sent_of_step j limits cached a b step n m p few holds =
+    ap (numbered (b ++ step ∷ [])) (order_of_step j limits cached a b step n m p few holds)
     ∙ ap (λ o. cons_option o (numbered (b ++ step ∷ []) p.order)) (slice_get_appended b step [])
-    ∙ ap (λ t. step ∷ t) (sent_stays j limits a b (asks_of step) (n + 1) m p (step ∷ []))
+    ∙ ap (λ t. step ∷ t) (sent_stays j limits cached a b (asks_of step) (n + 1) m p (step ∷ []))

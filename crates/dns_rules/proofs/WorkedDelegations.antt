@@ -94,32 +94,32 @@ digest_of_key = is_this_digest (ds_digest 2 zone key) (drop 4 ds_of_key) ds_matc
 
 -- the key signed its set
 pub signed_by_a_matched_key :
-    derivation by_root (within 26)
+    derivation by_root (within 26) []
     (root_keys ∷ ds_found ∷ zone_step self_signed Secure (Some 0) (Step 1 ∷ []) ∷ []) ≡ true
 unfolding computed
 signed_by_a_matched_key = rw digest_of_key refl
 
 -- no signature is needed where each key is matched
 pub each_key_matched :
-    derivation by_root (within 26)
+    derivation by_root (within 26) []
     (root_keys ∷ ds_found ∷ zone_step zone_keys Secure None (Step 1 ∷ []) ∷ []) ≡ true
 unfolding computed
 each_key_matched = rw digest_of_key refl
 
 pub bogus_though_matched :
-    derivation by_root (within 26)
+    derivation by_root (within 26) []
     (root_keys ∷ ds_found ∷ zone_step self_signed Bogus None (Step 1 ∷ []) ∷ []) ≡ false
 unfolding computed
 bogus_though_matched = rw digest_of_key refl
 
 pub insecure_though_matched :
-    derivation by_root (within 26)
+    derivation by_root (within 26) []
     (root_keys ∷ ds_found ∷ zone_step self_signed Insecure None (Step 1 ∷ []) ∷ []) ≡ false
 unfolding computed
 insecure_though_matched = rw digest_of_key refl
 
 pub no_signature_decided :
-    derivation by_root (within 26)
+    derivation by_root (within 26) []
     (root_keys ∷ ds_found ∷ zone_step self_signed Secure None (Step 1 ∷ []) ∷ []) ≡ false
 unfolding computed
 no_signature_decided = rw digest_of_key refl
@@ -132,131 +132,131 @@ abbrev pub other_digest : List ℕ
 other_digest = 174 ∷ 201 ∷ 13 ∷ 2 ∷ 1 ∷ []
 
 pub bogus_by_another_digest :
-    derivation by_root (within 26)
+    derivation by_root (within 26) []
     (root_keys ∷ ds_by_root (other_digest ∷ []) ∷ zone_step self_signed Bogus None (Step 1 ∷ []) ∷ []) ≡ true
 unfolding computed
 bogus_by_another_digest = rw digest_of_key refl
 
 pub secure_by_another_digest :
-    derivation by_root (within 26)
+    derivation by_root (within 26) []
     (root_keys ∷ ds_by_root (other_digest ∷ []) ∷ zone_step self_signed Secure (Some 0) (Step 1 ∷ []) ∷ []) ≡ false
 unfolding computed
 secure_by_another_digest = rw digest_of_key refl
 
 pub secure_by_the_second :
-    derivation by_root (within 26)
+    derivation by_root (within 26) []
     (root_keys ∷ ds_by_root (other_digest ∷ ds_of_key ∷ []) ∷ zone_step self_signed Secure (Some 0) (Step 1 ∷ []) ∷ []) ≡ true
 unfolding computed
 secure_by_the_second = rw digest_of_key refl
 
 -- two records with the key's algorithm and tag count
 pub bogus_by_the_third :
-    derivation by_root (within 26)
+    derivation by_root (within 26) []
     (root_keys ∷ ds_by_root (other_digest ∷ other_digest ∷ ds_of_key ∷ []) ∷ zone_step self_signed Bogus None (Step 1 ∷ []) ∷ []) ≡ true
 unfolding computed
 bogus_by_the_third = rw digest_of_key refl
 
 pub secure_by_the_third :
-    derivation by_root (within 26)
+    derivation by_root (within 26) []
     (root_keys ∷ ds_by_root (other_digest ∷ other_digest ∷ ds_of_key ∷ []) ∷ zone_step self_signed Secure (Some 0) (Step 1 ∷ []) ∷ []) ≡ false
 unfolding computed
 secure_by_the_third = rw digest_of_key refl
 
 -- ---- the ask for the DS set
 
-pub ds_left_out : derivation by_root (within 26) (zone_step self_signed Bogus None [] ∷ []) ≡ false
+pub ds_left_out : derivation by_root (within 26) [] (zone_step self_signed Bogus None [] ∷ []) ≡ false
 unfolding computed
 ds_left_out = refl
 
 -- 1,024 steps come before an ask that is one too many
-pub ds_left_out_as_too_many : derivation by_root (within 26) (zone_step self_signed Bogus None (TooMany ∷ []) ∷ []) ≡ false
+pub ds_left_out_as_too_many : derivation by_root (within 26) [] (zone_step self_signed Bogus None (TooMany ∷ []) ∷ []) ≡ false
 unfolding computed
 ds_left_out_as_too_many = refl
 
 -- without an answer the keys are Bogus
-pub ds_asked_once : derivation by_root (within 26) (ds_fault ∷ zone_step self_signed Bogus None (Step 0 ∷ []) ∷ []) ≡ true
+pub ds_asked_once : derivation by_root (within 26) [] (ds_fault ∷ zone_step self_signed Bogus None (Step 0 ∷ []) ∷ []) ≡ true
 unfolding computed
 ds_asked_once = refl
 
 pub ds_asked_twice :
-    derivation by_root (within 26)
+    derivation by_root (within 26) []
     (ds_fault ∷ ds_fault ∷ zone_step self_signed Bogus None (Step 0 ∷ Step 1 ∷ []) ∷ []) ≡ false
 unfolding computed
 ds_asked_twice = refl
 
 pub another_name_asked :
-    derivation by_root (within 26)
+    derivation by_root (within 26) []
     (record ds_fault { query = ds_question 1 (letter_a ∷ []) } ∷ zone_step self_signed Bogus None (Step 0 ∷ []) ∷ []) ≡ false
 unfolding computed
 another_name_asked = refl
 
 pub another_class_asked :
-    derivation by_root (within 26)
+    derivation by_root (within 26) []
     (record ds_fault { query = ds_question 3 zone } ∷ zone_step self_signed Bogus None (Step 0 ∷ []) ∷ []) ≡ false
 unfolding computed
 another_class_asked = refl
 
 pub another_type_asked :
-    derivation by_root (within 26)
+    derivation by_root (within 26) []
     (record ds_fault { query = key_question 1 zone } ∷ zone_step self_signed Bogus None (Step 0 ∷ []) ∷ []) ≡ false
 unfolding computed
 another_type_asked = refl
 
 pub ds_asked_no_deeper :
-    derivation by_root (within 26)
+    derivation by_root (within 26) []
     (record ds_fault { depth = 0 } ∷ zone_step self_signed Bogus None (Step 0 ∷ []) ∷ []) ≡ false
 unfolding computed
 ds_asked_no_deeper = refl
 
 pub ds_asked_two_deeper :
-    derivation by_root (within 26)
+    derivation by_root (within 26) []
     (record ds_fault { depth = 2 } ∷ zone_step self_signed Bogus None (Step 0 ∷ []) ∷ []) ≡ false
 unfolding computed
 ds_asked_two_deeper = refl
 
 pub ds_asked_without_judging :
-    derivation by_root (within 26)
+    derivation by_root (within 26) []
     (record ds_fault { judged = false } ∷ zone_step self_signed Bogus None (Step 0 ∷ []) ∷ []) ≡ false
 unfolding computed
 ds_asked_without_judging = refl
 
-pub ds_too_deep : derivation by_root (within 0) (zone_step self_signed Bogus None (TooDeep ∷ []) ∷ []) ≡ true
+pub ds_too_deep : derivation by_root (within 0) [] (zone_step self_signed Bogus None (TooDeep ∷ []) ∷ []) ≡ true
 unfolding computed
 ds_too_deep = refl
 
-pub ds_too_deep_and_secure : derivation by_root (within 0) (zone_step self_signed Secure (Some 0) (TooDeep ∷ []) ∷ []) ≡ false
+pub ds_too_deep_and_secure : derivation by_root (within 0) [] (zone_step self_signed Secure (Some 0) (TooDeep ∷ []) ∷ []) ≡ false
 unfolding computed
 ds_too_deep_and_secure = refl
 
-pub ds_not_too_deep : derivation by_root (within 26) (zone_step self_signed Bogus None (TooDeep ∷ []) ∷ []) ≡ false
+pub ds_not_too_deep : derivation by_root (within 26) [] (zone_step self_signed Bogus None (TooDeep ∷ []) ∷ []) ≡ false
 unfolding computed
 ds_not_too_deep = refl
 
 -- the DS set isn't too deep, and the root's keys are
 pub root_keys_too_deep :
-    derivation by_root (within 1)
+    derivation by_root (within 1) []
     (ds_step ds_records Bogus None (TooDeep ∷ []) ∷ zone_step self_signed Bogus None (Step 0 ∷ []) ∷ []) ≡ true
 unfolding computed
 root_keys_too_deep = refl
 
 -- ---- key sets that ask for no DS set
 
-pub signed_by_an_anchored_key : derivation by_both (within 26) (zone_step self_signed Secure (Some 0) [] ∷ []) ≡ true
+pub signed_by_an_anchored_key : derivation by_both (within 26) [] (zone_step self_signed Secure (Some 0) [] ∷ []) ≡ true
 unfolding computed
 signed_by_an_anchored_key = refl
 
 pub ds_asked_where_an_anchored_key_signs :
-    derivation by_both (within 26)
+    derivation by_both (within 26) []
     (root_keys ∷ ds_found ∷ zone_step self_signed Secure (Some 0) (Step 1 ∷ []) ∷ []) ≡ false
 unfolding computed
 ds_asked_where_an_anchored_key_signs = refl
 
-pub each_key_anchored : derivation by_both (within 26) (zone_step zone_keys Secure None [] ∷ []) ≡ true
+pub each_key_anchored : derivation by_both (within 26) [] (zone_step zone_keys Secure None [] ∷ []) ≡ true
 unfolding computed
 each_key_anchored = refl
 
 pub ds_asked_where_each_key_is_anchored :
-    derivation by_both (within 26)
+    derivation by_both (within 26) []
     (root_keys ∷ ds_found ∷ zone_step zone_keys Secure None (Step 1 ∷ []) ∷ []) ≡ false
 unfolding computed
 ds_asked_where_each_key_is_anchored = refl
@@ -266,12 +266,12 @@ abbrev pub root_step : Proof → List AskRef → AskedValue
 root_step mark asked =
     step_of 0 (key_question 1 []) (reply_of (record_of [] 48 key ∷ []) []) (answer_entry 48 mark None asked ∷ []) (Answered denial.None)
 
-pub root_without_an_anchor : derivation (judge trusting [] 1000) (within 26) (root_step Bogus [] ∷ []) ≡ true
+pub root_without_an_anchor : derivation (judge trusting [] 1000) (within 26) [] (root_step Bogus [] ∷ []) ≡ true
 unfolding computed
 root_without_an_anchor = refl
 
 pub ds_of_the_root_asked :
-    derivation (judge trusting [] 1000) (within 26)
+    derivation (judge trusting [] 1000) (within 26) []
     (record ds_fault { query = ds_question 1 [] } ∷ root_step Bogus (Step 0 ∷ []) ∷ []) ≡ false
 unfolding computed
 ds_of_the_root_asked = refl
@@ -279,7 +279,7 @@ ds_of_the_root_asked = refl
 -- ---- a DS set by which no key is trusted
 
 pub secure_after_a_fault :
-    derivation by_root (within 26)
+    derivation by_root (within 26) []
     (ds_fault ∷ zone_step self_signed Secure (Some 0) (Step 0 ∷ []) ∷ []) ≡ false
 unfolding computed
 secure_after_a_fault = refl
@@ -289,13 +289,13 @@ abbrev pub ds_unsigned : AskedValue
 ds_unsigned = ds_step (record_of zone 43 ds_of_key ∷ []) Bogus None []
 
 pub bogus_by_an_unsigned_ds :
-    derivation by_root (within 26)
+    derivation by_root (within 26) []
     (ds_unsigned ∷ zone_step self_signed Bogus None (Step 0 ∷ []) ∷ []) ≡ true
 unfolding computed
 bogus_by_an_unsigned_ds = refl
 
 pub secure_by_an_unsigned_ds :
-    derivation by_root (within 26)
+    derivation by_root (within 26) []
     (ds_unsigned ∷ zone_step self_signed Secure (Some 0) (Step 0 ∷ []) ∷ []) ≡ false
 unfolding computed
 secure_by_an_unsigned_ds = refl
@@ -305,13 +305,13 @@ abbrev pub ds_by_the_zone : AskedValue
 ds_by_the_zone = ds_step (record_of zone 43 ds_of_key ∷ record_of zone 46 (signature_of 43 1 zone) ∷ []) Bogus None []
 
 pub bogus_by_a_ds_of_the_zone :
-    derivation by_root (within 26)
+    derivation by_root (within 26) []
     (ds_by_the_zone ∷ zone_step self_signed Bogus None (Step 0 ∷ []) ∷ []) ≡ true
 unfolding computed
 bogus_by_a_ds_of_the_zone = refl
 
 pub secure_by_a_ds_of_the_zone :
-    derivation by_root (within 26)
+    derivation by_root (within 26) []
     (ds_by_the_zone ∷ zone_step self_signed Secure (Some 0) (Step 0 ∷ []) ∷ []) ≡ false
 unfolding computed
 secure_by_a_ds_of_the_zone = refl
@@ -326,44 +326,44 @@ abbrev pub other_digest_type : List ℕ
 other_digest_type = 174 ∷ 201 ∷ 13 ∷ 3 ∷ 1 ∷ []
 
 pub bogus_by_a_ds_of_another_tag :
-    derivation by_root (within 26)
+    derivation by_root (within 26) []
     (root_keys ∷ ds_by_root (other_tag ∷ []) ∷ zone_step self_signed Bogus None (Step 1 ∷ []) ∷ []) ≡ true
 unfolding computed
 bogus_by_a_ds_of_another_tag = refl
 
 pub secure_by_a_ds_of_another_tag :
-    derivation by_root (within 26)
+    derivation by_root (within 26) []
     (root_keys ∷ ds_by_root (other_tag ∷ []) ∷ zone_step self_signed Secure (Some 0) (Step 1 ∷ []) ∷ []) ≡ false
 unfolding computed
 secure_by_a_ds_of_another_tag = refl
 
 -- a Secure DS set of readable records none of which is supported: no more than Insecure can be expected
 pub insecure_by_an_unsupported_algorithm :
-    derivation by_root (within 26)
+    derivation by_root (within 26) []
     (root_keys ∷ ds_by_root (other_algorithm ∷ []) ∷ zone_step self_signed Insecure None (Step 1 ∷ []) ∷ []) ≡ true
 unfolding computed
 insecure_by_an_unsupported_algorithm = refl
 
 pub bogus_by_an_unsupported_algorithm :
-    derivation by_root (within 26)
+    derivation by_root (within 26) []
     (root_keys ∷ ds_by_root (other_algorithm ∷ []) ∷ zone_step self_signed Bogus None (Step 1 ∷ []) ∷ []) ≡ false
 unfolding computed
 bogus_by_an_unsupported_algorithm = refl
 
 pub secure_by_an_unsupported_algorithm :
-    derivation by_root (within 26)
+    derivation by_root (within 26) []
     (root_keys ∷ ds_by_root (other_algorithm ∷ []) ∷ zone_step self_signed Secure (Some 0) (Step 1 ∷ []) ∷ []) ≡ false
 unfolding computed
 secure_by_an_unsupported_algorithm = refl
 
 pub insecure_by_an_unsupported_digest_type :
-    derivation by_root (within 26)
+    derivation by_root (within 26) []
     (root_keys ∷ ds_by_root (other_digest_type ∷ []) ∷ zone_step self_signed Insecure None (Step 1 ∷ []) ∷ []) ≡ true
 unfolding computed
 insecure_by_an_unsupported_digest_type = refl
 
 pub insecure_by_an_unsigned_ds :
-    derivation by_root (within 26)
+    derivation by_root (within 26) []
     (record ds_unsigned { reply = reply_of (record_of zone 43 other_algorithm ∷ []) [] } ∷ zone_step self_signed Insecure None (Step 0 ∷ []) ∷ [])
     ≡ false
 unfolding computed
@@ -371,7 +371,7 @@ insecure_by_an_unsigned_ds = refl
 
 -- a DS that can't be read shows nothing
 pub bogus_by_an_unreadable_ds :
-    derivation by_root (within 26)
+    derivation by_root (within 26) []
     (root_keys ∷ ds_by_root ((174 ∷ 201 ∷ []) ∷ []) ∷ zone_step self_signed Bogus None (Step 1 ∷ []) ∷ []) ≡ true
 unfolding computed
 bogus_by_an_unreadable_ds = refl

@@ -82,15 +82,15 @@ name_error ending =
 abbrev pub by_both_covered : EndingValue → List AskedValue
 by_both_covered ending = after_two (name_error ending)
 
-pub no_such_name : derivation by_root (within 26) (by_both_covered (Answered (denial.Absent Secure))) ≡ true
+pub no_such_name : derivation by_root (within 26) [] (by_both_covered (Answered (denial.Absent Secure))) ≡ true
 unfolding computed
 no_such_name = refl
 
-pub insecure_though_shown : derivation by_root (within 26) (by_both_covered (Answered (denial.Absent Insecure))) ≡ false
+pub insecure_though_shown : derivation by_root (within 26) [] (by_both_covered (Answered (denial.Absent Insecure))) ≡ false
 unfolding computed
 insecure_though_shown = refl
 
-pub denied_though_shown : derivation by_root (within 26) (by_both_covered (Denied Bogus)) ≡ false
+pub denied_though_shown : derivation by_root (within 26) [] (by_both_covered (Denied Bogus)) ≡ false
 unfolding computed
 denied_though_shown = refl
 
@@ -98,17 +98,17 @@ denied_though_shown = refl
 abbrev pub by_one_covered : EndingValue → List AskedValue
 by_one_covered ending = after_one (denied_step (query_of missing 1) (told_of 3 [] nsec_of_a) (denying name_of_a 47 0 ∷ []) ending)
 
-pub bogus_by_one_covering : derivation by_root (within 26) (by_one_covered (Denied Bogus)) ≡ true
+pub bogus_by_one_covering : derivation by_root (within 26) [] (by_one_covered (Denied Bogus)) ≡ true
 unfolding computed
 bogus_by_one_covering = refl
 
-pub absent_by_one_covering : derivation by_root (within 26) (by_one_covered (Answered (denial.Absent Secure))) ≡ false
+pub absent_by_one_covering : derivation by_root (within 26) [] (by_one_covered (Answered (denial.Absent Secure))) ≡ false
 unfolding computed
 absent_by_one_covering = refl
 
 -- nothing is said at all, and the root's zone is signed
 pub bogus_without_denials :
-    derivation by_root (within 26)
+    derivation by_root (within 26) []
     (plain missing no_records ∷ record (denied_step (query_of missing 1) (told_of 3 [] []) [] (Denied Bogus)) { excuse = Step 0 ∷ [] } ∷ []) ≡ true
 unfolding computed
 bogus_without_denials = refl
@@ -122,11 +122,11 @@ two_signers ending =
     ∷ denied_step (query_of missing 1) (told_of 3 [] (nsec_of_root ++ nsec_of_a ++ signed_record zone 47 (wire zone ++ with_soa) 1 zone))
     (denying [] 47 0 ∷ denying name_of_a 47 1 ∷ denying zone 47 2 ∷ []) ending ∷ []
 
-pub bogus_by_two_signers : derivation by_both (within 26) (two_signers (Denied Bogus)) ≡ true
+pub bogus_by_two_signers : derivation by_both (within 26) [] (two_signers (Denied Bogus)) ≡ true
 unfolding computed
 bogus_by_two_signers = refl
 
-pub absent_by_two_signers : derivation by_both (within 26) (two_signers (Answered (denial.Absent Secure))) ≡ false
+pub absent_by_two_signers : derivation by_both (within 26) [] (two_signers (Answered (denial.Absent Secure))) ≡ false
 unfolding computed
 absent_by_two_signers = refl
 
@@ -136,11 +136,11 @@ abbrev pub at_the_name : ℕ → EndingValue → List AskedValue
 at_the_name rtype ending =
     after_one (denied_step (query_of name_of_a rtype) (told_of 0 [] nsec_of_a) (denying name_of_a 47 0 ∷ []) ending)
 
-pub no_such_type : derivation by_root (within 26) (at_the_name 16 (Answered (denial.Absent Secure))) ≡ true
+pub no_such_type : derivation by_root (within 26) [] (at_the_name 16 (Answered (denial.Absent Secure))) ≡ true
 unfolding computed
 no_such_type = refl
 
-pub bogus_where_the_type_is : derivation by_root (within 26) (at_the_name 1 (Denied Bogus)) ≡ true
+pub bogus_where_the_type_is : derivation by_root (within 26) [] (at_the_name 1 (Denied Bogus)) ≡ true
 unfolding computed
 bogus_where_the_type_is = refl
 
@@ -158,19 +158,19 @@ expansion ending = from_wildcard nsec_of_a (denying name_of_a 47 1 ∷ []) endin
 abbrev pub by_expansion : EndingValue → List AskedValue
 by_expansion ending = after_two (expansion ending)
 
-pub nothing_closer : derivation by_root (within 26) (by_expansion (Answered (denial.Expanded Secure))) ≡ true
+pub nothing_closer : derivation by_root (within 26) [] (by_expansion (Answered (denial.Expanded Secure))) ≡ true
 unfolding computed
 nothing_closer = refl
 
-pub plain_though_expanded : derivation by_root (within 26) (by_expansion (Answered denial.None)) ≡ false
+pub plain_though_expanded : derivation by_root (within 26) [] (by_expansion (Answered denial.None)) ≡ false
 unfolding computed
 plain_though_expanded = refl
 
-pub bogus_if_nothing_is_denied : derivation by_root (within 26) (after_one (from_wildcard [] [] (Denied Bogus))) ≡ true
+pub bogus_if_nothing_is_denied : derivation by_root (within 26) [] (after_one (from_wildcard [] [] (Denied Bogus))) ≡ true
 unfolding computed
 bogus_if_nothing_is_denied = refl
 
-pub plain_if_nothing_is_denied : derivation by_root (within 26) (after_one (from_wildcard [] [] (Answered denial.None))) ≡ false
+pub plain_if_nothing_is_denied : derivation by_root (within 26) [] (after_one (from_wildcard [] [] (Answered denial.None))) ≡ false
 unfolding computed
 plain_if_nothing_is_denied = refl
 
@@ -180,12 +180,12 @@ plain_answer authorities sets ending =
     denied_step (query_of missing 1) (told_of 0 (signed_record missing 1 (192 ∷ 0 ∷ 2 ∷ 1 ∷ []) 1 []) authorities)
     (answering missing 1 0 ∷ sets) ending
 
-pub plain_alone : derivation by_root (within 26) (after_one (plain_answer [] [] (Answered denial.None))) ≡ true
+pub plain_alone : derivation by_root (within 26) [] (after_one (plain_answer [] [] (Answered denial.None))) ≡ true
 unfolding computed
 plain_alone = refl
 
 pub bogus_beside_a_denial :
-    derivation by_root (within 26)
+    derivation by_root (within 26) []
     (after_two (plain_answer nsec_of_a (denying name_of_a 47 1 ∷ []) (Denied Bogus))) ≡ true
 unfolding computed
 bogus_beside_a_denial = refl
@@ -194,14 +194,14 @@ bogus_beside_a_denial = refl
 
 -- one that was asked for stands in the answer section
 pub nsec_as_the_answer :
-    derivation by_root (within 26)
+    derivation by_root (within 26) []
     (after_one (denied_step (query_of name_of_a 47) (told_of 0 nsec_of_a []) (answering name_of_a 47 0 ∷ []) (Answered denial.None))) ≡ true
 unfolding computed
 nsec_as_the_answer = refl
 
 -- one that can't be read is there, but says nothing
 pub bogus_by_an_unreadable_nsec :
-    derivation by_root (within 26)
+    derivation by_root (within 26) []
     (after_one
     (denied_step (query_of name_of_a 16) (told_of 0 [] (signed_record name_of_a 47 [] 1 [])) (denying name_of_a 47 0 ∷ []) (Denied Bogus)))
     ≡ true
@@ -215,17 +215,17 @@ abbrev pub unanswered : EndingValue → List AskedValue
 unanswered ending =
     searched host_seen zone_seen (record (denied_step address_question (told_of 3 [] []) [] ending) { excuse = whole_search })
 
-pub insecure_by_the_search : derivation by_root (within 26) (unanswered (Answered (denial.Absent Insecure))) ≡ true
+pub insecure_by_the_search : derivation by_root (within 26) [] (unanswered (Answered (denial.Absent Insecure))) ≡ true
 unfolding computed
 insecure_by_the_search = refl
 
-pub denied_though_insecure : derivation by_root (within 26) (unanswered (Denied Bogus)) ≡ false
+pub denied_though_insecure : derivation by_root (within 26) [] (unanswered (Denied Bogus)) ≡ false
 unfolding computed
 denied_though_insecure = refl
 
 -- an Insecure SOA of the zone above the name came, and nothing is searched
 pub insecure_by_the_authority :
-    derivation by_root (within 26)
+    derivation by_root (within 26) []
     (searched_above
     (denied_step address_question (told_of 3 [] (record_of zone 6 [] ∷ [])) (soa_entry Insecure (Step 0 ∷ Step 2 ∷ []) ∷ [])
     (Answered (denial.Absent Insecure)))) ≡ true
@@ -239,11 +239,11 @@ abbrev pub by_unreadable_nsec3 : EndingValue → List AskedValue
 by_unreadable_nsec3 ending =
     after_one (denied_step (query_of missing 1) (told_of 3 [] (signed_record zone 50 [] 1 [])) (denying zone 50 0 ∷ []) ending)
 
-pub bogus_by_an_unreadable_nsec3 : derivation by_root (within 26) (by_unreadable_nsec3 (Denied Bogus)) ≡ true
+pub bogus_by_an_unreadable_nsec3 : derivation by_root (within 26) [] (by_unreadable_nsec3 (Denied Bogus)) ≡ true
 unfolding computed
 bogus_by_an_unreadable_nsec3 = refl
 
-pub absent_by_an_unreadable_nsec3 : derivation by_root (within 26) (by_unreadable_nsec3 (Answered (denial.Absent Secure))) ≡ false
+pub absent_by_an_unreadable_nsec3 : derivation by_root (within 26) [] (by_unreadable_nsec3 (Answered (denial.Absent Secure))) ≡ false
 unfolding computed
 absent_by_an_unreadable_nsec3 = refl
 
@@ -254,17 +254,17 @@ by_both_kinds ending =
     (denied_step (query_of name_of_a 16) (told_of 0 [] (nsec_of_a ++ signed_record zone 50 [] 1 []))
     (denying name_of_a 47 0 ∷ denying zone 50 1 ∷ []) ending)
 
-pub bogus_by_both_kinds : derivation by_root (within 26) (by_both_kinds (Denied Bogus)) ≡ true
+pub bogus_by_both_kinds : derivation by_root (within 26) [] (by_both_kinds (Denied Bogus)) ≡ true
 unfolding computed
 bogus_by_both_kinds = refl
 
-pub absent_by_both_kinds : derivation by_root (within 26) (by_both_kinds (Answered (denial.Absent Secure))) ≡ false
+pub absent_by_both_kinds : derivation by_root (within 26) [] (by_both_kinds (Answered (denial.Absent Secure))) ≡ false
 unfolding computed
 absent_by_both_kinds = refl
 
 -- one that was asked for stands in the answer section, and denies nothing
 pub nsec3_as_the_answer :
-    derivation by_root (within 26)
+    derivation by_root (within 26) []
     (after_one (denied_step (query_of zone 50) (told_of 0 (signed_record zone 50 [] 1 []) []) (answering zone 50 0 ∷ []) (Answered denial.None)))
     ≡ true
 unfolding computed

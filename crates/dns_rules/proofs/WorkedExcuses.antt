@@ -43,35 +43,35 @@ abbrev pub excused : EndingValue → List AskRef → List AskedValue
 excused ending excuse = asked_by_the_signature ++ asked_by_the_ending ++ signed_step expanded ending excuse ∷ []
 
 -- the excuse names the search, and the answer stands
-pub excused_by_the_search : derivation by_root (within 26) (excused (Answered denial.None) (Step 3 ∷ Step 4 ∷ Step 6 ∷ [])) ≡ true
+pub excused_by_the_search : derivation by_root (within 26) [] (excused (Answered denial.None) (Step 3 ∷ Step 4 ∷ Step 6 ∷ [])) ≡ true
 unfolding computed
 excused_by_the_search = refl
 
-pub denied_though_excused : derivation by_root (within 26) (excused (Denied Bogus) (Step 3 ∷ Step 4 ∷ Step 6 ∷ [])) ≡ false
+pub denied_though_excused : derivation by_root (within 26) [] (excused (Denied Bogus) (Step 3 ∷ Step 4 ∷ Step 6 ∷ [])) ≡ false
 unfolding computed
 denied_though_excused = refl
 
 pub expanded_without_an_excuse :
-    derivation by_root (within 26)
+    derivation by_root (within 26) []
     (asked_by_the_signature ++ signed_step expanded (Answered denial.None) [] ∷ []) ≡ false
 unfolding computed
 expanded_without_an_excuse = refl
 
 pub excuse_stops_without_ns :
-    derivation by_root (within 26)
+    derivation by_root (within 26) []
     (asked_by_the_signature ++ host_seen ∷ signed_step expanded (Denied Bogus) (Step 3 ∷ []) ∷ []) ≡ false
 unfolding computed
 excuse_stops_without_ns = refl
 
 -- where the search shows nothing, the answer is denied
 pub denied_after_a_fault :
-    derivation by_root (within 26)
+    derivation by_root (within 26) []
     (asked_by_the_signature ++ host_fault ∷ signed_step expanded (Denied Bogus) (Step 3 ∷ []) ∷ []) ≡ true
 unfolding computed
 denied_after_a_fault = refl
 
 pub answered_after_a_fault :
-    derivation by_root (within 26)
+    derivation by_root (within 26) []
     (asked_by_the_signature ++ host_fault ∷ signed_step expanded (Answered denial.None) (Step 3 ∷ []) ∷ []) ≡ false
 unfolding computed
 answered_after_a_fault = refl
@@ -81,13 +81,13 @@ abbrev pub unexpanded : List Rr
 unexpanded = address ∷ record_of host 46 (signature_of 1 2 zone) ∷ []
 
 pub answered_without_a_search :
-    derivation by_root (within 26)
+    derivation by_root (within 26) []
     (asked_by_the_signature ++ signed_step unexpanded (Answered denial.None) [] ∷ []) ≡ true
 unfolding computed
 answered_without_a_search = refl
 
 pub excuse_of_a_plain_answer :
-    derivation by_root (within 26)
+    derivation by_root (within 26) []
     (asked_by_the_signature ++ asked_by_the_ending ++ signed_step unexpanded (Answered denial.None) (Step 3 ∷ Step 4 ∷ Step 6 ∷ []) ∷ []) ≡ false
 unfolding computed
 excuse_of_a_plain_answer = refl
@@ -100,13 +100,13 @@ expanded_ds excuse =
     (record (host_entry Insecure (Some 0) (Step 2 ∷ [])) { rtype = 43 } ∷ []) (Answered denial.None)) { excuse = excuse }
 
 pub ds_excused_from_its_parent :
-    derivation by_root (within 26)
+    derivation by_root (within 26) []
     (asked_by_the_signature ++ zone_seen ∷ root_keys ∷ ds_unsupported (Step 4 ∷ []) ∷ expanded_ds (Step 3 ∷ Step 5 ∷ []) ∷ []) ≡ true
 unfolding computed
 ds_excused_from_its_parent = refl
 
 pub ds_excused_from_its_owner :
-    derivation by_root (within 26)
+    derivation by_root (within 26) []
     (asked_by_the_signature ++ asked_by_the_ending ++ expanded_ds (Step 3 ∷ Step 4 ∷ Step 6 ∷ []) ∷ []) ≡ false
 unfolding computed
 ds_excused_from_its_owner = refl

@@ -1,20 +1,20 @@
 -- For clauses of calls between crates and for proofs, and for no promise of a lookup or of a check of a trail: judged sets with
 -- their chains (RFC 4035, 5.2 and 5.3). The rules of marks don't look at chains; which key decided, and so the
 -- link that is added, is found beside them.
-use Rattle.std.specs.Prelude.{ℕ, ◌+◌, ◌-◌, Bool, true, false, ◌&&◌, List, [], ◌∷◌, ◌++◌, map, length, Option, None, Some, if◌then◌else◌}
+use Rattle.std.specs.Prelude.{ℕ, ◌+◌, ◌-◌, Bool, true, List, [], ◌∷◌, ◌++◌, map, length, Option, None, Some, if◌then◌else◌}
 use Rattle.std.specs.Option.{option_map, option_map_or}
 use Rattle.std.specs.List.{filter, find}
 use Rattle.dns_model.specs.declared.denial.Denial.{Denial}
-use Rattle.dns_model.specs.Keys.{bytes_eq}
 use Rattle.dns_model.specs.Names.{Labels}
 use Rattle.dns_model.specs.Views.{RrsigValue}
 use Rattle.dns_model.specs.Records.{Rr, RrSet, MessageValue}
 use Rattle.dns_model.specs.RecordViews.{rrsig_of}
-use Rattle.dns_model.specs.Chains.{LinkValue, Judge, KeySet, Anchored, Matched, Signed, justified, ends_at, last_link, rdatas_of}
+use Rattle.dns_model.specs.Chains.{LinkValue, Judge, KeySet, Anchored, Matched, Signed, rdatas_of}
 use Rattle.dns_model.specs.Trails.{AskedValue}
 use Rattle.dns_model.specs.SoundAnswers.{ChainValue, ResponseValue, PlacedSet, is_secure}
 use Rattle.dns_rules.specs.Validity.{is_good_by}
-use Rattle.dns_rules.specs.MarkedSets.{MarkedSet, decider}
+use Rattle.dns_rules.specs.MarkedSets.{MarkedSet}
+pub use Rattle.dns_rules.specs.Serving.{names_decider, proves_set}
 use Rattle.dns_rules.specs.Marks.{Verdict, Proved, Insecure, Failed, counted_keys, is_key_set_of, verdict_of, judged_by}
 use Rattle.dns_rules.specs.Delegations.{ZoneVerdict, is_ds_set_of, matching_ds, zone_verdict}
 use Rattle.dns_rules.specs.Unsigned.{unsigned_by}
@@ -30,18 +30,10 @@ pub record ChainedSet : Type 0 where
 abbrev pub bare : List ChainedSet → List MarkedSet
 bare sets = map (λ c. c.judged) sets
 
--- the last link names the signature that decided, or is a key set where none did
-abbrev pub names_decider : Option LinkValue → Option Rr → Bool
-names_decider (Some (KeySet owner class keys links)) None = true
-names_decider (Some (Signed owner class rtype rdatas sig key_link key)) (Some r) = bytes_eq sig r.rdata
-names_decider _ _ = false
-
 -- a Secure set has a justified chain that ends at it and names the signature that decided
 abbrev pub stands : Judge → ChainedSet → Bool
 stands j c =
-    if is_secure c.judged.mark
-    then justified j c.chain && (ends_at c.chain c.judged.set && names_decider (last_link c.chain) (decider c.judged))
-    else true
+    if is_secure c.judged.mark then proves_set j c.judged c.chain else true
 
 -- ---- a set that isn't DNSKEY
 

@@ -1,5 +1,6 @@
 -- When a trail is a derivation: each mark and each ending follows from what was told and from the steps before
--- (RFC 4035, 4.3, 5.2 and 5.3). No chain occurs in it, so that it can be checked with the trail alone.
+-- (RFC 4035, 4.3, 5.2 and 5.3), or from what was kept before it (RFC 4035, 4.5). No chain of the trail's own occurs in it, so that it can be
+-- checked with the trail and the entries alone.
 use Rattle.std.specs.Prelude.{ℕ, ◌+◌, ◌-◌, zero, suc, Bool, true, false, not, ◌==◌, ◌&&◌, nat_eq, nat_lt, nat_le, List, [], ◌∷◌, ◌++◌, map, length, take, Option, None, Some, unwrap_or, slice_get, if◌then◌else◌}
 use Rattle.std.specs.Option.{option_map, option_map_or, option_and_then, option_eq}
 use Rattle.std.specs.List.{filter_map, flat_map, list_any, list_all, zip, count_by, range_with_len}
@@ -15,11 +16,14 @@ use Rattle.dns_model.specs.declared.trail.MarkOrigin.TheVariants.{Table, Repeat,
 use Rattle.dns_model.specs.Names.{Labels, name_eq}
 use Rattle.dns_model.specs.Types.{type_dnskey}
 use Rattle.dns_model.specs.Records.{Rr, RrSet, Question, question_eq}
-pub use Rattle.dns_model.specs.Sections.{is_empty, same_record}
+pub use Rattle.dns_model.specs.Sections.{is_empty}
 use Rattle.dns_model.specs.Chains.{Judge}
 use Rattle.dns_model.specs.Trails.{AskedValue, JudgedSetValue, HeardValue, Records, Fault, EndingValue, Answered, Denied, Foreign, Failed, Seen}
 use Rattle.dns_model.specs.SoundAnswers.{Told, PlacedSet, section_eq}
 use Rattle.dns_rules.specs.MarkedSets.{MarkedSet}
+use Rattle.dns_rules.specs.CacheKeys.{same_bytes}
+use Rattle.dns_rules.specs.CacheEntries.{EntryValue}
+use Rattle.dns_rules.specs.Serving.{judged_as, may_serve}
 use Rattle.dns_rules.specs.Marks.{Verdict, is_proved, is_skipped, verdict_of, judged_by, most_signatures}
 use Rattle.dns_rules.specs.Marks as marks
 use Rattle.dns_rules.specs.ProofErrors.{Net, DsRecordShouldExist}
@@ -60,10 +64,12 @@ finished_answer earlier _ = None
 
 -- ---- asks
 
--- by what the sets of a step are judged: the judge, how far the lookup goes, the steps before it, its question and its depth
+-- by what the sets of a step are judged: the judge, how far the lookup goes, what was kept before it, the steps before this one, its
+-- question and its depth
 pub record StepContext : Type 0 where
   pub judge : Judge
   pub limits : Limits
+  pub cached : List EntryValue
   pub earlier : List AskedValue
   pub query : Question
   pub depth : ℕ
@@ -182,22 +188,26 @@ is_by_rules g placed entry =
     else option_map_or (λ verdicts. has_mark_of (judged_by placed verdicts) entry)
     (verdicts_by g placed.set (take most_signatures placed.set.signatures) entry.asked) false
 
--- the entry says of its set what was found of an equal one
+-- the entry says of its set what was found of the same one, byte for byte, but for ttls and marks
 abbrev pub is_repeat : PlacedSet → JudgedSetValue → MarkedSet → Bool
 is_repeat placed entry judged =
-    pointwise same_record placed.set.records judged.set.records
-    && (pointwise same_record placed.set.signatures judged.set.signatures && has_mark_of judged entry)
+    pointwise same_bytes placed.set.records judged.set.records
+    && (pointwise same_bytes placed.set.signatures judged.set.signatures && has_mark_of judged entry)
 
--- a step with this question found this of an equal set
+-- a step with this question found this of the same set
 abbrev pub is_repeat_of : Question → PlacedSet → JudgedSetValue → AskedValue → Bool
 is_repeat_of q placed entry step = question_eq q step.query && list_any (is_repeat placed entry) (judged_sets step)
 
--- by the rules, or as an earlier step with the same question found; nothing is kept from earlier lookups
+-- the entry says of its set what a kept one does that may serve it
+abbrev pub is_served_by : Judge → Question → PlacedSet → JudgedSetValue → EntryValue → Bool
+is_served_by j q placed entry kept = may_serve j q placed kept && has_mark_of (judged_as placed kept.found) entry
+
+-- by the rules; as an earlier step with the same question found; or as was kept from earlier lookups. Only the rules ask
 abbrev pub is_by_origin : StepContext → PlacedSet → JudgedSetValue → MarkOrigin → Bool
 is_by_origin g placed entry Table = is_by_rules g placed entry
 is_by_origin g placed entry (Repeat n) =
     is_empty entry.asked && option_map_or (is_repeat_of g.query placed entry) (slice_get g.earlier n) false
-is_by_origin g placed entry Cache = false
+is_by_origin g placed entry Cache = is_empty entry.asked && list_any (is_served_by g.judge g.query placed entry) g.cached
 
 -- the entry is that of a set, and its mark follows
 unfoldable pub entry_holds : StepContext → PlacedSet → JudgedSetValue → Bool
@@ -259,16 +269,27 @@ heard_holds g step told =
     && ending_holds g step told (outcome_of g.limits step.query told (with_entries (judged_part step.depth told) step.sets)))
     else ends_bare Seen step
 
--- the lines of a step follow from what it heard, which may be a fault, and from the steps before it
-unfoldable pub step_holds : Judge → Limits → List AskedValue → AskedValue → Bool
-step_holds j limits earlier step =
-    option_map_or (heard_holds (record { judge = j; limits = limits; earlier = earlier; query = step.query; depth = step.depth }) step)
-    (told_in step.reply) (ends_bare Failed step)
+-- by what the sets of this step are judged
+abbrev pub step_context_of : Judge → Limits → List EntryValue → List AskedValue → AskedValue → StepContext
+step_context_of j limits cached earlier step = record {
+  judge = j;
+  limits = limits;
+  cached = cached;
+  earlier = earlier;
+  query = step.query;
+  depth = step.depth;
+}
+
+-- the lines of a step follow from what it heard, which may be a fault, from what was kept, and from the steps before it
+unfoldable pub step_holds : Judge → Limits → List EntryValue → List AskedValue → AskedValue → Bool
+step_holds j limits cached earlier step =
+    option_map_or (heard_holds (step_context_of j limits cached earlier step) step) (told_in step.reply) (ends_bare Failed step)
 
 -- and those of each step
-unfoldable pub steps_hold : Judge → Limits → List AskedValue → List AskedValue → Bool
-steps_hold j limits earlier [] = true
-steps_hold j limits earlier (step ∷ steps) = step_holds j limits earlier step && steps_hold j limits (earlier ++ step ∷ []) steps
+unfoldable pub steps_hold : Judge → Limits → List EntryValue → List AskedValue → List AskedValue → Bool
+steps_hold j limits cached earlier [] = true
+steps_hold j limits cached earlier (step ∷ steps) =
+    step_holds j limits cached earlier step && steps_hold j limits cached (earlier ++ step ∷ []) steps
 
 -- ---- the order of the sends: a step comes before what it asks, and what it asks in the order of its sets and of its excuse
 
@@ -330,6 +351,6 @@ has_order trail =
     && (option_map_or (λ order. list_all (λ k. count_by (λ m. k == m) order == 1) (range_with_len 0 (length trail))) (send_order trail) false
     && option_eq nat_eq (end_step (length trail) trail (length trail - 1) 0) (Some (length trail))))
 
--- a trail in order whose every step follows
-unfoldable pub derivation : Judge → Limits → List AskedValue → Bool
-derivation j limits trail = has_order trail && steps_hold j (effective limits) [] trail
+-- a trail in order whose every step follows; of what was kept before it, the entries whose time isn't up are given
+unfoldable pub derivation : Judge → Limits → List EntryValue → List AskedValue → Bool
+derivation j limits cached trail = has_order trail && steps_hold j (effective limits) cached [] trail

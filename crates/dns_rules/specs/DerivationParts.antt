@@ -5,15 +5,15 @@ use Rattle.std.specs.List.{filter_map, flat_map, list_all, count_by, range_with_
 use Rattle.dns_model.specs.declared.trail.AskRef.{AskRef}
 use Rattle.dns_model.specs.Names.{Labels}
 use Rattle.dns_model.specs.Records.{Rr, Question, question_eq}
-use Rattle.dns_model.specs.Chains.{Judge}
 use Rattle.dns_model.specs.Trails.{AskedValue, JudgedSetValue, HeardValue, EndingValue, Foreign, Failed, Seen}
 use Rattle.dns_model.specs.SoundAnswers.{Told, PlacedSet}
-use Rattle.dns_rules.specs.Asking.{Limits, judged_part}
+use Rattle.dns_rules.specs.Asking.{judged_part}
 use Rattle.dns_rules.specs.MarkedSets.{MarkedSet}
 use Rattle.dns_rules.specs.Marks.{Verdict, judged_by}
 use Rattle.dns_rules.specs.Delegations.{ZoneVerdict}
 use Rattle.dns_rules.specs.Unsigned.{unsigned_by}
 use Rattle.dns_rules.specs.Outcome.{Outcome, outcome_of, outcome_by_zone}
+pub use Rattle.dns_rules.specs.Derivation.{step_context_of}
 use Rattle.dns_rules.specs.Derivation.{StepContext, probe_of, entries_hold, with_entries, is_empty, is_ask, told_in, heard_holds, ends_bare, has_mark_of, is_repeat_of, judged_sets, if_answered, ending_eq, ending_by, ending_holds}
 use Rattle.dns_rules.specs.Probes.{NsProbe}
 use Rattle.dns_rules.specs.Probes as probes
@@ -63,9 +63,6 @@ is_ending o ending = ending_eq (ending_by o) ending
 -- nothing is judged
 abbrev pub is_bare : AskedValue → Bool
 is_bare step = is_empty step.sets && is_empty step.excuse
-
-abbrev pub step_context_of : Judge → Limits → List AskedValue → AskedValue → StepContext
-step_context_of j limits earlier step = record { judge = j; limits = limits; earlier = earlier; query = step.query; depth = step.depth }
 
 abbrev pub asks_of_sets : List JudgedSetValue → List AskRef
 asks_of_sets sets = flat_map (λ set. set.asked) sets

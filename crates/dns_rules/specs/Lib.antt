@@ -9,6 +9,9 @@ pub mod Validity
 pub mod MarkedSets
 pub mod Marks
 pub mod ProofErrors
+pub mod CacheKeys
+pub mod CacheEntries
+pub mod Serving
 pub mod Denying
 pub mod Delegations
 pub mod KeySets

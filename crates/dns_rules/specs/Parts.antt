@@ -5,6 +5,7 @@ use Rattle.dns_model.specs.declared.trail.AskRef.{AskRef}
 use Rattle.dns_model.specs.Chains.{Judge}
 use Rattle.dns_model.specs.Trails.{AskedValue}
 use Rattle.dns_rules.specs.Asking.{Limits}
+use Rattle.dns_rules.specs.CacheEntries.{EntryValue}
 use Rattle.dns_rules.specs.Derivation.{steps_hold, order_asks, order_step, end_asks, end_step}
 
 -- how often a number is among those from a up to, and not including, b
@@ -12,11 +13,11 @@ abbrev pub once_between : ℕ → ℕ → ℕ → ℕ
 once_between a b i = if nat_le a i && nat_lt i b then 1 else 0
 
 -- asks that are made from n sends on take the trail from `before` to `after`, with m sends afterwards
-pub record TrailPart (j : Judge) (limits : Limits) (before after : List AskedValue) (asks : List AskRef) (n m : ℕ) : Type 0 where
+pub record TrailPart (j : Judge) (limits : Limits) (cached : List EntryValue) (before after : List AskedValue) (asks : List AskRef) (n m : ℕ) : Type 0 where
   -- the steps that are added
   pub more : List AskedValue
   pub grown : after ≡ before ++ more
-  pub hold : steps_hold j limits before more ≡ true
+  pub hold : steps_hold j limits cached before more ≡ true
   -- their numbers, in the order of the sends
   pub order : List ℕ
   -- that order is the one in which the asks are met, whatever steps come later

@@ -1,5 +1,5 @@
 -- What a lookup of a session's query answers: out of the clauses of a lookup.
-use Rattle.std.proofs.Common.{ℕ, ◌≡◌, ◌≢◌, ◌⊎◌, ◌∙◌, List, map, Option, None, Some, IfSome, IfOk, Result, Ok, Err, refl, sym, ap, subst, inl, inr}
+use Rattle.std.proofs.Common.{ℕ, ◌≡◌, ◌≢◌, ◌⊎◌, ◌∙◌, List, map, Option, None, Some, IfSome, IfOk, Result, Ok, Err, refl, sym, ap, subst, inl, inr, []}
 use Rattle.dns_model.specs.Keys.{anchored}
 use Rattle.dns_model.specs.Records.{Question}
 use Rattle.dns_model.specs.SoundAnswers.{told_by, Sound, ResponseValue}
@@ -55,8 +55,8 @@ pub session_trail : {H : Type 0} (meanings : handle.Ghosts H) (s : SessionValue)
     → IsSessionCall meanings s call → IsTrail meanings call trail ending → IsSessionTrail s trail ending
 session_trail meanings s call trail ending c is = record {
   derived =
-      ap (λ j. derivation j (session_limits s) trail) (sym c.judge)
-      ∙ ap (λ limits. derivation call.judge limits trail) (sym c.limits) ∙ is.derived;
+      ap (λ j. derivation j (session_limits s) [] trail) (sym c.judge)
+      ∙ ap (λ limits. derivation call.judge limits [] trail) (sym c.limits) ∙ is.derived;
   top = is.top;
   last = is.last;
   query = is.query ∙ c.query;

@@ -46,18 +46,18 @@ is_top : (s : SessionValue) (trail : List AskedValue) (ending : EndingValue) →
     → IsTop s trail ending
 unfolding step_holds
 is_top s trail ending is =
-    let f : TopFirst trail = derivation_first (session_judge s) (session_limits s) trail is.derived in
-    let d : Derived (session_judge s) (session_limits s) trail =
-    derivation_parts (session_judge s) (session_limits s) trail is.derived in
+    let f : TopFirst trail = derivation_first (session_judge s) (session_limits s) [] trail is.derived in
+    let d : Derived (session_judge s) (session_limits s) [] trail =
+    derivation_parts (session_judge s) (session_limits s) [] trail is.derived in
     let limits = effective (session_limits s) in
     record {
       step = is.top;
-      before = step_context_of (session_judge s) limits ([] ++ take (length trail - 1) trail) is.top;
+      before = step_context_of (session_judge s) limits [] ([] ++ take (length trail - 1) trail) is.top;
       query = is.query;
       ends = is.ends;
       judged = ap (λ step. step.judged) (some_same _ is.top f.top is.last f.last) ∙ f.judged;
       heard = top_heard s trail ending is f;
-      holds = steps_hold_at (session_judge s) limits [] trail (length trail - 1) is.top d.hold is.last;
+      holds = steps_hold_at (session_judge s) limits [] [] trail (length trail - 1) is.top d.hold is.last;
     }
 
 -- a judged step with records is judged by them

@@ -1,5 +1,5 @@
 -- The lookup that a session asks for: over its replies, with its keys and signatures, at its moment.
-use Rattle.std.specs.Prelude.{ℕ, ◌≡◌, Bool, true, List, map, unwrap_or, Some}
+use Rattle.std.specs.Prelude.{ℕ, ◌≡◌, Bool, true, List, map, unwrap_or, Some, []}
 use Rattle.dns_model.specs.SoundAnswers.{ResponseValue}
 use Rattle.dns_model.specs.Trails.{AskedValue, EndingValue}
 use Rattle.dns_rules.specs.Asking.{Limits}
@@ -34,7 +34,7 @@ session_limits s = record { depth = session_depth s; soft = 100; hard = 500 }
 -- a trail with this ending: a derivation by the session's keys, algorithms and accepted signatures at its moment, whose last
 -- step has the session's query, and whose steps heard what the session replies, in the order of the sends
 pub record IsSessionTrail (s : SessionValue) (trail : List AskedValue) (ending : EndingValue) : Type 0 where
-  pub derived : derivation (session_judge s) (session_limits s) trail ≡ true
+  pub derived : derivation (session_judge s) (session_limits s) [] trail ≡ true
   pub top : AskedValue
   pub last : top_step trail ≡ Some top
   pub query : top.query ≡ s.query

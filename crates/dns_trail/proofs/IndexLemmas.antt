@@ -1,5 +1,5 @@
 -- Judged sets by their keys: an equal set has the key of the set that repeats it.
-use Rattle.std.proofs.Common.{◌≡◌, ℕ, ◌<◌, ◌+◌, Bool, true, false, cond, ◌==◌, List, [], ◌∷◌, ◌++◌, length, take, get_or, Some, slice_get, refl, sym, ap, ◌∙◌, subst, arith}
+use Rattle.std.proofs.Common.{◌≡◌, ℕ, ◌<◌, ◌+◌, Bool, true, false, cond, List, [], ◌∷◌, ◌++◌, length, take, get_or, Some, slice_get, refl, sym, ap, ◌∙◌, subst, arith}
 use Rattle.std.specs.Prelude.{Vec}
 use Rattle.std.specs.Cmp.{IsTotalOrder}
 use Rattle.std.specs.Cmp.Lexicographic.{pointwise}
@@ -9,19 +9,20 @@ use Rattle.std.specs.declared.cmp.Ordering.{Ordering}
 use Rattle.std.specs.declared.cmp.Ordering.TheVariants.{Less, Equal, Greater}
 use Rattle.std.specs.BTreeMap as tree
 use Rattle.std.specs.BTreeMap.{BTreeMap}
-use Rattle.std.proofs.lemmas.Bool.{and_parts, eqb-true}
+use Rattle.std.proofs.lemmas.Bool.{and_parts}
 use Rattle.std.proofs.lemmas.Cmp.{then_total, on_total, nat_cmp_total, nat_list_cmp_total}
 use Rattle.std.proofs.lemmas.List.{append-nil, length-map, length-take-le, map-append, take_more}
-use Rattle.dns_model.specs.Names.{folded, name_eq, wire}
+use Rattle.dns_model.specs.Names.{folded, wire}
 use Rattle.dns_model.specs.Records.{Rr}
 use Rattle.dns_model.specs.SoundAnswers.{PlacedSet}
 use Rattle.dns_model.specs.Trails.{JudgedSetValue}
-use Rattle.dns_model.proofs.NameLemmas.{name_eq-Decides}
 use Rattle.dns_model.proofs.TestLemmas.{tied_equal}
 use Rattle.dns_model.proofs.Lists.{lookup-same}
+use Rattle.dns_rules.specs.CacheKeys.{same_bytes}
 use Rattle.dns_rules.specs.ChainedSets.{ChainedSet, bare}
-use Rattle.dns_rules.specs.Derivation.{is_repeat, same_record}
+use Rattle.dns_rules.specs.Derivation.{is_repeat}
 use Rattle.dns_rules.specs.MarkedSets.{MarkedSet}
+use Rattle.dns_rules.proofs.KeyLemmas.{owner_same, rtype_same}
 use Rattle.dns_evidence.specs.Finding.{items_or_none, passes_at}
 use Rattle.dns_trail.specs.declared.places.SetKey.{SetKey}
 use Rattle.dns_trail.specs.Indexed.{AreIndexed}
@@ -36,26 +37,23 @@ key_total = then_total (on_total (λ k. k.owner) nat_list_cmp_total) (on_total (
 with_key : List ℕ → ℕ → SetKey
 with_key owner rtype = record { owner = owner; record_type = rtype }
 
-record_alike : (a b : Rr) → same_record a b ≡ true → key_of_record b ≡ key_of_record a
+record_alike : (a b : Rr) → same_bytes a b ≡ true → key_of_record b ≡ key_of_record a
 unfolding with_key
 record_alike a b h =
-    let parts = and_parts (name_eq a.owner b.owner) _ h in
-    let owners : folded a.owner ≡ folded b.owner = (name_eq-Decides a.owner b.owner).0 parts.0 in
-    let types : a.rtype ≡ b.rtype = eqb-true a.rtype b.rtype (and_parts (a.rtype == b.rtype) _ parts.1).0 in
-    sym (ap (λ o. with_key (wire o) a.rtype) owners ∙ ap (with_key (wire (folded b.owner))) types)
+    sym (ap (λ o. with_key (wire (folded o)) a.rtype) (owner_same a b h) ∙ ap (with_key (wire (folded b.owner))) (rtype_same a b h))
 
-records_alike : (xs ys : List Rr) → pointwise same_record xs ys ≡ true
+records_alike : (xs ys : List Rr) → pointwise same_bytes xs ys ≡ true
     → key_of_first (slice_get ys 0) ≡ key_of_first (slice_get xs 0)
 records_alike [] [] h = refl
 records_alike [] (y ∷ ys) h = cc
 records_alike (x ∷ xs) [] h = cc
-records_alike (x ∷ xs) (y ∷ ys) h = record_alike x y (and_parts (same_record x y) _ h).0
+records_alike (x ∷ xs) (y ∷ ys) h = record_alike x y (and_parts (same_bytes x y) _ h).0
 
 repeat_alike : (placed : PlacedSet) (entry : JudgedSetValue) (judged : MarkedSet) → is_repeat placed entry judged ≡ true
     → trail_key_of judged.set ≡ trail_key_of placed.set
 repeat_alike placed entry judged h =
     records_alike placed.set.records judged.set.records
-    (and_parts (pointwise same_record placed.set.records judged.set.records) _ h).0
+    (and_parts (pointwise same_bytes placed.set.records judged.set.records) _ h).0
 
 -- a set is found among those with its key
 pub repeat_found : {Z : Type 0} (places : BTreeMap SetKey (Vec ℕ Z)) (sets : List MarkedSet) (placed : PlacedSet)

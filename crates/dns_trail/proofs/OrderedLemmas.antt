@@ -6,6 +6,7 @@ use Rattle.std.proofs.lemmas.Bool.Decides.{nat_tests}
 use Rattle.dns_model.specs.Chains.{Judge}
 use Rattle.dns_model.specs.Trails.{AskedValue}
 use Rattle.dns_rules.specs.Asking.{Limits, most_sends, effective}
+use Rattle.dns_rules.specs.CacheEntries.{EntryValue}
 use Rattle.dns_rules.specs.Derivation.{steps_hold, send_order, end_step, top_step, has_order, derivation}
 use Rattle.dns_rules.specs.DerivationParts.{is_top, is_each_once, is_each_met_once}
 use Rattle.dns_rules.specs.Parts.{once_between}
@@ -84,7 +85,7 @@ no_step_ends trail none = sym (ap (λ n. ends_with n (count_step n trail (n - 1)
 -- ---- a derivation
 
 -- a trail is a derivation exactly where it is in order and each step follows
-pub derivation_by_order : (j : Judge) (limits : Limits) (trail : List AskedValue)
-    → derivation j limits trail ≡ (has_order trail && steps_hold j (effective limits) [] trail)
+pub derivation_by_order : (j : Judge) (limits : Limits) (cached : List EntryValue) (trail : List AskedValue)
+    → derivation j limits cached trail ≡ (has_order trail && steps_hold j (effective limits) cached [] trail)
 unfolding derivation
-derivation_by_order j limits trail = refl
+derivation_by_order j limits cached trail = refl

@@ -9,6 +9,7 @@ use Rattle.dns_model.specs.SoundAnswers.{Told, PlacedSet}
 use Rattle.dns_model.specs.Trails.{AskedValue, EndingValue, Fault, Answered, Denied, Foreign, Failed, Seen}
 use Rattle.dns_model.proofs.Lists.{empty_is}
 use Rattle.dns_rules.specs.Asking.{Limits, judged_part}
+use Rattle.dns_rules.specs.CacheEntries.{EntryValue}
 use Rattle.dns_rules.specs.Derivation.{StepContext, ending_eq, ending_holds, ends_bare, entries_hold, if_answered, judged_sets, step_holds, steps_hold, told_in, with_entries}
 use Rattle.dns_rules.specs.DerivationParts.{step_context_of, is_bare, judged_holds, step_holds_by}
 use Rattle.dns_rules.specs.MarkedSets.{MarkedSet}
@@ -171,75 +172,75 @@ ended_given g step told placed sets heard is given =
 -- ---- steps
 
 -- what is left decides
-pub record AreSteps (j : Judge) (limits : Limits) (steps : List AskedValue) (n : ℕ) (ended : List EndedValue) : Type 0 where
+pub record AreSteps (j : Judge) (limits : Limits) (cached : List EntryValue) (steps : List AskedValue) (n : ℕ) (ended : List EndedValue) : Type 0 where
   pub known : ended ≡ map ended_of (take n steps)
-  pub hold : steps_hold j limits (take n steps) (drop n steps) ≡ steps_hold j limits [] steps
+  pub hold : steps_hold j limits cached (take n steps) (drop n steps) ≡ steps_hold j limits cached [] steps
 
-pub steps_first : (j : Judge) (limits : Limits) (steps : List AskedValue) (ended : List EndedValue) → ended ≡ []
-    → AreSteps j limits steps 0 ended
-steps_first j limits steps ended none = record { known = none; hold = refl }
+pub steps_first : (j : Judge) (limits : Limits) (cached : List EntryValue) (steps : List AskedValue) (ended : List EndedValue) → ended ≡ []
+    → AreSteps j limits cached steps 0 ended
+steps_first j limits cached steps ended none = record { known = none; hold = refl }
 
-one_more : (j : Judge) (limits : Limits) (steps : List AskedValue) (n : ℕ) (step : AskedValue) → n < length steps
+one_more : (j : Judge) (limits : Limits) (cached : List EntryValue) (steps : List AskedValue) (n : ℕ) (step : AskedValue) → n < length steps
     → step ≡ get_or steps n step
-    → steps_hold j limits (take n steps)
-    (drop n steps) ≡ (step_holds j limits (take n steps) step && steps_hold j limits (take (n + 1) steps) (drop (n + 1) steps))
+    → steps_hold j limits cached (take n steps)
+    (drop n steps) ≡ (step_holds j limits cached (take n steps) step && steps_hold j limits cached (take (n + 1) steps) (drop (n + 1) steps))
 unfolding steps_hold
-one_more j limits steps n step lt is =
+one_more j limits cached steps n step lt is =
     let front : take (n + 1) steps ≡ take n steps ++ step ∷ [] =
     take_more steps n step lt ∙ ap (λ x. take n steps ++ x ∷ []) (sym is) in
-    ap (steps_hold j limits (take n steps)) (drop_more steps n step lt)
-    ∙ ap (λ x. steps_hold j limits (take n steps) (x ∷ drop (n + 1) steps)) (sym is)
-    ∙ ap (λ xs. step_holds j limits (take n steps) step && steps_hold j limits xs (drop (n + 1) steps)) (sym front)
+    ap (steps_hold j limits cached (take n steps)) (drop_more steps n step lt)
+    ∙ ap (λ x. steps_hold j limits cached (take n steps) (x ∷ drop (n + 1) steps)) (sym is)
+    ∙ ap (λ xs. step_holds j limits cached (take n steps) step && steps_hold j limits cached xs (drop (n + 1) steps)) (sym front)
 
-held_by : (j : Judge) (limits : Limits) (earlier : List AskedValue) (step : AskedValue)
-    → step_holds j limits earlier step ≡ step_holds_by (step_context_of j limits earlier step) step step.reply
+held_by : (j : Judge) (limits : Limits) (cached : List EntryValue) (earlier : List AskedValue) (step : AskedValue)
+    → step_holds j limits cached earlier step ≡ step_holds_by (step_context_of j limits cached earlier step) step step.reply
 unfolding step_holds
-held_by j limits earlier step = refl
+held_by j limits cached earlier step = refl
 
 no_end : (b : Bool) (x : EndedValue) → None ≡ some_if b x → b ≡ false
 no_end true x h = cc
 no_end false x h = refl
 
-pub steps_fail : (j : Judge) (limits : Limits) (steps : List AskedValue) (n : ℕ) (ended : List EndedValue)
+pub steps_fail : (j : Judge) (limits : Limits) (cached : List EntryValue) (steps : List AskedValue) (n : ℕ) (ended : List EndedValue)
     (step : AskedValue)
     (g : StepContext)
-    → AreSteps j limits steps n ended → n < length steps → step ≡ get_or steps n step
-    → g ≡ step_context_of j limits (take n steps) step
-    → None ≡ some_if (step_holds_by g step step.reply) (ended_of step) → false ≡ steps_hold j limits [] steps
-steps_fail j limits steps n ended step g so_far lt is own fails =
-    let no : step_holds j limits (take n steps) step ≡ false =
-    held_by j limits (take n steps) step ∙ ap (λ x. step_holds_by x step step.reply) (sym own)
+    → AreSteps j limits cached steps n ended → n < length steps → step ≡ get_or steps n step
+    → g ≡ step_context_of j limits cached (take n steps) step
+    → None ≡ some_if (step_holds_by g step step.reply) (ended_of step) → false ≡ steps_hold j limits cached [] steps
+steps_fail j limits cached steps n ended step g so_far lt is own fails =
+    let no : step_holds j limits cached (take n steps) step ≡ false =
+    held_by j limits cached (take n steps) step ∙ ap (λ x. step_holds_by x step step.reply) (sym own)
     ∙ no_end (step_holds_by g step step.reply) (ended_of step) fails in
-    sym (ap (λ b. b && steps_hold j limits (take (n + 1) steps) (drop (n + 1) steps)) no)
-    ∙ sym (one_more j limits steps n step lt is) ∙ so_far.hold
+    sym (ap (λ b. b && steps_hold j limits cached (take (n + 1) steps) (drop (n + 1) steps)) no)
+    ∙ sym (one_more j limits cached steps n step lt is) ∙ so_far.hold
 
 an_end : (b : Bool) (e x : EndedValue) → Some e ≡ some_if b x → (b ≡ true) × (e ≡ x)
 an_end true e x h = (refl, cc)
 an_end false e x h = cc
 
-pub steps_next : (j : Judge) (limits : Limits) (steps : List AskedValue) (n : ℕ) (ended more : List EndedValue)
+pub steps_next : (j : Judge) (limits : Limits) (cached : List EntryValue) (steps : List AskedValue) (n : ℕ) (ended more : List EndedValue)
     (step : AskedValue) (g : StepContext) (e : EndedValue)
-    → AreSteps j limits steps n ended → n < length steps → step ≡ get_or steps n step
-    → g ≡ step_context_of j limits (take n steps) step
+    → AreSteps j limits cached steps n ended → n < length steps → step ≡ get_or steps n step
+    → g ≡ step_context_of j limits cached (take n steps) step
     → Some e ≡ some_if (step_holds_by g step step.reply) (ended_of step) → more ≡ ended ++ e ∷ []
-    → AreSteps j limits steps (n + 1) more
-steps_next j limits steps n ended more step g e so_far lt is own given longer =
+    → AreSteps j limits cached steps (n + 1) more
+steps_next j limits cached steps n ended more step g e so_far lt is own given longer =
     let one = an_end (step_holds_by g step step.reply) e (ended_of step) given in
     let front : take (n + 1) steps ≡ take n steps ++ step ∷ [] =
     take_more steps n step lt ∙ ap (λ x. take n steps ++ x ∷ []) (sym is) in
-    let yes : step_holds j limits (take n steps) step ≡ true =
-    held_by j limits (take n steps) step ∙ ap (λ x. step_holds_by x step step.reply) (sym own) ∙ one.0 in
+    let yes : step_holds j limits cached (take n steps) step ≡ true =
+    held_by j limits cached (take n steps) step ∙ ap (λ x. step_holds_by x step step.reply) (sym own) ∙ one.0 in
     record {
       known = longer ∙ ap (λ xs. xs ++ e ∷ []) so_far.known ∙ ap (λ x. map ended_of (take n steps) ++ x ∷ []) one.1
           ∙ sym (map-append ended_of (take n steps) (step ∷ [])) ∙ ap (map ended_of) (sym front);
       hold =
-          sym (ap (λ b. b && steps_hold j limits (take (n + 1) steps) (drop (n + 1) steps)) yes)
-          ∙ sym (one_more j limits steps n step lt is) ∙ so_far.hold;
+          sym (ap (λ b. b && steps_hold j limits cached (take (n + 1) steps) (drop (n + 1) steps)) yes)
+          ∙ sym (one_more j limits cached steps n step lt is) ∙ so_far.hold;
     }
 
-pub steps_all : (j : Judge) (limits : Limits) (steps : List AskedValue) (n : ℕ) (ended : List EndedValue)
-    → AreSteps j limits steps n ended → length steps ≤ n
-    → true ≡ steps_hold j limits [] steps
+pub steps_all : (j : Judge) (limits : Limits) (cached : List EntryValue) (steps : List AskedValue) (n : ℕ) (ended : List EndedValue)
+    → AreSteps j limits cached steps n ended → length steps ≤ n
+    → true ≡ steps_hold j limits cached [] steps
 unfolding steps_hold
-steps_all j limits steps n ended so_far past =
-    sym (ap (steps_hold j limits (take n steps)) (drop_all n steps past)) ∙ so_far.hold
+steps_all j limits cached steps n ended so_far past =
+    sym (ap (steps_hold j limits cached (take n steps)) (drop_all n steps past)) ∙ so_far.hold

@@ -1,4 +1,4 @@
-ghost use Rattle.std.specs.Prelude.{◌≡◌, IfOk};
+ghost use Rattle.std.specs.Prelude.{◌≡◌, [], IfOk};
 ghost use Rattle.dns_model.specs.Chains.{judge as judge_by};
 ghost use Rattle.dns_rules.specs.Derivation.{derivation};
 
@@ -21,7 +21,7 @@ pub fn check_trail<V: Verifier>(
     trail: &Trail,
 ) -> Result<bool, NoMemory>
     ensures { IfOk result (λ b. b
-        ≡ derivation (judge_by (V.answers verifier.now) anchors.now now) limits.now trail.now) }
+        ≡ derivation (judge_by (V.answers verifier.now) anchors.now now) limits.now [] trail.now) }
 {
     if !is_in_order(&trail.steps) {
         return Ok(false);

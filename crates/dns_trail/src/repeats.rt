@@ -1,10 +1,11 @@
-//! Sets of which an entry says what an earlier step with the same question found of an equal one.
+//! Sets of which an entry says what an earlier step with the same question found of the same one.
 
 ghost use Rattle.std.specs.Prelude.{◌≡◌, ◌&&◌, IfOk, slice_get};
 ghost use Rattle.std.specs.List.{list_any};
 ghost use Rattle.std.specs.Cmp.Lexicographic.{pointwise};
+ghost use Rattle.dns_rules.specs.CacheKeys.{same_bytes as are_same};
 ghost use Rattle.dns_rules.specs.ChainedSets.{bare};
-ghost use Rattle.dns_rules.specs.Derivation.{is_empty, is_repeat as is_repeat_of, same_record as are_same};
+ghost use Rattle.dns_rules.specs.Derivation.{is_empty, is_repeat as is_repeat_of};
 ghost use Rattle.dns_model.specs.Records.{question_eq};
 ghost use Rattle.dns_model.specs.SoundAnswers.{PlacedSet};
 ghost use Rattle.dns_evidence.specs.Finding.{passes_at};
@@ -104,7 +105,7 @@ fn is_repeat(set: &RecordSet, entry: &JudgedSet, judged: &MarkedSet) -> bool
         && judged.sig == entry.sig
 }
 
-// The same records in the same order, but for ttls and marks.
+// The same records in the same order, byte for byte, but for ttls and marks.
 fn same_records(mut some: &[Record], mut others: &[Record]) -> bool
     ensures { result ≡ pointwise are_same some.entry.now others.entry.now }
 {
@@ -112,13 +113,23 @@ fn same_records(mut some: &[Record], mut others: &[Record]) -> bool
         let Some((other, more_others)) = others.split_first() else {
             return false;
         };
-        if !one.is_same(other) {
+        if !is_same_bytes(one, other) {
             return false;
         }
         some = more;
         others = more_others;
     }
     others.is_empty()
+}
+
+// One record with another, byte for byte, but for ttl and mark.
+fn is_same_bytes(one: &Record, other: &Record) -> bool
+    ensures { result ≡ are_same one.now other.now }
+{
+    one.name.wire() == other.name.wire()
+        && one.record_type == other.record_type
+        && one.dns_class == other.dns_class
+        && one.rdata == other.rdata
 }
 
 /// Some entry of a trail repeats a set of an earlier step.

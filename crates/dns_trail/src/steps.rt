@@ -33,7 +33,7 @@ pub(crate) fn steps_hold<'a, V: Verifier>(
     limits: Limits,
     steps: &'a [Asked],
 ) -> Result<bool, NoMemory>
-    ensures { IfOk result (λ b. b ≡ steps_follow (judge_of V.answers judge.now) limits [] steps.now) }
+    ensures { IfOk result (λ b. b ≡ steps_follow (judge_of V.answers judge.now) limits [] [] steps.now) }
 {
     let repeats = has_repeats(steps);
     let mut ended = Vec::new(alloc);

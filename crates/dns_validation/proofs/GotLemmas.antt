@@ -25,7 +25,7 @@ use Rattle.dns_validation.proofs.Parts.{Part, too_deep, too_many}
 
 -- by what the sets of an open step are judged, once these steps have ended
 abbrev pub context_at : Terms → List AskedValue → SoFar → StepContext
-context_at t closed s = record { judge = t.judge; limits = limits_of t; earlier = closed; query = s.query; depth = s.depth }
+context_at t closed s = record { judge = t.judge; limits = limits_of t; cached = []; earlier = closed; query = s.query; depth = s.depth }
 
 -- ---- a step that has ended
 

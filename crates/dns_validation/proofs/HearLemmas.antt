@@ -90,7 +90,7 @@ stand_first t closed n sends q reply (Message m empty) beneath few same kept is 
 
 stand_bare : (t : Terms) (f : OpenValue) (outer : List OpenValue) (closed : List AskedValue) (n : ℕ) (sends : List Sent) (ask : Ask) (sent : Sent) (step : AskedValue) (got : GotValue)
     → Open t (f ∷ outer) closed n sends → n < most_sends → Awaited t f ask → IsStepOf t step sent → asks_of step ≡ []
-    → step_holds t.judge (limits_of t) closed step ≡ true → IsGot (context_at t (closed ++ step ∷ []) f.so_far) ask (Step (length closed)) got
+    → step_holds t.judge (limits_of t) [] closed step ≡ true → IsGot (context_at t (closed ++ step ∷ []) f.so_far) ask (Step (length closed)) got
     → Stand t None (answered t.judge (Step (length closed)) got f ∷ outer) (closed ++ step ∷ []) (n + 1) (sends ++ sent ∷ []) None
 stand_bare t f outer closed n sends ask sent step got beneath few awaited of none holds is =
     let nothing : Part t closed closed (asks_of step) (n + 1) (n + 1) [] =
@@ -110,7 +110,7 @@ stand_nested t f outer closed n sends q reply m empty (Some r) beneath few await
     let step = judged_step depth q (Records (told_by m) empty) [] (foreign_ending r) [] in
     stand_bare t f outer closed n sends (judged_ask q) (sent_judged t (f ∷ outer) q reply) step (Answer None) beneath few awaited
     (record { query = refl; judged = refl; request = refl; depth = refl; heard = sym (heard_message reply m empty received); kept = kept }) refl
-    (foreign_holds t.judge (limits_of t) closed depth q (told_by m) empty r found)
+    (foreign_holds t.judge (limits_of t) [] closed depth q (told_by m) empty r found)
     (step_answers t closed f.so_far q depth (Records (told_by m) empty) [] (foreign_ending r) [] None refl (awaited.shallow refl) refl tt)
 
 stand_judged : (t : Terms) (f : OpenValue) (outer : List OpenValue) (closed : List AskedValue) (n : ℕ) (sends : List Sent) (q : Question) (reply : Reply) (received : ReceivedValue)
@@ -121,7 +121,7 @@ stand_judged t f outer closed n sends q reply (Unheard error) beneath few awaite
     let step = judged_step depth q Fault [] Failed [] in
     stand_bare t f outer closed n sends (judged_ask q) (sent_judged t (f ∷ outer) q reply) step (Answer None) beneath few awaited
     (record { query = refl; judged = refl; request = refl; depth = refl; heard = sym (heard_fault reply error is); kept = kept }) refl
-    (fault_holds t.judge (limits_of t) closed depth q)
+    (fault_holds t.judge (limits_of t) [] closed depth q)
     (step_answers t closed f.so_far q depth Fault [] Failed [] None refl (awaited.shallow refl) refl tt)
 stand_judged t f outer closed n sends q reply (Message m empty) beneath few awaited kept is =
     stand_nested t f outer closed n sends q reply m empty (foreign_record q (told_by m)) beneath few awaited kept is refl
@@ -139,12 +139,12 @@ stand_plain t f outer closed n sends q reply (Unheard error) beneath few awaited
     let step = plain_step f.so_far.depth q Fault Failed in
     stand_bare t f outer closed n sends (plain_ask q) (sent_plain t f outer q reply) step (Probe probes.Failed) beneath few awaited
     (record { query = refl; judged = refl; request = refl; depth = refl; heard = sym (heard_fault reply error is); kept = kept }) refl
-    (plain_fault_holds t.judge (limits_of t) closed f.so_far.depth q) (step_shows t closed f.so_far q Fault Failed)
+    (plain_fault_holds t.judge (limits_of t) [] closed f.so_far.depth q) (step_shows t closed f.so_far q Fault Failed)
 stand_plain t f outer closed n sends q reply (Message m empty) beneath few awaited kept is =
     let step = plain_step f.so_far.depth q (Records (told_by m) empty) Seen in
     stand_bare t f outer closed n sends (plain_ask q) (sent_plain t f outer q reply) step (Probe (probe_of q.owner (Records (told_by m) empty))) beneath few awaited
     (record { query = refl; judged = refl; request = refl; depth = refl; heard = sym (heard_message reply m empty is); kept = kept }) refl
-    (plain_holds t.judge (limits_of t) closed f.so_far.depth q (told_by m) empty) (step_shows t closed f.so_far q (Records (told_by m) empty) Seen)
+    (plain_holds t.judge (limits_of t) [] closed f.so_far.depth q (told_by m) empty) (step_shows t closed f.so_far q (Records (told_by m) empty) Seen)
 
 -- ---- a reply
 

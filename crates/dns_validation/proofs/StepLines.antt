@@ -15,6 +15,7 @@ use Rattle.dns_rules.specs.ChainedSets.{ChainedSet, bare}
 use Rattle.dns_rules.specs.MarkedSets.{MarkedSet}
 use Rattle.dns_rules.specs.Delegations.{ZoneVerdict}
 use Rattle.dns_rules.specs.Unsigned.{question_start}
+use Rattle.dns_rules.specs.CacheEntries.{EntryValue}
 use Rattle.dns_rules.specs.Derivation.{StepContext, search_from, entries_hold, with_entries, is_empty, denial_eq, ending_eq, ending_by, ending_holds, step_holds}
 use Rattle.dns_rules.specs.DerivationParts.{step_context_of, is_bare, is_ending, judged_holds}
 use Rattle.dns_rules.specs.Outcome.{Outcome, Given, NeedsZone, Denied, outcome_of, outcome_by_zone, foreign_record}
@@ -25,22 +26,22 @@ use Rattle.dns_validation.specs.Steps.{judged_step, plain_step, foreign_ending}
 use Rattle.dns_validation.specs.Comes.{IsJudgement}
 
 -- a step that heard a fault
-pub fault_holds : (j : Judge) (limits : Limits) (earlier : List AskedValue) (depth : ℕ) (q : Question)
-    → step_holds j limits earlier (judged_step depth q Fault [] Failed []) ≡ true
+pub fault_holds : (j : Judge) (limits : Limits) (cached : List EntryValue) (earlier : List AskedValue) (depth : ℕ) (q : Question)
+    → step_holds j limits cached earlier (judged_step depth q Fault [] Failed []) ≡ true
 unfolding step_holds
-fault_holds j limits earlier depth q = refl
+fault_holds j limits cached earlier depth q = refl
 
 -- a step that only would have seen, and heard a fault
-pub plain_fault_holds : (j : Judge) (limits : Limits) (earlier : List AskedValue) (depth : ℕ) (q : Question)
-    → step_holds j limits earlier (plain_step depth q Fault Failed) ≡ true
+pub plain_fault_holds : (j : Judge) (limits : Limits) (cached : List EntryValue) (earlier : List AskedValue) (depth : ℕ) (q : Question)
+    → step_holds j limits cached earlier (plain_step depth q Fault Failed) ≡ true
 unfolding step_holds
-plain_fault_holds j limits earlier depth q = refl
+plain_fault_holds j limits cached earlier depth q = refl
 
 -- and one that has seen records
-pub plain_holds : (j : Judge) (limits : Limits) (earlier : List AskedValue) (depth : ℕ) (q : Question) (told : Told) (empty : Bool)
-    → step_holds j limits earlier (plain_step depth q (Records told empty) Seen) ≡ true
+pub plain_holds : (j : Judge) (limits : Limits) (cached : List EntryValue) (earlier : List AskedValue) (depth : ℕ) (q : Question) (told : Told) (empty : Bool)
+    → step_holds j limits cached earlier (plain_step depth q (Records told empty) Seen) ≡ true
 unfolding step_holds
-plain_holds j limits earlier depth q told empty = refl
+plain_holds j limits cached earlier depth q told empty = refl
 
 -- it names the record that it names
 foreign_refl : (r : Rr) → ending_eq (foreign_ending r) (foreign_ending r) ≡ true
@@ -49,12 +50,12 @@ foreign_refl r =
     (and_from (r.class == r.class) (r.rtype == r.rtype) (number_refl r.class) (number_refl r.rtype))
 
 -- a step with a record of another class
-pub foreign_holds : (j : Judge) (limits : Limits) (earlier : List AskedValue) (depth : ℕ) (q : Question) (told : Told) (empty : Bool) (r : Rr)
-    → foreign_record q told ≡ Some r → step_holds j limits earlier (judged_step depth q (Records told empty) [] (foreign_ending r) []) ≡ true
+pub foreign_holds : (j : Judge) (limits : Limits) (cached : List EntryValue) (earlier : List AskedValue) (depth : ℕ) (q : Question) (told : Told) (empty : Bool) (r : Rr)
+    → foreign_record q told ≡ Some r → step_holds j limits cached earlier (judged_step depth q (Records told empty) [] (foreign_ending r) []) ≡ true
 unfolding step_holds
-foreign_holds j limits earlier depth q told empty r found =
+foreign_holds j limits cached earlier depth q told empty r found =
     let step = judged_step depth q (Records told empty) [] (foreign_ending r) [] in
-    ap (judged_holds (step_context_of j limits earlier step) step told) found ∙ and_from (ending_eq (foreign_ending r) (foreign_ending r)) (is_bare step) (foreign_refl r) refl
+    ap (judged_holds (step_context_of j limits cached earlier step) step told) found ∙ and_from (ending_eq (foreign_ending r) (foreign_ending r)) (is_bare step) (foreign_refl r) refl
 
 denial_refl : (d : Denial) → denial_eq d d ≡ true
 denial_refl denial.None = refl
@@ -90,15 +91,15 @@ concluded_ends g step told sets o excuse same ends names (LeftToZone zone left f
         ending_by_search g step told zone (subst Found (sym same) found) (subst Ends (sym same) ends)
 
 -- a step whose sets are judged
-pub judged_step_holds : (j : Judge) (limits : Limits) (earlier : List AskedValue) (depth : ℕ) (q : Question) (told : Told) (empty : Bool) (sets : List ChainedSet)
+pub judged_step_holds : (j : Judge) (limits : Limits) (cached : List EntryValue) (earlier : List AskedValue) (depth : ℕ) (q : Question) (told : Told) (empty : Bool) (sets : List ChainedSet)
     (entries : List JudgedSetValue) (o : Outcome) (excuse : List AskRef) → foreign_record q told ≡ None
-    → IsJudgement (record { judge = j; limits = limits; earlier = earlier; query = q; depth = depth }) (judged_part depth told) sets entries
-    → IsStepEnd (record { judge = j; limits = limits; earlier = earlier; query = q; depth = depth }) told (bare sets) o excuse
-    → step_holds j limits earlier (judged_step depth q (Records told empty) entries (ending_by o) excuse) ≡ true
+    → IsJudgement (record { judge = j; limits = limits; cached = cached; earlier = earlier; query = q; depth = depth }) (judged_part depth told) sets entries
+    → IsStepEnd (record { judge = j; limits = limits; cached = cached; earlier = earlier; query = q; depth = depth }) told (bare sets) o excuse
+    → step_holds j limits cached earlier (judged_step depth q (Records told empty) entries (ending_by o) excuse) ≡ true
 unfolding step_holds
-judged_step_holds j limits earlier depth q told empty sets entries o excuse own judged concluded =
+judged_step_holds j limits cached earlier depth q told empty sets entries o excuse own judged concluded =
     let step = judged_step depth q (Records told empty) entries (ending_by o) excuse in
-    let g = step_context_of j limits earlier step in
+    let g = step_context_of j limits cached earlier step in
     let part = judged_part depth told in
     let ends : ending_holds g step told (outcome_of limits q told (with_entries part entries)) ≡ true =
     ap (λ xs. ending_holds g step told (outcome_of limits q told xs)) (sym judged.same) ∙ concluded_ends g step told (bare sets) o excuse refl refl refl concluded in

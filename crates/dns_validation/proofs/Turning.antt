@@ -105,7 +105,7 @@ step_part : (t : Terms) (f g : OpenValue) (outer : List OpenValue) (below closed
 step_part t f g outer below closed n m first after o h done =
     let s = f.so_far in
     step_more t below closed (step_of s f.asked o) n m first after (step_sent t s f.asked o first h.heard h.request) h.part h.few
-    (judged_step_holds t.judge (limits_of t) closed s.depth s.query (told_by s.message) s.empty s.sets s.entries o f.asked h.judging.own done.judged done.concluded)
+    (judged_step_holds t.judge (limits_of t) [] closed s.depth s.query (told_by s.message) s.empty s.sets s.entries o f.asked h.judging.own done.judged done.concluded)
 
 -- it answers the step beneath it
 stand_nested : (t : Terms) (f g : OpenValue) (outer : List OpenValue) (below closed : List AskedValue) (n m : ℕ) (before after all : List Sent) (first : Sent) (o : Outcome)

@@ -55,7 +55,7 @@ pub record IsJudgement (g : StepContext) (placed : List PlacedSet) (sets : List 
 
 -- by what the sets of the step for the query are judged
 abbrev pub top_context : Terms → List AskedValue → StepContext
-top_context t steps = record { judge = t.judge; limits = limits_of t; earlier = steps; query = t.query; depth = 0 }
+top_context t steps = record { judge = t.judge; limits = limits_of t; cached = []; earlier = steps; query = t.query; depth = 0 }
 
 -- the reply to the first send, and how its sets were judged by the other sends, each of which is a step before the last one
 pub record FoundBy (t : Terms) (sends : List Sent) (found : Findings) : Type 0 where
@@ -67,7 +67,7 @@ pub record FoundBy (t : Terms) (sends : List Sent) (found : Findings) : Type 0 w
   pub own : foreign_record t.query (told_by found.message) ≡ None
   pub count : ℕ
   pub few : count ≤ most_sends
-  pub part : TrailPart t.judge (limits_of t) [] found.steps (asks_of_sets found.entries ++ found.excuse) 1 count
+  pub part : TrailPart t.judge (limits_of t) [] [] found.steps (asks_of_sets found.entries ++ found.excuse) 1 count
   pub along : StepsOf t (steps_at found.steps (Some part.order)) others
   pub judged : IsJudgement (top_context t found.steps) (judged_part 0 (told_by found.message)) found.sets found.entries
   pub concluded : IsStepEnd (top_context t found.steps) (told_by found.message) (bare found.sets) found.outcome found.excuse

@@ -5,7 +5,7 @@ use Rattle.std.specs.Option.{option_map, option_map_or}
 use Rattle.dns_model.specs.Records.{Rr, MessageValue}
 use Rattle.dns_model.specs.Trails.{HeardValue, Records, Fault}
 use Rattle.dns_model.specs.SoundAnswers.{Told, told_by}
-use Rattle.dns_rules.specs.Derivation.{same_record}
+use Rattle.dns_model.specs.Sections.{same_record}
 use Rattle.dns_rules.specs.Marking.{cleared_message}
 use Rattle.dns_handle.specs.NoRecords.{NoRecordsValue}
 use Rattle.dns_handle.specs.Errors.{Reply, ErrorValue, Dns, NoRecordsFound, Nsec}

@@ -2,7 +2,7 @@
 
 ghost use Rattle.std.specs.Prelude.{◌≡◌, false, Err, IfOk};
 ghost use Rattle.std.specs.List.{list_any};
-ghost use Rattle.dns_rules.specs.Derivation.{same_record};
+ghost use Rattle.dns_model.specs.Sections.{same_record};
 ghost use Rattle.dns_rules.specs.Marking.{cleared_message};
 ghost use Rattle.dns_handle.specs.Replies.{reply_of};
 ghost use Rattle.dns_validation.specs.Received.{no_records_message, with_soa as with_soa_of, received_value, is_out_of_memory};

@@ -1,6 +1,6 @@
 use Rattle.std.proofs.Common.{◌≡◌, map, length}
 use Rattle.std.specs.Cmp.Lexicographic.{slice_cmp}
-use Rattle.dns_cache.specs.CacheKeys.{bytes_of}
+use Rattle.dns_rules.specs.CacheKeys.{bytes_of}
 use Rattle.dns_cache.specs.KeyOrder.{record_cmp}
 use Rattle.dns_cache.proofs.key_order.cmp_records.Given as goal
 

@@ -2,7 +2,7 @@ use Rattle.std.proofs.Common.{◌++◌, fold, map, sym, ap, ◌∙◌}
 use Rattle.std.specs.Hash as fed
 use Rattle.std.specs.List.{flat_map}
 use Rattle.std.proofs.lemmas.List.{length-map}
-use Rattle.dns_cache.specs.CacheKeys.{bytes_of}
+use Rattle.dns_rules.specs.CacheKeys.{bytes_of}
 use Rattle.dns_cache.specs.KeyOrder.{record_input}
 use Rattle.dns_cache.proofs.FeedLemmas.{fed_all, fed_next}
 use Rattle.dns_cache.proofs.key_order.hash_records.Goals as goal

@@ -1,7 +1,7 @@
 use Rattle.std.proofs.Common.{◌≡◌, ◌+◌, Some, None, take, sym, ap, ◌∙◌}
 use Rattle.std.specs.Prelude.{Option, ℕ, List, position, remove}
-use Rattle.dns_cache.specs.CacheKeys.{CacheKeyValue}
-use Rattle.dns_cache.specs.Entries.{EntryValue}
+use Rattle.dns_rules.specs.CacheKeys.{CacheKeyValue}
+use Rattle.dns_rules.specs.CacheEntries.{EntryValue}
 use Rattle.dns_cache.specs.CacheLists.{has_key}
 use Rattle.dns_cache.proofs.ListLemmas.{put_more, put_over, remove_next}
 use Rattle.dns_cache.proofs.list_cache.put_in_front.Goals as goal

@@ -2,7 +2,7 @@ use Rattle.std.proofs.Common.{◌≡◌, Some, sym, ap, ◌∙◌}
 use Rattle.std.specs.Prelude.{option_copied}
 use Rattle.std.specs.Map.{lookup}
 use Rattle.std.proofs.lemmas.Result.{IfOk-weaker}
-use Rattle.dns_cache.specs.CacheKeys.{key_eq}
+use Rattle.dns_rules.specs.CacheKeys.{key_eq}
 use Rattle.dns_cache.proofs.PairLemmas.{live_is, none_is_hit}
 use Rattle.dns_cache.proofs.lru_validation_cache.copy_of_hit.Goals as goal
 

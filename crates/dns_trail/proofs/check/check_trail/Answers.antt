@@ -11,7 +11,7 @@ returns-then-not-is_in_order g c =
     let j = judge (g.V.Verifier.answers c.args.verifier.now) c.args.anchors.now c.args.now in
     let t = c.args.trail.now in
     let no : has_order t ≡ false = search rules in
-    sym (derivation_by_order j c.args.limits.now t ∙ ap (λ b. b && steps_hold j (effective c.args.limits.now) [] t) no)
+    sym (derivation_by_order j c.args.limits.now [] t ∙ ap (λ b. b && steps_hold j (effective c.args.limits.now) [] [] t) no)
 
 pub returns : goal.returns
 returns g c =
@@ -20,7 +20,7 @@ returns g c =
     let yes : has_order t ≡ true = search rules in
     ok_map c.steps_hold.result
     (λ b h.
-    h ∙ ap (λ n. steps_hold j n [] c.deref-2.result.now) c.effective.ensures
-    ∙ ap (steps_hold j (effective c.args.limits.now) []) (c.deref-2.ensures.value ∙ c.trail.view_is)
-    ∙ sym (derivation_by_order j c.args.limits.now t ∙ ap (λ b. b && steps_hold j (effective c.args.limits.now) [] t) yes))
+    h ∙ ap (λ n. steps_hold j n [] [] c.deref-2.result.now) c.effective.ensures
+    ∙ ap (steps_hold j (effective c.args.limits.now) [] []) (c.deref-2.ensures.value ∙ c.trail.view_is)
+    ∙ sym (derivation_by_order j c.args.limits.now [] t ∙ ap (λ b. b && steps_hold j (effective c.args.limits.now) [] [] t) yes))
     c.steps_hold.ensures

@@ -1,10 +1,10 @@
-use Rattle.std.proofs.Common.{rules, ◌≡◌, true, false, ap, ◌∙◌}
+use Rattle.std.proofs.Common.{rules, ◌≡◌, true, false, refl, ap, ◌∙◌}
 use Rattle.dns_model.specs.declared.trail.MarkOrigin.TheVariants.{Table, Repeat, Cache}
 use Rattle.dns_rules.specs.DerivationParts.{with_entry}
 use Rattle.dns_trail.specs.Ended.{some_if}
 use Rattle.dns_trail.specs.Entries.{is_entry_of}
 use Rattle.dns_trail.specs.StepContexts.{step_context_by}
-use Rattle.dns_trail.proofs.EntryLemmas.{entry_given, entry_other}
+use Rattle.dns_trail.proofs.EntryLemmas.{entry_given, entry_other, entry_unserved}
 use Rattle.dns_trail.proofs.OkLemmas.{ok_map}
 use Rattle.dns_trail.proofs.entries.judged_set.Goals as goal
 
@@ -36,4 +36,4 @@ returns-in-Cache g c =
     let gr = step_context_by g.V.Verifier.answers c.args.context.now in
     let own : is_entry_of c.args.placed c.args.entry.now ≡ true = search rules in
     let origin : c.args.entry.now.origin ≡ Cache = search rules in
-    entry_given gr c.args.placed c.args.entry.now Cache own origin
+    entry_unserved gr c.args.placed c.args.entry.now refl own origin

@@ -1,6 +1,6 @@
 use Rattle.std.proofs.Common.{Some, sym, ap, ◌∙◌, subst}
 use Rattle.lru.specs.LruCache.{LruCache}
-use Rattle.dns_cache.specs.CacheKeys.{CacheKeyValue}
+use Rattle.dns_rules.specs.CacheKeys.{CacheKeyValue}
 use Rattle.dns_cache.specs.CacheLists.{CountedList, IsCacheList, after_get, hit, is_hit}
 use Rattle.dns_cache.specs.KeptEntries.{IsKept, KeptValue, entries_of, listed}
 use Rattle.dns_cache.proofs.ListLemmas.{find_passes, nothing_moves}

@@ -1,7 +1,7 @@
 use Rattle.std.proofs.Common.{◌<◌, Some, sym, ap, ◌∙◌, subst, arith}
 use Rattle.lru.specs.LruCache.{LruCache}
-use Rattle.dns_cache.specs.CacheKeys.{CacheKeyValue}
-use Rattle.dns_cache.specs.Entries.{EntryValue}
+use Rattle.dns_rules.specs.CacheKeys.{CacheKeyValue}
+use Rattle.dns_rules.specs.CacheEntries.{EntryValue}
 use Rattle.dns_cache.specs.CacheLists.{CountedList, IsCacheList, after_insert}
 use Rattle.dns_cache.specs.KeptEntries.{IsKept, KeptValue, listed}
 use Rattle.dns_cache.proofs.PairLemmas.{after_put, kept-put}

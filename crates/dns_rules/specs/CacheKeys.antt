@@ -42,5 +42,9 @@ query_eq a b = pointwise (pointwise nat_eq) a.owner b.owner && ((a.rtype == b.rt
 abbrev pub record_eq : RecordBytes → RecordBytes → Bool
 record_eq a b = bytes_eq a.owner b.owner && ((a.rtype == b.rtype) && ((a.class == b.class) && bytes_eq a.rdata b.rdata))
 
+-- one record with another byte for byte, whatever their ttls and marks
+abbrev pub same_bytes : Rr → Rr → Bool
+same_bytes a b = record_eq (bytes_of a) (bytes_of b)
+
 abbrev pub key_eq : CacheKeyValue → CacheKeyValue → Bool
 key_eq a b = query_eq a.query b.query && (pointwise record_eq a.records b.records && pointwise record_eq a.signatures b.signatures)
