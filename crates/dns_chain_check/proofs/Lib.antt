@@ -3,3 +3,4 @@ pub mod Steps
 pub mod MoreTrust
 pub mod Laws
 pub mod Fitting
+pub mod TrustLemmas

@@ -3,3 +3,4 @@ pub mod Indexed
 pub mod Prefixes
 pub mod MoreTrust
 pub mod Fitting
+pub mod Trusted

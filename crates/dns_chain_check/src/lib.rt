@@ -8,5 +8,7 @@ mod holds;
 mod indexed;
 mod link_judge;
 mod signed;
+mod trusted;
 
 pub use check::{accepted_chain, check_chain};
+pub use trusted::is_trusted;
