@@ -73,6 +73,7 @@ fn push_trail<V: Verifier>(
         judge.verifier,
         judge.moment,
         limits,
+        &[],
         trail,
     )?;
     into.extend_from_slice(b"trail ")?;

@@ -76,6 +76,7 @@ fn is_derivation(alloc: Global, soft: u16, hard: u16) -> Option<bool> {
         &trusted.verifier,
         trusted.moment,
         &limits,
+        &[],
         &response.trail,
     )
     .ok()

@@ -16,6 +16,8 @@ mod rows;
 #[cfg(test)]
 mod run_tests;
 #[cfg(test)]
+mod served_tests;
+#[cfg(test)]
 mod trail_check_tests;
 #[cfg(test)]
 mod trail_denial_tests;

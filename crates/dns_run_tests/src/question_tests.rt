@@ -109,6 +109,7 @@ fn asks_by_trail(alloc: Global, trusted: &Trusted, trail: &Trail, wanted: u32) -
         &verifier,
         trusted.moment,
         &trusted.limits,
+        &[],
         trail,
     );
     checked.unwrap_or(false) && questions.get() == wanted

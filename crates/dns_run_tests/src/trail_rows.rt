@@ -82,6 +82,7 @@ fn is_derivation(alloc: Global, text: &[u8], trail: &Trail) -> Option<bool> {
         &trusted.verifier,
         trusted.moment,
         &trusted.limits,
+        &[],
         trail,
     )
     .ok()

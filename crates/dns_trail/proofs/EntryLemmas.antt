@@ -1,20 +1,17 @@
 -- The entry of a set, by what judged it.
 use Rattle.std.proofs.Common.{◌≡◌, ◌≢◌, length, ℕ, ◌+◌, Bool, true, false, ◌==◌, ◌&&◌, List, [], ◌∷◌, ◌++◌, reverse, Option, None, Some, if◌then◌else◌, refl, sym, ap, ◌∙◌, append_assoc, append-nil}
 use Rattle.std.specs.Option.{option_map, option_map_or}
-use Rattle.std.specs.List.{list_any}
 use Rattle.std.proofs.lemmas.Bool.{and_parts}
 use Rattle.std.proofs.lemmas.List.{reverse-append, reverse-reverse}
 use Rattle.dns_model.specs.declared.proof.Proof.{Proof}
 use Rattle.dns_model.specs.declared.trail.AskRef.{AskRef}
 use Rattle.dns_model.specs.declared.trail.MarkOrigin.{MarkOrigin}
-use Rattle.dns_model.specs.declared.trail.MarkOrigin.TheVariants.{Cache}
 use Rattle.dns_model.specs.Names.{name_eq}
 use Rattle.dns_model.specs.SoundAnswers.{PlacedSet, section_eq}
 use Rattle.dns_model.specs.Trails.{JudgedSetValue}
-use Rattle.dns_rules.specs.CacheEntries.{EntryValue}
 use Rattle.dns_rules.specs.ChainedSets.{ChainedSet, bare, chained_by_ds, chained_keys}
 use Rattle.dns_rules.specs.Delegations.{ZoneVerdict, Signed, Insecure, Bogus, ds_question, zone_verdict}
-use Rattle.dns_rules.specs.Derivation.{StepContext, entries_hold, entry_holds, finished_answer, has_mark_of, is_ask, is_by_origin, is_empty, is_served_by, keys_hold, search_from, unsigned_holds, with_entries, zone_asked}
+use Rattle.dns_rules.specs.Derivation.{StepContext, entries_hold, entry_holds, finished_answer, has_mark_of, is_ask, is_by_origin, is_empty, keys_hold, search_from, unsigned_holds, with_entries, zone_asked}
 use Rattle.dns_rules.specs.DerivationParts.{is_by_verdicts, with_entry}
 use Rattle.dns_rules.specs.MarkedSets.{MarkedSet, placed_of}
 use Rattle.dns_rules.specs.KeySets.{judged_keys, needs_ds}
@@ -327,16 +324,3 @@ pub entry_given : (g : StepContext) (placed : PlacedSet) (entry : JudgedSetValue
     (with_entry (placed, entry))
 entry_given g placed entry o of origin =
     ap (λ b. some_if b (with_entry (placed, entry))) (sym (entry_by g placed entry true o of origin))
-
-and_none : (b : Bool) → (b && false) ≡ false
-and_none true = refl
-and_none false = refl
-
--- nothing was kept that serves a set
-pub entry_unserved : (g : StepContext) (placed : PlacedSet) (entry : JudgedSetValue) → g.cached ≡ []
-    → is_entry_of placed entry ≡ true → entry.origin ≡ Cache
-    → None ≡ some_if (entry_holds g placed entry) (with_entry (placed, entry))
-entry_unserved g placed entry none of origin =
-    let served = λ (kept : List EntryValue). is_empty entry.asked && list_any (is_served_by g.judge g.query placed entry) kept in
-    none_step (is_by_origin g placed entry Cache) (with_entry (placed, entry)) (ap served none ∙ and_none (is_empty entry.asked))
-    ∙ entry_given g placed entry Cache of origin

@@ -11,3 +11,4 @@ pub mod StepLemmas
 pub mod OkLemmas
 pub mod PlaceLemmas
 pub mod IndexLemmas
+pub mod ServedLemmas

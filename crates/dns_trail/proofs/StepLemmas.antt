@@ -218,20 +218,20 @@ an_end : (b : Bool) (e x : EndedValue) → Some e ≡ some_if b x → (b ≡ tru
 an_end true e x h = (refl, cc)
 an_end false e x h = cc
 
-pub steps_next : (j : Judge) (limits : Limits) (cached : List EntryValue) (steps : List AskedValue) (n : ℕ) (ended more : List EndedValue)
+pub steps_next : (j : Judge) (limits : Limits) (cached : List EntryValue) (steps : List AskedValue) (n : ℕ) (ended : List EndedValue)
     (step : AskedValue) (g : StepContext) (e : EndedValue)
     → AreSteps j limits cached steps n ended → n < length steps → step ≡ get_or steps n step
     → g ≡ step_context_of j limits cached (take n steps) step
-    → Some e ≡ some_if (step_holds_by g step step.reply) (ended_of step) → more ≡ ended ++ e ∷ []
-    → AreSteps j limits cached steps (n + 1) more
-steps_next j limits cached steps n ended more step g e so_far lt is own given longer =
+    → Some e ≡ some_if (step_holds_by g step step.reply) (ended_of step)
+    → AreSteps j limits cached steps (n + 1) (ended ++ e ∷ [])
+steps_next j limits cached steps n ended step g e so_far lt is own given =
     let one = an_end (step_holds_by g step step.reply) e (ended_of step) given in
     let front : take (n + 1) steps ≡ take n steps ++ step ∷ [] =
     take_more steps n step lt ∙ ap (λ x. take n steps ++ x ∷ []) (sym is) in
     let yes : step_holds j limits cached (take n steps) step ≡ true =
     held_by j limits cached (take n steps) step ∙ ap (λ x. step_holds_by x step step.reply) (sym own) ∙ one.0 in
     record {
-      known = longer ∙ ap (λ xs. xs ++ e ∷ []) so_far.known ∙ ap (λ x. map ended_of (take n steps) ++ x ∷ []) one.1
+      known = ap (λ xs. xs ++ e ∷ []) so_far.known ∙ ap (λ x. map ended_of (take n steps) ++ x ∷ []) one.1
           ∙ sym (map-append ended_of (take n steps) (step ∷ [])) ∙ ap (map ended_of) (sym front);
       hold =
           sym (ap (λ b. b && steps_hold j limits cached (take (n + 1) steps) (drop (n + 1) steps)) yes)

@@ -1,9 +1,11 @@
-ghost use Rattle.std.specs.Prelude.{◌≡◌, [], IfOk};
+ghost use Rattle.std.specs.Prelude.{◌≡◌, IfOk};
 ghost use Rattle.dns_model.specs.Chains.{judge as judge_by};
+ghost use Rattle.dns_rules.specs.CacheEntries.{live};
 ghost use Rattle.dns_rules.specs.Derivation.{derivation};
 
 use crate::is_in_order;
 use crate::steps::steps_hold;
+use dns_cache::Entry;
 use dns_evidence::{Limits, Trail, Verifier, effective};
 use dns_name::NoMemory;
 use dns_trust::{Judge, TrustAnchors};
@@ -11,17 +13,20 @@ use std::alloc::Global;
 
 /// Whether a trail is a derivation by these anchors and this verifier at a moment, in seconds since 1970: its asks make
 /// a tree that was gone through in order, and each mark and each ending follows from what was told and from the steps
-/// before it (RFC 4035, 4.3, 5.2 and 5.3). No entry may come from an earlier lookup. It takes any trail.
+/// before it, or from an entry that was kept before and isn't up at that moment (RFC 4035, 4.3, 4.5, 5.2 and 5.3). A kept entry that
+/// says Secure serves only where its chain proves the set by the same anchors, verifier and moment. It takes any trail and any entries.
 pub fn check_trail<V: Verifier>(
     alloc: Global,
     anchors: &TrustAnchors,
     verifier: &V,
     now: u64,
     limits: &Limits,
+    cached: &[Entry],
     trail: &Trail,
 ) -> Result<bool, NoMemory>
     ensures { IfOk result (λ b. b
-        ≡ derivation (judge_by (V.answers verifier.now) anchors.now now) limits.now [] trail.now) }
+        ≡ derivation (judge_by (V.answers verifier.now) anchors.now now) limits.now
+        (live now cached.now) trail.now) }
 {
     if !is_in_order(&trail.steps) {
         return Ok(false);
@@ -31,5 +36,5 @@ pub fn check_trail<V: Verifier>(
         anchors,
         moment: now,
     };
-    steps_hold(alloc, &judge, effective(limits), &trail.steps)
+    steps_hold(alloc, &judge, effective(limits), cached, &trail.steps)
 }

@@ -16,6 +16,7 @@ ghost use Rattle.dns_trail.specs.StepContexts.{step_context_by};
 
 use crate::repeats::is_repeated;
 use crate::search::search_zone;
+use crate::served::is_served;
 use crate::step_context::{StepContext, answer_of, is_ask};
 use crate::verdicts::verdicts_by;
 use dns_evidence::{ChainedSet, JudgedSet, MarkedSet, PlacedSet, Verifier};
@@ -75,7 +76,10 @@ fn judged_set<V: Verifier>(
             let repeated = is_repeated(context, &placed, entry, number)?;
             Ok(marked_if(context.alloc, repeated, placed, entry))
         }
-        MarkOrigin::Cache => Ok(None),
+        MarkOrigin::Cache => {
+            let served = is_served(context, &placed, entry)?;
+            Ok(marked_if(context.alloc, served, placed, entry))
+        }
     }
 }
 

@@ -10,6 +10,7 @@ mod order;
 mod places;
 mod repeats;
 mod search;
+mod served;
 mod step_context;
 mod steps;
 mod verdicts;

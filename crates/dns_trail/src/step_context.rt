@@ -8,6 +8,7 @@ ghost use Rattle.dns_rules.specs.DerivationParts.{is_judged_ask, is_plain_step a
 ghost use Rattle.dns_trust.specs.Verdicts.{listed};
 
 use crate::places::PlacesByKey;
+use dns_cache::Entry;
 use dns_evidence::{Asked, ChainedSet, Limits};
 use dns_model::AskRef;
 use dns_record::Query;
@@ -22,6 +23,8 @@ pub(crate) struct StepContext<'a, 'j, V> {
     pub(crate) judge: &'a Judge<'j, V>,
     /// How far the lookup went.
     pub(crate) limits: Limits,
+    /// What was kept before it.
+    pub(crate) cached: &'a [Entry],
     /// The steps before it.
     pub(crate) earlier: Earlier<'a>,
     pub(crate) query: &'a Query,

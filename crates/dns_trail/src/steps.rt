@@ -2,6 +2,7 @@
 
 ghost use Rattle.std.specs.Prelude.{◌≡◌, [], None, Some, IfOk};
 ghost use Rattle.dns_model.specs.SoundAnswers.{told_by};
+ghost use Rattle.dns_rules.specs.CacheEntries.{live};
 ghost use Rattle.dns_rules.specs.Derivation.{if_answered, steps_hold as steps_follow, told_in};
 ghost use Rattle.dns_rules.specs.DerivationParts.{judged_holds, step_holds_by};
 ghost use Rattle.dns_rules.specs.ChainedSets.{bare};
@@ -17,6 +18,7 @@ use crate::entries::judged_sets;
 use crate::places::{PlacesByKey, places_of_sets};
 use crate::repeats::has_repeats;
 use crate::step_context::{Earlier, Ended, StepContext};
+use dns_cache::Entry;
 use dns_evidence::{Asked, ChainedSet, Ending, Limits, Reply, Told, Verifier};
 use dns_grouping::judged_part;
 use dns_message::Message;
@@ -31,9 +33,11 @@ pub(crate) fn steps_hold<'a, V: Verifier>(
     alloc: Global,
     judge: &'a Judge<'_, V>,
     limits: Limits,
+    cached: &'a [Entry],
     steps: &'a [Asked],
 ) -> Result<bool, NoMemory>
-    ensures { IfOk result (λ b. b ≡ steps_follow (judge_of V.answers judge.now) limits [] [] steps.now) }
+    ensures { IfOk result (λ b. b ≡ steps_follow (judge_of V.answers judge.now) limits
+        (live judge.now.moment cached.now) [] steps.now) }
 {
     let repeats = has_repeats(steps);
     let mut ended = Vec::new(alloc);
@@ -50,6 +54,7 @@ pub(crate) fn steps_hold<'a, V: Verifier>(
             alloc,
             judge: &*judge,
             limits,
+            cached,
             earlier,
             query: &step.query,
             depth: step.depth,

@@ -1,10 +1,10 @@
-use Rattle.std.proofs.Common.{rules, ◌≡◌, true, false, refl, ap, ◌∙◌}
+use Rattle.std.proofs.Common.{rules, ◌≡◌, true, false, ap, ◌∙◌}
 use Rattle.dns_model.specs.declared.trail.MarkOrigin.TheVariants.{Table, Repeat, Cache}
 use Rattle.dns_rules.specs.DerivationParts.{with_entry}
 use Rattle.dns_trail.specs.Ended.{some_if}
 use Rattle.dns_trail.specs.Entries.{is_entry_of}
 use Rattle.dns_trail.specs.StepContexts.{step_context_by}
-use Rattle.dns_trail.proofs.EntryLemmas.{entry_given, entry_other, entry_unserved}
+use Rattle.dns_trail.proofs.EntryLemmas.{entry_given, entry_other}
 use Rattle.dns_trail.proofs.OkLemmas.{ok_map}
 use Rattle.dns_trail.proofs.entries.judged_set.Goals as goal
 
@@ -31,9 +31,11 @@ returns-in_ok-repeated-in-Repeat g c =
     ∙ ap (λ b. some_if b (with_entry (c.args.placed, c.args.entry.now))) c.in_ok-repeated-in-Repeat.ensures
     ∙ entry_given gr c.args.placed c.args.entry.now (Repeat c.in-Repeat.number) own origin
 
-pub returns-in-Cache : goal.returns-in-Cache
-returns-in-Cache g c =
+pub returns-in_ok-served-in-Cache : goal.returns-in_ok-served-in-Cache
+returns-in_ok-served-in-Cache g c =
     let gr = step_context_by g.V.Verifier.answers c.args.context.now in
     let own : is_entry_of c.args.placed c.args.entry.now ≡ true = search rules in
     let origin : c.args.entry.now.origin ≡ Cache = search rules in
-    entry_unserved gr c.args.placed c.args.entry.now refl own origin
+    c.marked_if-in-Cache.ensures
+    ∙ ap (λ b. some_if b (with_entry (c.args.placed, c.args.entry.now))) c.in_ok-served-in-Cache.ensures
+    ∙ entry_given gr c.args.placed c.args.entry.now Cache own origin

@@ -1,4 +1,5 @@
-use Rattle.std.proofs.Common.{◌-◌, [], length}
+use Rattle.std.proofs.Common.{◌-◌, length}
+use Rattle.dns_rules.specs.CacheEntries.{live}
 use Rattle.dns_trust.specs.Judge.{judge_of}
 use Rattle.dns_trail.proofs.StepLemmas.{AreSteps}
 use Rattle.dns_trail.proofs.steps.steps_hold.Given as goal
@@ -6,7 +7,7 @@ use Rattle.dns_trail.proofs.steps.steps_hold.Given as goal
 -- the steps that are left decide
 abbrev pub invariant-steps : goal.invariant-steps
 invariant-steps g l =
-    AreSteps (judge_of g.V.Verifier.answers l.judge) l.limits [] l.steps l.number l.ended.items
+    AreSteps (judge_of g.V.Verifier.answers l.judge) l.limits (live l.judge.moment l.cached) l.steps l.number l.ended.items
 
 abbrev pub decreases-steps : goal.decreases-steps
 decreases-steps g l = length l.steps - l.number
